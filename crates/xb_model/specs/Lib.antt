@@ -1,0 +1,12 @@
+pub mod Rows
+pub mod Records
+pub mod LawfulLimits
+pub mod Signals
+pub mod Plans
+pub mod Numbers
+pub mod TwoOfFive
+pub mod MfPairs
+pub mod Routing
+pub mod Keyings
+pub mod Tapes
+pub mod Page

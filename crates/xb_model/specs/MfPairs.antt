@@ -1,0 +1,27 @@
+-- The MF pairs, in Hz ("Notes on Distance Dialing").
+use Rattle.std.specs.Prelude.{ℕ, List, [], ◌∷◌, if◌then◌else◌, ◌==◌, slice_index_or}
+use Rattle.xb_model.specs.declared.key.Tone.{Tone}
+use Rattle.xb_model.specs.declared.key.Key.{Key}
+use Rattle.xb_model.specs.declared.key.Key.TheVariants.{Digit, Kp, St}
+use Rattle.xb_model.specs.TwoOfFive.{operated, good_pattern}
+
+abbrev pub pair : ℕ → ℕ → Tone
+pair low high = record { low = low; high = high }
+
+-- the five elements, read as frequencies
+abbrev pub frequencies : List ℕ
+frequencies = 700 ∷ 900 ∷ 1100 ∷ 1300 ∷ 1500 ∷ []
+
+-- the two that operate
+abbrev pub pair_of_two : List ℕ → Tone
+pair_of_two heard = pair (slice_index_or heard 0 0) (slice_index_or heard 1 0)
+
+-- the two elements of a digit, read as frequencies; digit 0 has ten pulses
+abbrev pub digit_pair : ℕ → Tone
+digit_pair d = pair_of_two (operated frequencies (good_pattern (if d == 0 then 10 else d)))
+
+-- the pair of a key
+abbrev pub mf_pair : Key → Tone
+mf_pair (Digit d) = digit_pair d
+mf_pair Kp = pair 1100 1700
+mf_pair St = pair 1500 1700

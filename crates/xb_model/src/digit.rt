@@ -1,0 +1,52 @@
+// Digits.
+ghost use Rattle.std.specs.Prelude.{◌≡◌, ℕ, ◌<◌, ◌↔◌, IsSome, IfSome};
+
+use std::marker::Model;
+
+/// A digit, 0 to 9.
+#[derive(Clone, Copy, Debug, PartialEq, Eq)]
+pub struct Digit {
+    value: u8,
+}
+
+impl Model for Digit {
+    ghost use Rattle.std.specs.Prelude.{ℕ, ◌<◌};
+
+    ghost Value = { ℕ };
+
+    ghost view = { λ d. d.value };
+
+    ghost invariant = { λ d. d.value < 10 };
+
+    ghost inverse = { λ n. record { value = n } };
+}
+
+impl Digit {
+    /// The digit of this value; `None` over 9.
+    pub fn new(value: u8) -> Option<Digit>
+        ensures variant { IsSome result ↔ (value < 10) }
+        ensures value { IfSome result (λ d. d ≡ value) }
+    {
+        if value < 10 {
+            Some(Digit { value })
+        } else {
+            None
+        }
+    }
+
+    /// The digit's value.
+    pub fn get(self) -> u8
+        ensures value { result ≡ self }
+        ensures below { result < 10 }
+    {
+        self.value
+    }
+}
+
+impl Default for Digit {
+    ghost is_default = { λ d. d ≡ 0 };
+
+    fn default() -> Digit {
+        Digit { value: 0 }
+    }
+}

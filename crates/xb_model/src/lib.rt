@@ -1,0 +1,40 @@
+//! The plain types of the office, the calls that make and read them, and, in `specs/`, the
+//! definitions of the dialling chain: what a line's pulses spell, where a number is routed, and
+//! what is keyed.
+#![tactic(auto)]
+
+mod dialled;
+mod digit;
+mod digits;
+mod fault;
+mod key;
+mod limits;
+mod line;
+mod mark;
+mod on;
+mod order;
+mod plan;
+mod reason;
+mod relays;
+mod row;
+mod signal;
+mod trunk;
+
+pub use dialled::Dialled;
+pub use digit::Digit;
+pub use digits::{
+    DigitList, KEY_DIGITS, KeyDigits, NUMBER_DIGITS, NumberDigits, PREFIX_DIGITS, PrefixDigits,
+};
+pub use fault::RowFault;
+pub use key::{Key, Tone, mf};
+pub use limits::{GREATEST_LIMIT, Limits};
+pub use line::{LINES, LineNo};
+pub use mark::Mark;
+pub use on::{On, OnLine};
+pub use order::Order;
+pub use plan::{Plan, plan_len};
+pub use reason::Reason;
+pub use relays::Relays;
+pub use row::{Contact, GREATEST_MS, Row};
+pub use signal::{MANY_BREAKS, Signal};
+pub use trunk::{TRUNKS, Trunk};

@@ -1,0 +1,56 @@
+// Line numbers.
+ghost use Rattle.std.specs.Prelude.{◌≡◌, ℕ, ◌<◌, ◌↔◌, IsSome, IfSome};
+
+use std::marker::Model;
+
+/// How many lines the office has.
+pub const LINES: u16 = 10_000;
+
+/// A line of the office, 0 to 9999.
+#[derive(Clone, Copy, Debug, PartialEq, Eq)]
+pub struct LineNo {
+    number: u16,
+}
+
+impl Model for LineNo {
+    ghost use Rattle.std.specs.Prelude.{ℕ, ◌<◌};
+    ghost use Rattle.xb_model.specs.declared.line.TheConstants.{LINES};
+
+    ghost Value = { ℕ };
+
+    ghost view = { λ l. l.number };
+
+    ghost invariant = { λ l. l.number < LINES };
+
+    ghost inverse = { λ n. record { number = n } };
+}
+
+impl LineNo {
+    /// The line of this number; `None` over 9999.
+    pub fn new(number: u16) -> Option<LineNo>
+        ensures variant { IsSome result ↔ (number < LINES) }
+        ensures value { IfSome result (λ l. l ≡ number) }
+    {
+        if number < LINES {
+            Some(LineNo { number })
+        } else {
+            None
+        }
+    }
+
+    /// The line's number.
+    pub fn get(self) -> u16
+        ensures value { result ≡ self }
+        ensures below { result < LINES }
+    {
+        self.number
+    }
+}
+
+impl Default for LineNo {
+    ghost is_default = { λ l. l ≡ 0 };
+
+    fn default() -> LineNo {
+        LineNo { number: 0 }
+    }
+}

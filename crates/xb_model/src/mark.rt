@@ -1,0 +1,37 @@
+// What stands on a tape.
+ghost use Rattle.std.specs.Prelude.{◌≡◌};
+ghost use Rattle.xb_model.specs.Keyings.{is_ending};
+
+use crate::key::{Key, Tone};
+use crate::reason::Reason;
+use crate::trunk::Trunk;
+
+/// One mark of a line's tape.
+#[derive(Clone, Copy, Debug, PartialEq, Eq)]
+pub enum Mark {
+    /// The trunk group of a keying.
+    Trunk(Trunk),
+    /// A key, with its pair of tones.
+    Tone(Key, Tone),
+    /// A refused attempt, with the count that goes with it.
+    Refused(Reason, u8),
+}
+
+impl Mark {
+    /// Whether an entry of the tape ends with this mark: the tone of ST, or a refusal.
+    pub fn ends(&self) -> bool
+        ensures { result ≡ is_ending self.now }
+    {
+        match self {
+            Mark::Trunk(_) => false,
+            Mark::Tone(key, _) => matches!(key, Key::St),
+            Mark::Refused(_, _) => true,
+        }
+    }
+}
+
+impl Default for Mark {
+    fn default() -> Mark {
+        Mark::Refused(Reason::Abandoned, 0)
+    }
+}

@@ -1,0 +1,21 @@
+// What the pulse stage hears.
+
+/// Where the count of a train's breaks stops: one more than the pulses of any digit.
+pub const MANY_BREAKS: u8 = 11;
+
+/// What is heard on a line (own profile).
+#[derive(Clone, Copy, Debug, PartialEq, Eq, Default)]
+pub enum Signal {
+    /// The line's first make: a register is seized, and an attempt begins.
+    #[default]
+    Seize,
+    /// A pulse train: the number of its breaks, at most 11, and whether one of its breaks or of
+    /// its makes but the last is out of its limits.
+    Digit(u8, bool),
+    /// A make reached the time-out.
+    TimeOut,
+    /// The line is released.
+    Release,
+    /// The line's record ends.
+    Close,
+}
