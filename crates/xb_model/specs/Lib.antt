@@ -10,3 +10,8 @@ pub mod Routing
 pub mod Keyings
 pub mod Tapes
 pub mod Page
+pub mod WorkedRows
+pub mod WorkedTables
+pub mod WorkedSignals
+pub mod WorkedTapes
+pub mod WorkedPages

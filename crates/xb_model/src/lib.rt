@@ -8,6 +8,7 @@ mod digit;
 mod digits;
 mod fault;
 mod key;
+pub mod laws;
 mod limits;
 mod line;
 mod mark;

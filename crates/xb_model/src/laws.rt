@@ -1,0 +1,80 @@
+//! What the definitions give, each a contract of its own: the tables of the profile and worked
+//! examples.
+ghost use Rattle.xb_model.specs.WorkedTables.{TwoOfFiveTable, TwoMakeADigit, MfTable, NumbersOfSeven};
+ghost use Rattle.xb_model.specs.WorkedSignals.{SignalsOfRecords};
+ghost use Rattle.xb_model.specs.WorkedTapes.{OperatorCall, SevenDigits, SplitRows, TwoLinesInTurn, BreakLimits, MakeLimits, ElevenPulses, TimeOutAndConversation, LastDigitPause, ClosedLine, UnknownCodes, SecondCall, ShortRecords, LongestKeying, EntriesOfATape};
+ghost use Rattle.xb_model.specs.WorkedPages.{PageOfOperatorCall, PageOfSevenDigits, PageOfNoRows, PageOfRefusals};
+
+/// The two elements of each digit; no element for any other count of pulses, nor for a bad train.
+pub fn two_of_five_table()
+    ensures { TwoOfFiveTable }
+{}
+
+/// Of the 32 patterns of five elements, those of which two operate are digits.
+pub fn two_make_a_digit()
+    ensures { TwoMakeADigit }
+{}
+
+/// The pair of each key.
+pub fn mf_table()
+    ensures { MfTable }
+{}
+
+/// The numbers that digits complete by plan Seven.
+pub fn numbers_of_seven()
+    ensures { NumbersOfSeven }
+{}
+
+/// The signals of some records, at each limit.
+#[tactic(auto, unfolding(crate::specs::WorkedRows::pulses, crate::specs::WorkedRows::dial))]
+pub fn signals_of_records()
+    ensures { SignalsOfRecords }
+{}
+
+/// The operator and a number of seven digits are dialled, in rows cut anyhow, beside another line.
+#[tactic(auto, unfolding(crate::specs::WorkedRows::pulses, crate::specs::WorkedRows::dial))]
+pub fn calls_are_keyed()
+    ensures operator_call { OperatorCall }
+    ensures seven_digits { SevenDigits }
+    ensures split_rows { SplitRows }
+    ensures two_lines_in_turn { TwoLinesInTurn }
+{}
+
+/// Breaks and makes on both sides of each limit, and a train of eleven pulses.
+#[tactic(auto, unfolding(crate::specs::WorkedRows::pulses, crate::specs::WorkedRows::dial))]
+pub fn limits_of_pulses()
+    ensures break_limits { BreakLimits }
+    ensures make_limits { MakeLimits }
+    ensures eleven_pulses { ElevenPulses }
+{}
+
+/// How an attempt ends: by a time-out, a pause, a close, a release, or not at all.
+#[tactic(auto, unfolding(crate::specs::WorkedRows::pulses, crate::specs::WorkedRows::dial))]
+pub fn ends_of_attempts()
+    ensures time_out_and_conversation { TimeOutAndConversation }
+    ensures last_digit_pause { LastDigitPause }
+    ensures closed_line { ClosedLine }
+    ensures second_call { SecondCall }
+    ensures short_records { ShortRecords }
+{}
+
+/// Numbers that no code covers, and the longest keying, of 18 marks.
+#[tactic(auto, unfolding(crate::specs::WorkedRows::pulses, crate::specs::WorkedRows::dial))]
+pub fn routes_and_keyings()
+    ensures unknown_codes { UnknownCodes }
+    ensures longest_keying { LongestKeying }
+{}
+
+/// The entries of marks.
+#[tactic(auto, unfolding(crate::specs::WorkedRows::pulses, crate::specs::WorkedRows::dial))]
+pub fn entries_of_a_tape()
+    ensures { EntriesOfATape }
+{}
+
+/// The text of some pages.
+pub fn texts_of_pages()
+    ensures operator_call { PageOfOperatorCall }
+    ensures seven_digits { PageOfSevenDigits }
+    ensures no_rows { PageOfNoRows }
+    ensures refusals { PageOfRefusals }
+{}
