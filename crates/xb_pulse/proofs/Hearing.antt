@@ -1,0 +1,107 @@
+-- Over a whole record the rows send its signals, however its runs are cut into rows.
+use Rattle.std.proofs.Common.{◌≡◌, ℕ, ◌==◌, List, [], ◌∷◌, ◌++◌, Bool, true, false, cond, refl, sym, ap, ◌∙◌, if◌then◌else◌, append_assoc, append-nil}
+use Rattle.std.specs.List.{AllByRecursion}
+use Rattle.std.proofs.lemmas.List.{map-append}
+use Rattle.xb_model.specs.declared.row.Contact.{Contact}
+use Rattle.xb_model.specs.declared.row.Contact.TheVariants.{Make, Brk}
+use Rattle.xb_model.specs.declared.row.Contact.TheVariants as contacts
+use Rattle.xb_model.specs.declared.limits.Limits.{Limits}
+use Rattle.xb_model.specs.declared.line.LineNo.{LineNo}
+use Rattle.xb_model.specs.declared.signal.Signal.{Signal}
+use Rattle.xb_model.specs.declared.signal.Signal.TheVariants.{Close}
+use Rattle.xb_model.specs.Rows.{LoopRow}
+use Rattle.xb_model.specs.Records.{closes, record_up_to_close, joined}
+use Rattle.xb_model.specs.Signals.{signals_of}
+use Rattle.xb_model.specs.LawfulLimits.{IsLawful}
+use Rattle.xb_ring.specs.Image.{image_from, image_on}
+use Rattle.xb_ring.specs.Stateless.{on_line}
+use Rattle.xb_pulse.specs.declared.state.State.{State}
+use Rattle.xb_pulse.specs.declared.state.State.TheVariants.{OnHook, BetweenTrains, InBreak, InMake, TimedOut, Closed}
+use Rattle.xb_pulse.specs.Machine.{Step, enter, on_make, on_break, on_row, step_of, machine}
+use Rattle.xb_pulse.proofs.Joining.{make_of, break_of}
+use Rattle.xb_pulse.proofs.ToSend.{to_send}
+use Rattle.xb_pulse.proofs.Steps.{IsOpen, SendsFront, on_make-front, on_break-front, on_make-open, on_break-open, to_send-none}
+
+-- what rows of one line send, from a state on
+abbrev pub sent : Limits → State → List LoopRow → List Signal
+sent L s [] = []
+sent L s (row ∷ rows) = (step_of L s row).sent ++ sent L (step_of L s row).after rows
+
+-- the close, if it has not come
+abbrev pub unless_closed : List LoopRow → List Signal
+unless_closed rows = if closes rows then [] else Close ∷ []
+
+-- behind the close no row sends anything
+
+either_closed : (b : Bool) → cond b (enter Closed) (enter Closed) ≡ enter Closed
+either_closed true = refl
+either_closed false = refl
+
+closed_stays : (L : Limits) (c : Contact) (ms : ℕ) → on_row L Closed c ms ≡ enter Closed
+closed_stays L Make ms = either_closed (ms == 0)
+closed_stays L Brk ms = either_closed (ms == 0)
+closed_stays L contacts.Close ms = refl
+
+sent-closed : (L : Limits) (rows : List LoopRow) → sent L Closed rows ≡ []
+sent-closed L [] = refl
+sent-closed L (row ∷ rows) = rw (closed_stays L row.contact row.ms) (sent-closed L rows)
+
+sends_close : (L : Limits) (s : State) (ms : ℕ) → IsOpen L s → on_row L s contacts.Close ms ≡ record { sent = Close ∷ []; after = Closed }
+sends_close L OnHook ms o = refl
+sends_close L (BetweenTrains t) ms o = refl
+sends_close L (InBreak t tally) ms o = refl
+sends_close L (InMake t tally) ms o = refl
+sends_close L (TimedOut t) ms o = refl
+sends_close L Closed ms o = absurd o
+
+-- what these rows send, and a close unless they have one, is what is to be sent from a state on
+abbrev Hears : Limits → State → List LoopRow → Type 0
+Hears L s rows = sent L s rows ++ unless_closed rows ≡ to_send L s (joined (record_up_to_close rows))
+
+-- a step that sends the front, and rows that are heard behind it
+front_heard : (L : Limits) (step : Step) (rows : List LoopRow) (all : List Signal) → SendsFront L step (joined (record_up_to_close rows)) all → Hears L step.after rows → (step.sent ++ sent L step.after rows) ++ unless_closed rows ≡ all
+front_heard L step rows all front heard =
+    append_assoc step.sent (sent L step.after rows) (unless_closed rows)
+    ∙ ap (λ behind. step.sent ++ behind) heard
+    ∙ sym front
+
+module _ (L : Limits) (l : IsLawful L) (rows : List LoopRow) (heard : (s : State) → IsOpen L s → Hears L s rows) where
+  -- a row in front of rows that are heard from every open state
+  row_heard : (s : State) (line : LineNo) (c : Contact) (ms : ℕ) → IsOpen L s → Hears L s (record { line = line; contact = c; ms = ms } ∷ rows)
+  row_heard s line Make ms o = at (ms == 0)
+    where
+      at : (b : Bool) → ((cond b (enter s) (on_make L s ms)).sent ++ sent L (cond b (enter s) (on_make L s ms)).after rows) ++ unless_closed rows ≡ to_send L s (joined (cond b (record_up_to_close rows) (make_of ms ∷ record_up_to_close rows)))
+      at true = heard s o
+      at false =
+          front_heard L (on_make L s ms) rows _ (on_make-front L s ms (joined (record_up_to_close rows)) l o) (heard (on_make L s ms).after (on_make-open L s ms l o))
+  row_heard s line Brk ms o = at (ms == 0)
+    where
+      at : (b : Bool) → ((cond b (enter s) (on_break L s ms)).sent ++ sent L (cond b (enter s) (on_break L s ms)).after rows) ++ unless_closed rows ≡ to_send L s (joined (cond b (record_up_to_close rows) (break_of ms ∷ record_up_to_close rows)))
+      at true = heard s o
+      at false =
+          front_heard L (on_break L s ms) rows _ (on_break-front L s ms (joined (record_up_to_close rows)) l o) (heard (on_break L s ms).after (on_break-open L s ms o))
+  row_heard s line contacts.Close ms o = rw (sends_close L s ms o, sent-closed L rows) (sym (to_send-none L s l o))
+
+-- rows are heard from every open state
+all_heard : (L : Limits) → IsLawful L → (rows : List LoopRow) (s : State) → IsOpen L s → Hears L s rows
+all_heard L l [] s o = sym (to_send-none L s l o)
+all_heard L l (row ∷ rows) s o = row_heard L l rows (all_heard L l rows) s row.line row.contact row.ms o
+
+image_from-sent : (L : Limits) (line : LineNo) (s : State) (rows : List LoopRow) → AllByRecursion (λ row. row.line ≡ line) rows → image_from (machine L) s rows ≡ on_line line (sent L s rows)
+image_from-sent L line s [] a = refl
+image_from-sent L line s (row ∷ rows) a =
+    rw (a.0, image_from-sent L line (step_of L s row).after rows a.1)
+    (sym (map-append (λ (what : Signal). record { line = line; what = what }) (step_of L s row).sent (sent L (step_of L s row).after rows)))
+
+-- what the stage sends for rows of one line, and a close unless they have one, are the signals
+signals_heard : (L : Limits) (line : LineNo) (rows : List LoopRow) → IsLawful L → AllByRecursion (λ row. row.line ≡ line) rows → image_on (machine L) rows ++ on_line line (unless_closed rows) ≡ on_line line (signals_of L (record_up_to_close rows))
+signals_heard L line rows l a =
+    ap (λ front. front ++ on_line line (unless_closed rows)) (image_from-sent L line OnHook rows a)
+    ∙ sym (map-append (λ (what : Signal). record { line = line; what = what }) (sent L OnHook rows) (unless_closed rows))
+    ∙ ap (on_line line) (all_heard L l rows OnHook tt)
+
+pub record_heard : (L : Limits) (line : LineNo) (rows : List LoopRow) → IsLawful L → AllByRecursion (λ row. row.line ≡ line) rows → closes rows ≡ true → image_on (machine L) rows ≡ on_line line (signals_of L (record_up_to_close rows))
+record_heard L line rows l a e = sym (append-nil _) ∙ rw e at (signals_heard L line rows l a)
+
+pub open_record_heard : (L : Limits) (line : LineNo) (rows : List LoopRow) → IsLawful L → AllByRecursion (λ row. row.line ≡ line) rows → closes rows ≡ false → image_on (machine L) rows ++ on_line line (Close ∷ []) ≡ on_line line (signals_of L (record_up_to_close rows))
+open_record_heard L line rows l a e = rw e at (signals_heard L line rows l a)

@@ -1,0 +1,45 @@
+-- What a run takes in of the runs behind it.
+use Rattle.std.proofs.Common.{◌≡◌, ℕ, ◌+◌, List, [], ◌∷◌, Bool, true, false, cond, refl, add_assoc, add-zero}
+use Rattle.xb_model.specs.declared.row.Contact.{Contact}
+use Rattle.xb_model.specs.declared.row.Contact.TheVariants.{Make, Brk, Close}
+use Rattle.xb_model.specs.Records.{Run, same_contact, join, without_first_break}
+
+abbrev pub make_of : ℕ → Run
+make_of ms = record { contact = Make; ms = ms }
+
+abbrev pub break_of : ℕ → Run
+break_of ms = record { contact = Brk; ms = ms }
+
+-- how long the first run is, if it has this contact
+abbrev pub more : Contact → List Run → ℕ
+more c [] = 0
+more c (run ∷ R) = cond (same_contact c run.contact) run.ms 0
+
+-- the runs behind the first, if it has this contact
+abbrev pub behind : Contact → List Run → List Run
+behind c [] = []
+behind c (run ∷ R) = cond (same_contact c run.contact) R (run ∷ R)
+
+join_by : (c : Contact) (m : ℕ) (q : Run) (R : List Run) (b : Bool) → cond b (record { contact = c; ms = m + q.ms } ∷ R) (record { contact = c; ms = m } ∷ q ∷ R) ≡ record { contact = c; ms = m + cond b q.ms 0 } ∷ cond b R (q ∷ R)
+join_by c m q R true = refl
+join_by c m q R false = rw add-zero
+
+pub join_is : (c : Contact) (m : ℕ) (R : List Run) → join (record { contact = c; ms = m }) R ≡ record { contact = c; ms = m + more c R } ∷ behind c R
+join_is c m [] = rw add-zero
+join_is c m (q ∷ R) = join_by c m q R (same_contact c q.contact)
+
+-- two neighbours of one contact are one run of their sum
+pub join_makes : (a b : ℕ) (R : List Run) → join (make_of a) (join (make_of b) R) ≡ join (make_of (a + b)) R
+join_makes a b R = rw (join_is Make b R, join_is Make (a + b) R, add_assoc)
+
+pub join_breaks : (a b : ℕ) (R : List Run) → join (break_of a) (join (break_of b) R) ≡ join (break_of (a + b)) R
+join_breaks a b R = rw (join_is Brk b R, join_is Brk (a + b) R, add_assoc)
+
+same_break : (c : Contact) → same_contact c Brk ≡ same_contact Brk c
+same_break Make = refl
+same_break Brk = refl
+same_break Close = refl
+
+pub behind_break : (R : List Run) → without_first_break R ≡ behind Brk R
+behind_break [] = refl
+behind_break (q ∷ R) = rw (same_break q.contact)

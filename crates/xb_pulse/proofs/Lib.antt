@@ -1,0 +1,4 @@
+pub mod Joining
+pub mod ToSend
+pub mod Steps
+pub mod Hearing

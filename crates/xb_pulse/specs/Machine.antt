@@ -1,0 +1,102 @@
+-- The pulse stage on one line, row by row: what a row sends, and the state that it leaves (own
+-- profile). What this amounts to over a whole record, the laws say.
+use Rattle.std.specs.Prelude.{ℕ, ◌+◌, min, List, [], ◌∷◌, false, ◌||◌, if◌then◌else◌, nat_le, nat_lt, ◌==◌}
+use Rattle.xb_model.specs.declared.row.Contact.{Contact}
+use Rattle.xb_model.specs.declared.row.Contact.TheVariants as contacts
+use Rattle.xb_model.specs.declared.limits.Limits.{Limits}
+use Rattle.xb_model.specs.declared.limits.TheConstants.{GREATEST_LIMIT}
+use Rattle.xb_model.specs.declared.on.On.{On}
+use Rattle.xb_model.specs.declared.signal.Signal.{Signal}
+use Rattle.xb_model.specs.declared.signal.Signal.TheVariants.{Seize, Digit, TimeOut, Release, Close}
+use Rattle.xb_model.specs.declared.signal.TheConstants.{MANY_BREAKS}
+use Rattle.xb_model.specs.Rows.{LoopRow}
+use Rattle.xb_ring.specs.Image.{Machine}
+use Rattle.xb_ring.specs.Stateless.{on_line}
+use Rattle.xb_pulse.specs.declared.state.Tally.{Tally}
+use Rattle.xb_pulse.specs.declared.state.State.{State}
+use Rattle.xb_pulse.specs.declared.state.State.TheVariants.{OnHook, BetweenTrains, InBreak, InMake, TimedOut, Closed}
+
+-- what a row sends, and the state behind it
+pub record Step : Type 0 where
+  pub sent : List Signal
+  pub after : State
+
+abbrev pub enter : State → Step
+enter state = record { sent = []; after = state }
+
+abbrev pub send : Signal → Step → Step
+send signal step = record { sent = signal ∷ step.sent; after = step.after }
+
+-- a running total, which stops at the greatest limit that there is
+abbrev pub longer : ℕ → ℕ → ℕ
+longer total ms = min (total + ms) GREATEST_LIMIT
+
+abbrev pub no_breaks : Tally
+no_breaks = record { breaks = 0; bad = false }
+
+-- a break of this length ends
+abbrev pub with_break : Limits → ℕ → Tally → Tally
+with_break limits total tally =
+    record { breaks = min (tally.breaks + 1) MANY_BREAKS; bad = tally.bad || (nat_lt total limits.pulse_min || nat_lt limits.pulse_max total) }
+
+-- a make of this length ends inside a train
+abbrev pub with_make : Limits → ℕ → Tally → Tally
+with_make limits total tally = record { breaks = tally.breaks; bad = tally.bad || nat_lt total limits.make_min }
+
+-- in a make, outside any train
+abbrev pub between_trains : Limits → ℕ → Step
+between_trains limits total =
+    if nat_le limits.timeout total then send TimeOut (enter (TimedOut 0)) else enter (BetweenTrains total)
+
+-- in a make behind a part of a train
+abbrev pub in_make : Limits → ℕ → Tally → Step
+in_make limits total tally =
+    if nat_le limits.pause total then send (Digit tally.breaks tally.bad) (between_trains limits total)
+    else enter (InMake total tally)
+
+-- in a break behind a part of a train
+abbrev pub in_break : Limits → ℕ → Tally → Step
+in_break limits total tally =
+    if nat_le limits.release total then send Release (enter OnHook) else enter (InBreak total tally)
+
+-- in a break behind a time-out
+abbrev pub timed_out : Limits → ℕ → Step
+timed_out limits total =
+    if nat_le limits.release total then send Release (enter OnHook) else enter (TimedOut total)
+
+abbrev pub on_make : Limits → State → ℕ → Step
+on_make limits OnHook ms = send Seize (between_trains limits (longer 0 ms))
+on_make limits (BetweenTrains total) ms = between_trains limits (longer total ms)
+on_make limits (InBreak total tally) ms = in_make limits (longer 0 ms) (with_break limits total tally)
+on_make limits (InMake total tally) ms = in_make limits (longer total ms) tally
+on_make limits (TimedOut total) ms = enter (TimedOut 0)
+on_make limits Closed ms = enter Closed
+
+abbrev pub on_break : Limits → State → ℕ → Step
+on_break limits OnHook ms = enter OnHook
+on_break limits (BetweenTrains total) ms = in_break limits (longer 0 ms) no_breaks
+on_break limits (InBreak total tally) ms = in_break limits (longer total ms) tally
+on_break limits (InMake total tally) ms = in_break limits (longer 0 ms) (with_make limits total tally)
+on_break limits (TimedOut total) ms = timed_out limits (longer total ms)
+on_break limits Closed ms = enter Closed
+
+abbrev pub on_close : State → Step
+on_close Closed = enter Closed
+on_close _ = send Close (enter Closed)
+
+abbrev pub on_row : Limits → State → Contact → ℕ → Step
+on_row limits state contacts.Make ms = if ms == 0 then enter state else on_make limits state ms
+on_row limits state contacts.Brk ms = if ms == 0 then enter state else on_break limits state ms
+on_row limits state contacts.Close ms = on_close state
+
+abbrev pub step_of : Limits → State → LoopRow → Step
+step_of limits state row = on_row limits state row.contact row.ms
+
+-- what the stage does on one line
+abbrev pub machine : Limits → Machine LoopRow (On Signal) State
+machine limits =
+    record {
+      start = OnHook;
+      next = λ state row. (step_of limits state row).after;
+      outs = λ state row. on_line row.line (step_of limits state row).sent;
+    }
