@@ -1,0 +1,95 @@
+// The sender, and the marks that it sends.
+ghost use Rattle.std.specs.Prelude.{◌≡◌, ℕ, ◌+◌, ◌<◌, ◌≤◌, [], ◌∷◌, ◌++◌, map, length, vec_len, vec_capacity};
+ghost use Rattle.xb_model.specs.declared.digits.TheConstants.{KEY_DIGITS};
+ghost use Rattle.xb_model.specs.declared.key.Key.TheVariants.{Digit as DigitKey};
+ghost use Rattle.xb_model.specs.Keyings.{tone, keying, marks_of};
+ghost use Rattle.xb_ring.specs.declared.stage.TheConstants.{OUTPUT_ROOM};
+ghost use Rattle.xb_ring.specs.Stateless.{on_line, all_on};
+ghost use Rattle.xb_sender.specs.Sending.{machine};
+
+use xb_model::{Digit, Key, KeyDigits, LineNo, Mark, On, Order, Trunk, mf};
+use xb_ring::LineStage;
+
+// Pushes a mark of the line.
+fn push_mark(line: LineNo, out: &mut Vec<On<Mark>>, mark: Mark)
+    requires { vec_len out.old < vec_capacity out.old }
+    ensures items { out.new.items ≡ out.old.items ++ on_line line (mark ∷ []) }
+    ensures len { vec_len out.new ≡ vec_len out.old + 1 }
+    ensures capacity { vec_capacity out.new ≡ vec_capacity out.old }
+{
+    out.push_reserved(On { line, what: mark });
+}
+
+// Pushes a key with its pair of tones.
+fn push_key(line: LineNo, out: &mut Vec<On<Mark>>, key: &Key)
+    requires { vec_len out.old < vec_capacity out.old }
+    ensures items { out.new.items ≡ out.old.items ++ on_line line (tone key.now ∷ []) }
+    ensures len { vec_len out.new ≡ vec_len out.old + 1 }
+    ensures capacity { vec_capacity out.new ≡ vec_capacity out.old }
+{
+    let pair = mf(*key);
+    push_mark(line, out, Mark::Tone(*key, pair));
+}
+
+// Pushes each digit with its pair of tones.
+fn push_digits(line: LineNo, out: &mut Vec<On<Mark>>, digits: &[Digit])
+    requires { vec_len out.old + length digits.now ≤ vec_capacity out.old }
+    ensures items { out.new.items ≡ out.old.items ++ on_line line (map (λ d. tone (DigitKey d)) digits.now) }
+    ensures len { vec_len out.new ≡ vec_len out.old + length digits.now }
+    ensures capacity { vec_capacity out.new ≡ vec_capacity out.old }
+{
+    for digit in digits {
+        push_key(line, out, &Key::Digit(*digit));
+    }
+}
+
+// Pushes a whole keying.
+fn push_keying(line: LineNo, out: &mut Vec<On<Mark>>, trunk: Trunk, digits: &KeyDigits)
+    requires empty { out.old.items ≡ [] }
+    requires room { OUTPUT_ROOM ≤ vec_capacity out.old }
+    ensures items { out.new.items ≡ on_line line (keying trunk digits.now) }
+    ensures few { vec_len out.new ≤ KEY_DIGITS + 3 }
+    ensures capacity { vec_capacity out.new ≡ vec_capacity out.old }
+{
+    push_mark(line, out, Mark::Trunk(trunk));
+    push_key(line, out, &Key::Kp);
+    push_digits(line, out, digits.digits());
+    push_key(line, out, &Key::St);
+}
+
+/// The stage that keys orders ("Notes on Distance Dialing"): for an order to key, the trunk group,
+/// KP, the digits and ST, each key with its pair of tones; for a refused attempt, one mark with the
+/// reason and the count (own profile). It keeps no state.
+#[derive(Clone, Copy, Debug, Default, PartialEq, Eq)]
+pub struct Sender;
+
+impl Sender {
+    /// A sender; it serves all lines.
+    pub fn new() -> Sender
+        ensures { ⟦<Sender as LineStage>⟧.machine result ≡ machine }
+    {
+        Sender
+    }
+}
+
+impl LineStage for Sender {
+    type In = On<Order>;
+
+    type Out = On<Mark>;
+
+    type State = ();
+
+    ghost machine = { λ sender. machine };
+
+    ghost on_line = { λ sender state item. all_on item.line (marks_of item.what) };
+
+    fn fresh(&self) {}
+
+    fn step(&self, _state: &mut (), item: On<Order>, out: &mut Vec<On<Mark>>) {
+        let On { line, what } = item;
+        match what {
+            Order::Key(trunk, digits) => push_keying(line, out, trunk, &digits),
+            Order::Refused(reason, heard) => push_mark(line, out, Mark::Refused(reason, heard)),
+        }
+    }
+}
