@@ -1,2 +1,5 @@
 pub mod Deck
+pub mod RowAnswers
+pub mod RowTexts
+pub mod Scanning
 pub mod Streams

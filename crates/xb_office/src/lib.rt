@@ -2,6 +2,11 @@
 #![tactic(auto)]
 
 mod deck;
+mod record;
+mod rows;
+mod scan;
 mod streams;
 
 pub use deck::{Deck, MOST_DECK_BYTES};
+pub use rows::read_rows;
+pub use scan::{MOST_RECORDS, Scan};

@@ -1,0 +1,23 @@
+use Rattle.std.proofs.Common.{◌∙◌, sym, inl, ap}
+use Rattle.csv.specs.Records.{fields_of}
+use Rattle.xb_office.specs.Scanning.{records_left}
+use Rattle.xb_office.specs.RowTexts.{rows_from}
+use Rattle.xb_office.proofs.RecordRows.{rows-nil, rows-many, rows-more}
+use Rattle.xb_office.proofs.scan.take_row.Goals as goal
+
+pub returns-then-n-gt-MOST_RECORDS : goal.returns-then-n-gt-MOST_RECORDS
+returns-then-n-gt-MOST_RECORDS c =
+    inl (ap (rows_from c.args.n) c.in-Record.ensures.1 ∙ rows-many c.args.n (fields_of c.take_record.new.fields) (records_left c.take_record.new.reader) c.if-n-gt-MOST_RECORDS.true)
+
+pub returns-in-Ok : goal.returns-in-Ok
+returns-in-Ok c =
+    let e = rows-more c.args.n (fields_of c.take_record.new.fields) (records_left c.take_record.new.reader) _ c.if-n-gt-MOST_RECORDS.false (sym c.in-Ok.ensures) in
+    (c.in-Record.ensures.0, c.if-n-gt-MOST_RECORDS.false, ap (rows_from c.args.n) c.in-Record.ensures.1 ∙ e)
+
+pub returns-in-Err : goal.returns-in-Err
+returns-in-Err c =
+    let e = rows-more c.args.n (fields_of c.take_record.new.fields) (records_left c.take_record.new.reader) _ c.if-n-gt-MOST_RECORDS.false (sym c.in-Err.ensures) in
+    inl (ap (rows_from c.args.n) c.in-Record.ensures.1 ∙ e)
+
+pub returns-in-End : goal.returns-in-End
+returns-in-End c = ap (rows_from c.args.n) c.in-End.ensures ∙ rows-nil c.args.n

@@ -1,0 +1,168 @@
+// The rows of a text, one at a time.
+ghost use Rattle.std.specs.Prelude.{◌≡◌};
+ghost use Rattle.csv.specs.Records.{fields_of};
+ghost use Rattle.xb_office.specs.RowTexts.{rest_of_text};
+ghost use Rattle.xb_office.specs.Scanning.{HeaderStep, IsGoing, RowStep, Takes, records_left};
+
+use crate::record::{is_header, row_of};
+use csv::{ByteRecord, Reader, ReaderBuilder};
+use std::alloc::Global;
+use std::marker::Model;
+use xb_bank::RowSource;
+use xb_model::{Row, RowFault};
+
+/// The most records that follow the header.
+pub const MOST_RECORDS: u32 = 1_000_000;
+
+// Where a scan stands.
+#[derive(Clone, Copy)]
+enum Place {
+    /// In front of the header.
+    Header,
+    /// In front of this record.
+    Record(u32),
+    /// At its stop, a fault or the end.
+    Stopped(Option<RowFault>),
+}
+
+// What reading a record gave.
+#[derive(Clone, Copy)]
+enum Taken {
+    Record,
+    End,
+    NoMemory,
+}
+
+// What reading a row gave: the row, or the stop.
+#[derive(Clone, Copy)]
+enum Step {
+    Row(Row),
+    Stopped(Option<RowFault>),
+}
+
+// Reads the next record of a text.
+fn take_record(reader: &mut Reader<&[u8]>, fields: &mut ByteRecord) -> Taken
+    requires { IsGoing reader.old }
+    ensures { Takes reader.old reader.new (fields_of fields.new) result }
+{
+    match reader.read_byte_record(fields) {
+        Ok(true) => Taken::Record,
+        Ok(false) => Taken::End,
+        // a slice does not fail, so that only a growth was refused
+        Err(_) => Taken::NoMemory,
+    }
+}
+
+// Reads the header.
+fn take_header(reader: &mut Reader<&[u8]>, fields: &mut ByteRecord) -> Result<(), RowFault>
+    requires { IsGoing reader.old }
+    ensures { HeaderStep (records_left reader.old) reader.new result }
+{
+    match take_record(reader, fields) {
+        Taken::Record => {
+            if is_header(fields) {
+                Ok(())
+            } else {
+                Err(RowFault::Header)
+            }
+        }
+        Taken::End => Err(RowFault::Header),
+        Taken::NoMemory => Err(RowFault::NoMemory),
+    }
+}
+
+// Reads record `n`.
+fn take_row(n: u32, reader: &mut Reader<&[u8]>, fields: &mut ByteRecord) -> Step
+    requires { IsGoing reader.old }
+    ensures { RowStep n (records_left reader.old) reader.new result }
+{
+    match take_record(reader, fields) {
+        Taken::Record => {
+            if n > MOST_RECORDS {
+                return Step::Stopped(Some(RowFault::TooMany));
+            }
+            match row_of(n, fields) {
+                Ok(row) => Step::Row(row),
+                Err(fault) => Step::Stopped(Some(fault)),
+            }
+        }
+        Taken::End => Step::Stopped(None),
+        Taken::NoMemory => Step::Stopped(Some(RowFault::NoMemory)),
+    }
+}
+
+/// The rows of a CSV text, one at a time: a source that takes memory, in `next_row` alone.
+#[derive(Drop)]
+pub struct Scan<'a> {
+    reader: Reader<&'a [u8]>,
+    fields: ByteRecord,
+    place: Place,
+}
+
+impl<'a> Model for Scan<'a> {
+    ghost use Rattle.xb_bank.specs.Sources.{Rest};
+    ghost use Rattle.xb_office.specs.Scanning.{CanGo, rest_at};
+
+    ghost Value = { Rest };
+
+    ghost view = { λ s. rest_at s.place s.reader };
+
+    ghost invariant = { λ s. CanGo s.place s.reader };
+}
+
+impl<'a> Scan<'a> {
+    /// A scan of a text: its first record is the header `line,state,ms`, and each further one,
+    /// counted from 1, is a row.
+    pub fn new(alloc: Global, text: &'a [u8]) -> Scan<'a>
+        ensures { result ≡ rest_of_text text.now }
+    {
+        Scan {
+            reader: ReaderBuilder::new()
+                .has_headers(false)
+                .flexible(true)
+                .from_reader(alloc, text),
+            fields: ByteRecord::new(alloc),
+            place: Place::Header,
+        }
+    }
+}
+
+impl<'a> RowSource for Scan<'a> {
+    ghost use Rattle.std.specs.Prelude.{true};
+
+    ghost rest = { λ s. s };
+
+    ghost takes = { true };
+
+    /// The next row, `None` at the end, or the fault that stops the rows: `Header` where there is
+    /// no record or the first is not the header, `TooMany` at the record behind the 1,000,000th,
+    /// `Fields`, `Line`, `Contact` or `Ms` of the first record that is no row, and `NoMemory`
+    /// where a growth was refused.
+    fn next_row(&mut self) -> Result<Option<Row>, RowFault> {
+        let n = match self.place {
+            Place::Stopped(None) => return Ok(None),
+            Place::Stopped(Some(fault)) => return Err(fault),
+            Place::Header => match take_header(&mut self.reader, &mut self.fields) {
+                Ok(()) => 1,
+                Err(fault) => {
+                    self.place = Place::Stopped(Some(fault));
+                    return Err(fault);
+                }
+            },
+            Place::Record(n) => n,
+        };
+        match take_row(n, &mut self.reader, &mut self.fields) {
+            Step::Row(row) => {
+                self.place = Place::Record(n + 1);
+                Ok(Some(row))
+            }
+            Step::Stopped(stop) => {
+                self.place = Place::Stopped(stop);
+                match stop {
+                    None => Ok(None),
+                    Some(fault) => Err(fault),
+                }
+            }
+        }
+    }
+}
