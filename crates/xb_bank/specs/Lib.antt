@@ -1,3 +1,7 @@
+pub mod Closed
 pub mod Entries
+pub mod Fed
+pub mod ItemLines
 pub mod Sources
 pub mod TapeLines
+pub mod Uses
