@@ -1,0 +1,162 @@
+-- Each attempt's signals give its outcome.
+use Rattle.std.proofs.Common.{◌≡◌, ℕ, List, [], ◌∷◌, ◌++◌, length, map, Bool, true, false, cond, Option, Some, None, refl, ap, sym, ◌∙◌, inl, inr, append_assoc, append-nil}
+use Rattle.std.specs.Prelude.{◌⊎◌, is_none}
+use Rattle.std.specs.Option.{option_to_list}
+use Rattle.std.specs.List.{filter, list_any, flat_map}
+use Rattle.xb_model.specs.declared.plan.Plan.{Plan}
+use Rattle.xb_model.specs.declared.limits.Limits.{Limits}
+use Rattle.xb_model.specs.declared.signal.Signal.{Signal}
+use Rattle.xb_model.specs.declared.signal.Signal.TheVariants.{TimeOut, Release, Close}
+use Rattle.xb_model.specs.declared.reason.Reason.TheVariants.{Mutilated}
+use Rattle.xb_model.specs.declared.dialled.Dialled.{Dialled}
+use Rattle.xb_model.specs.declared.dialled.Dialled.TheVariants.{Number, Refused}
+use Rattle.xb_model.specs.Records.{Run, Attempt, Train, is_release, into_first, pieces_of, has_runs, attempts_of, trains_of, is_timed, runs_of}
+use Rattle.xb_model.specs.Signals.{breaks_in, is_bad_train, digit_signal, when, attempt_signals, signals_of}
+use Rattle.xb_model.specs.Numbers.{digit_of_train, before_mutilated, good_digits, is_complete, fronts, first_where, shortest_complete, without_number, or_refused, outcome_of, outcomes_of}
+use Rattle.xb_register.specs.declared.state.Phase.TheVariants.{OnHook, Listening, Done}
+use Rattle.xb_register.specs.Registering.{store}
+use Rattle.xb_register.proofs.Said.{said}
+use Rattle.xb_register.proofs.Spelled.{spelled}
+use Rattle.xb_register.proofs.Pending.{Pending, one, reaches-pending}
+
+-- the number that the digits complete, where some are there already
+abbrev completed : Plan → List ℕ → List ℕ → Option (List ℕ)
+completed plan digits [] = None
+completed plan digits (d ∷ more) =
+    cond (is_complete plan (digits ++ one d)) (Some (digits ++ one d)) (completed plan (digits ++ one d) more)
+
+-- what the register gives on the digits of trains, and then on the signals behind them
+abbrev listened : Plan → List ℕ → List (Option ℕ) → List Signal → List Dialled
+listened plan digits [] behind = said plan (Listening digits) behind
+listened plan digits (None ∷ trains) behind = Refused Mutilated (length digits) ∷ said plan Done behind
+listened plan digits (Some d ∷ trains) behind =
+    cond (is_complete plan (digits ++ one d)) (Number (digits ++ one d) ∷ said plan Done behind) (listened plan (digits ++ one d) trains behind)
+
+done_silent : (plan : Plan) (limits : Limits) (ts : List Train) (behind : List Signal) → said plan Done (map (digit_signal limits) ts ++ behind) ≡ said plan Done behind
+done_silent plan limits [] behind = refl
+done_silent plan limits (t ∷ ts) behind = done_silent plan limits ts behind
+
+-- one digit more, where the digits behind it are known of
+digit_step : (plan : Plan) (limits : Limits) (digits : List ℕ) (ts : List Train) (behind : List Signal) (o : Option ℕ) → Pending plan digits → ((digits : List ℕ) → Pending plan digits → said plan (Listening digits) (map (digit_signal limits) ts ++ behind) ≡ listened plan digits (map (digit_of_train limits) ts) behind) → option_to_list (store plan digits o).outcome ++ said plan (store plan digits o).phase (map (digit_signal limits) ts ++ behind) ≡ listened plan digits (o ∷ map (digit_of_train limits) ts) behind
+digit_step plan limits digits ts behind None p ih = rw (done_silent plan limits ts behind)
+digit_step plan limits digits ts behind (Some d) p ih = complete (is_complete plan (digits ++ one d)) refl
+  where
+    complete : (b : Bool) → is_complete plan (digits ++ one d) ≡ b → option_to_list (store plan digits (Some d)).outcome ++ said plan (store plan digits (Some d)).phase (map (digit_signal limits) ts ++ behind) ≡ listened plan digits (Some d ∷ map (digit_of_train limits) ts) behind
+    complete true e = rw (reaches-pending plan digits d p, e, done_silent plan limits ts behind)
+    complete false e = rw (reaches-pending plan digits d p, e) (ih (digits ++ one d) (reaches-pending plan digits d p ∙ e))
+
+listens : (plan : Plan) (limits : Limits) (digits : List ℕ) (ts : List Train) (behind : List Signal) → Pending plan digits → said plan (Listening digits) (map (digit_signal limits) ts ++ behind) ≡ listened plan digits (map (digit_of_train limits) ts) behind
+listens plan limits digits [] behind p = refl
+listens plan limits digits (t ∷ ts) behind p =
+    rw (spelled (breaks_in t) (is_bad_train limits t)) (digit_step plan limits digits ts behind (digit_of_train limits t) p (λ more q. listens plan limits more ts behind q))
+
+-- what comes of the digits, where the signals behind them give a refusal and then the same as behind a number
+comes_of : (plan : Plan) (digits : List ℕ) (os : List (Option ℕ)) (behind : List Signal) (late : Bool) (rest : List Dialled) → ((digits : List ℕ) → said plan (Listening digits) behind ≡ without_number false late (length digits) ∷ rest) → said plan Done behind ≡ rest → listened plan digits os behind ≡ or_refused (completed plan digits (before_mutilated os)) (without_number (list_any is_none os) late (length (digits ++ before_mutilated os))) ∷ rest
+comes_of plan digits [] behind late rest listening done = rw append-nil (listening digits)
+comes_of plan digits (None ∷ os) behind late rest listening done = rw (append-nil, done)
+comes_of plan digits (Some d ∷ os) behind late rest listening done =
+    go (is_complete plan (digits ++ one d)) (comes_of plan (digits ++ one d) os behind late rest listening done)
+  where
+    go : (b : Bool) → listened plan (digits ++ one d) os behind ≡ or_refused (completed plan (digits ++ one d) (before_mutilated os)) (without_number (list_any is_none os) late (length ((digits ++ one d) ++ before_mutilated os))) ∷ rest → cond b (Number (digits ++ one d) ∷ said plan Done behind) (listened plan (digits ++ one d) os behind) ≡ or_refused (cond b (Some (digits ++ one d)) (completed plan (digits ++ one d) (before_mutilated os))) (without_number (list_any is_none os) late (length (digits ++ d ∷ before_mutilated os))) ∷ rest
+    go true h = rw done
+    go false h = rw append_assoc at h
+
+-- the shortest complete front is what the digits complete
+map-map : (f g : List ℕ → List ℕ) (h : List ℕ → List ℕ) → ((x : List ℕ) → f (g x) ≡ h x) → (xs : List (List ℕ)) → map f (map g xs) ≡ map h xs
+map-map f g h e [] = refl
+map-map f g h e (x ∷ xs) = rw (e x, map-map f g h e xs)
+
+map-same : (xs : List (List ℕ)) → map (λ x. [] ++ x) xs ≡ xs
+map-same [] = refl
+map-same (x ∷ xs) = ap (λ ys. x ∷ ys) (map-same xs)
+
+first_front : (plan : Plan) (digits more : List ℕ) → first_where (is_complete plan) (map (λ front. digits ++ front) (fronts more)) ≡ cond (is_complete plan digits) (Some digits) (completed plan digits more)
+first_front plan digits [] = rw append-nil
+first_front plan digits (d ∷ more) =
+    rw (append-nil digits, map-map (λ front. digits ++ front) (λ front. d ∷ front) (λ front. (digits ++ one d) ++ front) (λ x. sym (append_assoc digits (one d) x)) (fronts more), first_front plan (digits ++ one d) more)
+
+shortest : (plan : Plan) (digits : List ℕ) → shortest_complete plan digits ≡ completed plan [] digits
+shortest plan digits = rw (map-same (fronts digits)) at (first_front plan [] digits)
+
+-- the attempts, each but the last with a release behind it
+
+abbrev Chained : List Attempt → Type 0
+Chained [] = Unit {0}
+Chained (piece ∷ pieces) = ((piece.released ≡ true) ⊎ (pieces ≡ [])) × Chained pieces
+
+chained_first : (run : Run) (P : List Attempt) → Chained P → Chained (into_first run P)
+chained_first run [] c = (inr refl, tt)
+chained_first run (p ∷ P) c = c
+
+chained_pieces : (limits : Limits) (R : List Run) → Chained (pieces_of limits R)
+chained_pieces limits [] = tt
+chained_pieces limits (run ∷ R) = at (is_release limits run) (chained_pieces limits R)
+  where
+    at : (b : Bool) → Chained (pieces_of limits R) → Chained (cond b (record { runs = []; released = true } ∷ pieces_of limits R) (into_first run (pieces_of limits R)))
+    at true c = (inl refl, c)
+    at false c = chained_first run (pieces_of limits R) c
+
+chained_filter : (test : Attempt → Bool) (P : List Attempt) → Chained P → Chained (filter test P)
+chained_filter test [] c = tt
+chained_filter test (p ∷ P) c = at (test p) (chained_filter test P c.1)
+  where
+    last : (p.released ≡ true) ⊎ (P ≡ []) → (p.released ≡ true) ⊎ (filter test P ≡ [])
+    last (inl e) = inl e
+    last (inr e) = inr (ap (λ Q. filter test Q) e)
+
+    at : (b : Bool) → Chained (filter test P) → Chained (cond b (p ∷ filter test P) (filter test P))
+    at true d = (last c.0, d)
+    at false d = d
+
+-- the signals of attempts, up to the close
+abbrev all_of : Limits → List Attempt → List Signal
+all_of limits attempts = flat_map (attempt_signals limits) attempts ++ Close ∷ []
+
+one_attempt : (plan : Plan) (limits : Limits) (a : Attempt) (behind : List Signal) (rest : List Dialled) → ((digits : List ℕ) → said plan (Listening digits) ((when (is_timed limits a.runs) TimeOut ++ when a.released Release) ++ behind) ≡ without_number false (is_timed limits a.runs) (length digits) ∷ rest) → said plan Done ((when (is_timed limits a.runs) TimeOut ++ when a.released Release) ++ behind) ≡ rest → said plan OnHook (attempt_signals limits a ++ behind) ≡ outcome_of plan limits a.runs ∷ rest
+one_attempt plan limits a behind rest listening done =
+    let ts : List Train = trains_of limits a.runs in
+    let tail : List Signal = (when (is_timed limits a.runs) TimeOut ++ when a.released Release) ++ behind in
+    let e : (map (digit_signal limits) ts ++ (when (is_timed limits a.runs) TimeOut ++ when a.released Release)) ++ behind ≡ map (digit_signal limits) ts ++ tail = append_assoc (map (digit_signal limits) ts) (when (is_timed limits a.runs) TimeOut ++ when a.released Release) behind in
+    rw (e, listens plan limits [] ts tail refl, comes_of plan [] (map (digit_of_train limits) ts) tail (is_timed limits a.runs) rest listening done, shortest plan (good_digits limits a.runs))
+
+-- with a release behind the attempt, or nothing but the close
+released_listening : (plan : Plan) (late : Bool) (digits : List ℕ) (behind : List Signal) → said plan (Listening digits) ((when late TimeOut ++ Release ∷ []) ++ behind) ≡ without_number false late (length digits) ∷ said plan OnHook behind
+released_listening plan true digits behind = refl
+released_listening plan false digits behind = refl
+
+released_done : (plan : Plan) (late : Bool) (behind : List Signal) → said plan Done ((when late TimeOut ++ Release ∷ []) ++ behind) ≡ said plan OnHook behind
+released_done plan true behind = refl
+released_done plan false behind = refl
+
+closed_listening : (plan : Plan) (late released : Bool) (digits : List ℕ) → said plan (Listening digits) ((when late TimeOut ++ when released Release) ++ Close ∷ []) ≡ without_number false late (length digits) ∷ []
+closed_listening plan true true digits = refl
+closed_listening plan true false digits = refl
+closed_listening plan false true digits = refl
+closed_listening plan false false digits = refl
+
+closed_done : (plan : Plan) (late released : Bool) → said plan Done ((when late TimeOut ++ when released Release) ++ Close ∷ []) ≡ []
+closed_done plan true true = refl
+closed_done plan true false = refl
+closed_done plan false true = refl
+closed_done plan false false = refl
+
+abbrev come : Plan → Limits → List Attempt → List Dialled
+come plan limits attempts = map (λ attempt. outcome_of plan limits attempt.runs) attempts
+
+all_attempts : (plan : Plan) (limits : Limits) (as_ : List Attempt) → Chained as_ → said plan OnHook (all_of limits as_) ≡ come plan limits as_
+all_attempts plan limits [] c = refl
+all_attempts plan limits (a ∷ more) c =
+    ap (λ signals. said plan OnHook signals) (append_assoc (attempt_signals limits a) (flat_map (attempt_signals limits) more) (Close ∷ [])) ∙ at c.0 (all_attempts plan limits more c.1)
+  where
+    at : (a.released ≡ true) ⊎ (more ≡ []) → said plan OnHook (all_of limits more) ≡ come plan limits more → said plan OnHook (attempt_signals limits a ++ all_of limits more) ≡ outcome_of plan limits a.runs ∷ come plan limits more
+    at (inl e) ih =
+        one_attempt plan limits a (all_of limits more) (come plan limits more)
+        (λ digits. rw e (released_listening plan (is_timed limits a.runs) digits (all_of limits more) ∙ ap (λ rest. without_number false (is_timed limits a.runs) (length digits) ∷ rest) ih))
+        (rw e (released_done plan (is_timed limits a.runs) (all_of limits more) ∙ ih))
+    at (inr e) ih =
+        rw e (one_attempt plan limits a (Close ∷ []) [] (λ digits. closed_listening plan (is_timed limits a.runs) a.released digits) (closed_done plan (is_timed limits a.runs) a.released))
+
+pub registers : (plan : Plan) (limits : Limits) (record_ : List Run) → said plan OnHook (signals_of limits record_) ≡ outcomes_of plan limits record_
+registers plan limits record_ =
+    all_attempts plan limits (attempts_of limits record_)
+    (chained_filter (λ piece. has_runs piece.runs) (pieces_of limits (runs_of record_)) (chained_pieces limits (runs_of record_)))

@@ -1,0 +1,6 @@
+pub mod Patterns
+pub mod Said
+pub mod Spelled
+pub mod Pending
+pub mod Attempts
+pub mod AtMost

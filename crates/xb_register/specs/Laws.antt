@@ -1,0 +1,44 @@
+-- What the register gives for the signals of a line.
+use Rattle.std.specs.Prelude.{◌≡◌, ℕ, ◌≤◌, List, ◌++◌, length, Bool, true, false}
+use Rattle.std.specs.List.{filter}
+use Rattle.xb_model.specs.declared.limits.Limits.{Limits}
+use Rattle.xb_model.specs.declared.line.LineNo.{LineNo}
+use Rattle.xb_model.specs.declared.plan.Plan.{Plan}
+use Rattle.xb_model.specs.declared.signal.Signal.{Signal}
+use Rattle.xb_model.specs.declared.signal.Signal.TheVariants.{Seize, Digit, TimeOut, Release, Close}
+use Rattle.xb_model.specs.Records.{Run}
+use Rattle.xb_model.specs.Numbers.{outcomes_of}
+use Rattle.xb_model.specs.Signals.{signals_of}
+use Rattle.xb_ring.specs.Image.{image_on}
+use Rattle.xb_ring.specs.Stateless.{on_line}
+use Rattle.xb_register.specs.Registering.{machine}
+
+abbrev pub is_seizure : Signal → Bool
+is_seizure Seize = true
+is_seizure (Digit count bad) = false
+is_seizure TimeOut = false
+is_seizure Release = false
+is_seizure Close = false
+
+-- how often a line is seized
+abbrev pub seizures : List Signal → ℕ
+seizures signals = length (filter is_seizure signals)
+
+-- the signals of a record give its outcomes, one for each attempt
+abbrev pub GivesOutcomes : Type 0
+GivesOutcomes =
+    (plan : Plan) (limits : Limits) (line : LineNo) (record_ : List Run)
+    → image_on (machine plan) (on_line line (signals_of limits record_)) ≡ on_line line (outcomes_of plan limits record_)
+
+-- at most one outcome for each seizure
+abbrev pub GivesAtMostOne : Type 0
+GivesAtMostOne =
+    (plan : Plan) (line : LineNo) (signals : List Signal)
+    → length (image_on (machine plan) (on_line line signals)) ≤ seizures signals
+
+-- what comes before the first seizure gives nothing, and changes nothing of what comes behind
+abbrev pub GivesNoneBeforeASeizure : Type 0
+GivesNoneBeforeASeizure =
+    (plan : Plan) (line : LineNo) (before behind : List Signal)
+    → seizures before ≡ 0
+    → image_on (machine plan) (on_line line (before ++ behind)) ≡ image_on (machine plan) (on_line line behind)

@@ -1,0 +1,4 @@
+pub mod Stored
+pub mod Phases
+pub mod Registering
+pub mod Laws

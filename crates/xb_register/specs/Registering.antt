@@ -1,0 +1,69 @@
+-- The register, signal by signal (own profile).
+use Rattle.std.specs.Prelude.{ℕ, List, [], ◌∷◌, ◌++◌, length, Bool, false, if◌then◌else◌, nat_le, Option, Some, None}
+use Rattle.std.specs.Option.{option_to_list}
+use Rattle.xb_ring.specs.Image.{Machine}
+use Rattle.xb_ring.specs.Stateless.{on_line}
+use Rattle.xb_model.specs.declared.on.On.{On}
+use Rattle.xb_model.specs.declared.plan.Plan.{Plan}
+use Rattle.xb_model.specs.declared.signal.Signal.{Signal}
+use Rattle.xb_model.specs.declared.signal.Signal.TheVariants.{Seize, Digit, TimeOut, Release, Close}
+use Rattle.xb_model.specs.declared.reason.Reason.TheVariants.{Mutilated, Abandoned, TimedOut}
+use Rattle.xb_model.specs.declared.dialled.Dialled.{Dialled}
+use Rattle.xb_model.specs.declared.dialled.Dialled.TheVariants.{Number, Refused}
+use Rattle.xb_model.specs.Plans.{plan_len}
+use Rattle.xb_model.specs.TwoOfFive.{digit_of_pattern, pattern_of_count}
+use Rattle.xb_register.specs.declared.register.Answer.{Answer}
+use Rattle.xb_register.specs.declared.state.Phase.{Phase}
+use Rattle.xb_register.specs.declared.state.Phase.TheVariants.{OnHook, Listening, Done}
+
+abbrev pub quiet : Phase → Answer
+quiet phase = record { phase = phase; outcome = None }
+
+abbrev pub ended : Dialled → Phase → Answer
+ended outcome phase = record { phase = phase; outcome = Some outcome }
+
+-- n digits are as many as the number has
+abbrev pub reaches : Option ℕ → ℕ → Bool
+reaches None n = false
+reaches (Some len) n = nat_le len n
+
+-- behind one digit more
+abbrev pub with_digits : Plan → List ℕ → Answer
+with_digits plan digits =
+    if reaches (plan_len plan digits) (length digits) then ended (Number digits) Done else quiet (Listening digits)
+
+-- a digit, or a pattern that is none
+abbrev pub store : Plan → List ℕ → Option ℕ → Answer
+store plan digits None = ended (Refused Mutilated (length digits)) Done
+store plan digits (Some d) = with_digits plan (digits ++ d ∷ [])
+
+-- a signal in an attempt
+abbrev pub listen : Plan → List ℕ → Signal → Answer
+listen plan digits Seize = quiet (Listening digits)
+listen plan digits (Digit count bad) = store plan digits (digit_of_pattern (pattern_of_count count bad))
+listen plan digits TimeOut = ended (Refused TimedOut (length digits)) Done
+listen plan digits Release = ended (Refused Abandoned (length digits)) OnHook
+listen plan digits Close = ended (Refused Abandoned (length digits)) OnHook
+
+-- a signal in any phase
+abbrev pub advance : Plan → Phase → Signal → Answer
+advance plan OnHook Seize = quiet (Listening [])
+advance plan OnHook (Digit count bad) = quiet OnHook
+advance plan OnHook TimeOut = quiet OnHook
+advance plan OnHook Release = quiet OnHook
+advance plan OnHook Close = quiet OnHook
+advance plan (Listening digits) signal = listen plan digits signal
+advance plan Done Seize = quiet Done
+advance plan Done (Digit count bad) = quiet Done
+advance plan Done TimeOut = quiet Done
+advance plan Done Release = quiet OnHook
+advance plan Done Close = quiet OnHook
+
+-- what the stage does on one line
+abbrev pub machine : Plan → Machine (On Signal) (On Dialled) Phase
+machine plan =
+    record {
+      start = OnHook;
+      next = λ phase item. (advance plan phase item.what).phase;
+      outs = λ phase item. on_line item.line (option_to_list (advance plan phase item.what).outcome);
+    }

@@ -1,0 +1,17 @@
+// What the register gives for the signals of a line.
+ghost use Rattle.xb_register.specs.Laws.{GivesOutcomes, GivesAtMostOne, GivesNoneBeforeASeizure};
+
+/// The signals of a record give one outcome for each of its attempts, in order, on the line.
+pub fn gives_outcomes()
+    ensures { GivesOutcomes }
+{}
+
+/// Whatever the signals are, at most one outcome comes of each seizure.
+pub fn gives_at_most_one()
+    ensures { GivesAtMostOne }
+{}
+
+/// Whatever the signals are, those before the first seizure give no outcome.
+pub fn gives_none_before_a_seizure()
+    ensures { GivesNoneBeforeASeizure }
+{}

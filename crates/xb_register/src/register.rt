@@ -1,0 +1,159 @@
+// The register stage.
+ghost use Rattle.std.specs.Prelude.{◌≡◌, ℕ, ◌<◌, length, Some, None};
+ghost use Rattle.xb_model.specs.Plans.{plan_len};
+ghost use Rattle.xb_model.specs.TwoOfFive.{digit_of_pattern};
+ghost use Rattle.xb_ring.specs.Stateless.{all_on};
+ghost use Rattle.std.specs.Option.{option_to_list};
+ghost use Rattle.xb_register.specs.Phases.{HasRoom};
+ghost use Rattle.xb_register.specs.Registering.{advance, listen, store, reaches, quiet, ended, machine};
+
+use crate::state::{Phase, RegisterState};
+use crate::stored::StoredDigits;
+use std::marker::Model;
+use xb_model::{Dialled, NUMBER_DIGITS, On, Plan, Reason, Relays, Signal};
+use xb_ring::LineStage;
+
+/// The register stage: signals of each line in, what comes of each attempt out (own profile).
+///
+/// Each digit is kept as its two-out-of-five pattern, checked when it is stored, and read back when
+/// the number is complete. A complete number decides first, then a mutilated digit, a time-out, and
+/// a release or close; a refusal has the count of good digits before it. After a number, a refusal
+/// or a time-out nothing is heard on the line until its release.
+#[derive(Drop)]
+pub struct Register {
+    plan: Plan,
+}
+
+// Clauses see the plan.
+impl Model for Register {
+    ghost use Rattle.xb_model.specs.declared.plan.Plan.{Plan};
+
+    ghost Value = { Plan };
+
+    ghost view = { λ register. register.plan };
+}
+
+// What a signal leaves of a phase, and the outcome of the attempt, if it is told.
+#[derive(Drop)]
+struct Answer {
+    phase: Phase,
+    outcome: Option<Dialled>,
+}
+
+fn quiet(phase: Phase) -> Answer
+    ensures { result ≡ quiet phase }
+{
+    Answer {
+        phase,
+        outcome: None,
+    }
+}
+
+fn ended(outcome: Dialled, phase: Phase) -> Answer
+    ensures { result ≡ ended outcome phase }
+{
+    Answer {
+        phase,
+        outcome: Some(outcome),
+    }
+}
+
+// Whether the digits are as many as their number has.
+fn is_reached(plan: Plan, digits: &StoredDigits) -> bool
+    ensures { result ≡ reaches (plan_len plan digits.now) (length digits.now) }
+{
+    match digits.number_len(plan) {
+        Some(len) => len <= digits.len(),
+        None => false,
+    }
+}
+
+// Takes a pattern into the digits of an attempt.
+fn store(plan: Plan, mut digits: StoredDigits, pattern: Relays) -> Answer
+    requires { length digits < NUMBER_DIGITS }
+    ensures value { result ≡ store plan digits (digit_of_pattern pattern) }
+    ensures room { HasRoom result.phase }
+{
+    if !pattern.check() {
+        return ended(
+            Dialled::Refused(Reason::Mutilated, digits.len()),
+            Phase::Done,
+        );
+    }
+    digits.push(pattern);
+    if is_reached(plan, &digits) {
+        ended(Dialled::Number(digits.read_back()), Phase::Done)
+    } else {
+        quiet(Phase::Listening(digits))
+    }
+}
+
+// Takes a signal in an attempt.
+fn listen(plan: Plan, digits: StoredDigits, signal: Signal) -> Answer
+    requires { length digits < NUMBER_DIGITS }
+    ensures value { result ≡ listen plan digits signal }
+    ensures room { HasRoom result.phase }
+{
+    match signal {
+        Signal::Seize => quiet(Phase::Listening(digits)),
+        Signal::Digit(count, bad) => store(plan, digits, Relays::of_count(count, bad)),
+        Signal::TimeOut => ended(
+            Dialled::Refused(Reason::TimedOut, digits.len()),
+            Phase::Done,
+        ),
+        Signal::Release | Signal::Close => {
+            ended(
+                Dialled::Refused(Reason::Abandoned, digits.len()),
+                Phase::OnHook,
+            )
+        }
+    }
+}
+
+// Takes a signal in any phase.
+fn advance(plan: Plan, phase: Phase, signal: Signal) -> Answer
+    requires { HasRoom phase }
+    ensures value { result ≡ advance plan phase signal }
+    ensures room { HasRoom result.phase }
+{
+    match (phase, signal) {
+        (Phase::Listening(digits), signal) => listen(plan, digits, signal),
+        (Phase::OnHook, Signal::Seize) => quiet(Phase::Listening(StoredDigits::new())),
+        (Phase::OnHook, _) | (Phase::Done, Signal::Release | Signal::Close) => quiet(Phase::OnHook),
+        (Phase::Done, _) => quiet(Phase::Done),
+    }
+}
+
+impl Register {
+    /// The register stage for numbers of this plan.
+    pub fn new(plan: Plan) -> Register
+        ensures { result ≡ plan }
+    {
+        Register { plan }
+    }
+}
+
+impl LineStage for Register {
+    type In = On<Signal>;
+
+    type Out = On<Dialled>;
+
+    type State = RegisterState;
+
+    ghost machine = { λ register. machine register };
+
+    ghost on_line = { λ register phase item. all_on item.line (option_to_list (advance register phase item.what).outcome) };
+
+    fn fresh(&self) -> RegisterState {
+        RegisterState::fresh()
+    }
+
+    fn step(&self, state: &mut RegisterState, item: On<Signal>, out: &mut Vec<On<Dialled>>) {
+        let On { line, what } = item;
+        let Answer { phase, outcome } = advance(self.plan, state.take(), what);
+        state.put(phase);
+        if let Some(what) = outcome {
+            out.push_reserved(On { line, what });
+        }
+    }
+}

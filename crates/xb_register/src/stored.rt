@@ -1,0 +1,83 @@
+// The digits of an attempt, kept as two-out-of-five patterns.
+ghost use Rattle.std.specs.Prelude.{◌≡◌, ◌<◌, ◌≤◌, [], ◌++◌, length, IsTrue, is_some};
+ghost use Rattle.std.specs.Option.{option_to_list};
+ghost use Rattle.xb_model.specs.Plans.{plan_len};
+ghost use Rattle.xb_model.specs.TwoOfFive.{digit_of_pattern};
+
+use arrayvec::ArrayVec;
+use std::marker::Model;
+use xb_model::{NUMBER_DIGITS, NumberDigits, Plan, Relays, plan_len};
+
+/// The digits of an attempt, each kept as the pattern of its five elements.
+#[derive(Drop)]
+pub(crate) struct StoredDigits {
+    patterns: ArrayVec<Relays, NUMBER_DIGITS>,
+}
+
+// Clauses see the digits that the patterns stand for.
+impl Model for StoredDigits {
+    ghost use Rattle.std.specs.Prelude.{ℕ, List};
+    ghost use Rattle.xb_register.specs.Stored.{digits_of, IsStored};
+
+    ghost Value = { List ℕ };
+
+    ghost view = { λ stored. digits_of stored.patterns.items };
+
+    ghost invariant = { λ stored. IsStored stored.patterns.items };
+}
+
+impl StoredDigits {
+    /// No digits.
+    pub(crate) fn new() -> StoredDigits
+        ensures { result ≡ [] }
+    {
+        StoredDigits {
+            patterns: ArrayVec::new(),
+        }
+    }
+
+    /// How many digits are stored.
+    pub(crate) fn len(&self) -> u8
+        ensures value { result ≡ length self.now }
+        ensures within { result ≤ NUMBER_DIGITS }
+    {
+        self.patterns.len() as u8
+    }
+
+    /// Stores one digit more, by a pattern that is a digit.
+    pub(crate) fn push(&mut self, pattern: Relays)
+        requires room { length self.old < NUMBER_DIGITS }
+        requires digit { IsTrue (is_some (digit_of_pattern pattern)) }
+        ensures { self.new ≡ self.old ++ option_to_list (digit_of_pattern pattern) }
+    {
+        self.patterns.push(pattern);
+    }
+
+    /// The length of a number that begins with these digits, as the plan has it.
+    pub(crate) fn number_len(&self, plan: Plan) -> Option<u8>
+        ensures { result ≡ plan_len plan self.now }
+    {
+        match &*self.patterns {
+            [first, second, third, ..] => plan_len(
+                plan,
+                &[first.digit()?, second.digit()?, third.digit()?],
+            ),
+            [first, ..] => plan_len(plan, &[first.digit()?]),
+            [] => None,
+        }
+    }
+
+    /// The digits, read back from the patterns.
+    pub(crate) fn read_back(&self) -> NumberDigits
+        ensures { result ≡ self.now }
+    {
+        let patterns: &[Relays] = &self.patterns;
+        let mut digits = NumberDigits::new();
+        for pattern in patterns {
+            if let Some(digit) = pattern.digit() {
+                digits.push(digit);
+            }
+        }
+        digits
+    }
+}
