@@ -19,6 +19,8 @@ mod reason;
 mod relays;
 mod row;
 mod signal;
+#[cfg(test)]
+mod tests;
 mod trunk;
 
 pub use dialled::Dialled;
