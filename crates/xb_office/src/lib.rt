@@ -10,3 +10,6 @@ mod streams;
 pub use deck::{Deck, MOST_DECK_BYTES};
 pub use rows::read_rows;
 pub use scan::{MOST_RECORDS, Scan};
+
+#[cfg(test)]
+mod tests;

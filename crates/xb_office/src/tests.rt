@@ -1,0 +1,4 @@
+// The tests of this crate.
+mod decks;
+mod rows;
+mod streams;
