@@ -1,4 +1,4 @@
-// The image of a whole list.
+// What a stage makes of a whole list of items.
 ghost use Rattle.std.specs.Prelude.{◌≡◌, ℕ, ◌≤◌, ◌<◌, [], vec_len, vec_capacity, slice_set, slice_index_or, IfOk};
 ghost use Rattle.std.specs.List.{All};
 ghost use Rattle.xb_model.specs.declared.line.TheConstants.{LINES};
@@ -32,9 +32,13 @@ fn take_item<S: LineStage>(
     requires empty { out.old.items ≡ [] }
     requires room { OUTPUT_ROOM ≤ vec_capacity out.old }
     ensures lines { vec_len states.new ≡ LINES }
-    ensures state { (d : S.State) → states.new.items ≡ slice_set states.old.items (S.In.line_of item) ((S.machine stage.now).next (slice_index_or states.old.items (S.In.line_of item) d) item) }
     ensures below { S.In.line_of item < LINES }
-    ensures out { (d : S.State) → out.new.items ≡ (S.machine stage.now).outs (slice_index_or states.old.items (S.In.line_of item) d) item }
+    ensures state { (fallback : S.State) →
+        let old = slice_index_or states.old.items (S.In.line_of item) fallback in
+        states.new.items ≡ slice_set states.old.items (S.In.line_of item) ((S.machine stage.now).next old item) }
+    ensures out { (fallback : S.State) →
+        let old = slice_index_or states.old.items (S.In.line_of item) fallback in
+        out.new.items ≡ (S.machine stage.now).outs old item }
     ensures room { vec_capacity out.new ≡ vec_capacity out.old }
 {
     let line = usize::from(item.line().get());
@@ -43,7 +47,8 @@ fn take_item<S: LineStage>(
 }
 
 /// What a stage sends for a list of items: for each item in turn, what it sends with the state of
-/// the item's line after the earlier items of that line.
+/// the item's line after the earlier items of that line. It takes the room for a state of each line,
+/// and for what is sent.
 pub fn image_of<S: LineStage>(
     alloc: Global,
     stage: &S,

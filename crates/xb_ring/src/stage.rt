@@ -1,4 +1,4 @@
-// A stage that keeps a state for each line.
+// The stage that keeps a state for each line.
 ghost use Rattle.std.specs.Prelude.{◌≡◌, ℕ, ◌≤◌, [], length, vec_capacity};
 ghost use Rattle.std.specs.List.{AllByRecursion};
 ghost use Rattle.xb_ring.specs.Image.{Machine};
@@ -11,25 +11,28 @@ pub const MOST_OUTPUTS: usize = 20;
 /// The room that a stage is given for what it sends for one item.
 pub const OUTPUT_ROOM: usize = 24;
 
-/// A stage of the chain: it takes items of many lines, and treats each line by itself.
-///
-/// Neither call takes memory.
+/// A stage of the chain (own profile): it takes items of many lines, and treats each line by
+/// itself. Its caller keeps a state for each line. Neither call takes memory or waits.
 pub trait LineStage {
+    /// What the stage takes.
     type In: OnLine + Drop;
 
+    /// What it sends.
     type Out: OnLine + Default + Drop;
 
+    /// What it keeps of a line's earlier items.
     type State: Drop;
 
-    /// What the stage does on one line.
+    // what the stage does on one line
     ghost machine: { Self → Machine Self.In Self.Out Self.State };
 
     /// The state of a line before its first item.
     fn fresh(&self) -> Self::State
         ensures { result ≡ (machine self.now).start };
 
-    /// Takes one item, with the state of its line. What the stage sends for it is put into `out`,
-    /// which the caller gives empty and with room for 24 items.
+    /// Takes one item with its line's state, which then is the state for the line's next item.
+    /// What the stage sends for the item, `MOST_OUTPUTS` at most, is put into `out`: the caller
+    /// gives it empty, with room for `OUTPUT_ROOM`.
     fn step(&self, state: &mut Self::State, item: Self::In, out: &mut Vec<Self::Out>)
         requires empty { out.old.items ≡ [] }
         requires room { OUTPUT_ROOM ≤ vec_capacity out.old }
@@ -38,6 +41,6 @@ pub trait LineStage {
         ensures few { length out.new.items ≤ MOST_OUTPUTS }
         ensures room { vec_capacity out.new ≡ vec_capacity out.old };
 
-    /// What is sent for an item is on the item's line.
-    ghost on_line: { (s : Self) (q : Self.State) (x : Self.In) → AllByRecursion (λ y. Self.Out.line_of y ≡ Self.In.line_of x) ((machine s).outs q x) };
+    // what is sent for an item is on the item's line
+    ghost on_line: { (stage : Self) (state : Self.State) (item : Self.In) → AllByRecursion (λ sent. Self.Out.line_of sent ≡ Self.In.line_of item) ((machine stage).outs state item) };
 }
