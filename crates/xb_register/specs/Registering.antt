@@ -7,6 +7,7 @@ use Rattle.xb_model.specs.declared.on.On.{On}
 use Rattle.xb_model.specs.declared.plan.Plan.{Plan}
 use Rattle.xb_model.specs.declared.signal.Signal.{Signal}
 use Rattle.xb_model.specs.declared.signal.Signal.TheVariants.{Seize, Digit, TimeOut, Release, Close}
+use Rattle.xb_model.specs.declared.reason.Reason.{Reason}
 use Rattle.xb_model.specs.declared.reason.Reason.TheVariants.{Mutilated, Abandoned, TimedOut}
 use Rattle.xb_model.specs.declared.dialled.Dialled.{Dialled}
 use Rattle.xb_model.specs.declared.dialled.Dialled.TheVariants.{Number, Refused}
@@ -22,6 +23,10 @@ quiet phase = record { phase = phase; outcome = None }
 abbrev pub ended : Dialled → Phase → Answer
 ended outcome phase = record { phase = phase; outcome = Some outcome }
 
+-- a refusal, with the count of good digits
+abbrev pub refused : Reason → List ℕ → Phase → Answer
+refused reason digits phase = ended (Refused reason (length digits)) phase
+
 -- n digits are as many as the number has
 abbrev pub reaches : Option ℕ → ℕ → Bool
 reaches None n = false
@@ -34,16 +39,16 @@ with_digits plan digits =
 
 -- a digit, or a pattern that is none
 abbrev pub store : Plan → List ℕ → Option ℕ → Answer
-store plan digits None = ended (Refused Mutilated (length digits)) Done
+store plan digits None = refused Mutilated digits Done
 store plan digits (Some d) = with_digits plan (digits ++ d ∷ [])
 
 -- a signal in an attempt
 abbrev pub listen : Plan → List ℕ → Signal → Answer
 listen plan digits Seize = quiet (Listening digits)
 listen plan digits (Digit count bad) = store plan digits (digit_of_pattern (pattern_of_count count bad))
-listen plan digits TimeOut = ended (Refused TimedOut (length digits)) Done
-listen plan digits Release = ended (Refused Abandoned (length digits)) OnHook
-listen plan digits Close = ended (Refused Abandoned (length digits)) OnHook
+listen plan digits TimeOut = refused TimedOut digits Done
+listen plan digits Release = refused Abandoned digits OnHook
+listen plan digits Close = refused Abandoned digits OnHook
 
 -- a signal in any phase
 abbrev pub advance : Plan → Phase → Signal → Answer

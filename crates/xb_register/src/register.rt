@@ -5,7 +5,7 @@ ghost use Rattle.xb_model.specs.TwoOfFive.{digit_of_pattern};
 ghost use Rattle.xb_ring.specs.Stateless.{all_on};
 ghost use Rattle.std.specs.Option.{option_to_list};
 ghost use Rattle.xb_register.specs.Phases.{HasRoom};
-ghost use Rattle.xb_register.specs.Registering.{advance, listen, store, reaches, quiet, ended, machine};
+ghost use Rattle.xb_register.specs.Registering.{advance, listen, store, reaches, quiet, ended, refused, machine};
 
 use crate::state::{Phase, RegisterState};
 use crate::stored::StoredDigits;
@@ -58,6 +58,13 @@ fn ended(outcome: Dialled, phase: Phase) -> Answer
     }
 }
 
+// The attempt is refused, with the count of its good digits.
+fn refused(reason: Reason, digits: &StoredDigits, phase: Phase) -> Answer
+    ensures { result ≡ refused reason digits.now phase }
+{
+    ended(Dialled::Refused(reason, digits.len()), phase)
+}
+
 // Whether the digits are as many as their number has.
 fn is_reached(plan: Plan, digits: &StoredDigits) -> bool
     ensures { result ≡ reaches (plan_len plan digits.now) (length digits.now) }
@@ -75,10 +82,7 @@ fn store(plan: Plan, mut digits: StoredDigits, pattern: Relays) -> Answer
     ensures room { HasRoom result.phase }
 {
     if !pattern.check() {
-        return ended(
-            Dialled::Refused(Reason::Mutilated, digits.len()),
-            Phase::Done,
-        );
+        return refused(Reason::Mutilated, &digits, Phase::Done);
     }
     digits.push(pattern);
     if is_reached(plan, &digits) {
@@ -97,16 +101,8 @@ fn listen(plan: Plan, digits: StoredDigits, signal: Signal) -> Answer
     match signal {
         Signal::Seize => quiet(Phase::Listening(digits)),
         Signal::Digit(count, bad) => store(plan, digits, Relays::of_count(count, bad)),
-        Signal::TimeOut => ended(
-            Dialled::Refused(Reason::TimedOut, digits.len()),
-            Phase::Done,
-        ),
-        Signal::Release | Signal::Close => {
-            ended(
-                Dialled::Refused(Reason::Abandoned, digits.len()),
-                Phase::OnHook,
-            )
-        }
+        Signal::TimeOut => refused(Reason::TimedOut, &digits, Phase::Done),
+        Signal::Release | Signal::Close => refused(Reason::Abandoned, &digits, Phase::OnHook),
     }
 }
 
