@@ -1,0 +1,5 @@
+pub mod Codes
+pub mod Places
+pub mod Longest
+pub mod Reading
+pub mod Entering

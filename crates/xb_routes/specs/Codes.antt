@@ -1,0 +1,36 @@
+-- The codes that a route may have (own format). N is 2 to 9, X is 0 to 9.
+use Rattle.std.specs.Prelude.{ℕ, ◌-◌, List, [], ◌∷◌, Bool, false, ◌&&◌, ◌||◌, ◌==◌, nat_le, if◌then◌else◌, Option, Some, None, option_and_then, option_map, unwrap_or}
+use Rattle.xb_model.specs.declared.plan.Plan.{Plan}
+use Rattle.xb_model.specs.declared.plan.Plan.TheVariants.{Seven}
+use Rattle.xb_model.specs.Plans.{plan_len}
+
+-- the digit that an ASCII character is
+abbrev pub digit_of_character : ℕ → Option ℕ
+digit_of_character c = if nat_le 48 c && nat_le c 57 then Some (c - 48) else None
+
+-- the digits of a text that has nothing else
+abbrev pub digits_of_text : List ℕ → Option (List ℕ)
+digits_of_text [] = Some []
+digits_of_text (c ∷ text) =
+    option_and_then (λ d. option_map (λ digits. d ∷ digits) (digits_of_text text)) (digit_of_character c)
+
+-- three digits NNX or N11
+abbrev pub is_office_code : Plan → ℕ → ℕ → ℕ → Bool
+is_office_code Seven a b c = nat_le 2 a && (nat_le 2 b || (b == 1 && c == 1))
+
+-- 0 alone, or an office code
+abbrev pub is_code : Plan → List ℕ → Bool
+is_code plan (a ∷ []) = a == 0
+is_code plan (a ∷ b ∷ c ∷ []) = is_office_code plan a b c
+is_code plan _ = false
+
+abbrev pub if_code : Plan → List ℕ → Option (List ℕ)
+if_code plan digits = if is_code plan digits then Some digits else None
+
+-- the code that a text writes
+abbrev pub code_of : Plan → List ℕ → Option (List ℕ)
+code_of plan text = option_and_then (if_code plan) (digits_of_text text)
+
+-- how many digits the numbers have that begin with a code
+abbrev pub number_length : Plan → List ℕ → ℕ
+number_length plan code = unwrap_or (plan_len plan code) 0

@@ -1,0 +1,7 @@
+pub mod Table
+pub mod Codes
+pub mod Keys
+pub mod Text
+pub mod Coded
+pub mod Places
+pub mod Translating

@@ -1,0 +1,41 @@
+// Faults of route tables.
+use thiserror::Error;
+
+/// Why a route table is refused (own format). A number is that of the route, the first being 1.
+///
+/// The first fault in this order is answered: the text, the array of routes, their count, and then
+/// each route in turn from its shape on.
+#[derive(Clone, Copy, Debug, PartialEq, Eq, Error)]
+pub enum RouteFault {
+    /// The text is not UTF-8, or not TOML.
+    #[error("not TOML")]
+    NotToml,
+    /// The array of routes has more than 1,000.
+    #[error("more than 1000 routes")]
+    TooMany,
+    /// The route is not a table, lacks `code` or `trunk`, or has another kind of value at one of
+    /// its four keys. With the number 0: `route` is not an array.
+    #[error("route {0} has a wrong shape")]
+    Shape(u32),
+    /// The code is not `0`, nor three digits NNX or N11, where N is 2 to 9 and X is 0 to 9.
+    #[error("route {0} has a wrong code")]
+    Code(u32),
+    /// The trunk group is not 0 to 9999.
+    #[error("route {0} has a wrong trunk")]
+    Trunk(u32),
+    /// `delete` is not 0 to the length of numbers that begin with the code.
+    #[error("route {0} has a wrong delete")]
+    Delete(u32),
+    /// `prefix` is not 0 to 8 ASCII digits.
+    #[error("route {0} has a wrong prefix")]
+    Prefix(u32),
+    /// The route deletes all digits and puts none in front.
+    #[error("route {0} keys no digit")]
+    NothingToKey(u32),
+    /// An earlier route has the code.
+    #[error("route {0} repeats a code")]
+    Twice(u32),
+    /// A growth was refused.
+    #[error("out of memory")]
+    NoMemory,
+}

@@ -1,0 +1,91 @@
+// The keys of a table's text, each read as its kind of value.
+ghost use Rattle.std.specs.Prelude.{◌≡◌, option_map};
+ghost use Rattle.toml.specs.Data.{as_integer, as_str, get_member};
+ghost use Rattle.toml.specs.View.{table_view, view};
+ghost use Rattle.xb_routes.specs.Keys.{keys_of, keys_of_table, keys_read, optional, required};
+
+use toml::{Table, Value};
+
+/// The four keys of a route.
+#[derive(Drop)]
+pub struct RouteKeys<'a> {
+    pub code: &'a str,
+    pub trunk: i64,
+    pub delete: Option<i64>,
+    pub prefix: Option<&'a str>,
+}
+
+/// What a key holds.
+pub fn value_at<'a>(keys: &'a Table, name: &str) -> Option<&'a Value>
+    ensures { option_map (λ v. view v.now) result ≡ get_member name.now (table_view keys.now) }
+{
+    keys.get(name)
+}
+
+fn required_text<'a>(keys: &'a Table, name: &str) -> Option<&'a str>
+    ensures { option_map (λ s. s.now) result ≡ required as_str name.now (table_view keys.now) }
+{
+    match value_at(keys, name) {
+        Some(value) => value.as_str(),
+        None => None,
+    }
+}
+
+fn required_number(keys: &Table, name: &str) -> Option<i64>
+    ensures { result ≡ required as_integer name.now (table_view keys.now) }
+{
+    match value_at(keys, name) {
+        Some(value) => value.as_integer(),
+        None => None,
+    }
+}
+
+fn optional_number(keys: &Table, name: &str) -> Option<Option<i64>>
+    ensures { result ≡ optional as_integer name.now (table_view keys.now) }
+{
+    match value_at(keys, name) {
+        Some(value) => match value.as_integer() {
+            Some(number) => Some(Some(number)),
+            None => None,
+        },
+        None => Some(None),
+    }
+}
+
+fn optional_text<'a>(keys: &'a Table, name: &str) -> Option<Option<&'a str>>
+    ensures { option_map (λ o. option_map (λ s. s.now) o) result ≡ optional as_str name.now (table_view keys.now) }
+{
+    match value_at(keys, name) {
+        Some(value) => match value.as_str() {
+            Some(text) => Some(Some(text)),
+            None => None,
+        },
+        None => Some(None),
+    }
+}
+
+fn keys_of_table(keys: &Table) -> Option<RouteKeys<'_>>
+    ensures { option_map keys_read result ≡ keys_of_table (table_view keys.now) }
+{
+    let code = required_text(keys, "code")?;
+    let trunk = required_number(keys, "trunk")?;
+    let delete = optional_number(keys, "delete")?;
+    let prefix = optional_text(keys, "prefix")?;
+    Some(RouteKeys {
+        code,
+        trunk,
+        delete,
+        prefix,
+    })
+}
+
+/// The four keys of a route; `None` where the route is not a table, a required key is missing, or
+/// one of them holds another kind of value.
+pub fn keys_of(value: &Value) -> Option<RouteKeys<'_>>
+    ensures { option_map keys_read result ≡ keys_of (view value.now) }
+{
+    match value.as_table() {
+        Some(keys) => keys_of_table(keys),
+        None => None,
+    }
+}

@@ -1,0 +1,91 @@
+// Routes.
+ghost use Rattle.std.specs.Prelude.{◌≡◌, ◌==◌, ◌&&◌, length};
+ghost use Rattle.std.specs.Result.{result_map_both};
+ghost use Rattle.toml.specs.View.{view};
+ghost use Rattle.xb_routes.specs.Keys.{keys_of};
+ghost use Rattle.xb_routes.specs.Text.{deleted_of, route_of, trunk_of};
+ghost use Rattle.xb_routes.specs.Coded.{coded};
+
+use crate::code::{Code, code_of, number_length, prefixed_of};
+use crate::fault::RouteFault;
+use crate::keys::keys_of;
+use toml::Value;
+use xb_model::{Plan, PrefixDigits, Trunk};
+
+/// What becomes of a number (own format).
+#[derive(Drop)]
+pub struct Route {
+    /// The trunk group that it takes.
+    pub trunk: Trunk,
+    /// How many of its first digits are not keyed.
+    pub deleted: u8,
+    /// The digits that are keyed before its own.
+    pub prefixed: PrefixDigits,
+}
+
+/// A route, and the code of the numbers that take it.
+#[derive(Drop)]
+pub struct Entry {
+    pub code: Code,
+    pub route: Route,
+}
+
+fn trunk_of(number: i64) -> Option<Trunk>
+    ensures { result ≡ trunk_of number }
+{
+    match u16::try_from(number) {
+        Ok(number) => Trunk::new(number),
+        Err(_) => None,
+    }
+}
+
+fn deleted_of(length: u8, number: Option<i64>) -> Option<u8>
+    ensures { result ≡ deleted_of length number }
+{
+    match number {
+        None => Some(0),
+        Some(number) => match u8::try_from(number) {
+            Ok(number) => { if number <= length { Some(number) } else { None } }
+            Err(_) => None,
+        },
+    }
+}
+
+// Whether a route keys no digit of numbers of this length.
+fn is_silent(number_length: u8, route: &Route) -> bool
+    ensures { result ≡ ((route.now.deleted == number_length) && (length route.now.prefixed == 0)) }
+{
+    route.deleted == number_length && route.prefixed.digits().is_empty()
+}
+
+/// Route `i` of a table, or its first fault.
+pub fn route_of(plan: Plan, i: u32, value: &Value) -> Result<Entry, RouteFault>
+    ensures { result_map_both coded (λ f. f) result ≡ route_of plan i (keys_of (view value.now)) }
+{
+    let Some(keys) = keys_of(value) else {
+        return Err(RouteFault::Shape(i));
+    };
+    let Some(code) = code_of(plan, keys.code.as_bytes()) else {
+        return Err(RouteFault::Code(i));
+    };
+    let Some(trunk) = trunk_of(keys.trunk) else {
+        return Err(RouteFault::Trunk(i));
+    };
+    let length = number_length(plan, &code);
+    let Some(deleted) = deleted_of(length, keys.delete) else {
+        return Err(RouteFault::Delete(i));
+    };
+    let Some(prefixed) = prefixed_of(keys.prefix) else {
+        return Err(RouteFault::Prefix(i));
+    };
+    let route = Route {
+        trunk,
+        deleted,
+        prefixed,
+    };
+    let entry = Entry { code, route };
+    if is_silent(length, &entry.route) {
+        return Err(RouteFault::NothingToKey(i));
+    }
+    Ok(entry)
+}

@@ -1,0 +1,153 @@
+// The route table.
+ghost use Rattle.std.specs.Prelude.{◌≡◌, ◌≢◌, ◌≤◌, [], Ok, Err, IfOk, IfErr, codes, map, length, option_map, option_copied};
+ghost use Rattle.toml.specs.Data.{get_member};
+ghost use Rattle.toml.specs.View.{items_view, table_view};
+ghost use Rattle.xb_model.specs.LawfulLimits.{IsLawful};
+ghost use Rattle.xb_model.specs.Routing.{route_for};
+ghost use Rattle.xb_routes.specs.Coded.{coded, uncoded};
+ghost use Rattle.xb_routes.specs.Places.{IsIndex};
+ghost use Rattle.xb_routes.specs.Text.{routes_from, routes_of_key, table_of_text};
+ghost use Rattle.xb_routes.specs.declared.fault.RouteFault.TheVariants.{NoMemory};
+
+use crate::fault::RouteFault;
+use crate::index::Index;
+use crate::keys::value_at;
+use crate::route::{Entry, Route, route_of};
+use std::alloc::Global;
+use std::marker::Model;
+use toml::{Table, Value};
+use xb_model::{Digit, Limits, Plan};
+
+/// The most routes of a table (own format).
+pub const MOST_ROUTES: usize = 1_000;
+
+/// The routes of an office, the plan of its numbers and the limits of their pulses.
+#[derive(Drop)]
+pub struct RouteTable {
+    entries: Vec<Entry>,
+    index: Index,
+    plan: Plan,
+    limits: Limits,
+}
+
+impl Model for RouteTable {
+    ghost use Rattle.std.specs.Prelude.{map};
+    ghost use Rattle.xb_model.specs.LawfulLimits.{IsLawful};
+    ghost use Rattle.xb_routes.specs.Coded.{coded};
+    ghost use Rattle.xb_routes.specs.Places.{IsIndex};
+    ghost use Rattle.xb_routes.specs.Table.{Table};
+
+    ghost Value = { Table };
+
+    ghost view = { λ t. record { routes = map coded t.entries.items; plan = t.plan; limits = t.limits } };
+
+    ghost invariant = { λ t. IsLawful t.limits × IsIndex t.index (map coded t.entries.items) };
+}
+
+// The routes that have been read, and where each stands.
+#[derive(Drop)]
+struct Routes {
+    entries: Vec<Entry>,
+    index: Index,
+}
+
+// The routes of an array.
+fn read_routes(alloc: Global, plan: Plan, values: &[Value]) -> Result<Routes, RouteFault>
+    requires { length values.now ≤ MOST_ROUTES }
+    ensures ok { IfOk result (λ r. routes_from plan 1 [] (items_view values.now) ≡ Ok (map coded r.entries.items)) }
+    ensures index { IfOk result (λ r. IsIndex r.index (map coded r.entries.items)) }
+    ensures refused { IfErr result (λ f. f ≢ NoMemory → routes_from plan 1 [] (items_view values.now) ≡ Err f) }
+{
+    let Ok(mut index) = Index::new(alloc) else {
+        return Err(RouteFault::NoMemory);
+    };
+    let mut entries: Vec<Entry> = Vec::new(alloc);
+    let mut place: u16 = 0;
+    for value in values {
+        let i = u32::from(place) + 1;
+        let entry = route_of(plan, i, value)?;
+        if index.place_of(&entry.code).is_some() {
+            return Err(RouteFault::Twice(i));
+        }
+        index.enter(&entry.code, place);
+        if entries.push(entry).is_err() {
+            return Err(RouteFault::NoMemory);
+        }
+        place += 1;
+    }
+    Ok(Routes { entries, index })
+}
+
+// The routes of a tree.
+fn read_tree(alloc: Global, plan: Plan, tree: &Table) -> Result<Routes, RouteFault>
+    ensures ok { IfOk result (λ r. routes_of_key plan (get_member (codes "route") (table_view tree.now)) ≡ Ok (map coded r.entries.items)) }
+    ensures index { IfOk result (λ r. IsIndex r.index (map coded r.entries.items)) }
+    ensures refused { IfErr result (λ f. f ≢ NoMemory → routes_of_key plan (get_member (codes "route") (table_view tree.now)) ≡ Err f) }
+{
+    let Some(value) = value_at(tree, "route") else {
+        return read_routes(alloc, plan, &[]);
+    };
+    let Some(values) = value.as_array() else {
+        return Err(RouteFault::Shape(0));
+    };
+    if values.len() > MOST_ROUTES {
+        return Err(RouteFault::TooMany);
+    }
+    read_routes(alloc, plan, values.as_slice())
+}
+
+impl RouteTable {
+    /// The table that a text writes (own format): TOML whose array of tables `route` has a route
+    /// each, with the keys `code`, `trunk`, `delete` and `prefix`. All other keys are ignored.
+    ///
+    /// A refusal is the first in the order of `RouteFault`; `NoMemory` comes where a growth was
+    /// refused, before any later check.
+    pub fn read(alloc: Global, text: &[u8]) -> Result<RouteTable, RouteFault>
+        ensures ok { IfOk result (λ t. table_of_text text.now ≡ Ok t) }
+        ensures refused { IfErr result (λ f. f ≢ NoMemory → table_of_text text.now ≡ Err f) }
+    {
+        let tree = match toml::table_from_slice(alloc, text) {
+            Ok(tree) => tree,
+            Err(e) => {
+                return Err(if e.is_memory() {
+                    RouteFault::NoMemory
+                } else {
+                    RouteFault::NotToml
+                });
+            }
+        };
+        let plan = Plan::Seven;
+        let Routes { entries, index } = read_tree(alloc, plan, &tree)?;
+        Ok(RouteTable {
+            entries,
+            index,
+            plan,
+            limits: Limits::standard(),
+        })
+    }
+
+    /// The route of the longest code that is a prefix of the digits; `None` exactly where no code
+    /// is one.
+    pub fn look(&self, digits: &[Digit]) -> Option<&Route>
+        ensures { option_copied result ≡ option_map uncoded (route_for self.now.routes digits.now) }
+    {
+        let place = self.index.place_for(digits)?;
+        let entry = self.entries.get(usize::from(place))?;
+        Some(&entry.route)
+    }
+
+    /// How long numbers are.
+    pub fn plan(&self) -> Plan
+        ensures { result ≡ self.now.plan }
+    {
+        self.plan
+    }
+
+    /// The limits by which the pulses of numbers are judged.
+    pub fn limits(&self) -> Limits
+        ensures value { result ≡ self.now.limits }
+        ensures lawful { IsLawful result }
+    {
+        self.limits
+    }
+}
