@@ -7,14 +7,14 @@ use Rattle.xb_model.specs.declared.row.Contact.TheVariants as contacts
 use Rattle.xb_model.specs.declared.limits.Limits.{Limits}
 use Rattle.xb_model.specs.declared.limits.TheConstants.{GREATEST_LIMIT}
 use Rattle.xb_model.specs.declared.signal.Signal.{Signal}
-use Rattle.xb_model.specs.declared.signal.Signal.TheVariants.{Seize, Digit, Close}
+use Rattle.xb_model.specs.declared.signal.Signal.TheVariants.{Seize, Digit, Release, Close}
 use Rattle.xb_model.specs.declared.signal.TheConstants.{MANY_BREAKS}
-use Rattle.xb_model.specs.Records.{Run, join, without_first_break, into_first, pieces_of}
+use Rattle.xb_model.specs.Records.{Run, Attempt, join, without_first_break, into_first, pieces_of}
 use Rattle.xb_model.specs.LawfulLimits.{IsLawful}
 use Rattle.xb_pulse.specs.declared.state.Tally.{Tally}
 use Rattle.xb_pulse.specs.declared.state.State.{State}
 use Rattle.xb_pulse.specs.declared.state.State.TheVariants.{OnHook, BetweenTrains, InBreak, InMake, TimedOut, Closed}
-use Rattle.xb_pulse.specs.Machine.{Step, longer, no_breaks, with_break, with_make, between_trains, in_make, in_break, timed_out, on_make, on_break}
+use Rattle.xb_pulse.specs.Machine.{Step, longer, no_breaks, with_break, with_make, between_trains, in_make, on_make, release_at, unless_released, on_break}
 use Rattle.xb_pulse.proofs.Joining.{make_of, break_of, more, behind, join_is, join_makes, join_breaks, behind_break}
 use Rattle.xb_pulse.proofs.ToSend.{all_of, seized, in_train, behind_timeout, to_send, all_of-seized, seized-timed, seized-make, in_train-pause, in_train-make, in_train-break, behind_timeout-run, pieces_of-release}
 
@@ -73,33 +73,25 @@ in_make-front L R tally x s l n e = by (nat_le L.pause s) refl
         let same : s ≡ x = omega (arith, l.pause.1) in
         rw (t, same)
 
--- in a break of x ms inside an attempt
-in_break-front : (L : Limits) (R : List Run) (tally : Tally) (x s : ℕ) → IsLawful L → s ≡ min x GREATEST_LIMIT → SendsFront L (in_break L s tally) R (in_train L tally (pieces_of L (join (break_of x) R)))
-in_break-front L R tally x s l e = by (nat_le L.release s) refl
+-- in a break of x ms, where a release ends the piece and nothing else is sent
+release_at-front : (L : Limits) (R : List Run) (x s : ℕ) (state : State) (pieces_send : List Attempt → List Signal) → IsLawful L → s ≡ min x GREATEST_LIMIT → ((P : List Attempt) → pieces_send (record { runs = []; released = true } ∷ P) ≡ Release ∷ all_of L P) → (s ≡ x → pieces_send (pieces_of L (join (break_of x) R)) ≡ to_send L state R) → SendsFront L (release_at L s state) R (pieces_send (pieces_of L (join (break_of x) R)))
+release_at-front L R x s state pieces_send l e ends stays = by (nat_le L.release s) refl
   where
-    by : (b : Bool) → nat_le L.release s ≡ b → SendsFront L (in_break L s tally) R (in_train L tally (pieces_of L (join (break_of x) R)))
+    by : (b : Bool) → nat_le L.release s ≡ b → SendsFront L (release_at L s state) R (pieces_send (pieces_of L (join (break_of x) R)))
     by true t =
         let h : L.release ≤ s = leb-true L.release s t in
         let k : L.release ≤ x + more Brk R = omega arith in
-        rw (t, join_is Brk x R, pieces_of-release L (x + more Brk R) (behind Brk R) k, behind_break R)
+        rw (t, join_is Brk x R, pieces_of-release L (x + more Brk R) (behind Brk R) k, behind_break R) (ends (pieces_of L (behind Brk R)))
     by false t =
         let h : s < L.release = leb-false L.release s t in
         let same : s ≡ x = omega (arith, l.release.1) in
-        rw (t, same)
+        rw t (stays same)
 
--- in a break of x ms behind a time-out
-timed_out-front : (L : Limits) (R : List Run) (x s : ℕ) → IsLawful L → s ≡ min x GREATEST_LIMIT → SendsFront L (timed_out L s) R (behind_timeout L (pieces_of L (join (break_of x) R)))
-timed_out-front L R x s l e = by (nat_le L.release s) refl
-  where
-    by : (b : Bool) → nat_le L.release s ≡ b → SendsFront L (timed_out L s) R (behind_timeout L (pieces_of L (join (break_of x) R)))
-    by true t =
-        let h : L.release ≤ s = leb-true L.release s t in
-        let k : L.release ≤ x + more Brk R = omega arith in
-        rw (t, join_is Brk x R, pieces_of-release L (x + more Brk R) (behind Brk R) k, behind_break R)
-    by false t =
-        let h : s < L.release = leb-false L.release s t in
-        let same : s ≡ x = omega (arith, l.release.1) in
-        rw (t, same)
+in_break-front : (L : Limits) (R : List Run) (tally : Tally) (x s : ℕ) → IsLawful L → s ≡ min x GREATEST_LIMIT → SendsFront L (unless_released L (InBreak s tally)) R (in_train L tally (pieces_of L (join (break_of x) R)))
+in_break-front L R tally x s l e = release_at-front L R x s (InBreak s tally) (in_train L tally) l e (λ P. refl) (λ same. rw same refl)
+
+timed_out-front : (L : Limits) (R : List Run) (x s : ℕ) → IsLawful L → s ≡ min x GREATEST_LIMIT → SendsFront L (unless_released L (TimedOut s)) R (behind_timeout L (pieces_of L (join (break_of x) R)))
+timed_out-front L R x s l e = release_at-front L R x s (TimedOut s) (behind_timeout L) l e (λ P. refl) (λ same. rw same refl)
 
 -- runs that a row of the other contact ends
 
@@ -165,19 +157,12 @@ in_make-open L s tally l n = by (nat_le L.pause s) refl
     by true t = rw t (between_trains-open L s l)
     by false t = rw t (leb-false L.pause s t, n)
 
-in_break-open : (L : Limits) (s : ℕ) (tally : Tally) → tally.breaks ≤ MANY_BREAKS → IsOpen L (in_break L s tally).after
-in_break-open L s tally n = by (nat_le L.release s) refl
+release_at-open : (L : Limits) (t : ℕ) (s : State) → (t < L.release → IsOpen L s) → IsOpen L (release_at L t s).after
+release_at-open L t s o = by (nat_le L.release t) refl
   where
-    by : (b : Bool) → nat_le L.release s ≡ b → IsOpen L (in_break L s tally).after
-    by true t = rw t tt
-    by false t = rw t (leb-false L.release s t, n)
-
-timed_out-open : (L : Limits) (s : ℕ) → IsOpen L (timed_out L s).after
-timed_out-open L s = by (nat_le L.release s) refl
-  where
-    by : (b : Bool) → nat_le L.release s ≡ b → IsOpen L (timed_out L s).after
-    by true t = rw t tt
-    by false t = rw t (leb-false L.release s t)
+    by : (b : Bool) → nat_le L.release t ≡ b → IsOpen L (release_at L t s).after
+    by true e = rw e tt
+    by false e = rw e (o (leb-false L.release t e))
 
 pub on_make-open : (L : Limits) (s : State) (m : ℕ) → IsLawful L → IsOpen L s → IsOpen L (on_make L s m).after
 on_make-open L OnHook m l o = between_trains-open L (longer 0 m) l
@@ -189,10 +174,11 @@ on_make-open L Closed m l o = absurd o
 
 pub on_break-open : (L : Limits) (s : State) (m : ℕ) → IsOpen L s → IsOpen L (on_break L s m).after
 on_break-open L OnHook m o = tt
-on_break-open L (BetweenTrains t) m o = in_break-open L (longer 0 m) no_breaks (omega arith)
-on_break-open L (InBreak t tally) m o = in_break-open L (longer t m) tally o.1
-on_break-open L (InMake t tally) m o = in_break-open L (longer 0 m) (with_make L t tally) o.1
-on_break-open L (TimedOut t) m o = timed_out-open L (longer t m)
+on_break-open L (BetweenTrains t) m o = release_at-open L (longer 0 m) (InBreak (longer 0 m) no_breaks) (λ below. (below, omega arith))
+on_break-open L (InBreak t tally) m o = release_at-open L (longer t m) (InBreak (longer t m) tally) (λ below. (below, o.1))
+on_break-open L (InMake t tally) m o =
+    release_at-open L (longer 0 m) (InBreak (longer 0 m) (with_make L t tally)) (λ below. (below, o.1))
+on_break-open L (TimedOut t) m o = release_at-open L (longer t m) (TimedOut (longer t m)) (λ below. below)
 on_break-open L Closed m o = absurd o
 
 -- where no run is to come, only the close is to be sent

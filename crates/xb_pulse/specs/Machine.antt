@@ -54,16 +54,7 @@ in_make limits total tally =
     if nat_le limits.pause total then send (Digit tally.breaks tally.bad) (between_trains limits total)
     else enter (InMake total tally)
 
--- in a break behind a part of a train
-abbrev pub in_break : Limits → ℕ → Tally → Step
-in_break limits total tally =
-    if nat_le limits.release total then send Release (enter OnHook) else enter (InBreak total tally)
-
--- in a break behind a time-out
-abbrev pub timed_out : Limits → ℕ → Step
-timed_out limits total =
-    if nat_le limits.release total then send Release (enter OnHook) else enter (TimedOut total)
-
+-- a make row of 1 ms or more
 abbrev pub on_make : Limits → State → ℕ → Step
 on_make limits OnHook ms = send Seize (between_trains limits (longer 0 ms))
 on_make limits (BetweenTrains total) ms = between_trains limits (longer total ms)
@@ -72,13 +63,27 @@ on_make limits (InMake total tally) ms = in_make limits (longer total ms) tally
 on_make limits (TimedOut total) ms = enter (TimedOut 0)
 on_make limits Closed ms = enter Closed
 
+-- in a break that this row begins or lengthens
+abbrev pub in_break : Limits → State → ℕ → State
+in_break limits OnHook ms = OnHook
+in_break limits (BetweenTrains total) ms = InBreak (longer 0 ms) no_breaks
+in_break limits (InBreak total tally) ms = InBreak (longer total ms) tally
+in_break limits (InMake total tally) ms = InBreak (longer 0 ms) (with_make limits total tally)
+in_break limits (TimedOut total) ms = TimedOut (longer total ms)
+in_break limits Closed ms = Closed
+
+abbrev pub release_at : Limits → ℕ → State → Step
+release_at limits total state = if nat_le limits.release total then send Release (enter OnHook) else enter state
+
+-- a break that is long enough releases the line
+abbrev pub unless_released : Limits → State → Step
+unless_released limits (InBreak total tally) = release_at limits total (InBreak total tally)
+unless_released limits (TimedOut total) = release_at limits total (TimedOut total)
+unless_released limits state = enter state
+
+-- a break row of 1 ms or more
 abbrev pub on_break : Limits → State → ℕ → Step
-on_break limits OnHook ms = enter OnHook
-on_break limits (BetweenTrains total) ms = in_break limits (longer 0 ms) no_breaks
-on_break limits (InBreak total tally) ms = in_break limits (longer total ms) tally
-on_break limits (InMake total tally) ms = in_break limits (longer 0 ms) (with_make limits total tally)
-on_break limits (TimedOut total) ms = timed_out limits (longer total ms)
-on_break limits Closed ms = enter Closed
+on_break limits state ms = unless_released limits (in_break limits state ms)
 
 abbrev pub on_close : State → Step
 on_close Closed = enter Closed

@@ -15,7 +15,7 @@ use Rattle.xb_ring.specs.declared.stage.TheConstants.{MOST_OUTPUTS}
 use Rattle.xb_pulse.specs.declared.state.Tally.{Tally}
 use Rattle.xb_pulse.specs.declared.state.State.{State}
 use Rattle.xb_pulse.specs.declared.state.State.TheVariants.{OnHook, BetweenTrains, InBreak, InMake, TimedOut, Closed}
-use Rattle.xb_pulse.specs.Machine.{Step, send, enter, longer, no_breaks, with_break, with_make, between_trains, in_make, on_make, on_break, on_close, on_row, step_of, machine}
+use Rattle.xb_pulse.specs.Machine.{Step, send, enter, longer, with_break, between_trains, in_make, on_make, in_break, release_at, unless_released, on_break, on_close, on_row, step_of, machine}
 
 pub outs_on_line : (L : Limits) (s : State) (row : LoopRow) → AllByRecursion (λ (y : On Signal). y.line ≡ row.line) ((machine L).outs s row)
 outs_on_line L s row = all_on row.line (step_of L s row).sent
@@ -45,8 +45,16 @@ few_make : (L : Limits) (t : ℕ) (tally : Tally) → Few (in_make L t tally)
 few_make L t tally =
     few_if (nat_le L.pause t) (send (Digit tally.breaks tally.bad) (between_trains L t)) (enter (InMake t tally)) (few_between L t (Digit tally.breaks tally.bad)) (omega arith)
 
-few_release : (L : Limits) (t : ℕ) (s : State) → Few (cond (nat_le L.release t) (send Release (enter OnHook)) (enter s))
+few_release : (L : Limits) (t : ℕ) (s : State) → Few (release_at L t s)
 few_release L t s = few_if (nat_le L.release t) (send Release (enter OnHook)) (enter s) (omega arith) (omega arith)
+
+few_unless_released : (L : Limits) (s : State) → Few (unless_released L s)
+few_unless_released L (InBreak t tally) = few_release L t (InBreak t tally)
+few_unless_released L (TimedOut t) = few_release L t (TimedOut t)
+few_unless_released L OnHook = omega arith
+few_unless_released L (BetweenTrains t) = omega arith
+few_unless_released L (InMake t tally) = omega arith
+few_unless_released L Closed = omega arith
 
 few_on_make : (L : Limits) (s : State) (m : ℕ) → Few (on_make L s m)
 few_on_make L OnHook m = few_between L (longer 0 m) Seize
@@ -56,21 +64,13 @@ few_on_make L (InMake t tally) m = few_make L (longer t m) tally
 few_on_make L (TimedOut t) m = omega arith
 few_on_make L Closed m = omega arith
 
-few_on_break : (L : Limits) (s : State) (m : ℕ) → Few (on_break L s m)
-few_on_break L OnHook m = omega arith
-few_on_break L (BetweenTrains t) m = few_release L (longer 0 m) (InBreak (longer 0 m) no_breaks)
-few_on_break L (InBreak t tally) m = few_release L (longer t m) (InBreak (longer t m) tally)
-few_on_break L (InMake t tally) m = few_release L (longer 0 m) (InBreak (longer 0 m) (with_make L t tally))
-few_on_break L (TimedOut t) m = few_release L (longer t m) (TimedOut (longer t m))
-few_on_break L Closed m = omega arith
-
 few_on_close : (s : State) → Few (on_close s)
 few_on_close Closed = omega arith
 few_on_close _ = omega arith
 
 few_on_row : (L : Limits) (s : State) (c : Contact) (ms : ℕ) → Few (on_row L s c ms)
 few_on_row L s Make ms = few_if (ms == 0) (enter s) (on_make L s ms) (omega arith) (few_on_make L s ms)
-few_on_row L s Brk ms = few_if (ms == 0) (enter s) (on_break L s ms) (omega arith) (few_on_break L s ms)
+few_on_row L s Brk ms = few_if (ms == 0) (enter s) (on_break L s ms) (omega arith) (few_unless_released L (in_break L s ms))
 few_on_row L s contacts.Close ms = few_on_close s
 
 -- a row sends two signals at most

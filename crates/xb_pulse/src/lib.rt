@@ -5,6 +5,8 @@
 mod laws;
 mod pulse;
 mod state;
+#[cfg(test)]
+mod tests;
 
 pub use laws::{hears_so_far, hears_the_record};
 pub use pulse::Pulse;

@@ -1,7 +1,7 @@
 // The pulse stage.
 ghost use Rattle.std.specs.Prelude.{◌≡◌, ◌+◌, ◌<◌, ◌++◌, ◌∷◌, [], vec_len, vec_capacity};
 ghost use Rattle.xb_ring.specs.Stateless.{on_line};
-ghost use Rattle.xb_pulse.specs.Machine.{machine, longer, with_break, with_make, between_trains, in_make, in_break, timed_out, on_make, on_break, on_close};
+ghost use Rattle.xb_pulse.specs.Machine.{machine, longer, with_break, with_make, between_trains, in_make, on_make, in_break, on_break, on_close};
 ghost use Rattle.xb_pulse.specs.Outputs.{outs_on_line};
 
 use crate::state::{State, Tally};
@@ -9,11 +9,18 @@ use std::marker::Model;
 use xb_model::{Contact, GREATEST_LIMIT, Limits, LineNo, MANY_BREAKS, On, OnLine, Row, Signal};
 use xb_ring::LineStage;
 
-/// The stage that turns the rows of a line's loop into signals, by its limits.
+/// The stage that turns the rows of each line's loop into signals, by its limits (own profile).
 ///
 /// Neighbouring rows of one contact are one run, and rows of 0 ms count for nothing. Each limit is
-/// judged on the run as it has come together, and each signal is sent by the row in which its
-/// limit is reached. A make row may send two: a seizure or a digit, and a time-out.
+/// judged on the whole run so far, and each signal is sent by the row in which its limit is
+/// reached:
+/// - `Seize` by the first make of a line that is on hook;
+/// - `Digit` where a make behind a break reaches `pause`: its train's breaks, and whether one of
+///   them is not `pulse_min` to `pulse_max`, or a make between two of them is under `make_min`;
+/// - `TimeOut` where a make reaches `timeout`, also in the row that seized or ended a digit; from
+///   then on nothing but a release or the close is heard;
+/// - `Release` where a break in an attempt reaches `release`;
+/// - `Close` by a close row; rows behind it send nothing.
 #[derive(Drop)]
 pub struct Pulse {
     limits: Limits,
@@ -85,36 +92,6 @@ impl Pulse {
         }
     }
 
-    // In a break behind a part of a train.
-    fn in_break(&self, total: u32, tally: Tally, line: LineNo, out: &mut Vec<On<Signal>>) -> State
-        requires { vec_len out.old < vec_capacity out.old }
-        ensures state { result ≡ (in_break self.now total tally).after }
-        ensures sent { out.new.items ≡ out.old.items ++ on_line line (in_break self.now total tally).sent }
-        ensures capacity { vec_capacity out.new ≡ vec_capacity out.old }
-    {
-        if total >= self.limits.release {
-            send(line, out, Signal::Release);
-            State::OnHook
-        } else {
-            State::InBreak(total, tally)
-        }
-    }
-
-    // In a break behind a time-out.
-    fn timed_out(&self, total: u32, line: LineNo, out: &mut Vec<On<Signal>>) -> State
-        requires { vec_len out.old < vec_capacity out.old }
-        ensures state { result ≡ (timed_out self.now total).after }
-        ensures sent { out.new.items ≡ out.old.items ++ on_line line (timed_out self.now total).sent }
-        ensures capacity { vec_capacity out.new ≡ vec_capacity out.old }
-    {
-        if total >= self.limits.release {
-            send(line, out, Signal::Release);
-            State::OnHook
-        } else {
-            State::TimedOut(total)
-        }
-    }
-
     // A make row of 1 ms or more.
     fn on_make(&self, state: State, ms: u32, line: LineNo, out: &mut Vec<On<Signal>>) -> State
         requires { vec_len out.old + 1 < vec_capacity out.old }
@@ -137,6 +114,21 @@ impl Pulse {
         }
     }
 
+    // In a break that this row begins or lengthens.
+    fn in_break(&self, state: State, ms: u32) -> State
+        ensures { result ≡ in_break self.now state ms }
+    {
+        match state {
+            State::BetweenTrains(_) => State::InBreak(longer(0, ms), Tally::none()),
+            State::InBreak(total, tally) => State::InBreak(longer(total, ms), tally),
+            State::InMake(total, tally) => {
+                State::InBreak(longer(0, ms), self.with_make(total, tally))
+            }
+            State::TimedOut(total) => State::TimedOut(longer(total, ms)),
+            State::OnHook | State::Closed => state,
+        }
+    }
+
     // A break row of 1 ms or more.
     fn on_break(&self, state: State, ms: u32, line: LineNo, out: &mut Vec<On<Signal>>) -> State
         requires { vec_len out.old < vec_capacity out.old }
@@ -144,15 +136,13 @@ impl Pulse {
         ensures sent { out.new.items ≡ out.old.items ++ on_line line (on_break self.now state ms).sent }
         ensures capacity { vec_capacity out.new ≡ vec_capacity out.old }
     {
+        let state = self.in_break(state, ms);
         match state {
-            State::OnHook => State::OnHook,
-            State::BetweenTrains(_) => self.in_break(longer(0, ms), Tally::none(), line, out),
-            State::InBreak(total, tally) => self.in_break(longer(total, ms), tally, line, out),
-            State::InMake(total, tally) => {
-                self.in_break(longer(0, ms), self.with_make(total, tally), line, out)
+            State::InBreak(total, _) | State::TimedOut(total) if total >= self.limits.release => {
+                send(line, out, Signal::Release);
+                State::OnHook
             }
-            State::TimedOut(total) => self.timed_out(longer(total, ms), line, out),
-            State::Closed => State::Closed,
+            _ => state,
         }
     }
 }
