@@ -10,14 +10,18 @@ use Rattle.xb_model.specs.declared.line.LineNo.{LineNo}
 use Rattle.xb_model.specs.declared.signal.Signal.{Signal}
 use Rattle.xb_model.specs.declared.signal.Signal.TheVariants.{Close}
 use Rattle.xb_model.specs.Rows.{LoopRow}
-use Rattle.xb_model.specs.Records.{closes, record_up_to_close, joined}
+use Rattle.xb_model.specs.Records.{closes, record_up_to_close, rows_of, record_of, joined}
 use Rattle.xb_model.specs.Signals.{signals_of}
 use Rattle.xb_model.specs.LawfulLimits.{IsLawful}
-use Rattle.xb_ring.specs.Image.{image_from, image_on}
+use Rattle.xb_ring.specs.Image.{image, image_from, image_on}
+use Rattle.xb_ring.specs.Lines.{of_line}
 use Rattle.xb_ring.specs.Stateless.{on_line}
+use Rattle.xb_ring.proofs.Lines.{of_line-on}
+use Rattle.xb_ring.proofs.Images.{image-of_line}
 use Rattle.xb_pulse.specs.declared.state.State.{State}
 use Rattle.xb_pulse.specs.declared.state.State.TheVariants.{OnHook, BetweenTrains, InBreak, InMake, TimedOut, Closed}
 use Rattle.xb_pulse.specs.Machine.{Step, enter, on_make, on_break, on_row, step_of, machine}
+use Rattle.xb_pulse.specs.Outputs.{outs_on_line}
 use Rattle.xb_pulse.proofs.Joining.{make_of, break_of}
 use Rattle.xb_pulse.proofs.ToSend.{to_send}
 use Rattle.xb_pulse.proofs.Steps.{IsOpen, SendsFront, on_make-front, on_break-front, on_make-open, on_break-open, to_send-none}
@@ -105,3 +109,17 @@ record_heard L line rows l a e = sym (append-nil _) ∙ rw e at (signals_heard L
 
 pub open_record_heard : (L : Limits) (line : LineNo) (rows : List LoopRow) → IsLawful L → AllByRecursion (λ row. row.line ≡ line) rows → closes rows ≡ false → image_on (machine L) rows ++ on_line line (Close ∷ []) ≡ on_line line (signals_of L (record_up_to_close rows))
 open_record_heard L line rows l a e = rw e at (signals_heard L line rows l a)
+
+-- among the rows of all lines
+
+line_image : (L : Limits) (line : LineNo) (rows : List LoopRow) → of_line (λ item. item.line) line (image (λ row. row.line) (machine L) rows) ≡ image_on (machine L) (rows_of line rows)
+line_image L line rows = image-of_line (λ row. row.line) (λ item. item.line) (machine L) (outs_on_line L) line rows
+
+pub line_record_heard : (L : Limits) (line : LineNo) (rows : List LoopRow) → IsLawful L → closes (rows_of line rows) ≡ true → of_line (λ item. item.line) line (image (λ row. row.line) (machine L) rows) ≡ on_line line (signals_of L (record_of line rows))
+line_record_heard L line rows l e =
+    line_image L line rows ∙ record_heard L line (rows_of line rows) l (of_line-on (λ row. row.line) line rows) e
+
+pub open_line_record_heard : (L : Limits) (line : LineNo) (rows : List LoopRow) → IsLawful L → closes (rows_of line rows) ≡ false → of_line (λ item. item.line) line (image (λ row. row.line) (machine L) rows) ++ on_line line (Close ∷ []) ≡ on_line line (signals_of L (record_of line rows))
+open_line_record_heard L line rows l e =
+    ap (λ front. front ++ on_line line (Close ∷ [])) (line_image L line rows)
+    ∙ open_record_heard L line (rows_of line rows) l (of_line-on (λ row. row.line) line rows) e
