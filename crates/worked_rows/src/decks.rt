@@ -1,0 +1,97 @@
+// Decks and pages, as text.
+use crate::pulses::{in_turn, rows_of};
+use std::alloc::Global;
+use std::process::Abort;
+use std::test::Fail;
+use xb_model::{Contact, Row};
+
+/// The route table of most decks.
+pub const TABLE: &str = "[[route]]
+code = \"234\"
+trunk = 17
+delete = 3
+prefix = \"56\"
+[[route]]
+code = \"411\"
+trunk = 3
+[[route]]
+code = \"0\"
+trunk = 1
+";
+
+// The keyings of that table, by the numbers that are dialled: 0, 234 5678 and 411.
+const K0: &str = "KEYED 0001 KP:1100+1700 0:1300+1500 ST:1500+1700";
+
+const K3: &str = "KEYED 0017 KP:1100+1700 5:900+1300 6:1100+1300 5:900+1300 6:1100+1300 7:700+1500 8:900+1500 ST:1500+1700";
+
+const K4: &str = "KEYED 0003 KP:1100+1700 4:700+1300 1:700+900 1:700+900 ST:1500+1700";
+
+/// A worked row.
+#[derive(Clone, Copy)]
+pub struct Worked {
+    /// What it shows.
+    pub name: &'static str,
+    /// What each line does.
+    pub lines: &'static [(u16, &'static str)],
+    /// The lines of the page, parted by ` / `; `K0`, `K3` and `K4` stand for a keying.
+    pub page: &'static str,
+}
+
+/// The rows of the lines, one line after the other.
+pub fn one_after_another(rt: &impl Abort, alloc: Global, worked: &Worked) -> Result<Vec<Row>, Fail> {
+    let mut rows = Vec::new(alloc);
+    for (line, pieces) in worked.lines {
+        rows.extend_from_slice(&rows_of(rt, alloc, *line, pieces)?)?;
+    }
+    Ok(rows)
+}
+
+/// The rows of two lines, one row of each in turn.
+pub fn two_in_turn(rt: &impl Abort, alloc: Global, worked: &Worked) -> Result<Vec<Row>, Fail> {
+    let [(first, first_pieces), (second, second_pieces)] = worked.lines else {
+        return Err(Fail::from("not two lines"));
+    };
+    let first_rows = rows_of(rt, alloc, *first, first_pieces)?;
+    let second_rows = rows_of(rt, alloc, *second, second_pieces)?;
+    in_turn(alloc, &first_rows, &second_rows)
+}
+
+/// The table, the line that cuts, and the rows as CSV.
+pub fn deck_of(alloc: Global, table: &str, rows: &[Row]) -> Result<String, Fail> {
+    let mut deck = String::new(alloc);
+    deck.push_str(table)?;
+    deck.push_str("---\nline,state,ms\n")?;
+    for row in rows {
+        let state = match row.contact() {
+            Contact::Make => 'M',
+            Contact::Brk => 'B',
+            Contact::Close => 'C',
+        };
+        writeln!(deck, "{},{state},{}", row.line().get(), row.ms())?;
+    }
+    Ok(deck)
+}
+
+fn written_out(word: &str) -> &str {
+    match word {
+        "K0" => K0,
+        "K3" => K3,
+        "K4" => K4,
+        _ => word,
+    }
+}
+
+/// The page of its short form.
+pub fn page_of(alloc: Global, lines: &str) -> Result<String, Fail> {
+    let mut page = String::new(alloc);
+    for line in lines.split(" / ") {
+        for (place, word) in line.split(' ').enumerate() {
+            if place > 0 {
+                page.push(' ')?;
+            }
+            page.push_str(written_out(word))?;
+        }
+        page.push('\n')?;
+    }
+    Ok(page)
+}

@@ -1,0 +1,58 @@
+// The short forms, written out.
+use crate::attempts::ATTEMPTS;
+use crate::decks::{TABLE, deck_of, one_after_another, page_of};
+use std::test::Fail;
+
+// The deck of an operator call, whole.
+const DECK: &str = "[[route]]
+code = \"234\"
+trunk = 17
+delete = 3
+prefix = \"56\"
+[[route]]
+code = \"411\"
+trunk = 3
+[[route]]
+code = \"0\"
+trunk = 1
+---
+line,state,ms
+5,M,500
+5,B,60
+5,M,40
+5,B,60
+5,M,40
+5,B,60
+5,M,40
+5,B,60
+5,M,40
+5,B,60
+5,M,40
+5,B,60
+5,M,40
+5,B,60
+5,M,40
+5,B,60
+5,M,40
+5,B,60
+5,M,40
+5,B,60
+5,M,600
+";
+
+// Its page, whole.
+const PAGE: &str = "0005 1 KEYED 0001 KP:1100+1700 0:1300+1500 ST:1500+1700
+KEYED 1 REFUSED 0
+";
+
+#[test]
+fn operator_call_is_written_out(rt: HostRuntime) -> Result<(), Fail> {
+    let alloc = rt.alloc();
+    let worked = ATTEMPTS.get(1).ok_or("no operator call")?;
+    assert_eq!(rt; worked.name, "operator_call");
+    let rows = one_after_another(&rt, alloc, worked)?;
+    let deck = deck_of(alloc, TABLE, &rows)?;
+    assert_eq!(rt; deck.as_str(), DECK);
+    assert_eq!(rt; page_of(alloc, worked.page)?.as_str(), PAGE);
+    Ok(())
+}

@@ -1,0 +1,13 @@
+//! Worked rows: decks whose pages were worked out by hand, run through the whole office.
+//!
+//! Tests alone. A row of the tables is what some lines do, in a short form, beside the page.
+#![tactic(auto)]
+
+#[cfg(test)]
+mod attempts;
+#[cfg(test)]
+mod decks;
+#[cfg(test)]
+mod pulses;
+#[cfg(test)]
+mod forms;
