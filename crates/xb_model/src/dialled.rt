@@ -1,4 +1,6 @@
 // What comes of an attempt.
+ghost use Rattle.std.specs.Prelude.{◌≡◌};
+
 use crate::digits::NumberDigits;
 use crate::reason::Reason;
 
@@ -11,6 +13,11 @@ pub enum Dialled {
 }
 
 impl Default for Dialled {
+    ghost use Rattle.xb_model.specs.declared.dialled.Dialled.TheVariants.{Refused};
+    ghost use Rattle.xb_model.specs.declared.reason.Reason.TheVariants.{Abandoned};
+
+    ghost is_default = { λ d. d ≡ Refused Abandoned 0 };
+
     fn default() -> Dialled {
         Dialled::Refused(Reason::Abandoned, 0)
     }

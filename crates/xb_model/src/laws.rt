@@ -1,9 +1,17 @@
 //! What the definitions give, each a contract of its own: the tables of the profile and worked
 //! examples.
+ghost use Rattle.xb_model.specs.CutRows.{RowsMayBeCut};
 ghost use Rattle.xb_model.specs.WorkedTables.{TwoOfFiveTable, TwoMakeADigit, MfTable, NumbersOfSeven};
 ghost use Rattle.xb_model.specs.WorkedSignals.{SignalsOfRecords};
+ghost use Rattle.xb_model.specs.WorkedRoutes.{OrdersOfNumbers};
 ghost use Rattle.xb_model.specs.WorkedTapes.{OperatorCall, SevenDigits, SplitRows, TwoLinesInTurn, BreakLimits, MakeLimits, ElevenPulses, TimeOutAndConversation, LastDigitPause, ClosedLine, UnknownCodes, SecondCall, ShortRecords, LongestKeying, EntriesOfATape};
-ghost use Rattle.xb_model.specs.WorkedPages.{PageOfOperatorCall, PageOfSevenDigits, PageOfNoRows, PageOfRefusals};
+ghost use Rattle.xb_model.specs.WorkedPages.{PageOfOperatorCall, PageOfSevenDigits, PageOfNoRows, PageOfUnfinished, PageOfRefusals};
+
+/// The runs of a line do not tell how its rows are cut.
+#[tactic(auto, using(crate::proofs::Cuts::rows_may_be_cut))]
+pub fn rows_may_be_cut()
+    ensures { RowsMayBeCut }
+{}
 
 /// The two elements of each digit; no element for any other count of pulses, nor for a bad train.
 pub fn two_of_five_table()
@@ -58,9 +66,10 @@ pub fn ends_of_attempts()
     ensures short_records { ShortRecords }
 {}
 
-/// Numbers that no code covers, and the longest keying, of 18 marks.
+/// Which route a number takes, numbers that no code covers, and the longest keying, of 18 marks.
 #[tactic(auto, unfolding(crate::specs::WorkedRows::pulses, crate::specs::WorkedRows::dial))]
 pub fn routes_and_keyings()
+    ensures orders { OrdersOfNumbers }
     ensures unknown_codes { UnknownCodes }
     ensures longest_keying { LongestKeying }
 {}
@@ -76,5 +85,6 @@ pub fn texts_of_pages()
     ensures operator_call { PageOfOperatorCall }
     ensures seven_digits { PageOfSevenDigits }
     ensures no_rows { PageOfNoRows }
+    ensures unfinished { PageOfUnfinished }
     ensures refusals { PageOfRefusals }
 {}

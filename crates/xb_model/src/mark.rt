@@ -31,6 +31,11 @@ impl Mark {
 }
 
 impl Default for Mark {
+    ghost use Rattle.xb_model.specs.declared.mark.Mark.TheVariants.{Refused};
+    ghost use Rattle.xb_model.specs.declared.reason.Reason.TheVariants.{Abandoned};
+
+    ghost is_default = { λ m. m ≡ Refused Abandoned 0 };
+
     fn default() -> Mark {
         Mark::Refused(Reason::Abandoned, 0)
     }

@@ -1,4 +1,6 @@
 // What a sender is told.
+ghost use Rattle.std.specs.Prelude.{◌≡◌};
+
 use crate::digits::KeyDigits;
 use crate::reason::Reason;
 use crate::trunk::Trunk;
@@ -12,6 +14,11 @@ pub enum Order {
 }
 
 impl Default for Order {
+    ghost use Rattle.xb_model.specs.declared.order.Order.TheVariants.{Refused};
+    ghost use Rattle.xb_model.specs.declared.reason.Reason.TheVariants.{Abandoned};
+
+    ghost is_default = { λ o. o ≡ Refused Abandoned 0 };
+
     fn default() -> Order {
         Order::Refused(Reason::Abandoned, 0)
     }

@@ -1,6 +1,6 @@
 // Two out of five.
 ghost use Rattle.std.specs.Prelude.{◌≡◌, is_some};
-ghost use Rattle.xb_model.specs.TwoOfFive.{digit_of_pattern, pattern_of_count};
+ghost use Rattle.xb_model.specs.TwoOfFive.{digit_of_pattern, pattern_of_count, at_rest};
 
 use crate::digit::Digit;
 use std::marker::Model;
@@ -93,6 +93,8 @@ impl Relays {
 }
 
 impl Default for Relays {
+    ghost is_default = { λ relays. relays ≡ at_rest };
+
     fn default() -> Relays {
         Relays::of_bits([false; 5])
     }

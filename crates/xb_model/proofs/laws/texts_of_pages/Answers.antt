@@ -16,6 +16,10 @@ pub returns-clause-no_rows : goal.returns-clause-no_rows
 unfolding marks_text entries_text tapes_text digits
 returns-clause-no_rows c = refl
 
+pub returns-clause-unfinished : goal.returns-clause-unfinished
+unfolding marks_text entries_text tapes_text digits
+returns-clause-unfinished c = refl
+
 pub returns-clause-refusals : goal.returns-clause-refusals
 unfolding marks_text entries_text tapes_text digits
 returns-clause-refusals c = refl

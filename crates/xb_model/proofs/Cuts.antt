@@ -1,0 +1,75 @@
+-- A row that is cut into two.
+use Rattle.std.proofs.Common.{◌≡◌, ℕ, zero, suc, ◌+◌, ◌==◌, List, [], ◌∷◌, ◌++◌, Bool, true, false, cond, refl, ap, add_assoc, add-zero, zero-add}
+use Rattle.std.proofs.Math.Dec.{eqb-suc-zero}
+use Rattle.std.proofs.Math.Nat.{suc-add}
+use Rattle.xb_model.specs.declared.row.Contact.{Contact}
+use Rattle.xb_model.specs.declared.row.Contact.TheVariants.{Make, Brk, Close}
+use Rattle.xb_model.specs.Rows.{LoopRow, row_of}
+use Rattle.xb_model.specs.Records.{Run, same_contact, is_close, rows_of, record_up_to_close, record_of, join, joined, without_first_break}
+use Rattle.xb_model.specs.CutRows.{RowsMayBeCut}
+
+abbrev run_of : Contact → ℕ → Run
+run_of contact ms = record { contact = contact; ms = ms }
+
+same_self : (c : Contact) → same_contact c c ≡ true
+same_self Make = refl
+same_self Brk = refl
+same_self Close = refl
+
+-- two neighbours of one contact join to one run of their sum
+join_sum : (c : Contact) (m n : ℕ) (R : List Run) → join (run_of c m) (join (run_of c n) R) ≡ join (run_of c (m + n)) R
+join_sum c m n [] = rw (same_self c) refl
+join_sum c m n (q ∷ R) = by (same_contact c q.contact)
+  where
+    by : (b : Bool) → join (run_of c m) (cond b (run_of c (n + q.ms) ∷ R) (run_of c n ∷ q ∷ R)) ≡ cond b (run_of c (m + n + q.ms) ∷ R) (run_of c (m + n) ∷ q ∷ R)
+    by true = rw (same_self c, add_assoc) refl
+    by false = rw (same_self c) refl
+
+-- equal joined records stay equal behind a row
+behind_row : (row : LoopRow) (A B : List LoopRow) → joined (record_up_to_close A) ≡ joined (record_up_to_close B) → joined (record_up_to_close (row ∷ A)) ≡ joined (record_up_to_close (row ∷ B))
+behind_row row A B same = by (is_close row.contact) (row.ms == 0)
+  where
+    by : (closed none : Bool) → joined (cond closed [] (cond none (record_up_to_close A) (run_of row.contact row.ms ∷ record_up_to_close A))) ≡ joined (cond closed [] (cond none (record_up_to_close B) (run_of row.contact row.ms ∷ record_up_to_close B)))
+    by true none = refl
+    by false true = same
+    by false false = ap (λ R. join (run_of row.contact row.ms) R) same
+
+behind_rows : (l : ℕ) (earlier A B : List LoopRow) → joined (record_of l A) ≡ joined (record_of l B) → joined (record_of l (earlier ++ A)) ≡ joined (record_of l (earlier ++ B))
+behind_rows l [] A B same = same
+behind_rows l (row ∷ rows) A B same = by (row.line == l) (behind_rows l rows A B same)
+  where
+    by : (on : Bool) → joined (record_of l (rows ++ A)) ≡ joined (record_of l (rows ++ B)) → joined (record_up_to_close (cond on (row ∷ rows_of l (rows ++ A)) (rows_of l (rows ++ A)))) ≡ joined (record_up_to_close (cond on (row ∷ rows_of l (rows ++ B)) (rows_of l (rows ++ B))))
+    by true rest = behind_row row (rows_of l (rows ++ A)) (rows_of l (rows ++ B)) rest
+    by false rest = rest
+
+sum_is_not_0 : (m n : ℕ) → (suc m + suc n == 0) ≡ false
+sum_is_not_0 m n = rw (suc-add m (suc n)) (eqb-suc-zero (m + suc n))
+
+-- what a row of n ms says in front of rows that are not closed by it
+abbrev up_to : ℕ → Contact → List LoopRow → List Run
+up_to n c rows = cond (n == 0) (record_up_to_close rows) (run_of c n ∷ record_up_to_close rows)
+
+-- a row in front of rows of its line
+cut_front : (line m n : ℕ) (c : Contact) (rows : List LoopRow) → joined (record_up_to_close (row_of line c m ∷ row_of line c n ∷ rows)) ≡ joined (record_up_to_close (row_of line c (m + n) ∷ rows))
+cut_front line zero n c rows = rw (zero-add n) (by (is_close c))
+  where
+    by : (closed : Bool) → joined (cond closed [] (cond closed [] (up_to n c rows))) ≡ joined (cond closed [] (up_to n c rows))
+    by true = refl
+    by false = refl
+cut_front line (suc m) zero c rows = rw (add-zero (suc m)) (by (is_close c))
+  where
+    by : (closed : Bool) → joined (cond closed [] (cond (suc m == 0) (cond closed [] (record_up_to_close rows)) (run_of c (suc m) ∷ cond closed [] (record_up_to_close rows)))) ≡ joined (cond closed [] (up_to (suc m) c rows))
+    by true = refl
+    by false = refl
+cut_front line (suc m) (suc n) c rows = by (is_close c)
+  where
+    by : (closed : Bool) → joined (cond closed [] (cond (suc m == 0) (cond closed [] (up_to (suc n) c rows)) (run_of c (suc m) ∷ cond closed [] (up_to (suc n) c rows)))) ≡ joined (cond closed [] (up_to (suc m + suc n) c rows))
+    by true = refl
+    by false = rw (eqb-suc-zero m, eqb-suc-zero n, sum_is_not_0 m n) (join_sum c (suc m) (suc n) (joined (record_up_to_close rows)))
+
+pub rows_may_be_cut : RowsMayBeCut
+rows_may_be_cut l line m n c earlier later = ap without_first_break (behind_rows l earlier _ _ (by (line == l)))
+  where
+    by : (on : Bool) → joined (record_up_to_close (cond on (row_of line c m ∷ cond on (row_of line c n ∷ rows_of l later) (rows_of l later)) (cond on (row_of line c n ∷ rows_of l later) (rows_of l later)))) ≡ joined (record_up_to_close (cond on (row_of line c (m + n) ∷ rows_of l later) (rows_of l later)))
+    by true = cut_front line m n c (rows_of l later)
+    by false = refl
