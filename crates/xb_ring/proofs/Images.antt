@@ -1,4 +1,4 @@
--- Laws of images.
+-- Laws of images, and of the states of lines.
 use Rattle.std.proofs.Common.{◌≡◌, ℕ, true, false, eqb, List, [], ◌∷◌, ◌++◌, fold, refl, sym, ap, ◌∙◌, eqb-true, append_assoc, append-nil, subst, ⊎_elim, eq-eqb}
 use Rattle.std.specs.List.{AllByRecursion}
 use Rattle.std.proofs.lemmas.Bool.{cases_Bool}
@@ -13,29 +13,35 @@ module _ {I O S : Type 0} (line : I → ℕ) (m : Machine I O S) where
   unfolding state_after
   state_after-line earlier l = ap (fold m.next m.start) (of_line-twice line l earlier)
 
+  -- before its first item a line has the state at first
   pub state_after-none : (l : ℕ) → state_after line m [] l ≡ m.start
   unfolding state_after
   state_after-none l = refl
 
+  -- an item changes the state of its line
   pub state_after-here : (earlier : List I) (x : I) (l : ℕ) → eqb (line x) l ≡ true → state_after line m (earlier ++ x ∷ []) l ≡ m.next (state_after line m earlier l) x
   unfolding state_after
   state_after-here earlier x l h =
       ap (fold m.next m.start) (of_line-append line l earlier (x ∷ []) ∙ ap (λ ys. of_line line l earlier ++ ys) (of_line-here line l x [] h))
       ∙ fold-append m.next m.start (of_line line l earlier) (x ∷ [])
 
+  -- and of no other
   pub state_after-other : (earlier : List I) (x : I) (l : ℕ) → eqb (line x) l ≡ false → state_after line m (earlier ++ x ∷ []) l ≡ state_after line m earlier l
   unfolding state_after
   state_after-other earlier x l h =
       ap (fold m.next m.start) (of_line-append line l earlier (x ∷ []) ∙ ap (λ ys. of_line line l earlier ++ ys) (of_line-other line l x [] h) ∙ append-nil (of_line line l earlier))
 
+  -- an item in front
   pub image_after-cons : (earlier : List I) (x : I) (xs : List I) → image_after line m earlier (x ∷ xs) ≡ m.outs (state_after line m earlier (line x)) x ++ image_after line m (earlier ++ x ∷ []) xs
   unfolding image_after
   image_after-cons earlier x xs = refl
 
+  -- no items
   pub image_after-none : (earlier : List I) → image_after line m earlier [] ≡ []
   unfolding image_after
   image_after-none earlier = refl
 
+  -- the later items find the earlier ones before them
   pub image_after-append : (earlier xs ys : List I) → image_after line m earlier (xs ++ ys) ≡ image_after line m earlier xs ++ image_after line m (earlier ++ xs) ys
   unfolding image_after
   image_after-append earlier [] ys = ap (λ e. image_after line m e ys) (sym (append-nil earlier))
@@ -44,13 +50,14 @@ module _ {I O S : Type 0} (line : I → ℕ) (m : Machine I O S) where
       (image_after-append (earlier ++ x ∷ []) xs ys ∙ ap (λ e. image_after line m (earlier ++ x ∷ []) xs ++ image_after line m e ys) (append_assoc earlier (x ∷ []) xs))
       ∙ sym (append_assoc (m.outs (state_after line m earlier (line x)) x) _ _)
 
-  -- one more item
+  -- one item more
   pub image-push : (xs : List I) (x : I) → image line m (xs ++ x ∷ []) ≡ image line m xs ++ m.outs (state_after line m xs (line x)) x
   unfolding image_after
   image-push xs x = image_after-append [] xs (x ∷ []) ∙ ap (λ zs. image line m xs ++ zs) (append-nil _)
 
 module _ {I O S : Type 0} (line : I → ℕ) (out_line : O → ℕ) (m : Machine I O S)
     (on_line : (q : S) (x : I) → AllByRecursion (λ y. out_line y ≡ line x) (m.outs q x)) where
+  -- the items of a line in an image are the image of the line's items, with its earlier items alone
   image_after-line : (l : ℕ) (earlier xs : List I) → of_line out_line l (image_after line m earlier xs) ≡ image_after line m (of_line line l earlier) (of_line line l xs)
   unfolding image_after
   image_after-line l earlier [] = refl

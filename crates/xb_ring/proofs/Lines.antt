@@ -6,12 +6,15 @@ use Rattle.std.proofs.lemmas.List.Elements.{filter-append}
 use Rattle.xb_ring.specs.Lines.{of_line}
 
 module _ {X : Type 0} (line : X → ℕ) where
+  -- the items of a line in two lists, one behind the other
   pub of_line-append : (l : ℕ) (xs ys : List X) → of_line line l (xs ++ ys) ≡ of_line line l xs ++ of_line line l ys
   of_line-append l xs ys = filter-append (λ x. eqb (line x) l) xs ys
 
+  -- an item of the line in front
   pub of_line-here : (l : ℕ) (x : X) (xs : List X) → eqb (line x) l ≡ true → of_line line l (x ∷ xs) ≡ x ∷ of_line line l xs
   of_line-here l x xs h = cond-true _ _ _ h
 
+  -- an item of another line in front
   pub of_line-other : (l : ℕ) (x : X) (xs : List X) → eqb (line x) l ≡ false → of_line line l (x ∷ xs) ≡ of_line line l xs
   of_line-other l x xs h = cond-false _ _ _ h
 
@@ -24,6 +27,7 @@ module _ {X : Type 0} (line : X → ℕ) where
   of_line-none l k [] h n = refl
   of_line-none l k (x ∷ xs) h n = of_line-other l x xs (ap (λ i. eqb i l) h.0 ∙ n) ∙ of_line-none l k xs h.1 n
 
+  -- the items of a line among the items of the line are all of them
   pub of_line-twice : (l : ℕ) (xs : List X) → of_line line l (of_line line l xs) ≡ of_line line l xs
   of_line-twice l [] = refl
   of_line-twice l (x ∷ xs) =

@@ -8,6 +8,7 @@ use Rattle.xb_ring.specs.Image.{image_from, image_on, image_after, image}
 use Rattle.xb_ring.specs.Stateless.{on_line, stateless}
 
 module _ {A B : Type 0} (f : A → List B) where
+  -- from any state on
   image_from-stateless : (line : LineNo) (state : Unit {0}) (whats : List A) → image_from (stateless f) state (on_line line whats) ≡ on_line line (flat_map f whats)
   image_from-stateless line state [] = refl
   image_from-stateless line state (what ∷ whats) =
@@ -18,6 +19,7 @@ module _ {A B : Type 0} (f : A → List B) where
   pub image-stateless : (line : LineNo) (whats : List A) → image_on (stateless f) (on_line line whats) ≡ on_line line (flat_map f whats)
   image-stateless line whats = image_from-stateless line tt whats
 
+  -- behind any items
   image_after-stateless : (earlier items : List (On A)) → image_after (λ (item : On A). item.line) (stateless f) earlier items ≡ flat_map (λ (item : On A). on_line item.line (f item.what)) items
   unfolding image_after
   image_after-stateless earlier [] = refl
