@@ -1,4 +1,4 @@
--- The entries of joined entries are those entries.
+-- How many entries marks have, and where the first of them ends.
 use Rattle.std.proofs.Common.{◌≡◌, ℕ, suc, ◌≤◌, Bool, true, false, cond, List, [], ◌∷◌, ◌++◌, map, length, take, drop, Option, Some, None, refl, ap, ◌∙◌, arith}
 use Rattle.std.specs.Prelude.{option_map}
 use Rattle.std.specs.List.{flat_map, filter}
@@ -10,19 +10,6 @@ use Rattle.xb_model.specs.declared.order.Order.TheVariants as orders
 use Rattle.xb_model.specs.Keyings.{tone, marks_of, is_ending}
 use Rattle.xb_model.specs.Tapes.{into_first_entry, entries_of}
 use Rattle.xb_bank.specs.Entries.{first_end}
-
--- the marks of digits up to ST are the end of an entry
-digits_entry : (ds : List ℕ) (rest : List Mark) → entries_of ((map (λ d. tone (Digit d)) ds ++ tone St ∷ []) ++ rest) ≡ (map (λ d. tone (Digit d)) ds ++ tone St ∷ []) ∷ entries_of rest
-digits_entry [] rest = refl
-digits_entry (d ∷ ds) rest = ap (into_first_entry (tone (Digit d))) (digits_entry ds rest)
-
-order_entry : (order : Order) (rest : List Mark) → entries_of (marks_of order ++ rest) ≡ marks_of order ∷ entries_of rest
-order_entry (orders.Key trunk digits) rest = ap (λ es. into_first_entry (Trunk trunk) (into_first_entry (tone Kp) es)) (digits_entry digits rest)
-order_entry (orders.Refused reason heard) rest = refl
-
-pub joined_entries : {A : Type 0} (f : A → Order) (xs : List A) → entries_of (flat_map (λ entry. entry) (map (λ x. marks_of (f x)) xs)) ≡ map (λ x. marks_of (f x)) xs
-joined_entries f [] = refl
-joined_entries f (x ∷ xs) = order_entry (f x) (flat_map (λ entry. entry) (map (λ x. marks_of (f x)) xs)) ∙ ap (λ es. marks_of (f x) ∷ es) (joined_entries f xs)
 
 -- as many entries as ending marks
 length-onto : (m : Mark) (es : List (List Mark)) → length (into_first_entry m es) ≡ length es
