@@ -1,13 +1,9 @@
 -- How many entries marks have, and where the first of them ends.
-use Rattle.std.proofs.Common.{◌≡◌, ℕ, suc, ◌≤◌, Bool, true, false, cond, List, [], ◌∷◌, ◌++◌, map, length, take, drop, Option, Some, None, refl, ap, ◌∙◌, arith}
+use Rattle.std.proofs.Common.{◌≡◌, ℕ, suc, ◌≤◌, Bool, true, false, cond, List, [], ◌∷◌, length, take, drop, Option, Some, None, refl, ap, ◌∙◌, arith}
 use Rattle.std.specs.Prelude.{option_map}
-use Rattle.std.specs.List.{flat_map, filter}
-use Rattle.xb_model.specs.declared.key.Key.TheVariants.{Digit, Kp, St}
+use Rattle.std.specs.List.{filter}
 use Rattle.xb_model.specs.declared.mark.Mark.{Mark}
-use Rattle.xb_model.specs.declared.mark.Mark.TheVariants.{Trunk}
-use Rattle.xb_model.specs.declared.order.Order.{Order}
-use Rattle.xb_model.specs.declared.order.Order.TheVariants as orders
-use Rattle.xb_model.specs.Keyings.{tone, marks_of, is_ending}
+use Rattle.xb_model.specs.Keyings.{is_ending}
 use Rattle.xb_model.specs.Tapes.{into_first_entry, entries_of}
 use Rattle.xb_bank.specs.Entries.{first_end}
 

@@ -7,7 +7,6 @@ mod laws;
 mod serial;
 mod source;
 mod tapes;
-
 #[cfg(test)]
 mod tests;
 

@@ -63,12 +63,7 @@ fn seizure(rt: &impl Abort, line: LineNo) -> Row {
 }
 
 // The rows of a train: breaks of 60 ms with makes of 40 between them, and a make of 600 behind.
-fn dial(
-    rt: &impl Abort,
-    rows: &mut Vec<Row>,
-    line: LineNo,
-    pulses: u32,
-) -> Result<(), AllocError> {
+fn dial(rt: &impl Abort, rows: &mut Vec<Row>, line: LineNo, pulses: u32) -> Result<(), AllocError> {
     for pulse in 0..pulses {
         rows.push(row(rt, line, Contact::Brk, 60))?;
         let make = if pulse < pulses - 1 { 40 } else { 600 };
@@ -104,8 +99,14 @@ fn entries_of_a_tape(rt: HostRuntime) -> Result<(), AllocError> {
     put(&mut tapes, last, &unended)?;
     assert_eq!(rt; tapes.marks(last).len(), 6);
     assert_eq!(rt; tapes.entries(last), 2);
-    assert_eq!(rt; tapes.entry(last, 0).expect(&rt, "an entry"), keyed.as_slice());
-    assert_eq!(rt; tapes.entry(last, 1).expect(&rt, "an entry"), refused.as_slice());
+    assert_eq!(rt;
+        tapes.entry(last, 0).expect(&rt, "an entry"),
+        keyed.as_slice()
+    );
+    assert_eq!(rt;
+        tapes.entry(last, 1).expect(&rt, "an entry"),
+        refused.as_slice()
+    );
     assert!(rt; tapes.entry(last, 2).is_none());
     assert!(rt; tapes.marks(first).is_empty());
     assert_eq!(rt; tapes.entries(first), 0);
