@@ -8,6 +8,6 @@ mod attempts;
 #[cfg(test)]
 mod decks;
 #[cfg(test)]
-mod pulses;
-#[cfg(test)]
 mod forms;
+#[cfg(test)]
+mod pulses;

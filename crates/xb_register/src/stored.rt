@@ -3,10 +3,25 @@ ghost use Rattle.std.specs.Prelude.{◌≡◌, ◌<◌, ◌≤◌, [], ◌++◌,
 ghost use Rattle.std.specs.Option.{option_to_list};
 ghost use Rattle.xb_model.specs.Plans.{plan_len};
 ghost use Rattle.xb_model.specs.TwoOfFive.{digit_of_pattern};
+ghost use Rattle.xb_register.specs.Stored.{digits_of};
 
 use arrayvec::ArrayVec;
 use std::marker::Model;
 use xb_model::{NUMBER_DIGITS, NumberDigits, Plan, Relays, plan_len};
+
+// The digits that patterns stand for.
+fn digits_of(patterns: &[Relays]) -> NumberDigits
+    requires { length patterns.now ≤ NUMBER_DIGITS }
+    ensures { result ≡ digits_of patterns.now }
+{
+    let mut digits = NumberDigits::new();
+    for pattern in patterns {
+        if let Some(digit) = pattern.digit() {
+            digits.push(digit);
+        }
+    }
+    digits
+}
 
 /// The digits of an attempt, each kept as the pattern of its five elements.
 #[derive(Drop)]
@@ -71,13 +86,6 @@ impl StoredDigits {
     pub(crate) fn read_back(&self) -> NumberDigits
         ensures { result ≡ self.now }
     {
-        let patterns: &[Relays] = &self.patterns;
-        let mut digits = NumberDigits::new();
-        for pattern in patterns {
-            if let Some(digit) = pattern.digit() {
-                digits.push(digit);
-            }
-        }
-        digits
+        digits_of(&self.patterns)
     }
 }
