@@ -1,5 +1,4 @@
-//! What the definitions give, each a contract of its own: the tables of the profile and worked
-//! examples.
+//! What the definitions give: each law is the contract of a function that does nothing.
 ghost use Rattle.xb_model.specs.CutRows.{RowsMayBeCut};
 ghost use Rattle.xb_model.specs.WorkedTables.{TwoOfFiveTable, TwoMakeADigit, MfTable, NumbersOfSeven};
 ghost use Rattle.xb_model.specs.WorkedSignals.{SignalsOfRecords};

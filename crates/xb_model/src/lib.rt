@@ -1,6 +1,6 @@
 //! The plain types of the office, the calls that make and read them, and, in `specs/`, the
 //! definitions of the dialling chain: what a line's pulses spell, where a number is routed, and
-//! what is keyed.
+//! what is keyed. The module `laws` computes them on worked examples.
 #![tactic(auto)]
 
 mod dialled;
