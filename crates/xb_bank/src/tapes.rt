@@ -55,7 +55,8 @@ impl Tapes {
 
     /// The marks of a line.
     pub fn marks(&self, line: LineNo) -> &[Mark]
-        ensures { result.now ≡ marks_at self.now line }
+        ensures value { result.now ≡ marks_at self.now line }
+        ensures lines { length self.now ≡ LINES }
     {
         &self.lines[usize::from(line.get())]
     }
