@@ -2,12 +2,14 @@
 #![tactic(auto)]
 
 mod deck;
+mod printing;
 mod record;
 mod rows;
 mod scan;
 mod streams;
 
 pub use deck::{Deck, MOST_DECK_BYTES};
+pub use printing::page;
 pub use rows::read_rows;
 pub use scan::{MOST_RECORDS, Scan};
 
