@@ -4,7 +4,7 @@ use std::alloc::{AllocError, Global};
 use std::process::Abort;
 use std::test::Fail;
 use xb_model::{Dialled, Digit, LineNo, On, Plan, Reason, Relays, Signal};
-use xb_ring::image_of;
+use xb_ring::{LineStage, OUTPUT_ROOM, image_of};
 
 const SEIZE: Signal = Signal::Seize;
 
@@ -103,7 +103,17 @@ fn attempts_end_in_outcomes(rt: HostRuntime) -> Result<(), Fail> {
     let mutilated_then_timed = [SEIZE, pulses(2), Signal::Digit(5, true), TIME_OUT, CLOSE];
     let wanted = [Outcome::Refused(Reason::Mutilated, 1)];
     assert_outcomes(&rt, alloc, &mutilated_then_timed, &wanted)?;
-    assert_outcomes(&rt, alloc, &[CLOSE], &[])?;
+    Ok(())
+}
+
+#[test]
+fn a_lone_close_gives_nothing(rt: HostRuntime) -> Result<(), Fail> {
+    let register = Register::new(Plan::Seven);
+    let mut state = register.fresh();
+    let mut out = Vec::with_capacity(rt.alloc(), OUTPUT_ROOM)?;
+    let line = LineNo::new(5).ok_or("no line 5")?;
+    register.step(&mut state, On { line, what: CLOSE }, &mut out);
+    assert!(rt; out.is_empty());
     Ok(())
 }
 
