@@ -1,5 +1,7 @@
 pub mod Deck
+pub mod Faults
 pub mod RowAnswers
 pub mod RowTexts
+pub mod Says
 pub mod Scanning
 pub mod Streams

@@ -2,6 +2,8 @@
 #![tactic(auto)]
 
 mod deck;
+mod fault;
+mod office;
 mod printing;
 mod record;
 mod rows;
@@ -9,6 +11,8 @@ mod scan;
 mod streams;
 
 pub use deck::{Deck, MOST_DECK_BYTES};
+pub use fault::OfficeFault;
+pub use office::operate;
 pub use printing::page;
 pub use rows::read_rows;
 pub use scan::{MOST_RECORDS, Scan};

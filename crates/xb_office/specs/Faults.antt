@@ -1,0 +1,22 @@
+-- What an office answers where one of its parts is refused (own format).
+use Rattle.std.specs.Prelude.{◌≡◌, ◌≢◌, ◌⊎◌}
+use Rattle.xb_model.specs.declared.fault.RowFault.{RowFault}
+use Rattle.xb_model.specs.declared.fault.RowFault.TheVariants as row_fault
+use Rattle.xb_routes.specs.declared.fault.RouteFault.{RouteFault}
+use Rattle.xb_routes.specs.declared.fault.RouteFault.TheVariants as route_fault
+use Rattle.xb_office.specs.declared.fault.OfficeFault.{OfficeFault}
+use Rattle.xb_office.specs.declared.fault.OfficeFault.TheVariants as fault
+use Rattle.xb_office.specs.declared.streams.ReadFault.{ReadFault}
+use Rattle.xb_office.specs.declared.streams.ReadFault.TheVariants as read_fault
+
+abbrev pub of_read : ReadFault → OfficeFault
+of_read read_fault.Failed = fault.Read
+of_read read_fault.TooLong = fault.DeckTooLong
+of_read read_fault.NoMemory = fault.NoMemory
+
+-- want of memory is one fault, in whatever part
+abbrev pub IsOfRoutes : RouteFault → OfficeFault → Type 0
+IsOfRoutes f e = ((f ≡ route_fault.NoMemory) × (e ≡ fault.NoMemory)) ⊎ ((f ≢ route_fault.NoMemory) × (e ≡ fault.Routes f))
+
+abbrev pub IsOfRows : RowFault → OfficeFault → Type 0
+IsOfRows f e = ((f ≡ row_fault.NoMemory) × (e ≡ fault.NoMemory)) ⊎ ((f ≢ row_fault.NoMemory) × (e ≡ fault.Rows f))

@@ -1,0 +1,97 @@
+// Why an office gives no page.
+ghost use Rattle.std.specs.Prelude.{◌≡◌};
+
+use crate::streams::{ReadFault, WriteFault};
+use std::alloc::AllocError;
+use thiserror::Error;
+use xb_model::RowFault;
+use xb_routes::RouteFault;
+
+/// Why a deck gives no page.
+///
+/// Of the faults of a deck, the first in the order `DeckTooLong`, `NoCut`, `Routes`, `Rows` is
+/// answered. Every want of memory is `NoMemory`, also one of a `RouteFault` or a `RowFault`.
+#[derive(Clone, Copy, Debug, PartialEq, Eq, Error)]
+pub enum OfficeFault {
+    /// A read of the deck failed, an interrupted one too.
+    #[error("the deck could not be read")]
+    Read,
+    /// The deck has more than 16,777,216 bytes.
+    #[error("the deck is longer than 16777216 bytes")]
+    DeckTooLong,
+    /// No line of the deck is exactly `---`.
+    #[error("the deck has no line ---")]
+    NoCut,
+    /// The route table is refused.
+    #[error("route table: {0}")]
+    Routes(RouteFault),
+    /// The loop rows are refused.
+    #[error("loop rows: {0}")]
+    Rows(RowFault),
+    /// A growth was refused.
+    #[error("out of memory")]
+    NoMemory,
+    /// A write or the flush failed, or a write took no byte. A front of the page was written.
+    #[error("the page could not be written")]
+    Write,
+}
+
+impl From<ReadFault> for OfficeFault {
+    ghost use Rattle.xb_office.specs.Faults.{of_read};
+
+    ghost from_gives = { λ fault e. e ≡ of_read fault };
+
+    fn from(fault: ReadFault) -> OfficeFault {
+        match fault {
+            ReadFault::Failed => OfficeFault::Read,
+            ReadFault::TooLong => OfficeFault::DeckTooLong,
+            ReadFault::NoMemory => OfficeFault::NoMemory,
+        }
+    }
+}
+
+impl From<RouteFault> for OfficeFault {
+    ghost use Rattle.xb_office.specs.Faults.{IsOfRoutes};
+
+    ghost from_gives = { IsOfRoutes };
+
+    fn from(fault: RouteFault) -> OfficeFault {
+        match fault {
+            RouteFault::NoMemory => OfficeFault::NoMemory,
+            fault => OfficeFault::Routes(fault),
+        }
+    }
+}
+
+impl From<RowFault> for OfficeFault {
+    ghost use Rattle.xb_office.specs.Faults.{IsOfRows};
+
+    ghost from_gives = { IsOfRows };
+
+    fn from(fault: RowFault) -> OfficeFault {
+        match fault {
+            RowFault::NoMemory => OfficeFault::NoMemory,
+            fault => OfficeFault::Rows(fault),
+        }
+    }
+}
+
+impl From<AllocError> for OfficeFault {
+    ghost use Rattle.xb_office.specs.declared.fault.OfficeFault.TheVariants.{NoMemory};
+
+    ghost from_gives = { λ _ e. e ≡ NoMemory };
+
+    fn from(_fault: AllocError) -> OfficeFault {
+        OfficeFault::NoMemory
+    }
+}
+
+impl From<WriteFault> for OfficeFault {
+    ghost use Rattle.xb_office.specs.declared.fault.OfficeFault.TheVariants.{Write};
+
+    ghost from_gives = { λ _ e. e ≡ Write };
+
+    fn from(_fault: WriteFault) -> OfficeFault {
+        OfficeFault::Write
+    }
+}

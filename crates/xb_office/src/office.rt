@@ -1,0 +1,67 @@
+// From a deck on a reader to its page on a writer.
+ghost use Rattle.std.specs.Prelude.{◌≡◌, ◌≢◌, ◌≤◌, ◌+◌, IfErr, IfOk, IfSome, OnOk, length};
+ghost use Rattle.std.specs.Io.KnownBytes.{Keeps};
+ghost use Rattle.xb_office.specs.Says.{
+  GetsFront,
+  GetsPage,
+  IsFaultOfDeck,
+  IsOfficeFault,
+  page_of,
+  says,
+};
+ghost use Rattle.xb_office.specs.Streams.{TakesUpTo};
+
+use crate::deck::{Deck, MOST_DECK_BYTES};
+use crate::fault::OfficeFault;
+use crate::printing::page;
+use crate::rows::rows_of;
+use crate::streams::{read_whole, write_whole};
+use std::alloc::{AllocError, Global};
+use std::io::{Read, Write};
+use xb_bank::key_serial;
+use xb_model::Row;
+use xb_routes::RouteTable;
+
+// The page of the tapes that rows make.
+#[tactic(auto, unfolding(crate::specs::Says::page_of))]
+fn page_of_rows(alloc: Global, rows: &[Row], table: &RouteTable) -> Result<Vec<u8>, AllocError>
+    ensures { IfOk result (λ page. page.items ≡ page_of table.now rows.now) }
+{
+    let tapes = key_serial(alloc, rows, table)?;
+    page(alloc, &tapes)
+}
+
+// The page of a deck that was read.
+fn page_of_deck(alloc: Global, bytes: &[u8]) -> Result<Vec<u8>, OfficeFault>
+    requires { length bytes.now ≤ MOST_DECK_BYTES }
+    ensures page { IfOk result (λ page. says bytes.now ≡ Ok page.items) }
+    ensures fault { IfErr result (λ f. IsFaultOfDeck (says bytes.now) f) }
+{
+    let Some(deck) = Deck::cut(bytes) else {
+        return Err(OfficeFault::NoCut);
+    };
+    let table = RouteTable::read(alloc, deck.table)?;
+    let rows = rows_of(alloc, deck.rows)?;
+    Ok(page_of_rows(alloc, &rows, &table)?)
+}
+
+/// Reads a deck, and writes its page: the tapes of the lines, as the deck's rows and its table make
+/// them. The table is read before the rows, and nothing is written before both are.
+///
+/// On an `Err` nothing was written, but on `Write`, where a front of the page was.
+pub fn operate<R: Read, W: Write>(
+    alloc: Global,
+    deck: &mut R,
+    out: &mut W,
+) -> Result<(), OfficeFault>
+    ensures page { IfSome (R.remaining deck.old) (λ bytes. OnOk result (GetsPage (says bytes) (W.contents out.old) (W.contents out.new))) }
+    ensures fault { IfSome (R.remaining deck.old) (λ bytes. IfErr result (λ f. IsOfficeFault (says bytes) f)) }
+    ensures untouched { IfErr result (λ f. f ≢ OfficeFault.Write → Keeps (W.contents out.old) (W.contents out.new)) }
+    ensures front { IfSome (R.remaining deck.old) (λ bytes. IfErr result (λ f. f ≡ OfficeFault.Write → GetsFront (says bytes) (W.contents out.old) (W.contents out.new))) }
+    ensures taken { TakesUpTo (MOST_DECK_BYTES + 1) (R.remaining deck.old) (R.remaining deck.new) }
+{
+    let bytes = read_whole(alloc, deck, MOST_DECK_BYTES)?;
+    let page = page_of_deck(alloc, &bytes)?;
+    write_whole(out, &page)?;
+    Ok(())
+}
