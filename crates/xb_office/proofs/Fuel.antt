@@ -16,15 +16,18 @@ abbrev ShrinksIf : List ℕ → Option Read → Type 0
 ShrinksIf xs None = Unit {0}
 ShrinksIf xs (Some q) = Shrinks xs q
 
+-- a byte more in front
 longer : (c : ℕ) (rest : List ℕ) (o : Option Read) → ShrinksIf rest o → ShrinksIf (c ∷ rest) o
 longer c rest None h = tt
 longer c rest (Some q) (inl h) = inl (omega arith)
 longer c rest (Some q) (inr h) = inr h
 
+-- at the end of the text
 shrinks_at-end : (fields : List (List ℕ)) (field : List ℕ) (b : Bool) → ShrinksIf [] (if b then Some (fields ++ (field ∷ []), st.StartRecord, []) else None)
 shrinks_at-end fields field true = inr (refl, refl)
 shrinks_at-end fields field false = tt
 
+-- each read shrinks what is left
 pub shrinks : (cfg : Config) (s : State) (fields : List (List ℕ)) (field xs : List ℕ) → ShrinksIf xs (next_record cfg s fields field xs)
 unfolding next_record
 shrinks cfg s fields field [] = shrinks_at-end fields field (ends_at_end s)
@@ -60,7 +63,7 @@ records-fuel cfg (suc n) (suc m) s xs a b =
 pub records-more : (cfg : Config) (s : State) (xs : List ℕ) (q : Read) → next_record cfg s [] [] xs ≡ Some q
     → records_from cfg (length xs + 1) s xs ≡ q.0 ∷ records_from cfg (length q.2 + 1) q.1 q.2
 unfolding records_from
-records-more cfg s xs q e = rw add-one (step_of (length xs) (by (rw e at (shrinks cfg s [] [] xs))))
+records-more cfg s xs q e = rw (add-one (length xs)) (step_of (length xs) (by (rw e at (shrinks cfg s [] [] xs))))
   where
     by : Shrinks xs q → records_from cfg (length xs) q.1 q.2 ≡ records_from cfg (length q.2 + 1) q.1 q.2
     by (inl h) = records-fuel cfg (length xs) (length q.2 + 1) q.1 q.2 h (omega arith)
@@ -73,4 +76,4 @@ records-more cfg s xs q e = rw add-one (step_of (length xs) (by (rw e at (shrink
 -- no record is left
 pub records-none : (cfg : Config) (s : State) (xs : List ℕ) → next_record cfg s [] [] xs ≡ None → records_from cfg (length xs + 1) s xs ≡ []
 unfolding records_from
-records-none cfg s xs e = rw (add-one, e) refl
+records-none cfg s xs e = rw (add-one (length xs), e) refl

@@ -1,4 +1,4 @@
--- One record's part of what all say.
+-- What one record adds to what the records behind it say.
 use Rattle.std.proofs.Common.{◌≡◌, ◌≤◌, ◌<◌, ◌+◌, ℕ, List, [], ◌∷◌, Some, None, Result, true, false, refl, arith}
 use Rattle.std.specs.Prelude.{nat_lt}
 use Rattle.std.proofs.lemmas.Bool.Decides.{nat_tests}
@@ -13,10 +13,12 @@ use Rattle.xb_office.specs.Scanning.{bytes_left, records_left, records_of_bytes}
 use Rattle.xb_office.specs.declared.scan.TheConstants.{MOST_RECORDS}
 use Rattle.xb_office.specs.RowTexts.{row_of_fields, row_then, rows_from, stopped, stopped_by, three_of}
 
+-- no record
 pub rows-nil : (n : ℕ) → rows_from n [] ≡ stopped None
 unfolding rows_from
 rows-nil n = refl
 
+-- the test of the most records, both ways
 above : (n : ℕ) → MOST_RECORDS < n → nat_lt MOST_RECORDS n ≡ true
 above n h = grind (arith, nat_tests)
 

@@ -1,6 +1,6 @@
 // From a deck on a reader to its page on a writer.
 ghost use Rattle.std.specs.Prelude.{◌≡◌, ◌≢◌, ◌≤◌, ◌+◌, IfErr, IfOk, IfSome, OnOk, length};
-ghost use Rattle.std.specs.Io.KnownBytes.{Keeps};
+ghost use Rattle.std.specs.Io.KnownBytes.{IsAtEnd, Keeps};
 ghost use Rattle.xb_office.specs.Says.{
   GetsFront,
   GetsPage,
@@ -58,6 +58,7 @@ pub fn operate<R: Read, W: Write>(
     ensures fault { IfSome (R.remaining deck.old) (λ bytes. IfErr result (λ f. IsOfficeFault (says bytes) f)) }
     ensures untouched { IfErr result (λ f. f ≢ OfficeFault.Write → Keeps (W.contents out.old) (W.contents out.new)) }
     ensures front { IfSome (R.remaining deck.old) (λ bytes. IfErr result (λ f. f ≡ OfficeFault.Write → GetsFront (says bytes) (W.contents out.old) (W.contents out.new))) }
+    ensures end { OnOk result (IsAtEnd (R.remaining deck.new)) }
     ensures taken { TakesUpTo (MOST_DECK_BYTES + 1) (R.remaining deck.old) (R.remaining deck.new) }
 {
     let bytes = read_whole(alloc, deck, MOST_DECK_BYTES)?;

@@ -1,5 +1,6 @@
 // The rows of a whole text, and of a reader.
-ghost use Rattle.std.specs.Prelude.{◌≡◌, IfErr, IfOk, IfSome};
+ghost use Rattle.std.specs.Prelude.{◌≡◌, IfErr, IfOk, IfSome, OnOk};
+ghost use Rattle.std.specs.Io.KnownBytes.{IsAtEnd};
 ghost use Rattle.xb_office.specs.RowAnswers.{IsFaultOf, AreRowsOf, IsReadFaultOf};
 
 use crate::scan::Scan;
@@ -30,6 +31,7 @@ pub fn rows_of(alloc: Global, text: &[u8]) -> Result<Vec<Row>, RowFault>
 pub fn read_rows<R: Read>(alloc: Global, reader: &mut R) -> Result<Vec<Row>, RowFault>
     ensures rows { IfOk result (λ rows. IfSome (R.remaining reader.old) (λ text. AreRowsOf text rows.items)) }
     ensures fault { IfErr result (λ f. IfSome (R.remaining reader.old) (λ text. IsReadFaultOf text f)) }
+    ensures end { OnOk result (IsAtEnd (R.remaining reader.new)) }
 {
     match read_whole(alloc, reader, usize::MAX) {
         Ok(text) => rows_of(alloc, text.as_slice()),

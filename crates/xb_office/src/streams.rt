@@ -1,6 +1,6 @@
 // Reading to an end, and writing without loss.
 ghost use Rattle.std.specs.Prelude.{◌≡◌, ◌≤◌, ◌<◌, ◌+◌, IfSome, IfOk, IfErr, OnOk, OnErr, length};
-ghost use Rattle.std.specs.Io.KnownBytes.{Appends};
+ghost use Rattle.std.specs.Io.KnownBytes.{Appends, IsAtEnd};
 ghost use Rattle.xb_office.specs.Streams.{AppendsFront, TakesUpTo};
 
 use std::alloc::Global;
@@ -28,6 +28,7 @@ pub fn read_whole<R: Read>(
     limit: usize,
 ) -> Result<Vec<u8>, ReadFault>
     ensures whole { IfOk result (λ v. IfSome (R.remaining reader.old) (λ bytes. v.items ≡ bytes)) }
+    ensures end { OnOk result (IsAtEnd (R.remaining reader.new)) }
     ensures taken { TakesUpTo (limit + 1) (R.remaining reader.old) (R.remaining reader.new) }
     ensures within { IfOk result (λ v. length v.items ≤ limit) }
     ensures too_long { IfErr result (λ e. e ≡ ReadFault.TooLong → IfSome (R.remaining reader.old) (λ bytes. limit < length bytes)) }
