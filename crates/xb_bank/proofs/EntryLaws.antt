@@ -1,5 +1,5 @@
 -- How many entries marks have, and where the first of them ends.
-use Rattle.std.proofs.Common.{◌≡◌, ℕ, suc, ◌≤◌, Bool, true, false, cond, List, [], ◌∷◌, length, take, drop, Option, Some, None, refl, ap, ◌∙◌, arith}
+use Rattle.std.proofs.Common.{◌≡◌, ℕ, suc, Bool, true, false, cond, List, [], ◌∷◌, length, take, drop, Option, Some, None, refl, ap, ◌∙◌}
 use Rattle.std.specs.Prelude.{option_map}
 use Rattle.std.specs.List.{filter}
 use Rattle.xb_model.specs.declared.mark.Mark.{Mark}
@@ -7,54 +7,42 @@ use Rattle.xb_model.specs.Keyings.{is_ending}
 use Rattle.xb_model.specs.Tapes.{into_first_entry, entries_of}
 use Rattle.xb_bank.specs.Entries.{first_end}
 
--- as many entries as ending marks
-length-onto : (m : Mark) (es : List (List Mark)) → length (into_first_entry m es) ≡ length es
-length-onto m [] = refl
-length-onto m (e ∷ es) = refl
+length-into_first : (mark : Mark) (entries : List (List Mark)) → length (into_first_entry mark entries) ≡ length entries
+length-into_first mark [] = refl
+length-into_first mark (entry ∷ entries) = refl
 
-pub length_entries : (ms : List Mark) → length (entries_of ms) ≡ length (filter is_ending ms)
-length_entries [] = refl
-length_entries (m ∷ ms) = at (is_ending m) (length_entries ms)
+-- there are as many entries as ending marks
+pub length-entries_of : (marks : List Mark) → length (entries_of marks) ≡ length (filter is_ending marks)
+length-entries_of [] = refl
+length-entries_of (mark ∷ marks) = at (is_ending mark) (length-entries_of marks)
   where
-    at : (b : Bool) → length (entries_of ms) ≡ length (filter is_ending ms) → length (cond b ((m ∷ []) ∷ entries_of ms) (into_first_entry m (entries_of ms))) ≡ length (cond b (m ∷ filter is_ending ms) (filter is_ending ms))
+    at : (ends : Bool) → length (entries_of marks) ≡ length (filter is_ending marks)
+        → length (cond ends ((mark ∷ []) ∷ entries_of marks) (into_first_entry mark (entries_of marks))) ≡ length (cond ends (mark ∷ filter is_ending marks) (filter is_ending marks))
     at true ih = ap suc ih
-    at false ih = length-onto m (entries_of ms) ∙ ih
+    at false ih = length-into_first mark (entries_of marks) ∙ ih
 
--- the first entry, and the entries behind it
-abbrev first_cut : Option ℕ → List Mark → List (List Mark)
-first_cut None ms = []
-first_cut (Some n) ms = take n ms ∷ entries_of (drop n ms)
+-- the marks up to where the first entry ends, and the entries behind
+abbrev cut_at : Option ℕ → List Mark → List (List Mark)
+cut_at None marks = []
+cut_at (Some n) marks = take n marks ∷ entries_of (drop n marks)
 
-onto_cut : (m : Mark) (o : Option ℕ) (ms : List Mark) → into_first_entry m (first_cut o ms) ≡ first_cut (option_map suc o) (m ∷ ms)
-onto_cut m None ms = refl
-onto_cut m (Some n) ms = refl
+cut_at-suc : (mark : Mark) (end : Option ℕ) (marks : List Mark) → into_first_entry mark (cut_at end marks) ≡ cut_at (option_map suc end) (mark ∷ marks)
+cut_at-suc mark None marks = refl
+cut_at-suc mark (Some n) marks = refl
 
-cut_first : (ms : List Mark) → entries_of ms ≡ first_cut (first_end ms) ms
-cut_first [] = refl
-cut_first (m ∷ ms) = at (is_ending m) (cut_first ms)
+entries_of-cut : (marks : List Mark) → entries_of marks ≡ cut_at (first_end marks) marks
+entries_of-cut [] = refl
+entries_of-cut (mark ∷ marks) = at (is_ending mark) (entries_of-cut marks)
   where
-    at : (b : Bool) → entries_of ms ≡ first_cut (first_end ms) ms → cond b ((m ∷ []) ∷ entries_of ms) (into_first_entry m (entries_of ms)) ≡ first_cut (cond b (Some 1) (option_map suc (first_end ms))) (m ∷ ms)
+    at : (ends : Bool) → entries_of marks ≡ cut_at (first_end marks) marks
+        → cond ends ((mark ∷ []) ∷ entries_of marks) (into_first_entry mark (entries_of marks)) ≡ cut_at (cond ends (Some 1) (option_map suc (first_end marks))) (mark ∷ marks)
     at true ih = refl
-    at false ih = ap (into_first_entry m) ih ∙ onto_cut m (first_end ms) ms
+    at false ih = ap (into_first_entry mark) ih ∙ cut_at-suc mark (first_end marks) marks
 
-pub entries_none : (ms : List Mark) → first_end ms ≡ None → entries_of ms ≡ []
-entries_none ms e = cut_first ms ∙ ap (λ o. first_cut o ms) e
+-- marks in which no entry ends have none
+pub entries_of-none : (marks : List Mark) → first_end marks ≡ None → entries_of marks ≡ []
+entries_of-none marks e = entries_of-cut marks ∙ ap (λ end. cut_at end marks) e
 
-pub entries_first : (ms : List Mark) (n : ℕ) → first_end ms ≡ Some n → entries_of ms ≡ take n ms ∷ entries_of (drop n ms)
-entries_first ms n e = cut_first ms ∙ ap (λ o. first_cut o ms) e
-
-abbrev Within : Option ℕ → List Mark → Type 0
-Within None ms = Unit {0}
-Within (Some n) ms = n ≤ length ms
-
-within_more : (m : Mark) (o : Option ℕ) (ms : List Mark) → Within o ms → Within (option_map suc o) (m ∷ ms)
-within_more m None ms w = tt
-within_more m (Some n) ms w = omega (arith, w)
-
-pub first_within : (ms : List Mark) → Within (first_end ms) ms
-first_within [] = tt
-first_within (m ∷ ms) = at (is_ending m) (first_within ms)
-  where
-    at : (b : Bool) → Within (first_end ms) ms → Within (cond b (Some 1) (option_map suc (first_end ms))) (m ∷ ms)
-    at true w = omega arith
-    at false w = within_more m (first_end ms) ms w
+-- the first entry ends at its ending mark, and the others are those of the marks behind it
+pub entries_of-first : (marks : List Mark) (n : ℕ) → first_end marks ≡ Some n → entries_of marks ≡ take n marks ∷ entries_of (drop n marks)
+entries_of-first marks n e = entries_of-cut marks ∙ ap (λ end. cut_at end marks) e

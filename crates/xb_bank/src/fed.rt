@@ -40,9 +40,10 @@ fn take_row(row: Row, uses: &mut Vec<LineUse>, fed: &mut Vec<Row>) -> Result<(),
     let before = uses[line];
     uses[line] = next_use(before, row.contact());
     match before {
-        LineUse::Closed => Ok(()),
-        LineUse::Silent | LineUse::Open => Ok(fed.push(row)?),
+        LineUse::Closed => {}
+        LineUse::Silent | LineUse::Open => fed.push(row)?,
     }
+    Ok(())
 }
 
 // Feeds the close of a line, if the line is open.

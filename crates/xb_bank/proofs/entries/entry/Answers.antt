@@ -4,7 +4,7 @@ use Rattle.std.proofs.lemmas.List.{take_all, drop-drop}
 use Rattle.xb_model.specs.declared.mark.Mark.{Mark}
 use Rattle.xb_model.specs.Tapes.{entries_of}
 use Rattle.xb_bank.specs.Entries.{first_end}
-use Rattle.xb_bank.proofs.EntryLaws.{entries_none, entries_first}
+use Rattle.xb_bank.proofs.EntryLaws.{entries_of-none, entries_of-first}
 use Rattle.xb_bank.proofs.entries.entry.Goals as goal
 
 -- the marks from a place on, as a slice has them
@@ -15,12 +15,12 @@ from_is : (marks : List Mark) (start : ℕ) → from marks start ≡ drop start 
 from_is marks start = take_all (length marks - start) (drop start marks) (omega (arith, length-drop start marks))
 
 none_left : (marks : List Mark) (start : ℕ) → None ≡ first_end (from marks start) → entries_of (drop start marks) ≡ []
-none_left marks start e = ap entries_of (sym (from_is marks start)) ∙ entries_none (from marks start) (sym e)
+none_left marks start e = ap entries_of (sym (from_is marks start)) ∙ entries_of-none (from marks start) (sym e)
 
 some_left : (marks : List Mark) (start len : ℕ) → Some len ≡ first_end (from marks start) → entries_of (drop start marks) ≡ take len (from marks start) ∷ entries_of (drop (start + len) marks)
 some_left marks start len e =
     ap entries_of (sym (from_is marks start))
-    ∙ entries_first (from marks start) len (sym e)
+    ∙ entries_of-first (from marks start) len (sym e)
     ∙ ap (λ xs. take len (from marks start) ∷ entries_of xs) (ap (drop len) (from_is marks start) ∙ drop-drop len start marks)
 
 pub returns-in-None : goal.returns-in-None
