@@ -5,3 +5,4 @@ pub mod RowTexts
 pub mod Says
 pub mod Scanning
 pub mod Streams
+pub mod WorkedDecks

@@ -3,6 +3,7 @@
 
 mod deck;
 mod fault;
+pub mod laws;
 mod office;
 mod printing;
 mod record;
