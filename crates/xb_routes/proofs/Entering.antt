@@ -2,6 +2,7 @@
 use Rattle.std.proofs.Common.{◌≡◌, ◌≢◌, ℕ, ◌+◌, ◌*◌, ◌<◌, eqb, List, [], ◌∷◌, ◌++◌, length, Some, None, set, get_or, get_or-set_same, get_or-set_other, sym, ap, ◌∙◌, ⊎_elim, eqb-true, arith}
 use Rattle.std.proofs.lemmas.Bool.{cases_Bool, eqb-false}
 use Rattle.xb_model.specs.Routing.{CodedRoute}
+use Rattle.xb_routes.specs.declared.index.TheConstants.{OFFICES}
 use Rattle.xb_routes.specs.declared.index.Index.{Index}
 use Rattle.xb_routes.specs.Places.{IsIndex, place_of}
 use Rattle.xb_routes.proofs.Places.{has-other, office-digits, place-behind, place-other}
@@ -19,7 +20,7 @@ module _ (index new : Index) (routes : List CodedRoute) (route : CodedRoute) (is
 
   -- an office code's
   module _ (x y z : ℕ) (hx : x < 10) (hy : y < 10) (hz : z < 10) (none : place_of (x ∷ y ∷ z ∷ []) routes ≡ None) (code : route.code ≡ x ∷ y ∷ z ∷ [])
-      (sized : length index.offices.items ≡ 1000)
+      (sized : length index.offices.items ≡ OFFICES)
       (offices : new.offices.items ≡ set index.offices.items (100 * x + 10 * y + z) (Some (length routes))) where
     office-at : (a b c : ℕ) → a < 10 → b < 10 → c < 10 → get_or new.offices.items (100 * a + 10 * b + c) None ≡ place_of (a ∷ b ∷ c ∷ []) (routes ++ route ∷ [])
     office-at a b c ha hb hc =

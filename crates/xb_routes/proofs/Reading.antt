@@ -14,6 +14,7 @@ use Rattle.toml.proofs.Views.{items_view-drop}
 use Rattle.xb_model.specs.declared.plan.Plan.{Plan}
 use Rattle.xb_model.specs.declared.plan.Plan.TheVariants.{Seven}
 use Rattle.xb_model.specs.Routing.{CodedRoute}
+use Rattle.xb_routes.specs.declared.table.TheConstants.{MOST_ROUTES}
 use Rattle.xb_routes.specs.declared.fault.RouteFault.{RouteFault}
 use Rattle.xb_routes.specs.declared.fault.RouteFault.TheVariants as fault
 use Rattle.xb_routes.specs.Keys.{keys_of}
@@ -59,17 +60,17 @@ module _ (plan : Plan) (tree : Members) where
 
   module _ (value : Data) (values : List Value) (e : Some value ≡ get_member (codes "route") tree) (a : Some (items_view values) ≡ as_array value) where
     -- an array of too many
-    pub key-many : 1000 < length values → routes_of_key plan (get_member (codes "route") tree) ≡ Err fault.TooMany
+    pub key-many : MOST_ROUTES < length values → routes_of_key plan (get_member (codes "route") tree) ≡ Err fault.TooMany
     key-many h = rw (← e, ← a, count-view values, above h) refl
       where
-        above : 1000 < length values → nat_le (length values) 1000 ≡ false
+        above : MOST_ROUTES < length values → nat_le (length values) MOST_ROUTES ≡ false
         above h = grind (arith, nat_tests)
 
     -- an array of few enough
-    pub key-few : length values ≤ 1000 → routes_of_key plan (get_member (codes "route") tree) ≡ routes_from plan 1 [] (items_view values)
+    pub key-few : length values ≤ MOST_ROUTES → routes_of_key plan (get_member (codes "route") tree) ≡ routes_from plan 1 [] (items_view values)
     key-few h = rw (← e, ← a, count-view values, within h) refl
       where
-        within : length values ≤ 1000 → nat_le (length values) 1000 ≡ true
+        within : length values ≤ MOST_ROUTES → nat_le (length values) MOST_ROUTES ≡ true
         within h = grind (arith, nat_tests)
 
 -- the tree of a text that is read

@@ -5,3 +5,4 @@ pub mod Text
 pub mod Coded
 pub mod Places
 pub mod Translating
+pub mod Worked

@@ -45,8 +45,8 @@ fn deleted_of(length: u8, number: Option<i64>) -> Option<u8>
     match number {
         None => Some(0),
         Some(number) => match u8::try_from(number) {
-            Ok(number) => { if number <= length { Some(number) } else { None } }
-            Err(_) => None,
+            Ok(number) if number <= length => Some(number),
+            _ => None,
         },
     }
 }

@@ -1,0 +1,33 @@
+// Route tables: what they answer, what they refuse, and how large they may be.
+mod faults;
+mod large;
+mod orders;
+
+use std::alloc::{AllocError, Global};
+use std::process::Abort;
+use xb_model::Digit;
+
+// A route of each form of a code.
+const THREE_ROUTES: &str = r#"
+[[route]]
+code = "234"
+trunk = 17
+delete = 3
+prefix = "56"
+[[route]]
+code = "411"
+trunk = 3
+[[route]]
+code = "0"
+trunk = 1
+"#;
+
+// The digits that a text writes.
+fn digits(rt: &impl Abort, alloc: Global, text: &str) -> Result<Vec<Digit>, AllocError> {
+    let mut digits = Vec::new(alloc);
+    for character in text.bytes() {
+        let value = character.checked_sub(b'0').expect(rt, "a digit");
+        digits.push(Digit::new(value).expect(rt, "a digit"))?;
+    }
+    Ok(digits)
+}

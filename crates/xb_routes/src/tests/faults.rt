@@ -1,0 +1,209 @@
+// Tables that are refused, and the texts of the faults.
+use super::{THREE_ROUTES, digits};
+use crate::{RouteFault, RouteTable};
+use std::alloc::{AllocError, Global};
+use std::process::Abort;
+use std::test::Fail;
+
+// Checks the fault with which a text is refused.
+fn check_fault(rt: &impl Abort, alloc: Global, text: &[u8], fault: RouteFault) {
+    match RouteTable::read(alloc, text) {
+        Ok(_) => panic!(rt; "accepted in place of {fault:?}"),
+        Err(found) => assert_eq!(rt; found, fault),
+    }
+}
+
+// A table of one route with these lines, after its code.
+fn one_route(alloc: Global, code: &str, lines: &str) -> Result<String, AllocError> {
+    let mut text = String::new(alloc);
+    for part in ["[[route]]\ncode = \"", code, "\"\n", lines, "\n"] {
+        text.push_str(part)?;
+    }
+    Ok(text)
+}
+
+#[test]
+fn texts_of_faults(rt: HostRuntime) -> Result<(), Fail> {
+    for (fault, text) in [
+        (RouteFault::NotToml, "not TOML"),
+        (RouteFault::TooMany, "more than 1000 routes"),
+        (RouteFault::Shape(0), "route 0 has a wrong shape"),
+        (RouteFault::Code(1), "route 1 has a wrong code"),
+        (RouteFault::Trunk(20), "route 20 has a wrong trunk"),
+        (RouteFault::Delete(300), "route 300 has a wrong delete"),
+        (RouteFault::Prefix(1_000), "route 1000 has a wrong prefix"),
+        (RouteFault::NothingToKey(1), "route 1 keys no digit"),
+        (RouteFault::Twice(2), "route 2 repeats a code"),
+        (RouteFault::NoMemory, "out of memory"),
+    ] {
+        let mut written = String::new(rt.alloc());
+        write!(&mut written, "{fault}")?;
+        assert_eq!(rt; written.as_str(), text);
+    }
+    Ok(())
+}
+
+#[test]
+fn texts_that_are_not_toml(rt: HostRuntime) {
+    let texts: [&[u8]; 6] = [
+        b"code = ",
+        b"\xff",
+        b"# \xc3\x28\n",
+        b"[[route]]\ncode = \"0\"\ncode = \"0\"\n",
+        b"[[route]]\ncode = \"0\"\ntrunk = 9223372036854775808\n",
+        b"route = 3\nroute = 3\n",
+    ];
+    for text in texts {
+        check_fault(&rt, rt.alloc(), text, RouteFault::NotToml);
+    }
+}
+
+#[test]
+fn faults_of_one_table(rt: HostRuntime) -> Result<(), Fail> {
+    for (text, fault) in [
+        ("route = 3", RouteFault::Shape(0)),
+        ("[route]\ncode = \"0\"\ntrunk = 1", RouteFault::Shape(0)),
+        ("route = [3]", RouteFault::Shape(1)),
+        (
+            "[[route]]\ncode = \"234\"\ntrunk = 1\n[[route]]\ncode = \"235\"",
+            RouteFault::Shape(2),
+        ),
+        ("[[route]]\ntrunk = 1", RouteFault::Shape(1)),
+        ("[[route]]\ncode = \"23\"\ntrunk = 10000", RouteFault::Code(1)),
+        (
+            "[[route]]\ncode = \"234\"\ntrunk = 10000\ndelete = 9",
+            RouteFault::Trunk(1),
+        ),
+        (
+            "[[route]]\ncode = \"0\"\ntrunk = 1\nprefix = \"123456789\"",
+            RouteFault::Prefix(1),
+        ),
+        (
+            "[[route]]\ncode = \"234\"\ntrunk = 17\ndelete = 7",
+            RouteFault::NothingToKey(1),
+        ),
+        (
+            "[[route]]\ncode = \"234\"\ntrunk = 17\ndelete = 8",
+            RouteFault::Delete(1),
+        ),
+    ] {
+        check_fault(&rt, rt.alloc(), text.as_bytes(), fault);
+    }
+    let mut fourth = String::from_str(rt.alloc(), THREE_ROUTES)?;
+    fourth.push_str("[[route]]\ncode = \"234\"\ntrunk = 5\n")?;
+    check_fault(&rt, rt.alloc(), fourth.as_bytes(), RouteFault::Twice(4));
+    Ok(())
+}
+
+#[test]
+fn other_kinds_of_values(rt: HostRuntime) -> Result<(), Fail> {
+    for value in ["true", "2.5", "234", "[\"234\"]", "1979-05-27"] {
+        let mut text = String::from_str(rt.alloc(), "[[route]]\ntrunk = 1\ncode = ")?;
+        text.push_str(value)?;
+        check_fault(&rt, rt.alloc(), text.as_bytes(), RouteFault::Shape(1));
+        let mut text = String::from_str(rt.alloc(), "[[route]]\ncode = \"0\"\ntrunk = 1\nprefix = ")?;
+        text.push_str(value)?;
+        check_fault(&rt, rt.alloc(), text.as_bytes(), RouteFault::Shape(1));
+    }
+    for value in ["false", "1.0", "\"1\"", "[1]", "{ number = 1 }"] {
+        let mut text = String::from_str(rt.alloc(), "[[route]]\ncode = \"0\"\ntrunk = ")?;
+        text.push_str(value)?;
+        check_fault(&rt, rt.alloc(), text.as_bytes(), RouteFault::Shape(1));
+        let mut text = String::from_str(rt.alloc(), "[[route]]\ncode = \"0\"\ntrunk = 1\ndelete = ")?;
+        text.push_str(value)?;
+        check_fault(&rt, rt.alloc(), text.as_bytes(), RouteFault::Shape(1));
+    }
+    Ok(())
+}
+
+#[test]
+fn the_first_fault_is_answered(rt: HostRuntime) -> Result<(), Fail> {
+    for (lines, code, fault) in [
+        ("trunk = true", "x", RouteFault::Shape(1)),
+        ("trunk = 10000", "x", RouteFault::Code(1)),
+        ("trunk = 10000\ndelete = 8", "234", RouteFault::Trunk(1)),
+        (
+            "trunk = 1\ndelete = 8\nprefix = \"x\"",
+            "234",
+            RouteFault::Delete(1),
+        ),
+        (
+            "trunk = 1\ndelete = 7\nprefix = \"x\"",
+            "234",
+            RouteFault::Prefix(1),
+        ),
+        (
+            "trunk = 1\n[[route]]\ncode = \"234\"\ntrunk = 1\ndelete = 7",
+            "234",
+            RouteFault::NothingToKey(2),
+        ),
+        (
+            "trunk = 1\n[[route]]\ncode = \"234\"\ntrunk = 1\n[[route]]",
+            "234",
+            RouteFault::Twice(2),
+        ),
+    ] {
+        let text = one_route(rt.alloc(), code, lines)?;
+        check_fault(&rt, rt.alloc(), text.as_bytes(), fault);
+    }
+    Ok(())
+}
+
+#[test]
+fn numbers_out_of_range(rt: HostRuntime) -> Result<(), Fail> {
+    for (lines, fault) in [
+        ("trunk = -1", RouteFault::Trunk(1)),
+        ("trunk = 10000", RouteFault::Trunk(1)),
+        ("trunk = 65536", RouteFault::Trunk(1)),
+        ("trunk = 9223372036854775807", RouteFault::Trunk(1)),
+        ("trunk = 0\ndelete = -1", RouteFault::Delete(1)),
+        ("trunk = 0\ndelete = 256", RouteFault::Delete(1)),
+        ("trunk = 0\ndelete = 9223372036854775807", RouteFault::Delete(1)),
+        ("trunk = 0\nprefix = \"12345678\\n\"", RouteFault::Prefix(1)),
+        ("trunk = 0\nprefix = \"5a\"", RouteFault::Prefix(1)),
+        ("trunk = 0\nprefix = \"-5\"", RouteFault::Prefix(1)),
+        ("trunk = 0\nprefix = \"\u{ff15}\"", RouteFault::Prefix(1)),
+    ] {
+        let text = one_route(rt.alloc(), "234", lines)?;
+        check_fault(&rt, rt.alloc(), text.as_bytes(), fault);
+    }
+    Ok(())
+}
+
+#[test]
+fn codes_of_plan_seven(rt: HostRuntime) -> Result<(), Fail> {
+    for (code, lines) in [
+        ("0", "trunk = 1"),
+        ("0", "trunk = 1\ndelete = 0\nprefix = \"\""),
+        ("0", "trunk = 1\ndelete = 0\nprefix = \"5\""),
+        ("0", "trunk = 1\ndelete = 1\nprefix = \"5\""),
+        ("234", "trunk = 9999"),
+        ("234", "trunk = 1\ndelete = 6"),
+        ("234", "trunk = 1\ndelete = 7\nprefix = \"12345678\""),
+        ("411", "trunk = 0"),
+        ("411", "trunk = 1\ndelete = 2"),
+        ("411", "trunk = 1\ndelete = 3\nprefix = \"5\""),
+    ] {
+        let text = one_route(rt.alloc(), code, lines)?;
+        let table = RouteTable::read(rt.alloc(), text.as_bytes())?;
+        let number = digits(&rt, rt.alloc(), code)?;
+        assert!(rt; table.look(&number).is_some(), "the route of {code}");
+    }
+    for (code, greatest, above) in [
+        ("0", "trunk = 1\ndelete = 1", "trunk = 1\ndelete = 2"),
+        ("234", "trunk = 1\ndelete = 7", "trunk = 1\ndelete = 8"),
+        ("411", "trunk = 1\ndelete = 3", "trunk = 1\ndelete = 4"),
+    ] {
+        let text = one_route(rt.alloc(), code, greatest)?;
+        check_fault(&rt, rt.alloc(), text.as_bytes(), RouteFault::NothingToKey(1));
+        let text = one_route(rt.alloc(), code, above)?;
+        check_fault(&rt, rt.alloc(), text.as_bytes(), RouteFault::Delete(1));
+    }
+    for code in [
+        "212", "201", "212555", "411555", "212155", "111", "1", "23", "2345", "", "23a",
+    ] {
+        let text = one_route(rt.alloc(), code, "trunk = 1")?;
+        check_fault(&rt, rt.alloc(), text.as_bytes(), RouteFault::Code(1));
+    }
+    Ok(())
+}

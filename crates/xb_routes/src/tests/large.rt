@@ -1,0 +1,122 @@
+// Tables of many routes, and texts as large as a deck may be.
+use super::digits;
+use crate::{MOST_ROUTES, RouteFault, RouteTable};
+use std::alloc::{AllocError, Global};
+use std::test::Fail;
+
+// The greatest length of a deck in bytes.
+const DECK: usize = 16_777_216;
+
+// Whether a number of at most three digits is a code of plan Seven: 0, one of 8 of the form N11, or
+// one of 640 of the form NNX.
+fn is_code(number: u16) -> bool {
+    let second = number / 10 % 10;
+    number == 0 || number >= 200 && (second > 1 || number % 100 == 11)
+}
+
+// A table of all codes in ascending order, and then as many more routes of code 0.
+fn many_routes(alloc: Global, more: usize) -> Result<String, AllocError> {
+    let mut text = String::new(alloc);
+    for number in 0..1_000u16 {
+        if is_code(number) {
+            write!(&mut text, "[[route]]\ncode = \"{number}\"\ntrunk = {number}\n")?;
+        }
+    }
+    for _route in 0..more {
+        text.push_str("[[route]]\ncode = \"0\"\ntrunk = 0\n")?;
+    }
+    Ok(text)
+}
+
+#[test]
+fn every_code_has_its_route(rt: HostRuntime) -> Result<(), Fail> {
+    let text = many_routes(rt.alloc(), 0)?;
+    let table = RouteTable::read(rt.alloc(), text.as_bytes())?;
+    for number in 0..1_000u16 {
+        let mut code = String::new(rt.alloc());
+        write!(&mut code, "{number}")?;
+        let digits = digits(&rt, rt.alloc(), code.as_str())?;
+        let trunk = table.look(&digits).map(|route| route.trunk.get());
+        let wanted = if is_code(number) { Some(number) } else { None };
+        assert_eq!(rt; trunk, wanted, "by {number}");
+    }
+    Ok(())
+}
+
+#[test]
+fn at_most_a_thousand_routes(rt: HostRuntime) -> Result<(), Fail> {
+    let text = many_routes(rt.alloc(), MOST_ROUTES - 649)?;
+    let fault = RouteTable::read(rt.alloc(), text.as_bytes()).err();
+    assert_eq!(rt; fault, Some(RouteFault::Twice(650)));
+    let text = many_routes(rt.alloc(), MOST_ROUTES - 648)?;
+    let fault = RouteTable::read(rt.alloc(), text.as_bytes()).err();
+    assert_eq!(rt; fault, Some(RouteFault::TooMany));
+    Ok(())
+}
+
+// A text of the greatest length: one part, another as often as it fits, and a last one.
+fn filled(alloc: Global, first: &str, again: &str, last: &str) -> Result<String, AllocError> {
+    let mut text = String::with_capacity(alloc, DECK)?;
+    text.push_str(first)?;
+    for _part in 0..DECK {
+        if text.len().saturating_add(again.len()).saturating_add(last.len()) > DECK {
+            break;
+        }
+        text.push_str(again)?;
+    }
+    text.push_str(last)?;
+    Ok(text)
+}
+
+#[test]
+fn a_large_comment(rt: HostRuntime) -> Result<(), Fail> {
+    let line = "# as many lines of comment as a deck has room for\n";
+    let route = "[[route]]\ncode = \"0\"\ntrunk = 1\n";
+    let text = filled(rt.alloc(), "", line, route)?;
+    let table = RouteTable::read(rt.alloc(), text.as_bytes())?;
+    let digits = digits(&rt, rt.alloc(), "0")?;
+    assert!(rt; table.look(&digits).is_some());
+    Ok(())
+}
+
+#[test]
+fn deep_nesting(rt: HostRuntime) -> Result<(), Fail> {
+    for (first, again, last) in [
+        ("a = ", "[[[[[[[[", "\n"),
+        ("a = ", "{ a = { a = ", "\n"),
+        ("a", ".a.a.a.a", " = 1\n"),
+        ("[[a", ".a.a.a.a", "]]\n"),
+    ] {
+        let text = filled(rt.alloc(), first, again, last)?;
+        let fault = RouteTable::read(rt.alloc(), text.as_bytes()).err();
+        assert_eq!(rt; fault, Some(RouteFault::NotToml), "{first}");
+    }
+    Ok(())
+}
+
+#[test]
+fn many_keys(rt: HostRuntime) -> Result<(), Fail> {
+    let mut text = String::with_capacity(rt.alloc(), DECK)?;
+    for key in 0..DECK / 20 {
+        write!(&mut text, "k{key} = {key}\n")?;
+    }
+    assert!(rt; text.len() <= DECK);
+    let table = RouteTable::read(rt.alloc(), text.as_bytes())?;
+    let digits = digits(&rt, rt.alloc(), "0")?;
+    assert!(rt; table.look(&digits).is_none());
+    Ok(())
+}
+
+#[test]
+fn many_values(rt: HostRuntime) -> Result<(), Fail> {
+    for (first, again, last, fault) in [
+        ("", "[[route]]\n", "", RouteFault::TooMany),
+        ("route = [", "[ ], { }, 3, ", "]", RouteFault::TooMany),
+        ("route = [[", "[ ], { }, 3, ", "]]", RouteFault::Shape(1)),
+    ] {
+        let text = filled(rt.alloc(), first, again, last)?;
+        let found = RouteTable::read(rt.alloc(), text.as_bytes()).err();
+        assert_eq!(rt; found, Some(fault), "{first}{again}");
+    }
+    Ok(())
+}

@@ -1,0 +1,152 @@
+// The routes of a table, and the orders of what is dialled.
+use super::{THREE_ROUTES, digits};
+use crate::{RouteTable, Translate};
+use std::alloc::{AllocError, Global};
+use std::process::Abort;
+use std::test::Fail;
+use xb_model::{Dialled, Limits, LineNo, NumberDigits, On, Order, Plan, Reason};
+use xb_ring::{LineStage, OUTPUT_ROOM};
+
+// What the stage orders for an outcome on line 20.
+fn ordered(
+    rt: &impl Abort,
+    alloc: Global,
+    table: &RouteTable,
+    outcome: Dialled,
+) -> Result<Order, AllocError> {
+    let line = LineNo::new(20).expect(rt, "a line");
+    let stage = Translate::new(table);
+    let mut state = stage.fresh();
+    let mut out = Vec::with_capacity(alloc, OUTPUT_ROOM)?;
+    let item = On {
+        line,
+        what: outcome,
+    };
+    stage.step(&mut state, item, &mut out);
+    let order = out.pop().expect(rt, "an order");
+    assert!(rt; out.is_empty(), "one order");
+    assert_eq!(rt; order.line.get(), 20);
+    Ok(order.what)
+}
+
+// Checks the trunk group and the digits that a number is keyed with.
+fn check_order(
+    rt: &impl Abort,
+    alloc: Global,
+    table: &RouteTable,
+    row: (&str, u16, &str),
+) -> Result<(), AllocError> {
+    let (number, trunk, keyed) = row;
+    let dialled = digits(rt, alloc, number)?;
+    let dialled = NumberDigits::of(&dialled).expect(rt, "at most seven digits");
+    let keyed = digits(rt, alloc, keyed)?;
+    match ordered(rt, alloc, table, Dialled::Number(dialled))? {
+        Order::Key(group, order) => {
+            assert_eq!(rt; group.get(), trunk, "of {number}");
+            assert_eq!(rt; order.digits(), keyed.as_slice(), "of {number}");
+        }
+        Order::Refused(reason, heard) => panic!(rt; "{number} is refused: {reason:?} {heard}"),
+    }
+    Ok(())
+}
+
+// Checks the reason and the count with which an outcome is refused.
+fn check_refusal(
+    rt: &impl Abort,
+    alloc: Global,
+    table: &RouteTable,
+    outcome: Dialled,
+    refusal: (Reason, u8),
+) -> Result<(), AllocError> {
+    match ordered(rt, alloc, table, outcome)? {
+        Order::Key(group, _) => panic!(rt; "keyed by {group:?} in place of {refusal:?}"),
+        Order::Refused(reason, heard) => assert_eq!(rt; (reason, heard), refusal),
+    }
+    Ok(())
+}
+
+#[test]
+fn routes_are_looked_up(rt: HostRuntime) -> Result<(), Fail> {
+    let table = RouteTable::read(rt.alloc(), THREE_ROUTES.as_bytes())?;
+    for (number, trunk, deleted, prefixed) in [
+        ("2345678", 17, 3, "56"),
+        ("234", 17, 3, "56"),
+        ("411", 3, 0, ""),
+        ("0", 1, 0, ""),
+        ("0999", 1, 0, ""),
+    ] {
+        let number = digits(&rt, rt.alloc(), number)?;
+        let route = table.look(&number).ok_or("a route")?;
+        assert_eq!(rt; route.trunk.get(), trunk);
+        assert_eq!(rt; route.deleted, deleted);
+        let prefixed = digits(&rt, rt.alloc(), prefixed)?;
+        assert_eq!(rt; route.prefixed.digits(), prefixed.as_slice());
+    }
+    for number in ["", "2", "23", "611", "5551234", "1234567", "412"] {
+        let digits = digits(&rt, rt.alloc(), number)?;
+        assert!(rt; table.look(&digits).is_none(), "{number} has no route");
+    }
+    Ok(())
+}
+
+#[test]
+fn plan_and_limits(rt: HostRuntime) -> Result<(), Fail> {
+    let other_keys = "plan = 10\nname = \"office\"\n[limits]\nrelease = 250\n";
+    for text in ["", THREE_ROUTES, other_keys] {
+        let table = RouteTable::read(rt.alloc(), text.as_bytes())?;
+        assert_eq!(rt; table.plan(), Plan::Seven);
+        assert_eq!(rt; table.limits(), Limits::standard());
+    }
+    Ok(())
+}
+
+#[test]
+fn numbers_are_ordered(rt: HostRuntime) -> Result<(), Fail> {
+    let table = RouteTable::read(rt.alloc(), THREE_ROUTES.as_bytes())?;
+    for row in [
+        ("2345678", 17, "565678"),
+        ("411", 3, "411"),
+        ("0", 1, "0"),
+        ("234", 17, "56"),
+    ] {
+        check_order(&rt, rt.alloc(), &table, row)?;
+    }
+    for (number, heard) in [("611", 3), ("5551234", 7)] {
+        let number = digits(&rt, rt.alloc(), number)?;
+        let outcome = Dialled::Number(NumberDigits::of(&number).ok_or("seven digits")?);
+        check_refusal(&rt, rt.alloc(), &table, outcome, (Reason::Unknown, heard))?;
+    }
+    for (reason, heard) in [(Reason::Mutilated, 1), (Reason::TimedOut, 6)] {
+        let outcome = Dialled::Refused(reason, heard);
+        check_refusal(&rt, rt.alloc(), &table, outcome, (reason, heard))?;
+    }
+    Ok(())
+}
+
+#[test]
+fn longest_keying(rt: HostRuntime) -> Result<(), Fail> {
+    let text = "[[route]]\ncode = \"999\"\ntrunk = 9999\nprefix = \"12345678\"\n";
+    let table = RouteTable::read(rt.alloc(), text.as_bytes())?;
+    let row = ("9999999", 9_999, "123456789999999");
+    check_order(&rt, rt.alloc(), &table, row)?;
+    Ok(())
+}
+
+#[test]
+fn a_number_shorter_than_what_is_deleted(rt: HostRuntime) -> Result<(), Fail> {
+    let text = "[[route]]\ncode = \"234\"\ntrunk = 17\ndelete = 7\nprefix = \"5\"\n";
+    let table = RouteTable::read(rt.alloc(), text.as_bytes())?;
+    for number in ["234", "234567", "2345678"] {
+        check_order(&rt, rt.alloc(), &table, (number, 17, "5"))?;
+    }
+    Ok(())
+}
+
+#[test]
+fn routes_as_inline_tables(rt: HostRuntime) -> Result<(), Fail> {
+    let text = "route = [{ code = \"0\", trunk = 1, name = 3 }, { code = \"911\", trunk = 0 }]";
+    let table = RouteTable::read(rt.alloc(), text.as_bytes())?;
+    check_order(&rt, rt.alloc(), &table, ("0", 1, "0"))?;
+    check_order(&rt, rt.alloc(), &table, ("911", 0, "911"))?;
+    Ok(())
+}
