@@ -59,13 +59,21 @@ module _ (digits : List ℕ) where
   abbrev pub Within : ℕ → CodedRoute → Type 0
   Within n route = covers route.code digits ≡ true → length route.code ≤ n
 
-  route_for-cover : (route : CodedRoute) (routes : List CodedRoute) → covers route.code digits ≡ true → route_for (route ∷ routes) digits ≡ longer_of route (route_for routes digits)
+  abbrev pub AllWithin : ℕ → List CodedRoute → Type 0
+  AllWithin n routes = AllByRecursion (Within n) routes
+
+  -- a route in front that covers the digits, and one that does not
+  route_for-cover : (route : CodedRoute) (routes : List CodedRoute) → covers route.code digits ≡ true
+      → route_for (route ∷ routes) digits ≡ longer_of route (route_for routes digits)
   route_for-cover route routes h = ap longest_of (cond-true _ _ _ h)
 
-  route_for-other : (route : CodedRoute) (routes : List CodedRoute) → covers route.code digits ≡ false → route_for (route ∷ routes) digits ≡ route_for routes digits
+  route_for-other : (route : CodedRoute) (routes : List CodedRoute) → covers route.code digits ≡ false
+      → route_for (route ∷ routes) digits ≡ route_for routes digits
   route_for-other route routes h = ap longest_of (cond-false _ _ _ h)
 
-  route_for-within : (n : ℕ) (routes : List CodedRoute) → AllByRecursion (Within n) routes → (o : CodedRoute) → route_for routes digits ≡ Some o → length o.code ≤ n
+  -- so has the route that is found
+  route_for-within : (n : ℕ) (routes : List CodedRoute) → AllWithin n routes → (o : CodedRoute)
+      → route_for routes digits ≡ Some o → length o.code ≤ n
   route_for-within n [] a o e = absurd (cc)
   route_for-within n (route ∷ routes) a o e =
       let more = route_for-within n routes a.1 o in
@@ -78,7 +86,9 @@ module _ (digits : List ℕ) where
       (λ h. more (sym (route_for-other route routes h) ∙ e))
       (cases_Bool (covers route.code digits))
 
-  longer-first : (route : CodedRoute) (best : Option CodedRoute) → ((o : CodedRoute) → best ≡ Some o → length o.code ≤ length route.code) → longer_of route best ≡ Some route
+  -- which of two is the longer
+  longer-first : (route : CodedRoute) (best : Option CodedRoute)
+      → ((o : CodedRoute) → best ≡ Some o → length o.code ≤ length route.code) → longer_of route best ≡ Some route
   longer-first route None within = refl
   longer-first route (Some other) within = cond-false _ _ _ (not-under (length route.code) (length other.code) (within other refl))
 
@@ -86,7 +96,8 @@ module _ (digits : List ℕ) where
   longer-second route other h = cond-true _ _ _ (under (length route.code) (length other.code) h)
 
   -- what stands at the place of a code has the code
-  at-place : (code : List ℕ) (routes : List CodedRoute) (p : ℕ) → place_of code routes ≡ Some p → (route : CodedRoute) × (slice_get routes p ≡ Some route) × (route.code ≡ code)
+  at-place : (code : List ℕ) (routes : List CodedRoute) (p : ℕ) → place_of code routes ≡ Some p
+      → (route : CodedRoute) × (slice_get routes p ≡ Some route) × (route.code ≡ code)
   at-place code [] p e = absurd (cc)
   at-place code (route ∷ routes) p e =
       ⊎_elim
@@ -105,8 +116,9 @@ module _ (digits : List ℕ) where
           let m = more k f in
           (m.0, rw next m.1, m.2)
 
-  -- of routes whose codes have at most so many digits, the one that has the code of all of them is the longest
-  longest-at : (code : List ℕ) → covers code digits ≡ true → (routes : List CodedRoute) → AllByRecursion (Within (length code)) routes → (p : ℕ) → place_of code routes ≡ Some p → slice_get routes p ≡ route_for routes digits
+  -- where no code that covers the digits is longer than one that does, the route of that one is found
+  longest-at : (code : List ℕ) → covers code digits ≡ true → (routes : List CodedRoute) → AllWithin (length code) routes
+      → (p : ℕ) → place_of code routes ≡ Some p → slice_get routes p ≡ route_for routes digits
   longest-at code fits [] a p e = absurd (cc)
   longest-at code fits (route ∷ routes) a p e =
       ⊎_elim
@@ -122,7 +134,8 @@ module _ (digits : List ℕ) where
     where
       -- a shorter route in front
       shorter : has_code code route ≡ false → covers route.code digits ≡ true → length route.code ≤ length code → length route.code < length code
-      shorter h c w = ⊎_elim (λ (l : length route.code < length code). l) (λ (s : length route.code ≡ length code). absurd (cc (has-code code route (sym (covers-take route.code digits c) ∙ ap (λ n. take n digits) s ∙ covers-take code digits fits)))) (grind (arith))
+      shorter h c w = ⊎_elim (λ (l : length route.code < length code). l) (λ (s : length route.code ≡ length code).
+          absurd (cc (has-code code route (sym (covers-take route.code digits c) ∙ ap (λ n. take n digits) s ∙ covers-take code digits fits)))) (grind (arith))
 
       by : (q : Option ℕ) → place_of code routes ≡ q → option_map (λ n. suc n) q ≡ Some p → has_code code route ≡ false
           → ((k : ℕ) → place_of code routes ≡ Some k → slice_get routes k ≡ route_for routes digits)
@@ -140,21 +153,24 @@ module _ (digits : List ℕ) where
           (cases_Bool (covers route.code digits)) in
           rw next found
 
-  -- no route covers the digits where none of their fronts has a place
-  lowered-past : (n : ℕ) → length digits ≤ n → (routes : List CodedRoute) → AllByRecursion (Within n) routes
+  -- a front of the digits that has no place tells that each code that covers them is shorter
+  lowered-past : (n : ℕ) → length digits ≤ n → (routes : List CodedRoute) → AllWithin n routes
   lowered-past n short [] = tt
   lowered-past n short (route ∷ routes) = (λ h. omega (arith, covers-length route.code digits h), lowered-past n short routes)
 
-  lowered-from : (n : ℕ) (routes : List CodedRoute) → AllByRecursion (Within (suc n)) routes → place_of (take (suc n) digits) routes ≡ None → AllByRecursion (Within n) routes
+  lowered-from : (n : ℕ) (routes : List CodedRoute) → AllWithin (suc n) routes
+      → place_of (take (suc n) digits) routes ≡ None → AllWithin n routes
   lowered-from n [] a e = tt
   lowered-from n (route ∷ routes) a e =
       let p = place-none (take (suc n) digits) route routes e in
       (λ h. under-more h (a.0 h) p.0, lowered-from n routes a.1 p.1)
     where
       under-more : covers route.code digits ≡ true → length route.code ≤ suc n → has_code (take (suc n) digits) route ≡ false → length route.code ≤ n
-      under-more h w f = ⊎_elim (λ (l : length route.code ≤ n). l) (λ (s : length route.code ≡ suc n). absurd (cc (has-code (take (suc n) digits) route (sym (covers-take route.code digits h) ∙ ap (λ k. take k digits) s)))) (grind (arith))
+      under-more h w f = ⊎_elim (λ (l : length route.code ≤ n). l) (λ (s : length route.code ≡ suc n).
+          absurd (cc (has-code (take (suc n) digits) route (sym (covers-take route.code digits h) ∙ ap (λ k. take k digits) s)))) (grind (arith))
 
-  lowered : (n : ℕ) (routes : List CodedRoute) → AllByRecursion (Within (suc n)) routes → place_of_front (suc n) digits routes ≡ None → AllByRecursion (Within n) routes
+  lowered : (n : ℕ) (routes : List CodedRoute) → AllWithin (suc n) routes
+      → place_of_front (suc n) digits routes ≡ None → AllWithin n routes
   lowered n routes a e =
       ⊎_elim
       (λ h. lowered-from n routes a (sym (cond-true _ _ _ h) ∙ e))
@@ -165,20 +181,21 @@ module _ (digits : List ℕ) where
       past h = grind (arith, nat_tests)
 
   -- a route is found by the longest front that has a place
-  longest-front : (n : ℕ) (routes : List CodedRoute) → AllByRecursion (Within n) routes → (p : ℕ) → place_of_front n digits routes ≡ Some p → slice_get routes p ≡ route_for routes digits
+  longest-front : (n : ℕ) (routes : List CodedRoute) → AllWithin n routes
+      → (p : ℕ) → place_of_front n digits routes ≡ Some p → slice_get routes p ≡ route_for routes digits
   longest-front n routes a p e =
       ⊎_elim
       (λ h.
       let whole : length (take n digits) ≡ n = front-length h in
-      longest-at (take n digits) (covers-front n digits) routes (subst (λ (k : ℕ). AllByRecursion (Within k) routes) (sym whole) a) p (sym (cond-true _ _ _ h) ∙ e))
+      longest-at (take n digits) (covers-front n digits) routes (subst (λ (k : ℕ). AllWithin k routes) (sym whole) a) p (sym (cond-true _ _ _ h) ∙ e))
       (λ h. absurd (cc (sym (cond-false (nat_le n (length digits)) (place_of (take n digits) routes) None h) ∙ e)))
       (cases_Bool (nat_le n (length digits)))
     where
       front-length : nat_le n (length digits) ≡ true → length (take n digits) ≡ n
       front-length h = length-take-le n digits (grind (arith, nat_tests))
 
--- codes have one digit, or three
-codes-three : (digits : List ℕ) (entries : List Entry) → AllByRecursion (Within digits 3) (map coded entries)
+-- codes have one digit or three, so one that has at most two has one, and none has none
+codes-three : (digits : List ℕ) (entries : List Entry) → AllWithin digits 3 (map coded entries)
 codes-three digits [] = tt
 codes-three digits (entry ∷ entries) = (λ h. at-most entry.code, codes-three digits entries)
   where
@@ -186,7 +203,8 @@ codes-three digits (entry ∷ entries) = (λ h. at-most entry.code, codes-three 
     at-most Operator = omega arith
     at-most (Office a b c) = omega arith
 
-codes-one : (digits : List ℕ) (entries : List Entry) → AllByRecursion (Within digits 2) (map coded entries) → AllByRecursion (Within digits 1) (map coded entries)
+codes-one : (digits : List ℕ) (entries : List Entry) → AllWithin digits 2 (map coded entries)
+    → AllWithin digits 1 (map coded entries)
 codes-one digits [] a = tt
 codes-one digits (entry ∷ entries) a = (λ h. at-most entry.code (a.0 h), codes-one digits entries a.1)
   where
@@ -194,9 +212,13 @@ codes-one digits (entry ∷ entries) a = (λ h. at-most entry.code (a.0 h), code
     at-most Operator h = omega arith
     at-most (Office a b c) h = omega arith
 
-codes-none : (digits : List ℕ) (entries : List Entry) → AllByRecursion (Within digits 0) (map coded entries) → route_for (map coded entries) digits ≡ None
+codes-none : (digits : List ℕ) (entries : List Entry) → AllWithin digits 0 (map coded entries)
+    → route_for (map coded entries) digits ≡ None
 codes-none digits [] a = refl
-codes-none digits (entry ∷ entries) a = ⊎_elim (λ h. absurd (empty entry.code (a.0 h))) (λ h. route_for-other digits (coded entry) (map coded entries) h ∙ codes-none digits entries a.1) (cases_Bool (covers (code_digits entry.code) digits))
+codes-none digits (entry ∷ entries) a =
+    ⊎_elim (λ h. absurd (empty entry.code (a.0 h)))
+    (λ h. route_for-other digits (coded entry) (map coded entries) h ∙ codes-none digits entries a.1)
+    (cases_Bool (covers (code_digits entry.code) digits))
   where
     empty : (code : Code) → length (code_digits code) ≤ 0 → ⊥
     empty Operator h = omega arith
@@ -210,4 +232,5 @@ two-fronts digits entries (Some p) operator e f = longest-front digits 3 (map co
 two-fronts digits entries None (Some p) e f =
     longest-front digits 1 (map coded entries) (codes-one digits entries (lowered digits 2 (map coded entries) (codes-three digits entries) (sym e))) p (sym f)
 two-fronts digits entries None None e f =
-    sym (codes-none digits entries (lowered digits 0 (map coded entries) (codes-one digits entries (lowered digits 2 (map coded entries) (codes-three digits entries) (sym e))) (sym f)))
+    sym (codes-none digits entries (lowered digits 0 (map coded entries)
+    (codes-one digits entries (lowered digits 2 (map coded entries) (codes-three digits entries) (sym e))) (sym f)))

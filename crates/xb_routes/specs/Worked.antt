@@ -1,10 +1,9 @@
 -- What the definitions give at worked tables.
-use Rattle.std.specs.Prelude.{◌≡◌, ℕ, List, [], ◌∷◌, ◌++◌, codes, Option, Some, None, Result, Ok, Err}
+use Rattle.std.specs.Prelude.{◌≡◌, ℕ, List, [], ◌∷◌, ◌++◌, codes, Some, None, Ok, Err}
 use Rattle.xb_model.specs.declared.plan.Plan.TheVariants.{Seven}
 use Rattle.xb_model.specs.Routing.{CodedRoute, route_for}
 use Rattle.xb_routes.specs.declared.fault.RouteFault.TheVariants as fault
 use Rattle.xb_routes.specs.Codes.{code_of, number_length}
-use Rattle.xb_routes.specs.Table.{Table}
 use Rattle.xb_routes.specs.Text.{coded_route, seven_table, table_of_text}
 
 -- the codes of plan Seven, with the length of their numbers, and texts that are none

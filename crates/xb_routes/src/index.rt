@@ -1,6 +1,5 @@
 // Where the route of each code stands.
-ghost use Rattle.std.specs.Prelude.{◌≡◌, ◌+◌, ◌*◌, ◌<◌, [], ◌∷◌, ◌++◌, None, List, IfOk, length, map, slice_get, vec_len};
-ghost use Rattle.std.specs.Prelude.{option_and_then};
+ghost use Rattle.std.specs.Prelude.{◌≡◌, ◌+◌, ◌*◌, ◌<◌, [], ◌∷◌, ◌++◌, None, List, IfOk, length, map, option_and_then, slice_get, vec_len};
 ghost use Rattle.xb_model.specs.Routing.{CodedRoute, route_for};
 ghost use Rattle.xb_routes.specs.Coded.{code_digits, coded};
 ghost use Rattle.xb_routes.specs.declared.route.Entry.{Entry};
@@ -10,14 +9,14 @@ use crate::code::Code;
 use std::alloc::{AllocError, Global};
 use xb_model::Digit;
 
-/// How many office codes three digits can be.
+// How many numbers three digits can be.
 const OFFICES: usize = 1_000;
 
 /// The place in the table of the route of each code.
 #[derive(Drop)]
 pub struct Index {
     operator: Option<u16>,
-    // by office code, as a number of three digits
+    // by the number that the three digits are
     offices: Vec<Option<u16>>,
     ghost sized: { vec_len offices ≡ OFFICES },
 }

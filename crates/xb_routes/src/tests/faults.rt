@@ -69,7 +69,10 @@ fn faults_of_one_table(rt: HostRuntime) -> Result<(), Fail> {
             RouteFault::Shape(2),
         ),
         ("[[route]]\ntrunk = 1", RouteFault::Shape(1)),
-        ("[[route]]\ncode = \"23\"\ntrunk = 10000", RouteFault::Code(1)),
+        (
+            "[[route]]\ncode = \"23\"\ntrunk = 10000",
+            RouteFault::Code(1),
+        ),
         (
             "[[route]]\ncode = \"234\"\ntrunk = 10000\ndelete = 9",
             RouteFault::Trunk(1),
@@ -101,7 +104,10 @@ fn other_kinds_of_values(rt: HostRuntime) -> Result<(), Fail> {
         let mut text = String::from_str(rt.alloc(), "[[route]]\ntrunk = 1\ncode = ")?;
         text.push_str(value)?;
         check_fault(&rt, rt.alloc(), text.as_bytes(), RouteFault::Shape(1));
-        let mut text = String::from_str(rt.alloc(), "[[route]]\ncode = \"0\"\ntrunk = 1\nprefix = ")?;
+        let mut text = String::from_str(
+            rt.alloc(),
+            "[[route]]\ncode = \"0\"\ntrunk = 1\nprefix = ",
+        )?;
         text.push_str(value)?;
         check_fault(&rt, rt.alloc(), text.as_bytes(), RouteFault::Shape(1));
     }
@@ -109,7 +115,10 @@ fn other_kinds_of_values(rt: HostRuntime) -> Result<(), Fail> {
         let mut text = String::from_str(rt.alloc(), "[[route]]\ncode = \"0\"\ntrunk = ")?;
         text.push_str(value)?;
         check_fault(&rt, rt.alloc(), text.as_bytes(), RouteFault::Shape(1));
-        let mut text = String::from_str(rt.alloc(), "[[route]]\ncode = \"0\"\ntrunk = 1\ndelete = ")?;
+        let mut text = String::from_str(
+            rt.alloc(),
+            "[[route]]\ncode = \"0\"\ntrunk = 1\ndelete = ",
+        )?;
         text.push_str(value)?;
         check_fault(&rt, rt.alloc(), text.as_bytes(), RouteFault::Shape(1));
     }
@@ -158,7 +167,10 @@ fn numbers_out_of_range(rt: HostRuntime) -> Result<(), Fail> {
         ("trunk = 9223372036854775807", RouteFault::Trunk(1)),
         ("trunk = 0\ndelete = -1", RouteFault::Delete(1)),
         ("trunk = 0\ndelete = 256", RouteFault::Delete(1)),
-        ("trunk = 0\ndelete = 9223372036854775807", RouteFault::Delete(1)),
+        (
+            "trunk = 0\ndelete = 9223372036854775807",
+            RouteFault::Delete(1),
+        ),
         ("trunk = 0\nprefix = \"12345678\\n\"", RouteFault::Prefix(1)),
         ("trunk = 0\nprefix = \"5a\"", RouteFault::Prefix(1)),
         ("trunk = 0\nprefix = \"-5\"", RouteFault::Prefix(1)),
@@ -195,7 +207,12 @@ fn codes_of_plan_seven(rt: HostRuntime) -> Result<(), Fail> {
         ("411", "trunk = 1\ndelete = 3", "trunk = 1\ndelete = 4"),
     ] {
         let text = one_route(rt.alloc(), code, greatest)?;
-        check_fault(&rt, rt.alloc(), text.as_bytes(), RouteFault::NothingToKey(1));
+        check_fault(
+            &rt,
+            rt.alloc(),
+            text.as_bytes(),
+            RouteFault::NothingToKey(1),
+        );
         let text = one_route(rt.alloc(), code, above)?;
         check_fault(&rt, rt.alloc(), text.as_bytes(), RouteFault::Delete(1));
     }

@@ -19,7 +19,10 @@ fn many_routes(alloc: Global, more: usize) -> Result<String, AllocError> {
     let mut text = String::new(alloc);
     for number in 0..1_000u16 {
         if is_code(number) {
-            write!(&mut text, "[[route]]\ncode = \"{number}\"\ntrunk = {number}\n")?;
+            write!(
+                &mut text,
+                "[[route]]\ncode = \"{number}\"\ntrunk = {number}\n"
+            )?;
         }
     }
     for _route in 0..more {
@@ -59,7 +62,12 @@ fn filled(alloc: Global, first: &str, again: &str, last: &str) -> Result<String,
     let mut text = String::with_capacity(alloc, DECK)?;
     text.push_str(first)?;
     for _part in 0..DECK {
-        if text.len().saturating_add(again.len()).saturating_add(last.len()) > DECK {
+        if text
+            .len()
+            .saturating_add(again.len())
+            .saturating_add(last.len())
+            > DECK
+        {
             break;
         }
         text.push_str(again)?;
