@@ -42,6 +42,7 @@ loop-row-preserved c =
           ∙ ap kept (sym e);
     }
 
+-- the first loop took every row
 whole : (c : goal.In_ok-close_line) → take c.loop-row.row-index c.args.rows.now ≡ c.args.rows.now
 whole c = take_all c.loop-row.row-index c.args.rows.now c.loop-row-test.false
 
