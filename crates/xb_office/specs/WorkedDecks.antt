@@ -1,17 +1,14 @@
--- Decks and texts of rows, worked out by hand, and decks as they are made (own format).
-use Rattle.std.specs.Prelude.{ℕ, ◌≡◌, ◌+◌, ◌++◌, ◌==◌, List, [], ◌∷◌, codes, false, Option, Some, None}
-use Rattle.std.specs.List.{All}
+-- Decks and texts of rows, worked out by hand (own format).
+use Rattle.std.specs.Prelude.{ℕ, ◌≡◌, ◌+◌, List, [], ◌∷◌, codes, Option, Some, None}
 use Rattle.xb_bank.specs.Sources.{Rest}
 use Rattle.xb_model.specs.declared.row.Contact.TheVariants.{Make, Brk, Close}
 use Rattle.xb_model.specs.declared.fault.RowFault.{RowFault}
 use Rattle.xb_model.specs.declared.fault.RowFault.TheVariants as fault
 use Rattle.xb_model.specs.Rows.{LoopRow, row_of}
 use Rattle.xb_office.specs.declared.scan.TheConstants.{MOST_RECORDS}
-use Rattle.xb_office.specs.Deck.{deck_parts, is_cut}
+use Rattle.xb_office.specs.Deck.{deck_parts}
+use Rattle.xb_office.specs.MadeDecks.{IsCutInto}
 use Rattle.xb_office.specs.RowTexts.{rest_of_text, rows_from, stopped_by}
-
-abbrev IsCutInto : List ℕ → List ℕ → List ℕ → Type 0
-IsCutInto deck table rows = deck_parts deck ≡ Some (record { table = table; rows = rows })
 
 -- where some decks are cut
 abbrev pub CutsOfDecks : Type 0
@@ -20,21 +17,6 @@ CutsOfDecks =
     × IsCutInto (codes "a\r\n---\r\nb") (codes "a\r\n") (codes "b")
     × IsCutInto (codes "a\n----\n---\nb\n---\nc") (codes "a\n----\n") (codes "b\n---\nc")
     × (deck_parts (codes "a\n ---\n--- \n---\r\r\n--") ≡ None)
-
--- lines, each with its LF
-abbrev pub with_ends : List (List ℕ) → List ℕ
-with_ends [] = []
-with_ends (line ∷ lines) = line ++ codes "\n" ++ with_ends lines
-
--- lines that are not the cut
-abbrev pub AreTableLines : List (List ℕ) → Type 0
-AreTableLines [] = Unit {0}
-AreTableLines (line ∷ lines) = (is_cut line ≡ false) × All (λ byte. (byte == 10) ≡ false) line × AreTableLines lines
-
--- a table, the line that cuts, and rows are cut into the table and the rows, whatever the rows are
-abbrev pub MadeDecksAreCut : Type 0
-MadeDecksAreCut = (table : List (List ℕ)) (rows : List ℕ) → AreTableLines table
-    → IsCutInto (with_ends table ++ codes "---\n" ++ rows) (with_ends table) rows
 
 abbrev Says : List ℕ → List LoopRow → Option RowFault → Type 0
 Says text rows stop = ◌≡◌ {A = Rest} (rest_of_text text) (record { rows = rows; stop = stop })

@@ -1,14 +1,7 @@
 // From a deck on a reader to its page on a writer.
 ghost use Rattle.std.specs.Prelude.{◌≡◌, ◌≢◌, ◌≤◌, ◌+◌, IfErr, IfOk, IfSome, OnOk, length};
 ghost use Rattle.std.specs.Io.KnownBytes.{IsAtEnd, Keeps};
-ghost use Rattle.xb_office.specs.Says.{
-  GetsFront,
-  GetsPage,
-  IsFaultOfDeck,
-  IsOfficeFault,
-  page_of,
-  says,
-};
+ghost use Rattle.xb_office.specs.Says.{GetsFront, GetsPage, IsFaultOfDeck, IsOfficeFault, page_of, says};
 ghost use Rattle.xb_office.specs.Streams.{TakesUpTo};
 
 use crate::deck::{Deck, MOST_DECK_BYTES};

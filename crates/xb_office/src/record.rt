@@ -1,14 +1,7 @@
 // What one record of the rows' text writes.
 ghost use Rattle.std.specs.Prelude.{◌≡◌, ◌≤◌, ◌<◌, ◌^◌, IfSome, Some, option_map};
 ghost use Rattle.csv.specs.Records.{fields_of};
-ghost use Rattle.xb_office.specs.RowTexts.{
-  contact_of,
-  is_header,
-  line_of,
-  number_of,
-  row_of_fields,
-  three_of,
-};
+ghost use Rattle.xb_office.specs.RowTexts.{contact_of, is_header, line_of, number_of, row_of_fields, three_of};
 
 use csv::ByteRecord;
 use xb_model::{Contact, LineNo, Row, RowFault};

@@ -1,0 +1,63 @@
+-- Records that are written are read.
+use Rattle.std.proofs.Common.{◌≡◌, ◌≤◌, ◌+◌, ℕ, List, [], ◌∷◌, length, Some, refl, ap, ◌∙◌, arith, Ok}
+use Rattle.std.specs.Prelude.{decimal, ◌==◌, map, nat_le, true}
+use Rattle.std.proofs.lemmas.Bool.Decides.{nat_tests}
+use Rattle.csv.specs.Reading.{default_config, records, strip_bom}
+use Rattle.csv.specs.Writing.{read_back}
+use Rattle.csv.specs.declared.parser.State.TheVariants as st
+use Rattle.csv.proofs.RoundTrip.{read-write}
+use Rattle.xb_bank.specs.Sources.{ended_by}
+use Rattle.xb_model.specs.declared.row.Contact.{Contact}
+use Rattle.xb_model.specs.declared.row.Contact.TheVariants.{Make, Brk, Close}
+use Rattle.xb_model.specs.declared.row.TheConstants.{GREATEST_MS}
+use Rattle.xb_model.specs.Rows.{IsRow, LoopRow, row_of}
+use Rattle.xb_office.specs.declared.scan.TheConstants.{MOST_RECORDS}
+use Rattle.xb_office.specs.declared.record.TheConstants.{LINE_DIGITS, MS_DIGITS}
+use Rattle.xb_office.specs.RowTexts.{contact_of, number_of, rest_of_records, row_of_fields, row_then, rows_from, three_of, with_contact}
+use Rattle.xb_office.specs.WrittenRows.{AreRows, contact_text, WrittenRowsAreRead, fields_of_row, header, records_text, text_of_rows}
+use Rattle.xb_office.proofs.Fuel.{records-end, records-more}
+use Rattle.xb_office.proofs.RecordRows.{rows-more, rows-nil}
+use Rattle.xb_office.proofs.WrittenFields.{number_of_decimal}
+
+-- the records of a text of records
+records_of_text : (rs : List (List (List ℕ))) → records default_config (records_text rs) ≡ map read_back rs
+records_of_text [] = records-end default_config 1
+records_of_text (r ∷ rs) =
+    records-more default_config st.StartRecord (records_text (r ∷ rs)) (read_back r, st.StartRecord, records_text rs) (read-write r (records_text rs))
+    ∙ ap (λ (more : List (List (List ℕ))). read_back r ∷ more) (records_of_text rs)
+
+-- the row of a written record
+row_of_written : (n : ℕ) (row : LoopRow) (rows : List LoopRow) → AreRows (row ∷ rows) → row_of_fields n (three_of (read_back (fields_of_row row))) ≡ Ok row
+row_of_written n row rows h =
+    let line = number_of_decimal LINE_DIGITS row.line (omega arith) (omega arith) (omega arith) in
+    let ms = number_of_decimal MS_DIGITS row.ms (omega arith) (omega arith) (omega arith) in
+    rw line (by row.contact row.line row.ms h.1 ms)
+  where
+    by : (contact : Contact) (line ms : ℕ) → IsRow contact ms → number_of MS_DIGITS (decimal ms) ≡ Some ms
+        → with_contact n line (decimal ms) (contact_of (contact_text contact)) ≡ Ok (row_of line contact ms)
+    by Make line ms lawful e =
+        let short : nat_le ms GREATEST_MS ≡ true = grind (arith, nat_tests, lawful.0) in
+        rw (e, short) refl
+    by Brk line ms lawful e =
+        let short : nat_le ms GREATEST_MS ≡ true = grind (arith, nat_tests, lawful.0) in
+        rw (e, short) refl
+    by Close line ms lawful e =
+        let none : (ms == 0) ≡ true = rw (lawful.1 refl) refl in
+        rw (e, none) refl
+
+-- the rows of written records
+rows_of_written : (n : ℕ) (rows : List LoopRow) → AreRows rows → n + length rows ≤ MOST_RECORDS + 1 → rows_from n (map read_back (map fields_of_row rows)) ≡ ended_by rows
+rows_of_written n [] h few = rows-nil n
+rows_of_written n (row ∷ rows) h few =
+    rows-more n (read_back (fields_of_row row)) (map read_back (map fields_of_row rows)) (Ok row) (omega arith) (row_of_written n row rows h)
+    ∙ ap (row_then (Ok row)) (rows_of_written (n + 1) rows h.2 (omega arith))
+
+-- a text that begins with the header begins with no byte order mark
+no_mark : (rows : List LoopRow) → strip_bom (text_of_rows rows) ≡ text_of_rows rows
+unfolding strip_bom
+no_mark rows = refl
+
+pub written_rows_are_read : WrittenRowsAreRead
+written_rows_are_read rows h few =
+    ap rest_of_records (ap (records default_config) (no_mark rows) ∙ records_of_text (header ∷ map fields_of_row rows))
+    ∙ rows_of_written 1 rows h (omega arith)
