@@ -6,22 +6,22 @@ pub const ATTEMPTS: &[Worked] = &[
     Worked {
         name: "header_only",
         lines: &[],
-        page: "KEYED 0 REFUSED 0",
+        page: &["KEYED 0 REFUSED 0"],
     },
     Worked {
         name: "operator_call",
         lines: &[(5, "M500 #0")],
-        page: "0005 1 K0 / KEYED 1 REFUSED 0",
+        page: &["0005 1 K0", "KEYED 1 REFUSED 0"],
     },
     Worked {
         name: "seven_digits",
         lines: &[(7, "M500 #2 #3 #4 #5 #6 #7 #8")],
-        page: "0007 1 K3 / KEYED 1 REFUSED 0",
+        page: &["0007 1 K3", "KEYED 1 REFUSED 0"],
     },
     Worked {
         name: "split_rows",
         lines: &[(7, "M500 B30 M0 B30 M40 B60 M600 #3 #4 #5 #6 #7 #8")],
-        page: "0007 1 K3 / KEYED 1 REFUSED 0",
+        page: &["0007 1 K3", "KEYED 1 REFUSED 0"],
     },
     Worked {
         name: "break_limits",
@@ -33,7 +33,16 @@ pub const ATTEMPTS: &[Worked] = &[
             (15, "M500 B299 M600"),
             (16, "M500 B300 M600"),
         ],
-        page: "0011 1 REFUSED MUTILATED 0 / 0012 1 REFUSED ABANDONED 1 / 0013 1 REFUSED ABANDONED 1 / 0014 1 REFUSED MUTILATED 0 / 0015 1 REFUSED MUTILATED 0 / 0016 1 REFUSED ABANDONED 0 / 0016 2 REFUSED ABANDONED 0 / KEYED 0 REFUSED 7",
+        page: &[
+            "0011 1 REFUSED MUTILATED 0",
+            "0012 1 REFUSED ABANDONED 1",
+            "0013 1 REFUSED ABANDONED 1",
+            "0014 1 REFUSED MUTILATED 0",
+            "0015 1 REFUSED MUTILATED 0",
+            "0016 1 REFUSED ABANDONED 0",
+            "0016 2 REFUSED ABANDONED 0",
+            "KEYED 0 REFUSED 7",
+        ],
     },
     Worked {
         name: "make_limits",
@@ -43,12 +52,18 @@ pub const ATTEMPTS: &[Worked] = &[
             (23, "M500 B60 M179 B60 M600"),
             (24, "M500 B60 M180 B60 M600"),
         ],
-        page: "0021 1 REFUSED MUTILATED 0 / 0022 1 REFUSED ABANDONED 1 / 0023 1 REFUSED ABANDONED 1 / 0024 1 REFUSED ABANDONED 2 / KEYED 0 REFUSED 4",
+        page: &[
+            "0021 1 REFUSED MUTILATED 0",
+            "0022 1 REFUSED ABANDONED 1",
+            "0023 1 REFUSED ABANDONED 1",
+            "0024 1 REFUSED ABANDONED 2",
+            "KEYED 0 REFUSED 4",
+        ],
     },
     Worked {
         name: "eleven_pulses",
         lines: &[(8, "M500 #4 *11/600 #1 #1 C")],
-        page: "0008 1 REFUSED MUTILATED 1 / KEYED 0 REFUSED 1",
+        page: &["0008 1 REFUSED MUTILATED 1", "KEYED 0 REFUSED 1"],
     },
     Worked {
         name: "time_out_and_conversation",
@@ -57,7 +72,12 @@ pub const ATTEMPTS: &[Worked] = &[
             (32, "M500 #2 #3 #4 #5 #6 *7/20000 #8"),
             (33, "M500 #2 #3 #4 #5 #6 #7 *8/86400000"),
         ],
-        page: "0031 1 K3 / 0032 1 REFUSED TIMEDOUT 6 / 0033 1 K3 / KEYED 2 REFUSED 1",
+        page: &[
+            "0031 1 K3",
+            "0032 1 REFUSED TIMEDOUT 6",
+            "0033 1 K3",
+            "KEYED 2 REFUSED 1",
+        ],
     },
     Worked {
         name: "last_digit_pause",
@@ -65,12 +85,16 @@ pub const ATTEMPTS: &[Worked] = &[
             (41, "M500 #2 #3 #4 #5 #6 #7 *8/179"),
             (42, "M500 #2 #3 #4 #5 #6 #7 *8/180"),
         ],
-        page: "0041 1 REFUSED ABANDONED 6 / 0042 1 K3 / KEYED 1 REFUSED 1",
+        page: &[
+            "0041 1 REFUSED ABANDONED 6",
+            "0042 1 K3",
+            "KEYED 1 REFUSED 1",
+        ],
     },
     Worked {
         name: "closed_line",
         lines: &[(9, "M500 #2 #3 C M500 #0")],
-        page: "0009 1 REFUSED ABANDONED 2 / KEYED 0 REFUSED 1",
+        page: &["0009 1 REFUSED ABANDONED 2", "KEYED 0 REFUSED 1"],
     },
     Worked {
         name: "unknown_codes",
@@ -79,41 +103,52 @@ pub const ATTEMPTS: &[Worked] = &[
             (2, "M500 #6 #1 #1"),
             (3, "M500 #5 #5 #5 #1 #2 #3 #4"),
         ],
-        page: "0001 1 K4 / 0002 1 REFUSED UNKNOWN 3 / 0003 1 REFUSED UNKNOWN 7 / KEYED 1 REFUSED 2",
+        page: &[
+            "0001 1 K4",
+            "0002 1 REFUSED UNKNOWN 3",
+            "0003 1 REFUSED UNKNOWN 7",
+            "KEYED 1 REFUSED 2",
+        ],
     },
     Worked {
         name: "second_call",
         lines: &[(3, "M500 #0 #9 B400 M500 #4 #1 #1")],
-        page: "0003 1 K0 / 0003 2 K4 / KEYED 2 REFUSED 0",
+        page: &["0003 1 K0", "0003 2 K4", "KEYED 2 REFUSED 0"],
     },
 ];
 
 /// Two lines, one row of each in turn, under the usual table.
 pub const TWO_LINES_IN_TURN: Worked = Worked {
-        name: "two_lines_in_turn",
-        lines: &[(1, "M500 #0"), (2, "M500 #4 #1 #1")],
-        page: "0001 1 K0 / 0002 1 K4 / KEYED 2 REFUSED 0",
-    };
+    name: "two_lines_in_turn",
+    lines: &[(1, "M500 #0"), (2, "M500 #4 #1 #1")],
+    page: &["0001 1 K0", "0002 1 K4", "KEYED 2 REFUSED 0"],
+};
 
 /// The table of the longest keying.
 pub const LONGEST_TABLE: &str = "[[route]]\ncode = \"999\"\ntrunk = 9999\nprefix = \"12345678\"\n";
 
 /// The longest keying of a number of seven digits.
 pub const LONGEST_KEYING: Worked = Worked {
-        name: "longest_keying",
-        lines: &[(20, "M500 #9 #9 #9 #9 #9 #9 #9")],
-        page: "0020 1 KEYED 9999 KP:1100+1700 1:700+900 2:700+1100 3:900+1100 4:700+1300 5:900+1300 6:1100+1300 7:700+1500 8:900+1500 9:1100+1500 9:1100+1500 9:1100+1500 9:1100+1500 9:1100+1500 9:1100+1500 9:1100+1500 ST:1500+1700 / KEYED 1 REFUSED 0",
-    };
+    name: "longest_keying",
+    lines: &[(20, "M500 #9 #9 #9 #9 #9 #9 #9")],
+    page: &[
+        "0020 1 KEYED 9999 KP:1100+1700 1:700+900 2:700+1100 3:900+1100 4:700+1300 5:900+1300 6:1100+1300 7:700+1500 8:900+1500 9:1100+1500 9:1100+1500 9:1100+1500 9:1100+1500 9:1100+1500 9:1100+1500 9:1100+1500 ST:1500+1700",
+        "KEYED 1 REFUSED 0",
+    ],
+};
 
 /// Records that seize nothing, or never pulse, under a table without routes.
 pub const SHORT_RECORDS: Worked = Worked {
-        name: "short_records",
-        lines: &[
-            (1, "B1000"),
-            (2, "M0"),
-            (3, "M1"),
-            (4, "M500 B10 M25000 #0"),
-        ],
-        page: "0003 1 REFUSED ABANDONED 0 / 0004 1 REFUSED MUTILATED 0 / KEYED 0 REFUSED 2",
-    };
-
+    name: "short_records",
+    lines: &[
+        (1, "B1000"),
+        (2, "M0"),
+        (3, "M1"),
+        (4, "M500 B10 M25000 #0"),
+    ],
+    page: &[
+        "0003 1 REFUSED ABANDONED 0",
+        "0004 1 REFUSED MUTILATED 0",
+        "KEYED 0 REFUSED 2",
+    ],
+};

@@ -22,7 +22,8 @@ trunk = 1
 // The keyings of that table, by the numbers that are dialled: 0, 234 5678 and 411.
 const K0: &str = "KEYED 0001 KP:1100+1700 0:1300+1500 ST:1500+1700";
 
-const K3: &str = "KEYED 0017 KP:1100+1700 5:900+1300 6:1100+1300 5:900+1300 6:1100+1300 7:700+1500 8:900+1500 ST:1500+1700";
+const K3: &str =
+    "KEYED 0017 KP:1100+1700 5:900+1300 6:1100+1300 5:900+1300 6:1100+1300 7:700+1500 8:900+1500 ST:1500+1700";
 
 const K4: &str = "KEYED 0003 KP:1100+1700 4:700+1300 1:700+900 1:700+900 ST:1500+1700";
 
@@ -33,12 +34,16 @@ pub struct Worked {
     pub name: &'static str,
     /// What each line does.
     pub lines: &'static [(u16, &'static str)],
-    /// The lines of the page, parted by ` / `; `K0`, `K3` and `K4` stand for a keying.
-    pub page: &'static str,
+    /// The lines of the page, in which `K0`, `K3` and `K4` stand for a keying.
+    pub page: &'static [&'static str],
 }
 
 /// The rows of the lines, one line after the other.
-pub fn one_after_another(rt: &impl Abort, alloc: Global, worked: &Worked) -> Result<Vec<Row>, Fail> {
+pub fn one_after_another(
+    rt: &impl Abort,
+    alloc: Global,
+    worked: &Worked,
+) -> Result<Vec<Row>, Fail> {
     let mut rows = Vec::new(alloc);
     for (line, pieces) in worked.lines {
         rows.extend_from_slice(&rows_of(rt, alloc, *line, pieces)?)?;
@@ -82,9 +87,9 @@ fn written_out(word: &str) -> &str {
 }
 
 /// The page of its short form.
-pub fn page_of(alloc: Global, lines: &str) -> Result<String, Fail> {
+pub fn page_of(alloc: Global, lines: &[&str]) -> Result<String, Fail> {
     let mut page = String::new(alloc);
-    for line in lines.split(" / ") {
+    for line in lines {
         for (place, word) in line.split(' ').enumerate() {
             if place > 0 {
                 page.push(' ')?;

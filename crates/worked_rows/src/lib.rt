@@ -8,6 +8,14 @@ mod attempts;
 #[cfg(test)]
 mod decks;
 #[cfg(test)]
+mod faults;
+#[cfg(test)]
 mod forms;
 #[cfg(test)]
+mod keyed;
+#[cfg(test)]
+mod memory;
+#[cfg(test)]
 mod pulses;
+#[cfg(test)]
+mod streams;

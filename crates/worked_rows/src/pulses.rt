@@ -57,7 +57,9 @@ fn push_piece(rt: &impl Abort, rows: &mut Vec<Row>, line: LineNo, piece: &str) -
         };
         push_train(rt, rows, line, breaks, PAUSE)
     } else if let Some(train) = piece.strip_prefix('*') {
-        let (breaks, last) = train.split_once('/').ok_or("a train without its last make")?;
+        let (breaks, last) = train
+            .split_once('/')
+            .ok_or("a train without its last make")?;
         push_train(rt, rows, line, breaks.parse::<u32>()?, last.parse::<u32>()?)
     } else {
         assert_eq!(rt; piece, "C");

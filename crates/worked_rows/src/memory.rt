@@ -1,0 +1,83 @@
+// Every call that may answer want of memory, run with enough: an operator call on line 5.
+use crate::decks::{TABLE, deck_of, page_of};
+use crate::pulses::rows_of;
+use std::test::Fail;
+use xb_bank::{RowSource, Tapes, fed_rows, key_serial};
+use xb_model::{Contact, Digit, Key, LineNo, Mark, On, Row, Tone, Trunk};
+use xb_office::{Scan, operate, page, read_rows};
+use xb_pulse::Pulse;
+use xb_ring::image_of;
+use xb_routes::RouteTable;
+
+const PIECES: &str = "M500 #0";
+
+const PAGE: &[&str] = &["0005 1 K0", "KEYED 1 REFUSED 0"];
+
+fn tone(key: Key, low: u16, high: u16) -> Mark {
+    Mark::Tone(key, Tone { low, high })
+}
+
+#[test]
+fn ample_memory_succeeds(rt: HostRuntime) -> Result<(), Fail> {
+    let alloc = rt.alloc();
+    let line = LineNo::new(5).ok_or("no line 5")?;
+    let rows = rows_of(&rt, alloc, 5, PIECES)?;
+    let fed = fed_rows(alloc, &rows)?;
+    assert_eq!(rt; fed.len(), rows.len() + 1);
+    assert_eq!(rt; fed.last(), Row::new(line, Contact::Close, 0).as_ref());
+    let table = RouteTable::read(alloc, TABLE.as_bytes())?;
+    let signals = image_of(alloc, &Pulse::new(table.limits()), fed)?;
+    assert_eq!(rt; signals.len(), 3);
+    let tapes = key_serial(alloc, &rows, &table)?;
+    let trunk = Trunk::new(1).ok_or("no trunk 1")?;
+    let zero = Digit::new(0).ok_or("no digit 0")?;
+    let marks = [
+        Mark::Trunk(trunk),
+        tone(Key::Kp, 1100, 1700),
+        tone(Key::Digit(zero), 1300, 1500),
+        tone(Key::St, 1500, 1700),
+    ];
+    assert!(rt; tapes.marks(line) == marks.as_slice());
+    assert_eq!(rt; tapes.entries(line), 1);
+    assert_eq!(rt;
+        page(alloc, &tapes)?.as_slice(),
+        page_of(alloc, PAGE)?.as_bytes()
+    );
+    Ok(())
+}
+
+#[test]
+fn ample_memory_lengthens_tapes(rt: HostRuntime) -> Result<(), Fail> {
+    let line = LineNo::new(5).ok_or("no line 5")?;
+    let mut tapes = Tapes::new(rt.alloc())?;
+    assert!(rt; tapes.marks(line).is_empty());
+    tapes.push(On {
+        line,
+        what: tone(Key::Kp, 1100, 1700),
+    })?;
+    tapes.push(On {
+        line,
+        what: tone(Key::St, 1500, 1700),
+    })?;
+    assert!(rt;
+        tapes.marks(line) == [tone(Key::Kp, 1100, 1700), tone(Key::St, 1500, 1700)].as_slice()
+    );
+    Ok(())
+}
+
+#[test]
+fn ample_memory_serves_streams(rt: HostRuntime) -> Result<(), Fail> {
+    let alloc = rt.alloc();
+    let rows = rows_of(&rt, alloc, 5, PIECES)?;
+    let deck = deck_of(alloc, TABLE, &rows)?;
+    let (_, text) = deck.as_str().split_once("---\n").ok_or("no cut")?;
+    let mut reader = text.as_bytes();
+    assert!(rt; read_rows(alloc, &mut reader)?.as_slice() == rows.as_slice());
+    let mut scan = Scan::new(alloc, text.as_bytes());
+    assert!(rt; scan.next_row()?.as_ref() == rows.first());
+    let mut reader = deck.as_bytes();
+    let mut written: Vec<u8> = Vec::new(alloc);
+    operate(alloc, &mut reader, &mut written)?;
+    assert_eq!(rt; written.as_slice(), page_of(alloc, PAGE)?.as_bytes());
+    Ok(())
+}

@@ -1,0 +1,60 @@
+// Streams that fail.
+use crate::attempts::ATTEMPTS;
+use crate::decks::{TABLE, deck_of, one_after_another};
+use std::io;
+use std::io::{Error, ErrorKind, Read, Write};
+use std::test::Fail;
+use xb_office::{OfficeFault, operate};
+
+/// A reader that fails at once.
+#[derive(Drop)]
+struct Failing;
+
+impl Read for Failing {
+    fn read(&mut self, _buf: &mut [u8]) -> io::Result<usize> {
+        Err(Error::from(ErrorKind::Other))
+    }
+}
+
+/// A writer that takes so many bytes more, and then fails.
+#[derive(Drop)]
+struct Short {
+    taken: Vec<u8>,
+    room: usize,
+}
+
+impl Write for Short {
+    fn write(&mut self, buf: &[u8]) -> io::Result<usize> {
+        let n = buf.len().min(self.room);
+        if n == 0 {
+            return Err(Error::from(ErrorKind::Other));
+        }
+        self.taken.extend_from_slice(&buf[..n])?;
+        self.room -= n;
+        Ok(n)
+    }
+
+    fn flush(&mut self) -> io::Result<()> {
+        Ok(())
+    }
+}
+
+#[test]
+fn failing_streams(rt: HostRuntime) -> Result<(), Fail> {
+    let alloc = rt.alloc();
+    let worked = ATTEMPTS.get(2).ok_or("no seven digits")?;
+    assert_eq!(rt; worked.name, "seven_digits");
+    let rows = one_after_another(&rt, alloc, worked)?;
+    let deck = deck_of(alloc, TABLE, &rows)?;
+    let mut reader = deck.as_bytes();
+    let mut out = Short {
+        taken: Vec::new(alloc),
+        room: 10,
+    };
+    assert!(rt; operate(alloc, &mut reader, &mut out) == Err(OfficeFault::Write));
+    assert_eq!(rt; out.taken.as_slice(), b"0007 1 KEY".as_slice());
+    let mut page: Vec<u8> = Vec::new(alloc);
+    assert!(rt; operate(alloc, &mut Failing, &mut page) == Err(OfficeFault::Read));
+    assert!(rt; page.is_empty());
+    Ok(())
+}
