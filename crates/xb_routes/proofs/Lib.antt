@@ -3,3 +3,4 @@ pub mod Places
 pub mod Longest
 pub mod Reading
 pub mod Entering
+pub mod Translating

@@ -87,8 +87,14 @@ impl Index {
         ensures { (entries : List Entry) → IsIndex self.now (map coded entries) → result ≡ place_of_front 1 digits.now (map coded entries) }
     {
         match digits {
-            [first, ..] if first.get() == 0 => self.place_of(&Code::Operator),
-            _ => None,
+            [] => None,
+            [first, ..] => {
+                if first.get() == 0 {
+                    self.place_of(&Code::Operator)
+                } else {
+                    None
+                }
+            }
         }
     }
 
