@@ -8,7 +8,7 @@ use Rattle.xb_model.specs.Rows.{LoopRow, row_of}
 use Rattle.xb_model.specs.Records.{Run, same_contact, is_close, rows_of, record_up_to_close, record_of, join, joined, without_first_break}
 use Rattle.xb_model.specs.CutRows.{RowsMayBeCut}
 
-abbrev run_of : Contact → ℕ → Run
+abbrev pub run_of : Contact → ℕ → Run
 run_of contact ms = record { contact = contact; ms = ms }
 
 same_self : (c : Contact) → same_contact c c ≡ true
@@ -17,7 +17,7 @@ same_self Brk = refl
 same_self Close = refl
 
 -- two neighbours of one contact join to one run of their sum
-join_sum : (c : Contact) (m n : ℕ) (R : List Run) → join (run_of c m) (join (run_of c n) R) ≡ join (run_of c (m + n)) R
+pub join_sum : (c : Contact) (m n : ℕ) (R : List Run) → join (run_of c m) (join (run_of c n) R) ≡ join (run_of c (m + n)) R
 join_sum c m n [] = rw (same_self c) refl
 join_sum c m n (q ∷ R) = by (same_contact c q.contact)
   where

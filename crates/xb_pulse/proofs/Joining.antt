@@ -1,5 +1,5 @@
 -- What a run takes in of the runs behind it.
-use Rattle.std.proofs.Common.{◌≡◌, ℕ, ◌+◌, List, [], ◌∷◌, Bool, true, false, cond, refl, add_assoc, add-zero}
+use Rattle.std.proofs.Common.{◌≡◌, ℕ, ◌+◌, List, [], ◌∷◌, Bool, true, false, cond, refl, add-zero}
 use Rattle.xb_model.specs.declared.row.Contact.{Contact}
 use Rattle.xb_model.specs.declared.row.Contact.TheVariants.{Make, Brk, Close}
 use Rattle.xb_model.specs.Records.{Run, same_contact, join, without_first_break}
@@ -27,13 +27,6 @@ join_by c m q R false = rw add-zero
 pub join_is : (c : Contact) (m : ℕ) (R : List Run) → join (record { contact = c; ms = m }) R ≡ record { contact = c; ms = m + more c R } ∷ behind c R
 join_is c m [] = rw add-zero
 join_is c m (q ∷ R) = join_by c m q R (same_contact c q.contact)
-
--- two neighbours of one contact are one run of their sum
-pub join_makes : (a b : ℕ) (R : List Run) → join (make_of a) (join (make_of b) R) ≡ join (make_of (a + b)) R
-join_makes a b R = rw (join_is Make b R, join_is Make (a + b) R, add_assoc)
-
-pub join_breaks : (a b : ℕ) (R : List Run) → join (break_of a) (join (break_of b) R) ≡ join (break_of (a + b)) R
-join_breaks a b R = rw (join_is Brk b R, join_is Brk (a + b) R, add_assoc)
 
 same_break : (c : Contact) → same_contact c Brk ≡ same_contact Brk c
 same_break Make = refl

@@ -15,7 +15,8 @@ use Rattle.xb_pulse.specs.declared.state.Tally.{Tally}
 use Rattle.xb_pulse.specs.declared.state.State.{State}
 use Rattle.xb_pulse.specs.declared.state.State.TheVariants.{OnHook, BetweenTrains, InBreak, InMake, TimedOut, Closed}
 use Rattle.xb_pulse.specs.Machine.{Step, longer, no_breaks, with_break, with_make, between_trains, in_make, on_make, release_at, unless_released, on_break}
-use Rattle.xb_pulse.proofs.Joining.{make_of, break_of, more, behind, join_is, join_makes, join_breaks, behind_break}
+use Rattle.xb_model.proofs.Cuts.{join_sum}
+use Rattle.xb_pulse.proofs.Joining.{make_of, break_of, more, behind, join_is, behind_break}
 use Rattle.xb_pulse.proofs.ToSend.{all_of, seized, in_train, behind_timeout, to_send, all_of-seized, seized-timed, seized-make, in_train-pause, in_train-make, in_train-break, behind_timeout-run, pieces_of-release}
 
 -- a state of an open record: no length has reached the limit that would have ended it
@@ -120,11 +121,11 @@ pub on_make-front : (L : Limits) (s : State) (m : ℕ) (R : List Run) → IsLawf
 on_make-front L OnHook m R l o =
     rw (all_of-make L m R) (ap (λ sent. Seize ∷ sent) (between_trains-front L R m (longer 0 m) l (omega arith)))
 on_make-front L (BetweenTrains t) m R l o =
-    rw (join_makes t m R) (between_trains-front L R (t + m) (longer t m) l refl)
+    rw (join_sum Make t m R) (between_trains-front L R (t + m) (longer t m) l refl)
 on_make-front L (InBreak t tally) m R l o =
     rw (break_ended L tally t m R o.0) (in_make-front L R (with_break L t tally) m (longer 0 m) l (omega arith) (omega arith))
 on_make-front L (InMake t tally) m R l o =
-    rw (join_makes t m R) (in_make-front L R tally (t + m) (longer t m) l o.1 refl)
+    rw (join_sum Make t m R) (in_make-front L R tally (t + m) (longer t m) l o.1 refl)
 on_make-front L (TimedOut t) m R l o = timed_break_ended L t m R o l.release.0
 on_make-front L Closed m R l o = absurd o
 
@@ -134,11 +135,11 @@ on_break-front L OnHook m R l o = rw (join_is Brk m R, behind_break R)
 on_break-front L (BetweenTrains t) m R l o =
     rw (first_make_ended L t m R o) (in_break-front L R no_breaks m (longer 0 m) l (omega arith))
 on_break-front L (InBreak t tally) m R l o =
-    rw (join_breaks t m R) (in_break-front L R tally (t + m) (longer t m) l refl)
+    rw (join_sum Brk t m R) (in_break-front L R tally (t + m) (longer t m) l refl)
 on_break-front L (InMake t tally) m R l o =
     rw (make_ended L tally t m R o.0 (omega (arith, l.pause_under))) (in_break-front L R (with_make L t tally) m (longer 0 m) l (omega arith))
 on_break-front L (TimedOut t) m R l o =
-    rw (join_breaks t m R) (timed_out-front L R (t + m) (longer t m) l refl)
+    rw (join_sum Brk t m R) (timed_out-front L R (t + m) (longer t m) l refl)
 on_break-front L Closed m R l o = absurd o
 
 -- the state behind a row is of an open record again
