@@ -1,4 +1,5 @@
-//! The two ends of the program: a deck from a reader, and its page to a writer.
+//! The two ends of the program: a deck from a reader, and its page to a writer. The module `laws`
+//! says what the definitions in `specs/` give, on worked examples and on decks as they are made.
 #![tactic(auto)]
 
 mod deck;

@@ -6,6 +6,9 @@ ghost use Rattle.xb_office.specs.RowTexts.{contact_of, is_header, line_of, numbe
 use csv::ByteRecord;
 use xb_model::{Contact, LineNo, Row, RowFault};
 
+// How many fields a row has.
+const ROW_FIELDS: usize = 3;
+
 // The most digits of a line, and of a time in ms.
 const LINE_DIGITS: usize = 4;
 
@@ -53,7 +56,7 @@ fn contact_of(field: &[u8]) -> Option<Contact>
 fn three_of(fields: &ByteRecord) -> Option<(&[u8], &[u8], &[u8])>
     ensures { option_map (λ t. (t.0.now, t.1.now, t.2.now)) result ≡ three_of (fields_of fields.now) }
 {
-    if fields.len() != 3 {
+    if fields.len() != ROW_FIELDS {
         return None;
     }
     let first = fields.get(0)?;
