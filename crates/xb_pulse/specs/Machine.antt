@@ -1,6 +1,6 @@
 -- The pulse stage on one line, row by row: what a row sends, and the state that it leaves (own
 -- profile). What this amounts to over a whole record, the laws say.
-use Rattle.std.specs.Prelude.{ℕ, ◌+◌, min, List, [], ◌∷◌, false, ◌||◌, if◌then◌else◌, nat_le, nat_lt, ◌==◌}
+use Rattle.std.specs.Prelude.{ℕ, ◌+◌, min, List, [], ◌∷◌, false, ◌||◌, if◌then◌else◌, nat_le, ◌==◌}
 use Rattle.xb_model.specs.declared.row.Contact.{Contact}
 use Rattle.xb_model.specs.declared.row.Contact.TheVariants as contacts
 use Rattle.xb_model.specs.declared.limits.Limits.{Limits}
@@ -10,6 +10,7 @@ use Rattle.xb_model.specs.declared.signal.Signal.{Signal}
 use Rattle.xb_model.specs.declared.signal.Signal.TheVariants.{Seize, Digit, TimeOut, Release, Close}
 use Rattle.xb_model.specs.declared.signal.TheConstants.{MANY_BREAKS}
 use Rattle.xb_model.specs.Rows.{LoopRow}
+use Rattle.xb_model.specs.Signals.{is_bad_run}
 use Rattle.xb_ring.specs.Image.{Machine}
 use Rattle.xb_ring.specs.Stateless.{on_line}
 use Rattle.xb_pulse.specs.declared.state.Tally.{Tally}
@@ -37,11 +38,11 @@ no_breaks = record { breaks = 0; bad = false }
 -- a break of this length ends
 abbrev pub with_break : Limits → ℕ → Tally → Tally
 with_break limits total tally =
-    record { breaks = min (tally.breaks + 1) MANY_BREAKS; bad = tally.bad || (nat_lt total limits.pulse_min || nat_lt limits.pulse_max total) }
+    record { breaks = min (tally.breaks + 1) MANY_BREAKS; bad = tally.bad || is_bad_run limits contacts.Brk total }
 
 -- a make of this length ends inside a train
 abbrev pub with_make : Limits → ℕ → Tally → Tally
-with_make limits total tally = record { breaks = tally.breaks; bad = tally.bad || nat_lt total limits.make_min }
+with_make limits total tally = record { breaks = tally.breaks; bad = tally.bad || is_bad_run limits contacts.Make total }
 
 -- in a make, outside any train
 abbrev pub between_trains : Limits → ℕ → Step
