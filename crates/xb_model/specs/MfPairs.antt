@@ -14,7 +14,7 @@ frequencies = 700 ∷ 900 ∷ 1100 ∷ 1300 ∷ 1500 ∷ []
 
 -- the two that operate
 abbrev pub pair_of_two : List ℕ → Tone
-pair_of_two heard = pair (slice_index_or heard 0 0) (slice_index_or heard 1 0)
+pair_of_two two = pair (slice_index_or two 0 0) (slice_index_or two 1 0)
 
 -- the two elements of a digit, read as frequencies; digit 0 has ten pulses
 abbrev pub digit_pair : ℕ → Tone

@@ -1,7 +1,7 @@
 -- The digit of a train, the number of an attempt, and what comes of the attempt (rotary dial; the
 -- limits and the order of the reasons are the profile's own).
 use Rattle.std.specs.Prelude.{ℕ, ◌%◌, List, [], ◌∷◌, map, length, Bool, false, not, ◌&&◌, if◌then◌else◌, nat_le, ◌==◌, Option, Some, None, is_none}
-use Rattle.std.specs.List.{list_any}
+use Rattle.std.specs.List.{find, list_any}
 use Rattle.xb_model.specs.declared.limits.Limits.{Limits}
 use Rattle.xb_model.specs.declared.plan.Plan.{Plan}
 use Rattle.xb_model.specs.declared.dialled.Dialled.{Dialled}
@@ -39,13 +39,9 @@ abbrev pub fronts : List ℕ → List (List ℕ)
 fronts [] = [] ∷ []
 fronts (d ∷ digits) = [] ∷ map (λ front. d ∷ front) (fronts digits)
 
-abbrev pub first_where : (List ℕ → Bool) → List (List ℕ) → Option (List ℕ)
-first_where test [] = None
-first_where test (front ∷ rest) = if test front then Some front else first_where test rest
-
 -- the shortest front that is a complete number
 abbrev pub shortest_complete : Plan → List ℕ → Option (List ℕ)
-shortest_complete plan digits = first_where (is_complete plan) (fronts digits)
+shortest_complete plan digits = find (is_complete plan) (fronts digits)
 
 -- the number of an attempt
 abbrev pub number_of : Plan → Limits → List Run → Option (List ℕ)

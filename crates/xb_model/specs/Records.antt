@@ -1,6 +1,6 @@
 -- The record of a line, cut at releases into attempts, and an attempt cut at pauses into pulse
 -- trains (own profile).
-use Rattle.std.specs.Prelude.{ℕ, ◌+◌, List, [], ◌∷◌, Bool, true, false, ◌&&◌, ◌||◌, if◌then◌else◌, nat_le, ◌==◌}
+use Rattle.std.specs.Prelude.{ℕ, ◌+◌, List, [], ◌∷◌, Bool, true, false, ◌&&◌, if◌then◌else◌, nat_le, ◌==◌}
 use Rattle.std.specs.List.{filter, list_any}
 use Rattle.xb_model.specs.declared.row.Contact.{Contact}
 use Rattle.xb_model.specs.declared.row.Contact.TheVariants.{Make, Brk, Close}
@@ -106,8 +106,7 @@ heard limits (run ∷ rest) = run ∷ (if reaches_timeout limits run then [] els
 
 -- there is such a make
 abbrev pub is_timed : Limits → List Run → Bool
-is_timed limits [] = false
-is_timed limits (run ∷ rest) = reaches_timeout limits run || is_timed limits rest
+is_timed limits runs = list_any (reaches_timeout limits) runs
 
 abbrev pub without_first : List Run → List Run
 without_first [] = []

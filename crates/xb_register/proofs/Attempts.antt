@@ -1,8 +1,10 @@
 -- Each attempt's signals give its outcome.
-use Rattle.std.proofs.Common.{◌≡◌, ℕ, List, [], ◌∷◌, ◌++◌, length, map, Bool, true, false, cond, Option, Some, None, refl, ap, sym, ◌∙◌, inl, inr, append_assoc, append-nil}
+use Rattle.std.proofs.Common.{◌≡◌, ℕ, List, [], ◌∷◌, ◌++◌, length, map, Bool, true, false, cond, Option, Some, None, refl, ap, ◌∙◌, inl, inr, append_assoc, append-nil}
 use Rattle.std.specs.Prelude.{◌⊎◌, is_none}
 use Rattle.std.specs.Option.{option_to_list}
-use Rattle.std.specs.List.{filter, list_any, flat_map}
+use Rattle.std.specs.List.{find, filter, list_any, flat_map}
+use Rattle.std.proofs.lemmas.List.{map-id}
+use Rattle.std.proofs.lemmas.Simd.{map-map}
 use Rattle.xb_model.specs.declared.plan.Plan.{Plan}
 use Rattle.xb_model.specs.declared.limits.Limits.{Limits}
 use Rattle.xb_model.specs.declared.signal.Signal.{Signal}
@@ -12,7 +14,7 @@ use Rattle.xb_model.specs.declared.dialled.Dialled.{Dialled}
 use Rattle.xb_model.specs.declared.dialled.Dialled.TheVariants.{Number, Refused}
 use Rattle.xb_model.specs.Records.{Run, Attempt, Train, is_release, into_first, pieces_of, has_runs, attempts_of, trains_of, is_timed, runs_of}
 use Rattle.xb_model.specs.Signals.{breaks_in, is_bad_train, digit_signal, when, attempt_signals, signals_of}
-use Rattle.xb_model.specs.Numbers.{digit_of_train, before_mutilated, good_digits, is_complete, fronts, first_where, shortest_complete, without_number, or_refused, outcome_of, outcomes_of}
+use Rattle.xb_model.specs.Numbers.{digit_of_train, before_mutilated, good_digits, is_complete, fronts, shortest_complete, without_number, or_refused, outcome_of, outcomes_of}
 use Rattle.xb_register.specs.declared.state.Phase.TheVariants.{OnHook, Listening, Done}
 use Rattle.xb_register.specs.Registering.{store}
 use Rattle.xb_register.proofs.Said.{said}
@@ -61,22 +63,19 @@ comes_of plan digits (Some d ∷ os) behind late rest listening done =
     go true h = rw done
     go false h = rw append_assoc at h
 
--- the shortest complete front is what the digits complete
-map-map : (f g : List ℕ → List ℕ) (h : List ℕ → List ℕ) → ((x : List ℕ) → f (g x) ≡ h x) → (xs : List (List ℕ)) → map f (map g xs) ≡ map h xs
-map-map f g h e [] = refl
-map-map f g h e (x ∷ xs) = rw (e x, map-map f g h e xs)
+-- fronts behind some digits and one more
+front_behind : (digits : List ℕ) (d : ℕ) (more : List ℕ) → map (λ front. digits ++ d ∷ front) (fronts more) ≡ map (λ front. (digits ++ one d) ++ front) (fronts more)
+front_behind digits d more = simp append_assoc
 
-map-same : (xs : List (List ℕ)) → map (λ x. [] ++ x) xs ≡ xs
-map-same [] = refl
-map-same (x ∷ xs) = ap (λ ys. x ∷ ys) (map-same xs)
-
-first_front : (plan : Plan) (digits more : List ℕ) → first_where (is_complete plan) (map (λ front. digits ++ front) (fronts more)) ≡ cond (is_complete plan digits) (Some digits) (completed plan digits more)
+-- among the fronts of more digits, behind some, the first complete one is what the digits complete
+first_front : (plan : Plan) (digits more : List ℕ) → find (is_complete plan) (map (λ front. digits ++ front) (fronts more)) ≡ cond (is_complete plan digits) (Some digits) (completed plan digits more)
 first_front plan digits [] = rw append-nil
 first_front plan digits (d ∷ more) =
-    rw (append-nil digits, map-map (λ front. digits ++ front) (λ front. d ∷ front) (λ front. (digits ++ one d) ++ front) (λ x. sym (append_assoc digits (one d) x)) (fronts more), first_front plan (digits ++ one d) more)
+    rw (append-nil digits, map-map (λ front. digits ++ front) (λ front. d ∷ front) (fronts more), front_behind digits d more, first_front plan (digits ++ one d) more)
 
+-- the shortest complete front is what the digits complete
 shortest : (plan : Plan) (digits : List ℕ) → shortest_complete plan digits ≡ completed plan [] digits
-shortest plan digits = rw (map-same (fronts digits)) at (first_front plan [] digits)
+shortest plan digits = rw (map-id (fronts digits)) at (first_front plan [] digits)
 
 -- the attempts, each but the last with a release behind it
 
