@@ -1,6 +1,7 @@
 -- The four stages, one after another, on one line.
-use Rattle.std.proofs.Common.{◌≡◌, ℕ, ◌<◌, List, [], ◌∷◌, ◌++◌, map, refl, ap, ◌∙◌}
+use Rattle.std.proofs.Common.{◌≡◌, ℕ, ◌<◌, List, [], ◌∷◌, map, refl, sym, ap, ◌∙◌}
 use Rattle.std.specs.List.{flat_map, AllByRecursion}
+use Rattle.std.proofs.lemmas.List.Folds.{flat_map-map}
 use Rattle.xb_model.specs.declared.limits.Limits.{Limits}
 use Rattle.xb_model.specs.declared.line.TheConstants.{LINES}
 use Rattle.xb_model.specs.declared.on.On.{On}
@@ -26,21 +27,13 @@ use Rattle.xb_register.specs.Laws.{GivesOutcomes}
 use Rattle.xb_register.proofs.Said.{image_from-on_line}
 use Rattle.xb_register.proofs.Attempts.{registers}
 use Rattle.xb_routes.specs.Translating.{machine as translate_machine}
+use Rattle.xb_routes.proofs.Translating.{image-machine}
 use Rattle.xb_sender.specs.Sending.{machine as sender_machine}
 use Rattle.xb_bank.specs.Closed.{closed_once}
 use Rattle.xb_bank.specs.Fed.{fed}
 use Rattle.xb_bank.specs.ItemLines.{row_line}
 use Rattle.xb_bank.proofs.ClosedOnce.{closes-once, record-once, is_on-once}
 use Rattle.xb_bank.proofs.FedRows.{rows_of-fed}
-
--- what is made of a list, item by item
-flat_map-joined : {A B : Type 0} (f : A → List B) (xs : List A) → flat_map f xs ≡ flat_map (λ ys. ys) (map f xs)
-flat_map-joined f [] = refl
-flat_map-joined f (x ∷ xs) = ap (λ ys. f x ++ ys) (flat_map-joined f xs)
-
-flat_map-map : {A B C : Type 0} (f : A → B) (g : B → List C) (xs : List A) → flat_map g (flat_map (λ x. f x ∷ []) xs) ≡ flat_map (λ x. g (f x)) xs
-flat_map-map f g [] = refl
-flat_map-map f g (x ∷ xs) = ap (λ ys. g (f x) ++ ys) (flat_map-map f g xs)
 
 registered : GivesOutcomes
 registered plan limits line record_ = image_from-on_line plan line OnHook (signals_of limits record_) ∙ ap (λ said. on_line line said) (registers plan limits record_)
@@ -60,11 +53,11 @@ module _ (plan : Plan) (limits : Limits) (routes : List CodedRoute) where
       → image_on sender_machine (image_on (translate_machine routes) (image_on (register_machine plan) (on_line l (signals_of limits runs)))) ≡ on_line l (record_marks runs)
   chain-signals l runs =
       ap (λ xs. image_on sender_machine (image_on (translate_machine routes) xs)) (registered plan limits l runs)
-      ∙ ap (λ xs. image_on sender_machine xs) (image-stateless (λ outcome. order_of routes outcome ∷ []) l (outcomes_of plan limits runs))
-      ∙ image-stateless marks_of l (flat_map (λ outcome. order_of routes outcome ∷ []) (outcomes_of plan limits runs))
+      ∙ ap (λ xs. image_on sender_machine xs) (image-machine routes l (outcomes_of plan limits runs))
+      ∙ image-stateless marks_of l (map (order_of routes) (outcomes_of plan limits runs))
       ∙ ap (λ marks. on_line l marks)
-      (flat_map-map (order_of routes) marks_of (outcomes_of plan limits runs)
-      ∙ flat_map-joined (λ outcome. marks_of (order_of routes outcome)) (outcomes_of plan limits runs))
+      (flat_map-map marks_of (order_of routes) (outcomes_of plan limits runs)
+      ∙ sym (flat_map-map (λ ys. ys) (λ outcome. marks_of (order_of routes outcome)) (outcomes_of plan limits runs)))
 
   -- what they make of rows of one line, closed once
   chain-once : (l : ℕ) (rows : List LoopRow) → IsLawful limits → AllByRecursion (λ row. row.line ≡ l) rows

@@ -23,6 +23,7 @@ lines_below_more n = sym (map-id _) ∙ map-range_with_len_more (λ k. k) 0 n n 
 abbrev pub closing : ℕ → Bool → List LoopRow
 closing n wanted = cond wanted (close_row n ∷ []) []
 
+-- below line 0 nothing is closed
 pub closings_none : (rows : List LoopRow) → closings_below 0 rows ≡ []
 closings_none rows = ap (λ lines. map close_row (filter (is_open rows) lines)) lines_below_none
 

@@ -19,6 +19,7 @@ once l (row ∷ rows) = ap (λ ys. until_close (row ∷ rows) ++ ys) (turned (cl
     turned true = refl
     turned false = refl
 
+-- a line's fed rows are its rows up to its close, and its closing
 pub rows_of-fed : FeedsEachLineOnce
 rows_of-fed l rows h =
     of_line-append row_line l (kept rows) (closings_below LINES rows)

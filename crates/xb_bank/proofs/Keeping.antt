@@ -37,6 +37,7 @@ module _ (tapes after : List (List Mark)) (marks : List (On Mark)) (x : On Mark)
       ∙ are.each l below
       ∙ ap whats_of (sym (of_line-append on_line_of l marks (x ∷ []) ∙ ap (λ zs. of_line on_line_of l marks ++ zs) (of_line-other on_line_of l x [] f) ∙ append-nil _))
 
+  -- the tapes behind one mark more
   pub are_tapes-more : AreTapes after (marks ++ x ∷ [])
   are_tapes-more = record {
     lines = ap length e ∙ length-set tapes x.line more ∙ are.lines;

@@ -1,7 +1,9 @@
 -- The tapes of the four images are the tapes of the lines.
-use Rattle.std.proofs.Common.{◌≡◌, ℕ, ◌<◌, List, [], ◌∷◌, length, map, refl, ap, ◌∙◌}
+use Rattle.std.proofs.Common.{◌≡◌, ℕ, ◌<◌, List, [], ◌∷◌, length, map, refl, sym, ap, ◌∙◌}
 use Rattle.std.specs.List.{flat_map}
 use Rattle.std.specs.Option.{option_to_list}
+use Rattle.std.proofs.lemmas.List.Folds.{flat_map-map}
+use Rattle.std.proofs.lemmas.Simd.{map-map}
 use Rattle.std.proofs.lemmas.List.FromFn.{fill_by_all}
 use Rattle.xb_model.specs.declared.limits.Limits.{Limits}
 use Rattle.xb_model.specs.declared.line.TheConstants.{LINES}
@@ -27,7 +29,7 @@ use Rattle.xb_pulse.specs.Outputs.{outs_on_line}
 use Rattle.xb_register.specs.Registering.{advance, machine as register_machine}
 use Rattle.xb_routes.specs.Translating.{machine as translate_machine}
 use Rattle.xb_sender.specs.Sending.{machine as sender_machine}
-use Rattle.xb_sender.proofs.Entries.{marks_of-last, entries_of-append}
+use Rattle.xb_sender.proofs.Entries.{entries_of-flat_map}
 use Rattle.xb_bank.specs.Fed.{fed, lines_below}
 use Rattle.xb_bank.specs.ItemLines.{row_line, on_line_of}
 use Rattle.xb_bank.specs.Serial.{serial_image}
@@ -40,10 +42,10 @@ whats_of-on_line l (mark ∷ marks) = ap (λ ms. mark ∷ ms) (whats_of-on_line 
 
 -- the entries of joined entries are those entries
 entries_of-orders : {A : Type 0} (f : A → Order) (xs : List A) → entries_of (flat_map (λ entry. entry) (map (λ x. marks_of (f x)) xs)) ≡ map (λ x. marks_of (f x)) xs
-entries_of-orders f [] = refl
-entries_of-orders f (x ∷ xs) =
-    entries_of-append (marks_of (f x)) (flat_map (λ entry. entry) (map (λ x. marks_of (f x)) xs)) (marks_of-last (f x))
-    ∙ ap (λ entries. marks_of (f x) ∷ entries) (entries_of-orders f xs)
+entries_of-orders f xs =
+    ap entries_of (flat_map-map (λ entry. entry) (λ x. marks_of (f x)) xs ∙ sym (flat_map-map marks_of f xs))
+    ∙ entries_of-flat_map (map f xs)
+    ∙ map-map marks_of f xs
 
 -- lists that have this value at each line are those of all lines
 each_line : (f : ℕ → List Mark) (tapes : List (List Mark)) → length tapes ≡ LINES → ((l : ℕ) → l < LINES → marks_at tapes l ≡ f l) → tapes ≡ map f (lines_below LINES)

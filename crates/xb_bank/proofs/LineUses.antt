@@ -6,7 +6,7 @@ use Rattle.xb_model.specs.Rows.{LoopRow}
 use Rattle.xb_model.specs.Records.{is_close, closes, rows_of}
 use Rattle.xb_ring.specs.Image.{state_after}
 use Rattle.xb_bank.specs.declared.fed.LineUse.{LineUse}
-use Rattle.xb_bank.specs.declared.fed.LineUse.TheVariants.{Silent, Open, Closed}
+use Rattle.xb_bank.specs.declared.fed.LineUse.TheVariants.{NoRows, Open, Closed}
 use Rattle.xb_bank.specs.Fed.{has_rows, is_open}
 use Rattle.xb_bank.specs.ItemLines.{row_line}
 use Rattle.xb_bank.specs.Uses.{is_closed, is_open_use, heard_use, uses}
@@ -31,11 +31,11 @@ from_open : (rows : List LoopRow) → fold uses.next Open rows ≡ used (closes 
 from_open [] = refl
 from_open (row ∷ rows) = from_heard row.contact rows (from_open rows)
 
-from_silent : (rows : List LoopRow) → fold uses.next Silent rows ≡ cond (has_rows rows) (used (closes rows)) Silent
-from_silent [] = refl
-from_silent (row ∷ rows) = from_heard row.contact rows (from_open rows)
+from_no_rows : (rows : List LoopRow) → fold uses.next NoRows rows ≡ cond (has_rows rows) (used (closes rows)) NoRows
+from_no_rows [] = refl
+from_no_rows (row ∷ rows) = from_heard row.contact rows (from_open rows)
 
-closed_of : (rows : List LoopRow) → is_closed (cond (has_rows rows) (used (closes rows)) Silent) ≡ closes rows
+closed_of : (rows : List LoopRow) → is_closed (cond (has_rows rows) (used (closes rows)) NoRows) ≡ closes rows
 closed_of [] = refl
 closed_of (row ∷ rows) = at (closes (row ∷ rows))
   where
@@ -43,7 +43,7 @@ closed_of (row ∷ rows) = at (closes (row ∷ rows))
     at true = refl
     at false = refl
 
-open_of : (rows : List LoopRow) → is_open_use (cond (has_rows rows) (used (closes rows)) Silent) ≡ (has_rows rows && not (closes rows))
+open_of : (rows : List LoopRow) → is_open_use (cond (has_rows rows) (used (closes rows)) NoRows) ≡ (has_rows rows && not (closes rows))
 open_of [] = refl
 open_of (row ∷ rows) = at (closes (row ∷ rows))
   where
@@ -54,9 +54,9 @@ open_of (row ∷ rows) = at (closes (row ∷ rows))
 -- a line is closed where its rows have a close
 pub closed_use : (rows : List LoopRow) (l : ℕ) → is_closed (state_after row_line uses rows l) ≡ closes (rows_of l rows)
 unfolding state_after
-closed_use rows l = ap is_closed (from_silent (rows_of l rows)) ∙ closed_of (rows_of l rows)
+closed_use rows l = ap is_closed (from_no_rows (rows_of l rows)) ∙ closed_of (rows_of l rows)
 
 -- it is open where it has rows and they have none
 pub open_use : (rows : List LoopRow) (l : ℕ) → is_open_use (state_after row_line uses rows l) ≡ is_open rows l
 unfolding state_after
-open_use rows l = ap is_open_use (from_silent (rows_of l rows)) ∙ open_of (rows_of l rows)
+open_use rows l = ap is_open_use (from_no_rows (rows_of l rows)) ∙ open_of (rows_of l rows)

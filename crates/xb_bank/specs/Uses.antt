@@ -5,15 +5,15 @@ use Rattle.xb_model.specs.declared.row.Contact.TheVariants.{Make, Brk, Close}
 use Rattle.xb_model.specs.Rows.{LoopRow}
 use Rattle.xb_ring.specs.Image.{Machine}
 use Rattle.xb_bank.specs.declared.fed.LineUse.{LineUse}
-use Rattle.xb_bank.specs.declared.fed.LineUse.TheVariants.{Silent, Open, Closed}
+use Rattle.xb_bank.specs.declared.fed.LineUse.TheVariants.{NoRows, Open, Closed}
 
 abbrev pub is_closed : LineUse → Bool
-is_closed Silent = false
+is_closed NoRows = false
 is_closed Open = false
 is_closed Closed = true
 
 abbrev pub is_open_use : LineUse → Bool
-is_open_use Silent = false
+is_open_use NoRows = false
 is_open_use Open = true
 is_open_use Closed = false
 
@@ -25,10 +25,10 @@ heard_use Close = Closed
 
 -- a line behind one more row
 abbrev pub next_use : LineUse → Contact → LineUse
-next_use Silent contact = heard_use contact
+next_use NoRows contact = heard_use contact
 next_use Open contact = heard_use contact
 next_use Closed contact = Closed
 
 -- the uses of the lines, as the states of a stage that sends nothing
 abbrev pub uses : Machine LoopRow LoopRow LineUse
-uses = record { start = Silent; next = λ before row. next_use before row.contact; outs = λ before row. [] }
+uses = record { start = NoRows; next = λ before row. next_use before row.contact; outs = λ before row. [] }

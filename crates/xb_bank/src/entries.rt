@@ -1,5 +1,5 @@
 // Cutting a tape into its entries.
-ghost use Rattle.std.specs.Prelude.{◌≡◌, ℕ, ◌≤◌, length, IfSome, Option, option_map, slice_get};
+ghost use Rattle.std.specs.Prelude.{◌≡◌, ◌≤◌, length, IfSome, Option, option_map, slice_get};
 ghost use Rattle.xb_model.specs.Tapes.{entries_of};
 ghost use Rattle.xb_bank.specs.Entries.{first_end};
 

@@ -1,5 +1,5 @@
 // The rows that are fed to the chain.
-ghost use Rattle.std.specs.Prelude.{◌≡◌, ℕ, ◌<◌, [], ◌∷◌, ◌++◌, if◌then◌else◌, vec_len, slice_set, slice_index_or, IfOk};
+ghost use Rattle.std.specs.Prelude.{◌≡◌, ◌<◌, [], ◌∷◌, ◌++◌, if◌then◌else◌, vec_len, slice_set, slice_index_or, IfOk};
 ghost use Rattle.xb_model.specs.declared.line.TheConstants.{LINES};
 ghost use Rattle.xb_bank.specs.Fed.{close_row, fed};
 ghost use Rattle.xb_bank.specs.Uses.{is_closed, is_open_use, next_use};
@@ -11,7 +11,7 @@ use xb_model::{Contact, LINES, LineNo, Row};
 #[derive(Clone, Copy, Debug, PartialEq, Eq)]
 pub(crate) enum LineUse {
     /// There was no row.
-    Silent,
+    NoRows,
     /// There were rows, and no close.
     Open,
     /// There was a close.
@@ -41,7 +41,7 @@ fn take_row(row: Row, uses: &mut Vec<LineUse>, fed: &mut Vec<Row>) -> Result<(),
     uses[line] = next_use(before, row.contact());
     match before {
         LineUse::Closed => {}
-        LineUse::Silent | LineUse::Open => fed.push(row)?,
+        LineUse::NoRows | LineUse::Open => fed.push(row)?,
     }
     Ok(())
 }
@@ -58,12 +58,12 @@ fn close_line(number: u16, line_use: LineUse, fed: &mut Vec<Row>) -> Result<(), 
 }
 
 /// The fed rows: those without the ones of a line behind its close, then a close for each line that
-/// has rows and none, lines ascending (own profile).
+/// has rows and none, lines ascending (own profile). `Err` where a growth was refused.
 pub fn fed_rows(alloc: Global, rows: &[Row]) -> Result<Vec<Row>, AllocError>
     ensures { IfOk result (λ all. all.items ≡ fed rows.now) }
 {
     let mut uses = Vec::new(alloc);
-    uses.resize(usize::from(LINES), LineUse::Silent)?;
+    uses.resize(usize::from(LINES), LineUse::NoRows)?;
     let mut fed = Vec::with_capacity(alloc, rows.len())?;
     for row in rows {
         take_row(*row, &mut uses, &mut fed)?;

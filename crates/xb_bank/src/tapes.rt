@@ -41,7 +41,7 @@ fn push_at<T: Drop>(lists: &mut Vec<Vec<T>>, at: usize, x: T) -> Result<(), Allo
 }
 
 impl Tapes {
-    /// Tapes without marks.
+    /// Tapes without marks; `Err` where a growth was refused.
     pub fn new(alloc: Global) -> Result<Tapes, AllocError>
         ensures lines { IfOk result (λ tapes. length tapes ≡ LINES) }
         ensures blank { IfOk result (λ tapes. (l : ℕ) → marks_at tapes l ≡ []) }

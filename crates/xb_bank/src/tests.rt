@@ -2,7 +2,7 @@
 use crate::{Listed, RowSource, Tapes, fed_rows, key_serial};
 use std::alloc::{AllocError, Global};
 use std::process::Abort;
-use xb_model::{Contact, Digit, Key, LineNo, Mark, On, Reason, Row, RowFault, Trunk, mf};
+use xb_model::{Contact, Digit, Key, LineNo, Mark, On, Reason, Row, RowFault, Tone, Trunk};
 use xb_routes::RouteTable;
 
 /// The routes of the office codes 234 and 411, and of 0.
@@ -29,27 +29,26 @@ fn trunk(rt: &impl Abort, number: u16) -> Mark {
     Mark::Trunk(Trunk::new(number).expect(rt, "a trunk group"))
 }
 
-// The mark of a key.
-fn tone(key: &Key) -> Mark {
-    let pair = mf(*key);
-    Mark::Tone(*key, pair)
+// The mark of a key, with its pair in Hz.
+fn tone(key: Key, low: u16, high: u16) -> Mark {
+    Mark::Tone(key, Tone { low, high })
 }
 
-// The marks of a keying of these digits, on this trunk group.
+// The marks of a keying on this trunk group, given each digit with its pair.
 fn keying(
     rt: &impl Abort,
     alloc: Global,
     number: u16,
-    digits: &[u8],
+    digits: &[(u8, u16, u16)],
 ) -> Result<Vec<Mark>, AllocError> {
     let mut marks = Vec::new(alloc);
     marks.push(trunk(rt, number))?;
-    marks.push(tone(&Key::Kp))?;
-    for digit in digits {
-        let digit = Digit::new(*digit).expect(rt, "a digit");
-        marks.push(tone(&Key::Digit(digit)))?;
+    marks.push(tone(Key::Kp, 1100, 1700))?;
+    for (value, low, high) in digits {
+        let digit = Digit::new(*value).expect(rt, "a digit");
+        marks.push(tone(Key::Digit(digit), *low, *high))?;
     }
-    marks.push(tone(&Key::St))?;
+    marks.push(tone(Key::St, 1500, 1700))?;
     Ok(marks)
 }
 
@@ -90,7 +89,7 @@ fn put(tapes: &mut Tapes, line: LineNo, marks: &[Mark]) -> Result<(), AllocError
 fn entries_of_a_tape(rt: HostRuntime) -> Result<(), AllocError> {
     let alloc = rt.alloc();
     let (first, last) = (line(&rt, 0), line(&rt, 9_999));
-    let keyed = keying(&rt, alloc, 1, &[0])?;
+    let keyed = keying(&rt, alloc, 1, &[(0, 1300, 1500)])?;
     let refused = vec![in alloc; Mark::Refused(Reason::Mutilated, 1)]?;
     let unended = vec![in alloc; trunk(&rt, 3)]?;
     let mut tapes = Tapes::new(alloc)?;
@@ -161,27 +160,16 @@ fn two_lines_in_turn(rt: HostRuntime) -> Result<(), AllocError> {
         }
     }
     let tapes = tapes_of(&rt, alloc, &rows)?;
-    let operator = keying(&rt, alloc, 1, &[0])?;
-    let service = keying(&rt, alloc, 3, &[4, 1, 1])?;
+    let operator = keying(&rt, alloc, 1, &[(0, 1300, 1500)])?;
+    let service = keying(
+        &rt,
+        alloc,
+        3,
+        &[(4, 700, 1300), (1, 700, 900), (1, 700, 900)],
+    )?;
     assert_eq!(rt; tapes.marks(one), operator.as_slice());
     assert_eq!(rt; tapes.marks(two), service.as_slice());
     assert_eq!(rt; tapes.entries(two), 1);
     assert_eq!(rt; tapes.entries(line(&rt, 3)), 0);
-    Ok(())
-}
-
-#[test]
-fn closed_line(rt: HostRuntime) -> Result<(), AllocError> {
-    let nine = line(&rt, 9);
-    let mut rows = Vec::new(rt.alloc());
-    rows.push(seizure(&rt, nine))?;
-    dial(&rt, &mut rows, nine, 2)?;
-    dial(&rt, &mut rows, nine, 3)?;
-    rows.push(Row::close(nine))?;
-    rows.push(seizure(&rt, nine))?;
-    dial(&rt, &mut rows, nine, 10)?;
-    let tapes = tapes_of(&rt, rt.alloc(), &rows)?;
-    let wanted = vec![in rt.alloc(); Mark::Refused(Reason::Abandoned, 2)]?;
-    assert_eq!(rt; tapes.marks(nine), wanted.as_slice());
     Ok(())
 }
