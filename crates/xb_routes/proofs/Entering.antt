@@ -49,6 +49,7 @@ module _ (index new : Index) (routes : List CodedRoute) (route : CodedRoute) (is
             let r : c ≡ z = cc in
             cc
 
+    -- the index behind it
     pub entered-office : new.operator ≡ index.operator → IsIndex new (routes ++ route ∷ [])
     entered-office operator = record {
       operator = operator ∙ is.operator ∙ sym (place-other (0 ∷ []) routes route (has-other (0 ∷ []) route (λ e. cc)));

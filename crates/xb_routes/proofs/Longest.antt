@@ -29,11 +29,13 @@ covers-take (c ∷ code) (d ∷ digits) h =
     let same : c ≡ d = eqb-true c d p.0 in
     ap (λ x. x ∷ take (length code) digits) (sym same) ∙ ap (λ xs. c ∷ xs) (covers-take code digits p.1)
 
+-- a code that covers digits is no longer than they are
 pub covers-length : (code digits : List ℕ) → covers code digits ≡ true → length code ≤ length digits
 covers-length [] digits h = omega arith
 covers-length (c ∷ code) [] h = absurd (cc)
 covers-length (c ∷ code) (d ∷ digits) h = omega (arith, covers-length code digits (both (c == d) (covers code digits) h).1)
 
+-- each front of digits covers them
 pub covers-front : (n : ℕ) (digits : List ℕ) → covers (take n digits) digits ≡ true
 covers-front zero digits = refl
 covers-front (suc n) [] = refl

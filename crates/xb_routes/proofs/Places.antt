@@ -24,13 +24,15 @@ module _ (code : List ℕ) where
   pub place-none : (route : CodedRoute) (routes : List CodedRoute) → place_of code (route ∷ routes) ≡ None → (has_code code route ≡ false) × (place_of code routes ≡ None)
   place-none route routes e = place-cons (has_code code route) (place_of code routes) e
 
-  -- a route that has the code has it, and no other does
+  -- a route of the code has it by the test
   pub has-code : (route : CodedRoute) → route.code ≡ code → has_code code route ≡ true
   has-code route e = (bytes_eq-Decides route.code code).1 e
 
+  -- a route that has the code by the test has it
   pub has-code-is : (route : CodedRoute) → has_code code route ≡ true → route.code ≡ code
   has-code-is route e = (bytes_eq-Decides route.code code).0 e
 
+  -- a route of another code has it not
   pub has-other : (route : CodedRoute) → route.code ≢ code → has_code code route ≡ false
   has-other route n = ⊎_elim (λ h. absurd (n (has-code-is route h))) (λ h. h) (cases_Bool (has_code code route))
 
@@ -56,29 +58,17 @@ module _ (code : List ℕ) where
   place-any [] = refl
   place-any (r ∷ rs) = some-or (has_code code r) (place_of code rs) _ (place-any rs)
 
--- the first three of digits
-pub first-three : (digits : List ℕ) (a b c : ℕ) → 3 ≤ length digits → a ≡ get_or digits 0 a → b ≡ get_or digits 1 b → c ≡ get_or digits 2 c → take 3 digits ≡ a ∷ b ∷ c ∷ []
-first-three [] a b c h e f g = absurd (omega arith)
-first-three (x ∷ []) a b c h e f g = absurd (omega arith)
-first-three (x ∷ y ∷ []) a b c h e f g = absurd (omega arith)
-first-three (x ∷ y ∷ z ∷ rest) a b c h e f g = cc
-
+-- the first of digits
 pub first-one : (digits : List ℕ) (a : ℕ) → 1 ≤ length digits → a ≡ get_or digits 0 a → take 1 digits ≡ a ∷ []
 first-one [] a h e = absurd (omega arith)
 first-one (x ∷ rest) a h e = cc
 
--- the place by a front that is there, and by one that is not
+-- the place by a front that is there
 pub front-there : (n : ℕ) (digits : List ℕ) (routes : List CodedRoute) → n ≤ length digits → place_of_front n digits routes ≡ place_of (take n digits) routes
 front-there n digits routes h = cond-true _ _ _ (within h)
   where
     within : n ≤ length digits → nat_le n (length digits) ≡ true
     within h = grind (arith, nat_tests)
-
-pub front-past : (n : ℕ) (digits : List ℕ) (routes : List CodedRoute) → length digits < n → place_of_front n digits routes ≡ None
-front-past n digits routes h = cond-false _ _ _ (past h)
-  where
-    past : length digits < n → nat_le n (length digits) ≡ false
-    past h = grind (arith, nat_tests)
 
 -- no code is one digit other than 0
 pub no-other-digit : (d : ℕ) (entries : List Entry) → d ≢ 0 → place_of (d ∷ []) (map coded entries) ≡ None
@@ -98,6 +88,7 @@ no-other-digit d (entry ∷ entries) h =
 pub office-digits : (a b c x y z : ℕ) → a < 10 → b < 10 → c < 10 → x < 10 → y < 10 → z < 10 → 100 * a + 10 * b + c ≡ 100 * x + 10 * y + z → (a ≡ x) × (b ≡ y) × (c ≡ z)
 office-digits a b c x y z ha hb hc hx hy hz e = (omega arith, omega arith, omega arith)
 
+-- a place that is not there
 pub not-some : (p : Option ℕ) → is_some p ≡ false → p ≡ None
 not-some None h = refl
 not-some (Some n) h = absurd (cc)

@@ -85,9 +85,10 @@ tree-none text h = by (is_utf8 text) refl
     by true e = rw (e, h (IsUtf8-from_is_utf8 text e)) refl
     by false e = rw e refl
 
--- the table of a tree, and its refusal
+-- the table of a tree whose routes are read
 pub table-routes : (tree : Members) (routes : List CodedRoute) → routes_of_key Seven (get_member (codes "route") tree) ≡ Ok routes → table_of_tree tree ≡ Ok (seven_table routes)
 table-routes tree routes e = rw e refl
 
+-- the refusal of a tree whose routes are refused
 pub table-refused : (tree : Members) (f : RouteFault) → routes_of_key Seven (get_member (codes "route") tree) ≡ Err f → table_of_tree tree ≡ Err f
 table-refused tree f e = rw e refl

@@ -1,10 +1,11 @@
 -- What the definitions give at worked tables.
 use Rattle.std.specs.Prelude.{◌≡◌, ℕ, List, [], ◌∷◌, ◌++◌, codes, Some, None, Ok, Err}
 use Rattle.xb_model.specs.declared.plan.Plan.TheVariants.{Seven}
-use Rattle.xb_model.specs.Routing.{CodedRoute, route_for}
+use Rattle.xb_model.specs.Routing.{route_for}
+use Rattle.xb_model.specs.WorkedRows.{route, three_routes}
 use Rattle.xb_routes.specs.declared.fault.RouteFault.TheVariants as fault
 use Rattle.xb_routes.specs.Codes.{code_of, number_length}
-use Rattle.xb_routes.specs.Text.{coded_route, seven_table, table_of_text}
+use Rattle.xb_routes.specs.Text.{seven_table, table_of_text}
 
 -- the codes of plan Seven, with the length of their numbers, and texts that are none
 pub record ReadsCodes : Type 0 where
@@ -23,15 +24,7 @@ pub record ReadsCodes : Type 0 where
   pub no_digit : code_of Seven (codes "") ≡ None
   pub a_letter : code_of Seven (codes "23a") ≡ None
 
--- a route of each form of a code
-abbrev pub three_routes : List CodedRoute
-three_routes =
-    coded_route (2 ∷ 3 ∷ 4 ∷ []) 17 3 (5 ∷ 6 ∷ [])
-    ∷ coded_route (4 ∷ 1 ∷ 1 ∷ []) 3 0 []
-    ∷ coded_route (0 ∷ []) 1 0 []
-    ∷ []
-
--- the lines that write them
+-- the lines that write the three routes
 abbrev pub three_lines : List ℕ
 three_lines =
     codes "[[route]]\ncode = \"234\"\ntrunk = 17\ndelete = 3\nprefix = \"56\"\n"
@@ -54,7 +47,7 @@ pub record ReadsTables : Type 0 where
 
 -- the route of a number
 pub record LooksUp : Type 0 where
-  pub office_code : route_for three_routes (2 ∷ 3 ∷ 4 ∷ 5 ∷ 6 ∷ 7 ∷ 8 ∷ []) ≡ Some (coded_route (2 ∷ 3 ∷ 4 ∷ []) 17 3 (5 ∷ 6 ∷ []))
-  pub operator : route_for three_routes (0 ∷ []) ≡ Some (coded_route (0 ∷ []) 1 0 [])
+  pub office_code : route_for three_routes (2 ∷ 3 ∷ 4 ∷ 5 ∷ 6 ∷ 7 ∷ 8 ∷ []) ≡ Some (route (2 ∷ 3 ∷ 4 ∷ []) 17 3 (5 ∷ 6 ∷ []))
+  pub operator : route_for three_routes (0 ∷ []) ≡ Some (route (0 ∷ []) 1 0 [])
   pub no_code : route_for three_routes (6 ∷ 1 ∷ 1 ∷ []) ≡ None
   pub too_short : route_for three_routes (2 ∷ 3 ∷ []) ≡ None

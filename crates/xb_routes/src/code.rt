@@ -1,5 +1,5 @@
 // The codes that a route may have.
-ghost use Rattle.std.specs.Prelude.{◌≡◌, ◌≤◌, length, option_map};
+ghost use Rattle.std.specs.Prelude.{◌≡◌, length, option_map};
 ghost use Rattle.xb_routes.specs.Codes.{code_of, digit_of_character, digits_of_text, is_office_code, number_length};
 ghost use Rattle.xb_routes.specs.Coded.{code_digits};
 ghost use Rattle.xb_routes.specs.Text.{prefixed_of};

@@ -52,7 +52,7 @@ fn deleted_of(length: u8, number: Option<i64>) -> Option<u8>
 }
 
 // Whether a route keys no digit of numbers of this length.
-fn is_silent(number_length: u8, route: &Route) -> bool
+fn keys_no_digit(number_length: u8, route: &Route) -> bool
     ensures { result ≡ ((route.now.deleted == number_length) && (length route.now.prefixed == 0)) }
 {
     route.deleted == number_length && route.prefixed.digits().is_empty()
@@ -84,7 +84,7 @@ pub fn route_of(plan: Plan, i: u32, value: &Value) -> Result<Entry, RouteFault>
         prefixed,
     };
     let entry = Entry { code, route };
-    if is_silent(length, &entry.route) {
+    if keys_no_digit(length, &entry.route) {
         return Err(RouteFault::NothingToKey(i));
     }
     Ok(entry)

@@ -100,8 +100,8 @@ impl RouteTable {
     /// The table that a text writes (own format): TOML whose array of tables `route` has a route
     /// each, with the keys `code`, `trunk`, `delete` and `prefix`. All other keys are ignored.
     ///
-    /// A refusal is the first in the order of `RouteFault`; `NoMemory` comes where a growth was
-    /// refused, before any later check.
+    /// `Err` has the first refusal in the order of `RouteFault`; `Err(RouteFault::NoMemory)` comes
+    /// where a growth was refused, before any later check.
     pub fn read(alloc: Global, text: &[u8]) -> Result<RouteTable, RouteFault>
         ensures ok { IfOk result (λ t. table_of_text text.now ≡ Ok t) }
         ensures refused { IfErr result (λ f. f ≢ NoMemory → table_of_text text.now ≡ Err f) }

@@ -182,40 +182,53 @@ fn numbers_out_of_range(rt: HostRuntime) -> Result<(), Fail> {
     Ok(())
 }
 
+/// The codes of plan Seven, with the other keys of their routes.
+const CODES: &[(&str, &str)] = &[
+    ("0", "trunk = 1"),
+    ("0", "trunk = 1\ndelete = 0\nprefix = \"\""),
+    ("0", "trunk = 1\ndelete = 0\nprefix = \"5\""),
+    ("0", "trunk = 1\ndelete = 1\nprefix = \"5\""),
+    ("234", "trunk = 9999"),
+    ("234", "trunk = 1\ndelete = 6"),
+    ("234", "trunk = 1\ndelete = 7\nprefix = \"12345678\""),
+    ("411", "trunk = 0"),
+    ("411", "trunk = 1\ndelete = 2"),
+    ("411", "trunk = 1\ndelete = 3\nprefix = \"5\""),
+];
+
 #[test]
 fn codes_of_plan_seven(rt: HostRuntime) -> Result<(), Fail> {
-    for (code, lines) in [
-        ("0", "trunk = 1"),
-        ("0", "trunk = 1\ndelete = 0\nprefix = \"\""),
-        ("0", "trunk = 1\ndelete = 0\nprefix = \"5\""),
-        ("0", "trunk = 1\ndelete = 1\nprefix = \"5\""),
-        ("234", "trunk = 9999"),
-        ("234", "trunk = 1\ndelete = 6"),
-        ("234", "trunk = 1\ndelete = 7\nprefix = \"12345678\""),
-        ("411", "trunk = 0"),
-        ("411", "trunk = 1\ndelete = 2"),
-        ("411", "trunk = 1\ndelete = 3\nprefix = \"5\""),
-    ] {
+    for (code, lines) in CODES {
         let text = one_route(rt.alloc(), code, lines)?;
         let table = RouteTable::read(rt.alloc(), text.as_bytes())?;
         let number = digits(&rt, rt.alloc(), code)?;
         assert!(rt; table.look(&number).is_some(), "the route of {code}");
     }
-    for (code, greatest, above) in [
+    Ok(())
+}
+
+#[test]
+fn deletions_of_all_digits_and_more(rt: HostRuntime) -> Result<(), Fail> {
+    for (code, all, more) in [
         ("0", "trunk = 1\ndelete = 1", "trunk = 1\ndelete = 2"),
         ("234", "trunk = 1\ndelete = 7", "trunk = 1\ndelete = 8"),
         ("411", "trunk = 1\ndelete = 3", "trunk = 1\ndelete = 4"),
     ] {
-        let text = one_route(rt.alloc(), code, greatest)?;
+        let text = one_route(rt.alloc(), code, all)?;
         check_fault(
             &rt,
             rt.alloc(),
             text.as_bytes(),
             RouteFault::NothingToKey(1),
         );
-        let text = one_route(rt.alloc(), code, above)?;
+        let text = one_route(rt.alloc(), code, more)?;
         check_fault(&rt, rt.alloc(), text.as_bytes(), RouteFault::Delete(1));
     }
+    Ok(())
+}
+
+#[test]
+fn texts_that_are_no_codes(rt: HostRuntime) -> Result<(), Fail> {
     for code in [
         "212", "201", "212555", "411555", "212155", "111", "1", "23", "2345", "", "23a",
     ] {

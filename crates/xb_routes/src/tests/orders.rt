@@ -111,11 +111,23 @@ fn numbers_are_ordered(rt: HostRuntime) -> Result<(), Fail> {
     ] {
         check_order(&rt, rt.alloc(), &table, row)?;
     }
+    Ok(())
+}
+
+#[test]
+fn numbers_without_a_route_are_refused(rt: HostRuntime) -> Result<(), Fail> {
+    let table = RouteTable::read(rt.alloc(), THREE_ROUTES.as_bytes())?;
     for (number, heard) in [("611", 3), ("5551234", 7)] {
         let number = digits(&rt, rt.alloc(), number)?;
         let outcome = Dialled::Number(NumberDigits::of(&number).ok_or("seven digits")?);
         check_refusal(&rt, rt.alloc(), &table, outcome, (Reason::Unknown, heard))?;
     }
+    Ok(())
+}
+
+#[test]
+fn refusals_are_passed_on(rt: HostRuntime) -> Result<(), Fail> {
+    let table = RouteTable::read(rt.alloc(), THREE_ROUTES.as_bytes())?;
     for (reason, heard) in [(Reason::Mutilated, 1), (Reason::TimedOut, 6)] {
         let outcome = Dialled::Refused(reason, heard);
         check_refusal(&rt, rt.alloc(), &table, outcome, (reason, heard))?;
