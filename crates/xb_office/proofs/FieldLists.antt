@@ -1,15 +1,7 @@
 -- Records of three fields.
-use Rattle.std.proofs.Common.{◌≡◌, ◌≢◌, ℕ, List, [], ◌∷◌, length, Some, None, refl, arith}
+use Rattle.std.proofs.Common.{◌≡◌, ◌≢◌, ℕ, List, [], ◌∷◌, length, Some, None, arith}
 use Rattle.csv.specs.Records.{field_at}
 use Rattle.xb_office.specs.RowTexts.{three_of}
-
--- a record of another number of fields has not three
-pub three-not : (fs : List (List ℕ)) → length fs ≢ 3 → three_of fs ≡ None
-three-not [] n = refl
-three-not (a ∷ []) n = refl
-three-not (a ∷ b ∷ []) n = refl
-three-not (a ∷ b ∷ c ∷ []) n = absurd (n refl)
-three-not (a ∷ b ∷ c ∷ d ∷ rest) n = refl
 
 -- a record of three fields has those that stand at its places
 pub three-is : (fs : List (List ℕ)) (a b c : List ℕ) → length fs ≡ 3 → Some a ≡ field_at fs 0 → Some b ≡ field_at fs 1 → Some c ≡ field_at fs 2

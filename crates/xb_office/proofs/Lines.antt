@@ -8,7 +8,7 @@ use Rattle.std.proofs.Math.Seq.{take-add}
 use Rattle.std.proofs.lemmas.List.Quantifiers.{position-Some}
 use Rattle.std.proofs.lemmas.List.Splits.{slice_split_at, slice_split_none, join_with_byte-slice_split}
 use Rattle.std.proofs.lemmas.List.Sums.{fails_before_first}
-use Rattle.xb_office.specs.Deck.{Parts, behind, deck_parts, is_cut}
+use Rattle.xb_office.specs.Deck.{Parts, in_front, deck_parts, is_cut}
 
 -- whether a byte is LF
 abbrev ends_line : ℕ → Bool
@@ -36,13 +36,13 @@ with_end xs n e =
     ap (λ (byte : ℕ). take n xs ++ (byte ∷ [])) (sym lf) ∙ sym (take_more xs n 0 within)
 
 -- what stands in front of what stands in front
-behind-behind : (a b : List ℕ) (o : Option Parts) → option_map (behind a) (option_map (behind b) o) ≡ option_map (behind (a ++ b)) o
-behind-behind a b None = refl
-behind-behind a b (Some p) = rw (append_assoc a b p.table) refl
+in_front-in_front : (a b : List ℕ) (o : Option Parts) → option_map (in_front a) (option_map (in_front b) o) ≡ option_map (in_front (a ++ b)) o
+in_front-in_front a b None = refl
+in_front-in_front a b (Some p) = rw (append_assoc a b p.table) refl
 
 -- the deck is cut as its rest from a line's start on is, the earlier lines in front
 abbrev pub IsRestCut : List ℕ → ℕ → Type 0
-IsRestCut xs start = deck_parts xs ≡ option_map (behind (take start xs)) (deck_parts (drop start xs))
+IsRestCut xs start = deck_parts xs ≡ option_map (in_front (take start xs)) (deck_parts (drop start xs))
 
 -- a slice to the end
 to_end : (xs : List ℕ) (start : ℕ) → take (length xs - start) (drop start xs) ≡ drop start xs
@@ -73,7 +73,7 @@ cut-here xs start n whole e t =
     let is = rw (line_length start n) at (sym t) in
     let here : deck_parts (drop start xs) ≡ Some (record { table = []; rows = drop (n + 1) (drop start xs) })
     = rw (first_line (drop start xs) n at, is) (rw (join_with_byte-slice_split 10 (drop (n + 1) (drop start xs))) refl) in
-    sym (whole ∙ ap (option_map (behind (take start xs))) here ∙ rw (append-nil (take start xs), drop-line xs start n, to_end xs (start + n + 1)) refl)
+    sym (whole ∙ ap (option_map (in_front (take start xs))) here ∙ rw (append-nil (take start xs), drop-line xs start n, to_end xs (start + n + 1)) refl)
 
 -- a line is not the cut
 pub no-cut_here : (xs : List ℕ) (start n : ℕ) → IsRestCut xs start
@@ -83,21 +83,11 @@ no-cut_here xs start n whole e t =
     let at = rw (to_end xs start) at (sym e) in
     let is = rw (line_length start n) at (sym t) in
     let (within, lf, before) = position-Some ends_line (drop start xs) n 0 at in
-    let here : deck_parts (drop start xs) ≡ option_map (behind (take (n + 1) (drop start xs))) (deck_parts (drop (n + 1) (drop start xs)))
+    let here : deck_parts (drop start xs) ≡ option_map (in_front (take (n + 1) (drop start xs))) (deck_parts (drop (n + 1) (drop start xs)))
     = rw (first_line (drop start xs) n at, is, with_end (drop start xs) n at) refl in (
       omega (arith, length-drop start xs),
-      whole ∙ ap (option_map (behind (take start xs))) here ∙ behind-behind (take start xs) (take (n + 1) (drop start xs)) _ ∙ rw (take-line xs start n, drop-line xs start n) refl,
+      whole ∙ ap (option_map (in_front (take start xs))) here ∙ in_front-in_front (take start xs) (take (n + 1) (drop start xs)) _ ∙ rw (take-line xs start n, drop-line xs start n) refl,
     )
-
--- the last line is the cut
-pub cut-at_end : (xs : List ℕ) (start : ℕ) → IsRestCut xs start
-    → None ≡ position ends_line (take (length xs - start) (drop start xs)) → true ≡ is_cut (take (length xs - start) (drop start xs))
-    → Some (record { table = take start xs; rows = [] }) ≡ deck_parts xs
-cut-at_end xs start whole e t =
-    let at = rw (to_end xs start) at (sym e) in
-    let is = rw (to_end xs start) at (sym t) in
-    let here : deck_parts (drop start xs) ≡ Some (record { table = []; rows = [] }) = rw (one_line (drop start xs) at, is) refl in
-    sym (whole ∙ ap (option_map (behind (take start xs))) here ∙ rw (append-nil (take start xs)) refl)
 
 -- no line is the cut
 pub no-cut : (xs : List ℕ) (start : ℕ) → IsRestCut xs start
@@ -107,4 +97,4 @@ no-cut xs start whole e t =
     let at = rw (to_end xs start) at (sym e) in
     let is = rw (to_end xs start) at (sym t) in
     let here : deck_parts (drop start xs) ≡ None = rw (one_line (drop start xs) at, is) refl in
-    sym (whole ∙ ap (option_map (behind (take start xs))) here)
+    sym (whole ∙ ap (option_map (in_front (take start xs))) here)

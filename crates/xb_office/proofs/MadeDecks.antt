@@ -8,20 +8,22 @@ use Rattle.xb_office.specs.declared.deck.TheConstants.{MOST_DECK_BYTES}
 use Rattle.xb_office.specs.Says.{says_rows}
 use Rattle.xb_office.specs.WrittenRows.{text_of_rows}
 use Rattle.xb_office.proofs.WrittenRecords.{written_rows_are_read}
-use Rattle.xb_office.specs.Deck.{behind, deck_parts}
+use Rattle.xb_office.specs.Deck.{deck_parts, in_front}
 use Rattle.xb_office.specs.MadeDecks.{MadeDecksAreCut, MadeDecksSayTheirPage, deck_of, with_ends}
 
+-- a deck that was made is cut into its parts
 pub made_decks_are_cut : MadeDecksAreCut
 made_decks_are_cut [] rows h = rw (join_with_byte-slice_split 10 rows) refl
 made_decks_are_cut (line ∷ lines) rows h =
     let rest = with_ends lines ++ codes "---\n" ++ rows in
     let whole : with_ends (line ∷ lines) ++ codes "---\n" ++ rows ≡ line ++ 10 ∷ rest = simp append_assoc refl in
     let split = slice_split_at (λ byte. byte == 10) line 10 rest h.1 refl in
-    ap deck_parts whole ∙ rw (split, h.0) (ap (option_map (behind (line ++ codes "\n"))) (made_decks_are_cut lines rows h.2))
+    ap deck_parts whole ∙ rw (split, h.0) (ap (option_map (in_front (line ++ codes "\n"))) (made_decks_are_cut lines rows h.2))
 
 short : (deck : List ℕ) → length deck ≤ MOST_DECK_BYTES → nat_lt MOST_DECK_BYTES (length deck) ≡ false
 short deck h = grind (arith, nat_tests)
 
+-- such a deck says the page of its rows
 pub made_decks_say_their_page : MadeDecksSayTheirPage
 made_decks_say_their_page lines table rows h is lawful few fits =
     rw (short (deck_of lines rows) fits, made_decks_are_cut lines (text_of_rows rows) h, is)

@@ -7,7 +7,7 @@ use Rattle.csv.specs.declared.reader.Reader.{Reader}
 use Rattle.csv.specs.declared.parser.Config.{Config}
 use Rattle.csv.specs.declared.parser.State.{State}
 use Rattle.xb_office.specs.Scanning.{IsGoing, bytes_left, records_left, records_of_bytes}
-use Rattle.xb_office.proofs.Fuel.{records-more, records-none}
+use Rattle.xb_office.proofs.ReadCounts.{records-more, records-none}
 
 -- a reader over a text
 abbrev TextReader : Type 0

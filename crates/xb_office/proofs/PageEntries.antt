@@ -8,6 +8,7 @@ use Rattle.xb_model.specs.Tapes.{entries_of}
 use Rattle.xb_model.specs.Page.{entries_text, entry_text, mark_text, marks_text}
 use Rattle.xb_model.specs.declared.mark.Mark.{Mark}
 
+-- the texts of the marks from k on: that of mark k, and those behind it
 pub marks-more : (marks : List Mark) (k : ℕ) (d : Mark) → k < length marks → marks_text (drop k marks) ≡ mark_text (get_or marks k d) ++ marks_text (drop (k + 1) marks)
 unfolding marks_text
 marks-more marks k d h = rw (drop_more marks k d h) refl
@@ -21,6 +22,7 @@ marks-written out out2 all marks k m h e a w =
     ∙ ap (λ (x : Mark). out ++ (mark_text x ++ rest)) e
     ∙ ap (λ (t : List ℕ). out ++ t) (sym (marks-more marks k m h)) ∙ a
 
+-- behind the last mark no text is left
 pub marks-end : (marks : List Mark) (k : ℕ) → length marks ≤ k → marks_text (drop k marks) ≡ []
 unfolding marks_text
 marks-end marks k h = rw (drop_all k marks h) refl

@@ -33,6 +33,7 @@ pub tapes-end : (out all : List ℕ) (tapes : List (List Mark)) (k : ℕ) → le
 unfolding tapes_text
 tapes-end out all tapes k h e = rw (drop_all k tapes h, append-nil) at e
 
+-- behind the last tape the count is whole
 pub count-end : (test : Mark → Bool) (n all : ℕ) (tapes : List (List Mark)) (k : ℕ) → length tapes ≤ k → n + count_in test (drop k tapes) ≡ all → n ≡ all
 count-end test n all tapes k h e = let g = rw (drop_all k tapes h) at e in omega (arith, g)
 

@@ -3,7 +3,7 @@ use Rattle.std.proofs.Common.{◌≡◌, ◌<◌, ◌+◌, ◌-◌, ◌*◌, ◌
 use Rattle.std.specs.Prelude.{decimal, nat_le, ◌&&◌, if◌then◌else◌}
 use Rattle.std.proofs.lemmas.Bool.Decides.{nat_tests}
 use Rattle.std.proofs.lemmas.Fmt.{decimal_by_steps, decimal_nonempty, length-decimal-le}
-use Rattle.xb_office.specs.RowTexts.{digits_from, number_of}
+use Rattle.xb_office.specs.RowTexts.{digits_from, field_number}
 
 -- one digit
 one_digit : (n d : ℕ) → d < 10 → digits_from n ((48 + d) ∷ []) ≡ Some (n * 10 + d)
@@ -38,8 +38,9 @@ digits_of_decimal n small = decimal_by_steps (λ m ds. digits_from 0 ds ≡ Some
         let whole : m / 10 * 10 + m % 10 ≡ m = omega arith in
         digits-append 0 (m / 10) ds _ e ∙ one_digit (m / 10) (m % 10) (omega arith) ∙ ap (λ (k : ℕ). Some k) whole
 
-pub number_of_decimal : (most n : ℕ) → 0 < most → n < 10 ^ most → n < 2 ^ 64 → number_of most (decimal n) ≡ Some n
-number_of_decimal most n some below small =
+-- the field of a number is read as the number
+pub field_number-decimal : (most n : ℕ) → 0 < most → n < 10 ^ most → n < 2 ^ 64 → field_number most (decimal n) ≡ Some n
+field_number-decimal most n some below small =
     let low : nat_le 1 (length (decimal n)) ≡ true = grind (arith, nat_tests, decimal_nonempty n small) in
     let high : nat_le (length (decimal n)) most ≡ true = grind (arith, nat_tests, length-decimal-le most n some below small) in
     rw (low, high) (digits_of_decimal n small)

@@ -13,11 +13,11 @@ use Rattle.xb_model.specs.declared.row.TheConstants.{GREATEST_MS}
 use Rattle.xb_model.specs.Rows.{IsRow, LoopRow, row_of}
 use Rattle.xb_office.specs.declared.scan.TheConstants.{MOST_RECORDS}
 use Rattle.xb_office.specs.declared.record.TheConstants.{LINE_DIGITS, MS_DIGITS}
-use Rattle.xb_office.specs.RowTexts.{contact_of, number_of, rest_of_records, row_of_fields, row_then, rows_from, three_of, with_contact}
+use Rattle.xb_office.specs.RowTexts.{contact_of, field_number, rest_of_records, row_of_fields, row_then, rows_from, three_of, with_contact}
 use Rattle.xb_office.specs.WrittenRows.{AreRows, contact_text, WrittenRowsAreRead, fields_of_row, header, records_text, text_of_rows}
-use Rattle.xb_office.proofs.Fuel.{records-end, records-more}
+use Rattle.xb_office.proofs.ReadCounts.{records-end, records-more}
 use Rattle.xb_office.proofs.RecordRows.{rows-more, rows-nil}
-use Rattle.xb_office.proofs.WrittenFields.{number_of_decimal}
+use Rattle.xb_office.proofs.WrittenFields.{field_number-decimal}
 
 -- the records of a text of records
 records_of_text : (rs : List (List (List ℕ))) → records default_config (records_text rs) ≡ map read_back rs
@@ -29,11 +29,11 @@ records_of_text (r ∷ rs) =
 -- the row of a written record
 row_of_written : (n : ℕ) (row : LoopRow) (rows : List LoopRow) → AreRows (row ∷ rows) → row_of_fields n (three_of (read_back (fields_of_row row))) ≡ Ok row
 row_of_written n row rows h =
-    let line = number_of_decimal LINE_DIGITS row.line (omega arith) (omega arith) (omega arith) in
-    let ms = number_of_decimal MS_DIGITS row.ms (omega arith) (omega arith) (omega arith) in
+    let line = field_number-decimal LINE_DIGITS row.line (omega arith) (omega arith) (omega arith) in
+    let ms = field_number-decimal MS_DIGITS row.ms (omega arith) (omega arith) (omega arith) in
     rw line (by row.contact row.line row.ms h.1 ms)
   where
-    by : (contact : Contact) (line ms : ℕ) → IsRow contact ms → number_of MS_DIGITS (decimal ms) ≡ Some ms
+    by : (contact : Contact) (line ms : ℕ) → IsRow contact ms → field_number MS_DIGITS (decimal ms) ≡ Some ms
         → with_contact n line (decimal ms) (contact_of (contact_text contact)) ≡ Ok (row_of line contact ms)
     by Make line ms lawful e =
         let short : nat_le ms GREATEST_MS ≡ true = grind (arith, nat_tests, lawful.0) in
@@ -57,6 +57,7 @@ no_mark : (rows : List LoopRow) → strip_bom (text_of_rows rows) ≡ text_of_ro
 unfolding strip_bom
 no_mark rows = refl
 
+-- rows that are written are read as they were
 pub written_rows_are_read : WrittenRowsAreRead
 written_rows_are_read rows h few =
     ap rest_of_records (ap (records default_config) (no_mark rows) ∙ records_of_text (header ∷ map fields_of_row rows))

@@ -18,11 +18,11 @@ digits_from n [] = Some n
 digits_from n (c ∷ cs) = if nat_le 48 c && nat_le c 57 then digits_from (n * 10 + (c - 48)) cs else None
 
 -- the number that a field of 1 to `most` ASCII digits writes
-abbrev pub number_of : ℕ → List ℕ → Option ℕ
-number_of most field = if nat_le 1 (length field) && nat_le (length field) most then digits_from 0 field else None
+abbrev pub field_number : ℕ → List ℕ → Option ℕ
+field_number most field = if nat_le 1 (length field) && nat_le (length field) most then digits_from 0 field else None
 
 abbrev pub line_of : List ℕ → Option ℕ
-line_of field = number_of LINE_DIGITS field
+line_of field = field_number LINE_DIGITS field
 
 -- what the loop does, as a field names it
 abbrev pub contact_of : List ℕ → Option Contact
@@ -42,7 +42,7 @@ with_ms n line contact (Some ms) = if may_last contact ms then Ok (row_of line c
 
 abbrev pub with_contact : ℕ → ℕ → List ℕ → Option Contact → Result LoopRow RowFault
 with_contact n line ms None = Err (fault.Contact n)
-with_contact n line ms (Some contact) = with_ms n line contact (number_of MS_DIGITS ms)
+with_contact n line ms (Some contact) = with_ms n line contact (field_number MS_DIGITS ms)
 
 abbrev pub with_line : ℕ → List ℕ → List ℕ → Option ℕ → Result LoopRow RowFault
 with_line n state ms None = Err (fault.Line n)

@@ -18,20 +18,21 @@ CutsOfDecks =
     × IsCutInto (codes "a\n----\n---\nb\n---\nc") (codes "a\n----\n") (codes "b\n---\nc")
     × (deck_parts (codes "a\n ---\n--- \n---\r\r\n--") ≡ None)
 
-abbrev Says : List ℕ → List LoopRow → Option RowFault → Type 0
-Says text rows stop = ◌≡◌ {A = Rest} (rest_of_text text) (record { rows = rows; stop = stop })
+-- the rows of a text, and the stop behind them
+abbrev RowsAndStop : List ℕ → List LoopRow → Option RowFault → Type 0
+RowsAndStop text rows stop = ◌≡◌ {A = Rest} (rest_of_text text) (record { rows = rows; stop = stop })
 
 -- what some texts say
 abbrev pub RowsOfTexts : Type 0
 RowsOfTexts =
-    Says [] [] (Some fault.Header)
-    × Says (codes "line,state,ms") [] None
-    × Says (codes "line,state,ms\r\n5,M,500\n\n\"5\",B,60\r9999,C,00") (row_of 5 Make 500 ∷ row_of 5 Brk 60 ∷ row_of 9999 Close 0 ∷ []) None
-    × Says (codes "line,state,ms\n7,M,\"1\"0\n7,M") (row_of 7 Make 10 ∷ []) (Some (fault.Fields 2))
-    × Says (codes "line,state,ms\n10000,X,0") [] (Some (fault.Line 1))
-    × Says (codes "line,state,ms\n7,X,x") [] (Some (fault.Contact 1))
-    × Says (codes "line,state,ms\n7,M,86400001") [] (Some (fault.Ms 1))
-    × Says (codes "line,state,ms\n7,C,1") [] (Some (fault.Ms 1))
+    RowsAndStop [] [] (Some fault.Header)
+    × RowsAndStop (codes "line,state,ms") [] None
+    × RowsAndStop (codes "line,state,ms\r\n5,M,500\n\n\"5\",B,60\r9999,C,00") (row_of 5 Make 500 ∷ row_of 5 Brk 60 ∷ row_of 9999 Close 0 ∷ []) None
+    × RowsAndStop (codes "line,state,ms\n7,M,\"1\"0\n7,M") (row_of 7 Make 10 ∷ []) (Some (fault.Fields 2))
+    × RowsAndStop (codes "line,state,ms\n10000,X,0") [] (Some (fault.Line 1))
+    × RowsAndStop (codes "line,state,ms\n7,X,x") [] (Some (fault.Contact 1))
+    × RowsAndStop (codes "line,state,ms\n7,M,86400001") [] (Some (fault.Ms 1))
+    × RowsAndStop (codes "line,state,ms\n7,C,1") [] (Some (fault.Ms 1))
 
 -- behind the most records a further one is the fault, whatever its fields are
 abbrev pub MostRecords : Type 0

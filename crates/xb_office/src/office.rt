@@ -42,6 +42,9 @@ fn page_of_deck(alloc: Global, bytes: &[u8]) -> Result<Vec<u8>, OfficeFault>
 /// them. The table is read before the rows, and nothing is written before both are.
 ///
 /// On an `Err` nothing was written, but on `Write`, where a front of the page was.
+///
+/// What the contract says of bytes it says of readers whose bytes and writers whose contents are
+/// known to contracts (byte slices, lists), which those of a process are not.
 pub fn operate<R: Read, W: Write>(
     alloc: Global,
     deck: &mut R,

@@ -1,5 +1,5 @@
 // The page: one line for each entry of the tapes, and the totals.
-ghost use Rattle.std.specs.Prelude.{◌≡◌, ◌≤◌, ◌++◌, OnOk, IfOk, count_by, string_bytes};
+ghost use Rattle.std.specs.Prelude.{◌≡◌, ◌++◌, OnOk, IfOk, count_by, string_bytes};
 ghost use Rattle.xb_model.specs.Page.{ends_keying, ends_refusal, entry_text, keyed_text, last_refusal, mark_text, marks_text, page_text, reason_text, refused_text, tape_text};
 
 use std::alloc::{AllocError, Global};
@@ -135,6 +135,7 @@ fn refusals(marks: &[Mark]) -> usize
 /// number, the trunk group, and each key with its pair of tones in Hz. A refusal is
 /// `0008 1 REFUSED MUTILATED 1`: the reason, and the count that goes with it. The totals are
 /// `KEYED 1 REFUSED 1`. Marks behind a line's last ending mark are no entry and write nothing.
+/// `Err` where a growth was refused.
 pub fn page(alloc: Global, tapes: &Tapes) -> Result<Vec<u8>, AllocError>
     ensures { IfOk result (λ page. page.items ≡ page_text tapes.now) }
 {

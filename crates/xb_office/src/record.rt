@@ -1,7 +1,8 @@
 // What one record of the rows' text writes.
 ghost use Rattle.std.specs.Prelude.{◌≡◌, ◌≤◌, ◌<◌, ◌^◌, IfSome, Some, option_map};
 ghost use Rattle.csv.specs.Records.{fields_of};
-ghost use Rattle.xb_office.specs.RowTexts.{contact_of, is_header, line_of, number_of, row_of_fields, three_of};
+ghost use Rattle.xb_office.specs.declared.record.TheConstants.{MS_DIGITS};
+ghost use Rattle.xb_office.specs.RowTexts.{contact_of, is_header, line_of, field_number, row_of_fields, three_of};
 
 use csv::ByteRecord;
 use xb_model::{Contact, LineNo, Row, RowFault};
@@ -15,9 +16,9 @@ const LINE_DIGITS: usize = 4;
 const MS_DIGITS: usize = 8;
 
 // The number that a field of 1 to `most` ASCII digits writes.
-fn number_of(most: usize, field: &[u8]) -> Option<u32>
-    requires { most ≤ 8 }
-    ensures value { result ≡ number_of most field.now }
+fn field_number(most: usize, field: &[u8]) -> Option<u32>
+    requires { most ≤ MS_DIGITS }
+    ensures value { result ≡ field_number most field.now }
     ensures bound { IfSome result (λ n. n < 10 ^ most) }
 {
     if field.is_empty() || field.len() > most {
@@ -37,7 +38,7 @@ fn number_of(most: usize, field: &[u8]) -> Option<u32>
 fn line_of(field: &[u8]) -> Option<LineNo>
     ensures { result ≡ line_of field.now }
 {
-    LineNo::new(number_of(LINE_DIGITS, field)? as u16)
+    LineNo::new(field_number(LINE_DIGITS, field)? as u16)
 }
 
 // What the loop does, as a field names it.
@@ -75,7 +76,7 @@ fn row_of_three(n: u32, line: &[u8], state: &[u8], ms: &[u8]) -> Result<Row, Row
     let Some(contact) = contact_of(state) else {
         return Err(RowFault::Contact(n));
     };
-    let Some(ms) = number_of(MS_DIGITS, ms) else {
+    let Some(ms) = field_number(MS_DIGITS, ms) else {
         return Err(RowFault::Ms(n));
     };
     match Row::new(line, contact, ms) {

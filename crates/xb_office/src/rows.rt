@@ -28,6 +28,9 @@ pub fn rows_of(alloc: Global, text: &[u8]) -> Result<Vec<Row>, RowFault>
 /// The rows of a reader's bytes, which are read to their end first: `Read` where a read failed, an
 /// interrupted one too, or 2^64 - 1 reads did not reach the end; else the faults of `Scan`, and
 /// `NoMemory` where a growth was refused.
+///
+/// What the contract says of bytes it says of readers whose bytes are known to contracts (byte
+/// slices), which those of a process are not.
 pub fn read_rows<R: Read>(alloc: Global, reader: &mut R) -> Result<Vec<Row>, RowFault>
     ensures rows { IfOk result (λ rows. IfSome (R.remaining reader.old) (λ text. AreRowsOf text rows.items)) }
     ensures fault { IfErr result (λ f. IfSome (R.remaining reader.old) (λ text. IsReadFaultOf text f)) }

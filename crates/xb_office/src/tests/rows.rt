@@ -7,10 +7,10 @@ use xb_bank::RowSource;
 use xb_model::{Contact, Row, RowFault};
 
 // A row, as its line, its contact and its time.
-type Told = (u16, Contact, u32);
+type RowParts = (u16, Contact, u32);
 
 // A text that begins with its header, its rows, and the fault behind them.
-type Case = (&'static [u8], &'static [Told], Option<RowFault>);
+type Case = (&'static [u8], &'static [RowParts], Option<RowFault>);
 
 const MAKE: Contact = Contact::Make;
 
@@ -107,7 +107,7 @@ const RECORDS: &[Case] = &[
     ),
 ];
 
-fn told_of(row: Row) -> Told {
+fn parts_of(row: Row) -> RowParts {
     (row.line().get(), row.contact(), row.ms())
 }
 
@@ -120,16 +120,16 @@ fn with_header(alloc: Global, records: &[u8]) -> Result<Vec<u8>, AllocError> {
 }
 
 // Checks that `read_rows` gives a text's rows, or its fault and no row.
-fn check_whole(rt: &impl Abort, alloc: Global, text: &[u8], told: &[Told], stop: Option<RowFault>) {
+fn check_whole(rt: &impl Abort, alloc: Global, text: &[u8], wanted: &[RowParts], stop: Option<RowFault>) {
     let mut reader = text;
     match read_rows(alloc, &mut reader) {
         Ok(rows) => {
             assert!(rt; stop.is_none());
-            assert!(rt; rows.len() == told.len());
+            assert!(rt; rows.len() == wanted.len());
             assert!(rt;
                 rows.iter()
-                    .zip(told)
-                    .all(|(row, told)| told_of(*row) == *told)
+                    .zip(wanted)
+                    .all(|(row, parts)| parts_of(*row) == *parts)
             );
         }
         Err(fault) => assert!(rt; stop == Some(fault)),
@@ -137,11 +137,11 @@ fn check_whole(rt: &impl Abort, alloc: Global, text: &[u8], told: &[Told], stop:
 }
 
 // Checks that a `Scan` gives a text's rows, and then its stop for good.
-fn check_scan(rt: &impl Abort, alloc: Global, text: &[u8], told: &[Told], stop: Option<RowFault>) {
+fn check_scan(rt: &impl Abort, alloc: Global, text: &[u8], wanted: &[RowParts], stop: Option<RowFault>) {
     let mut scan = Scan::new(alloc, text);
-    for want in told {
+    for parts in wanted {
         let row = scan.next_row();
-        assert!(rt; row.is_ok_and(|row| row.is_some_and(|row| told_of(row) == *want)));
+        assert!(rt; row.is_ok_and(|row| row.is_some_and(|row| parts_of(row) == *parts)));
     }
     for _ in 0..2 {
         match scan.next_row() {
@@ -154,14 +154,14 @@ fn check_scan(rt: &impl Abort, alloc: Global, text: &[u8], told: &[Told], stop: 
 #[test]
 fn reads_texts(rt: HostRuntime) -> Result<(), Fail> {
     let alloc = rt.alloc();
-    for (text, told, stop) in HEADERS {
-        check_whole(&rt, alloc, text, told, *stop);
-        check_scan(&rt, alloc, text, told, *stop);
+    for (text, wanted, stop) in HEADERS {
+        check_whole(&rt, alloc, text, wanted, *stop);
+        check_scan(&rt, alloc, text, wanted, *stop);
     }
-    for (records, told, stop) in RECORDS {
+    for (records, wanted, stop) in RECORDS {
         let text = with_header(alloc, records)?;
-        check_whole(&rt, alloc, text.as_slice(), told, *stop);
-        check_scan(&rt, alloc, text.as_slice(), told, *stop);
+        check_whole(&rt, alloc, text.as_slice(), wanted, *stop);
+        check_scan(&rt, alloc, text.as_slice(), wanted, *stop);
     }
     Ok(())
 }

@@ -46,12 +46,12 @@ records-end cfg zero = refl
 records-end cfg (suc n) = refl
 
 -- the records do not depend on the count, where it is above the number of bytes
-pub records-fuel : (cfg : Config) (n m : ℕ) (s : State) (xs : List ℕ) → length xs < n → length xs < m → records_from cfg n s xs ≡ records_from cfg m s xs
+pub records-count : (cfg : Config) (n m : ℕ) (s : State) (xs : List ℕ) → length xs < n → length xs < m → records_from cfg n s xs ≡ records_from cfg m s xs
 unfolding records_from
-records-fuel cfg zero m s xs a b = absurd (omega arith)
-records-fuel cfg (suc n) zero s xs a b = absurd (omega arith)
-records-fuel cfg (suc n) (suc m) s xs a b =
-    by (λ (t : State) (ys : List ℕ) (h : length ys < n) (k : length ys < m). records-fuel cfg n m t ys h k) (next_record cfg s [] [] xs) (shrinks cfg s [] [] xs)
+records-count cfg zero m s xs a b = absurd (omega arith)
+records-count cfg (suc n) zero s xs a b = absurd (omega arith)
+records-count cfg (suc n) (suc m) s xs a b =
+    by (λ (t : State) (ys : List ℕ) (h : length ys < n) (k : length ys < m). records-count cfg n m t ys h k) (next_record cfg s [] [] xs) (shrinks cfg s [] [] xs)
   where
     by : ((t : State) (ys : List ℕ) → length ys < n → length ys < m → records_from cfg n t ys ≡ records_from cfg m t ys)
         → (o : Option Read) → ShrinksIf xs o → records_next (records_from cfg n) o ≡ records_next (records_from cfg m) o
@@ -66,7 +66,7 @@ unfolding records_from
 records-more cfg s xs q e = rw (add-one (length xs)) (step_of (length xs) (by (rw e at (shrinks cfg s [] [] xs))))
   where
     by : Shrinks xs q → records_from cfg (length xs) q.1 q.2 ≡ records_from cfg (length q.2 + 1) q.1 q.2
-    by (inl h) = records-fuel cfg (length xs) (length q.2 + 1) q.1 q.2 h (omega arith)
+    by (inl h) = records-count cfg (length xs) (length q.2 + 1) q.1 q.2 h (omega arith)
     by (inr h) = rw (h.0, h.1, records-end cfg (length xs), records-end cfg 1) refl
 
     step_of : (n : ℕ) → records_from cfg n q.1 q.2 ≡ records_from cfg (length q.2 + 1) q.1 q.2

@@ -1,6 +1,6 @@
 use Rattle.std.proofs.Common.{◌≤◌, ◌<◌, ◌+◌, ◌^◌, ℕ, lit<, arith}
 use Rattle.std.proofs.Math.Nat.{pow-le-pow_right}
-use Rattle.xb_office.proofs.record.number_of.Goals as goal
+use Rattle.xb_office.proofs.record.field_number.Goals as goal
 
 -- eight digits at the most: seven were read
 pow_bound : (n i : ℕ) → i < 8 → n + 1 ≤ 10 ^ i → n + 1 ≤ 10000000
