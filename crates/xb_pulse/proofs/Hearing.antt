@@ -37,19 +37,23 @@ unless_closed rows = if closes rows then [] else Close ∷ []
 
 -- behind the close no row sends anything
 
+-- a row of 0 ms and any other leave the closed state alike
 either_closed : (b : Bool) → cond b (enter Closed) (enter Closed) ≡ enter Closed
 either_closed true = refl
 either_closed false = refl
 
+-- a row behind the close leaves the closed state, and sends nothing
 closed_stays : (L : Limits) (c : Contact) (ms : ℕ) → on_row L Closed c ms ≡ enter Closed
 closed_stays L Make ms = either_closed (ms == 0)
 closed_stays L Brk ms = either_closed (ms == 0)
 closed_stays L contacts.Close ms = refl
 
+-- nor do any rows
 sent-closed : (L : Limits) (rows : List LoopRow) → sent L Closed rows ≡ []
 sent-closed L [] = refl
 sent-closed L (row ∷ rows) = rw (closed_stays L row.contact row.ms) (sent-closed L rows)
 
+-- from an open state a close row sends the close
 sends_close : (L : Limits) (s : State) (ms : ℕ) → IsOpen L s → on_row L s contacts.Close ms ≡ record { sent = Close ∷ []; after = Closed }
 sends_close L OnHook ms o = refl
 sends_close L (BetweenTrains t) ms o = refl
@@ -91,6 +95,7 @@ all_heard : (L : Limits) → IsLawful L → (rows : List LoopRow) (s : State) �
 all_heard L l [] s o = sym (to_send-none L s l o)
 all_heard L l (row ∷ rows) s o = row_heard L l rows (all_heard L l rows) s row.line row.contact row.ms o
 
+-- what the stage sends from a state on is what the rows send, on their line
 image_from-sent : (L : Limits) (line : LineNo) (s : State) (rows : List LoopRow) → AllByRecursion (λ row. row.line ≡ line) rows → image_from (machine L) s rows ≡ on_line line (sent L s rows)
 image_from-sent L line s [] a = refl
 image_from-sent L line s (row ∷ rows) a =
@@ -104,21 +109,26 @@ signals_heard L line rows l a =
     ∙ sym (map-append (λ (what : Signal). record { line = line; what = what }) (sent L OnHook rows) (unless_closed rows))
     ∙ ap (on_line line) (all_heard L l rows OnHook tt)
 
+-- a line's closed record gives its signals
 pub record_heard : (L : Limits) (line : LineNo) (rows : List LoopRow) → IsLawful L → AllByRecursion (λ row. row.line ≡ line) rows → closes rows ≡ true → image_on (machine L) rows ≡ on_line line (signals_of L (record_up_to_close rows))
 record_heard L line rows l a e = sym (append-nil _) ∙ rw e at (signals_heard L line rows l a)
 
+-- a line's open record gives its signals but the close
 pub open_record_heard : (L : Limits) (line : LineNo) (rows : List LoopRow) → IsLawful L → AllByRecursion (λ row. row.line ≡ line) rows → closes rows ≡ false → image_on (machine L) rows ++ on_line line (Close ∷ []) ≡ on_line line (signals_of L (record_up_to_close rows))
 open_record_heard L line rows l a e = rw e at (signals_heard L line rows l a)
 
 -- among the rows of all lines
 
+-- of what is sent for all rows, a line's items are what its own rows send
 line_image : (L : Limits) (line : LineNo) (rows : List LoopRow) → of_line (λ item. item.line) line (image (λ row. row.line) (machine L) rows) ≡ image_on (machine L) (rows_of line rows)
 line_image L line rows = image-of_line (λ row. row.line) (λ item. item.line) (machine L) (outs_on_line L) line rows
 
+-- a line's closed record among all rows gives its signals on the line
 pub line_record_heard : (L : Limits) (line : LineNo) (rows : List LoopRow) → IsLawful L → closes (rows_of line rows) ≡ true → of_line (λ item. item.line) line (image (λ row. row.line) (machine L) rows) ≡ on_line line (signals_of L (record_of line rows))
 line_record_heard L line rows l e =
     line_image L line rows ∙ record_heard L line (rows_of line rows) l (of_line-on (λ row. row.line) line rows) e
 
+-- a line's open record among all rows gives its signals on the line, but the close
 pub open_line_record_heard : (L : Limits) (line : LineNo) (rows : List LoopRow) → IsLawful L → closes (rows_of line rows) ≡ false → of_line (λ item. item.line) line (image (λ row. row.line) (machine L) rows) ++ on_line line (Close ∷ []) ≡ on_line line (signals_of L (record_of line rows))
 open_line_record_heard L line rows l e =
     ap (λ front. front ++ on_line line (Close ∷ [])) (line_image L line rows)

@@ -1,3 +1,4 @@
+pub mod Outputs
 pub mod Joining
 pub mod ToSend
 pub mod Steps

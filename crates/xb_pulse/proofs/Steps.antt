@@ -88,29 +88,36 @@ release_at-front L R x s state pieces_send l e ends stays = by (nat_le L.release
         let same : s ≡ x = omega (arith, l.release.1) in
         rw t (stays same)
 
+-- in a break of x ms inside a train
 in_break-front : (L : Limits) (R : List Run) (tally : Tally) (x s : ℕ) → IsLawful L → s ≡ min x GREATEST_LIMIT → SendsFront L (unless_released L (InBreak s tally)) R (in_train L tally (pieces_of L (join (break_of x) R)))
 in_break-front L R tally x s l e = release_at-front L R x s (InBreak s tally) (in_train L tally) l e (λ P. refl) (λ same. rw same refl)
 
+-- in a break of x ms behind a time-out
 timed_out-front : (L : Limits) (R : List Run) (x s : ℕ) → IsLawful L → s ≡ min x GREATEST_LIMIT → SendsFront L (unless_released L (TimedOut s)) R (behind_timeout L (pieces_of L (join (break_of x) R)))
 timed_out-front L R x s l e = release_at-front L R x s (TimedOut s) (behind_timeout L) l e (λ P. refl) (λ same. rw same refl)
 
 -- runs that a row of the other contact ends
 
+-- a make that begins an attempt is a seizure
 all_of-make : (L : Limits) (m : ℕ) (R : List Run) → all_of L (pieces_of L (without_first_break (join (make_of m) R))) ≡ Seize ∷ seized L (pieces_of L (join (make_of m) R))
 all_of-make L m R = rw (join_is Make m R, all_of-seized L (make_of (m + more Make R)) (pieces_of L (behind Make R)))
 
+-- a make ends a train's break, and the tally takes it
 break_ended : (L : Limits) (tally : Tally) (t m : ℕ) (R : List Run) → t < L.release → in_train L tally (pieces_of L (join (break_of t) (join (make_of m) R))) ≡ in_train L (with_break L t tally) (pieces_of L (join (make_of m) R))
 break_ended L tally t m R h =
     rw (join_is Make m R, lt-leb L.release t h, in_train-break L tally t (into_first (make_of (m + more Make R)) (pieces_of L (behind Make R))))
 
+-- a break ends a train's make, and the tally takes it
 make_ended : (L : Limits) (tally : Tally) (t m : ℕ) (R : List Run) → t < L.pause → t < L.timeout → in_train L tally (pieces_of L (join (make_of t) (join (break_of m) R))) ≡ in_train L (with_make L t tally) (pieces_of L (join (break_of m) R))
 make_ended L tally t m R h k =
     rw (join_is Brk m R) (in_train-make L tally t (pieces_of L (break_of (m + more Brk R) ∷ behind Brk R)) h k)
 
+-- a break ends a make outside any train, and begins a train
 first_make_ended : (L : Limits) (t m : ℕ) (R : List Run) → t < L.timeout → seized L (pieces_of L (join (make_of t) (join (break_of m) R))) ≡ in_train L no_breaks (pieces_of L (join (break_of m) R))
 first_make_ended L t m R h =
     rw (join_is Brk m R) (seized-make L t (pieces_of L (break_of (m + more Brk R) ∷ behind Brk R)) h)
 
+-- a make ends a break behind a time-out, which then counts for nothing
 timed_break_ended : (L : Limits) (t m : ℕ) (R : List Run) → t < L.release → 0 < L.release → behind_timeout L (pieces_of L (join (break_of t) (join (make_of m) R))) ≡ behind_timeout L (pieces_of L (join (break_of 0) R))
 timed_break_ended L t m R h z =
     rw (join_is Make m R, lt-leb L.release t h, behind_timeout-run L (break_of t) (into_first (make_of (m + more Make R)) (pieces_of L (behind Make R))), behind_timeout-run L (make_of (m + more Make R)) (pieces_of L (behind Make R)))
@@ -144,6 +151,7 @@ on_break-front L Closed m R l o = absurd o
 
 -- the state behind a row is of an open record again
 
+-- a make outside any train leaves an open state
 between_trains-open : (L : Limits) (s : ℕ) → IsLawful L → IsOpen L (between_trains L s).after
 between_trains-open L s l = by (nat_le L.timeout s) refl
   where
@@ -151,6 +159,7 @@ between_trains-open L s l = by (nat_le L.timeout s) refl
     by true t = rw t l.release.0
     by false t = rw t (leb-false L.timeout s t)
 
+-- so does a make inside a train
 in_make-open : (L : Limits) (s : ℕ) (tally : Tally) → IsLawful L → tally.breaks ≤ MANY_BREAKS → IsOpen L (in_make L s tally).after
 in_make-open L s tally l n = by (nat_le L.pause s) refl
   where
@@ -158,6 +167,7 @@ in_make-open L s tally l n = by (nat_le L.pause s) refl
     by true t = rw t (between_trains-open L s l)
     by false t = rw t (leb-false L.pause s t, n)
 
+-- so does a break, where the state that it would leave is open below the release
 release_at-open : (L : Limits) (t : ℕ) (s : State) → (t < L.release → IsOpen L s) → IsOpen L (release_at L t s).after
 release_at-open L t s o = by (nat_le L.release t) refl
   where
@@ -165,6 +175,7 @@ release_at-open L t s o = by (nat_le L.release t) refl
     by true e = rw e tt
     by false e = rw e (o (leb-false L.release t e))
 
+-- a make row leaves an open state
 pub on_make-open : (L : Limits) (s : State) (m : ℕ) → IsLawful L → IsOpen L s → IsOpen L (on_make L s m).after
 on_make-open L OnHook m l o = between_trains-open L (longer 0 m) l
 on_make-open L (BetweenTrains t) m l o = between_trains-open L (longer t m) l
@@ -173,6 +184,7 @@ on_make-open L (InMake t tally) m l o = in_make-open L (longer t m) tally l o.1
 on_make-open L (TimedOut t) m l o = l.release.0
 on_make-open L Closed m l o = absurd o
 
+-- a break row leaves an open state
 pub on_break-open : (L : Limits) (s : State) (m : ℕ) → IsOpen L s → IsOpen L (on_break L s m).after
 on_break-open L OnHook m o = tt
 on_break-open L (BetweenTrains t) m o = release_at-open L (longer 0 m) (InBreak (longer 0 m) no_breaks) (λ below. (below, omega arith))

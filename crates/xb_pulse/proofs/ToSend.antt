@@ -1,7 +1,8 @@
 -- The signals of a record begun in its middle: what is still to be sent from a state on, and what
 -- the run at the front adds to it.
-use Rattle.std.proofs.Common.{◌≡◌, ℕ, suc, ◌+◌, ◌<◌, ◌≤◌, min, List, [], ◌∷◌, ◌++◌, map, Bool, true, false, ◌||◌, refl, arith, append_assoc, zero-add}
+use Rattle.std.proofs.Common.{◌≡◌, ℕ, suc, ◌+◌, ◌<◌, ◌≤◌, min, List, [], ◌∷◌, ◌++◌, map, true, ◌||◌, refl, arith, append_assoc, zero-add}
 use Rattle.std.specs.List.{filter, flat_map}
+use Rattle.std.proofs.Math.Bool.{or-false, or_assoc}
 use Rattle.std.proofs.lemmas.Bool.{le-leb, lt-leb}
 use Rattle.xb_model.specs.declared.row.Contact.TheVariants.{Brk}
 use Rattle.xb_model.specs.declared.limits.Limits.{Limits}
@@ -56,48 +57,46 @@ to_send L Closed R = []
 
 -- a run in front of the pieces
 
+-- a run in front of the first piece seizes the line
 pub all_of-seized : (L : Limits) (run : Run) (P : List Attempt) → all_of L (into_first run P) ≡ Seize ∷ seized L (into_first run P)
 all_of-seized L run [] = simp append_assoc
 all_of-seized L run (p ∷ P) = simp append_assoc
 
+-- a first make of `timeout` or more times out
 pub seized-timed : (L : Limits) (y : ℕ) (P : List Attempt) → L.timeout ≤ y → seized L (into_first (make_of y) P) ≡ TimeOut ∷ behind_timeout L P
 seized-timed L y [] h = rw (le-leb L.timeout y h)
 seized-timed L y (p ∷ P) h = rw (le-leb L.timeout y h)
 
+-- behind no part of a train the digits are those of the trains
 digits-none : (L : Limits) (ts : List Train) → map (digit_signal L) ts ≡ digits L no_breaks ts
 digits-none L [] = refl
 digits-none L (t ∷ ts) = rw zero-add
 
+-- a shorter first make is followed by the trains
 pub seized-make : (L : Limits) (t : ℕ) (P : List Attempt) → t < L.timeout → seized L (into_first (make_of t) P) ≡ in_train L no_breaks P
 seized-make L t [] h = rw (lt-leb L.timeout t h)
 seized-make L t (p ∷ P) h = rw (lt-leb L.timeout t h, digits-none L (cut_at_pauses L (heard L p.runs)))
-
-or-none : (b : Bool) → (b || false) ≡ b
-or-none true = refl
-or-none false = refl
-
-or-assoc : (a b c : Bool) → (a || (b || c)) ≡ ((a || b) || c)
-or-assoc true b c = refl
-or-assoc false b c = refl
 
 -- a make of `pause` or more ends the train
 pub in_train-pause : (L : Limits) (tally : Tally) (y : ℕ) (P : List Attempt) → tally.breaks ≤ MANY_BREAKS → L.pause ≤ y → in_train L tally (into_first (make_of y) P) ≡ Digit tally.breaks tally.bad ∷ seized L (into_first (make_of y) P)
 in_train-pause L tally y [] n h =
     let e : min (tally.breaks + 0) MANY_BREAKS ≡ tally.breaks = omega arith in
-    rw (le-leb L.pause y h, or-none tally.bad, e)
+    rw (le-leb L.pause y h, or-false tally.bad, e)
 in_train-pause L tally y (p ∷ P) n h =
     let e : min (tally.breaks + 0) MANY_BREAKS ≡ tally.breaks = omega arith in
-    rw (le-leb L.pause y h, or-none tally.bad, e)
+    rw (le-leb L.pause y h, or-false tally.bad, e)
 
+-- a make in front of the first train is taken by the tally
 digits-make : (L : Limits) (tally : Tally) (t : ℕ) (ts : List Train) → digits L tally (onto_first (make_of t) ts) ≡ digits L (with_make L t tally) ts
 digits-make L tally t [] = refl
-digits-make L tally t (x ∷ ts) = rw or-assoc
+digits-make L tally t (x ∷ ts) = rw or_assoc
 
+-- and so is a break
 digits-break : (L : Limits) (tally : Tally) (t : ℕ) (ts : List Train) → digits L tally (onto_first (break_of t) ts) ≡ digits L (with_break L t tally) ts
 digits-break L tally t [] = refl
 digits-break L tally t (x ∷ ts) =
     let e : min (tally.breaks + suc (breaks_in x)) MANY_BREAKS ≡ min (min (tally.breaks + 1) MANY_BREAKS + breaks_in x) MANY_BREAKS = omega arith in
-    rw (e, or-assoc tally.bad (is_bad_run L Brk t) (is_bad_train L x))
+    rw (e, or_assoc tally.bad (is_bad_run L Brk t) (is_bad_train L x))
 
 -- a shorter make stays in it, and so does a break
 pub in_train-make : (L : Limits) (tally : Tally) (t : ℕ) (P : List Attempt) → t < L.pause → t < L.timeout → in_train L tally (into_first (make_of t) P) ≡ in_train L (with_make L t tally) P

@@ -1,78 +1,14 @@
--- What a row sends is on its line, and is little.
-use Rattle.std.proofs.Common.{◌≡◌, ℕ, suc, ◌≤◌, List, [], ◌∷◌, length, Bool, true, false, cond, nat_le, ◌==◌, refl, ap, arith}
+-- Where a row's signals stand.
+use Rattle.std.specs.Prelude.{◌≡◌}
 use Rattle.std.specs.List.{AllByRecursion}
-use Rattle.xb_model.specs.declared.row.Contact.{Contact}
-use Rattle.xb_model.specs.declared.row.Contact.TheVariants.{Make, Brk}
-use Rattle.xb_model.specs.declared.row.Contact.TheVariants as contacts
-use Rattle.xb_model.specs.declared.line.LineNo.{LineNo}
-use Rattle.xb_model.specs.declared.on.On.{On}
 use Rattle.xb_model.specs.declared.limits.Limits.{Limits}
+use Rattle.xb_model.specs.declared.on.On.{On}
 use Rattle.xb_model.specs.declared.signal.Signal.{Signal}
-use Rattle.xb_model.specs.declared.signal.Signal.TheVariants.{Seize, Digit, TimeOut, Release}
 use Rattle.xb_model.specs.Rows.{LoopRow}
-use Rattle.xb_ring.specs.Stateless.{on_line, all_on}
-use Rattle.xb_ring.specs.declared.stage.TheConstants.{MOST_OUTPUTS}
-use Rattle.xb_pulse.specs.declared.state.Tally.{Tally}
+use Rattle.xb_ring.specs.Stateless.{all_on}
 use Rattle.xb_pulse.specs.declared.state.State.{State}
-use Rattle.xb_pulse.specs.declared.state.State.TheVariants.{OnHook, BetweenTrains, InBreak, InMake, TimedOut, Closed}
-use Rattle.xb_pulse.specs.Machine.{Step, send, enter, longer, with_break, between_trains, in_make, on_make, in_break, release_at, unless_released, on_break, on_close, on_row, step_of, machine}
+use Rattle.xb_pulse.specs.Machine.{step_of, machine}
 
+-- what a row sends is on the row's line
 pub outs_on_line : (L : Limits) (s : State) (row : LoopRow) → AllByRecursion (λ (y : On Signal). y.line ≡ row.line) ((machine L).outs s row)
 outs_on_line L s row = all_on row.line (step_of L s row).sent
-
-length_on : (line : LineNo) (sent : List Signal) → length (on_line line sent) ≡ length sent
-length_on line [] = refl
-length_on line (what ∷ sent) = ap suc (length_on line sent)
-
-abbrev Few : Step → Type 0
-Few step = length step.sent ≤ 2
-
-few_if : (b : Bool) (x y : Step) → Few x → Few y → Few (cond b x y)
-few_if true x y p q = p
-few_if false x y p q = q
-
-few_between : (L : Limits) (t : ℕ) (what : Signal) → Few (send what (between_trains L t))
-few_between L t what = at (nat_le L.timeout t)
-  where
-    at : (b : Bool) → Few (send what (cond b (send TimeOut (enter (TimedOut 0))) (enter (BetweenTrains t))))
-    at true = omega arith
-    at false = omega arith
-
-few_between_alone : (L : Limits) (t : ℕ) → Few (between_trains L t)
-few_between_alone L t = few_if (nat_le L.timeout t) (send TimeOut (enter (TimedOut 0))) (enter (BetweenTrains t)) (omega arith) (omega arith)
-
-few_make : (L : Limits) (t : ℕ) (tally : Tally) → Few (in_make L t tally)
-few_make L t tally =
-    few_if (nat_le L.pause t) (send (Digit tally.breaks tally.bad) (between_trains L t)) (enter (InMake t tally)) (few_between L t (Digit tally.breaks tally.bad)) (omega arith)
-
-few_release : (L : Limits) (t : ℕ) (s : State) → Few (release_at L t s)
-few_release L t s = few_if (nat_le L.release t) (send Release (enter OnHook)) (enter s) (omega arith) (omega arith)
-
-few_unless_released : (L : Limits) (s : State) → Few (unless_released L s)
-few_unless_released L (InBreak t tally) = few_release L t (InBreak t tally)
-few_unless_released L (TimedOut t) = few_release L t (TimedOut t)
-few_unless_released L OnHook = omega arith
-few_unless_released L (BetweenTrains t) = omega arith
-few_unless_released L (InMake t tally) = omega arith
-few_unless_released L Closed = omega arith
-
-few_on_make : (L : Limits) (s : State) (m : ℕ) → Few (on_make L s m)
-few_on_make L OnHook m = few_between L (longer 0 m) Seize
-few_on_make L (BetweenTrains t) m = few_between_alone L (longer t m)
-few_on_make L (InBreak t tally) m = few_make L (longer 0 m) (with_break L t tally)
-few_on_make L (InMake t tally) m = few_make L (longer t m) tally
-few_on_make L (TimedOut t) m = omega arith
-few_on_make L Closed m = omega arith
-
-few_on_close : (s : State) → Few (on_close s)
-few_on_close Closed = omega arith
-few_on_close _ = omega arith
-
-few_on_row : (L : Limits) (s : State) (c : Contact) (ms : ℕ) → Few (on_row L s c ms)
-few_on_row L s Make ms = few_if (ms == 0) (enter s) (on_make L s ms) (omega arith) (few_on_make L s ms)
-few_on_row L s Brk ms = few_if (ms == 0) (enter s) (on_break L s ms) (omega arith) (few_unless_released L (in_break L s ms))
-few_on_row L s contacts.Close ms = few_on_close s
-
--- a row sends two signals at most
-pub outs_at_most : (L : Limits) (s : State) (row : LoopRow) → length ((machine L).outs s row) ≤ MOST_OUTPUTS
-outs_at_most L s row = rw (length_on row.line (step_of L s row).sent) (omega (arith, few_on_row L s row.contact row.ms))

@@ -190,7 +190,7 @@ impl LineStage for Pulse {
         State::OnHook
     }
 
-    #[tactic(auto, using(crate::specs::Outputs::outs_at_most))]
+    #[tactic(auto, using(crate::proofs::Outputs::outs_at_most))]
     fn step(&self, state: &mut State, item: Row, out: &mut Vec<On<Signal>>) {
         let line = item.line();
         let ms = item.ms();
