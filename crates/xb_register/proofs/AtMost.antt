@@ -20,19 +20,23 @@ owes OnHook = 0
 owes (Listening digits) = 1
 owes Done = 0
 
+-- an answer tells n outcomes at most, with the one that its attempt still owes
 abbrev GivesAtMost : ℕ → Answer → Type 0
 GivesAtMost n answer = length (option_to_list answer.outcome) + owes answer.phase ≤ n
 
+-- where two answers do, either does
 if_either : (b : Bool) (n : ℕ) (x y : Answer) → GivesAtMost n x → GivesAtMost n y → GivesAtMost n (cond b x y)
 if_either true n x y p q = p
 if_either false n x y p q = q
 
+-- a digit ends the attempt or leaves it owing
 store_at_most : (plan : Plan) (digits : List ℕ) (o : Option ℕ) → GivesAtMost 1 (store plan digits o)
 store_at_most plan digits None = omega arith
 store_at_most plan digits (Some d) =
     let more : List ℕ = digits ++ d ∷ [] in
     if_either (reaches (plan_len plan more) (length more)) 1 (ended (Number more) Done) (quiet (Listening more)) (omega arith) (omega arith)
 
+-- a signal brings one outcome at most, and that only where one was owed or it is a seizure
 advance_at_most : (plan : Plan) (phase : Phase) (signal : Signal) → GivesAtMost (owes phase + seizures (signal ∷ [])) (advance plan phase signal)
 advance_at_most plan OnHook Seize = omega arith
 advance_at_most plan OnHook (Digit count bad) = omega arith
@@ -50,6 +54,7 @@ advance_at_most plan Done TimeOut = omega arith
 advance_at_most plan Done Release = omega arith
 advance_at_most plan Done Close = omega arith
 
+-- a signal in front
 seizures-cons : (signal : Signal) (signals : List Signal) → seizures (signal ∷ signals) ≡ seizures (signal ∷ []) + seizures signals
 seizures-cons Seize signals = omega arith
 seizures-cons (Digit count bad) signals = omega arith
@@ -57,6 +62,7 @@ seizures-cons TimeOut signals = omega arith
 seizures-cons Release signals = omega arith
 seizures-cons Close signals = omega arith
 
+-- signals give one outcome at most for each seizure, and the one that was owed
 pub at_most : (plan : Plan) (phase : Phase) (signals : List Signal) → length (said plan phase signals) ≤ owes phase + seizures signals
 at_most plan phase [] = omega arith
 at_most plan phase (signal ∷ signals) =

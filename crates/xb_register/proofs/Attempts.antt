@@ -15,9 +15,11 @@ use Rattle.xb_model.specs.declared.dialled.Dialled.TheVariants.{Number, Refused}
 use Rattle.xb_model.specs.Records.{Run, Attempt, Train, is_release, into_first, pieces_of, has_runs, attempts_of, trains_of, is_timed, runs_of}
 use Rattle.xb_model.specs.Signals.{breaks_in, is_bad_train, digit_signal, when, attempt_signals, signals_of}
 use Rattle.xb_model.specs.Numbers.{digit_of_train, before_mutilated, good_digits, is_complete, fronts, shortest_complete, without_number, or_refused, outcome_of, outcomes_of}
+use Rattle.xb_ring.specs.Stateless.{on_line}
 use Rattle.xb_register.specs.declared.state.Phase.TheVariants.{OnHook, Listening, Done}
+use Rattle.xb_register.specs.Laws.{GivesOutcomes}
 use Rattle.xb_register.specs.Registering.{store}
-use Rattle.xb_register.proofs.Said.{said}
+use Rattle.xb_register.proofs.Said.{said, image_from-on_line}
 use Rattle.xb_register.proofs.Spelled.{spelled}
 use Rattle.xb_register.proofs.Pending.{Pending, one, reaches-pending}
 
@@ -34,6 +36,7 @@ listened plan digits (None ∷ trains) behind = Refused Mutilated (length digits
 listened plan digits (Some d ∷ trains) behind =
     cond (is_complete plan (digits ++ one d)) (Number (digits ++ one d) ∷ said plan Done behind) (listened plan (digits ++ one d) trains behind)
 
+-- behind an outcome the digits of its attempt say nothing
 done_silent : (plan : Plan) (limits : Limits) (ts : List Train) (behind : List Signal) → said plan Done (map (digit_signal limits) ts ++ behind) ≡ said plan Done behind
 done_silent plan limits [] behind = refl
 done_silent plan limits (t ∷ ts) behind = done_silent plan limits ts behind
@@ -47,6 +50,7 @@ digit_step plan limits digits ts behind (Some d) p ih = complete (is_complete pl
     complete true e = rw (reaches-pending plan digits d p, e, done_silent plan limits ts behind)
     complete false e = rw (reaches-pending plan digits d p, e) (ih (digits ++ one d) (reaches-pending plan digits d p ∙ e))
 
+-- what the register gives on the digits of trains, which it knows by their signals
 listens : (plan : Plan) (limits : Limits) (digits : List ℕ) (ts : List Train) (behind : List Signal) → Pending plan digits → said plan (Listening digits) (map (digit_signal limits) ts ++ behind) ≡ listened plan digits (map (digit_of_train limits) ts) behind
 listens plan limits digits [] behind p = refl
 listens plan limits digits (t ∷ ts) behind p =
@@ -79,14 +83,17 @@ shortest plan digits = rw (map-id (fronts digits)) at (first_front plan [] digit
 
 -- the attempts, each but the last with a release behind it
 
+-- each piece but the last was released
 abbrev Chained : List Attempt → Type 0
 Chained [] = Unit {0}
 Chained (piece ∷ pieces) = ((piece.released ≡ true) ⊎ (pieces ≡ [])) × Chained pieces
 
+-- a run in front of the first piece keeps this
 chained_first : (run : Run) (P : List Attempt) → Chained P → Chained (into_first run P)
 chained_first run [] c = (inr refl, tt)
 chained_first run (p ∷ P) c = c
 
+-- the pieces of runs that are cut at releases are so
 chained_pieces : (limits : Limits) (R : List Run) → Chained (pieces_of limits R)
 chained_pieces limits [] = tt
 chained_pieces limits (run ∷ R) = at (is_release limits run) (chained_pieces limits R)
@@ -95,6 +102,7 @@ chained_pieces limits (run ∷ R) = at (is_release limits run) (chained_pieces l
     at true c = (inl refl, c)
     at false c = chained_first run (pieces_of limits R) c
 
+-- and so are those of them that pass a test
 chained_filter : (test : Attempt → Bool) (P : List Attempt) → Chained P → Chained (filter test P)
 chained_filter test [] c = tt
 chained_filter test (p ∷ P) c = at (test p) (chained_filter test P c.1)
@@ -107,10 +115,11 @@ chained_filter test (p ∷ P) c = at (test p) (chained_filter test P c.1)
     at true d = (last c.0, d)
     at false d = d
 
--- the signals of attempts, up to the close
-abbrev all_of : Limits → List Attempt → List Signal
-all_of limits attempts = flat_map (attempt_signals limits) attempts ++ Close ∷ []
+-- the signals of attempts, and the close
+abbrev signals_and_close : Limits → List Attempt → List Signal
+signals_and_close limits attempts = flat_map (attempt_signals limits) attempts ++ Close ∷ []
 
+-- an attempt gives its outcome, where what ends it gives a refusal, and nothing behind a number
 one_attempt : (plan : Plan) (limits : Limits) (a : Attempt) (behind : List Signal) (rest : List Dialled) → ((digits : List ℕ) → said plan (Listening digits) ((when (is_timed limits a.runs) TimeOut ++ when a.released Release) ++ behind) ≡ without_number false (is_timed limits a.runs) (length digits) ∷ rest) → said plan Done ((when (is_timed limits a.runs) TimeOut ++ when a.released Release) ++ behind) ≡ rest → said plan OnHook (attempt_signals limits a ++ behind) ≡ outcome_of plan limits a.runs ∷ rest
 one_attempt plan limits a behind rest listening done =
     let ts : List Train = trains_of limits a.runs in
@@ -123,39 +132,50 @@ released_listening : (plan : Plan) (late : Bool) (digits : List ℕ) (behind : L
 released_listening plan true digits behind = refl
 released_listening plan false digits behind = refl
 
+-- behind an outcome the release only ends the attempt
 released_done : (plan : Plan) (late : Bool) (behind : List Signal) → said plan Done ((when late TimeOut ++ Release ∷ []) ++ behind) ≡ said plan OnHook behind
 released_done plan true behind = refl
 released_done plan false behind = refl
 
+-- an attempt that the close ends is refused
 closed_listening : (plan : Plan) (late released : Bool) (digits : List ℕ) → said plan (Listening digits) ((when late TimeOut ++ when released Release) ++ Close ∷ []) ≡ without_number false late (length digits) ∷ []
 closed_listening plan true true digits = refl
 closed_listening plan true false digits = refl
 closed_listening plan false true digits = refl
 closed_listening plan false false digits = refl
 
+-- behind an outcome the close says nothing
 closed_done : (plan : Plan) (late released : Bool) → said plan Done ((when late TimeOut ++ when released Release) ++ Close ∷ []) ≡ []
 closed_done plan true true = refl
 closed_done plan true false = refl
 closed_done plan false true = refl
 closed_done plan false false = refl
 
+-- what comes of these attempts
 abbrev come : Plan → Limits → List Attempt → List Dialled
 come plan limits attempts = map (λ attempt. outcome_of plan limits attempt.runs) attempts
 
-all_attempts : (plan : Plan) (limits : Limits) (as_ : List Attempt) → Chained as_ → said plan OnHook (all_of limits as_) ≡ come plan limits as_
+-- attempts give their outcomes, in order
+all_attempts : (plan : Plan) (limits : Limits) (as_ : List Attempt) → Chained as_ → said plan OnHook (signals_and_close limits as_) ≡ come plan limits as_
 all_attempts plan limits [] c = refl
 all_attempts plan limits (a ∷ more) c =
     ap (λ signals. said plan OnHook signals) (append_assoc (attempt_signals limits a) (flat_map (attempt_signals limits) more) (Close ∷ [])) ∙ at c.0 (all_attempts plan limits more c.1)
   where
-    at : (a.released ≡ true) ⊎ (more ≡ []) → said plan OnHook (all_of limits more) ≡ come plan limits more → said plan OnHook (attempt_signals limits a ++ all_of limits more) ≡ outcome_of plan limits a.runs ∷ come plan limits more
+    at : (a.released ≡ true) ⊎ (more ≡ []) → said plan OnHook (signals_and_close limits more) ≡ come plan limits more → said plan OnHook (attempt_signals limits a ++ signals_and_close limits more) ≡ outcome_of plan limits a.runs ∷ come plan limits more
     at (inl e) ih =
-        one_attempt plan limits a (all_of limits more) (come plan limits more)
-        (λ digits. rw e (released_listening plan (is_timed limits a.runs) digits (all_of limits more) ∙ ap (λ rest. without_number false (is_timed limits a.runs) (length digits) ∷ rest) ih))
-        (rw e (released_done plan (is_timed limits a.runs) (all_of limits more) ∙ ih))
+        one_attempt plan limits a (signals_and_close limits more) (come plan limits more)
+        (λ digits. rw e (released_listening plan (is_timed limits a.runs) digits (signals_and_close limits more) ∙ ap (λ rest. without_number false (is_timed limits a.runs) (length digits) ∷ rest) ih))
+        (rw e (released_done plan (is_timed limits a.runs) (signals_and_close limits more) ∙ ih))
     at (inr e) ih =
         rw e (one_attempt plan limits a (Close ∷ []) [] (λ digits. closed_listening plan (is_timed limits a.runs) a.released digits) (closed_done plan (is_timed limits a.runs) a.released))
 
+-- the signals of a record say its outcomes
 pub registers : (plan : Plan) (limits : Limits) (record_ : List Run) → said plan OnHook (signals_of limits record_) ≡ outcomes_of plan limits record_
 registers plan limits record_ =
     all_attempts plan limits (attempts_of limits record_)
     (chained_filter (λ piece. has_runs piece.runs) (pieces_of limits (runs_of record_)) (chained_pieces limits (runs_of record_)))
+
+-- on a line the signals of a record give its outcomes
+pub gives_outcomes : GivesOutcomes
+gives_outcomes plan limits line record_ =
+    image_from-on_line plan line OnHook (signals_of limits record_) ∙ ap (λ dialled. on_line line dialled) (registers plan limits record_)

@@ -9,11 +9,12 @@ use Rattle.xb_model.specs.TwoOfFive.{digit_of_pattern}
 use Rattle.xb_model.specs.declared.digits.TheConstants.{NUMBER_DIGITS}
 use Rattle.xb_register.specs.Stored.{digits_of, IsStored}
 
--- no more digits than patterns
+-- a pattern adds one digit at most
 length-cons_option : (o : Option ℕ) (digits : List ℕ) → length (cons_option o digits) ≤ suc (length digits)
 length-cons_option None digits = omega arith
 length-cons_option (Some d) digits = omega arith
 
+-- no more digits than patterns
 few_digits : (patterns : List (List Bool)) → length (digits_of patterns) ≤ length patterns
 few_digits [] = omega arith
 few_digits (p ∷ patterns) = omega (arith, length-cons_option (digit_of_pattern p) (digits_of patterns), few_digits patterns)
@@ -44,12 +45,15 @@ digits_of-push patterns pattern = filter_map-append digit_of_pattern patterns (p
     at None = refl
     at (Some d) = refl
 
+-- one pattern more at the front of a list
 pub digits_of-take : (patterns : List (List Bool)) (i : ℕ) (d : List Bool) → i < length patterns → digits_of (take (i + 1) patterns) ≡ digits_of (take i patterns) ++ option_to_list (digit_of_pattern (get_or patterns i d))
 digits_of-take patterns i d h = rw (take_more patterns i d h) (digits_of-push (take i patterns) (get_or patterns i d))
 
+-- a pattern that is pushed adds its digit to those read
 pub push_digit : (patterns after : List (List Bool)) (pattern : List Bool) (digits : List ℕ) → digits_of patterns ≡ digits → after ≡ patterns ++ pattern ∷ [] → digits_of after ≡ digits ++ option_to_list (digit_of_pattern pattern)
 push_digit patterns after pattern digits view pushed = rw (pushed, digits_of-push patterns pattern, view)
 
+-- where the pattern is a digit and there is room, what is stored stays so
 pub push_stored : (patterns after : List (List Bool)) (pattern : List Bool) (digits : List ℕ) → digits_of patterns ≡ digits → after ≡ patterns ++ pattern ∷ [] → IsStored patterns → length digits < NUMBER_DIGITS → IsTrue (is_some (digit_of_pattern pattern)) → IsStored after
 push_stored patterns after pattern digits view pushed stored room some =
     record {

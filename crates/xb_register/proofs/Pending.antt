@@ -8,9 +8,11 @@ use Rattle.xb_model.specs.declared.plan.Plan.{Plan}
 use Rattle.xb_model.specs.declared.plan.Plan.TheVariants.{Seven}
 use Rattle.xb_register.specs.Registering.{reaches}
 
+-- one digit alone
 abbrev pub one : ℕ → List ℕ
 one d = d ∷ []
 
+-- the digits are not yet as many as their number has
 abbrev pub Pending : Plan → List ℕ → Type 0
 Pending plan digits = reaches (plan_len plan digits) (length digits) ≡ false
 
@@ -22,14 +24,17 @@ at_least_three Seven a b c = seven (nat_le 2 a && (b == 1 && c == 1))
     seven true = omega arith
     seven false = omega arith
 
+-- a first digit 0 is a whole number, and any other is not
 zero_first : (z : Bool) → reaches (cond z (Some 1) None) 1 ≡ has_length (cond z (Some 1) None) 1
 zero_first true = refl
 zero_first false = refl
 
+-- more digits than one are pending only where the first is not 0
 not_zero : (z : Bool) (o : Option ℕ) (n : ℕ) → reaches (cond z (Some 1) o) (suc n) ≡ false → z ≡ false
 not_zero true o n p = grind (arith, nat_tests)
 not_zero false o n p = refl
 
+-- the last digit of a length is the one that reaches it
 last_digit : (len n : ℕ) → n < len → nat_le len (suc n) ≡ (len == suc n)
 last_digit len n h = grind (arith, nat_tests)
 

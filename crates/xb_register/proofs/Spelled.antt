@@ -25,6 +25,7 @@ many n h =
     let e10 : (n == 10) ≡ false = ne_eqb n 10 (omega arith) in
     rw (e1, e2, e3, e4, e5, e6, e7, e8, e9, e10)
 
+-- a good train's pattern is the digit of its count
 good_digit : (n : ℕ) → digit_of_pattern (good_pattern n) ≡ digit_of_count n false
 good_digit zero = refl
 good_digit (suc zero) = refl
@@ -46,6 +47,7 @@ good_digit (suc (suc (suc (suc (suc (suc (suc (suc (suc (suc (suc n))))))))))) =
 stopped : (n : ℕ) (bad : Bool) → digit_of_count (min n MANY_BREAKS) bad ≡ digit_of_count n bad
 stopped n bad = grind (arith, nat_tests)
 
+-- the pattern of a stopped count is the digit of the whole count
 pub spelled : (n : ℕ) (bad : Bool) → digit_of_pattern (pattern_of_count (min n MANY_BREAKS) bad) ≡ digit_of_count n bad
 spelled n true = refl
 spelled n false = good_digit (min n MANY_BREAKS) ∙ stopped n false
