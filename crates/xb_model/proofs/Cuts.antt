@@ -8,9 +8,11 @@ use Rattle.xb_model.specs.Rows.{LoopRow, row_of}
 use Rattle.xb_model.specs.Records.{Run, same_contact, is_close, rows_of, record_up_to_close, record_of, join, joined, without_first_break}
 use Rattle.xb_model.specs.CutRows.{RowsMayBeCut}
 
+-- a run of a contact and a length
 abbrev pub run_of : Contact → ℕ → Run
 run_of contact ms = record { contact = contact; ms = ms }
 
+-- a contact is the same as itself
 same_self : (c : Contact) → same_contact c c ≡ true
 same_self Make = refl
 same_self Brk = refl
@@ -34,6 +36,7 @@ behind_row row A B same = by (is_close row.contact) (row.ms == 0)
     by false true = same
     by false false = ap (λ R. join (run_of row.contact row.ms) R) same
 
+-- and behind rows of all lines
 behind_rows : (l : ℕ) (earlier A B : List LoopRow) → joined (record_of l A) ≡ joined (record_of l B) → joined (record_of l (earlier ++ A)) ≡ joined (record_of l (earlier ++ B))
 behind_rows l [] A B same = same
 behind_rows l (row ∷ rows) A B same = by (row.line == l) (behind_rows l rows A B same)
@@ -42,6 +45,7 @@ behind_rows l (row ∷ rows) A B same = by (row.line == l) (behind_rows l rows A
     by true rest = behind_row row (rows_of l (rows ++ A)) (rows_of l (rows ++ B)) rest
     by false rest = rest
 
+-- two lengths that are not 0 do not sum to 0
 sum_is_not_0 : (m n : ℕ) → (suc m + suc n == 0) ≡ false
 sum_is_not_0 m n = rw (suc-add m (suc n)) (eqb-suc-zero (m + suc n))
 
@@ -67,6 +71,7 @@ cut_front line (suc m) (suc n) c rows = by (is_close c)
     by true = refl
     by false = rw (eqb-suc-zero m, eqb-suc-zero n, sum_is_not_0 m n) (join_sum c (suc m) (suc n) (joined (record_up_to_close rows)))
 
+-- the runs of a line are the same where one of its rows is cut into two
 pub rows_may_be_cut : RowsMayBeCut
 rows_may_be_cut l line m n c earlier later = ap without_first_break (behind_rows l earlier _ _ (by (line == l)))
   where

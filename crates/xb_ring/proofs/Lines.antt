@@ -23,6 +23,7 @@ module _ {X : Type 0} (line : X → ℕ) where
   of_line-all l [] h = refl
   of_line-all l (x ∷ xs) h = of_line-here l x xs (eq-eqb _ _ h.0) ∙ ap (λ ys. x ∷ ys) (of_line-all l xs h.1)
 
+  -- no other line has any of them
   pub of_line-none : (l k : ℕ) (xs : List X) → AllByRecursion (λ x. line x ≡ k) xs → eqb k l ≡ false → of_line line l xs ≡ []
   of_line-none l k [] h n = refl
   of_line-none l k (x ∷ xs) h n = of_line-other l x xs (ap (λ i. eqb i l) h.0 ∙ n) ∙ of_line-none l k xs h.1 n
