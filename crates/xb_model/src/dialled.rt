@@ -4,11 +4,12 @@ ghost use Rattle.std.specs.Prelude.{◌≡◌};
 use crate::digits::NumberDigits;
 use crate::reason::Reason;
 
-/// What comes of an attempt: the number that was dialled, or why there is none, with the count of
-/// good digits heard before.
+/// What comes of an attempt.
 #[derive(Drop)]
 pub enum Dialled {
+    /// The number that was dialled.
     Number(NumberDigits),
+    /// Why there is none, and the count of good digits heard before.
     Refused(Reason, u8),
 }
 

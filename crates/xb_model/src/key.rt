@@ -4,18 +4,23 @@ ghost use Rattle.xb_model.specs.MfPairs.{mf_pair, digit_pair};
 
 use crate::digit::Digit;
 
-/// What is keyed: a digit, KP before the digits, or ST behind them.
+/// What is keyed by one pair of tones.
 #[derive(Clone, Copy, Debug, PartialEq, Eq)]
 pub enum Key {
+    /// A digit.
     Digit(Digit),
+    /// KP, before the digits.
     Kp,
+    /// ST, behind the digits.
     St,
 }
 
 /// Two frequencies that sound together, in Hz.
 #[derive(Clone, Copy, Debug, PartialEq, Eq)]
 pub struct Tone {
+    /// The lower one, in Hz.
     pub low: u16,
+    /// The higher one, in Hz.
     pub high: u16,
 }
 

@@ -13,7 +13,8 @@ pub enum Mark {
     Trunk(Trunk),
     /// A key, with its pair of tones.
     Tone(Key, Tone),
-    /// A refused attempt, with the count that goes with it.
+    /// Why an attempt is refused, and the count of good digits heard before, or for `Unknown` the
+    /// length of the number.
     Refused(Reason, u8),
 }
 

@@ -7,7 +7,9 @@ use crate::row::Row;
 /// Something on a line.
 #[derive(Clone, Copy, Debug, PartialEq, Eq, Default)]
 pub struct On<T> {
+    /// The line.
     pub line: LineNo,
+    /// What is on it.
     pub what: T,
 }
 

@@ -5,11 +5,13 @@ use crate::digits::KeyDigits;
 use crate::reason::Reason;
 use crate::trunk::Trunk;
 
-/// What a sender is told: the trunk group and the digits that it keys, or why an attempt is
-/// refused, with the count that goes with it.
+/// What a sender is told.
 #[derive(Drop)]
 pub enum Order {
+    /// To key these digits on this trunk group.
     Key(Trunk, KeyDigits),
+    /// Why an attempt is refused, and the count of good digits heard before, or for `Unknown` the
+    /// length of the number.
     Refused(Reason, u8),
 }
 
