@@ -103,89 +103,91 @@ fn gives(
     Ok(())
 }
 
+// Records that are judged by the standard limits, and the signals that they give.
+const RECORDS: [(&str, &[Part], &[Signal]); 13] = [
+    (
+        "a digit",
+        &[Make(500), Pulses(2, 600)],
+        &[Seize, Digit(2, false), Close],
+    ),
+    (
+        "a break under the shortest pulse",
+        &[Make(500), Break(19), Make(600)],
+        &[Seize, Digit(1, true), Close],
+    ),
+    (
+        "a release",
+        &[Make(500), Break(300), Make(600)],
+        &[Seize, Release, Seize, Close],
+    ),
+    (
+        "a release inside a train",
+        &[Make(500), Break(60), Make(40), Break(400)],
+        &[Seize, Release, Close],
+    ),
+    (
+        "eleven pulses",
+        &[Make(500), Pulses(11, 600)],
+        &[Seize, Digit(11, false), Close],
+    ),
+    (
+        "fourteen pulses",
+        &[Make(500), Pulses(14, 600)],
+        &[Seize, Digit(11, false), Close],
+    ),
+    (
+        "a time-out behind a digit, and pulses behind it",
+        &[
+            Make(500),
+            Break(60),
+            Make(20_000),
+            Pulses(3, 600),
+            Break(400),
+        ],
+        &[Seize, Digit(1, false), TimeOut, Release, Close],
+    ),
+    (
+        "a time-out at the seizure",
+        &[Make(25_000), Pulses(3, 600)],
+        &[Seize, TimeOut, Close],
+    ),
+    (
+        "a time-out in two rows",
+        &[Make(10_000), Make(10_000)],
+        &[Seize, TimeOut, Close],
+    ),
+    (
+        "idle time, and a make of no length",
+        &[Break(5_000), Make(0), Break(5_000)],
+        &[Close],
+    ),
+    (
+        "a pause in two rows, and a train that nothing ends",
+        &[
+            Make(500),
+            Break(60),
+            Make(100),
+            Make(80),
+            Break(60),
+            Make(179),
+        ],
+        &[Seize, Digit(1, false), Close],
+    ),
+    (
+        "a break and a make out of their limits",
+        &[Make(500), Break(150), Make(10), Break(60), Make(600)],
+        &[Seize, Digit(2, true), Close],
+    ),
+    (
+        "a release in two rows",
+        &[Make(500), Break(150), Break(150), Make(1)],
+        &[Seize, Release, Seize, Close],
+    ),
+];
+
 #[test]
 fn records(rt: HostRuntime) -> Result<(), Fail> {
-    let records: [(&str, &[Part], &[Signal]); 13] = [
-        (
-            "a digit",
-            &[Make(500), Pulses(2, 600)],
-            &[Seize, Digit(2, false), Close],
-        ),
-        (
-            "a break under the shortest pulse",
-            &[Make(500), Break(19), Make(600)],
-            &[Seize, Digit(1, true), Close],
-        ),
-        (
-            "a release",
-            &[Make(500), Break(300), Make(600)],
-            &[Seize, Release, Seize, Close],
-        ),
-        (
-            "a release inside a train",
-            &[Make(500), Break(60), Make(40), Break(400)],
-            &[Seize, Release, Close],
-        ),
-        (
-            "eleven pulses",
-            &[Make(500), Pulses(11, 600)],
-            &[Seize, Digit(11, false), Close],
-        ),
-        (
-            "fourteen pulses",
-            &[Make(500), Pulses(14, 600)],
-            &[Seize, Digit(11, false), Close],
-        ),
-        (
-            "a time-out behind a digit, and pulses behind it",
-            &[
-                Make(500),
-                Break(60),
-                Make(20_000),
-                Pulses(3, 600),
-                Break(400),
-            ],
-            &[Seize, Digit(1, false), TimeOut, Release, Close],
-        ),
-        (
-            "a time-out at the seizure",
-            &[Make(25_000), Pulses(3, 600)],
-            &[Seize, TimeOut, Close],
-        ),
-        (
-            "a time-out in two rows",
-            &[Make(10_000), Make(10_000)],
-            &[Seize, TimeOut, Close],
-        ),
-        (
-            "idle time, and a make of no length",
-            &[Break(5_000), Make(0), Break(5_000)],
-            &[Close],
-        ),
-        (
-            "a pause in two rows, and a train that nothing ends",
-            &[
-                Make(500),
-                Break(60),
-                Make(100),
-                Make(80),
-                Break(60),
-                Make(179),
-            ],
-            &[Seize, Digit(1, false), Close],
-        ),
-        (
-            "a break and a make out of their limits",
-            &[Make(500), Break(150), Make(10), Break(60), Make(600)],
-            &[Seize, Digit(2, true), Close],
-        ),
-        (
-            "a release in two rows",
-            &[Make(500), Break(150), Break(150), Make(1)],
-            &[Seize, Release, Seize, Close],
-        ),
-    ];
-    for (name, parts, want) in records {
+    for (name, parts, want) in RECORDS {
         gives(&rt, rt.alloc(), Limits::standard(), name, parts, want)?;
     }
     Ok(())
@@ -215,6 +217,40 @@ fn long_trains(rt: HostRuntime) -> Result<(), Fail> {
     Ok(())
 }
 
+// Records that are judged by the greatest release and time-out.
+const RECORDS_AT_GREATEST_LIMITS: [(&str, &[Part], &[Signal]); 6] = [
+    (
+        "a break under the release",
+        &[Make(500), Break(999_999), Make(600)],
+        &[Seize, Digit(1, true), Close],
+    ),
+    (
+        "a break of the release",
+        &[Make(500), Break(1_000_000), Make(600)],
+        &[Seize, Release, Seize, Close],
+    ),
+    (
+        "a break of the release in two rows",
+        &[Make(500), Break(999_999), Break(1), Make(600)],
+        &[Seize, Release, Seize, Close],
+    ),
+    (
+        "a make under the time-out",
+        &[Make(999_999)],
+        &[Seize, Close],
+    ),
+    (
+        "a make of the time-out",
+        &[Make(1_000_000)],
+        &[Seize, TimeOut, Close],
+    ),
+    (
+        "a make of the time-out in two rows",
+        &[Make(999_999), Make(1)],
+        &[Seize, TimeOut, Close],
+    ),
+];
+
 #[test]
 fn greatest_limits(rt: HostRuntime) -> Result<(), Fail> {
     let limits = Limits {
@@ -222,42 +258,24 @@ fn greatest_limits(rt: HostRuntime) -> Result<(), Fail> {
         timeout: GREATEST_LIMIT,
         ..Limits::standard()
     };
-    let records: [(&str, &[Part], &[Signal]); 6] = [
-        (
-            "a break under the release",
-            &[Make(500), Break(999_999), Make(600)],
-            &[Seize, Digit(1, true), Close],
-        ),
-        (
-            "a break of the release",
-            &[Make(500), Break(1_000_000), Make(600)],
-            &[Seize, Release, Seize, Close],
-        ),
-        (
-            "a break of the release in two rows",
-            &[Make(500), Break(999_999), Break(1), Make(600)],
-            &[Seize, Release, Seize, Close],
-        ),
-        (
-            "a make under the time-out",
-            &[Make(999_999)],
-            &[Seize, Close],
-        ),
-        (
-            "a make of the time-out",
-            &[Make(1_000_000)],
-            &[Seize, TimeOut, Close],
-        ),
-        (
-            "a make of the time-out in two rows",
-            &[Make(999_999), Make(1)],
-            &[Seize, TimeOut, Close],
-        ),
-    ];
-    for (name, parts, want) in records {
+    for (name, parts, want) in RECORDS_AT_GREATEST_LIMITS {
         gives(&rt, rt.alloc(), limits, name, parts, want)?;
     }
     Ok(())
+}
+
+// The rows of two lists, one of each in turn.
+fn in_turn(alloc: Global, first: &[Row], second: &[Row]) -> Result<Vec<Row>, Fail> {
+    let mut rows = Vec::new(alloc);
+    for at in 0..first.len().max(second.len()) {
+        if let Some(row) = first.get(at) {
+            rows.push(*row)?;
+        }
+        if let Some(row) = second.get(at) {
+            rows.push(*row)?;
+        }
+    }
+    Ok(rows)
 }
 
 #[test]
@@ -265,17 +283,7 @@ fn two_lines_in_turn(rt: HostRuntime) -> Result<(), Fail> {
     let first = closed_record(rt.alloc(), 1, &[Make(500), Pulses(10, 600)], false)?;
     let parts = [Make(500), Pulses(4, 600), Pulses(1, 600), Pulses(1, 600)];
     let second = closed_record(rt.alloc(), 2, &parts, false)?;
-    let mut rows = Vec::new(rt.alloc());
-    let mut behind = second.iter();
-    for row in &first {
-        rows.push(*row)?;
-        if let Some(other) = behind.next() {
-            rows.push(*other)?;
-        }
-    }
-    for other in behind {
-        rows.push(*other)?;
-    }
+    let rows = in_turn(rt.alloc(), &first, &second)?;
     let sent = image_of(rt.alloc(), &Pulse::new(Limits::standard()), rows)?;
     assert_eq!(rt;
         on_line(rt.alloc(), 1, &sent)?.as_slice(),
