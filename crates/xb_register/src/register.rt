@@ -1,5 +1,5 @@
 // The register stage.
-ghost use Rattle.std.specs.Prelude.{◌≡◌, ℕ, ◌<◌, length, Some, None};
+ghost use Rattle.std.specs.Prelude.{◌≡◌, ◌<◌, length};
 ghost use Rattle.xb_model.specs.Plans.{plan_len};
 ghost use Rattle.xb_model.specs.TwoOfFive.{digit_of_pattern};
 ghost use Rattle.xb_ring.specs.Stateless.{all_on};

@@ -1,5 +1,5 @@
 // What a stage makes of a whole list of items.
-ghost use Rattle.std.specs.Prelude.{◌≡◌, ℕ, ◌≤◌, ◌<◌, [], vec_len, vec_capacity, slice_set, slice_index_or, IfOk};
+ghost use Rattle.std.specs.Prelude.{◌≡◌, ◌≤◌, ◌<◌, [], vec_len, vec_capacity, slice_set, slice_index_or, IfOk};
 ghost use Rattle.std.specs.List.{All};
 ghost use Rattle.xb_model.specs.declared.line.TheConstants.{LINES};
 ghost use Rattle.xb_ring.specs.Image.{image};
@@ -48,7 +48,7 @@ fn take_item<S: LineStage>(
 
 /// What a stage sends for a list of items: for each item in turn, what it sends with the state of
 /// the item's line after the earlier items of that line. It takes the room for a state of each line,
-/// and for what is sent.
+/// and for what is sent; `Err` where a growth was refused.
 pub fn image_of<S: LineStage>(
     alloc: Global,
     stage: &S,

@@ -1,5 +1,5 @@
 // The sender, and the marks that it sends.
-ghost use Rattle.std.specs.Prelude.{◌≡◌, ℕ, ◌+◌, ◌<◌, ◌≤◌, [], ◌∷◌, ◌++◌, map, length, vec_len, vec_capacity};
+ghost use Rattle.std.specs.Prelude.{◌≡◌, ◌+◌, ◌<◌, ◌≤◌, [], ◌∷◌, ◌++◌, map, length, vec_len, vec_capacity};
 ghost use Rattle.xb_model.specs.declared.digits.TheConstants.{KEY_DIGITS};
 ghost use Rattle.xb_model.specs.declared.key.Key.TheVariants.{Digit as DigitKey};
 ghost use Rattle.xb_model.specs.Keyings.{tone, keying, marks_of};
