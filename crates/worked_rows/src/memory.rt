@@ -3,7 +3,7 @@ use crate::decks::{TABLE, deck_of, page_of};
 use crate::pulses::rows_of;
 use std::test::Fail;
 use xb_bank::{RowSource, Tapes, fed_rows, key_serial};
-use xb_model::{Contact, Digit, Key, LineNo, Mark, On, Row, Tone, Trunk};
+use xb_model::{Contact, Digit, Key, LineNo, Mark, On, Row, Signal, Tone, Trunk};
 use xb_office::{Scan, operate, page, read_rows};
 use xb_pulse::Pulse;
 use xb_ring::image_of;
@@ -22,15 +22,18 @@ fn ample_memory_succeeds(rt: HostRuntime) -> Result<(), Fail> {
     let alloc = rt.alloc();
     let line = LineNo::new(5).ok_or("no line 5")?;
     let rows = rows_of(&rt, alloc, 5, PIECES)?;
+    let mut closed = rows.clone()?;
+    closed.push(Row::new(line, Contact::Close, 0).ok_or("no close")?)?;
     let fed = fed_rows(alloc, &rows)?;
-    assert_eq!(rt; fed.len(), rows.len() + 1);
-    assert_eq!(rt; fed.last(), Row::new(line, Contact::Close, 0).as_ref());
+    assert!(rt; fed.as_slice() == closed.as_slice());
     let table = RouteTable::read(alloc, TABLE.as_bytes())?;
     let signals = image_of(alloc, &Pulse::new(table.limits()), fed)?;
-    assert_eq!(rt; signals.len(), 3);
+    let heard = [Signal::Seize, Signal::Digit(10, false), Signal::Close];
+    assert!(rt; signals.as_slice() == heard.map(|what| On { line, what }).as_slice());
     let tapes = key_serial(alloc, &rows, &table)?;
     let trunk = Trunk::new(1).ok_or("no trunk 1")?;
     let zero = Digit::new(0).ok_or("no digit 0")?;
+    assert!(rt; table.look(&[zero]).map(|route| route.trunk) == Some(trunk));
     let marks = [
         Mark::Trunk(trunk),
         tone(Key::Kp, 1100, 1700),

@@ -31,6 +31,8 @@ fn digits_are_0_to_9(rt: HostRuntime) -> Result<(), Fail> {
 #[test]
 fn lists_of_digits(rt: HostRuntime) -> Result<(), Fail> {
     let nines = [Digit::new(9).ok_or("a digit")?; 16];
+    let none = NumberDigits::of(&[]).ok_or("no digits")?;
+    assert!(rt; none.digits().is_empty());
     let number = NumberDigits::of(&nines[..7]).ok_or("seven digits")?;
     assert_eq!(rt; number.digits(), &nines[..7]);
     assert!(rt; NumberDigits::of(&nines[..8]).is_none());
