@@ -1,4 +1,4 @@
-// Worked rows of attempts: what lines do, and the page of it.
+// Worked examples of attempts: what lines do, and the page of it.
 use crate::decks::Worked;
 
 /// Rows that stand one line after the other, under the usual table.
@@ -11,17 +11,17 @@ pub const ATTEMPTS: &[Worked] = &[
     Worked {
         name: "operator_call",
         lines: &[(5, "M500 #0")],
-        page: &["0005 1 K0", "KEYED 1 REFUSED 0"],
+        page: &["0005 1 OPERATOR", "KEYED 1 REFUSED 0"],
     },
     Worked {
         name: "seven_digits",
         lines: &[(7, "M500 #2 #3 #4 #5 #6 #7 #8")],
-        page: &["0007 1 K3", "KEYED 1 REFUSED 0"],
+        page: &["0007 1 SEVEN_DIGITS", "KEYED 1 REFUSED 0"],
     },
     Worked {
         name: "split_rows",
         lines: &[(7, "M500 B30 M0 B30 M40 B60 M600 #3 #4 #5 #6 #7 #8")],
-        page: &["0007 1 K3", "KEYED 1 REFUSED 0"],
+        page: &["0007 1 SEVEN_DIGITS", "KEYED 1 REFUSED 0"],
     },
     Worked {
         name: "break_limits",
@@ -73,9 +73,9 @@ pub const ATTEMPTS: &[Worked] = &[
             (33, "M500 #2 #3 #4 #5 #6 #7 *8/86400000"),
         ],
         page: &[
-            "0031 1 K3",
+            "0031 1 SEVEN_DIGITS",
             "0032 1 REFUSED TIMEDOUT 6",
-            "0033 1 K3",
+            "0033 1 SEVEN_DIGITS",
             "KEYED 2 REFUSED 1",
         ],
     },
@@ -87,7 +87,7 @@ pub const ATTEMPTS: &[Worked] = &[
         ],
         page: &[
             "0041 1 REFUSED ABANDONED 6",
-            "0042 1 K3",
+            "0042 1 SEVEN_DIGITS",
             "KEYED 1 REFUSED 1",
         ],
     },
@@ -104,7 +104,7 @@ pub const ATTEMPTS: &[Worked] = &[
             (3, "M500 #5 #5 #5 #1 #2 #3 #4"),
         ],
         page: &[
-            "0001 1 K4",
+            "0001 1 SERVICE_CODE",
             "0002 1 REFUSED UNKNOWN 3",
             "0003 1 REFUSED UNKNOWN 7",
             "KEYED 1 REFUSED 2",
@@ -113,7 +113,7 @@ pub const ATTEMPTS: &[Worked] = &[
     Worked {
         name: "second_call",
         lines: &[(3, "M500 #0 #9 B400 M500 #4 #1 #1")],
-        page: &["0003 1 K0", "0003 2 K4", "KEYED 2 REFUSED 0"],
+        page: &["0003 1 OPERATOR", "0003 2 SERVICE_CODE", "KEYED 2 REFUSED 0"],
     },
 ];
 
@@ -121,7 +121,7 @@ pub const ATTEMPTS: &[Worked] = &[
 pub const TWO_LINES_IN_TURN: Worked = Worked {
     name: "two_lines_in_turn",
     lines: &[(1, "M500 #0"), (2, "M500 #4 #1 #1")],
-    page: &["0001 1 K0", "0002 1 K4", "KEYED 2 REFUSED 0"],
+    page: &["0001 1 OPERATOR", "0002 1 SERVICE_CODE", "KEYED 2 REFUSED 0"],
 };
 
 /// The table of the longest keying.

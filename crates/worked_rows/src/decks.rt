@@ -20,21 +20,22 @@ trunk = 1
 ";
 
 // The keyings of that table, by the numbers that are dialled: 0, 234 5678 and 411.
-const K0: &str = "KEYED 0001 KP:1100+1700 0:1300+1500 ST:1500+1700";
+const OPERATOR: &str = "KEYED 0001 KP:1100+1700 0:1300+1500 ST:1500+1700";
 
-const K3: &str =
+const SEVEN_DIGITS: &str =
     "KEYED 0017 KP:1100+1700 5:900+1300 6:1100+1300 5:900+1300 6:1100+1300 7:700+1500 8:900+1500 ST:1500+1700";
 
-const K4: &str = "KEYED 0003 KP:1100+1700 4:700+1300 1:700+900 1:700+900 ST:1500+1700";
+const SERVICE_CODE: &str = "KEYED 0003 KP:1100+1700 4:700+1300 1:700+900 1:700+900 ST:1500+1700";
 
-/// A worked row.
+/// A worked example.
 #[derive(Clone, Copy)]
 pub struct Worked {
     /// What it shows.
     pub name: &'static str,
     /// What each line does.
     pub lines: &'static [(u16, &'static str)],
-    /// The lines of the page, in which `K0`, `K3` and `K4` stand for a keying.
+    /// The lines of the page, in which `OPERATOR`, `SEVEN_DIGITS` and `SERVICE_CODE` stand for a
+    /// keying.
     pub page: &'static [&'static str],
 }
 
@@ -79,9 +80,9 @@ pub fn deck_of(alloc: Global, table: &str, rows: &[Row]) -> Result<String, Fail>
 
 fn written_out(word: &str) -> &str {
     match word {
-        "K0" => K0,
-        "K3" => K3,
-        "K4" => K4,
+        "OPERATOR" => OPERATOR,
+        "SEVEN_DIGITS" => SEVEN_DIGITS,
+        "SERVICE_CODE" => SERVICE_CODE,
         _ => word,
     }
 }

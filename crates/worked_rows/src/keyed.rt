@@ -1,4 +1,4 @@
-// The worked rows, through the whole office and through its parts.
+// The worked examples, through the whole office and through its parts.
 use crate::attempts::{ATTEMPTS, LONGEST_KEYING, LONGEST_TABLE, SHORT_RECORDS, TWO_LINES_IN_TURN};
 use crate::decks::{TABLE, Worked, deck_of, one_after_another, page_of, two_in_turn};
 use std::alloc::Global;

@@ -1,6 +1,6 @@
-//! Worked rows: decks whose pages were worked out by hand, run through the whole office.
+//! Worked examples: decks whose pages were worked out by hand, run through the whole office.
 //!
-//! Tests alone. A row of the tables is what some lines do, in a short form, beside the page.
+//! Tests alone. An example is what some lines do, in a short form, beside the page.
 #![tactic(auto)]
 
 #[cfg(test)]

@@ -11,7 +11,7 @@ use xb_routes::RouteTable;
 
 const PIECES: &str = "M500 #0";
 
-const PAGE: &[&str] = &["0005 1 K0", "KEYED 1 REFUSED 0"];
+const PAGE: &[&str] = &["0005 1 OPERATOR", "KEYED 1 REFUSED 0"];
 
 fn tone(key: Key, low: u16, high: u16) -> Mark {
     Mark::Tone(key, Tone { low, high })

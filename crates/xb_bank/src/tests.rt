@@ -1,4 +1,4 @@
-// Tapes and sources by hand, and worked rows through the whole chain.
+// Tapes and sources by hand, and worked examples through the whole chain.
 use crate::{Listed, RowSource, Tapes, fed_rows, key_serial};
 use std::alloc::{AllocError, Global};
 use std::process::Abort;
