@@ -98,12 +98,13 @@ digits-break L tally t (x ∷ ts) =
     let e : min (tally.breaks + suc (breaks_in x)) MANY_BREAKS ≡ min (min (tally.breaks + 1) MANY_BREAKS + breaks_in x) MANY_BREAKS = omega arith in
     rw (e, or_assoc tally.bad (is_bad_run L Brk t) (is_bad_train L x))
 
--- a shorter make stays in it, and so does a break
+-- a shorter make stays in the train, and the tally takes it
 pub in_train-make : (L : Limits) (tally : Tally) (t : ℕ) (P : List Attempt) → t < L.pause → t < L.timeout → in_train L tally (into_first (make_of t) P) ≡ in_train L (with_make L t tally) P
 in_train-make L tally t [] h k = rw (lt-leb L.pause t h, lt-leb L.timeout t k)
 in_train-make L tally t (p ∷ P) h k =
     rw (lt-leb L.pause t h, lt-leb L.timeout t k, digits-make L tally t (cut_at_pauses L (heard L p.runs)))
 
+-- and so does a break
 pub in_train-break : (L : Limits) (tally : Tally) (t : ℕ) (P : List Attempt) → in_train L tally (into_first (break_of t) P) ≡ in_train L (with_break L t tally) P
 in_train-break L tally t [] = refl
 in_train-break L tally t (p ∷ P) = rw (digits-break L tally t (cut_at_pauses L (heard L p.runs)))

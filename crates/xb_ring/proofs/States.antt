@@ -14,6 +14,7 @@ module _ {I O S Z : Type 0} (line : I → ℕ) (m : Machine I O S) (states : Vec
   state_read x below = k.state (line x) _ below
 
   module _ (x : I) (below : line x < LINES) (states' : Vec S Z) (lines : vec_len states' ≡ LINES) (state : (fallback : S) → states'.items ≡ set states.items (line x) (m.next (get_or states.items (line x) fallback) x)) where
+    -- then each line has its state after the one item more
     more_at : (l : ℕ) (fallback : S) → l < LINES → get_or states'.items l fallback ≡ state_after line m (earlier ++ x ∷ []) l
     more_at l fallback h =
         let q = state_after line m earlier (line x) in
