@@ -21,11 +21,8 @@ use Rattle.xb_ring.proofs.Lines.{of_line-on}
 use Rattle.xb_ring.proofs.Stateless.{image-stateless}
 use Rattle.xb_pulse.specs.Machine.{machine as pulse_machine}
 use Rattle.xb_pulse.proofs.Hearing.{record_heard}
-use Rattle.xb_register.specs.declared.state.Phase.TheVariants.{OnHook}
 use Rattle.xb_register.specs.Registering.{machine as register_machine}
-use Rattle.xb_register.specs.Laws.{GivesOutcomes}
-use Rattle.xb_register.proofs.Said.{image_from-on_line}
-use Rattle.xb_register.proofs.Attempts.{registers}
+use Rattle.xb_register.proofs.Attempts.{gives_outcomes}
 use Rattle.xb_routes.specs.Translating.{machine as translate_machine}
 use Rattle.xb_routes.proofs.Translating.{image-machine}
 use Rattle.xb_sender.specs.Sending.{machine as sender_machine}
@@ -34,9 +31,6 @@ use Rattle.xb_bank.specs.Fed.{fed}
 use Rattle.xb_bank.specs.ItemLines.{row_line}
 use Rattle.xb_bank.proofs.ClosedOnce.{closes-once, record-once, is_on-once}
 use Rattle.xb_bank.proofs.FedRows.{rows_of-fed}
-
-registered : GivesOutcomes
-registered plan limits line record_ = image_from-on_line plan line OnHook (signals_of limits record_) ∙ ap (λ said. on_line line said) (registers plan limits record_)
 
 module _ (plan : Plan) (limits : Limits) (routes : List CodedRoute) where
   -- what the four stages make of rows of one line
@@ -52,7 +46,7 @@ module _ (plan : Plan) (limits : Limits) (routes : List CodedRoute) where
   chain-signals : (l : ℕ) (runs : List Run)
       → image_on sender_machine (image_on (translate_machine routes) (image_on (register_machine plan) (on_line l (signals_of limits runs)))) ≡ on_line l (record_marks runs)
   chain-signals l runs =
-      ap (λ xs. image_on sender_machine (image_on (translate_machine routes) xs)) (registered plan limits l runs)
+      ap (λ xs. image_on sender_machine (image_on (translate_machine routes) xs)) (gives_outcomes plan limits l runs)
       ∙ ap (λ xs. image_on sender_machine xs) (image-machine routes l (outcomes_of plan limits runs))
       ∙ image-stateless marks_of l (map (order_of routes) (outcomes_of plan limits runs))
       ∙ ap (λ marks. on_line l marks)
