@@ -1,9 +1,11 @@
 -- What the rows so far leave of a line (own profile).
-use Rattle.std.specs.Prelude.{[], Bool, true, false}
+use Rattle.std.specs.Prelude.{◌≡◌, ℕ, ◌<◌, List, [], Bool, true, false, slice_index_or}
+use Rattle.xb_model.specs.declared.line.TheConstants.{LINES}
 use Rattle.xb_model.specs.declared.row.Contact.{Contact}
 use Rattle.xb_model.specs.declared.row.Contact.TheVariants.{Make, Brk, Close}
 use Rattle.xb_model.specs.Rows.{LoopRow}
-use Rattle.xb_ring.specs.Image.{Machine}
+use Rattle.xb_ring.specs.Image.{Machine, state_after}
+use Rattle.xb_bank.specs.ItemLines.{row_line}
 use Rattle.xb_bank.specs.declared.fed.LineUse.{LineUse}
 use Rattle.xb_bank.specs.declared.fed.LineUse.TheVariants.{NoRows, Open, Closed}
 
@@ -32,3 +34,7 @@ next_use Closed contact = Closed
 -- the uses of the lines, as the states of a stage that sends nothing
 abbrev pub uses : Machine LoopRow LoopRow LineUse
 uses = record { start = NoRows; next = λ before row. next_use before row.contact; outs = λ before row. [] }
+
+-- the uses of all lines behind the rows
+abbrev pub AreUses : List LineUse → List LoopRow → Type 0
+AreUses all rows = (l : ℕ) (fallback : LineUse) → l < LINES → slice_index_or all l fallback ≡ state_after row_line uses rows l

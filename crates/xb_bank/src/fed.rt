@@ -1,8 +1,9 @@
 // The rows that are fed to the chain.
-ghost use Rattle.std.specs.Prelude.{◌≡◌, ◌<◌, [], ◌∷◌, ◌++◌, if◌then◌else◌, vec_len, slice_set, slice_index_or, IfOk};
+ghost use Rattle.std.specs.Prelude.{◌≡◌, ◌<◌, List, [], ◌∷◌, ◌++◌, if◌then◌else◌, length, vec_len, slice_set, slice_index_or, IfOk};
 ghost use Rattle.xb_model.specs.declared.line.TheConstants.{LINES};
-ghost use Rattle.xb_bank.specs.Fed.{close_row, fed};
-ghost use Rattle.xb_bank.specs.Uses.{is_closed, is_open_use, next_use};
+ghost use Rattle.xb_model.specs.Rows.{LoopRow};
+ghost use Rattle.xb_bank.specs.Fed.{close_row, closings_below, fed};
+ghost use Rattle.xb_bank.specs.Uses.{is_closed, is_open_use, next_use, AreUses};
 
 use std::alloc::{AllocError, Global};
 use xb_model::{Contact, LINES, LineNo, Row};
@@ -57,6 +58,17 @@ fn close_line(number: u16, line_use: LineUse, fed: &mut Vec<Row>) -> Result<(), 
     Ok(())
 }
 
+// Feeds the closes of the open lines, lines ascending.
+fn close_lines(uses: &[LineUse], fed: &mut Vec<Row>) -> Result<(), AllocError>
+    requires { length uses.now ≡ LINES }
+    ensures { IfOk result (λ _. (rows : List LoopRow) → AreUses uses.now rows → fed.new.items ≡ fed.old.items ++ closings_below LINES rows) }
+{
+    for number in 0..LINES {
+        close_line(number, uses[usize::from(number)], fed)?;
+    }
+    Ok(())
+}
+
 /// The fed rows: those without the ones of a line behind its close, then a close for each line that
 /// has rows and none, lines ascending (own profile). `Err` where a growth was refused.
 pub fn fed_rows(alloc: Global, rows: &[Row]) -> Result<Vec<Row>, AllocError>
@@ -68,8 +80,6 @@ pub fn fed_rows(alloc: Global, rows: &[Row]) -> Result<Vec<Row>, AllocError>
     for row in rows {
         take_row(*row, &mut uses, &mut fed)?;
     }
-    for number in 0..LINES {
-        close_line(number, uses[usize::from(number)], &mut fed)?;
-    }
+    close_lines(&uses, &mut fed)?;
     Ok(fed)
 }

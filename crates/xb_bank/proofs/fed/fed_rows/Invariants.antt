@@ -1,5 +1,5 @@
-use Rattle.std.proofs.Common.{◌≡◌, ◌++◌, take}
-use Rattle.xb_bank.specs.Fed.{kept, closings_below}
+use Rattle.std.proofs.Common.{◌≡◌, take}
+use Rattle.xb_bank.specs.Fed.{kept}
 use Rattle.xb_ring.specs.States.{IsStates}
 use Rattle.xb_bank.specs.ItemLines.{row_line}
 use Rattle.xb_bank.specs.Uses.{uses}
@@ -10,6 +10,3 @@ invariant-loop-row l = record {
   states : IsStates row_line uses l.uses (take l.row-index l.rows);
   fed : l.fed.items ≡ kept (take l.row-index l.rows);
 }
-
-abbrev pub invariant-loop-number : goal.invariant-loop-number
-invariant-loop-number l = l.fed.items ≡ kept l.rows ++ closings_below l.number l.rows
