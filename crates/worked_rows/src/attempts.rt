@@ -113,7 +113,11 @@ pub const ATTEMPTS: &[Worked] = &[
     Worked {
         name: "second_call",
         lines: &[(3, "M500 #0 #9 B400 M500 #4 #1 #1")],
-        page: &["0003 1 OPERATOR", "0003 2 SERVICE_CODE", "KEYED 2 REFUSED 0"],
+        page: &[
+            "0003 1 OPERATOR",
+            "0003 2 SERVICE_CODE",
+            "KEYED 2 REFUSED 0",
+        ],
     },
 ];
 
@@ -121,7 +125,11 @@ pub const ATTEMPTS: &[Worked] = &[
 pub const TWO_LINES_IN_TURN: Worked = Worked {
     name: "two_lines_in_turn",
     lines: &[(1, "M500 #0"), (2, "M500 #4 #1 #1")],
-    page: &["0001 1 OPERATOR", "0002 1 SERVICE_CODE", "KEYED 2 REFUSED 0"],
+    page: &[
+        "0001 1 OPERATOR",
+        "0002 1 SERVICE_CODE",
+        "KEYED 2 REFUSED 0",
+    ],
 };
 
 /// The table of the longest keying.

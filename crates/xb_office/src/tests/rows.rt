@@ -120,7 +120,13 @@ fn with_header(alloc: Global, records: &[u8]) -> Result<Vec<u8>, AllocError> {
 }
 
 // Checks that `read_rows` gives a text's rows, or its fault and no row.
-fn check_whole(rt: &impl Abort, alloc: Global, text: &[u8], wanted: &[RowParts], stop: Option<RowFault>) {
+fn check_whole(
+    rt: &impl Abort,
+    alloc: Global,
+    text: &[u8],
+    wanted: &[RowParts],
+    stop: Option<RowFault>,
+) {
     let mut reader = text;
     match read_rows(alloc, &mut reader) {
         Ok(rows) => {
@@ -137,7 +143,13 @@ fn check_whole(rt: &impl Abort, alloc: Global, text: &[u8], wanted: &[RowParts],
 }
 
 // Checks that a `Scan` gives a text's rows, and then its stop for good.
-fn check_scan(rt: &impl Abort, alloc: Global, text: &[u8], wanted: &[RowParts], stop: Option<RowFault>) {
+fn check_scan(
+    rt: &impl Abort,
+    alloc: Global,
+    text: &[u8],
+    wanted: &[RowParts],
+    stop: Option<RowFault>,
+) {
     let mut scan = Scan::new(alloc, text);
     for parts in wanted {
         let row = scan.next_row();
