@@ -189,9 +189,13 @@ const CODES: &[(&str, &str)] = &[
     ("0", "trunk = 1\ndelete = 0\nprefix = \"5\""),
     ("0", "trunk = 1\ndelete = 1\nprefix = \"5\""),
     ("234", "trunk = 9999"),
+    ("234", "trunk = 1\ndelete = 0"),
+    ("234", "trunk = 1\ndelete = 0\nprefix = \"5\""),
     ("234", "trunk = 1\ndelete = 6"),
     ("234", "trunk = 1\ndelete = 7\nprefix = \"12345678\""),
     ("411", "trunk = 0"),
+    ("411", "trunk = 1\ndelete = 0"),
+    ("411", "trunk = 1\ndelete = 0\nprefix = \"5\""),
     ("411", "trunk = 1\ndelete = 2"),
     ("411", "trunk = 1\ndelete = 3\nprefix = \"5\""),
 ];

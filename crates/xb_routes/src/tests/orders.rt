@@ -86,6 +86,9 @@ fn routes_are_looked_up(rt: HostRuntime) -> Result<(), Fail> {
         let digits = digits(&rt, rt.alloc(), number)?;
         assert!(rt; table.look(&digits).is_none(), "{number} has no route");
     }
+    let empty = RouteTable::read(rt.alloc(), b"")?;
+    let number = digits(&rt, rt.alloc(), "2345678")?;
+    assert!(rt; empty.look(&number).is_none());
     Ok(())
 }
 
