@@ -17,7 +17,7 @@ use Rattle.xb_model.specs.Keyings.{marks_of}
 use Rattle.xb_model.specs.Tapes.{joined_tape}
 use Rattle.xb_ring.specs.Image.{image_on}
 use Rattle.xb_ring.specs.Stateless.{on_line}
-use Rattle.xb_ring.proofs.Lines.{of_line-on}
+use Rattle.xb_model.proofs.Lines.{of_line-on}
 use Rattle.xb_ring.proofs.Stateless.{image-stateless}
 use Rattle.xb_pulse.specs.Machine.{machine as pulse_machine}
 use Rattle.xb_pulse.proofs.Hearing.{record_heard}
@@ -28,7 +28,7 @@ use Rattle.xb_routes.proofs.Translating.{image-machine}
 use Rattle.xb_sender.specs.Sending.{machine as sender_machine}
 use Rattle.xb_bank.specs.Closed.{closed_once}
 use Rattle.xb_bank.specs.Fed.{fed}
-use Rattle.xb_bank.specs.ItemLines.{row_line}
+use Rattle.xb_model.specs.Lines.{row_line}
 use Rattle.xb_bank.proofs.ClosedOnce.{closes-once, record-once, is_on-once}
 use Rattle.xb_bank.proofs.FedRows.{rows_of-fed}
 

@@ -7,9 +7,9 @@ use Rattle.std.proofs.lemmas.List.Elements.{filter-append}
 use Rattle.std.proofs.lemmas.List.FromFn.{map-range_with_len_more}
 use Rattle.xb_model.specs.Rows.{LoopRow}
 use Rattle.xb_model.specs.Records.{rows_of}
-use Rattle.xb_ring.proofs.Lines.{of_line-append, of_line-here, of_line-other}
+use Rattle.xb_model.proofs.Lines.{of_line-append, of_line-here, of_line-other}
 use Rattle.xb_bank.specs.Fed.{is_open, close_row, lines_below, closings_below}
-use Rattle.xb_bank.specs.ItemLines.{row_line}
+use Rattle.xb_model.specs.Lines.{row_line}
 
 lines_below_none : lines_below 0 ≡ []
 unfolding lines_below

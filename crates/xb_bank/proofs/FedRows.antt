@@ -3,10 +3,10 @@ use Rattle.std.proofs.Common.{◌≡◌, ℕ, true, false, not, cond, Bool, ◌&
 use Rattle.xb_model.specs.declared.line.TheConstants.{LINES}
 use Rattle.xb_model.specs.Rows.{LoopRow}
 use Rattle.xb_model.specs.Records.{closes, rows_of}
-use Rattle.xb_ring.proofs.Lines.{of_line-append}
+use Rattle.xb_model.proofs.Lines.{of_line-append}
 use Rattle.xb_bank.specs.Fed.{kept, has_rows, close_row, closings_below}
 use Rattle.xb_bank.specs.Closed.{until_close, closed_once, FeedsEachLineOnce}
-use Rattle.xb_bank.specs.ItemLines.{row_line}
+use Rattle.xb_model.specs.Lines.{row_line}
 use Rattle.xb_bank.proofs.Kept.{rows_of-kept}
 use Rattle.xb_bank.proofs.Closings.{closing, rows_of-closings}
 

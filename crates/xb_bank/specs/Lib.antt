@@ -1,7 +1,6 @@
 pub mod Closed
 pub mod Entries
 pub mod Fed
-pub mod ItemLines
 pub mod Serial
 pub mod Sources
 pub mod TapeLines

@@ -11,7 +11,7 @@ use Rattle.xb_pulse.specs.Machine.{machine as pulse_machine}
 use Rattle.xb_register.specs.Registering.{machine as register_machine}
 use Rattle.xb_routes.specs.Translating.{machine as translate_machine}
 use Rattle.xb_sender.specs.Sending.{machine as sender_machine}
-use Rattle.xb_bank.specs.ItemLines.{row_line, on_line_of}
+use Rattle.xb_model.specs.Lines.{row_line, on_line_of}
 
 -- the image of rows in the pulse stage, of that in the register, of that in translation, and of
 -- that in the sender

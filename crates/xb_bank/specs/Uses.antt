@@ -5,7 +5,7 @@ use Rattle.xb_model.specs.declared.row.Contact.{Contact}
 use Rattle.xb_model.specs.declared.row.Contact.TheVariants.{Make, Brk, Close}
 use Rattle.xb_model.specs.Rows.{LoopRow}
 use Rattle.xb_ring.specs.Image.{Machine, state_after}
-use Rattle.xb_bank.specs.ItemLines.{row_line}
+use Rattle.xb_model.specs.Lines.{row_line}
 use Rattle.xb_bank.specs.declared.fed.LineUse.{LineUse}
 use Rattle.xb_bank.specs.declared.fed.LineUse.TheVariants.{NoRows, Open, Closed}
 

@@ -6,6 +6,7 @@ use Rattle.xb_model.specs.declared.row.Contact.{Contact}
 use Rattle.xb_model.specs.declared.row.Contact.TheVariants.{Make, Brk, Close}
 use Rattle.xb_model.specs.declared.limits.Limits.{Limits}
 use Rattle.xb_model.specs.Rows.{LoopRow}
+use Rattle.xb_model.specs.Lines.{row_line, of_line}
 
 -- one contact, and for how many ms
 pub record Run : Type 0 where
@@ -33,7 +34,7 @@ closes rows = list_any (λ row. is_close row.contact) rows
 
 -- the rows of line l
 abbrev pub rows_of : ℕ → List LoopRow → List LoopRow
-rows_of l rows = filter (λ row. row.line == l) rows
+rows_of l rows = of_line row_line l rows
 
 -- what rows of one line say up to their first close, those of 0 ms left out
 abbrev pub record_up_to_close : List LoopRow → List Run

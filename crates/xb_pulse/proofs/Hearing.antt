@@ -14,9 +14,9 @@ use Rattle.xb_model.specs.Records.{closes, record_up_to_close, rows_of, record_o
 use Rattle.xb_model.specs.Signals.{signals_of}
 use Rattle.xb_model.specs.LawfulLimits.{IsLawful}
 use Rattle.xb_ring.specs.Image.{image, image_from, image_on}
-use Rattle.xb_ring.specs.Lines.{of_line}
+use Rattle.xb_model.specs.Lines.{of_line}
 use Rattle.xb_ring.specs.Stateless.{on_line}
-use Rattle.xb_ring.proofs.Lines.{of_line-on}
+use Rattle.xb_model.proofs.Lines.{of_line-on}
 use Rattle.xb_ring.proofs.Images.{image-of_line}
 use Rattle.xb_pulse.specs.declared.state.State.{State}
 use Rattle.xb_pulse.specs.declared.state.State.TheVariants.{OnHook, BetweenTrains, InBreak, InMake, TimedOut, Closed}

@@ -6,7 +6,7 @@ ghost use Rattle.xb_model.specs.Records.{closes, rows_of, record_up_to_close, re
 ghost use Rattle.xb_model.specs.Rows.{LoopRow};
 ghost use Rattle.xb_model.specs.Signals.{signals_of};
 ghost use Rattle.xb_ring.specs.Image.{image, image_on};
-ghost use Rattle.xb_ring.specs.Lines.{of_line};
+ghost use Rattle.xb_model.specs.Lines.{of_line};
 ghost use Rattle.xb_ring.specs.Stateless.{on_line};
 ghost use Rattle.xb_pulse.specs.Machine.{machine};
 

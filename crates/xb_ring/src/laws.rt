@@ -4,7 +4,7 @@ ghost use Rattle.std.specs.List.{flat_map};
 ghost use Rattle.xb_model.specs.declared.line.LineNo.{LineNo};
 ghost use Rattle.xb_model.specs.declared.on.On.{On};
 ghost use Rattle.xb_ring.specs.Image.{image, image_on};
-ghost use Rattle.xb_ring.specs.Lines.{of_line};
+ghost use Rattle.xb_model.specs.Lines.{of_line};
 ghost use Rattle.xb_ring.specs.Stateless.{on_line, stateless};
 
 use crate::stage::LineStage;

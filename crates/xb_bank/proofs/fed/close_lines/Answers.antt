@@ -2,7 +2,7 @@ use Rattle.std.proofs.Common.{◌≡◌, ℕ, ◌+◌, ◌<◌, List, [], ◌∷
 use Rattle.xb_model.specs.declared.line.TheConstants.{LINES}
 use Rattle.xb_model.specs.Rows.{LoopRow}
 use Rattle.xb_bank.specs.Fed.{closings_below, close_row, is_open}
-use Rattle.xb_bank.specs.ItemLines.{row_line}
+use Rattle.xb_model.specs.Lines.{row_line}
 use Rattle.xb_ring.specs.Image.{state_after}
 use Rattle.xb_bank.specs.declared.fed.LineUse.{LineUse}
 use Rattle.xb_bank.specs.Uses.{uses, is_open_use, AreUses}

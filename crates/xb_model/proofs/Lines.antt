@@ -3,7 +3,7 @@ use Rattle.std.proofs.Common.{◌≡◌, ℕ, true, false, eqb, List, [], ◌∷
 use Rattle.std.specs.List.{AllByRecursion}
 use Rattle.std.proofs.lemmas.Bool.{cases_Bool, cond-true, cond-false}
 use Rattle.std.proofs.lemmas.List.Elements.{filter-append}
-use Rattle.xb_ring.specs.Lines.{of_line}
+use Rattle.xb_model.specs.Lines.{of_line}
 
 module _ {X : Type 0} (line : X → ℕ) where
   -- the items of a line in two lists, one behind the other
