@@ -7,14 +7,22 @@ use Rattle.xb_model.specs.declared.plan.Plan.{Plan}
 use Rattle.xb_model.specs.declared.dialled.Dialled.{Dialled}
 use Rattle.xb_model.specs.declared.dialled.Dialled.TheVariants.{Number, Refused}
 use Rattle.xb_model.specs.declared.reason.Reason.TheVariants.{Mutilated, Abandoned, TimedOut}
+use Rattle.xb_model.specs.declared.signal.TheConstants.{MOST_PULSES}
 use Rattle.xb_model.specs.Plans.{plan_len}
 use Rattle.xb_model.specs.Records.{Run, Train, trains_of, is_timed, attempts_of}
 use Rattle.xb_model.specs.Signals.{breaks_in, is_bad_train}
 
--- the digit of a train: the number of its breaks, 10 being 0; none where the train is mutilated
+-- the digit of so many breaks, 10 being 0; none where the train is bad, or there are not 1 to 10
+abbrev pub digit_of_count : ℕ → Bool → Option ℕ
+digit_of_count n bad = if not bad && (nat_le 1 n && nat_le n MOST_PULSES) then Some (n % MOST_PULSES) else None
+
+-- the digit of a train; none where the train is mutilated
 abbrev pub digit_of_train : Limits → Train → Option ℕ
-digit_of_train limits train =
-    if not (is_bad_train limits train) && (nat_le 1 (breaks_in train) && nat_le (breaks_in train) 10) then Some (breaks_in train % 10) else None
+digit_of_train limits train = digit_of_count (breaks_in train) (is_bad_train limits train)
+
+-- the digit of each train of an attempt, in order
+abbrev pub train_digits : Limits → List Run → List (Option ℕ)
+train_digits limits attempt = map (digit_of_train limits) (trains_of limits attempt)
 
 -- the digits before the first mutilated one
 abbrev pub before_mutilated : List (Option ℕ) → List ℕ
@@ -24,7 +32,7 @@ before_mutilated (Some d ∷ digits) = d ∷ before_mutilated digits
 
 -- the good digits of an attempt
 abbrev pub good_digits : Limits → List Run → List ℕ
-good_digits limits attempt = before_mutilated (map (digit_of_train limits) (trains_of limits attempt))
+good_digits limits attempt = before_mutilated (train_digits limits attempt)
 
 abbrev pub has_length : Option ℕ → ℕ → Bool
 has_length None n = false
@@ -60,7 +68,7 @@ or_refused None refusal = refusal
 abbrev pub outcome_of : Plan → Limits → List Run → Dialled
 outcome_of plan limits attempt =
     or_refused (number_of plan limits attempt)
-    (without_number (list_any is_none (map (digit_of_train limits) (trains_of limits attempt))) (is_timed limits attempt) (length (good_digits limits attempt)))
+    (without_number (list_any is_none (train_digits limits attempt)) (is_timed limits attempt) (length (good_digits limits attempt)))
 
 -- one outcome for each attempt
 abbrev pub outcomes_of : Plan → Limits → List Run → List Dialled

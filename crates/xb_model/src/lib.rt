@@ -39,5 +39,5 @@ pub use plan::{Plan, plan_len};
 pub use reason::Reason;
 pub use relays::Relays;
 pub use row::{Contact, GREATEST_MS, Row};
-pub use signal::{MANY_BREAKS, Signal};
+pub use signal::{MANY_BREAKS, MOST_PULSES, Signal};
 pub use trunk::{TRUNKS, Trunk};

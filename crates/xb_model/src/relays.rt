@@ -1,5 +1,6 @@
 // Two out of five.
 ghost use Rattle.std.specs.Prelude.{◌≡◌, is_some};
+ghost use Rattle.xb_model.specs.Numbers.{digit_of_count};
 ghost use Rattle.xb_model.specs.TwoOfFive.{digit_of_pattern, pattern_of_count, at_rest};
 
 use crate::digit::Digit;
@@ -43,8 +44,10 @@ impl Relays {
 
     /// The two elements of the digit that `count` pulses give, 10 pulses being digit 0; none where
     /// the train is bad, or the count is not 1 to 10.
+    #[tactic(auto, using(crate::proofs::Spelled::spells))]
     pub fn of_count(count: u8, bad: bool) -> Relays
-        ensures { result ≡ pattern_of_count count bad }
+        ensures pattern { result ≡ pattern_of_count count bad }
+        ensures digit { digit_of_pattern result ≡ digit_of_count count bad }
     {
         if bad {
             return Relays::of_bits([false; 5]);

@@ -1,7 +1,10 @@
 // What the pulse stage hears.
 
+/// The most pulses of a digit: those of digit 0.
+pub const MOST_PULSES: u8 = 10;
+
 /// Where the count of a train's breaks stops: one more than the pulses of any digit.
-pub const MANY_BREAKS: u8 = 11;
+pub const MANY_BREAKS: u8 = MOST_PULSES + 1;
 
 /// What is heard on a line (own profile).
 #[derive(Clone, Copy, Debug, PartialEq, Eq, Default)]
