@@ -1,6 +1,7 @@
 -- At most one outcome for each seizure, and none before the first.
-use Rattle.std.proofs.Common.{◌≡◌, ℕ, ◌+◌, ◌≤◌, List, [], ◌∷◌, ◌++◌, length, Bool, true, false, cond, Option, Some, None, refl, arith, length-append}
+use Rattle.std.proofs.Common.{◌≡◌, ℕ, ◌+◌, ◌≤◌, List, [], ◌∷◌, ◌++◌, length, Option, Some, None, refl, arith, length-append}
 use Rattle.std.specs.Option.{option_to_list}
+use Rattle.std.proofs.lemmas.Bool.{cond_both}
 use Rattle.xb_model.specs.declared.plan.Plan.{Plan}
 use Rattle.xb_model.specs.declared.signal.Signal.{Signal}
 use Rattle.xb_model.specs.declared.signal.Signal.TheVariants.{Seize, Digit, TimeOut, Release, Close}
@@ -24,17 +25,12 @@ owes Done = 0
 abbrev GivesAtMost : ℕ → Answer → Type 0
 GivesAtMost n answer = length (option_to_list answer.outcome) + owes answer.phase ≤ n
 
--- where two answers do, either does
-if_either : (b : Bool) (n : ℕ) (x y : Answer) → GivesAtMost n x → GivesAtMost n y → GivesAtMost n (cond b x y)
-if_either true n x y p q = p
-if_either false n x y p q = q
-
 -- a digit ends the attempt or leaves it owing
 store_at_most : (plan : Plan) (digits : List ℕ) (o : Option ℕ) → GivesAtMost 1 (store plan digits o)
 store_at_most plan digits None = omega arith
 store_at_most plan digits (Some d) =
     let more : List ℕ = digits ++ d ∷ [] in
-    if_either (reaches (plan_len plan more) (length more)) 1 (ended (Number more) Done) (quiet (Listening more)) (omega arith) (omega arith)
+    cond_both (reaches (plan_len plan more) (length more)) (ended (Number more) Done) (quiet (Listening more)) (GivesAtMost 1) (λ _. omega arith) (λ _. omega arith)
 
 -- a signal brings one outcome at most, and that only where one was owed or it is a seizure
 advance_at_most : (plan : Plan) (phase : Phase) (signal : Signal) → GivesAtMost (owes phase + seizures (signal ∷ [])) (advance plan phase signal)
@@ -72,6 +68,19 @@ at_most plan phase (signal ∷ signals) =
     let behind = at_most plan answer.phase signals in
     let split = seizures-cons signal signals in
     omega arith
+
+-- a seizure, and what comes behind it up to the next, give one outcome at most
+seized : (plan : Plan) (phase : Phase) (behind : List Signal) → seizures behind ≡ 0 → length (said plan phase (Seize ∷ behind)) ≤ 1
+seized plan OnHook behind none = omega (arith, at_most plan (Listening []) behind)
+seized plan (Listening digits) behind none = omega (arith, at_most plan (Listening digits) behind)
+seized plan Done behind none = omega (arith, at_most plan Done behind)
+
+-- whatever came before, they add one at most
+pub adds_one : (plan : Plan) (phase : Phase) (before behind : List Signal) → seizures behind ≡ 0 → length (said plan phase (before ++ Seize ∷ behind)) ≤ length (said plan phase before) + 1
+adds_one plan phase [] behind none = seized plan phase behind none
+adds_one plan phase (signal ∷ before) behind none =
+    let answer : Answer = advance plan phase signal in
+    simp length-append (omega (arith, adds_one plan answer.phase before behind none))
 
 -- on-hook, nothing is heard but a seizure
 pub none_before : (plan : Plan) (before behind : List Signal) → seizures before ≡ 0 → said plan OnHook (before ++ behind) ≡ said plan OnHook behind

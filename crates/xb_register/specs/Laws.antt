@@ -1,8 +1,10 @@
--- What the register gives for the signals of a line.
-use Rattle.std.specs.Prelude.{◌≡◌, ℕ, ◌≤◌, List, ◌++◌, length, Bool, true, false}
+-- What the register gives for the signals of a line (own profile).
+use Rattle.std.specs.Prelude.{◌≡◌, ℕ, ◌+◌, ◌≤◌, List, ◌∷◌, ◌++◌, length, Bool, true, false}
 use Rattle.std.specs.List.{filter}
+use Rattle.xb_model.specs.declared.dialled.Dialled.{Dialled}
 use Rattle.xb_model.specs.declared.limits.Limits.{Limits}
 use Rattle.xb_model.specs.declared.line.LineNo.{LineNo}
+use Rattle.xb_model.specs.declared.on.On.{On}
 use Rattle.xb_model.specs.declared.plan.Plan.{Plan}
 use Rattle.xb_model.specs.declared.signal.Signal.{Signal}
 use Rattle.xb_model.specs.declared.signal.Signal.TheVariants.{Seize, Digit, TimeOut, Release, Close}
@@ -13,6 +15,7 @@ use Rattle.xb_ring.specs.Image.{image_on}
 use Rattle.xb_ring.specs.Stateless.{on_line}
 use Rattle.xb_register.specs.Registering.{machine}
 
+-- a signal that seizes a register
 abbrev pub is_seizure : Signal → Bool
 is_seizure Seize = true
 is_seizure (Digit count bad) = false
@@ -24,21 +27,32 @@ is_seizure Close = false
 abbrev pub seizures : List Signal → ℕ
 seizures signals = length (filter is_seizure signals)
 
+-- the outcomes that the signals of a line give
+abbrev pub outcomes_given : Plan → LineNo → List Signal → List (On Dialled)
+outcomes_given plan line signals = image_on (machine plan) (on_line line signals)
+
 -- the signals of a record give its outcomes, one for each attempt
 abbrev pub GivesOutcomes : Type 0
 GivesOutcomes =
     (plan : Plan) (limits : Limits) (line : LineNo) (record_ : List Run)
-    → image_on (machine plan) (on_line line (signals_of limits record_)) ≡ on_line line (outcomes_of plan limits record_)
+    → outcomes_given plan line (signals_of limits record_) ≡ on_line line (outcomes_of plan limits record_)
 
--- at most one outcome for each seizure
-abbrev pub GivesAtMostOne : Type 0
-GivesAtMostOne =
+-- each seizure, with what comes behind it up to the next, adds one outcome at most
+abbrev pub EachSeizureGivesAtMostOne : Type 0
+EachSeizureGivesAtMostOne =
+    (plan : Plan) (line : LineNo) (before behind : List Signal)
+    → seizures behind ≡ 0
+    → length (outcomes_given plan line (before ++ Seize ∷ behind)) ≤ length (outcomes_given plan line before) + 1
+
+-- so there are no more outcomes than seizures
+abbrev pub GivesNoMoreThanSeizures : Type 0
+GivesNoMoreThanSeizures =
     (plan : Plan) (line : LineNo) (signals : List Signal)
-    → length (image_on (machine plan) (on_line line signals)) ≤ seizures signals
+    → length (outcomes_given plan line signals) ≤ seizures signals
 
 -- what comes before the first seizure gives nothing, and changes nothing of what comes behind
 abbrev pub GivesNoneBeforeASeizure : Type 0
 GivesNoneBeforeASeizure =
     (plan : Plan) (line : LineNo) (before behind : List Signal)
     → seizures before ≡ 0
-    → image_on (machine plan) (on_line line (before ++ behind)) ≡ image_on (machine plan) (on_line line behind)
+    → outcomes_given plan line (before ++ behind) ≡ outcomes_given plan line behind
