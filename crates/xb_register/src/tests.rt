@@ -3,8 +3,11 @@ use crate::Register;
 use std::alloc::{AllocError, Global};
 use std::process::Abort;
 use std::test::Fail;
-use xb_model::{Dialled, Digit, LineNo, On, Plan, Reason, Relays, Signal};
+use xb_model::{Dialled, Digit, LineNo, On, Plan, Reason, Signal};
 use xb_ring::{LineStage, OUTPUT_ROOM, image_of};
+
+// The line of the attempts that have it to themselves.
+const LINE: u16 = 5;
 
 const SEIZE: Signal = Signal::Seize;
 
@@ -54,31 +57,30 @@ fn outcomes(
     image_of(alloc, &Register::new(Plan::Seven), items)
 }
 
-// The signals on line 5 give these outcomes on it, and no other.
+// These signals on the one line.
+fn on_the_line(alloc: Global, signals: &[Signal]) -> Result<Vec<(u16, Signal)>, AllocError> {
+    let mut on_line = Vec::new(alloc);
+    for signal in signals {
+        on_line.push((LINE, *signal))?;
+    }
+    Ok(on_line)
+}
+
+// The signals on the one line give these outcomes on it, and no other.
 fn assert_outcomes(
     rt: &impl Abort,
     alloc: Global,
+    name: &str,
     signals: &[Signal],
     wanted: &[Outcome],
 ) -> Result<(), AllocError> {
-    let mut on_line = Vec::new(alloc);
-    for signal in signals {
-        on_line.push((5, *signal))?;
-    }
-    let given = outcomes(rt, alloc, &on_line)?;
-    assert_eq!(rt; given.len(), wanted.len());
+    let given = outcomes(rt, alloc, &on_the_line(alloc, signals)?)?;
+    assert_eq!(rt; given.len(), wanted.len(), "{name}");
     for (given, wanted) in given.iter().zip(wanted) {
-        assert_eq!(rt; given.line.get(), 5);
-        assert!(rt; is_outcome(&given.what, *wanted));
+        assert_eq!(rt; given.line.get(), LINE, "{name}");
+        assert!(rt; is_outcome(&given.what, *wanted), "{name}");
     }
     Ok(())
-}
-
-#[test]
-fn three_elements_are_no_digit(rt: HostRuntime) {
-    let pattern = Relays::of_bits([true, true, true, false, false]);
-    assert!(rt; !pattern.check());
-    assert_eq!(rt; pattern.digit(), None);
 }
 
 #[test]
@@ -99,10 +101,22 @@ fn attempts_end_in_outcomes(rt: HostRuntime) -> Result<(), Fail> {
         Outcome::Number(&[4, 1, 1]),
         Outcome::Refused(Reason::Abandoned, 0),
     ];
-    assert_outcomes(&rt, alloc, &number_then_abandoned, &wanted)?;
+    assert_outcomes(
+        &rt,
+        alloc,
+        "a number, then nothing",
+        &number_then_abandoned,
+        &wanted,
+    )?;
     let mutilated_then_timed = [SEIZE, pulses(2), Signal::Digit(5, true), TIME_OUT, CLOSE];
     let wanted = [Outcome::Refused(Reason::Mutilated, 1)];
-    assert_outcomes(&rt, alloc, &mutilated_then_timed, &wanted)?;
+    assert_outcomes(
+        &rt,
+        alloc,
+        "a mutilated digit, then a time-out",
+        &mutilated_then_timed,
+        &wanted,
+    )?;
     Ok(())
 }
 
@@ -111,38 +125,49 @@ fn a_lone_close_gives_nothing(rt: HostRuntime) -> Result<(), Fail> {
     let register = Register::new(Plan::Seven);
     let mut state = register.fresh();
     let mut out = Vec::with_capacity(rt.alloc(), OUTPUT_ROOM)?;
-    let line = LineNo::new(5).ok_or("no line 5")?;
+    let line = LineNo::new(LINE).ok_or("no such line")?;
     register.step(&mut state, On { line, what: CLOSE }, &mut out);
     assert!(rt; out.is_empty());
     Ok(())
 }
 
-// The good digits of an attempt, and the number that they complete.
-const NUMBERS: [(&[u8], Option<&[u8]>); 6] = [
-    (&[0], Some(&[0])),
-    (&[4, 1, 1], Some(&[4, 1, 1])),
-    (&[4, 1, 2, 5, 5, 5, 1], Some(&[4, 1, 2, 5, 5, 5, 1])),
+// The good digits of an attempt, and what comes of them.
+const ATTEMPTS: [(&str, &[u8], &[Outcome]); 6] = [
+    ("the operator", &[0], &[Outcome::Number(&[0])]),
+    ("a service code", &[4, 1, 1], &[Outcome::Number(&[4, 1, 1])]),
     (
-        &[2, 0, 1, 5, 5, 5, 1, 2, 3, 4],
-        Some(&[2, 0, 1, 5, 5, 5, 1]),
+        "seven digits",
+        &[4, 1, 2, 5, 5, 5, 1],
+        &[Outcome::Number(&[4, 1, 2, 5, 5, 5, 1])],
     ),
-    (&[1, 1, 1, 2, 3, 4, 5], Some(&[1, 1, 1, 2, 3, 4, 5])),
-    (&[2, 3, 4, 5, 6, 7], None),
+    (
+        "ten digits",
+        &[2, 0, 1, 5, 5, 5, 1, 2, 3, 4],
+        &[Outcome::Number(&[2, 0, 1, 5, 5, 5, 1])],
+    ),
+    (
+        "three ones are no service code",
+        &[1, 1, 1, 2, 3, 4, 5],
+        &[Outcome::Number(&[1, 1, 1, 2, 3, 4, 5])],
+    ),
+    ("six digits", &[2, 3, 4, 5, 6, 7], &[]),
 ];
+
+// The signals of an attempt that goes on, with these digits.
+fn dialling(alloc: Global, digits: &[u8]) -> Result<Vec<Signal>, AllocError> {
+    let mut signals = Vec::new(alloc);
+    signals.push(SEIZE)?;
+    for digit in digits {
+        signals.push(pulses(if *digit == 0 { 10 } else { *digit }))?;
+    }
+    Ok(signals)
+}
 
 #[test]
 fn plan_seven_completes_numbers(rt: HostRuntime) -> Result<(), Fail> {
     let alloc = rt.alloc();
-    for (digits, number) in NUMBERS {
-        let mut signals = Vec::new(alloc);
-        signals.push(SEIZE)?;
-        for digit in digits {
-            signals.push(pulses(if *digit == 0 { 10 } else { *digit }))?;
-        }
-        match number {
-            Some(number) => assert_outcomes(&rt, alloc, &signals, &[Outcome::Number(number)])?,
-            None => assert_outcomes(&rt, alloc, &signals, &[])?,
-        }
+    for (name, digits, wanted) in ATTEMPTS {
+        assert_outcomes(&rt, alloc, name, &dialling(alloc, digits)?, wanted)?;
     }
     Ok(())
 }
