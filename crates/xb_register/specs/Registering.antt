@@ -17,9 +17,11 @@ use Rattle.xb_register.specs.declared.register.Answer.{Answer}
 use Rattle.xb_register.specs.declared.state.Phase.{Phase}
 use Rattle.xb_register.specs.declared.state.Phase.TheVariants.{OnHook, Listening, Done}
 
+-- the next phase, and no outcome
 abbrev pub quiet : Phase → Answer
 quiet phase = record { phase = phase; outcome = None }
 
+-- the next phase, and the outcome of the attempt
 abbrev pub ended : Dialled → Phase → Answer
 ended outcome phase = record { phase = phase; outcome = Some outcome }
 

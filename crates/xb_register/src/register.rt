@@ -18,7 +18,7 @@ use xb_ring::LineStage;
 /// Each digit is kept as its two-out-of-five pattern, checked when it is stored, and read back when
 /// the number is complete. A complete number decides first, then a mutilated digit, a time-out, and
 /// a release or close; a refusal has the count of good digits before it. After a number, a refusal
-/// or a time-out nothing is heard on the line until its release.
+/// or a time-out nothing is heard on the line until its release or close.
 #[derive(Drop)]
 pub struct Register {
     plan: Plan,

@@ -13,12 +13,12 @@ pub(crate) enum Phase {
     OnHook,
     // An attempt, with its good digits so far.
     Listening(StoredDigits),
-    // An attempt whose outcome was told: nothing is heard until release.
+    // An attempt whose outcome was told: nothing is heard until release or close.
     Done,
 }
 
 /// What the register knows of a line: that no attempt has begun, the good digits of one, or that
-/// nothing is heard until release.
+/// nothing is heard until release or close.
 #[derive(Drop)]
 pub struct RegisterState {
     phase: Phase,
