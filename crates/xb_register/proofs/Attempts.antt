@@ -20,7 +20,7 @@ use Rattle.xb_register.specs.declared.state.Phase.TheVariants.{OnHook, Listening
 use Rattle.xb_register.specs.Laws.{GivesOutcomes}
 use Rattle.xb_register.specs.Registering.{store}
 use Rattle.xb_register.proofs.Said.{said, image_from-on_line}
-use Rattle.xb_register.proofs.Spelled.{spelled}
+use Rattle.xb_model.proofs.Spelled.{spelled}
 use Rattle.xb_register.proofs.Pending.{Pending, one, reaches-pending}
 
 -- the number that the digits complete, where some are there already

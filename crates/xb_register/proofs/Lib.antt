@@ -1,6 +1,5 @@
 pub mod Patterns
 pub mod Said
-pub mod Spelled
 pub mod Pending
 pub mod Attempts
 pub mod AtMost
