@@ -5,12 +5,8 @@ use Rattle.std.proofs.Math.Nat.{suc-add}
 use Rattle.xb_model.specs.declared.row.Contact.{Contact}
 use Rattle.xb_model.specs.declared.row.Contact.TheVariants.{Make, Brk, Close}
 use Rattle.xb_model.specs.Rows.{LoopRow, row_of}
-use Rattle.xb_model.specs.Records.{Run, same_contact, is_close, rows_of, record_up_to_close, record_of, join, joined, without_first_break}
+use Rattle.xb_model.specs.Records.{Run, run_of, same_contact, is_close, rows_of, record_up_to_close, record_of, join, joined, without_first_break}
 use Rattle.xb_model.specs.CutRows.{RowsMayBeCut}
-
--- a run of a contact and a length
-abbrev pub run_of : Contact → ℕ → Run
-run_of contact ms = record { contact = contact; ms = ms }
 
 -- a contact is the same as itself
 same_self : (c : Contact) → same_contact c c ≡ true

@@ -1,5 +1,5 @@
 -- The text of the page (own format): ASCII, each line ended by one LF.
-use Rattle.std.specs.Prelude.{ℕ, ◌+◌, ◌-◌, replicate, length, List, [], ◌∷◌, ◌++◌, codes, decimal, Bool, true, false, Option, Some, None, option_and_then, slice_get, sum_by, count_by}
+use Rattle.std.specs.Prelude.{ℕ, ◌+◌, ◌-◌, replicate, length, List, [], ◌∷◌, ◌++◌, codes, decimal, Bool, not, ◌&&◌, Option, Some, None, is_some, option_and_then, slice_get, sum_by, count_by}
 use Rattle.xb_model.specs.declared.key.Key.{Key}
 use Rattle.xb_model.specs.declared.key.Key.TheVariants as key
 use Rattle.xb_model.specs.declared.key.Tone.{Tone}
@@ -7,7 +7,7 @@ use Rattle.xb_model.specs.declared.mark.Mark.{Mark}
 use Rattle.xb_model.specs.declared.mark.Mark.TheVariants as mark
 use Rattle.xb_model.specs.declared.reason.Reason.{Reason}
 use Rattle.xb_model.specs.declared.reason.Reason.TheVariants as reason
-use Rattle.xb_model.specs.Keyings.{is_st}
+use Rattle.xb_model.specs.Keyings.{is_ending}
 use Rattle.xb_model.specs.Tapes.{entries_of}
 
 -- a number in four digits, with zeros in front
@@ -83,16 +83,12 @@ unfoldable pub tapes_text : ℕ → List (List Mark) → List ℕ
 tapes_text line [] = []
 tapes_text line (marks ∷ tapes) = tape_text line marks ++ tapes_text (line + 1) tapes
 
--- whether a mark ends a keying, and whether it is a refusal
-abbrev pub ends_keying : Mark → Bool
-ends_keying (mark.Trunk t) = false
-ends_keying (mark.Tone k pair) = is_st k
-ends_keying (mark.Refused r heard) = false
-
+-- a refusal is an entry of its own, and a keying ends with any other ending mark
 abbrev pub ends_refusal : Mark → Bool
-ends_refusal (mark.Trunk t) = false
-ends_refusal (mark.Tone k pair) = false
-ends_refusal (mark.Refused r heard) = true
+ends_refusal m = is_some (refusal_of m)
+
+abbrev pub ends_keying : Mark → Bool
+ends_keying m = is_ending m && not (ends_refusal m)
 
 -- how many marks of the tapes pass a test
 abbrev pub count_in : (Mark → Bool) → List (List Mark) → ℕ

@@ -13,6 +13,15 @@ pub record Run : Type 0 where
   pub contact : Contact
   pub ms : ℕ
 
+abbrev pub run_of : Contact → ℕ → Run
+run_of contact ms = record { contact = contact; ms = ms }
+
+abbrev pub make : ℕ → Run
+make ms = run_of Make ms
+
+abbrev pub break : ℕ → Run
+break ms = run_of Brk ms
+
 abbrev pub same_contact : Contact → Contact → Bool
 same_contact Make Make = true
 same_contact Brk Brk = true
@@ -41,7 +50,7 @@ abbrev pub record_up_to_close : List LoopRow → List Run
 record_up_to_close [] = []
 record_up_to_close (row ∷ rows) =
     if is_close row.contact then []
-    else (if row.ms == 0 then record_up_to_close rows else record { contact = row.contact; ms = row.ms } ∷ record_up_to_close rows)
+    else (if row.ms == 0 then record_up_to_close rows else run_of row.contact row.ms ∷ record_up_to_close rows)
 
 -- the record of line l, from the rows of all lines
 abbrev pub record_of : ℕ → List LoopRow → List Run
@@ -51,7 +60,7 @@ record_of l rows = record_up_to_close (rows_of l rows)
 abbrev pub join : Run → List Run → List Run
 join run [] = run ∷ []
 join run (next ∷ rest) =
-    if same_contact run.contact next.contact then record { contact = run.contact; ms = run.ms + next.ms } ∷ rest
+    if same_contact run.contact next.contact then run_of run.contact (run.ms + next.ms) ∷ rest
     else run ∷ next ∷ rest
 
 -- the longest runs of one contact, each with its summed length

@@ -15,6 +15,9 @@ pub record CodedRoute : Type 0 where
   pub deleted : ℕ
   pub prefixed : List ℕ
 
+abbrev pub coded_route : List ℕ → ℕ → ℕ → List ℕ → CodedRoute
+coded_route code trunk deleted prefixed = record { code = code; trunk = trunk; deleted = deleted; prefixed = prefixed }
+
 -- the code is a prefix of the digits
 abbrev pub covers : List ℕ → List ℕ → Bool
 covers [] digits = true

@@ -1,7 +1,7 @@
 -- Worked examples in few words: the rows of a line, a table of three routes, and the marks of a
 -- keying, typed from the table of pairs.
 use Rattle.std.specs.Prelude.{ℕ, zero, suc, List, [], ◌∷◌, map, flat_map}
-use Rattle.xb_model.specs.declared.row.Contact.TheVariants.{Make, Brk, Close}
+use Rattle.xb_model.specs.declared.row.Contact.TheVariants.{Close}
 use Rattle.xb_model.specs.declared.plan.Plan.TheVariants.{Seven}
 use Rattle.xb_model.specs.declared.key.Key.TheVariants.{Digit, Kp, St}
 use Rattle.xb_model.specs.declared.mark.Mark.{Mark}
@@ -9,20 +9,14 @@ use Rattle.xb_model.specs.declared.mark.Mark.TheVariants.{Trunk, Tone, Refused}
 use Rattle.xb_model.specs.declared.reason.Reason.{Reason}
 use Rattle.xb_model.specs.LawfulLimits.{standard_limits}
 use Rattle.xb_model.specs.Rows.{LoopRow, row_of}
-use Rattle.xb_model.specs.Records.{Run}
+use Rattle.xb_model.specs.Records.{Run, run_of, make, break}
 use Rattle.xb_model.specs.MfPairs.{pair}
-use Rattle.xb_model.specs.Routing.{CodedRoute}
+use Rattle.xb_model.specs.Routing.{CodedRoute, coded_route}
 use Rattle.xb_model.specs.Tapes.{tape_of}
-
-abbrev pub make : ℕ → Run
-make ms = record { contact = Make; ms = ms }
-
-abbrev pub break : ℕ → Run
-break ms = record { contact = Brk; ms = ms }
 
 -- the end of a record
 abbrev pub close : Run
-close = record { contact = Close; ms = 0 }
+close = run_of Close 0
 
 -- n breaks of 60 ms, with makes of 40 ms between them and one of `last` ms behind them
 unfoldable pub pulses : ℕ → ℕ → List Run
@@ -40,8 +34,8 @@ abbrev pub dials : List ℕ → List Run
 dials digits = flat_map dial digits
 
 -- as rows of line l
-abbrev pub on_line : ℕ → List Run → List LoopRow
-on_line l runs = map (λ run. row_of l run.contact run.ms) runs
+abbrev pub rows_on : ℕ → List Run → List LoopRow
+rows_on l runs = map (λ run. row_of l run.contact run.ms) runs
 
 -- one row of each in turn, then the rest of the longer
 abbrev pub in_turn : List LoopRow → List LoopRow → List LoopRow
@@ -49,15 +43,12 @@ in_turn [] ys = ys
 in_turn (x ∷ xs) [] = x ∷ xs
 in_turn (x ∷ xs) (y ∷ ys) = x ∷ y ∷ in_turn xs ys
 
-abbrev pub route : List ℕ → ℕ → ℕ → List ℕ → CodedRoute
-route code trunk deleted prefixed = record { code = code; trunk = trunk; deleted = deleted; prefixed = prefixed }
-
 -- the routes of the worked examples
 abbrev pub three_routes : List CodedRoute
 three_routes =
-    route (2 ∷ 3 ∷ 4 ∷ []) 17 3 (5 ∷ 6 ∷ [])
-    ∷ route (4 ∷ 1 ∷ 1 ∷ []) 3 0 []
-    ∷ route (0 ∷ []) 1 0 []
+    coded_route (2 ∷ 3 ∷ 4 ∷ []) 17 3 (5 ∷ 6 ∷ [])
+    ∷ coded_route (4 ∷ 1 ∷ 1 ∷ []) 3 0 []
+    ∷ coded_route (0 ∷ []) 1 0 []
     ∷ []
 
 -- the tapes of some lines, by some routes, plan Seven and the standard limits

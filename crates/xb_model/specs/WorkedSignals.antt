@@ -3,13 +3,13 @@ use Rattle.std.specs.Prelude.{◌≡◌, List, [], ◌∷◌, ◌++◌, false, t
 use Rattle.xb_model.specs.declared.signal.Signal.{Signal}
 use Rattle.xb_model.specs.declared.signal.Signal.TheVariants.{Seize, Digit, TimeOut, Release, Close}
 use Rattle.xb_model.specs.LawfulLimits.{standard_limits}
-use Rattle.xb_model.specs.Records.{Run, record_of}
+use Rattle.xb_model.specs.Records.{Run, make, break, record_of}
 use Rattle.xb_model.specs.Signals.{signals_of}
-use Rattle.xb_model.specs.WorkedRows.{make, break, close, pulses, dial, on_line}
+use Rattle.xb_model.specs.WorkedRows.{close, pulses, dial, rows_on}
 
 -- the record of a line gives these signals
 abbrev pub Gives : List Run → List Signal → Type 0
-Gives runs signals = signals_of standard_limits (record_of 7 (on_line 7 (runs ++ close ∷ []))) ≡ signals
+Gives runs signals = signals_of standard_limits (record_of 7 (rows_on 7 (runs ++ close ∷ []))) ≡ signals
 
 pub record SignalsOfRecords : Type 0 where
   pub digit : Gives (make 500 ∷ dial 2) (Seize ∷ Digit 2 false ∷ Close ∷ [])

@@ -6,19 +6,21 @@ use Rattle.xb_model.specs.declared.plan.Plan.TheVariants.{Seven}
 use Rattle.xb_model.specs.declared.reason.Reason.TheVariants.{Mutilated, Unknown, Abandoned, TimedOut}
 use Rattle.xb_model.specs.LawfulLimits.{standard_limits}
 use Rattle.xb_model.specs.Rows.{LoopRow}
+use Rattle.xb_model.specs.Records.{make, break}
+use Rattle.xb_model.specs.Routing.{coded_route}
 use Rattle.xb_model.specs.Tapes.{joined_tape, entries_of}
-use Rattle.xb_model.specs.WorkedRows.{make, break, close, pulses, dials, on_line, in_turn, route, three_routes, tapes, tapes_by, tone_1, tone_2, tone_3, tone_4, tone_5, tone_6, tone_7, tone_8, tone_9, tone_kp, tone_st, keyed_seven, keyed_operator, keyed_service, refused}
+use Rattle.xb_model.specs.WorkedRows.{close, pulses, dials, rows_on, in_turn, three_routes, tapes, tapes_by, tone_1, tone_2, tone_3, tone_4, tone_5, tone_6, tone_7, tone_8, tone_9, tone_kp, tone_st, keyed_seven, keyed_operator, keyed_service, refused}
 
 -- the operator is dialled on line 5
 abbrev pub operator_rows : List LoopRow
-operator_rows = on_line 5 (make 500 ∷ dials (0 ∷ []))
+operator_rows = rows_on 5 (make 500 ∷ dials (0 ∷ []))
 
 abbrev pub OperatorCall : Type 0
 OperatorCall = tapes (5 ∷ []) operator_rows ≡ (keyed_operator ∷ []) ∷ []
 
 -- seven digits on line 7
 abbrev pub seven_digits_rows : List LoopRow
-seven_digits_rows = on_line 7 (make 500 ∷ dials (2 ∷ 3 ∷ 4 ∷ 5 ∷ 6 ∷ 7 ∷ 8 ∷ []))
+seven_digits_rows = rows_on 7 (make 500 ∷ dials (2 ∷ 3 ∷ 4 ∷ 5 ∷ 6 ∷ 7 ∷ 8 ∷ []))
 
 abbrev pub SevenDigits : Type 0
 SevenDigits = tapes (7 ∷ []) seven_digits_rows ≡ (keyed_seven ∷ []) ∷ []
@@ -26,7 +28,7 @@ SevenDigits = tapes (7 ∷ []) seven_digits_rows ≡ (keyed_seven ∷ []) ∷ []
 -- the same, a break being two rows with one of 0 ms between them
 abbrev pub SplitRows : Type 0
 SplitRows =
-    tapes (7 ∷ []) (on_line 7
+    tapes (7 ∷ []) (rows_on 7
     (make 500 ∷ break 30 ∷ make 0 ∷ break 30 ∷ make 40 ∷ break 60 ∷ make 600 ∷ dials (3 ∷ 4 ∷ 5 ∷ 6 ∷ 7 ∷ 8 ∷ [])))
     ≡ (keyed_seven ∷ []) ∷ []
 
@@ -34,13 +36,13 @@ SplitRows =
 abbrev pub TwoLinesInTurn : Type 0
 TwoLinesInTurn =
     tapes (1 ∷ 2 ∷ []) (in_turn
-    (on_line 1 (make 500 ∷ dials (0 ∷ [])))
-    (on_line 2 (make 500 ∷ dials (4 ∷ 1 ∷ 1 ∷ []))))
+    (rows_on 1 (make 500 ∷ dials (0 ∷ [])))
+    (rows_on 2 (make 500 ∷ dials (4 ∷ 1 ∷ 1 ∷ []))))
     ≡ (keyed_operator ∷ []) ∷ (keyed_service ∷ []) ∷ []
 
 -- a break on both sides of each limit
 abbrev pub one_break : ℕ → ℕ → List LoopRow
-one_break l ms = on_line l (make 500 ∷ break ms ∷ make 600 ∷ [])
+one_break l ms = rows_on l (make 500 ∷ break ms ∷ make 600 ∷ [])
 
 abbrev pub BreakLimits : Type 0
 BreakLimits =
@@ -56,7 +58,7 @@ BreakLimits =
 
 -- a make between two breaks, on both sides of each limit
 abbrev pub make_between : ℕ → ℕ → List LoopRow
-make_between l ms = on_line l (make 500 ∷ break 60 ∷ make ms ∷ break 60 ∷ make 600 ∷ [])
+make_between l ms = rows_on l (make 500 ∷ break 60 ∷ make ms ∷ break 60 ∷ make 600 ∷ [])
 
 abbrev pub MakeLimits : Type 0
 MakeLimits =
@@ -71,15 +73,15 @@ MakeLimits =
 -- eleven pulses are no digit
 abbrev pub ElevenPulses : Type 0
 ElevenPulses =
-    tapes (8 ∷ []) (on_line 8 (make 500 ∷ dials (4 ∷ []) ++ pulses 11 600 ++ dials (1 ∷ 1 ∷ []) ++ close ∷ []))
+    tapes (8 ∷ []) (rows_on 8 (make 500 ∷ dials (4 ∷ []) ++ pulses 11 600 ++ dials (1 ∷ 1 ∷ []) ++ close ∷ []))
     ≡ (refused Mutilated 1 ∷ []) ∷ []
 
 -- a make of the time-out in an unfinished number, one ms less, and a day's behind a complete one
 abbrev pub sixth_digit : ℕ → ℕ → List LoopRow
-sixth_digit l ms = on_line l (make 500 ∷ dials (2 ∷ 3 ∷ 4 ∷ 5 ∷ 6 ∷ []) ++ pulses 7 ms ++ dials (8 ∷ []))
+sixth_digit l ms = rows_on l (make 500 ∷ dials (2 ∷ 3 ∷ 4 ∷ 5 ∷ 6 ∷ []) ++ pulses 7 ms ++ dials (8 ∷ []))
 
 abbrev pub seventh_digit : ℕ → ℕ → List LoopRow
-seventh_digit l ms = on_line l (make 500 ∷ dials (2 ∷ 3 ∷ 4 ∷ 5 ∷ 6 ∷ 7 ∷ []) ++ pulses 8 ms)
+seventh_digit l ms = rows_on l (make 500 ∷ dials (2 ∷ 3 ∷ 4 ∷ 5 ∷ 6 ∷ 7 ∷ []) ++ pulses 8 ms)
 
 abbrev pub TimeOutAndConversation : Type 0
 TimeOutAndConversation =
@@ -95,21 +97,21 @@ LastDigitPause =
 -- rows behind a close make no entry
 abbrev pub ClosedLine : Type 0
 ClosedLine =
-    tapes (9 ∷ []) (on_line 9 (make 500 ∷ dials (2 ∷ 3 ∷ []) ++ close ∷ make 500 ∷ dials (0 ∷ [])))
+    tapes (9 ∷ []) (rows_on 9 (make 500 ∷ dials (2 ∷ 3 ∷ []) ++ close ∷ make 500 ∷ dials (0 ∷ [])))
     ≡ (refused Abandoned 2 ∷ []) ∷ []
 
 -- a code that is routed, and two numbers that no code covers
 abbrev pub UnknownCodes : Type 0
 UnknownCodes =
     tapes (1 ∷ 2 ∷ 3 ∷ [])
-    (on_line 1 (make 500 ∷ dials (4 ∷ 1 ∷ 1 ∷ []))
-    ++ on_line 2 (make 500 ∷ dials (6 ∷ 1 ∷ 1 ∷ []))
-    ++ on_line 3 (make 500 ∷ dials (5 ∷ 5 ∷ 5 ∷ 1 ∷ 2 ∷ 3 ∷ 4 ∷ [])))
+    (rows_on 1 (make 500 ∷ dials (4 ∷ 1 ∷ 1 ∷ []))
+    ++ rows_on 2 (make 500 ∷ dials (6 ∷ 1 ∷ 1 ∷ []))
+    ++ rows_on 3 (make 500 ∷ dials (5 ∷ 5 ∷ 5 ∷ 1 ∷ 2 ∷ 3 ∷ 4 ∷ [])))
     ≡ (keyed_service ∷ []) ∷ (refused Unknown 3 ∷ []) ∷ (refused Unknown 7 ∷ []) ∷ []
 
 -- a second number is heard only behind a release
 abbrev pub second_call_rows : List LoopRow
-second_call_rows = on_line 3 (make 500 ∷ dials (0 ∷ 9 ∷ []) ++ break 400 ∷ make 500 ∷ dials (4 ∷ 1 ∷ 1 ∷ []))
+second_call_rows = rows_on 3 (make 500 ∷ dials (0 ∷ 9 ∷ []) ++ break 400 ∷ make 500 ∷ dials (4 ∷ 1 ∷ 1 ∷ []))
 
 abbrev pub SecondCall : Type 0
 SecondCall = tapes (3 ∷ []) second_call_rows ≡ (keyed_operator ∷ keyed_service ∷ []) ∷ []
@@ -118,10 +120,10 @@ SecondCall = tapes (3 ∷ []) second_call_rows ≡ (keyed_operator ∷ keyed_ser
 abbrev pub ShortRecords : Type 0
 ShortRecords =
     tapes_by [] (1 ∷ 2 ∷ 3 ∷ 4 ∷ [])
-    (on_line 1 (break 1000 ∷ [])
-    ++ on_line 2 (make 0 ∷ [])
-    ++ on_line 3 (make 1 ∷ [])
-    ++ on_line 4 (make 500 ∷ break 10 ∷ make 25000 ∷ dials (0 ∷ [])))
+    (rows_on 1 (break 1000 ∷ [])
+    ++ rows_on 2 (make 0 ∷ [])
+    ++ rows_on 3 (make 1 ∷ [])
+    ++ rows_on 4 (make 500 ∷ break 10 ∷ make 25000 ∷ dials (0 ∷ [])))
     ≡ [] ∷ [] ∷ (refused Abandoned 0 ∷ []) ∷ (refused Mutilated 0 ∷ []) ∷ []
 
 -- a prefix of eight digits in front of seven
@@ -134,8 +136,8 @@ longest_entry =
 
 abbrev pub LongestKeying : Type 0
 LongestKeying =
-    (tapes_by (route (9 ∷ 9 ∷ 9 ∷ []) 9999 0 (1 ∷ 2 ∷ 3 ∷ 4 ∷ 5 ∷ 6 ∷ 7 ∷ 8 ∷ []) ∷ []) (20 ∷ [])
-    (on_line 20 (make 500 ∷ dials (9 ∷ 9 ∷ 9 ∷ 9 ∷ 9 ∷ 9 ∷ 9 ∷ [])))
+    (tapes_by (coded_route (9 ∷ 9 ∷ 9 ∷ []) 9999 0 (1 ∷ 2 ∷ 3 ∷ 4 ∷ 5 ∷ 6 ∷ 7 ∷ 8 ∷ []) ∷ []) (20 ∷ [])
+    (rows_on 20 (make 500 ∷ dials (9 ∷ 9 ∷ 9 ∷ 9 ∷ 9 ∷ 9 ∷ 9 ∷ [])))
     ≡ (longest_entry ∷ []) ∷ [])
     × (length longest_entry ≡ 18)
 

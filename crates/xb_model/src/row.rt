@@ -1,6 +1,6 @@
 // The rows of loop records.
 ghost use Rattle.std.specs.Prelude.{◌≡◌, ◌↔◌, IsSome, IfSome};
-ghost use Rattle.xb_model.specs.Rows.{IsRow, row_of};
+ghost use Rattle.xb_model.specs.Rows.{IsRow, close_row, row_of};
 
 use crate::line::LineNo;
 use std::marker::Model;
@@ -55,7 +55,7 @@ impl Row {
 
     /// The row that ends the record of a line.
     pub fn close(line: LineNo) -> Row
-        ensures { result ≡ row_of line Contact.Close 0 }
+        ensures { result ≡ close_row line }
     {
         Row {
             line,

@@ -1,6 +1,6 @@
 -- Records that are written are read.
 use Rattle.std.proofs.Common.{◌≡◌, ◌≤◌, ◌+◌, ℕ, List, [], ◌∷◌, length, Some, refl, ap, ◌∙◌, arith, Ok}
-use Rattle.std.specs.Prelude.{decimal, ◌==◌, map, nat_le, true}
+use Rattle.std.specs.Prelude.{decimal, map, true}
 use Rattle.std.proofs.lemmas.Bool.Decides.{nat_tests}
 use Rattle.csv.specs.Reading.{default_config, records, strip_bom}
 use Rattle.csv.specs.Writing.{read_back}
@@ -9,8 +9,8 @@ use Rattle.csv.proofs.RoundTrip.{read-write}
 use Rattle.xb_bank.specs.Sources.{ended_by}
 use Rattle.xb_model.specs.declared.row.Contact.{Contact}
 use Rattle.xb_model.specs.declared.row.Contact.TheVariants.{Make, Brk, Close}
-use Rattle.xb_model.specs.declared.row.TheConstants.{GREATEST_MS}
-use Rattle.xb_model.specs.Rows.{IsRow, LoopRow, row_of}
+use Rattle.xb_model.specs.Rows.{IsRow, LoopRow, may_last, row_of}
+use Rattle.xb_model.proofs.RowTimes.{at_most_a_day}
 use Rattle.xb_office.specs.declared.scan.TheConstants.{MOST_RECORDS}
 use Rattle.xb_office.specs.declared.record.TheConstants.{LINE_DIGITS, MS_DIGITS}
 use Rattle.xb_office.specs.RowTexts.{contact_of, field_number, rest_of_records, row_of_fields, row_then, rows_from, three_of, with_contact}
@@ -29,6 +29,7 @@ records_of_text (r ∷ rs) =
 -- the row of a written record
 row_of_written : (n : ℕ) (row : LoopRow) (rows : List LoopRow) → AreRows (row ∷ rows) → row_of_fields n (three_of (read_back (fields_of_row row))) ≡ Ok row
 row_of_written n row rows h =
+    let short = at_most_a_day row.contact row.ms h.1 in
     let line = field_number-decimal LINE_DIGITS row.line (omega arith) (omega arith) (omega arith) in
     let ms = field_number-decimal MS_DIGITS row.ms (omega arith) (omega arith) (omega arith) in
     rw line (by row.contact row.line row.ms h.1 ms)
@@ -36,14 +37,14 @@ row_of_written n row rows h =
     by : (contact : Contact) (line ms : ℕ) → IsRow contact ms → field_number MS_DIGITS (decimal ms) ≡ Some ms
         → with_contact n line (decimal ms) (contact_of (contact_text contact)) ≡ Ok (row_of line contact ms)
     by Make line ms lawful e =
-        let short : nat_le ms GREATEST_MS ≡ true = grind (arith, nat_tests, lawful.0) in
-        rw (e, short) refl
+        let may : may_last Make ms ≡ true = grind (arith, nat_tests) in
+        rw (e, may) refl
     by Brk line ms lawful e =
-        let short : nat_le ms GREATEST_MS ≡ true = grind (arith, nat_tests, lawful.0) in
-        rw (e, short) refl
+        let may : may_last Brk ms ≡ true = grind (arith, nat_tests) in
+        rw (e, may) refl
     by Close line ms lawful e =
-        let none : (ms == 0) ≡ true = rw (lawful.1 refl) refl in
-        rw (e, none) refl
+        let may : may_last Close ms ≡ true = grind (arith, nat_tests) in
+        rw (e, may) refl
 
 -- the rows of written records
 rows_of_written : (n : ℕ) (rows : List LoopRow) → AreRows rows → n + length rows ≤ MOST_RECORDS + 1 → rows_from n (map read_back (map fields_of_row rows)) ≡ ended_by rows

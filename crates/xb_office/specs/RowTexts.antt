@@ -5,10 +5,9 @@ use Rattle.csv.specs.Reading.{default_config, records, strip_bom}
 use Rattle.xb_bank.specs.Sources.{Rest}
 use Rattle.xb_model.specs.declared.row.Contact.{Contact}
 use Rattle.xb_model.specs.declared.row.Contact.TheVariants.{Make, Brk, Close}
-use Rattle.xb_model.specs.declared.row.TheConstants.{GREATEST_MS}
 use Rattle.xb_model.specs.declared.fault.RowFault.{RowFault}
 use Rattle.xb_model.specs.declared.fault.RowFault.TheVariants as fault
-use Rattle.xb_model.specs.Rows.{LoopRow, row_of}
+use Rattle.xb_model.specs.Rows.{LoopRow, may_last, row_of}
 use Rattle.xb_office.specs.declared.record.TheConstants.{LINE_DIGITS, MS_DIGITS}
 use Rattle.xb_office.specs.declared.scan.TheConstants.{MOST_RECORDS}
 
@@ -29,12 +28,6 @@ abbrev pub contact_of : List ℕ → Option Contact
 contact_of [] = None
 contact_of (c ∷ []) = if c == 77 then Some Make else if c == 66 then Some Brk else if c == 67 then Some Close else None
 contact_of (c ∷ d ∷ rest) = None
-
--- whether a row may say so many ms
-abbrev pub may_last : Contact → ℕ → Bool
-may_last Make ms = nat_le ms GREATEST_MS
-may_last Brk ms = nat_le ms GREATEST_MS
-may_last Close ms = ms == 0
 
 abbrev pub with_ms : ℕ → ℕ → Contact → Option ℕ → Result LoopRow RowFault
 with_ms n line contact None = Err (fault.Ms n)

@@ -1,8 +1,8 @@
 -- What the definitions give at worked tables.
 use Rattle.std.specs.Prelude.{◌≡◌, ℕ, List, [], ◌∷◌, ◌++◌, codes, Some, None, Ok, Err}
 use Rattle.xb_model.specs.declared.plan.Plan.TheVariants.{Seven}
-use Rattle.xb_model.specs.Routing.{route_for}
-use Rattle.xb_model.specs.WorkedRows.{route, three_routes}
+use Rattle.xb_model.specs.Routing.{coded_route, route_for}
+use Rattle.xb_model.specs.WorkedRows.{three_routes}
 use Rattle.xb_routes.specs.declared.fault.RouteFault.TheVariants as fault
 use Rattle.xb_routes.specs.Codes.{code_of, number_length}
 use Rattle.xb_routes.specs.Text.{seven_table, table_of_text}
@@ -47,7 +47,7 @@ pub record ReadsTables : Type 0 where
 
 -- the route of a number
 pub record LooksUp : Type 0 where
-  pub office_code : route_for three_routes (2 ∷ 3 ∷ 4 ∷ 5 ∷ 6 ∷ 7 ∷ 8 ∷ []) ≡ Some (route (2 ∷ 3 ∷ 4 ∷ []) 17 3 (5 ∷ 6 ∷ []))
-  pub operator : route_for three_routes (0 ∷ []) ≡ Some (route (0 ∷ []) 1 0 [])
+  pub office_code : route_for three_routes (2 ∷ 3 ∷ 4 ∷ 5 ∷ 6 ∷ 7 ∷ 8 ∷ []) ≡ Some (coded_route (2 ∷ 3 ∷ 4 ∷ []) 17 3 (5 ∷ 6 ∷ []))
+  pub operator : route_for three_routes (0 ∷ []) ≡ Some (coded_route (0 ∷ []) 1 0 [])
   pub no_code : route_for three_routes (6 ∷ 1 ∷ 1 ∷ []) ≡ None
   pub too_short : route_for three_routes (2 ∷ 3 ∷ []) ≡ None
