@@ -1,7 +1,7 @@
 -- Over a whole record the rows send its signals, however its runs are cut into rows.
 use Rattle.std.proofs.Common.{◌≡◌, ℕ, ◌==◌, List, [], ◌∷◌, ◌++◌, Bool, true, false, cond, refl, sym, ap, ◌∙◌, if◌then◌else◌, append_assoc, append-nil}
 use Rattle.std.specs.List.{AllByRecursion}
-use Rattle.std.proofs.lemmas.List.{map-append}
+use Rattle.std.proofs.lemmas.Bool.{cond_both}
 use Rattle.xb_model.specs.declared.row.Contact.{Contact}
 use Rattle.xb_model.specs.declared.row.Contact.TheVariants.{Make, Brk}
 use Rattle.xb_model.specs.declared.row.Contact.TheVariants as contacts
@@ -10,26 +10,27 @@ use Rattle.xb_model.specs.declared.line.LineNo.{LineNo}
 use Rattle.xb_model.specs.declared.signal.Signal.{Signal}
 use Rattle.xb_model.specs.declared.signal.Signal.TheVariants.{Close}
 use Rattle.xb_model.specs.Rows.{LoopRow}
-use Rattle.xb_model.specs.Records.{closes, record_up_to_close, rows_of, record_of, joined}
+use Rattle.xb_model.specs.Records.{closes, record_up_to_close, rows_of, joined}
 use Rattle.xb_model.specs.Signals.{signals_of}
 use Rattle.xb_model.specs.LawfulLimits.{IsLawful}
-use Rattle.xb_ring.specs.Image.{image, image_from, image_on}
-use Rattle.xb_model.specs.Lines.{of_line}
-use Rattle.xb_ring.specs.Stateless.{on_line}
+use Rattle.xb_ring.specs.Image.{image_on}
+use Rattle.xb_model.specs.Lines.{row_line, on_line_of}
+use Rattle.xb_ring.specs.OnLines.{on_line, whats_from}
 use Rattle.xb_model.proofs.Lines.{of_line-on}
 use Rattle.xb_ring.proofs.Images.{image-of_line}
+use Rattle.xb_ring.proofs.OnLines.{on_line-append, image_from-on_lines}
+use Rattle.xb_pulse.specs.Laws.{HearsTheRecord, HearsTheRecordOfEach, HearsSoFar, HearsSoFarOfEach, heard_on}
 use Rattle.xb_pulse.specs.declared.state.State.{State}
 use Rattle.xb_pulse.specs.declared.state.State.TheVariants.{OnHook, BetweenTrains, InBreak, InMake, TimedOut, Closed}
-use Rattle.xb_pulse.specs.Machine.{Step, enter, on_make, on_break, on_row, step_of, machine}
+use Rattle.xb_pulse.specs.Machine.{Step, enter, on_make, on_break, on_row, state_behind, signals_by, machine}
 use Rattle.xb_pulse.specs.Outputs.{outs_on_line}
 use Rattle.xb_pulse.proofs.Joining.{make_of, break_of}
 use Rattle.xb_pulse.proofs.ToSend.{to_send}
 use Rattle.xb_pulse.proofs.Steps.{IsOpen, SendsFront, on_make-front, on_break-front, on_make-open, on_break-open, to_send-none}
 
 -- what rows of one line send, from a state on
-abbrev pub sent : Limits → State → List LoopRow → List Signal
-sent L s [] = []
-sent L s (row ∷ rows) = (step_of L s row).sent ++ sent L (step_of L s row).after rows
+abbrev sent : Limits → State → List LoopRow → List Signal
+sent L s rows = whats_from (state_behind L) (signals_by L) s rows
 
 -- the close, if it has not come
 abbrev pub unless_closed : List LoopRow → List Signal
@@ -37,21 +38,17 @@ unless_closed rows = if closes rows then [] else Close ∷ []
 
 -- behind the close no row sends anything
 
--- a row of 0 ms and any other leave the closed state alike
-either_closed : (b : Bool) → cond b (enter Closed) (enter Closed) ≡ enter Closed
-either_closed true = refl
-either_closed false = refl
-
 -- a row behind the close leaves the closed state, and sends nothing
 closed_stays : (L : Limits) (c : Contact) (ms : ℕ) → on_row L Closed c ms ≡ enter Closed
-closed_stays L Make ms = either_closed (ms == 0)
-closed_stays L Brk ms = either_closed (ms == 0)
+closed_stays L Make ms = cond_both (ms == 0) _ _ (λ step. step ≡ enter Closed) (λ t. refl) (λ f. refl)
+closed_stays L Brk ms = cond_both (ms == 0) _ _ (λ step. step ≡ enter Closed) (λ t. refl) (λ f. refl)
 closed_stays L contacts.Close ms = refl
 
 -- nor do any rows
 sent-closed : (L : Limits) (rows : List LoopRow) → sent L Closed rows ≡ []
 sent-closed L [] = refl
-sent-closed L (row ∷ rows) = rw (closed_stays L row.contact row.ms) (sent-closed L rows)
+sent-closed L (row ∷ rows) =
+    ap (λ step. step.sent ++ sent L step.after rows) (closed_stays L row.contact row.ms) ∙ sent-closed L rows
 
 -- from an open state a close row sends the close
 sends_close : (L : Limits) (s : State) (ms : ℕ) → IsOpen L s → on_row L s contacts.Close ms ≡ record { sent = Close ∷ []; after = Closed }
@@ -88,48 +85,44 @@ module _ (L : Limits) (l : IsLawful L) (rows : List LoopRow) (heard : (s : State
       at true = heard s o
       at false =
           front_heard L (on_break L s ms) rows _ (on_break-front L s ms (joined (record_up_to_close rows)) l o) (heard (on_break L s ms).after (on_break-open L s ms o))
-  row_heard s line contacts.Close ms o = rw (sends_close L s ms o, sent-closed L rows) (sym (to_send-none L s l o))
+  row_heard s line contacts.Close ms o =
+      ap (λ step. (step.sent ++ sent L step.after rows) ++ []) (sends_close L s ms o)
+      ∙ ap (λ behind. Close ∷ behind ++ []) (sent-closed L rows)
+      ∙ sym (to_send-none L s l o)
 
 -- rows are heard from every open state
 all_heard : (L : Limits) → IsLawful L → (rows : List LoopRow) (s : State) → IsOpen L s → Hears L s rows
 all_heard L l [] s o = sym (to_send-none L s l o)
 all_heard L l (row ∷ rows) s o = row_heard L l rows (all_heard L l rows) s row.line row.contact row.ms o
 
--- what the stage sends from a state on is what the rows send, on their line
-image_from-sent : (L : Limits) (line : LineNo) (s : State) (rows : List LoopRow) → AllByRecursion (λ row. row.line ≡ line) rows → image_from (machine L) s rows ≡ on_line line (sent L s rows)
-image_from-sent L line s [] a = refl
-image_from-sent L line s (row ∷ rows) a =
-    rw (a.0, image_from-sent L line (step_of L s row).after rows a.1)
-    (sym (map-append (λ (what : Signal). record { line = line; what = what }) (step_of L s row).sent (sent L (step_of L s row).after rows)))
-
 -- what the stage sends for rows of one line, and a close unless they have one, are the signals
-signals_heard : (L : Limits) (line : LineNo) (rows : List LoopRow) → IsLawful L → AllByRecursion (λ row. row.line ≡ line) rows → image_on (machine L) rows ++ on_line line (unless_closed rows) ≡ on_line line (signals_of L (record_up_to_close rows))
+signals_heard : (L : Limits) (line : LineNo) (rows : List LoopRow) → IsLawful L → AllByRecursion (λ row. row_line row ≡ line) rows → image_on (machine L) rows ++ on_line line (unless_closed rows) ≡ on_line line (signals_of L (record_up_to_close rows))
 signals_heard L line rows l a =
-    ap (λ front. front ++ on_line line (unless_closed rows)) (image_from-sent L line OnHook rows a)
-    ∙ sym (map-append (λ (what : Signal). record { line = line; what = what }) (sent L OnHook rows) (unless_closed rows))
+    ap (λ front. front ++ on_line line (unless_closed rows)) (image_from-on_lines row_line OnHook (state_behind L) (signals_by L) line OnHook rows a)
+    ∙ sym (on_line-append line (sent L OnHook rows) (unless_closed rows))
     ∙ ap (on_line line) (all_heard L l rows OnHook tt)
 
 -- a line's closed record gives its signals
-pub record_heard : (L : Limits) (line : LineNo) (rows : List LoopRow) → IsLawful L → AllByRecursion (λ row. row.line ≡ line) rows → closes rows ≡ true → image_on (machine L) rows ≡ on_line line (signals_of L (record_up_to_close rows))
+pub record_heard : HearsTheRecord
 record_heard L line rows l a e = sym (append-nil _) ∙ rw e at (signals_heard L line rows l a)
 
 -- a line's open record gives its signals but the close
-pub open_record_heard : (L : Limits) (line : LineNo) (rows : List LoopRow) → IsLawful L → AllByRecursion (λ row. row.line ≡ line) rows → closes rows ≡ false → image_on (machine L) rows ++ on_line line (Close ∷ []) ≡ on_line line (signals_of L (record_up_to_close rows))
+pub open_record_heard : HearsSoFar
 open_record_heard L line rows l a e = rw e at (signals_heard L line rows l a)
 
 -- among the rows of all lines
 
 -- of what is sent for all rows, a line's items are what its own rows send
-line_image : (L : Limits) (line : LineNo) (rows : List LoopRow) → of_line (λ item. item.line) line (image (λ row. row.line) (machine L) rows) ≡ image_on (machine L) (rows_of line rows)
-line_image L line rows = image-of_line (λ row. row.line) (λ item. item.line) (machine L) (outs_on_line L) line rows
+line_image : (L : Limits) (line : LineNo) (rows : List LoopRow) → heard_on L line rows ≡ image_on (machine L) (rows_of line rows)
+line_image L line rows = image-of_line row_line on_line_of (machine L) (outs_on_line L) line rows
 
 -- a line's closed record among all rows gives its signals on the line
-pub line_record_heard : (L : Limits) (line : LineNo) (rows : List LoopRow) → IsLawful L → closes (rows_of line rows) ≡ true → of_line (λ item. item.line) line (image (λ row. row.line) (machine L) rows) ≡ on_line line (signals_of L (record_of line rows))
+pub line_record_heard : HearsTheRecordOfEach
 line_record_heard L line rows l e =
-    line_image L line rows ∙ record_heard L line (rows_of line rows) l (of_line-on (λ row. row.line) line rows) e
+    line_image L line rows ∙ record_heard L line (rows_of line rows) l (of_line-on row_line line rows) e
 
 -- a line's open record among all rows gives its signals on the line, but the close
-pub open_line_record_heard : (L : Limits) (line : LineNo) (rows : List LoopRow) → IsLawful L → closes (rows_of line rows) ≡ false → of_line (λ item. item.line) line (image (λ row. row.line) (machine L) rows) ++ on_line line (Close ∷ []) ≡ on_line line (signals_of L (record_of line rows))
+pub open_line_record_heard : HearsSoFarOfEach
 open_line_record_heard L line rows l e =
     ap (λ front. front ++ on_line line (Close ∷ [])) (line_image L line rows)
-    ∙ open_record_heard L line (rows_of line rows) l (of_line-on (λ row. row.line) line rows) e
+    ∙ open_record_heard L line (rows_of line rows) l (of_line-on row_line line rows) e

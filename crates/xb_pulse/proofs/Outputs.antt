@@ -1,5 +1,6 @@
 -- What a row sends is little.
 use Rattle.std.proofs.Common.{ℕ, ◌≤◌, length, Bool, true, false, cond, nat_le, ◌==◌, arith}
+use Rattle.std.proofs.lemmas.Bool.{cond_both}
 use Rattle.std.proofs.lemmas.List.{length-map}
 use Rattle.xb_model.specs.declared.row.Contact.{Contact}
 use Rattle.xb_model.specs.declared.row.Contact.TheVariants.{Make, Brk}
@@ -18,10 +19,9 @@ use Rattle.xb_pulse.specs.Machine.{Step, send, enter, longer, with_break, betwee
 abbrev Few : Step → Type 0
 Few step = length step.sent ≤ 2
 
--- either step does
+-- either of two steps does
 few_if : (b : Bool) (x y : Step) → Few x → Few y → Few (cond b x y)
-few_if true x y p q = p
-few_if false x y p q = q
+few_if b x y p q = cond_both b x y Few (λ t. p) (λ f. q)
 
 -- a signal, and a make outside any train behind it
 few_between : (L : Limits) (t : ℕ) (what : Signal) → Few (send what (between_trains L t))

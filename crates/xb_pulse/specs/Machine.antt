@@ -9,10 +9,11 @@ use Rattle.xb_model.specs.declared.on.On.{On}
 use Rattle.xb_model.specs.declared.signal.Signal.{Signal}
 use Rattle.xb_model.specs.declared.signal.Signal.TheVariants.{Seize, Digit, TimeOut, Release, Close}
 use Rattle.xb_model.specs.declared.signal.TheConstants.{MANY_BREAKS}
+use Rattle.xb_model.specs.Lines.{row_line}
 use Rattle.xb_model.specs.Rows.{LoopRow}
 use Rattle.xb_model.specs.Signals.{is_bad_run}
 use Rattle.xb_ring.specs.Image.{Machine}
-use Rattle.xb_ring.specs.Stateless.{on_line}
+use Rattle.xb_ring.specs.OnLines.{on_lines}
 use Rattle.xb_pulse.specs.declared.state.Tally.{Tally}
 use Rattle.xb_pulse.specs.declared.state.State.{State}
 use Rattle.xb_pulse.specs.declared.state.State.TheVariants.{OnHook, BetweenTrains, InBreak, InMake, TimedOut, Closed}
@@ -22,9 +23,11 @@ pub record Step : Type 0 where
   pub sent : List Signal
   pub after : State
 
+-- nothing is sent, and the line enters this state
 abbrev pub enter : State → Step
 enter state = record { sent = []; after = state }
 
+-- a signal in front of what a step sends
 abbrev pub send : Signal → Step → Step
 send signal step = record { sent = signal ∷ step.sent; after = step.after }
 
@@ -32,6 +35,7 @@ send signal step = record { sent = signal ∷ step.sent; after = step.after }
 abbrev pub longer : ℕ → ℕ → ℕ
 longer total ms = min (total + ms) GREATEST_LIMIT
 
+-- a train before its first break
 abbrev pub no_breaks : Tally
 no_breaks = record { breaks = 0; bad = false }
 
@@ -73,6 +77,7 @@ in_break limits (InMake total tally) ms = InBreak (longer 0 ms) (with_make limit
 in_break limits (TimedOut total) ms = TimedOut (longer total ms)
 in_break limits Closed ms = Closed
 
+-- a break of this length in an attempt, which releases the line once it reaches `release`
 abbrev pub release_at : Limits → ℕ → State → Step
 release_at limits total state = if nat_le limits.release total then send Release (enter OnHook) else enter state
 
@@ -86,23 +91,29 @@ unless_released limits state = enter state
 abbrev pub on_break : Limits → State → ℕ → Step
 on_break limits state ms = unless_released limits (in_break limits state ms)
 
+-- a close row: only the first is heard
 abbrev pub on_close : State → Step
 on_close Closed = enter Closed
 on_close _ = send Close (enter Closed)
 
+-- a row of this contact and length; makes and breaks of 0 ms count for nothing
 abbrev pub on_row : Limits → State → Contact → ℕ → Step
 on_row limits state contacts.Make ms = if ms == 0 then enter state else on_make limits state ms
 on_row limits state contacts.Brk ms = if ms == 0 then enter state else on_break limits state ms
 on_row limits state contacts.Close ms = on_close state
 
+-- a row of the line
 abbrev pub step_of : Limits → State → LoopRow → Step
 step_of limits state row = on_row limits state row.contact row.ms
 
+-- the state that a row leaves
+abbrev pub state_behind : Limits → State → LoopRow → State
+state_behind limits state row = (step_of limits state row).after
+
+-- the signals that a row sends
+abbrev pub signals_by : Limits → State → LoopRow → List Signal
+signals_by limits state row = (step_of limits state row).sent
+
 -- what the stage does on one line
 abbrev pub machine : Limits → Machine LoopRow (On Signal) State
-machine limits =
-    record {
-      start = OnHook;
-      next = λ state row. (step_of limits state row).after;
-      outs = λ state row. on_line row.line (step_of limits state row).sent;
-    }
+machine limits = on_lines row_line OnHook (state_behind limits) (signals_by limits)

@@ -1,14 +1,13 @@
--- Where a row's signals stand.
+-- Where a row's signals stand (own profile).
 use Rattle.std.specs.Prelude.{◌≡◌}
 use Rattle.std.specs.List.{AllByRecursion}
 use Rattle.xb_model.specs.declared.limits.Limits.{Limits}
-use Rattle.xb_model.specs.declared.on.On.{On}
-use Rattle.xb_model.specs.declared.signal.Signal.{Signal}
+use Rattle.xb_model.specs.Lines.{row_line, on_line_of}
 use Rattle.xb_model.specs.Rows.{LoopRow}
-use Rattle.xb_ring.specs.Stateless.{all_on}
+use Rattle.xb_ring.specs.OnLines.{outs_on_line as item_on_line}
 use Rattle.xb_pulse.specs.declared.state.State.{State}
-use Rattle.xb_pulse.specs.Machine.{step_of, machine}
+use Rattle.xb_pulse.specs.Machine.{signals_by, machine}
 
 -- what a row sends is on the row's line
-pub outs_on_line : (L : Limits) (s : State) (row : LoopRow) → AllByRecursion (λ (y : On Signal). y.line ≡ row.line) ((machine L).outs s row)
-outs_on_line L s row = all_on row.line (step_of L s row).sent
+pub outs_on_line : (limits : Limits) (state : State) (row : LoopRow) → AllByRecursion (λ sent. on_line_of sent ≡ row_line row) ((machine limits).outs state row)
+outs_on_line limits state row = item_on_line row_line (signals_by limits) state row

@@ -1,6 +1,6 @@
 // The pulse stage.
 ghost use Rattle.std.specs.Prelude.{◌≡◌, ◌+◌, ◌<◌, ◌++◌, ◌∷◌, [], vec_len, vec_capacity};
-ghost use Rattle.xb_ring.specs.Stateless.{on_line};
+ghost use Rattle.xb_ring.specs.OnLines.{on_line};
 ghost use Rattle.xb_pulse.specs.Machine.{machine, longer, with_break, with_make, between_trains, in_make, on_make, in_break, on_break, on_close};
 ghost use Rattle.xb_pulse.specs.Outputs.{outs_on_line};
 
@@ -15,8 +15,9 @@ use xb_ring::LineStage;
 /// judged on the whole run so far, and each signal is sent by the row in which its limit is
 /// reached:
 /// - `Seize` by the first make of a line that is on hook;
-/// - `Digit` where a make behind a break reaches `pause`: its train's breaks, and whether one of
-///   them is not `pulse_min` to `pulse_max`, or a make between two of them is under `make_min`;
+/// - `Digit` where a make behind a break reaches `pause`: its train's breaks, at most 11, and
+///   whether one of them is not `pulse_min` to `pulse_max`, or a make between two of them is under
+///   `make_min`;
 /// - `TimeOut` where a make reaches `timeout`, also in the row that seized or ended a digit; from
 ///   then on nothing but a release or the close is heard;
 /// - `Release` where a break in an attempt reaches `release`;
@@ -66,7 +67,8 @@ impl Pulse {
     fn between_trains(&self, total: u32, line: LineNo, out: &mut Vec<On<Signal>>) -> State
         requires { vec_len out.old < vec_capacity out.old }
         ensures state { result ≡ (between_trains self.now total).after }
-        ensures sent { out.new.items ≡ out.old.items ++ on_line line (between_trains self.now total).sent }
+        ensures sent { out.new.items
+            ≡ out.old.items ++ on_line line (between_trains self.now total).sent }
         ensures capacity { vec_capacity out.new ≡ vec_capacity out.old }
     {
         if total >= self.limits.timeout {
@@ -81,7 +83,8 @@ impl Pulse {
     fn in_make(&self, total: u32, tally: Tally, line: LineNo, out: &mut Vec<On<Signal>>) -> State
         requires { vec_len out.old + 1 < vec_capacity out.old }
         ensures state { result ≡ (in_make self.now total tally).after }
-        ensures sent { out.new.items ≡ out.old.items ++ on_line line (in_make self.now total tally).sent }
+        ensures sent { out.new.items
+            ≡ out.old.items ++ on_line line (in_make self.now total tally).sent }
         ensures capacity { vec_capacity out.new ≡ vec_capacity out.old }
     {
         if total >= self.limits.pause {
@@ -96,7 +99,8 @@ impl Pulse {
     fn on_make(&self, state: State, ms: u32, line: LineNo, out: &mut Vec<On<Signal>>) -> State
         requires { vec_len out.old + 1 < vec_capacity out.old }
         ensures state { result ≡ (on_make self.now state ms).after }
-        ensures sent { out.new.items ≡ out.old.items ++ on_line line (on_make self.now state ms).sent }
+        ensures sent { out.new.items
+            ≡ out.old.items ++ on_line line (on_make self.now state ms).sent }
         ensures capacity { vec_capacity out.new ≡ vec_capacity out.old }
     {
         match state {
@@ -133,7 +137,8 @@ impl Pulse {
     fn on_break(&self, state: State, ms: u32, line: LineNo, out: &mut Vec<On<Signal>>) -> State
         requires { vec_len out.old < vec_capacity out.old }
         ensures state { result ≡ (on_break self.now state ms).after }
-        ensures sent { out.new.items ≡ out.old.items ++ on_line line (on_break self.now state ms).sent }
+        ensures sent { out.new.items
+            ≡ out.old.items ++ on_line line (on_break self.now state ms).sent }
         ensures capacity { vec_capacity out.new ≡ vec_capacity out.old }
     {
         let state = self.in_break(state, ms);
