@@ -10,7 +10,7 @@ use Rattle.xb_model.specs.declared.line.LineNo.{LineNo}
 use Rattle.xb_model.specs.declared.signal.Signal.{Signal}
 use Rattle.xb_model.specs.declared.signal.Signal.TheVariants.{Close}
 use Rattle.xb_model.specs.Rows.{LoopRow}
-use Rattle.xb_model.specs.Records.{closes, record_up_to_close, rows_of, joined}
+use Rattle.xb_model.specs.Records.{closes, record_up_to_close, rows_of, joined, make, break}
 use Rattle.xb_model.specs.Signals.{signals_of}
 use Rattle.xb_model.specs.LawfulLimits.{IsLawful}
 use Rattle.xb_ring.specs.Image.{image_on}
@@ -24,7 +24,6 @@ use Rattle.xb_pulse.specs.declared.state.State.{State}
 use Rattle.xb_pulse.specs.declared.state.State.TheVariants.{OnHook, BetweenTrains, InBreak, InMake, TimedOut, Closed}
 use Rattle.xb_pulse.specs.Machine.{Step, enter, on_make, on_break, on_row, state_behind, signals_by, machine}
 use Rattle.xb_pulse.specs.Outputs.{outs_on_line}
-use Rattle.xb_pulse.proofs.Joining.{make_of, break_of}
 use Rattle.xb_pulse.proofs.ToSend.{to_send}
 use Rattle.xb_pulse.proofs.Steps.{IsOpen, SendsFront, on_make-front, on_break-front, on_make-open, on_break-open, to_send-none}
 
@@ -75,13 +74,13 @@ module _ (L : Limits) (l : IsLawful L) (rows : List LoopRow) (heard : (s : State
   row_heard : (s : State) (line : LineNo) (c : Contact) (ms : ℕ) → IsOpen L s → Hears L s (record { line = line; contact = c; ms = ms } ∷ rows)
   row_heard s line Make ms o = at (ms == 0)
     where
-      at : (b : Bool) → ((cond b (enter s) (on_make L s ms)).sent ++ sent L (cond b (enter s) (on_make L s ms)).after rows) ++ unless_closed rows ≡ to_send L s (joined (cond b (record_up_to_close rows) (make_of ms ∷ record_up_to_close rows)))
+      at : (b : Bool) → ((cond b (enter s) (on_make L s ms)).sent ++ sent L (cond b (enter s) (on_make L s ms)).after rows) ++ unless_closed rows ≡ to_send L s (joined (cond b (record_up_to_close rows) (make ms ∷ record_up_to_close rows)))
       at true = heard s o
       at false =
           front_heard L (on_make L s ms) rows _ (on_make-front L s ms (joined (record_up_to_close rows)) l o) (heard (on_make L s ms).after (on_make-open L s ms l o))
   row_heard s line Brk ms o = at (ms == 0)
     where
-      at : (b : Bool) → ((cond b (enter s) (on_break L s ms)).sent ++ sent L (cond b (enter s) (on_break L s ms)).after rows) ++ unless_closed rows ≡ to_send L s (joined (cond b (record_up_to_close rows) (break_of ms ∷ record_up_to_close rows)))
+      at : (b : Bool) → ((cond b (enter s) (on_break L s ms)).sent ++ sent L (cond b (enter s) (on_break L s ms)).after rows) ++ unless_closed rows ≡ to_send L s (joined (cond b (record_up_to_close rows) (break ms ∷ record_up_to_close rows)))
       at true = heard s o
       at false =
           front_heard L (on_break L s ms) rows _ (on_break-front L s ms (joined (record_up_to_close rows)) l o) (heard (on_break L s ms).after (on_break-open L s ms o))

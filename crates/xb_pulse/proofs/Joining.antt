@@ -2,15 +2,7 @@
 use Rattle.std.proofs.Common.{◌≡◌, ℕ, ◌+◌, List, [], ◌∷◌, Bool, true, false, cond, refl, add-zero}
 use Rattle.xb_model.specs.declared.row.Contact.{Contact}
 use Rattle.xb_model.specs.declared.row.Contact.TheVariants.{Make, Brk, Close}
-use Rattle.xb_model.specs.Records.{Run, same_contact, join, without_first_break}
-
--- a make of this length
-abbrev pub make_of : ℕ → Run
-make_of ms = record { contact = Make; ms = ms }
-
--- a break of this length
-abbrev pub break_of : ℕ → Run
-break_of ms = record { contact = Brk; ms = ms }
+use Rattle.xb_model.specs.Records.{Run, run_of, same_contact, join, without_first_break}
 
 -- how long the first run is, if it has this contact
 abbrev pub more : Contact → List Run → ℕ
@@ -23,12 +15,12 @@ behind c [] = []
 behind c (run ∷ R) = cond (same_contact c run.contact) R (run ∷ R)
 
 -- one case for each answer of the test on contacts
-join_by : (c : Contact) (m : ℕ) (q : Run) (R : List Run) (b : Bool) → cond b (record { contact = c; ms = m + q.ms } ∷ R) (record { contact = c; ms = m } ∷ q ∷ R) ≡ record { contact = c; ms = m + cond b q.ms 0 } ∷ cond b R (q ∷ R)
+join_by : (c : Contact) (m : ℕ) (q : Run) (R : List Run) (b : Bool) → cond b (run_of c (m + q.ms) ∷ R) (run_of c m ∷ q ∷ R) ≡ run_of c (m + cond b q.ms 0) ∷ cond b R (q ∷ R)
 join_by c m q R true = refl
 join_by c m q R false = rw add-zero
 
 -- a run in front takes in the first run of its contact, and leaves the runs behind that one
-pub join_is : (c : Contact) (m : ℕ) (R : List Run) → join (record { contact = c; ms = m }) R ≡ record { contact = c; ms = m + more c R } ∷ behind c R
+pub join_is : (c : Contact) (m : ℕ) (R : List Run) → join (run_of c m) R ≡ run_of c (m + more c R) ∷ behind c R
 join_is c m [] = rw add-zero
 join_is c m (q ∷ R) = join_by c m q R (same_contact c q.contact)
 

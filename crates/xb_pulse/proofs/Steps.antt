@@ -9,14 +9,14 @@ use Rattle.xb_model.specs.declared.limits.TheConstants.{GREATEST_LIMIT}
 use Rattle.xb_model.specs.declared.signal.Signal.{Signal}
 use Rattle.xb_model.specs.declared.signal.Signal.TheVariants.{Seize, Digit, Release, Close}
 use Rattle.xb_model.specs.declared.signal.TheConstants.{MANY_BREAKS}
-use Rattle.xb_model.specs.Records.{Run, Attempt, join, without_first_break, into_first, pieces_of}
+use Rattle.xb_model.specs.Records.{Run, Attempt, join, without_first_break, into_first, pieces_of, make, break, run_of}
 use Rattle.xb_model.specs.LawfulLimits.{IsLawful}
 use Rattle.xb_pulse.specs.declared.state.Tally.{Tally}
 use Rattle.xb_pulse.specs.declared.state.State.{State}
 use Rattle.xb_pulse.specs.declared.state.State.TheVariants.{OnHook, BetweenTrains, InBreak, InMake, TimedOut, Closed}
 use Rattle.xb_pulse.specs.Machine.{Step, longer, no_breaks, with_break, with_make, between_trains, in_make, on_make, release_at, unless_released, on_break}
 use Rattle.xb_model.proofs.Cuts.{join_sum}
-use Rattle.xb_pulse.proofs.Joining.{make_of, break_of, more, behind, join_is, behind_break}
+use Rattle.xb_pulse.proofs.Joining.{more, behind, join_is, behind_break}
 use Rattle.xb_pulse.proofs.ToSend.{all_of, seized, in_train, behind_timeout, to_send, all_of-seized, seized-timed, seized-make, in_train-pause, in_train-make, in_train-break, behind_timeout-run, pieces_of-release}
 
 -- a state of an open record: no length has reached the limit that would have ended it
@@ -33,22 +33,22 @@ abbrev pub SendsFront : Limits → Step → List Run → List Signal → Type 0
 SendsFront L step R all = all ≡ step.sent ++ to_send L step.after R
 
 -- behind a time-out the rest of the make adds nothing
-behind_timeout-make : (L : Limits) (R : List Run) → 0 < L.release → behind_timeout L (pieces_of L (join (break_of 0) R)) ≡ behind_timeout L (pieces_of L (behind Make R))
+behind_timeout-make : (L : Limits) (R : List Run) → 0 < L.release → behind_timeout L (pieces_of L (join (break 0) R)) ≡ behind_timeout L (pieces_of L (behind Make R))
 behind_timeout-make L [] h = rw (lt-leb L.release 0 h)
 behind_timeout-make L (q ∷ R) h = at q.contact
   where
-    at : (c : Contact) → behind_timeout L (pieces_of L (join (break_of 0) (record { contact = c; ms = q.ms } ∷ R))) ≡ behind_timeout L (pieces_of L (behind Make (record { contact = c; ms = q.ms } ∷ R)))
+    at : (c : Contact) → behind_timeout L (pieces_of L (join (break 0) (run_of c q.ms ∷ R))) ≡ behind_timeout L (pieces_of L (behind Make (run_of c q.ms ∷ R)))
     at Make =
-        rw (lt-leb L.release 0 h, behind_timeout-run L (break_of 0) (into_first (make_of q.ms) (pieces_of L R)), behind_timeout-run L (make_of q.ms) (pieces_of L R))
+        rw (lt-leb L.release 0 h, behind_timeout-run L (break 0) (into_first (make q.ms) (pieces_of L R)), behind_timeout-run L (make q.ms) (pieces_of L R))
     at Brk = rw zero-add
     at contacts.Close =
-        rw (lt-leb L.release 0 h, behind_timeout-run L (break_of 0) (into_first (record { contact = contacts.Close; ms = q.ms }) (pieces_of L R)))
+        rw (lt-leb L.release 0 h, behind_timeout-run L (break 0) (into_first (run_of contacts.Close q.ms) (pieces_of L R)))
 
 -- in a make of x ms outside any train, which the stage knows as s
-between_trains-front : (L : Limits) (R : List Run) (x s : ℕ) → IsLawful L → s ≡ min x GREATEST_LIMIT → SendsFront L (between_trains L s) R (seized L (pieces_of L (join (make_of x) R)))
+between_trains-front : (L : Limits) (R : List Run) (x s : ℕ) → IsLawful L → s ≡ min x GREATEST_LIMIT → SendsFront L (between_trains L s) R (seized L (pieces_of L (join (make x) R)))
 between_trains-front L R x s l e = by (nat_le L.timeout s) refl
   where
-    by : (b : Bool) → nat_le L.timeout s ≡ b → SendsFront L (between_trains L s) R (seized L (pieces_of L (join (make_of x) R)))
+    by : (b : Bool) → nat_le L.timeout s ≡ b → SendsFront L (between_trains L s) R (seized L (pieces_of L (join (make x) R)))
     by true t =
         let h : L.timeout ≤ s = leb-true L.timeout s t in
         let k : L.timeout ≤ x + more Make R = omega (arith, l.timeout.1) in
@@ -59,14 +59,14 @@ between_trains-front L R x s l e = by (nat_le L.timeout s) refl
         rw (t, same)
 
 -- in a make of x ms inside a train
-in_make-front : (L : Limits) (R : List Run) (tally : Tally) (x s : ℕ) → IsLawful L → tally.breaks ≤ MANY_BREAKS → s ≡ min x GREATEST_LIMIT → SendsFront L (in_make L s tally) R (in_train L tally (pieces_of L (join (make_of x) R)))
+in_make-front : (L : Limits) (R : List Run) (tally : Tally) (x s : ℕ) → IsLawful L → tally.breaks ≤ MANY_BREAKS → s ≡ min x GREATEST_LIMIT → SendsFront L (in_make L s tally) R (in_train L tally (pieces_of L (join (make x) R)))
 in_make-front L R tally x s l n e = by (nat_le L.pause s) refl
   where
-    by : (b : Bool) → nat_le L.pause s ≡ b → SendsFront L (in_make L s tally) R (in_train L tally (pieces_of L (join (make_of x) R)))
+    by : (b : Bool) → nat_le L.pause s ≡ b → SendsFront L (in_make L s tally) R (in_train L tally (pieces_of L (join (make x) R)))
     by true t =
         let h : L.pause ≤ s = leb-true L.pause s t in
         let k : L.pause ≤ x + more Make R = omega arith in
-        let d : in_train L tally (pieces_of L (join (make_of x) R)) ≡ Digit tally.breaks tally.bad ∷ seized L (pieces_of L (join (make_of x) R)) =
+        let d : in_train L tally (pieces_of L (join (make x) R)) ≡ Digit tally.breaks tally.bad ∷ seized L (pieces_of L (join (make x) R)) =
         rw (join_is Make x R, in_train-pause L tally (x + more Make R) (pieces_of L (behind Make R)) n k) in
         rw (t, d, between_trains-front L R x s l e)
     by false t =
@@ -75,10 +75,10 @@ in_make-front L R tally x s l n e = by (nat_le L.pause s) refl
         rw (t, same)
 
 -- in a break of x ms, where a release ends the piece and nothing else is sent
-release_at-front : (L : Limits) (R : List Run) (x s : ℕ) (state : State) (pieces_send : List Attempt → List Signal) → IsLawful L → s ≡ min x GREATEST_LIMIT → ((P : List Attempt) → pieces_send (record { runs = []; released = true } ∷ P) ≡ Release ∷ all_of L P) → (s ≡ x → pieces_send (pieces_of L (join (break_of x) R)) ≡ to_send L state R) → SendsFront L (release_at L s state) R (pieces_send (pieces_of L (join (break_of x) R)))
+release_at-front : (L : Limits) (R : List Run) (x s : ℕ) (state : State) (pieces_send : List Attempt → List Signal) → IsLawful L → s ≡ min x GREATEST_LIMIT → ((P : List Attempt) → pieces_send (record { runs = []; released = true } ∷ P) ≡ Release ∷ all_of L P) → (s ≡ x → pieces_send (pieces_of L (join (break x) R)) ≡ to_send L state R) → SendsFront L (release_at L s state) R (pieces_send (pieces_of L (join (break x) R)))
 release_at-front L R x s state pieces_send l e ends stays = by (nat_le L.release s) refl
   where
-    by : (b : Bool) → nat_le L.release s ≡ b → SendsFront L (release_at L s state) R (pieces_send (pieces_of L (join (break_of x) R)))
+    by : (b : Bool) → nat_le L.release s ≡ b → SendsFront L (release_at L s state) R (pieces_send (pieces_of L (join (break x) R)))
     by true t =
         let h : L.release ≤ s = leb-true L.release s t in
         let k : L.release ≤ x + more Brk R = omega arith in
@@ -89,42 +89,42 @@ release_at-front L R x s state pieces_send l e ends stays = by (nat_le L.release
         rw t (stays same)
 
 -- in a break of x ms inside a train
-in_break-front : (L : Limits) (R : List Run) (tally : Tally) (x s : ℕ) → IsLawful L → s ≡ min x GREATEST_LIMIT → SendsFront L (unless_released L (InBreak s tally)) R (in_train L tally (pieces_of L (join (break_of x) R)))
+in_break-front : (L : Limits) (R : List Run) (tally : Tally) (x s : ℕ) → IsLawful L → s ≡ min x GREATEST_LIMIT → SendsFront L (unless_released L (InBreak s tally)) R (in_train L tally (pieces_of L (join (break x) R)))
 in_break-front L R tally x s l e = release_at-front L R x s (InBreak s tally) (in_train L tally) l e (λ P. refl) (λ same. rw same refl)
 
 -- in a break of x ms behind a time-out
-timed_out-front : (L : Limits) (R : List Run) (x s : ℕ) → IsLawful L → s ≡ min x GREATEST_LIMIT → SendsFront L (unless_released L (TimedOut s)) R (behind_timeout L (pieces_of L (join (break_of x) R)))
+timed_out-front : (L : Limits) (R : List Run) (x s : ℕ) → IsLawful L → s ≡ min x GREATEST_LIMIT → SendsFront L (unless_released L (TimedOut s)) R (behind_timeout L (pieces_of L (join (break x) R)))
 timed_out-front L R x s l e = release_at-front L R x s (TimedOut s) (behind_timeout L) l e (λ P. refl) (λ same. rw same refl)
 
 -- runs that a row of the other contact ends
 
 -- a make that begins an attempt is a seizure
-all_of-make : (L : Limits) (m : ℕ) (R : List Run) → all_of L (pieces_of L (without_first_break (join (make_of m) R))) ≡ Seize ∷ seized L (pieces_of L (join (make_of m) R))
-all_of-make L m R = rw (join_is Make m R, all_of-seized L (make_of (m + more Make R)) (pieces_of L (behind Make R)))
+all_of-make : (L : Limits) (m : ℕ) (R : List Run) → all_of L (pieces_of L (without_first_break (join (make m) R))) ≡ Seize ∷ seized L (pieces_of L (join (make m) R))
+all_of-make L m R = rw (join_is Make m R, all_of-seized L (make (m + more Make R)) (pieces_of L (behind Make R)))
 
 -- a make ends a train's break, and the tally takes it
-break_ended : (L : Limits) (tally : Tally) (t m : ℕ) (R : List Run) → t < L.release → in_train L tally (pieces_of L (join (break_of t) (join (make_of m) R))) ≡ in_train L (with_break L t tally) (pieces_of L (join (make_of m) R))
+break_ended : (L : Limits) (tally : Tally) (t m : ℕ) (R : List Run) → t < L.release → in_train L tally (pieces_of L (join (break t) (join (make m) R))) ≡ in_train L (with_break L t tally) (pieces_of L (join (make m) R))
 break_ended L tally t m R h =
-    rw (join_is Make m R, lt-leb L.release t h, in_train-break L tally t (into_first (make_of (m + more Make R)) (pieces_of L (behind Make R))))
+    rw (join_is Make m R, lt-leb L.release t h, in_train-break L tally t (into_first (make (m + more Make R)) (pieces_of L (behind Make R))))
 
 -- a break ends a train's make, and the tally takes it
-make_ended : (L : Limits) (tally : Tally) (t m : ℕ) (R : List Run) → t < L.pause → t < L.timeout → in_train L tally (pieces_of L (join (make_of t) (join (break_of m) R))) ≡ in_train L (with_make L t tally) (pieces_of L (join (break_of m) R))
+make_ended : (L : Limits) (tally : Tally) (t m : ℕ) (R : List Run) → t < L.pause → t < L.timeout → in_train L tally (pieces_of L (join (make t) (join (break m) R))) ≡ in_train L (with_make L t tally) (pieces_of L (join (break m) R))
 make_ended L tally t m R h k =
-    rw (join_is Brk m R) (in_train-make L tally t (pieces_of L (break_of (m + more Brk R) ∷ behind Brk R)) h k)
+    rw (join_is Brk m R) (in_train-make L tally t (pieces_of L (break (m + more Brk R) ∷ behind Brk R)) h k)
 
 -- a break ends a make outside any train, and begins a train
-first_make_ended : (L : Limits) (t m : ℕ) (R : List Run) → t < L.timeout → seized L (pieces_of L (join (make_of t) (join (break_of m) R))) ≡ in_train L no_breaks (pieces_of L (join (break_of m) R))
+first_make_ended : (L : Limits) (t m : ℕ) (R : List Run) → t < L.timeout → seized L (pieces_of L (join (make t) (join (break m) R))) ≡ in_train L no_breaks (pieces_of L (join (break m) R))
 first_make_ended L t m R h =
-    rw (join_is Brk m R) (seized-make L t (pieces_of L (break_of (m + more Brk R) ∷ behind Brk R)) h)
+    rw (join_is Brk m R) (seized-make L t (pieces_of L (break (m + more Brk R) ∷ behind Brk R)) h)
 
 -- a make ends a break behind a time-out, which then counts for nothing
-timed_break_ended : (L : Limits) (t m : ℕ) (R : List Run) → t < L.release → 0 < L.release → behind_timeout L (pieces_of L (join (break_of t) (join (make_of m) R))) ≡ behind_timeout L (pieces_of L (join (break_of 0) R))
+timed_break_ended : (L : Limits) (t m : ℕ) (R : List Run) → t < L.release → 0 < L.release → behind_timeout L (pieces_of L (join (break t) (join (make m) R))) ≡ behind_timeout L (pieces_of L (join (break 0) R))
 timed_break_ended L t m R h z =
-    rw (join_is Make m R, lt-leb L.release t h, behind_timeout-run L (break_of t) (into_first (make_of (m + more Make R)) (pieces_of L (behind Make R))), behind_timeout-run L (make_of (m + more Make R)) (pieces_of L (behind Make R)))
+    rw (join_is Make m R, lt-leb L.release t h, behind_timeout-run L (break t) (into_first (make (m + more Make R)) (pieces_of L (behind Make R))), behind_timeout-run L (make (m + more Make R)) (pieces_of L (behind Make R)))
     (sym (behind_timeout-make L R z))
 
 -- a make row sends the front
-pub on_make-front : (L : Limits) (s : State) (m : ℕ) (R : List Run) → IsLawful L → IsOpen L s → SendsFront L (on_make L s m) R (to_send L s (join (make_of m) R))
+pub on_make-front : (L : Limits) (s : State) (m : ℕ) (R : List Run) → IsLawful L → IsOpen L s → SendsFront L (on_make L s m) R (to_send L s (join (make m) R))
 on_make-front L OnHook m R l o =
     rw (all_of-make L m R) (ap (λ sent. Seize ∷ sent) (between_trains-front L R m (longer 0 m) l (omega arith)))
 on_make-front L (BetweenTrains t) m R l o =
@@ -137,7 +137,7 @@ on_make-front L (TimedOut t) m R l o = timed_break_ended L t m R o l.release.0
 on_make-front L Closed m R l o = absurd o
 
 -- a break row sends the front
-pub on_break-front : (L : Limits) (s : State) (m : ℕ) (R : List Run) → IsLawful L → IsOpen L s → SendsFront L (on_break L s m) R (to_send L s (join (break_of m) R))
+pub on_break-front : (L : Limits) (s : State) (m : ℕ) (R : List Run) → IsLawful L → IsOpen L s → SendsFront L (on_break L s m) R (to_send L s (join (break m) R))
 on_break-front L OnHook m R l o = rw (join_is Brk m R, behind_break R)
 on_break-front L (BetweenTrains t) m R l o =
     rw (first_make_ended L t m R o) (in_break-front L R no_breaks m (longer 0 m) l (omega arith))

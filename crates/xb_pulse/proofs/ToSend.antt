@@ -9,13 +9,12 @@ use Rattle.xb_model.specs.declared.limits.Limits.{Limits}
 use Rattle.xb_model.specs.declared.signal.Signal.{Signal}
 use Rattle.xb_model.specs.declared.signal.Signal.TheVariants.{Seize, Digit, TimeOut, Release, Close}
 use Rattle.xb_model.specs.declared.signal.TheConstants.{MANY_BREAKS}
-use Rattle.xb_model.specs.Records.{Run, Attempt, Train, join, without_first_break, into_first, pieces_of, has_runs, heard, is_timed, onto_first, cut_at_pauses, trains_of}
+use Rattle.xb_model.specs.Records.{Run, Attempt, Train, join, without_first_break, into_first, pieces_of, has_runs, heard, is_timed, onto_first, cut_at_pauses, trains_of, make, break}
 use Rattle.xb_model.specs.Signals.{breaks_in, is_bad_run, is_bad_train, digit_signal, when, attempt_signals}
 use Rattle.xb_pulse.specs.declared.state.Tally.{Tally}
 use Rattle.xb_pulse.specs.declared.state.State.{State}
 use Rattle.xb_pulse.specs.declared.state.State.TheVariants.{OnHook, BetweenTrains, InBreak, InMake, TimedOut, Closed}
 use Rattle.xb_pulse.specs.Machine.{no_breaks, with_break, with_make}
-use Rattle.xb_pulse.proofs.Joining.{make_of, break_of}
 
 -- the signals of these pieces, and the close
 abbrev pub all_of : Limits → List Attempt → List Signal
@@ -49,10 +48,10 @@ behind_timeout L (piece ∷ pieces) = when piece.released Release ++ all_of L pi
 -- what is to be sent from a state on, where these runs are still to come
 abbrev pub to_send : Limits → State → List Run → List Signal
 to_send L OnHook R = all_of L (pieces_of L (without_first_break R))
-to_send L (BetweenTrains t) R = seized L (pieces_of L (join (make_of t) R))
-to_send L (InBreak t tally) R = in_train L tally (pieces_of L (join (break_of t) R))
-to_send L (InMake t tally) R = in_train L tally (pieces_of L (join (make_of t) R))
-to_send L (TimedOut t) R = behind_timeout L (pieces_of L (join (break_of t) R))
+to_send L (BetweenTrains t) R = seized L (pieces_of L (join (make t) R))
+to_send L (InBreak t tally) R = in_train L tally (pieces_of L (join (break t) R))
+to_send L (InMake t tally) R = in_train L tally (pieces_of L (join (make t) R))
+to_send L (TimedOut t) R = behind_timeout L (pieces_of L (join (break t) R))
 to_send L Closed R = []
 
 -- a run in front of the pieces
@@ -63,7 +62,7 @@ all_of-seized L run [] = simp append_assoc
 all_of-seized L run (p ∷ P) = simp append_assoc
 
 -- a first make of `timeout` or more times out
-pub seized-timed : (L : Limits) (y : ℕ) (P : List Attempt) → L.timeout ≤ y → seized L (into_first (make_of y) P) ≡ TimeOut ∷ behind_timeout L P
+pub seized-timed : (L : Limits) (y : ℕ) (P : List Attempt) → L.timeout ≤ y → seized L (into_first (make y) P) ≡ TimeOut ∷ behind_timeout L P
 seized-timed L y [] h = rw (le-leb L.timeout y h)
 seized-timed L y (p ∷ P) h = rw (le-leb L.timeout y h)
 
@@ -73,12 +72,12 @@ digits-none L [] = refl
 digits-none L (t ∷ ts) = rw zero-add
 
 -- a shorter first make is followed by the trains
-pub seized-make : (L : Limits) (t : ℕ) (P : List Attempt) → t < L.timeout → seized L (into_first (make_of t) P) ≡ in_train L no_breaks P
+pub seized-make : (L : Limits) (t : ℕ) (P : List Attempt) → t < L.timeout → seized L (into_first (make t) P) ≡ in_train L no_breaks P
 seized-make L t [] h = rw (lt-leb L.timeout t h)
 seized-make L t (p ∷ P) h = rw (lt-leb L.timeout t h, digits-none L (cut_at_pauses L (heard L p.runs)))
 
 -- a make of `pause` or more ends the train
-pub in_train-pause : (L : Limits) (tally : Tally) (y : ℕ) (P : List Attempt) → tally.breaks ≤ MANY_BREAKS → L.pause ≤ y → in_train L tally (into_first (make_of y) P) ≡ Digit tally.breaks tally.bad ∷ seized L (into_first (make_of y) P)
+pub in_train-pause : (L : Limits) (tally : Tally) (y : ℕ) (P : List Attempt) → tally.breaks ≤ MANY_BREAKS → L.pause ≤ y → in_train L tally (into_first (make y) P) ≡ Digit tally.breaks tally.bad ∷ seized L (into_first (make y) P)
 in_train-pause L tally y [] n h =
     let e : min (tally.breaks + 0) MANY_BREAKS ≡ tally.breaks = omega arith in
     rw (le-leb L.pause y h, or-false tally.bad, e)
@@ -87,25 +86,25 @@ in_train-pause L tally y (p ∷ P) n h =
     rw (le-leb L.pause y h, or-false tally.bad, e)
 
 -- a make in front of the first train is taken by the tally
-digits-make : (L : Limits) (tally : Tally) (t : ℕ) (ts : List Train) → digits L tally (onto_first (make_of t) ts) ≡ digits L (with_make L t tally) ts
+digits-make : (L : Limits) (tally : Tally) (t : ℕ) (ts : List Train) → digits L tally (onto_first (make t) ts) ≡ digits L (with_make L t tally) ts
 digits-make L tally t [] = refl
 digits-make L tally t (x ∷ ts) = rw or_assoc
 
 -- and so is a break
-digits-break : (L : Limits) (tally : Tally) (t : ℕ) (ts : List Train) → digits L tally (onto_first (break_of t) ts) ≡ digits L (with_break L t tally) ts
+digits-break : (L : Limits) (tally : Tally) (t : ℕ) (ts : List Train) → digits L tally (onto_first (break t) ts) ≡ digits L (with_break L t tally) ts
 digits-break L tally t [] = refl
 digits-break L tally t (x ∷ ts) =
     let e : min (tally.breaks + suc (breaks_in x)) MANY_BREAKS ≡ min (min (tally.breaks + 1) MANY_BREAKS + breaks_in x) MANY_BREAKS = omega arith in
     rw (e, or_assoc tally.bad (is_bad_run L Brk t) (is_bad_train L x))
 
 -- a shorter make stays in the train, and the tally takes it
-pub in_train-make : (L : Limits) (tally : Tally) (t : ℕ) (P : List Attempt) → t < L.pause → t < L.timeout → in_train L tally (into_first (make_of t) P) ≡ in_train L (with_make L t tally) P
+pub in_train-make : (L : Limits) (tally : Tally) (t : ℕ) (P : List Attempt) → t < L.pause → t < L.timeout → in_train L tally (into_first (make t) P) ≡ in_train L (with_make L t tally) P
 in_train-make L tally t [] h k = rw (lt-leb L.pause t h, lt-leb L.timeout t k)
 in_train-make L tally t (p ∷ P) h k =
     rw (lt-leb L.pause t h, lt-leb L.timeout t k, digits-make L tally t (cut_at_pauses L (heard L p.runs)))
 
 -- and so does a break
-pub in_train-break : (L : Limits) (tally : Tally) (t : ℕ) (P : List Attempt) → in_train L tally (into_first (break_of t) P) ≡ in_train L (with_break L t tally) P
+pub in_train-break : (L : Limits) (tally : Tally) (t : ℕ) (P : List Attempt) → in_train L tally (into_first (break t) P) ≡ in_train L (with_break L t tally) P
 in_train-break L tally t [] = refl
 in_train-break L tally t (p ∷ P) = rw (digits-break L tally t (cut_at_pauses L (heard L p.runs)))
 
@@ -115,5 +114,5 @@ behind_timeout-run L run [] = refl
 behind_timeout-run L run (p ∷ P) = refl
 
 -- a break of `release` or more cuts
-pub pieces_of-release : (L : Limits) (y : ℕ) (R : List Run) → L.release ≤ y → pieces_of L (break_of y ∷ R) ≡ record { runs = []; released = true } ∷ pieces_of L R
+pub pieces_of-release : (L : Limits) (y : ℕ) (R : List Run) → L.release ≤ y → pieces_of L (break y ∷ R) ≡ record { runs = []; released = true } ∷ pieces_of L R
 pieces_of-release L y R h = rw (le-leb L.release y h)

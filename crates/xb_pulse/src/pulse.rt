@@ -6,7 +6,7 @@ ghost use Rattle.xb_pulse.specs.Outputs.{outs_on_line};
 
 use crate::state::{State, Tally};
 use std::marker::Model;
-use xb_model::{Contact, GREATEST_LIMIT, Limits, LineNo, MANY_BREAKS, On, OnLine, Row, Signal};
+use xb_model::{Contact, GREATEST_LIMIT, Limits, LineNo, MANY_BREAKS, On, Row, Signal};
 use xb_ring::LineStage;
 
 /// The stage that turns the rows of each line's loop into signals, by its limits (own profile).
