@@ -20,16 +20,16 @@ use Rattle.xb_model.proofs.Lines.{of_line-on}
 use Rattle.xb_ring.proofs.Images.{image-of_line}
 use Rattle.xb_ring.proofs.OnLines.{on_line-append, image_from-on_lines}
 use Rattle.xb_pulse.specs.Laws.{HearsTheRecord, HearsTheRecordOfEach, HearsSoFar, HearsSoFarOfEach, heard_on}
-use Rattle.xb_pulse.specs.declared.state.State.{State}
-use Rattle.xb_pulse.specs.declared.state.State.TheVariants.{OnHook, BetweenTrains, InBreak, InMake, TimedOut, Closed}
-use Rattle.xb_pulse.specs.Machine.{Step, enter, on_make, on_break, on_row, state_behind, signals_by, machine}
+use Rattle.xb_pulse.specs.declared.state.Phase.{Phase}
+use Rattle.xb_pulse.specs.declared.state.Phase.TheVariants.{OnHook, BetweenTrains, InBreak, InMake, TimedOut, Closed}
+use Rattle.xb_pulse.specs.Machine.{Step, enter, on_make, on_break, on_row, phase_behind, signals_by, machine}
 use Rattle.xb_pulse.specs.Outputs.{outs_on_line}
 use Rattle.xb_pulse.proofs.ToSend.{to_send}
 use Rattle.xb_pulse.proofs.Steps.{IsOpen, SendsFront, on_make-front, on_break-front, on_make-open, on_break-open, to_send-none}
 
 -- what rows of one line send, from a state on
-abbrev sent : Limits → State → List LoopRow → List Signal
-sent L s rows = whats_from (state_behind L) (signals_by L) s rows
+abbrev sent : Limits → Phase → List LoopRow → List Signal
+sent L s rows = whats_from (phase_behind L) (signals_by L) s rows
 
 -- the close, if it has not come
 abbrev pub unless_closed : List LoopRow → List Signal
@@ -50,7 +50,7 @@ sent-closed L (row ∷ rows) =
     ap (λ step. step.sent ++ sent L step.after rows) (closed_stays L row.contact row.ms) ∙ sent-closed L rows
 
 -- from an open state a close row sends the close
-sends_close : (L : Limits) (s : State) (ms : ℕ) → IsOpen L s → on_row L s contacts.Close ms ≡ record { sent = Close ∷ []; after = Closed }
+sends_close : (L : Limits) (s : Phase) (ms : ℕ) → IsOpen L s → on_row L s contacts.Close ms ≡ record { sent = Close ∷ []; after = Closed }
 sends_close L OnHook ms o = refl
 sends_close L (BetweenTrains t) ms o = refl
 sends_close L (InBreak t tally) ms o = refl
@@ -59,7 +59,7 @@ sends_close L (TimedOut t) ms o = refl
 sends_close L Closed ms o = absurd o
 
 -- what these rows send, and a close unless they have one, is what is to be sent from a state on
-abbrev Hears : Limits → State → List LoopRow → Type 0
+abbrev Hears : Limits → Phase → List LoopRow → Type 0
 Hears L s rows = sent L s rows ++ unless_closed rows ≡ to_send L s (joined (record_up_to_close rows))
 
 -- a step that sends the front, and rows that are heard behind it
@@ -69,9 +69,9 @@ front_heard L step rows all front heard =
     ∙ ap (λ behind. step.sent ++ behind) heard
     ∙ sym front
 
-module _ (L : Limits) (l : IsLawful L) (rows : List LoopRow) (heard : (s : State) → IsOpen L s → Hears L s rows) where
+module _ (L : Limits) (l : IsLawful L) (rows : List LoopRow) (heard : (s : Phase) → IsOpen L s → Hears L s rows) where
   -- a row in front of rows that are heard from every open state
-  row_heard : (s : State) (line : LineNo) (c : Contact) (ms : ℕ) → IsOpen L s → Hears L s (record { line = line; contact = c; ms = ms } ∷ rows)
+  row_heard : (s : Phase) (line : LineNo) (c : Contact) (ms : ℕ) → IsOpen L s → Hears L s (record { line = line; contact = c; ms = ms } ∷ rows)
   row_heard s line Make ms o = at (ms == 0)
     where
       at : (b : Bool) → ((cond b (enter s) (on_make L s ms)).sent ++ sent L (cond b (enter s) (on_make L s ms)).after rows) ++ unless_closed rows ≡ to_send L s (joined (cond b (record_up_to_close rows) (make ms ∷ record_up_to_close rows)))
@@ -90,14 +90,14 @@ module _ (L : Limits) (l : IsLawful L) (rows : List LoopRow) (heard : (s : State
       ∙ sym (to_send-none L s l o)
 
 -- rows are heard from every open state
-all_heard : (L : Limits) → IsLawful L → (rows : List LoopRow) (s : State) → IsOpen L s → Hears L s rows
+all_heard : (L : Limits) → IsLawful L → (rows : List LoopRow) (s : Phase) → IsOpen L s → Hears L s rows
 all_heard L l [] s o = sym (to_send-none L s l o)
 all_heard L l (row ∷ rows) s o = row_heard L l rows (all_heard L l rows) s row.line row.contact row.ms o
 
 -- what the stage sends for rows of one line, and a close unless they have one, are the signals
 signals_heard : (L : Limits) (line : LineNo) (rows : List LoopRow) → IsLawful L → AllByRecursion (λ row. row_line row ≡ line) rows → image_on (machine L) rows ++ on_line line (unless_closed rows) ≡ on_line line (signals_of L (record_up_to_close rows))
 signals_heard L line rows l a =
-    ap (λ front. front ++ on_line line (unless_closed rows)) (image_from-on_lines row_line OnHook (state_behind L) (signals_by L) line OnHook rows a)
+    ap (λ front. front ++ on_line line (unless_closed rows)) (image_from-on_lines row_line OnHook (phase_behind L) (signals_by L) line OnHook rows a)
     ∙ sym (on_line-append line (sent L OnHook rows) (unless_closed rows))
     ∙ ap (on_line line) (all_heard L l rows OnHook tt)
 

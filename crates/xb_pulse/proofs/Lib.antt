@@ -1,4 +1,5 @@
 pub mod Outputs
+pub mod Within
 pub mod Joining
 pub mod ToSend
 pub mod Steps

@@ -11,8 +11,8 @@ use Rattle.xb_model.specs.declared.signal.Signal.TheVariants.{Seize, Digit, Time
 use Rattle.xb_model.specs.Rows.{LoopRow}
 use Rattle.xb_ring.specs.declared.stage.TheConstants.{MOST_OUTPUTS}
 use Rattle.xb_pulse.specs.declared.state.Tally.{Tally}
-use Rattle.xb_pulse.specs.declared.state.State.{State}
-use Rattle.xb_pulse.specs.declared.state.State.TheVariants.{OnHook, BetweenTrains, InBreak, InMake, TimedOut, Closed}
+use Rattle.xb_pulse.specs.declared.state.Phase.{Phase}
+use Rattle.xb_pulse.specs.declared.state.Phase.TheVariants.{OnHook, BetweenTrains, InBreak, InMake, TimedOut, Closed}
 use Rattle.xb_pulse.specs.Machine.{Step, send, enter, longer, with_break, between_trains, in_make, on_make, in_break, release_at, unless_released, on_break, on_close, on_row, machine}
 
 -- a step sends two signals at most
@@ -41,11 +41,11 @@ few_make L t tally =
     few_if (nat_le L.pause t) (send (Digit tally.breaks tally.bad) (between_trains L t)) (enter (InMake t tally)) (few_between L t (Digit tally.breaks tally.bad)) (omega arith)
 
 -- a break that may release the line
-few_release : (L : Limits) (t : ℕ) (s : State) → Few (release_at L t s)
+few_release : (L : Limits) (t : ℕ) (s : Phase) → Few (release_at L t s)
 few_release L t s = few_if (nat_le L.release t) (send Release (enter OnHook)) (enter s) (omega arith) (omega arith)
 
 -- a break in any state
-few_unless_released : (L : Limits) (s : State) → Few (unless_released L s)
+few_unless_released : (L : Limits) (s : Phase) → Few (unless_released L s)
 few_unless_released L (InBreak t tally) = few_release L t (InBreak t tally)
 few_unless_released L (TimedOut t) = few_release L t (TimedOut t)
 few_unless_released L OnHook = omega arith
@@ -54,7 +54,7 @@ few_unless_released L (InMake t tally) = omega arith
 few_unless_released L Closed = omega arith
 
 -- a make row
-few_on_make : (L : Limits) (s : State) (m : ℕ) → Few (on_make L s m)
+few_on_make : (L : Limits) (s : Phase) (m : ℕ) → Few (on_make L s m)
 few_on_make L OnHook m = few_between L (longer 0 m) Seize
 few_on_make L (BetweenTrains t) m = few_between_alone L (longer t m)
 few_on_make L (InBreak t tally) m = few_make L (longer 0 m) (with_break L t tally)
@@ -63,16 +63,16 @@ few_on_make L (TimedOut t) m = omega arith
 few_on_make L Closed m = omega arith
 
 -- a close row
-few_on_close : (s : State) → Few (on_close s)
+few_on_close : (s : Phase) → Few (on_close s)
 few_on_close Closed = omega arith
 few_on_close _ = omega arith
 
 -- any row
-few_on_row : (L : Limits) (s : State) (c : Contact) (ms : ℕ) → Few (on_row L s c ms)
+few_on_row : (L : Limits) (s : Phase) (c : Contact) (ms : ℕ) → Few (on_row L s c ms)
 few_on_row L s Make ms = few_if (ms == 0) (enter s) (on_make L s ms) (omega arith) (few_on_make L s ms)
 few_on_row L s Brk ms = few_if (ms == 0) (enter s) (on_break L s ms) (omega arith) (few_unless_released L (in_break L s ms))
 few_on_row L s contacts.Close ms = few_on_close s
 
 -- a row sends no more than a stage may send for one item
-pub outs_at_most : (L : Limits) (s : State) (row : LoopRow) → length ((machine L).outs s row) ≤ MOST_OUTPUTS
+pub outs_at_most : (L : Limits) (s : Phase) (row : LoopRow) → length ((machine L).outs s row) ≤ MOST_OUTPUTS
 outs_at_most L s row = rw length-map (omega (arith, few_on_row L s row.contact row.ms))

@@ -12,15 +12,15 @@ use Rattle.xb_model.specs.declared.signal.TheConstants.{MANY_BREAKS}
 use Rattle.xb_model.specs.Records.{Run, Attempt, join, without_first_break, into_first, pieces_of, make, break, run_of}
 use Rattle.xb_model.specs.LawfulLimits.{IsLawful}
 use Rattle.xb_pulse.specs.declared.state.Tally.{Tally}
-use Rattle.xb_pulse.specs.declared.state.State.{State}
-use Rattle.xb_pulse.specs.declared.state.State.TheVariants.{OnHook, BetweenTrains, InBreak, InMake, TimedOut, Closed}
+use Rattle.xb_pulse.specs.declared.state.Phase.{Phase}
+use Rattle.xb_pulse.specs.declared.state.Phase.TheVariants.{OnHook, BetweenTrains, InBreak, InMake, TimedOut, Closed}
 use Rattle.xb_pulse.specs.Machine.{Step, longer, no_breaks, with_break, with_make, between_trains, in_make, on_make, release_at, unless_released, on_break}
 use Rattle.xb_model.proofs.Cuts.{join_sum}
 use Rattle.xb_pulse.proofs.Joining.{more, behind, join_is, behind_break}
 use Rattle.xb_pulse.proofs.ToSend.{all_of, seized, in_train, behind_timeout, to_send, all_of-seized, seized-timed, seized-make, in_train-pause, in_train-make, in_train-break, behind_timeout-run, pieces_of-release}
 
 -- a state of an open record: no length has reached the limit that would have ended it
-abbrev pub IsOpen : Limits → State → Type 0
+abbrev pub IsOpen : Limits → Phase → Type 0
 IsOpen L OnHook = Unit {0}
 IsOpen L (BetweenTrains t) = t < L.timeout
 IsOpen L (InBreak t tally) = (t < L.release) × (tally.breaks ≤ MANY_BREAKS)
@@ -75,7 +75,7 @@ in_make-front L R tally x s l n e = by (nat_le L.pause s) refl
         rw (t, same)
 
 -- in a break of x ms, where a release ends the piece and nothing else is sent
-release_at-front : (L : Limits) (R : List Run) (x s : ℕ) (state : State) (pieces_send : List Attempt → List Signal) → IsLawful L → s ≡ min x GREATEST_LIMIT → ((P : List Attempt) → pieces_send (record { runs = []; released = true } ∷ P) ≡ Release ∷ all_of L P) → (s ≡ x → pieces_send (pieces_of L (join (break x) R)) ≡ to_send L state R) → SendsFront L (release_at L s state) R (pieces_send (pieces_of L (join (break x) R)))
+release_at-front : (L : Limits) (R : List Run) (x s : ℕ) (state : Phase) (pieces_send : List Attempt → List Signal) → IsLawful L → s ≡ min x GREATEST_LIMIT → ((P : List Attempt) → pieces_send (record { runs = []; released = true } ∷ P) ≡ Release ∷ all_of L P) → (s ≡ x → pieces_send (pieces_of L (join (break x) R)) ≡ to_send L state R) → SendsFront L (release_at L s state) R (pieces_send (pieces_of L (join (break x) R)))
 release_at-front L R x s state pieces_send l e ends stays = by (nat_le L.release s) refl
   where
     by : (b : Bool) → nat_le L.release s ≡ b → SendsFront L (release_at L s state) R (pieces_send (pieces_of L (join (break x) R)))
@@ -124,7 +124,7 @@ timed_break_ended L t m R h z =
     (sym (behind_timeout-make L R z))
 
 -- a make row sends the front
-pub on_make-front : (L : Limits) (s : State) (m : ℕ) (R : List Run) → IsLawful L → IsOpen L s → SendsFront L (on_make L s m) R (to_send L s (join (make m) R))
+pub on_make-front : (L : Limits) (s : Phase) (m : ℕ) (R : List Run) → IsLawful L → IsOpen L s → SendsFront L (on_make L s m) R (to_send L s (join (make m) R))
 on_make-front L OnHook m R l o =
     rw (all_of-make L m R) (ap (λ sent. Seize ∷ sent) (between_trains-front L R m (longer 0 m) l (omega arith)))
 on_make-front L (BetweenTrains t) m R l o =
@@ -137,7 +137,7 @@ on_make-front L (TimedOut t) m R l o = timed_break_ended L t m R o l.release.0
 on_make-front L Closed m R l o = absurd o
 
 -- a break row sends the front
-pub on_break-front : (L : Limits) (s : State) (m : ℕ) (R : List Run) → IsLawful L → IsOpen L s → SendsFront L (on_break L s m) R (to_send L s (join (break m) R))
+pub on_break-front : (L : Limits) (s : Phase) (m : ℕ) (R : List Run) → IsLawful L → IsOpen L s → SendsFront L (on_break L s m) R (to_send L s (join (break m) R))
 on_break-front L OnHook m R l o = rw (join_is Brk m R, behind_break R)
 on_break-front L (BetweenTrains t) m R l o =
     rw (first_make_ended L t m R o) (in_break-front L R no_breaks m (longer 0 m) l (omega arith))
@@ -168,7 +168,7 @@ in_make-open L s tally l n = by (nat_le L.pause s) refl
     by false t = rw t (leb-false L.pause s t, n)
 
 -- so does a break, where the state that it would leave is open below the release
-release_at-open : (L : Limits) (t : ℕ) (s : State) → (t < L.release → IsOpen L s) → IsOpen L (release_at L t s).after
+release_at-open : (L : Limits) (t : ℕ) (s : Phase) → (t < L.release → IsOpen L s) → IsOpen L (release_at L t s).after
 release_at-open L t s o = by (nat_le L.release t) refl
   where
     by : (b : Bool) → nat_le L.release t ≡ b → IsOpen L (release_at L t s).after
@@ -176,7 +176,7 @@ release_at-open L t s o = by (nat_le L.release t) refl
     by false e = rw e (o (leb-false L.release t e))
 
 -- a make row leaves an open state
-pub on_make-open : (L : Limits) (s : State) (m : ℕ) → IsLawful L → IsOpen L s → IsOpen L (on_make L s m).after
+pub on_make-open : (L : Limits) (s : Phase) (m : ℕ) → IsLawful L → IsOpen L s → IsOpen L (on_make L s m).after
 on_make-open L OnHook m l o = between_trains-open L (longer 0 m) l
 on_make-open L (BetweenTrains t) m l o = between_trains-open L (longer t m) l
 on_make-open L (InBreak t tally) m l o = in_make-open L (longer 0 m) (with_break L t tally) l (omega arith)
@@ -185,7 +185,7 @@ on_make-open L (TimedOut t) m l o = l.release.0
 on_make-open L Closed m l o = absurd o
 
 -- a break row leaves an open state
-pub on_break-open : (L : Limits) (s : State) (m : ℕ) → IsOpen L s → IsOpen L (on_break L s m).after
+pub on_break-open : (L : Limits) (s : Phase) (m : ℕ) → IsOpen L s → IsOpen L (on_break L s m).after
 on_break-open L OnHook m o = tt
 on_break-open L (BetweenTrains t) m o = release_at-open L (longer 0 m) (InBreak (longer 0 m) no_breaks) (λ below. (below, omega arith))
 on_break-open L (InBreak t tally) m o = release_at-open L (longer t m) (InBreak (longer t m) tally) (λ below. (below, o.1))
@@ -195,7 +195,7 @@ on_break-open L (TimedOut t) m o = release_at-open L (longer t m) (TimedOut (lon
 on_break-open L Closed m o = absurd o
 
 -- where no run is to come, only the close is to be sent
-pub to_send-none : (L : Limits) (s : State) → IsLawful L → IsOpen L s → to_send L s [] ≡ Close ∷ []
+pub to_send-none : (L : Limits) (s : Phase) → IsLawful L → IsOpen L s → to_send L s [] ≡ Close ∷ []
 to_send-none L OnHook l o = refl
 to_send-none L (BetweenTrains t) l o = rw (lt-leb L.timeout t o)
 to_send-none L (InBreak t tally) l o = rw (lt-leb L.release t o.0)

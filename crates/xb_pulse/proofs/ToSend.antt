@@ -12,8 +12,8 @@ use Rattle.xb_model.specs.declared.signal.TheConstants.{MANY_BREAKS}
 use Rattle.xb_model.specs.Records.{Run, Attempt, Train, join, without_first_break, into_first, pieces_of, has_runs, heard, is_timed, onto_first, cut_at_pauses, trains_of, make, break}
 use Rattle.xb_model.specs.Signals.{breaks_in, is_bad_run, is_bad_train, digit_signal, when, attempt_signals}
 use Rattle.xb_pulse.specs.declared.state.Tally.{Tally}
-use Rattle.xb_pulse.specs.declared.state.State.{State}
-use Rattle.xb_pulse.specs.declared.state.State.TheVariants.{OnHook, BetweenTrains, InBreak, InMake, TimedOut, Closed}
+use Rattle.xb_pulse.specs.declared.state.Phase.{Phase}
+use Rattle.xb_pulse.specs.declared.state.Phase.TheVariants.{OnHook, BetweenTrains, InBreak, InMake, TimedOut, Closed}
 use Rattle.xb_pulse.specs.Machine.{no_breaks, with_break, with_make}
 
 -- the signals of these pieces, and the close
@@ -46,7 +46,7 @@ behind_timeout L [] = Close ∷ []
 behind_timeout L (piece ∷ pieces) = when piece.released Release ++ all_of L pieces
 
 -- what is to be sent from a state on, where these runs are still to come
-abbrev pub to_send : Limits → State → List Run → List Signal
+abbrev pub to_send : Limits → Phase → List Run → List Signal
 to_send L OnHook R = all_of L (pieces_of L (without_first_break R))
 to_send L (BetweenTrains t) R = seized L (pieces_of L (join (make t) R))
 to_send L (InBreak t tally) R = in_train L tally (pieces_of L (join (break t) R))

@@ -1,3 +1,4 @@
 pub mod Laws
 pub mod Machine
 pub mod Outputs
+pub mod Within

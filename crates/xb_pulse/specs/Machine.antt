@@ -1,5 +1,5 @@
--- The pulse stage on one line, row by row: what a row sends, and the state that it leaves (own
--- profile). What this amounts to over a whole record, the laws say.
+-- The pulse stage on one line, row by row: what a row sends, and the phase in which it
+-- leaves the line (own profile). What this amounts to over a whole record, the laws say.
 use Rattle.std.specs.Prelude.{ℕ, ◌+◌, min, List, [], ◌∷◌, false, ◌||◌, if◌then◌else◌, nat_le, ◌==◌}
 use Rattle.xb_model.specs.declared.row.Contact.{Contact}
 use Rattle.xb_model.specs.declared.row.Contact.TheVariants as contacts
@@ -15,17 +15,17 @@ use Rattle.xb_model.specs.Signals.{is_bad_run}
 use Rattle.xb_ring.specs.Image.{Machine}
 use Rattle.xb_ring.specs.OnLines.{on_lines}
 use Rattle.xb_pulse.specs.declared.state.Tally.{Tally}
-use Rattle.xb_pulse.specs.declared.state.State.{State}
-use Rattle.xb_pulse.specs.declared.state.State.TheVariants.{OnHook, BetweenTrains, InBreak, InMake, TimedOut, Closed}
+use Rattle.xb_pulse.specs.declared.state.Phase.{Phase}
+use Rattle.xb_pulse.specs.declared.state.Phase.TheVariants.{OnHook, BetweenTrains, InBreak, InMake, TimedOut, Closed}
 
--- what a row sends, and the state behind it
+-- what a row sends, and the phase behind it
 pub record Step : Type 0 where
   pub sent : List Signal
-  pub after : State
+  pub after : Phase
 
--- nothing is sent, and the line enters this state
-abbrev pub enter : State → Step
-enter state = record { sent = []; after = state }
+-- nothing is sent, and the line enters this phase
+abbrev pub enter : Phase → Step
+enter phase = record { sent = []; after = phase }
 
 -- a signal in front of what a step sends
 abbrev pub send : Signal → Step → Step
@@ -60,7 +60,7 @@ in_make limits total tally =
     else enter (InMake total tally)
 
 -- a make row of 1 ms or more
-abbrev pub on_make : Limits → State → ℕ → Step
+abbrev pub on_make : Limits → Phase → ℕ → Step
 on_make limits OnHook ms = send Seize (between_trains limits (longer 0 ms))
 on_make limits (BetweenTrains total) ms = between_trains limits (longer total ms)
 on_make limits (InBreak total tally) ms = in_make limits (longer 0 ms) (with_break limits total tally)
@@ -69,7 +69,7 @@ on_make limits (TimedOut total) ms = enter (TimedOut 0)
 on_make limits Closed ms = enter Closed
 
 -- in a break that this row begins or lengthens
-abbrev pub in_break : Limits → State → ℕ → State
+abbrev pub in_break : Limits → Phase → ℕ → Phase
 in_break limits OnHook ms = OnHook
 in_break limits (BetweenTrains total) ms = InBreak (longer 0 ms) no_breaks
 in_break limits (InBreak total tally) ms = InBreak (longer total ms) tally
@@ -78,42 +78,42 @@ in_break limits (TimedOut total) ms = TimedOut (longer total ms)
 in_break limits Closed ms = Closed
 
 -- a break of this length in an attempt, which releases the line once it reaches `release`
-abbrev pub release_at : Limits → ℕ → State → Step
-release_at limits total state = if nat_le limits.release total then send Release (enter OnHook) else enter state
+abbrev pub release_at : Limits → ℕ → Phase → Step
+release_at limits total phase = if nat_le limits.release total then send Release (enter OnHook) else enter phase
 
 -- a break that is long enough releases the line
-abbrev pub unless_released : Limits → State → Step
+abbrev pub unless_released : Limits → Phase → Step
 unless_released limits (InBreak total tally) = release_at limits total (InBreak total tally)
 unless_released limits (TimedOut total) = release_at limits total (TimedOut total)
-unless_released limits state = enter state
+unless_released limits phase = enter phase
 
 -- a break row of 1 ms or more
-abbrev pub on_break : Limits → State → ℕ → Step
-on_break limits state ms = unless_released limits (in_break limits state ms)
+abbrev pub on_break : Limits → Phase → ℕ → Step
+on_break limits phase ms = unless_released limits (in_break limits phase ms)
 
 -- a close row: only the first is heard
-abbrev pub on_close : State → Step
+abbrev pub on_close : Phase → Step
 on_close Closed = enter Closed
 on_close _ = send Close (enter Closed)
 
 -- a row of this contact and length; makes and breaks of 0 ms count for nothing
-abbrev pub on_row : Limits → State → Contact → ℕ → Step
-on_row limits state contacts.Make ms = if ms == 0 then enter state else on_make limits state ms
-on_row limits state contacts.Brk ms = if ms == 0 then enter state else on_break limits state ms
-on_row limits state contacts.Close ms = on_close state
+abbrev pub on_row : Limits → Phase → Contact → ℕ → Step
+on_row limits phase contacts.Make ms = if ms == 0 then enter phase else on_make limits phase ms
+on_row limits phase contacts.Brk ms = if ms == 0 then enter phase else on_break limits phase ms
+on_row limits phase contacts.Close ms = on_close phase
 
 -- a row of the line
-abbrev pub step_of : Limits → State → LoopRow → Step
-step_of limits state row = on_row limits state row.contact row.ms
+abbrev pub step_of : Limits → Phase → LoopRow → Step
+step_of limits phase row = on_row limits phase row.contact row.ms
 
--- the state that a row leaves
-abbrev pub state_behind : Limits → State → LoopRow → State
-state_behind limits state row = (step_of limits state row).after
+-- the phase that a row leaves
+abbrev pub phase_behind : Limits → Phase → LoopRow → Phase
+phase_behind limits phase row = (step_of limits phase row).after
 
 -- the signals that a row sends
-abbrev pub signals_by : Limits → State → LoopRow → List Signal
-signals_by limits state row = (step_of limits state row).sent
+abbrev pub signals_by : Limits → Phase → LoopRow → List Signal
+signals_by limits phase row = (step_of limits phase row).sent
 
 -- what the stage does on one line
-abbrev pub machine : Limits → Machine LoopRow (On Signal) State
-machine limits = on_lines row_line OnHook (state_behind limits) (signals_by limits)
+abbrev pub machine : Limits → Machine LoopRow (On Signal) Phase
+machine limits = on_lines row_line OnHook (phase_behind limits) (signals_by limits)

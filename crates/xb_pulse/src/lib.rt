@@ -10,4 +10,4 @@ mod tests;
 
 pub use laws::{hears_so_far, hears_the_record};
 pub use pulse::Pulse;
-pub use state::{State, Tally};
+pub use state::PulseState;

@@ -1,10 +1,10 @@
 // The pulse stage.
 ghost use Rattle.std.specs.Prelude.{◌≡◌, ◌+◌, ◌<◌, ◌++◌, ◌∷◌, [], vec_len, vec_capacity};
 ghost use Rattle.xb_ring.specs.OnLines.{on_line};
-ghost use Rattle.xb_pulse.specs.Machine.{machine, longer, with_break, with_make, between_trains, in_make, on_make, in_break, on_break, on_close};
+ghost use Rattle.xb_pulse.specs.Machine.{machine, longer, with_break, with_make, between_trains, in_make, on_make, in_break, on_break, on_row, on_close};
 ghost use Rattle.xb_pulse.specs.Outputs.{outs_on_line};
 
-use crate::state::{State, Tally};
+use crate::state::{Phase, PulseState, Tally};
 use std::marker::Model;
 use xb_model::{Contact, GREATEST_LIMIT, Limits, LineNo, MANY_BREAKS, On, Row, Signal};
 use xb_ring::LineStage;
@@ -64,25 +64,25 @@ impl Pulse {
     }
 
     // In a make, outside any train.
-    fn between_trains(&self, total: u32, line: LineNo, out: &mut Vec<On<Signal>>) -> State
+    fn between_trains(&self, total: u32, line: LineNo, out: &mut Vec<On<Signal>>) -> Phase
         requires { vec_len out.old < vec_capacity out.old }
-        ensures state { result ≡ (between_trains self.now total).after }
+        ensures phase { result ≡ (between_trains self.now total).after }
         ensures sent { out.new.items
             ≡ out.old.items ++ on_line line (between_trains self.now total).sent }
         ensures capacity { vec_capacity out.new ≡ vec_capacity out.old }
     {
         if total >= self.limits.timeout {
             send(line, out, Signal::TimeOut);
-            State::TimedOut(0)
+            Phase::TimedOut(0)
         } else {
-            State::BetweenTrains(total)
+            Phase::BetweenTrains(total)
         }
     }
 
     // In a make behind a part of a train.
-    fn in_make(&self, total: u32, tally: Tally, line: LineNo, out: &mut Vec<On<Signal>>) -> State
+    fn in_make(&self, total: u32, tally: Tally, line: LineNo, out: &mut Vec<On<Signal>>) -> Phase
         requires { vec_len out.old + 1 < vec_capacity out.old }
-        ensures state { result ≡ (in_make self.now total tally).after }
+        ensures phase { result ≡ (in_make self.now total tally).after }
         ensures sent { out.new.items
             ≡ out.old.items ++ on_line line (in_make self.now total tally).sent }
         ensures capacity { vec_capacity out.new ≡ vec_capacity out.old }
@@ -91,63 +91,86 @@ impl Pulse {
             send(line, out, Signal::Digit(tally.breaks, tally.bad));
             self.between_trains(total, line, out)
         } else {
-            State::InMake(total, tally)
+            Phase::InMake(total, tally)
         }
     }
 
     // A make row of 1 ms or more.
-    fn on_make(&self, state: State, ms: u32, line: LineNo, out: &mut Vec<On<Signal>>) -> State
+    fn on_make(&self, phase: Phase, ms: u32, line: LineNo, out: &mut Vec<On<Signal>>) -> Phase
         requires { vec_len out.old + 1 < vec_capacity out.old }
-        ensures state { result ≡ (on_make self.now state ms).after }
+        ensures phase { result ≡ (on_make self.now phase ms).after }
         ensures sent { out.new.items
-            ≡ out.old.items ++ on_line line (on_make self.now state ms).sent }
+            ≡ out.old.items ++ on_line line (on_make self.now phase ms).sent }
         ensures capacity { vec_capacity out.new ≡ vec_capacity out.old }
     {
-        match state {
-            State::OnHook => {
+        match phase {
+            Phase::OnHook => {
                 send(line, out, Signal::Seize);
                 self.between_trains(longer(0, ms), line, out)
             }
-            State::BetweenTrains(total) => self.between_trains(longer(total, ms), line, out),
-            State::InBreak(total, tally) => {
+            Phase::BetweenTrains(total) => self.between_trains(longer(total, ms), line, out),
+            Phase::InBreak(total, tally) => {
                 self.in_make(longer(0, ms), self.with_break(total, tally), line, out)
             }
-            State::InMake(total, tally) => self.in_make(longer(total, ms), tally, line, out),
-            State::TimedOut(_) => State::TimedOut(0),
-            State::Closed => State::Closed,
+            Phase::InMake(total, tally) => self.in_make(longer(total, ms), tally, line, out),
+            Phase::TimedOut(_) => Phase::TimedOut(0),
+            Phase::Closed => Phase::Closed,
         }
     }
 
     // In a break that this row begins or lengthens.
-    fn in_break(&self, state: State, ms: u32) -> State
-        ensures { result ≡ in_break self.now state ms }
+    fn in_break(&self, phase: Phase, ms: u32) -> Phase
+        ensures { result ≡ in_break self.now phase ms }
     {
-        match state {
-            State::BetweenTrains(_) => State::InBreak(longer(0, ms), Tally::none()),
-            State::InBreak(total, tally) => State::InBreak(longer(total, ms), tally),
-            State::InMake(total, tally) => {
-                State::InBreak(longer(0, ms), self.with_make(total, tally))
+        match phase {
+            Phase::BetweenTrains(_) => Phase::InBreak(longer(0, ms), Tally::none()),
+            Phase::InBreak(total, tally) => Phase::InBreak(longer(total, ms), tally),
+            Phase::InMake(total, tally) => {
+                Phase::InBreak(longer(0, ms), self.with_make(total, tally))
             }
-            State::TimedOut(total) => State::TimedOut(longer(total, ms)),
-            State::OnHook | State::Closed => state,
+            Phase::TimedOut(total) => Phase::TimedOut(longer(total, ms)),
+            Phase::OnHook | Phase::Closed => phase,
         }
     }
 
     // A break row of 1 ms or more.
-    fn on_break(&self, state: State, ms: u32, line: LineNo, out: &mut Vec<On<Signal>>) -> State
+    fn on_break(&self, phase: Phase, ms: u32, line: LineNo, out: &mut Vec<On<Signal>>) -> Phase
         requires { vec_len out.old < vec_capacity out.old }
-        ensures state { result ≡ (on_break self.now state ms).after }
+        ensures phase { result ≡ (on_break self.now phase ms).after }
         ensures sent { out.new.items
-            ≡ out.old.items ++ on_line line (on_break self.now state ms).sent }
+            ≡ out.old.items ++ on_line line (on_break self.now phase ms).sent }
         ensures capacity { vec_capacity out.new ≡ vec_capacity out.old }
     {
-        let state = self.in_break(state, ms);
-        match state {
-            State::InBreak(total, _) | State::TimedOut(total) if total >= self.limits.release => {
+        let phase = self.in_break(phase, ms);
+        match phase {
+            Phase::InBreak(total, _) | Phase::TimedOut(total) if total >= self.limits.release => {
                 send(line, out, Signal::Release);
-                State::OnHook
+                Phase::OnHook
             }
-            _ => state,
+            _ => phase,
+        }
+    }
+
+    // A row of this contact and length.
+    fn on_row(
+        &self,
+        phase: Phase,
+        contact: Contact,
+        ms: u32,
+        line: LineNo,
+        out: &mut Vec<On<Signal>>,
+    ) -> Phase
+        requires { vec_len out.old + 1 < vec_capacity out.old }
+        ensures phase { result ≡ (on_row self.now phase contact ms).after }
+        ensures sent { out.new.items
+            ≡ out.old.items ++ on_line line (on_row self.now phase contact ms).sent }
+        ensures capacity { vec_capacity out.new ≡ vec_capacity out.old }
+    {
+        match contact {
+            Contact::Make if ms > 0 => self.on_make(phase, ms, line, out),
+            Contact::Brk if ms > 0 => self.on_break(phase, ms, line, out),
+            Contact::Make | Contact::Brk => phase,
+            Contact::Close => on_close(phase, line, out),
         }
     }
 }
@@ -170,14 +193,16 @@ fn send(line: LineNo, out: &mut Vec<On<Signal>>, what: Signal)
 }
 
 // A close row.
-fn on_close(state: State, line: LineNo, out: &mut Vec<On<Signal>>)
+fn on_close(phase: Phase, line: LineNo, out: &mut Vec<On<Signal>>) -> Phase
     requires { vec_len out.old < vec_capacity out.old }
-    ensures sent { out.new.items ≡ out.old.items ++ on_line line (on_close state).sent }
+    ensures phase { result ≡ (on_close phase).after }
+    ensures sent { out.new.items ≡ out.old.items ++ on_line line (on_close phase).sent }
     ensures capacity { vec_capacity out.new ≡ vec_capacity out.old }
 {
-    if state != State::Closed {
+    if phase != Phase::Closed {
         send(line, out, Signal::Close);
     }
+    Phase::Closed
 }
 
 impl LineStage for Pulse {
@@ -185,28 +210,19 @@ impl LineStage for Pulse {
 
     type Out = On<Signal>;
 
-    type State = State;
+    type State = PulseState;
 
     ghost machine = { machine };
 
     ghost on_line = { outs_on_line };
 
-    fn fresh(&self) -> State {
-        State::OnHook
+    fn fresh(&self) -> PulseState {
+        PulseState::at(Phase::OnHook)
     }
 
-    #[tactic(auto, using(crate::proofs::Outputs::outs_at_most))]
-    fn step(&self, state: &mut State, item: Row, out: &mut Vec<On<Signal>>) {
-        let line = item.line();
-        let ms = item.ms();
-        match item.contact() {
-            Contact::Close => {
-                on_close(*state, line, out);
-                *state = State::Closed;
-            }
-            Contact::Make if ms > 0 => *state = self.on_make(*state, ms, line, out),
-            Contact::Brk if ms > 0 => *state = self.on_break(*state, ms, line, out),
-            Contact::Make | Contact::Brk => {}
-        }
+    #[tactic(auto, using(crate::proofs::Outputs::outs_at_most, crate::proofs::Within::on_row_within))]
+    fn step(&self, state: &mut PulseState, item: Row, out: &mut Vec<On<Signal>>) {
+        let phase = self.on_row(state.phase(), item.contact(), item.ms(), item.line(), out);
+        *state = PulseState::at(phase);
     }
 }

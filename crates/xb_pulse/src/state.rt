@@ -1,13 +1,16 @@
 // What the pulse stage keeps of a line.
 ghost use Rattle.std.specs.Prelude.{◌≡◌};
+ghost use Rattle.xb_pulse.specs.Within.{IsWithin};
 
-/// The part of a pulse train that is heard so far.
+use std::marker::Model;
+
+// The part of a pulse train that is heard so far.
 #[derive(Clone, Copy, Debug, PartialEq, Eq)]
-pub struct Tally {
-    /// How many of its breaks have ended, at most 11.
-    pub breaks: u8,
-    /// Whether one of these breaks, or of the makes between them, is out of its limits.
-    pub bad: bool,
+pub(crate) struct Tally {
+    // How many of its breaks have ended, at most `MANY_BREAKS`.
+    pub(crate) breaks: u8,
+    // Whether one of these breaks, or of the makes between them, is out of its limits.
+    pub(crate) bad: bool,
 }
 
 impl Tally {
@@ -24,19 +27,58 @@ impl Tally {
     }
 }
 
-/// What is known of a line from its rows so far. Each length is in ms, and stops at 1,000,000.
+// What is known of a line from its rows so far. Each length is in ms, and stops at
+// `GREATEST_LIMIT`.
 #[derive(Clone, Copy, Debug, PartialEq, Eq)]
-pub enum State {
-    /// No attempt is under way: nothing came but breaks, or the line was released.
+pub(crate) enum Phase {
+    // No attempt is under way: nothing came but breaks, or the line was released.
     OnHook,
-    /// In a make of this length that is in no train: an attempt's first, or one that ended a train.
+    // In a make of this length that is in no train: an attempt's first, or one that ended a train.
     BetweenTrains(u32),
-    /// In a break of this length behind this part of a train.
+    // In a break of this length behind this part of a train.
     InBreak(u32, Tally),
-    /// In a make of this length behind this part of a train.
+    // In a make of this length behind this part of a train.
     InMake(u32, Tally),
-    /// The attempt timed out, and the break behind its last make has this length.
+    // The attempt timed out, and the break behind its last make has this length.
     TimedOut(u32),
-    /// The line's record is closed.
+    // The line's record is closed.
     Closed,
+}
+
+/// What the pulse stage knows of a line from its rows so far. It counts ms up to 1,000,000, the
+/// greatest limit, and the breaks of a train up to 11, which are too many for a digit.
+#[derive(Clone, Copy, Debug, PartialEq, Eq)]
+pub struct PulseState {
+    phase: Phase,
+}
+
+impl Model for PulseState {
+    ghost use Rattle.xb_pulse.specs.declared.state.Phase.{Phase};
+    ghost use Rattle.xb_pulse.specs.Within.{IsWithin};
+
+    ghost Value = { Phase };
+
+    ghost view = { λ state. state.phase };
+
+    ghost invariant = { λ state. IsWithin state.phase };
+
+    ghost inverse = { λ phase. record { phase = phase } };
+}
+
+impl PulseState {
+    /// A line in this phase.
+    pub(crate) fn at(phase: Phase) -> PulseState
+        requires { IsWithin phase }
+        ensures { result ≡ phase }
+    {
+        PulseState { phase }
+    }
+
+    /// The line's phase.
+    pub(crate) fn phase(self) -> Phase
+        ensures value { result ≡ self }
+        ensures within { IsWithin result }
+    {
+        self.phase
+    }
 }
