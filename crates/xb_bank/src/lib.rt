@@ -10,6 +10,7 @@ mod tapes;
 #[cfg(test)]
 mod tests;
 
+pub use entries::first_entry_len;
 pub use fed::fed_rows;
 pub use laws::closed_once;
 pub use serial::key_serial;

@@ -1,5 +1,5 @@
 // Tapes and sources by hand, and worked examples through the whole chain.
-use crate::{Listed, RowSource, Tapes, fed_rows, key_serial};
+use crate::{Listed, RowSource, Tapes, fed_rows, first_entry_len, key_serial};
 use std::alloc::{AllocError, Global};
 use std::process::Abort;
 use xb_model::{Contact, Digit, Key, LineNo, Mark, On, Reason, Row, RowFault, Tone, Trunk};
@@ -109,6 +109,16 @@ fn entries_of_a_tape(rt: HostRuntime) -> Result<(), AllocError> {
     assert!(rt; tapes.entry(last, 2).is_none());
     assert!(rt; tapes.marks(first).is_empty());
     assert_eq!(rt; tapes.entries(first), 0);
+    Ok(())
+}
+
+#[test]
+fn length_of_a_first_entry(rt: HostRuntime) -> Result<(), AllocError> {
+    let mut marks = keying(&rt, rt.alloc(), 1, &[(0, 1300, 1500)])?;
+    marks.push(Mark::Refused(Reason::Mutilated, 1))?;
+    assert_eq!(rt; first_entry_len(&marks), Some(4));
+    let unended = vec![in rt.alloc(); trunk(&rt, 3)]?;
+    assert_eq!(rt; first_entry_len(&unended), None);
     Ok(())
 }
 
