@@ -1,5 +1,5 @@
 // Two out of five.
-ghost use Rattle.std.specs.Prelude.{◌≡◌, is_some};
+ghost use Rattle.std.specs.Prelude.{◌≡◌, ◌==◌, count_by, is_some};
 ghost use Rattle.xb_model.specs.Numbers.{digit_of_count};
 ghost use Rattle.xb_model.specs.TwoOfFive.{digit_of_pattern, pattern_of_count, at_rest};
 
@@ -69,7 +69,8 @@ impl Relays {
 
     /// Whether exactly two elements operate.
     pub fn check(self) -> bool
-        ensures { result ≡ is_some (digit_of_pattern self) }
+        ensures two { result ≡ (count_by (λ bit. bit) self == 2) }
+        ensures digit { result ≡ is_some (digit_of_pattern self) }
     {
         u8::from(self.zero)
             + u8::from(self.one)
