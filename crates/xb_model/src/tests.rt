@@ -224,6 +224,14 @@ fn marks_that_end(rt: HostRuntime) -> Result<(), Fail> {
 }
 
 #[test]
+fn defaults(rt: HostRuntime) {
+    assert!(rt; matches!(Dialled::default(), Dialled::Refused(Reason::Abandoned, 0)));
+    assert!(rt; matches!(Order::default(), Order::Refused(Reason::Abandoned, 0)));
+    assert_eq!(rt; Mark::default(), Mark::Refused(Reason::Abandoned, 0));
+    assert_eq!(rt; Signal::default(), Signal::Seize);
+}
+
+#[test]
 fn texts_of_faults(rt: HostRuntime) -> Result<(), Fail> {
     for (fault, text) in [
         (RowFault::Read, "the rows could not be read"),
