@@ -10,9 +10,13 @@ use Rattle.xb_model.specs.declared.reason.Reason.TheVariants as reason
 use Rattle.xb_model.specs.Keyings.{is_ending}
 use Rattle.xb_model.specs.Tapes.{entries_of}
 
+-- the byte of the digit 0
+abbrev pub zero_byte : ℕ
+zero_byte = 48
+
 -- a number in four digits, with zeros in front
 abbrev pub four_digits : ℕ → List ℕ
-four_digits n = replicate (4 - length (decimal n)) 48 ++ decimal n
+four_digits n = replicate (4 - length (decimal n)) zero_byte ++ decimal n
 
 abbrev pub key_text : Key → List ℕ
 key_text (key.Digit d) = decimal d

@@ -3,6 +3,9 @@ ghost use Rattle.std.specs.Prelude.{◌≡◌, ℕ, ◌<◌, ◌↔◌, IsSome, 
 
 use std::marker::Model;
 
+/// How many digits there are.
+pub const DIGITS: u8 = 10;
+
 /// A digit, 0 to 9.
 #[derive(Clone, Copy, Debug, PartialEq, Eq)]
 pub struct Digit {
@@ -11,12 +14,13 @@ pub struct Digit {
 
 impl Model for Digit {
     ghost use Rattle.std.specs.Prelude.{ℕ, ◌<◌};
+    ghost use Rattle.xb_model.specs.declared.digit.TheConstants.{DIGITS};
 
     ghost Value = { ℕ };
 
     ghost view = { λ d. d.value };
 
-    ghost invariant = { λ d. d.value < 10 };
+    ghost invariant = { λ d. d.value < DIGITS };
 
     ghost inverse = { λ n. record { value = n } };
 }
@@ -24,10 +28,10 @@ impl Model for Digit {
 impl Digit {
     /// The digit of this value; `None` over 9.
     pub fn new(value: u8) -> Option<Digit>
-        ensures variant { IsSome result ↔ (value < 10) }
+        ensures variant { IsSome result ↔ (value < DIGITS) }
         ensures value { IfSome result (λ d. d ≡ value) }
     {
-        if value < 10 {
+        if value < DIGITS {
             Some(Digit { value })
         } else {
             None
@@ -37,7 +41,7 @@ impl Digit {
     /// The digit's value.
     pub fn get(self) -> u8
         ensures value { result ≡ self }
-        ensures below { result < 10 }
+        ensures below { result < DIGITS }
     {
         self.value
     }

@@ -8,11 +8,11 @@ use std::marker::Model;
 /// The most digits of a dialled number.
 pub const NUMBER_DIGITS: usize = 7;
 
-/// The most digits of a keying: those of a prefix, then those of a number.
-pub const KEY_DIGITS: usize = 15;
-
 /// The most digits that a route puts in front of a number.
 pub const PREFIX_DIGITS: usize = 8;
+
+/// The most digits of a keying: those of a prefix, then those of a number.
+pub const KEY_DIGITS: usize = PREFIX_DIGITS + NUMBER_DIGITS;
 
 /// A list of at most `CAPACITY` digits, which takes no memory of its own.
 #[derive(Drop)]

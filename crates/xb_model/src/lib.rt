@@ -24,7 +24,7 @@ mod tests;
 mod trunk;
 
 pub use dialled::Dialled;
-pub use digit::Digit;
+pub use digit::{DIGITS, Digit};
 pub use digits::{
     DigitList, KEY_DIGITS, KeyDigits, NUMBER_DIGITS, NumberDigits, PREFIX_DIGITS, PrefixDigits,
 };
