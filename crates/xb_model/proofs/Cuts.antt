@@ -1,12 +1,15 @@
 -- A row that is cut into two.
-use Rattle.std.proofs.Common.{◌≡◌, ℕ, zero, suc, ◌+◌, ◌==◌, List, [], ◌∷◌, ◌++◌, Bool, true, false, cond, refl, ap, add_assoc, add-zero, zero-add}
+use Rattle.std.proofs.Common.{◌≡◌, ℕ, zero, suc, ◌+◌, ◌==◌, List, [], ◌∷◌, ◌++◌, Bool, true, false, cond, refl, sym, ap, ◌∙◌, eqb-true, ⊎_elim, add_assoc, add-zero, zero-add}
+use Rattle.std.proofs.lemmas.Bool.{cases_Bool}
 use Rattle.std.proofs.Math.Dec.{eqb-suc-zero}
 use Rattle.std.proofs.Math.Nat.{suc-add}
 use Rattle.xb_model.specs.declared.row.Contact.{Contact}
 use Rattle.xb_model.specs.declared.row.Contact.TheVariants.{Make, Brk, Close}
 use Rattle.xb_model.specs.Rows.{LoopRow, row_of}
 use Rattle.xb_model.specs.Records.{Run, run_of, same_contact, is_close, rows_of, record_up_to_close, record_of, join, joined, without_first_break}
+use Rattle.xb_model.specs.Lines.{row_line}
 use Rattle.xb_model.specs.CutRows.{RowsMayBeCut}
+use Rattle.xb_model.proofs.Lines.{of_line-append, of_line-here, of_line-other}
 
 -- a contact is the same as itself
 same_self : (c : Contact) → same_contact c c ≡ true
@@ -67,10 +70,38 @@ cut_front line (suc m) (suc n) c rows = by (is_close c)
     by true = refl
     by false = rw (eqb-suc-zero m, eqb-suc-zero n, sum_is_not_0 m n) (join_sum c (suc m) (suc n) (joined (record_up_to_close rows)))
 
+-- the rows of line l where row m of a line stands in front, then rows of other lines, then row n
+module _ (l line m n : ℕ) (c : Contact) (between later : List LoopRow) where
+  -- rows of which none is on line l leave its rows behind them as they are
+  skipped : (rows : List LoopRow) → rows_of l between ≡ [] → rows_of l (between ++ rows) ≡ rows_of l rows
+  skipped rows none = of_line-append row_line l between rows ∙ ap (λ front. front ++ rows_of l rows) none
+
+  -- on the line itself both rows stand, one behind the other, or one row of their sum
+  cut_here : (line == l) ≡ true → rows_of l between ≡ []
+      → joined (record_of l (row_of line c m ∷ (between ++ row_of line c n ∷ later))) ≡ joined (record_of l (row_of line c (m + n) ∷ (between ++ later)))
+  cut_here on none =
+      let two : rows_of l (row_of line c m ∷ (between ++ row_of line c n ∷ later)) ≡ row_of line c m ∷ row_of line c n ∷ rows_of l later =
+      of_line-here row_line l _ _ on ∙ ap (λ rows. row_of line c m ∷ rows) (skipped _ none ∙ of_line-here row_line l _ _ on) in
+      let one : rows_of l (row_of line c (m + n) ∷ (between ++ later)) ≡ row_of line c (m + n) ∷ rows_of l later =
+      of_line-here row_line l _ _ on ∙ ap (λ rows. row_of line c (m + n) ∷ rows) (skipped later none) in
+      ap (λ rows. joined (record_up_to_close rows)) two
+      ∙ cut_front line m n c (rows_of l later)
+      ∙ ap (λ rows. joined (record_up_to_close rows)) (sym one)
+
+  -- another line has none of the rows
+  cut_elsewhere : (line == l) ≡ false
+      → rows_of l (row_of line c m ∷ (between ++ row_of line c n ∷ later)) ≡ rows_of l (row_of line c (m + n) ∷ (between ++ later))
+  cut_elsewhere off =
+      of_line-other row_line l _ _ off
+      ∙ of_line-append row_line l between (row_of line c n ∷ later)
+      ∙ ap (λ rows. rows_of l between ++ rows) (of_line-other row_line l _ _ off)
+      ∙ sym (of_line-append row_line l between later)
+      ∙ sym (of_line-other row_line l _ _ off)
+
 -- the runs of a line are the same where one of its rows is cut into two
 pub rows_may_be_cut : RowsMayBeCut
-rows_may_be_cut l line m n c earlier later = ap without_first_break (behind_rows l earlier _ _ (by (line == l)))
-  where
-    by : (on : Bool) → joined (record_up_to_close (cond on (row_of line c m ∷ cond on (row_of line c n ∷ rows_of l later) (rows_of l later)) (cond on (row_of line c n ∷ rows_of l later) (rows_of l later)))) ≡ joined (record_up_to_close (cond on (row_of line c (m + n) ∷ rows_of l later) (rows_of l later)))
-    by true = cut_front line m n c (rows_of l later)
-    by false = refl
+rows_may_be_cut l line m n c earlier between later none =
+    ap without_first_break (behind_rows l earlier _ _ (⊎_elim
+    (λ on. cut_here l line m n c between later on (ap (λ k. rows_of k between) (sym (eqb-true line l on)) ∙ none))
+    (λ off. ap (λ rows. joined (record_up_to_close rows)) (cut_elsewhere l line m n c between later off))
+    (cases_Bool (line == l))))

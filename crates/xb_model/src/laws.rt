@@ -6,7 +6,7 @@ ghost use Rattle.xb_model.specs.WorkedRoutes.{OrdersOfNumbers};
 ghost use Rattle.xb_model.specs.WorkedTapes.{OperatorCall, SevenDigits, SplitRows, TwoLinesInTurn, BreakLimits, MakeLimits, ElevenPulses, TimeOutAndConversation, LastDigitPause, ClosedLine, UnknownCodes, SecondCall, ShortRecords, LongestKeying, EntriesOfATape};
 ghost use Rattle.xb_model.specs.WorkedPages.{PageOfOperatorCall, PageOfSevenDigits, PageOfNoRows, PageOfUnfinished, PageOfRefusals};
 
-/// The runs of a line do not tell how its rows are cut.
+/// The runs of a line do not tell how its rows are cut, whatever rows of other lines stand between.
 #[tactic(auto, using(crate::proofs::Cuts::rows_may_be_cut))]
 pub fn rows_may_be_cut()
     ensures { RowsMayBeCut }
