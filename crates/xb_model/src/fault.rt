@@ -1,10 +1,11 @@
 // Faults of loop rows.
 use thiserror::Error;
 
-/// Why loop rows are refused. A number is that of the record, the first behind the header being 1.
+/// Why loop rows are refused (own format). A number is that of the record, the first behind the
+/// header being 1.
 #[derive(Clone, Copy, Debug, PartialEq, Eq, Error)]
 pub enum RowFault {
-    /// The reader failed.
+    /// A read failed, an interrupted one too, or the reader had not ended after 2^64 - 1 reads.
     #[error("the rows could not be read")]
     Read,
     /// There is no record, or the first is not the header.

@@ -6,7 +6,7 @@ use crate::key::{Key, Tone};
 use crate::reason::Reason;
 use crate::trunk::Trunk;
 
-/// One mark of a line's tape.
+/// One mark of a line's tape ("Notes on Distance Dialing"; a refusal is the profile's own).
 #[derive(Clone, Copy, Debug, PartialEq, Eq)]
 pub enum Mark {
     /// The trunk group of a keying.

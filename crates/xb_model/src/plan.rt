@@ -7,7 +7,7 @@ use crate::digit::Digit;
 /// How the length of a number follows from its first digits (own profile).
 #[derive(Clone, Copy, Debug, PartialEq, Eq)]
 pub enum Plan {
-    /// 0 alone, N11, and seven digits for anything else.
+    /// One digit where the first is 0, three for N11 (N is 2 to 9), seven for anything else.
     Seven,
 }
 

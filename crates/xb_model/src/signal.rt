@@ -9,7 +9,7 @@ pub const MANY_BREAKS: u8 = MOST_PULSES + 1;
 /// What is heard on a line (own profile).
 #[derive(Clone, Copy, Debug, PartialEq, Eq, Default)]
 pub enum Signal {
-    /// The line's first make: a register is seized, and an attempt begins.
+    /// An attempt's first make: a register is seized, and the attempt begins.
     #[default]
     Seize,
     /// A pulse train: the number of its breaks, at most 11, and whether one of its breaks or of
