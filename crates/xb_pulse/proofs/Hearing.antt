@@ -27,7 +27,7 @@ use Rattle.xb_pulse.specs.Outputs.{outs_on_line}
 use Rattle.xb_pulse.proofs.ToSend.{to_send}
 use Rattle.xb_pulse.proofs.Steps.{IsOpen, SendsFront, on_make-front, on_break-front, on_make-open, on_break-open, to_send-none}
 
--- what rows of one line send, from a state on
+-- what rows of one line send, from a phase on
 abbrev sent : Limits → Phase → List LoopRow → List Signal
 sent L s rows = whats_from (phase_behind L) (signals_by L) s rows
 
@@ -37,7 +37,7 @@ unless_closed rows = if closes rows then [] else Close ∷ []
 
 -- behind the close no row sends anything
 
--- a row behind the close leaves the closed state, and sends nothing
+-- a row behind the close leaves the closed phase, and sends nothing
 closed_stays : (L : Limits) (c : Contact) (ms : ℕ) → on_row L Closed c ms ≡ enter Closed
 closed_stays L Make ms = cond_both (ms == 0) _ _ (λ step. step ≡ enter Closed) (λ t. refl) (λ f. refl)
 closed_stays L Brk ms = cond_both (ms == 0) _ _ (λ step. step ≡ enter Closed) (λ t. refl) (λ f. refl)
@@ -49,7 +49,7 @@ sent-closed L [] = refl
 sent-closed L (row ∷ rows) =
     ap (λ step. step.sent ++ sent L step.after rows) (closed_stays L row.contact row.ms) ∙ sent-closed L rows
 
--- from an open state a close row sends the close
+-- from an open phase a close row sends the close
 sends_close : (L : Limits) (s : Phase) (ms : ℕ) → IsOpen L s → on_row L s contacts.Close ms ≡ record { sent = Close ∷ []; after = Closed }
 sends_close L OnHook ms o = refl
 sends_close L (BetweenTrains t) ms o = refl
@@ -58,7 +58,7 @@ sends_close L (InMake t tally) ms o = refl
 sends_close L (TimedOut t) ms o = refl
 sends_close L Closed ms o = absurd o
 
--- what these rows send, and a close unless they have one, is what is to be sent from a state on
+-- what these rows send, and a close unless they have one, is what is to be sent from a phase on
 abbrev Hears : Limits → Phase → List LoopRow → Type 0
 Hears L s rows = sent L s rows ++ unless_closed rows ≡ to_send L s (joined (record_up_to_close rows))
 
@@ -70,7 +70,7 @@ front_heard L step rows all front heard =
     ∙ sym front
 
 module _ (L : Limits) (l : IsLawful L) (rows : List LoopRow) (heard : (s : Phase) → IsOpen L s → Hears L s rows) where
-  -- a row in front of rows that are heard from every open state
+  -- a row in front of rows that are heard from every open phase
   row_heard : (s : Phase) (line : LineNo) (c : Contact) (ms : ℕ) → IsOpen L s → Hears L s (record { line = line; contact = c; ms = ms } ∷ rows)
   row_heard s line Make ms o = at (ms == 0)
     where
@@ -89,7 +89,7 @@ module _ (L : Limits) (l : IsLawful L) (rows : List LoopRow) (heard : (s : Phase
       ∙ ap (λ behind. Close ∷ behind ++ []) (sent-closed L rows)
       ∙ sym (to_send-none L s l o)
 
--- rows are heard from every open state
+-- rows are heard from every open phase
 all_heard : (L : Limits) → IsLawful L → (rows : List LoopRow) (s : Phase) → IsOpen L s → Hears L s rows
 all_heard L l [] s o = sym (to_send-none L s l o)
 all_heard L l (row ∷ rows) s o = row_heard L l rows (all_heard L l rows) s row.line row.contact row.ms o

@@ -1,5 +1,5 @@
 -- What a row sends is little.
-use Rattle.std.proofs.Common.{ℕ, ◌≤◌, length, Bool, true, false, cond, nat_le, ◌==◌, arith}
+use Rattle.std.proofs.Common.{ℕ, ◌≤◌, length, nat_le, ◌==◌, arith}
 use Rattle.std.proofs.lemmas.Bool.{cond_both}
 use Rattle.std.proofs.lemmas.List.{length-map}
 use Rattle.xb_model.specs.declared.row.Contact.{Contact}
@@ -19,32 +19,27 @@ use Rattle.xb_pulse.specs.Machine.{Step, send, enter, longer, with_break, betwee
 abbrev Few : Step → Type 0
 Few step = length step.sent ≤ 2
 
--- either of two steps does
-few_if : (b : Bool) (x y : Step) → Few x → Few y → Few (cond b x y)
-few_if b x y p q = cond_both b x y Few (λ t. p) (λ f. q)
-
 -- a signal, and a make outside any train behind it
 few_between : (L : Limits) (t : ℕ) (what : Signal) → Few (send what (between_trains L t))
-few_between L t what = at (nat_le L.timeout t)
-  where
-    at : (b : Bool) → Few (send what (cond b (send TimeOut (enter (TimedOut 0))) (enter (BetweenTrains t))))
-    at true = omega arith
-    at false = omega arith
+few_between L t what =
+    cond_both (nat_le L.timeout t) (send TimeOut (enter (TimedOut 0))) (enter (BetweenTrains t)) (λ step. Few (send what step)) (λ reached. omega arith) (λ under. omega arith)
 
 -- a make outside any train
 few_between_alone : (L : Limits) (t : ℕ) → Few (between_trains L t)
-few_between_alone L t = few_if (nat_le L.timeout t) (send TimeOut (enter (TimedOut 0))) (enter (BetweenTrains t)) (omega arith) (omega arith)
+few_between_alone L t =
+    cond_both (nat_le L.timeout t) (send TimeOut (enter (TimedOut 0))) (enter (BetweenTrains t)) Few (λ reached. omega arith) (λ under. omega arith)
 
 -- a make behind a part of a train
 few_make : (L : Limits) (t : ℕ) (tally : Tally) → Few (in_make L t tally)
 few_make L t tally =
-    few_if (nat_le L.pause t) (send (Digit tally.breaks tally.bad) (between_trains L t)) (enter (InMake t tally)) (few_between L t (Digit tally.breaks tally.bad)) (omega arith)
+    cond_both (nat_le L.pause t) (send (Digit tally.breaks tally.bad) (between_trains L t)) (enter (InMake t tally)) Few (λ reached. few_between L t (Digit tally.breaks tally.bad)) (λ under. omega arith)
 
 -- a break that may release the line
 few_release : (L : Limits) (t : ℕ) (s : Phase) → Few (release_at L t s)
-few_release L t s = few_if (nat_le L.release t) (send Release (enter OnHook)) (enter s) (omega arith) (omega arith)
+few_release L t s =
+    cond_both (nat_le L.release t) (send Release (enter OnHook)) (enter s) Few (λ reached. omega arith) (λ under. omega arith)
 
--- a break in any state
+-- a break in any phase
 few_unless_released : (L : Limits) (s : Phase) → Few (unless_released L s)
 few_unless_released L (InBreak t tally) = few_release L t (InBreak t tally)
 few_unless_released L (TimedOut t) = few_release L t (TimedOut t)
@@ -69,8 +64,9 @@ few_on_close _ = omega arith
 
 -- any row
 few_on_row : (L : Limits) (s : Phase) (c : Contact) (ms : ℕ) → Few (on_row L s c ms)
-few_on_row L s Make ms = few_if (ms == 0) (enter s) (on_make L s ms) (omega arith) (few_on_make L s ms)
-few_on_row L s Brk ms = few_if (ms == 0) (enter s) (on_break L s ms) (omega arith) (few_unless_released L (in_break L s ms))
+few_on_row L s Make ms = cond_both (ms == 0) (enter s) (on_make L s ms) Few (λ none. omega arith) (λ some. few_on_make L s ms)
+few_on_row L s Brk ms =
+    cond_both (ms == 0) (enter s) (on_break L s ms) Few (λ none. omega arith) (λ some. few_unless_released L (in_break L s ms))
 few_on_row L s contacts.Close ms = few_on_close s
 
 -- a row sends no more than a stage may send for one item

@@ -1,25 +1,25 @@
 -- Each row of 1 ms or more sends the front of what is to be sent.
 use Rattle.std.proofs.Common.{◌≡◌, ℕ, ◌+◌, ◌<◌, ◌≤◌, min, List, [], ◌∷◌, ◌++◌, Bool, true, false, nat_le, refl, ap, sym, arith, zero-add}
-use Rattle.std.proofs.lemmas.Bool.{lt-leb, leb-true, leb-false}
+use Rattle.std.proofs.lemmas.Bool.{cond_both, lt-leb, leb-true, leb-false}
 use Rattle.xb_model.specs.declared.row.Contact.{Contact}
 use Rattle.xb_model.specs.declared.row.Contact.TheVariants.{Make, Brk}
 use Rattle.xb_model.specs.declared.row.Contact.TheVariants as contacts
 use Rattle.xb_model.specs.declared.limits.Limits.{Limits}
 use Rattle.xb_model.specs.declared.limits.TheConstants.{GREATEST_LIMIT}
 use Rattle.xb_model.specs.declared.signal.Signal.{Signal}
-use Rattle.xb_model.specs.declared.signal.Signal.TheVariants.{Seize, Digit, Release, Close}
+use Rattle.xb_model.specs.declared.signal.Signal.TheVariants.{Seize, Digit, TimeOut, Release, Close}
 use Rattle.xb_model.specs.declared.signal.TheConstants.{MANY_BREAKS}
 use Rattle.xb_model.specs.Records.{Run, Attempt, join, without_first_break, into_first, pieces_of, make, break, run_of}
 use Rattle.xb_model.specs.LawfulLimits.{IsLawful}
 use Rattle.xb_pulse.specs.declared.state.Tally.{Tally}
 use Rattle.xb_pulse.specs.declared.state.Phase.{Phase}
 use Rattle.xb_pulse.specs.declared.state.Phase.TheVariants.{OnHook, BetweenTrains, InBreak, InMake, TimedOut, Closed}
-use Rattle.xb_pulse.specs.Machine.{Step, longer, no_breaks, with_break, with_make, between_trains, in_make, on_make, release_at, unless_released, on_break}
+use Rattle.xb_pulse.specs.Machine.{Step, enter, send, longer, no_breaks, with_break, with_make, between_trains, in_make, on_make, release_at, unless_released, on_break}
 use Rattle.xb_model.proofs.Cuts.{join_sum}
 use Rattle.xb_pulse.proofs.Joining.{more, behind, join_is, behind_break}
 use Rattle.xb_pulse.proofs.ToSend.{all_of, seized, in_train, behind_timeout, to_send, all_of-seized, seized-timed, seized-make, in_train-pause, in_train-make, in_train-break, behind_timeout-run, pieces_of-release}
 
--- a state of an open record: no length has reached the limit that would have ended it
+-- a phase of an open record: no length has reached the limit that would have ended it
 abbrev pub IsOpen : Limits → Phase → Type 0
 IsOpen L OnHook = Unit {0}
 IsOpen L (BetweenTrains t) = t < L.timeout
@@ -28,7 +28,7 @@ IsOpen L (InMake t tally) = (t < L.pause) × (tally.breaks ≤ MANY_BREAKS)
 IsOpen L (TimedOut t) = t < L.release
 IsOpen L Closed = ⊥
 
--- what a step sends is the front, and the state behind it has the rest
+-- what a step sends is the front, and the phase behind it has the rest
 abbrev pub SendsFront : Limits → Step → List Run → List Signal → Type 0
 SendsFront L step R all = all ≡ step.sent ++ to_send L step.after R
 
@@ -75,10 +75,10 @@ in_make-front L R tally x s l n e = by (nat_le L.pause s) refl
         rw (t, same)
 
 -- in a break of x ms, where a release ends the piece and nothing else is sent
-release_at-front : (L : Limits) (R : List Run) (x s : ℕ) (state : Phase) (pieces_send : List Attempt → List Signal) → IsLawful L → s ≡ min x GREATEST_LIMIT → ((P : List Attempt) → pieces_send (record { runs = []; released = true } ∷ P) ≡ Release ∷ all_of L P) → (s ≡ x → pieces_send (pieces_of L (join (break x) R)) ≡ to_send L state R) → SendsFront L (release_at L s state) R (pieces_send (pieces_of L (join (break x) R)))
-release_at-front L R x s state pieces_send l e ends stays = by (nat_le L.release s) refl
+release_at-front : (L : Limits) (R : List Run) (x s : ℕ) (phase : Phase) (pieces_send : List Attempt → List Signal) → IsLawful L → s ≡ min x GREATEST_LIMIT → ((P : List Attempt) → pieces_send (record { runs = []; released = true } ∷ P) ≡ Release ∷ all_of L P) → (s ≡ x → pieces_send (pieces_of L (join (break x) R)) ≡ to_send L phase R) → SendsFront L (release_at L s phase) R (pieces_send (pieces_of L (join (break x) R)))
+release_at-front L R x s phase pieces_send l e ends stays = by (nat_le L.release s) refl
   where
-    by : (b : Bool) → nat_le L.release s ≡ b → SendsFront L (release_at L s state) R (pieces_send (pieces_of L (join (break x) R)))
+    by : (b : Bool) → nat_le L.release s ≡ b → SendsFront L (release_at L s phase) R (pieces_send (pieces_of L (join (break x) R)))
     by true t =
         let h : L.release ≤ s = leb-true L.release s t in
         let k : L.release ≤ x + more Brk R = omega arith in
@@ -149,33 +149,24 @@ on_break-front L (TimedOut t) m R l o =
     rw (join_sum Brk t m R) (timed_out-front L R (t + m) (longer t m) l refl)
 on_break-front L Closed m R l o = absurd o
 
--- the state behind a row is of an open record again
+-- the phase behind a row is of an open record again
 
--- a make outside any train leaves an open state
+-- a make outside any train leaves an open phase
 between_trains-open : (L : Limits) (s : ℕ) → IsLawful L → IsOpen L (between_trains L s).after
-between_trains-open L s l = by (nat_le L.timeout s) refl
-  where
-    by : (b : Bool) → nat_le L.timeout s ≡ b → IsOpen L (between_trains L s).after
-    by true t = rw t l.release.0
-    by false t = rw t (leb-false L.timeout s t)
+between_trains-open L s l =
+    cond_both (nat_le L.timeout s) (send TimeOut (enter (TimedOut 0))) (enter (BetweenTrains s)) (λ step. IsOpen L step.after) (λ t. l.release.0) (λ f. leb-false L.timeout s f)
 
 -- so does a make inside a train
 in_make-open : (L : Limits) (s : ℕ) (tally : Tally) → IsLawful L → tally.breaks ≤ MANY_BREAKS → IsOpen L (in_make L s tally).after
-in_make-open L s tally l n = by (nat_le L.pause s) refl
-  where
-    by : (b : Bool) → nat_le L.pause s ≡ b → IsOpen L (in_make L s tally).after
-    by true t = rw t (between_trains-open L s l)
-    by false t = rw t (leb-false L.pause s t, n)
+in_make-open L s tally l n =
+    cond_both (nat_le L.pause s) (send (Digit tally.breaks tally.bad) (between_trains L s)) (enter (InMake s tally)) (λ step. IsOpen L step.after) (λ t. between_trains-open L s l) (λ f. (leb-false L.pause s f, n))
 
--- so does a break, where the state that it would leave is open below the release
+-- so does a break, where the phase that it would leave is open below the release
 release_at-open : (L : Limits) (t : ℕ) (s : Phase) → (t < L.release → IsOpen L s) → IsOpen L (release_at L t s).after
-release_at-open L t s o = by (nat_le L.release t) refl
-  where
-    by : (b : Bool) → nat_le L.release t ≡ b → IsOpen L (release_at L t s).after
-    by true e = rw e tt
-    by false e = rw e (o (leb-false L.release t e))
+release_at-open L t s o =
+    cond_both (nat_le L.release t) (send Release (enter OnHook)) (enter s) (λ step. IsOpen L step.after) (λ e. tt) (λ e. o (leb-false L.release t e))
 
--- a make row leaves an open state
+-- a make row leaves an open phase
 pub on_make-open : (L : Limits) (s : Phase) (m : ℕ) → IsLawful L → IsOpen L s → IsOpen L (on_make L s m).after
 on_make-open L OnHook m l o = between_trains-open L (longer 0 m) l
 on_make-open L (BetweenTrains t) m l o = between_trains-open L (longer t m) l
@@ -184,7 +175,7 @@ on_make-open L (InMake t tally) m l o = in_make-open L (longer t m) tally l o.1
 on_make-open L (TimedOut t) m l o = l.release.0
 on_make-open L Closed m l o = absurd o
 
--- a break row leaves an open state
+-- a break row leaves an open phase
 pub on_break-open : (L : Limits) (s : Phase) (m : ℕ) → IsOpen L s → IsOpen L (on_break L s m).after
 on_break-open L OnHook m o = tt
 on_break-open L (BetweenTrains t) m o = release_at-open L (longer 0 m) (InBreak (longer 0 m) no_breaks) (λ below. (below, omega arith))

@@ -1,4 +1,4 @@
--- The signals of a record begun in its middle: what is still to be sent from a state on, and what
+-- The signals of a record begun in its middle: what is still to be sent from a phase on, and what
 -- the run at the front adds to it.
 use Rattle.std.proofs.Common.{◌≡◌, ℕ, suc, ◌+◌, ◌<◌, ◌≤◌, min, List, [], ◌∷◌, ◌++◌, map, true, ◌||◌, refl, arith, append_assoc, zero-add}
 use Rattle.std.specs.List.{filter, flat_map}
@@ -45,7 +45,7 @@ abbrev pub behind_timeout : Limits → List Attempt → List Signal
 behind_timeout L [] = Close ∷ []
 behind_timeout L (piece ∷ pieces) = when piece.released Release ++ all_of L pieces
 
--- what is to be sent from a state on, where these runs are still to come
+-- what is to be sent from a phase on, where these runs are still to come
 abbrev pub to_send : Limits → Phase → List Run → List Signal
 to_send L OnHook R = all_of L (pieces_of L (without_first_break R))
 to_send L (BetweenTrains t) R = seized L (pieces_of L (join (make t) R))
