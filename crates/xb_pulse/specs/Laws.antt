@@ -31,7 +31,8 @@ HearsSoFar =
     → IsLawful limits
     → AllByRecursion (λ row. row_line row ≡ line) rows
     → closes rows ≡ false
-    → image_on (machine limits) rows ++ on_line line (Close ∷ []) ≡ on_line line (signals_of limits (record_up_to_close rows))
+    → image_on (machine limits) rows ++ on_line line (Close ∷ [])
+    ≡ on_line line (signals_of limits (record_up_to_close rows))
 
 -- what the rows of all lines give on one of them
 abbrev pub heard_on : Limits → LineNo → List LoopRow → List (On Signal)
@@ -51,4 +52,5 @@ HearsSoFarOfEach =
     (limits : Limits) (line : LineNo) (rows : List LoopRow)
     → IsLawful limits
     → closes (rows_of line rows) ≡ false
-    → heard_on limits line rows ++ on_line line (Close ∷ []) ≡ on_line line (signals_of limits (record_of line rows))
+    → heard_on limits line rows ++ on_line line (Close ∷ [])
+    ≡ on_line line (signals_of limits (record_of line rows))

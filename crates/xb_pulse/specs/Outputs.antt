@@ -9,5 +9,7 @@ use Rattle.xb_pulse.specs.declared.state.Phase.{Phase}
 use Rattle.xb_pulse.specs.Machine.{signals_by, machine}
 
 -- what a row sends is on the row's line
-pub outs_on_line : (limits : Limits) (phase : Phase) (row : LoopRow) → AllByRecursion (λ sent. on_line_of sent ≡ row_line row) ((machine limits).outs phase row)
+pub outs_on_line :
+    (limits : Limits) (phase : Phase) (row : LoopRow)
+    → AllByRecursion (λ sent. on_line_of sent ≡ row_line row) ((machine limits).outs phase row)
 outs_on_line limits phase row = item_on_line row_line (signals_by limits) phase row
