@@ -1,5 +1,5 @@
 -- Digits that are kept as patterns.
-use Rattle.std.proofs.Common.{◌≡◌, ℕ, zero, suc, ◌+◌, ◌<◌, ◌≤◌, List, [], ◌∷◌, ◌++◌, length, Bool, Option, Some, None, refl, ap, sym, ◌∙◌, rules, arith, length-append}
+use Rattle.std.proofs.Common.{◌≡◌, ℕ, ◌+◌, ◌<◌, ◌≤◌, List, [], ◌∷◌, ◌++◌, length, Bool, Option, Some, None, refl, ap, sym, ◌∙◌, rules, arith, length-append}
 use Rattle.std.specs.Prelude.{take, get_or, is_some, IsTrue}
 use Rattle.std.specs.List.{cons_option}
 use Rattle.std.specs.Option.{option_to_list}
@@ -8,34 +8,6 @@ use Rattle.std.proofs.lemmas.List.Elements.{filter_map-append}
 use Rattle.xb_model.specs.TwoOfFive.{digit_of_pattern}
 use Rattle.xb_model.specs.declared.digits.TheConstants.{NUMBER_DIGITS}
 use Rattle.xb_register.specs.Stored.{digits_of, IsStored}
-
--- a pattern adds one digit at most
-length-cons_option : (o : Option ℕ) (digits : List ℕ) → length (cons_option o digits) ≤ suc (length digits)
-length-cons_option None digits = omega arith
-length-cons_option (Some d) digits = omega arith
-
--- no more digits than patterns
-few_digits : (patterns : List (List Bool)) → length (digits_of patterns) ≤ length patterns
-few_digits [] = omega arith
-few_digits (p ∷ patterns) = omega (arith, length-cons_option (digit_of_pattern p) (digits_of patterns), few_digits patterns)
-
--- where there are as many digits as patterns, each pattern is a digit
-pub no_gap : (patterns : List (List Bool)) (i : ℕ) (d : List Bool) → length (digits_of patterns) ≡ length patterns → i < length patterns → digit_of_pattern (get_or patterns i d) ≡ None → ⊥
-no_gap [] i d e h n = omega arith
-no_gap (p ∷ patterns) zero d e h n = at (rw n at e)
-  where
-    at : length (digits_of patterns) ≡ suc (length patterns) → ⊥
-    at e = omega (arith, few_digits patterns)
-no_gap (p ∷ patterns) (suc i) d e h n = at (digit_of_pattern p) e (λ more. no_gap patterns i d more (omega arith) n)
-  where
-    at : (o : Option ℕ) → length (cons_option o (digits_of patterns)) ≡ suc (length patterns) → (length (digits_of patterns) ≡ length patterns → ⊥) → ⊥
-    at None e deeper = omega (arith, few_digits patterns)
-    at (Some x) e deeper = deeper (omega arith)
-
--- so none is read that is no digit
-pub none_read : (patterns now : List (List Bool)) (i : ℕ) (p : List Bool) (o : Option ℕ) → now ≡ patterns → length (digits_of patterns) ≡ length patterns → i < length now → p ≡ get_or now i p → o ≡ digit_of_pattern p → o ≡ None → ⊥
-none_read patterns now i p o same e below read is n =
-    no_gap patterns i p e (rw same at below) (ap digit_of_pattern (rw same at (sym read)) ∙ sym is ∙ n)
 
 -- one pattern more
 pub digits_of-push : (patterns : List (List Bool)) (pattern : List Bool) → digits_of (patterns ++ pattern ∷ []) ≡ digits_of patterns ++ option_to_list (digit_of_pattern pattern)

@@ -10,15 +10,16 @@ ghost use Rattle.xb_register.specs.Registering.{advance, listen, store, reaches,
 use crate::state::{Phase, RegisterState};
 use crate::stored::StoredDigits;
 use std::marker::Model;
-use xb_model::{Dialled, NUMBER_DIGITS, On, Plan, Reason, Relays, Signal};
+use xb_model::{Dialled, NUMBER_DIGITS, On, Plan, Reason, Relays, Signal, plan_len};
 use xb_ring::LineStage;
 
 /// The register stage: signals of each line in, what comes of each attempt out (own profile).
 ///
-/// Each digit is kept as its two-out-of-five pattern, checked when it is stored, and read back when
-/// the number is complete. A complete number decides first, then a mutilated digit, a time-out, and
-/// a release or close; a refusal has the count of good digits before it. After a number, a refusal
-/// or a time-out nothing is heard on the line until its release or close.
+/// Each digit is kept as its two-out-of-five pattern, checked when it is stored, and read back to
+/// learn whether the number is complete and to tell it. A complete number decides first, then a
+/// mutilated digit, a time-out, and a release or close; a refusal has the count of good digits
+/// before it. After a number, a refusal or a time-out nothing is heard on the line until its release
+/// or close.
 #[derive(Drop)]
 pub struct Register {
     plan: Plan,
@@ -69,7 +70,7 @@ fn refused(reason: Reason, digits: &StoredDigits, phase: Phase) -> Answer
 fn is_reached(plan: Plan, digits: &StoredDigits) -> bool
     ensures { result ≡ reaches (plan_len plan digits.now) (length digits.now) }
 {
-    match digits.number_len(plan) {
+    match plan_len(plan, digits.read_back().digits()) {
         Some(len) => len <= digits.len(),
         None => false,
     }

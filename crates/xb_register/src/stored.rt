@@ -1,13 +1,12 @@
 // The digits of an attempt, kept as two-out-of-five patterns.
 ghost use Rattle.std.specs.Prelude.{◌≡◌, ◌<◌, ◌≤◌, [], ◌++◌, length, IsTrue, is_some};
 ghost use Rattle.std.specs.Option.{option_to_list};
-ghost use Rattle.xb_model.specs.Plans.{plan_len};
 ghost use Rattle.xb_model.specs.TwoOfFive.{digit_of_pattern};
 ghost use Rattle.xb_register.specs.Stored.{digits_of};
 
 use arrayvec::ArrayVec;
 use std::marker::Model;
-use xb_model::{NUMBER_DIGITS, NumberDigits, Plan, Relays, plan_len};
+use xb_model::{NUMBER_DIGITS, NumberDigits, Relays};
 
 // The digits that patterns stand for.
 fn digits_of(patterns: &[Relays]) -> NumberDigits
@@ -66,20 +65,6 @@ impl StoredDigits {
         ensures { self.new ≡ self.old ++ option_to_list (digit_of_pattern pattern) }
     {
         self.patterns.push(pattern);
-    }
-
-    /// The length of a number that begins with these digits, as the plan has it.
-    pub(crate) fn number_len(&self, plan: Plan) -> Option<u8>
-        ensures { result ≡ plan_len plan self.now }
-    {
-        match &*self.patterns {
-            [first, second, third, ..] => plan_len(
-                plan,
-                &[first.digit()?, second.digit()?, third.digit()?],
-            ),
-            [first, ..] => plan_len(plan, &[first.digit()?]),
-            [] => None,
-        }
     }
 
     /// The digits, read back from the patterns.
