@@ -15,11 +15,11 @@ use Rattle.xb_model.specs.declared.dialled.Dialled.TheVariants.{Number, Refused}
 use Rattle.xb_model.specs.Records.{Run, Attempt, Train, is_release, into_first, pieces_of, has_runs, attempts_of, trains_of, is_timed, runs_of}
 use Rattle.xb_model.specs.Signals.{breaks_in, is_bad_train, digit_signal, when, attempt_signals, signals_of}
 use Rattle.xb_model.specs.Numbers.{digit_of_train, before_mutilated, good_digits, is_complete, fronts, shortest_complete, without_number, or_refused, outcome_of, outcomes_of}
-use Rattle.xb_ring.specs.Stateless.{on_line}
+use Rattle.xb_ring.specs.OnLines.{on_line}
 use Rattle.xb_register.specs.declared.state.Phase.TheVariants.{OnHook, Listening, Done}
 use Rattle.xb_register.specs.Laws.{GivesOutcomes}
-use Rattle.xb_register.specs.Registering.{store}
-use Rattle.xb_register.proofs.Said.{said, image_from-on_line}
+use Rattle.xb_register.specs.Registering.{store, phase_behind}
+use Rattle.xb_register.proofs.Said.{said, given-said}
 use Rattle.xb_model.proofs.Spelled.{spelled}
 use Rattle.xb_register.proofs.Pending.{Pending, one, reaches-pending}
 
@@ -54,7 +54,7 @@ digit_step plan limits digits ts behind (Some d) p ih = complete (is_complete pl
 listens : (plan : Plan) (limits : Limits) (digits : List ℕ) (ts : List Train) (behind : List Signal) → Pending plan digits → said plan (Listening digits) (map (digit_signal limits) ts ++ behind) ≡ listened plan digits (map (digit_of_train limits) ts) behind
 listens plan limits digits [] behind p = refl
 listens plan limits digits (t ∷ ts) behind p =
-    rw (spelled (breaks_in t) (is_bad_train limits t)) (digit_step plan limits digits ts behind (digit_of_train limits t) p (λ more q. listens plan limits more ts behind q))
+    rw (phase_behind, spelled (breaks_in t) (is_bad_train limits t)) (digit_step plan limits digits ts behind (digit_of_train limits t) p (λ more q. listens plan limits more ts behind q))
 
 -- what comes of the digits, where the signals behind them give a refusal and then the same as behind a number
 comes_of : (plan : Plan) (digits : List ℕ) (os : List (Option ℕ)) (behind : List Signal) (late : Bool) (rest : List Dialled) → ((digits : List ℕ) → said plan (Listening digits) behind ≡ without_number false late (length digits) ∷ rest) → said plan Done behind ≡ rest → listened plan digits os behind ≡ or_refused (completed plan digits (before_mutilated os)) (without_number (list_any is_none os) late (length (digits ++ before_mutilated os))) ∷ rest
@@ -178,4 +178,4 @@ registers plan limits record_ =
 -- on a line the signals of a record give its outcomes
 pub gives_outcomes : GivesOutcomes
 gives_outcomes plan limits line record_ =
-    image_from-on_line plan line OnHook (signals_of limits record_) ∙ ap (λ dialled. on_line line dialled) (registers plan limits record_)
+    given-said plan line (signals_of limits record_) ∙ ap (λ dialled. on_line line dialled) (registers plan limits record_)

@@ -2,7 +2,7 @@
 use Rattle.std.specs.Prelude.{ℕ, List, [], ◌∷◌, ◌++◌, length, Bool, false, if◌then◌else◌, nat_le, Option, Some, None}
 use Rattle.std.specs.Option.{option_to_list}
 use Rattle.xb_ring.specs.Image.{Machine}
-use Rattle.xb_ring.specs.Stateless.{on_line}
+use Rattle.xb_ring.specs.OnLines.{whats_on_lines}
 use Rattle.xb_model.specs.declared.on.On.{On}
 use Rattle.xb_model.specs.declared.plan.Plan.{Plan}
 use Rattle.xb_model.specs.declared.signal.Signal.{Signal}
@@ -66,11 +66,14 @@ advance plan Done TimeOut = quiet Done
 advance plan Done Release = quiet OnHook
 advance plan Done Close = quiet OnHook
 
+-- the phase behind a signal
+abbrev pub phase_behind : Plan → Phase → Signal → Phase
+phase_behind plan phase signal = (advance plan phase signal).phase
+
+-- the outcome that a signal brings, if it does
+abbrev pub outcomes_by : Plan → Phase → Signal → List Dialled
+outcomes_by plan phase signal = option_to_list (advance plan phase signal).outcome
+
 -- what the stage does on one line
 abbrev pub machine : Plan → Machine (On Signal) (On Dialled) Phase
-machine plan =
-    record {
-      start = OnHook;
-      next = λ phase item. (advance plan phase item.what).phase;
-      outs = λ phase item. on_line item.line (option_to_list (advance plan phase item.what).outcome);
-    }
+machine plan = whats_on_lines OnHook (phase_behind plan) (outcomes_by plan)

@@ -2,10 +2,9 @@
 ghost use Rattle.std.specs.Prelude.{◌≡◌, ◌<◌, length};
 ghost use Rattle.xb_model.specs.Plans.{plan_len};
 ghost use Rattle.xb_model.specs.TwoOfFive.{digit_of_pattern};
-ghost use Rattle.xb_ring.specs.Stateless.{all_on};
-ghost use Rattle.std.specs.Option.{option_to_list};
+ghost use Rattle.xb_ring.specs.OnLines.{all_on};
 ghost use Rattle.xb_register.specs.Phases.{HasRoom};
-ghost use Rattle.xb_register.specs.Registering.{advance, listen, store, reaches, quiet, ended, refused, machine};
+ghost use Rattle.xb_register.specs.Registering.{advance, listen, store, reaches, quiet, ended, refused, outcomes_by, machine};
 
 use crate::state::{Phase, RegisterState};
 use crate::stored::StoredDigits;
@@ -139,7 +138,7 @@ impl LineStage for Register {
 
     ghost machine = { λ register. machine register };
 
-    ghost on_line = { λ register phase item. all_on item.line (option_to_list (advance register phase item.what).outcome) };
+    ghost on_line = { λ register phase item. all_on item.line (outcomes_by register phase item.what) };
 
     fn fresh(&self) -> RegisterState {
         RegisterState::fresh()
