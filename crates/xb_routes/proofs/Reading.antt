@@ -1,24 +1,23 @@
 -- One route of a text more, or a refusal.
-use Rattle.std.proofs.Common.{◌≡◌, ◌≤◌, ◌<◌, ◌+◌, ℕ, suc, List, [], ◌∷◌, ◌++◌, length, get_or, drop, Some, None, Ok, Err, Bool, true, false, codes, refl, ap, arith}
-use Rattle.std.specs.Prelude.{IsUtf8, nat_le}
+use Rattle.std.proofs.Common.{◌≡◌, ◌≤◌, ◌<◌, ◌+◌, ℕ, suc, List, [], ◌∷◌, ◌++◌, length, get_or, drop, Some, None, Ok, Err, Bool, true, false, refl, ap, arith}
+use Rattle.std.specs.Prelude.{IsUtf8, nat_le, nat_lt}
 use Rattle.std.specs.List.{list_any}
 use Rattle.std.specs.Str.{is_utf8}
 use Rattle.std.proofs.lemmas.Bool.Decides.{nat_tests}
 use Rattle.std.proofs.lemmas.List.{drop_all}
 use Rattle.std.proofs.lemmas.Str.{IsUtf8-from_is_utf8, is_utf8-from_IsUtf8}
-use Rattle.toml.specs.Data.{Data, Members, no_items, as_array, get_member}
+use Rattle.toml.specs.Data.{Members}
 use Rattle.toml.specs.Parse.{parse_document}
 use Rattle.toml.specs.View.{items_view, view}
 use Rattle.toml.specs.declared.value.Value.{Value}
 use Rattle.toml.proofs.Views.{items_view-drop}
 use Rattle.xb_model.specs.declared.plan.Plan.{Plan}
-use Rattle.xb_model.specs.declared.plan.Plan.TheVariants.{Seven}
 use Rattle.xb_model.specs.Routing.{CodedRoute}
 use Rattle.xb_routes.specs.declared.table.TheConstants.{MOST_ROUTES}
 use Rattle.xb_routes.specs.declared.fault.RouteFault.{RouteFault}
 use Rattle.xb_routes.specs.declared.fault.RouteFault.TheVariants as fault
 use Rattle.xb_routes.specs.Keys.{keys_of}
-use Rattle.xb_routes.specs.Text.{and_then, count, has_code, if_new, route_of, routes_from, routes_of_key, seven_table, table_of_text, table_of_tree}
+use Rattle.xb_routes.specs.Text.{and_then, count, has_code, if_new, route_of, routes_from, routes_of_array, tree_of}
 
 module _ (plan : Plan) (values : List Value) (k i : ℕ) (earlier : List CodedRoute) where
   module _ (value : Value) (h : k < length values) (e : value ≡ get_or values k value) where
@@ -52,43 +51,29 @@ count-view : (values : List Value) → count (items_view values) ≡ length valu
 count-view [] = refl
 count-view (value ∷ values) = ap (λ n. suc n) (count-view values)
 
-module _ (plan : Plan) (tree : Members) where
-  -- no key `route`
-  pub key-missing : None ≡ get_member (codes "route") tree → routes_of_key plan (get_member (codes "route") tree) ≡ routes_from plan 1 [] no_items
-  unfolding routes_from
-  key-missing e = rw (← e) refl
+module _ (plan : Plan) (values : List Value) where
+  -- an array of too many
+  pub array-many : nat_lt MOST_ROUTES (length values) ≡ true → routes_of_array plan (items_view values) ≡ Err fault.TooMany
+  array-many h = rw (count-view values, above) refl
+    where
+      above : nat_le (length values) MOST_ROUTES ≡ false
+      above = grind (arith, nat_tests, h)
 
-  module _ (value : Data) (values : List Value) (e : Some value ≡ get_member (codes "route") tree) (a : Some (items_view values) ≡ as_array value) where
-    -- an array of too many
-    pub key-many : MOST_ROUTES < length values → routes_of_key plan (get_member (codes "route") tree) ≡ Err fault.TooMany
-    key-many h = rw (← e, ← a, count-view values, above h) refl
-      where
-        above : MOST_ROUTES < length values → nat_le (length values) MOST_ROUTES ≡ false
-        above h = grind (arith, nat_tests)
-
-    -- an array of few enough
-    pub key-few : length values ≤ MOST_ROUTES → routes_of_key plan (get_member (codes "route") tree) ≡ routes_from plan 1 [] (items_view values)
-    key-few h = rw (← e, ← a, count-view values, within h) refl
-      where
-        within : length values ≤ MOST_ROUTES → nat_le (length values) MOST_ROUTES ≡ true
-        within h = grind (arith, nat_tests)
+  -- an array of few enough
+  pub array-few : nat_lt MOST_ROUTES (length values) ≡ false → routes_of_array plan (items_view values) ≡ routes_from plan 1 [] (items_view values)
+  array-few h = rw (count-view values, within) refl
+    where
+      within : nat_le (length values) MOST_ROUTES ≡ true
+      within = grind (arith, nat_tests, h)
 
 -- the tree of a text that is read
-pub tree-read : (text : List ℕ) (tree : Members) → IsUtf8 text → parse_document text ≡ Some tree → table_of_text text ≡ table_of_tree tree
-tree-read text tree u p = rw (is_utf8-from_IsUtf8 text u, p) refl
+pub tree-read : (text : List ℕ) (tree : Members) → IsUtf8 text → parse_document text ≡ Some tree → tree_of text ≡ Some tree
+tree-read text tree u p = rw (is_utf8-from_IsUtf8 text u) p
 
 -- no tree
-pub tree-none : (text : List ℕ) → (IsUtf8 text → parse_document text ≡ None) → table_of_text text ≡ Err fault.NotToml
+pub tree-none : (text : List ℕ) → (IsUtf8 text → parse_document text ≡ None) → tree_of text ≡ None
 tree-none text h = by (is_utf8 text) refl
   where
-    by : (b : Bool) → is_utf8 text ≡ b → table_of_text text ≡ Err fault.NotToml
+    by : (b : Bool) → is_utf8 text ≡ b → tree_of text ≡ None
     by true e = rw (e, h (IsUtf8-from_is_utf8 text e)) refl
     by false e = rw e refl
-
--- the table of a tree whose routes are read
-pub table-routes : (tree : Members) (routes : List CodedRoute) → routes_of_key Seven (get_member (codes "route") tree) ≡ Ok routes → table_of_tree tree ≡ Ok (seven_table routes)
-table-routes tree routes e = rw e refl
-
--- the refusal of a tree whose routes are refused
-pub table-refused : (tree : Members) (f : RouteFault) → routes_of_key Seven (get_member (codes "route") tree) ≡ Err f → table_of_tree tree ≡ Err f
-table-refused tree f e = rw e refl

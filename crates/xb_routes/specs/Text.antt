@@ -84,10 +84,14 @@ count (item value rest) = suc (count rest)
 abbrev pub routes_of_array : Plan → Items → Result (List CodedRoute) RouteFault
 routes_of_array plan items = if nat_le (count items) MOST_ROUTES then routes_from plan 1 [] items else Err fault.TooMany
 
--- the routes at the key `route`: none where it is missing
+-- the items of the key `route`: none where it is missing
+abbrev pub route_items : Option Data → Result Items RouteFault
+route_items None = Ok no_items
+route_items (Some value) = or_fault (fault.Shape 0) (as_array value) (λ items. Ok items)
+
+-- the routes at the key `route`
 abbrev pub routes_of_key : Plan → Option Data → Result (List CodedRoute) RouteFault
-routes_of_key plan None = Ok []
-routes_of_key plan (Some value) = or_fault (fault.Shape 0) (as_array value) (routes_of_array plan)
+routes_of_key plan value = and_then (route_items value) (routes_of_array plan)
 
 -- the tree of a text
 abbrev pub tree_of : List ℕ → Option Members

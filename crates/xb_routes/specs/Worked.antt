@@ -4,6 +4,7 @@ use Rattle.xb_model.specs.declared.plan.Plan.TheVariants.{Seven}
 use Rattle.xb_model.specs.Routing.{coded_route, route_for}
 use Rattle.xb_model.specs.WorkedRows.{three_routes}
 use Rattle.xb_routes.specs.declared.fault.RouteFault.TheVariants as fault
+use Rattle.xb_routes.specs.declared.table.TheConstants.{MOST_ROUTES}
 use Rattle.xb_routes.specs.Codes.{code_of, number_length}
 use Rattle.xb_routes.specs.Text.{seven_table, table_of_text}
 
@@ -33,6 +34,7 @@ three_lines =
 
 -- tables and refusals
 pub record ReadsTables : Type 0 where
+  pub most_routes : MOST_ROUTES ≡ 1000
   pub empty : table_of_text (codes "") ≡ Ok (seven_table [])
   pub three : table_of_text three_lines ≡ Ok (seven_table three_routes)
   pub not_toml : table_of_text (codes "code = ") ≡ Err fault.NotToml

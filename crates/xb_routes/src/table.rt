@@ -1,13 +1,14 @@
 // The route table.
-ghost use Rattle.std.specs.Prelude.{◌≡◌, ◌≢◌, ◌≤◌, [], Ok, Err, IfOk, IfErr, codes, map, length, option_map, option_copied};
+ghost use Rattle.std.specs.Prelude.{◌≡◌, ◌≢◌, ◌≤◌, [], None, Some, Ok, Err, IfOk, IfErr, codes, map, length, nat_lt, option_map, option_copied};
+ghost use Rattle.std.specs.Result.{result_map_both};
 ghost use Rattle.toml.specs.Data.{get_member};
 ghost use Rattle.toml.specs.View.{items_view, table_view};
 ghost use Rattle.xb_model.specs.LawfulLimits.{IsLawful};
 ghost use Rattle.xb_model.specs.Routing.{route_for};
 ghost use Rattle.xb_routes.specs.Coded.{coded, uncoded};
 ghost use Rattle.xb_routes.specs.Places.{IsIndex};
-ghost use Rattle.xb_routes.specs.Text.{routes_from, routes_of_key, table_of_text};
-ghost use Rattle.xb_routes.specs.declared.fault.RouteFault.TheVariants.{NoMemory};
+ghost use Rattle.xb_routes.specs.Text.{route_items, routes_from, routes_of_array, routes_of_key, table_of_text, tree_of};
+ghost use Rattle.xb_routes.specs.declared.fault.RouteFault.TheVariants.{NoMemory, NotToml};
 
 use crate::fault::RouteFault;
 use crate::index::Index;
@@ -51,7 +52,7 @@ struct Routes {
     index: Index,
 }
 
-// The routes of an array.
+// The routes of an array that are not too many.
 fn read_routes(alloc: Global, plan: Plan, values: &[Value]) -> Result<Routes, RouteFault>
     requires { length values.now ≤ MOST_ROUTES }
     ensures ok { IfOk result (λ r. routes_from plan 1 [] (items_view values.now) ≡ Ok (map coded r.entries.items)) }
@@ -78,22 +79,57 @@ fn read_routes(alloc: Global, plan: Plan, values: &[Value]) -> Result<Routes, Ro
     Ok(Routes { entries, index })
 }
 
+// Whether an array has more routes than a table may.
+fn is_too_many(values: &[Value]) -> bool
+    ensures { result ≡ nat_lt MOST_ROUTES (length values.now) }
+{
+    values.len() > MOST_ROUTES
+}
+
+// The routes of an array.
+fn read_array(alloc: Global, plan: Plan, values: &[Value]) -> Result<Routes, RouteFault>
+    ensures ok { IfOk result (λ r. routes_of_array plan (items_view values.now) ≡ Ok (map coded r.entries.items)) }
+    ensures index { IfOk result (λ r. IsIndex r.index (map coded r.entries.items)) }
+    ensures refused { IfErr result (λ f. f ≢ NoMemory → routes_of_array plan (items_view values.now) ≡ Err f) }
+{
+    if is_too_many(values) {
+        return Err(RouteFault::TooMany);
+    }
+    read_routes(alloc, plan, values)
+}
+
+// The items of the key `route`: none where it is missing.
+fn route_items(tree: &Table) -> Result<&[Value], RouteFault>
+    ensures { result_map_both (λ values. items_view values.now) (λ f. f) result ≡ route_items (get_member (codes "route") (table_view tree.now)) }
+{
+    let Some(value) = value_at(tree, "route") else {
+        return Ok(&[]);
+    };
+    let Some(values) = value.as_array() else {
+        return Err(RouteFault::Shape(0));
+    };
+    Ok(values.as_slice())
+}
+
+// The tree that a text writes.
+fn tree_of(alloc: Global, text: &[u8]) -> Result<Table, RouteFault>
+    ensures ok { IfOk result (λ tree. tree_of text.now ≡ Some (table_view tree)) }
+    ensures refused { IfErr result (λ f. f ≢ NoMemory → (f ≡ NotToml) × (tree_of text.now ≡ None)) }
+{
+    match toml::table_from_slice(alloc, text) {
+        Ok(tree) => Ok(tree),
+        Err(e) if e.is_memory() => Err(RouteFault::NoMemory),
+        Err(_) => Err(RouteFault::NotToml),
+    }
+}
+
 // The routes of a tree.
 fn read_tree(alloc: Global, plan: Plan, tree: &Table) -> Result<Routes, RouteFault>
     ensures ok { IfOk result (λ r. routes_of_key plan (get_member (codes "route") (table_view tree.now)) ≡ Ok (map coded r.entries.items)) }
     ensures index { IfOk result (λ r. IsIndex r.index (map coded r.entries.items)) }
     ensures refused { IfErr result (λ f. f ≢ NoMemory → routes_of_key plan (get_member (codes "route") (table_view tree.now)) ≡ Err f) }
 {
-    let Some(value) = value_at(tree, "route") else {
-        return read_routes(alloc, plan, &[]);
-    };
-    let Some(values) = value.as_array() else {
-        return Err(RouteFault::Shape(0));
-    };
-    if values.len() > MOST_ROUTES {
-        return Err(RouteFault::TooMany);
-    }
-    read_routes(alloc, plan, values.as_slice())
+    read_array(alloc, plan, route_items(tree)?)
 }
 
 impl RouteTable {
@@ -106,16 +142,7 @@ impl RouteTable {
         ensures ok { IfOk result (λ t. table_of_text text.now ≡ Ok t) }
         ensures refused { IfErr result (λ f. f ≢ NoMemory → table_of_text text.now ≡ Err f) }
     {
-        let tree = match toml::table_from_slice(alloc, text) {
-            Ok(tree) => tree,
-            Err(e) => {
-                return Err(if e.is_memory() {
-                    RouteFault::NoMemory
-                } else {
-                    RouteFault::NotToml
-                });
-            }
-        };
+        let tree = tree_of(alloc, text)?;
         let plan = Plan::Seven;
         let Routes { entries, index } = read_tree(alloc, plan, &tree)?;
         Ok(RouteTable {

@@ -7,6 +7,7 @@ use Rattle.xb_routes.proofs.laws.worked_tables.Goals as goal
 pub returns-clause-tables : goal.returns-clause-tables
 unfolding toml_on_literals routes_from is_utf8 chars
 returns-clause-tables c = record {
+  most_routes = refl;
   empty = refl;
   three = refl;
   not_toml = refl;
