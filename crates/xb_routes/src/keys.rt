@@ -25,43 +25,31 @@ pub fn value_at<'a>(keys: &'a Table, name: &str) -> Option<&'a Value>
 fn required_text<'a>(keys: &'a Table, name: &str) -> Option<&'a str>
     ensures { option_map (λ s. s.now) result ≡ required as_str name.now (table_view keys.now) }
 {
-    match value_at(keys, name) {
-        Some(value) => value.as_str(),
-        None => None,
-    }
+    value_at(keys, name)?.as_str()
 }
 
 fn required_number(keys: &Table, name: &str) -> Option<i64>
     ensures { result ≡ required as_integer name.now (table_view keys.now) }
 {
-    match value_at(keys, name) {
-        Some(value) => value.as_integer(),
-        None => None,
-    }
+    value_at(keys, name)?.as_integer()
 }
 
 fn optional_number(keys: &Table, name: &str) -> Option<Option<i64>>
     ensures { result ≡ optional as_integer name.now (table_view keys.now) }
 {
-    match value_at(keys, name) {
-        Some(value) => match value.as_integer() {
-            Some(number) => Some(Some(number)),
-            None => None,
-        },
-        None => Some(None),
-    }
+    let Some(value) = value_at(keys, name) else {
+        return Some(None);
+    };
+    Some(Some(value.as_integer()?))
 }
 
 fn optional_text<'a>(keys: &'a Table, name: &str) -> Option<Option<&'a str>>
     ensures { option_map (λ o. option_map (λ s. s.now) o) result ≡ optional as_str name.now (table_view keys.now) }
 {
-    match value_at(keys, name) {
-        Some(value) => match value.as_str() {
-            Some(text) => Some(Some(text)),
-            None => None,
-        },
-        None => Some(None),
-    }
+    let Some(value) = value_at(keys, name) else {
+        return Some(None);
+    };
+    Some(Some(value.as_str()?))
 }
 
 fn keys_of_table(keys: &Table) -> Option<RouteKeys<'_>>
@@ -84,8 +72,5 @@ fn keys_of_table(keys: &Table) -> Option<RouteKeys<'_>>
 pub fn keys_of(value: &Value) -> Option<RouteKeys<'_>>
     ensures { option_map keys_read result ≡ keys_of (view value.now) }
 {
-    match value.as_table() {
-        Some(keys) => keys_of_table(keys),
-        None => None,
-    }
+    keys_of_table(value.as_table()?)
 }

@@ -33,10 +33,7 @@ pub struct Entry {
 fn trunk_of(number: i64) -> Option<Trunk>
     ensures { result ≡ trunk_of number }
 {
-    match u16::try_from(number) {
-        Ok(number) => Trunk::new(number),
-        Err(_) => None,
-    }
+    Trunk::new(u16::try_from(number).ok()?)
 }
 
 fn deleted_of(length: u8, number: Option<i64>) -> Option<u8>

@@ -84,7 +84,7 @@ impl<'t> LineStage for Translate<'t> {
 
     ghost on_line = { λ stage state item. all_on item.line (order_of stage.routes item.what ∷ []) };
 
-    fn fresh(&self) -> () {}
+    fn fresh(&self) {}
 
     fn step(&self, _state: &mut (), item: On<Dialled>, out: &mut Vec<On<Order>>) {
         let On { line, what } = item;
