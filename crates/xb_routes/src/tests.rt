@@ -3,6 +3,7 @@ mod faults;
 mod large;
 mod orders;
 
+use crate::RouteTable;
 use std::alloc::{AllocError, Global};
 use std::process::Abort;
 use xb_model::Digit;
@@ -30,4 +31,22 @@ fn digits(rt: &impl Abort, alloc: Global, text: &str) -> Result<Vec<Digit>, Allo
         digits.push(Digit::new(value).expect(rt, "a digit"))?;
     }
     Ok(digits)
+}
+
+// Checks the trunk group, the deletion and the prefix of the route of a number.
+fn check_route(
+    rt: &impl Abort,
+    alloc: Global,
+    table: &RouteTable,
+    number: &str,
+    wanted: (u16, u8, &str),
+) -> Result<(), AllocError> {
+    let (trunk, deleted, prefixed) = wanted;
+    let dialled = digits(rt, alloc, number)?;
+    let prefixed = digits(rt, alloc, prefixed)?;
+    let route = table.look(&dialled).expect(rt, "a route");
+    assert_eq!(rt; route.trunk.get(), trunk, "of {number}");
+    assert_eq!(rt; route.deleted, deleted, "of {number}");
+    assert_eq!(rt; route.prefixed.digits(), prefixed.as_slice(), "of {number}");
+    Ok(())
 }

@@ -1,5 +1,5 @@
 // Tables that are refused, and the texts of the faults.
-use super::{THREE_ROUTES, digits};
+use super::{THREE_ROUTES, check_route};
 use crate::{RouteFault, RouteTable};
 use std::alloc::{AllocError, Global};
 use std::process::Abort;
@@ -59,10 +59,21 @@ fn texts_that_are_not_toml(rt: HostRuntime) {
 }
 
 #[test]
+fn routes_that_are_no_array(rt: HostRuntime) {
+    for text in [
+        "route = 3",
+        "route = true",
+        "route = 2.5",
+        "route = \"0\"",
+        "[route]\ncode = \"0\"\ntrunk = 1",
+    ] {
+        check_fault(&rt, rt.alloc(), text.as_bytes(), RouteFault::Shape(0));
+    }
+}
+
+#[test]
 fn faults_of_one_table(rt: HostRuntime) -> Result<(), Fail> {
     for (text, fault) in [
-        ("route = 3", RouteFault::Shape(0)),
-        ("[route]\ncode = \"0\"\ntrunk = 1", RouteFault::Shape(0)),
         ("route = [3]", RouteFault::Shape(1)),
         (
             "[[route]]\ncode = \"234\"\ntrunk = 1\n[[route]]\ncode = \"235\"",
@@ -98,29 +109,32 @@ fn faults_of_one_table(rt: HostRuntime) -> Result<(), Fail> {
     Ok(())
 }
 
+// Checks that a route whose last key has this value has a wrong shape.
+fn check_shape(rt: &impl Abort, alloc: Global, route: &str, value: &str) -> Result<(), AllocError> {
+    let mut text = String::from_str(alloc, route)?;
+    text.push_str(value)?;
+    check_fault(rt, alloc, text.as_bytes(), RouteFault::Shape(1));
+    Ok(())
+}
+
 #[test]
-fn other_kinds_of_values(rt: HostRuntime) -> Result<(), Fail> {
+fn other_kinds_than_texts(rt: HostRuntime) -> Result<(), Fail> {
+    let code = "[[route]]\ntrunk = 1\ncode = ";
+    let prefix = "[[route]]\ncode = \"0\"\ntrunk = 1\nprefix = ";
     for value in ["true", "2.5", "234", "[\"234\"]", "1979-05-27"] {
-        let mut text = String::from_str(rt.alloc(), "[[route]]\ntrunk = 1\ncode = ")?;
-        text.push_str(value)?;
-        check_fault(&rt, rt.alloc(), text.as_bytes(), RouteFault::Shape(1));
-        let mut text = String::from_str(
-            rt.alloc(),
-            "[[route]]\ncode = \"0\"\ntrunk = 1\nprefix = ",
-        )?;
-        text.push_str(value)?;
-        check_fault(&rt, rt.alloc(), text.as_bytes(), RouteFault::Shape(1));
+        check_shape(&rt, rt.alloc(), code, value)?;
+        check_shape(&rt, rt.alloc(), prefix, value)?;
     }
+    Ok(())
+}
+
+#[test]
+fn other_kinds_than_numbers(rt: HostRuntime) -> Result<(), Fail> {
+    let trunk = "[[route]]\ncode = \"0\"\ntrunk = ";
+    let delete = "[[route]]\ncode = \"0\"\ntrunk = 1\ndelete = ";
     for value in ["false", "1.0", "\"1\"", "[1]", "{ number = 1 }"] {
-        let mut text = String::from_str(rt.alloc(), "[[route]]\ncode = \"0\"\ntrunk = ")?;
-        text.push_str(value)?;
-        check_fault(&rt, rt.alloc(), text.as_bytes(), RouteFault::Shape(1));
-        let mut text = String::from_str(
-            rt.alloc(),
-            "[[route]]\ncode = \"0\"\ntrunk = 1\ndelete = ",
-        )?;
-        text.push_str(value)?;
-        check_fault(&rt, rt.alloc(), text.as_bytes(), RouteFault::Shape(1));
+        check_shape(&rt, rt.alloc(), trunk, value)?;
+        check_shape(&rt, rt.alloc(), delete, value)?;
     }
     Ok(())
 }
@@ -182,31 +196,35 @@ fn numbers_out_of_range(rt: HostRuntime) -> Result<(), Fail> {
     Ok(())
 }
 
-/// The codes of plan Seven, with the other keys of their routes.
-const CODES: &[(&str, &str)] = &[
-    ("0", "trunk = 1"),
-    ("0", "trunk = 1\ndelete = 0\nprefix = \"\""),
-    ("0", "trunk = 1\ndelete = 0\nprefix = \"5\""),
-    ("0", "trunk = 1\ndelete = 1\nprefix = \"5\""),
-    ("234", "trunk = 9999"),
-    ("234", "trunk = 1\ndelete = 0"),
-    ("234", "trunk = 1\ndelete = 0\nprefix = \"5\""),
-    ("234", "trunk = 1\ndelete = 6"),
-    ("234", "trunk = 1\ndelete = 7\nprefix = \"12345678\""),
-    ("411", "trunk = 0"),
-    ("411", "trunk = 1\ndelete = 0"),
-    ("411", "trunk = 1\ndelete = 0\nprefix = \"5\""),
-    ("411", "trunk = 1\ndelete = 2"),
-    ("411", "trunk = 1\ndelete = 3\nprefix = \"5\""),
+// The codes of plan Seven with the other keys of their routes, and the trunk group, the deletion and
+// the prefix that these give.
+const CODES: &[(&str, &str, (u16, u8, &str))] = &[
+    ("0", "trunk = 1", (1, 0, "")),
+    ("0", "trunk = 1\ndelete = 0\nprefix = \"\"", (1, 0, "")),
+    ("0", "trunk = 1\ndelete = 0\nprefix = \"5\"", (1, 0, "5")),
+    ("0", "trunk = 1\ndelete = 1\nprefix = \"5\"", (1, 1, "5")),
+    ("234", "trunk = 9999", (9_999, 0, "")),
+    ("234", "trunk = 1\ndelete = 0", (1, 0, "")),
+    ("234", "trunk = 1\ndelete = 0\nprefix = \"5\"", (1, 0, "5")),
+    ("234", "trunk = 1\ndelete = 6", (1, 6, "")),
+    (
+        "234",
+        "trunk = 1\ndelete = 7\nprefix = \"12345678\"",
+        (1, 7, "12345678"),
+    ),
+    ("411", "trunk = 0", (0, 0, "")),
+    ("411", "trunk = 1\ndelete = 0", (1, 0, "")),
+    ("411", "trunk = 1\ndelete = 0\nprefix = \"5\"", (1, 0, "5")),
+    ("411", "trunk = 1\ndelete = 2", (1, 2, "")),
+    ("411", "trunk = 1\ndelete = 3\nprefix = \"5\"", (1, 3, "5")),
 ];
 
 #[test]
 fn codes_of_plan_seven(rt: HostRuntime) -> Result<(), Fail> {
-    for (code, lines) in CODES {
+    for (code, lines, route) in CODES {
         let text = one_route(rt.alloc(), code, lines)?;
         let table = RouteTable::read(rt.alloc(), text.as_bytes())?;
-        let number = digits(&rt, rt.alloc(), code)?;
-        assert!(rt; table.look(&number).is_some(), "the route of {code}");
+        check_route(&rt, rt.alloc(), &table, code, *route)?;
     }
     Ok(())
 }

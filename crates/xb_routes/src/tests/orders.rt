@@ -1,5 +1,5 @@
 // The routes of a table, and the orders of what is dialled.
-use super::{THREE_ROUTES, digits};
+use super::{THREE_ROUTES, check_route, digits};
 use crate::{RouteTable, Translate};
 use std::alloc::{AllocError, Global};
 use std::process::Abort;
@@ -68,20 +68,21 @@ fn check_refusal(
 #[test]
 fn routes_are_looked_up(rt: HostRuntime) -> Result<(), Fail> {
     let table = RouteTable::read(rt.alloc(), THREE_ROUTES.as_bytes())?;
-    for (number, trunk, deleted, prefixed) in [
-        ("2345678", 17, 3, "56"),
-        ("234", 17, 3, "56"),
-        ("411", 3, 0, ""),
-        ("0", 1, 0, ""),
-        ("0999", 1, 0, ""),
+    for (number, route) in [
+        ("2345678", (17, 3, "56")),
+        ("234", (17, 3, "56")),
+        ("411", (3, 0, "")),
+        ("0", (1, 0, "")),
+        ("0999", (1, 0, "")),
     ] {
-        let number = digits(&rt, rt.alloc(), number)?;
-        let route = table.look(&number).ok_or("a route")?;
-        assert_eq!(rt; route.trunk.get(), trunk);
-        assert_eq!(rt; route.deleted, deleted);
-        let prefixed = digits(&rt, rt.alloc(), prefixed)?;
-        assert_eq!(rt; route.prefixed.digits(), prefixed.as_slice());
+        check_route(&rt, rt.alloc(), &table, number, route)?;
     }
+    Ok(())
+}
+
+#[test]
+fn numbers_without_a_route(rt: HostRuntime) -> Result<(), Fail> {
+    let table = RouteTable::read(rt.alloc(), THREE_ROUTES.as_bytes())?;
     for number in ["", "2", "23", "611", "5551234", "1234567", "412"] {
         let digits = digits(&rt, rt.alloc(), number)?;
         assert!(rt; table.look(&digits).is_none(), "{number} has no route");
