@@ -1,9 +1,9 @@
 -- The route of the longest code, found by the fronts of the digits.
 use Rattle.std.proofs.Common.{◌≡◌, ◌≤◌, ◌<◌, ℕ, zero, suc, eq-eqb, Bool, true, false, List, [], ◌∷◌, length, map, take, Option, Some, None, option_map, refl, sym, ap, subst, ◌∙◌, ◌⊎◌, ⊎_elim, inl, inr, arith}
-use Rattle.std.specs.Prelude.{◌&&◌, ◌==◌, if◌then◌else◌, nat_le, nat_lt, option_and_then, slice_get}
+use Rattle.std.specs.Prelude.{◌==◌, if◌then◌else◌, nat_le, nat_lt, option_and_then, slice_get}
 use Rattle.std.specs.Option.{option_or}
 use Rattle.std.specs.List.{AllByRecursion}
-use Rattle.std.proofs.lemmas.Bool.{cases_Bool, cond-true, cond-false, eqb-true}
+use Rattle.std.proofs.lemmas.Bool.{and_parts, cases_Bool, cond-true, cond-false, eqb-true, le-ltb, lt-ltb}
 use Rattle.std.proofs.lemmas.List.{length-take-le}
 use Rattle.std.proofs.lemmas.Bool.Decides.{nat_tests}
 use Rattle.xb_model.specs.Routing.{CodedRoute, covers, longer_of, longest_of, route_for}
@@ -15,17 +15,12 @@ use Rattle.xb_routes.specs.Text.{has_code}
 use Rattle.xb_routes.specs.Places.{place_of, place_of_front}
 use Rattle.xb_routes.proofs.Places.{has-code, has-code-is, place-none}
 
-both : (a b : Bool) → (a && b) ≡ true → (a ≡ true) × (b ≡ true)
-both true true h = (refl, refl)
-both true false h = absurd (cc)
-both false b h = absurd (cc)
-
 -- a code that covers digits is their front
 pub covers-take : (code digits : List ℕ) → covers code digits ≡ true → take (length code) digits ≡ code
 covers-take [] digits h = refl
 covers-take (c ∷ code) [] h = absurd (cc)
 covers-take (c ∷ code) (d ∷ digits) h =
-    let p = both _ _ h in
+    let p = and_parts _ _ h in
     let same : c ≡ d = eqb-true c d p.0 in
     ap (λ x. x ∷ take (length code) digits) (sym same) ∙ ap (λ xs. c ∷ xs) (covers-take code digits p.1)
 
@@ -33,7 +28,7 @@ covers-take (c ∷ code) (d ∷ digits) h =
 pub covers-length : (code digits : List ℕ) → covers code digits ≡ true → length code ≤ length digits
 covers-length [] digits h = omega arith
 covers-length (c ∷ code) [] h = absurd (cc)
-covers-length (c ∷ code) (d ∷ digits) h = omega (arith, covers-length code digits (both (c == d) (covers code digits) h).1)
+covers-length (c ∷ code) (d ∷ digits) h = omega (arith, covers-length code digits (and_parts (c == d) (covers code digits) h).1)
 
 -- each front of digits covers them
 pub covers-front : (n : ℕ) (digits : List ℕ) → covers (take n digits) digits ≡ true
@@ -49,12 +44,6 @@ longer-is route (Some other) o e = by (nat_lt (length route.code) (length other.
     by : (b : Bool) → (if b then Some other else Some route) ≡ Some o → (o ≡ route) ⊎ (Some other ≡ Some o)
     by true e = inr e
     by false e = inl (cc)
-
-under : (a b : ℕ) → a < b → nat_lt a b ≡ true
-under a b h = grind (arith, nat_tests)
-
-not-under : (a b : ℕ) → b ≤ a → nat_lt a b ≡ false
-not-under a b h = grind (arith, nat_tests)
 
 module _ (digits : List ℕ) where
   -- where a route covers the digits, its code has at most n of them
@@ -92,10 +81,10 @@ module _ (digits : List ℕ) where
   longer-first : (route : CodedRoute) (best : Option CodedRoute)
       → ((o : CodedRoute) → best ≡ Some o → length o.code ≤ length route.code) → longer_of route best ≡ Some route
   longer-first route None within = refl
-  longer-first route (Some other) within = cond-false _ _ _ (not-under (length route.code) (length other.code) (within other refl))
+  longer-first route (Some other) within = cond-false _ _ _ (le-ltb (length route.code) (length other.code) (within other refl))
 
   longer-second : (route other : CodedRoute) → length route.code < length other.code → longer_of route (Some other) ≡ Some other
-  longer-second route other h = cond-true _ _ _ (under (length route.code) (length other.code) h)
+  longer-second route other h = cond-true _ _ _ (lt-ltb (length route.code) (length other.code) h)
 
   -- what stands at the place of a code has the code
   at-place : (code : List ℕ) (routes : List CodedRoute) (p : ℕ) → place_of code routes ≡ Some p

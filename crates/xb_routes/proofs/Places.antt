@@ -1,5 +1,5 @@
 -- Laws of the places of routes.
-use Rattle.std.proofs.Common.{◌≡◌, ◌≢◌, ℕ, ◌+◌, ◌*◌, ◌≤◌, ◌<◌, arith, suc, map, take, get_or, Bool, true, false, List, [], ◌∷◌, ◌++◌, length, Option, Some, None, option_map, refl, ap, ◌∙◌, ⊎_elim}
+use Rattle.std.proofs.Common.{◌≡◌, ◌≢◌, ℕ, ◌≤◌, ◌<◌, arith, suc, map, take, get_or, Bool, true, false, List, [], ◌∷◌, ◌++◌, length, Option, Some, None, option_map, refl, ap, ◌∙◌, ⊎_elim}
 use Rattle.std.specs.Prelude.{bytes_eq, is_some, nat_le, if◌then◌else◌, ◌||◌}
 use Rattle.std.specs.List.{list_any}
 use Rattle.std.proofs.lemmas.Bool.{cases_Bool, cond-true, cond-false}
@@ -10,6 +10,7 @@ use Rattle.xb_routes.specs.Text.{has_code}
 use Rattle.xb_routes.specs.declared.code.Code.{Code}
 use Rattle.xb_routes.specs.declared.code.Code.TheVariants.{Operator, Office}
 use Rattle.xb_routes.specs.declared.route.Entry.{Entry}
+use Rattle.xb_routes.specs.Codes.{office_number}
 use Rattle.xb_routes.specs.Coded.{code_digits, coded}
 use Rattle.xb_routes.specs.Places.{place_of, place_of_front}
 
@@ -85,7 +86,7 @@ no-other-digit d (entry ∷ entries) h =
     other code = not-one code (bytes_eq (code_digits code) (d ∷ [])) refl
 
 -- the number of an office code tells its digits
-pub office-digits : (a b c x y z : ℕ) → a < 10 → b < 10 → c < 10 → x < 10 → y < 10 → z < 10 → 100 * a + 10 * b + c ≡ 100 * x + 10 * y + z → (a ≡ x) × (b ≡ y) × (c ≡ z)
+pub office-digits : (a b c x y z : ℕ) → a < 10 → b < 10 → c < 10 → x < 10 → y < 10 → z < 10 → office_number a b c ≡ office_number x y z → (a ≡ x) × (b ≡ y) × (c ≡ z)
 office-digits a b c x y z ha hb hc hx hy hz e = (omega arith, omega arith, omega arith)
 
 -- a place that is not there

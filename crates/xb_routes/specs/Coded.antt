@@ -1,6 +1,6 @@
--- What a route of the table says.
+-- What a route of the table says (own format).
 use Rattle.std.specs.Prelude.{ℕ, List, [], ◌∷◌}
-use Rattle.xb_model.specs.Routing.{CodedRoute}
+use Rattle.xb_model.specs.Routing.{CodedRoute, coded_route}
 use Rattle.xb_routes.specs.declared.code.Code.{Code}
 use Rattle.xb_routes.specs.declared.code.Code.TheVariants.{Operator, Office}
 use Rattle.xb_routes.specs.declared.route.Route.{Route}
@@ -13,8 +13,7 @@ code_digits (Office a b c) = a ∷ b ∷ c ∷ []
 
 -- a route with its code
 abbrev pub coded : Entry → CodedRoute
-coded entry =
-    record { code = code_digits entry.code; trunk = entry.route.trunk; deleted = entry.route.deleted; prefixed = entry.route.prefixed }
+coded entry = coded_route (code_digits entry.code) entry.route.trunk entry.route.deleted entry.route.prefixed
 
 -- a route without its code
 abbrev pub uncoded : CodedRoute → Route

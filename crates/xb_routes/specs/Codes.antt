@@ -1,12 +1,14 @@
 -- The codes that a route may have (own format). N is 2 to 9, X is 0 to 9.
-use Rattle.std.specs.Prelude.{ℕ, ◌-◌, List, [], ◌∷◌, Bool, false, ◌&&◌, ◌||◌, ◌==◌, nat_le, if◌then◌else◌, Option, Some, None, option_and_then, option_map, unwrap_or}
+use Rattle.std.specs.Prelude.{ℕ, ◌+◌, ◌-◌, ◌*◌, List, [], ◌∷◌, Bool, false, ◌&&◌, ◌||◌, ◌==◌, nat_le, if◌then◌else◌, Option, Some, None, option_and_then, option_map, unwrap_or}
+use Rattle.std.specs.Char.{is_ascii_digit}
 use Rattle.xb_model.specs.declared.plan.Plan.{Plan}
 use Rattle.xb_model.specs.declared.plan.Plan.TheVariants.{Seven}
+use Rattle.xb_model.specs.Page.{zero_byte}
 use Rattle.xb_model.specs.Plans.{plan_len}
 
 -- the digit that an ASCII character is
 abbrev pub digit_of_character : ℕ → Option ℕ
-digit_of_character c = if nat_le 48 c && nat_le c 57 then Some (c - 48) else None
+digit_of_character c = if is_ascii_digit c then Some (c - zero_byte) else None
 
 -- the digits of a text that has nothing else
 abbrev pub digits_of_text : List ℕ → Option (List ℕ)
@@ -17,6 +19,10 @@ digits_of_text (c ∷ text) =
 -- three digits NNX or N11
 abbrev pub is_office_code : Plan → ℕ → ℕ → ℕ → Bool
 is_office_code Seven a b c = nat_le 2 a && (nat_le 2 b || (b == 1 && c == 1))
+
+-- three digits as a number
+abbrev pub office_number : ℕ → ℕ → ℕ → ℕ
+office_number a b c = 100 * a + 10 * b + c
 
 -- 0 alone, or an office code
 abbrev pub is_code : Plan → List ℕ → Bool

@@ -1,6 +1,7 @@
--- Where the route of each code stands in a table.
-use Rattle.std.specs.Prelude.{◌≡◌, ℕ, suc, ◌+◌, ◌*◌, ◌<◌, nat_le, if◌then◌else◌, List, [], ◌∷◌, length, take, Option, Some, None, option_map, slice_index_or}
+-- Where the route of each code stands in a table (own profile).
+use Rattle.std.specs.Prelude.{◌≡◌, ℕ, suc, ◌<◌, nat_le, if◌then◌else◌, List, [], ◌∷◌, length, take, Option, Some, None, option_map, slice_index_or}
 use Rattle.xb_model.specs.Routing.{CodedRoute}
+use Rattle.xb_routes.specs.Codes.{office_number}
 use Rattle.xb_routes.specs.Text.{has_code}
 use Rattle.xb_routes.specs.declared.index.Index.{Index}
 
@@ -17,4 +18,4 @@ place_of_front n digits routes = if nat_le n (length digits) then place_of (take
 pub record IsIndex (index : Index) (routes : List CodedRoute) : Type 0 where
   pub operator : index.operator ≡ place_of (0 ∷ []) routes
   pub offices : (a b c : ℕ) → a < 10 → b < 10 → c < 10
-      → slice_index_or index.offices.items (100 * a + 10 * b + c) None ≡ place_of (a ∷ b ∷ c ∷ []) routes
+      → slice_index_or index.offices.items (office_number a b c) None ≡ place_of (a ∷ b ∷ c ∷ []) routes

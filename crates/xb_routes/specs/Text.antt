@@ -9,7 +9,7 @@ use Rattle.xb_model.specs.declared.plan.Plan.TheVariants.{Seven}
 use Rattle.xb_model.specs.declared.trunk.TheConstants.{TRUNKS}
 use Rattle.xb_model.specs.declared.digits.TheConstants.{PREFIX_DIGITS}
 use Rattle.xb_model.specs.LawfulLimits.{standard_limits}
-use Rattle.xb_model.specs.Routing.{CodedRoute}
+use Rattle.xb_model.specs.Routing.{CodedRoute, coded_route}
 use Rattle.xb_routes.specs.declared.fault.RouteFault.{RouteFault}
 use Rattle.xb_routes.specs.declared.fault.RouteFault.TheVariants as fault
 use Rattle.xb_routes.specs.declared.table.TheConstants.{MOST_ROUTES}
@@ -41,9 +41,6 @@ deleted_of length (Some (negsuc n)) = None
 abbrev pub prefixed_of : Option (List ℕ) → Option (List ℕ)
 prefixed_of None = Some []
 prefixed_of (Some text) = if nat_le (length text) PREFIX_DIGITS then digits_of_text text else None
-
-abbrev pub coded_route : List ℕ → ℕ → ℕ → List ℕ → CodedRoute
-coded_route code trunk deleted prefixed = record { code = code; trunk = trunk; deleted = deleted; prefixed = prefixed }
 
 -- a route that keys a digit: it does not delete all of them, or puts some in front
 abbrev pub if_keying : Plan → ℕ → CodedRoute → Result CodedRoute RouteFault

@@ -1,4 +1,4 @@
--- What the translation does.
+-- What the translation does (own format).
 use Rattle.std.specs.Prelude.{List, [], ◌∷◌}
 use Rattle.xb_ring.specs.Image.{Machine}
 use Rattle.xb_ring.specs.Stateless.{stateless}

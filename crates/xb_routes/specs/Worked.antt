@@ -1,4 +1,4 @@
--- What the definitions give at worked tables.
+-- What the definitions give at worked tables (own format).
 use Rattle.std.specs.Prelude.{◌≡◌, ℕ, List, [], ◌∷◌, ◌++◌, codes, Some, None, Ok, Err}
 use Rattle.xb_model.specs.declared.plan.Plan.TheVariants.{Seven}
 use Rattle.xb_model.specs.Routing.{coded_route, route_for}

@@ -1,6 +1,7 @@
 // Where the route of each code stands.
-ghost use Rattle.std.specs.Prelude.{◌≡◌, ◌+◌, ◌*◌, ◌<◌, [], ◌∷◌, ◌++◌, None, List, IfOk, length, map, option_and_then, slice_get, vec_len};
+ghost use Rattle.std.specs.Prelude.{◌≡◌, ◌<◌, [], ◌∷◌, ◌++◌, None, List, IfOk, length, map, option_and_then, slice_get, vec_len};
 ghost use Rattle.xb_model.specs.Routing.{CodedRoute, route_for};
+ghost use Rattle.xb_routes.specs.Codes.{office_number};
 ghost use Rattle.xb_routes.specs.Coded.{code_digits, coded};
 ghost use Rattle.xb_routes.specs.declared.route.Entry.{Entry};
 ghost use Rattle.xb_routes.specs.declared.index.TheConstants.{OFFICES};
@@ -23,7 +24,7 @@ pub struct Index {
 
 // An office code as a number.
 fn office_number(first: Digit, second: Digit, third: Digit) -> usize
-    ensures number { result ≡ 100 * first + 10 * second + third }
+    ensures number { result ≡ office_number first second third }
     ensures first { first < 10 }
     ensures second { second < 10 }
     ensures third { third < 10 }
