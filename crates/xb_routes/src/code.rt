@@ -8,7 +8,7 @@ use xb_model::{Digit, PREFIX_DIGITS, Plan, PrefixDigits, plan_len};
 
 /// A code of a route.
 #[derive(Clone, Copy, Debug, PartialEq, Eq)]
-pub enum Code {
+pub(crate) enum Code {
     /// 0 alone.
     Operator,
     /// Three digits.
@@ -34,7 +34,7 @@ fn is_office_code(plan: Plan, first: u8, second: u8, third: u8) -> bool
 }
 
 /// The code that a text writes.
-pub fn code_of(plan: Plan, text: &[u8]) -> Option<Code>
+pub(crate) fn code_of(plan: Plan, text: &[u8]) -> Option<Code>
     ensures { option_map code_digits result ≡ code_of plan text.now }
 {
     match text {
@@ -60,7 +60,7 @@ pub fn code_of(plan: Plan, text: &[u8]) -> Option<Code>
 }
 
 /// How many digits the numbers have that begin with a code.
-pub fn number_length(plan: Plan, code: &Code) -> u8
+pub(crate) fn number_length(plan: Plan, code: &Code) -> u8
     ensures { result ≡ number_length plan (code_digits code.now) }
 {
     let length = match *code {
@@ -71,7 +71,7 @@ pub fn number_length(plan: Plan, code: &Code) -> u8
 }
 
 /// The digits that a text puts in front of a number; none without a text.
-pub fn prefixed_of(text: Option<&str>) -> Option<PrefixDigits>
+pub(crate) fn prefixed_of(text: Option<&str>) -> Option<PrefixDigits>
     ensures { result ≡ prefixed_of (option_map (λ s. s.now) text.entry) }
 {
     match text {

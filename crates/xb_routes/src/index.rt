@@ -15,7 +15,7 @@ const OFFICES: usize = 1_000;
 
 /// The place in the table of the route of each code.
 #[derive(Drop)]
-pub struct Index {
+pub(crate) struct Index {
     operator: Option<u16>,
     // by the number that the three digits are
     offices: Vec<Option<u16>>,
@@ -36,7 +36,7 @@ impl Index {
     ghost use Rattle.xb_routes.specs.Places.{IsIndex, place_of, place_of_front};
 
     /// The index of no routes.
-    pub fn new(alloc: Global) -> Result<Index, AllocError>
+    pub(crate) fn new(alloc: Global) -> Result<Index, AllocError>
         ensures { IfOk result (λ index. IsIndex index []) }
     {
         let mut offices = Vec::with_capacity(alloc, OFFICES)?;
@@ -50,7 +50,7 @@ impl Index {
     }
 
     /// The place of the route that has the code.
-    pub fn place_of(&self, code: &Code) -> Option<u16>
+    pub(crate) fn place_of(&self, code: &Code) -> Option<u16>
         ensures { (routes : List CodedRoute) → IsIndex self.now routes → result ≡ place_of (code_digits code.now) routes }
     {
         match *code {
@@ -62,7 +62,7 @@ impl Index {
     }
 
     /// Enters the route of a new code, which stands behind the others.
-    pub fn enter(&mut self, code: &Code, place: u16)
+    pub(crate) fn enter(&mut self, code: &Code, place: u16)
         ensures { (routes : List CodedRoute) (route : CodedRoute) → IsIndex self.old routes → place_of (code_digits code.now) routes ≡ None → route.code ≡ code_digits code.now → place ≡ length routes → IsIndex self.new (routes ++ route ∷ []) }
     {
         match *code {
@@ -100,7 +100,7 @@ impl Index {
     }
 
     /// The place of the route whose code is the longest prefix of the digits.
-    pub fn place_for(&self, digits: &[Digit]) -> Option<u16>
+    pub(crate) fn place_for(&self, digits: &[Digit]) -> Option<u16>
         ensures { (entries : List Entry) → IsIndex self.now (map coded entries) → option_and_then (slice_get (map coded entries)) result ≡ route_for (map coded entries) digits.now }
     {
         self.office(digits).or(self.operator(digits))

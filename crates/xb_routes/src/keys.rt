@@ -6,17 +6,21 @@ ghost use Rattle.xb_routes.specs.Keys.{keys_of, keys_of_table, keys_read, option
 
 use toml::{Table, Value};
 
-/// The four keys of a route.
+/// The four keys of a route, whatever their values.
 #[derive(Drop)]
-pub struct RouteKeys<'a> {
-    pub code: &'a str,
-    pub trunk: i64,
-    pub delete: Option<i64>,
-    pub prefix: Option<&'a str>,
+pub(crate) struct RouteKeys<'a> {
+    /// The text of its code.
+    pub(crate) code: &'a str,
+    /// Its trunk group.
+    pub(crate) trunk: i64,
+    /// How many digits it deletes, if it says so.
+    pub(crate) delete: Option<i64>,
+    /// The text that it puts in front, if any.
+    pub(crate) prefix: Option<&'a str>,
 }
 
 /// What a key holds.
-pub fn value_at<'a>(keys: &'a Table, name: &str) -> Option<&'a Value>
+pub(crate) fn value_at<'a>(keys: &'a Table, name: &str) -> Option<&'a Value>
     ensures { option_map (λ v. view v.now) result ≡ get_member name.now (table_view keys.now) }
 {
     keys.get(name)
@@ -69,7 +73,7 @@ fn keys_of_table(keys: &Table) -> Option<RouteKeys<'_>>
 
 /// The four keys of a route; `None` where the route is not a table, a required key is missing, or
 /// one of them holds another kind of value.
-pub fn keys_of(value: &Value) -> Option<RouteKeys<'_>>
+pub(crate) fn keys_of(value: &Value) -> Option<RouteKeys<'_>>
     ensures { option_map keys_read result ≡ keys_of (view value.now) }
 {
     keys_of_table(value.as_table()?)

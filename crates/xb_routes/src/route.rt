@@ -23,11 +23,13 @@ pub struct Route {
     pub prefixed: PrefixDigits,
 }
 
-/// A route, and the code of the numbers that take it.
+/// A route with its code.
 #[derive(Drop)]
-pub struct Entry {
-    pub code: Code,
-    pub route: Route,
+pub(crate) struct Entry {
+    /// The code of the numbers that take it.
+    pub(crate) code: Code,
+    /// What becomes of them.
+    pub(crate) route: Route,
 }
 
 fn trunk_of(number: i64) -> Option<Trunk>
@@ -56,7 +58,7 @@ fn keys_no_digit(number_length: u8, route: &Route) -> bool
 }
 
 /// Route `i` of a table, or its first fault.
-pub fn route_of(plan: Plan, i: u32, value: &Value) -> Result<Entry, RouteFault>
+pub(crate) fn route_of(plan: Plan, i: u32, value: &Value) -> Result<Entry, RouteFault>
     ensures { result_map_both coded (λ f. f) result ≡ route_of plan i (keys_of (view value.now)) }
 {
     let Some(keys) = keys_of(value) else {
