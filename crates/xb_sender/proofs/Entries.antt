@@ -1,14 +1,14 @@
 -- The entries that orders make on a tape.
-use Rattle.std.proofs.Common.{◌≡◌, ℕ, true, false, List, [], ◌∷◌, ◌++◌, map, refl, ap, ◌∙◌}
+use Rattle.std.proofs.Common.{◌≡◌, ℕ, false, List, [], ◌∷◌, ◌++◌, map, refl, ap, ◌∙◌, append_assoc}
 use Rattle.std.specs.List.{AllByRecursion, flat_map}
-use Rattle.std.proofs.lemmas.Bool.{cond-true, cond-false}
 use Rattle.xb_model.specs.declared.key.Key.TheVariants.{Kp, St, Digit}
 use Rattle.xb_model.specs.declared.mark.Mark.{Mark}
 use Rattle.xb_model.specs.declared.mark.Mark.TheVariants as marks
 use Rattle.xb_model.specs.declared.order.Order.{Order}
 use Rattle.xb_model.specs.declared.order.Order.TheVariants.{Key, Refused}
 use Rattle.xb_model.specs.Keyings.{tone, marks_of, is_ending}
-use Rattle.xb_model.specs.Tapes.{entries_of, into_first_entry}
+use Rattle.xb_model.specs.Tapes.{entries_of}
+use Rattle.xb_model.proofs.Entries.{entries_of-cut}
 use Rattle.xb_sender.specs.Sending.{EndsAtLast}
 
 -- no tone of a digit ends an entry
@@ -29,17 +29,10 @@ marks_of-last (Key trunk digits) =
 marks_of-last (Refused reason heard) =
     record { front = []; last = marks.Refused reason heard; parts = refl; goes_on = tt; ends = refl }
 
--- marks that go on, and then one that ends, are one entry
-entries_of-front : (front : List Mark) (last : Mark) (rest : List Mark) → AllByRecursion (λ mark. is_ending mark ≡ false) front → is_ending last ≡ true
-    → entries_of ((front ++ last ∷ []) ++ rest) ≡ (front ++ last ∷ []) ∷ entries_of rest
-entries_of-front [] last rest goes_on ends = cond-true _ _ _ ends
-entries_of-front (mark ∷ front) last rest goes_on ends =
-    cond-false _ _ _ goes_on.0 ∙ ap (into_first_entry mark) (entries_of-front front last rest goes_on.1 ends)
-
 -- marks of which exactly the last ends an entry are one entry, whatever comes behind them
 pub entries_of-append : (marks rest : List Mark) → EndsAtLast marks → entries_of (marks ++ rest) ≡ marks ∷ entries_of rest
 entries_of-append marks rest ends =
-    rw ends.parts (entries_of-front ends.front ends.last rest ends.goes_on ends.ends)
+    rw (ends.parts, append_assoc) (entries_of-cut ends.front ends.last rest ends.goes_on ends.ends)
 
 -- each order is one entry
 pub entries_of-flat_map : (orders : List Order) → entries_of (flat_map marks_of orders) ≡ map marks_of orders

@@ -64,7 +64,7 @@ fn push_keying(line: LineNo, out: &mut Vec<On<Mark>>, trunk: Trunk, digits: &Key
 pub struct Sender;
 
 impl Sender {
-    /// A sender; it serves all lines.
+    /// A sender: the one value of this type, which serves all lines.
     pub fn new() -> Sender
         ensures { ⟦<Sender as LineStage>⟧.machine result ≡ machine }
     {

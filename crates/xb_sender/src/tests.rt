@@ -5,9 +5,13 @@ use std::process::Abort;
 use xb_model::{Digit, Key, KeyDigits, LineNo, Mark, On, Order, Reason, Tone, Trunk};
 use xb_ring::{LineStage, OUTPUT_ROOM};
 
-// What the sender puts on the tape of line 20 for an order.
+fn line(rt: &impl Abort) -> LineNo {
+    LineNo::new(20).expect(rt, "a line")
+}
+
+// What the sender puts on the tape of the line for an order.
 fn sent(rt: &impl Abort, alloc: Global, order: Order) -> Result<Vec<On<Mark>>, AllocError> {
-    let line = LineNo::new(20).expect(rt, "a line");
+    let line = line(rt);
     let sender = Sender::new();
     let mut state = sender.fresh();
     let mut out = Vec::with_capacity(alloc, OUTPUT_ROOM)?;
@@ -15,32 +19,42 @@ fn sent(rt: &impl Abort, alloc: Global, order: Order) -> Result<Vec<On<Mark>>, A
     Ok(out)
 }
 
-// The marks of a keying, given each digit with its pair.
+// The mark of a key on the line, with its pair in Hz.
+fn tone(rt: &impl Abort, key: Key, low: u16, high: u16) -> On<Mark> {
+    let line = line(rt);
+    let what = Mark::Tone(key, Tone { low, high });
+    On { line, what }
+}
+
+// The marks of a keying on the line, given each digit with its pair.
 fn keying(
+    rt: &impl Abort,
     alloc: Global,
     trunk: Trunk,
-    pairs: &[(Digit, u16, u16)],
-) -> Result<Vec<Mark>, AllocError> {
-    let mut marks = Vec::new(alloc);
-    marks.push(Mark::Trunk(trunk))?;
-    let kp = Tone {
-        low: 1100,
-        high: 1700,
-    };
-    marks.push(Mark::Tone(Key::Kp, kp))?;
-    for (digit, low, high) in pairs {
-        let pair = Tone {
-            low: *low,
-            high: *high,
-        };
-        marks.push(Mark::Tone(Key::Digit(*digit), pair))?;
+    digits: &[(u8, u16, u16)],
+) -> Result<Vec<On<Mark>>, AllocError> {
+    let line = line(rt);
+    let what = Mark::Trunk(trunk);
+    let mut marks = vec![in alloc; On { line, what }, tone(rt, Key::Kp, 1100, 1700)]?;
+    for (value, low, high) in digits {
+        let digit = Digit::new(*value).expect(rt, "a digit");
+        marks.push(tone(rt, Key::Digit(digit), *low, *high))?;
     }
-    let st = Tone {
-        low: 1500,
-        high: 1700,
-    };
-    marks.push(Mark::Tone(Key::St, st))?;
+    marks.push(tone(rt, Key::St, 1500, 1700))?;
     Ok(marks)
+}
+
+// The digits without their pairs.
+fn digits_alone(
+    rt: &impl Abort,
+    alloc: Global,
+    digits: &[(u8, u16, u16)],
+) -> Result<KeyDigits, AllocError> {
+    let mut alone = Vec::new(alloc);
+    for (value, _low, _high) in digits {
+        alone.push(Digit::new(*value).expect(rt, "a digit"))?;
+    }
+    Ok(KeyDigits::of(&alone).expect(rt, "at most 15 digits"))
 }
 
 // Checks what an order to key these digits gives.
@@ -48,24 +62,12 @@ fn check_keying(
     rt: &impl Abort,
     alloc: Global,
     trunk: u16,
-    rows: &[(u8, u16, u16)],
+    digits: &[(u8, u16, u16)],
 ) -> Result<(), AllocError> {
     let trunk = Trunk::new(trunk).expect(rt, "a trunk group");
-    let mut digits = Vec::new(alloc);
-    let mut pairs = Vec::new(alloc);
-    for (value, low, high) in rows {
-        let digit = Digit::new(*value).expect(rt, "a digit");
-        digits.push(digit)?;
-        pairs.push((digit, *low, *high))?;
-    }
-    let keyed = KeyDigits::of(&digits).expect(rt, "at most 15 digits");
+    let keyed = digits_alone(rt, alloc, digits)?;
     let out = sent(rt, alloc, Order::Key(trunk, keyed))?;
-    let wanted = keying(alloc, trunk, &pairs)?;
-    assert_eq!(rt; out.len(), wanted.len(), "the marks of {trunk:?}");
-    for (item, mark) in out.iter().zip(wanted.iter()) {
-        assert_eq!(rt; item.line.get(), 20);
-        assert_eq!(rt; item.what, *mark);
-    }
+    assert_eq!(rt; out, keying(rt, alloc, trunk, digits)?);
     Ok(())
 }
 
@@ -102,9 +104,9 @@ fn longest_keying(rt: HostRuntime) -> Result<(), AllocError> {
 
 #[test]
 fn refused_attempt(rt: HostRuntime) -> Result<(), AllocError> {
+    let line = line(&rt);
+    let what = Mark::Refused(Reason::Unknown, 7);
     let out = sent(&rt, rt.alloc(), Order::Refused(Reason::Unknown, 7))?;
-    assert_eq!(rt; out.len(), 1);
-    assert_eq!(rt; out[0].line.get(), 20);
-    assert_eq!(rt; out[0].what, Mark::Refused(Reason::Unknown, 7));
+    assert_eq!(rt; out, vec![in rt.alloc(); On { line, what }]?);
     Ok(())
 }
