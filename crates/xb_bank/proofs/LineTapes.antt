@@ -1,7 +1,6 @@
 -- The tapes of the four images are the tapes of the lines.
 use Rattle.std.proofs.Common.{◌≡◌, ℕ, ◌<◌, List, [], ◌∷◌, length, map, refl, sym, ap, ◌∙◌}
 use Rattle.std.specs.List.{flat_map}
-use Rattle.std.specs.Option.{option_to_list}
 use Rattle.std.proofs.lemmas.List.Folds.{flat_map-map}
 use Rattle.std.proofs.lemmas.Simd.{map-map}
 use Rattle.std.proofs.lemmas.List.FromFn.{fill_by_all}
@@ -26,7 +25,7 @@ use Rattle.xb_ring.specs.Stateless.{on_line, all_on}
 use Rattle.xb_ring.proofs.Images.{image-of_line}
 use Rattle.xb_pulse.specs.Machine.{machine as pulse_machine}
 use Rattle.xb_pulse.specs.Outputs.{outs_on_line}
-use Rattle.xb_register.specs.Registering.{advance, machine as register_machine}
+use Rattle.xb_register.specs.Registering.{machine as register_machine}
 use Rattle.xb_routes.specs.Translating.{machine as translate_machine}
 use Rattle.xb_sender.specs.Sending.{machine as sender_machine}
 use Rattle.xb_sender.proofs.Entries.{entries_of-flat_map}
@@ -58,9 +57,9 @@ module _ (plan : Plan) (limits : Limits) (routes : List CodedRoute) where
       let signals : List (On Signal) = image row_line (pulse_machine limits) rows in
       let dialled : List (On Dialled) = image on_line_of (register_machine plan) signals in
       let orders : List (On Order) = image on_line_of (translate_machine routes) dialled in
-      image-of_line on_line_of on_line_of sender_machine (λ q x. all_on x.line (marks_of x.what)) l orders
+      image-of_line on_line_of on_line_of sender_machine (λ q x. all_on x.line _) l orders
       ∙ ap (λ xs. image_on sender_machine xs) (image-of_line on_line_of on_line_of (translate_machine routes) (λ q x. all_on x.line (order_of routes x.what ∷ [])) l dialled)
-      ∙ ap (λ xs. image_on sender_machine (image_on (translate_machine routes) xs)) (image-of_line on_line_of on_line_of (register_machine plan) (λ q x. all_on x.line (option_to_list (advance plan q x.what).outcome)) l signals)
+      ∙ ap (λ xs. image_on sender_machine (image_on (translate_machine routes) xs)) (image-of_line on_line_of on_line_of (register_machine plan) (λ q x. all_on x.line _) l signals)
       ∙ ap (λ xs. image_on sender_machine (image_on (translate_machine routes) (image_on (register_machine plan) xs))) (image-of_line row_line on_line_of (pulse_machine limits) (outs_on_line limits) l rows)
 
   module _ (lawful : IsLawful limits) (tapes : List (List Mark)) (marks : List (On Mark)) (rows : List LoopRow)
