@@ -3,6 +3,7 @@ use Rattle.std.specs.Prelude.{ℕ, List, [], ◌∷◌, if◌then◌else◌, ◌
 use Rattle.xb_model.specs.declared.key.Tone.{Tone}
 use Rattle.xb_model.specs.declared.key.Key.{Key}
 use Rattle.xb_model.specs.declared.key.Key.TheVariants.{Digit, Kp, St}
+use Rattle.xb_model.specs.declared.signal.TheConstants.{MOST_PULSES}
 use Rattle.xb_model.specs.TwoOfFive.{operated, good_pattern}
 
 abbrev pub pair : ℕ → ℕ → Tone
@@ -16,9 +17,9 @@ frequencies = 700 ∷ 900 ∷ 1100 ∷ 1300 ∷ 1500 ∷ []
 abbrev pub pair_of_two : List ℕ → Tone
 pair_of_two two = pair (slice_index_or two 0 0) (slice_index_or two 1 0)
 
--- the two elements of a digit, read as frequencies; digit 0 has ten pulses
+-- the two elements of a digit, read as frequencies; digit 0 has the most pulses
 abbrev pub digit_pair : ℕ → Tone
-digit_pair d = pair_of_two (operated frequencies (good_pattern (if d == 0 then 10 else d)))
+digit_pair d = pair_of_two (operated frequencies (good_pattern (if d == 0 then MOST_PULSES else d)))
 
 -- the pair of a key
 abbrev pub mf_pair : Key → Tone

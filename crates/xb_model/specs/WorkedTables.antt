@@ -2,6 +2,7 @@
 use Rattle.std.specs.Prelude.{◌≡◌, ℕ, ◌<◌, List, [], ◌∷◌, Bool, true, false, ◌==◌, is_some, count_by, Some, None}
 use Rattle.xb_model.specs.declared.key.Key.TheVariants.{Digit, Kp, St}
 use Rattle.xb_model.specs.declared.plan.Plan.TheVariants.{Seven}
+use Rattle.xb_model.specs.declared.signal.TheConstants.{MOST_PULSES}
 use Rattle.xb_model.specs.TwoOfFive.{five, at_rest, operated, weights, digit_of_pattern, pattern_of_count}
 use Rattle.xb_model.specs.MfPairs.{pair, mf_pair}
 use Rattle.xb_model.specs.Plans.{plan_len}
@@ -26,7 +27,7 @@ pub record TwoOfFiveTable : Type 0 where
   pub digit_9 : Elements 9 2 7 9
   pub digit_0 : Elements 10 4 7 0
   pub no_pulse : pattern_of_count 0 false ≡ at_rest
-  pub many_pulses : (n : ℕ) → 10 < n → pattern_of_count n false ≡ at_rest
+  pub many_pulses : (n : ℕ) → MOST_PULSES < n → pattern_of_count n false ≡ at_rest
   pub bad_train : (n : ℕ) → pattern_of_count n true ≡ at_rest
 
 -- a pattern is a digit exactly where two of its five elements operate
