@@ -42,5 +42,7 @@ pub trait LineStage {
         ensures room { vec_capacity out.new ≡ vec_capacity out.old };
 
     // what is sent for an item is on the item's line
-    ghost on_line: { (stage : Self) (state : Self.State) (item : Self.In) → AllByRecursion (λ sent. Self.Out.line_of sent ≡ Self.In.line_of item) ((machine stage).outs state item) };
+    ghost on_line: { (stage : Self) (state : Self.State) (item : Self.In) →
+        AllByRecursion (λ sent. Self.Out.line_of sent ≡ Self.In.line_of item)
+        ((machine stage).outs state item) };
 }
