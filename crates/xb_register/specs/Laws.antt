@@ -35,14 +35,16 @@ outcomes_given plan line signals = image_on (machine plan) (on_line line signals
 abbrev pub GivesOutcomes : Type 0
 GivesOutcomes =
     (plan : Plan) (limits : Limits) (line : LineNo) (record_ : List Run)
-    → outcomes_given plan line (signals_of limits record_) ≡ on_line line (outcomes_of plan limits record_)
+    → outcomes_given plan line (signals_of limits record_)
+    ≡ on_line line (outcomes_of plan limits record_)
 
 -- each seizure, with what comes behind it up to the next, adds one outcome at most
 abbrev pub EachSeizureGivesAtMostOne : Type 0
 EachSeizureGivesAtMostOne =
     (plan : Plan) (line : LineNo) (before behind : List Signal)
     → seizures behind ≡ 0
-    → length (outcomes_given plan line (before ++ Seize ∷ behind)) ≤ length (outcomes_given plan line before) + 1
+    → length (outcomes_given plan line (before ++ Seize ∷ behind))
+    ≤ length (outcomes_given plan line before) + 1
 
 -- so there are no more outcomes than seizures
 abbrev pub GivesNoMoreThanSeizures : Type 0

@@ -37,7 +37,9 @@ reaches (Some len) n = nat_le len n
 -- behind one digit more
 abbrev pub with_digits : Plan → List ℕ → Answer
 with_digits plan digits =
-    if reaches (plan_len plan digits) (length digits) then ended (Number digits) Done else quiet (Listening digits)
+    if reaches (plan_len plan digits) (length digits)
+    then ended (Number digits) Done
+    else quiet (Listening digits)
 
 -- a digit, or a pattern that is none
 abbrev pub store : Plan → List ℕ → Option ℕ → Answer
@@ -47,7 +49,8 @@ store plan digits (Some d) = with_digits plan (digits ++ d ∷ [])
 -- a signal in an attempt
 abbrev pub listen : Plan → List ℕ → Signal → Answer
 listen plan digits Seize = quiet (Listening digits)
-listen plan digits (Digit count bad) = store plan digits (digit_of_pattern (pattern_of_count count bad))
+listen plan digits (Digit count bad) =
+    store plan digits (digit_of_pattern (pattern_of_count count bad))
 listen plan digits TimeOut = refused TimedOut digits Done
 listen plan digits Release = refused Abandoned digits OnHook
 listen plan digits Close = refused Abandoned digits OnHook

@@ -6,8 +6,8 @@ pub fn gives_outcomes()
     ensures { GivesOutcomes }
 {}
 
-/// Whatever the signals are, at most one outcome comes of each seizure and what follows it up to the
-/// next; so no more in all than there are seizures.
+/// Whatever the signals are, at most one outcome comes of each seizure and what follows it up to
+/// the next; so there are no more in all than seizures.
 pub fn gives_at_most_one()
     ensures each { EachSeizureGivesAtMostOne }
     ensures total { GivesNoMoreThanSeizures }

@@ -17,8 +17,8 @@ use xb_ring::LineStage;
 /// Each digit is kept as its two-out-of-five pattern, checked when it is stored, and read back to
 /// learn whether the number is complete and to tell it. A complete number decides first, then a
 /// mutilated digit, a time-out, and a release or close; a refusal has the count of good digits
-/// before it. After a number, a refusal or a time-out nothing is heard on the line until its release
-/// or close.
+/// before it. After a number, a refusal or a time-out nothing is heard on the line until its
+/// release or close.
 #[derive(Drop)]
 pub struct Register {
     plan: Plan,
@@ -138,7 +138,8 @@ impl LineStage for Register {
 
     ghost machine = { λ register. machine register };
 
-    ghost on_line = { λ register phase item. all_on item.line (outcomes_by register phase item.what) };
+    ghost on_line = { λ register phase item.
+        all_on item.line (outcomes_by register phase item.what) };
 
     fn fresh(&self) -> RegisterState {
         RegisterState::fresh()
