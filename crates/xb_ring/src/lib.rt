@@ -9,4 +9,4 @@ mod tests;
 
 pub use image::image_of;
 pub use laws::{lines_are_apart, one_state_each, stateless_lines};
-pub use stage::{LineStage, MOST_OUTPUTS, OUTPUT_ROOM};
+pub use stage::{LineStage, MOST_OUTPUTS, OUTPUT_ROOM, send};

@@ -8,17 +8,7 @@ ghost use Rattle.xb_ring.specs.Stateless.{on_line, all_on};
 ghost use Rattle.xb_sender.specs.Sending.{machine};
 
 use xb_model::{Digit, Key, KeyDigits, LineNo, Mark, On, Order, Trunk, mf};
-use xb_ring::LineStage;
-
-// Pushes a mark of the line.
-fn push_mark(line: LineNo, out: &mut Vec<On<Mark>>, mark: Mark)
-    requires { vec_len out.old < vec_capacity out.old }
-    ensures items { out.new.items ≡ out.old.items ++ on_line line (mark ∷ []) }
-    ensures len { vec_len out.new ≡ vec_len out.old + 1 }
-    ensures capacity { vec_capacity out.new ≡ vec_capacity out.old }
-{
-    out.push_reserved(On { line, what: mark });
-}
+use xb_ring::{LineStage, send};
 
 // Pushes a key with its pair of tones.
 fn push_key(line: LineNo, out: &mut Vec<On<Mark>>, key: &Key)
@@ -28,7 +18,7 @@ fn push_key(line: LineNo, out: &mut Vec<On<Mark>>, key: &Key)
     ensures capacity { vec_capacity out.new ≡ vec_capacity out.old }
 {
     let pair = mf(*key);
-    push_mark(line, out, Mark::Tone(*key, pair));
+    send(line, out, Mark::Tone(*key, pair));
 }
 
 // Pushes each digit with its pair of tones.
@@ -51,7 +41,7 @@ fn push_keying(line: LineNo, out: &mut Vec<On<Mark>>, trunk: Trunk, digits: &Key
     ensures few { vec_len out.new ≤ KEY_DIGITS + 3 }
     ensures capacity { vec_capacity out.new ≡ vec_capacity out.old }
 {
-    push_mark(line, out, Mark::Trunk(trunk));
+    send(line, out, Mark::Trunk(trunk));
     push_key(line, out, &Key::Kp);
     push_digits(line, out, digits.digits());
     push_key(line, out, &Key::St);
@@ -86,10 +76,12 @@ impl LineStage for Sender {
     fn fresh(&self) {}
 
     fn step(&self, _state: &mut (), item: On<Order>, out: &mut Vec<On<Mark>>) {
+        // names the type, without which the check has no plan for the borrow below
+        let _key: Option<Key> = None;
         let On { line, what } = item;
         match what {
             Order::Key(trunk, digits) => push_keying(line, out, trunk, &digits),
-            Order::Refused(reason, heard) => push_mark(line, out, Mark::Refused(reason, heard)),
+            Order::Refused(reason, heard) => send(line, out, Mark::Refused(reason, heard)),
         }
     }
 }
