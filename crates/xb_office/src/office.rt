@@ -41,7 +41,8 @@ fn page_of_deck(alloc: Global, bytes: &[u8]) -> Result<Vec<u8>, OfficeFault>
 /// Reads a deck, and writes its page: the tapes of the lines, as the deck's rows and its table make
 /// them. The table is read before the rows, and nothing is written before both are.
 ///
-/// On an `Err` nothing was written, but on `Write`, where a front of the page was.
+/// On an `Err` nothing was written, but on `Write`, where a front of the page was. On any answer but
+/// `Read`, `DeckTooLong` and `NoMemory` the reader stands at its end.
 ///
 /// What the contract says of bytes it says of readers whose bytes and writers whose contents are
 /// known to contracts (byte slices, lists), which those of a process are not.
@@ -55,6 +56,7 @@ pub fn operate<R: Read, W: Write>(
     ensures untouched { IfErr result (λ f. f ≢ OfficeFault.Write → Keeps (W.contents out.old) (W.contents out.new)) }
     ensures front { IfSome (R.remaining deck.old) (λ bytes. IfErr result (λ f. f ≡ OfficeFault.Write → GetsFront (says bytes) (W.contents out.old) (W.contents out.new))) }
     ensures end { OnOk result (IsAtEnd (R.remaining deck.new)) }
+    ensures read_first { IfErr result (λ f. f ≢ OfficeFault.Read → f ≢ OfficeFault.DeckTooLong → f ≢ OfficeFault.NoMemory → IsAtEnd (R.remaining deck.new)) }
     ensures taken { TakesUpTo (MOST_DECK_BYTES + 1) (R.remaining deck.old) (R.remaining deck.new) }
 {
     let bytes = read_whole(alloc, deck, MOST_DECK_BYTES)?;

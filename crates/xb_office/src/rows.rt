@@ -1,5 +1,5 @@
 // The rows of a whole text, and of a reader.
-ghost use Rattle.std.specs.Prelude.{◌≡◌, IfErr, IfOk, IfSome, OnOk};
+ghost use Rattle.std.specs.Prelude.{◌≡◌, ◌≢◌, IfErr, IfOk, IfSome, OnOk};
 ghost use Rattle.std.specs.Io.KnownBytes.{IsAtEnd};
 ghost use Rattle.xb_office.specs.RowAnswers.{IsFaultOf, AreRowsOf, IsReadFaultOf};
 
@@ -27,7 +27,8 @@ pub fn rows_of(alloc: Global, text: &[u8]) -> Result<Vec<Row>, RowFault>
 
 /// The rows of a reader's bytes, which are read to their end first: `Read` where a read failed, an
 /// interrupted one too, or 2^64 - 1 reads did not reach the end; else the faults of `Scan`, and
-/// `NoMemory` where a growth was refused.
+/// `NoMemory` where a growth was refused. On any answer but `Read` and `NoMemory` the reader stands
+/// at its end.
 ///
 /// What the contract says of bytes it says of readers whose bytes are known to contracts (byte
 /// slices), which those of a process are not.
@@ -35,6 +36,7 @@ pub fn read_rows<R: Read>(alloc: Global, reader: &mut R) -> Result<Vec<Row>, Row
     ensures rows { IfOk result (λ rows. IfSome (R.remaining reader.old) (λ text. AreRowsOf text rows.items)) }
     ensures fault { IfErr result (λ f. IfSome (R.remaining reader.old) (λ text. IsReadFaultOf text f)) }
     ensures end { OnOk result (IsAtEnd (R.remaining reader.new)) }
+    ensures read_first { IfErr result (λ f. f ≢ RowFault.Read → f ≢ RowFault.NoMemory → IsAtEnd (R.remaining reader.new)) }
 {
     match read_whole(alloc, reader, usize::MAX) {
         Ok(text) => rows_of(alloc, text.as_slice()),
