@@ -26,25 +26,20 @@ records_of_text (r ∷ rs) =
     records-more default_config st.StartRecord (records_text (r ∷ rs)) (read_back r, st.StartRecord, records_text rs) (read-write r (records_text rs))
     ∙ ap (λ (more : List (List (List ℕ))). read_back r ∷ more) (records_of_text rs)
 
+-- the state of a written record is read
+contact_of_text : (contact : Contact) → contact_of (contact_text contact) ≡ Some contact
+contact_of_text Make = refl
+contact_of_text Brk = refl
+contact_of_text Close = refl
+
 -- the row of a written record
 row_of_written : (n : ℕ) (row : LoopRow) (rows : List LoopRow) → AreRows (row ∷ rows) → row_of_fields n (three_of (read_back (fields_of_row row))) ≡ Ok row
 row_of_written n row rows h =
     let short = at_most_a_day row.contact row.ms h.1 in
     let line = field_number-decimal LINE_DIGITS row.line (omega arith) (omega arith) (omega arith) in
     let ms = field_number-decimal MS_DIGITS row.ms (omega arith) (omega arith) (omega arith) in
-    rw line (by row.contact row.line row.ms h.1 ms)
-  where
-    by : (contact : Contact) (line ms : ℕ) → IsRow contact ms → field_number MS_DIGITS (decimal ms) ≡ Some ms
-        → with_contact n line (decimal ms) (contact_of (contact_text contact)) ≡ Ok (row_of line contact ms)
-    by Make line ms lawful e =
-        let may : may_last Make ms ≡ true = grind (arith, nat_tests) in
-        rw (e, may) refl
-    by Brk line ms lawful e =
-        let may : may_last Brk ms ≡ true = grind (arith, nat_tests) in
-        rw (e, may) refl
-    by Close line ms lawful e =
-        let may : may_last Close ms ≡ true = grind (arith, nat_tests) in
-        rw (e, may) refl
+    let may : may_last row.contact row.ms ≡ true = grind (arith, nat_tests) in
+    rw (line, contact_of_text row.contact, ms, may) refl
 
 -- the rows of written records
 rows_of_written : (n : ℕ) (rows : List LoopRow) → AreRows rows → n + length rows ≤ MOST_RECORDS + 1 → rows_from n (map read_back (map fields_of_row rows)) ≡ ended_by rows

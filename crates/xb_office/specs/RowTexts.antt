@@ -1,6 +1,8 @@
 -- What the text of the loop rows says: its rows before the first fault, and that fault (own format,
 -- read as `csv` reads it).
-use Rattle.std.specs.Prelude.{ℕ, ◌+◌, ◌-◌, ◌*◌, ◌==◌, ◌&&◌, nat_lt, nat_le, if◌then◌else◌, List, [], ◌∷◌, length, codes, Bool, false, Option, Some, None, Result, Ok, Err, bytes_eq}
+use Rattle.std.specs.Prelude.{ℕ, ◌+◌, ◌==◌, ◌&&◌, nat_lt, nat_le, if◌then◌else◌, List, [], ◌∷◌, length, codes, Bool, false, Option, Some, None, Result, Ok, Err, bytes_eq}
+use Rattle.std.specs.Str.{all_ascii_digits}
+use Rattle.std.specs.Str.Parse.{digits_value}
 use Rattle.csv.specs.Reading.{default_config, records, strip_bom}
 use Rattle.xb_bank.specs.Sources.{Rest}
 use Rattle.xb_model.specs.declared.row.Contact.{Contact}
@@ -11,23 +13,22 @@ use Rattle.xb_model.specs.Rows.{LoopRow, may_last, row_of}
 use Rattle.xb_office.specs.declared.record.TheConstants.{LINE_DIGITS, MS_DIGITS}
 use Rattle.xb_office.specs.declared.scan.TheConstants.{MOST_RECORDS}
 
--- the number that ASCII digits write behind a number, where each byte is one
-abbrev pub digits_from : ℕ → List ℕ → Option ℕ
-digits_from n [] = Some n
-digits_from n (c ∷ cs) = if nat_le 48 c && nat_le c 57 then digits_from (n * 10 + (c - 48)) cs else None
-
 -- the number that a field of 1 to `most` ASCII digits writes
 abbrev pub field_number : ℕ → List ℕ → Option ℕ
-field_number most field = if nat_le 1 (length field) && nat_le (length field) most then digits_from 0 field else None
+field_number most field =
+    if nat_le 1 (length field) && nat_le (length field) most && all_ascii_digits field then Some (digits_value 10 field)
+    else None
 
 abbrev pub line_of : List ℕ → Option ℕ
 line_of field = field_number LINE_DIGITS field
 
 -- what the loop does, as a field names it
 abbrev pub contact_of : List ℕ → Option Contact
-contact_of [] = None
-contact_of (c ∷ []) = if c == 77 then Some Make else if c == 66 then Some Brk else if c == 67 then Some Close else None
-contact_of (c ∷ d ∷ rest) = None
+contact_of field =
+    if bytes_eq field (codes "M") then Some Make
+    else if bytes_eq field (codes "B") then Some Brk
+    else if bytes_eq field (codes "C") then Some Close
+    else None
 
 abbrev pub with_ms : ℕ → ℕ → Contact → Option ℕ → Result LoopRow RowFault
 with_ms n line contact None = Err (fault.Ms n)

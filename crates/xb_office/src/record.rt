@@ -26,7 +26,7 @@ fn field_number(most: usize, field: &[u8]) -> Option<u32>
     }
     let mut number: u32 = 0;
     for digit in field {
-        if *digit < b'0' || *digit > b'9' {
+        if !digit.is_ascii_digit() {
             return None;
         }
         number = number * 10 + u32::from(*digit - b'0');
@@ -70,29 +70,18 @@ fn three_of(fields: &ByteRecord) -> Option<(&[u8], &[u8], &[u8])>
 fn row_of_three(n: u32, line: &[u8], state: &[u8], ms: &[u8]) -> Result<Row, RowFault>
     ensures { result ≡ row_of_fields n (Some (line.now, state.now, ms.now)) }
 {
-    let Some(line) = line_of(line) else {
-        return Err(RowFault::Line(n));
-    };
-    let Some(contact) = contact_of(state) else {
-        return Err(RowFault::Contact(n));
-    };
-    let Some(ms) = field_number(MS_DIGITS, ms) else {
-        return Err(RowFault::Ms(n));
-    };
-    match Row::new(line, contact, ms) {
-        Some(row) => Ok(row),
-        None => Err(RowFault::Ms(n)),
-    }
+    let line = line_of(line).ok_or(RowFault::Line(n))?;
+    let contact = contact_of(state).ok_or(RowFault::Contact(n))?;
+    let ms = field_number(MS_DIGITS, ms).ok_or(RowFault::Ms(n))?;
+    Row::new(line, contact, ms).ok_or(RowFault::Ms(n))
 }
 
 /// The row that record `n` writes.
 pub fn row_of(n: u32, fields: &ByteRecord) -> Result<Row, RowFault>
     ensures { result ≡ row_of_fields n (three_of (fields_of fields.now)) }
 {
-    match three_of(fields) {
-        Some((line, state, ms)) => row_of_three(n, line, state, ms),
-        None => Err(RowFault::Fields(n)),
-    }
+    let (line, state, ms) = three_of(fields).ok_or(RowFault::Fields(n))?;
+    row_of_three(n, line, state, ms)
 }
 
 /// Whether a record is the header.

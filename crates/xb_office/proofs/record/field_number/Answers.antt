@@ -10,12 +10,12 @@ pow_bound n i h b =
 
 pub overflow_mul-number : goal.overflow_mul-number
 overflow_mul-number c =
-    let b = pow_bound c.loop-digit.number c.loop-digit.digit-index (omega arith) c.loop-digit.invariant.0 in
+    let b = pow_bound c.loop-digit.number c.loop-digit.digit-index (omega arith) c.loop-digit.invariant.short in
     omega arith
 
 pub overflow_add-number : goal.overflow_add-number
 overflow_add-number c =
-    let b = pow_bound c.loop-digit.number c.loop-digit.digit-index (omega arith) c.loop-digit.invariant.0 in
+    let b = pow_bound c.loop-digit.number c.loop-digit.digit-index (omega arith) c.loop-digit.invariant.short in
     omega (arith, c.from.ensures)
 
 pub returns-clause-bound : goal.returns-clause-bound
