@@ -1,18 +1,14 @@
 -- How the cut of a deck goes line by line.
-use Rattle.std.proofs.Common.{◌≡◌, ◌≤◌, ◌+◌, ◌-◌, ℕ, List, [], ◌∷◌, ◌++◌, length, get_or, take, drop, Option, Some, None, Bool, true, false, refl, sym, ap, ◌∙◌, arith, append_assoc}
-use Rattle.std.specs.Prelude.{◌==◌, option_map, codes}
+use Rattle.std.proofs.Common.{◌≡◌, ◌≤◌, ◌+◌, ◌-◌, ℕ, List, [], ◌∷◌, ◌++◌, length, get_or, take, drop, Option, Some, None, true, false, refl, sym, ap, ◌∙◌, arith, append_assoc}
+use Rattle.std.specs.Prelude.{option_map, codes}
 use Rattle.std.specs.List.{All, position, position_or_len, slice_split}
 use Rattle.std.proofs.lemmas.Grind.{common_steps}
-use Rattle.std.proofs.lemmas.List.{append-nil, drop-drop, drop_more, length-drop, take-append-drop, take_all, take_more}
+use Rattle.std.proofs.lemmas.List.{append-nil, drop-drop, drop_more, length-drop, take-append-drop, take_more, take_rest}
 use Rattle.std.proofs.Math.Seq.{take-add}
 use Rattle.std.proofs.lemmas.List.Quantifiers.{position-Some}
 use Rattle.std.proofs.lemmas.List.Splits.{slice_split_at, slice_split_none, join_with_byte-slice_split}
 use Rattle.std.proofs.lemmas.List.Sums.{fails_before_first}
-use Rattle.xb_office.specs.Deck.{Parts, in_front, deck_parts, is_cut}
-
--- whether a byte is LF
-abbrev ends_line : ℕ → Bool
-ends_line byte = byte == 10
+use Rattle.xb_office.specs.Deck.{Parts, in_front, deck_parts, ends_line, is_cut, line_feed}
 
 -- the first line, and the lines behind its LF
 first_line : (xs : List ℕ) (n : ℕ) → position ends_line xs ≡ Some n → slice_split ends_line xs ≡ take n xs ∷ slice_split ends_line (drop (n + 1) xs)
@@ -32,7 +28,7 @@ one_line xs e =
 with_end : (xs : List ℕ) (n : ℕ) → position ends_line xs ≡ Some n → take n xs ++ codes "\n" ≡ take (n + 1) xs
 with_end xs n e =
     let (within, is, before) = position-Some ends_line xs n 0 e in
-    let lf : get_or xs n 0 ≡ 10 = grind (arith, common_steps) in
+    let lf : get_or xs n 0 ≡ line_feed = grind (arith, common_steps) in
     ap (λ (byte : ℕ). take n xs ++ (byte ∷ [])) (sym lf) ∙ sym (take_more xs n 0 within)
 
 -- what stands in front of what stands in front
@@ -43,10 +39,6 @@ in_front-in_front a b (Some p) = rw (append_assoc a b p.table) refl
 -- the deck is cut as its rest from a line's start on is, the earlier lines in front
 abbrev pub IsRestCut : List ℕ → ℕ → Type 0
 IsRestCut xs start = deck_parts xs ≡ option_map (in_front (take start xs)) (deck_parts (drop start xs))
-
--- a slice to the end
-to_end : (xs : List ℕ) (start : ℕ) → take (length xs - start) (drop start xs) ≡ drop start xs
-to_end xs start = take_all (length xs - start) (drop start xs) (omega (arith, length-drop start xs))
 
 -- the length of a line from its ends
 line_length : (start n : ℕ) → start + n - start ≡ n
@@ -69,18 +61,18 @@ pub cut-here : (xs : List ℕ) (start n : ℕ) → IsRestCut xs start
     → Some n ≡ position ends_line (take (length xs - start) (drop start xs)) → true ≡ is_cut (take (start + n - start) (drop start xs))
     → Some (record { table = take start xs; rows = take (length xs - (start + n + 1)) (drop (start + n + 1) xs) }) ≡ deck_parts xs
 cut-here xs start n whole e t =
-    let at = rw (to_end xs start) at (sym e) in
+    let at = rw (take_rest xs start) at (sym e) in
     let is = rw (line_length start n) at (sym t) in
     let here : deck_parts (drop start xs) ≡ Some (record { table = []; rows = drop (n + 1) (drop start xs) })
-    = rw (first_line (drop start xs) n at, is) (rw (join_with_byte-slice_split 10 (drop (n + 1) (drop start xs))) refl) in
-    sym (whole ∙ ap (option_map (in_front (take start xs))) here ∙ rw (append-nil (take start xs), drop-line xs start n, to_end xs (start + n + 1)) refl)
+    = rw (first_line (drop start xs) n at, is) (rw (join_with_byte-slice_split line_feed (drop (n + 1) (drop start xs))) refl) in
+    sym (whole ∙ ap (option_map (in_front (take start xs))) here ∙ rw (append-nil (take start xs), drop-line xs start n, take_rest xs (start + n + 1)) refl)
 
 -- a line is not the cut
 pub no-cut_here : (xs : List ℕ) (start n : ℕ) → IsRestCut xs start
     → Some n ≡ position ends_line (take (length xs - start) (drop start xs)) → false ≡ is_cut (take (start + n - start) (drop start xs))
     → (start + n + 1 ≤ length xs) × IsRestCut xs (start + n + 1)
 no-cut_here xs start n whole e t =
-    let at = rw (to_end xs start) at (sym e) in
+    let at = rw (take_rest xs start) at (sym e) in
     let is = rw (line_length start n) at (sym t) in
     let (within, lf, before) = position-Some ends_line (drop start xs) n 0 at in
     let here : deck_parts (drop start xs) ≡ option_map (in_front (take (n + 1) (drop start xs))) (deck_parts (drop (n + 1) (drop start xs)))
@@ -94,7 +86,7 @@ pub no-cut : (xs : List ℕ) (start : ℕ) → IsRestCut xs start
     → None ≡ position ends_line (take (length xs - start) (drop start xs)) → false ≡ is_cut (take (length xs - start) (drop start xs))
     → None ≡ deck_parts xs
 no-cut xs start whole e t =
-    let at = rw (to_end xs start) at (sym e) in
-    let is = rw (to_end xs start) at (sym t) in
+    let at = rw (take_rest xs start) at (sym e) in
+    let is = rw (take_rest xs start) at (sym t) in
     let here : deck_parts (drop start xs) ≡ None = rw (one_line (drop start xs) at, is) refl in
     sym (whole ∙ ap (option_map (in_front (take start xs))) here)

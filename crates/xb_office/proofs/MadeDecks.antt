@@ -1,30 +1,27 @@
 -- A deck that was made is cut into what it was made of, and says its page.
-use Rattle.std.proofs.Common.{◌≡◌, ◌≤◌, ℕ, List, length, false, arith, [], ◌∷◌, ◌++◌, refl, ap, ◌∙◌, append_assoc}
-use Rattle.std.specs.Prelude.{◌==◌, nat_lt, codes, option_map}
+use Rattle.std.proofs.Common.{◌≡◌, length, [], ◌∷◌, ◌++◌, refl, ap, ◌∙◌, append_assoc}
+use Rattle.std.specs.Prelude.{codes, option_map}
 use Rattle.std.proofs.lemmas.List.Splits.{slice_split_at, join_with_byte-slice_split}
-use Rattle.std.proofs.lemmas.Bool.Decides.{nat_tests}
+use Rattle.std.proofs.lemmas.Bool.{le-ltb}
 use Rattle.xb_bank.specs.Sources.{Rest}
 use Rattle.xb_office.specs.declared.deck.TheConstants.{MOST_DECK_BYTES}
 use Rattle.xb_office.specs.Says.{says_rows}
 use Rattle.xb_office.specs.WrittenRows.{text_of_rows}
 use Rattle.xb_office.proofs.WrittenRecords.{written_rows_are_read}
-use Rattle.xb_office.specs.Deck.{deck_parts, in_front}
+use Rattle.xb_office.specs.Deck.{deck_parts, ends_line, in_front, line_feed}
 use Rattle.xb_office.specs.MadeDecks.{MadeDecksAreCut, MadeDecksSayTheirPage, deck_of, with_ends}
 
 -- a deck that was made is cut into its parts
 pub made_decks_are_cut : MadeDecksAreCut
-made_decks_are_cut [] rows h = rw (join_with_byte-slice_split 10 rows) refl
+made_decks_are_cut [] rows h = rw (join_with_byte-slice_split line_feed rows) refl
 made_decks_are_cut (line ∷ lines) rows h =
     let rest = with_ends lines ++ codes "---\n" ++ rows in
-    let whole : with_ends (line ∷ lines) ++ codes "---\n" ++ rows ≡ line ++ 10 ∷ rest = simp append_assoc refl in
-    let split = slice_split_at (λ byte. byte == 10) line 10 rest h.1 refl in
+    let whole : with_ends (line ∷ lines) ++ codes "---\n" ++ rows ≡ line ++ line_feed ∷ rest = simp append_assoc refl in
+    let split = slice_split_at ends_line line line_feed rest h.1 refl in
     ap deck_parts whole ∙ rw (split, h.0) (ap (option_map (in_front (line ++ codes "\n"))) (made_decks_are_cut lines rows h.2))
-
-short : (deck : List ℕ) → length deck ≤ MOST_DECK_BYTES → nat_lt MOST_DECK_BYTES (length deck) ≡ false
-short deck h = grind (arith, nat_tests)
 
 -- such a deck says the page of its rows
 pub made_decks_say_their_page : MadeDecksSayTheirPage
 made_decks_say_their_page lines table rows h is lawful few fits =
-    rw (short (deck_of lines rows) fits, made_decks_are_cut lines (text_of_rows rows) h, is)
+    rw (le-ltb MOST_DECK_BYTES (length (deck_of lines rows)) fits, made_decks_are_cut lines (text_of_rows rows) h, is)
     (ap (λ (rest : Rest). says_rows table rest.rows rest.stop) (written_rows_are_read rows lawful few))

@@ -3,6 +3,13 @@ use Rattle.std.specs.Prelude.{ℕ, ◌==◌, ◌||◌, List, [], ◌∷◌, ◌+
 use Rattle.std.specs.List.{slice_split, join_with_byte}
 use Rattle.xb_office.specs.declared.deck.Deck.{Deck}
 
+-- the byte that ends a line: LF
+abbrev pub line_feed : ℕ
+line_feed = 10
+
+abbrev pub ends_line : ℕ → Bool
+ends_line byte = byte == line_feed
+
 -- whether a line is the cut: `---`, and one CR may stand before its end
 abbrev pub is_cut : List ℕ → Bool
 is_cut line = bytes_eq line (codes "---") || bytes_eq line (codes "---\r")
@@ -23,9 +30,9 @@ in_front bytes parts = record { table = bytes ++ parts.table; rows = parts.rows 
 abbrev pub parts_of_lines : List (List ℕ) → Option Parts
 parts_of_lines [] = None
 parts_of_lines (line ∷ lines) =
-    if is_cut line then Some (record { table = []; rows = join_with_byte 10 lines })
+    if is_cut line then Some (record { table = []; rows = join_with_byte line_feed lines })
     else option_map (λ parts. in_front (line ++ codes "\n") parts) (parts_of_lines lines)
 
 -- the parts of a deck, whose lines are what stands between its LFs
 abbrev pub deck_parts : List ℕ → Option Parts
-deck_parts bytes = parts_of_lines (slice_split (λ byte. byte == 10) bytes)
+deck_parts bytes = parts_of_lines (slice_split ends_line bytes)

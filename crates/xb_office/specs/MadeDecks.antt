@@ -1,12 +1,12 @@
 -- Decks as they are made (own format).
-use Rattle.std.specs.Prelude.{ℕ, ◌≡◌, ◌≤◌, ◌++◌, ◌==◌, List, [], ◌∷◌, codes, length, false, Some, Ok}
+use Rattle.std.specs.Prelude.{ℕ, ◌≡◌, ◌≤◌, ◌++◌, List, [], ◌∷◌, codes, length, false, Some, Ok}
 use Rattle.std.specs.List.{All}
 use Rattle.xb_model.specs.Rows.{LoopRow}
 use Rattle.xb_routes.specs.Table.{Table}
 use Rattle.xb_routes.specs.Text.{table_of_text}
 use Rattle.xb_office.specs.declared.deck.TheConstants.{MOST_DECK_BYTES}
 use Rattle.xb_office.specs.declared.scan.TheConstants.{MOST_RECORDS}
-use Rattle.xb_office.specs.Deck.{deck_parts, is_cut}
+use Rattle.xb_office.specs.Deck.{deck_parts, ends_line, is_cut}
 use Rattle.xb_office.specs.Says.{page_of, says}
 use Rattle.xb_office.specs.WrittenRows.{AreRows, text_of_rows}
 
@@ -21,7 +21,7 @@ with_ends (line ∷ lines) = line ++ codes "\n" ++ with_ends lines
 -- lines that are not the cut
 abbrev pub AreTableLines : List (List ℕ) → Type 0
 AreTableLines [] = Unit {0}
-AreTableLines (line ∷ lines) = (is_cut line ≡ false) × All (λ byte. (byte == 10) ≡ false) line × AreTableLines lines
+AreTableLines (line ∷ lines) = (is_cut line ≡ false) × All (λ byte. ends_line byte ≡ false) line × AreTableLines lines
 
 -- a table, the line that cuts, and rows are cut into the table and the rows, whatever the rows are
 abbrev pub MadeDecksAreCut : Type 0

@@ -1,7 +1,7 @@
 // The two parts of a deck.
-ghost use Rattle.std.specs.Prelude.{◌≡◌, ◌==◌, option_map};
+ghost use Rattle.std.specs.Prelude.{◌≡◌, option_map};
 ghost use Rattle.std.specs.List.{position};
-ghost use Rattle.xb_office.specs.Deck.{deck_parts, is_cut, parts_of_deck};
+ghost use Rattle.xb_office.specs.Deck.{deck_parts, ends_line, is_cut, parts_of_deck};
 
 /// The most bytes that a deck has.
 pub const MOST_DECK_BYTES: usize = 16_777_216;
@@ -24,7 +24,7 @@ fn is_cut(line: &[u8]) -> bool
 
 // How many bytes stand before the first LF; `None` where there is no LF.
 fn line_length(text: &[u8]) -> Option<usize>
-    ensures { result ≡ position (λ byte. byte == 10) text.now }
+    ensures { result ≡ position ends_line text.now }
 {
     text.iter().position(|byte| *byte == b'\n')
 }

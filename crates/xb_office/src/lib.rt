@@ -12,7 +12,7 @@ mod rows;
 mod scan;
 mod streams;
 
-pub use deck::{Deck, MOST_DECK_BYTES};
+pub use deck::MOST_DECK_BYTES;
 pub use fault::OfficeFault;
 pub use office::operate;
 pub use printing::page;

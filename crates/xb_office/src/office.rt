@@ -30,9 +30,7 @@ fn page_of_deck(alloc: Global, bytes: &[u8]) -> Result<Vec<u8>, OfficeFault>
     ensures page { IfOk result (λ page. says bytes.now ≡ Ok page.items) }
     ensures fault { IfErr result (λ f. IsFaultOfDeck (says bytes.now) f) }
 {
-    let Some(deck) = Deck::cut(bytes) else {
-        return Err(OfficeFault::NoCut);
-    };
+    let deck = Deck::cut(bytes).ok_or(OfficeFault::NoCut)?;
     let table = RouteTable::read(alloc, deck.table)?;
     let rows = rows_of(alloc, deck.rows)?;
     Ok(page_of_rows(alloc, &rows, &table)?)

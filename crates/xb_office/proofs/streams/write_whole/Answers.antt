@@ -1,5 +1,5 @@
 use Rattle.std.proofs.Common.{◌≡◌, ◌≤◌, ◌+◌, ◌-◌, ℕ, List, ◌++◌, length, take, drop, sym, arith}
-use Rattle.std.proofs.lemmas.List.{length-drop, take_all}
+use Rattle.std.proofs.lemmas.List.{length-drop, take_rest}
 use Rattle.std.proofs.Math.Seq.{take-add}
 use Rattle.std.proofs.KnownBytes.{Appends-trans}
 use Rattle.xb_office.proofs.streams.write_whole.Goals as goal
@@ -8,9 +8,8 @@ use Rattle.xb_office.proofs.streams.write_whole.Goals as goal
 fronts : (at n : ℕ) (text : List ℕ) → at ≤ length text → n ≤ length (take (length text - at) (drop at text))
     → (at + n ≤ length text) × (take at text ++ take n (take (length text - at) (drop at text)) ≡ take (at + n) text)
 fronts at n text h b =
-    let whole : take (length text - at) (drop at text) ≡ drop at text = take_all (length text - at) (drop at text) (omega (arith, length-drop at text)) in
-    let c : n ≤ length (drop at text) = rw whole at b in
-    (omega (arith, length-drop at text), rw whole (sym (take-add at n text)))
+    let c : n ≤ length (drop at text) = rw (take_rest text at) at b in
+    (omega (arith, length-drop at text), rw (take_rest text at) (sym (take-add at n text)))
 
 pub loop-at-preserved : goal.loop-at-preserved
 loop-at-preserved g c =
