@@ -1,7 +1,6 @@
 -- What one record adds to what the records behind it say.
-use Rattle.std.proofs.Common.{◌≡◌, ◌≤◌, ◌<◌, ◌+◌, ℕ, List, [], ◌∷◌, Some, None, Result, true, false, refl, arith}
-use Rattle.std.specs.Prelude.{nat_lt}
-use Rattle.std.proofs.lemmas.Bool.Decides.{nat_tests}
+use Rattle.std.proofs.Common.{◌≡◌, ◌≤◌, ◌<◌, ◌+◌, ℕ, List, [], ◌∷◌, Some, None, Result, refl}
+use Rattle.std.proofs.lemmas.Bool.{le-ltb, lt-ltb}
 use denote.Ref.{Bor}
 use Rattle.csv.specs.Reading.{default_config, records, reader_state}
 use Rattle.csv.specs.declared.reader.Reader.{Reader}
@@ -18,23 +17,16 @@ pub rows-nil : (n : ℕ) → rows_from n [] ≡ stopped None
 unfolding rows_from
 rows-nil n = refl
 
--- the test of the most records, both ways
-above : (n : ℕ) → MOST_RECORDS < n → nat_lt MOST_RECORDS n ≡ true
-above n h = grind (arith, nat_tests)
-
-below : (n : ℕ) → n ≤ MOST_RECORDS → nat_lt MOST_RECORDS n ≡ false
-below n h = grind (arith, nat_tests)
-
 -- a record too many
 pub rows-many : (n : ℕ) (f : List (List ℕ)) (rs : List (List (List ℕ))) → MOST_RECORDS < n → rows_from n (f ∷ rs) ≡ stopped_by fault.TooMany
 unfolding rows_from
-rows-many n f rs h = rw (above n h) refl
+rows-many n f rs h = rw (lt-ltb MOST_RECORDS n h) refl
 
 -- one record more
 pub rows-more : (n : ℕ) (f : List (List ℕ)) (rs : List (List (List ℕ))) (r : Result LoopRow RowFault) → n ≤ MOST_RECORDS → row_of_fields n (three_of f) ≡ r
     → rows_from n (f ∷ rs) ≡ row_then r (rows_from (n + 1) rs)
 unfolding rows_from
-rows-more n f rs r h e = rw (below n h, e) refl
+rows-more n f rs r h e = rw (le-ltb MOST_RECORDS n h, e) refl
 
 -- a new reader has all records to give
 pub left-start : (r : Reader (Bor (List ℕ))) (x : List ℕ) → bytes_left r ≡ Some x → reader_state r ≡ st.StartRecord → records_left r ≡ records default_config x

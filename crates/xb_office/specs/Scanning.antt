@@ -10,10 +10,9 @@ use Rattle.xb_model.specs.declared.fault.RowFault.{RowFault}
 use Rattle.xb_model.specs.declared.fault.RowFault.TheVariants as fault
 use Rattle.xb_office.specs.declared.scan.Taken.{Taken}
 use Rattle.xb_office.specs.declared.scan.Taken.TheVariants as taken
-use Rattle.xb_office.specs.declared.scan.Step.{Step}
-use Rattle.xb_office.specs.declared.scan.Step.TheVariants as step
 use Rattle.xb_office.specs.declared.scan.TheConstants.{MOST_RECORDS}
 use Rattle.xb_bank.specs.Sources.{Rest}
+use Rattle.xb_model.specs.Rows.{LoopRow}
 use Rattle.xb_office.specs.RowTexts.{rest_of_records, row_then, rows_from, stopped, stopped_by}
 
 -- the bytes that a reader over a text has left
@@ -45,10 +44,10 @@ HeaderStep left new (Ok u) = IsGoing new × (rest_of_records left ≡ rows_from 
 HeaderStep left new (Err f) = (rest_of_records left ≡ stopped_by f) ⊎ (f ≡ fault.NoMemory)
 
 -- what reading record n gives
-abbrev pub RowStep : ℕ → List (List (List ℕ)) → Reader (Bor (List ℕ)) → Step → Type 0
-RowStep n left new (step.Row row) = IsGoing new × (n ≤ MOST_RECORDS) × (rows_from n left ≡ row_then (Ok row) (rows_from (n + 1) (records_left new)))
-RowStep n left new (step.Stopped None) = rows_from n left ≡ stopped None
-RowStep n left new (step.Stopped (Some f)) = (rows_from n left ≡ stopped_by f) ⊎ (f ≡ fault.NoMemory)
+abbrev pub RowStep : ℕ → List (List (List ℕ)) → Reader (Bor (List ℕ)) → Result (Option LoopRow) RowFault → Type 0
+RowStep n left new (Ok (Some row)) = IsGoing new × (n ≤ MOST_RECORDS) × (rows_from n left ≡ row_then (Ok row) (rows_from (n + 1) (records_left new)))
+RowStep n left new (Ok None) = rows_from n left ≡ stopped None
+RowStep n left new (Err f) = (rows_from n left ≡ stopped_by f) ⊎ (f ≡ fault.NoMemory)
 
 -- what a scan that stands at this place, with this reader, has still to give
 abbrev pub rest_at : Place → Reader (Bor (List ℕ)) → Rest

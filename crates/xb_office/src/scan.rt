@@ -33,13 +33,6 @@ enum Taken {
     NoMemory,
 }
 
-// What reading a row gave: the row, or the stop.
-#[derive(Clone, Copy)]
-enum Step {
-    Row(Row),
-    Stopped(Option<RowFault>),
-}
-
 // Reads the next record of a text.
 fn take_record(reader: &mut Reader<&[u8]>, fields: &mut ByteRecord) -> Taken
     requires { IsGoing reader.old }
@@ -72,22 +65,23 @@ fn take_header(reader: &mut Reader<&[u8]>, fields: &mut ByteRecord) -> Result<()
 }
 
 // Reads record `n`.
-fn take_row(n: u32, reader: &mut Reader<&[u8]>, fields: &mut ByteRecord) -> Step
+fn take_row(
+    n: u32,
+    reader: &mut Reader<&[u8]>,
+    fields: &mut ByteRecord,
+) -> Result<Option<Row>, RowFault>
     requires { IsGoing reader.old }
     ensures { RowStep n (records_left reader.old) reader.new result }
 {
     match take_record(reader, fields) {
         Taken::Record => {
             if n > MOST_RECORDS {
-                return Step::Stopped(Some(RowFault::TooMany));
+                return Err(RowFault::TooMany);
             }
-            match row_of(n, fields) {
-                Ok(row) => Step::Row(row),
-                Err(fault) => Step::Stopped(Some(fault)),
-            }
+            Ok(Some(row_of(n, fields)?))
         }
-        Taken::End => Step::Stopped(None),
-        Taken::NoMemory => Step::Stopped(Some(RowFault::NoMemory)),
+        Taken::End => Ok(None),
+        Taken::NoMemory => Err(RowFault::NoMemory),
     }
 }
 
@@ -151,18 +145,12 @@ impl<'a> RowSource for Scan<'a> {
             },
             Place::Record(n) => n,
         };
-        match take_row(n, &mut self.reader, &mut self.fields) {
-            Step::Row(row) => {
-                self.place = Place::Record(n + 1);
-                Ok(Some(row))
-            }
-            Step::Stopped(stop) => {
-                self.place = Place::Stopped(stop);
-                match stop {
-                    None => Ok(None),
-                    Some(fault) => Err(fault),
-                }
-            }
-        }
+        let taken = take_row(n, &mut self.reader, &mut self.fields);
+        self.place = match taken {
+            Ok(Some(_)) => Place::Record(n + 1),
+            Ok(None) => Place::Stopped(None),
+            Err(fault) => Place::Stopped(Some(fault)),
+        };
+        taken
     }
 }
