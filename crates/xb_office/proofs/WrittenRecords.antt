@@ -1,7 +1,6 @@
 -- Records that are written are read.
 use Rattle.std.proofs.Common.{◌≡◌, ◌≤◌, ◌+◌, ℕ, List, [], ◌∷◌, length, Some, refl, ap, ◌∙◌, arith, Ok}
-use Rattle.std.specs.Prelude.{decimal, map, true}
-use Rattle.std.proofs.lemmas.Bool.Decides.{nat_tests}
+use Rattle.std.specs.Prelude.{map}
 use Rattle.csv.specs.Reading.{default_config, records, strip_bom}
 use Rattle.csv.specs.Writing.{read_back}
 use Rattle.csv.specs.declared.parser.State.TheVariants as st
@@ -9,11 +8,11 @@ use Rattle.csv.proofs.RoundTrip.{read-write}
 use Rattle.xb_bank.specs.Sources.{ended_by}
 use Rattle.xb_model.specs.declared.row.Contact.{Contact}
 use Rattle.xb_model.specs.declared.row.Contact.TheVariants.{Make, Brk, Close}
-use Rattle.xb_model.specs.Rows.{IsRow, LoopRow, may_last, row_of}
+use Rattle.xb_model.specs.Rows.{LoopRow}
 use Rattle.xb_model.proofs.RowTimes.{at_most_a_day}
 use Rattle.xb_office.specs.declared.scan.TheConstants.{MOST_RECORDS}
 use Rattle.xb_office.specs.declared.record.TheConstants.{LINE_DIGITS, MS_DIGITS}
-use Rattle.xb_office.specs.RowTexts.{contact_of, field_number, rest_of_records, row_of_fields, row_then, rows_from, three_of, with_contact}
+use Rattle.xb_office.specs.RowTexts.{contact_of, rest_of_records, row_of_fields, row_then, rows_from, three_of}
 use Rattle.xb_office.specs.WrittenRows.{AreRows, contact_text, WrittenRowsAreRead, fields_of_row, header, records_text, text_of_rows}
 use Rattle.xb_office.proofs.ReadCounts.{records-end, records-more}
 use Rattle.xb_office.proofs.RecordRows.{rows-more, rows-nil}
@@ -38,8 +37,7 @@ row_of_written n row rows h =
     let short = at_most_a_day row.contact row.ms h.1 in
     let line = field_number-decimal LINE_DIGITS row.line (omega arith) (omega arith) (omega arith) in
     let ms = field_number-decimal MS_DIGITS row.ms (omega arith) (omega arith) (omega arith) in
-    let may : may_last row.contact row.ms ≡ true = grind (arith, nat_tests) in
-    rw (line, contact_of_text row.contact, ms, may) refl
+    rw (line, contact_of_text row.contact, ms, h.1) refl
 
 -- the rows of written records
 rows_of_written : (n : ℕ) (rows : List LoopRow) → AreRows rows → n + length rows ≤ MOST_RECORDS + 1 → rows_from n (map read_back (map fields_of_row rows)) ≡ ended_by rows
