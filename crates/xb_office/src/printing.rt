@@ -3,7 +3,7 @@ ghost use Rattle.std.specs.Prelude.{◌≡◌, ◌++◌, OnOk, IfOk, count_by, s
 ghost use Rattle.xb_model.specs.Page.{ends_keying, ends_refusal, entry_text, keyed_text, last_refusal, mark_text, marks_text, page_text, reason_text, refused_text, tape_text};
 
 use std::alloc::{AllocError, Global};
-use xb_bank::Tapes;
+use xb_bank::{Tapes, first_entry_len};
 use xb_model::{Key, LINES, LineNo, Mark, Reason, Tone};
 
 fn reason_text(reason: Reason) -> &'static str
@@ -96,14 +96,13 @@ fn write_entry(out: &mut String, line: u16, number: usize, entry: &[Mark]) -> Re
 fn write_tape(out: &mut String, line: u16, marks: &[Mark]) -> Result<(), AllocError>
     ensures { OnOk result (string_bytes out.new ≡ string_bytes out.old ++ tape_text line marks.now) }
 {
-    let mut start = 0;
+    let mut rest = marks;
     let mut number = 1;
-    for i in 0..marks.len() {
-        if marks[i].ends() {
-            write_entry(out, line, number, &marks[start..i + 1])?;
-            start = i + 1;
-            number += 1;
-        }
+    while let Some(length) = first_entry_len(rest) {
+        let (entry, behind) = rest.split_at(length);
+        write_entry(out, line, number, entry)?;
+        rest = behind;
+        number += 1;
     }
     Ok(())
 }
