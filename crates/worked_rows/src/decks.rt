@@ -87,17 +87,23 @@ fn written_out(word: &str) -> &str {
     }
 }
 
+// A line of the page, of its short form.
+fn push_line(page: &mut String, line: &str) -> Result<(), Fail> {
+    for (place, word) in line.split(' ').enumerate() {
+        if place > 0 {
+            page.push(' ')?;
+        }
+        page.push_str(written_out(word))?;
+    }
+    page.push('\n')?;
+    Ok(())
+}
+
 /// The page of its short form.
 pub fn page_of(alloc: Global, lines: &[&str]) -> Result<String, Fail> {
     let mut page = String::new(alloc);
     for line in lines {
-        for (place, word) in line.split(' ').enumerate() {
-            if place > 0 {
-                page.push(' ')?;
-            }
-            page.push_str(written_out(word))?;
-        }
-        page.push('\n')?;
+        push_line(&mut page, line)?;
     }
     Ok(page)
 }

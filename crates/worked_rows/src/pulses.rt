@@ -77,15 +77,20 @@ pub fn rows_of(rt: &impl Abort, alloc: Global, line: u16, pieces: &str) -> Resul
     Ok(rows)
 }
 
+// Row `k` of a list that has one.
+fn push_row_at(rows: &mut Vec<Row>, list: &[Row], k: usize) -> Result<(), Fail> {
+    if let Some(row) = list.get(k) {
+        rows.push(*row)?;
+    }
+    Ok(())
+}
+
 /// One row of each list in turn, then the rest of the longer.
 pub fn in_turn(alloc: Global, first: &[Row], second: &[Row]) -> Result<Vec<Row>, Fail> {
     let mut rows = Vec::new(alloc);
     for k in 0..first.len().max(second.len()) {
-        for list in [first, second] {
-            if let Some(row) = list.get(k) {
-                rows.push(*row)?;
-            }
-        }
+        push_row_at(&mut rows, first, k)?;
+        push_row_at(&mut rows, second, k)?;
     }
     Ok(rows)
 }

@@ -1,8 +1,8 @@
-// A writer that fails in the middle of a page.
+// A writer that fails in the middle of a page, and a reader that fails at once.
 use crate::attempts::ATTEMPTS;
 use crate::decks::{TABLE, deck_of, one_after_another};
 use std::io;
-use std::io::{Error, ErrorKind, Write};
+use std::io::{Error, ErrorKind, Read, Write};
 use std::test::Fail;
 use xb_office::{OfficeFault, operate};
 
@@ -29,8 +29,18 @@ impl Write for Short {
     }
 }
 
+/// A reader that fails at once.
+#[derive(Drop)]
+struct Failing;
+
+impl Read for Failing {
+    fn read(&mut self, _buf: &mut [u8]) -> io::Result<usize> {
+        Err(Error::from(ErrorKind::Other))
+    }
+}
+
 #[test]
-fn a_page_that_is_cut_off(rt: HostRuntime) -> Result<(), Fail> {
+fn failing_streams(rt: HostRuntime) -> Result<(), Fail> {
     let alloc = rt.alloc();
     let worked = ATTEMPTS.get(2).ok_or("no seven digits")?;
     assert_eq!(rt; worked.name, "seven_digits");
@@ -43,5 +53,8 @@ fn a_page_that_is_cut_off(rt: HostRuntime) -> Result<(), Fail> {
     };
     assert!(rt; operate(alloc, &mut reader, &mut out) == Err(OfficeFault::Write));
     assert_eq!(rt; out.taken.as_slice(), b"0007 1 KEY".as_slice());
+    let mut page: Vec<u8> = Vec::new(alloc);
+    assert!(rt; operate(alloc, &mut Failing, &mut page) == Err(OfficeFault::Read));
+    assert!(rt; page.is_empty());
     Ok(())
 }
