@@ -5,7 +5,7 @@ use Rattle.xb_model.specs.declared.dialled.Dialled.{Dialled}
 use Rattle.xb_model.specs.declared.line.LineNo.{LineNo}
 use Rattle.xb_model.specs.Routing.{CodedRoute, order_of}
 use Rattle.xb_ring.specs.Image.{image_on}
-use Rattle.xb_ring.specs.Stateless.{on_line}
+use Rattle.xb_ring.specs.OnLines.{on_line}
 use Rattle.xb_ring.proofs.Stateless.{image-stateless}
 use Rattle.xb_routes.specs.Translating.{machine}
 

@@ -1,7 +1,7 @@
 // The translation stage.
 ghost use Rattle.std.specs.Prelude.{◌≡◌, ◌+◌, ◌≤◌, [], ◌∷◌, ◌++◌, drop, length};
 ghost use Rattle.xb_model.specs.Routing.{order_of, routed};
-ghost use Rattle.xb_ring.specs.Stateless.{all_on};
+ghost use Rattle.xb_ring.specs.OnLines.{all_on};
 ghost use Rattle.xb_model.specs.declared.digits.TheConstants.{KEY_DIGITS, NUMBER_DIGITS};
 
 use crate::table::RouteTable;
@@ -71,7 +71,7 @@ fn keyed(prefixed: &PrefixDigits, deleted: u8, digits: &[Digit]) -> KeyDigits
 impl<'t> LineStage for Translate<'t> {
     ghost use Rattle.std.specs.Prelude.{[], ◌∷◌};
     ghost use Rattle.xb_model.specs.Routing.{order_of};
-    ghost use Rattle.xb_ring.specs.Stateless.{all_on};
+    ghost use Rattle.xb_ring.specs.OnLines.{all_on};
     ghost use Rattle.xb_routes.specs.Translating.{machine};
 
     type In = On<Dialled>;
