@@ -7,7 +7,7 @@ ghost use Rattle.xb_pulse.specs.Outputs.{outs_on_line};
 use crate::state::{Phase, PulseState, Tally};
 use std::marker::Model;
 use xb_model::{Contact, GREATEST_LIMIT, Limits, LineNo, MANY_BREAKS, On, Row, Signal};
-use xb_ring::LineStage;
+use xb_ring::{LineStage, send};
 
 /// The stage that turns the rows of each line's loop into signals, by its limits (own profile).
 ///
@@ -180,16 +180,6 @@ fn longer(total: u32, ms: u32) -> u32
     ensures { result ≡ longer total ms }
 {
     total.saturating_add(ms).min(GREATEST_LIMIT)
-}
-
-// Puts a signal of the line into the room that the caller gave.
-fn send(line: LineNo, out: &mut Vec<On<Signal>>, what: Signal)
-    requires { vec_len out.old < vec_capacity out.old }
-    ensures items { out.new.items ≡ out.old.items ++ on_line line (what ∷ []) }
-    ensures len { vec_len out.new ≡ vec_len out.old + 1 }
-    ensures capacity { vec_capacity out.new ≡ vec_capacity out.old }
-{
-    out.push_reserved(On { line, what });
 }
 
 // A close row.

@@ -10,7 +10,7 @@ use crate::state::{Phase, RegisterState};
 use crate::stored::StoredDigits;
 use std::marker::Model;
 use xb_model::{Dialled, NUMBER_DIGITS, On, Plan, Reason, Relays, Signal, plan_len};
-use xb_ring::LineStage;
+use xb_ring::{LineStage, send};
 
 /// The register stage: signals of each line in, what comes of each attempt out (own profile).
 ///
@@ -150,7 +150,7 @@ impl LineStage for Register {
         let Answer { phase, outcome } = advance(self.plan, state.take(), what);
         state.put(phase);
         if let Some(what) = outcome {
-            out.push_reserved(On { line, what });
+            send(line, out, what);
         }
     }
 }

@@ -7,7 +7,7 @@ ghost use Rattle.xb_model.specs.declared.digits.TheConstants.{KEY_DIGITS, NUMBER
 use crate::table::RouteTable;
 use std::marker::Model;
 use xb_model::{Dialled, Digit, KeyDigits, NumberDigits, On, Order, PrefixDigits, Reason};
-use xb_ring::LineStage;
+use xb_ring::{LineStage, send};
 
 /// Gives each number its order, by a table; a refusal stays as it is.
 #[derive(Drop)]
@@ -92,6 +92,6 @@ impl<'t> LineStage for Translate<'t> {
             Dialled::Number(number) => self.order(&number),
             Dialled::Refused(reason, heard) => Order::Refused(reason, heard),
         };
-        out.push_reserved(On { line, what });
+        send(line, out, what);
     }
 }
