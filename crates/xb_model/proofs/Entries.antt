@@ -1,5 +1,5 @@
 -- Laws of the entries of marks.
-use Rattle.std.proofs.Common.{◌≡◌, true, false, List, [], ◌∷◌, ◌++◌, refl, ap, ◌∙◌}
+use Rattle.std.proofs.Common.{◌≡◌, true, false, List, [], ◌∷◌, ◌++◌, ap, ◌∙◌}
 use Rattle.std.specs.List.{AllByRecursion}
 use Rattle.std.proofs.lemmas.Bool.{cond-true, cond-false}
 use Rattle.xb_model.specs.declared.mark.Mark.{Mark}
@@ -9,12 +9,6 @@ use Rattle.xb_model.specs.Tapes.{entries_of, into_first_entry}
 -- none of the marks ends an entry
 abbrev pub IsUnended : List Mark → Type 0
 IsUnended marks = AllByRecursion (λ mark. is_ending mark ≡ false) marks
-
--- marks of which none ends an entry have no entry
-pub entries_of-unended : (marks : List Mark) → IsUnended marks → entries_of marks ≡ []
-entries_of-unended [] goes_on = refl
-entries_of-unended (mark ∷ marks) goes_on =
-    cond-false _ _ _ goes_on.0 ∙ ap (into_first_entry mark) (entries_of-unended marks goes_on.1)
 
 -- the first entry is the marks up to and with the first that ends one
 pub entries_of-cut : (front : List Mark) (last : Mark) (rest : List Mark) → IsUnended front → is_ending last ≡ true
