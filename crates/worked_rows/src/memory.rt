@@ -6,8 +6,8 @@ use xb_bank::{RowSource, Tapes, fed_rows, key_serial};
 use xb_model::{Contact, Digit, Key, LineNo, Mark, On, Row, Signal, Tone, Trunk};
 use xb_office::{Scan, operate, page, read_rows};
 use xb_pulse::Pulse;
-use xb_ring::image_of;
 use xb_routes::RouteTable;
+use xb_stage::image_of;
 
 const PIECES: &str = "M500 #0";
 

@@ -1,7 +1,6 @@
 pub mod Chain
 pub mod ClosedOnce
 pub mod Closings
-pub mod EntryLaws
 pub mod FedRows
 pub mod Keeping
 pub mod Kept

@@ -20,18 +20,20 @@ use Rattle.xb_model.specs.Keyings.{marks_of}
 use Rattle.xb_model.specs.Numbers.{outcomes_of}
 use Rattle.xb_model.specs.Tapes.{tape_of, joined_tape, entries_of}
 use Rattle.xb_model.specs.Lines.{row_line, on_line_of, of_line}
-use Rattle.xb_ring.specs.Image.{image, image_on}
-use Rattle.xb_ring.specs.OnLines.{on_line, all_on}
-use Rattle.xb_ring.proofs.Images.{image-of_line}
+use Rattle.xb_stage.specs.Image.{image, image_on}
+use Rattle.xb_stage.specs.OnLines.{on_line, all_on}
+use Rattle.xb_stage.proofs.Images.{image-of_line}
 use Rattle.xb_pulse.specs.Machine.{machine as pulse_machine}
 use Rattle.xb_pulse.specs.Outputs.{outs_on_line}
 use Rattle.xb_register.specs.Registering.{machine as register_machine}
 use Rattle.xb_routes.specs.Translating.{machine as translate_machine}
 use Rattle.xb_sender.specs.Sending.{machine as sender_machine}
 use Rattle.xb_sender.proofs.Entries.{entries_of-flat_map}
-use Rattle.xb_bank.specs.Fed.{fed, lines_below}
+use Rattle.xb_bank.specs.Fed.{fed}
+use Rattle.xb_model.specs.Lines.{lines_below}
 use Rattle.xb_bank.specs.Serial.{serial_image}
-use Rattle.xb_bank.specs.TapeLines.{marks_at, whats_of, tapes_of, AreTapes}
+use Rattle.xb_model.specs.Tapes.{marks_at, tapes_of}
+use Rattle.xb_bank.specs.GatheredMarks.{whats_of, AreTapes}
 use Rattle.xb_bank.proofs.Chain.{chain, chain-fed}
 
 whats_of-on_line : (l : ℕ) (marks : List Mark) → whats_of (on_line l marks) ≡ marks

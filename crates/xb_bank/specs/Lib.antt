@@ -1,7 +1,5 @@
 pub mod Closed
-pub mod Entries
 pub mod Fed
 pub mod Serial
-pub mod Sources
-pub mod TapeLines
+pub mod GatheredMarks
 pub mod Uses

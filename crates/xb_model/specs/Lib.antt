@@ -1,4 +1,5 @@
 pub mod Rows
+pub mod Sources
 pub mod Lines
 pub mod LawfulLimits
 pub mod Records

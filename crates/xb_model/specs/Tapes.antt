@@ -1,9 +1,11 @@
 -- The tape of a line (own profile).
-use Rattle.std.specs.Prelude.{ℕ, List, [], ◌∷◌, map, if◌then◌else◌}
+use Rattle.std.specs.Prelude.{ℕ, List, [], ◌∷◌, map, if◌then◌else◌, slice_index_or}
 use Rattle.std.specs.List.{flat_map}
 use Rattle.xb_model.specs.declared.limits.Limits.{Limits}
+use Rattle.xb_model.specs.declared.line.TheConstants.{LINES}
 use Rattle.xb_model.specs.declared.plan.Plan.{Plan}
 use Rattle.xb_model.specs.declared.mark.Mark.{Mark}
+use Rattle.xb_model.specs.Lines.{lines_below}
 use Rattle.xb_model.specs.Rows.{LoopRow}
 use Rattle.xb_model.specs.Records.{record_of}
 use Rattle.xb_model.specs.Numbers.{outcomes_of}
@@ -18,6 +20,14 @@ tape_of plan limits routes l rows =
 -- the tape of line l, its entries joined
 abbrev pub joined_tape : Plan → Limits → List CodedRoute → ℕ → List LoopRow → List Mark
 joined_tape plan limits routes l rows = flat_map (λ entry. entry) (tape_of plan limits routes l rows)
+
+-- the tapes that rows make: that of each line, from line 0 on
+abbrev pub tapes_of : Plan → Limits → List CodedRoute → List LoopRow → List (List Mark)
+tapes_of plan limits routes rows = map (λ l. joined_tape plan limits routes l rows) (lines_below LINES)
+
+-- the marks of line l, of the tapes of all lines
+abbrev pub marks_at : List (List Mark) → ℕ → List Mark
+marks_at tapes l = slice_index_or tapes l []
 
 -- a mark in front of the first entry; before none it belongs to no entry
 abbrev pub into_first_entry : Mark → List (List Mark) → List (List Mark)

@@ -19,6 +19,7 @@ mod reason;
 mod relays;
 mod row;
 mod signal;
+mod source;
 #[cfg(test)]
 mod tests;
 mod trunk;
@@ -40,4 +41,5 @@ pub use reason::Reason;
 pub use relays::Relays;
 pub use row::{Contact, GREATEST_MS, Row};
 pub use signal::{MANY_BREAKS, MOST_PULSES, Signal};
+pub use source::{Listed, RowSource};
 pub use trunk::{TRUNKS, Trunk};

@@ -248,3 +248,21 @@ fn texts_of_faults(rt: HostRuntime) -> Result<(), Fail> {
     }
     Ok(())
 }
+
+// Takes a row of any source.
+fn next_of<S: RowSource>(source: &mut S) -> Result<Option<Row>, RowFault> {
+    source.next_row()
+}
+
+#[test]
+fn listed_rows(rt: HostRuntime) -> Result<(), Fail> {
+    let line = LineNo::new(7).ok_or("a line")?;
+    let first = Row::new(line, Contact::Make, 500).ok_or("a row")?;
+    let rows = [first, Row::close(line)];
+    let mut source = Listed::new(&rows);
+    assert_eq!(rt; next_of(&mut source), Ok(Some(first)));
+    assert_eq!(rt; next_of(&mut source), Ok(Some(Row::close(line))));
+    assert_eq!(rt; next_of(&mut source), Ok(None));
+    assert_eq!(rt; next_of(&mut source), Ok(None));
+    Ok(())
+}

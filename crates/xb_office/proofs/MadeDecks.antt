@@ -3,11 +3,11 @@ use Rattle.std.proofs.Common.{◌≡◌, length, [], ◌∷◌, ◌++◌, refl, 
 use Rattle.std.specs.Prelude.{codes, option_map}
 use Rattle.std.proofs.lemmas.List.Splits.{slice_split_at, join_with_byte-slice_split}
 use Rattle.std.proofs.lemmas.Bool.{le-ltb}
-use Rattle.xb_bank.specs.Sources.{Rest}
+use Rattle.xb_model.specs.Sources.{Rest}
 use Rattle.xb_office.specs.declared.deck.TheConstants.{MOST_DECK_BYTES}
 use Rattle.xb_office.specs.Says.{says_rows}
-use Rattle.xb_office.specs.WrittenRows.{text_of_rows}
-use Rattle.xb_office.proofs.WrittenRecords.{written_rows_are_read}
+use Rattle.xb_rows.specs.WrittenRows.{text_of_rows}
+use Rattle.xb_rows.proofs.WrittenRecords.{written_rows_are_read}
 use Rattle.xb_office.specs.Deck.{deck_parts, ends_line, in_front, line_feed}
 use Rattle.xb_office.specs.MadeDecks.{MadeDecksAreCut, MadeDecksSayTheirPage, deck_of, with_ends}
 

@@ -1,10 +1,6 @@
 pub mod Deck
 pub mod Faults
 pub mod MadeDecks
-pub mod RowAnswers
-pub mod RowTexts
 pub mod Says
-pub mod Scanning
-pub mod Streams
 pub mod WorkedDecks
-pub mod WrittenRows
+pub mod Writing

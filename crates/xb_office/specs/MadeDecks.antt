@@ -5,10 +5,10 @@ use Rattle.xb_model.specs.Rows.{LoopRow}
 use Rattle.xb_routes.specs.Table.{Table}
 use Rattle.xb_routes.specs.Text.{table_of_text}
 use Rattle.xb_office.specs.declared.deck.TheConstants.{MOST_DECK_BYTES}
-use Rattle.xb_office.specs.declared.scan.TheConstants.{MOST_RECORDS}
+use Rattle.xb_rows.specs.declared.scan.TheConstants.{MOST_RECORDS}
 use Rattle.xb_office.specs.Deck.{deck_parts, ends_line, is_cut}
 use Rattle.xb_office.specs.Says.{page_of, says}
-use Rattle.xb_office.specs.WrittenRows.{AreRows, text_of_rows}
+use Rattle.xb_rows.specs.WrittenRows.{AreRows, text_of_rows}
 
 abbrev pub IsCutInto : List ℕ → List ℕ → List ℕ → Type 0
 IsCutInto deck table rows = deck_parts deck ≡ Some (record { table = table; rows = rows })

@@ -2,7 +2,7 @@
 use Rattle.std.specs.Prelude.{ℕ, ◌≡◌, ◌⊎◌, List, length, nat_lt, if◌then◌else◌, Option, Some, None, Result, Ok, Err}
 use Rattle.std.specs.Io.KnownBytes.{Appends}
 use Rattle.xb_model.specs.declared.fault.RowFault.{RowFault}
-use Rattle.xb_bank.specs.TapeLines.{tapes_of}
+use Rattle.xb_model.specs.Tapes.{tapes_of}
 use Rattle.xb_model.specs.Page.{page_text}
 use Rattle.xb_model.specs.Rows.{LoopRow}
 use Rattle.xb_routes.specs.declared.fault.RouteFault.{RouteFault}
@@ -12,8 +12,8 @@ use Rattle.xb_office.specs.declared.deck.TheConstants.{MOST_DECK_BYTES}
 use Rattle.xb_office.specs.declared.fault.OfficeFault.{OfficeFault}
 use Rattle.xb_office.specs.declared.fault.OfficeFault.TheVariants as fault
 use Rattle.xb_office.specs.Deck.{Parts, deck_parts}
-use Rattle.xb_office.specs.RowTexts.{fault_of_text, rows_of_text}
-use Rattle.xb_office.specs.Streams.{AppendsFront}
+use Rattle.xb_rows.specs.RowTexts.{fault_of_text, rows_of_text}
+use Rattle.xb_office.specs.Writing.{AppendsFront}
 
 -- the page of a table and of rows
 unfoldable pub page_of : Table → List LoopRow → List ℕ

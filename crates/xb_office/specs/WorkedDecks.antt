@@ -1,14 +1,7 @@
--- Decks and texts of rows, worked out by hand (own format).
-use Rattle.std.specs.Prelude.{ℕ, ◌≡◌, ◌+◌, List, [], ◌∷◌, codes, Option, Some, None}
-use Rattle.xb_bank.specs.Sources.{Rest}
-use Rattle.xb_model.specs.declared.row.Contact.TheVariants.{Make, Brk, Close}
-use Rattle.xb_model.specs.declared.fault.RowFault.{RowFault}
-use Rattle.xb_model.specs.declared.fault.RowFault.TheVariants as fault
-use Rattle.xb_model.specs.Rows.{LoopRow, row_of}
-use Rattle.xb_office.specs.declared.scan.TheConstants.{MOST_RECORDS}
+-- Decks, worked out by hand (own format).
+use Rattle.std.specs.Prelude.{◌≡◌, [], codes, None}
 use Rattle.xb_office.specs.Deck.{deck_parts}
 use Rattle.xb_office.specs.MadeDecks.{IsCutInto}
-use Rattle.xb_office.specs.RowTexts.{rest_of_text, rows_from, stopped_by}
 
 -- where some decks are cut
 abbrev pub CutsOfDecks : Type 0
@@ -17,23 +10,3 @@ CutsOfDecks =
     × IsCutInto (codes "a\r\n---\r\nb") (codes "a\r\n") (codes "b")
     × IsCutInto (codes "a\n----\n---\nb\n---\nc") (codes "a\n----\n") (codes "b\n---\nc")
     × (deck_parts (codes "a\n ---\n--- \n---\r\r\n--") ≡ None)
-
--- the rows of a text, and the stop behind them
-abbrev RowsAndStop : List ℕ → List LoopRow → Option RowFault → Type 0
-RowsAndStop text rows stop = ◌≡◌ {A = Rest} (rest_of_text text) (record { rows = rows; stop = stop })
-
--- what some texts say
-abbrev pub RowsOfTexts : Type 0
-RowsOfTexts =
-    RowsAndStop [] [] (Some fault.Header)
-    × RowsAndStop (codes "line,state,ms") [] None
-    × RowsAndStop (codes "line,state,ms\r\n5,M,500\n\n\"5\",B,60\r9999,C,00") (row_of 5 Make 500 ∷ row_of 5 Brk 60 ∷ row_of 9999 Close 0 ∷ []) None
-    × RowsAndStop (codes "line,state,ms\n7,M,\"1\"0\n7,M") (row_of 7 Make 10 ∷ []) (Some (fault.Fields 2))
-    × RowsAndStop (codes "line,state,ms\n10000,X,0") [] (Some (fault.Line 1))
-    × RowsAndStop (codes "line,state,ms\n7,X,x") [] (Some (fault.Contact 1))
-    × RowsAndStop (codes "line,state,ms\n7,M,86400001") [] (Some (fault.Ms 1))
-    × RowsAndStop (codes "line,state,ms\n7,C,1") [] (Some (fault.Ms 1))
-
--- behind the most records a further one is the fault, whatever its fields are
-abbrev pub MostRecords : Type 0
-MostRecords = (fields : List (List ℕ)) (rest : List (List (List ℕ))) → rows_from (MOST_RECORDS + 1) (fields ∷ rest) ≡ stopped_by fault.TooMany

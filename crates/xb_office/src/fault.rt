@@ -1,11 +1,12 @@
 // Why an office gives no page.
 ghost use Rattle.std.specs.Prelude.{◌≡◌};
 
-use crate::streams::{ReadFault, WriteFault};
+use crate::writing::WriteFault;
 use std::alloc::AllocError;
 use thiserror::Error;
 use xb_model::RowFault;
 use xb_routes::RouteFault;
+use xb_rows::ReadFault;
 
 /// Why a deck gives no page.
 ///

@@ -6,18 +6,13 @@ mod deck;
 mod fault;
 pub mod laws;
 mod office;
-mod printing;
-mod record;
-mod rows;
-mod scan;
-mod streams;
+mod writing;
 
 pub use deck::MOST_DECK_BYTES;
 pub use fault::OfficeFault;
 pub use office::operate;
-pub use printing::page;
-pub use rows::read_rows;
-pub use scan::{MOST_RECORDS, Scan};
+pub use xb_rows::{MOST_RECORDS, Scan, read_rows};
+pub use xb_tape::page;
 
 #[cfg(test)]
 mod tests;

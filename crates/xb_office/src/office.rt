@@ -2,18 +2,18 @@
 ghost use Rattle.std.specs.Prelude.{◌≡◌, ◌≢◌, ◌≤◌, ◌+◌, IfErr, IfOk, IfSome, OnOk, length};
 ghost use Rattle.std.specs.Io.KnownBytes.{IsAtEnd, Keeps};
 ghost use Rattle.xb_office.specs.Says.{GetsFront, GetsPage, IsFaultOfDeck, IsOfficeFault, page_of, says};
-ghost use Rattle.xb_office.specs.Streams.{TakesUpTo};
+ghost use Rattle.xb_rows.specs.Reading.{TakesUpTo};
 
 use crate::deck::{Deck, MOST_DECK_BYTES};
 use crate::fault::OfficeFault;
-use crate::printing::page;
-use crate::rows::rows_of;
-use crate::streams::{read_whole, write_whole};
+use crate::writing::write_whole;
 use std::alloc::{AllocError, Global};
 use std::io::{Read, Write};
 use xb_bank::key_serial;
 use xb_model::Row;
 use xb_routes::RouteTable;
+use xb_rows::{read_text, read_whole};
+use xb_tape::page;
 
 // The page of the tapes that rows make.
 #[tactic(auto, unfolding(crate::specs::Says::page_of))]
@@ -32,7 +32,7 @@ fn page_of_deck(alloc: Global, bytes: &[u8]) -> Result<Vec<u8>, OfficeFault>
 {
     let deck = Deck::cut(bytes).ok_or(OfficeFault::NoCut)?;
     let table = RouteTable::read(alloc, deck.table)?;
-    let rows = rows_of(alloc, deck.rows)?;
+    let rows = read_text(alloc, deck.rows)?;
     Ok(page_of_rows(alloc, &rows, &table)?)
 }
 

@@ -1,5 +1,4 @@
 // The tests of this crate.
 mod decks;
 mod office;
-mod rows;
 mod streams;

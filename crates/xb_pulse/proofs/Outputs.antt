@@ -9,7 +9,7 @@ use Rattle.xb_model.specs.declared.limits.Limits.{Limits}
 use Rattle.xb_model.specs.declared.signal.Signal.{Signal}
 use Rattle.xb_model.specs.declared.signal.Signal.TheVariants.{Seize, Digit, TimeOut, Release}
 use Rattle.xb_model.specs.Rows.{LoopRow}
-use Rattle.xb_ring.specs.declared.stage.TheConstants.{MOST_OUTPUTS}
+use Rattle.xb_stage.specs.declared.stage.TheConstants.{MOST_OUTPUTS}
 use Rattle.xb_pulse.specs.declared.state.Tally.{Tally}
 use Rattle.xb_pulse.specs.declared.state.Phase.{Phase}
 use Rattle.xb_pulse.specs.declared.state.Phase.TheVariants.{OnHook, BetweenTrains, InBreak, InMake, TimedOut, Closed}

@@ -11,8 +11,8 @@ use Rattle.xb_model.specs.Lines.{row_line, on_line_of, of_line}
 use Rattle.xb_model.specs.Records.{closes, rows_of, record_up_to_close, record_of}
 use Rattle.xb_model.specs.Rows.{LoopRow}
 use Rattle.xb_model.specs.Signals.{signals_of}
-use Rattle.xb_ring.specs.Image.{image, image_on}
-use Rattle.xb_ring.specs.OnLines.{on_line}
+use Rattle.xb_stage.specs.Image.{image, image_on}
+use Rattle.xb_stage.specs.OnLines.{on_line}
 use Rattle.xb_pulse.specs.Machine.{machine}
 
 -- the rows of one line, whose record is closed, give the signals of the record

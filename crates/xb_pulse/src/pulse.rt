@@ -1,13 +1,13 @@
 // The pulse stage.
 ghost use Rattle.std.specs.Prelude.{◌≡◌, ◌+◌, ◌<◌, ◌++◌, ◌∷◌, [], vec_len, vec_capacity};
-ghost use Rattle.xb_ring.specs.OnLines.{on_line};
+ghost use Rattle.xb_stage.specs.OnLines.{on_line};
 ghost use Rattle.xb_pulse.specs.Machine.{machine, longer, with_break, with_make, between_trains, in_make, on_make, in_break, on_break, on_row, on_close};
 ghost use Rattle.xb_pulse.specs.Outputs.{outs_on_line};
 
 use crate::state::{Phase, PulseState, Tally};
 use std::marker::Model;
 use xb_model::{Contact, GREATEST_LIMIT, Limits, LineNo, MANY_BREAKS, On, Row, Signal};
-use xb_ring::{LineStage, send};
+use xb_stage::{LineStage, send};
 
 /// The stage that turns the rows of each line's loop into signals, by its limits (own profile).
 ///

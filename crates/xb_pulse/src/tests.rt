@@ -5,7 +5,7 @@ use std::process::Abort;
 use std::test::Fail;
 use xb_model::Signal::{Close, Digit, Release, Seize, TimeOut};
 use xb_model::{Contact, GREATEST_LIMIT, Limits, LineNo, On, Row, Signal};
-use xb_ring::image_of;
+use xb_stage::image_of;
 
 // A part of a record, in ms.
 #[derive(Clone, Copy)]

@@ -15,7 +15,7 @@ use Rattle.xb_model.specs.declared.dialled.Dialled.TheVariants.{Number, Refused}
 use Rattle.xb_model.specs.Records.{Run, Attempt, Train, is_release, into_first, pieces_of, has_runs, attempts_of, trains_of, is_timed, runs_of}
 use Rattle.xb_model.specs.Signals.{breaks_in, is_bad_train, digit_signal, when, attempt_signals, signals_of}
 use Rattle.xb_model.specs.Numbers.{digit_of_train, before_mutilated, good_digits, is_complete, fronts, shortest_complete, without_number, or_refused, outcome_of, outcomes_of}
-use Rattle.xb_ring.specs.OnLines.{on_line}
+use Rattle.xb_stage.specs.OnLines.{on_line}
 use Rattle.xb_register.specs.declared.state.Phase.TheVariants.{OnHook, Listening, Done}
 use Rattle.xb_register.specs.Laws.{GivesOutcomes}
 use Rattle.xb_register.specs.Registering.{store, phase_behind}

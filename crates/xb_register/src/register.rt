@@ -2,7 +2,7 @@
 ghost use Rattle.std.specs.Prelude.{◌≡◌, ◌<◌, length};
 ghost use Rattle.xb_model.specs.Plans.{plan_len};
 ghost use Rattle.xb_model.specs.TwoOfFive.{digit_of_pattern};
-ghost use Rattle.xb_ring.specs.OnLines.{all_on};
+ghost use Rattle.xb_stage.specs.OnLines.{all_on};
 ghost use Rattle.xb_register.specs.Phases.{HasRoom};
 ghost use Rattle.xb_register.specs.Registering.{advance, listen, store, reaches, quiet, ended, refused, outcomes_by, machine};
 
@@ -10,7 +10,7 @@ use crate::state::{Phase, RegisterState};
 use crate::stored::StoredDigits;
 use std::marker::Model;
 use xb_model::{Dialled, NUMBER_DIGITS, On, Plan, Reason, Relays, Signal, plan_len};
-use xb_ring::{LineStage, send};
+use xb_stage::{LineStage, send};
 
 /// The register stage: signals of each line in, what comes of each attempt out (own profile).
 ///

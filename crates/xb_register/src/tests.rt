@@ -4,7 +4,7 @@ use std::alloc::{AllocError, Global};
 use std::process::Abort;
 use std::test::Fail;
 use xb_model::{Dialled, Digit, LineNo, On, Plan, Reason, Signal};
-use xb_ring::{LineStage, OUTPUT_ROOM, image_of};
+use xb_stage::{LineStage, OUTPUT_ROOM, image_of};
 
 // The line of the attempts that have it to themselves.
 const LINE: u16 = 5;

@@ -1,7 +1,7 @@
 -- What the translation does (own format).
 use Rattle.std.specs.Prelude.{List, [], ◌∷◌}
-use Rattle.xb_ring.specs.Image.{Machine}
-use Rattle.xb_ring.specs.Stateless.{stateless}
+use Rattle.xb_stage.specs.Image.{Machine}
+use Rattle.xb_stage.specs.Stateless.{stateless}
 use Rattle.xb_model.specs.declared.on.On.{On}
 use Rattle.xb_model.specs.declared.dialled.Dialled.{Dialled}
 use Rattle.xb_model.specs.declared.order.Order.{Order}

@@ -3,8 +3,8 @@ ghost use Rattle.std.specs.Prelude.{◌≡◌, List, map};
 ghost use Rattle.xb_model.specs.declared.dialled.Dialled.{Dialled};
 ghost use Rattle.xb_model.specs.declared.line.LineNo.{LineNo};
 ghost use Rattle.xb_model.specs.Routing.{CodedRoute, order_of};
-ghost use Rattle.xb_ring.specs.Image.{image_on};
-ghost use Rattle.xb_ring.specs.OnLines.{on_line};
+ghost use Rattle.xb_stage.specs.Image.{image_on};
+ghost use Rattle.xb_stage.specs.OnLines.{on_line};
 ghost use Rattle.xb_routes.specs.Translating.{machine};
 ghost use Rattle.xb_routes.specs.Worked.{LooksUp, ReadsCodes, ReadsTables};
 

@@ -1,13 +1,13 @@
 // The translation stage.
 ghost use Rattle.std.specs.Prelude.{◌≡◌, ◌+◌, ◌≤◌, [], ◌∷◌, ◌++◌, drop, length};
 ghost use Rattle.xb_model.specs.Routing.{order_of, routed};
-ghost use Rattle.xb_ring.specs.OnLines.{all_on};
+ghost use Rattle.xb_stage.specs.OnLines.{all_on};
 ghost use Rattle.xb_model.specs.declared.digits.TheConstants.{KEY_DIGITS, NUMBER_DIGITS};
 
 use crate::table::RouteTable;
 use std::marker::Model;
 use xb_model::{Dialled, Digit, KeyDigits, NumberDigits, On, Order, PrefixDigits, Reason};
-use xb_ring::{LineStage, send};
+use xb_stage::{LineStage, send};
 
 /// Gives each number its order, by a table; a refusal stays as it is.
 #[derive(Drop)]
@@ -71,7 +71,7 @@ fn keyed(prefixed: &PrefixDigits, deleted: u8, digits: &[Digit]) -> KeyDigits
 impl<'t> LineStage for Translate<'t> {
     ghost use Rattle.std.specs.Prelude.{[], ◌∷◌};
     ghost use Rattle.xb_model.specs.Routing.{order_of};
-    ghost use Rattle.xb_ring.specs.OnLines.{all_on};
+    ghost use Rattle.xb_stage.specs.OnLines.{all_on};
     ghost use Rattle.xb_routes.specs.Translating.{machine};
 
     type In = On<Dialled>;

@@ -5,8 +5,8 @@ use Rattle.xb_model.specs.declared.on.On.{On}
 use Rattle.xb_model.specs.declared.mark.Mark.{Mark}
 use Rattle.xb_model.specs.declared.order.Order.{Order}
 use Rattle.xb_model.specs.Keyings.{marks_of, is_ending}
-use Rattle.xb_ring.specs.Image.{Machine}
-use Rattle.xb_ring.specs.Stateless.{stateless}
+use Rattle.xb_stage.specs.Image.{Machine}
+use Rattle.xb_stage.specs.Stateless.{stateless}
 
 -- each order gives its marks, whatever stood before
 abbrev pub machine : Machine (On Order) (On Mark) (Unit {0})

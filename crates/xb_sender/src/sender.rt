@@ -3,12 +3,12 @@ ghost use Rattle.std.specs.Prelude.{◌≡◌, ◌+◌, ◌<◌, ◌≤◌, [], 
 ghost use Rattle.xb_model.specs.declared.digits.TheConstants.{KEY_DIGITS};
 ghost use Rattle.xb_model.specs.declared.key.Key.TheVariants.{Digit as DigitKey};
 ghost use Rattle.xb_model.specs.Keyings.{tone, keying, marks_of};
-ghost use Rattle.xb_ring.specs.declared.stage.TheConstants.{OUTPUT_ROOM};
-ghost use Rattle.xb_ring.specs.OnLines.{on_line, all_on};
+ghost use Rattle.xb_stage.specs.declared.stage.TheConstants.{OUTPUT_ROOM};
+ghost use Rattle.xb_stage.specs.OnLines.{on_line, all_on};
 ghost use Rattle.xb_sender.specs.Sending.{machine};
 
 use xb_model::{Digit, Key, KeyDigits, LineNo, Mark, On, Order, Trunk, mf};
-use xb_ring::{LineStage, send};
+use xb_stage::{LineStage, send};
 
 // Pushes a key with its pair of tones.
 fn push_key(line: LineNo, out: &mut Vec<On<Mark>>, key: &Key)

@@ -3,7 +3,7 @@ use crate::Sender;
 use std::alloc::{AllocError, Global};
 use std::process::Abort;
 use xb_model::{Digit, Key, KeyDigits, LineNo, Mark, On, Order, Reason, Tone, Trunk};
-use xb_ring::{LineStage, OUTPUT_ROOM};
+use xb_stage::{LineStage, OUTPUT_ROOM};
 
 fn line(rt: &impl Abort) -> LineNo {
     LineNo::new(20).expect(rt, "a line")

@@ -5,7 +5,7 @@ use std::alloc::{AllocError, Global};
 use std::process::Abort;
 use std::test::Fail;
 use xb_model::{Dialled, Limits, LineNo, NumberDigits, On, Order, Plan, Reason};
-use xb_ring::{LineStage, OUTPUT_ROOM};
+use xb_stage::{LineStage, OUTPUT_ROOM};
 
 // What the stage orders for an outcome on line 20.
 fn ordered(

@@ -1,5 +1,5 @@
 use Rattle.xb_model.specs.Keyings.{marks_of}
-use Rattle.xb_ring.proofs.Stateless.{image-stateless}
+use Rattle.xb_stage.proofs.Stateless.{image-stateless}
 use Rattle.xb_sender.proofs.laws.marks_of_orders.Goals as goal
 
 pub returns : goal.returns

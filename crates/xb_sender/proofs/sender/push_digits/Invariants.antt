@@ -1,7 +1,7 @@
 use Rattle.std.proofs.Common.{◌≡◌, ◌+◌, ◌++◌, map, take, vec_len, vec_capacity}
 use Rattle.xb_model.specs.declared.key.Key.TheVariants.{Digit}
 use Rattle.xb_model.specs.Keyings.{tone}
-use Rattle.xb_ring.specs.OnLines.{on_line}
+use Rattle.xb_stage.specs.OnLines.{on_line}
 use Rattle.xb_sender.proofs.sender.push_digits.Given as goal
 
 abbrev pub invariant-loop-digit : goal.invariant-loop-digit

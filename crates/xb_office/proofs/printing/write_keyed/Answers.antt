@@ -1,7 +1,0 @@
-use Rattle.std.proofs.Common.{rules}
-use Rattle.std.proofs.lemmas.Result.{on_ok_weaker}
-use Rattle.xb_office.proofs.PageFormats.{keyed}
-use Rattle.xb_office.proofs.printing.write_keyed.Goals as goal
-
-pub returns : goal.returns
-returns c = on_ok_weaker c.push_str.result (λ e. keyed _ _ _ _ c.args.line c.args.number c.args.entry.now (rw c.laid_out.ensures at c.in_ok-write.ensures.bytes) c.in_ok-write_marks.ensures e) (search rules)

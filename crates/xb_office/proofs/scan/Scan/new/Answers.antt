@@ -1,8 +1,0 @@
-use Rattle.std.proofs.Common.{ap}
-use Rattle.csv.specs.Reading.{strip_bom}
-use Rattle.xb_office.specs.RowTexts.{rest_of_records}
-use Rattle.xb_office.proofs.RecordRows.{left-start}
-use Rattle.xb_office.proofs.scan.Scan.new.Goals as goal
-
-pub returns : goal.returns
-returns c = ap rest_of_records (left-start c.from_reader.result (strip_bom c.args.text.now) c.from_reader.ensures.source c.from_reader.ensures.state)

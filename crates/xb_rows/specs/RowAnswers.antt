@@ -1,0 +1,18 @@
+-- What the calls that read rows answer (own format).
+use Rattle.std.specs.Prelude.{ℕ, ◌≡◌, ◌⊎◌, List, Some, None}
+use Rattle.xb_model.specs.declared.fault.RowFault.{RowFault}
+use Rattle.xb_model.specs.declared.fault.RowFault.TheVariants as fault
+use Rattle.xb_model.specs.Rows.{LoopRow}
+use Rattle.xb_rows.specs.RowTexts.{fault_of_text, rows_of_text}
+
+-- the rows of a text that has no fault
+abbrev pub AreRowsOf : List ℕ → List LoopRow → Type 0
+AreRowsOf text rows = (rows ≡ rows_of_text text) × (fault_of_text text ≡ None)
+
+-- the fault of a text, or want of memory
+abbrev pub IsFaultOf : List ℕ → RowFault → Type 0
+IsFaultOf text f = (f ≡ fault.NoMemory) ⊎ (fault_of_text text ≡ Some f)
+
+-- the same, where the text may not be read at all
+abbrev pub IsReadFaultOf : List ℕ → RowFault → Type 0
+IsReadFaultOf text f = (f ≡ fault.Read) ⊎ IsFaultOf text f

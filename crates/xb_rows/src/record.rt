@@ -1,0 +1,97 @@
+// What one record of the rows' text writes.
+ghost use Rattle.std.specs.Prelude.{◌≡◌, ◌≤◌, ◌<◌, ◌^◌, IfSome, Some, option_map};
+ghost use Rattle.csv.specs.Records.{fields_of};
+ghost use Rattle.xb_rows.specs.declared.record.TheConstants.{MS_DIGITS};
+ghost use Rattle.xb_rows.specs.RowTexts.{contact_of, is_header, line_of, field_number, row_of_fields, three_of};
+
+use csv::ByteRecord;
+use xb_model::{Contact, LineNo, Row, RowFault};
+
+// How many fields a row has.
+const ROW_FIELDS: usize = 3;
+
+// The most digits of a line, and of a time in ms.
+const LINE_DIGITS: usize = 4;
+
+const MS_DIGITS: usize = 8;
+
+// The number that a field of 1 to `most` ASCII digits writes.
+fn field_number(most: usize, field: &[u8]) -> Option<u32>
+    requires { most ≤ MS_DIGITS }
+    ensures value { result ≡ field_number most field.now }
+    ensures bound { IfSome result (λ n. n < 10 ^ most) }
+{
+    if field.is_empty() || field.len() > most {
+        return None;
+    }
+    let mut number: u32 = 0;
+    for digit in field {
+        if !digit.is_ascii_digit() {
+            return None;
+        }
+        number = number * 10 + u32::from(*digit - b'0');
+    }
+    Some(number)
+}
+
+// The line that a field writes.
+fn line_of(field: &[u8]) -> Option<LineNo>
+    ensures { result ≡ line_of field.now }
+{
+    LineNo::new(field_number(LINE_DIGITS, field)? as u16)
+}
+
+// What the loop does, as a field names it.
+fn contact_of(field: &[u8]) -> Option<Contact>
+    ensures { result ≡ contact_of field.now }
+{
+    match field {
+        [b'M'] => Some(Contact::Make),
+        [b'B'] => Some(Contact::Brk),
+        [b'C'] => Some(Contact::Close),
+        _ => None,
+    }
+}
+
+// The three fields of a record that has three.
+fn three_of(fields: &ByteRecord) -> Option<(&[u8], &[u8], &[u8])>
+    ensures { option_map (λ t. (t.0.now, t.1.now, t.2.now)) result ≡ three_of (fields_of fields.now) }
+{
+    if fields.len() != ROW_FIELDS {
+        return None;
+    }
+    let first = fields.get(0)?;
+    let second = fields.get(1)?;
+    let third = fields.get(2)?;
+    Some((first, second, third))
+}
+
+// The row that the three fields of record `n` write.
+fn row_of_three(n: u32, line: &[u8], state: &[u8], ms: &[u8]) -> Result<Row, RowFault>
+    ensures { result ≡ row_of_fields n (Some (line.now, state.now, ms.now)) }
+{
+    let line = line_of(line).ok_or(RowFault::Line(n))?;
+    let contact = contact_of(state).ok_or(RowFault::Contact(n))?;
+    let ms = field_number(MS_DIGITS, ms).ok_or(RowFault::Ms(n))?;
+    Row::new(line, contact, ms).ok_or(RowFault::Ms(n))
+}
+
+/// The row that record `n` writes.
+pub fn parse_row(n: u32, fields: &ByteRecord) -> Result<Row, RowFault>
+    ensures { result ≡ row_of_fields n (three_of (fields_of fields.now)) }
+{
+    let (line, state, ms) = three_of(fields).ok_or(RowFault::Fields(n))?;
+    row_of_three(n, line, state, ms)
+}
+
+/// Whether a record is the header.
+pub fn is_header(fields: &ByteRecord) -> bool
+    ensures { result ≡ is_header (three_of (fields_of fields.now)) }
+{
+    match three_of(fields) {
+        Some((line, state, ms)) => {
+            line == b"line".as_slice() && state == b"state".as_slice() && ms == b"ms".as_slice()
+        }
+        None => false,
+    }
+}

@@ -1,0 +1,3 @@
+// The tests of this crate.
+mod reading;
+mod rows;

@@ -1,0 +1,204 @@
+// The rows of texts, and their faults.
+use crate::{MOST_RECORDS, Scan, read_rows};
+use std::alloc::{AllocError, Global};
+use std::process::Abort;
+use std::test::Fail;
+use xb_model::{Contact, Row, RowFault, RowSource};
+
+// A row, as its line, its contact and its time.
+type RowParts = (u16, Contact, u32);
+
+// A text that begins with its header, its rows, and the fault behind them.
+type Case = (&'static [u8], &'static [RowParts], Option<RowFault>);
+
+const MAKE: Contact = Contact::Make;
+
+const BREAK: Contact = Contact::Brk;
+
+const CLOSE: Contact = Contact::Close;
+
+// Texts with the header in front.
+const HEADERS: &[Case] = &[
+    (b"", &[], Some(RowFault::Header)),
+    (b"\n\n", &[], Some(RowFault::Header)),
+    (b"5,M,1\n", &[], Some(RowFault::Header)),
+    (b"line,state\n5,M,1\n", &[], Some(RowFault::Header)),
+    (b"line,state,ms,more\n", &[], Some(RowFault::Header)),
+    (b"line,state,ms \n", &[], Some(RowFault::Header)),
+    (b"Line,state,ms\n", &[], Some(RowFault::Header)),
+    (b"line,state,ms", &[], None),
+    (b"line,state,ms\n", &[], None),
+    (b"\r\n\nline,state,ms\r\n\r\n", &[], None),
+    (b"\"line\",state,\"ms\"\n5,M,1\n", &[(5, MAKE, 1)], None),
+    (b"\xEF\xBB\xBFline,state,ms\n5,M,1\n", &[(5, MAKE, 1)], None),
+    (
+        b"line,state,ms\r5,M,500\r5,B,60\r",
+        &[(5, MAKE, 500), (5, BREAK, 60)],
+        None,
+    ),
+    (
+        b"line,state,ms\r\n5,M,500\r\n5,C,0\r\n",
+        &[(5, MAKE, 500), (5, CLOSE, 0)],
+        None,
+    ),
+];
+
+// Texts behind the header.
+const RECORDS: &[Case] = &[
+    // empty lines are no records and do not count
+    (
+        b"\n5,M,500\n\n\n6,B\n",
+        &[(5, MAKE, 500)],
+        Some(RowFault::Fields(2)),
+    ),
+    (b"5,M,500\n5,B,60", &[(5, MAKE, 500), (5, BREAK, 60)], None),
+    // fields
+    (b"7,M\n", &[], Some(RowFault::Fields(1))),
+    (b"7,M,1,2\n", &[], Some(RowFault::Fields(1))),
+    (b"x\n", &[], Some(RowFault::Fields(1))),
+    (b"\"\"\n", &[], Some(RowFault::Fields(1))),
+    (b"7,\"M,10", &[], Some(RowFault::Fields(1))),
+    // line
+    (b"0,M,1\n", &[(0, MAKE, 1)], None),
+    (
+        b"0005,M,1\n9999,M,1\n",
+        &[(5, MAKE, 1), (9999, MAKE, 1)],
+        None,
+    ),
+    (b"00005,M,1\n", &[], Some(RowFault::Line(1))),
+    (b"10000,X,0\n", &[], Some(RowFault::Line(1))),
+    (b",M,1\n", &[], Some(RowFault::Line(1))),
+    (b"+5,M,1\n", &[], Some(RowFault::Line(1))),
+    (b" 5,M,1\n", &[], Some(RowFault::Line(1))),
+    (b"x,X,x\n", &[], Some(RowFault::Line(1))),
+    // state
+    (b"7,X,1\n", &[], Some(RowFault::Contact(1))),
+    (b"7,m,1\n", &[], Some(RowFault::Contact(1))),
+    (b"7,MM,1\n", &[], Some(RowFault::Contact(1))),
+    (b"7,,x\n", &[], Some(RowFault::Contact(1))),
+    (b"7,\xFF,5\n", &[], Some(RowFault::Contact(1))),
+    // ms
+    (b"7,M,86400000\n", &[(7, MAKE, 86_400_000)], None),
+    (b"7,M,86400001\n", &[], Some(RowFault::Ms(1))),
+    (b"7,B,99999999\n", &[], Some(RowFault::Ms(1))),
+    (b"7,B,00000001\n", &[(7, BREAK, 1)], None),
+    (b"7,M,000000001\n", &[], Some(RowFault::Ms(1))),
+    (b"7,M,\n", &[], Some(RowFault::Ms(1))),
+    (b"7,M,+5\n", &[], Some(RowFault::Ms(1))),
+    (b"7,M,-1\n", &[], Some(RowFault::Ms(1))),
+    (b"7,M,5\xFF\n", &[], Some(RowFault::Ms(1))),
+    (b"7,C,0\n8,C,00\n", &[(7, CLOSE, 0), (8, CLOSE, 0)], None),
+    (b"7,C,1\n", &[], Some(RowFault::Ms(1))),
+    // quotes
+    (b"\"7\",\"M\",\"1\"0\n", &[(7, MAKE, 10)], None),
+    (b"7,M,1\"0\n", &[], Some(RowFault::Ms(1))),
+    (b"7,M,\"10", &[(7, MAKE, 10)], None),
+    // only the rows before the first fault, and records behind a close count too
+    (
+        b"7,M,1\n7,B,2\n7,M\nx\n",
+        &[(7, MAKE, 1), (7, BREAK, 2)],
+        Some(RowFault::Fields(3)),
+    ),
+    (
+        b"7,C,0\n7,X,1\n",
+        &[(7, CLOSE, 0)],
+        Some(RowFault::Contact(2)),
+    ),
+];
+
+fn parts_of(row: Row) -> RowParts {
+    (row.line().get(), row.contact(), row.ms())
+}
+
+// A header, and records.
+fn with_header(alloc: Global, records: &[u8]) -> Result<Vec<u8>, AllocError> {
+    let mut text = Vec::new(alloc);
+    text.extend_from_slice(b"line,state,ms\n")?;
+    text.extend_from_slice(records)?;
+    Ok(text)
+}
+
+// Checks that `read_rows` gives a text's rows, or its fault and no row.
+fn check_whole(
+    rt: &impl Abort,
+    alloc: Global,
+    text: &[u8],
+    wanted: &[RowParts],
+    stop: Option<RowFault>,
+) {
+    let mut reader = text;
+    match read_rows(alloc, &mut reader) {
+        Ok(rows) => {
+            assert!(rt; stop.is_none());
+            assert!(rt; rows.len() == wanted.len());
+            assert!(rt;
+                rows.iter()
+                    .zip(wanted)
+                    .all(|(row, parts)| parts_of(*row) == *parts)
+            );
+        }
+        Err(fault) => assert!(rt; stop == Some(fault)),
+    }
+}
+
+// Checks that a `Scan` answers its stop.
+fn check_stop(rt: &impl Abort, scan: &mut Scan, stop: Option<RowFault>) {
+    match scan.next_row() {
+        Ok(row) => assert!(rt; row.is_none() && stop.is_none()),
+        Err(fault) => assert!(rt; stop == Some(fault)),
+    }
+}
+
+// Checks that a `Scan` gives a text's rows, and then its stop for good.
+fn check_scan(
+    rt: &impl Abort,
+    alloc: Global,
+    text: &[u8],
+    wanted: &[RowParts],
+    stop: Option<RowFault>,
+) {
+    let mut scan = Scan::new(alloc, text);
+    for parts in wanted {
+        let row = scan.next_row();
+        assert!(rt; row.is_ok_and(|row| row.is_some_and(|row| parts_of(row) == *parts)));
+    }
+    check_stop(rt, &mut scan, stop);
+    check_stop(rt, &mut scan, stop);
+}
+
+#[test]
+fn reads_headers(rt: HostRuntime) {
+    let alloc = rt.alloc();
+    for (text, wanted, stop) in HEADERS {
+        check_whole(&rt, alloc, text, wanted, *stop);
+        check_scan(&rt, alloc, text, wanted, *stop);
+    }
+}
+
+#[test]
+fn reads_records(rt: HostRuntime) -> Result<(), Fail> {
+    let alloc = rt.alloc();
+    for (records, wanted, stop) in RECORDS {
+        let text = with_header(alloc, records)?;
+        check_whole(&rt, alloc, text.as_slice(), wanted, *stop);
+        check_scan(&rt, alloc, text.as_slice(), wanted, *stop);
+    }
+    Ok(())
+}
+
+#[test]
+fn reads_a_million_records(rt: HostRuntime) -> Result<(), Fail> {
+    let alloc = rt.alloc();
+    let mut text = with_header(alloc, b"")?;
+    for _ in 0..MOST_RECORDS {
+        text.extend_from_slice(b"5,M,0\n")?;
+    }
+    let mut reader = text.as_slice();
+    let rows = read_rows(alloc, &mut reader);
+    assert!(rt; rows.is_ok_and(|rows| rows.len() == 1_000_000));
+    // its fields are not looked at
+    text.extend_from_slice(b"x\n")?;
+    let mut reader = text.as_slice();
+    assert!(rt; read_rows(alloc, &mut reader).err() == Some(RowFault::TooMany));
+    Ok(())
+}

@@ -1,0 +1,4 @@
+pub mod EntryLaws
+pub mod PageEntries
+pub mod PageFormats
+pub mod PageLines
