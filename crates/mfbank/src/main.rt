@@ -6,7 +6,7 @@ use std::process::ExitCode;
 use xb_office::operate;
 
 /// Prints the page of the deck. On a fault nothing is printed but one line on standard error, and
-/// the status is 1; where the page could not be written, a front of it may have been.
+/// the status is 1; where the page could not be written, its beginning may have been.
 fn main(rt: HostRuntime) -> ExitCode {
     let mut deck = rt.stdin();
     let mut page = io::writer(&rt);

@@ -11,7 +11,7 @@ use xb_routes::{RouteFault, RouteTable};
 struct Faulty {
     /// The parts of the route table's text.
     table: &'static [&'static str],
-    /// What stands behind the line that cuts the deck; without such a line none.
+    /// What stands after the line that cuts the deck; without such a line none.
     rows: Option<&'static str>,
     fault: OfficeFault,
 }

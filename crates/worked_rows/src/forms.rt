@@ -3,7 +3,7 @@ use crate::attempts::ATTEMPTS;
 use crate::decks::{TABLE, deck_of, one_after_another, page_of};
 use std::test::Fail;
 
-// What stands behind the table in the deck of an operator call, whole.
+// What stands after the table in the deck of an operator call, whole.
 const ROWS: &str = "---
 line,state,ms
 5,M,500

@@ -1,4 +1,4 @@
-// Every call that may answer want of memory, run with enough: an operator call on line 5.
+// Every call that may run out of memory, run with enough: an operator call on line 5.
 use crate::decks::{TABLE, deck_of, page_of};
 use crate::pulses::rows_of;
 use std::test::Fail;

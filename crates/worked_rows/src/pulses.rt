@@ -1,7 +1,7 @@
 // Loop rows, from a short form.
 //
 // A piece is `M500`, a make of 500 ms; `B60`, a break; `C`, a close; `*4/600`, a train of four
-// breaks of 60 ms with makes of 40 ms between them and one of 600 ms behind; or `#4`, the train
+// breaks of 60 ms with makes of 40 ms between them and one of 600 ms after; or `#4`, the train
 // `*4/600`, and `#0` ten breaks.
 use std::alloc::Global;
 use std::process::Abort;
@@ -14,7 +14,7 @@ const BREAK: u32 = 60;
 /// A make between two breaks of a train, in ms.
 const MAKE: u32 = 40;
 
-/// The make behind a digit, in ms.
+/// The make after a digit, in ms.
 const PAUSE: u32 = 600;
 
 fn push(
@@ -28,7 +28,7 @@ fn push(
     Ok(())
 }
 
-// So many breaks, and the make behind the last.
+// So many breaks, and the make after the last.
 fn push_train(
     rt: &impl Abort,
     rows: &mut Vec<Row>,

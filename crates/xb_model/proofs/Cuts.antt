@@ -26,33 +26,33 @@ join_sum c m n (q ∷ R) = by (same_contact c q.contact)
     by true = rw (same_self c, add_assoc) refl
     by false = rw (same_self c) refl
 
--- equal joined records stay equal behind a row
-behind_row : (row : LoopRow) (A B : List LoopRow) → joined (record_up_to_close A) ≡ joined (record_up_to_close B) → joined (record_up_to_close (row ∷ A)) ≡ joined (record_up_to_close (row ∷ B))
-behind_row row A B same = by (is_close row.contact) (row.ms == 0)
+-- equal joined records stay equal after a row
+after_row : (row : LoopRow) (A B : List LoopRow) → joined (record_up_to_close A) ≡ joined (record_up_to_close B) → joined (record_up_to_close (row ∷ A)) ≡ joined (record_up_to_close (row ∷ B))
+after_row row A B same = by (is_close row.contact) (row.ms == 0)
   where
     by : (closed none : Bool) → joined (cond closed [] (cond none (record_up_to_close A) (run_of row.contact row.ms ∷ record_up_to_close A))) ≡ joined (cond closed [] (cond none (record_up_to_close B) (run_of row.contact row.ms ∷ record_up_to_close B)))
     by true none = refl
     by false true = same
     by false false = ap (λ R. join (run_of row.contact row.ms) R) same
 
--- and behind rows of all lines
-behind_rows : (l : ℕ) (earlier A B : List LoopRow) → joined (record_of l A) ≡ joined (record_of l B) → joined (record_of l (earlier ++ A)) ≡ joined (record_of l (earlier ++ B))
-behind_rows l [] A B same = same
-behind_rows l (row ∷ rows) A B same = by (row.line == l) (behind_rows l rows A B same)
+-- and after rows of all lines
+after_rows : (l : ℕ) (earlier A B : List LoopRow) → joined (record_of l A) ≡ joined (record_of l B) → joined (record_of l (earlier ++ A)) ≡ joined (record_of l (earlier ++ B))
+after_rows l [] A B same = same
+after_rows l (row ∷ rows) A B same = by (row.line == l) (after_rows l rows A B same)
   where
     by : (on : Bool) → joined (record_of l (rows ++ A)) ≡ joined (record_of l (rows ++ B)) → joined (record_up_to_close (cond on (row ∷ rows_of l (rows ++ A)) (rows_of l (rows ++ A)))) ≡ joined (record_up_to_close (cond on (row ∷ rows_of l (rows ++ B)) (rows_of l (rows ++ B))))
-    by true rest = behind_row row (rows_of l (rows ++ A)) (rows_of l (rows ++ B)) rest
+    by true rest = after_row row (rows_of l (rows ++ A)) (rows_of l (rows ++ B)) rest
     by false rest = rest
 
 -- two lengths that are not 0 do not sum to 0
 sum_is_not_0 : (m n : ℕ) → (suc m + suc n == 0) ≡ false
 sum_is_not_0 m n = rw (suc-add m (suc n)) (eqb-suc-zero (m + suc n))
 
--- what a row of n ms says in front of rows that are not closed by it
+-- what a row of n ms says before rows that are not closed by it
 abbrev up_to : ℕ → Contact → List LoopRow → List Run
 up_to n c rows = cond (n == 0) (record_up_to_close rows) (run_of c n ∷ record_up_to_close rows)
 
--- a row in front of rows of its line
+-- a row before rows of its line
 cut_front : (line m n : ℕ) (c : Contact) (rows : List LoopRow) → joined (record_up_to_close (row_of line c m ∷ row_of line c n ∷ rows)) ≡ joined (record_up_to_close (row_of line c (m + n) ∷ rows))
 cut_front line zero n c rows = rw (zero-add n) (by (is_close c))
   where
@@ -72,11 +72,11 @@ cut_front line (suc m) (suc n) c rows = by (is_close c)
 
 -- the rows of line l where row m of a line stands in front, then rows of other lines, then row n
 module _ (l line m n : ℕ) (c : Contact) (between later : List LoopRow) where
-  -- rows of which none is on line l leave its rows behind them as they are
+  -- rows of which none is on line l leave its rows after them as they are
   skipped : (rows : List LoopRow) → rows_of l between ≡ [] → rows_of l (between ++ rows) ≡ rows_of l rows
   skipped rows none = of_line-append row_line l between rows ∙ ap (λ front. front ++ rows_of l rows) none
 
-  -- on the line itself both rows stand, one behind the other, or one row of their sum
+  -- on the line itself both rows stand, one after the other, or one row of their sum
   cut_here : (line == l) ≡ true → rows_of l between ≡ []
       → joined (record_of l (row_of line c m ∷ (between ++ row_of line c n ∷ later))) ≡ joined (record_of l (row_of line c (m + n) ∷ (between ++ later)))
   cut_here on none =
@@ -101,7 +101,7 @@ module _ (l line m n : ℕ) (c : Contact) (between later : List LoopRow) where
 -- the runs of a line are the same where one of its rows is cut into two
 pub rows_may_be_cut : RowsMayBeCut
 rows_may_be_cut l line m n c earlier between later none =
-    ap without_first_break (behind_rows l earlier _ _ (⊎_elim
+    ap without_first_break (after_rows l earlier _ _ (⊎_elim
     (λ on. cut_here l line m n c between later on (ap (λ k. rows_of k between) (sym (eqb-true line l on)) ∙ none))
     (λ off. ap (λ rows. joined (record_up_to_close rows)) (cut_elsewhere l line m n c between later off))
     (cases_Bool (line == l))))

@@ -6,7 +6,7 @@ use Rattle.std.proofs.lemmas.List.Elements.{filter-append}
 use Rattle.xb_model.specs.Lines.{of_line}
 
 module _ {X : Type 0} (line : X → ℕ) where
-  -- the items of a line in two lists, one behind the other
+  -- the items of a line in two lists, one after the other
   pub of_line-append : (l : ℕ) (xs ys : List X) → of_line line l (xs ++ ys) ≡ of_line line l xs ++ of_line line l ys
   of_line-append l xs ys = filter-append (λ x. eqb (line x) l) xs ys
 

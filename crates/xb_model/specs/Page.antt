@@ -14,7 +14,7 @@ use Rattle.xb_model.specs.Tapes.{entries_of}
 abbrev pub zero_byte : ℕ
 zero_byte = 48
 
--- a number in four digits, with zeros in front
+-- a number in four digits, with leading zeros
 abbrev pub four_digits : ℕ → List ℕ
 four_digits n = replicate (4 - length (decimal n)) zero_byte ++ decimal n
 
@@ -33,7 +33,7 @@ reason_text reason.Unknown = codes "UNKNOWN"
 reason_text reason.Abandoned = codes "ABANDONED"
 reason_text reason.TimedOut = codes "TIMEDOUT"
 
--- a mark, behind a blank
+-- a mark, after a blank
 abbrev pub mark_text : Mark → List ℕ
 mark_text (mark.Trunk t) = codes " " ++ four_digits t
 mark_text (mark.Tone k pair) = codes " " ++ key_text k ++ codes ":" ++ pair_text pair

@@ -85,7 +85,7 @@ pub record Attempt : Type 0 where
 abbrev pub is_release : Limits → Run → Bool
 is_release limits run = is_break run && nat_le limits.release run.ms
 
--- a run in front of the first piece
+-- a run before the first piece
 abbrev pub into_first : Run → List Attempt → List Attempt
 into_first run [] = record { runs = run ∷ []; released = false } ∷ []
 into_first run (piece ∷ pieces) = record { runs = run ∷ piece.runs; released = piece.released } ∷ pieces
@@ -131,12 +131,12 @@ pub record Train : Type 0 where
   pub inner : List Run
   pub last : Run
 
--- a run in front of the first train; before none it belongs to no train
+-- a run before the first train; before none it belongs to no train
 abbrev pub onto_first : Run → List Train → List Train
 onto_first run [] = []
 onto_first run (train ∷ trains) = record { inner = run ∷ train.inner; last = train.last } ∷ trains
 
--- the parts that are left when runs are cut behind every make of `pause` or more; a last part that
+-- the parts that are left when runs are cut after every make of `pause` or more; a last part that
 -- ends otherwise is none
 abbrev pub cut_at_pauses : Limits → List Run → List Train
 cut_at_pauses limits [] = []
@@ -144,6 +144,6 @@ cut_at_pauses limits (run ∷ rest) =
     if ends_train limits run then record { inner = []; last = run } ∷ cut_at_pauses limits rest
     else onto_first run (cut_at_pauses limits rest)
 
--- the pulse trains of an attempt: what is heard behind its first make, cut at the pauses
+-- the pulse trains of an attempt: what is heard after its first make, cut at the pauses
 abbrev pub trains_of : Limits → List Run → List Train
 trains_of limits attempt = cut_at_pauses limits (without_first (heard limits attempt))

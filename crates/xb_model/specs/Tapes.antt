@@ -29,12 +29,12 @@ tapes_of plan limits routes rows = map (λ l. joined_tape plan limits routes l r
 abbrev pub marks_at : List (List Mark) → ℕ → List Mark
 marks_at tapes l = slice_index_or tapes l []
 
--- a mark in front of the first entry; before none it belongs to no entry
+-- a mark before the first entry; before none it belongs to no entry
 abbrev pub into_first_entry : Mark → List (List Mark) → List (List Mark)
 into_first_entry mark [] = []
 into_first_entry mark (entry ∷ entries) = (mark ∷ entry) ∷ entries
 
--- the entries of marks: cut behind every ending mark; a last part that is not ended is no entry
+-- the entries of marks: cut after every ending mark; a last part that is not ended is no entry
 abbrev pub entries_of : List Mark → List (List Mark)
 entries_of [] = []
 entries_of (mark ∷ marks) = if is_ending mark then (mark ∷ []) ∷ entries_of marks else into_first_entry mark (entries_of marks)

@@ -18,7 +18,7 @@ use Rattle.xb_model.specs.Tapes.{tape_of}
 abbrev pub close : Run
 close = run_of Close 0
 
--- n breaks of 60 ms, with makes of 40 ms between them and one of `last` ms behind them
+-- n breaks of 60 ms, with makes of 40 ms between them and one of `last` ms after them
 unfoldable pub pulses : ℕ → ℕ → List Run
 pulses zero last = []
 pulses (suc zero) last = break 60 ∷ make last ∷ []

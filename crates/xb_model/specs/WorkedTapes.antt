@@ -76,7 +76,7 @@ ElevenPulses =
     tapes (8 ∷ []) (rows_on 8 (make 500 ∷ dials (4 ∷ []) ++ pulses 11 600 ++ dials (1 ∷ 1 ∷ []) ++ close ∷ []))
     ≡ (refused Mutilated 1 ∷ []) ∷ []
 
--- a make of the time-out in an unfinished number, one ms less, and a day's behind a complete one
+-- a make of the time-out in an unfinished number, one ms less, and a day's after a complete one
 abbrev pub sixth_digit : ℕ → ℕ → List LoopRow
 sixth_digit l ms = rows_on l (make 500 ∷ dials (2 ∷ 3 ∷ 4 ∷ 5 ∷ 6 ∷ []) ++ pulses 7 ms ++ dials (8 ∷ []))
 
@@ -94,7 +94,7 @@ LastDigitPause =
     tapes (41 ∷ 42 ∷ []) (seventh_digit 41 179 ++ seventh_digit 42 180)
     ≡ (refused Abandoned 6 ∷ []) ∷ (keyed_seven ∷ []) ∷ []
 
--- rows behind a close make no entry
+-- rows after a close make no entry
 abbrev pub ClosedLine : Type 0
 ClosedLine =
     tapes (9 ∷ []) (rows_on 9 (make 500 ∷ dials (2 ∷ 3 ∷ []) ++ close ∷ make 500 ∷ dials (0 ∷ [])))
@@ -109,7 +109,7 @@ UnknownCodes =
     ++ rows_on 3 (make 500 ∷ dials (5 ∷ 5 ∷ 5 ∷ 1 ∷ 2 ∷ 3 ∷ 4 ∷ [])))
     ≡ (keyed_service ∷ []) ∷ (refused Unknown 3 ∷ []) ∷ (refused Unknown 7 ∷ []) ∷ []
 
--- a second number is heard only behind a release
+-- a second number is heard only after a release
 abbrev pub second_call_rows : List LoopRow
 second_call_rows = rows_on 3 (make 500 ∷ dials (0 ∷ 9 ∷ []) ++ break 400 ∷ make 500 ∷ dials (4 ∷ 1 ∷ 1 ∷ []))
 
@@ -126,7 +126,7 @@ ShortRecords =
     ++ rows_on 4 (make 500 ∷ break 10 ∷ make 25000 ∷ dials (0 ∷ [])))
     ≡ [] ∷ [] ∷ (refused Abandoned 0 ∷ []) ∷ (refused Mutilated 0 ∷ []) ∷ []
 
--- a prefix of eight digits in front of seven
+-- a prefix of eight digits before seven
 abbrev pub longest_entry : List Mark
 longest_entry =
     Trunk 9999 ∷ tone_kp

@@ -8,7 +8,7 @@ use std::marker::Model;
 /// The most digits of a dialled number.
 pub const NUMBER_DIGITS: usize = 7;
 
-/// The most digits that a route puts in front of a number.
+/// The most digits that a route puts before a number.
 pub const PREFIX_DIGITS: usize = 8;
 
 /// The most digits of a keying: those of a prefix, then those of a number.
@@ -26,7 +26,7 @@ pub type NumberDigits = DigitList<NUMBER_DIGITS>;
 /// The digits of a keying.
 pub type KeyDigits = DigitList<KEY_DIGITS>;
 
-/// The digits that a route puts in front of a number.
+/// The digits that a route puts before a number.
 pub type PrefixDigits = DigitList<PREFIX_DIGITS>;
 
 impl<const CAPACITY: usize> Model for DigitList<CAPACITY> {
@@ -72,7 +72,7 @@ impl<const CAPACITY: usize> DigitList<CAPACITY> {
         &self.digits
     }
 
-    /// One digit more, behind the others.
+    /// One digit more, after the others.
     pub fn push(&mut self, digit: Digit)
         requires { length self.old < CAPACITY }
         ensures { self.new ≡ self.old ++ digit ∷ [] }

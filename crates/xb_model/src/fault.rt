@@ -1,7 +1,7 @@
 // Faults of loop rows.
 use thiserror::Error;
 
-/// Why loop rows are refused (own format). A number is that of the record, the first behind the
+/// Why loop rows are refused (own format). A number is that of the record, the first after the
 /// header being 1.
 #[derive(Clone, Copy, Debug, PartialEq, Eq, Error)]
 pub enum RowFault {
@@ -26,7 +26,7 @@ pub enum RowFault {
     /// More than 1,000,000 records follow the header.
     #[error("more than 1000000 records")]
     TooMany,
-    /// A growth was refused.
+    /// Memory ran out.
     #[error("out of memory")]
     NoMemory,
 }

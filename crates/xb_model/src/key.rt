@@ -11,7 +11,7 @@ pub enum Key {
     Digit(Digit),
     /// KP, before the digits.
     Kp,
-    /// ST, behind the digits.
+    /// ST, after the digits.
     St,
 }
 

@@ -17,7 +17,7 @@ pub struct Limits {
     pub pulse_max: u32,
     /// The shortest make between two pulses.
     pub make_min: u32,
-    /// A make of this or more behind a pulse ends the digit.
+    /// A make of this or more after a pulse ends the digit.
     pub pause: u32,
     /// A break of this or more releases the line.
     pub release: u32,

@@ -1,6 +1,6 @@
 // The length of a number.
 ghost use Rattle.std.specs.Prelude.{◌≡◌};
-ghost use Rattle.xb_model.specs.Plans.{plan_len, length_behind_three};
+ghost use Rattle.xb_model.specs.Plans.{plan_len, length_after_three};
 
 use crate::digit::Digit;
 
@@ -12,8 +12,8 @@ pub enum Plan {
 }
 
 // The length of a number that begins with these three digits, the first not 0.
-fn length_behind_three(plan: Plan, first: u8, second: u8, third: u8) -> u8
-    ensures { result ≡ length_behind_three plan first second third }
+fn length_after_three(plan: Plan, first: u8, second: u8, third: u8) -> u8
+    ensures { result ≡ length_after_three plan first second third }
 {
     match plan {
         Plan::Seven => {
@@ -37,7 +37,7 @@ pub fn plan_len(plan: Plan, digits: &[Digit]) -> Option<u8>
             if first.get() == 0 {
                 Some(1)
             } else if let [second, third, ..] = rest {
-                Some(length_behind_three(plan, first.get(), second.get(), third.get()))
+                Some(length_after_three(plan, first.get(), second.get(), third.get()))
             } else {
                 None
             }

@@ -10,7 +10,7 @@ use Rattle.std.proofs.lemmas.List.Splits.{slice_split_at, slice_split_none, join
 use Rattle.std.proofs.lemmas.List.Sums.{fails_before_first}
 use Rattle.xb_office.specs.Deck.{Parts, in_front, deck_parts, ends_line, is_cut, line_feed}
 
--- the first line, and the lines behind its LF
+-- the first line, and the lines after its LF
 first_line : (xs : List ℕ) (n : ℕ) → position ends_line xs ≡ Some n → slice_split ends_line xs ≡ take n xs ∷ slice_split ends_line (drop (n + 1) xs)
 first_line xs n e =
     let (within, is, before) = position-Some ends_line xs n 0 e in
@@ -31,7 +31,7 @@ with_end xs n e =
     let lf : get_or xs n 0 ≡ line_feed = grind (arith, common_steps) in
     ap (λ (byte : ℕ). take n xs ++ (byte ∷ [])) (sym lf) ∙ sym (take_more xs n 0 within)
 
--- what stands in front of what stands in front
+-- what stands before what stands in front
 in_front-in_front : (a b : List ℕ) (o : Option Parts) → option_map (in_front a) (option_map (in_front b) o) ≡ option_map (in_front (a ++ b)) o
 in_front-in_front a b None = refl
 in_front-in_front a b (Some p) = rw (append_assoc a b p.table) refl
@@ -44,7 +44,7 @@ IsRestCut xs start = deck_parts xs ≡ option_map (in_front (take start xs)) (de
 line_length : (start n : ℕ) → start + n - start ≡ n
 line_length start n = omega arith
 
--- the bytes behind a line
+-- the bytes after a line
 drop-line : (xs : List ℕ) (start n : ℕ) → drop (n + 1) (drop start xs) ≡ drop (start + n + 1) xs
 drop-line xs start n =
     let e : start + (n + 1) ≡ start + n + 1 = omega arith in

@@ -22,7 +22,7 @@ pub record Parts : Type 0 where
 abbrev pub parts_of_deck : Deck → Parts
 parts_of_deck deck = record { table = deck.table.now; rows = deck.rows.now }
 
--- bytes in front of the route table
+-- bytes before the route table
 abbrev pub in_front : List ℕ → Parts → Parts
 in_front bytes parts = record { table = bytes ++ parts.table; rows = parts.rows }
 

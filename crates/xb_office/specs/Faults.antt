@@ -14,7 +14,7 @@ of_read read_fault.Failed = fault.Read
 of_read read_fault.TooLong = fault.DeckTooLong
 of_read read_fault.NoMemory = fault.NoMemory
 
--- want of memory is one fault, in whatever part
+-- running out of memory is one fault, in whatever part
 abbrev pub IsOfRoutes : RouteFault → OfficeFault → Type 0
 IsOfRoutes f e = ((f ≡ route_fault.NoMemory) × (e ≡ fault.NoMemory)) ⊎ ((f ≢ route_fault.NoMemory) × (e ≡ fault.Routes f))
 

@@ -19,7 +19,7 @@ use Rattle.xb_office.specs.Writing.{AppendsFront}
 unfoldable pub page_of : Table → List LoopRow → List ℕ
 page_of table rows = page_text (tapes_of table.plan table.limits table.routes rows)
 
--- rows and the stop behind them: the page of the rows, or the fault that stops them
+-- rows and the stop after them: the page of the rows, or the fault that stops them
 abbrev pub says_rows : Table → List LoopRow → Option RowFault → Result (List ℕ) OfficeFault
 says_rows table rows None = Ok (page_of table rows)
 says_rows table rows (Some f) = Err (fault.Rows f)
@@ -37,7 +37,7 @@ says_parts (Some parts) = says_table parts.rows (table_of_text parts.table)
 abbrev pub says : List ℕ → Result (List ℕ) OfficeFault
 says deck = if nat_lt MOST_DECK_BYTES (length deck) then Err fault.DeckTooLong else says_parts (deck_parts deck)
 
--- want of memory, or what a deck says
+-- out of memory, or what a deck says
 abbrev pub IsFaultOfDeck : Result (List ℕ) OfficeFault → OfficeFault → Type 0
 IsFaultOfDeck said f = (f ≡ fault.NoMemory) ⊎ (said ≡ Err f)
 
@@ -49,6 +49,6 @@ IsOfficeFault said f = (f ≡ fault.Read) ⊎ (f ≡ fault.Write) ⊎ IsFaultOfD
 abbrev pub GetsPage : Result (List ℕ) OfficeFault → Option (List ℕ) → Option (List ℕ) → Type 0
 GetsPage said old new = (page : List ℕ) × (said ≡ Ok page) × Appends old new page
 
--- a writer got a front of the page
+-- a writer got the beginning of the page
 abbrev pub GetsFront : Result (List ℕ) OfficeFault → Option (List ℕ) → Option (List ℕ) → Type 0
 GetsFront said old new = (page : List ℕ) × (said ≡ Ok page) × AppendsFront old new page

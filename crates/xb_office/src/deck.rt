@@ -31,7 +31,7 @@ fn line_length(text: &[u8]) -> Option<usize>
 
 impl<'a> Deck<'a> {
     /// Cuts a deck at its first line that is exactly `---`: the route table stands before that
-    /// line, the rows behind its LF. A line ends at LF or at the end of the deck, and one CR
+    /// line, the rows after its LF. A line ends at LF or at the end of the deck, and one CR
     /// before that end is dropped. `None` where there is no such line.
     pub fn cut(bytes: &'a [u8]) -> Option<Deck<'a>>
         ensures { option_map parts_of_deck result ≡ deck_parts bytes.now }

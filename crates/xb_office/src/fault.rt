@@ -11,7 +11,7 @@ use xb_rows::ReadFault;
 /// Why a deck gives no page.
 ///
 /// Of the faults of a deck, the first in the order `DeckTooLong`, `NoCut`, `Routes`, `Rows` is
-/// answered. Every want of memory is `NoMemory`, also one of a `RouteFault` or a `RowFault`.
+/// answered. Running out of memory is always `NoMemory`, also one of a `RouteFault` or a `RowFault`.
 #[derive(Clone, Copy, Debug, PartialEq, Eq, Error)]
 pub enum OfficeFault {
     /// A read of the deck failed, an interrupted one too.
@@ -29,10 +29,10 @@ pub enum OfficeFault {
     /// The loop rows are refused.
     #[error("loop rows: {0}")]
     Rows(RowFault),
-    /// A growth was refused.
+    /// Memory ran out.
     #[error("out of memory")]
     NoMemory,
-    /// A write or the flush failed, or a write took no byte. A front of the page was written.
+    /// A write or the flush failed, or a write took no byte. The beginning of the page was written.
     #[error("the page could not be written")]
     Write,
 }

@@ -39,7 +39,7 @@ fn page_of_deck(alloc: Global, bytes: &[u8]) -> Result<Vec<u8>, OfficeFault>
 /// Reads a deck, and writes its page: the tapes of the lines, as the deck's rows and its table make
 /// them. The table is read before the rows, and nothing is written before both are.
 ///
-/// On an `Err` nothing was written, but on `Write`, where a front of the page was. On any answer but
+/// On an `Err` nothing was written, but on `Write`, where the beginning of the page was. On any answer but
 /// `Read`, `DeckTooLong` and `NoMemory` the reader stands at its end.
 ///
 /// What the contract says of bytes it says of readers whose bytes and writers whose contents are

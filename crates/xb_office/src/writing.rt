@@ -9,7 +9,7 @@ use std::io::Write;
 #[derive(Clone, Copy, Debug, PartialEq, Eq)]
 pub struct WriteFault;
 
-/// Writes a text and flushes: each byte on `Ok`, else a front of it. A write that was interrupted
+/// Writes a text and flushes: each byte on `Ok`, else the beginning of it. A write that was interrupted
 /// has failed, and is not tried again.
 pub fn write_whole<W: Write>(out: &mut W, text: &[u8]) -> Result<(), WriteFault>
     ensures whole { OnOk result (Appends (W.contents out.old) (W.contents out.new) text.now) }

@@ -22,22 +22,22 @@ use Rattle.xb_stage.proofs.OnLines.{on_line-append, image_from-on_lines}
 use Rattle.xb_pulse.specs.Laws.{HearsTheRecord, HearsTheRecordOfEach, HearsSoFar, HearsSoFarOfEach, heard_on}
 use Rattle.xb_pulse.specs.declared.state.Phase.{Phase}
 use Rattle.xb_pulse.specs.declared.state.Phase.TheVariants.{OnHook, BetweenTrains, InBreak, InMake, TimedOut, Closed}
-use Rattle.xb_pulse.specs.Machine.{Step, enter, on_make, on_break, on_row, phase_behind, signals_by, machine}
+use Rattle.xb_pulse.specs.Machine.{Step, enter, on_make, on_break, on_row, phase_after, signals_by, machine}
 use Rattle.xb_pulse.specs.Outputs.{outs_on_line}
 use Rattle.xb_pulse.proofs.ToSend.{to_send}
 use Rattle.xb_pulse.proofs.Steps.{IsOpen, SendsFront, on_make-front, on_break-front, on_make-open, on_break-open, to_send-none}
 
 -- what rows of one line send, from a phase on
 abbrev sent : Limits → Phase → List LoopRow → List Signal
-sent L s rows = whats_from (phase_behind L) (signals_by L) s rows
+sent L s rows = whats_from (phase_after L) (signals_by L) s rows
 
 -- the close, if it has not come
 abbrev pub unless_closed : List LoopRow → List Signal
 unless_closed rows = if closes rows then [] else Close ∷ []
 
--- behind the close no row sends anything
+-- after the close no row sends anything
 
--- a row behind the close leaves the closed phase, and sends nothing
+-- a row after the close leaves the closed phase, and sends nothing
 closed_stays : (L : Limits) (c : Contact) (ms : ℕ) → on_row L Closed c ms ≡ enter Closed
 closed_stays L Make ms = cond_both (ms == 0) _ _ (λ step. step ≡ enter Closed) (λ t. refl) (λ f. refl)
 closed_stays L Brk ms = cond_both (ms == 0) _ _ (λ step. step ≡ enter Closed) (λ t. refl) (λ f. refl)
@@ -62,15 +62,15 @@ sends_close L Closed ms o = absurd o
 abbrev Hears : Limits → Phase → List LoopRow → Type 0
 Hears L s rows = sent L s rows ++ unless_closed rows ≡ to_send L s (joined (record_up_to_close rows))
 
--- a step that sends the front, and rows that are heard behind it
+-- a step that sends the front, and rows that are heard after it
 front_heard : (L : Limits) (step : Step) (rows : List LoopRow) (all : List Signal) → SendsFront L step (joined (record_up_to_close rows)) all → Hears L step.after rows → (step.sent ++ sent L step.after rows) ++ unless_closed rows ≡ all
 front_heard L step rows all front heard =
     append_assoc step.sent (sent L step.after rows) (unless_closed rows)
-    ∙ ap (λ behind. step.sent ++ behind) heard
+    ∙ ap (λ after. step.sent ++ after) heard
     ∙ sym front
 
 module _ (L : Limits) (l : IsLawful L) (rows : List LoopRow) (heard : (s : Phase) → IsOpen L s → Hears L s rows) where
-  -- a row in front of rows that are heard from every open phase
+  -- a row before rows that are heard from every open phase
   row_heard : (s : Phase) (line : LineNo) (c : Contact) (ms : ℕ) → IsOpen L s → Hears L s (record { line = line; contact = c; ms = ms } ∷ rows)
   row_heard s line Make ms o = at (ms == 0)
     where
@@ -86,7 +86,7 @@ module _ (L : Limits) (l : IsLawful L) (rows : List LoopRow) (heard : (s : Phase
           front_heard L (on_break L s ms) rows _ (on_break-front L s ms (joined (record_up_to_close rows)) l o) (heard (on_break L s ms).after (on_break-open L s ms o))
   row_heard s line contacts.Close ms o =
       ap (λ step. (step.sent ++ sent L step.after rows) ++ []) (sends_close L s ms o)
-      ∙ ap (λ behind. Close ∷ behind ++ []) (sent-closed L rows)
+      ∙ ap (λ after. Close ∷ after ++ []) (sent-closed L rows)
       ∙ sym (to_send-none L s l o)
 
 -- rows are heard from every open phase
@@ -97,7 +97,7 @@ all_heard L l (row ∷ rows) s o = row_heard L l rows (all_heard L l rows) s row
 -- what the stage sends for rows of one line, and a close unless they have one, are the signals
 signals_heard : (L : Limits) (line : LineNo) (rows : List LoopRow) → IsLawful L → AllByRecursion (λ row. row_line row ≡ line) rows → image_on (machine L) rows ++ on_line line (unless_closed rows) ≡ on_line line (signals_of L (record_up_to_close rows))
 signals_heard L line rows l a =
-    ap (λ front. front ++ on_line line (unless_closed rows)) (image_from-on_lines row_line OnHook (phase_behind L) (signals_by L) line OnHook rows a)
+    ap (λ front. front ++ on_line line (unless_closed rows)) (image_from-on_lines row_line OnHook (phase_after L) (signals_by L) line OnHook rows a)
     ∙ sym (on_line-append line (sent L OnHook rows) (unless_closed rows))
     ∙ ap (on_line line) (all_heard L l rows OnHook tt)
 

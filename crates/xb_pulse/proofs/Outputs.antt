@@ -19,7 +19,7 @@ use Rattle.xb_pulse.specs.Machine.{Step, send, enter, longer, with_break, betwee
 abbrev Few : Step → Type 0
 Few step = length step.sent ≤ 2
 
--- a signal, and a make outside any train behind it
+-- a signal, and a make outside any train after it
 few_between : (L : Limits) (t : ℕ) (what : Signal) → Few (send what (between_trains L t))
 few_between L t what =
     cond_both (nat_le L.timeout t) (send TimeOut (enter (TimedOut 0))) (enter (BetweenTrains t)) (λ step. Few (send what step)) (λ reached. omega arith) (λ under. omega arith)
@@ -29,7 +29,7 @@ few_between_alone : (L : Limits) (t : ℕ) → Few (between_trains L t)
 few_between_alone L t =
     cond_both (nat_le L.timeout t) (send TimeOut (enter (TimedOut 0))) (enter (BetweenTrains t)) Few (λ reached. omega arith) (λ under. omega arith)
 
--- a make behind a part of a train
+-- a make after a part of a train
 few_make : (L : Limits) (t : ℕ) (tally : Tally) → Few (in_make L t tally)
 few_make L t tally =
     cond_both (nat_le L.pause t) (send (Digit tally.breaks tally.bad) (between_trains L t)) (enter (InMake t tally)) Few (λ reached. few_between L t (Digit tally.breaks tally.bad)) (λ under. omega arith)

@@ -16,8 +16,8 @@ use Rattle.xb_pulse.specs.declared.state.Phase.{Phase}
 use Rattle.xb_pulse.specs.declared.state.Phase.TheVariants.{OnHook, BetweenTrains, InBreak, InMake, TimedOut, Closed}
 use Rattle.xb_pulse.specs.Machine.{Step, enter, send, longer, no_breaks, with_break, with_make, between_trains, in_make, on_make, release_at, unless_released, on_break}
 use Rattle.xb_model.proofs.Cuts.{join_sum}
-use Rattle.xb_pulse.proofs.Joining.{more, behind, join_is, behind_break}
-use Rattle.xb_pulse.proofs.ToSend.{all_of, seized, in_train, behind_timeout, to_send, all_of-seized, seized-timed, seized-make, in_train-pause, in_train-make, in_train-break, behind_timeout-run, pieces_of-release}
+use Rattle.xb_pulse.proofs.Joining.{more, after, join_is, after_break}
+use Rattle.xb_pulse.proofs.ToSend.{all_of, seized, in_train, after_timeout, to_send, all_of-seized, seized-timed, seized-make, in_train-pause, in_train-make, in_train-break, after_timeout-run, pieces_of-release}
 
 -- a phase of an open record: no length has reached the limit that would have ended it
 abbrev pub IsOpen : Limits → Phase → Type 0
@@ -28,21 +28,21 @@ IsOpen L (InMake t tally) = (t < L.pause) × (tally.breaks ≤ MANY_BREAKS)
 IsOpen L (TimedOut t) = t < L.release
 IsOpen L Closed = ⊥
 
--- what a step sends is the front, and the phase behind it has the rest
+-- what a step sends is the front, and the phase after it has the rest
 abbrev pub SendsFront : Limits → Step → List Run → List Signal → Type 0
 SendsFront L step R all = all ≡ step.sent ++ to_send L step.after R
 
--- behind a time-out the rest of the make adds nothing
-behind_timeout-make : (L : Limits) (R : List Run) → 0 < L.release → behind_timeout L (pieces_of L (join (break 0) R)) ≡ behind_timeout L (pieces_of L (behind Make R))
-behind_timeout-make L [] h = rw (lt-leb L.release 0 h)
-behind_timeout-make L (q ∷ R) h = at q.contact
+-- after a time-out the rest of the make adds nothing
+after_timeout-make : (L : Limits) (R : List Run) → 0 < L.release → after_timeout L (pieces_of L (join (break 0) R)) ≡ after_timeout L (pieces_of L (after Make R))
+after_timeout-make L [] h = rw (lt-leb L.release 0 h)
+after_timeout-make L (q ∷ R) h = at q.contact
   where
-    at : (c : Contact) → behind_timeout L (pieces_of L (join (break 0) (run_of c q.ms ∷ R))) ≡ behind_timeout L (pieces_of L (behind Make (run_of c q.ms ∷ R)))
+    at : (c : Contact) → after_timeout L (pieces_of L (join (break 0) (run_of c q.ms ∷ R))) ≡ after_timeout L (pieces_of L (after Make (run_of c q.ms ∷ R)))
     at Make =
-        rw (lt-leb L.release 0 h, behind_timeout-run L (break 0) (into_first (make q.ms) (pieces_of L R)), behind_timeout-run L (make q.ms) (pieces_of L R))
+        rw (lt-leb L.release 0 h, after_timeout-run L (break 0) (into_first (make q.ms) (pieces_of L R)), after_timeout-run L (make q.ms) (pieces_of L R))
     at Brk = rw zero-add
     at contacts.Close =
-        rw (lt-leb L.release 0 h, behind_timeout-run L (break 0) (into_first (run_of contacts.Close q.ms) (pieces_of L R)))
+        rw (lt-leb L.release 0 h, after_timeout-run L (break 0) (into_first (run_of contacts.Close q.ms) (pieces_of L R)))
 
 -- in a make of x ms outside any train, which the stage knows as s
 between_trains-front : (L : Limits) (R : List Run) (x s : ℕ) → IsLawful L → s ≡ min x GREATEST_LIMIT → SendsFront L (between_trains L s) R (seized L (pieces_of L (join (make x) R)))
@@ -52,7 +52,7 @@ between_trains-front L R x s l e = by (nat_le L.timeout s) refl
     by true t =
         let h : L.timeout ≤ s = leb-true L.timeout s t in
         let k : L.timeout ≤ x + more Make R = omega (arith, l.timeout.1) in
-        rw (t, join_is Make x R, seized-timed L (x + more Make R) (pieces_of L (behind Make R)) k, behind_timeout-make L R l.release.0)
+        rw (t, join_is Make x R, seized-timed L (x + more Make R) (pieces_of L (after Make R)) k, after_timeout-make L R l.release.0)
     by false t =
         let h : s < L.timeout = leb-false L.timeout s t in
         let same : s ≡ x = omega (arith, l.timeout.1) in
@@ -67,7 +67,7 @@ in_make-front L R tally x s l n e = by (nat_le L.pause s) refl
         let h : L.pause ≤ s = leb-true L.pause s t in
         let k : L.pause ≤ x + more Make R = omega arith in
         let d : in_train L tally (pieces_of L (join (make x) R)) ≡ Digit tally.breaks tally.bad ∷ seized L (pieces_of L (join (make x) R)) =
-        rw (join_is Make x R, in_train-pause L tally (x + more Make R) (pieces_of L (behind Make R)) n k) in
+        rw (join_is Make x R, in_train-pause L tally (x + more Make R) (pieces_of L (after Make R)) n k) in
         rw (t, d, between_trains-front L R x s l e)
     by false t =
         let h : s < L.pause = leb-false L.pause s t in
@@ -82,7 +82,7 @@ release_at-front L R x s phase pieces_send l e ends stays = by (nat_le L.release
     by true t =
         let h : L.release ≤ s = leb-true L.release s t in
         let k : L.release ≤ x + more Brk R = omega arith in
-        rw (t, join_is Brk x R, pieces_of-release L (x + more Brk R) (behind Brk R) k, behind_break R) (ends (pieces_of L (behind Brk R)))
+        rw (t, join_is Brk x R, pieces_of-release L (x + more Brk R) (after Brk R) k, after_break R) (ends (pieces_of L (after Brk R)))
     by false t =
         let h : s < L.release = leb-false L.release s t in
         let same : s ≡ x = omega (arith, l.release.1) in
@@ -92,36 +92,36 @@ release_at-front L R x s phase pieces_send l e ends stays = by (nat_le L.release
 in_break-front : (L : Limits) (R : List Run) (tally : Tally) (x s : ℕ) → IsLawful L → s ≡ min x GREATEST_LIMIT → SendsFront L (unless_released L (InBreak s tally)) R (in_train L tally (pieces_of L (join (break x) R)))
 in_break-front L R tally x s l e = release_at-front L R x s (InBreak s tally) (in_train L tally) l e (λ P. refl) (λ same. rw same refl)
 
--- in a break of x ms behind a time-out
-timed_out-front : (L : Limits) (R : List Run) (x s : ℕ) → IsLawful L → s ≡ min x GREATEST_LIMIT → SendsFront L (unless_released L (TimedOut s)) R (behind_timeout L (pieces_of L (join (break x) R)))
-timed_out-front L R x s l e = release_at-front L R x s (TimedOut s) (behind_timeout L) l e (λ P. refl) (λ same. rw same refl)
+-- in a break of x ms after a time-out
+timed_out-front : (L : Limits) (R : List Run) (x s : ℕ) → IsLawful L → s ≡ min x GREATEST_LIMIT → SendsFront L (unless_released L (TimedOut s)) R (after_timeout L (pieces_of L (join (break x) R)))
+timed_out-front L R x s l e = release_at-front L R x s (TimedOut s) (after_timeout L) l e (λ P. refl) (λ same. rw same refl)
 
 -- runs that a row of the other contact ends
 
 -- a make that begins an attempt is a seizure
 all_of-make : (L : Limits) (m : ℕ) (R : List Run) → all_of L (pieces_of L (without_first_break (join (make m) R))) ≡ Seize ∷ seized L (pieces_of L (join (make m) R))
-all_of-make L m R = rw (join_is Make m R, all_of-seized L (make (m + more Make R)) (pieces_of L (behind Make R)))
+all_of-make L m R = rw (join_is Make m R, all_of-seized L (make (m + more Make R)) (pieces_of L (after Make R)))
 
 -- a make ends a train's break, and the tally takes it
 break_ended : (L : Limits) (tally : Tally) (t m : ℕ) (R : List Run) → t < L.release → in_train L tally (pieces_of L (join (break t) (join (make m) R))) ≡ in_train L (with_break L t tally) (pieces_of L (join (make m) R))
 break_ended L tally t m R h =
-    rw (join_is Make m R, lt-leb L.release t h, in_train-break L tally t (into_first (make (m + more Make R)) (pieces_of L (behind Make R))))
+    rw (join_is Make m R, lt-leb L.release t h, in_train-break L tally t (into_first (make (m + more Make R)) (pieces_of L (after Make R))))
 
 -- a break ends a train's make, and the tally takes it
 make_ended : (L : Limits) (tally : Tally) (t m : ℕ) (R : List Run) → t < L.pause → t < L.timeout → in_train L tally (pieces_of L (join (make t) (join (break m) R))) ≡ in_train L (with_make L t tally) (pieces_of L (join (break m) R))
 make_ended L tally t m R h k =
-    rw (join_is Brk m R) (in_train-make L tally t (pieces_of L (break (m + more Brk R) ∷ behind Brk R)) h k)
+    rw (join_is Brk m R) (in_train-make L tally t (pieces_of L (break (m + more Brk R) ∷ after Brk R)) h k)
 
 -- a break ends a make outside any train, and begins a train
 first_make_ended : (L : Limits) (t m : ℕ) (R : List Run) → t < L.timeout → seized L (pieces_of L (join (make t) (join (break m) R))) ≡ in_train L no_breaks (pieces_of L (join (break m) R))
 first_make_ended L t m R h =
-    rw (join_is Brk m R) (seized-make L t (pieces_of L (break (m + more Brk R) ∷ behind Brk R)) h)
+    rw (join_is Brk m R) (seized-make L t (pieces_of L (break (m + more Brk R) ∷ after Brk R)) h)
 
--- a make ends a break behind a time-out, which then counts for nothing
-timed_break_ended : (L : Limits) (t m : ℕ) (R : List Run) → t < L.release → 0 < L.release → behind_timeout L (pieces_of L (join (break t) (join (make m) R))) ≡ behind_timeout L (pieces_of L (join (break 0) R))
+-- a make ends a break after a time-out, which then counts for nothing
+timed_break_ended : (L : Limits) (t m : ℕ) (R : List Run) → t < L.release → 0 < L.release → after_timeout L (pieces_of L (join (break t) (join (make m) R))) ≡ after_timeout L (pieces_of L (join (break 0) R))
 timed_break_ended L t m R h z =
-    rw (join_is Make m R, lt-leb L.release t h, behind_timeout-run L (break t) (into_first (make (m + more Make R)) (pieces_of L (behind Make R))), behind_timeout-run L (make (m + more Make R)) (pieces_of L (behind Make R)))
-    (sym (behind_timeout-make L R z))
+    rw (join_is Make m R, lt-leb L.release t h, after_timeout-run L (break t) (into_first (make (m + more Make R)) (pieces_of L (after Make R))), after_timeout-run L (make (m + more Make R)) (pieces_of L (after Make R)))
+    (sym (after_timeout-make L R z))
 
 -- a make row sends the front
 pub on_make-front : (L : Limits) (s : Phase) (m : ℕ) (R : List Run) → IsLawful L → IsOpen L s → SendsFront L (on_make L s m) R (to_send L s (join (make m) R))
@@ -138,7 +138,7 @@ on_make-front L Closed m R l o = absurd o
 
 -- a break row sends the front
 pub on_break-front : (L : Limits) (s : Phase) (m : ℕ) (R : List Run) → IsLawful L → IsOpen L s → SendsFront L (on_break L s m) R (to_send L s (join (break m) R))
-on_break-front L OnHook m R l o = rw (join_is Brk m R, behind_break R)
+on_break-front L OnHook m R l o = rw (join_is Brk m R, after_break R)
 on_break-front L (BetweenTrains t) m R l o =
     rw (first_make_ended L t m R o) (in_break-front L R no_breaks m (longer 0 m) l (omega arith))
 on_break-front L (InBreak t tally) m R l o =
@@ -149,7 +149,7 @@ on_break-front L (TimedOut t) m R l o =
     rw (join_sum Brk t m R) (timed_out-front L R (t + m) (longer t m) l refl)
 on_break-front L Closed m R l o = absurd o
 
--- the phase behind a row is of an open record again
+-- the phase after a row is of an open record again
 
 -- a make outside any train leaves an open phase
 between_trains-open : (L : Limits) (s : ℕ) → IsLawful L → IsOpen L (between_trains L s).after

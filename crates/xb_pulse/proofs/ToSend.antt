@@ -24,12 +24,12 @@ all_of L pieces = flat_map (attempt_signals L) (filter (λ piece. has_runs piece
 abbrev pub ending : Limits → Attempt → List Attempt → List Signal
 ending L piece pieces = (when (is_timed L piece.runs) TimeOut ++ when piece.released Release) ++ all_of L pieces
 
--- what is to be sent behind the seizure of the first piece
+-- what is to be sent after the seizure of the first piece
 abbrev pub seized : Limits → List Attempt → List Signal
 seized L [] = Close ∷ []
 seized L (piece ∷ pieces) = map (digit_signal L) (trains_of L piece.runs) ++ ending L piece pieces
 
--- the digits of trains, of which the first has a part behind it already
+-- the digits of trains, of which the first has a part after it already
 abbrev pub digits : Limits → Tally → List Train → List Signal
 digits L tally [] = []
 digits L tally (train ∷ trains) =
@@ -40,10 +40,10 @@ abbrev pub in_train : Limits → Tally → List Attempt → List Signal
 in_train L tally [] = Close ∷ []
 in_train L tally (piece ∷ pieces) = digits L tally (cut_at_pauses L (heard L piece.runs)) ++ ending L piece pieces
 
--- what is to be sent behind a time-out in the first piece
-abbrev pub behind_timeout : Limits → List Attempt → List Signal
-behind_timeout L [] = Close ∷ []
-behind_timeout L (piece ∷ pieces) = when piece.released Release ++ all_of L pieces
+-- what is to be sent after a time-out in the first piece
+abbrev pub after_timeout : Limits → List Attempt → List Signal
+after_timeout L [] = Close ∷ []
+after_timeout L (piece ∷ pieces) = when piece.released Release ++ all_of L pieces
 
 -- what is to be sent from a phase on, where these runs are still to come
 abbrev pub to_send : Limits → Phase → List Run → List Signal
@@ -51,22 +51,22 @@ to_send L OnHook R = all_of L (pieces_of L (without_first_break R))
 to_send L (BetweenTrains t) R = seized L (pieces_of L (join (make t) R))
 to_send L (InBreak t tally) R = in_train L tally (pieces_of L (join (break t) R))
 to_send L (InMake t tally) R = in_train L tally (pieces_of L (join (make t) R))
-to_send L (TimedOut t) R = behind_timeout L (pieces_of L (join (break t) R))
+to_send L (TimedOut t) R = after_timeout L (pieces_of L (join (break t) R))
 to_send L Closed R = []
 
--- a run in front of the pieces
+-- a run before the pieces
 
--- a run in front of the first piece seizes the line
+-- a run before the first piece seizes the line
 pub all_of-seized : (L : Limits) (run : Run) (P : List Attempt) → all_of L (into_first run P) ≡ Seize ∷ seized L (into_first run P)
 all_of-seized L run [] = simp append_assoc
 all_of-seized L run (p ∷ P) = simp append_assoc
 
 -- a first make of `timeout` or more times out
-pub seized-timed : (L : Limits) (y : ℕ) (P : List Attempt) → L.timeout ≤ y → seized L (into_first (make y) P) ≡ TimeOut ∷ behind_timeout L P
+pub seized-timed : (L : Limits) (y : ℕ) (P : List Attempt) → L.timeout ≤ y → seized L (into_first (make y) P) ≡ TimeOut ∷ after_timeout L P
 seized-timed L y [] h = rw (le-leb L.timeout y h)
 seized-timed L y (p ∷ P) h = rw (le-leb L.timeout y h)
 
--- behind no part of a train the digits are those of the trains
+-- after no part of a train the digits are those of the trains
 digits-none : (L : Limits) (ts : List Train) → map (digit_signal L) ts ≡ digits L no_breaks ts
 digits-none L [] = refl
 digits-none L (t ∷ ts) = rw zero-add
@@ -85,7 +85,7 @@ in_train-pause L tally y (p ∷ P) n h =
     let e : min (tally.breaks + 0) MANY_BREAKS ≡ tally.breaks = omega arith in
     rw (le-leb L.pause y h, or-false tally.bad, e)
 
--- a make in front of the first train is taken by the tally
+-- a make before the first train is taken by the tally
 digits-make : (L : Limits) (tally : Tally) (t : ℕ) (ts : List Train) → digits L tally (onto_first (make t) ts) ≡ digits L (with_make L t tally) ts
 digits-make L tally t [] = refl
 digits-make L tally t (x ∷ ts) = rw or_assoc
@@ -108,10 +108,10 @@ pub in_train-break : (L : Limits) (tally : Tally) (t : ℕ) (P : List Attempt) �
 in_train-break L tally t [] = refl
 in_train-break L tally t (p ∷ P) = rw (digits-break L tally t (cut_at_pauses L (heard L p.runs)))
 
--- behind a time-out a run adds nothing
-pub behind_timeout-run : (L : Limits) (run : Run) (P : List Attempt) → behind_timeout L (into_first run P) ≡ behind_timeout L P
-behind_timeout-run L run [] = refl
-behind_timeout-run L run (p ∷ P) = refl
+-- after a time-out a run adds nothing
+pub after_timeout-run : (L : Limits) (run : Run) (P : List Attempt) → after_timeout L (into_first run P) ≡ after_timeout L P
+after_timeout-run L run [] = refl
+after_timeout-run L run (p ∷ P) = refl
 
 -- a break of `release` or more cuts
 pub pieces_of-release : (L : Limits) (y : ℕ) (R : List Run) → L.release ≤ y → pieces_of L (break y ∷ R) ≡ record { runs = []; released = true } ∷ pieces_of L R

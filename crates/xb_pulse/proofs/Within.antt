@@ -23,7 +23,7 @@ between_trains-within : (L : Limits) (t : ℕ) → t ≤ GREATEST_LIMIT → Leav
 between_trains-within L t h =
     cond_both (nat_le L.timeout t) (send TimeOut (enter (TimedOut 0))) (enter (BetweenTrains t)) Leaves (λ reached. omega arith) (λ under. h)
 
--- in a make behind a part of a train
+-- in a make after a part of a train
 in_make-within : (L : Limits) (t : ℕ) (tally : Tally) → t ≤ GREATEST_LIMIT → tally.breaks ≤ MANY_BREAKS → Leaves (in_make L t tally)
 in_make-within L t tally h n =
     cond_both (nat_le L.pause t) (send (Digit tally.breaks tally.bad) (between_trains L t)) (enter (InMake t tally)) Leaves (λ reached. between_trains-within L t h) (λ under. (h, n))

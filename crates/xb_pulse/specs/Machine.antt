@@ -18,7 +18,7 @@ use Rattle.xb_pulse.specs.declared.state.Tally.{Tally}
 use Rattle.xb_pulse.specs.declared.state.Phase.{Phase}
 use Rattle.xb_pulse.specs.declared.state.Phase.TheVariants.{OnHook, BetweenTrains, InBreak, InMake, TimedOut, Closed}
 
--- what a row sends, and the phase behind it
+-- what a row sends, and the phase after it
 pub record Step : Type 0 where
   pub sent : List Signal
   pub after : Phase
@@ -27,7 +27,7 @@ pub record Step : Type 0 where
 abbrev pub enter : Phase → Step
 enter phase = record { sent = []; after = phase }
 
--- a signal in front of what a step sends
+-- a signal before what a step sends
 abbrev pub send : Signal → Step → Step
 send signal step = record { sent = signal ∷ step.sent; after = step.after }
 
@@ -53,7 +53,7 @@ abbrev pub between_trains : Limits → ℕ → Step
 between_trains limits total =
     if nat_le limits.timeout total then send TimeOut (enter (TimedOut 0)) else enter (BetweenTrains total)
 
--- in a make behind a part of a train
+-- in a make after a part of a train
 abbrev pub in_make : Limits → ℕ → Tally → Step
 in_make limits total tally =
     if nat_le limits.pause total then send (Digit tally.breaks tally.bad) (between_trains limits total)
@@ -107,8 +107,8 @@ abbrev pub step_of : Limits → Phase → LoopRow → Step
 step_of limits phase row = on_row limits phase row.contact row.ms
 
 -- the phase that a row leaves
-abbrev pub phase_behind : Limits → Phase → LoopRow → Phase
-phase_behind limits phase row = (step_of limits phase row).after
+abbrev pub phase_after : Limits → Phase → LoopRow → Phase
+phase_after limits phase row = (step_of limits phase row).after
 
 -- the signals that a row sends
 abbrev pub signals_by : Limits → Phase → LoopRow → List Signal
@@ -116,4 +116,4 @@ signals_by limits phase row = (step_of limits phase row).sent
 
 -- what the stage does on one line
 abbrev pub machine : Limits → Machine LoopRow (On Signal) Phase
-machine limits = on_lines row_line OnHook (phase_behind limits) (signals_by limits)
+machine limits = on_lines row_line OnHook (phase_after limits) (signals_by limits)

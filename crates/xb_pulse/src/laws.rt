@@ -2,7 +2,7 @@
 ghost use Rattle.xb_pulse.specs.Laws.{HearsTheRecord, HearsTheRecordOfEach, HearsSoFar, HearsSoFarOfEach};
 
 /// What is sent for the rows of a line whose record is closed are the record's signals, however
-/// its runs are cut into rows, and whatever rows of other lines stand between. Rows behind the
+/// its runs are cut into rows, and whatever rows of other lines stand between. Rows after the
 /// close add nothing.
 pub fn hears_the_record()
     ensures one_line { HearsTheRecord }

@@ -15,13 +15,13 @@ use xb_stage::{LineStage, send};
 /// judged on the whole run so far, and each signal is sent by the row in which its limit is
 /// reached:
 /// - `Seize` by the first make of a line that is on hook;
-/// - `Digit` where a make behind a break reaches `pause`: its train's breaks, at most 11, and
+/// - `Digit` where a make after a break reaches `pause`: its train's breaks, at most 11, and
 ///   whether one of them is not `pulse_min` to `pulse_max`, or a make between two of them is under
 ///   `make_min`;
 /// - `TimeOut` where a make reaches `timeout`, also in the row that seized or ended a digit; from
 ///   then on nothing but a release or the close is heard;
 /// - `Release` where a break in an attempt reaches `release`;
-/// - `Close` by a close row; rows behind it send nothing.
+/// - `Close` by a close row; rows after it send nothing.
 #[derive(Drop)]
 pub struct Pulse {
     limits: Limits,
@@ -79,7 +79,7 @@ impl Pulse {
         }
     }
 
-    // In a make behind a part of a train.
+    // In a make after a part of a train.
     fn in_make(&self, total: u32, tally: Tally, line: LineNo, out: &mut Vec<On<Signal>>) -> Phase
         requires { vec_len out.old + 1 < vec_capacity out.old }
         ensures phase { result ≡ (in_make self.now total tally).after }

@@ -35,11 +35,11 @@ pub(crate) enum Phase {
     OnHook,
     // In a make of this length that is in no train: an attempt's first, or one that ended a train.
     BetweenTrains(u32),
-    // In a break of this length behind this part of a train.
+    // In a break of this length after this part of a train.
     InBreak(u32, Tally),
-    // In a make of this length behind this part of a train.
+    // In a make of this length after this part of a train.
     InMake(u32, Tally),
-    // The attempt timed out, and the break behind its last make has this length.
+    // The attempt timed out, and the break after its last make has this length.
     TimedOut(u32),
     // The line's record is closed.
     Closed,

@@ -136,7 +136,7 @@ const RECORDS: [(&str, &[Part], &[Signal]); 13] = [
         &[Seize, Digit(11, false), Close],
     ),
     (
-        "a time-out behind a digit, and pulses behind it",
+        "a time-out after a digit, and pulses after it",
         &[
             Make(500),
             Break(60),

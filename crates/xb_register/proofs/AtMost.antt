@@ -65,28 +65,28 @@ at_most plan phase (signal ∷ signals) =
     let answer : Answer = advance plan phase signal in
     let joined = length-append (option_to_list answer.outcome) (said plan answer.phase signals) in
     let here = advance_at_most plan phase signal in
-    let behind = at_most plan answer.phase signals in
+    let after = at_most plan answer.phase signals in
     let split = seizures-cons signal signals in
     omega arith
 
--- a seizure, and what comes behind it up to the next, give one outcome at most
-seized : (plan : Plan) (phase : Phase) (behind : List Signal) → seizures behind ≡ 0 → length (said plan phase (Seize ∷ behind)) ≤ 1
-seized plan OnHook behind none = omega (arith, at_most plan (Listening []) behind)
-seized plan (Listening digits) behind none = omega (arith, at_most plan (Listening digits) behind)
-seized plan Done behind none = omega (arith, at_most plan Done behind)
+-- a seizure, and what comes after it up to the next, give one outcome at most
+seized : (plan : Plan) (phase : Phase) (after : List Signal) → seizures after ≡ 0 → length (said plan phase (Seize ∷ after)) ≤ 1
+seized plan OnHook after none = omega (arith, at_most plan (Listening []) after)
+seized plan (Listening digits) after none = omega (arith, at_most plan (Listening digits) after)
+seized plan Done after none = omega (arith, at_most plan Done after)
 
 -- whatever came before, they add one at most
-pub adds_one : (plan : Plan) (phase : Phase) (before behind : List Signal) → seizures behind ≡ 0 → length (said plan phase (before ++ Seize ∷ behind)) ≤ length (said plan phase before) + 1
-adds_one plan phase [] behind none = seized plan phase behind none
-adds_one plan phase (signal ∷ before) behind none =
+pub adds_one : (plan : Plan) (phase : Phase) (before after : List Signal) → seizures after ≡ 0 → length (said plan phase (before ++ Seize ∷ after)) ≤ length (said plan phase before) + 1
+adds_one plan phase [] after none = seized plan phase after none
+adds_one plan phase (signal ∷ before) after none =
     let answer : Answer = advance plan phase signal in
-    simp length-append (omega (arith, adds_one plan answer.phase before behind none))
+    simp length-append (omega (arith, adds_one plan answer.phase before after none))
 
 -- on-hook, nothing is heard but a seizure
-pub none_before : (plan : Plan) (before behind : List Signal) → seizures before ≡ 0 → said plan OnHook (before ++ behind) ≡ said plan OnHook behind
-none_before plan [] behind e = refl
-none_before plan (Seize ∷ before) behind e = absurd (omega arith)
-none_before plan (Digit count bad ∷ before) behind e = none_before plan before behind e
-none_before plan (TimeOut ∷ before) behind e = none_before plan before behind e
-none_before plan (Release ∷ before) behind e = none_before plan before behind e
-none_before plan (Close ∷ before) behind e = none_before plan before behind e
+pub none_before : (plan : Plan) (before after : List Signal) → seizures before ≡ 0 → said plan OnHook (before ++ after) ≡ said plan OnHook after
+none_before plan [] after e = refl
+none_before plan (Seize ∷ before) after e = absurd (omega arith)
+none_before plan (Digit count bad ∷ before) after e = none_before plan before after e
+none_before plan (TimeOut ∷ before) after e = none_before plan before after e
+none_before plan (Release ∷ before) after e = none_before plan before after e
+none_before plan (Close ∷ before) after e = none_before plan before after e

@@ -38,12 +38,12 @@ GivesOutcomes =
     → outcomes_given plan line (signals_of limits record_)
     ≡ on_line line (outcomes_of plan limits record_)
 
--- each seizure, with what comes behind it up to the next, adds one outcome at most
+-- each seizure, with what comes after it up to the next, adds one outcome at most
 abbrev pub EachSeizureGivesAtMostOne : Type 0
 EachSeizureGivesAtMostOne =
-    (plan : Plan) (line : LineNo) (before behind : List Signal)
-    → seizures behind ≡ 0
-    → length (outcomes_given plan line (before ++ Seize ∷ behind))
+    (plan : Plan) (line : LineNo) (before after : List Signal)
+    → seizures after ≡ 0
+    → length (outcomes_given plan line (before ++ Seize ∷ after))
     ≤ length (outcomes_given plan line before) + 1
 
 -- so there are no more outcomes than seizures
@@ -52,9 +52,9 @@ GivesNoMoreThanSeizures =
     (plan : Plan) (line : LineNo) (signals : List Signal)
     → length (outcomes_given plan line signals) ≤ seizures signals
 
--- what comes before the first seizure gives nothing, and changes nothing of what comes behind
+-- what comes before the first seizure gives nothing, and changes nothing of what comes after
 abbrev pub GivesNoneBeforeASeizure : Type 0
 GivesNoneBeforeASeizure =
-    (plan : Plan) (line : LineNo) (before behind : List Signal)
+    (plan : Plan) (line : LineNo) (before after : List Signal)
     → seizures before ≡ 0
-    → outcomes_given plan line (before ++ behind) ≡ outcomes_given plan line behind
+    → outcomes_given plan line (before ++ after) ≡ outcomes_given plan line after

@@ -34,7 +34,7 @@ abbrev pub reaches : Option ℕ → ℕ → Bool
 reaches None n = false
 reaches (Some len) n = nat_le len n
 
--- behind one digit more
+-- after one digit more
 abbrev pub with_digits : Plan → List ℕ → Answer
 with_digits plan digits =
     if reaches (plan_len plan digits) (length digits)
@@ -69,9 +69,9 @@ advance plan Done TimeOut = quiet Done
 advance plan Done Release = quiet OnHook
 advance plan Done Close = quiet OnHook
 
--- the phase behind a signal
-abbrev pub phase_behind : Plan → Phase → Signal → Phase
-phase_behind plan phase signal = (advance plan phase signal).phase
+-- the phase after a signal
+abbrev pub phase_after : Plan → Phase → Signal → Phase
+phase_after plan phase signal = (advance plan phase signal).phase
 
 -- the outcome that a signal brings, if it does
 abbrev pub outcomes_by : Plan → Phase → Signal → List Dialled
@@ -79,4 +79,4 @@ outcomes_by plan phase signal = option_to_list (advance plan phase signal).outco
 
 -- what the stage does on one line
 abbrev pub machine : Plan → Machine (On Signal) (On Dialled) Phase
-machine plan = whats_on_lines OnHook (phase_behind plan) (outcomes_by plan)
+machine plan = whats_on_lines OnHook (phase_after plan) (outcomes_by plan)

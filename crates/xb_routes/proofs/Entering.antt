@@ -6,14 +6,14 @@ use Rattle.xb_routes.specs.declared.index.TheConstants.{OFFICES}
 use Rattle.xb_routes.specs.declared.index.Index.{Index}
 use Rattle.xb_routes.specs.Codes.{office_number}
 use Rattle.xb_routes.specs.Places.{IsIndex, place_of}
-use Rattle.xb_routes.proofs.Places.{has-other, office-digits, place-behind, place-other}
+use Rattle.xb_routes.proofs.Places.{has-other, office-digits, place-after, place-other}
 
 module _ (index new : Index) (routes : List CodedRoute) (route : CodedRoute) (is : IsIndex index routes) where
   -- the operator's
   pub entered-operator : place_of (0 ∷ []) routes ≡ None → route.code ≡ 0 ∷ []
       → new.operator ≡ Some (length routes) → new.offices.items ≡ index.offices.items → IsIndex new (routes ++ route ∷ [])
   entered-operator none code operator offices = record {
-    operator = operator ∙ sym (place-behind (0 ∷ []) routes route code none);
+    operator = operator ∙ sym (place-after (0 ∷ []) routes route code none);
     offices = λ a b c ha hb hc.
         ap (λ places. get_or places (office_number a b c) None) offices ∙ is.offices a b c ha hb hc
         ∙ sym (place-other (a ∷ b ∷ c ∷ []) routes route (has-other (a ∷ b ∷ c ∷ []) route (λ e. cc)));
@@ -34,7 +34,7 @@ module _ (index new : Index) (routes : List CodedRoute) (route : CodedRoute) (is
         let same : a ∷ b ∷ c ∷ [] ≡ x ∷ y ∷ z ∷ [] = cc (d.0, d.1, d.2) in
         ap (λ n. get_or (set index.offices.items (office_number x y z) (Some (length routes))) n None) number
         ∙ get_or-set_same index.offices.items (office_number x y z) (Some (length routes)) None below
-        ∙ sym (place-behind (x ∷ y ∷ z ∷ []) routes route code none)
+        ∙ sym (place-after (x ∷ y ∷ z ∷ []) routes route code none)
         ∙ ap (λ digits. place_of digits (routes ++ route ∷ [])) (sym same))
         (λ h.
         let other : office_number a b c ≢ office_number x y z = eqb-false _ _ h in
@@ -50,7 +50,7 @@ module _ (index new : Index) (routes : List CodedRoute) (route : CodedRoute) (is
             let r : c ≡ z = cc in
             cc
 
-    -- the index behind it
+    -- the index after it
     pub entered-office : new.operator ≡ index.operator → IsIndex new (routes ++ route ∷ [])
     entered-office operator = record {
       operator = operator ∙ is.operator ∙ sym (place-other (0 ∷ []) routes route (has-other (0 ∷ []) route (λ e. cc)));

@@ -37,12 +37,12 @@ module _ (code : List ℕ) where
   pub has-other : (route : CodedRoute) → route.code ≢ code → has_code code route ≡ false
   has-other route n = ⊎_elim (λ h. absurd (n (has-code-is route h))) (λ h. h) (cases_Bool (has_code code route))
 
-  -- a new code stands behind the others
-  pub place-behind : (routes : List CodedRoute) (route : CodedRoute) → route.code ≡ code → place_of code routes ≡ None → place_of code (routes ++ route ∷ []) ≡ Some (length routes)
-  place-behind [] route e n = cond-true _ _ _ (has-code route e)
-  place-behind (r ∷ rs) route e n =
+  -- a new code stands after the others
+  pub place-after : (routes : List CodedRoute) (route : CodedRoute) → route.code ≡ code → place_of code routes ≡ None → place_of code (routes ++ route ∷ []) ≡ Some (length routes)
+  place-after [] route e n = cond-true _ _ _ (has-code route e)
+  place-after (r ∷ rs) route e n =
       let p = place-none r rs n in
-      cond-false _ _ _ p.0 ∙ ap (λ q. option_map suc q) (place-behind rs route e p.1)
+      cond-false _ _ _ p.0 ∙ ap (λ q. option_map suc q) (place-after rs route e p.1)
 
   -- the place of another code is what it was
   pub place-other : (routes : List CodedRoute) (route : CodedRoute) → has_code code route ≡ false → place_of code (routes ++ route ∷ []) ≡ place_of code routes

@@ -65,7 +65,7 @@ has_code code route = bytes_eq route.code code
 abbrev pub if_new : ℕ → List CodedRoute → CodedRoute → Result CodedRoute RouteFault
 if_new i earlier route = if list_any (has_code route.code) earlier then Err (fault.Twice i) else Ok route
 
--- the routes behind the earlier ones, of which the next is route i, or the first fault
+-- the routes after the earlier ones, of which the next is route i, or the first fault
 unfoldable pub routes_from : Plan → ℕ → List CodedRoute → Items → Result (List CodedRoute) RouteFault
 routes_from plan i earlier no_items = Ok earlier
 routes_from plan i earlier (item value rest) =

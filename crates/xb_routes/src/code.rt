@@ -70,7 +70,7 @@ pub(crate) fn number_length(plan: Plan, code: &Code) -> u8
     length.unwrap_or(0)
 }
 
-/// The digits that a text puts in front of a number; none without a text.
+/// The digits that a text puts before a number; none without a text.
 pub(crate) fn prefixed_of(text: Option<&str>) -> Option<PrefixDigits>
     ensures { result ≡ prefixed_of (option_map (λ s. s.now) text.entry) }
 {

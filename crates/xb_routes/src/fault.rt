@@ -35,7 +35,7 @@ pub enum RouteFault {
     /// An earlier route has the code.
     #[error("route {0} repeats a code")]
     Twice(u32),
-    /// A growth was refused.
+    /// Memory ran out.
     #[error("out of memory")]
     NoMemory,
 }

@@ -61,7 +61,7 @@ impl Index {
         }
     }
 
-    /// Enters the route of a new code, which stands behind the others.
+    /// Enters the route of a new code, which stands after the others.
     pub(crate) fn enter(&mut self, code: &Code, place: u16)
         ensures { (routes : List CodedRoute) (route : CodedRoute) → IsIndex self.old routes → place_of (code_digits code.now) routes ≡ None → route.code ≡ code_digits code.now → place ≡ length routes → IsIndex self.new (routes ++ route ∷ []) }
     {

@@ -137,7 +137,7 @@ impl RouteTable {
     /// each, with the keys `code`, `trunk`, `delete` and `prefix`. All other keys are ignored.
     ///
     /// `Err` has the first refusal in the order of `RouteFault`; `Err(RouteFault::NoMemory)` comes
-    /// where a growth was refused, before any later check.
+    /// where memory ran out, before any later check.
     pub fn read(alloc: Global, text: &[u8]) -> Result<RouteTable, RouteFault>
         ensures ok { IfOk result (λ t. table_of_text text.now ≡ Ok t) }
         ensures refused { IfErr result (λ f. f ≢ NoMemory → table_of_text text.now ≡ Err f) }

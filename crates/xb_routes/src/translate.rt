@@ -44,7 +44,7 @@ impl<'t> Translate<'t> {
     }
 }
 
-// The digits behind those that are there.
+// The digits after those that are there.
 fn append(keyed: &mut KeyDigits, digits: &[Digit])
     requires { length keyed.old + length digits.now ≤ KEY_DIGITS }
     ensures { keyed.new ≡ keyed.old ++ digits.now }

@@ -35,7 +35,7 @@ at_end : (cfg : Config) (s s2 : State) (x : List ℕ) (k : Option (List ℕ)) (f
 at_end cfg s s2 x None f r = absurd r
 at_end cfg s s2 x (Some z) f r = next-none (next_record cfg s [] [] x) f s2 z r
 
--- the records that are left, behind one more
+-- the records that are left, after one more
 left_more : (old new : TextReader) (a b : Option (List ℕ)) (x z : List ℕ) (f : List (List ℕ)) → a ≡ Some x → b ≡ Some z
     → next_record default_config old.state [] [] x ≡ Some (f, new.state, z) → records_of_bytes old a ≡ f ∷ records_of_bytes new b
 unfolding records_of_bytes

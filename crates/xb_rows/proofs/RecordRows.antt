@@ -1,4 +1,4 @@
--- What one record adds to what the records behind it say.
+-- What one record adds to what the records after it say.
 use Rattle.std.proofs.Common.{◌≡◌, ◌≤◌, ◌<◌, ◌+◌, ℕ, List, [], ◌∷◌, Some, None, Result, refl}
 use Rattle.std.proofs.lemmas.Bool.{le-ltb, lt-ltb}
 use denote.Ref.{Bor}

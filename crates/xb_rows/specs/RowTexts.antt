@@ -83,7 +83,7 @@ abbrev pub is_header : Option (List ℕ × List ℕ × List ℕ) → Bool
 is_header None = false
 is_header (Some t) = bytes_eq t.0 (codes "line") && bytes_eq t.1 (codes "state") && bytes_eq t.2 (codes "ms")
 
--- what all records say: the first is the header, and those behind it count from 1
+-- what all records say: the first is the header, and those after it count from 1
 abbrev pub rest_of_records : List (List (List ℕ)) → Rest
 rest_of_records [] = stopped_by fault.Header
 rest_of_records (names ∷ rest) = if is_header (three_of names) then rows_from 1 rest else stopped_by fault.Header

@@ -7,7 +7,7 @@ use Rattle.xb_model.specs.Rows.{LoopRow, row_of}
 use Rattle.xb_rows.specs.declared.scan.TheConstants.{MOST_RECORDS}
 use Rattle.xb_rows.specs.RowTexts.{rest_of_text, rows_from, said, stopped_by}
 
--- the rows of a text, and the stop behind them
+-- the rows of a text, and the stop after them
 abbrev RowsAndStop : List ℕ → List LoopRow → Option RowFault → Type 0
 RowsAndStop text rows stop = rest_of_text text ≡ said rows stop
 
@@ -23,6 +23,6 @@ RowsOfTexts =
     × RowsAndStop (codes "line,state,ms\n7,M,86400001") [] (Some (fault.Ms 1))
     × RowsAndStop (codes "line,state,ms\n7,C,1") [] (Some (fault.Ms 1))
 
--- behind the most records a further one is the fault, whatever its fields are
+-- after the most records a further one is the fault, whatever its fields are
 abbrev pub MostRecords : Type 0
 MostRecords = (fields : List (List ℕ)) (rest : List (List (List ℕ))) → rows_from (MOST_RECORDS + 1) (fields ∷ rest) ≡ stopped_by fault.TooMany

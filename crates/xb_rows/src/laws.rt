@@ -8,7 +8,7 @@ pub fn rows_of_texts()
     ensures { RowsOfTexts }
 {}
 
-/// Behind 1,000,000 records a further one is the fault.
+/// After 1,000,000 records a further one is the fault.
 #[tactic(auto, unfolding(crate::specs::RowTexts::rows_from))]
 pub fn most_records()
     ensures { MostRecords }

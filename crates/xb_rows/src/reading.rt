@@ -16,11 +16,11 @@ pub enum ReadFault {
     Failed,
     /// There are more bytes than the limit.
     TooLong,
-    /// A growth was refused.
+    /// Memory ran out.
     NoMemory,
 }
 
-/// Reads a reader to its end, or to the first byte behind the limit. A read that was interrupted
+/// Reads a reader to its end, or to the first byte after the limit. A read that was interrupted
 /// has failed, and is not tried again.
 pub fn read_whole<R: Read>(
     alloc: Global,

@@ -26,7 +26,7 @@ pub fn read_text(alloc: Global, text: &[u8]) -> Result<Vec<Row>, RowFault>
 
 /// The rows of a reader's bytes, which are read to their end first: `Read` where a read failed, an
 /// interrupted one too, or 2^64 - 1 reads did not reach the end; else the faults of `Scan`, and
-/// `NoMemory` where a growth was refused. On any answer but `Read` and `NoMemory` the reader stands
+/// `NoMemory` where memory ran out. On any answer but `Read` and `NoMemory` the reader stands
 /// at its end.
 ///
 /// What the contract says of bytes it says of readers whose bytes are known to contracts (byte

@@ -16,9 +16,9 @@ pub const MOST_RECORDS: u32 = 1_000_000;
 // Where a scan stands.
 #[derive(Clone, Copy)]
 enum Place {
-    /// In front of the header.
+    /// Before the header.
     Header,
-    /// In front of this record.
+    /// Before this record.
     Record(u32),
     /// At its stop, a fault or the end.
     Stopped(Option<RowFault>),
@@ -40,7 +40,7 @@ fn take_record(reader: &mut Reader<&[u8]>, fields: &mut ByteRecord) -> Taken
     match reader.read_byte_record(fields) {
         Ok(true) => Taken::Record,
         Ok(false) => Taken::End,
-        // a slice does not fail, so that only a growth was refused
+        // a slice does not fail, so memory ran out
         Err(_) => Taken::NoMemory,
     }
 }
@@ -124,9 +124,9 @@ impl<'a> RowSource for Scan<'a> {
     ghost rest = { λ s. s };
 
     /// The next row, `None` at the end, or the fault that stops the rows: `Header` where there is
-    /// no record or the first is not the header, `TooMany` at the record behind the 1,000,000th,
+    /// no record or the first is not the header, `TooMany` at the record after the 1,000,000th,
     /// `Fields`, `Line`, `Contact` or `Ms` of the first record that is no row, and `NoMemory`
-    /// where a growth was refused.
+    /// where memory ran out.
     fn next_row(&mut self) -> Result<Option<Row>, RowFault> {
         let n = match self.place {
             Place::Stopped(None) => return Ok(None),

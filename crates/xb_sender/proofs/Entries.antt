@@ -29,7 +29,7 @@ marks_of-last (Key trunk digits) =
 marks_of-last (Refused reason heard) =
     record { front = []; last = marks.Refused reason heard; parts = refl; goes_on = tt; ends = refl }
 
--- marks of which exactly the last ends an entry are one entry, whatever comes behind them
+-- marks of which exactly the last ends an entry are one entry, whatever comes after them
 pub entries_of-append : (marks rest : List Mark) → EndsAtLast marks → entries_of (marks ++ rest) ≡ marks ∷ entries_of rest
 entries_of-append marks rest ends =
     rw (ends.parts, append_assoc) (entries_of-cut ends.front ends.last rest ends.goes_on ends.ends)

@@ -20,7 +20,7 @@ pub fn only_the_last_mark_ends()
     ensures { (order : Order) → EndsAtLast (marks_of order) }
 {}
 
-/// The marks of an order are one entry, whatever marks come behind them; so the entries of a line
+/// The marks of an order are one entry, whatever marks come after them; so the entries of a line
 /// are those of its orders, each once.
 pub fn one_entry_for_each_order()
     ensures first { (order : Order) (marks : List Mark) → entries_of (marks_of order ++ marks) ≡ marks_of order ∷ entries_of marks }

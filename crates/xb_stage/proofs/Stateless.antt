@@ -25,7 +25,7 @@ module _ {A B : Type 0} (f : A → List B) where
   pub image-stateless : (line : LineNo) (whats : List A) → image_on (stateless f) (on_line line whats) ≡ on_line line (flat_map f whats)
   image-stateless line whats = image_from-stateless line tt whats
 
-  -- behind any items
+  -- after any items
   image_after-stateless : (earlier items : List (On A)) → image_after on_line_of (stateless f) earlier items ≡ flat_map (λ (item : On A). on_line item.line (f item.what)) items
   unfolding image_after
   image_after-stateless earlier [] = refl

@@ -39,7 +39,7 @@ module _ {I O S Z : Type 0} (line : I → ℕ) (m : Machine I O S) (states : Vec
     pub states_more : IsStates line m states' (earlier ++ x ∷ [])
     states_more = record { lines = lines; state = more_at }
 
-  -- with what is sent for an item behind it, an image is that of one item more
+  -- with what is sent for an item after it, an image is that of one item more
   pub image_more : (x : I) → line x < LINES → (all sent all' : List O) → all ≡ image line m earlier → ((fallback : S) → sent ≡ m.outs (get_or states.items (line x) fallback) x) → all' ≡ all ++ sent
       → all' ≡ image line m (earlier ++ x ∷ [])
   image_more x below all sent all' before sends joined =

@@ -48,7 +48,7 @@ fn take_item<S: LineStage>(
 
 /// What a stage sends for a list of items: for each item in turn, what it sends with the state of
 /// the item's line after the earlier items of that line. It takes the room for a state of each line,
-/// and for what is sent; `Err` where a growth was refused.
+/// and for what is sent; `Err` where memory ran out.
 pub fn image_of<S: LineStage>(
     alloc: Global,
     stage: &S,

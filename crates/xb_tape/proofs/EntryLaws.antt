@@ -22,18 +22,18 @@ length-entries_of (mark ∷ marks) = at (is_ending mark) (length-entries_of mark
     at true ih = ap suc ih
     at false ih = length-into_first mark (entries_of marks) ∙ ih
 
--- the marks up to where the first entry ends, and the entries behind
+-- the marks up to where the first entry ends, and the entries after
 abbrev cut_at : Option ℕ → List Mark → List (List Mark)
 cut_at None marks = []
 cut_at (Some n) marks = take n marks ∷ entries_of (drop n marks)
 
--- the first entry is a mark more, behind a mark that does not end it
-cut_at-behind : (mark : Mark) (place : Option ℕ) (marks : List Mark) → into_first_entry mark (cut_at (option_map suc place) marks) ≡ cut_at (option_map suc (option_map suc place)) (mark ∷ marks)
-cut_at-behind mark None marks = refl
-cut_at-behind mark (Some n) marks = refl
+-- the first entry is a mark more, after a mark that does not end it
+cut_at-after : (mark : Mark) (place : Option ℕ) (marks : List Mark) → into_first_entry mark (cut_at (option_map suc place) marks) ≡ cut_at (option_map suc (option_map suc place)) (mark ∷ marks)
+cut_at-after mark None marks = refl
+cut_at-after mark (Some n) marks = refl
 
-position-behind : (mark : Mark) (marks : List Mark) → position is_ending (mark ∷ marks) ≡ cond (is_ending mark) (Some 0) (option_map suc (position is_ending marks))
-position-behind mark marks = at (is_ending mark)
+position-after : (mark : Mark) (marks : List Mark) → position is_ending (mark ∷ marks) ≡ cond (is_ending mark) (Some 0) (option_map suc (position is_ending marks))
+position-after mark marks = at (is_ending mark)
   where
     n : ℕ
     n = position_or_len is_ending marks
@@ -48,17 +48,17 @@ position-behind mark marks = at (is_ending mark)
 
 entries_of-cut : (marks : List Mark) → entries_of marks ≡ cut_at (first_entry_len marks) marks
 entries_of-cut [] = refl
-entries_of-cut (mark ∷ marks) = rw position-behind (at (is_ending mark) (entries_of-cut marks))
+entries_of-cut (mark ∷ marks) = rw position-after (at (is_ending mark) (entries_of-cut marks))
   where
     at : (ends : Bool) → entries_of marks ≡ cut_at (first_entry_len marks) marks
         → cond ends ((mark ∷ []) ∷ entries_of marks) (into_first_entry mark (entries_of marks)) ≡ cut_at (option_map suc (cond ends (Some 0) (option_map suc (position is_ending marks)))) (mark ∷ marks)
     at true ih = refl
-    at false ih = ap (into_first_entry mark) ih ∙ cut_at-behind mark (position is_ending marks) marks
+    at false ih = ap (into_first_entry mark) ih ∙ cut_at-after mark (position is_ending marks) marks
 
 -- marks in which no entry ends have none
 pub entries_of-none : (marks : List Mark) → first_entry_len marks ≡ None → entries_of marks ≡ []
 entries_of-none marks e = entries_of-cut marks ∙ ap (λ end. cut_at end marks) e
 
--- the first entry ends at its ending mark, and the others are those of the marks behind it
+-- the first entry ends at its ending mark, and the others are those of the marks after it
 pub entries_of-first : (marks : List Mark) (n : ℕ) → first_entry_len marks ≡ Some n → entries_of marks ≡ take n marks ∷ entries_of (drop n marks)
 entries_of-first marks n e = entries_of-cut marks ∙ ap (λ end. cut_at end marks) e

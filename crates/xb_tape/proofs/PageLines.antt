@@ -28,12 +28,12 @@ tape-counted test n k all tape here rest e h c =
     let g = rw (e, sum_by-cons (λ t. count_by test t) tape rest) at h in
     omega (arith, g, c)
 
--- behind the last line
+-- after the last line
 pub tapes-end : (out all : List ℕ) (tapes : List (List Mark)) (k : ℕ) → length tapes ≤ k → out ++ tapes_text k (drop k tapes) ≡ all → out ≡ all
 unfolding tapes_text
 tapes-end out all tapes k h e = rw (drop_all k tapes h, append-nil) at e
 
--- behind the last tape the count is whole
+-- after the last tape the count is whole
 pub count-end : (test : Mark → Bool) (n all : ℕ) (tapes : List (List Mark)) (k : ℕ) → length tapes ≤ k → n + count_in test (drop k tapes) ≡ all → n ≡ all
 count-end test n all tapes k h e = let g = rw (drop_all k tapes h) at e in omega (arith, g)
 

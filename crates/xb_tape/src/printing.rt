@@ -18,7 +18,7 @@ fn reason_text(reason: Reason) -> &'static str
     }
 }
 
-// Writes a mark, behind a blank.
+// Writes a mark, after a blank.
 fn write_mark(out: &mut String, mark: &Mark) -> Result<(), AllocError>
     ensures { OnOk result (string_bytes out.new ≡ string_bytes out.old ++ mark_text mark.now) }
 {
@@ -40,7 +40,7 @@ fn write_mark(out: &mut String, mark: &Mark) -> Result<(), AllocError>
     }
 }
 
-// Writes marks, one behind the other.
+// Writes marks, one after the other.
 fn write_marks(out: &mut String, marks: &[Mark]) -> Result<(), AllocError>
     ensures { OnOk result (string_bytes out.new ≡ string_bytes out.old ++ marks_text marks.now) }
 {
@@ -100,9 +100,9 @@ fn write_tape(out: &mut String, line: u16, marks: &[Mark]) -> Result<(), AllocEr
     let mut rest = marks;
     let mut number = 1;
     while let Some(length) = first_entry_len(rest) {
-        let (entry, behind) = rest.split_at(length);
+        let (entry, after) = rest.split_at(length);
         write_entry(out, line, number, entry)?;
-        rest = behind;
+        rest = after;
         number += 1;
     }
     Ok(())
@@ -134,8 +134,8 @@ fn refusals(marks: &[Mark]) -> usize
 /// A keying is `0005 1 KEYED 0001 KP:1100+1700 0:1300+1500 ST:1500+1700`: the line, the entry's
 /// number, the trunk group, and each key with its pair of tones in Hz. A refusal is
 /// `0008 1 REFUSED MUTILATED 1`: the reason, and the count that goes with it. The totals are
-/// `KEYED 1 REFUSED 1`. Marks behind a line's last ending mark are no entry and write nothing.
-/// `Err` where a growth was refused.
+/// `KEYED 1 REFUSED 1`. Marks after a line's last ending mark are no entry and write nothing.
+/// `Err` where memory ran out.
 pub fn page(alloc: Global, tapes: &Tapes) -> Result<Vec<u8>, AllocError>
     ensures { IfOk result (λ page. page.items ≡ page_text tapes.now) }
 {

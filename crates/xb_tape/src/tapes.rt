@@ -28,7 +28,7 @@ impl Model for Tapes {
     ghost invariant = { λ tapes. vec_len tapes.lines ≡ LINES };
 }
 
-// Puts one thing more behind the list at a place.
+// Puts one thing more after the list at a place.
 fn push_at<T: Drop>(lists: &mut Vec<Vec<T>>, at: usize, x: T) -> Result<(), AllocError>
     requires { at < vec_len lists.old }
     ensures ok { OnOk result (map (λ v. v.items) lists.new.items ≡ slice_set (map (λ v. v.items) lists.old.items) at (slice_index_or (map (λ v. v.items) lists.old.items) at [] ++ x ∷ [])) }
@@ -41,7 +41,7 @@ fn push_at<T: Drop>(lists: &mut Vec<Vec<T>>, at: usize, x: T) -> Result<(), Allo
 }
 
 impl Tapes {
-    /// Tapes without marks; `Err` where a growth was refused.
+    /// Tapes without marks; `Err` where memory ran out.
     pub fn new(alloc: Global) -> Result<Tapes, AllocError>
         ensures lines { IfOk result (λ tapes. length tapes ≡ LINES) }
         ensures blank { IfOk result (λ tapes. (l : ℕ) → marks_at tapes l ≡ []) }
@@ -69,14 +69,14 @@ impl Tapes {
     }
 
     /// The marks of entry `k` of a line, from 0, up to and with the mark that ends it; `None`
-    /// where the line has no such entry. Marks behind the last ending mark belong to no entry.
+    /// where the line has no such entry. Marks after the last ending mark belong to no entry.
     pub fn entry(&self, line: LineNo, k: usize) -> Option<&[Mark]>
         ensures { option_map (λ marks. marks.now) result ≡ slice_get (entries_of (marks_at self.now line)) k }
     {
         entry(self.marks(line), k)
     }
 
-    /// Puts a mark behind those of its line. On an `Err` the tapes are unchanged.
+    /// Puts a mark after those of its line. On an `Err` the tapes are unchanged.
     pub fn push(&mut self, mark: On<Mark>) -> Result<(), AllocError>
         ensures ok { OnOk result (self.new ≡ slice_set self.old mark.line (marks_at self.old mark.line ++ mark.what ∷ [])) }
         ensures err { OnErr result (self.new ≡ self.old) }

@@ -8,7 +8,7 @@ use xb_model::{Contact, Row, RowFault, RowSource};
 // A row, as its line, its contact and its time.
 type RowParts = (u16, Contact, u32);
 
-// A text that begins with its header, its rows, and the fault behind them.
+// A text that begins with its header, its rows, and the fault after them.
 type Case = (&'static [u8], &'static [RowParts], Option<RowFault>);
 
 const MAKE: Contact = Contact::Make;
@@ -17,7 +17,7 @@ const BREAK: Contact = Contact::Brk;
 
 const CLOSE: Contact = Contact::Close;
 
-// Texts with the header in front.
+// Texts that begin with the header.
 const HEADERS: &[Case] = &[
     (b"", &[], Some(RowFault::Header)),
     (b"\n\n", &[], Some(RowFault::Header)),
@@ -43,7 +43,7 @@ const HEADERS: &[Case] = &[
     ),
 ];
 
-// Texts behind the header.
+// Texts after the header.
 const RECORDS: &[Case] = &[
     // empty lines are no records and do not count
     (
@@ -93,7 +93,7 @@ const RECORDS: &[Case] = &[
     (b"\"7\",\"M\",\"1\"0\n", &[(7, MAKE, 10)], None),
     (b"7,M,1\"0\n", &[], Some(RowFault::Ms(1))),
     (b"7,M,\"10", &[(7, MAKE, 10)], None),
-    // only the rows before the first fault, and records behind a close count too
+    // only the rows before the first fault, and records after a close count too
     (
         b"7,M,1\n7,B,2\n7,M\nx\n",
         &[(7, MAKE, 1), (7, BREAK, 2)],

@@ -20,12 +20,12 @@ fn tone(key: &Key) -> Mark {
     Mark::Tone(*key, pair)
 }
 
-// Puts a mark behind those of a line.
+// Puts a mark after those of a line.
 fn push(tapes: &mut Tapes, line: LineNo, mark: Mark) -> Result<(), AllocError> {
     tapes.push(On { line, what: mark })
 }
 
-// Puts the marks of a keying behind those of a line, without the tone of ST.
+// Puts the marks of a keying after those of a line, without the tone of ST.
 fn push_keying(
     rt: &impl Abort,
     tapes: &mut Tapes,
@@ -43,7 +43,7 @@ fn push_keying(
     Ok(())
 }
 
-// Puts an entry behind the marks of a line.
+// Puts an entry after the marks of a line.
 fn push_entry(
     rt: &impl Abort,
     tapes: &mut Tapes,
@@ -166,7 +166,7 @@ fn first_and_last_line(rt: HostRuntime) -> Result<(), Fail> {
     Ok(())
 }
 
-// Marks behind the last ending mark of a line are no entry.
+// Marks after the last ending mark of a line are no entry.
 #[test]
 fn unended_marks(rt: HostRuntime) -> Result<(), Fail> {
     let line = LineNo::new(5).expect(&rt, "a line");
