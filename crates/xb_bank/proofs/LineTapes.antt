@@ -28,7 +28,7 @@ use Rattle.xb_pulse.specs.Outputs.{outs_on_line}
 use Rattle.xb_register.specs.Registering.{machine as register_machine}
 use Rattle.xb_routes.specs.Translating.{machine as translate_machine}
 use Rattle.xb_sender.specs.Sending.{machine as sender_machine}
-use Rattle.xb_sender.proofs.Entries.{entries_of-flat_map}
+use Rattle.xb_model.proofs.Entries.{entries_of-flat_map}
 use Rattle.xb_bank.specs.Fed.{fed}
 use Rattle.xb_model.specs.Lines.{lines_below}
 use Rattle.xb_bank.specs.Serial.{serial_image}

@@ -1,3 +1,4 @@
+pub mod Constants
 pub mod Rows
 pub mod Sources
 pub mod Lines

@@ -1,5 +1,5 @@
 -- The text of the page (own format): ASCII, each line ended by one LF.
-use Rattle.std.specs.Prelude.{ℕ, ◌+◌, ◌-◌, replicate, length, List, [], ◌∷◌, ◌++◌, codes, decimal, Bool, not, ◌&&◌, Option, Some, None, is_some, option_and_then, slice_get, sum_by, count_by}
+use Rattle.std.specs.Prelude.{ℕ, ◌+◌, ◌-◌, replicate, length, List, [], ◌∷◌, ◌++◌, codes, decimal, Bool, not, Option, Some, None, is_some, option_and_then, slice_get, sum_by, count_by}
 use Rattle.xb_model.specs.declared.key.Key.{Key}
 use Rattle.xb_model.specs.declared.key.Key.TheVariants as key
 use Rattle.xb_model.specs.declared.key.Tone.{Tone}
@@ -7,7 +7,6 @@ use Rattle.xb_model.specs.declared.mark.Mark.{Mark}
 use Rattle.xb_model.specs.declared.mark.Mark.TheVariants as mark
 use Rattle.xb_model.specs.declared.reason.Reason.{Reason}
 use Rattle.xb_model.specs.declared.reason.Reason.TheVariants as reason
-use Rattle.xb_model.specs.Keyings.{is_ending}
 use Rattle.xb_model.specs.Tapes.{entries_of}
 
 -- the byte of the digit 0
@@ -87,21 +86,23 @@ unfoldable pub tapes_text : ℕ → List (List Mark) → List ℕ
 tapes_text line [] = []
 tapes_text line (marks ∷ tapes) = tape_text line marks ++ tapes_text (line + 1) tapes
 
--- a refusal is an entry of its own, and a keying ends with any other ending mark
-abbrev pub ends_refusal : Mark → Bool
-ends_refusal m = is_some (refusal_of m)
+-- an entry that a refusal ends
+abbrev pub is_refused : List Mark → Bool
+is_refused entry = is_some (last_refusal entry)
 
-abbrev pub ends_keying : Mark → Bool
-ends_keying m = is_ending m && not (ends_refusal m)
+-- an entry that ends otherwise
+abbrev pub is_keyed : List Mark → Bool
+is_keyed entry = not (is_refused entry)
 
--- how many marks of the tapes pass a test
-abbrev pub count_in : (Mark → Bool) → List (List Mark) → ℕ
-count_in test tapes = sum_by (λ marks. count_by test marks) tapes
+-- how many entries of the tapes pass a test
+abbrev pub count_entries : (List Mark → Bool) → List (List Mark) → ℕ
+count_entries test tapes = sum_by (λ marks. count_by test (entries_of marks)) tapes
 
--- the last line: the totals of keyings and of refusals
+-- the last line: the totals of keyed and of refused entries
 abbrev pub totals_text : ℕ → ℕ → List ℕ
 totals_text keyed refused = codes "KEYED " ++ decimal keyed ++ codes " REFUSED " ++ decimal refused ++ codes "\n"
 
 -- the page of the tapes of all lines, from line 0 on
 abbrev pub page_text : List (List Mark) → List ℕ
-page_text tapes = tapes_text 0 tapes ++ totals_text (count_in ends_keying tapes) (count_in ends_refusal tapes)
+page_text tapes =
+    tapes_text 0 tapes ++ totals_text (count_entries is_keyed tapes) (count_entries is_refused tapes)

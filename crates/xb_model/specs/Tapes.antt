@@ -1,6 +1,6 @@
 -- The tape of a line (own profile).
-use Rattle.std.specs.Prelude.{ℕ, List, [], ◌∷◌, map, if◌then◌else◌, slice_index_or}
-use Rattle.std.specs.List.{flat_map}
+use Rattle.std.specs.Prelude.{◌≡◌, ℕ, true, false, List, [], ◌∷◌, ◌++◌, map, if◌then◌else◌, slice_index_or}
+use Rattle.std.specs.List.{AllByRecursion, flat_map}
 use Rattle.xb_model.specs.declared.limits.Limits.{Limits}
 use Rattle.xb_model.specs.declared.line.TheConstants.{LINES}
 use Rattle.xb_model.specs.declared.plan.Plan.{Plan}
@@ -38,3 +38,15 @@ into_first_entry mark (entry ∷ entries) = (mark ∷ entry) ∷ entries
 abbrev pub entries_of : List Mark → List (List Mark)
 entries_of [] = []
 entries_of (mark ∷ marks) = if is_ending mark then (mark ∷ []) ∷ entries_of marks else into_first_entry mark (entries_of marks)
+
+-- none of the marks ends an entry
+abbrev pub IsUnended : List Mark → Type 0
+IsUnended marks = AllByRecursion (λ mark. is_ending mark ≡ false) marks
+
+-- exactly the last of the marks ends an entry
+pub record EndsAtLast (marks : List Mark) : Type 0 where
+  pub earlier : List Mark
+  pub last : Mark
+  pub parts : marks ≡ earlier ++ last ∷ []
+  pub goes_on : IsUnended earlier
+  pub ends : is_ending last ≡ true

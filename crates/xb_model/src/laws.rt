@@ -1,4 +1,5 @@
 //! What the definitions give: each law is the contract of a function that does nothing.
+ghost use Rattle.xb_model.specs.Constants.{AreConstants};
 ghost use Rattle.xb_model.specs.CutRows.{RowsMayBeCut};
 ghost use Rattle.xb_model.specs.WorkedTables.{TwoOfFiveTable, TwoMakeADigit, MfTable, NumbersOfSeven};
 ghost use Rattle.xb_model.specs.WorkedSignals.{SignalsOfRecords};
@@ -6,7 +7,12 @@ ghost use Rattle.xb_model.specs.WorkedRoutes.{OrdersOfNumbers};
 ghost use Rattle.xb_model.specs.WorkedTapes.{OperatorCall, SevenDigits, SplitRows, TwoLinesInTurn, BreakLimits, MakeLimits, ElevenPulses, TimeOutAndConversation, LastDigitPause, ClosedLine, UnknownCodes, SecondCall, ShortRecords, LongestKeying, EntriesOfATape};
 ghost use Rattle.xb_model.specs.WorkedPages.{PageOfOperatorCall, PageOfSevenDigits, PageOfNoRows, PageOfUnfinished, PageOfRefusals};
 
-/// The runs of a line do not tell how its rows are cut, whatever rows of other lines stand between.
+/// The number of lines, of trunk groups, of digits and so on, each as it is.
+pub fn constants()
+    ensures { AreConstants }
+{}
+
+/// However a line's rows are split, its runs are the same, whatever rows of other lines come between.
 #[tactic(auto, using(crate::proofs::Cuts::rows_may_be_cut))]
 pub fn rows_may_be_cut()
     ensures { RowsMayBeCut }

@@ -33,7 +33,7 @@ pub use fault::RowFault;
 pub use key::{Key, Tone, mf};
 pub use limits::{GREATEST_LIMIT, Limits};
 pub use line::{LINES, LineNo};
-pub use mark::Mark;
+pub use mark::{KEYING_MARKS, Mark};
 pub use on::{On, OnLine};
 pub use order::Order;
 pub use plan::{Plan, plan_len};

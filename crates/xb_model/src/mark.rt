@@ -2,9 +2,13 @@
 ghost use Rattle.std.specs.Prelude.{◌≡◌};
 ghost use Rattle.xb_model.specs.Keyings.{is_ending};
 
+use crate::digits::KEY_DIGITS;
 use crate::key::{Key, Tone};
 use crate::reason::Reason;
 use crate::trunk::Trunk;
+
+/// The most marks of a keying: the trunk group, KP, the most digits, and ST.
+pub const KEYING_MARKS: usize = KEY_DIGITS + 3;
 
 /// One mark of a line's tape ("Notes on Distance Dialing"; a refusal is the profile's own).
 #[derive(Clone, Copy, Debug, PartialEq, Eq)]

@@ -50,7 +50,7 @@ impl Relays {
         ensures digit { digit_of_pattern result ≡ digit_of_count count bad }
     {
         if bad {
-            return Relays::of_bits([false; 5]);
+            return Relays::default();
         }
         Relays::of_bits(match count {
             1 => [true, true, false, false, false],
@@ -72,12 +72,12 @@ impl Relays {
         ensures two { result ≡ (count_by (λ bit. bit) self == 2) }
         ensures digit { result ≡ is_some (digit_of_pattern self) }
     {
-        u8::from(self.zero)
+        let operated = u8::from(self.zero)
             + u8::from(self.one)
             + u8::from(self.two)
             + u8::from(self.four)
-            + u8::from(self.seven)
-            == 2
+            + u8::from(self.seven);
+        operated == 2
     }
 
     /// The digit that the elements stand for: the sum of the two weights, and 0 for the sum 11.

@@ -5,10 +5,10 @@ ghost use Rattle.xb_model.specs.declared.line.LineNo.{LineNo};
 ghost use Rattle.xb_model.specs.declared.mark.Mark.{Mark};
 ghost use Rattle.xb_model.specs.declared.order.Order.{Order};
 ghost use Rattle.xb_model.specs.Keyings.{marks_of};
-ghost use Rattle.xb_model.specs.Tapes.{entries_of};
+ghost use Rattle.xb_model.specs.Tapes.{EndsAtLast, entries_of};
 ghost use Rattle.xb_stage.specs.Image.{image_on};
 ghost use Rattle.xb_stage.specs.OnLines.{on_line};
-ghost use Rattle.xb_sender.specs.Sending.{machine, EndsAtLast};
+ghost use Rattle.xb_sender.specs.Sending.{machine};
 
 /// The orders of a line give their marks, in order.
 pub fn marks_of_orders()

@@ -4,10 +4,11 @@ ghost use Rattle.std.specs.List.{AllByRecursion};
 ghost use Rattle.xb_stage.specs.Image.{Machine};
 ghost use Rattle.xb_stage.specs.OnLines.{on_line};
 
-use xb_model::{LineNo, On, OnLine};
+use xb_model::{KEYING_MARKS, LineNo, On, OnLine};
 
-/// The most that a stage sends for one item.
-pub const MOST_OUTPUTS: usize = 20;
+/// The most that a stage sends for one item: the marks of the longest keying, rounded up to a
+/// multiple of four (own profile).
+pub const MOST_OUTPUTS: usize = (KEYING_MARKS + 3) / 4 * 4;
 
 /// The room that a stage is given for what it sends for one item.
 pub const OUTPUT_ROOM: usize = 24;
