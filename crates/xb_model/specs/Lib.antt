@@ -2,6 +2,7 @@ pub mod Constants
 pub mod Rows
 pub mod Sources
 pub mod Lines
+pub mod LineValues
 pub mod LawfulLimits
 pub mod Records
 pub mod CutRows

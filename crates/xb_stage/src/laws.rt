@@ -1,4 +1,4 @@
-// Laws of the images of all stages.
+//! Laws of stages: each is the contract of a function that does nothing.
 ghost use Rattle.std.specs.Prelude.{◌≡◌, ℕ, List};
 ghost use Rattle.std.specs.List.{flat_map};
 ghost use Rattle.xb_model.specs.declared.line.LineNo.{LineNo};
@@ -7,8 +7,15 @@ ghost use Rattle.xb_stage.specs.Image.{image, image_on};
 ghost use Rattle.xb_model.specs.Lines.{of_line, on_line_of};
 ghost use Rattle.xb_stage.specs.OnLines.{on_line};
 ghost use Rattle.xb_stage.specs.Stateless.{stateless};
+ghost use Rattle.xb_stage.specs.declared.stage.TheConstants.{MOST_OUTPUTS, OUTPUT_ROOM};
 
 use crate::stage::LineStage;
+
+/// How many items a stage sends for one item at the most, and the room that it is given for them.
+pub fn constants()
+    ensures most_outputs { MOST_OUTPUTS ≡ 20 }
+    ensures output_room { OUTPUT_ROOM ≡ 24 }
+{}
 
 /// The items of a line in an image are the image of the line's items.
 pub fn lines_are_apart<S: LineStage>()

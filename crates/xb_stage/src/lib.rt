@@ -2,11 +2,10 @@
 #![tactic(auto)]
 
 mod image;
-mod laws;
+pub mod laws;
 mod stage;
 #[cfg(test)]
 mod tests;
 
 pub use image::image_of;
-pub use laws::{lines_are_apart, one_state_each, stateless_lines};
 pub use stage::{LineStage, MOST_OUTPUTS, OUTPUT_ROOM, send};

@@ -49,7 +49,7 @@ pub trait LineStage {
         ((machine stage).outs state item) };
 }
 
-/// Puts a thing on the line after what a stage sends (own profile). The list has room for it.
+/// Appends one thing to what a stage sends, on the line (own profile). The list has room for it.
 pub fn send<T>(line: LineNo, out: &mut Vec<On<T>>, what: T)
     requires { vec_len out.old < vec_capacity out.old }
     ensures items { out.new.items ≡ out.old.items ++ on_line line (what ∷ []) }

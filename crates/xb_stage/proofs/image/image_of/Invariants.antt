@@ -1,6 +1,6 @@
 use Rattle.std.proofs.Common.{◌≡◌, ◌≤◌, [], vec_capacity}
 use Rattle.xb_stage.specs.Image.{image}
-use Rattle.xb_stage.specs.States.{IsStates}
+use Rattle.xb_stage.specs.States.{AreStates}
 use Rattle.xb_stage.specs.declared.stage.TheConstants.{OUTPUT_ROOM}
 use Rattle.xb_stage.proofs.image.image_of.Given as goal
 
@@ -8,7 +8,7 @@ abbrev pub invariant-loop-item : goal.invariant-loop-item
 invariant-loop-item g l = record {
   can : (goal.iterator-loop-item g).can_next l.item-iterator;
   finite : (goal.iterator-loop-item g).is_finite l.item-iterator;
-  states : IsStates g.S.In.OnLine.line_of (g.S.LineStage.machine l.stage) l.states l.yielded;
+  states : AreStates g.S.In.OnLine.line_of (g.S.LineStage.machine l.stage) l.states l.yielded;
   all : l.all.items ≡ image g.S.In.OnLine.line_of (g.S.LineStage.machine l.stage) l.yielded;
   empty : l.sent.items ≡ [];
   room : OUTPUT_ROOM ≤ vec_capacity l.sent;
