@@ -1,6 +1,4 @@
-pub mod Outputs
-pub mod Within
-pub mod Joining
-pub mod ToSend
+pub mod JoinedRuns
+pub mod RemainingSignals
 pub mod Steps
 pub mod Hearing

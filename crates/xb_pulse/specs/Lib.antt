@@ -1,4 +1,4 @@
+pub mod Counters
 pub mod Laws
 pub mod Machine
 pub mod Outputs
-pub mod Within

@@ -2,12 +2,12 @@
 //! closes out.
 #![tactic(auto)]
 
-mod laws;
+pub mod laws;
 mod pulse;
 mod state;
+mod step;
 #[cfg(test)]
 mod tests;
 
-pub use laws::{hears_so_far, hears_the_record};
 pub use pulse::Pulse;
 pub use state::PulseState;

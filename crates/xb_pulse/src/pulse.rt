@@ -1,12 +1,16 @@
 // The pulse stage.
-ghost use Rattle.std.specs.Prelude.{◌≡◌, ◌+◌, ◌<◌, ◌++◌, ◌∷◌, [], vec_len, vec_capacity};
-ghost use Rattle.xb_stage.specs.OnLines.{on_line};
-ghost use Rattle.xb_pulse.specs.Machine.{machine, longer, with_break, with_make, between_trains, in_make, on_make, in_break, on_break, on_row, on_close};
+ghost use Rattle.std.specs.Prelude.{◌≡◌, ◌<◌, ◌≤◌};
+ghost use Rattle.arrayvec.specs.ArrayVec.{array_vec_len};
+ghost use Rattle.xb_pulse.specs.Counters.{IsWithin};
+ghost use Rattle.xb_pulse.specs.Laws.{HearsTheRecord, HearsTheRecordOfEach, HearsSoFar, HearsSoFarOfEach};
+ghost use Rattle.xb_pulse.specs.Machine.{machine, longer, with_break, with_make, judge_timeout, judge_pause};
+ghost use Rattle.xb_pulse.specs.Machine.{take_make, lengthen_break, judge_release, take_close, take_row};
 ghost use Rattle.xb_pulse.specs.Outputs.{outs_on_line};
 
 use crate::state::{Phase, PulseState, Tally};
+use crate::step::{MOST_SIGNALS, Step};
 use std::marker::Model;
-use xb_model::{Contact, GREATEST_LIMIT, Limits, LineNo, MANY_BREAKS, On, Row, Signal};
+use xb_model::{Contact, GREATEST_LIMIT, Limits, MANY_BREAKS, On, Row, Signal};
 use xb_stage::{LineStage, send};
 
 /// The stage that turns the rows of each line's loop into signals, by its limits (own profile).
@@ -35,15 +39,42 @@ impl Model for Pulse {
     ghost view = { λ pulse. pulse.limits };
 }
 
+// A running total, which stops at the greatest limit that there is.
+fn longer(total: u32, ms: u32) -> u32
+    ensures { result ≡ longer total ms }
+{
+    total.saturating_add(ms).min(GREATEST_LIMIT)
+}
+
+// A close row: only the first is heard.
+fn take_close(phase: Phase) -> Step
+    ensures value { result ≡ take_close phase }
+    ensures within { IsWithin result.phase }
+{
+    let closed = Step::enter(Phase::Closed);
+    if phase == Phase::Closed {
+        closed
+    } else {
+        closed.with_first(Signal::Close)
+    }
+}
+
 impl Pulse {
-    /// The stage that judges by these limits.
+    /// The stage that judges by these limits. Where they are lawful, what it sends on a line whose
+    /// record is closed are the record's signals. While the record is open, what it has sent,
+    /// followed by a close, are the signals of the rows so far. Both hold of the rows of one line
+    /// alone, and of each line among the rows of all lines.
     pub fn new(limits: Limits) -> Pulse
-        ensures { result ≡ limits }
+        ensures limits { result ≡ limits }
+        ensures whole { HearsTheRecord limits (⟦<Pulse as LineStage>⟧.machine result) }
+        ensures so_far { HearsSoFar limits (⟦<Pulse as LineStage>⟧.machine result) }
+        ensures each_whole { HearsTheRecordOfEach limits (⟦<Pulse as LineStage>⟧.machine result) }
+        ensures each_so_far { HearsSoFarOfEach limits (⟦<Pulse as LineStage>⟧.machine result) }
     {
         Pulse { limits }
     }
 
-    // A break of this length ends.
+    // The tally after a break of this length has ended.
     fn with_break(&self, total: u32, tally: Tally) -> Tally
         ensures { result ≡ with_break self.now total tally }
     {
@@ -53,7 +84,7 @@ impl Pulse {
         }
     }
 
-    // A make of this length ends inside a train.
+    // The tally after a make of this length, inside the train, has ended.
     fn with_make(&self, total: u32, tally: Tally) -> Tally
         ensures { result ≡ with_make self.now total tally }
     {
@@ -63,64 +94,57 @@ impl Pulse {
         }
     }
 
-    // In a make, outside any train.
-    fn between_trains(&self, total: u32, line: LineNo, out: &mut Vec<On<Signal>>) -> Phase
-        requires { vec_len out.old < vec_capacity out.old }
-        ensures phase { result ≡ (between_trains self.now total).after }
-        ensures sent { out.new.items
-            ≡ out.old.items ++ on_line line (between_trains self.now total).sent }
-        ensures capacity { vec_capacity out.new ≡ vec_capacity out.old }
+    // A make of this length in no train times the attempt out once it reaches `timeout`.
+    fn judge_timeout(&self, total: u32) -> Step
+        requires { total ≤ GREATEST_LIMIT }
+        ensures value { result ≡ judge_timeout self.now total }
+        ensures room { array_vec_len result.sent < MOST_SIGNALS }
+        ensures within { IsWithin result.phase }
     {
         if total >= self.limits.timeout {
-            send(line, out, Signal::TimeOut);
-            Phase::TimedOut(0)
+            Step::enter(Phase::TimedOut(0)).with_first(Signal::TimeOut)
         } else {
-            Phase::BetweenTrains(total)
+            Step::enter(Phase::BetweenTrains(total))
         }
     }
 
-    // In a make after a part of a train.
-    fn in_make(&self, total: u32, tally: Tally, line: LineNo, out: &mut Vec<On<Signal>>) -> Phase
-        requires { vec_len out.old + 1 < vec_capacity out.old }
-        ensures phase { result ≡ (in_make self.now total tally).after }
-        ensures sent { out.new.items
-            ≡ out.old.items ++ on_line line (in_make self.now total tally).sent }
-        ensures capacity { vec_capacity out.new ≡ vec_capacity out.old }
+    // A make of this length after a part of a train ends the train once it reaches `pause`.
+    fn judge_pause(&self, total: u32, tally: Tally) -> Step
+        requires { IsWithin (Phase.InMake total tally) }
+        ensures value { result ≡ judge_pause self.now total tally }
+        ensures within { IsWithin result.phase }
     {
         if total >= self.limits.pause {
-            send(line, out, Signal::Digit(tally.breaks, tally.bad));
-            self.between_trains(total, line, out)
+            let digit = Signal::Digit(tally.breaks, tally.bad);
+            self.judge_timeout(total).with_first(digit)
         } else {
-            Phase::InMake(total, tally)
+            Step::enter(Phase::InMake(total, tally))
         }
     }
 
     // A make row of 1 ms or more.
-    fn on_make(&self, phase: Phase, ms: u32, line: LineNo, out: &mut Vec<On<Signal>>) -> Phase
-        requires { vec_len out.old + 1 < vec_capacity out.old }
-        ensures phase { result ≡ (on_make self.now phase ms).after }
-        ensures sent { out.new.items
-            ≡ out.old.items ++ on_line line (on_make self.now phase ms).sent }
-        ensures capacity { vec_capacity out.new ≡ vec_capacity out.old }
+    fn take_make(&self, phase: Phase, ms: u32) -> Step
+        requires { IsWithin phase }
+        ensures value { result ≡ take_make self.now phase ms }
+        ensures within { IsWithin result.phase }
     {
         match phase {
-            Phase::OnHook => {
-                send(line, out, Signal::Seize);
-                self.between_trains(longer(0, ms), line, out)
-            }
-            Phase::BetweenTrains(total) => self.between_trains(longer(total, ms), line, out),
+            Phase::OnHook => self.judge_timeout(longer(0, ms)).with_first(Signal::Seize),
+            Phase::BetweenTrains(total) => self.judge_timeout(longer(total, ms)),
             Phase::InBreak(total, tally) => {
-                self.in_make(longer(0, ms), self.with_break(total, tally), line, out)
+                self.judge_pause(longer(0, ms), self.with_break(total, tally))
             }
-            Phase::InMake(total, tally) => self.in_make(longer(total, ms), tally, line, out),
-            Phase::TimedOut(_) => Phase::TimedOut(0),
-            Phase::Closed => Phase::Closed,
+            Phase::InMake(total, tally) => self.judge_pause(longer(total, ms), tally),
+            Phase::TimedOut(_) => Step::enter(Phase::TimedOut(0)),
+            Phase::Closed => Step::enter(Phase::Closed),
         }
     }
 
-    // In a break that this row begins or lengthens.
-    fn in_break(&self, phase: Phase, ms: u32) -> Phase
-        ensures { result ≡ in_break self.now phase ms }
+    // A break begins or grows longer; on hook it is idle time.
+    fn lengthen_break(&self, phase: Phase, ms: u32) -> Phase
+        requires { IsWithin phase }
+        ensures value { result ≡ lengthen_break self.now phase ms }
+        ensures within { IsWithin result }
     {
         match phase {
             Phase::BetweenTrains(_) => Phase::InBreak(longer(0, ms), Tally::none()),
@@ -133,66 +157,33 @@ impl Pulse {
         }
     }
 
-    // A break row of 1 ms or more.
-    fn on_break(&self, phase: Phase, ms: u32, line: LineNo, out: &mut Vec<On<Signal>>) -> Phase
-        requires { vec_len out.old < vec_capacity out.old }
-        ensures phase { result ≡ (on_break self.now phase ms).after }
-        ensures sent { out.new.items
-            ≡ out.old.items ++ on_line line (on_break self.now phase ms).sent }
-        ensures capacity { vec_capacity out.new ≡ vec_capacity out.old }
+    // The break of a phase releases the line if it is long enough.
+    fn judge_release(&self, phase: Phase) -> Step
+        requires { IsWithin phase }
+        ensures value { result ≡ judge_release self.now phase }
+        ensures within { IsWithin result.phase }
     {
-        let phase = self.in_break(phase, ms);
         match phase {
             Phase::InBreak(total, _) | Phase::TimedOut(total) if total >= self.limits.release => {
-                send(line, out, Signal::Release);
-                Phase::OnHook
+                Step::enter(Phase::OnHook).with_first(Signal::Release)
             }
-            _ => phase,
+            _ => Step::enter(phase),
         }
     }
 
     // A row of this contact and length.
-    fn on_row(
-        &self,
-        phase: Phase,
-        contact: Contact,
-        ms: u32,
-        line: LineNo,
-        out: &mut Vec<On<Signal>>,
-    ) -> Phase
-        requires { vec_len out.old + 1 < vec_capacity out.old }
-        ensures phase { result ≡ (on_row self.now phase contact ms).after }
-        ensures sent { out.new.items
-            ≡ out.old.items ++ on_line line (on_row self.now phase contact ms).sent }
-        ensures capacity { vec_capacity out.new ≡ vec_capacity out.old }
+    fn take_row(&self, phase: Phase, contact: Contact, ms: u32) -> Step
+        requires { IsWithin phase }
+        ensures value { result ≡ take_row self.now phase contact ms }
+        ensures within { IsWithin result.phase }
     {
         match contact {
-            Contact::Make if ms > 0 => self.on_make(phase, ms, line, out),
-            Contact::Brk if ms > 0 => self.on_break(phase, ms, line, out),
-            Contact::Make | Contact::Brk => phase,
-            Contact::Close => on_close(phase, line, out),
+            Contact::Make if ms > 0 => self.take_make(phase, ms),
+            Contact::Brk if ms > 0 => self.judge_release(self.lengthen_break(phase, ms)),
+            Contact::Make | Contact::Brk => Step::enter(phase),
+            Contact::Close => take_close(phase),
         }
     }
-}
-
-// A running total, which stops at the greatest limit that there is.
-fn longer(total: u32, ms: u32) -> u32
-    ensures { result ≡ longer total ms }
-{
-    total.saturating_add(ms).min(GREATEST_LIMIT)
-}
-
-// A close row.
-fn on_close(phase: Phase, line: LineNo, out: &mut Vec<On<Signal>>) -> Phase
-    requires { vec_len out.old < vec_capacity out.old }
-    ensures phase { result ≡ (on_close phase).after }
-    ensures sent { out.new.items ≡ out.old.items ++ on_line line (on_close phase).sent }
-    ensures capacity { vec_capacity out.new ≡ vec_capacity out.old }
-{
-    if phase != Phase::Closed {
-        send(line, out, Signal::Close);
-    }
-    Phase::Closed
 }
 
 impl LineStage for Pulse {
@@ -210,9 +201,11 @@ impl LineStage for Pulse {
         PulseState::at(Phase::OnHook)
     }
 
-    #[tactic(auto, using(crate::proofs::Outputs::outs_at_most, crate::proofs::Within::on_row_within))]
     fn step(&self, state: &mut PulseState, item: Row, out: &mut Vec<On<Signal>>) {
-        let phase = self.on_row(state.phase(), item.contact(), item.ms(), item.line(), out);
+        let Step { sent, phase } = self.take_row(state.phase(), item.contact(), item.ms());
         *state = PulseState::at(phase);
+        for what in sent.as_slice() {
+            send(item.line(), out, *what);
+        }
     }
 }

@@ -1,6 +1,6 @@
 // What the pulse stage keeps of a line.
 ghost use Rattle.std.specs.Prelude.{◌≡◌};
-ghost use Rattle.xb_pulse.specs.Within.{IsWithin};
+ghost use Rattle.xb_pulse.specs.Counters.{IsWithin};
 
 use std::marker::Model;
 
@@ -54,7 +54,7 @@ pub struct PulseState {
 
 impl Model for PulseState {
     ghost use Rattle.xb_pulse.specs.declared.state.Phase.{Phase};
-    ghost use Rattle.xb_pulse.specs.Within.{IsWithin};
+    ghost use Rattle.xb_pulse.specs.Counters.{IsWithin};
 
     ghost Value = { Phase };
 

@@ -18,33 +18,29 @@ enum Part {
 
 use Part::{Break, Make, Pulses};
 
-// The rows of a line.
+// Rows of a line.
 #[derive(Drop)]
 struct Rows {
     line: LineNo,
-    // Whether each row under 1,000 ms is cut into rows of 1 ms.
+    // Whether each run is cut into rows of 1 ms.
     cut: bool,
     rows: Vec<Row>,
 }
 
 impl Rows {
     fn put(&mut self, contact: Contact, ms: u32) -> Result<(), Fail> {
-        let (count, each) = if self.cut && ms < 1_000 {
-            (ms, 1)
-        } else {
-            (1, ms)
-        };
+        let (count, each) = if self.cut && ms > 0 { (ms, 1) } else { (1, ms) };
+        let row = Row::new(self.line, contact, each).ok_or("row")?;
         for _row in 0..count {
-            let row = Row::new(self.line, contact, each).ok_or("row")?;
             self.rows.push(row)?;
         }
         Ok(())
     }
 
     fn put_pulses(&mut self, count: u32, last: u32) -> Result<(), Fail> {
-        for pulse in 0..count {
+        for pulse in 1..=count {
             self.put(Contact::Brk, 60)?;
-            self.put(Contact::Make, if pulse + 1 < count { 40 } else { last })?;
+            self.put(Contact::Make, if pulse < count { 40 } else { last })?;
         }
         Ok(())
     }
@@ -84,27 +80,28 @@ fn on_line(alloc: Global, number: u16, sent: &[On<Signal>]) -> Result<Vec<Signal
     Ok(signals)
 }
 
-// That a record gives these signals, whole and cut.
-fn gives(
+// A case: its name, its runs, and the signals that their record gives once it is closed.
+type Case<'a> = (&'a str, &'a [Part], &'a [Signal]);
+
+// Checks what a record gives, and that all of it is on the record's line.
+fn check(
     rt: &impl Abort,
     alloc: Global,
     limits: Limits,
-    name: &str,
-    parts: &[Part],
-    want: &[Signal],
+    case: Case<'_>,
+    cut: bool,
 ) -> Result<(), Fail> {
-    for cut in [false, true] {
-        let rows = closed_record(alloc, 5, parts, cut)?;
-        let sent = image_of(alloc, &Pulse::new(limits), rows)?;
-        let signals = on_line(alloc, 5, &sent)?;
-        assert_eq!(rt; sent.len(), signals.len(), "{name}: on its line");
-        assert_eq!(rt; signals.as_slice(), want, "{name}: cut {cut}");
-    }
+    let (name, parts, want) = case;
+    let rows = closed_record(alloc, 5, parts, cut)?;
+    let sent = image_of(alloc, &Pulse::new(limits), rows)?;
+    let signals = on_line(alloc, 5, &sent)?;
+    assert_eq!(rt; signals.as_slice(), want, "{name}: cut {cut}");
+    assert_eq!(rt; sent.len(), signals.len(), "{name}: cut {cut}: on its line");
     Ok(())
 }
 
 // Records that are judged by the standard limits, and the signals that they give.
-const RECORDS: [(&str, &[Part], &[Signal]); 13] = [
+const RECORDS: [Case<'static>; 13] = [
     (
         "a digit",
         &[Make(500), Pulses(2, 600)],
@@ -187,38 +184,40 @@ const RECORDS: [(&str, &[Part], &[Signal]); 13] = [
 
 #[test]
 fn records(rt: HostRuntime) -> Result<(), Fail> {
-    for (name, parts, want) in RECORDS {
-        gives(&rt, rt.alloc(), Limits::standard(), name, parts, want)?;
+    for case in RECORDS {
+        check(&rt, rt.alloc(), Limits::standard(), case, false)?;
+    }
+    Ok(())
+}
+
+#[test]
+fn records_cut_into_rows_of_1_ms(rt: HostRuntime) -> Result<(), Fail> {
+    for case in RECORDS {
+        check(&rt, rt.alloc(), Limits::standard(), case, true)?;
     }
     Ok(())
 }
 
 #[test]
 fn long_trains(rt: HostRuntime) -> Result<(), Fail> {
-    for (pulses, breaks) in [
-        (10, 10),
-        (11, 11),
-        (12, 11),
-        (256, 11),
-        (257, 11),
-        (266, 11),
+    for (name, pulses, breaks) in [
+        ("10 pulses", 10, 10),
+        ("11 pulses", 11, 11),
+        ("12 pulses", 12, 11),
+        ("256 pulses", 256, 11),
+        ("257 pulses", 257, 11),
+        ("266 pulses", 266, 11),
     ] {
         let parts = [Make(500), Pulses(pulses, 600)];
         let want = [Seize, Digit(breaks, false), Close];
-        gives(
-            &rt,
-            rt.alloc(),
-            Limits::standard(),
-            "a long train",
-            &parts,
-            &want,
-        )?;
+        let case = (name, parts.as_slice(), want.as_slice());
+        check(&rt, rt.alloc(), Limits::standard(), case, false)?;
     }
     Ok(())
 }
 
 // Records that are judged by the greatest release and time-out.
-const RECORDS_AT_GREATEST_LIMITS: [(&str, &[Part], &[Signal]); 6] = [
+const RECORDS_AT_GREATEST_LIMITS: [Case<'static>; 6] = [
     (
         "a break under the release",
         &[Make(500), Break(999_999), Make(600)],
@@ -258,8 +257,8 @@ fn greatest_limits(rt: HostRuntime) -> Result<(), Fail> {
         timeout: GREATEST_LIMIT,
         ..Limits::standard()
     };
-    for (name, parts, want) in RECORDS_AT_GREATEST_LIMITS {
-        gives(&rt, rt.alloc(), limits, name, parts, want)?;
+    for case in RECORDS_AT_GREATEST_LIMITS {
+        check(&rt, rt.alloc(), limits, case, false)?;
     }
     Ok(())
 }
