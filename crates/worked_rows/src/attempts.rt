@@ -1,23 +1,36 @@
 // Worked examples of attempts: what lines do, and the page of it.
-use crate::decks::Worked;
+use crate::decks::{TABLE, Worked};
 
-/// Rows that stand one line after the other, under the usual table.
-pub const ATTEMPTS: &[Worked] = &[
+/// Route tables, and what lines do under each, the rows of one line after those of the other.
+pub const SHEETS: &[(&str, &[Worked])] = &[
+    (TABLE, ATTEMPTS),
+    (LONGEST_TABLE, &[LONGEST_KEYING]),
+    ("", &[SHORT_RECORDS]),
+];
+
+/// The operator is dialled.
+pub const OPERATOR_CALL: Worked = Worked {
+    name: "operator_call",
+    lines: &[(5, "M500 #0")],
+    page: &["0005 1 OPERATOR", "KEYED 1 REFUSED 0"],
+};
+
+/// A number of seven digits is dialled.
+pub const SEVEN_DIGITS: Worked = Worked {
+    name: "seven_digits",
+    lines: &[(7, "M500 #2 #3 #4 #5 #6 #7 #8")],
+    page: &["0007 1 SEVEN_DIGITS", "KEYED 1 REFUSED 0"],
+};
+
+// What lines do under the usual table.
+const ATTEMPTS: &[Worked] = &[
     Worked {
         name: "header_only",
         lines: &[],
         page: &["KEYED 0 REFUSED 0"],
     },
-    Worked {
-        name: "operator_call",
-        lines: &[(5, "M500 #0")],
-        page: &["0005 1 OPERATOR", "KEYED 1 REFUSED 0"],
-    },
-    Worked {
-        name: "seven_digits",
-        lines: &[(7, "M500 #2 #3 #4 #5 #6 #7 #8")],
-        page: &["0007 1 SEVEN_DIGITS", "KEYED 1 REFUSED 0"],
-    },
+    OPERATOR_CALL,
+    SEVEN_DIGITS,
     Worked {
         name: "split_rows",
         lines: &[(7, "M500 B30 M0 B30 M40 B60 M600 #3 #4 #5 #6 #7 #8")],
@@ -132,11 +145,11 @@ pub const TWO_LINES_IN_TURN: Worked = Worked {
     ],
 };
 
-/// The table of the longest keying.
-pub const LONGEST_TABLE: &str = "[[route]]\ncode = \"999\"\ntrunk = 9999\nprefix = \"12345678\"\n";
+// The table of the longest keying.
+const LONGEST_TABLE: &str = "[[route]]\ncode = \"999\"\ntrunk = 9999\nprefix = \"12345678\"\n";
 
-/// The longest keying of a number of seven digits.
-pub const LONGEST_KEYING: Worked = Worked {
+// The longest keying of a number of seven digits.
+const LONGEST_KEYING: Worked = Worked {
     name: "longest_keying",
     lines: &[(20, "M500 #9 #9 #9 #9 #9 #9 #9")],
     page: &[
@@ -145,8 +158,8 @@ pub const LONGEST_KEYING: Worked = Worked {
     ],
 };
 
-/// Records that seize nothing, or never pulse, under a table without routes.
-pub const SHORT_RECORDS: Worked = Worked {
+// Records that seize nothing, or never pulse, under a table without routes.
+const SHORT_RECORDS: Worked = Worked {
     name: "short_records",
     lines: &[
         (1, "B1000"),

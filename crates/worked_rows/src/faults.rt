@@ -96,7 +96,7 @@ fn joined(alloc: Global, parts: &[&str]) -> Result<String, AllocError> {
     Ok(text)
 }
 
-// Each deck answers its fault, and the page stays empty.
+// Each deck gives its fault, and the page stays empty.
 #[test]
 fn table_and_row_faults(rt: HostRuntime) -> Result<(), Fail> {
     let alloc = rt.alloc();
@@ -108,8 +108,9 @@ fn table_and_row_faults(rt: HostRuntime) -> Result<(), Fail> {
         }
         let mut reader = deck.as_bytes();
         let mut page: Vec<u8> = Vec::new(alloc);
-        assert!(rt; operate(alloc, &mut reader, &mut page) == Err(faulty.fault));
-        assert!(rt; page.is_empty());
+        let result = operate(alloc, &mut reader, &mut page);
+        assert!(rt; result == Err(faulty.fault), "{deck}");
+        assert!(rt; page.is_empty(), "{deck}");
     }
     Ok(())
 }
@@ -121,7 +122,10 @@ fn table_faults(rt: HostRuntime) -> Result<(), Fail> {
     for faulty in FAULTS {
         if let OfficeFault::Routes(fault) = faulty.fault {
             let text = joined(alloc, faulty.table)?;
-            assert!(rt; RouteTable::read(alloc, text.as_bytes()).err() == Some(fault));
+            assert!(rt;
+                RouteTable::read(alloc, text.as_bytes()).err() == Some(fault),
+                "{text}"
+            );
         }
     }
     Ok(())
@@ -134,7 +138,10 @@ fn row_faults(rt: HostRuntime) {
     for faulty in FAULTS {
         if let (Some(rows), OfficeFault::Rows(fault)) = (faulty.rows, faulty.fault) {
             let mut reader = rows.as_bytes();
-            assert!(rt; read_rows(alloc, &mut reader).err() == Some(fault));
+            assert!(rt;
+                read_rows(alloc, &mut reader).err() == Some(fault),
+                "{rows}"
+            );
         }
     }
     let mut scan = Scan::new(alloc, OVER_A_DAY.as_bytes());

@@ -1,5 +1,5 @@
 // The short forms, written out.
-use crate::attempts::ATTEMPTS;
+use crate::attempts::OPERATOR_CALL;
 use crate::decks::{TABLE, deck_of, one_after_another, page_of};
 use std::test::Fail;
 
@@ -37,11 +37,9 @@ KEYED 1 REFUSED 0
 #[test]
 fn operator_call_is_written_out(rt: HostRuntime) -> Result<(), Fail> {
     let alloc = rt.alloc();
-    let worked = ATTEMPTS.get(1).ok_or("no operator call")?;
-    assert_eq!(rt; worked.name, "operator_call");
-    let rows = one_after_another(&rt, alloc, worked)?;
+    let rows = one_after_another(&rt, alloc, &OPERATOR_CALL)?;
     let deck = deck_of(alloc, TABLE, &rows)?;
     assert_eq!(rt; deck.as_str().strip_prefix(TABLE), Some(ROWS));
-    assert_eq!(rt; page_of(alloc, worked.page)?.as_str(), PAGE);
+    assert_eq!(rt; page_of(alloc, OPERATOR_CALL.page)?.as_str(), PAGE);
     Ok(())
 }

@@ -1,5 +1,5 @@
 // The worked examples, through the whole office and through its parts.
-use crate::attempts::{ATTEMPTS, LONGEST_KEYING, LONGEST_TABLE, SHORT_RECORDS, TWO_LINES_IN_TURN};
+use crate::attempts::{SHEETS, TWO_LINES_IN_TURN};
 use crate::decks::{TABLE, Worked, deck_of, one_after_another, page_of, two_in_turn};
 use std::alloc::Global;
 use std::process::Abort;
@@ -42,38 +42,34 @@ fn check_serial(
     Ok(())
 }
 
-#[test]
-fn attempts_by_operate(rt: HostRuntime) -> Result<(), Fail> {
-    let alloc = rt.alloc();
-    for worked in ATTEMPTS {
-        let rows = one_after_another(&rt, alloc, worked)?;
-        check_operated(&rt, alloc, TABLE, &rows, worked)?;
+// What lines do under one table, through the whole office and through its parts.
+fn check_sheet(
+    rt: &impl Abort,
+    alloc: Global,
+    table: &str,
+    attempts: &[Worked],
+) -> Result<(), Fail> {
+    for worked in attempts {
+        let rows = one_after_another(rt, alloc, worked)?;
+        check_operated(rt, alloc, table, &rows, worked)?;
+        check_serial(rt, alloc, table, &rows, worked)?;
     }
+    Ok(())
+}
+
+#[test]
+fn attempts_under_each_table(rt: HostRuntime) -> Result<(), Fail> {
+    for (table, attempts) in SHEETS {
+        check_sheet(&rt, rt.alloc(), table, attempts)?;
+    }
+    Ok(())
+}
+
+#[test]
+fn two_lines_in_turn(rt: HostRuntime) -> Result<(), Fail> {
+    let alloc = rt.alloc();
     let rows = two_in_turn(&rt, alloc, &TWO_LINES_IN_TURN)?;
     check_operated(&rt, alloc, TABLE, &rows, &TWO_LINES_IN_TURN)?;
-    Ok(())
-}
-
-#[test]
-fn attempts_by_parts(rt: HostRuntime) -> Result<(), Fail> {
-    let alloc = rt.alloc();
-    for worked in ATTEMPTS {
-        let rows = one_after_another(&rt, alloc, worked)?;
-        check_serial(&rt, alloc, TABLE, &rows, worked)?;
-    }
-    let rows = two_in_turn(&rt, alloc, &TWO_LINES_IN_TURN)?;
     check_serial(&rt, alloc, TABLE, &rows, &TWO_LINES_IN_TURN)?;
-    Ok(())
-}
-
-#[test]
-fn longest_keying_and_short_records(rt: HostRuntime) -> Result<(), Fail> {
-    let alloc = rt.alloc();
-    let rows = one_after_another(&rt, alloc, &LONGEST_KEYING)?;
-    check_operated(&rt, alloc, LONGEST_TABLE, &rows, &LONGEST_KEYING)?;
-    check_serial(&rt, alloc, LONGEST_TABLE, &rows, &LONGEST_KEYING)?;
-    let rows = one_after_another(&rt, alloc, &SHORT_RECORDS)?;
-    check_operated(&rt, alloc, "", &rows, &SHORT_RECORDS)?;
-    check_serial(&rt, alloc, "", &rows, &SHORT_RECORDS)?;
     Ok(())
 }

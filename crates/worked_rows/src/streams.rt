@@ -1,5 +1,5 @@
 // A writer that fails in the middle of a page, and a reader that fails at once.
-use crate::attempts::ATTEMPTS;
+use crate::attempts::SEVEN_DIGITS;
 use crate::decks::{TABLE, deck_of, one_after_another};
 use std::io;
 use std::io::{Error, ErrorKind, Read, Write};
@@ -42,9 +42,7 @@ impl Read for Failing {
 #[test]
 fn failing_streams(rt: HostRuntime) -> Result<(), Fail> {
     let alloc = rt.alloc();
-    let worked = ATTEMPTS.get(2).ok_or("no seven digits")?;
-    assert_eq!(rt; worked.name, "seven_digits");
-    let rows = one_after_another(&rt, alloc, worked)?;
+    let rows = one_after_another(&rt, alloc, &SEVEN_DIGITS)?;
     let deck = deck_of(alloc, TABLE, &rows)?;
     let mut reader = deck.as_bytes();
     let mut out = Short {

@@ -2,7 +2,7 @@ pub mod Chain
 pub mod ClosedOnce
 pub mod Closings
 pub mod FedRows
-pub mod Keeping
-pub mod Kept
+pub mod MarksInOrder
+pub mod RowsUpToClose
 pub mod LineTapes
 pub mod LineUses

@@ -2,4 +2,4 @@ pub mod Closed
 pub mod Fed
 pub mod Serial
 pub mod GatheredMarks
-pub mod Uses
+pub mod LineUses

@@ -2,13 +2,12 @@
 #![tactic(auto)]
 
 mod fed;
-mod laws;
+pub mod laws;
 mod serial;
 #[cfg(test)]
 mod tests;
 
 pub use fed::fed_rows;
-pub use laws::closed_once;
 pub use serial::key_serial;
 pub use xb_model::{Listed, RowSource};
 pub use xb_tape::Tapes;

@@ -1,4 +1,5 @@
-pub mod EntryLaws
+pub mod FirstEntry
+pub mod LineLists
 pub mod PageEntries
 pub mod PageFormats
 pub mod PageLines

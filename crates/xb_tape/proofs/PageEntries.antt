@@ -1,7 +1,10 @@
 -- How a tape is written mark by mark.
-use Rattle.std.proofs.Common.{◌≡◌, ◌≤◌, ◌<◌, ◌+◌, ℕ, List, [], ◌∷◌, ◌++◌, length, get_or, drop, refl, sym, ap, ◌∙◌, append_assoc}
+use Rattle.std.proofs.Common.{◌≡◌, ◌≤◌, ◌<◌, ◌+◌, ℕ, List, [], ◌∷◌, ◌++◌, length, get_or, drop, Bool, true, false, not, cond, refl, sym, ap, ◌∙◌, subst, append_assoc, arith}
 use Rattle.std.proofs.lemmas.List.{append-nil, drop_all, drop_more}
-use Rattle.xb_model.specs.Page.{entries_text, entry_text, mark_text, marks_text}
+use Rattle.std.specs.Prelude.{Option, Some, None, is_some, count_by}
+use Rattle.std.proofs.lemmas.List.Sums.{sum_by-cons}
+use Rattle.xb_model.specs.declared.reason.Reason.{Reason}
+use Rattle.xb_model.specs.Page.{entries_text, entry_text, entry_text_by, is_keyed, is_refused, keyed_text, last_refusal, mark_text, marks_text, refused_text}
 use Rattle.xb_model.specs.declared.mark.Mark.{Mark}
 
 -- the texts of the marks from k on: that of mark k, and those after it
@@ -23,16 +26,64 @@ pub marks-end : (marks : List Mark) (k : ℕ) → length marks ≤ k → marks_t
 unfolding marks_text
 marks-end marks k h = rw (drop_all k marks h) refl
 
--- an entry more is written
-pub entry-written : (out out2 all : List ℕ) (line n : ℕ) (entry : List Mark) (entries rest : List (List Mark)) → entries ≡ entry ∷ rest
-    → out ++ entries_text line n entries ≡ all → out2 ≡ out ++ entry_text line n entry → out2 ++ entries_text line (n + 1) rest ≡ all
-unfolding entries_text
-entry-written out out2 all line n entry entries rest e h w =
-    ap (λ (x : List ℕ). x ++ entries_text line (n + 1) rest) w
-    ∙ append_assoc out (entry_text line n entry) (entries_text line (n + 1) rest)
-    ∙ (rw e at h)
+-- what is written of a line's entries, and how many are counted, before those that are left
+pub record IsWritten (line : ℕ) (before : List ℕ) (entries : List (List Mark)) (out : List ℕ) (keyed refused : ℕ) (left : List (List Mark)) : Type 0 where
+  pub text : out ++ entries_text line (keyed + refused + 1) left ≡ before ++ entries_text line 1 entries
+  pub keyed_are : keyed + count_by is_keyed left ≡ count_by is_keyed entries
+  pub refused_are : refused + count_by is_refused left ≡ count_by is_refused entries
+
+-- before the first entry
+pub IsWritten-start : (line : ℕ) (before : List ℕ) (entries : List (List Mark)) → IsWritten line before entries before 0 0 entries
+IsWritten-start line before entries = record { text = refl; keyed_are = omega arith; refused_are = omega arith }
 
 -- after the last entry
-pub tape-end : (out all : List ℕ) (line n : ℕ) (entries : List (List Mark)) → entries ≡ [] → out ++ entries_text line n entries ≡ all → out ≡ all
+pub IsWritten-end : {line : ℕ} {before : List ℕ} {entries : List (List Mark)} {out : List ℕ} {keyed refused : ℕ} {left : List (List Mark)}
+    → IsWritten line before entries out keyed refused left → left ≡ [] → out ≡ before ++ entries_text line 1 entries
 unfolding entries_text
-tape-end out all line n entries e h = rw (e, append-nil) at h
+IsWritten-end written none = rw (none, append-nil) at written.text
+
+-- an entry more is written
+text-more : (line n : ℕ) (out out' all : List ℕ) (entry : List Mark) (left : List (List Mark))
+    → out ++ entries_text line n (entry ∷ left) ≡ all → out' ≡ out ++ entry_text line n entry → out' ++ entries_text line (n + 1) left ≡ all
+unfolding entries_text
+text-more line n out out' all entry left before more =
+    ap (λ text. text ++ entries_text line (n + 1) left) more
+    ∙ append_assoc out (entry_text line n entry) (entries_text line (n + 1) left)
+    ∙ before
+
+-- an entry that passes is counted
+count-more : (test : List Mark → Bool) (entry : List Mark) (left : List (List Mark)) (n all : ℕ) → test entry ≡ true → n + count_by test (entry ∷ left) ≡ all → n + 1 + count_by test left ≡ all
+count-more test entry left n all passes before =
+    omega (arith, ap {B = ℕ} (λ b. cond b 1 0) passes, before, sum_by-cons (λ entry. cond (test entry) 1 0) entry left)
+
+-- another entry is not
+count-same : (test : List Mark → Bool) (entry : List Mark) (left : List (List Mark)) (n all : ℕ) → test entry ≡ false → n + count_by test (entry ∷ left) ≡ all → n + count_by test left ≡ all
+count-same test entry left n all passes before =
+    omega (arith, ap {B = ℕ} (λ b. cond b 1 0) passes, before, sum_by-cons (λ entry. cond (test entry) 1 0) entry left)
+
+module _ {line : ℕ} {before : List ℕ} {entries here left : List (List Mark)} {out : List ℕ} {keyed refused : ℕ} {entry : List Mark}
+    (so_far : IsWritten line before entries out keyed refused here) (next : here ≡ entry ∷ left) where
+  written : IsWritten line before entries out keyed refused (entry ∷ left)
+  written = subst (IsWritten line before entries out keyed refused) next so_far
+
+  -- a keyed entry more
+  pub IsWritten-keyed : (out' : List ℕ) → last_refusal entry ≡ None → out' ≡ out ++ keyed_text line (keyed + refused + 1) entry → IsWritten line before entries out' (keyed + 1) refused left
+  IsWritten-keyed out' none more =
+      let number : keyed + 1 + refused + 1 ≡ keyed + refused + 1 + 1 = omega arith in
+      let is_text : entry_text line (keyed + refused + 1) entry ≡ keyed_text line (keyed + refused + 1) entry = ap (entry_text_by line (keyed + refused + 1) entry) none in
+      record {
+        text = ap (λ n. out' ++ entries_text line n left) number ∙ text-more line (keyed + refused + 1) out out' _ entry left written.text (more ∙ ap (λ text. out ++ text) (sym is_text));
+        keyed_are = count-more is_keyed entry left keyed _ (ap (λ r. not (is_some r)) none) written.keyed_are;
+        refused_are = count-same is_refused entry left refused _ (ap is_some none) written.refused_are;
+      }
+
+  -- a refused entry more
+  pub IsWritten-refused : (out' : List ℕ) (reason : Reason) (heard : ℕ) → last_refusal entry ≡ Some (reason, heard) → out' ≡ out ++ refused_text line (keyed + refused + 1) reason heard → IsWritten line before entries out' keyed (refused + 1) left
+  IsWritten-refused out' reason heard some more =
+      let number : keyed + (refused + 1) + 1 ≡ keyed + refused + 1 + 1 = omega arith in
+      let is_text : entry_text line (keyed + refused + 1) entry ≡ refused_text line (keyed + refused + 1) reason heard = ap (entry_text_by line (keyed + refused + 1) entry) some in
+      record {
+        text = ap (λ n. out' ++ entries_text line n left) number ∙ text-more line (keyed + refused + 1) out out' _ entry left written.text (more ∙ ap (λ text. out ++ text) (sym is_text));
+        keyed_are = count-same is_keyed entry left keyed _ (ap (λ r. not (is_some r)) some) written.keyed_are;
+        refused_are = count-more is_refused entry left refused _ (ap is_some some) written.refused_are;
+      }

@@ -1,22 +1,22 @@
-// Cutting a tape into its entries.
-ghost use Rattle.std.specs.Prelude.{◌≡◌, ◌<◌, ◌≤◌, length, IfSome, option_map, position, slice_get};
+// The entries of a tape.
+ghost use Rattle.std.specs.Prelude.{◌≡◌, position};
 ghost use Rattle.xb_model.specs.Keyings.{is_ending};
-ghost use Rattle.xb_model.specs.Tapes.{entries_of};
-ghost use Rattle.xb_tape.specs.Entries.{first_entry_len};
 
 use xb_model::Mark;
 
-// The number of entries.
-pub(crate) fn count(marks: &[Mark]) -> usize
-    ensures { result ≡ length (entries_of marks.now) }
+// Gives the entries of marks in order, each up to and with the mark that ends it. Marks after the
+// last ending mark belong to no entry.
+#[derive(Clone, Copy)]
+pub(crate) struct EachEntry<'a> {
+    // the marks after the entries given so far
+    marks: &'a [Mark],
+}
+
+// The entries of marks.
+pub(crate) fn entries(marks: &[Mark]) -> EachEntry<'_>
+    ensures { result.marks.now ≡ marks.now }
 {
-    let mut count = 0;
-    for mark in marks {
-        if mark.ends() {
-            count += 1;
-        }
-    }
-    count
+    EachEntry { marks }
 }
 
 // The place of the first mark that ends an entry.
@@ -26,27 +26,20 @@ fn first_ending(marks: &[Mark]) -> Option<usize>
     marks.iter().position(|mark| mark.ends())
 }
 
-/// How many marks the first entry has, up to and with the mark that ends it; `None` where no entry
-/// is ended (own profile).
-pub fn first_entry_len(marks: &[Mark]) -> Option<usize>
-    ensures value { result ≡ first_entry_len marks.now }
-    ensures some { IfSome result (λ n. 0 < n) }
-    ensures within { IfSome result (λ n. n ≤ length marks.now) }
-{
-    let ending = first_ending(marks)?;
-    Some(ending + 1)
-}
+impl<'a> Iterator for EachEntry<'a> {
+    ghost use Rattle.std.specs.Iterator.{YieldsFirstRef, item_count};
+    ghost use Rattle.xb_model.specs.Tapes.{entries_of};
 
-// The marks of entry `k`, from 0.
-pub(crate) fn entry(marks: &[Mark], k: usize) -> Option<&[Mark]>
-    ensures { slice_get (entries_of marks.now) k ≡ option_map (λ s. s.now) result }
-{
-    let mut start = 0;
-    for _passed in 0..k {
-        let rest = &marks[start..];
-        start += first_entry_len(rest)?;
+    type Item = &'a [Mark];
+
+    ghost next_gives = { YieldsFirstRef (λ each. entries_of each.marks.now) };
+
+    ghost remaining = { item_count (λ each. entries_of each.marks.now) };
+
+    fn next(&mut self) -> Option<&'a [Mark]> {
+        let last = first_ending(self.marks)?;
+        let (entry, rest) = self.marks.split_at(last + 1);
+        self.marks = rest;
+        Some(entry)
     }
-    let rest = &marks[start..];
-    let len = first_entry_len(rest)?;
-    Some(&rest[..len])
 }

@@ -4,9 +4,10 @@
 mod entries;
 mod printing;
 mod tapes;
+mod tapes_iter;
 #[cfg(test)]
 mod tests;
 
-pub use entries::first_entry_len;
 pub use printing::page;
 pub use tapes::Tapes;
+pub use tapes_iter::EachTape;

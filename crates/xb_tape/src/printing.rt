@@ -1,11 +1,19 @@
 // The page: one line for each entry of the tapes, and the totals.
-ghost use Rattle.std.specs.Prelude.{◌≡◌, ◌++◌, OnOk, IfOk, count_by, string_bytes};
-ghost use Rattle.xb_model.specs.Page.{ends_keying, ends_refusal, entry_text, keyed_text, last_refusal, mark_text, marks_text, page_text, reason_text, refused_text, tape_text};
+ghost use Rattle.std.specs.Prelude.{◌≡◌, ◌<◌, ◌^◌, ◌++◌, OnOk, IfOk, count_by, string_bytes};
+ghost use Rattle.xb_model.specs.Tapes.{entries_of};
+ghost use Rattle.xb_model.specs.Page.{is_keyed, is_refused, keyed_text, last_refusal, mark_text, marks_text, page_text, reason_text, refused_text, tape_text};
 
-use crate::entries::first_entry_len;
+use crate::entries::entries;
 use crate::tapes::Tapes;
 use std::alloc::{AllocError, Global};
-use xb_model::{Key, LINES, LineNo, Mark, Reason, Tone};
+use xb_model::{Key, Mark, Reason, Tone};
+
+// How many entries of a line are keyed calls, and how many are refused ones.
+#[derive(Clone, Copy, Default)]
+struct Totals {
+    keyed: usize,
+    refused: usize,
+}
 
 fn reason_text(reason: Reason) -> &'static str
     ensures { result.now ≡ reason_text reason }
@@ -83,49 +91,29 @@ fn write_keyed(out: &mut String, line: u16, number: usize, entry: &[Mark]) -> Re
     out.push_str("\n")
 }
 
-// Writes entry `number` of a line.
-fn write_entry(out: &mut String, line: u16, number: usize, entry: &[Mark]) -> Result<(), AllocError>
-    ensures { OnOk result (string_bytes out.new ≡ string_bytes out.old ++ entry_text line number entry.now) }
+// Writes the entries of a line, and counts them.
+fn write_tape(out: &mut String, line: u16, marks: &[Mark]) -> Result<Totals, AllocError>
+    ensures text { OnOk result (string_bytes out.new ≡ string_bytes out.old ++ tape_text line marks.now) }
+    ensures keyed { IfOk result (λ totals. totals.keyed ≡ count_by is_keyed (entries_of marks.now)) }
+    ensures refused { IfOk result (λ totals. totals.refused ≡ count_by is_refused (entries_of marks.now)) }
+    ensures keyed_fits { IfOk result (λ totals. totals.keyed < 2 ^ 64) }
+    ensures refused_fits { IfOk result (λ totals. totals.refused < 2 ^ 64) }
 {
-    match last_refusal(entry) {
-        Some((reason, heard)) => write_refused(out, line, number, reason, heard),
-        None => write_keyed(out, line, number, entry),
+    let mut totals = Totals::default();
+    for entry in entries(marks) {
+        let number = totals.keyed + totals.refused + 1;
+        match last_refusal(entry) {
+            Some((reason, heard)) => {
+                write_refused(out, line, number, reason, heard)?;
+                totals.refused += 1;
+            }
+            None => {
+                write_keyed(out, line, number, entry)?;
+                totals.keyed += 1;
+            }
+        }
     }
-}
-
-// Writes the entries of a line, cut from its marks in one pass.
-fn write_tape(out: &mut String, line: u16, marks: &[Mark]) -> Result<(), AllocError>
-    ensures { OnOk result (string_bytes out.new ≡ string_bytes out.old ++ tape_text line marks.now) }
-{
-    let mut rest = marks;
-    let mut number = 1;
-    while let Some(length) = first_entry_len(rest) {
-        let (entry, after) = rest.split_at(length);
-        write_entry(out, line, number, entry)?;
-        rest = after;
-        number += 1;
-    }
-    Ok(())
-}
-
-// How many keyings end among the marks.
-fn keyings(marks: &[Mark]) -> usize
-    ensures { result ≡ count_by ends_keying marks.now }
-{
-    marks
-        .iter()
-        .filter(|mark| matches!(mark, Mark::Tone(Key::St, _)))
-        .count()
-}
-
-// How many refusals stand among the marks.
-fn refusals(marks: &[Mark]) -> usize
-    ensures { result ≡ count_by ends_refusal marks.now }
-{
-    marks
-        .iter()
-        .filter(|mark| matches!(mark, Mark::Refused(_, _)))
-        .count()
+    Ok(totals)
 }
 
 /// The page of the tapes (own format), in ASCII, each printed line ended by one LF: for each line
@@ -142,12 +130,10 @@ pub fn page(alloc: Global, tapes: &Tapes) -> Result<Vec<u8>, AllocError>
     let mut out = String::new(alloc);
     let mut keyed: u128 = 0;
     let mut refused: u128 = 0;
-    for number in 0..LINES {
-        let line = LineNo::new(number).unwrap();
-        let marks = tapes.marks(line);
-        write_tape(&mut out, number, marks)?;
-        keyed += keyings(marks) as u128;
-        refused += refusals(marks) as u128;
+    for (line, marks) in tapes.lines() {
+        let totals = write_tape(&mut out, line.get(), marks)?;
+        keyed += totals.keyed as u128;
+        refused += totals.refused as u128;
     }
     write!(out, "KEYED {keyed} REFUSED {refused}\n")?;
     Ok(out.into_bytes())

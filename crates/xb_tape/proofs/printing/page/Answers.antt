@@ -1,36 +1,45 @@
-use Rattle.std.proofs.Common.{◌≡◌, ◌≤◌, ◌<◌, ◌++◌, ◌∙◌, ℕ, List, ap, length, string_bytes, arith, refl}
-use Rattle.xb_model.specs.Page.{ends_keying, ends_refusal}
-use Rattle.xb_tape.proofs.PageLines.{count-end, line-first, tape-counted, tape-written, tapes-end, totals}
-use Rattle.xb_model.specs.Tapes.{marks_at}
+use Rattle.std.proofs.Common.{◌≡◌, ◌++◌, ◌∷◌, ◌+◌, [], ◌∙◌, ℕ, List, ap, length, string_bytes, arith, refl}
+use Rattle.std.proofs.lemmas.List.{length_push}
+use Rattle.std.proofs.lemmas.List.FromFn.{length-enumerate_from}
+use Rattle.xb_model.specs.Page.{tape_text}
+use Rattle.xb_model.proofs.LineValues.{IsLeft-start, IsLeft-turn, IsLeft-end}
+use Rattle.xb_tape.proofs.PageLines.{AreWritten-start, AreWritten-more, AreWritten-end, totals}
 use Rattle.xb_tape.proofs.printing.page.Goals as goal
 
-pub loop-number-preserved : goal.loop-number-preserved
-loop-number-preserved c =
-    let inv = c.loop-number.invariant in
-    let tapes = c.args.tapes.now in
-    let k = c.loop-number.number in
-    let marks = c.marks-marks.result.now in
-    let within : k < length tapes = omega (arith, c.marks-marks.ensures.lines) in
-    let line = rw c.unwrap-line.ensures at c.new.ensures.value in
-    let is : marks ≡ marks_at tapes k = c.marks-marks.ensures.value ∙ ap (λ (l : ℕ). marks_at tapes l) line in
-    let e = line-first tapes k marks within is in
+pub loop-line-init : goal.loop-line-init
+loop-line-init c =
+    let left = c.into_iter-line-iterator.ensures.into_iter_gives ∙ c.lines-line-items.ensures.left in
     record {
-      lines = λ _. c.marks-marks.ensures.lines;
-      keyed_fits = omega (arith, c.keyings.type_inv, inv.keyed_fits);
-      refused_fits = omega (arith, c.refusals.type_inv, inv.refused_fits);
-      keyed = tape-counted ends_keying _ _ _ marks _ _ e inv.keyed c.keyings.ensures;
-      refused = tape-counted ends_refusal _ _ _ marks _ _ e inv.refused c.refusals.ensures;
-      written = tape-written (string_bytes c.loop-number.out) _ _ k marks _ _ e inv.written c.in_ok-write_tape.ensures;
+      can = tt;
+      finite = tt;
+      left = IsLeft-start c.args.tapes.now _ left;
+      lines = omega (arith, ap length left, length-enumerate_from 0 c.args.tapes.now, c.lines-line-items.ensures.lines);
+      keyed_fits = omega arith;
+      refused_fits = omega arith;
+      written = rw c.new-out.ensures.bytes (AreWritten-start c.args.tapes.now);
+    }
+
+pub loop-line-preserved : goal.loop-line-preserved
+loop-line-preserved c =
+    let inv = c.loop-line.invariant in
+    let n : ℕ = length c.loop-line.yielded in
+    let t = IsLeft-turn c.args.tapes.now n _ _ _ _ inv.left c.in-Some.ensures.steps in
+    let more : length (c.loop-line.yielded ++ (c.in-Some.line, c.in-Some.marks) ∷ []) ≡ n + 1 = length_push _ _ in
+    let line : c.get.result ≡ n = c.get.ensures.value ∙ t.line_is in
+    record {
+      can = tt;
+      finite = tt;
+      left = rw more t.left_is;
+      lines = omega (arith, more, inv.lines, ap length c.in-Some.ensures.steps);
+      keyed_fits = omega (arith, more, c.in_ok-totals.ensures.keyed_fits, inv.keyed_fits);
+      refused_fits = omega (arith, more, c.in_ok-totals.ensures.refused_fits, inv.refused_fits);
+      written = rw more (AreWritten-more c.in-Some.marks.now _ _ _ inv.written t.below (t.value_is []) (c.in_ok-totals.ensures.text ∙ ap (λ l. string_bytes c.loop-line.out ++ tape_text l c.in-Some.marks.now) line) c.in_ok-totals.ensures.keyed c.in_ok-totals.ensures.refused);
     }
 
 pub returns : goal.returns
 returns c =
-    let inv = c.loop-number.invariant in
-    let tapes = c.args.tapes.now in
-    let lines : length tapes ≤ c.loop-number.number = omega (arith, inv.lines) in
-    let w = tapes-end _ _ tapes c.loop-number.number lines inv.written in
-    let k = count-end ends_keying _ _ tapes c.loop-number.number lines inv.keyed in
-    let r = count-end ends_refusal _ _ tapes c.loop-number.number lines inv.refused in
-    let text = totals c.loop-number.keyed c.loop-number.refused in
-    ap (λ v. v.items) c.into_bytes.ensures.value ∙ c.in_ok-write.ensures.bytes
-    ∙ ap (λ (t : List ℕ). string_bytes c.loop-number.out ++ t) text ∙ rw (w, k, r) refl
+    let whole = IsLeft-end c.args.tapes.now _ _ c.loop-line.invariant.left c.in-None.ensures.steps.0 in
+    ap (λ v. v.items) c.into_bytes.ensures.value
+    ∙ c.in_ok-write.ensures.bytes
+    ∙ ap (λ text. string_bytes c.loop-line.out ++ text) (totals c.loop-line.keyed c.loop-line.refused)
+    ∙ AreWritten-end c.loop-line.invariant.written whole

@@ -1,21 +1,37 @@
-use Rattle.std.proofs.Common.{◌≡◌, ◌∷◌, sym, arith}
+use Rattle.std.proofs.Common.{◌≡◌, ◌≤◌, sym, arith, ap, length, ◌∙◌}
 use Rattle.xb_model.specs.Tapes.{entries_of}
-use Rattle.xb_tape.proofs.EntryLaws.{entries_of-first, entries_of-none}
-use Rattle.xb_tape.proofs.PageEntries.{entry-written, tape-end}
+use Rattle.xb_model.proofs.Entries.{length-entries_of}
+use Rattle.xb_tape.proofs.PageEntries.{IsWritten-start, IsWritten-keyed, IsWritten-refused, IsWritten-end}
 use Rattle.xb_tape.proofs.printing.write_tape.Goals as goal
 
-pub loop-length-preserved : goal.loop-length-preserved
-loop-length-preserved c =
-    let rest = c.loop-length.rest.now in
-    let parts = c.split_at.ensures in
-    let cut : entries_of rest ≡ c.split_at.result.0.now ∷ entries_of c.split_at.result.1.now
-    = rw (parts.front, parts.back) (entries_of-first rest c.in-Some.length (sym c.in-Some.ensures.value)) in
+pub loop-entry-init : goal.loop-entry-init
+loop-entry-init c =
+    let same : entries_of c.into_iter-entry-iterator.result.marks.now ≡ entries_of c.args.marks.now
+        = ap (λ each. entries_of each.marks.now) c.into_iter-entry-iterator.ensures.into_iter_gives ∙ ap entries_of c.entries-entry-items.ensures in
     record {
-      few = omega (arith, parts.back_len, c.in-Some.ensures.some);
-      written = entry-written _ _ _ c.args.line c.loop-length.number c.split_at.result.0.now (entries_of rest) (entries_of c.split_at.result.1.now)
-          cut c.loop-length.invariant.written c.in_ok-write_entry.ensures;
+      can = tt;
+      finite = tt;
+      few = omega (arith, ap length same, length-entries_of c.args.marks.now, c.default-totals.ensures.0, c.default-totals.ensures.1);
+      written = rw (same, c.default-totals.ensures.0, c.default-totals.ensures.1) (IsWritten-start _ _ _);
     }
 
-pub returns : goal.returns
-returns c =
-    tape-end _ _ c.args.line c.loop-length.number (entries_of c.loop-length.rest.now) (entries_of-none c.loop-length.rest.now (sym c.in_default.ensures.value)) c.loop-length.invariant.written
+pub loop-entry-preserved-in-Some-last_refusal : goal.loop-entry-preserved-in-Some-last_refusal
+loop-entry-preserved-in-Some-last_refusal c =
+    record {
+      can = tt;
+      finite = tt;
+      few = omega (arith, ap length c.in-Some.ensures.steps, c.loop-entry.invariant.few);
+      written = IsWritten-refused c.loop-entry.invariant.written c.in-Some.ensures.steps _ _ _ (sym c.last_refusal.ensures ∙ c.in-Some-last_refusal.is) c.in_ok-write_refused-in-Some-last_refusal.ensures;
+    }
+
+pub loop-entry-preserved : goal.loop-entry-preserved
+loop-entry-preserved c =
+    record {
+      can = tt;
+      finite = tt;
+      few = omega (arith, ap length c.in-Some.ensures.steps, c.loop-entry.invariant.few);
+      written = IsWritten-keyed c.loop-entry.invariant.written c.in-Some.ensures.steps _ (sym c.last_refusal.ensures ∙ c.in-None-last_refusal.is) c.in_ok-write_keyed-in-None-last_refusal.ensures;
+    }
+
+pub returns-clause-text : goal.returns-clause-text
+returns-clause-text c = IsWritten-end c.loop-entry.invariant.written c.in-None.ensures.steps.0
