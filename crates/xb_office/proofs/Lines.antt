@@ -8,7 +8,7 @@ use Rattle.std.proofs.Math.Seq.{take-add}
 use Rattle.std.proofs.lemmas.List.Quantifiers.{position-Some}
 use Rattle.std.proofs.lemmas.List.Splits.{slice_split_at, slice_split_none, join_with_byte-slice_split}
 use Rattle.std.proofs.lemmas.List.Sums.{fails_before_first}
-use Rattle.xb_office.specs.Deck.{Parts, in_front, deck_parts, ends_line, is_cut, line_feed}
+use Rattle.xb_office.specs.Deck.{Parts, with_earlier, deck_parts, ends_line, is_cut, line_feed}
 
 -- the first line, and the lines after its LF
 first_line : (xs : List ℕ) (n : ℕ) → position ends_line xs ≡ Some n → slice_split ends_line xs ≡ take n xs ∷ slice_split ends_line (drop (n + 1) xs)
@@ -31,14 +31,14 @@ with_end xs n e =
     let lf : get_or xs n 0 ≡ line_feed = grind (arith, common_steps) in
     ap (λ (byte : ℕ). take n xs ++ (byte ∷ [])) (sym lf) ∙ sym (take_more xs n 0 within)
 
--- what stands before what stands in front
-in_front-in_front : (a b : List ℕ) (o : Option Parts) → option_map (in_front a) (option_map (in_front b) o) ≡ option_map (in_front (a ++ b)) o
-in_front-in_front a b None = refl
-in_front-in_front a b (Some p) = rw (append_assoc a b p.table) refl
+-- bytes before bytes before the table
+with_earlier-with_earlier : (a b : List ℕ) (o : Option Parts) → option_map (with_earlier a) (option_map (with_earlier b) o) ≡ option_map (with_earlier (a ++ b)) o
+with_earlier-with_earlier a b None = refl
+with_earlier-with_earlier a b (Some p) = rw (append_assoc a b p.table) refl
 
--- the deck is cut as its rest from a line's start on is, the earlier lines in front
+-- the deck is cut as its rest from a line's start on is, after the earlier lines
 abbrev pub IsRestCut : List ℕ → ℕ → Type 0
-IsRestCut xs start = deck_parts xs ≡ option_map (in_front (take start xs)) (deck_parts (drop start xs))
+IsRestCut xs start = deck_parts xs ≡ option_map (with_earlier (take start xs)) (deck_parts (drop start xs))
 
 -- the length of a line from its ends
 line_length : (start n : ℕ) → start + n - start ≡ n
@@ -65,7 +65,7 @@ cut-here xs start n whole e t =
     let is = rw (line_length start n) at (sym t) in
     let here : deck_parts (drop start xs) ≡ Some (record { table = []; rows = drop (n + 1) (drop start xs) })
     = rw (first_line (drop start xs) n at, is) (rw (join_with_byte-slice_split line_feed (drop (n + 1) (drop start xs))) refl) in
-    sym (whole ∙ ap (option_map (in_front (take start xs))) here ∙ rw (append-nil (take start xs), drop-line xs start n, take_rest xs (start + n + 1)) refl)
+    sym (whole ∙ ap (option_map (with_earlier (take start xs))) here ∙ rw (append-nil (take start xs), drop-line xs start n, take_rest xs (start + n + 1)) refl)
 
 -- a line is not the cut
 pub no-cut_here : (xs : List ℕ) (start n : ℕ) → IsRestCut xs start
@@ -75,10 +75,10 @@ no-cut_here xs start n whole e t =
     let at = rw (take_rest xs start) at (sym e) in
     let is = rw (line_length start n) at (sym t) in
     let (within, lf, before) = position-Some ends_line (drop start xs) n 0 at in
-    let here : deck_parts (drop start xs) ≡ option_map (in_front (take (n + 1) (drop start xs))) (deck_parts (drop (n + 1) (drop start xs)))
+    let here : deck_parts (drop start xs) ≡ option_map (with_earlier (take (n + 1) (drop start xs))) (deck_parts (drop (n + 1) (drop start xs)))
     = rw (first_line (drop start xs) n at, is, with_end (drop start xs) n at) refl in (
       omega (arith, length-drop start xs),
-      whole ∙ ap (option_map (in_front (take start xs))) here ∙ in_front-in_front (take start xs) (take (n + 1) (drop start xs)) _ ∙ rw (take-line xs start n, drop-line xs start n) refl,
+      whole ∙ ap (option_map (with_earlier (take start xs))) here ∙ with_earlier-with_earlier (take start xs) (take (n + 1) (drop start xs)) _ ∙ rw (take-line xs start n, drop-line xs start n) refl,
     )
 
 -- no line is the cut
@@ -89,4 +89,4 @@ no-cut xs start whole e t =
     let at = rw (take_rest xs start) at (sym e) in
     let is = rw (take_rest xs start) at (sym t) in
     let here : deck_parts (drop start xs) ≡ None = rw (one_line (drop start xs) at, is) refl in
-    sym (whole ∙ ap (option_map (in_front (take start xs))) here)
+    sym (whole ∙ ap (option_map (with_earlier (take start xs))) here)

@@ -8,7 +8,7 @@ use Rattle.xb_office.specs.declared.deck.TheConstants.{MOST_DECK_BYTES}
 use Rattle.xb_office.specs.Says.{says_rows}
 use Rattle.xb_rows.specs.WrittenRows.{text_of_rows}
 use Rattle.xb_rows.proofs.WrittenRecords.{written_rows_are_read}
-use Rattle.xb_office.specs.Deck.{deck_parts, ends_line, in_front, line_feed}
+use Rattle.xb_office.specs.Deck.{deck_parts, ends_line, with_earlier, line_feed}
 use Rattle.xb_office.specs.MadeDecks.{MadeDecksAreCut, MadeDecksSayTheirPage, deck_of, with_ends}
 
 -- a deck that was made is cut into its parts
@@ -18,7 +18,7 @@ made_decks_are_cut (line ∷ lines) rows h =
     let rest = with_ends lines ++ codes "---\n" ++ rows in
     let whole : with_ends (line ∷ lines) ++ codes "---\n" ++ rows ≡ line ++ line_feed ∷ rest = simp append_assoc refl in
     let split = slice_split_at ends_line line line_feed rest h.1 refl in
-    ap deck_parts whole ∙ rw (split, h.0) (ap (option_map (in_front (line ++ codes "\n"))) (made_decks_are_cut lines rows h.2))
+    ap deck_parts whole ∙ rw (split, h.0) (ap (option_map (with_earlier (line ++ codes "\n"))) (made_decks_are_cut lines rows h.2))
 
 -- such a deck says the page of its rows
 pub made_decks_say_their_page : MadeDecksSayTheirPage

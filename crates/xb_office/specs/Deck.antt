@@ -23,15 +23,15 @@ abbrev pub parts_of_deck : Deck → Parts
 parts_of_deck deck = record { table = deck.table.now; rows = deck.rows.now }
 
 -- bytes before the route table
-abbrev pub in_front : List ℕ → Parts → Parts
-in_front bytes parts = record { table = bytes ++ parts.table; rows = parts.rows }
+abbrev pub with_earlier : List ℕ → Parts → Parts
+with_earlier bytes parts = record { table = bytes ++ parts.table; rows = parts.rows }
 
 -- lines, cut at the first that is the cut
 abbrev pub parts_of_lines : List (List ℕ) → Option Parts
 parts_of_lines [] = None
 parts_of_lines (line ∷ lines) =
     if is_cut line then Some (record { table = []; rows = join_with_byte line_feed lines })
-    else option_map (λ parts. in_front (line ++ codes "\n") parts) (parts_of_lines lines)
+    else option_map (λ parts. with_earlier (line ++ codes "\n") parts) (parts_of_lines lines)
 
 -- the parts of a deck, whose lines are what stands between its LFs
 abbrev pub deck_parts : List ℕ → Option Parts

@@ -1,6 +1,6 @@
 -- What a deck says: its page, or its first fault (own format).
-use Rattle.std.specs.Prelude.{ℕ, ◌≡◌, ◌⊎◌, List, length, nat_lt, if◌then◌else◌, Option, Some, None, Result, Ok, Err}
-use Rattle.std.specs.Io.KnownBytes.{Appends}
+use Rattle.std.specs.Prelude.{ℕ, ◌≡◌, ◌+◌, ◌⊎◌, List, length, nat_lt, if◌then◌else◌, Option, Some, None, IfSome, Result, Ok, Err}
+use Rattle.std.specs.Io.KnownBytes.{Appends, IsAtEnd, Keeps}
 use Rattle.xb_model.specs.declared.fault.RowFault.{RowFault}
 use Rattle.xb_model.specs.Tapes.{tapes_of}
 use Rattle.xb_model.specs.Page.{page_text}
@@ -12,8 +12,9 @@ use Rattle.xb_office.specs.declared.deck.TheConstants.{MOST_DECK_BYTES}
 use Rattle.xb_office.specs.declared.fault.OfficeFault.{OfficeFault}
 use Rattle.xb_office.specs.declared.fault.OfficeFault.TheVariants as fault
 use Rattle.xb_office.specs.Deck.{Parts, deck_parts}
+use Rattle.xb_rows.specs.Reading.{TakesUpTo}
 use Rattle.xb_rows.specs.RowTexts.{fault_of_text, rows_of_text}
-use Rattle.xb_office.specs.Writing.{AppendsFront}
+use Rattle.xb_office.specs.Writing.{AppendsBeginning}
 
 -- the page of a table and of rows
 unfoldable pub page_of : Table → List LoopRow → List ℕ
@@ -41,14 +42,30 @@ says deck = if nat_lt MOST_DECK_BYTES (length deck) then Err fault.DeckTooLong e
 abbrev pub IsFaultOfDeck : Result (List ℕ) OfficeFault → OfficeFault → Type 0
 IsFaultOfDeck said f = (f ≡ fault.NoMemory) ⊎ (said ≡ Err f)
 
--- what an office may answer: beside that, a failed read or a failed write
-abbrev pub IsOfficeFault : Result (List ℕ) OfficeFault → OfficeFault → Type 0
-IsOfficeFault said f = (f ≡ fault.Read) ⊎ (f ≡ fault.Write) ⊎ IsFaultOfDeck said f
-
--- a writer got the page, and nothing else
+-- the writer got the page, and nothing else
 abbrev pub GetsPage : Result (List ℕ) OfficeFault → Option (List ℕ) → Option (List ℕ) → Type 0
 GetsPage said old new = (page : List ℕ) × (said ≡ Ok page) × Appends old new page
 
--- a writer got the beginning of the page
-abbrev pub GetsFront : Result (List ℕ) OfficeFault → Option (List ℕ) → Option (List ℕ) → Type 0
-GetsFront said old new = (page : List ℕ) × (said ≡ Ok page) × AppendsFront old new page
+-- the writer got the beginning of the page
+abbrev pub GetsBeginning : Result (List ℕ) OfficeFault → Option (List ℕ) → Option (List ℕ) → Type 0
+GetsBeginning said old new = (page : List ℕ) × (said ≡ Ok page) × AppendsBeginning old new page
+
+-- what is returned for a deck, and what the writer got of it: the page on Ok, its beginning where a
+-- write failed, and nothing on any other fault; a fault of the deck is what the deck says
+abbrev pub Delivers : Option (List ℕ) → Result (Unit {0}) OfficeFault → Option (List ℕ) → Option (List ℕ) → Type 0
+Delivers deck (Ok u) old new = IfSome deck (λ bytes. GetsPage (says bytes) old new)
+Delivers deck (Err fault.Write) old new = IfSome deck (λ bytes. GetsBeginning (says bytes) old new)
+Delivers deck (Err fault.Read) old new = Keeps old new
+Delivers deck (Err fault.NoMemory) old new = Keeps old new
+Delivers deck (Err f) old new = Keeps old new × IfSome deck (λ bytes. says bytes ≡ Err f)
+
+-- the reader was read to its end: not where reading failed, or the deck was too long, or memory ran out
+abbrev pub IsReadToEnd : Result (Unit {0}) OfficeFault → Option (List ℕ) → Type 0
+IsReadToEnd (Err fault.Read) left = Unit {0}
+IsReadToEnd (Err fault.DeckTooLong) left = Unit {0}
+IsReadToEnd (Err fault.NoMemory) left = Unit {0}
+IsReadToEnd result left = IsAtEnd left
+
+-- where the reader stands: at its end, as above, and never past the first byte that is too many
+abbrev pub Reads : Result (Unit {0}) OfficeFault → Option (List ℕ) → Option (List ℕ) → Type 0
+Reads result old new = IsReadToEnd result new × TakesUpTo (MOST_DECK_BYTES + 1) old new

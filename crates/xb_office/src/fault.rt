@@ -2,7 +2,6 @@
 ghost use Rattle.std.specs.Prelude.{◌≡◌};
 
 use crate::writing::WriteFault;
-use std::alloc::AllocError;
 use thiserror::Error;
 use xb_model::RowFault;
 use xb_routes::RouteFault;
@@ -11,7 +10,7 @@ use xb_rows::ReadFault;
 /// Why a deck gives no page.
 ///
 /// Of the faults of a deck, the first in the order `DeckTooLong`, `NoCut`, `Routes`, `Rows` is
-/// answered. Running out of memory is always `NoMemory`, also one of a `RouteFault` or a `RowFault`.
+/// returned. Running out of memory is always `NoMemory`, also one of a `RouteFault` or a `RowFault`.
 #[derive(Clone, Copy, Debug, PartialEq, Eq, Error)]
 pub enum OfficeFault {
     /// A read of the deck failed, an interrupted one too.
@@ -74,16 +73,6 @@ impl From<RowFault> for OfficeFault {
             RowFault::NoMemory => OfficeFault::NoMemory,
             fault => OfficeFault::Rows(fault),
         }
-    }
-}
-
-impl From<AllocError> for OfficeFault {
-    ghost use Rattle.xb_office.specs.declared.fault.OfficeFault.TheVariants.{NoMemory};
-
-    ghost from_gives = { λ _ e. e ≡ NoMemory };
-
-    fn from(_fault: AllocError) -> OfficeFault {
-        OfficeFault::NoMemory
     }
 }
 

@@ -1,6 +1,13 @@
 //! What the definitions give: each law is the contract of a function that does nothing.
+ghost use Rattle.std.specs.Prelude.{◌≡◌};
+ghost use Rattle.xb_office.specs.declared.deck.TheConstants.{MOST_DECK_BYTES};
 ghost use Rattle.xb_office.specs.MadeDecks.{MadeDecksAreCut, MadeDecksSayTheirPage};
 ghost use Rattle.xb_office.specs.WorkedDecks.{CutsOfDecks};
+
+/// How many bytes a deck may have.
+pub fn constants()
+    ensures { MOST_DECK_BYTES ≡ 16777216 }
+{}
 
 /// Where some decks are cut.
 pub fn cuts_of_decks()

@@ -1,8 +1,6 @@
 // From a deck on a reader to its page on a writer.
-ghost use Rattle.std.specs.Prelude.{◌≡◌, ◌≢◌, ◌≤◌, ◌+◌, IfErr, IfOk, IfSome, OnOk, length};
-ghost use Rattle.std.specs.Io.KnownBytes.{IsAtEnd, Keeps};
-ghost use Rattle.xb_office.specs.Says.{GetsFront, GetsPage, IsFaultOfDeck, IsOfficeFault, page_of, says};
-ghost use Rattle.xb_rows.specs.Reading.{TakesUpTo};
+ghost use Rattle.std.specs.Prelude.{◌≡◌, ◌≤◌, IfErr, IfOk, length};
+ghost use Rattle.xb_office.specs.Says.{Delivers, IsFaultOfDeck, Reads, page_of, says};
 
 use crate::deck::{Deck, MOST_DECK_BYTES};
 use crate::fault::OfficeFault;
@@ -33,14 +31,14 @@ fn page_of_deck(alloc: Global, bytes: &[u8]) -> Result<Vec<u8>, OfficeFault>
     let deck = Deck::cut(bytes).ok_or(OfficeFault::NoCut)?;
     let table = RouteTable::read(alloc, deck.table)?;
     let rows = read_text(alloc, deck.rows)?;
-    Ok(page_of_rows(alloc, &rows, &table)?)
+    page_of_rows(alloc, &rows, &table).map_err(|_| OfficeFault::NoMemory)
 }
 
 /// Reads a deck, and writes its page: the tapes of the lines, as the deck's rows and its table make
 /// them. The table is read before the rows, and nothing is written before both are.
 ///
-/// On an `Err` nothing was written, but on `Write`, where the beginning of the page was. On any answer but
-/// `Read`, `DeckTooLong` and `NoMemory` the reader stands at its end.
+/// On an `Err` nothing was written, except on `Write`, where the beginning of the page was. The reader
+/// stands at its end, except on `Read`, `DeckTooLong` and `NoMemory`.
 ///
 /// What the contract says of bytes it says of readers whose bytes and writers whose contents are
 /// known to contracts (byte slices, lists), which those of a process are not.
@@ -49,13 +47,8 @@ pub fn operate<R: Read, W: Write>(
     deck: &mut R,
     out: &mut W,
 ) -> Result<(), OfficeFault>
-    ensures page { IfSome (R.remaining deck.old) (λ bytes. OnOk result (GetsPage (says bytes) (W.contents out.old) (W.contents out.new))) }
-    ensures fault { IfSome (R.remaining deck.old) (λ bytes. IfErr result (λ f. IsOfficeFault (says bytes) f)) }
-    ensures untouched { IfErr result (λ f. f ≢ OfficeFault.Write → Keeps (W.contents out.old) (W.contents out.new)) }
-    ensures front { IfSome (R.remaining deck.old) (λ bytes. IfErr result (λ f. f ≡ OfficeFault.Write → GetsFront (says bytes) (W.contents out.old) (W.contents out.new))) }
-    ensures end { OnOk result (IsAtEnd (R.remaining deck.new)) }
-    ensures read_first { IfErr result (λ f. f ≢ OfficeFault.Read → f ≢ OfficeFault.DeckTooLong → f ≢ OfficeFault.NoMemory → IsAtEnd (R.remaining deck.new)) }
-    ensures taken { TakesUpTo (MOST_DECK_BYTES + 1) (R.remaining deck.old) (R.remaining deck.new) }
+    ensures delivers { Delivers (R.remaining deck.old) result (W.contents out.old) (W.contents out.new) }
+    ensures reads { Reads result (R.remaining deck.old) (R.remaining deck.new) }
 {
     let bytes = read_whole(alloc, deck, MOST_DECK_BYTES)?;
     let page = page_of_deck(alloc, &bytes)?;

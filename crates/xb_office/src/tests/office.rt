@@ -97,7 +97,7 @@ fn fails_where_the_deck_fails(rt: HostRuntime) {
 }
 
 #[test]
-fn writes_a_front_where_the_page_fails(rt: HostRuntime) {
+fn writes_the_beginning_where_the_page_fails(rt: HostRuntime) {
     for room in 0..=PAGE.len() {
         let mut deck = OPERATOR;
         let mut out = Short {
