@@ -14,168 +14,244 @@ use Rattle.xb_model.specs.declared.dialled.Dialled.{Dialled}
 use Rattle.xb_model.specs.declared.dialled.Dialled.TheVariants.{Number, Refused}
 use Rattle.xb_model.specs.Records.{Run, Attempt, Train, is_release, into_first, pieces_of, has_runs, attempts_of, trains_of, is_timed, runs_of}
 use Rattle.xb_model.specs.Signals.{breaks_in, is_bad_train, digit_signal, when, attempt_signals, signals_of}
-use Rattle.xb_model.specs.Numbers.{digit_of_train, before_mutilated, good_digits, is_complete, fronts, shortest_complete, without_number, or_refused, outcome_of, outcomes_of}
+use Rattle.xb_model.specs.Numbers.{digit_of_train, train_digits, before_mutilated, good_digits, is_complete, fronts, shortest_complete, without_number, or_refused, outcome_of, outcomes_of}
+use Rattle.xb_model.proofs.Spelled.{spelled}
 use Rattle.xb_stage.specs.OnLines.{on_line}
 use Rattle.xb_register.specs.declared.state.Phase.TheVariants.{OnHook, Listening, Done}
 use Rattle.xb_register.specs.Laws.{GivesOutcomes}
-use Rattle.xb_register.specs.Registering.{store, phase_after}
-use Rattle.xb_register.proofs.Said.{said, given-said}
-use Rattle.xb_model.proofs.Spelled.{spelled}
-use Rattle.xb_register.proofs.Pending.{Pending, one, reaches-pending}
+use Rattle.xb_register.specs.Registering.{store, phase_after, machine}
+use Rattle.xb_register.proofs.Outcomes.{outcomes_from, outcomes_given-machine}
+use Rattle.xb_register.proofs.Pending.{IsPending, one, reaches-pending}
 
--- the number that the digits complete, where some are there already
-abbrev completed : Plan → List ℕ → List ℕ → Option (List ℕ)
-completed plan digits [] = None
-completed plan digits (d ∷ more) =
-    cond (is_complete plan (digits ++ one d)) (Some (digits ++ one d)) (completed plan (digits ++ one d) more)
+-- the number that more digits complete, after digits that are there already
+abbrev completed_number : Plan → List ℕ → List ℕ → Option (List ℕ)
+completed_number plan digits [] = None
+completed_number plan digits (d ∷ more) =
+    cond (is_complete plan (digits ++ one d)) (Some (digits ++ one d))
+    (completed_number plan (digits ++ one d) more)
 
--- what the register gives on the digits of trains, and then on the signals after them
-abbrev listened : Plan → List ℕ → List (Option ℕ) → List Signal → List Dialled
-listened plan digits [] after = said plan (Listening digits) after
-listened plan digits (None ∷ trains) after = Refused Mutilated (length digits) ∷ said plan Done after
-listened plan digits (Some d ∷ trains) after =
-    cond (is_complete plan (digits ++ one d)) (Number (digits ++ one d) ∷ said plan Done after) (listened plan (digits ++ one d) trains after)
+-- what the digits of trains give, and then the signals after them
+abbrev outcomes_of_digits : Plan → List ℕ → List (Option ℕ) → List Signal → List Dialled
+outcomes_of_digits plan digits [] after = outcomes_from plan (Listening digits) after
+outcomes_of_digits plan digits (None ∷ trains) after =
+    Refused Mutilated (length digits) ∷ outcomes_from plan Done after
+outcomes_of_digits plan digits (Some d ∷ trains) after =
+    cond (is_complete plan (digits ++ one d))
+    (Number (digits ++ one d) ∷ outcomes_from plan Done after)
+    (outcomes_of_digits plan (digits ++ one d) trains after)
 
--- after an outcome the digits of its attempt say nothing
-done_silent : (plan : Plan) (limits : Limits) (ts : List Train) (after : List Signal) → said plan Done (map (digit_signal limits) ts ++ after) ≡ said plan Done after
-done_silent plan limits [] after = refl
-done_silent plan limits (t ∷ ts) after = done_silent plan limits ts after
+module _ (plan : Plan) (limits : Limits) where
+  -- the signals of trains, and those after them
+  abbrev train_signals : List Train → List Signal → List Signal
+  train_signals trains after = map (digit_signal limits) trains ++ after
 
--- one digit more, where the digits after it are known of
-digit_step : (plan : Plan) (limits : Limits) (digits : List ℕ) (ts : List Train) (after : List Signal) (o : Option ℕ) → Pending plan digits → ((digits : List ℕ) → Pending plan digits → said plan (Listening digits) (map (digit_signal limits) ts ++ after) ≡ listened plan digits (map (digit_of_train limits) ts) after) → option_to_list (store plan digits o).outcome ++ said plan (store plan digits o).phase (map (digit_signal limits) ts ++ after) ≡ listened plan digits (o ∷ map (digit_of_train limits) ts) after
-digit_step plan limits digits ts after None p ih = rw (done_silent plan limits ts after)
-digit_step plan limits digits ts after (Some d) p ih = complete (is_complete plan (digits ++ one d)) refl
+  -- after the outcome of their attempt trains give nothing
+  outcomes_from-done : (trains : List Train) (after : List Signal)
+      → outcomes_from plan Done (train_signals trains after) ≡ outcomes_from plan Done after
+  outcomes_from-done [] after = refl
+  outcomes_from-done (train ∷ trains) after = outcomes_from-done trains after
+
+  -- one digit more, or a mutilated one, where it is known what the trains after it give
+  store-digit : (digits : List ℕ) (trains : List Train) (after : List Signal) (o : Option ℕ)
+      → IsPending plan digits
+      → ((digits : List ℕ) → IsPending plan digits
+      → outcomes_from plan (Listening digits) (train_signals trains after)
+      ≡ outcomes_of_digits plan digits (map (digit_of_train limits) trains) after)
+      → option_to_list (store plan digits o).outcome
+      ++ outcomes_from plan (store plan digits o).phase (train_signals trains after)
+      ≡ outcomes_of_digits plan digits (o ∷ map (digit_of_train limits) trains) after
+  store-digit digits trains after None p ih = rw (outcomes_from-done trains after)
+  store-digit digits trains after (Some d) p ih = complete (is_complete plan (digits ++ one d)) refl
+    where
+      complete : (b : Bool) → is_complete plan (digits ++ one d) ≡ b
+          → option_to_list (store plan digits (Some d)).outcome
+          ++ outcomes_from plan (store plan digits (Some d)).phase (train_signals trains after)
+          ≡ outcomes_of_digits plan digits (Some d ∷ map (digit_of_train limits) trains) after
+      complete true e = rw (reaches-pending plan digits d p, e, outcomes_from-done trains after)
+      complete false e =
+          rw (reaches-pending plan digits d p, e) (ih (digits ++ one d) (reaches-pending plan digits d p ∙ e))
+
+  -- trains give what their digits give
+  outcomes_from-trains : (digits : List ℕ) (trains : List Train) (after : List Signal) → IsPending plan digits
+      → outcomes_from plan (Listening digits) (train_signals trains after)
+      ≡ outcomes_of_digits plan digits (map (digit_of_train limits) trains) after
+  outcomes_from-trains digits [] after p = refl
+  outcomes_from-trains digits (train ∷ trains) after p =
+      rw (phase_after, spelled (breaks_in train) (is_bad_train limits train))
+      (store-digit digits trains after (digit_of_train limits train) p
+      (λ more q. outcomes_from-trains more trains after q))
+
+-- signals that end an attempt, and what comes of those after it: an attempt with no outcome yet is
+-- refused, and after its outcome the end gives nothing
+record EndsAttempt (plan : Plan) (signals : List Signal) (timed : Bool) (rest : List Dialled) : Type 0 where
+  unfinished : (digits : List ℕ)
+      → outcomes_from plan (Listening digits) signals ≡ without_number false timed (length digits) ∷ rest
+  finished : outcomes_from plan Done signals ≡ rest
+
+-- the number that digits complete, after digits that are there already, or why there is none
+abbrev number_or_refusal : Plan → List ℕ → List (Option ℕ) → Bool → Dialled
+number_or_refusal plan digits os timed =
+    or_refused (completed_number plan digits (before_mutilated os))
+    (without_number (list_any is_none os) timed (length (digits ++ before_mutilated os)))
+
+-- digits, and the end of their attempt, give the number that they complete, or why there is none
+outcomes_of_digits-end : (plan : Plan) (digits : List ℕ) (os : List (Option ℕ))
+    → (after : List Signal) (timed : Bool) (rest : List Dialled) → EndsAttempt plan after timed rest
+    → outcomes_of_digits plan digits os after ≡ number_or_refusal plan digits os timed ∷ rest
+outcomes_of_digits-end plan digits [] after timed rest ends = rw append-nil (ends.unfinished digits)
+outcomes_of_digits-end plan digits (None ∷ os) after timed rest ends = rw (append-nil, ends.finished)
+outcomes_of_digits-end plan digits (Some d ∷ os) after timed rest ends =
+    at (is_complete plan more) (outcomes_of_digits-end plan more os after timed rest ends)
   where
-    complete : (b : Bool) → is_complete plan (digits ++ one d) ≡ b → option_to_list (store plan digits (Some d)).outcome ++ said plan (store plan digits (Some d)).phase (map (digit_signal limits) ts ++ after) ≡ listened plan digits (Some d ∷ map (digit_of_train limits) ts) after
-    complete true e = rw (reaches-pending plan digits d p, e, done_silent plan limits ts after)
-    complete false e = rw (reaches-pending plan digits d p, e) (ih (digits ++ one d) (reaches-pending plan digits d p ∙ e))
+    more : List ℕ
+    more = digits ++ one d
 
--- what the register gives on the digits of trains, which it knows by their signals
-listens : (plan : Plan) (limits : Limits) (digits : List ℕ) (ts : List Train) (after : List Signal) → Pending plan digits → said plan (Listening digits) (map (digit_signal limits) ts ++ after) ≡ listened plan digits (map (digit_of_train limits) ts) after
-listens plan limits digits [] after p = refl
-listens plan limits digits (t ∷ ts) after p =
-    rw (phase_after, spelled (breaks_in t) (is_bad_train limits t)) (digit_step plan limits digits ts after (digit_of_train limits t) p (λ more q. listens plan limits more ts after q))
+    at : (b : Bool) → outcomes_of_digits plan more os after ≡ number_or_refusal plan more os timed ∷ rest
+        → cond b (Number more ∷ outcomes_from plan Done after) (outcomes_of_digits plan more os after)
+        ≡ or_refused (cond b (Some more) (completed_number plan more (before_mutilated os)))
+        (without_number (list_any is_none os) timed (length (digits ++ d ∷ before_mutilated os))) ∷ rest
+    at true h = rw ends.finished
+    at false h = rw append_assoc at h
 
--- what comes of the digits, where the signals after them give a refusal and then the same as after a number
-comes_of : (plan : Plan) (digits : List ℕ) (os : List (Option ℕ)) (after : List Signal) (late : Bool) (rest : List Dialled) → ((digits : List ℕ) → said plan (Listening digits) after ≡ without_number false late (length digits) ∷ rest) → said plan Done after ≡ rest → listened plan digits os after ≡ or_refused (completed plan digits (before_mutilated os)) (without_number (list_any is_none os) late (length (digits ++ before_mutilated os))) ∷ rest
-comes_of plan digits [] after late rest listening done = rw append-nil (listening digits)
-comes_of plan digits (None ∷ os) after late rest listening done = rw (append-nil, done)
-comes_of plan digits (Some d ∷ os) after late rest listening done =
-    go (is_complete plan (digits ++ one d)) (comes_of plan (digits ++ one d) os after late rest listening done)
+-- the lists that begin with some digits and one more
+map-fronts : (digits : List ℕ) (d : ℕ) (more : List ℕ)
+    → map (λ front. digits ++ d ∷ front) (fronts more)
+    ≡ map (λ front. (digits ++ one d) ++ front) (fronts more)
+map-fronts digits d more = simp append_assoc
+
+-- of the lists that begin with some digits, the first complete one is what more digits complete
+find-fronts : (plan : Plan) (digits more : List ℕ)
+    → find (is_complete plan) (map (λ front. digits ++ front) (fronts more))
+    ≡ cond (is_complete plan digits) (Some digits) (completed_number plan digits more)
+find-fronts plan digits [] = rw append-nil
+find-fronts plan digits (d ∷ more) =
+    let joined = map-map (λ front. digits ++ front) (λ front. d ∷ front) (fronts more) in
+    rw (append-nil digits, joined, map-fronts digits d more, find-fronts plan (digits ++ one d) more)
+
+-- the shortest complete number is what the digits complete
+shortest_complete-completed : (plan : Plan) (digits : List ℕ)
+    → shortest_complete plan digits ≡ completed_number plan [] digits
+shortest_complete-completed plan digits = rw (map-id (fronts digits)) at (find-fronts plan [] digits)
+
+-- each attempt but the last was released
+abbrev pub AllButLastReleased : List Attempt → Type 0
+AllButLastReleased [] = Unit {0}
+AllButLastReleased (piece ∷ pieces) = ((piece.released ≡ true) ⊎ (pieces ≡ [])) × AllButLastReleased pieces
+
+-- so it is with a run more in the first piece
+released-into_first : (run : Run) (pieces : List Attempt) → AllButLastReleased pieces
+    → AllButLastReleased (into_first run pieces)
+released-into_first run [] r = (inr refl, tt)
+released-into_first run (piece ∷ pieces) r = r
+
+-- so it is of the pieces of runs that are cut at releases
+released-pieces_of : (limits : Limits) (runs : List Run) → AllButLastReleased (pieces_of limits runs)
+released-pieces_of limits [] = tt
+released-pieces_of limits (run ∷ runs) = at (is_release limits run) (released-pieces_of limits runs)
   where
-    go : (b : Bool) → listened plan (digits ++ one d) os after ≡ or_refused (completed plan (digits ++ one d) (before_mutilated os)) (without_number (list_any is_none os) late (length ((digits ++ one d) ++ before_mutilated os))) ∷ rest → cond b (Number (digits ++ one d) ∷ said plan Done after) (listened plan (digits ++ one d) os after) ≡ or_refused (cond b (Some (digits ++ one d)) (completed plan (digits ++ one d) (before_mutilated os))) (without_number (list_any is_none os) late (length (digits ++ d ∷ before_mutilated os))) ∷ rest
-    go true h = rw done
-    go false h = rw append_assoc at h
+    at : (b : Bool) → AllButLastReleased (pieces_of limits runs)
+        → AllButLastReleased
+        (cond b (record { runs = []; released = true } ∷ pieces_of limits runs) (into_first run (pieces_of limits runs)))
+    at true r = (inl refl, r)
+    at false r = released-into_first run (pieces_of limits runs) r
 
--- fronts after some digits and one more
-front_after : (digits : List ℕ) (d : ℕ) (more : List ℕ) → map (λ front. digits ++ d ∷ front) (fronts more) ≡ map (λ front. (digits ++ one d) ++ front) (fronts more)
-front_after digits d more = simp append_assoc
-
--- among the fronts of more digits, after some, the first complete one is what the digits complete
-first_front : (plan : Plan) (digits more : List ℕ) → find (is_complete plan) (map (λ front. digits ++ front) (fronts more)) ≡ cond (is_complete plan digits) (Some digits) (completed plan digits more)
-first_front plan digits [] = rw append-nil
-first_front plan digits (d ∷ more) =
-    rw (append-nil digits, map-map (λ front. digits ++ front) (λ front. d ∷ front) (fronts more), front_after digits d more, first_front plan (digits ++ one d) more)
-
--- the shortest complete front is what the digits complete
-shortest : (plan : Plan) (digits : List ℕ) → shortest_complete plan digits ≡ completed plan [] digits
-shortest plan digits = rw (map-id (fronts digits)) at (first_front plan [] digits)
-
--- the attempts, each but the last with a release after it
-
--- each piece but the last was released
-abbrev Chained : List Attempt → Type 0
-Chained [] = Unit {0}
-Chained (piece ∷ pieces) = ((piece.released ≡ true) ⊎ (pieces ≡ [])) × Chained pieces
-
--- a run before the first piece keeps this
-chained_first : (run : Run) (P : List Attempt) → Chained P → Chained (into_first run P)
-chained_first run [] c = (inr refl, tt)
-chained_first run (p ∷ P) c = c
-
--- the pieces of runs that are cut at releases are so
-chained_pieces : (limits : Limits) (R : List Run) → Chained (pieces_of limits R)
-chained_pieces limits [] = tt
-chained_pieces limits (run ∷ R) = at (is_release limits run) (chained_pieces limits R)
+-- and of those of the pieces that pass a test
+released-filter : (test : Attempt → Bool) (pieces : List Attempt) → AllButLastReleased pieces
+    → AllButLastReleased (filter test pieces)
+released-filter test [] r = tt
+released-filter test (piece ∷ pieces) r = at (test piece) (released-filter test pieces r.1)
   where
-    at : (b : Bool) → Chained (pieces_of limits R) → Chained (cond b (record { runs = []; released = true } ∷ pieces_of limits R) (into_first run (pieces_of limits R)))
-    at true c = (inl refl, c)
-    at false c = chained_first run (pieces_of limits R) c
-
--- and so are those of them that pass a test
-chained_filter : (test : Attempt → Bool) (P : List Attempt) → Chained P → Chained (filter test P)
-chained_filter test [] c = tt
-chained_filter test (p ∷ P) c = at (test p) (chained_filter test P c.1)
-  where
-    last : (p.released ≡ true) ⊎ (P ≡ []) → (p.released ≡ true) ⊎ (filter test P ≡ [])
+    last : (piece.released ≡ true) ⊎ (pieces ≡ []) → (piece.released ≡ true) ⊎ (filter test pieces ≡ [])
     last (inl e) = inl e
-    last (inr e) = inr (ap (λ Q. filter test Q) e)
+    last (inr e) = inr (ap (λ ps. filter test ps) e)
 
-    at : (b : Bool) → Chained (filter test P) → Chained (cond b (p ∷ filter test P) (filter test P))
-    at true d = (last c.0, d)
-    at false d = d
+    at : (b : Bool) → AllButLastReleased (filter test pieces)
+        → AllButLastReleased (cond b (piece ∷ filter test pieces) (filter test pieces))
+    at true s = (last r.0, s)
+    at false s = s
+
+-- the signals that end an attempt, after its digits
+abbrev end_signals : Bool → Bool → List Signal
+end_signals timed released = when timed TimeOut ++ when released Release
+
+-- the signals that end this attempt, and those after it
+abbrev from_end : Limits → Attempt → List Signal → List Signal
+from_end limits attempt after = end_signals (is_timed limits attempt.runs) attempt.released ++ after
+
+-- an attempt gives its outcome
+outcomes_from-attempt : (plan : Plan) (limits : Limits) (attempt : Attempt)
+    → (after : List Signal) (rest : List Dialled)
+    → EndsAttempt plan (from_end limits attempt after) (is_timed limits attempt.runs) rest
+    → outcomes_from plan OnHook (attempt_signals limits attempt ++ after)
+    ≡ outcome_of plan limits attempt.runs ∷ rest
+outcomes_from-attempt plan limits attempt after rest ends =
+    let timed : Bool = is_timed limits attempt.runs in
+    let trains : List Train = trains_of limits attempt.runs in
+    let dialled : List Signal = map (digit_signal limits) trains in
+    let end : List Signal = end_signals timed attempt.released in
+    let tail : List Signal = from_end limits attempt after in
+    let parts : (dialled ++ end) ++ after ≡ dialled ++ tail = append_assoc dialled end after in
+    let heard = outcomes_from-trains plan limits [] trains tail refl in
+    let digits : List (Option ℕ) = train_digits limits attempt.runs in
+    let given = outcomes_of_digits-end plan [] digits tail timed rest ends in
+    rw (parts, heard, given, shortest_complete-completed plan (good_digits limits attempt.runs))
+
+-- a release ends an attempt
+ends-release : (plan : Plan) (timed : Bool) (after : List Signal)
+    → EndsAttempt plan (end_signals timed true ++ after) timed (outcomes_from plan OnHook after)
+ends-release plan true after = record { unfinished = λ digits. refl; finished = refl }
+ends-release plan false after = record { unfinished = λ digits. refl; finished = refl }
+
+-- and so does the close, whether or not a release came before it
+ends-close : (plan : Plan) (timed released : Bool)
+    → EndsAttempt plan (end_signals timed released ++ Close ∷ []) timed []
+ends-close plan true true = record { unfinished = λ digits. refl; finished = refl }
+ends-close plan true false = record { unfinished = λ digits. refl; finished = refl }
+ends-close plan false true = record { unfinished = λ digits. refl; finished = refl }
+ends-close plan false false = record { unfinished = λ digits. refl; finished = refl }
 
 -- the signals of attempts, and the close
 abbrev signals_and_close : Limits → List Attempt → List Signal
 signals_and_close limits attempts = flat_map (attempt_signals limits) attempts ++ Close ∷ []
 
--- an attempt gives its outcome, where what ends it gives a refusal, and nothing after a number
-one_attempt : (plan : Plan) (limits : Limits) (a : Attempt) (after : List Signal) (rest : List Dialled) → ((digits : List ℕ) → said plan (Listening digits) ((when (is_timed limits a.runs) TimeOut ++ when a.released Release) ++ after) ≡ without_number false (is_timed limits a.runs) (length digits) ∷ rest) → said plan Done ((when (is_timed limits a.runs) TimeOut ++ when a.released Release) ++ after) ≡ rest → said plan OnHook (attempt_signals limits a ++ after) ≡ outcome_of plan limits a.runs ∷ rest
-one_attempt plan limits a after rest listening done =
-    let ts : List Train = trains_of limits a.runs in
-    let tail : List Signal = (when (is_timed limits a.runs) TimeOut ++ when a.released Release) ++ after in
-    let e : (map (digit_signal limits) ts ++ (when (is_timed limits a.runs) TimeOut ++ when a.released Release)) ++ after ≡ map (digit_signal limits) ts ++ tail = append_assoc (map (digit_signal limits) ts) (when (is_timed limits a.runs) TimeOut ++ when a.released Release) after in
-    rw (e, listens plan limits [] ts tail refl, comes_of plan [] (map (digit_of_train limits) ts) tail (is_timed limits a.runs) rest listening done, shortest plan (good_digits limits a.runs))
-
--- with a release after the attempt, or nothing but the close
-released_listening : (plan : Plan) (late : Bool) (digits : List ℕ) (after : List Signal) → said plan (Listening digits) ((when late TimeOut ++ Release ∷ []) ++ after) ≡ without_number false late (length digits) ∷ said plan OnHook after
-released_listening plan true digits after = refl
-released_listening plan false digits after = refl
-
--- after an outcome the release only ends the attempt
-released_done : (plan : Plan) (late : Bool) (after : List Signal) → said plan Done ((when late TimeOut ++ Release ∷ []) ++ after) ≡ said plan OnHook after
-released_done plan true after = refl
-released_done plan false after = refl
-
--- an attempt that the close ends is refused
-closed_listening : (plan : Plan) (late released : Bool) (digits : List ℕ) → said plan (Listening digits) ((when late TimeOut ++ when released Release) ++ Close ∷ []) ≡ without_number false late (length digits) ∷ []
-closed_listening plan true true digits = refl
-closed_listening plan true false digits = refl
-closed_listening plan false true digits = refl
-closed_listening plan false false digits = refl
-
--- after an outcome the close says nothing
-closed_done : (plan : Plan) (late released : Bool) → said plan Done ((when late TimeOut ++ when released Release) ++ Close ∷ []) ≡ []
-closed_done plan true true = refl
-closed_done plan true false = refl
-closed_done plan false true = refl
-closed_done plan false false = refl
-
--- what comes of these attempts
-abbrev come : Plan → Limits → List Attempt → List Dialled
-come plan limits attempts = map (λ attempt. outcome_of plan limits attempt.runs) attempts
+-- the outcome of each attempt
+abbrev outcomes_of_attempts : Plan → Limits → List Attempt → List Dialled
+outcomes_of_attempts plan limits attempts = map (λ attempt. outcome_of plan limits attempt.runs) attempts
 
 -- attempts give their outcomes, in order
-all_attempts : (plan : Plan) (limits : Limits) (as_ : List Attempt) → Chained as_ → said plan OnHook (signals_and_close limits as_) ≡ come plan limits as_
-all_attempts plan limits [] c = refl
-all_attempts plan limits (a ∷ more) c =
-    ap (λ signals. said plan OnHook signals) (append_assoc (attempt_signals limits a) (flat_map (attempt_signals limits) more) (Close ∷ [])) ∙ at c.0 (all_attempts plan limits more c.1)
+outcomes_from-attempts : (plan : Plan) (limits : Limits) (attempts : List Attempt)
+    → AllButLastReleased attempts
+    → outcomes_from plan OnHook (signals_and_close limits attempts) ≡ outcomes_of_attempts plan limits attempts
+outcomes_from-attempts plan limits [] r = refl
+outcomes_from-attempts plan limits (attempt ∷ more) r =
+    ap (outcomes_from plan OnHook)
+    (append_assoc (attempt_signals limits attempt) (flat_map (attempt_signals limits) more) (Close ∷ []))
+    ∙ at r.0 (outcomes_from-attempts plan limits more r.1)
   where
-    at : (a.released ≡ true) ⊎ (more ≡ []) → said plan OnHook (signals_and_close limits more) ≡ come plan limits more → said plan OnHook (attempt_signals limits a ++ signals_and_close limits more) ≡ outcome_of plan limits a.runs ∷ come plan limits more
-    at (inl e) ih =
-        one_attempt plan limits a (signals_and_close limits more) (come plan limits more)
-        (λ digits. rw e (released_listening plan (is_timed limits a.runs) digits (signals_and_close limits more) ∙ ap (λ rest. without_number false (is_timed limits a.runs) (length digits) ∷ rest) ih))
-        (rw e (released_done plan (is_timed limits a.runs) (signals_and_close limits more) ∙ ih))
-    at (inr e) ih =
-        rw e (one_attempt plan limits a (Close ∷ []) [] (λ digits. closed_listening plan (is_timed limits a.runs) a.released digits) (closed_done plan (is_timed limits a.runs) a.released))
+    after : List Signal
+    after = signals_and_close limits more
 
--- the signals of a record say its outcomes
-pub registers : (plan : Plan) (limits : Limits) (record_ : List Run) → said plan OnHook (signals_of limits record_) ≡ outcomes_of plan limits record_
-registers plan limits record_ =
-    all_attempts plan limits (attempts_of limits record_)
-    (chained_filter (λ piece. has_runs piece.runs) (pieces_of limits (runs_of record_)) (chained_pieces limits (runs_of record_)))
+    at : (attempt.released ≡ true) ⊎ (more ≡ [])
+        → outcomes_from plan OnHook after ≡ outcomes_of_attempts plan limits more
+        → outcomes_from plan OnHook (attempt_signals limits attempt ++ after)
+        ≡ outcome_of plan limits attempt.runs ∷ outcomes_of_attempts plan limits more
+    at (inl e) ih =
+        rw (← ih) (outcomes_from-attempt plan limits attempt after (outcomes_from plan OnHook after)
+        (rw e (ends-release plan (is_timed limits attempt.runs) after)))
+    at (inr e) ih =
+        rw e (outcomes_from-attempt plan limits attempt (Close ∷ []) []
+        (ends-close plan (is_timed limits attempt.runs) attempt.released))
+
+-- the signals of a record give its outcomes
+outcomes_from-signals_of : (plan : Plan) (limits : Limits) (record_ : List Run)
+    → outcomes_from plan OnHook (signals_of limits record_) ≡ outcomes_of plan limits record_
+outcomes_from-signals_of plan limits record_ =
+    let pieces : List Attempt = pieces_of limits (runs_of record_) in
+    outcomes_from-attempts plan limits (attempts_of limits record_)
+    (released-filter (λ piece. has_runs piece.runs) pieces (released-pieces_of limits (runs_of record_)))
 
 -- on a line the signals of a record give its outcomes
-pub gives_outcomes : GivesOutcomes
+pub gives_outcomes : (plan : Plan) → GivesOutcomes plan (machine plan)
 gives_outcomes plan limits line record_ =
-    given-said plan line (signals_of limits record_) ∙ ap (λ dialled. on_line line dialled) (registers plan limits record_)
+    outcomes_given-machine plan line (signals_of limits record_)
+    ∙ ap (on_line line) (outcomes_from-signals_of plan limits record_)

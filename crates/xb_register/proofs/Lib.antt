@@ -1,5 +1,5 @@
 pub mod Patterns
-pub mod Said
+pub mod Outcomes
 pub mod Pending
 pub mod Attempts
 pub mod AtMost

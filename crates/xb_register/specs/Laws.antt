@@ -1,4 +1,4 @@
--- What the register gives for the signals of a line (own profile).
+-- What a register gives for the signals of a line (own profile).
 use Rattle.std.specs.Prelude.{◌≡◌, ℕ, ◌+◌, ◌≤◌, List, ◌∷◌, ◌++◌, length, Bool, true, false}
 use Rattle.std.specs.List.{filter}
 use Rattle.xb_model.specs.declared.dialled.Dialled.{Dialled}
@@ -11,9 +11,8 @@ use Rattle.xb_model.specs.declared.signal.Signal.TheVariants.{Seize, Digit, Time
 use Rattle.xb_model.specs.Records.{Run}
 use Rattle.xb_model.specs.Numbers.{outcomes_of}
 use Rattle.xb_model.specs.Signals.{signals_of}
-use Rattle.xb_stage.specs.Image.{image_on}
+use Rattle.xb_stage.specs.Image.{Machine, image_on}
 use Rattle.xb_stage.specs.OnLines.{on_line}
-use Rattle.xb_register.specs.Registering.{machine}
 
 -- a signal that seizes a register
 abbrev pub is_seizure : Signal → Bool
@@ -28,33 +27,34 @@ abbrev pub seizures : List Signal → ℕ
 seizures signals = length (filter is_seizure signals)
 
 -- the outcomes that the signals of a line give
-abbrev pub outcomes_given : Plan → LineNo → List Signal → List (On Dialled)
-outcomes_given plan line signals = image_on (machine plan) (on_line line signals)
+abbrev pub outcomes_given :
+    {S : Type 0} → Machine (On Signal) (On Dialled) S → LineNo → List Signal → List (On Dialled)
+outcomes_given machine line signals = image_on machine (on_line line signals)
 
--- the signals of a record give its outcomes, one for each attempt
-abbrev pub GivesOutcomes : Type 0
-GivesOutcomes =
-    (plan : Plan) (limits : Limits) (line : LineNo) (record_ : List Run)
-    → outcomes_given plan line (signals_of limits record_)
+-- the signals of a record give its outcomes, one for each attempt, in order
+abbrev pub GivesOutcomes : {S : Type 0} → Plan → Machine (On Signal) (On Dialled) S → Type 0
+GivesOutcomes plan machine =
+    (limits : Limits) (line : LineNo) (record_ : List Run)
+    → outcomes_given machine line (signals_of limits record_)
     ≡ on_line line (outcomes_of plan limits record_)
 
 -- each seizure, with what comes after it up to the next, adds one outcome at most
-abbrev pub EachSeizureGivesAtMostOne : Type 0
-EachSeizureGivesAtMostOne =
-    (plan : Plan) (line : LineNo) (before after : List Signal)
+abbrev pub EachSeizureGivesAtMostOne : {S : Type 0} → Machine (On Signal) (On Dialled) S → Type 0
+EachSeizureGivesAtMostOne machine =
+    (line : LineNo) (before after : List Signal)
     → seizures after ≡ 0
-    → length (outcomes_given plan line (before ++ Seize ∷ after))
-    ≤ length (outcomes_given plan line before) + 1
+    → length (outcomes_given machine line (before ++ Seize ∷ after))
+    ≤ length (outcomes_given machine line before) + 1
 
 -- so there are no more outcomes than seizures
-abbrev pub GivesNoMoreThanSeizures : Type 0
-GivesNoMoreThanSeizures =
-    (plan : Plan) (line : LineNo) (signals : List Signal)
-    → length (outcomes_given plan line signals) ≤ seizures signals
+abbrev pub GivesNoMoreThanSeizures : {S : Type 0} → Machine (On Signal) (On Dialled) S → Type 0
+GivesNoMoreThanSeizures machine =
+    (line : LineNo) (signals : List Signal)
+    → length (outcomes_given machine line signals) ≤ seizures signals
 
 -- what comes before the first seizure gives nothing, and changes nothing of what comes after
-abbrev pub GivesNoneBeforeASeizure : Type 0
-GivesNoneBeforeASeizure =
-    (plan : Plan) (line : LineNo) (before after : List Signal)
+abbrev pub GivesNoneBeforeASeizure : {S : Type 0} → Machine (On Signal) (On Dialled) S → Type 0
+GivesNoneBeforeASeizure machine =
+    (line : LineNo) (before after : List Signal)
     → seizures before ≡ 0
-    → outcomes_given plan line (before ++ after) ≡ outcomes_given plan line after
+    → outcomes_given machine line (before ++ after) ≡ outcomes_given machine line after

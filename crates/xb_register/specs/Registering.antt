@@ -13,21 +13,21 @@ use Rattle.xb_model.specs.declared.dialled.Dialled.{Dialled}
 use Rattle.xb_model.specs.declared.dialled.Dialled.TheVariants.{Number, Refused}
 use Rattle.xb_model.specs.Plans.{plan_len}
 use Rattle.xb_model.specs.TwoOfFive.{digit_of_pattern, pattern_of_count}
-use Rattle.xb_register.specs.declared.register.Answer.{Answer}
+use Rattle.xb_register.specs.declared.step.Step.{Step}
 use Rattle.xb_register.specs.declared.state.Phase.{Phase}
 use Rattle.xb_register.specs.declared.state.Phase.TheVariants.{OnHook, Listening, Done}
 
--- the next phase, and no outcome
-abbrev pub quiet : Phase → Answer
-quiet phase = record { phase = phase; outcome = None }
+-- no outcome, and the next phase
+abbrev pub enter : Phase → Step
+enter phase = record { outcome = None; phase = phase }
 
--- the next phase, and the outcome of the attempt
-abbrev pub ended : Dialled → Phase → Answer
-ended outcome phase = record { phase = phase; outcome = Some outcome }
+-- the outcome of the attempt, and the next phase
+abbrev pub give : Dialled → Phase → Step
+give outcome phase = record { outcome = Some outcome; phase = phase }
 
 -- a refusal, with the count of good digits
-abbrev pub refused : Reason → List ℕ → Phase → Answer
-refused reason digits phase = ended (Refused reason (length digits)) phase
+abbrev pub refuse : Reason → List ℕ → Phase → Step
+refuse reason digits phase = give (Refused reason (length digits)) phase
 
 -- n digits are as many as the number has
 abbrev pub reaches : Option ℕ → ℕ → Bool
@@ -35,39 +35,39 @@ reaches None n = false
 reaches (Some len) n = nat_le len n
 
 -- after one digit more
-abbrev pub with_digits : Plan → List ℕ → Answer
+abbrev pub with_digits : Plan → List ℕ → Step
 with_digits plan digits =
     if reaches (plan_len plan digits) (length digits)
-    then ended (Number digits) Done
-    else quiet (Listening digits)
+    then give (Number digits) Done
+    else enter (Listening digits)
 
 -- a digit, or a pattern that is none
-abbrev pub store : Plan → List ℕ → Option ℕ → Answer
-store plan digits None = refused Mutilated digits Done
+abbrev pub store : Plan → List ℕ → Option ℕ → Step
+store plan digits None = refuse Mutilated digits Done
 store plan digits (Some d) = with_digits plan (digits ++ d ∷ [])
 
 -- a signal in an attempt
-abbrev pub listen : Plan → List ℕ → Signal → Answer
-listen plan digits Seize = quiet (Listening digits)
+abbrev pub listen : Plan → List ℕ → Signal → Step
+listen plan digits Seize = enter (Listening digits)
 listen plan digits (Digit count bad) =
     store plan digits (digit_of_pattern (pattern_of_count count bad))
-listen plan digits TimeOut = refused TimedOut digits Done
-listen plan digits Release = refused Abandoned digits OnHook
-listen plan digits Close = refused Abandoned digits OnHook
+listen plan digits TimeOut = refuse TimedOut digits Done
+listen plan digits Release = refuse Abandoned digits OnHook
+listen plan digits Close = refuse Abandoned digits OnHook
 
 -- a signal in any phase
-abbrev pub advance : Plan → Phase → Signal → Answer
-advance plan OnHook Seize = quiet (Listening [])
-advance plan OnHook (Digit count bad) = quiet OnHook
-advance plan OnHook TimeOut = quiet OnHook
-advance plan OnHook Release = quiet OnHook
-advance plan OnHook Close = quiet OnHook
+abbrev pub advance : Plan → Phase → Signal → Step
+advance plan OnHook Seize = enter (Listening [])
+advance plan OnHook (Digit count bad) = enter OnHook
+advance plan OnHook TimeOut = enter OnHook
+advance plan OnHook Release = enter OnHook
+advance plan OnHook Close = enter OnHook
 advance plan (Listening digits) signal = listen plan digits signal
-advance plan Done Seize = quiet Done
-advance plan Done (Digit count bad) = quiet Done
-advance plan Done TimeOut = quiet Done
-advance plan Done Release = quiet OnHook
-advance plan Done Close = quiet OnHook
+advance plan Done Seize = enter Done
+advance plan Done (Digit count bad) = enter Done
+advance plan Done TimeOut = enter Done
+advance plan Done Release = enter OnHook
+advance plan Done Close = enter OnHook
 
 -- the phase after a signal
 abbrev pub phase_after : Plan → Phase → Signal → Phase

@@ -3,10 +3,12 @@ ghost use Rattle.std.specs.Prelude.{◌≡◌, ◌<◌, length};
 ghost use Rattle.xb_model.specs.Plans.{plan_len};
 ghost use Rattle.xb_model.specs.TwoOfFive.{digit_of_pattern};
 ghost use Rattle.xb_stage.specs.OnLines.{all_on};
+ghost use Rattle.xb_register.specs.Laws.{GivesOutcomes, EachSeizureGivesAtMostOne, GivesNoMoreThanSeizures, GivesNoneBeforeASeizure};
 ghost use Rattle.xb_register.specs.Phases.{HasRoom};
-ghost use Rattle.xb_register.specs.Registering.{advance, listen, store, reaches, quiet, ended, refused, outcomes_by, machine};
+ghost use Rattle.xb_register.specs.Registering.{advance, listen, store, reaches, outcomes_by, machine};
 
 use crate::state::{Phase, RegisterState};
+use crate::step::Step;
 use crate::stored::StoredDigits;
 use std::marker::Model;
 use xb_model::{Dialled, NUMBER_DIGITS, On, Plan, Reason, Relays, Signal, plan_len};
@@ -15,7 +17,7 @@ use xb_stage::{LineStage, send};
 /// The register stage: signals of each line in, what comes of each attempt out (own profile).
 ///
 /// Each digit is kept as its two-out-of-five pattern, checked when it is stored, and read back to
-/// learn whether the number is complete and to tell it. A complete number decides first, then a
+/// learn whether the number is complete and to give it. A complete number decides first, then a
 /// mutilated digit, a time-out, and a release or close; a refusal has the count of good digits
 /// before it. After a number, a refusal or a time-out nothing is heard on the line until its
 /// release or close.
@@ -33,38 +35,6 @@ impl Model for Register {
     ghost view = { λ register. register.plan };
 }
 
-// What a signal leaves of a phase, and the outcome of the attempt, if it is told.
-#[derive(Drop)]
-struct Answer {
-    phase: Phase,
-    outcome: Option<Dialled>,
-}
-
-fn quiet(phase: Phase) -> Answer
-    ensures { result ≡ quiet phase }
-{
-    Answer {
-        phase,
-        outcome: None,
-    }
-}
-
-fn ended(outcome: Dialled, phase: Phase) -> Answer
-    ensures { result ≡ ended outcome phase }
-{
-    Answer {
-        phase,
-        outcome: Some(outcome),
-    }
-}
-
-// The attempt is refused, with the count of its good digits.
-fn refused(reason: Reason, digits: &StoredDigits, phase: Phase) -> Answer
-    ensures { result ≡ refused reason digits.now phase }
-{
-    ended(Dialled::Refused(reason, digits.len()), phase)
-}
-
 // Whether the digits are as many as their number has.
 fn is_reached(plan: Plan, digits: &StoredDigits) -> bool
     ensures { result ≡ reaches (plan_len plan digits.now) (length digits.now) }
@@ -76,54 +46,61 @@ fn is_reached(plan: Plan, digits: &StoredDigits) -> bool
 }
 
 // Takes a pattern into the digits of an attempt.
-fn store(plan: Plan, mut digits: StoredDigits, pattern: Relays) -> Answer
+fn store(plan: Plan, mut digits: StoredDigits, pattern: Relays) -> Step
     requires { length digits < NUMBER_DIGITS }
     ensures value { result ≡ store plan digits (digit_of_pattern pattern) }
     ensures room { HasRoom result.phase }
 {
     if !pattern.check() {
-        return refused(Reason::Mutilated, &digits, Phase::Done);
+        return Step::refuse(Reason::Mutilated, &digits, Phase::Done);
     }
     digits.push(pattern);
     if is_reached(plan, &digits) {
-        ended(Dialled::Number(digits.read_back()), Phase::Done)
+        Step::give(Dialled::Number(digits.read_back()), Phase::Done)
     } else {
-        quiet(Phase::Listening(digits))
+        Step::enter(Phase::Listening(digits))
     }
 }
 
 // Takes a signal in an attempt.
-fn listen(plan: Plan, digits: StoredDigits, signal: Signal) -> Answer
+fn listen(plan: Plan, digits: StoredDigits, signal: Signal) -> Step
     requires { length digits < NUMBER_DIGITS }
     ensures value { result ≡ listen plan digits signal }
     ensures room { HasRoom result.phase }
 {
     match signal {
-        Signal::Seize => quiet(Phase::Listening(digits)),
+        Signal::Seize => Step::enter(Phase::Listening(digits)),
         Signal::Digit(count, bad) => store(plan, digits, Relays::of_count(count, bad)),
-        Signal::TimeOut => refused(Reason::TimedOut, &digits, Phase::Done),
-        Signal::Release | Signal::Close => refused(Reason::Abandoned, &digits, Phase::OnHook),
+        Signal::TimeOut => Step::refuse(Reason::TimedOut, &digits, Phase::Done),
+        Signal::Release | Signal::Close => Step::refuse(Reason::Abandoned, &digits, Phase::OnHook),
     }
 }
 
 // Takes a signal in any phase.
-fn advance(plan: Plan, phase: Phase, signal: Signal) -> Answer
+fn advance(plan: Plan, phase: Phase, signal: Signal) -> Step
     requires { HasRoom phase }
     ensures value { result ≡ advance plan phase signal }
     ensures room { HasRoom result.phase }
 {
     match (phase, signal) {
         (Phase::Listening(digits), signal) => listen(plan, digits, signal),
-        (Phase::OnHook, Signal::Seize) => quiet(Phase::Listening(StoredDigits::new())),
-        (Phase::OnHook, _) | (Phase::Done, Signal::Release | Signal::Close) => quiet(Phase::OnHook),
-        (Phase::Done, _) => quiet(Phase::Done),
+        (Phase::OnHook, Signal::Seize) => Step::enter(Phase::Listening(StoredDigits::new())),
+        (Phase::OnHook, _) => Step::enter(Phase::OnHook),
+        (Phase::Done, Signal::Release | Signal::Close) => Step::enter(Phase::OnHook),
+        (Phase::Done, _) => Step::enter(Phase::Done),
     }
 }
 
 impl Register {
-    /// The register stage for numbers of this plan.
+    /// The register stage for numbers of this plan. For the signals of a record it gives the outcome
+    /// of each attempt, one each, in order, on their line. Whatever the signals are, it gives one
+    /// outcome at most for each seizure, and none before the first.
     pub fn new(plan: Plan) -> Register
-        ensures { result ≡ plan }
+        ensures plan { result ≡ plan }
+        ensures outcomes { GivesOutcomes plan (⟦<Register as LineStage>⟧.machine result) }
+        ensures each { EachSeizureGivesAtMostOne (⟦<Register as LineStage>⟧.machine result) }
+        ensures total { GivesNoMoreThanSeizures (⟦<Register as LineStage>⟧.machine result) }
+        ensures none_before { GivesNoneBeforeASeizure (⟦<Register as LineStage>⟧.machine result) }
     {
         Register { plan }
     }
@@ -147,7 +124,7 @@ impl LineStage for Register {
 
     fn step(&self, state: &mut RegisterState, item: On<Signal>, out: &mut Vec<On<Dialled>>) {
         let On { line, what } = item;
-        let Answer { phase, outcome } = advance(self.plan, state.take(), what);
+        let Step { outcome, phase } = advance(self.plan, state.take(), what);
         state.put(phase);
         if let Some(what) = outcome {
             send(line, out, what);

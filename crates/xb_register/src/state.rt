@@ -13,7 +13,7 @@ pub(crate) enum Phase {
     OnHook,
     // An attempt, with its good digits so far.
     Listening(StoredDigits),
-    // An attempt whose outcome was told: nothing is heard until release or close.
+    // An attempt whose outcome was given: nothing is heard until release or close.
     Done,
 }
 

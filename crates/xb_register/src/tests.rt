@@ -25,7 +25,7 @@ enum Outcome {
 }
 
 // A good train of so many pulses.
-const fn pulses(count: u8) -> Signal {
+fn pulses(count: u8) -> Signal {
     Signal::Digit(count, false)
 }
 
@@ -83,40 +83,87 @@ fn assert_outcomes(
     Ok(())
 }
 
+// Signals of the one line, and what comes of their attempts.
+const RECORDS: [(&str, &[Signal], &[Outcome]); 6] = [
+    (
+        "a number, a conversation, and a seizure that the close ends",
+        &[
+            SEIZE,
+            Signal::Digit(4, false),
+            Signal::Digit(1, false),
+            Signal::Digit(1, false),
+            Signal::Digit(9, false),
+            TIME_OUT,
+            RELEASE,
+            SEIZE,
+            CLOSE,
+        ],
+        &[
+            Outcome::Number(&[4, 1, 1]),
+            Outcome::Refused(Reason::Abandoned, 0),
+        ],
+    ),
+    (
+        "a mutilated digit, then a good one and a time-out",
+        &[
+            SEIZE,
+            Signal::Digit(2, false),
+            Signal::Digit(5, true),
+            Signal::Digit(3, false),
+            TIME_OUT,
+            CLOSE,
+        ],
+        &[Outcome::Refused(Reason::Mutilated, 1)],
+    ),
+    (
+        "eleven pulses",
+        &[
+            SEIZE,
+            Signal::Digit(4, false),
+            Signal::Digit(11, false),
+            CLOSE,
+        ],
+        &[Outcome::Refused(Reason::Mutilated, 1)],
+    ),
+    (
+        "a time-out, then a release",
+        &[
+            SEIZE,
+            Signal::Digit(2, false),
+            Signal::Digit(3, false),
+            TIME_OUT,
+            RELEASE,
+            CLOSE,
+        ],
+        &[Outcome::Refused(Reason::TimedOut, 2)],
+    ),
+    (
+        "a release, then a number",
+        &[
+            SEIZE,
+            Signal::Digit(2, false),
+            RELEASE,
+            SEIZE,
+            Signal::Digit(10, false),
+            CLOSE,
+        ],
+        &[
+            Outcome::Refused(Reason::Abandoned, 1),
+            Outcome::Number(&[0]),
+        ],
+    ),
+    (
+        "no seizure",
+        &[Signal::Digit(10, false), TIME_OUT, RELEASE, CLOSE],
+        &[],
+    ),
+];
+
 #[test]
 fn attempts_end_in_outcomes(rt: HostRuntime) -> Result<(), Fail> {
-    let alloc = rt.alloc();
-    let number_then_abandoned = [
-        SEIZE,
-        pulses(4),
-        pulses(1),
-        pulses(1),
-        pulses(9),
-        TIME_OUT,
-        RELEASE,
-        SEIZE,
-        CLOSE,
-    ];
-    let wanted = [
-        Outcome::Number(&[4, 1, 1]),
-        Outcome::Refused(Reason::Abandoned, 0),
-    ];
-    assert_outcomes(
-        &rt,
-        alloc,
-        "a number, then nothing",
-        &number_then_abandoned,
-        &wanted,
-    )?;
-    let mutilated_then_timed = [SEIZE, pulses(2), Signal::Digit(5, true), TIME_OUT, CLOSE];
-    let wanted = [Outcome::Refused(Reason::Mutilated, 1)];
-    assert_outcomes(
-        &rt,
-        alloc,
-        "a mutilated digit, then a time-out",
-        &mutilated_then_timed,
-        &wanted,
-    )?;
+    for (name, signals, wanted) in RECORDS {
+        assert_outcomes(&rt, rt.alloc(), name, signals, wanted)?;
+    }
     Ok(())
 }
 
@@ -131,7 +178,7 @@ fn a_lone_close_gives_nothing(rt: HostRuntime) -> Result<(), Fail> {
     Ok(())
 }
 
-// The good digits of an attempt, and what comes of them.
+// The good digits of an attempt that goes on, and what comes of them in plan Seven.
 const ATTEMPTS: [(&str, &[u8], &[Outcome]); 6] = [
     ("the operator", &[0], &[Outcome::Number(&[0])]),
     ("a service code", &[4, 1, 1], &[Outcome::Number(&[4, 1, 1])]),

@@ -1,18 +1,16 @@
-// Laws of what orders put on a tape.
+//! What orders put on a tape: each law is the contract of a function that does nothing.
 ghost use Rattle.std.specs.Prelude.{◌≡◌, List, ◌∷◌, ◌++◌, map};
 ghost use Rattle.std.specs.List.{flat_map};
-ghost use Rattle.xb_model.specs.declared.line.LineNo.{LineNo};
 ghost use Rattle.xb_model.specs.declared.mark.Mark.{Mark};
 ghost use Rattle.xb_model.specs.declared.order.Order.{Order};
 ghost use Rattle.xb_model.specs.Keyings.{marks_of};
 ghost use Rattle.xb_model.specs.Tapes.{EndsAtLast, entries_of};
-ghost use Rattle.xb_stage.specs.Image.{image_on};
-ghost use Rattle.xb_stage.specs.OnLines.{on_line};
+ghost use Rattle.xb_sender.specs.Laws.{GivesMarks};
 ghost use Rattle.xb_sender.specs.Sending.{machine};
 
 /// The orders of a line give their marks, in order.
 pub fn marks_of_orders()
-    ensures { (line : LineNo) (orders : List Order) → image_on machine (on_line line orders) ≡ on_line line (flat_map marks_of orders) }
+    ensures { GivesMarks machine }
 {}
 
 /// Of the marks of an order exactly the last ends an entry.
@@ -23,6 +21,7 @@ pub fn only_the_last_mark_ends()
 /// The marks of an order are one entry, whatever marks come after them; so the entries of a line
 /// are those of its orders, each once.
 pub fn one_entry_for_each_order()
-    ensures first { (order : Order) (marks : List Mark) → entries_of (marks_of order ++ marks) ≡ marks_of order ∷ entries_of marks }
+    ensures first { (order : Order) (marks : List Mark) →
+        entries_of (marks_of order ++ marks) ≡ marks_of order ∷ entries_of marks }
     ensures all { (orders : List Order) → entries_of (flat_map marks_of orders) ≡ map marks_of orders }
 {}

@@ -1,13 +1,12 @@
 // The sender, and the marks that it sends.
 ghost use Rattle.std.specs.Prelude.{◌≡◌, ◌+◌, ◌<◌, ◌≤◌, [], ◌∷◌, ◌++◌, map, length, vec_len, vec_capacity};
-ghost use Rattle.xb_model.specs.declared.digits.TheConstants.{KEY_DIGITS};
 ghost use Rattle.xb_model.specs.declared.key.Key.TheVariants.{Digit as DigitKey};
-ghost use Rattle.xb_model.specs.Keyings.{tone, keying, marks_of};
-ghost use Rattle.xb_stage.specs.declared.stage.TheConstants.{OUTPUT_ROOM};
+ghost use Rattle.xb_model.specs.Keyings.{tone, marks_of};
 ghost use Rattle.xb_stage.specs.OnLines.{on_line, all_on};
+ghost use Rattle.xb_sender.specs.Laws.{GivesMarks, GivesOneEntryEach};
 ghost use Rattle.xb_sender.specs.Sending.{machine};
 
-use xb_model::{Digit, Key, KeyDigits, LineNo, Mark, On, Order, Trunk, mf};
+use xb_model::{Digit, Key, LineNo, Mark, On, Order, mf};
 use xb_stage::{LineStage, send};
 
 // Pushes a key with its pair of tones.
@@ -33,20 +32,6 @@ fn push_digits(line: LineNo, out: &mut Vec<On<Mark>>, digits: &[Digit])
     }
 }
 
-// Pushes a whole keying.
-fn push_keying(line: LineNo, out: &mut Vec<On<Mark>>, trunk: Trunk, digits: &KeyDigits)
-    requires empty { out.old.items ≡ [] }
-    requires room { OUTPUT_ROOM ≤ vec_capacity out.old }
-    ensures items { out.new.items ≡ on_line line (keying trunk digits.now) }
-    ensures few { vec_len out.new ≤ KEY_DIGITS + 3 }
-    ensures capacity { vec_capacity out.new ≡ vec_capacity out.old }
-{
-    send(line, out, Mark::Trunk(trunk));
-    push_key(line, out, &Key::Kp);
-    push_digits(line, out, digits.digits());
-    push_key(line, out, &Key::St);
-}
-
 /// The stage that keys orders ("Notes on Distance Dialing"): for an order to key, the trunk group,
 /// KP, the digits and ST, each key with its pair of tones; for a refused attempt, one mark with the
 /// reason and the count (own profile). It keeps no state.
@@ -54,9 +39,11 @@ fn push_keying(line: LineNo, out: &mut Vec<On<Mark>>, trunk: Trunk, digits: &Key
 pub struct Sender;
 
 impl Sender {
-    /// A sender: the one value of this type, which serves all lines.
+    /// A sender: the one value of this type, which serves all lines. The orders of a line give
+    /// their marks, in order, on that line; the marks of each order are one entry of its tape.
     pub fn new() -> Sender
-        ensures { ⟦<Sender as LineStage>⟧.machine result ≡ machine }
+        ensures marks { GivesMarks (⟦<Sender as LineStage>⟧.machine result) }
+        ensures entries { GivesOneEntryEach (⟦<Sender as LineStage>⟧.machine result) }
     {
         Sender
     }
@@ -76,11 +63,14 @@ impl LineStage for Sender {
     fn fresh(&self) {}
 
     fn step(&self, _state: &mut (), item: On<Order>, out: &mut Vec<On<Mark>>) {
-        // names the type, without which the check has no plan for the borrow below
-        let _key: Option<Key> = None;
         let On { line, what } = item;
         match what {
-            Order::Key(trunk, digits) => push_keying(line, out, trunk, &digits),
+            Order::Key(trunk, digits) => {
+                send(line, out, Mark::Trunk(trunk));
+                push_key(line, out, &Key::Kp);
+                push_digits(line, out, digits.digits());
+                push_key(line, out, &Key::St);
+            }
             Order::Refused(reason, heard) => send(line, out, Mark::Refused(reason, heard)),
         }
     }

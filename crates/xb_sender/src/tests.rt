@@ -5,13 +5,32 @@ use std::process::Abort;
 use xb_model::{Digit, Key, KeyDigits, LineNo, Mark, On, Order, Reason, Tone, Trunk};
 use xb_stage::{LineStage, OUTPUT_ROOM};
 
-fn line(rt: &impl Abort) -> LineNo {
-    LineNo::new(20).expect(rt, "a line")
+// The line of every order.
+const LINE: u16 = 20;
+
+// The pair of each digit from 0 to 9, in Hz.
+const PAIRS: [(u16, u16); 10] = [
+    (1300, 1500),
+    (700, 900),
+    (700, 1100),
+    (900, 1100),
+    (700, 1300),
+    (900, 1300),
+    (1100, 1300),
+    (700, 1500),
+    (900, 1500),
+    (1100, 1500),
+];
+
+// A mark on the line.
+fn on_line(rt: &impl Abort, what: Mark) -> On<Mark> {
+    let line = LineNo::new(LINE).expect(rt, "a line");
+    On { line, what }
 }
 
-// What the sender puts on the tape of the line for an order.
+// What the sender gives for an order of the line.
 fn sent(rt: &impl Abort, alloc: Global, order: Order) -> Result<Vec<On<Mark>>, AllocError> {
-    let line = line(rt);
+    let line = LineNo::new(LINE).expect(rt, "a line");
     let sender = Sender::new();
     let mut state = sender.fresh();
     let mut out = Vec::with_capacity(alloc, OUTPUT_ROOM)?;
@@ -19,94 +38,70 @@ fn sent(rt: &impl Abort, alloc: Global, order: Order) -> Result<Vec<On<Mark>>, A
     Ok(out)
 }
 
-// The mark of a key on the line, with its pair in Hz.
-fn tone(rt: &impl Abort, key: Key, low: u16, high: u16) -> On<Mark> {
-    let line = line(rt);
-    let what = Mark::Tone(key, Tone { low, high });
-    On { line, what }
+// The mark of a key, with its pair in Hz.
+fn tone(rt: &impl Abort, key: Key, pair: (u16, u16)) -> On<Mark> {
+    let (low, high) = pair;
+    on_line(rt, Mark::Tone(key, Tone { low, high }))
 }
 
-// The marks of a keying on the line, given each digit with its pair.
+// The marks of a keying.
 fn keying(
     rt: &impl Abort,
     alloc: Global,
     trunk: Trunk,
-    digits: &[(u8, u16, u16)],
+    digits: &[Digit],
 ) -> Result<Vec<On<Mark>>, AllocError> {
-    let line = line(rt);
-    let what = Mark::Trunk(trunk);
-    let mut marks = vec![in alloc; On { line, what }, tone(rt, Key::Kp, 1100, 1700)]?;
-    for (value, low, high) in digits {
-        let digit = Digit::new(*value).expect(rt, "a digit");
-        marks.push(tone(rt, Key::Digit(digit), *low, *high))?;
+    let mut marks = Vec::new(alloc);
+    marks.push(on_line(rt, Mark::Trunk(trunk)))?;
+    marks.push(tone(rt, Key::Kp, (1100, 1700)))?;
+    for digit in digits {
+        marks.push(tone(rt, Key::Digit(*digit), PAIRS[usize::from(digit.get())]))?;
     }
-    marks.push(tone(rt, Key::St, 1500, 1700))?;
+    marks.push(tone(rt, Key::St, (1500, 1700)))?;
     Ok(marks)
 }
 
-// The digits without their pairs.
-fn digits_alone(
-    rt: &impl Abort,
-    alloc: Global,
-    digits: &[(u8, u16, u16)],
-) -> Result<KeyDigits, AllocError> {
-    let mut alone = Vec::new(alloc);
-    for (value, _low, _high) in digits {
-        alone.push(Digit::new(*value).expect(rt, "a digit"))?;
-    }
-    Ok(KeyDigits::of(&alone).expect(rt, "at most 15 digits"))
-}
-
-// Checks what an order to key these digits gives.
-fn check_keying(
+// An order to key these digits gives so many marks: those of its keying.
+fn assert_keying(
     rt: &impl Abort,
     alloc: Global,
     trunk: u16,
-    digits: &[(u8, u16, u16)],
+    values: &[u8],
+    count: usize,
 ) -> Result<(), AllocError> {
     let trunk = Trunk::new(trunk).expect(rt, "a trunk group");
-    let keyed = digits_alone(rt, alloc, digits)?;
+    let mut digits = Vec::new(alloc);
+    for value in values {
+        digits.push(Digit::new(*value).expect(rt, "a digit"))?;
+    }
+    let keyed = KeyDigits::of(&digits).expect(rt, "no more digits than a keying has");
     let out = sent(rt, alloc, Order::Key(trunk, keyed))?;
-    assert_eq!(rt; out, keying(rt, alloc, trunk, digits)?);
+    assert_eq!(rt; out.len(), count);
+    assert_eq!(rt; out, keying(rt, alloc, trunk, &digits)?);
     Ok(())
 }
 
 #[test]
 fn operator_call(rt: HostRuntime) -> Result<(), AllocError> {
-    check_keying(&rt, rt.alloc(), 1, &[(0, 1300, 1500)])
+    assert_keying(&rt, rt.alloc(), 1, &[0], 4)
+}
+
+#[test]
+fn every_digit(rt: HostRuntime) -> Result<(), AllocError> {
+    let digits = [0, 1, 2, 3, 4, 5, 6, 7, 8, 9];
+    assert_keying(&rt, rt.alloc(), 17, &digits, 13)
 }
 
 #[test]
 fn longest_keying(rt: HostRuntime) -> Result<(), AllocError> {
-    check_keying(
-        &rt,
-        rt.alloc(),
-        9999,
-        &[
-            (1, 700, 900),
-            (2, 700, 1100),
-            (3, 900, 1100),
-            (4, 700, 1300),
-            (5, 900, 1300),
-            (6, 1100, 1300),
-            (7, 700, 1500),
-            (8, 900, 1500),
-            (9, 1100, 1500),
-            (9, 1100, 1500),
-            (9, 1100, 1500),
-            (9, 1100, 1500),
-            (9, 1100, 1500),
-            (9, 1100, 1500),
-            (9, 1100, 1500),
-        ],
-    )
+    let digits = [1, 2, 3, 4, 5, 6, 7, 8, 9, 9, 9, 9, 9, 9, 9];
+    assert_keying(&rt, rt.alloc(), 9999, &digits, 18)
 }
 
 #[test]
 fn refused_attempt(rt: HostRuntime) -> Result<(), AllocError> {
-    let line = line(&rt);
-    let what = Mark::Refused(Reason::Unknown, 7);
     let out = sent(&rt, rt.alloc(), Order::Refused(Reason::Unknown, 7))?;
-    assert_eq!(rt; out, vec![in rt.alloc(); On { line, what }]?);
+    let refused = on_line(&rt, Mark::Refused(Reason::Unknown, 7));
+    assert_eq!(rt; out, vec![in rt.alloc(); refused]?);
     Ok(())
 }

@@ -6,7 +6,8 @@ use Rattle.xb_sender.proofs.sender.push_digits.Given as goal
 
 abbrev pub invariant-loop-digit : goal.invariant-loop-digit
 invariant-loop-digit l = record {
-  items : l.out.items ≡ l.initial.out.items ++ on_line l.line (map (λ d. tone (Digit d)) (take l.digit-index l.digits));
+  items : l.out.items
+      ≡ l.initial.out.items ++ on_line l.line (map (λ d. tone (Digit d)) (take l.digit-index l.digits));
   len : vec_len l.out ≡ vec_len l.initial.out + l.digit-index;
   capacity : vec_capacity l.out ≡ vec_capacity l.initial.out;
 }
