@@ -1,7 +1,7 @@
-pub mod FieldLists
-pub mod ReadCounts
-pub mod OneRead
-pub mod RecordRows
+pub mod ThreeFields
+pub mod RecordCounts
+pub mod RecordsLeft
+pub mod RestOfRecords
 pub mod WrittenFields
 pub mod WrittenRecords
 pub mod ScanSteps

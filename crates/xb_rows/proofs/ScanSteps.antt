@@ -1,72 +1,87 @@
 -- What a step of a scan gives, as a source.
-use Rattle.std.proofs.Common.{◌≡◌, ◌≤◌, ℕ, ◌+◌, List, [], ◌∷◌, Bool, true, false, cond, Option, Some, None, Result, Ok, Err, refl, sym, ap, ◌∙◌, inl, inr, ⊎_elim}
-use Rattle.std.specs.Prelude.{◌⊎◌, nat_lt}
-use denote.Ref.{Bor}
-use Rattle.csv.specs.declared.reader.Reader.{Reader}
+use Rattle.std.proofs.Common.{◌≡◌, ℕ, ◌+◌, List, [], ◌∷◌, Bool, true, false, cond, Option, Some, None, Result, Ok, Err, refl, sym, ap, ◌∙◌, inl, inr, ⊎_elim}
+use Rattle.std.specs.Prelude.{nat_lt}
 use Rattle.xb_model.specs.declared.fault.RowFault.{RowFault}
-use Rattle.xb_model.specs.declared.fault.RowFault.TheVariants.{NoMemory, TooMany, Header}
+use Rattle.xb_model.specs.declared.fault.RowFault.TheVariants.{TooMany, Header}
 use Rattle.xb_model.specs.Rows.{LoopRow}
-use Rattle.xb_model.specs.Sources.{Rest, IsStoppedBy, MayRunOut, Gives}
+use Rattle.xb_model.specs.Sources.{Rest, Gives}
 use Rattle.xb_rows.specs.declared.scan.Place.{Place}
-use Rattle.xb_rows.specs.declared.scan.Place.TheVariants.{Record, Stopped}
+use Rattle.xb_rows.specs.declared.scan.Place.TheVariants as place
 use Rattle.xb_rows.specs.declared.scan.TheConstants.{MOST_RECORDS}
-use Rattle.xb_rows.specs.RowTexts.{is_header, rest_of_records, row_of_fields, row_then, rows_from, said, stopped, stopped_by, three_of}
-use Rattle.xb_rows.specs.Scanning.{HeaderStep, RowStep, records_left, rest_at}
+use Rattle.xb_rows.specs.RowTexts.{Fields, fault_alone, is_header, rest_from, rest_of_records, row_and_rest, row_of_fields, three_fields}
+use Rattle.xb_rows.specs.Scanning.{CanGo, TakesRow, TextReader, records_left, rest_at}
 
--- a row, and what follows it
-row_then-allocates : (r : Result LoopRow RowFault) (rest : Rest) → (row_then r rest).may_allocate ≡ true
-row_then-allocates (Ok row) rest = refl
-row_then-allocates (Err f) rest = refl
+-- a row, and what follows it, may allocate
+row_and_rest-allocates : (r : Result LoopRow RowFault) (rest : Rest)
+    → (row_and_rest r rest).may_allocate ≡ true
+row_and_rest-allocates (Ok row) rest = refl
+row_and_rest-allocates (Err f) rest = refl
 
--- reading records allocates
-rows_from-allocates : (n : ℕ) (records : List (List (List ℕ))) → (rows_from n records).may_allocate ≡ true
-unfolding rows_from
-rows_from-allocates n [] = refl
-rows_from-allocates n (fields ∷ rest) = at (nat_lt MOST_RECORDS n)
+-- reading records may allocate
+rest_from-allocates : (n : ℕ) (records : List Fields) → (rest_from n records).may_allocate ≡ true
+unfolding rest_from
+rest_from-allocates n [] = refl
+rest_from-allocates n (fields ∷ later) = at (nat_lt MOST_RECORDS n)
   where
     next : Rest
-    next = row_then (row_of_fields n (three_of fields)) (rows_from (n + 1) rest)
+    next = row_and_rest (row_of_fields n (three_fields fields)) (rest_from (n + 1) later)
 
-    at : (many : Bool) → (cond many (stopped_by TooMany) next).may_allocate ≡ true
+    at : (many : Bool) → (cond many (fault_alone TooMany) next).may_allocate ≡ true
     at true = refl
-    at false = row_then-allocates (row_of_fields n (three_of fields)) (rows_from (n + 1) rest)
+    at false = row_and_rest-allocates (row_of_fields n (three_fields fields)) (rest_from (n + 1) later)
 
--- and so does reading the header
-rest-allocates : (records : List (List (List ℕ))) → (rest_of_records records).may_allocate ≡ true
-rest-allocates [] = refl
-rest-allocates (names ∷ rest) = at (is_header (three_of names))
+-- and so may reading the header
+rest_of_records-allocates : (records : List Fields) → (rest_of_records records).may_allocate ≡ true
+rest_of_records-allocates [] = refl
+rest_of_records-allocates (first ∷ later) = at (is_header (three_fields first))
   where
-    at : (right : Bool) → (cond right (rows_from 1 rest) (stopped_by Header)).may_allocate ≡ true
-    at true = rows_from-allocates 1 rest
+    at : (right : Bool) → (cond right (rest_from 1 later) (fault_alone Header)).may_allocate ≡ true
+    at true = rest_from-allocates 1 later
     at false = refl
 
--- a fault that stops a source, or memory ran out
-stops : (old : Rest) (f : RowFault) → old.may_allocate ≡ true → (old ≡ stopped_by f) ⊎ (f ≡ NoMemory) → IsStoppedBy old f ⊎ MayRunOut old f
-stops old f may s = ⊎_elim (λ e. inl (ap (λ rest. rest.rows) e, ap (λ rest. rest.stop) e)) (λ e. inr (may, e)) s
-
--- a fault of the header is what the source gives
-pub header-stops : (old : Rest) (left : List (List (List ℕ))) (new : Reader (Bor (List ℕ))) (f : RowFault) → rest_of_records left ≡ old
-    → HeaderStep left new (Err f) → IsStoppedBy old f ⊎ MayRunOut old f
-header-stops old left new f e step =
-    stops old f (ap (λ rest. rest.may_allocate) (sym e) ∙ rest-allocates left) (⊎_elim (λ s. inl (sym e ∙ s)) (λ m. inr m) step)
+-- what reading a record gives
+abbrev pub RowResult : Type 0
+RowResult = Result (Option LoopRow) RowFault
 
 -- where a scan stands after reading record n
-abbrev pub IsAfter : ℕ → Result (Option LoopRow) RowFault → Place → Type 0
-IsAfter n (Ok (Some row)) place = place ≡ Record (n + 1)
-IsAfter n (Ok None) place = place ≡ Stopped None
-IsAfter n (Err f) place = place ≡ Stopped (Some f)
+abbrev pub IsAfter : ℕ → RowResult → Place → Type 0
+IsAfter n (Ok (Some row)) after = after ≡ place.Record (n + 1)
+IsAfter n (Ok None) after = after ≡ place.Stopped None
+IsAfter n (Err f) after = after ≡ place.Stopped (Some f)
 
--- what reading a record gives is what the source gives
-pub row-gives : (n : ℕ) (old : Rest) (left : List (List (List ℕ))) (new : Reader (Bor (List ℕ))) (result : Result (Option LoopRow) RowFault) (place : Place)
-    → old ≡ rows_from n left → RowStep n left new result → IsAfter n result place → Gives old result (rest_at place new)
-row-gives n old left new (Ok (Some row)) place e step after =
-    let all : old ≡ said (row ∷ (rows_from (n + 1) (records_left new)).rows) (rows_from (n + 1) (records_left new)).stop = e ∙ step.2 in rw after (
-      ap (λ rest. rest.rows) all,
-      sym (ap (λ rest. rest.stop) all),
-      rows_from-allocates (n + 1) (records_left new) ∙ sym (ap (λ rest. rest.may_allocate) all),
-    )
-row-gives n old left new (Ok None) place e step after =
-    let all : old ≡ stopped None = e ∙ step in
-    rw after (ap (λ rest. rest.rows) all, ap (λ rest. rest.stop) all, refl)
-row-gives n old left new (Err f) place e step after =
-    rw after (stops old f (ap (λ rest. rest.may_allocate) e ∙ rows_from-allocates n left) (⊎_elim (λ s. inl (e ∙ s)) (λ m. inr m) step), refl)
+-- a rest from which a step takes record n
+abbrev pub Steps : ℕ → Rest → TextReader → RowResult → Type 0
+Steps n old new result = (old.may_allocate ≡ true) × TakesRow n old new result
+
+-- the step from the header
+pub header-steps : (left : List Fields) (old : Rest) (new : TextReader) (result : RowResult)
+    → rest_of_records left ≡ old → TakesRow 1 (rest_of_records left) new result → Steps 1 old new result
+header-steps left old new result here took = rw (sym here) (rest_of_records-allocates left, took)
+
+-- the step from record n
+pub record-steps : (n : ℕ) (left : List Fields) (old : Rest) (new : TextReader) (result : RowResult)
+    → rest_from n left ≡ old → TakesRow n (rest_from n left) new result → Steps n old new result
+record-steps n left old new result here took = rw (sym here) (rest_from-allocates n left, took)
+
+abbrev rows_left : Rest → List LoopRow
+rows_left rest = rest.rows
+
+abbrev stop_of : Rest → Option RowFault
+stop_of rest = rest.stop
+
+-- a step gives what the source gives
+pub step-gives : (n : ℕ) (old : Rest) (new : TextReader) (result : RowResult) (after : Place)
+    → Steps n old new result → IsAfter n result after → Gives old result (rest_at after new)
+step-gives n old new (Ok (Some row)) after (may, took) is =
+    let still = rest_from-allocates (n + 1) (records_left new) ∙ sym may in
+    rw is (ap rows_left took.2, sym (ap stop_of took.2), still)
+step-gives n old new (Ok None) after (may, took) is = rw is (ap rows_left took, ap stop_of took, refl)
+step-gives n old new (Err f) after (may, took) is =
+    rw is (⊎_elim (λ e. inl (ap rows_left e, ap stop_of e)) (λ e. inr (may, e)) took, refl)
+
+-- after a step that found a row the reader goes on
+pub step-goes_on : (n : ℕ) (old : Rest) (new : TextReader) (result : RowResult) (after : Place)
+    → Steps n old new result → IsAfter n result after → CanGo after new
+step-goes_on n old new (Ok (Some row)) after steps is = rw is steps.1.0
+step-goes_on n old new (Ok None) after steps is = rw is tt
+step-goes_on n old new (Err f) after steps is = rw is tt

@@ -9,10 +9,12 @@ use Rattle.std.proofs.lemmas.Str.Parse.{numerals_by_value, tells_all_ascii_digit
 use Rattle.xb_rows.specs.RowTexts.{field_number}
 
 -- the field of a number is read as the number
-pub field_number-decimal : (most n : ℕ) → 0 < most → n < 10 ^ most → n < 2 ^ 64 → field_number most (decimal n) ≡ Some n
+pub field_number-decimal : (most n : ℕ) → 0 < most → n < 10 ^ most → n < 2 ^ 64
+    → field_number most (decimal n) ≡ Some n
 field_number-decimal most n some below small =
     let low = le-leb 1 (length (decimal n)) (omega (arith, decimal_nonempty n small)) in
     let high = le-leb (length (decimal n)) most (length-decimal-le most n some below small) in
-    let digits : all_ascii_digits (decimal n) ≡ true = digits_decimal (numerals_by_value _ tells_all_ascii_digits) n small in
+    let digits : all_ascii_digits (decimal n) ≡ true =
+    digits_decimal (numerals_by_value _ tells_all_ascii_digits) n small in
     let value : digits_value 10 (decimal n) ≡ n = (decimal_is_IsNumeral n small).1 in
     rw (low, high, digits, value) refl

@@ -1,6 +1,7 @@
 pub mod Reading
 pub mod RowTexts
-pub mod RowAnswers
+pub mod RowResults
 pub mod Scanning
 pub mod WrittenRows
+pub mod Constants
 pub mod WorkedTexts

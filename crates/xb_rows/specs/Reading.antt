@@ -1,7 +1,11 @@
 -- What was read of a stream (own profile).
-use Rattle.std.specs.Prelude.{ℕ, ◌≤◌, List, length, Option}
+use Rattle.std.specs.Prelude.{ℕ, ◌≤◌, ◌<◌, List, length, Option, IfSome}
 use Rattle.std.specs.Io.KnownBytes.{Consumes}
 
--- a reader gave so many bytes at the most
+-- a reader gave at most so many bytes
 abbrev pub TakesUpTo : ℕ → Option (List ℕ) → Option (List ℕ) → Type 0
 TakesUpTo most old new = (bytes : List ℕ) × Consumes old new bytes × (length bytes ≤ most)
+
+-- a reader has more bytes than this, where they are known
+abbrev pub IsLongerThan : ℕ → Option (List ℕ) → Type 0
+IsLongerThan limit left = IfSome left (λ bytes. limit < length bytes)

@@ -1,6 +1,7 @@
 -- What the text of the loop rows says: its rows before the first fault, and that fault (own format,
--- read as `csv` reads it).
-use Rattle.std.specs.Prelude.{ℕ, ◌+◌, ◌&&◌, nat_lt, nat_le, if◌then◌else◌, List, [], ◌∷◌, length, codes, Bool, false, true, Option, Some, None, Result, Ok, Err, bytes_eq}
+-- read as `csv` reads it). A text, its records, and the records from the n-th on are each a `Rest`:
+-- what a source of their rows has to give.
+use Rattle.std.specs.Prelude.{ℕ, ◌+◌, ◌&&◌, nat_lt, nat_le, if◌then◌else◌, List, [], ◌∷◌, length, codes, Bool, false, true, Option, Some, None, Result, Ok, Err, bytes_eq, option_and_then}
 use Rattle.std.specs.Str.{all_ascii_digits}
 use Rattle.std.specs.Str.Parse.{digits_value}
 use Rattle.csv.specs.Reading.{default_config, records, strip_bom}
@@ -16,9 +17,11 @@ use Rattle.xb_rows.specs.declared.scan.TheConstants.{MOST_RECORDS}
 -- the number that a field of 1 to `most` ASCII digits writes
 abbrev pub field_number : ℕ → List ℕ → Option ℕ
 field_number most field =
-    if nat_le 1 (length field) && nat_le (length field) most && all_ascii_digits field then Some (digits_value 10 field)
+    if nat_le 1 (length field) && nat_le (length field) most && all_ascii_digits field
+    then Some (digits_value 10 field)
     else None
 
+-- the line that a field writes
 abbrev pub line_of : List ℕ → Option ℕ
 line_of field = field_number LINE_DIGITS field
 
@@ -30,65 +33,77 @@ contact_of field =
     else if bytes_eq field (codes "C") then Some Close
     else None
 
-abbrev pub with_ms : ℕ → ℕ → Contact → Option ℕ → Result LoopRow RowFault
-with_ms n line contact None = Err (fault.Ms n)
-with_ms n line contact (Some ms) = if may_last contact ms then Ok (row_of line contact ms) else Err (fault.Ms n)
+-- the time that a field writes, for a row of this contact
+abbrev pub ms_of : Contact → List ℕ → Option ℕ
+ms_of contact field =
+    option_and_then (λ ms. if may_last contact ms then Some ms else None) (field_number MS_DIGITS field)
 
-abbrev pub with_contact : ℕ → ℕ → List ℕ → Option Contact → Result LoopRow RowFault
-with_contact n line ms None = Err (fault.Contact n)
-with_contact n line ms (Some contact) = with_ms n line contact (field_number MS_DIGITS ms)
+-- the fields of a record
+abbrev pub Fields : Type 0
+Fields = List (List ℕ)
 
-abbrev pub with_line : ℕ → List ℕ → List ℕ → Option ℕ → Result LoopRow RowFault
-with_line n state ms None = Err (fault.Line n)
-with_line n state ms (Some line) = with_contact n line ms (contact_of state)
+-- three fields: line, state, ms
+abbrev pub ThreeFields : Type 0
+ThreeFields = List ℕ × List ℕ × List ℕ
 
 -- the fields of a record that has three
-abbrev pub three_of : List (List ℕ) → Option (List ℕ × List ℕ × List ℕ)
-three_of [] = None
-three_of (a ∷ []) = None
-three_of (a ∷ b ∷ []) = None
-three_of (a ∷ b ∷ c ∷ []) = Some (a, b, c)
-three_of (a ∷ b ∷ c ∷ d ∷ rest) = None
+abbrev pub three_fields : Fields → Option ThreeFields
+three_fields [] = None
+three_fields (a ∷ []) = None
+three_fields (a ∷ b ∷ []) = None
+three_fields (a ∷ b ∷ c ∷ []) = Some (a, b, c)
+three_fields (a ∷ b ∷ c ∷ d ∷ rest) = None
+
+-- what is there, or else a fault
+abbrev pub or_fault : {A B : Type 0} → RowFault → Option A → (A → Result B RowFault) → Result B RowFault
+or_fault f None next = Err f
+or_fault f (Some x) next = next x
 
 -- the row that record n writes, or its first fault: fields, line, state, ms
-abbrev pub row_of_fields : ℕ → Option (List ℕ × List ℕ × List ℕ) → Result LoopRow RowFault
-row_of_fields n None = Err (fault.Fields n)
-row_of_fields n (Some t) = with_line n t.1 t.2 (line_of t.0)
+abbrev pub row_of_fields : ℕ → Option ThreeFields → Result LoopRow RowFault
+row_of_fields n fields =
+    or_fault (fault.Fields n) fields (λ t.
+    or_fault (fault.Line n) (line_of t.0) (λ line.
+    or_fault (fault.Contact n) (contact_of t.1) (λ contact.
+    or_fault (fault.Ms n) (ms_of contact t.2) (λ ms.
+    Ok (row_of line contact ms)))))
 
--- rows, and a stop after them, of a text whose reading allocates
-abbrev pub said : List LoopRow → Option RowFault → Rest
-said rows stop = record { rows = rows; stop = stop; may_allocate = true }
+-- rows of a text, whose reading may allocate, and the stop after them
+abbrev pub rows_and_stop : List LoopRow → Option RowFault → Rest
+rows_and_stop rows stop = record { rows = rows; stop = stop; may_allocate = true }
 
--- no row, and a stop, which may be a fault
-abbrev pub stopped : Option RowFault → Rest
-stopped stop = said [] stop
+-- no row, and a stop
+abbrev pub stop_alone : Option RowFault → Rest
+stop_alone stop = rows_and_stop [] stop
 
-abbrev pub stopped_by : RowFault → Rest
-stopped_by f = stopped (Some f)
+-- no row, and a fault
+abbrev pub fault_alone : RowFault → Rest
+fault_alone f = stop_alone (Some f)
 
--- a row in front, or a fault in place of what follows
-abbrev pub row_then : Result LoopRow RowFault → Rest → Rest
-row_then (Ok row) rest = said (row ∷ rest.rows) rest.stop
-row_then (Err f) rest = stopped_by f
+-- a row before what follows it, or a fault in place of both
+abbrev pub row_and_rest : Result LoopRow RowFault → Rest → Rest
+row_and_rest (Ok row) rest = rows_and_stop (row ∷ rest.rows) rest.stop
+row_and_rest (Err f) rest = fault_alone f
 
--- what the records from record n on say
-unfoldable pub rows_from : ℕ → List (List (List ℕ)) → Rest
-rows_from n [] = stopped None
-rows_from n (fields ∷ rest) =
-    if nat_lt MOST_RECORDS n then stopped_by fault.TooMany
-    else row_then (row_of_fields n (three_of fields)) (rows_from (n + 1) rest)
+-- the rest from record n on
+unfoldable pub rest_from : ℕ → List Fields → Rest
+rest_from n [] = stop_alone None
+rest_from n (fields ∷ later) =
+    if nat_lt MOST_RECORDS n then fault_alone fault.TooMany
+    else row_and_rest (row_of_fields n (three_fields fields)) (rest_from (n + 1) later)
 
 -- whether a record is the header
-abbrev pub is_header : Option (List ℕ × List ℕ × List ℕ) → Bool
+abbrev pub is_header : Option ThreeFields → Bool
 is_header None = false
 is_header (Some t) = bytes_eq t.0 (codes "line") && bytes_eq t.1 (codes "state") && bytes_eq t.2 (codes "ms")
 
--- what all records say: the first is the header, and those after it count from 1
-abbrev pub rest_of_records : List (List (List ℕ)) → Rest
-rest_of_records [] = stopped_by fault.Header
-rest_of_records (names ∷ rest) = if is_header (three_of names) then rows_from 1 rest else stopped_by fault.Header
+-- all records: the first is the header, and those after it count from 1
+abbrev pub rest_of_records : List Fields → Rest
+rest_of_records [] = fault_alone fault.Header
+rest_of_records (first ∷ later) =
+    if is_header (three_fields first) then rest_from 1 later else fault_alone fault.Header
 
--- what a text says
+-- a text
 abbrev pub rest_of_text : List ℕ → Rest
 rest_of_text text = rest_of_records (records default_config (strip_bom text))
 

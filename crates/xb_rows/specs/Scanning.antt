@@ -1,5 +1,5 @@
--- What a scan has still to give.
-use Rattle.std.specs.Prelude.{ℕ, ◌+◌, ◌≡◌, ◌≤◌, ◌⊎◌, List, [], ◌∷◌, length, true, Option, Some, None, Result, Ok, Err}
+-- What a scan has still to give, and what one step of it does (own format).
+use Rattle.std.specs.Prelude.{ℕ, ◌+◌, ◌≡◌, ◌≤◌, ◌⊎◌, List, [], ◌∷◌, length, Bool, true, false, Option, Some, None, Result, Ok, Err}
 use denote.Ref.{Bor}
 use Rattle.csv.specs.Reading.{Ready, default_config, is_flexible, reader_config, reader_state, reader_trim, records_from, source_of}
 use Rattle.csv.specs.declared.reader.Reader.{Reader}
@@ -8,55 +8,64 @@ use Rattle.xb_rows.specs.declared.scan.Place.{Place}
 use Rattle.xb_rows.specs.declared.scan.Place.TheVariants as place
 use Rattle.xb_model.specs.declared.fault.RowFault.{RowFault}
 use Rattle.xb_model.specs.declared.fault.RowFault.TheVariants as fault
-use Rattle.xb_rows.specs.declared.scan.Taken.{Taken}
-use Rattle.xb_rows.specs.declared.scan.Taken.TheVariants as taken
 use Rattle.xb_rows.specs.declared.scan.TheConstants.{MOST_RECORDS}
 use Rattle.xb_model.specs.Sources.{Rest, told}
 use Rattle.xb_model.specs.Rows.{LoopRow}
-use Rattle.xb_rows.specs.RowTexts.{rest_of_records, row_then, rows_from, stopped, stopped_by}
+use Rattle.xb_rows.specs.RowTexts.{Fields, fault_alone, rest_from, rest_of_records, row_and_rest, stop_alone}
 
--- the bytes that a reader over a text has left
-abbrev pub bytes_left : Reader (Bor (List ℕ)) → Option (List ℕ)
+-- a reader over a text
+abbrev pub TextReader : Type 0
+TextReader = Reader (Bor (List ℕ))
+
+-- the bytes that a reader has left
+abbrev pub bytes_left : TextReader → Option (List ℕ)
 bytes_left r = source_of (λ (s : Bor (List ℕ)). Some s.now) r
 
 -- a reader that gives every record of its text, as it stands
-abbrev pub IsGoing : Reader (Bor (List ℕ)) → Type 0
-IsGoing r = (reader_trim r ≡ trim.None) × (reader_config r ≡ default_config) × (is_flexible r ≡ true) × Ready r × (bytes : List ℕ) × (bytes_left r ≡ Some bytes)
+abbrev pub IsGoing : TextReader → Type 0
+IsGoing r =
+    (reader_trim r ≡ trim.None) × (reader_config r ≡ default_config) × (is_flexible r ≡ true) × Ready r
+    × (bytes : List ℕ) × (bytes_left r ≡ Some bytes)
 
 -- the records of the bytes that are left, where those are known
-unfoldable pub records_of_bytes : Reader (Bor (List ℕ)) → Option (List ℕ) → List (List (List ℕ))
+unfoldable pub records_of_bytes : TextReader → Option (List ℕ) → List Fields
 records_of_bytes r None = []
 records_of_bytes r (Some bytes) = records_from default_config (length bytes + 1) (reader_state r) bytes
 
 -- the records that a reader has still to give
-abbrev pub records_left : Reader (Bor (List ℕ)) → List (List (List ℕ))
+abbrev pub records_left : TextReader → List Fields
 records_left r = records_of_bytes r (bytes_left r)
 
 -- what one read of a record gives
-abbrev pub Takes : Reader (Bor (List ℕ)) → Reader (Bor (List ℕ)) → List (List ℕ) → Taken → Type 0
-Takes old new fields taken.Record = IsGoing new × (records_left old ≡ fields ∷ records_left new)
-Takes old new fields taken.End = records_left old ≡ []
-Takes old new fields taken.NoMemory = Unit {0}
+abbrev pub TakesRecord : TextReader → TextReader → Fields → Result Bool RowFault → Type 0
+TakesRecord old new fields (Ok true) = IsGoing new × (records_left old ≡ fields ∷ records_left new)
+TakesRecord old new fields (Ok false) = records_left old ≡ []
+TakesRecord old new fields (Err f) = f ≡ fault.NoMemory
+
+-- memory ran out, or the fault that stops the rest
+abbrev pub StopsBy : Rest → RowFault → Type 0
+StopsBy rest f = (rest ≡ fault_alone f) ⊎ (f ≡ fault.NoMemory)
 
 -- what reading the header gives
-abbrev pub HeaderStep : List (List (List ℕ)) → Reader (Bor (List ℕ)) → Result (Unit {0}) RowFault → Type 0
-HeaderStep left new (Ok u) = IsGoing new × (rest_of_records left ≡ rows_from 1 (records_left new))
-HeaderStep left new (Err f) = (rest_of_records left ≡ stopped_by f) ⊎ (f ≡ fault.NoMemory)
+abbrev pub TakesHeader : List Fields → TextReader → Result (Unit {0}) RowFault → Type 0
+TakesHeader left new (Ok u) = IsGoing new × (rest_of_records left ≡ rest_from 1 (records_left new))
+TakesHeader left new (Err f) = StopsBy (rest_of_records left) f
 
--- what reading record n gives
-abbrev pub RowStep : ℕ → List (List (List ℕ)) → Reader (Bor (List ℕ)) → Result (Option LoopRow) RowFault → Type 0
-RowStep n left new (Ok (Some row)) = IsGoing new × (n ≤ MOST_RECORDS) × (rows_from n left ≡ row_then (Ok row) (rows_from (n + 1) (records_left new)))
-RowStep n left new (Ok None) = rows_from n left ≡ stopped None
-RowStep n left new (Err f) = (rows_from n left ≡ stopped_by f) ⊎ (f ≡ fault.NoMemory)
+-- what reading record n gives, where this rest was to come
+abbrev pub TakesRow : ℕ → Rest → TextReader → Result (Option LoopRow) RowFault → Type 0
+TakesRow n rest new (Ok (Some row)) =
+    IsGoing new × (n ≤ MOST_RECORDS) × (rest ≡ row_and_rest (Ok row) (rest_from (n + 1) (records_left new)))
+TakesRow n rest new (Ok None) = rest ≡ stop_alone None
+TakesRow n rest new (Err f) = StopsBy rest f
 
 -- what a scan that stands at this place, with this reader, has still to give
-abbrev pub rest_at : Place → Reader (Bor (List ℕ)) → Rest
+abbrev pub rest_at : Place → TextReader → Rest
 rest_at place.Header r = rest_of_records (records_left r)
-rest_at (place.Record n) r = rows_from n (records_left r)
+rest_at (place.Record n) r = rest_from n (records_left r)
 rest_at (place.Stopped stop) r = told stop
 
 -- where records are still to come, the reader gives them
-abbrev pub CanGo : Place → Reader (Bor (List ℕ)) → Type 0
+abbrev pub CanGo : Place → TextReader → Type 0
 CanGo place.Header r = IsGoing r
 CanGo (place.Record n) r = IsGoing r
 CanGo (place.Stopped stop) r = Unit {0}

@@ -1,20 +1,26 @@
 //! What the definitions give: each law is the contract of a function that does nothing.
+ghost use Rattle.xb_rows.specs.Constants.{AreConstants};
 ghost use Rattle.xb_rows.specs.WorkedTexts.{MostRecords, RowsOfTexts};
 ghost use Rattle.xb_rows.specs.WrittenRows.{WrittenRowsAreRead};
 
-/// What some texts of rows say.
-#[tactic(auto, unfolding(csv::proofs::OnLiterals::csv_on_literals, crate::specs::RowTexts::rows_from))]
+/// The most digits of a line and of a time, and the most records, each as it is.
+pub fn constants()
+    ensures { AreConstants }
+{}
+
+/// The rows of some texts, and the stop after them.
+#[tactic(auto, unfolding(csv::proofs::OnLiterals::csv_on_literals, crate::specs::RowTexts::rest_from))]
 pub fn rows_of_texts()
     ensures { RowsOfTexts }
 {}
 
 /// After 1,000,000 records a further one is the fault.
-#[tactic(auto, unfolding(crate::specs::RowTexts::rows_from))]
+#[tactic(auto, unfolding(crate::specs::RowTexts::rest_from))]
 pub fn most_records()
     ensures { MostRecords }
 {}
 
-/// Rows that a `csv` writer writes are read, as long as they are not too many.
+/// Rows that a `csv` writer writes are read, if they are not too many.
 #[tactic(auto, using(crate::proofs::WrittenRecords::written_rows_are_read))]
 pub fn written_rows_are_read()
     ensures { WrittenRowsAreRead }

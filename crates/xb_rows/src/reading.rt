@@ -1,12 +1,12 @@
 // Reading to an end.
-ghost use Rattle.std.specs.Prelude.{◌≡◌, ◌≤◌, ◌<◌, ◌+◌, IfSome, IfOk, IfErr, OnOk, length};
+ghost use Rattle.std.specs.Prelude.{◌≡◌, ◌≤◌, ◌+◌, IfSome, IfOk, OnOk, length, Err};
 ghost use Rattle.std.specs.Io.KnownBytes.{IsAtEnd};
-ghost use Rattle.xb_rows.specs.Reading.{TakesUpTo};
+ghost use Rattle.xb_rows.specs.Reading.{IsLongerThan, TakesUpTo};
 
 use std::alloc::Global;
 use std::io::Read;
 
-// How many bytes one read asks for at the most.
+// The most bytes that one read asks for.
 const BUFFER_BYTES: usize = 8192;
 
 /// Why a reader was not read to its end.
@@ -14,24 +14,24 @@ const BUFFER_BYTES: usize = 8192;
 pub enum ReadFault {
     /// A read failed, or 2^64 - 1 reads did not reach the end.
     Failed,
-    /// There are more bytes than the limit.
+    /// There are more bytes than the limit allows.
     TooLong,
     /// Memory ran out.
     NoMemory,
 }
 
-/// Reads a reader to its end, or to the first byte after the limit. A read that was interrupted
-/// has failed, and is not tried again.
+/// The bytes of a reader to its end, of which there are at most `limit`; no more than the first byte
+/// after them is taken. A read that was interrupted has failed, and is not tried again.
 pub fn read_whole<R: Read>(
     alloc: Global,
     reader: &mut R,
     limit: usize,
 ) -> Result<Vec<u8>, ReadFault>
-    ensures whole { IfOk result (λ v. IfSome (R.remaining reader.old) (λ bytes. v.items ≡ bytes)) }
+    ensures whole { IfSome (R.remaining reader.old) (λ bytes. IfOk result (λ v. v.items ≡ bytes)) }
     ensures end { OnOk result (IsAtEnd (R.remaining reader.new)) }
     ensures taken { TakesUpTo (limit + 1) (R.remaining reader.old) (R.remaining reader.new) }
     ensures within { IfOk result (λ v. length v.items ≤ limit) }
-    ensures too_long { IfErr result (λ e. e ≡ ReadFault.TooLong → IfSome (R.remaining reader.old) (λ bytes. limit < length bytes)) }
+    ensures too_long { result ≡ Err ReadFault.TooLong → IsLongerThan limit (R.remaining reader.old) }
 {
     let mut bytes = Vec::new(alloc);
     let mut buffer = [0u8; BUFFER_BYTES];
@@ -39,6 +39,7 @@ pub fn read_whole<R: Read>(
         if bytes.len() > limit {
             return Err(ReadFault::TooLong);
         }
+        // one byte more than the limit allows tells that there are too many
         let room = (limit - bytes.len()).min(BUFFER_BYTES - 1) + 1;
         match reader.read(&mut buffer[..room]) {
             Ok(0) => return Ok(bytes),

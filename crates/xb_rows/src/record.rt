@@ -2,7 +2,7 @@
 ghost use Rattle.std.specs.Prelude.{◌≡◌, ◌≤◌, ◌<◌, ◌^◌, IfSome, Some, option_map};
 ghost use Rattle.csv.specs.Records.{fields_of};
 ghost use Rattle.xb_rows.specs.declared.record.TheConstants.{MS_DIGITS};
-ghost use Rattle.xb_rows.specs.RowTexts.{contact_of, is_header, line_of, field_number, row_of_fields, three_of};
+ghost use Rattle.xb_rows.specs.RowTexts.{contact_of, field_number, is_header, line_of, row_of_fields, three_fields};
 
 use csv::ByteRecord;
 use xb_model::{Contact, LineNo, Row, RowFault};
@@ -10,9 +10,10 @@ use xb_model::{Contact, LineNo, Row, RowFault};
 // How many fields a row has.
 const ROW_FIELDS: usize = 3;
 
-// The most digits of a line, and of a time in ms.
+// The most digits of a line (own format).
 const LINE_DIGITS: usize = 4;
 
+// The most digits of a time in ms (own format).
 const MS_DIGITS: usize = 8;
 
 // The number that a field of 1 to `most` ASCII digits writes.
@@ -53,21 +54,21 @@ fn contact_of(field: &[u8]) -> Option<Contact>
     }
 }
 
-// The three fields of a record that has three.
-fn three_of(fields: &ByteRecord) -> Option<(&[u8], &[u8], &[u8])>
-    ensures { option_map (λ t. (t.0.now, t.1.now, t.2.now)) result ≡ three_of (fields_of fields.now) }
+// The three fields of a record that has three: line, state, ms.
+fn three_fields(fields: &ByteRecord) -> Option<(&[u8], &[u8], &[u8])>
+    ensures { option_map (λ t. (t.0.now, t.1.now, t.2.now)) result ≡ three_fields (fields_of fields.now) }
 {
     if fields.len() != ROW_FIELDS {
         return None;
     }
-    let first = fields.get(0)?;
-    let second = fields.get(1)?;
-    let third = fields.get(2)?;
-    Some((first, second, third))
+    let line = fields.get(0)?;
+    let state = fields.get(1)?;
+    let ms = fields.get(2)?;
+    Some((line, state, ms))
 }
 
-// The row that the three fields of record `n` write.
-fn row_of_three(n: u32, line: &[u8], state: &[u8], ms: &[u8]) -> Result<Row, RowFault>
+// The row that record `n` writes in its three fields, or the first fault of these.
+fn row_of_fields(n: u32, line: &[u8], state: &[u8], ms: &[u8]) -> Result<Row, RowFault>
     ensures { result ≡ row_of_fields n (Some (line.now, state.now, ms.now)) }
 {
     let line = line_of(line).ok_or(RowFault::Line(n))?;
@@ -76,19 +77,19 @@ fn row_of_three(n: u32, line: &[u8], state: &[u8], ms: &[u8]) -> Result<Row, Row
     Row::new(line, contact, ms).ok_or(RowFault::Ms(n))
 }
 
-/// The row that record `n` writes.
+/// The row that record `n` writes, or its first fault, in the order fields, line, state, ms.
 pub fn parse_row(n: u32, fields: &ByteRecord) -> Result<Row, RowFault>
-    ensures { result ≡ row_of_fields n (three_of (fields_of fields.now)) }
+    ensures { result ≡ row_of_fields n (three_fields (fields_of fields.now)) }
 {
-    let (line, state, ms) = three_of(fields).ok_or(RowFault::Fields(n))?;
-    row_of_three(n, line, state, ms)
+    let (line, state, ms) = three_fields(fields).ok_or(RowFault::Fields(n))?;
+    row_of_fields(n, line, state, ms)
 }
 
 /// Whether a record is the header.
 pub fn is_header(fields: &ByteRecord) -> bool
-    ensures { result ≡ is_header (three_of (fields_of fields.now)) }
+    ensures { result ≡ is_header (three_fields (fields_of fields.now)) }
 {
-    match three_of(fields) {
+    match three_fields(fields) {
         Some((line, state, ms)) => {
             line == b"line".as_slice() && state == b"state".as_slice() && ms == b"ms".as_slice()
         }

@@ -1,7 +1,6 @@
 // The rows of a whole text, and of a reader.
-ghost use Rattle.std.specs.Prelude.{◌≡◌, ◌≢◌, IfErr, IfOk, IfSome, OnOk};
-ghost use Rattle.std.specs.Io.KnownBytes.{IsAtEnd};
-ghost use Rattle.xb_rows.specs.RowAnswers.{IsFaultOf, AreRowsOf, IsReadFaultOf};
+ghost use Rattle.std.specs.Prelude.{IfErr, IfOk, IfSome};
+ghost use Rattle.xb_rows.specs.RowResults.{AreRowsOf, IsFaultOf, IsReadFaultOf, IsReadToEnd};
 
 use crate::reading::{ReadFault, read_whole};
 use crate::scan::Scan;
@@ -9,7 +8,8 @@ use std::alloc::Global;
 use std::io::Read;
 use xb_model::{Row, RowFault, RowSource};
 
-/// The rows of a CSV text, or its first fault: the faults of `Scan`.
+/// The rows of a CSV text, or its first fault: the faults of `Scan`, and `NoMemory` where memory
+/// ran out.
 pub fn read_text(alloc: Global, text: &[u8]) -> Result<Vec<Row>, RowFault>
     ensures rows { IfOk result (λ rows. AreRowsOf text.now rows.items) }
     ensures fault { IfErr result (λ f. IsFaultOf text.now f) }
@@ -26,16 +26,15 @@ pub fn read_text(alloc: Global, text: &[u8]) -> Result<Vec<Row>, RowFault>
 
 /// The rows of a reader's bytes, which are read to their end first: `Read` where a read failed, an
 /// interrupted one too, or 2^64 - 1 reads did not reach the end; else the faults of `Scan`, and
-/// `NoMemory` where memory ran out. On any answer but `Read` and `NoMemory` the reader stands
-/// at its end.
+/// `NoMemory` where memory ran out. After any result but `Read` and `NoMemory` the reader stands at
+/// its end.
 ///
-/// What the contract says of bytes it says of readers whose bytes are known to contracts (byte
-/// slices), which those of a process are not.
+/// What the contract says of bytes holds for readers whose bytes contracts know (byte slices); those
+/// of a process's standard input are not known.
 pub fn read_rows<R: Read>(alloc: Global, reader: &mut R) -> Result<Vec<Row>, RowFault>
-    ensures rows { IfOk result (λ rows. IfSome (R.remaining reader.old) (λ text. AreRowsOf text rows.items)) }
-    ensures fault { IfErr result (λ f. IfSome (R.remaining reader.old) (λ text. IsReadFaultOf text f)) }
-    ensures end { OnOk result (IsAtEnd (R.remaining reader.new)) }
-    ensures read_first { IfErr result (λ f. f ≢ RowFault.Read → f ≢ RowFault.NoMemory → IsAtEnd (R.remaining reader.new)) }
+    ensures rows { IfSome (R.remaining reader.old) (λ text. IfOk result (λ rows. AreRowsOf text rows.items)) }
+    ensures fault { IfSome (R.remaining reader.old) (λ text. IfErr result (λ f. IsReadFaultOf text f)) }
+    ensures end { IsReadToEnd result (R.remaining reader.new) }
 {
     match read_whole(alloc, reader, usize::MAX) {
         Ok(text) => read_text(alloc, text.as_slice()),

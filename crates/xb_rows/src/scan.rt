@@ -1,8 +1,8 @@
 // The rows of a text, one at a time.
 ghost use Rattle.std.specs.Prelude.{◌≡◌};
 ghost use Rattle.csv.specs.Records.{fields_of};
-ghost use Rattle.xb_rows.specs.RowTexts.{rest_of_text};
-ghost use Rattle.xb_rows.specs.Scanning.{HeaderStep, IsGoing, RowStep, Takes, records_left};
+ghost use Rattle.xb_rows.specs.RowTexts.{rest_from, rest_of_records, rest_of_text};
+ghost use Rattle.xb_rows.specs.Scanning.{IsGoing, TakesHeader, TakesRecord, TakesRow, records_left};
 
 use crate::record::{is_header, parse_row};
 use csv::{ByteRecord, Reader, ReaderBuilder};
@@ -10,7 +10,7 @@ use std::alloc::Global;
 use std::marker::Model;
 use xb_model::{Row, RowFault, RowSource};
 
-/// The most records that follow the header.
+/// The most records that follow the header (own limit).
 pub const MOST_RECORDS: u32 = 1_000_000;
 
 // Where a scan stands.
@@ -24,64 +24,58 @@ enum Place {
     Stopped(Option<RowFault>),
 }
 
-// What reading a record gave.
-#[derive(Clone, Copy)]
-enum Taken {
-    Record,
-    End,
-    NoMemory,
-}
-
-// Reads the next record of a text.
-fn take_record(reader: &mut Reader<&[u8]>, fields: &mut ByteRecord) -> Taken
+// Reads the next record of a text, and whether there was one.
+fn take_record(reader: &mut Reader<&[u8]>, fields: &mut ByteRecord) -> Result<bool, RowFault>
     requires { IsGoing reader.old }
-    ensures { Takes reader.old reader.new (fields_of fields.new) result }
+    ensures { TakesRecord reader.old reader.new (fields_of fields.new) result }
 {
     match reader.read_byte_record(fields) {
-        Ok(true) => Taken::Record,
-        Ok(false) => Taken::End,
+        Ok(found) => Ok(found),
         // a slice does not fail, so memory ran out
-        Err(_) => Taken::NoMemory,
+        Err(_) => Err(RowFault::NoMemory),
     }
 }
 
 // Reads the header.
 fn take_header(reader: &mut Reader<&[u8]>, fields: &mut ByteRecord) -> Result<(), RowFault>
     requires { IsGoing reader.old }
-    ensures { HeaderStep (records_left reader.old) reader.new result }
+    ensures { TakesHeader (records_left reader.old) reader.new result }
 {
-    match take_record(reader, fields) {
-        Taken::Record => {
-            if is_header(fields) {
-                Ok(())
-            } else {
-                Err(RowFault::Header)
-            }
-        }
-        Taken::End => Err(RowFault::Header),
-        Taken::NoMemory => Err(RowFault::NoMemory),
+    if take_record(reader, fields)? && is_header(fields) {
+        Ok(())
+    } else {
+        Err(RowFault::Header)
     }
 }
 
-// Reads record `n`.
+// Reads record `n`, if there is one.
 fn take_row(
     n: u32,
     reader: &mut Reader<&[u8]>,
     fields: &mut ByteRecord,
 ) -> Result<Option<Row>, RowFault>
     requires { IsGoing reader.old }
-    ensures { RowStep n (records_left reader.old) reader.new result }
+    ensures { TakesRow n (rest_from n (records_left reader.old)) reader.new result }
 {
-    match take_record(reader, fields) {
-        Taken::Record => {
-            if n > MOST_RECORDS {
-                return Err(RowFault::TooMany);
-            }
-            Ok(Some(parse_row(n, fields)?))
-        }
-        Taken::End => Ok(None),
-        Taken::NoMemory => Err(RowFault::NoMemory),
+    if !take_record(reader, fields)? {
+        return Ok(None);
     }
+    if n > MOST_RECORDS {
+        return Err(RowFault::TooMany);
+    }
+    Ok(Some(parse_row(n, fields)?))
+}
+
+// Reads the header, and record 1.
+fn take_first_row(
+    reader: &mut Reader<&[u8]>,
+    fields: &mut ByteRecord,
+) -> Result<Option<Row>, RowFault>
+    requires { IsGoing reader.old }
+    ensures { TakesRow 1 (rest_of_records (records_left reader.old)) reader.new result }
+{
+    take_header(reader, fields)?;
+    take_row(1, reader, fields)
 }
 
 /// The rows of a CSV text, one at a time: a source that takes memory, in `next_row` alone.
@@ -126,21 +120,14 @@ impl<'a> RowSource for Scan<'a> {
     /// The next row, `None` at the end, or the fault that stops the rows: `Header` where there is
     /// no record or the first is not the header, `TooMany` at the record after the 1,000,000th,
     /// `Fields`, `Line`, `Contact` or `Ms` of the first record that is no row, and `NoMemory`
-    /// where memory ran out.
+    /// where memory ran out. After the end or a fault each call returns it again.
     fn next_row(&mut self) -> Result<Option<Row>, RowFault> {
-        let n = match self.place {
+        let (n, taken) = match self.place {
             Place::Stopped(None) => return Ok(None),
             Place::Stopped(Some(fault)) => return Err(fault),
-            Place::Header => match take_header(&mut self.reader, &mut self.fields) {
-                Ok(()) => 1,
-                Err(fault) => {
-                    self.place = Place::Stopped(Some(fault));
-                    return Err(fault);
-                }
-            },
-            Place::Record(n) => n,
+            Place::Header => (1, take_first_row(&mut self.reader, &mut self.fields)),
+            Place::Record(n) => (n, take_row(n, &mut self.reader, &mut self.fields)),
         };
-        let taken = take_row(n, &mut self.reader, &mut self.fields);
         self.place = match taken {
             Ok(Some(_)) => Place::Record(n + 1),
             Ok(None) => Place::Stopped(None),

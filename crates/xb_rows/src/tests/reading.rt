@@ -1,18 +1,17 @@
 // Readers that fail in the middle, give little at a time, or are interrupted.
-use crate::read_rows;
-use crate::reading::{ReadFault, read_whole};
+use crate::{ReadFault, read_rows, read_whole};
 use std::alloc::Global;
 use std::io;
 use std::io::{Error, ErrorKind, Read};
 use std::process::Abort;
 use xb_model::RowFault;
 
-/// A reader that gives at most `step` bytes a read, and that fails once, so many bytes on.
+// A reader that gives at most `step` bytes a read, and that fails once, after so many bytes.
 #[derive(Drop)]
-pub struct Halting<'a> {
-    pub rest: &'a [u8],
-    pub step: usize,
-    pub fault: Option<(usize, ErrorKind)>,
+struct Halting<'a> {
+    rest: &'a [u8],
+    step: usize,
+    fault: Option<(usize, ErrorKind)>,
 }
 
 impl<'a> Read for Halting<'a> {
@@ -44,7 +43,12 @@ fn check_failed_read(rt: &impl Abort, alloc: Global, text: &[u8], kind: ErrorKin
             fault: Some((place, kind)),
         };
         let got = read_rows(alloc, &mut reader);
-        assert!(rt; got.err() == Some(RowFault::Read), "at {place}");
+        assert_eq!(rt;
+            got.err(),
+            Some(RowFault::Read),
+            "{kind:?} at {place} of {}",
+            text.escape_ascii()
+        );
     }
 }
 
@@ -56,7 +60,7 @@ fn fails_where_a_read_fails(rt: HostRuntime) {
     }
 }
 
-// A limit, what reading five bytes to it answers, and how many bytes are left in the reader.
+// A limit, what reading five bytes to it returns, and how many bytes are then left in the reader.
 const LIMITS: &[(usize, Option<ReadFault>, usize)] = &[
     (6, None, 0),
     (5, None, 0),
@@ -65,7 +69,7 @@ const LIMITS: &[(usize, Option<ReadFault>, usize)] = &[
     (0, Some(ReadFault::TooLong), 4),
 ];
 
-// Checks what reading five bytes, so many at a time, answers at a limit.
+// Checks what reading five bytes, at most `step` at a time, returns at a limit.
 fn check_limit(
     rt: &impl Abort,
     alloc: Global,
@@ -80,10 +84,17 @@ fn check_limit(
         fault: None,
     };
     match read_whole(alloc, &mut reader, limit) {
-        Ok(bytes) => assert!(rt; fault.is_none() && bytes.as_slice() == b"01234".as_slice()),
-        Err(got) => assert!(rt; fault == Some(got)),
+        Ok(bytes) => {
+            assert_eq!(rt; fault, None, "limit {limit}, {step} at a time");
+            assert_eq!(rt;
+                bytes.as_slice(),
+                b"01234".as_slice(),
+                "limit {limit}, {step} at a time"
+            );
+        }
+        Err(got) => assert_eq!(rt; fault, Some(got), "limit {limit}, {step} at a time"),
     }
-    assert!(rt; reader.rest.len() == left);
+    assert_eq!(rt; reader.rest.len(), left, "limit {limit}, {step} at a time");
 }
 
 #[test]

@@ -1,5 +1,5 @@
 // The rows of texts, and their faults.
-use crate::{MOST_RECORDS, Scan, read_rows};
+use crate::{Scan, read_rows, read_text};
 use std::alloc::{AllocError, Global};
 use std::process::Abort;
 use std::test::Fail;
@@ -8,7 +8,7 @@ use xb_model::{Contact, Row, RowFault, RowSource};
 // A row, as its line, its contact and its time.
 type RowParts = (u16, Contact, u32);
 
-// A text that begins with its header, its rows, and the fault after them.
+// A text, its rows, and the fault after them.
 type Case = (&'static [u8], &'static [RowParts], Option<RowFault>);
 
 const MAKE: Contact = Contact::Make;
@@ -17,7 +17,7 @@ const BREAK: Contact = Contact::Brk;
 
 const CLOSE: Contact = Contact::Close;
 
-// Texts that begin with the header.
+// Whole texts: what is a header.
 const HEADERS: &[Case] = &[
     (b"", &[], Some(RowFault::Header)),
     (b"\n\n", &[], Some(RowFault::Header)),
@@ -43,7 +43,7 @@ const HEADERS: &[Case] = &[
     ),
 ];
 
-// Texts after the header.
+// Texts after a header.
 const RECORDS: &[Case] = &[
     // empty lines are no records and do not count
     (
@@ -104,6 +104,8 @@ const RECORDS: &[Case] = &[
         &[(7, CLOSE, 0)],
         Some(RowFault::Contact(2)),
     ),
+    // a good record after the fault is not read
+    (b"7,M\n7,M,1\n7,M,2\n", &[], Some(RowFault::Fields(1))),
 ];
 
 fn parts_of(row: Row) -> RowParts {
@@ -118,34 +120,24 @@ fn with_header(alloc: Global, records: &[u8]) -> Result<Vec<u8>, AllocError> {
     Ok(text)
 }
 
-// Checks that `read_rows` gives a text's rows, or its fault and no row.
+// Checks that what was read of a text are its rows, or its fault and no row.
 fn check_whole(
     rt: &impl Abort,
-    alloc: Global,
     text: &[u8],
+    got: Result<Vec<Row>, RowFault>,
     wanted: &[RowParts],
     stop: Option<RowFault>,
 ) {
-    let mut reader = text;
-    match read_rows(alloc, &mut reader) {
+    let text = text.escape_ascii();
+    match got {
         Ok(rows) => {
-            assert!(rt; stop.is_none());
-            assert!(rt; rows.len() == wanted.len());
-            assert!(rt;
-                rows.iter()
-                    .zip(wanted)
-                    .all(|(row, parts)| parts_of(*row) == *parts)
-            );
+            assert_eq!(rt; stop, None, "{text}");
+            assert_eq!(rt; rows.len(), wanted.len(), "{text}");
+            for (row, parts) in rows.iter().zip(wanted) {
+                assert!(rt; parts_of(*row) == *parts, "{row:?} of {text}");
+            }
         }
-        Err(fault) => assert!(rt; stop == Some(fault)),
-    }
-}
-
-// Checks that a `Scan` answers its stop.
-fn check_stop(rt: &impl Abort, scan: &mut Scan, stop: Option<RowFault>) {
-    match scan.next_row() {
-        Ok(row) => assert!(rt; row.is_none() && stop.is_none()),
-        Err(fault) => assert!(rt; stop == Some(fault)),
+        Err(fault) => assert_eq!(rt; stop, Some(fault), "{text}"),
     }
 }
 
@@ -158,30 +150,49 @@ fn check_scan(
     stop: Option<RowFault>,
 ) {
     let mut scan = Scan::new(alloc, text);
+    let text = text.escape_ascii();
     for parts in wanted {
         let row = scan.next_row();
-        assert!(rt; row.is_ok_and(|row| row.is_some_and(|row| parts_of(row) == *parts)));
+        let as_wanted = row.is_ok_and(|row| row.is_some_and(|row| parts_of(row) == *parts));
+        assert!(rt; as_wanted, "{parts:?} of {text}");
     }
-    check_stop(rt, &mut scan, stop);
-    check_stop(rt, &mut scan, stop);
+    for call in 0..3 {
+        match scan.next_row() {
+            Ok(row) => assert!(rt;
+                row.is_none() && stop.is_none(),
+                "call {call} at the end of {text}"
+            ),
+            Err(fault) => assert_eq!(rt; stop, Some(fault), "call {call} at the fault of {text}"),
+        }
+    }
+}
+
+// Checks a text through each call that reads rows.
+fn check_text(
+    rt: &impl Abort,
+    alloc: Global,
+    text: &[u8],
+    wanted: &[RowParts],
+    stop: Option<RowFault>,
+) {
+    let mut reader = text;
+    check_whole(rt, text, read_rows(alloc, &mut reader), wanted, stop);
+    check_whole(rt, text, read_text(alloc, text), wanted, stop);
+    check_scan(rt, alloc, text, wanted, stop);
 }
 
 #[test]
 fn reads_headers(rt: HostRuntime) {
-    let alloc = rt.alloc();
     for (text, wanted, stop) in HEADERS {
-        check_whole(&rt, alloc, text, wanted, *stop);
-        check_scan(&rt, alloc, text, wanted, *stop);
+        check_text(&rt, rt.alloc(), text, wanted, *stop);
     }
 }
 
 #[test]
 fn reads_records(rt: HostRuntime) -> Result<(), Fail> {
-    let alloc = rt.alloc();
     for (records, wanted, stop) in RECORDS {
-        let text = with_header(alloc, records)?;
-        check_whole(&rt, alloc, text.as_slice(), wanted, *stop);
-        check_scan(&rt, alloc, text.as_slice(), wanted, *stop);
+        let text = with_header(rt.alloc(), records)?;
+        check_text(&rt, rt.alloc(), &text, wanted, *stop);
     }
     Ok(())
 }
@@ -190,13 +201,13 @@ fn reads_records(rt: HostRuntime) -> Result<(), Fail> {
 fn reads_a_million_records(rt: HostRuntime) -> Result<(), Fail> {
     let alloc = rt.alloc();
     let mut text = with_header(alloc, b"")?;
-    for _ in 0..MOST_RECORDS {
+    for _ in 0..1_000_000 {
         text.extend_from_slice(b"5,M,0\n")?;
     }
     let mut reader = text.as_slice();
     let rows = read_rows(alloc, &mut reader);
     assert!(rt; rows.is_ok_and(|rows| rows.len() == 1_000_000));
-    // its fields are not looked at
+    // the fields of one more are not looked at
     text.extend_from_slice(b"x\n")?;
     let mut reader = text.as_slice();
     assert!(rt; read_rows(alloc, &mut reader).err() == Some(RowFault::TooMany));

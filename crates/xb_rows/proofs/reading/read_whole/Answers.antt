@@ -10,5 +10,6 @@ returns-then-is_err-clause-taken g c =
     let room = c.min-room.ensures in (
       c.loop.bytes.items ++ more,
       Consumes-trans _ _ _ _ _ c.loop.invariant.read c.in-Ok.ensures.bytes.0,
-      simp (length-append, length-take) (omega (arith, length-take {A = ℕ}, c.read.auto.buf, c.len-in-loop.ensures, c.loop.bytes.ok.0)),
+      simp (length-append, length-take)
+          (omega (arith, length-take {A = ℕ}, c.read.auto.buf, c.len-in-loop.ensures, c.loop.bytes.ok.0)),
     )

@@ -1,5 +1,6 @@
--- What the calls that read rows answer (own format).
-use Rattle.std.specs.Prelude.{ℕ, ◌≡◌, ◌⊎◌, List, Some, None}
+-- What the calls that read rows return (own format).
+use Rattle.std.specs.Prelude.{ℕ, ◌≡◌, ◌⊎◌, List, Option, Some, None, Result, Err}
+use Rattle.std.specs.Io.KnownBytes.{IsAtEnd}
 use Rattle.xb_model.specs.declared.fault.RowFault.{RowFault}
 use Rattle.xb_model.specs.declared.fault.RowFault.TheVariants as fault
 use Rattle.xb_model.specs.Rows.{LoopRow}
@@ -9,10 +10,16 @@ use Rattle.xb_rows.specs.RowTexts.{fault_of_text, rows_of_text}
 abbrev pub AreRowsOf : List ℕ → List LoopRow → Type 0
 AreRowsOf text rows = (rows ≡ rows_of_text text) × (fault_of_text text ≡ None)
 
--- the fault of a text, or want of memory
+-- memory ran out, or the fault of a text
 abbrev pub IsFaultOf : List ℕ → RowFault → Type 0
 IsFaultOf text f = (f ≡ fault.NoMemory) ⊎ (fault_of_text text ≡ Some f)
 
 -- the same, where the text may not be read at all
 abbrev pub IsReadFaultOf : List ℕ → RowFault → Type 0
 IsReadFaultOf text f = (f ≡ fault.Read) ⊎ IsFaultOf text f
+
+-- the reader was read to its end: not where reading failed, or memory ran out
+abbrev pub IsReadToEnd : {T : Type 0} → Result T RowFault → Option (List ℕ) → Type 0
+IsReadToEnd (Err fault.Read) left = Unit {0}
+IsReadToEnd (Err fault.NoMemory) left = Unit {0}
+IsReadToEnd result left = IsAtEnd left
