@@ -1,5 +1,5 @@
 -- Laws of the entries of marks.
-use Rattle.std.proofs.Common.{◌≡◌, ℕ, true, false, List, [], ◌∷◌, ◌++◌, map, refl, ap, ◌∙◌, append_assoc}
+use Rattle.std.proofs.Common.{◌≡◌, ◌≤◌, ℕ, Bool, true, false, cond, List, [], ◌∷◌, ◌++◌, map, length, refl, ap, ◌∙◌, append_assoc, arith}
 use Rattle.std.specs.List.{flat_map}
 use Rattle.std.proofs.lemmas.Bool.{cond-true, cond-false}
 use Rattle.xb_model.specs.declared.key.Key.TheVariants.{Kp, St, Digit}
@@ -16,6 +16,26 @@ pub entries_of-cut : (front : List Mark) (last : Mark) (rest : List Mark) → Is
 entries_of-cut [] last rest goes_on ends = cond-true _ _ _ ends
 entries_of-cut (mark ∷ front) last rest goes_on ends =
     cond-false _ _ _ goes_on.0 ∙ ap (into_first_entry mark) (entries_of-cut front last rest goes_on.1 ends)
+
+-- marks of which none ends an entry have none
+pub entries_of-unended : (marks : List Mark) → IsUnended marks → entries_of marks ≡ []
+entries_of-unended [] goes_on = refl
+entries_of-unended (mark ∷ marks) goes_on =
+    cond-false _ _ _ goes_on.0 ∙ ap (into_first_entry mark) (entries_of-unended marks goes_on.1)
+
+-- there are at most as many entries as marks
+pub length-entries_of : (marks : List Mark) → length (entries_of marks) ≤ length marks
+length-entries_of [] = omega arith
+length-entries_of (mark ∷ marks) = at (is_ending mark) (length-entries_of marks)
+  where
+    joined : (entries : List (List Mark)) → length (into_first_entry mark entries) ≡ length entries
+    joined [] = refl
+    joined (entry ∷ entries) = refl
+
+    at : (ends : Bool) → length (entries_of marks) ≤ length marks
+        → length (cond ends ((mark ∷ []) ∷ entries_of marks) (into_first_entry mark (entries_of marks))) ≤ length (mark ∷ marks)
+    at true few = omega arith
+    at false few = omega (arith, joined (entries_of marks), few)
 
 -- no tone of a digit ends an entry
 digits_go_on : (digits : List ℕ) → IsUnended (map (λ d. tone (Digit d)) digits)

@@ -1,8 +1,12 @@
 -- Codes and the digits of texts.
-use Rattle.std.proofs.Common.{◌≡◌, ◌≢◌, ℕ, suc, List, [], ◌∷◌, length, Option, Some, None, option_map, refl, arith}
-use Rattle.std.specs.Prelude.{option_and_then}
+use Rattle.std.proofs.Common.{◌≡◌, ◌≤◌, ◌<◌, true, false, ap, sym, ◌∙◌, ⊎_elim, ℕ, suc, List, [], ◌∷◌, length, Option, Some, None, option_map, refl, arith}
+use Rattle.std.specs.Prelude.{nat_le, option_and_then}
+use Rattle.std.proofs.lemmas.Bool.{cases_Bool, cond-false, cond-true}
+use Rattle.std.proofs.lemmas.Bool.Decides.{nat_tests}
+use Rattle.std.proofs.lemmas.List.Elements.{All-contains, All-from_recursion}
 use Rattle.xb_model.specs.declared.plan.Plan.{Plan}
-use Rattle.xb_routes.specs.Codes.{code_of, digit_of_character, digits_of_text, if_code}
+use Rattle.xb_routes.specs.Codes.{IsCodeLength, code_of, digit_of_character, digits_of_text, digits_within, if_code, is_code}
+use Rattle.xb_routes.specs.declared.code.TheConstants.{CODE_DIGITS, CODE_LENGTHS}
 
 -- a text has as many digits as characters
 pub digits-length : (text digits : List ℕ) → digits_of_text text ≡ Some digits → length digits ≡ length text
@@ -16,17 +20,35 @@ digits-length (c ∷ text) digits e = by (digit_of_character c) (digits_of_text 
     by (Some d) None g h same = absurd (cc)
     by (Some d) (Some rest) g h same = cc (same rest g)
 
--- a code has one digit, or three
-pub code_of-length : (plan : Plan) (text : List ℕ) → length text ≢ 1 → length text ≢ 3 → code_of plan text ≡ None
-code_of-length plan text one three = by (digits_of_text text) refl
+-- a code has one of the possible lengths
+pub is_code-length : (plan : Plan) (digits : List ℕ) → is_code plan digits ≡ true → IsCodeLength (length digits)
+is_code-length plan [] e = absurd (cc)
+is_code-length plan (a ∷ []) e = (1, omega arith, refl)
+is_code-length plan (a ∷ b ∷ []) e = absurd (cc)
+is_code-length plan (a ∷ b ∷ c ∷ []) e = (0, omega arith, refl)
+is_code-length plan (a ∷ b ∷ c ∷ d ∷ rest) e = absurd (cc)
+
+-- no code is longer than the longest
+pub code-length-most : (n : ℕ) → IsCodeLength n → n ≤ CODE_DIGITS
+code-length-most n c = All-contains (λ length. length ≤ CODE_DIGITS) CODE_LENGTHS n (All-from_recursion (λ (length : ℕ). length ≤ CODE_DIGITS) CODE_LENGTHS (omega arith)) c
+
+pub code_of-long : (plan : Plan) (text : List ℕ) → CODE_DIGITS < length text → code_of plan text ≡ None
+code_of-long plan text long = by (digits_of_text text) refl
   where
-    by-length : (digits : List ℕ) → length digits ≡ length text → if_code plan digits ≡ None
-    by-length [] e = refl
-    by-length (a ∷ []) e = absurd (omega (arith, one, three))
-    by-length (a ∷ b ∷ []) e = refl
-    by-length (a ∷ b ∷ c ∷ []) e = absurd (omega (arith, one, three))
-    by-length (a ∷ b ∷ c ∷ d ∷ rest) e = refl
+    refused : (digits : List ℕ) → length digits ≡ length text → if_code plan digits ≡ None
+    refused digits e = ⊎_elim
+        (λ t. absurd (omega (arith, code-length-most (length digits) (is_code-length plan digits t), e, long)))
+        (λ f. cond-false _ _ _ f) (cases_Bool (is_code plan digits))
 
     by : (digits : Option (List ℕ)) → digits_of_text text ≡ digits → code_of plan text ≡ None
     by None e = rw e refl
-    by (Some digits) e = rw e (by-length digits (digits-length text digits e))
+    by (Some digits) e = rw e (refused digits (digits-length text digits e))
+
+-- a text whose digits do not fit in a code is none
+pub code_of-none : (plan : Plan) (text : List ℕ) → digits_within CODE_DIGITS text ≡ None → code_of plan text ≡ None
+code_of-none plan text e =
+    ⊎_elim (λ h. ap (option_and_then (if_code plan)) (sym (cond-true _ _ _ h) ∙ e)) (λ h. code_of-long plan text (long h))
+    (cases_Bool (nat_le (length text) CODE_DIGITS))
+  where
+    long : nat_le (length text) CODE_DIGITS ≡ false → CODE_DIGITS < length text
+    long h = grind (arith, nat_tests)

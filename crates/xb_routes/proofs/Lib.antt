@@ -1,6 +1,10 @@
 pub mod Codes
 pub mod Places
+pub mod CodeNumbers
+pub mod Index
 pub mod Longest
 pub mod Reading
-pub mod Entering
 pub mod Translating
+pub mod Items
+pub mod ByItem
+pub mod ByText

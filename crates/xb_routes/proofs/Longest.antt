@@ -1,21 +1,22 @@
--- The route of the longest code, found by the fronts of the digits.
-use Rattle.std.proofs.Common.{◌≡◌, ◌≤◌, ◌<◌, ℕ, zero, suc, eq-eqb, Bool, true, false, List, [], ◌∷◌, length, map, take, Option, Some, None, option_map, refl, sym, ap, subst, ◌∙◌, ◌⊎◌, ⊎_elim, inl, inr, arith}
-use Rattle.std.specs.Prelude.{◌==◌, if◌then◌else◌, nat_le, nat_lt, option_and_then, slice_get}
-use Rattle.std.specs.Option.{option_or}
-use Rattle.std.specs.List.{AllByRecursion}
+-- The route of the longest code, found by the first digits, the greatest length first.
+use Rattle.std.proofs.Common.{◌≡◌, ◌≢◌, ◌≤◌, ◌<◌, ℕ, zero, suc, eq-eqb, Bool, true, false, List, [], ◌∷◌, length, get_or, map, take, Option, Some, None, option_map, refl, sym, ap, subst, ◌∙◌, ◌⊎◌, ⊎_elim, inl, inr, arith}
+use Rattle.std.specs.Prelude.{◌==◌, if◌then◌else◌, nat_le, nat_lt, slice_get}
+use Rattle.std.specs.List.{AllByRecursion, Contains}
 use Rattle.std.proofs.lemmas.Bool.{and_parts, cases_Bool, cond-true, cond-false, eqb-true, le-ltb, lt-ltb}
 use Rattle.std.proofs.lemmas.List.{length-take-le}
+use Rattle.std.proofs.lemmas.Option.{slice_get-get_or, slice_get-map}
+use Rattle.std.proofs.lemmas.List.Elements.{All-contains, All-from_recursion}
 use Rattle.std.proofs.lemmas.Bool.Decides.{nat_tests}
 use Rattle.xb_model.specs.Routing.{CodedRoute, covers, longer_of, longest_of, route_for}
-use Rattle.xb_routes.specs.declared.code.Code.{Code}
-use Rattle.xb_routes.specs.declared.code.Code.TheVariants.{Operator, Office}
+use Rattle.xb_routes.specs.declared.code.TheConstants.{CODE_LENGTHS}
 use Rattle.xb_routes.specs.declared.route.Entry.{Entry}
-use Rattle.xb_routes.specs.Coded.{code_digits, coded}
+use Rattle.xb_routes.specs.Coded.{coded}
+use Rattle.xb_routes.specs.Codes.{IsCodeLength}
 use Rattle.xb_routes.specs.Text.{has_code}
-use Rattle.xb_routes.specs.Places.{place_of, place_of_front}
+use Rattle.xb_routes.specs.Places.{place_of, place_of_first}
 use Rattle.xb_routes.proofs.Places.{has-code, has-code-is, place-none}
 
--- a code that covers digits is their front
+-- a code that covers digits is the first of them
 pub covers-take : (code digits : List ℕ) → covers code digits ≡ true → take (length code) digits ≡ code
 covers-take [] digits h = refl
 covers-take (c ∷ code) [] h = absurd (cc)
@@ -30,11 +31,11 @@ covers-length [] digits h = omega arith
 covers-length (c ∷ code) [] h = absurd (cc)
 covers-length (c ∷ code) (d ∷ digits) h = omega (arith, covers-length code digits (and_parts (c == d) (covers code digits) h).1)
 
--- each front of digits covers them
-pub covers-front : (n : ℕ) (digits : List ℕ) → covers (take n digits) digits ≡ true
-covers-front zero digits = refl
-covers-front (suc n) [] = refl
-covers-front (suc n) (d ∷ digits) = rw (eq-eqb d d refl) (covers-front n digits)
+-- the first of digits cover them
+pub covers-first : (n : ℕ) (digits : List ℕ) → covers (take n digits) digits ≡ true
+covers-first zero digits = refl
+covers-first (suc n) [] = refl
+covers-first (suc n) (d ∷ digits) = rw (eq-eqb d d refl) (covers-first n digits)
 
 -- the longer of two is one of them
 longer-is : (route : CodedRoute) (best : Option CodedRoute) (o : CodedRoute) → longer_of route best ≡ Some o → (o ≡ route) ⊎ (best ≡ Some o)
@@ -45,6 +46,38 @@ longer-is route (Some other) o e = by (nat_lt (length route.code) (length other.
     by true e = inr e
     by false e = inl (cc)
 
+-- an entry that stands at a place gives the route there
+pub entry-at : (entries : List Entry) (p : ℕ) (entry : Entry) → p < length entries → entry ≡ get_or entries p entry
+    → slice_get (map coded entries) p ≡ Some (coded entry)
+entry-at entries p entry below e =
+    slice_get-map coded entries p ∙ ap (option_map coded) (slice_get-get_or entries p entry below ∙ ap (λ x. Some x) (sym e))
+
+-- the place of a code is one of the routes
+below-length : (code : List ℕ) (routes : List CodedRoute) (p : ℕ) → place_of code routes ≡ Some p → p < length routes
+below-length code [] p e = absurd (cc)
+below-length code (route ∷ routes) p e = by (has_code code route) (place_of code routes) refl e (below-length code routes)
+  where
+    by : (b : Bool) (q : Option ℕ) → place_of code routes ≡ q → (if b then Some 0 else option_map suc q) ≡ Some p
+        → ((k : ℕ) → place_of code routes ≡ Some k → k < length routes) → p < suc (length routes)
+    by true q f e more = let first : 0 ≡ p = cc in omega arith
+    by false None f e more = absurd (cc)
+    by false (Some k) f e more = let next : suc k ≡ p = cc in omega (arith, more k f)
+
+-- a length other than the first is among the others
+other-length : (n : ℕ) (lengths : List ℕ) (m : ℕ) → Contains (n ∷ lengths) m → m ≢ n → Contains lengths m
+other-length n lengths m (zero, below, e) other = absurd (other (sym e))
+other-length n lengths m (suc k, below, e) other = (k, omega (arith, below), e)
+
+-- each of some lengths is less than those before it
+abbrev pub Descend : List ℕ → Type 0
+Descend [] = Unit {0}
+Descend (n ∷ lengths) = AllByRecursion (λ m. m ≤ n) lengths × Descend lengths
+
+-- so the first is the greatest
+first-greatest : (n : ℕ) (lengths : List ℕ) (m : ℕ) → Descend (n ∷ lengths) → Contains (n ∷ lengths) m → m ≤ n
+first-greatest n lengths m d (zero, below, e) = omega (arith, e)
+first-greatest n lengths m d (suc k, below, e) = All-contains (λ m. m ≤ n) lengths m (All-from_recursion (λ m. m ≤ n) lengths d.0) (k, omega (arith, below), e)
+
 module _ (digits : List ℕ) where
   -- where a route covers the digits, its code has at most n of them
   abbrev pub Within : ℕ → CodedRoute → Type 0
@@ -53,7 +86,7 @@ module _ (digits : List ℕ) where
   abbrev pub AllWithin : ℕ → List CodedRoute → Type 0
   AllWithin n routes = AllByRecursion (Within n) routes
 
-  -- a route in front that covers the digits, and one that does not
+  -- a first route that covers the digits, and one that does not
   route_for-cover : (route : CodedRoute) (routes : List CodedRoute) → covers route.code digits ≡ true
       → route_for (route ∷ routes) digits ≡ longer_of route (route_for routes digits)
   route_for-cover route routes h = ap longest_of (cond-true _ _ _ h)
@@ -123,7 +156,7 @@ module _ (digits : List ℕ) where
       (λ h. by (place_of code routes) refl (sym (cond-false _ _ _ h) ∙ e) h (longest-at code fits routes a.1))
       (cases_Bool (has_code code route))
     where
-      -- a shorter route in front
+      -- a first route that is shorter
       shorter : has_code code route ≡ false → covers route.code digits ≡ true → length route.code ≤ length code → length route.code < length code
       shorter h c w = ⊎_elim (λ (l : length route.code < length code). l) (λ (s : length route.code ≡ length code).
           absurd (cc (has-code code route (sym (covers-take route.code digits c) ∙ ap (λ n. take n digits) s ∙ covers-take code digits fits)))) (grind (arith))
@@ -144,84 +177,101 @@ module _ (digits : List ℕ) where
           (cases_Bool (covers route.code digits)) in
           rw next found
 
-  -- a front of the digits that has no place tells that each code that covers them is shorter
-  lowered-past : (n : ℕ) → length digits ≤ n → (routes : List CodedRoute) → AllWithin n routes
-  lowered-past n short [] = tt
-  lowered-past n short (route ∷ routes) = (λ h. omega (arith, covers-length route.code digits h), lowered-past n short routes)
-
-  lowered-from : (n : ℕ) (routes : List CodedRoute) → AllWithin (suc n) routes
-      → place_of (take (suc n) digits) routes ≡ None → AllWithin n routes
-  lowered-from n [] a e = tt
-  lowered-from n (route ∷ routes) a e =
-      let p = place-none (take (suc n) digits) route routes e in
-      (λ h. under-more h (a.0 h) p.0, lowered-from n routes a.1 p.1)
-    where
-      under-more : covers route.code digits ≡ true → length route.code ≤ suc n → has_code (take (suc n) digits) route ≡ false → length route.code ≤ n
-      under-more h w f = ⊎_elim (λ (l : length route.code ≤ n). l) (λ (s : length route.code ≡ suc n).
-          absurd (cc (has-code (take (suc n) digits) route (sym (covers-take route.code digits h) ∙ ap (λ k. take k digits) s)))) (grind (arith))
-
-  lowered : (n : ℕ) (routes : List CodedRoute) → AllWithin (suc n) routes
-      → place_of_front (suc n) digits routes ≡ None → AllWithin n routes
-  lowered n routes a e =
-      ⊎_elim
-      (λ h. lowered-from n routes a (sym (cond-true _ _ _ h) ∙ e))
-      (λ h. lowered-past n (past h) routes)
-      (cases_Bool (nat_le (suc n) (length digits)))
-    where
-      past : nat_le (suc n) (length digits) ≡ false → length digits ≤ n
-      past h = grind (arith, nat_tests)
-
-  -- a route is found by the longest front that has a place
-  longest-front : (n : ℕ) (routes : List CodedRoute) → AllWithin n routes
-      → (p : ℕ) → place_of_front n digits routes ≡ Some p → slice_get routes p ≡ route_for routes digits
-  longest-front n routes a p e =
+  -- where the first n digits have no place, no code that covers the digits has n of them
+  none-so-long : (n : ℕ) (routes : List CodedRoute) → place_of_first n digits routes ≡ None
+      → AllByRecursion (λ route. covers route.code digits ≡ true → length route.code ≢ n) routes
+  none-so-long n [] e = tt
+  none-so-long n (route ∷ routes) e =
       ⊎_elim
       (λ h.
-      let whole : length (take n digits) ≡ n = front-length h in
-      longest-at (take n digits) (covers-front n digits) routes (subst (λ (k : ℕ). AllWithin k routes) (sym whole) a) p (sym (cond-true _ _ _ h) ∙ e))
+      let p = place-none (take n digits) route routes (sym (cond-true _ _ _ h) ∙ e) in (
+        (λ c same. cc (p.0, has-code (take n digits) route (sym (covers-take route.code digits c) ∙ ap (λ k. take k digits) same))),
+        none-so-long n routes (cond-true _ _ _ h ∙ p.1),
+      ))
+      (λ h. (
+        (λ c same. absurd (past h (covers-length route.code digits c) same)),
+        none-so-long n routes (cond-false _ _ _ h),
+      ))
+      (cases_Bool (nat_le n (length digits)))
+    where
+      past : nat_le n (length digits) ≡ false → length route.code ≤ length digits → length route.code ≡ n → ⊥
+      past h c same = grind (arith, nat_tests)
+
+  -- where no code that covers the digits has more than n, the place of the first n is that of the route
+  longest-first : (n : ℕ) (routes : List CodedRoute) → AllWithin n routes
+      → (p : ℕ) → place_of_first n digits routes ≡ Some p → slice_get routes p ≡ route_for routes digits
+  longest-first n routes a p e =
+      ⊎_elim
+      (λ h.
+      let whole : length (take n digits) ≡ n = first-length h in
+      longest-at (take n digits) (covers-first n digits) routes (subst (λ (k : ℕ). AllWithin k routes) (sym whole) a) p (sym (cond-true _ _ _ h) ∙ e))
       (λ h. absurd (cc (sym (cond-false (nat_le n (length digits)) (place_of (take n digits) routes) None h) ∙ e)))
       (cases_Bool (nat_le n (length digits)))
     where
-      front-length : nat_le n (length digits) ≡ true → length (take n digits) ≡ n
-      front-length h = length-take-le n digits (grind (arith, nat_tests))
+      first-length : nat_le n (length digits) ≡ true → length (take n digits) ≡ n
+      first-length h = length-take-le n digits (grind (arith, nat_tests))
 
--- codes have one digit or three, so one that has at most two has one, and none has none
-codes-three : (digits : List ℕ) (entries : List Entry) → AllWithin digits 3 (map coded entries)
-codes-three digits [] = tt
-codes-three digits (entry ∷ entries) = (λ h. at-most entry.code, codes-three digits entries)
-  where
-    at-most : (code : Code) → length (code_digits code) ≤ 3
-    at-most Operator = omega arith
-    at-most (Office a b c) = omega arith
+  -- each code that covers the digits has one of these lengths
+  abbrev pub CoversBy : List ℕ → List CodedRoute → Type 0
+  CoversBy lengths routes = AllByRecursion (λ route. covers route.code digits ≡ true → Contains lengths (length route.code)) routes
 
-codes-one : (digits : List ℕ) (entries : List Entry) → AllWithin digits 2 (map coded entries)
-    → AllWithin digits 1 (map coded entries)
-codes-one digits [] a = tt
-codes-one digits (entry ∷ entries) a = (λ h. at-most entry.code (a.0 h), codes-one digits entries a.1)
-  where
-    at-most : (code : Code) → length (code_digits code) ≤ 2 → length (code_digits code) ≤ 1
-    at-most Operator h = omega arith
-    at-most (Office a b c) h = omega arith
+  covers-left : (n : ℕ) (lengths : List ℕ) (routes : List CodedRoute) → CoversBy (n ∷ lengths) routes
+      → AllByRecursion (λ route. covers route.code digits ≡ true → length route.code ≢ n) routes → CoversBy lengths routes
+  covers-left n lengths [] a others = tt
+  covers-left n lengths (route ∷ routes) a others =
+      ((λ c. other-length n lengths (length route.code) (a.0 c) (others.0 c)), covers-left n lengths routes a.1 others.1)
 
-codes-none : (digits : List ℕ) (entries : List Entry) → AllWithin digits 0 (map coded entries)
-    → route_for (map coded entries) digits ≡ None
-codes-none digits [] a = refl
-codes-none digits (entry ∷ entries) a =
-    ⊎_elim (λ h. absurd (empty entry.code (a.0 h)))
-    (λ h. route_for-other digits (coded entry) (map coded entries) h ∙ codes-none digits entries a.1)
-    (cases_Bool (covers (code_digits entry.code) digits))
-  where
-    empty : (code : Code) → length (code_digits code) ≤ 0 → ⊥
-    empty Operator h = omega arith
-    empty (Office a b c) h = omega arith
+  covers-within : (n : ℕ) (lengths : List ℕ) → Descend (n ∷ lengths) → (routes : List CodedRoute) → CoversBy (n ∷ lengths) routes → AllWithin n routes
+  covers-within n lengths d [] a = tt
+  covers-within n lengths d (route ∷ routes) a =
+      ((λ c. first-greatest n lengths (length route.code) d (a.0 c)), covers-within n lengths d routes a.1)
 
--- the office code of the digits decides, and else the code of the operator
-pub two-fronts : (digits : List ℕ) (entries : List Entry) (office operator : Option ℕ)
-    → office ≡ place_of_front 3 digits (map coded entries) → operator ≡ place_of_front 1 digits (map coded entries)
-    → option_and_then (slice_get (map coded entries)) (option_or office operator) ≡ route_for (map coded entries) digits
-two-fronts digits entries (Some p) operator e f = longest-front digits 3 (map coded entries) (codes-three digits entries) p (sym e)
-two-fronts digits entries None (Some p) e f =
-    longest-front digits 1 (map coded entries) (codes-one digits entries (lowered digits 2 (map coded entries) (codes-three digits entries) (sym e))) p (sym f)
-two-fronts digits entries None None e f =
-    sym (codes-none digits entries (lowered digits 0 (map coded entries)
-    (codes-one digits entries (lowered digits 2 (map coded entries) (codes-three digits entries) (sym e))) (sym f)))
+  -- where no length is left, no code covers the digits
+  covers-none : (routes : List CodedRoute) → CoversBy [] routes → route_for routes digits ≡ None
+  covers-none [] a = refl
+  covers-none (route ∷ routes) a =
+      ⊎_elim (λ h. absurd (none (a.0 h))) (λ h. route_for-other route routes h ∙ covers-none routes a.1)
+      (cases_Bool (covers route.code digits))
+    where
+      none : Contains [] (length route.code) → ⊥
+      none (k, below, e) = omega arith
+
+  -- what is to come of a search by lengths: they are less and less, and each code that covers the
+  -- digits has one of them
+  pub record Left (lengths : List ℕ) (routes : List CodedRoute) : Type 0 where
+    pub descend : Descend lengths
+    pub covers : CoversBy lengths routes
+
+  -- at first all lengths of codes are left
+  pub left-all : (routes : List CodedRoute) → AllByRecursion (λ route. IsCodeLength (length route.code)) routes → Left CODE_LENGTHS routes
+  left-all routes lengths = record { descend = descending; covers = by routes lengths }
+    where
+      descending : Descend CODE_LENGTHS
+      descending = omega arith
+
+      by : (routes : List CodedRoute) → AllByRecursion (λ route. IsCodeLength (length route.code)) routes → CoversBy CODE_LENGTHS routes
+      by [] a = tt
+      by (route ∷ routes) a = ((λ c. a.0), by routes a.1)
+
+  -- where the first length has no place, the others are left
+  pub left-next : (n : ℕ) (lengths : List ℕ) (routes : List CodedRoute) → Left (n ∷ lengths) routes
+      → place_of_first n digits routes ≡ None → Left lengths routes
+  left-next n lengths routes left e = record {
+    descend = left.descend.1;
+    covers = covers-left n lengths routes left.covers (none-so-long n routes e);
+  }
+
+  -- where the first length has a place, the route there has the longest code
+  pub left-found : (n : ℕ) (lengths : List ℕ) (routes : List CodedRoute) → Left (n ∷ lengths) routes → (p : ℕ)
+      → place_of_first n digits routes ≡ Some p → slice_get routes p ≡ route_for routes digits
+  left-found n lengths routes left p e = longest-first n routes (covers-within n lengths left.descend routes left.covers) p e
+
+  -- where no length is left, the digits begin with no code
+  pub left-none : (routes : List CodedRoute) → Left [] routes → route_for routes digits ≡ None
+  left-none routes left = covers-none routes left.covers
+
+  -- a place is one of the routes
+  pub place-below : (n : ℕ) (routes : List CodedRoute) (p : ℕ) → place_of_first n digits routes ≡ Some p → p < length routes
+  place-below n routes p e =
+      ⊎_elim (λ h. below-length (take n digits) routes p (sym (cond-true _ _ _ h) ∙ e)) (λ h. absurd (cc (cond-false (nat_le n (length digits)) (place_of (take n digits) routes) None h)))
+      (cases_Bool (nat_le n (length digits)))

@@ -1,12 +1,12 @@
 -- One route of a text more, or a refusal.
-use Rattle.std.proofs.Common.{◌≡◌, ◌≤◌, ◌<◌, ◌+◌, ℕ, suc, List, [], ◌∷◌, ◌++◌, length, get_or, drop, Some, None, Ok, Err, Bool, true, false, refl, ap, arith}
+use Rattle.std.proofs.Common.{◌≡◌, ◌≤◌, ◌<◌, ◌+◌, ℕ, suc, List, [], ◌∷◌, ◌++◌, length, get_or, drop, Some, None, Ok, Err, Bool, true, false, refl, ap, ◌∙◌, arith}
 use Rattle.std.specs.Prelude.{IsUtf8, nat_le, nat_lt}
 use Rattle.std.specs.List.{list_any}
 use Rattle.std.specs.Str.{is_utf8}
 use Rattle.std.proofs.lemmas.Bool.Decides.{nat_tests}
 use Rattle.std.proofs.lemmas.List.{drop_all}
 use Rattle.std.proofs.lemmas.Str.{IsUtf8-from_is_utf8, is_utf8-from_IsUtf8}
-use Rattle.toml.specs.Data.{Members}
+use Rattle.toml.specs.Data.{Members, item}
 use Rattle.toml.specs.Parse.{parse_document}
 use Rattle.toml.specs.View.{items_view, view}
 use Rattle.toml.specs.declared.value.Value.{Value}
@@ -17,35 +17,32 @@ use Rattle.xb_routes.specs.declared.table.TheConstants.{MOST_ROUTES}
 use Rattle.xb_routes.specs.declared.fault.RouteFault.{RouteFault}
 use Rattle.xb_routes.specs.declared.fault.RouteFault.TheVariants as fault
 use Rattle.xb_routes.specs.Keys.{keys_of}
-use Rattle.xb_routes.specs.Text.{and_then, count, has_code, if_new, route_of, routes_from, routes_of_array, tree_of}
+use Rattle.xb_routes.specs.Text.{count, has_code, route_of, routes_from, routes_of_array, tree_of}
+use Rattle.xb_routes.proofs.Items.{item-refused, item-taken, item-twice, items-end}
 
 module _ (plan : Plan) (values : List Value) (k i : ℕ) (earlier : List CodedRoute) where
   module _ (value : Value) (h : k < length values) (e : value ≡ get_or values k value) where
-    routes-step : routes_from plan i earlier (items_view (drop k values))
-        ≡ and_then (route_of plan i (keys_of (view value))) (λ route.
-        and_then (if_new i earlier route) (λ new.
-        routes_from plan (i + 1) (earlier ++ new ∷ []) (items_view (drop (k + 1) values))))
-    unfolding routes_from
-    routes-step = rw (items_view-drop values k value h, ← e) refl
+    -- the items from place k on
+    items-at : items_view (drop k values) ≡ item (view value) (items_view (drop (k + 1) values))
+    items-at = rw (items_view-drop values k value h, ← e) refl
 
     -- a route that is refused
-    pub routes-refused : (f : RouteFault) → Err f ≡ route_of plan i (keys_of (view value)) → routes_from plan i earlier (items_view (drop k values)) ≡ Err f
-    routes-refused f r = rw (routes-step, ← r) refl
+    pub routes-refused : (f : RouteFault) → route_of plan i (keys_of (view value)) ≡ Err f → routes_from plan i earlier (items_view (drop k values)) ≡ Err f
+    routes-refused f r = ap (routes_from plan i earlier) items-at ∙ item-refused plan i earlier (view value) (items_view (drop (k + 1) values)) f r
 
-    -- a route whose code an earlier one has
-    pub routes-twice : (route : CodedRoute) → Ok route ≡ route_of plan i (keys_of (view value)) → list_any (has_code route.code) earlier ≡ true
-        → routes_from plan i earlier (items_view (drop k values)) ≡ Err (fault.Twice i)
-    routes-twice route r t = rw (routes-step, ← r, t) refl
+    module _ (route : CodedRoute) (r : route_of plan i (keys_of (view value)) ≡ Ok route) where
+      -- a route whose code an earlier one has
+      pub routes-twice : list_any (has_code route.code) earlier ≡ true → routes_from plan i earlier (items_view (drop k values)) ≡ Err (fault.Twice i)
+      routes-twice t = ap (routes_from plan i earlier) items-at ∙ item-twice plan i earlier (view value) (items_view (drop (k + 1) values)) route r t
 
-    -- a route that is taken
-    pub routes-taken : (route : CodedRoute) → Ok route ≡ route_of plan i (keys_of (view value)) → list_any (has_code route.code) earlier ≡ false
-        → routes_from plan i earlier (items_view (drop k values)) ≡ routes_from plan (i + 1) (earlier ++ route ∷ []) (items_view (drop (k + 1) values))
-    routes-taken route r t = rw (routes-step, ← r, t) refl
+      -- a route that is taken
+      pub routes-taken : list_any (has_code route.code) earlier ≡ false
+          → routes_from plan i earlier (items_view (drop k values)) ≡ routes_from plan (i + 1) (earlier ++ route ∷ []) (items_view (drop (k + 1) values))
+      routes-taken t = ap (routes_from plan i earlier) items-at ∙ item-taken plan i earlier (view value) (items_view (drop (k + 1) values)) route r t
 
   -- no value is left
   pub routes-end : length values ≤ k → routes_from plan i earlier (items_view (drop k values)) ≡ Ok earlier
-  unfolding routes_from
-  routes-end h = rw (drop_all k values h) refl
+  routes-end h = ap (λ rest. routes_from plan i earlier (items_view rest)) (drop_all k values h) ∙ items-end plan i earlier
 
 count-view : (values : List Value) → count (items_view values) ≡ length values
 count-view [] = refl

@@ -1,10 +1,13 @@
 -- The codes that a route may have (own format). N is 2 to 9, X is 0 to 9.
-use Rattle.std.specs.Prelude.{ℕ, ◌+◌, ◌-◌, ◌*◌, List, [], ◌∷◌, Bool, false, ◌&&◌, ◌||◌, ◌==◌, nat_le, if◌then◌else◌, Option, Some, None, option_and_then, option_map, unwrap_or}
+use Rattle.std.specs.Prelude.{ℕ, ◌<◌, ◌-◌, List, [], ◌∷◌, length, Bool, false, ◌&&◌, ◌||◌, ◌==◌, nat_le, if◌then◌else◌, Option, Some, None, option_and_then, option_map, unwrap_or}
 use Rattle.std.specs.Char.{is_ascii_digit}
+use Rattle.std.specs.List.{AllByRecursion, Contains}
+use Rattle.xb_model.specs.declared.digit.TheConstants.{DIGITS}
 use Rattle.xb_model.specs.declared.plan.Plan.{Plan}
 use Rattle.xb_model.specs.declared.plan.Plan.TheVariants.{Seven}
 use Rattle.xb_model.specs.Page.{zero_byte}
 use Rattle.xb_model.specs.Plans.{plan_len}
+use Rattle.xb_routes.specs.declared.code.TheConstants.{CODE_LENGTHS}
 
 -- the digit that an ASCII character is
 abbrev pub digit_of_character : ℕ → Option ℕ
@@ -16,13 +19,21 @@ digits_of_text [] = Some []
 digits_of_text (c ∷ text) =
     option_and_then (λ d. option_map (λ digits. d ∷ digits) (digits_of_text text)) (digit_of_character c)
 
+-- the same of a text that is not too long
+abbrev pub digits_within : ℕ → List ℕ → Option (List ℕ)
+digits_within most text = if nat_le (length text) most then digits_of_text text else None
+
+-- each is a digit
+abbrev pub AreDigits : List ℕ → Type 0
+AreDigits digits = AllByRecursion (λ digit. digit < DIGITS) digits
+
+-- as many digits as a code may have
+abbrev pub IsCodeLength : ℕ → Type 0
+IsCodeLength n = Contains CODE_LENGTHS n
+
 -- three digits NNX or N11
 abbrev pub is_office_code : Plan → ℕ → ℕ → ℕ → Bool
 is_office_code Seven a b c = nat_le 2 a && (nat_le 2 b || (b == 1 && c == 1))
-
--- three digits as a number
-abbrev pub office_number : ℕ → ℕ → ℕ → ℕ
-office_number a b c = 100 * a + 10 * b + c
 
 -- 0 alone, or an office code
 abbrev pub is_code : Plan → List ℕ → Bool

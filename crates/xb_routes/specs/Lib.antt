@@ -5,4 +5,5 @@ pub mod Text
 pub mod Coded
 pub mod Places
 pub mod Translating
+pub mod ByItem
 pub mod Worked

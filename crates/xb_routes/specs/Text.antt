@@ -13,7 +13,7 @@ use Rattle.xb_model.specs.Routing.{CodedRoute, coded_route}
 use Rattle.xb_routes.specs.declared.fault.RouteFault.{RouteFault}
 use Rattle.xb_routes.specs.declared.fault.RouteFault.TheVariants as fault
 use Rattle.xb_routes.specs.declared.table.TheConstants.{MOST_ROUTES}
-use Rattle.xb_routes.specs.Codes.{code_of, digits_of_text, number_length}
+use Rattle.xb_routes.specs.Codes.{code_of, digits_within, number_length}
 use Rattle.xb_routes.specs.Keys.{FourKeys, keys_of}
 use Rattle.xb_routes.specs.Table.{Table}
 
@@ -37,12 +37,12 @@ deleted_of length None = Some 0
 deleted_of length (Some (pos n)) = if nat_le n length then Some n else None
 deleted_of length (Some (negsuc n)) = None
 
--- the digits that a route puts in front
+-- the digits that a route puts before a number
 abbrev pub prefixed_of : Option (List ℕ) → Option (List ℕ)
 prefixed_of None = Some []
-prefixed_of (Some text) = if nat_le (length text) PREFIX_DIGITS then digits_of_text text else None
+prefixed_of (Some text) = digits_within PREFIX_DIGITS text
 
--- a route that keys a digit: it does not delete all of them, or puts some in front
+-- a route that keys a digit: it does not delete all of them, or puts some before the number
 abbrev pub if_keying : Plan → ℕ → CodedRoute → Result CodedRoute RouteFault
 if_keying plan i route =
     if (route.deleted == number_length plan route.code) && (length route.prefixed == 0) then Err (fault.NothingToKey i) else Ok route

@@ -1,18 +1,44 @@
 // The codes that a route may have.
 ghost use Rattle.std.specs.Prelude.{◌≡◌, length, option_map};
-ghost use Rattle.xb_routes.specs.Codes.{code_of, digit_of_character, digits_of_text, is_office_code, number_length};
-ghost use Rattle.xb_routes.specs.Coded.{code_digits};
+ghost use Rattle.xb_routes.specs.Codes.{IsCodeLength, code_of, digit_of_character, digits_within};
+ghost use Rattle.xb_routes.specs.Codes.{is_code, is_office_code, number_length};
 ghost use Rattle.xb_routes.specs.Text.{prefixed_of};
 
-use xb_model::{Digit, PREFIX_DIGITS, Plan, PrefixDigits, plan_len};
+use std::marker::Model;
+use xb_model::{Digit, DigitList, PREFIX_DIGITS, Plan, PrefixDigits, plan_len};
 
-/// A code of a route.
-#[derive(Clone, Copy, Debug, PartialEq, Eq)]
-pub(crate) enum Code {
-    /// 0 alone.
-    Operator,
-    /// Three digits.
-    Office(Digit, Digit, Digit),
+/// The most digits of a code (own format).
+pub(crate) const CODE_DIGITS: usize = 3;
+
+/// How many digits a code has, the greatest number first (own format).
+pub(crate) const CODE_LENGTHS: [usize; 2] = [CODE_DIGITS, 1];
+
+/// A code of a route: digits that numbers begin with.
+#[derive(Drop)]
+pub(crate) struct Code {
+    digits: DigitList<CODE_DIGITS>,
+}
+
+// Clauses see the digits.
+impl Model for Code {
+    ghost use Rattle.std.specs.Prelude.{ℕ, List, length};
+    ghost use Rattle.xb_routes.specs.Codes.{IsCodeLength};
+
+    ghost Value = { List ℕ };
+
+    ghost view = { λ code. code.digits };
+
+    ghost invariant = { λ code. IsCodeLength (length code.digits) };
+}
+
+impl Code {
+    /// The digits, in order.
+    pub(crate) fn digits(&self) -> &[Digit]
+        ensures value { result.now ≡ self.now }
+        ensures length { IsCodeLength (length self.now) }
+    {
+        self.digits.digits()
+    }
 }
 
 fn digit_of(character: u8) -> Option<Digit>
@@ -24,6 +50,20 @@ fn digit_of(character: u8) -> Option<Digit>
     }
 }
 
+// The digits of a text that has nothing else; `None` also where they are more than the capacity.
+fn digits_of<const CAPACITY: usize>(text: &[u8]) -> Option<DigitList<CAPACITY>>
+    ensures { result ≡ digits_within CAPACITY text.now }
+{
+    if text.len() > CAPACITY {
+        return None;
+    }
+    let mut digits = DigitList::new();
+    for character in text {
+        digits.push(digit_of(*character)?);
+    }
+    Some(digits)
+}
+
 // Whether three digits are a code: NNX or N11.
 fn is_office_code(plan: Plan, first: u8, second: u8, third: u8) -> bool
     ensures { result ≡ is_office_code plan first second third }
@@ -33,41 +73,33 @@ fn is_office_code(plan: Plan, first: u8, second: u8, third: u8) -> bool
     }
 }
 
+fn is_code(plan: Plan, digits: &[Digit]) -> bool
+    ensures { result ≡ is_code plan digits.now }
+{
+    match digits {
+        [only] => only.get() == 0,
+        [first, second, third] => is_office_code(plan, first.get(), second.get(), third.get()),
+        _ => false,
+    }
+}
+
 /// The code that a text writes.
 pub(crate) fn code_of(plan: Plan, text: &[u8]) -> Option<Code>
-    ensures { option_map code_digits result ≡ code_of plan text.now }
+    ensures { result ≡ code_of plan text.now }
 {
-    match text {
-        [only] => {
-            if digit_of(*only)?.get() == 0 {
-                Some(Code::Operator)
-            } else {
-                None
-            }
-        }
-        [first, second, third] => {
-            let first = digit_of(*first)?;
-            let second = digit_of(*second)?;
-            let third = digit_of(*third)?;
-            if is_office_code(plan, first.get(), second.get(), third.get()) {
-                Some(Code::Office(first, second, third))
-            } else {
-                None
-            }
-        }
-        _ => None,
+    let digits = digits_of(text)?;
+    if is_code(plan, digits.digits()) {
+        Some(Code { digits })
+    } else {
+        None
     }
 }
 
 /// How many digits the numbers have that begin with a code.
 pub(crate) fn number_length(plan: Plan, code: &Code) -> u8
-    ensures { result ≡ number_length plan (code_digits code.now) }
+    ensures { result ≡ number_length plan code.now }
 {
-    let length = match *code {
-        Code::Operator => plan_len(plan, &[Digit::default()]),
-        Code::Office(first, second, third) => plan_len(plan, &[first, second, third]),
-    };
-    length.unwrap_or(0)
+    plan_len(plan, code.digits()).unwrap_or(0)
 }
 
 /// The digits that a text puts before a number; none without a text.
@@ -76,19 +108,6 @@ pub(crate) fn prefixed_of(text: Option<&str>) -> Option<PrefixDigits>
 {
     match text {
         None => Some(PrefixDigits::new()),
-        Some(text) => prefix_digits(text.as_bytes()),
+        Some(text) => digits_of(text.as_bytes()),
     }
-}
-
-fn prefix_digits(text: &[u8]) -> Option<PrefixDigits>
-    ensures { result ≡ prefixed_of (Some text.now) }
-{
-    if text.len() > PREFIX_DIGITS {
-        return None;
-    }
-    let mut digits = PrefixDigits::new();
-    for character in text {
-        digits.push(digit_of(*character)?);
-    }
-    Some(digits)
 }

@@ -3,8 +3,9 @@ use thiserror::Error;
 
 /// Why a route table is refused (own format). A number is that of the route, the first being 1.
 ///
-/// The first fault in this order is answered: the text, the array of routes, their count, and then
-/// each route in turn from its shape on.
+/// The first fault in this order is returned: that of the text, of the array of routes, of their
+/// count, and then those of each route in turn, from its shape on. `NoMemory` comes where memory ran
+/// out, before any later check.
 #[derive(Clone, Copy, Debug, PartialEq, Eq, Error)]
 pub enum RouteFault {
     /// The text is not UTF-8, or not TOML.
@@ -29,10 +30,10 @@ pub enum RouteFault {
     /// `prefix` is not 0 to 8 ASCII digits.
     #[error("route {0} has a wrong prefix")]
     Prefix(u32),
-    /// The route deletes all digits and puts none in front.
+    /// The route deletes all digits of its numbers and puts none before them.
     #[error("route {0} keys no digit")]
     NothingToKey(u32),
-    /// An earlier route has the code.
+    /// An earlier route has the same code.
     #[error("route {0} repeats a code")]
     Twice(u32),
     /// Memory ran out.

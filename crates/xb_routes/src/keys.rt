@@ -15,7 +15,7 @@ pub(crate) struct RouteKeys<'a> {
     pub(crate) trunk: i64,
     /// How many digits it deletes, if it says so.
     pub(crate) delete: Option<i64>,
-    /// The text that it puts in front, if any.
+    /// The text that it puts before a number, if any.
     pub(crate) prefix: Option<&'a str>,
 }
 
@@ -48,7 +48,8 @@ fn optional_number(keys: &Table, name: &str) -> Option<Option<i64>>
 }
 
 fn optional_text<'a>(keys: &'a Table, name: &str) -> Option<Option<&'a str>>
-    ensures { option_map (λ o. option_map (λ s. s.now) o) result ≡ optional as_str name.now (table_view keys.now) }
+    ensures { option_map (λ o. option_map (λ s. s.now) o) result
+        ≡ optional as_str name.now (table_view keys.now) }
 {
     let Some(value) = value_at(keys, name) else {
         return Some(None);

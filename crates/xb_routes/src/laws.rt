@@ -1,16 +1,35 @@
-// Laws of routes.
-ghost use Rattle.std.specs.Prelude.{◌≡◌, List, map};
-ghost use Rattle.xb_model.specs.declared.dialled.Dialled.{Dialled};
-ghost use Rattle.xb_model.specs.declared.line.LineNo.{LineNo};
-ghost use Rattle.xb_model.specs.Routing.{CodedRoute, order_of};
-ghost use Rattle.xb_stage.specs.Image.{image_on};
-ghost use Rattle.xb_stage.specs.OnLines.{on_line};
-ghost use Rattle.xb_routes.specs.Translating.{machine};
+//! Laws of route tables: functions that do nothing, each with a theorem as its contract.
+ghost use Rattle.std.specs.Prelude.{◌≡◌, ◌<◌, ◌↔◌, ℕ, List, Ok, Err};
+ghost use Rattle.toml.specs.Data.{Items};
+ghost use Rattle.xb_model.specs.declared.plan.Plan.{Plan};
+ghost use Rattle.xb_model.specs.Routing.{CodedRoute};
+ghost use Rattle.xb_routes.specs.declared.fault.RouteFault.{RouteFault};
+ghost use Rattle.xb_routes.specs.declared.fault.RouteFault.TheVariants.{TooMany};
+ghost use Rattle.xb_routes.specs.declared.table.TheConstants.{MOST_ROUTES};
+ghost use Rattle.xb_routes.specs.ByItem.{AreRoutesOf, IsFaultOfItems, IsFaultOfText, Writes};
+ghost use Rattle.xb_routes.specs.Table.{Table};
+ghost use Rattle.xb_routes.specs.Text.{count, routes_of_array, table_of_text};
 ghost use Rattle.xb_routes.specs.Worked.{LooksUp, ReadsCodes, ReadsTables};
 
-/// What is dialled on a line gives its orders, one each, in order.
-pub fn one_order_each()
-    ensures { (routes : List CodedRoute) (line : LineNo) (outcomes : List Dialled) → image_on (machine routes) (on_line line outcomes) ≡ on_line line (map (order_of routes) outcomes) }
+/// The routes of an array, said of all its items at once: they are accepted exactly where there are
+/// at most `MOST_ROUTES` items, each gives its route by itself, and no two routes have the same
+/// code. Else there are too many, or the fault is that of the first item that has one: its own, or
+/// `Twice` where an earlier route has its code.
+pub fn routes_by_item()
+    ensures accepted { (plan : Plan) (items : Items) (routes : List CodedRoute) →
+        (routes_of_array plan items ≡ Ok routes) ↔ AreRoutesOf plan items routes }
+    ensures refused { (plan : Plan) (items : Items) (fault : RouteFault) →
+        (routes_of_array plan items ≡ Err fault) ↔ IsFaultOfItems plan items fault }
+    ensures too_many { (plan : Plan) (items : Items) →
+        (routes_of_array plan items ≡ Err TooMany) ↔ (MOST_ROUTES < count items) }
+{}
+
+/// The same of a whole text. `RouteTable::read` gives what `table_of_text` gives, so it accepts
+/// only a text that writes the table, and refuses only with the text's first fault.
+pub fn tables_by_item()
+    ensures accepted { (text : List ℕ) (table : Table) → (table_of_text text ≡ Ok table) ↔ Writes text table }
+    ensures refused { (text : List ℕ) (fault : RouteFault) →
+        (table_of_text text ≡ Err fault) ↔ IsFaultOfText text fault }
 {}
 
 /// What the definitions give at worked tables.

@@ -1,19 +1,20 @@
 // The route table.
-ghost use Rattle.std.specs.Prelude.{◌≡◌, ◌≢◌, ◌≤◌, [], None, Some, Ok, Err, IfOk, IfErr, codes, map, length, nat_lt, option_map, option_copied};
+ghost use Rattle.std.specs.Prelude.{◌≡◌, ◌≢◌, ◌≤◌, [], None, Some, Ok, Err, IfOk, IfErr};
+ghost use Rattle.std.specs.Prelude.{codes, length, nat_lt, option_map, option_copied};
 ghost use Rattle.std.specs.Result.{result_map_both};
 ghost use Rattle.toml.specs.Data.{get_member};
 ghost use Rattle.toml.specs.View.{items_view, table_view};
 ghost use Rattle.xb_model.specs.LawfulLimits.{IsLawful};
 ghost use Rattle.xb_model.specs.Routing.{route_for};
-ghost use Rattle.xb_routes.specs.Coded.{coded, uncoded};
-ghost use Rattle.xb_routes.specs.Places.{IsIndex};
-ghost use Rattle.xb_routes.specs.Text.{route_items, routes_from, routes_of_array, routes_of_key, table_of_text, tree_of};
+ghost use Rattle.xb_routes.specs.Coded.{uncoded};
+ghost use Rattle.xb_routes.specs.Text.{route_items, routes_from, routes_of_array, routes_of_key};
+ghost use Rattle.xb_routes.specs.Text.{table_of_text, tree_of};
 ghost use Rattle.xb_routes.specs.declared.fault.RouteFault.TheVariants.{NoMemory, NotToml};
 
 use crate::fault::RouteFault;
-use crate::index::Index;
 use crate::keys::value_at;
-use crate::route::{Entry, Route, route_of};
+use crate::route::{Route, route_of};
+use crate::routes::Routes;
 use std::alloc::Global;
 use std::marker::Model;
 use toml::{Table, Value};
@@ -25,58 +26,42 @@ pub const MOST_ROUTES: usize = 1_000;
 /// The routes of an office, the plan of its numbers and the limits of their pulses.
 #[derive(Drop)]
 pub struct RouteTable {
-    entries: Vec<Entry>,
-    index: Index,
+    routes: Routes,
     plan: Plan,
     limits: Limits,
 }
 
 impl Model for RouteTable {
-    ghost use Rattle.std.specs.Prelude.{map};
     ghost use Rattle.xb_model.specs.LawfulLimits.{IsLawful};
-    ghost use Rattle.xb_routes.specs.Coded.{coded};
-    ghost use Rattle.xb_routes.specs.Places.{IsIndex};
     ghost use Rattle.xb_routes.specs.Table.{Table};
 
     ghost Value = { Table };
 
-    ghost view = { λ t. record { routes = map coded t.entries.items; plan = t.plan; limits = t.limits } };
+    ghost view = { λ t. record { routes = t.routes; plan = t.plan; limits = t.limits } };
 
-    ghost invariant = { λ t. IsLawful t.limits × IsIndex t.index (map coded t.entries.items) };
-}
-
-// The routes that have been read, and where each stands.
-#[derive(Drop)]
-struct Routes {
-    entries: Vec<Entry>,
-    index: Index,
+    ghost invariant = { λ t. IsLawful t.limits };
 }
 
 // The routes of an array that are not too many.
 fn read_routes(alloc: Global, plan: Plan, values: &[Value]) -> Result<Routes, RouteFault>
     requires { length values.now ≤ MOST_ROUTES }
-    ensures ok { IfOk result (λ r. routes_from plan 1 [] (items_view values.now) ≡ Ok (map coded r.entries.items)) }
-    ensures index { IfOk result (λ r. IsIndex r.index (map coded r.entries.items)) }
-    ensures refused { IfErr result (λ f. f ≢ NoMemory → routes_from plan 1 [] (items_view values.now) ≡ Err f) }
+    ensures ok { IfOk result (λ routes. routes_from plan 1 [] (items_view values.now) ≡ Ok routes) }
+    ensures refused { IfErr result (λ f. f ≢ NoMemory →
+        routes_from plan 1 [] (items_view values.now) ≡ Err f) }
 {
-    let Ok(mut index) = Index::new(alloc) else {
-        return Err(RouteFault::NoMemory);
-    };
-    let mut entries: Vec<Entry> = Vec::new(alloc);
-    let mut place: u16 = 0;
+    let mut routes = Routes::new(alloc);
+    let mut i: u32 = 0;
     for value in values {
-        let i = u32::from(place) + 1;
+        i += 1;
         let entry = route_of(plan, i, value)?;
-        if index.place_of(&entry.code).is_some() {
+        if routes.has(&entry.code) {
             return Err(RouteFault::Twice(i));
         }
-        index.enter(&entry.code, place);
-        if entries.push(entry).is_err() {
+        let Ok(()) = routes.push(entry) else {
             return Err(RouteFault::NoMemory);
-        }
-        place += 1;
+        };
     }
-    Ok(Routes { entries, index })
+    Ok(routes)
 }
 
 // Whether an array has more routes than a table may.
@@ -88,9 +73,9 @@ fn is_too_many(values: &[Value]) -> bool
 
 // The routes of an array.
 fn read_array(alloc: Global, plan: Plan, values: &[Value]) -> Result<Routes, RouteFault>
-    ensures ok { IfOk result (λ r. routes_of_array plan (items_view values.now) ≡ Ok (map coded r.entries.items)) }
-    ensures index { IfOk result (λ r. IsIndex r.index (map coded r.entries.items)) }
-    ensures refused { IfErr result (λ f. f ≢ NoMemory → routes_of_array plan (items_view values.now) ≡ Err f) }
+    ensures ok { IfOk result (λ routes. routes_of_array plan (items_view values.now) ≡ Ok routes) }
+    ensures refused { IfErr result (λ f. f ≢ NoMemory →
+        routes_of_array plan (items_view values.now) ≡ Err f) }
 {
     if is_too_many(values) {
         return Err(RouteFault::TooMany);
@@ -100,7 +85,8 @@ fn read_array(alloc: Global, plan: Plan, values: &[Value]) -> Result<Routes, Rou
 
 // The items of the key `route`: none where it is missing.
 fn route_items(tree: &Table) -> Result<&[Value], RouteFault>
-    ensures { result_map_both (λ values. items_view values.now) (λ f. f) result ≡ route_items (get_member (codes "route") (table_view tree.now)) }
+    ensures { result_map_both (λ values. items_view values.now) (λ f. f) result
+        ≡ route_items (get_member (codes "route") (table_view tree.now)) }
 {
     let Some(value) = value_at(tree, "route") else {
         return Ok(&[]);
@@ -125,9 +111,10 @@ fn tree_of(alloc: Global, text: &[u8]) -> Result<Table, RouteFault>
 
 // The routes of a tree.
 fn read_tree(alloc: Global, plan: Plan, tree: &Table) -> Result<Routes, RouteFault>
-    ensures ok { IfOk result (λ r. routes_of_key plan (get_member (codes "route") (table_view tree.now)) ≡ Ok (map coded r.entries.items)) }
-    ensures index { IfOk result (λ r. IsIndex r.index (map coded r.entries.items)) }
-    ensures refused { IfErr result (λ f. f ≢ NoMemory → routes_of_key plan (get_member (codes "route") (table_view tree.now)) ≡ Err f) }
+    ensures ok { IfOk result (λ routes.
+        routes_of_key plan (get_member (codes "route") (table_view tree.now)) ≡ Ok routes) }
+    ensures refused { IfErr result (λ f. f ≢ NoMemory →
+        routes_of_key plan (get_member (codes "route") (table_view tree.now)) ≡ Err f) }
 {
     read_array(alloc, plan, route_items(tree)?)
 }
@@ -144,10 +131,9 @@ impl RouteTable {
     {
         let tree = tree_of(alloc, text)?;
         let plan = Plan::Seven;
-        let Routes { entries, index } = read_tree(alloc, plan, &tree)?;
+        let routes = read_tree(alloc, plan, &tree)?;
         Ok(RouteTable {
-            entries,
-            index,
+            routes,
             plan,
             limits: Limits::standard(),
         })
@@ -158,9 +144,7 @@ impl RouteTable {
     pub fn look(&self, digits: &[Digit]) -> Option<&Route>
         ensures { option_copied result ≡ option_map uncoded (route_for self.now.routes digits.now) }
     {
-        let place = self.index.place_for(digits)?;
-        let entry = self.entries.get(usize::from(place))?;
-        Some(&entry.route)
+        self.routes.look(digits)
     }
 
     /// How long numbers are.

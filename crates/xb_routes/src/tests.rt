@@ -1,4 +1,4 @@
-// Route tables: what they answer, what they refuse, and how large they may be.
+// Route tables: the routes that they give, the faults that refuse them, and how large they may be.
 mod faults;
 mod large;
 mod orders;
@@ -33,20 +33,36 @@ fn digits(rt: &impl Abort, alloc: Global, text: &str) -> Result<Vec<Digit>, Allo
     Ok(digits)
 }
 
-// Checks the trunk group, the deletion and the prefix of the route of a number.
+// The table that a text writes.
+fn table_of(rt: &impl Abort, alloc: Global, text: &str) -> RouteTable {
+    match RouteTable::read(alloc, text.as_bytes()) {
+        Ok(table) => table,
+        Err(fault) => panic!(rt; "{fault:?} of {text}"),
+    }
+}
+
+// Checks the trunk group, the deletion and the prefix of the route of a number in the table that a
+// text writes.
 fn check_route(
     rt: &impl Abort,
     alloc: Global,
-    table: &RouteTable,
+    text: &str,
     number: &str,
     wanted: (u16, u8, &str),
 ) -> Result<(), AllocError> {
+    let table = table_of(rt, alloc, text);
     let (trunk, deleted, prefixed) = wanted;
     let dialled = digits(rt, alloc, number)?;
     let prefixed = digits(rt, alloc, prefixed)?;
-    let route = table.look(&dialled).expect(rt, "a route");
-    assert_eq!(rt; route.trunk.get(), trunk, "of {number}");
-    assert_eq!(rt; route.deleted, deleted, "of {number}");
-    assert_eq!(rt; route.prefixed.digits(), prefixed.as_slice(), "of {number}");
+    let Some(route) = table.look(&dialled) else {
+        panic!(rt; "no route of {number} in {text}")
+    };
+    assert_eq!(rt; route.trunk.get(), trunk, "of {number} in {text}");
+    assert_eq!(rt; route.deleted, deleted, "of {number} in {text}");
+    assert_eq!(rt;
+        route.prefixed.digits(),
+        prefixed.as_slice(),
+        "of {number} in {text}"
+    );
     Ok(())
 }

@@ -2,6 +2,7 @@
 ghost use Rattle.std.specs.Prelude.{◌≡◌, ◌+◌, ◌≤◌, [], ◌∷◌, ◌++◌, drop, length};
 ghost use Rattle.xb_model.specs.Routing.{order_of, routed};
 ghost use Rattle.xb_stage.specs.OnLines.{all_on};
+ghost use Rattle.xb_routes.specs.Translating.{GivesOrders};
 ghost use Rattle.xb_model.specs.declared.digits.TheConstants.{KEY_DIGITS, NUMBER_DIGITS};
 
 use crate::table::RouteTable;
@@ -27,7 +28,8 @@ impl<'t> Model for Translate<'t> {
 impl<'t> Translate<'t> {
     /// The stage that orders by this table.
     pub fn new(table: &'t RouteTable) -> Translate<'t>
-        ensures { result ≡ table.now }
+        ensures table { result ≡ table.now }
+        ensures orders { GivesOrders table.now.routes (⟦<Translate<'t> as LineStage>⟧.machine result) }
     {
         Translate { table }
     }

@@ -3,3 +3,4 @@ pub mod LineLists
 pub mod PageEntries
 pub mod PageFormats
 pub mod PageLines
+pub mod PageMarks

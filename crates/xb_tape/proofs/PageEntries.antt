@@ -1,33 +1,16 @@
--- How a tape is written mark by mark.
-use Rattle.std.proofs.Common.{◌≡◌, ◌≤◌, ◌<◌, ◌+◌, ℕ, List, [], ◌∷◌, ◌++◌, length, get_or, drop, Bool, true, false, not, cond, refl, sym, ap, ◌∙◌, subst, append_assoc, arith}
-use Rattle.std.proofs.lemmas.List.{append-nil, drop_all, drop_more}
-use Rattle.std.specs.Prelude.{Option, Some, None, is_some, count_by}
+-- How the entries of a line are written and counted, one after another.
+use Rattle.std.proofs.Common.{◌≡◌, ◌+◌, ℕ, List, [], ◌∷◌, ◌++◌, Bool, true, false, not, cond, refl, sym, ap, ◌∙◌, subst, append_assoc, arith}
+use Rattle.std.proofs.lemmas.List.{append-nil}
+use Rattle.std.specs.Prelude.{Some, None, is_some, count_by}
 use Rattle.std.proofs.lemmas.List.Sums.{sum_by-cons}
 use Rattle.xb_model.specs.declared.reason.Reason.{Reason}
-use Rattle.xb_model.specs.Page.{entries_text, entry_text, entry_text_by, is_keyed, is_refused, keyed_text, last_refusal, mark_text, marks_text, refused_text}
+use Rattle.xb_model.specs.Page.{entries_text, entry_text, entry_text_by, is_keyed, is_refused, keyed_text, last_refusal, refused_text}
 use Rattle.xb_model.specs.declared.mark.Mark.{Mark}
 
--- the texts of the marks from k on: that of mark k, and those after it
-pub marks-more : (marks : List Mark) (k : ℕ) (d : Mark) → k < length marks → marks_text (drop k marks) ≡ mark_text (get_or marks k d) ++ marks_text (drop (k + 1) marks)
-unfolding marks_text
-marks-more marks k d h = rw (drop_more marks k d h) refl
-
--- a mark more is written
-pub marks-written : (out out2 all : List ℕ) (marks : List Mark) (k : ℕ) (m : Mark) → k < length marks → m ≡ get_or marks k m
-    → out ++ marks_text (drop k marks) ≡ all → out2 ≡ out ++ mark_text m → out2 ++ marks_text (drop (k + 1) marks) ≡ all
-marks-written out out2 all marks k m h e a w =
-    let rest = marks_text (drop (k + 1) marks) in
-    ap (λ (t : List ℕ). t ++ rest) w ∙ append_assoc out (mark_text m) rest
-    ∙ ap (λ (x : Mark). out ++ (mark_text x ++ rest)) e
-    ∙ ap (λ (t : List ℕ). out ++ t) (sym (marks-more marks k m h)) ∙ a
-
--- after the last mark no text is left
-pub marks-end : (marks : List Mark) (k : ℕ) → length marks ≤ k → marks_text (drop k marks) ≡ []
-unfolding marks_text
-marks-end marks k h = rw (drop_all k marks h) refl
-
 -- what is written of a line's entries, and how many are counted, before those that are left
-pub record IsWritten (line : ℕ) (before : List ℕ) (entries : List (List Mark)) (out : List ℕ) (keyed refused : ℕ) (left : List (List Mark)) : Type 0 where
+pub record IsWritten
+    (line : ℕ) (before : List ℕ) (entries : List (List Mark)) (out : List ℕ) (keyed refused : ℕ) (left : List (List Mark))
+    : Type 0 where
   pub text : out ++ entries_text line (keyed + refused + 1) left ≡ before ++ entries_text line 1 entries
   pub keyed_are : keyed + count_by is_keyed left ≡ count_by is_keyed entries
   pub refused_are : refused + count_by is_refused left ≡ count_by is_refused entries
@@ -37,14 +20,17 @@ pub IsWritten-start : (line : ℕ) (before : List ℕ) (entries : List (List Mar
 IsWritten-start line before entries = record { text = refl; keyed_are = omega arith; refused_are = omega arith }
 
 -- after the last entry
-pub IsWritten-end : {line : ℕ} {before : List ℕ} {entries : List (List Mark)} {out : List ℕ} {keyed refused : ℕ} {left : List (List Mark)}
+pub IsWritten-end :
+    {line : ℕ} {before : List ℕ} {entries : List (List Mark)} {out : List ℕ} {keyed refused : ℕ} {left : List (List Mark)}
     → IsWritten line before entries out keyed refused left → left ≡ [] → out ≡ before ++ entries_text line 1 entries
 unfolding entries_text
 IsWritten-end written none = rw (none, append-nil) at written.text
 
--- an entry more is written
-text-more : (line n : ℕ) (out out' all : List ℕ) (entry : List Mark) (left : List (List Mark))
-    → out ++ entries_text line n (entry ∷ left) ≡ all → out' ≡ out ++ entry_text line n entry → out' ++ entries_text line (n + 1) left ≡ all
+-- one entry more is written
+text-more :
+    (line n : ℕ) (out out' all : List ℕ) (entry : List Mark) (left : List (List Mark))
+    → out ++ entries_text line n (entry ∷ left) ≡ all → out' ≡ out ++ entry_text line n entry
+    → out' ++ entries_text line (n + 1) left ≡ all
 unfolding entries_text
 text-more line n out out' all entry left before more =
     ap (λ text. text ++ entries_text line (n + 1) left) more
@@ -52,12 +38,16 @@ text-more line n out out' all entry left before more =
     ∙ before
 
 -- an entry that passes is counted
-count-more : (test : List Mark → Bool) (entry : List Mark) (left : List (List Mark)) (n all : ℕ) → test entry ≡ true → n + count_by test (entry ∷ left) ≡ all → n + 1 + count_by test left ≡ all
+count-more :
+    (test : List Mark → Bool) (entry : List Mark) (left : List (List Mark)) (n all : ℕ) → test entry ≡ true
+    → n + count_by test (entry ∷ left) ≡ all → n + 1 + count_by test left ≡ all
 count-more test entry left n all passes before =
     omega (arith, ap {B = ℕ} (λ b. cond b 1 0) passes, before, sum_by-cons (λ entry. cond (test entry) 1 0) entry left)
 
 -- another entry is not
-count-same : (test : List Mark → Bool) (entry : List Mark) (left : List (List Mark)) (n all : ℕ) → test entry ≡ false → n + count_by test (entry ∷ left) ≡ all → n + count_by test left ≡ all
+count-same :
+    (test : List Mark → Bool) (entry : List Mark) (left : List (List Mark)) (n all : ℕ) → test entry ≡ false
+    → n + count_by test (entry ∷ left) ≡ all → n + count_by test left ≡ all
 count-same test entry left n all passes before =
     omega (arith, ap {B = ℕ} (λ b. cond b 1 0) passes, before, sum_by-cons (λ entry. cond (test entry) 1 0) entry left)
 
@@ -66,24 +56,35 @@ module _ {line : ℕ} {before : List ℕ} {entries here left : List (List Mark)}
   written : IsWritten line before entries out keyed refused (entry ∷ left)
   written = subst (IsWritten line before entries out keyed refused) next so_far
 
-  -- a keyed entry more
-  pub IsWritten-keyed : (out' : List ℕ) → last_refusal entry ≡ None → out' ≡ out ++ keyed_text line (keyed + refused + 1) entry → IsWritten line before entries out' (keyed + 1) refused left
+  -- the entry is a keyed call
+  pub IsWritten-keyed :
+      (out' : List ℕ) → last_refusal entry ≡ None → out' ≡ out ++ keyed_text line (keyed + refused + 1) entry
+      → IsWritten line before entries out' (keyed + 1) refused left
   IsWritten-keyed out' none more =
-      let number : keyed + 1 + refused + 1 ≡ keyed + refused + 1 + 1 = omega arith in
-      let is_text : entry_text line (keyed + refused + 1) entry ≡ keyed_text line (keyed + refused + 1) entry = ap (entry_text_by line (keyed + refused + 1) entry) none in
+      let n : ℕ = keyed + refused + 1 in
+      let number : keyed + 1 + refused + 1 ≡ n + 1 = omega arith in
+      let is_text : entry_text line n entry ≡ keyed_text line n entry = ap (entry_text_by line n entry) none in
       record {
-        text = ap (λ n. out' ++ entries_text line n left) number ∙ text-more line (keyed + refused + 1) out out' _ entry left written.text (more ∙ ap (λ text. out ++ text) (sym is_text));
+        text =
+            ap (λ n. out' ++ entries_text line n left) number
+            ∙ text-more line n out out' _ entry left written.text (more ∙ ap (λ text. out ++ text) (sym is_text));
         keyed_are = count-more is_keyed entry left keyed _ (ap (λ r. not (is_some r)) none) written.keyed_are;
         refused_are = count-same is_refused entry left refused _ (ap is_some none) written.refused_are;
       }
 
-  -- a refused entry more
-  pub IsWritten-refused : (out' : List ℕ) (reason : Reason) (heard : ℕ) → last_refusal entry ≡ Some (reason, heard) → out' ≡ out ++ refused_text line (keyed + refused + 1) reason heard → IsWritten line before entries out' keyed (refused + 1) left
+  -- the entry is a refused one
+  pub IsWritten-refused :
+      (out' : List ℕ) (reason : Reason) (heard : ℕ) → last_refusal entry ≡ Some (reason, heard)
+      → out' ≡ out ++ refused_text line (keyed + refused + 1) reason heard
+      → IsWritten line before entries out' keyed (refused + 1) left
   IsWritten-refused out' reason heard some more =
-      let number : keyed + (refused + 1) + 1 ≡ keyed + refused + 1 + 1 = omega arith in
-      let is_text : entry_text line (keyed + refused + 1) entry ≡ refused_text line (keyed + refused + 1) reason heard = ap (entry_text_by line (keyed + refused + 1) entry) some in
+      let n : ℕ = keyed + refused + 1 in
+      let number : keyed + (refused + 1) + 1 ≡ n + 1 = omega arith in
+      let is_text : entry_text line n entry ≡ refused_text line n reason heard = ap (entry_text_by line n entry) some in
       record {
-        text = ap (λ n. out' ++ entries_text line n left) number ∙ text-more line (keyed + refused + 1) out out' _ entry left written.text (more ∙ ap (λ text. out ++ text) (sym is_text));
+        text =
+            ap (λ n. out' ++ entries_text line n left) number
+            ∙ text-more line n out out' _ entry left written.text (more ∙ ap (λ text. out ++ text) (sym is_text));
         keyed_are = count-same is_keyed entry left keyed _ (ap (λ r. not (is_some r)) some) written.keyed_are;
         refused_are = count-more is_refused entry left refused _ (ap is_some some) written.refused_are;
       }

@@ -1,5 +1,5 @@
--- How a page is written, tape after tape.
-use Rattle.std.proofs.Common.{◌≡◌, ◌≤◌, ◌<◌, ◌+◌, ℕ, List, [], ◌∷◌, ◌++◌, length, drop, Bool, get_or, refl, sym, ap, ◌∙◌, arith, append_assoc, codes, decimal}
+-- How the tapes of all lines are written and counted, one after another.
+use Rattle.std.proofs.Common.{◌≡◌, ◌<◌, ◌+◌, ℕ, List, [], ◌∷◌, ◌++◌, length, drop, Bool, get_or, refl, sym, ap, ◌∙◌, arith, append_assoc, codes, decimal}
 use Rattle.std.specs.Prelude.{count_by}
 use Rattle.std.proofs.lemmas.List.Sums.{sum_by-cons}
 use Rattle.std.proofs.lemmas.List.{append-nil, drop_all, drop_more}
@@ -18,7 +18,9 @@ pub AreWritten-start : (tapes : List (List Mark)) → AreWritten tapes [] 0 0 0
 AreWritten-start tapes = record { text = refl; keyed_are = omega arith; refused_are = omega arith }
 
 -- the text of one tape more
-text-more : (out out' all : List ℕ) (n : ℕ) (marks : List Mark) (left : List (List Mark)) → out ++ tapes_text n (marks ∷ left) ≡ all → out' ≡ out ++ tape_text n marks → out' ++ tapes_text (n + 1) left ≡ all
+text-more :
+    (out out' all : List ℕ) (n : ℕ) (marks : List Mark) (left : List (List Mark))
+    → out ++ tapes_text n (marks ∷ left) ≡ all → out' ≡ out ++ tape_text n marks → out' ++ tapes_text (n + 1) left ≡ all
 unfolding tapes_text
 text-more out out' all n marks left before more =
     ap (λ text. text ++ tapes_text (n + 1) left) more
@@ -26,7 +28,10 @@ text-more out out' all n marks left before more =
     ∙ before
 
 -- the count of one tape more
-count-more : (test : List Mark → Bool) (marks : List Mark) (left : List (List Mark)) (n k all : ℕ) → n + count_entries test (marks ∷ left) ≡ all → k ≡ count_by test (entries_of marks) → n + k + count_entries test left ≡ all
+count-more :
+    (test : List Mark → Bool) (marks : List Mark) (left : List (List Mark)) (n k all : ℕ)
+    → n + count_entries test (marks ∷ left) ≡ all → k ≡ count_by test (entries_of marks)
+    → n + k + count_entries test left ≡ all
 count-more test marks left n k all before more =
     omega (arith, before, more, sum_by-cons (λ marks. count_by test (entries_of marks)) marks left)
 
@@ -45,7 +50,9 @@ AreWritten-more {tapes} {out} {keyed} {refused} {n} marks out' keyed' refused' b
     }
 
 -- after the last line
-pub AreWritten-end : {tapes : List (List Mark)} {out : List ℕ} {keyed refused n : ℕ} → AreWritten tapes out keyed refused n → n ≡ length tapes → out ++ totals_text keyed refused ≡ page_text tapes
+pub AreWritten-end :
+    {tapes : List (List Mark)} {out : List ℕ} {keyed refused n : ℕ} → AreWritten tapes out keyed refused n
+    → n ≡ length tapes → out ++ totals_text keyed refused ≡ page_text tapes
 unfolding tapes_text
 AreWritten-end {tapes} {out} {keyed} {refused} {n} written whole =
     let none : drop n tapes ≡ [] = drop_all n tapes (omega (arith, whole)) in

@@ -1,12 +1,13 @@
 // The page: one line for each entry of the tapes, and the totals.
 ghost use Rattle.std.specs.Prelude.{◌≡◌, ◌<◌, ◌^◌, ◌++◌, OnOk, IfOk, count_by, string_bytes};
+ghost use Rattle.xb_model.specs.Page.{mark_text, marks_text, reason_text, keyed_text, refused_text};
+ghost use Rattle.xb_model.specs.Page.{last_refusal, is_keyed, is_refused, tape_text, page_text};
 ghost use Rattle.xb_model.specs.Tapes.{entries_of};
-ghost use Rattle.xb_model.specs.Page.{is_keyed, is_refused, keyed_text, last_refusal, mark_text, marks_text, page_text, reason_text, refused_text, tape_text};
 
 use crate::entries::entries;
 use crate::tapes::Tapes;
 use std::alloc::{AllocError, Global};
-use xb_model::{Key, Mark, Reason, Tone};
+use xb_model::{Key, LineNo, Mark, Reason, Tone};
 
 // How many entries of a line are keyed calls, and how many are refused ones.
 #[derive(Clone, Copy, Default)]
@@ -68,31 +69,40 @@ fn last_refusal(entry: &[Mark]) -> Option<(Reason, u8)>
     }
 }
 
-// Writes a refusal.
+// Writes entry `number` of a line, which refuses a call.
 fn write_refused(
     out: &mut String,
-    line: u16,
+    line: LineNo,
     number: usize,
     reason: Reason,
     heard: u8,
 ) -> Result<(), AllocError>
-    ensures { OnOk result (string_bytes out.new ≡ string_bytes out.old ++ refused_text line number reason heard) }
+    ensures { OnOk result (string_bytes out.new
+        ≡ string_bytes out.old ++ refused_text line number reason heard) }
 {
+    let line = line.get();
     let word = reason_text(reason);
     write!(out, "{line:04} {number} REFUSED {word} {heard}\n")
 }
 
-// Writes a keying.
-fn write_keyed(out: &mut String, line: u16, number: usize, entry: &[Mark]) -> Result<(), AllocError>
-    ensures { OnOk result (string_bytes out.new ≡ string_bytes out.old ++ keyed_text line number entry.now) }
+// Writes entry `number` of a line, a keyed call.
+fn write_keyed(
+    out: &mut String,
+    line: LineNo,
+    number: usize,
+    entry: &[Mark],
+) -> Result<(), AllocError>
+    ensures { OnOk result (string_bytes out.new
+        ≡ string_bytes out.old ++ keyed_text line number entry.now) }
 {
+    let line = line.get();
     write!(out, "{line:04} {number} KEYED")?;
     write_marks(out, entry)?;
     out.push_str("\n")
 }
 
 // Writes the entries of a line, and counts them.
-fn write_tape(out: &mut String, line: u16, marks: &[Mark]) -> Result<Totals, AllocError>
+fn write_tape(out: &mut String, line: LineNo, marks: &[Mark]) -> Result<Totals, AllocError>
     ensures text { OnOk result (string_bytes out.new ≡ string_bytes out.old ++ tape_text line marks.now) }
     ensures keyed { IfOk result (λ totals. totals.keyed ≡ count_by is_keyed (entries_of marks.now)) }
     ensures refused { IfOk result (λ totals. totals.refused ≡ count_by is_refused (entries_of marks.now)) }
@@ -116,14 +126,17 @@ fn write_tape(out: &mut String, line: u16, marks: &[Mark]) -> Result<Totals, All
     Ok(totals)
 }
 
-/// The page of the tapes (own format), in ASCII, each printed line ended by one LF: for each line
-/// of the office, ascending, its entries counted from 1, and last the totals.
+/// The page of the tapes (own format): ASCII, each printed line ended by one LF. It has the entries
+/// of each line of the office, the lines ascending and the entries of a line counted from 1, and
+/// last the totals of keyed and of refused entries.
 ///
-/// A keying is `0005 1 KEYED 0001 KP:1100+1700 0:1300+1500 ST:1500+1700`: the line, the entry's
-/// number, the trunk group, and each key with its pair of tones in Hz. A refusal is
-/// `0008 1 REFUSED MUTILATED 1`: the reason, and the count that goes with it. The totals are
-/// `KEYED 1 REFUSED 1`. Marks after a line's last ending mark are no entry and write nothing.
-/// `Err` where memory ran out.
+/// A keyed call is printed as `0005 1 KEYED 0001 KP:1100+1700 0:1300+1500 ST:1500+1700`: the line,
+/// the entry's number, the trunk group, and each key with its pair of tones in Hz. A refused one is
+/// `0008 1 REFUSED MUTILATED 1`: its reason, and the count that goes with it. The totals are
+/// `KEYED 1 REFUSED 1`. Lines and trunk groups have four digits, with leading zeros. Marks after a
+/// line's last ending mark belong to no entry and are not printed.
+///
+/// `Err` says that memory ran out.
 pub fn page(alloc: Global, tapes: &Tapes) -> Result<Vec<u8>, AllocError>
     ensures { IfOk result (λ page. page.items ≡ page_text tapes.now) }
 {
@@ -131,7 +144,7 @@ pub fn page(alloc: Global, tapes: &Tapes) -> Result<Vec<u8>, AllocError>
     let mut keyed: u128 = 0;
     let mut refused: u128 = 0;
     for (line, marks) in tapes.lines() {
-        let totals = write_tape(&mut out, line.get(), marks)?;
+        let totals = write_tape(&mut out, line, marks)?;
         keyed += totals.keyed as u128;
         refused += totals.refused as u128;
     }

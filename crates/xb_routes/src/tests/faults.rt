@@ -6,10 +6,10 @@ use std::process::Abort;
 use std::test::Fail;
 
 // Checks the fault with which a text is refused.
-fn check_fault(rt: &impl Abort, alloc: Global, text: &[u8], fault: RouteFault) {
-    match RouteTable::read(alloc, text) {
-        Ok(_) => panic!(rt; "accepted in place of {fault:?}"),
-        Err(found) => assert_eq!(rt; found, fault),
+fn check_fault(rt: &impl Abort, alloc: Global, text: &str, fault: RouteFault) {
+    match RouteTable::read(alloc, text.as_bytes()) {
+        Ok(_) => panic!(rt; "accepted in place of {fault:?}: {text}"),
+        Err(found) => assert_eq!(rt; found, fault, "of {text}"),
     }
 }
 
@@ -38,23 +38,31 @@ fn texts_of_faults(rt: HostRuntime) -> Result<(), Fail> {
     ] {
         let mut written = String::new(rt.alloc());
         write!(&mut written, "{fault}")?;
-        assert_eq!(rt; written.as_str(), text);
+        assert_eq!(rt; written.as_str(), text, "of {fault:?}");
     }
     Ok(())
 }
 
 #[test]
 fn texts_that_are_not_toml(rt: HostRuntime) {
-    let texts: [&[u8]; 6] = [
-        b"code = ",
-        b"\xff",
-        b"# \xc3\x28\n",
-        b"[[route]]\ncode = \"0\"\ncode = \"0\"\n",
-        b"[[route]]\ncode = \"0\"\ntrunk = 9223372036854775808\n",
-        b"route = 3\nroute = 3\n",
-    ];
-    for text in texts {
+    for text in [
+        "code = ",
+        "[[route]]\ncode = \"0\"\ncode = \"0\"\n",
+        "[[route]]\ncode = \"0\"\ntrunk = 9223372036854775808\n",
+        "route = 3\nroute = 3\n",
+    ] {
         check_fault(&rt, rt.alloc(), text, RouteFault::NotToml);
+    }
+}
+
+#[test]
+fn texts_that_are_not_utf_8(rt: HostRuntime) {
+    for (name, text) in [
+        ("a byte FF", b"\xff".as_slice()),
+        ("a character cut short", b"# \xc3\x28\n".as_slice()),
+    ] {
+        let fault = RouteTable::read(rt.alloc(), text).err();
+        assert_eq!(rt; fault, Some(RouteFault::NotToml), "of {name}");
     }
 }
 
@@ -67,7 +75,7 @@ fn routes_that_are_no_array(rt: HostRuntime) {
         "route = \"0\"",
         "[route]\ncode = \"0\"\ntrunk = 1",
     ] {
-        check_fault(&rt, rt.alloc(), text.as_bytes(), RouteFault::Shape(0));
+        check_fault(&rt, rt.alloc(), text, RouteFault::Shape(0));
     }
 }
 
@@ -101,11 +109,11 @@ fn faults_of_one_table(rt: HostRuntime) -> Result<(), Fail> {
             RouteFault::Delete(1),
         ),
     ] {
-        check_fault(&rt, rt.alloc(), text.as_bytes(), fault);
+        check_fault(&rt, rt.alloc(), text, fault);
     }
     let mut fourth = String::from_str(rt.alloc(), THREE_ROUTES)?;
     fourth.push_str("[[route]]\ncode = \"234\"\ntrunk = 5\n")?;
-    check_fault(&rt, rt.alloc(), fourth.as_bytes(), RouteFault::Twice(4));
+    check_fault(&rt, rt.alloc(), &fourth, RouteFault::Twice(4));
     Ok(())
 }
 
@@ -113,7 +121,7 @@ fn faults_of_one_table(rt: HostRuntime) -> Result<(), Fail> {
 fn check_shape(rt: &impl Abort, alloc: Global, route: &str, value: &str) -> Result<(), AllocError> {
     let mut text = String::from_str(alloc, route)?;
     text.push_str(value)?;
-    check_fault(rt, alloc, text.as_bytes(), RouteFault::Shape(1));
+    check_fault(rt, alloc, &text, RouteFault::Shape(1));
     Ok(())
 }
 
@@ -140,7 +148,7 @@ fn other_kinds_than_numbers(rt: HostRuntime) -> Result<(), Fail> {
 }
 
 #[test]
-fn the_first_fault_is_answered(rt: HostRuntime) -> Result<(), Fail> {
+fn the_first_fault_is_returned(rt: HostRuntime) -> Result<(), Fail> {
     for (lines, code, fault) in [
         ("trunk = true", "x", RouteFault::Shape(1)),
         ("trunk = 10000", "x", RouteFault::Code(1)),
@@ -167,7 +175,7 @@ fn the_first_fault_is_answered(rt: HostRuntime) -> Result<(), Fail> {
         ),
     ] {
         let text = one_route(rt.alloc(), code, lines)?;
-        check_fault(&rt, rt.alloc(), text.as_bytes(), fault);
+        check_fault(&rt, rt.alloc(), &text, fault);
     }
     Ok(())
 }
@@ -191,7 +199,7 @@ fn numbers_out_of_range(rt: HostRuntime) -> Result<(), Fail> {
         ("trunk = 0\nprefix = \"\u{ff15}\"", RouteFault::Prefix(1)),
     ] {
         let text = one_route(rt.alloc(), "234", lines)?;
-        check_fault(&rt, rt.alloc(), text.as_bytes(), fault);
+        check_fault(&rt, rt.alloc(), &text, fault);
     }
     Ok(())
 }
@@ -223,8 +231,7 @@ const CODES: &[(&str, &str, (u16, u8, &str))] = &[
 fn codes_of_plan_seven(rt: HostRuntime) -> Result<(), Fail> {
     for (code, lines, route) in CODES {
         let text = one_route(rt.alloc(), code, lines)?;
-        let table = RouteTable::read(rt.alloc(), text.as_bytes())?;
-        check_route(&rt, rt.alloc(), &table, code, *route)?;
+        check_route(&rt, rt.alloc(), &text, code, *route)?;
     }
     Ok(())
 }
@@ -237,14 +244,9 @@ fn deletions_of_all_digits_and_more(rt: HostRuntime) -> Result<(), Fail> {
         ("411", "trunk = 1\ndelete = 3", "trunk = 1\ndelete = 4"),
     ] {
         let text = one_route(rt.alloc(), code, all)?;
-        check_fault(
-            &rt,
-            rt.alloc(),
-            text.as_bytes(),
-            RouteFault::NothingToKey(1),
-        );
+        check_fault(&rt, rt.alloc(), &text, RouteFault::NothingToKey(1));
         let text = one_route(rt.alloc(), code, more)?;
-        check_fault(&rt, rt.alloc(), text.as_bytes(), RouteFault::Delete(1));
+        check_fault(&rt, rt.alloc(), &text, RouteFault::Delete(1));
     }
     Ok(())
 }
@@ -255,7 +257,7 @@ fn texts_that_are_no_codes(rt: HostRuntime) -> Result<(), Fail> {
         "212", "201", "212555", "411555", "212155", "111", "1", "23", "2345", "", "23a",
     ] {
         let text = one_route(rt.alloc(), code, "trunk = 1")?;
-        check_fault(&rt, rt.alloc(), text.as_bytes(), RouteFault::Code(1));
+        check_fault(&rt, rt.alloc(), &text, RouteFault::Code(1));
     }
     Ok(())
 }

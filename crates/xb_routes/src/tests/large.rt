@@ -114,11 +114,13 @@ fn deep_nesting(rt: HostRuntime) -> Result<(), Fail> {
     Ok(())
 }
 
-// Checks that a text has no route.
-fn check_no_route(rt: &impl Abort, alloc: Global, text: &str) -> Result<(), Fail> {
-    let table = RouteTable::read(alloc, text.as_bytes())?;
+// Checks that a text is read and has no route.
+fn check_no_route(rt: &impl Abort, alloc: Global, text: &str, name: &str) -> Result<(), Fail> {
     let digits = digits(rt, alloc, "0")?;
-    assert!(rt; table.look(&digits).is_none());
+    match RouteTable::read(alloc, text.as_bytes()) {
+        Ok(table) => assert!(rt; table.look(&digits).is_none(), "a route of {name}"),
+        Err(fault) => panic!(rt; "{name}: {fault:?}"),
+    }
     Ok(())
 }
 
@@ -132,7 +134,7 @@ fn many_keys(rt: HostRuntime) -> Result<(), Fail> {
         write!(&mut text, "k{key} = {key}\n")?;
     }
     assert!(rt; text.len() > DECK - LONGEST_LINE && text.len() <= DECK);
-    check_no_route(&rt, rt.alloc(), text.as_str())
+    check_no_route(&rt, rt.alloc(), &text, "many keys")
 }
 
 // The header of a table that lies 70 deep.
@@ -168,20 +170,29 @@ fn lines_of_keys(
 #[test]
 fn keys_of_each_form(rt: HostRuntime) -> Result<(), Fail> {
     let deep = deep_header(rt.alloc())?;
-    for (first, step, around) in [
-        ("", 9_999, ("k", " = 0\n")),
-        ("", 7_919, ("k", " = 0\n")),
-        ("", 7_919, ("a.k", " = 0\n")),
-        ("", 7_919, ("k", ".a = 0\n")),
-        ("", 7_919, ("[k", "]\n")),
-        (deep.as_str(), 7_919, ("k", " = 0\n")),
+    for (name, first, step, around) in [
+        ("descending keys", "", 9_999, ("k", " = 0\n")),
+        ("mixed keys", "", 7_919, ("k", " = 0\n")),
+        ("last parts of dotted keys", "", 7_919, ("a.k", " = 0\n")),
+        ("first parts of dotted keys", "", 7_919, ("k", ".a = 0\n")),
+        ("headers", "", 7_919, ("[k", "]\n")),
+        (
+            "keys of a deep table",
+            deep.as_str(),
+            7_919,
+            ("k", " = 0\n"),
+        ),
     ] {
         let mut text = lines_of_keys(rt.alloc(), first, step, around)?;
-        check_no_route(&rt, rt.alloc(), text.as_str())?;
+        check_no_route(&rt, rt.alloc(), &text, name)?;
         let (before, after) = around;
         write!(&mut text, "{before}0{after}")?;
         let fault = RouteTable::read(rt.alloc(), text.as_bytes()).err();
-        assert_eq!(rt; fault, Some(RouteFault::NotToml), "{before}0{after} twice");
+        assert_eq!(rt;
+            fault,
+            Some(RouteFault::NotToml),
+            "{name}, one of them twice"
+        );
     }
     Ok(())
 }

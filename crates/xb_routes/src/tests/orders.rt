@@ -1,5 +1,5 @@
 // The routes of a table, and the orders of what is dialled.
-use super::{THREE_ROUTES, check_route, digits};
+use super::{THREE_ROUTES, check_route, digits, table_of};
 use crate::{RouteTable, Translate};
 use std::alloc::{AllocError, Global};
 use std::process::Abort;
@@ -12,6 +12,7 @@ fn ordered(
     rt: &impl Abort,
     alloc: Global,
     table: &RouteTable,
+    name: &str,
     outcome: Dialled,
 ) -> Result<Order, AllocError> {
     let line = LineNo::new(20).expect(rt, "a line");
@@ -23,9 +24,9 @@ fn ordered(
         what: outcome,
     };
     stage.step(&mut state, item, &mut out);
+    assert_eq!(rt; out.len(), 1, "orders of {name}");
     let order = out.pop().expect(rt, "an order");
-    assert!(rt; out.is_empty(), "one order");
-    assert_eq!(rt; order.line.get(), 20);
+    assert_eq!(rt; order.line.get(), 20, "the line of {name}");
     Ok(order.what)
 }
 
@@ -40,7 +41,7 @@ fn check_order(
     let dialled = digits(rt, alloc, number)?;
     let dialled = NumberDigits::of(&dialled).expect(rt, "at most seven digits");
     let keyed = digits(rt, alloc, keyed)?;
-    match ordered(rt, alloc, table, Dialled::Number(dialled))? {
+    match ordered(rt, alloc, table, number, Dialled::Number(dialled))? {
         Order::Key(group, order) => {
             assert_eq!(rt; group.get(), trunk, "of {number}");
             assert_eq!(rt; order.digits(), keyed.as_slice(), "of {number}");
@@ -55,19 +56,19 @@ fn check_refusal(
     rt: &impl Abort,
     alloc: Global,
     table: &RouteTable,
+    name: &str,
     outcome: Dialled,
     refusal: (Reason, u8),
 ) -> Result<(), AllocError> {
-    match ordered(rt, alloc, table, outcome)? {
-        Order::Key(group, _) => panic!(rt; "keyed by {group:?} in place of {refusal:?}"),
-        Order::Refused(reason, heard) => assert_eq!(rt; (reason, heard), refusal),
+    match ordered(rt, alloc, table, name, outcome)? {
+        Order::Key(group, _) => panic!(rt; "{name} is keyed on {group:?}"),
+        Order::Refused(reason, heard) => assert_eq!(rt; (reason, heard), refusal, "of {name}"),
     }
     Ok(())
 }
 
 #[test]
 fn routes_are_looked_up(rt: HostRuntime) -> Result<(), Fail> {
-    let table = RouteTable::read(rt.alloc(), THREE_ROUTES.as_bytes())?;
     for (number, route) in [
         ("2345678", (17, 3, "56")),
         ("234", (17, 3, "56")),
@@ -75,19 +76,19 @@ fn routes_are_looked_up(rt: HostRuntime) -> Result<(), Fail> {
         ("0", (1, 0, "")),
         ("0999", (1, 0, "")),
     ] {
-        check_route(&rt, rt.alloc(), &table, number, route)?;
+        check_route(&rt, rt.alloc(), THREE_ROUTES, number, route)?;
     }
     Ok(())
 }
 
 #[test]
 fn numbers_without_a_route(rt: HostRuntime) -> Result<(), Fail> {
-    let table = RouteTable::read(rt.alloc(), THREE_ROUTES.as_bytes())?;
+    let table = table_of(&rt, rt.alloc(), THREE_ROUTES);
     for number in ["", "2", "23", "611", "5551234", "1234567", "412"] {
         let digits = digits(&rt, rt.alloc(), number)?;
         assert!(rt; table.look(&digits).is_none(), "{number} has no route");
     }
-    let empty = RouteTable::read(rt.alloc(), b"")?;
+    let empty = table_of(&rt, rt.alloc(), "");
     let number = digits(&rt, rt.alloc(), "2345678")?;
     assert!(rt; empty.look(&number).is_none());
     Ok(())
@@ -97,16 +98,16 @@ fn numbers_without_a_route(rt: HostRuntime) -> Result<(), Fail> {
 fn plan_and_limits(rt: HostRuntime) -> Result<(), Fail> {
     let other_keys = "plan = 10\nname = \"office\"\n[limits]\nrelease = 250\n";
     for text in ["", THREE_ROUTES, other_keys] {
-        let table = RouteTable::read(rt.alloc(), text.as_bytes())?;
-        assert_eq!(rt; table.plan(), Plan::Seven);
-        assert_eq!(rt; table.limits(), Limits::standard());
+        let table = table_of(&rt, rt.alloc(), text);
+        assert_eq!(rt; table.plan(), Plan::Seven, "of {text}");
+        assert_eq!(rt; table.limits(), Limits::standard(), "of {text}");
     }
     Ok(())
 }
 
 #[test]
 fn numbers_are_ordered(rt: HostRuntime) -> Result<(), Fail> {
-    let table = RouteTable::read(rt.alloc(), THREE_ROUTES.as_bytes())?;
+    let table = table_of(&rt, rt.alloc(), THREE_ROUTES);
     for row in [
         ("2345678", 17, "565678"),
         ("411", 3, "411"),
@@ -120,21 +121,26 @@ fn numbers_are_ordered(rt: HostRuntime) -> Result<(), Fail> {
 
 #[test]
 fn numbers_without_a_route_are_refused(rt: HostRuntime) -> Result<(), Fail> {
-    let table = RouteTable::read(rt.alloc(), THREE_ROUTES.as_bytes())?;
+    let table = table_of(&rt, rt.alloc(), THREE_ROUTES);
     for (number, heard) in [("611", 3), ("5551234", 7)] {
-        let number = digits(&rt, rt.alloc(), number)?;
-        let outcome = Dialled::Number(NumberDigits::of(&number).ok_or("seven digits")?);
-        check_refusal(&rt, rt.alloc(), &table, outcome, (Reason::Unknown, heard))?;
+        let dialled = digits(&rt, rt.alloc(), number)?;
+        let outcome = Dialled::Number(NumberDigits::of(&dialled).ok_or("at most seven digits")?);
+        let refusal = (Reason::Unknown, heard);
+        check_refusal(&rt, rt.alloc(), &table, number, outcome, refusal)?;
     }
     Ok(())
 }
 
 #[test]
 fn refusals_are_passed_on(rt: HostRuntime) -> Result<(), Fail> {
-    let table = RouteTable::read(rt.alloc(), THREE_ROUTES.as_bytes())?;
-    for (reason, heard) in [(Reason::Mutilated, 1), (Reason::TimedOut, 6)] {
+    let table = table_of(&rt, rt.alloc(), THREE_ROUTES);
+    for (name, reason, heard) in [
+        ("a mutilated attempt", Reason::Mutilated, 1),
+        ("an abandoned attempt", Reason::Abandoned, 2),
+        ("an attempt that timed out", Reason::TimedOut, 6),
+    ] {
         let outcome = Dialled::Refused(reason, heard);
-        check_refusal(&rt, rt.alloc(), &table, outcome, (reason, heard))?;
+        check_refusal(&rt, rt.alloc(), &table, name, outcome, (reason, heard))?;
     }
     Ok(())
 }
@@ -142,7 +148,7 @@ fn refusals_are_passed_on(rt: HostRuntime) -> Result<(), Fail> {
 #[test]
 fn longest_keying(rt: HostRuntime) -> Result<(), Fail> {
     let text = "[[route]]\ncode = \"999\"\ntrunk = 9999\nprefix = \"12345678\"\n";
-    let table = RouteTable::read(rt.alloc(), text.as_bytes())?;
+    let table = table_of(&rt, rt.alloc(), text);
     let row = ("9999999", 9_999, "123456789999999");
     check_order(&rt, rt.alloc(), &table, row)?;
     Ok(())
@@ -151,7 +157,7 @@ fn longest_keying(rt: HostRuntime) -> Result<(), Fail> {
 #[test]
 fn a_number_shorter_than_what_is_deleted(rt: HostRuntime) -> Result<(), Fail> {
     let text = "[[route]]\ncode = \"234\"\ntrunk = 17\ndelete = 7\nprefix = \"5\"\n";
-    let table = RouteTable::read(rt.alloc(), text.as_bytes())?;
+    let table = table_of(&rt, rt.alloc(), text);
     for number in ["234", "234567", "2345678"] {
         check_order(&rt, rt.alloc(), &table, (number, 17, "5"))?;
     }
@@ -161,7 +167,7 @@ fn a_number_shorter_than_what_is_deleted(rt: HostRuntime) -> Result<(), Fail> {
 #[test]
 fn routes_as_inline_tables(rt: HostRuntime) -> Result<(), Fail> {
     let text = "route = [{ code = \"0\", trunk = 1, name = 3 }, { code = \"911\", trunk = 0 }]";
-    let table = RouteTable::read(rt.alloc(), text.as_bytes())?;
+    let table = table_of(&rt, rt.alloc(), text);
     check_order(&rt, rt.alloc(), &table, ("0", 1, "0"))?;
     check_order(&rt, rt.alloc(), &table, ("911", 0, "911"))?;
     Ok(())

@@ -1,11 +1,12 @@
 // Pages of worked tapes.
+use crate::tests::{keying, line, put, unended};
 use crate::{Tapes, page};
 use std::alloc::{AllocError, Global};
 use std::process::Abort;
 use std::test::Fail;
-use xb_model::{Digit, Key, LineNo, Mark, On, Reason, Trunk, mf};
+use xb_model::{Mark, Reason};
 
-// An entry: the trunk group and the digits of a keying, or a refusal with its count.
+// An entry: the trunk group and the digits of a keyed call, or a refusal with its count.
 #[derive(Drop)]
 enum Entry<'a> {
     Keyed(u16, &'a [u8]),
@@ -14,57 +15,20 @@ enum Entry<'a> {
 
 use Entry::{Keyed, Refused};
 
-// The mark of a key.
-fn tone(key: &Key) -> Mark {
-    let pair = mf(*key);
-    Mark::Tone(*key, pair)
-}
-
-// Puts a mark after those of a line.
-fn push(tapes: &mut Tapes, line: LineNo, mark: Mark) -> Result<(), AllocError> {
-    tapes.push(On { line, what: mark })
-}
-
-// Puts the marks of a keying after those of a line, without the tone of ST.
-fn push_keying(
-    rt: &impl Abort,
-    tapes: &mut Tapes,
-    line: LineNo,
-    trunk: u16,
-    digits: &[u8],
-) -> Result<(), AllocError> {
-    let trunk = Trunk::new(trunk).expect(rt, "a trunk group");
-    push(tapes, line, Mark::Trunk(trunk))?;
-    push(tapes, line, tone(&Key::Kp))?;
-    for digit in digits {
-        let digit = Digit::new(*digit).expect(rt, "a digit");
-        push(tapes, line, tone(&Key::Digit(digit)))?;
-    }
-    Ok(())
-}
-
-// Puts an entry after the marks of a line.
-fn push_entry(
-    rt: &impl Abort,
-    tapes: &mut Tapes,
-    line: LineNo,
-    entry: &Entry,
-) -> Result<(), AllocError> {
+// The marks of an entry.
+fn marks_of(rt: &impl Abort, alloc: Global, entry: &Entry) -> Result<Vec<Mark>, AllocError> {
     match entry {
-        Keyed(trunk, digits) => {
-            push_keying(rt, tapes, line, *trunk, digits)?;
-            push(tapes, line, tone(&Key::St))
-        }
-        Refused(reason, heard) => push(tapes, line, Mark::Refused(*reason, *heard)),
+        Keyed(trunk, digits) => keying(rt, alloc, *trunk, digits),
+        Refused(reason, heard) => Ok(vec![in alloc; Mark::Refused(*reason, *heard)]?),
     }
 }
 
 // Tapes with these entries.
 fn tapes_of(rt: &impl Abort, alloc: Global, entries: &[(u16, Entry)]) -> Result<Tapes, AllocError> {
     let mut tapes = Tapes::new(alloc)?;
-    for (line, entry) in entries {
-        let line = LineNo::new(*line).expect(rt, "a line");
-        push_entry(rt, &mut tapes, line, entry)?;
+    for (number, entry) in entries {
+        let marks = marks_of(rt, alloc, entry)?;
+        put(&mut tapes, line(rt, *number), &marks)?;
     }
     Ok(tapes)
 }
@@ -83,7 +47,7 @@ fn check_page(
 }
 
 #[test]
-fn header_only(rt: HostRuntime) -> Result<(), Fail> {
+fn no_entries(rt: HostRuntime) -> Result<(), Fail> {
     check_page(&rt, rt.alloc(), &[], "KEYED 0 REFUSED 0\n")?;
     Ok(())
 }
@@ -98,8 +62,8 @@ fn operator_call(rt: HostRuntime) -> Result<(), Fail> {
 
 #[test]
 fn seven_digits(rt: HostRuntime) -> Result<(), Fail> {
-    let text =
-        "0007 1 KEYED 0017 KP:1100+1700 5:900+1300 6:1100+1300 5:900+1300 6:1100+1300 7:700+1500 8:900+1500 ST:1500+1700\n\
+    let text = "0007 1 KEYED 0017 KP:1100+1700 5:900+1300 6:1100+1300 5:900+1300 6:1100+1300 \
+        7:700+1500 8:900+1500 ST:1500+1700\n\
         KEYED 1 REFUSED 0\n";
     check_page(
         &rt,
@@ -113,7 +77,8 @@ fn seven_digits(rt: HostRuntime) -> Result<(), Fail> {
 #[test]
 fn longest_keying(rt: HostRuntime) -> Result<(), Fail> {
     let text =
-        "0020 1 KEYED 9999 KP:1100+1700 1:700+900 2:700+1100 3:900+1100 4:700+1300 5:900+1300 6:1100+1300 7:700+1500 8:900+1500 \
+        "0020 1 KEYED 9999 KP:1100+1700 1:700+900 2:700+1100 3:900+1100 4:700+1300 5:900+1300 \
+        6:1100+1300 7:700+1500 8:900+1500 \
         9:1100+1500 9:1100+1500 9:1100+1500 9:1100+1500 9:1100+1500 9:1100+1500 9:1100+1500 ST:1500+1700\n\
         KEYED 1 REFUSED 0\n";
     let digits = [1, 2, 3, 4, 5, 6, 7, 8, 9, 9, 9, 9, 9, 9, 9];
@@ -169,9 +134,9 @@ fn first_and_last_line(rt: HostRuntime) -> Result<(), Fail> {
 // Marks after the last ending mark of a line are no entry.
 #[test]
 fn unended_marks(rt: HostRuntime) -> Result<(), Fail> {
-    let line = LineNo::new(5).expect(&rt, "a line");
     let mut tapes = tapes_of(&rt, rt.alloc(), &[(5, Keyed(1, &[0]))])?;
-    push_keying(&rt, &mut tapes, line, 3, &[4, 1])?;
+    let marks = unended(&rt, rt.alloc(), 3, &[4, 1])?;
+    put(&mut tapes, line(&rt, 5), &marks)?;
     let page = page(rt.alloc(), &tapes)?;
     let text = "0005 1 KEYED 0001 KP:1100+1700 0:1300+1500 ST:1500+1700\n\
         KEYED 1 REFUSED 0\n";

@@ -1,4 +1,4 @@
-use Rattle.std.proofs.Common.{◌≡◌, ◌++◌, ◌∷◌, ◌+◌, [], ◌∙◌, ℕ, List, ap, length, string_bytes, arith, refl}
+use Rattle.std.proofs.Common.{◌≡◌, ◌++◌, ◌∷◌, ◌+◌, [], ◌∙◌, ℕ, ap, length, string_bytes, arith}
 use Rattle.std.proofs.lemmas.List.{length_push}
 use Rattle.std.proofs.lemmas.List.FromFn.{length-enumerate_from}
 use Rattle.xb_model.specs.Page.{tape_text}
@@ -25,7 +25,8 @@ loop-line-preserved c =
     let n : ℕ = length c.loop-line.yielded in
     let t = IsLeft-turn c.args.tapes.now n _ _ _ _ inv.left c.in-Some.ensures.steps in
     let more : length (c.loop-line.yielded ++ (c.in-Some.line, c.in-Some.marks) ∷ []) ≡ n + 1 = length_push _ _ in
-    let line : c.get.result ≡ n = c.get.ensures.value ∙ t.line_is in
+    let marks = c.in-Some.marks.now in
+    let text = c.in_ok-totals.ensures.text ∙ ap (λ l. string_bytes c.loop-line.out ++ tape_text l marks) t.line_is in
     record {
       can = tt;
       finite = tt;
@@ -33,7 +34,7 @@ loop-line-preserved c =
       lines = omega (arith, more, inv.lines, ap length c.in-Some.ensures.steps);
       keyed_fits = omega (arith, more, c.in_ok-totals.ensures.keyed_fits, inv.keyed_fits);
       refused_fits = omega (arith, more, c.in_ok-totals.ensures.refused_fits, inv.refused_fits);
-      written = rw more (AreWritten-more c.in-Some.marks.now _ _ _ inv.written t.below (t.value_is []) (c.in_ok-totals.ensures.text ∙ ap (λ l. string_bytes c.loop-line.out ++ tape_text l c.in-Some.marks.now) line) c.in_ok-totals.ensures.keyed c.in_ok-totals.ensures.refused);
+      written = rw more (AreWritten-more marks _ _ _ inv.written t.below (t.value_is []) text c.in_ok-totals.ensures.keyed c.in_ok-totals.ensures.refused);
     }
 
 pub returns : goal.returns

@@ -4,4 +4,8 @@ use Rattle.xb_tape.proofs.PageFormats.{keyed}
 use Rattle.xb_tape.proofs.printing.write_keyed.Goals as goal
 
 pub returns : goal.returns
-returns c = on_ok_weaker c.push_str.result (λ e. keyed _ _ _ _ c.args.line c.args.number c.args.entry.now (rw c.laid_out.ensures at c.in_ok-write.ensures.bytes) c.in_ok-write_marks.ensures e) (search rules)
+returns c =
+    on_ok_weaker c.push_str.result
+    (λ e.
+    keyed _ _ _ _ c.args.line c.args.number c.args.entry.now (rw (c.laid_out.ensures, c.get-line.ensures.value) at c.in_ok-write.ensures.bytes) c.in_ok-write_marks.ensures e)
+    (search rules)

@@ -1,6 +1,6 @@
 use Rattle.std.proofs.Common.{string_bytes, arith}
 use Rattle.std.proofs.lemmas.List.{append-nil}
-use Rattle.xb_tape.proofs.PageEntries.{marks-written, marks-end}
+use Rattle.xb_tape.proofs.PageMarks.{marks-written, marks-end}
 use Rattle.xb_tape.proofs.printing.write_marks.Goals as goal
 
 pub loop-mark-preserved : goal.loop-mark-preserved

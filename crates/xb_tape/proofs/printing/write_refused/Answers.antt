@@ -4,4 +4,8 @@ use Rattle.xb_tape.proofs.PageFormats.{refused}
 use Rattle.xb_tape.proofs.printing.write_refused.Goals as goal
 
 pub returns : goal.returns
-returns c = on_ok_weaker c.write.result (λ e. e ∙ ap (λ (t : List ℕ). string_bytes c.args.out.now ++ t) (refused c.args.line c.args.number c.args.reason c.args.heard)) (rw (c.laid_out.ensures, c.reason_text-word.ensures) at c.write.ensures.bytes)
+returns c =
+    let text = refused c.args.line c.args.number c.args.reason c.args.heard in
+    on_ok_weaker c.write.result
+    (λ e. e ∙ ap (λ (t : List ℕ). string_bytes c.args.out.now ++ t) text)
+    (rw (c.laid_out.ensures, c.reason_text-word.ensures, c.get-line.ensures.value) at c.write.ensures.bytes)

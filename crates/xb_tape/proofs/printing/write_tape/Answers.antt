@@ -1,4 +1,4 @@
-use Rattle.std.proofs.Common.{◌≡◌, ◌≤◌, sym, arith, ap, length, ◌∙◌}
+use Rattle.std.proofs.Common.{◌≡◌, sym, arith, ap, length, ◌∙◌}
 use Rattle.xb_model.specs.Tapes.{entries_of}
 use Rattle.xb_model.proofs.Entries.{length-entries_of}
 use Rattle.xb_tape.proofs.PageEntries.{IsWritten-start, IsWritten-keyed, IsWritten-refused, IsWritten-end}
@@ -7,7 +7,8 @@ use Rattle.xb_tape.proofs.printing.write_tape.Goals as goal
 pub loop-entry-init : goal.loop-entry-init
 loop-entry-init c =
     let same : entries_of c.into_iter-entry-iterator.result.marks.now ≡ entries_of c.args.marks.now
-        = ap (λ each. entries_of each.marks.now) c.into_iter-entry-iterator.ensures.into_iter_gives ∙ ap entries_of c.entries-entry-items.ensures in
+    = ap (λ each. entries_of each.marks.now) c.into_iter-entry-iterator.ensures.into_iter_gives
+    ∙ ap entries_of c.entries-entry-items.ensures in
     record {
       can = tt;
       finite = tt;
@@ -21,7 +22,9 @@ loop-entry-preserved-in-Some-last_refusal c =
       can = tt;
       finite = tt;
       few = omega (arith, ap length c.in-Some.ensures.steps, c.loop-entry.invariant.few);
-      written = IsWritten-refused c.loop-entry.invariant.written c.in-Some.ensures.steps _ _ _ (sym c.last_refusal.ensures ∙ c.in-Some-last_refusal.is) c.in_ok-write_refused-in-Some-last_refusal.ensures;
+      written =
+          IsWritten-refused c.loop-entry.invariant.written c.in-Some.ensures.steps _ _ _
+          (sym c.last_refusal.ensures ∙ c.in-Some-last_refusal.is) c.in_ok-write_refused-in-Some-last_refusal.ensures;
     }
 
 pub loop-entry-preserved : goal.loop-entry-preserved
@@ -30,7 +33,9 @@ loop-entry-preserved c =
       can = tt;
       finite = tt;
       few = omega (arith, ap length c.in-Some.ensures.steps, c.loop-entry.invariant.few);
-      written = IsWritten-keyed c.loop-entry.invariant.written c.in-Some.ensures.steps _ (sym c.last_refusal.ensures ∙ c.in-None-last_refusal.is) c.in_ok-write_keyed-in-None-last_refusal.ensures;
+      written =
+          IsWritten-keyed c.loop-entry.invariant.written c.in-Some.ensures.steps _
+          (sym c.last_refusal.ensures ∙ c.in-None-last_refusal.is) c.in_ok-write_keyed-in-None-last_refusal.ensures;
     }
 
 pub returns-clause-text : goal.returns-clause-text

@@ -1,4 +1,4 @@
-use Rattle.std.proofs.Common.{◌≡◌, ◌∷◌, ◌<◌, ◌+◌, ℕ, List, length, sym, ap, ◌∙◌, arith, rules}
+use Rattle.std.proofs.Common.{◌<◌, length, arith, rules}
 use Rattle.xb_tape.proofs.LineLists.{line-first}
 use Rattle.xb_tape.proofs.tapes_iter.EachTapeIterator.next.Goals as goal
 
