@@ -1,11 +1,22 @@
 // Worked examples of attempts: what lines do, and the page of it.
 use crate::decks::{TABLE, Worked};
 
-/// Route tables, and what lines do under each, the rows of one line after those of the other.
-pub const SHEETS: &[(&str, &[Worked])] = &[
-    (TABLE, ATTEMPTS),
-    (LONGEST_TABLE, &[LONGEST_KEYING]),
-    ("", &[SHORT_RECORDS]),
+/// The parts of route tables, and what lines do under each, the rows of one line after those of the
+/// other.
+pub const SHEETS: &[(&[&str], &[Worked])] = &[
+    (&[TABLE], ATTEMPTS),
+    (&[LONGEST_TABLE], &[LONGEST_KEYING]),
+    (&[], &[SHORT_RECORDS]),
+    (&[PLAN_TEN, LONGER_CODE, SHORTER_CODE], &[TEN_DIGITS]),
+    (&[PLAN_TEN, SHORTER_CODE, LONGER_CODE], &[TEN_DIGITS]),
+    (&[PLAN_TEN, LONGEST_TABLE_OF_TEN], &[LONGEST_KEYING_OF_TEN]),
+    (&[PLAN_TEN, AREA_TABLE], WITHIN_THE_AREA),
+    (&["[limits]\nrelease = 250\n", TABLE], &[EARLY_RELEASE]),
+    (
+        &["[limits]\nmake_min = 1\npause = 1\n", TABLE],
+        &[SHORT_PAUSES],
+    ),
+    (&["[limits]\nrelease = 1000000\n", TABLE], &[LATE_RELEASE]),
 ];
 
 /// The operator is dialled.
@@ -170,6 +181,95 @@ const SHORT_RECORDS: Worked = Worked {
     page: &[
         "0003 1 REFUSED ABANDONED 0",
         "0004 1 REFUSED MUTILATED 0",
+        "KEYED 0 REFUSED 2",
+    ],
+};
+
+/// Before the routes of numbers of ten digits.
+pub const PLAN_TEN: &str = "plan = 10\n";
+
+/// A code that begins with the shorter one.
+pub const LONGER_CODE: &str = "[[route]]\ncode = \"212555\"\ntrunk = 40\ndelete = 3\n";
+
+/// A code of an area.
+pub const SHORTER_CODE: &str = "[[route]]\ncode = \"212\"\ntrunk = 41\n";
+
+// The longer code has the first number, and the shorter one the second.
+const TEN_DIGITS: Worked = Worked {
+    name: "ten_digits",
+    lines: &[(
+        8,
+        "M500 #2 #1 #2 #5 #5 #5 #1 #2 #3 #4 B400 M500 #2 #1 #2 #6 #6 #6 #1 #2 #3 #4",
+    )],
+    page: &[
+        "0008 1 KEYED 0040 KP:1100+1700 5:900+1300 5:900+1300 5:900+1300 1:700+900 2:700+1100 3:900+1100 4:700+1300 ST:1500+1700",
+        "0008 2 KEYED 0041 KP:1100+1700 2:700+1100 1:700+900 2:700+1100 6:1100+1300 6:1100+1300 6:1100+1300 1:700+900 2:700+1100 3:900+1100 4:700+1300 ST:1500+1700",
+        "KEYED 2 REFUSED 0",
+    ],
+};
+
+// The table of the longest keying of a number of ten digits.
+const LONGEST_TABLE_OF_TEN: &str =
+    "[[route]]\ncode = \"212\"\ntrunk = 9999\nprefix = \"12345678\"\n";
+
+// The longest keying of a number of ten digits.
+const LONGEST_KEYING_OF_TEN: Worked = Worked {
+    name: "longest_keying of ten digits",
+    lines: &[(20, "M500 #2 #1 #2 #9 #9 #9 #9 #9 #9 #9")],
+    page: &[
+        "0020 1 KEYED 9999 KP:1100+1700 1:700+900 2:700+1100 3:900+1100 4:700+1300 5:900+1300 6:1100+1300 7:700+1500 8:900+1500 2:700+1100 1:700+900 2:700+1100 9:1100+1500 9:1100+1500 9:1100+1500 9:1100+1500 9:1100+1500 9:1100+1500 9:1100+1500 ST:1500+1700",
+        "KEYED 1 REFUSED 0",
+    ],
+};
+
+// A table of one area, whose code is not keyed.
+const AREA_TABLE: &str = "[[route]]\ncode = \"201\"\ntrunk = 9\ndelete = 3\n";
+
+// A number of the area, whole and without its last digit.
+const WITHIN_THE_AREA: &[Worked] = &[
+    Worked {
+        name: "ten_digits within an area",
+        lines: &[(1, "M500 #2 #0 #1 #5 #5 #5 #1 #2 #3 #4")],
+        page: &[
+            "0001 1 KEYED 0009 KP:1100+1700 5:900+1300 5:900+1300 5:900+1300 1:700+900 2:700+1100 3:900+1100 4:700+1300 ST:1500+1700",
+            "KEYED 1 REFUSED 0",
+        ],
+    },
+    Worked {
+        name: "ten_digits without the last",
+        lines: &[(1, "M500 #2 #0 #1 #5 #5 #5 #1 #2 #3")],
+        page: &["0001 1 REFUSED ABANDONED 9", "KEYED 0 REFUSED 1"],
+    },
+];
+
+// A break of 260 ms releases.
+const EARLY_RELEASE: Worked = Worked {
+    name: "own_limits: an early release",
+    lines: &[(6, "M500 B260 M600")],
+    page: &[
+        "0006 1 REFUSED ABANDONED 0",
+        "0006 2 REFUSED ABANDONED 0",
+        "KEYED 0 REFUSED 2",
+    ],
+};
+
+// A make of 1 ms ends a digit.
+const SHORT_PAUSES: Worked = Worked {
+    name: "own_limits: pauses of 1 ms",
+    lines: &[(6, "M500 B60 M1 B60 M1")],
+    page: &["0006 1 REFUSED ABANDONED 2", "KEYED 0 REFUSED 1"],
+};
+
+// Ten breaks of 100 s release, and no less.
+const LATE_RELEASE: Worked = Worked {
+    name: "own_limits: a late release",
+    lines: &[(
+        6,
+        "M500 B100000 B100000 B100000 B100000 B100000 B100000 B100000 B100000 B100000 B100000 M500",
+    )],
+    page: &[
+        "0006 1 REFUSED ABANDONED 0",
+        "0006 2 REFUSED ABANDONED 0",
         "KEYED 0 REFUSED 2",
     ],
 };

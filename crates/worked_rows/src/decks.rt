@@ -1,6 +1,6 @@
 // Decks and pages, as text.
 use crate::pulses::{in_turn, rows_of};
-use std::alloc::Global;
+use std::alloc::{AllocError, Global};
 use std::process::Abort;
 use std::test::Fail;
 use xb_model::{Contact, Row};
@@ -60,6 +60,15 @@ pub fn two_in_turn(rt: &impl Abort, alloc: Global, worked: &Worked) -> Result<Ve
     let first_rows = rows_of(rt, alloc, *first, first_pieces)?;
     let second_rows = rows_of(rt, alloc, *second, second_pieces)?;
     in_turn(alloc, &first_rows, &second_rows)
+}
+
+/// The parts of a text, one after the other.
+pub fn joined(alloc: Global, parts: &[&str]) -> Result<String, AllocError> {
+    let mut text = String::new(alloc);
+    for part in parts {
+        text.push_str(part)?;
+    }
+    Ok(text)
 }
 
 /// The table, the line that cuts, and the rows as CSV.

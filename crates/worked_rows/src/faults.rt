@@ -1,6 +1,6 @@
 // Decks with a fault in their table or their rows.
-use crate::decks::TABLE;
-use std::alloc::{AllocError, Global};
+use crate::attempts::{LONGER_CODE, SHORTER_CODE};
+use crate::decks::{TABLE, joined};
 use std::test::Fail;
 use xb_bank::RowSource;
 use xb_model::RowFault;
@@ -86,15 +86,77 @@ const FAULTS: &[Faulty] = &[
         rows: Some(OVER_A_DAY),
         fault: OfficeFault::Routes(RouteFault::NothingToKey(1)),
     },
+    Faulty {
+        table: &[LONGER_CODE, SHORTER_CODE],
+        rows: Some(HEADER),
+        fault: OfficeFault::Routes(RouteFault::Code(1)),
+    },
+    Faulty {
+        table: &["plan = 8\n", LONGER_CODE, SHORTER_CODE],
+        rows: Some(HEADER),
+        fault: OfficeFault::Routes(RouteFault::Plan),
+    },
+    Faulty {
+        table: &["plan = \"10\"\n", TABLE],
+        rows: Some(HEADER),
+        fault: OfficeFault::Routes(RouteFault::Plan),
+    },
+    Faulty {
+        table: &["plan = 8\nroute = 3\n"],
+        rows: Some(HEADER),
+        fault: OfficeFault::Routes(RouteFault::Plan),
+    },
+    Faulty {
+        table: &["limits = 3\n", TABLE],
+        rows: Some(HEADER),
+        fault: OfficeFault::Routes(RouteFault::Limits(0)),
+    },
+    Faulty {
+        table: &["[limits]\npause = \"x\"\n", TABLE],
+        rows: Some(HEADER),
+        fault: OfficeFault::Routes(RouteFault::Limits(4)),
+    },
+    Faulty {
+        table: &["[limits]\ntimeout = 0\n", TABLE],
+        rows: Some(HEADER),
+        fault: OfficeFault::Routes(RouteFault::Limits(6)),
+    },
+    Faulty {
+        table: &["[limits]\ntimeout = 1000001\n", TABLE],
+        rows: Some(HEADER),
+        fault: OfficeFault::Routes(RouteFault::Limits(6)),
+    },
+    Faulty {
+        table: &["[limits]\npulse_min = 120\n", TABLE],
+        rows: Some(HEADER),
+        fault: OfficeFault::Routes(RouteFault::Limits(7)),
+    },
+    Faulty {
+        table: &["[limits]\npulse_max = 300\n", TABLE],
+        rows: Some(HEADER),
+        fault: OfficeFault::Routes(RouteFault::Limits(8)),
+    },
+    Faulty {
+        table: &["[limits]\nmake_min = 181\n", TABLE],
+        rows: Some(HEADER),
+        fault: OfficeFault::Routes(RouteFault::Limits(9)),
+    },
+    Faulty {
+        table: &["[limits]\ntimeout = 180\n", TABLE],
+        rows: Some(HEADER),
+        fault: OfficeFault::Routes(RouteFault::Limits(10)),
+    },
+    Faulty {
+        table: &["[limits]\npulse_max = 0\npulse_min = 0\n", TABLE],
+        rows: Some(HEADER),
+        fault: OfficeFault::Routes(RouteFault::Limits(1)),
+    },
+    Faulty {
+        table: &["plan = 8\n[limits]\npulse_min = 120\n", TABLE],
+        rows: Some(HEADER),
+        fault: OfficeFault::Routes(RouteFault::Plan),
+    },
 ];
-
-fn joined(alloc: Global, parts: &[&str]) -> Result<String, AllocError> {
-    let mut text = String::new(alloc);
-    for part in parts {
-        text.push_str(part)?;
-    }
-    Ok(text)
-}
 
 // Each deck gives its fault, and the page stays empty.
 #[test]

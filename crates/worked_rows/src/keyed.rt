@@ -1,6 +1,6 @@
 // The worked examples, through the whole office and through its parts.
 use crate::attempts::{SHEETS, TWO_LINES_IN_TURN};
-use crate::decks::{TABLE, Worked, deck_of, one_after_another, page_of, two_in_turn};
+use crate::decks::{TABLE, Worked, deck_of, joined, one_after_another, page_of, two_in_turn};
 use std::alloc::Global;
 use std::process::Abort;
 use std::test::Fail;
@@ -59,8 +59,9 @@ fn check_sheet(
 
 #[test]
 fn attempts_under_each_table(rt: HostRuntime) -> Result<(), Fail> {
-    for (table, attempts) in SHEETS {
-        check_sheet(&rt, rt.alloc(), table, attempts)?;
+    for (parts, attempts) in SHEETS {
+        let table = joined(rt.alloc(), parts)?;
+        check_sheet(&rt, rt.alloc(), table.as_str(), attempts)?;
     }
     Ok(())
 }

@@ -18,7 +18,7 @@ pub record AreConstants : Type 0 where
   pub most_pulses : MOST_PULSES ≡ 10
   pub many_breaks : MANY_BREAKS ≡ 11
   pub digits : DIGITS ≡ 10
-  pub number_digits : NUMBER_DIGITS ≡ 7
+  pub number_digits : NUMBER_DIGITS ≡ 10
   pub prefix_digits : PREFIX_DIGITS ≡ 8
-  pub key_digits : KEY_DIGITS ≡ 15
-  pub keying_marks : KEYING_MARKS ≡ 18
+  pub key_digits : KEY_DIGITS ≡ 18
+  pub keying_marks : KEYING_MARKS ≡ 21

@@ -20,4 +20,5 @@ pub mod WorkedTables
 pub mod WorkedSignals
 pub mod WorkedRoutes
 pub mod WorkedTapes
+pub mod WorkedPlans
 pub mod WorkedPages

@@ -14,7 +14,8 @@ use Rattle.xb_model.specs.Signals.{breaks_in, is_bad_train}
 
 -- the digit of so many breaks, 10 being 0; none where the train is bad, or there are not 1 to 10
 abbrev pub digit_of_count : ℕ → Bool → Option ℕ
-digit_of_count n bad = if not bad && (nat_le 1 n && nat_le n MOST_PULSES) then Some (n % MOST_PULSES) else None
+digit_of_count n bad = if not bad && (nat_le 1 n && nat_le n MOST_PULSES) then Some (n % MOST_PULSES)
+    else None
 
 -- the digit of a train; none where the train is mutilated
 abbrev pub digit_of_train : Limits → Train → Option ℕ
@@ -68,8 +69,10 @@ or_refused None refusal = refusal
 abbrev pub outcome_of : Plan → Limits → List Run → Dialled
 outcome_of plan limits attempt =
     or_refused (number_of plan limits attempt)
-    (without_number (list_any is_none (train_digits limits attempt)) (is_timed limits attempt) (length (good_digits limits attempt)))
+    (without_number (list_any is_none (train_digits limits attempt)) (is_timed limits attempt)
+      (length (good_digits limits attempt)))
 
 -- one outcome for each attempt
 abbrev pub outcomes_of : Plan → Limits → List Run → List Dialled
-outcomes_of plan limits record_ = map (λ attempt. outcome_of plan limits attempt.runs) (attempts_of limits record_)
+outcomes_of plan limits record_ = map (λ attempt. outcome_of plan limits attempt.runs)
+    (attempts_of limits record_)

@@ -62,7 +62,8 @@ keyed_text line n entry = entry_head line n ++ codes " KEYED" ++ marks_text entr
 
 -- a refusal writes its reason and its count
 abbrev pub refused_text : ℕ → ℕ → Reason → ℕ → List ℕ
-refused_text line n r heard = entry_head line n ++ codes " REFUSED " ++ reason_text r ++ codes " " ++ decimal heard ++ codes "\n"
+refused_text line n r heard =
+    entry_head line n ++ codes " REFUSED " ++ reason_text r ++ codes " " ++ decimal heard ++ codes "\n"
 
 abbrev pub entry_text_by : ℕ → ℕ → List Mark → Option (Reason × ℕ) → List ℕ
 entry_text_by line n entry None = keyed_text line n entry
@@ -100,7 +101,8 @@ count_entries test tapes = sum_by (λ marks. count_by test (entries_of marks)) t
 
 -- the last line: the totals of keyed and of refused entries
 abbrev pub totals_text : ℕ → ℕ → List ℕ
-totals_text keyed refused = codes "KEYED " ++ decimal keyed ++ codes " REFUSED " ++ decimal refused ++ codes "\n"
+totals_text keyed refused =
+    codes "KEYED " ++ decimal keyed ++ codes " REFUSED " ++ decimal refused ++ codes "\n"
 
 -- the page of the tapes of all lines, from line 0 on
 abbrev pub page_text : List (List Mark) → List ℕ

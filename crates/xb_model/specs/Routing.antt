@@ -16,7 +16,8 @@ pub record CodedRoute : Type 0 where
   pub prefixed : List ℕ
 
 abbrev pub coded_route : List ℕ → ℕ → ℕ → List ℕ → CodedRoute
-coded_route code trunk deleted prefixed = record { code = code; trunk = trunk; deleted = deleted; prefixed = prefixed }
+coded_route code trunk deleted prefixed =
+    record { code = code; trunk = trunk; deleted = deleted; prefixed = prefixed }
 
 -- the code is a prefix of the digits
 abbrev pub covers : List ℕ → List ℕ → Bool
@@ -27,7 +28,8 @@ covers (c ∷ code) (d ∷ digits) = c == d && covers code digits
 -- of two routes the one with the longer code
 abbrev pub longer_of : CodedRoute → Option CodedRoute → Option CodedRoute
 longer_of route None = Some route
-longer_of route (Some other) = if nat_lt (length route.code) (length other.code) then Some other else Some route
+longer_of route (Some other) = if nat_lt (length route.code) (length other.code) then Some other
+    else Some route
 
 abbrev pub longest_of : List CodedRoute → Option CodedRoute
 longest_of [] = None

@@ -37,7 +37,8 @@ into_first_entry mark (entry ∷ entries) = (mark ∷ entry) ∷ entries
 -- the entries of marks: cut after every ending mark; a last part that is not ended is no entry
 abbrev pub entries_of : List Mark → List (List Mark)
 entries_of [] = []
-entries_of (mark ∷ marks) = if is_ending mark then (mark ∷ []) ∷ entries_of marks else into_first_entry mark (entries_of marks)
+entries_of (mark ∷ marks) = if is_ending mark then (mark ∷ []) ∷ entries_of marks
+    else into_first_entry mark (entries_of marks)
 
 -- none of the marks ends an entry
 abbrev pub IsUnended : List Mark → Type 0

@@ -2,6 +2,8 @@
 -- keying, typed from the table of pairs.
 use Rattle.std.specs.Prelude.{ℕ, zero, suc, List, [], ◌∷◌, map, flat_map}
 use Rattle.xb_model.specs.declared.row.Contact.TheVariants.{Close}
+use Rattle.xb_model.specs.declared.limits.Limits.{Limits}
+use Rattle.xb_model.specs.declared.plan.Plan.{Plan}
 use Rattle.xb_model.specs.declared.plan.Plan.TheVariants.{Seven}
 use Rattle.xb_model.specs.declared.key.Key.TheVariants.{Digit, Kp, St}
 use Rattle.xb_model.specs.declared.mark.Mark.{Mark}
@@ -51,9 +53,13 @@ three_routes =
     ∷ coded_route (0 ∷ []) 1 0 []
     ∷ []
 
--- the tapes of some lines, by some routes, plan Seven and the standard limits
+-- the tapes of some lines
+abbrev pub tapes_under : Plan → Limits → List CodedRoute → List ℕ → List LoopRow → List (List (List Mark))
+tapes_under plan limits routes lines rows = map (λ l. tape_of plan limits routes l rows) lines
+
+-- those by some routes, plan Seven and the standard limits
 abbrev pub tapes_by : List CodedRoute → List ℕ → List LoopRow → List (List (List Mark))
-tapes_by routes lines rows = map (λ l. tape_of Seven standard_limits routes l rows) lines
+tapes_by routes lines rows = tapes_under Seven standard_limits routes lines rows
 
 abbrev pub tapes : List ℕ → List LoopRow → List (List (List Mark))
 tapes lines rows = tapes_by three_routes lines rows

@@ -1,7 +1,8 @@
 -- The tables of the profile, key by key and digit by digit.
 use Rattle.std.specs.Prelude.{◌≡◌, ℕ, ◌<◌, List, [], ◌∷◌, Bool, true, false, ◌==◌, is_some, count_by, Some, None}
 use Rattle.xb_model.specs.declared.key.Key.TheVariants.{Digit, Kp, St}
-use Rattle.xb_model.specs.declared.plan.Plan.TheVariants.{Seven}
+use Rattle.xb_model.specs.declared.plan.Plan.{Plan}
+use Rattle.xb_model.specs.declared.plan.Plan.TheVariants.{Seven, Ten}
 use Rattle.xb_model.specs.declared.signal.TheConstants.{MOST_PULSES}
 use Rattle.xb_model.specs.TwoOfFive.{five, at_rest, operated, weights, digit_of_pattern, pattern_of_count}
 use Rattle.xb_model.specs.MfPairs.{pair, mf_pair}
@@ -34,7 +35,8 @@ pub record TwoOfFiveTable : Type 0 where
 abbrev pub TwoMakeADigit : Type 0
 TwoMakeADigit =
     (zero one two four seven : Bool) →
-    is_some (digit_of_pattern (five zero one two four seven)) ≡ (count_by (λ bit. bit) (five zero one two four seven) == 2)
+    is_some (digit_of_pattern (five zero one two four seven))
+      ≡ (count_by (λ bit. bit) (five zero one two four seven) == 2)
 
 -- the pair of each key, in Hz
 pub record MfTable : Type 0 where
@@ -51,18 +53,37 @@ pub record MfTable : Type 0 where
   pub kp : mf_pair Kp ≡ pair 1100 1700
   pub st : mf_pair St ≡ pair 1500 1700
 
--- these good digits of one attempt complete this number
-abbrev pub Completes : List ℕ → List ℕ → Type 0
-Completes digits number = shortest_complete Seven digits ≡ Some number
+-- by the plan these good digits of one attempt complete this number
+abbrev pub Completes : Plan → List ℕ → List ℕ → Type 0
+Completes plan digits number = shortest_complete plan digits ≡ Some number
+
+-- they complete none
+abbrev pub IsIncomplete : Plan → List ℕ → Type 0
+IsIncomplete plan digits = shortest_complete plan digits ≡ None
 
 -- the numbers that plan Seven completes
 pub record NumbersOfSeven : Type 0 where
-  pub operator : Completes (0 ∷ []) (0 ∷ [])
-  pub service_code : Completes (4 ∷ 1 ∷ 1 ∷ []) (4 ∷ 1 ∷ 1 ∷ [])
-  pub teen_code : Completes (4 ∷ 1 ∷ 2 ∷ 5 ∷ 5 ∷ 5 ∷ 1 ∷ []) (4 ∷ 1 ∷ 2 ∷ 5 ∷ 5 ∷ 5 ∷ 1 ∷ [])
-  pub seven_of_ten : Completes (2 ∷ 0 ∷ 1 ∷ 5 ∷ 5 ∷ 5 ∷ 1 ∷ 2 ∷ 3 ∷ 4 ∷ []) (2 ∷ 0 ∷ 1 ∷ 5 ∷ 5 ∷ 5 ∷ 1 ∷ [])
-  pub begins_with_1 : Completes (1 ∷ 1 ∷ 1 ∷ 2 ∷ 3 ∷ 4 ∷ 5 ∷ []) (1 ∷ 1 ∷ 1 ∷ 2 ∷ 3 ∷ 4 ∷ 5 ∷ [])
-  pub six_digits : shortest_complete Seven (2 ∷ 3 ∷ 4 ∷ 5 ∷ 6 ∷ 7 ∷ []) ≡ None
+  pub operator : Completes Seven (0 ∷ []) (0 ∷ [])
+  pub service_code : Completes Seven (4 ∷ 1 ∷ 1 ∷ []) (4 ∷ 1 ∷ 1 ∷ [])
+  pub teen_code : Completes Seven (4 ∷ 1 ∷ 2 ∷ 5 ∷ 5 ∷ 5 ∷ 1 ∷ []) (4 ∷ 1 ∷ 2 ∷ 5 ∷ 5 ∷ 5 ∷ 1 ∷ [])
+  pub seven_of_ten : Completes Seven (2 ∷ 0 ∷ 1 ∷ 5 ∷ 5 ∷ 5 ∷ 1 ∷ 2 ∷ 3 ∷ 4 ∷ [])
+    (2 ∷ 0 ∷ 1 ∷ 5 ∷ 5 ∷ 5 ∷ 1 ∷ [])
+  pub begins_with_1 : Completes Seven (1 ∷ 1 ∷ 1 ∷ 2 ∷ 3 ∷ 4 ∷ 5 ∷ []) (1 ∷ 1 ∷ 1 ∷ 2 ∷ 3 ∷ 4 ∷ 5 ∷ [])
+  pub six_digits : IsIncomplete Seven (2 ∷ 3 ∷ 4 ∷ 5 ∷ 6 ∷ 7 ∷ [])
   pub no_digit : plan_len Seven [] ≡ None
   pub one_digit : plan_len Seven (4 ∷ []) ≡ None
   pub two_digits : plan_len Seven (4 ∷ 1 ∷ []) ≡ None
+
+-- the numbers that plan Ten completes
+pub record NumbersOfTen : Type 0 where
+  pub operator : Completes Ten (0 ∷ []) (0 ∷ [])
+  pub service_code : Completes Ten (4 ∷ 1 ∷ 1 ∷ []) (4 ∷ 1 ∷ 1 ∷ [])
+  pub teen_code : IsIncomplete Ten (4 ∷ 1 ∷ 2 ∷ 5 ∷ 5 ∷ 5 ∷ 1 ∷ [])
+  pub all_ten : Completes Ten (2 ∷ 0 ∷ 1 ∷ 5 ∷ 5 ∷ 5 ∷ 1 ∷ 2 ∷ 3 ∷ 4 ∷ [])
+    (2 ∷ 0 ∷ 1 ∷ 5 ∷ 5 ∷ 5 ∷ 1 ∷ 2 ∷ 3 ∷ 4 ∷ [])
+  pub begins_with_1 : Completes Ten (1 ∷ 1 ∷ 1 ∷ 2 ∷ 3 ∷ 4 ∷ 5 ∷ []) (1 ∷ 1 ∷ 1 ∷ 2 ∷ 3 ∷ 4 ∷ 5 ∷ [])
+  pub office_code : Completes Ten (2 ∷ 3 ∷ 4 ∷ 5 ∷ 6 ∷ 7 ∷ 8 ∷ []) (2 ∷ 3 ∷ 4 ∷ 5 ∷ 6 ∷ 7 ∷ 8 ∷ [])
+  pub six_digits : IsIncomplete Ten (2 ∷ 3 ∷ 4 ∷ 5 ∷ 6 ∷ 7 ∷ [])
+  pub no_digit : plan_len Ten [] ≡ None
+  pub one_digit : plan_len Ten (2 ∷ []) ≡ None
+  pub two_digits : plan_len Ten (2 ∷ 0 ∷ []) ≡ None

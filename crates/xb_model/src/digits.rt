@@ -6,7 +6,7 @@ use arrayvec::ArrayVec;
 use std::marker::Model;
 
 /// The most digits of a dialled number.
-pub const NUMBER_DIGITS: usize = 7;
+pub const NUMBER_DIGITS: usize = 10;
 
 /// The most digits that a route puts before a number.
 pub const PREFIX_DIGITS: usize = 8;

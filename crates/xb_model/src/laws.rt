@@ -1,10 +1,11 @@
 //! What the definitions give: each law is the contract of a function that does nothing.
 ghost use Rattle.xb_model.specs.Constants.{AreConstants};
 ghost use Rattle.xb_model.specs.CutRows.{RowsMayBeCut};
-ghost use Rattle.xb_model.specs.WorkedTables.{TwoOfFiveTable, TwoMakeADigit, MfTable, NumbersOfSeven};
+ghost use Rattle.xb_model.specs.WorkedTables.{TwoOfFiveTable, TwoMakeADigit, MfTable, NumbersOfSeven, NumbersOfTen};
 ghost use Rattle.xb_model.specs.WorkedSignals.{SignalsOfRecords};
 ghost use Rattle.xb_model.specs.WorkedRoutes.{OrdersOfNumbers};
 ghost use Rattle.xb_model.specs.WorkedTapes.{OperatorCall, SevenDigits, SplitRows, TwoLinesInTurn, BreakLimits, MakeLimits, ElevenPulses, TimeOutAndConversation, LastDigitPause, ClosedLine, UnknownCodes, SecondCall, ShortRecords, LongestKeying, EntriesOfATape};
+ghost use Rattle.xb_model.specs.WorkedPlans.{TenDigits, LongestKeyingOfTen, OwnLimits};
 ghost use Rattle.xb_model.specs.WorkedPages.{PageOfOperatorCall, PageOfSevenDigits, PageOfNoRows, PageOfUnfinished, PageOfRefusals};
 
 /// The number of lines, of trunk groups, of digits and so on, each as it is.
@@ -36,6 +37,11 @@ pub fn mf_table()
 /// The numbers that digits complete by plan Seven.
 pub fn numbers_of_seven()
     ensures { NumbersOfSeven }
+{}
+
+/// The numbers that digits complete by plan Ten.
+pub fn numbers_of_ten()
+    ensures { NumbersOfTen }
 {}
 
 /// The signals of some records, at each limit.
@@ -77,6 +83,19 @@ pub fn routes_and_keyings()
     ensures orders { OrdersOfNumbers }
     ensures unknown_codes { UnknownCodes }
     ensures longest_keying { LongestKeying }
+{}
+
+/// Numbers of ten digits, of which two codes cover one, and the longest keying of all, of 21 marks.
+#[tactic(auto, unfolding(crate::specs::WorkedRows::pulses, crate::specs::WorkedRows::dial))]
+pub fn numbers_of_ten_are_keyed()
+    ensures ten_digits { TenDigits }
+    ensures longest_keying { LongestKeyingOfTen }
+{}
+
+/// Calls that are judged by limits of their own.
+#[tactic(auto, unfolding(crate::specs::WorkedRows::pulses, crate::specs::WorkedRows::dial))]
+pub fn own_limits()
+    ensures { OwnLimits }
 {}
 
 /// The entries of marks.

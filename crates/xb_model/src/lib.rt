@@ -40,7 +40,7 @@ pub use on::{On, OnLine};
 pub use order::Order;
 pub use per_line::PerLine;
 pub use per_line_iter::EachLine;
-pub use plan::{Plan, plan_len};
+pub use plan::{Plan, is_area_code, is_service_code, plan_len};
 pub use reason::Reason;
 pub use relays::Relays;
 pub use row::{Contact, GREATEST_MS, Row};

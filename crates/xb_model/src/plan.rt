@@ -1,28 +1,40 @@
 // The length of a number.
 ghost use Rattle.std.specs.Prelude.{◌≡◌};
-ghost use Rattle.xb_model.specs.Plans.{plan_len, length_after_three};
+ghost use Rattle.xb_model.specs.Plans.{plan_len, length_after_three, is_service_code, is_area_code};
 
 use crate::digit::Digit;
 
-/// How the length of a number follows from its first digits (own profile).
+/// How the length of a number follows from its first digits (own profile). N is 2 to 9, X is 0 to 9.
 #[derive(Clone, Copy, Debug, PartialEq, Eq)]
 pub enum Plan {
-    /// One digit where the first is 0, three for N11 (N is 2 to 9), seven for anything else.
+    /// One digit where the first is 0, three for N11, seven for anything else.
     Seven,
+    /// Ten digits for N0X, and for N1X other than N11; the rest is as in plan Seven.
+    Ten,
+}
+
+/// Whether three digits are N11, as 411 (own profile).
+pub fn is_service_code(first: Digit, second: Digit, third: Digit) -> bool
+    ensures { result ≡ is_service_code first second third }
+{
+    first.get() >= 2 && second.get() == 1 && third.get() == 1
+}
+
+/// Whether three digits are N0X, or N1X other than N11, as 212 (own profile).
+pub fn is_area_code(first: Digit, second: Digit, third: Digit) -> bool
+    ensures { result ≡ is_area_code first second third }
+{
+    first.get() >= 2 && second.get() <= 1 && !is_service_code(first, second, third)
 }
 
 // The length of a number that begins with these three digits, the first not 0.
-fn length_after_three(plan: Plan, first: u8, second: u8, third: u8) -> u8
+fn length_after_three(plan: Plan, first: Digit, second: Digit, third: Digit) -> u8
     ensures { result ≡ length_after_three plan first second third }
 {
     match plan {
-        Plan::Seven => {
-            if first >= 2 && second == 1 && third == 1 {
-                3
-            } else {
-                7
-            }
-        }
+        _ if is_service_code(first, second, third) => 3,
+        Plan::Ten if is_area_code(first, second, third) => 10,
+        Plan::Seven | Plan::Ten => 7,
     }
 }
 
@@ -37,7 +49,7 @@ pub fn plan_len(plan: Plan, digits: &[Digit]) -> Option<u8>
             if first.get() == 0 {
                 Some(1)
             } else if let [second, third, ..] = rest {
-                Some(length_after_three(plan, first.get(), second.get(), third.get()))
+                Some(length_after_three(plan, *first, *second, *third))
             } else {
                 None
             }

@@ -24,7 +24,13 @@ impl Model for Relays {
 
     ghost view = { λ r. r.zero ∷ r.one ∷ r.two ∷ r.four ∷ r.seven ∷ [] };
 
-    ghost inverse = { λ bits. record { zero = slice_index_or bits 0 false; one = slice_index_or bits 1 false; two = slice_index_or bits 2 false; four = slice_index_or bits 3 false; seven = slice_index_or bits 4 false } };
+    ghost inverse = { λ bits. record {
+      zero = slice_index_or bits 0 false;
+      one = slice_index_or bits 1 false;
+      two = slice_index_or bits 2 false;
+      four = slice_index_or bits 3 false;
+      seven = slice_index_or bits 4 false;
+    } };
 }
 
 impl Relays {

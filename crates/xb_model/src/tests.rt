@@ -1,5 +1,6 @@
 // Each public call at values of the profile.
 use super::*;
+use std::alloc::Global;
 use std::test::Fail;
 
 #[test]
@@ -30,14 +31,14 @@ fn digits_are_0_to_9(rt: HostRuntime) -> Result<(), Fail> {
 
 #[test]
 fn lists_of_digits(rt: HostRuntime) -> Result<(), Fail> {
-    let nines = [Digit::new(9).ok_or("a digit")?; 16];
+    let nines = [Digit::new(9).ok_or("a digit")?; 19];
     let none = NumberDigits::of(&[]).ok_or("no digits")?;
     assert!(rt; none.digits().is_empty());
-    let number = NumberDigits::of(&nines[..7]).ok_or("seven digits")?;
-    assert_eq!(rt; number.digits(), &nines[..7]);
-    assert!(rt; NumberDigits::of(&nines[..8]).is_none());
-    let keyed = KeyDigits::of(&nines[..15]).ok_or("fifteen digits")?;
-    assert_eq!(rt; keyed.digits(), &nines[..15]);
+    let number = NumberDigits::of(&nines[..10]).ok_or("ten digits")?;
+    assert_eq!(rt; number.digits(), &nines[..10]);
+    assert!(rt; NumberDigits::of(&nines[..11]).is_none());
+    let keyed = KeyDigits::of(&nines[..18]).ok_or("eighteen digits")?;
+    assert_eq!(rt; keyed.digits(), &nines[..18]);
     assert!(rt; KeyDigits::of(&nines).is_none());
     let prefix = PrefixDigits::of(&nines[..8]).ok_or("eight digits")?;
     assert_eq!(rt; prefix.digits(), &nines[..8]);
@@ -90,26 +91,72 @@ fn items_on_a_line(rt: HostRuntime) -> Result<(), Fail> {
     Ok(())
 }
 
+fn digits_of(alloc: Global, values: &[u8]) -> Result<Vec<Digit>, Fail> {
+    let mut digits = Vec::new(alloc);
+    for value in values {
+        digits.push(Digit::new(*value).ok_or("a digit")?)?;
+    }
+    Ok(digits)
+}
+
+// The first digits of a number, and its length by plan Seven and by plan Ten.
+const LENGTHS: &[(&[u8], Option<u8>, Option<u8>)] = &[
+    (&[0], Some(1), Some(1)),
+    (&[4, 1, 1], Some(3), Some(3)),
+    (&[4, 1, 2, 5, 5, 5, 1], Some(7), Some(10)),
+    (&[2, 0, 1, 5, 5, 5, 1, 2, 3, 4], Some(7), Some(10)),
+    (&[9, 1, 0], Some(7), Some(10)),
+    (&[1, 1, 1, 2, 3, 4, 5], Some(7), Some(7)),
+    (&[1, 0, 1], Some(7), Some(7)),
+    (&[2, 3, 4, 5, 6, 7], Some(7), Some(7)),
+    (&[2, 2, 0], Some(7), Some(7)),
+    (&[0, 4, 1], Some(1), Some(1)),
+    (&[], None, None),
+    (&[4], None, None),
+    (&[2, 0], None, None),
+];
+
+// Three digits, and whether they are a service code or an area code.
+const CODES: &[(&[u8; 3], bool, bool)] = &[
+    (&[4, 1, 1], true, false),
+    (&[2, 1, 2], false, true),
+    (&[9, 0, 1], false, true),
+    (&[2, 3, 4], false, false),
+    (&[1, 1, 1], false, false),
+    (&[0, 0, 1], false, false),
+];
+
+#[test]
+fn service_and_area_codes(rt: HostRuntime) -> Result<(), Fail> {
+    for (values, service, area) in CODES {
+        let digits = digits_of(rt.alloc(), values.as_slice())?;
+        let [first, second, third] = digits.as_slice() else {
+            return Err(Fail::from("not three digits"));
+        };
+        assert_eq!(rt;
+            is_service_code(*first, *second, *third),
+            *service,
+            "{values:?}"
+        );
+        assert_eq!(rt; is_area_code(*first, *second, *third), *area, "{values:?}");
+    }
+    Ok(())
+}
+
 #[test]
 fn lengths_of_numbers(rt: HostRuntime) -> Result<(), Fail> {
-    let rows: [(&[u8], Option<u8>); 10] = [
-        (&[0], Some(1)),
-        (&[4, 1, 1], Some(3)),
-        (&[4, 1, 2, 5, 5, 5, 1], Some(7)),
-        (&[2, 0, 1, 5, 5, 5, 1, 2, 3, 4], Some(7)),
-        (&[1, 1, 1, 2, 3, 4, 5], Some(7)),
-        (&[2, 3, 4, 5, 6, 7], Some(7)),
-        (&[0, 4, 1], Some(1)),
-        (&[], None),
-        (&[4], None),
-        (&[4, 1], None),
-    ];
-    for (values, len) in rows {
-        let mut digits = Vec::new(rt.alloc());
-        for value in values {
-            digits.push(Digit::new(*value).ok_or("a digit")?)?;
-        }
-        assert_eq!(rt; plan_len(Plan::Seven, &digits), len, "{values:?}");
+    for (values, seven, ten) in LENGTHS {
+        let digits = digits_of(rt.alloc(), values)?;
+        assert_eq!(rt;
+            plan_len(Plan::Seven, &digits),
+            *seven,
+            "{values:?} by plan Seven"
+        );
+        assert_eq!(rt;
+            plan_len(Plan::Ten, &digits),
+            *ten,
+            "{values:?} by plan Ten"
+        );
     }
     Ok(())
 }

@@ -16,7 +16,9 @@ of_read read_fault.NoMemory = fault.NoMemory
 
 -- running out of memory is one fault, in whatever part
 abbrev pub IsOfRoutes : RouteFault → OfficeFault → Type 0
-IsOfRoutes f e = ((f ≡ route_fault.NoMemory) × (e ≡ fault.NoMemory)) ⊎ ((f ≢ route_fault.NoMemory) × (e ≡ fault.Routes f))
+IsOfRoutes f e = ((f ≡ route_fault.NoMemory) × (e ≡ fault.NoMemory))
+    ⊎ ((f ≢ route_fault.NoMemory) × (e ≡ fault.Routes f))
 
 abbrev pub IsOfRows : RowFault → OfficeFault → Type 0
-IsOfRows f e = ((f ≡ row_fault.NoMemory) × (e ≡ fault.NoMemory)) ⊎ ((f ≢ row_fault.NoMemory) × (e ≡ fault.Rows f))
+IsOfRows f e = ((f ≡ row_fault.NoMemory) × (e ≡ fault.NoMemory))
+    ⊎ ((f ≢ row_fault.NoMemory) × (e ≡ fault.Rows f))

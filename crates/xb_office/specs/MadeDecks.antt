@@ -21,7 +21,8 @@ with_ends (line ∷ lines) = line ++ codes "\n" ++ with_ends lines
 -- lines that are not the cut
 abbrev pub AreTableLines : List (List ℕ) → Type 0
 AreTableLines [] = Unit {0}
-AreTableLines (line ∷ lines) = (is_cut line ≡ false) × All (λ byte. ends_line byte ≡ false) line × AreTableLines lines
+AreTableLines (line ∷ lines) = (is_cut line ≡ false) × All (λ byte. ends_line byte ≡ false) line
+    × AreTableLines lines
 
 -- a table, the line that cuts, and rows are cut into the table and the rows, whatever the rows are
 abbrev pub MadeDecksAreCut : Type 0

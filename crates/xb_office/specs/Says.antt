@@ -36,7 +36,8 @@ says_parts (Some parts) = says_table parts.rows (table_of_text parts.table)
 
 -- the page of a deck, or its first fault
 abbrev pub says : List ℕ → Result (List ℕ) OfficeFault
-says deck = if nat_lt MOST_DECK_BYTES (length deck) then Err fault.DeckTooLong else says_parts (deck_parts deck)
+says deck = if nat_lt MOST_DECK_BYTES (length deck) then Err fault.DeckTooLong
+    else says_parts (deck_parts deck)
 
 -- out of memory, or what a deck says
 abbrev pub IsFaultOfDeck : Result (List ℕ) OfficeFault → OfficeFault → Type 0
@@ -52,7 +53,8 @@ GetsBeginning said old new = (page : List ℕ) × (said ≡ Ok page) × AppendsB
 
 -- what is returned for a deck, and what the writer got of it: the page on Ok, its beginning where a
 -- write failed, and nothing on any other fault; a fault of the deck is what the deck says
-abbrev pub Delivers : Option (List ℕ) → Result (Unit {0}) OfficeFault → Option (List ℕ) → Option (List ℕ) → Type 0
+abbrev pub Delivers :
+    Option (List ℕ) → Result (Unit {0}) OfficeFault → Option (List ℕ) → Option (List ℕ) → Type 0
 Delivers deck (Ok u) old new = IfSome deck (λ bytes. GetsPage (says bytes) old new)
 Delivers deck (Err fault.Write) old new = IfSome deck (λ bytes. GetsBeginning (says bytes) old new)
 Delivers deck (Err fault.Read) old new = Keeps old new

@@ -263,6 +263,112 @@ fn greatest_limits(rt: HostRuntime) -> Result<(), Fail> {
     Ok(())
 }
 
+// Limits of a fast dial, and an early time-out.
+const FAST: Limits = Limits {
+    pulse_min: 10,
+    pulse_max: 60,
+    make_min: 8,
+    pause: 100,
+    release: 200,
+    timeout: 1_000,
+};
+
+// The least lawful limits.
+const LEAST: Limits = Limits {
+    pulse_min: 1,
+    pulse_max: 1,
+    make_min: 1,
+    pause: 1,
+    release: 2,
+    timeout: 2,
+};
+
+// Limits of their own, and records whose runs reach each exactly, or miss it by 1 ms.
+const RECORDS_AT_OWN_LIMITS: [(Limits, Case<'static>); 7] = [
+    (
+        FAST,
+        (
+            "the shortest pulse, and a shorter break",
+            &[Make(50), Break(10), Make(100), Break(9), Make(100)],
+            &[Seize, Digit(1, false), Digit(1, true), Close],
+        ),
+    ),
+    (
+        FAST,
+        (
+            "the longest pulse, and a longer break",
+            &[Make(50), Break(60), Make(100), Break(61), Make(100)],
+            &[Seize, Digit(1, false), Digit(1, true), Close],
+        ),
+    ),
+    (
+        FAST,
+        (
+            "the shortest inner make, and a shorter one",
+            &[
+                Make(50),
+                Break(30),
+                Make(8),
+                Break(30),
+                Make(100),
+                Break(30),
+                Make(7),
+                Break(30),
+                Make(100),
+            ],
+            &[Seize, Digit(2, false), Digit(2, true), Close],
+        ),
+    ),
+    (
+        FAST,
+        (
+            "a make under the pause, and the pause",
+            &[Make(50), Break(30), Make(99), Break(30), Make(100)],
+            &[Seize, Digit(2, false), Close],
+        ),
+    ),
+    (
+        FAST,
+        (
+            "a break under the release, and the release",
+            &[Make(50), Break(199), Make(100), Break(200), Make(1)],
+            &[Seize, Digit(1, true), Release, Seize, Close],
+        ),
+    ),
+    (
+        FAST,
+        (
+            "a make under the time-out, and the time-out",
+            &[Make(50), Break(30), Make(999), Break(30), Make(1_000)],
+            &[Seize, Digit(1, false), Digit(1, false), TimeOut, Close],
+        ),
+    ),
+    (
+        LEAST,
+        (
+            "pulses, a time-out and a release at the least limits",
+            &[Make(1), Break(1), Make(1), Break(1), Make(2), Break(2)],
+            &[
+                Seize,
+                Digit(1, false),
+                Digit(1, false),
+                TimeOut,
+                Release,
+                Close,
+            ],
+        ),
+    ),
+];
+
+#[test]
+fn own_limits(rt: HostRuntime) -> Result<(), Fail> {
+    for (limits, case) in RECORDS_AT_OWN_LIMITS {
+        check(&rt, rt.alloc(), limits, case, false)?;
+        check(&rt, rt.alloc(), limits, case, true)?;
+    }
+    Ok(())
+}
+
 // The rows of two lists, one of each in turn.
 fn in_turn(alloc: Global, first: &[Row], second: &[Row]) -> Result<Vec<Row>, Fail> {
     let mut rows = Vec::new(alloc);

@@ -5,7 +5,7 @@ use Rattle.std.proofs.lemmas.Bool.Decides.{nat_tests}
 use Rattle.xb_model.specs.Plans.{plan_len, length_after_three}
 use Rattle.xb_model.specs.Numbers.{is_complete, has_length}
 use Rattle.xb_model.specs.declared.plan.Plan.{Plan}
-use Rattle.xb_model.specs.declared.plan.Plan.TheVariants.{Seven}
+use Rattle.xb_model.specs.declared.plan.Plan.TheVariants.{Seven, Ten}
 use Rattle.xb_register.specs.Registering.{reaches}
 
 -- one digit alone
@@ -19,6 +19,7 @@ IsPending plan digits = reaches (plan_len plan digits) (length digits) ≡ false
 -- a number whose length three digits tell has three at least
 at_least_three : (plan : Plan) (a b c : ℕ) → 3 ≤ length_after_three plan a b c
 at_least_three Seven a b c = grind (arith, nat_tests)
+at_least_three Ten a b c = grind (arith, nat_tests)
 
 -- a first digit 0 is a whole number, and any other is not
 zero_first : (z : Bool) → reaches (cond z (Some 1) None) 1 ≡ has_length (cond z (Some 1) None) 1

@@ -43,10 +43,11 @@ fn is_number(digits: &[Digit], wanted: &[u8]) -> bool {
     digits.len() == wanted.len() && digits.iter().zip(wanted).all(|(d, w)| d.get() == *w)
 }
 
-// What the register of plan Seven gives for signals, each with its line.
+// What the register of a plan gives for signals, each with its line.
 fn outcomes(
     rt: &impl Abort,
     alloc: Global,
+    plan: Plan,
     signals: &[(u16, Signal)],
 ) -> Result<Vec<On<Dialled>>, AllocError> {
     let mut items = Vec::new(alloc);
@@ -54,7 +55,7 @@ fn outcomes(
         let line = LineNo::new(*number).expect(rt, "a line");
         items.push(On { line, what: *what })?;
     }
-    image_of(alloc, &Register::new(Plan::Seven), items)
+    image_of(alloc, &Register::new(plan), items)
 }
 
 // These signals on the one line.
@@ -71,10 +72,11 @@ fn assert_outcomes(
     rt: &impl Abort,
     alloc: Global,
     name: &str,
+    plan: Plan,
     signals: &[Signal],
     wanted: &[Outcome],
 ) -> Result<(), AllocError> {
-    let given = outcomes(rt, alloc, &on_the_line(alloc, signals)?)?;
+    let given = outcomes(rt, alloc, plan, &on_the_line(alloc, signals)?)?;
     assert_eq!(rt; given.len(), wanted.len(), "{name}");
     for (given, wanted) in given.iter().zip(wanted) {
         assert_eq!(rt; given.line.get(), LINE, "{name}");
@@ -162,7 +164,7 @@ const RECORDS: [(&str, &[Signal], &[Outcome]); 6] = [
 #[test]
 fn attempts_end_in_outcomes(rt: HostRuntime) -> Result<(), Fail> {
     for (name, signals, wanted) in RECORDS {
-        assert_outcomes(&rt, rt.alloc(), name, signals, wanted)?;
+        assert_outcomes(&rt, rt.alloc(), name, Plan::Seven, signals, wanted)?;
     }
     Ok(())
 }
@@ -178,26 +180,39 @@ fn a_lone_close_gives_nothing(rt: HostRuntime) -> Result<(), Fail> {
     Ok(())
 }
 
-// The good digits of an attempt that goes on, and what comes of them in plan Seven.
-const ATTEMPTS: [(&str, &[u8], &[Outcome]); 6] = [
-    ("the operator", &[0], &[Outcome::Number(&[0])]),
-    ("a service code", &[4, 1, 1], &[Outcome::Number(&[4, 1, 1])]),
+// The good digits of an attempt that goes on, and what comes of them in plan Seven and in plan Ten.
+const ATTEMPTS: [(&str, &[u8], &[Outcome], &[Outcome]); 6] = [
     (
-        "seven digits",
+        "the operator",
+        &[0],
+        &[Outcome::Number(&[0])],
+        &[Outcome::Number(&[0])],
+    ),
+    (
+        "a service code",
+        &[4, 1, 1],
+        &[Outcome::Number(&[4, 1, 1])],
+        &[Outcome::Number(&[4, 1, 1])],
+    ),
+    (
+        "seven digits that begin with the code of an area",
         &[4, 1, 2, 5, 5, 5, 1],
         &[Outcome::Number(&[4, 1, 2, 5, 5, 5, 1])],
+        &[],
     ),
     (
         "ten digits",
         &[2, 0, 1, 5, 5, 5, 1, 2, 3, 4],
         &[Outcome::Number(&[2, 0, 1, 5, 5, 5, 1])],
+        &[Outcome::Number(&[2, 0, 1, 5, 5, 5, 1, 2, 3, 4])],
     ),
     (
         "three ones are no service code",
         &[1, 1, 1, 2, 3, 4, 5],
         &[Outcome::Number(&[1, 1, 1, 2, 3, 4, 5])],
+        &[Outcome::Number(&[1, 1, 1, 2, 3, 4, 5])],
     ),
-    ("six digits", &[2, 3, 4, 5, 6, 7], &[]),
+    ("six digits", &[2, 3, 4, 5, 6, 7], &[], &[]),
 ];
 
 // The signals of an attempt that goes on, with these digits.
@@ -211,10 +226,12 @@ fn dialling(alloc: Global, digits: &[u8]) -> Result<Vec<Signal>, AllocError> {
 }
 
 #[test]
-fn plan_seven_completes_numbers(rt: HostRuntime) -> Result<(), Fail> {
+fn plans_complete_numbers(rt: HostRuntime) -> Result<(), Fail> {
     let alloc = rt.alloc();
-    for (name, digits, wanted) in ATTEMPTS {
-        assert_outcomes(&rt, alloc, name, &dialling(alloc, digits)?, wanted)?;
+    for (name, digits, seven, ten) in ATTEMPTS {
+        let signals = dialling(alloc, digits)?;
+        assert_outcomes(&rt, alloc, name, Plan::Seven, &signals, seven)?;
+        assert_outcomes(&rt, alloc, name, Plan::Ten, &signals, ten)?;
     }
     Ok(())
 }
@@ -230,7 +247,7 @@ fn lines_are_apart(rt: HostRuntime) -> Result<(), Fail> {
         (2, RELEASE),
         (1, pulses(1)),
     ];
-    let given = outcomes(&rt, rt.alloc(), &signals)?;
+    let given = outcomes(&rt, rt.alloc(), Plan::Seven, &signals)?;
     assert_eq!(rt; given.len(), 2);
     assert_eq!(rt; given[0].line.get(), 2);
     assert!(rt; is_outcome(&given[0].what, Outcome::Number(&[0])));

@@ -4,14 +4,14 @@ use Rattle.std.specs.Prelude.{codes}
 use Rattle.toml.specs.Data.{Items, Members, get_member}
 use Rattle.xb_model.specs.declared.limits.Limits.{Limits}
 use Rattle.xb_model.specs.declared.plan.Plan.{Plan}
-use Rattle.xb_model.specs.declared.plan.Plan.TheVariants.{Seven}
-use Rattle.xb_model.specs.LawfulLimits.{standard_limits}
 use Rattle.xb_model.specs.Routing.{CodedRoute}
 use Rattle.xb_routes.specs.declared.fault.RouteFault.{RouteFault}
 use Rattle.xb_routes.specs.declared.fault.RouteFault.TheVariants as fault
 use Rattle.xb_routes.specs.Table.{Table}
-use Rattle.xb_routes.specs.Text.{and_then, or_fault, route_items, routes_of_array, seven_table, table_of_text, table_of_tree, tree_of}
-use Rattle.xb_routes.specs.ByItem.{IsFaultOfText, IsFaultOfTree, Writes}
+use Rattle.xb_routes.specs.PlanAndLimits.{limits_of, plan_of}
+use Rattle.xb_routes.specs.Steps.{and_then, or_fault}
+use Rattle.xb_routes.specs.Text.{route_items, routes_of_array, table_by, table_of_text, table_of_tree, tree_of}
+use Rattle.xb_routes.specs.ByItem.{IsFaultAfterPlan, IsFaultOfRoutes, IsFaultOfText, IsFaultOfTree, Writes}
 use Rattle.xb_routes.proofs.ByItem.{accepted, refused-by}
 
 module _ (A B : Type 0) where
@@ -38,8 +38,21 @@ module _ (A B : Type 0) where
 abbrev routes_at : Members → Result Items RouteFault
 routes_at tree = route_items (get_member (codes "route") tree)
 
-abbrev table_by : List CodedRoute → Plan → Limits → Table
-table_by routes plan limits = record { routes = routes; plan = plan; limits = limits }
+abbrev plan_at : Members → Option Plan
+plan_at tree = plan_of (get_member (codes "plan") tree)
+
+abbrev limits_at : Members → Result Limits RouteFault
+limits_at tree = limits_of (get_member (codes "limits") tree)
+
+-- the routes of a tree by a plan, and the table of these routes
+abbrev routes_by : Plan → Members → Result (List CodedRoute) RouteFault
+routes_by plan tree = and_then (routes_at tree) (routes_of_array plan)
+
+abbrev with_limits : Plan → Members → Limits → Result Table RouteFault
+with_limits plan tree limits = and_then (routes_by plan tree) (λ routes. Ok (table_by routes plan limits))
+
+abbrev with_plan : Members → Plan → Result Table RouteFault
+with_plan tree plan = and_then (limits_at tree) (with_limits plan tree)
 
 -- a text is read as exactly the table that it writes
 pub text-accepted : (text : List ℕ) (table : Table) → (table_of_text text ≡ Ok table) ↔ Writes text table
@@ -47,24 +60,25 @@ text-accepted text table = (to, from)
   where
     from : Writes text table → table_of_text text ≡ Ok table
     from w =
-        let routes = (accepted Seven w.items table.routes).1 w.routes in
-        rw (w.toml, w.array, routes) (ap (λ t. Ok t)
-        (ap (λ plan. table_by table.routes plan standard_limits) (sym w.plan) ∙ ap (λ limits. table_by table.routes table.plan limits) (sym w.limits)))
+        let routes = (accepted table.plan w.items table.routes).1 w.routes in
+        rw (w.toml, w.plan, w.limits, w.array, routes) refl
 
     to : table_of_text text ≡ Ok table → Writes text table
     to e =
         let t = both-option Members Table fault.NotToml (tree_of text) table_of_tree table e in
-        let r = both (List CodedRoute) Table (and_then (routes_at t.0) (routes_of_array Seven)) (λ routes. Ok (seven_table routes)) table t.2 in
-        let i = both Items (List CodedRoute) (routes_at t.0) (routes_of_array Seven) r.0 r.1 in
-        let same : seven_table r.0 ≡ table = cc r.2 in
+        let p = both-option Plan Table fault.Plan (plan_at t.0) (with_plan t.0) table t.2 in
+        let l = both Limits Table (limits_at t.0) (with_limits p.0 t.0) table p.2 in
+        let r = both (List CodedRoute) Table (routes_by p.0 t.0) (λ routes. Ok (table_by routes p.0 l.0)) table l.2 in
+        let i = both Items (List CodedRoute) (routes_at t.0) (routes_of_array p.0) r.0 r.1 in
+        let same : table_by r.0 p.0 l.0 ≡ table = cc r.2 in
         rw (← same) (record {
           tree = t.0;
           items = i.0;
           toml = t.1;
+          plan = p.1;
+          limits = l.1;
           array = i.1;
-          routes = (accepted Seven i.0 r.0).0 i.2;
-          plan = refl;
-          limits = refl;
+          routes = (accepted p.0 i.0 r.0).0 i.2;
         })
 
 -- and refused by exactly its first fault
@@ -73,22 +87,38 @@ text-refused text f = (to, from)
   where
     from : IsFaultOfText text f → table_of_text text ≡ Err f
     from (inl none) = rw none.0 (ap (λ g. Err g) (sym none.1))
-    from (inr (tree, toml, inl array)) = rw (toml, array) refl
-    from (inr (tree, toml, inr (items, array, why))) =
-        let routes = (refused-by Seven items f).1 why in
-        rw (toml, array, routes) refl
+    from (inr (tree, toml, inl none)) = rw (toml, none.0) (ap (λ g. Err g) (sym none.1))
+    from (inr (tree, toml, inr (plan, is, inl limits))) = rw (toml, is, limits) refl
+    from (inr (tree, toml, inr (plan, is, inr (limits, has, inl array)))) = rw (toml, is, has, array) refl
+    from (inr (tree, toml, inr (plan, is, inr (limits, has, inr (items, array, why))))) =
+        let routes = (refused-by plan items f).1 why in
+        rw (toml, is, has, array, routes) refl
+
+    of-routes : (plan : Plan) (tree : Members) (limits : Limits) → with_limits plan tree limits ≡ Err f → IsFaultOfRoutes plan tree f
+    of-routes plan tree limits e = by (either (List CodedRoute) Table (routes_by plan tree) (λ routes. Ok (table_by routes plan limits)) f e)
+      where
+        of-items : (routes_at tree ≡ Err f) ⊎ ((items : Items) × (routes_at tree ≡ Ok items) × (routes_of_array plan items ≡ Err f)) → IsFaultOfRoutes plan tree f
+        of-items (inl array) = inl array
+        of-items (inr (items, array, why)) = inr (items, array, (refused-by plan items f).0 why)
+
+        by : (routes_by plan tree ≡ Err f)
+            ⊎ ((routes : List CodedRoute) × (routes_by plan tree ≡ Ok routes) × (Ok (table_by routes plan limits) ≡ Err f)) → IsFaultOfRoutes plan tree f
+        by (inl why) = of-items (either Items (List CodedRoute) (routes_at tree) (routes_of_array plan) f why)
+        by (inr (routes, given, why)) = absurd (cc)
+
+    after-plan : (plan : Plan) (tree : Members) → with_plan tree plan ≡ Err f → IsFaultAfterPlan plan tree f
+    after-plan plan tree e = by (either Limits Table (limits_at tree) (with_limits plan tree) f e)
+      where
+        by : (limits_at tree ≡ Err f) ⊎ ((limits : Limits) × (limits_at tree ≡ Ok limits) × (with_limits plan tree limits ≡ Err f)) → IsFaultAfterPlan plan tree f
+        by (inl why) = inl why
+        by (inr (limits, has, why)) = inr (limits, has, of-routes plan tree limits why)
 
     of-tree : (tree : Members) → table_of_tree tree ≡ Err f → IsFaultOfTree tree f
-    of-tree tree e = by (either (List CodedRoute) Table (and_then (routes_at tree) (routes_of_array Seven)) (λ routes. Ok (seven_table routes)) f e)
+    of-tree tree e = by (either-option Plan Table fault.Plan (plan_at tree) (with_plan tree) f e)
       where
-        of-items : (routes_at tree ≡ Err f) ⊎ ((items : Items) × (routes_at tree ≡ Ok items) × (routes_of_array Seven items ≡ Err f)) → IsFaultOfTree tree f
-        of-items (inl array) = inl array
-        of-items (inr (items, array, why)) = inr (items, array, (refused-by Seven items f).0 why)
-
-        by : (and_then (routes_at tree) (routes_of_array Seven) ≡ Err f)
-            ⊎ ((routes : List CodedRoute) × (and_then (routes_at tree) (routes_of_array Seven) ≡ Ok routes) × (Ok (seven_table routes) ≡ Err f)) → IsFaultOfTree tree f
-        by (inl why) = of-items (either Items (List CodedRoute) (routes_at tree) (routes_of_array Seven) f why)
-        by (inr (routes, given, why)) = absurd (cc)
+        by : ((plan_at tree ≡ None) × (f ≡ fault.Plan)) ⊎ ((plan : Plan) × (plan_at tree ≡ Some plan) × (with_plan tree plan ≡ Err f)) → IsFaultOfTree tree f
+        by (inl none) = inl none
+        by (inr (plan, is, why)) = inr (plan, is, after-plan plan tree why)
 
     to : table_of_text text ≡ Err f → IsFaultOfText text f
     to e = by (either-option Members Table fault.NotToml (tree_of text) table_of_tree f e)

@@ -23,10 +23,13 @@ digits-length (c ∷ text) digits e = by (digit_of_character c) (digits_of_text 
 -- a code has one of the possible lengths
 pub is_code-length : (plan : Plan) (digits : List ℕ) → is_code plan digits ≡ true → IsCodeLength (length digits)
 is_code-length plan [] e = absurd (cc)
-is_code-length plan (a ∷ []) e = (1, omega arith, refl)
+is_code-length plan (a ∷ []) e = (2, omega arith, refl)
 is_code-length plan (a ∷ b ∷ []) e = absurd (cc)
-is_code-length plan (a ∷ b ∷ c ∷ []) e = (0, omega arith, refl)
-is_code-length plan (a ∷ b ∷ c ∷ d ∷ rest) e = absurd (cc)
+is_code-length plan (a ∷ b ∷ c ∷ []) e = (1, omega arith, refl)
+is_code-length plan (a ∷ b ∷ c ∷ d ∷ []) e = absurd (cc)
+is_code-length plan (a ∷ b ∷ c ∷ d ∷ f ∷ []) e = absurd (cc)
+is_code-length plan (a ∷ b ∷ c ∷ d ∷ f ∷ g ∷ []) e = (0, omega arith, refl)
+is_code-length plan (a ∷ b ∷ c ∷ d ∷ f ∷ g ∷ h ∷ rest) e = absurd (cc)
 
 -- no code is longer than the longest
 pub code-length-most : (n : ℕ) → IsCodeLength n → n ≤ CODE_DIGITS

@@ -9,7 +9,8 @@ use Rattle.xb_routes.specs.declared.fault.RouteFault.{RouteFault}
 use Rattle.xb_routes.specs.declared.fault.RouteFault.TheVariants as fault
 use Rattle.xb_routes.specs.Codes.{code_of, number_length}
 use Rattle.xb_routes.specs.Keys.{FourKeys, keys_of}
-use Rattle.xb_routes.specs.Text.{deleted_of, has_code, if_keying, or_fault, prefixed_of, route_of, routes_from, trunk_of}
+use Rattle.xb_routes.specs.Steps.{or_fault}
+use Rattle.xb_routes.specs.Text.{deleted_of, has_code, if_keying, prefixed_of, route_of, routes_from, trunk_of}
 
 module _ (plan : Plan) (i : ℕ) (earlier : List CodedRoute) (value : Data) (rest : Items) where
   -- an item that is refused by itself

@@ -68,7 +68,7 @@ other-length : (n : ℕ) (lengths : List ℕ) (m : ℕ) → Contains (n ∷ leng
 other-length n lengths m (zero, below, e) other = absurd (other (sym e))
 other-length n lengths m (suc k, below, e) other = (k, omega (arith, below), e)
 
--- each of some lengths is less than those before it
+-- no length is greater than one before it
 abbrev pub Descend : List ℕ → Type 0
 Descend [] = Unit {0}
 Descend (n ∷ lengths) = AllByRecursion (λ m. m ≤ n) lengths × Descend lengths
@@ -95,7 +95,7 @@ module _ (digits : List ℕ) where
       → route_for (route ∷ routes) digits ≡ route_for routes digits
   route_for-other route routes h = ap longest_of (cond-false _ _ _ h)
 
-  -- so has the route that is found
+  -- then the route that is found has at most n digits in its code
   route_for-within : (n : ℕ) (routes : List CodedRoute) → AllWithin n routes → (o : CodedRoute)
       → route_for routes digits ≡ Some o → length o.code ≤ n
   route_for-within n [] a o e = absurd (cc)
@@ -236,8 +236,8 @@ module _ (digits : List ℕ) where
       none : Contains [] (length route.code) → ⊥
       none (k, below, e) = omega arith
 
-  -- what is to come of a search by lengths: they are less and less, and each code that covers the
-  -- digits has one of them
+  -- the lengths that a search has still to try: none is greater than one before it, and each code
+  -- that covers the digits has one of them
   pub record Left (lengths : List ℕ) (routes : List CodedRoute) : Type 0 where
     pub descend : Descend lengths
     pub covers : CoversBy lengths routes

@@ -3,13 +3,13 @@ use Rattle.std.specs.Prelude.{◌≡◌, ◌≢◌, ◌⊎◌, ℕ, ◌+◌, ◌
 use Rattle.std.specs.List.{AllPairs, Contains, enumerate_from}
 use Rattle.toml.specs.Data.{Data, Items, no_items, item, Members, get_member}
 use Rattle.xb_model.specs.declared.plan.Plan.{Plan}
-use Rattle.xb_model.specs.declared.plan.Plan.TheVariants.{Seven}
-use Rattle.xb_model.specs.LawfulLimits.{standard_limits}
+use Rattle.xb_model.specs.declared.limits.Limits.{Limits}
 use Rattle.xb_model.specs.Routing.{CodedRoute}
 use Rattle.xb_routes.specs.declared.fault.RouteFault.{RouteFault}
 use Rattle.xb_routes.specs.declared.fault.RouteFault.TheVariants as fault
 use Rattle.xb_routes.specs.declared.table.TheConstants.{MOST_ROUTES}
 use Rattle.xb_routes.specs.Keys.{keys_of}
+use Rattle.xb_routes.specs.PlanAndLimits.{limits_of, plan_of}
 use Rattle.xb_routes.specs.Table.{Table}
 use Rattle.xb_routes.specs.Text.{count, route_items, route_of, tree_of}
 
@@ -36,13 +36,15 @@ pub record AreRoutesOf (plan : Plan) (items : Items) (routes : List CodedRoute) 
   pub alone : each_alone plan items ≡ map Ok routes
   pub own_codes : HaveOwnCodes routes
 
--- the fault of an item that comes after these routes: its own, or that it repeats the code of one
--- of them, by its number
+-- the fault of the item that follows these routes: its own, or `Twice` with the item's number, where
+-- one of them has its code
 abbrev pub IsFaultAfter : List CodedRoute → Result CodedRoute RouteFault → RouteFault → Type 0
 IsFaultAfter earlier (Err own) f = f ≡ own
-IsFaultAfter earlier (Ok route) f = Contains (codes_of earlier) route.code × (f ≡ fault.Twice (length earlier + 1))
+IsFaultAfter earlier (Ok route) f = Contains (codes_of earlier) route.code
+    × (f ≡ fault.Twice (length earlier + 1))
 
--- the first item with a fault has this one: all items before it give routes, no two of the same code
+-- the first item with a fault has this one: the items before it give routes by themselves, no two of
+-- the same code
 pub record IsFirstFault (plan : Plan) (items : Items) (f : RouteFault) : Type 0 where
   pub earlier : List CodedRoute
   pub faulty : Result CodedRoute RouteFault
@@ -57,21 +59,36 @@ IsFaultOfItems plan items f =
     ((MOST_ROUTES < count items) × (f ≡ fault.TooMany))
     ⊎ ((count items ≤ MOST_ROUTES) × IsFirstFault plan items f)
 
--- a text writes a table: it is TOML, and its array of routes has the table's
+-- a text writes a table: it is TOML, its plan and its limits are the table's, and its array `route`
+-- has the table's routes
 pub record Writes (text : List ℕ) (table : Table) : Type 0 where
   pub tree : Members
   pub items : Items
   pub toml : tree_of text ≡ Some tree
+  pub plan : plan_of (get_member (codes "plan") tree) ≡ Some table.plan
+  pub limits : limits_of (get_member (codes "limits") tree) ≡ Ok table.limits
   pub array : route_items (get_member (codes "route") tree) ≡ Ok items
-  pub routes : AreRoutesOf Seven items table.routes
-  pub plan : table.plan ≡ Seven
-  pub limits : table.limits ≡ standard_limits
+  pub routes : AreRoutesOf table.plan items table.routes
 
--- why a tree is refused: `route` is no array, or else by its items
+-- why routes are refused: `route` is no array, or else by its items
+abbrev pub IsFaultOfRoutes : Plan → Members → RouteFault → Type 0
+IsFaultOfRoutes plan tree f =
+    (route_items (get_member (codes "route") tree) ≡ Err f)
+    ⊎ ((items : Items) × (route_items (get_member (codes "route") tree) ≡ Ok items)
+      × IsFaultOfItems plan items f)
+
+-- why a tree is refused whose plan is known: by its limits, or else by its routes
+abbrev pub IsFaultAfterPlan : Plan → Members → RouteFault → Type 0
+IsFaultAfterPlan plan tree f =
+    (limits_of (get_member (codes "limits") tree) ≡ Err f)
+    ⊎ ((limits : Limits) × (limits_of (get_member (codes "limits") tree) ≡ Ok limits)
+      × IsFaultOfRoutes plan tree f)
+
+-- why a tree is refused: by its plan, or else by what comes after
 abbrev pub IsFaultOfTree : Members → RouteFault → Type 0
 IsFaultOfTree tree f =
-    (route_items (get_member (codes "route") tree) ≡ Err f)
-    ⊎ ((items : Items) × (route_items (get_member (codes "route") tree) ≡ Ok items) × IsFaultOfItems Seven items f)
+    ((plan_of (get_member (codes "plan") tree) ≡ None) × (f ≡ fault.Plan))
+    ⊎ ((plan : Plan) × (plan_of (get_member (codes "plan") tree) ≡ Some plan) × IsFaultAfterPlan plan tree f)
 
 -- why a text is refused: it is not TOML, or else by its tree
 abbrev pub IsFaultOfText : List ℕ → RouteFault → Type 0

@@ -1,12 +1,12 @@
 -- The codes that a route may have (own format). N is 2 to 9, X is 0 to 9.
-use Rattle.std.specs.Prelude.{ℕ, ◌<◌, ◌-◌, List, [], ◌∷◌, length, Bool, false, ◌&&◌, ◌||◌, ◌==◌, nat_le, if◌then◌else◌, Option, Some, None, option_and_then, option_map, unwrap_or}
+use Rattle.std.specs.Prelude.{ℕ, ◌<◌, ◌-◌, List, [], ◌∷◌, length, Bool, false, true, ◌&&◌, ◌||◌, ◌==◌, nat_le, if◌then◌else◌, Option, Some, None, option_and_then, option_map, unwrap_or}
 use Rattle.std.specs.Char.{is_ascii_digit}
 use Rattle.std.specs.List.{AllByRecursion, Contains}
 use Rattle.xb_model.specs.declared.digit.TheConstants.{DIGITS}
 use Rattle.xb_model.specs.declared.plan.Plan.{Plan}
-use Rattle.xb_model.specs.declared.plan.Plan.TheVariants.{Seven}
+use Rattle.xb_model.specs.declared.plan.Plan.TheVariants.{Seven, Ten}
 use Rattle.xb_model.specs.Page.{zero_byte}
-use Rattle.xb_model.specs.Plans.{plan_len}
+use Rattle.xb_model.specs.Plans.{plan_len, is_service_code, is_area_code}
 use Rattle.xb_routes.specs.declared.code.TheConstants.{CODE_LENGTHS}
 
 -- the digit that an ASCII character is
@@ -31,14 +31,21 @@ AreDigits digits = AllByRecursion (λ digit. digit < DIGITS) digits
 abbrev pub IsCodeLength : ℕ → Type 0
 IsCodeLength n = Contains CODE_LENGTHS n
 
--- three digits NNX or N11
-abbrev pub is_office_code : Plan → ℕ → ℕ → ℕ → Bool
-is_office_code Seven a b c = nat_le 2 a && (nat_le 2 b || (b == 1 && c == 1))
+-- NN, with which an office code NNX begins
+abbrev pub begins_office : ℕ → ℕ → Bool
+begins_office a b = nat_le 2 a && nat_le 2 b
 
--- 0 alone, or an office code
+abbrev pub has_area_codes : Plan → Bool
+has_area_codes Seven = false
+has_area_codes Ten = true
+
+-- 0 alone; three digits NNX or N11, and in plan Ten also N0X or N1X; and in plan Ten six digits, N0X or
+-- N1X other than N11, followed by NNX
 abbrev pub is_code : Plan → List ℕ → Bool
 is_code plan (a ∷ []) = a == 0
-is_code plan (a ∷ b ∷ c ∷ []) = is_office_code plan a b c
+is_code plan (a ∷ b ∷ c ∷ []) =
+    begins_office a b || (is_service_code a b c || (has_area_codes plan && is_area_code a b c))
+is_code plan (a ∷ b ∷ c ∷ d ∷ e ∷ f ∷ []) = has_area_codes plan && (is_area_code a b c && begins_office d e)
 is_code plan _ = false
 
 abbrev pub if_code : Plan → List ℕ → Option (List ℕ)

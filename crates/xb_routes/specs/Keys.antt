@@ -44,4 +44,5 @@ keys_of value = option_and_then keys_of_table (as_table value)
 
 -- what the keys that were read say
 abbrev pub keys_read : RouteKeys → FourKeys
-keys_read keys = four_keys keys.code.now keys.trunk keys.delete (option_map (λ (text : Bor (List ℕ)). text.now) keys.prefix)
+keys_read keys = four_keys keys.code.now keys.trunk keys.delete
+    (option_map (λ (text : Bor (List ℕ)). text.now) keys.prefix)

@@ -1,6 +1,8 @@
 pub mod Table
 pub mod Codes
 pub mod Keys
+pub mod Steps
+pub mod PlanAndLimits
 pub mod Text
 pub mod Coded
 pub mod Places

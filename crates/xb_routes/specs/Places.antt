@@ -28,4 +28,5 @@ code_number digits = number_from 1 digits
 -- each route has a code of a possible length, and the index holds the place of each code's route
 pub record IsIndex {S : Type 0} (index : HashMap ℕ ℕ S) (routes : List CodedRoute) : Type 0 where
   pub lengths : AllByRecursion (λ route. IsCodeLength (length route.code)) routes
-  pub places : (code : List ℕ) → AreDigits code → hash.get nat_eq index (code_number code) ≡ place_of code routes
+  pub places : (code : List ℕ) → AreDigits code → hash.get nat_eq index (code_number code)
+    ≡ place_of code routes

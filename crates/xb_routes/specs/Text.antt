@@ -4,27 +4,19 @@ use Rattle.std.specs.List.{list_any}
 use Rattle.std.specs.Str.{is_utf8}
 use Rattle.toml.specs.Data.{Data, Items, no_items, item, Members, as_array, get_member}
 use Rattle.toml.specs.Parse.{parse_document}
+use Rattle.xb_model.specs.declared.limits.Limits.{Limits}
 use Rattle.xb_model.specs.declared.plan.Plan.{Plan}
-use Rattle.xb_model.specs.declared.plan.Plan.TheVariants.{Seven}
 use Rattle.xb_model.specs.declared.trunk.TheConstants.{TRUNKS}
 use Rattle.xb_model.specs.declared.digits.TheConstants.{PREFIX_DIGITS}
-use Rattle.xb_model.specs.LawfulLimits.{standard_limits}
 use Rattle.xb_model.specs.Routing.{CodedRoute, coded_route}
 use Rattle.xb_routes.specs.declared.fault.RouteFault.{RouteFault}
 use Rattle.xb_routes.specs.declared.fault.RouteFault.TheVariants as fault
 use Rattle.xb_routes.specs.declared.table.TheConstants.{MOST_ROUTES}
 use Rattle.xb_routes.specs.Codes.{code_of, digits_within, number_length}
 use Rattle.xb_routes.specs.Keys.{FourKeys, keys_of}
+use Rattle.xb_routes.specs.PlanAndLimits.{limits_of, plan_of}
+use Rattle.xb_routes.specs.Steps.{and_then, or_fault}
 use Rattle.xb_routes.specs.Table.{Table}
-
--- what is there, or else a fault
-abbrev pub or_fault : {A B : Type 0} → RouteFault → Option A → (A → Result B RouteFault) → Result B RouteFault
-or_fault f None next = Err f
-or_fault f (Some x) next = next x
-
-abbrev pub and_then : {A B : Type 0} → Result A RouteFault → (A → Result B RouteFault) → Result B RouteFault
-and_then (Err f) next = Err f
-and_then (Ok x) next = next x
 
 -- a trunk group
 abbrev pub trunk_of : ℤ → Option ℕ
@@ -45,7 +37,8 @@ prefixed_of (Some text) = digits_within PREFIX_DIGITS text
 -- a route that keys a digit: it does not delete all of them, or puts some before the number
 abbrev pub if_keying : Plan → ℕ → CodedRoute → Result CodedRoute RouteFault
 if_keying plan i route =
-    if (route.deleted == number_length plan route.code) && (length route.prefixed == 0) then Err (fault.NothingToKey i) else Ok route
+    if (route.deleted == number_length plan route.code) && (length route.prefixed == 0)
+      then Err (fault.NothingToKey i) else Ok route
 
 -- route i by its keys, or its first fault
 abbrev pub route_of : Plan → ℕ → Option FourKeys → Result CodedRoute RouteFault
@@ -79,7 +72,8 @@ count (item value rest) = suc (count rest)
 
 -- the routes of an array, if they are not too many
 abbrev pub routes_of_array : Plan → Items → Result (List CodedRoute) RouteFault
-routes_of_array plan items = if nat_le (count items) MOST_ROUTES then routes_from plan 1 [] items else Err fault.TooMany
+routes_of_array plan items = if nat_le (count items) MOST_ROUTES then routes_from plan 1 [] items
+    else Err fault.TooMany
 
 -- the items of the key `route`: none where it is missing
 abbrev pub route_items : Option Data → Result Items RouteFault
@@ -94,12 +88,16 @@ routes_of_key plan value = and_then (route_items value) (routes_of_array plan)
 abbrev pub tree_of : List ℕ → Option Members
 tree_of text = if is_utf8 text then parse_document text else None
 
-abbrev pub seven_table : List CodedRoute → Table
-seven_table routes = record { routes = routes; plan = Seven; limits = standard_limits }
+abbrev pub table_by : List CodedRoute → Plan → Limits → Table
+table_by routes plan limits = record { routes = routes; plan = plan; limits = limits }
 
--- the table of a tree
+-- the table of a tree, or the first fault: of its plan, its limits, its routes
 abbrev pub table_of_tree : Members → Result Table RouteFault
-table_of_tree tree = and_then (routes_of_key Seven (get_member (codes "route") tree)) (λ routes. Ok (seven_table routes))
+table_of_tree tree =
+    or_fault fault.Plan (plan_of (get_member (codes "plan") tree)) (λ plan.
+    and_then (limits_of (get_member (codes "limits") tree)) (λ limits.
+    and_then (routes_of_key plan (get_member (codes "route") tree)) (λ routes.
+    Ok (table_by routes plan limits))))
 
 -- the table of a text, or the first refusal
 abbrev pub table_of_text : List ℕ → Result Table RouteFault

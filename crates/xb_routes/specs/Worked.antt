@@ -1,12 +1,15 @@
 -- What the definitions give at worked tables (own format).
 use Rattle.std.specs.Prelude.{◌≡◌, ℕ, List, [], ◌∷◌, ◌++◌, codes, Some, None, Ok, Err}
-use Rattle.xb_model.specs.declared.plan.Plan.TheVariants.{Seven}
-use Rattle.xb_model.specs.Routing.{coded_route, route_for}
+use Rattle.xb_model.specs.declared.plan.Plan.TheVariants.{Seven, Ten}
+use Rattle.xb_model.specs.Routing.{CodedRoute, coded_route, route_for}
 use Rattle.xb_model.specs.WorkedRows.{three_routes}
 use Rattle.xb_routes.specs.declared.fault.RouteFault.TheVariants as fault
 use Rattle.xb_routes.specs.declared.table.TheConstants.{MOST_ROUTES}
 use Rattle.xb_routes.specs.Codes.{code_of, number_length}
-use Rattle.xb_routes.specs.Text.{seven_table, table_of_text}
+use Rattle.xb_model.specs.LawfulLimits.{standard_limits}
+use Rattle.xb_model.specs.WorkedRoutes.{short_route, long_route}
+use Rattle.xb_routes.specs.Table.{Table}
+use Rattle.xb_routes.specs.Text.{table_by, table_of_text}
 
 -- the codes of plan Seven, with the length of their numbers, and texts that are none
 pub record ReadsCodes : Type 0 where
@@ -25,12 +28,35 @@ pub record ReadsCodes : Type 0 where
   pub no_digit : code_of Seven (codes "") ≡ None
   pub a_letter : code_of Seven (codes "23a") ≡ None
 
+-- the codes that plan Ten has beside those of plan Seven, with the length of their numbers, and texts
+-- that are none
+pub record ReadsCodesOfTen : Type 0 where
+  pub operator : code_of Ten (codes "0") ≡ Some (0 ∷ [])
+  pub nnx : code_of Ten (codes "234") ≡ Some (2 ∷ 3 ∷ 4 ∷ [])
+  pub n11 : code_of Ten (codes "411") ≡ Some (4 ∷ 1 ∷ 1 ∷ [])
+  pub n1x : code_of Ten (codes "212") ≡ Some (2 ∷ 1 ∷ 2 ∷ [])
+  pub n0x : code_of Ten (codes "201") ≡ Some (2 ∷ 0 ∷ 1 ∷ [])
+  pub six_digits : code_of Ten (codes "212555") ≡ Some (2 ∷ 1 ∷ 2 ∷ 5 ∷ 5 ∷ 5 ∷ [])
+  pub n11_length : number_length Ten (4 ∷ 1 ∷ 1 ∷ []) ≡ 3
+  pub n1x_length : number_length Ten (2 ∷ 1 ∷ 2 ∷ []) ≡ 10
+  pub n0x_length : number_length Ten (2 ∷ 0 ∷ 1 ∷ []) ≡ 10
+  pub six_digits_length : number_length Ten (2 ∷ 1 ∷ 2 ∷ 5 ∷ 5 ∷ 5 ∷ []) ≡ 10
+  pub six_from_n11 : code_of Ten (codes "411555") ≡ None
+  pub six_to_n1x : code_of Ten (codes "212155") ≡ None
+  pub six_to_n11 : code_of Ten (codes "212511") ≡ None
+  pub begins_with_one : code_of Ten (codes "111") ≡ None
+  pub four_digits : code_of Ten (codes "2345") ≡ None
+
 -- the lines that write the three routes
 abbrev pub three_lines : List ℕ
 three_lines =
     codes "[[route]]\ncode = \"234\"\ntrunk = 17\ndelete = 3\nprefix = \"56\"\n"
     ++ codes "[[route]]\ncode = \"411\"\ntrunk = 3\n"
     ++ codes "[[route]]\ncode = \"0\"\ntrunk = 1\n"
+
+-- routes with plan Seven and the standard limits
+abbrev pub seven_table : List CodedRoute → Table
+seven_table routes = table_by routes Seven standard_limits
 
 -- tables and refusals
 pub record ReadsTables : Type 0 where
@@ -41,15 +67,55 @@ pub record ReadsTables : Type 0 where
   pub not_an_array : table_of_text (codes "route = 3") ≡ Err (fault.Shape 0)
   pub no_trunk : table_of_text (codes "[[route]]\ncode = \"234\"\n") ≡ Err (fault.Shape 1)
   pub code_first : table_of_text (codes "[[route]]\ncode = \"23\"\ntrunk = 10000\n") ≡ Err (fault.Code 1)
-  pub trunk_first : table_of_text (codes "[[route]]\ncode = \"234\"\ntrunk = 10000\ndelete = 9\n") ≡ Err (fault.Trunk 1)
-  pub delete_of_eight : table_of_text (codes "[[route]]\ncode = \"234\"\ntrunk = 17\ndelete = 8\n") ≡ Err (fault.Delete 1)
-  pub prefix_of_nine : table_of_text (codes "[[route]]\ncode = \"0\"\ntrunk = 1\nprefix = \"123456789\"\n") ≡ Err (fault.Prefix 1)
-  pub nothing_to_key : table_of_text (codes "[[route]]\ncode = \"234\"\ntrunk = 17\ndelete = 7\n") ≡ Err (fault.NothingToKey 1)
-  pub repeated : table_of_text (three_lines ++ codes "[[route]]\ncode = \"234\"\ntrunk = 5\n") ≡ Err (fault.Twice 4)
+  pub trunk_first : table_of_text (codes "[[route]]\ncode = \"234\"\ntrunk = 10000\ndelete = 9\n")
+    ≡ Err (fault.Trunk 1)
+  pub delete_of_eight : table_of_text (codes "[[route]]\ncode = \"234\"\ntrunk = 17\ndelete = 8\n")
+    ≡ Err (fault.Delete 1)
+  pub prefix_of_nine : table_of_text (codes "[[route]]\ncode = \"0\"\ntrunk = 1\nprefix = \"123456789\"\n")
+    ≡ Err (fault.Prefix 1)
+  pub nothing_to_key : table_of_text (codes "[[route]]\ncode = \"234\"\ntrunk = 17\ndelete = 7\n")
+    ≡ Err (fault.NothingToKey 1)
+  pub repeated : table_of_text (three_lines ++ codes "[[route]]\ncode = \"234\"\ntrunk = 5\n")
+    ≡ Err (fault.Twice 4)
+
+-- two routes of plan Ten
+abbrev pub ten_lines : List ℕ
+ten_lines =
+    codes "[[route]]\ncode = \"212555\"\ntrunk = 40\ndelete = 3\n"
+    ++ codes "[[route]]\ncode = \"212\"\ntrunk = 41\n"
+
+-- a table with limits alone
+abbrev pub Refuses : List ℕ → ℕ → Type 0
+Refuses lines k = table_of_text (codes "[limits]\n" ++ lines) ≡ Err (fault.Limits k)
+
+-- plans and limits
+pub record ReadsPlansAndLimits : Type 0 where
+  pub ten : table_of_text (codes "plan = 10\n" ++ ten_lines)
+    ≡ Ok (table_by (long_route ∷ short_route ∷ []) Ten standard_limits)
+  pub ten_without_plan : table_of_text ten_lines ≡ Err (fault.Code 1)
+  pub eight : table_of_text (codes "plan = 8\nroute = 3") ≡ Err fault.Plan
+  pub text_of_ten : table_of_text (codes "plan = \"10\"") ≡ Err fault.Plan
+  pub plan_before_limits : table_of_text (codes "plan = 8\n[limits]\npulse_min = 120") ≡ Err fault.Plan
+  pub limits_before_routes : table_of_text (codes "limits = 3\nroute = 3") ≡ Err (fault.Limits 0)
+  pub own_release :
+      table_of_text (codes "[limits]\nrelease = 250\n" ++ three_lines)
+      ≡ Ok (table_by three_routes Seven (record standard_limits { release = 250 }))
+  pub own_makes :
+      table_of_text (codes "[limits]\nmake_min = 1\npause = 1\n")
+      ≡ Ok (table_by [] Seven (record standard_limits { make_min = 1; pause = 1 }))
+  pub no_number : Refuses (codes "pause = \"x\"") 4
+  pub no_timeout : Refuses (codes "timeout = 0") 6
+  pub over_the_greatest : Refuses (codes "timeout = 1000001") 6
+  pub pulses_out_of_order : Refuses (codes "pulse_min = 120") 7
+  pub pulse_not_under_release : Refuses (codes "pulse_max = 300") 8
+  pub makes_out_of_order : Refuses (codes "make_min = 181") 9
+  pub pause_not_under_timeout : Refuses (codes "timeout = 180") 10
+  pub first_of_two : Refuses (codes "pulse_max = 0\npulse_min = 0") 1
 
 -- the route of a number
 pub record LooksUp : Type 0 where
-  pub office_code : route_for three_routes (2 ∷ 3 ∷ 4 ∷ 5 ∷ 6 ∷ 7 ∷ 8 ∷ []) ≡ Some (coded_route (2 ∷ 3 ∷ 4 ∷ []) 17 3 (5 ∷ 6 ∷ []))
+  pub office_code : route_for three_routes (2 ∷ 3 ∷ 4 ∷ 5 ∷ 6 ∷ 7 ∷ 8 ∷ [])
+    ≡ Some (coded_route (2 ∷ 3 ∷ 4 ∷ []) 17 3 (5 ∷ 6 ∷ []))
   pub operator : route_for three_routes (0 ∷ []) ≡ Some (coded_route (0 ∷ []) 1 0 [])
   pub no_code : route_for three_routes (6 ∷ 1 ∷ 1 ∷ []) ≡ None
   pub too_short : route_for three_routes (2 ∷ 3 ∷ []) ≡ None

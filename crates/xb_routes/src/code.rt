@@ -1,17 +1,19 @@
 // The codes that a route may have.
 ghost use Rattle.std.specs.Prelude.{◌≡◌, length, option_map};
 ghost use Rattle.xb_routes.specs.Codes.{IsCodeLength, code_of, digit_of_character, digits_within};
-ghost use Rattle.xb_routes.specs.Codes.{is_code, is_office_code, number_length};
+ghost use Rattle.xb_routes.specs.Codes.{begins_office, has_area_codes, is_code, number_length};
 ghost use Rattle.xb_routes.specs.Text.{prefixed_of};
 
 use std::marker::Model;
-use xb_model::{Digit, DigitList, PREFIX_DIGITS, Plan, PrefixDigits, plan_len};
+use xb_model::{
+    Digit, DigitList, PREFIX_DIGITS, Plan, PrefixDigits, is_area_code, is_service_code, plan_len,
+};
 
 /// The most digits of a code (own format).
-pub(crate) const CODE_DIGITS: usize = 3;
+pub(crate) const CODE_DIGITS: usize = 6;
 
 /// How many digits a code has, the greatest number first (own format).
-pub(crate) const CODE_LENGTHS: [usize; 2] = [CODE_DIGITS, 1];
+pub(crate) const CODE_LENGTHS: [usize; 3] = [CODE_DIGITS, 3, 1];
 
 /// A code of a route: digits that numbers begin with.
 #[derive(Drop)]
@@ -64,21 +66,38 @@ fn digits_of<const CAPACITY: usize>(text: &[u8]) -> Option<DigitList<CAPACITY>>
     Some(digits)
 }
 
-// Whether three digits are a code: NNX or N11.
-fn is_office_code(plan: Plan, first: u8, second: u8, third: u8) -> bool
-    ensures { result ≡ is_office_code plan first second third }
+// Whether an office code NNX begins with these two digits.
+fn begins_office(first: Digit, second: Digit) -> bool
+    ensures { result ≡ begins_office first second }
+{
+    first.get() >= 2 && second.get() >= 2
+}
+
+// Whether the plan has codes of areas, whose numbers have ten digits.
+fn has_area_codes(plan: Plan) -> bool
+    ensures { result ≡ has_area_codes plan }
 {
     match plan {
-        Plan::Seven => first >= 2 && (second >= 2 || (second == 1 && third == 1)),
+        Plan::Seven => false,
+        Plan::Ten => true,
     }
 }
 
 fn is_code(plan: Plan, digits: &[Digit]) -> bool
     ensures { result ≡ is_code plan digits.now }
 {
-    match digits {
+    match *digits {
         [only] => only.get() == 0,
-        [first, second, third] => is_office_code(plan, first.get(), second.get(), third.get()),
+        [first, second, third] => {
+            begins_office(first, second)
+                || is_service_code(first, second, third)
+                || (has_area_codes(plan) && is_area_code(first, second, third))
+        }
+        [first, second, third, fourth, fifth, _] => {
+            has_area_codes(plan)
+                && is_area_code(first, second, third)
+                && begins_office(fourth, fifth)
+        }
         _ => false,
     }
 }

@@ -9,12 +9,12 @@ ghost use Rattle.xb_routes.specs.declared.table.TheConstants.{MOST_ROUTES};
 ghost use Rattle.xb_routes.specs.ByItem.{AreRoutesOf, IsFaultOfItems, IsFaultOfText, Writes};
 ghost use Rattle.xb_routes.specs.Table.{Table};
 ghost use Rattle.xb_routes.specs.Text.{count, routes_of_array, table_of_text};
-ghost use Rattle.xb_routes.specs.Worked.{LooksUp, ReadsCodes, ReadsTables};
+ghost use Rattle.xb_routes.specs.Worked.{LooksUp, ReadsCodes, ReadsCodesOfTen, ReadsPlansAndLimits, ReadsTables};
 
-/// The routes of an array, said of all its items at once: they are accepted exactly where there are
-/// at most `MOST_ROUTES` items, each gives its route by itself, and no two routes have the same
-/// code. Else there are too many, or the fault is that of the first item that has one: its own, or
-/// `Twice` where an earlier route has its code.
+/// The routes of an array, said of all its items at once. They are accepted exactly where there are
+/// at most `MOST_ROUTES` items, each item gives its route by itself, and no two routes have the same
+/// code. Else there are too many items, or the fault is that of the first item that has one: its
+/// own, or `Twice` where an earlier route has its code.
 pub fn routes_by_item()
     ensures accepted { (plan : Plan) (items : Items) (routes : List CodedRoute) →
         (routes_of_array plan items ≡ Ok routes) ↔ AreRoutesOf plan items routes }
@@ -24,9 +24,9 @@ pub fn routes_by_item()
         (routes_of_array plan items ≡ Err TooMany) ↔ (MOST_ROUTES < count items) }
 {}
 
-/// The same of a whole text. `RouteTable::read` gives what `table_of_text` gives, so it accepts
-/// only a text that writes the table, and refuses only with the text's first fault.
-pub fn tables_by_item()
+/// The table of a text, said in the same way. `RouteTable::read` gives what `table_of_text` gives:
+/// so it accepts only a text that writes its table, and refuses only by the text's first fault.
+pub fn tables_by_text()
     ensures accepted { (text : List ℕ) (table : Table) → (table_of_text text ≡ Ok table) ↔ Writes text table }
     ensures refused { (text : List ℕ) (fault : RouteFault) →
         (table_of_text text ≡ Err fault) ↔ IsFaultOfText text fault }
@@ -35,6 +35,8 @@ pub fn tables_by_item()
 /// What the definitions give at worked tables.
 pub fn worked_tables()
     ensures codes { ReadsCodes }
+    ensures codes_of_ten { ReadsCodesOfTen }
     ensures tables { ReadsTables }
+    ensures plans_and_limits { ReadsPlansAndLimits }
     ensures routes { LooksUp }
 {}

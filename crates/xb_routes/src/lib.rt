@@ -23,6 +23,7 @@ mod code;
 mod fault;
 mod keys;
 pub mod laws;
+mod limits;
 mod route;
 mod routes;
 mod table;

@@ -13,6 +13,7 @@ ghost use Rattle.xb_routes.specs.declared.fault.RouteFault.TheVariants.{NoMemory
 
 use crate::fault::RouteFault;
 use crate::keys::value_at;
+use crate::limits::{limits_of, plan_of};
 use crate::route::{Route, route_of};
 use crate::routes::Routes;
 use std::alloc::Global;
@@ -121,7 +122,9 @@ fn read_tree(alloc: Global, plan: Plan, tree: &Table) -> Result<Routes, RouteFau
 
 impl RouteTable {
     /// The table that a text writes (own format): TOML whose array of tables `route` has a route
-    /// each, with the keys `code`, `trunk`, `delete` and `prefix`. All other keys are ignored.
+    /// each, with the keys `code`, `trunk`, `delete` and `prefix`. The key `plan` is 7 or 10, and 7
+    /// where it is missing; the table `limits` may hold any of the six limits, in ms, and those that
+    /// are missing are the standard ones. All other keys are ignored.
     ///
     /// `Err` has the first refusal in the order of `RouteFault`; `Err(RouteFault::NoMemory)` comes
     /// where memory ran out, before any later check.
@@ -130,12 +133,15 @@ impl RouteTable {
         ensures refused { IfErr result (λ f. f ≢ NoMemory → table_of_text text.now ≡ Err f) }
     {
         let tree = tree_of(alloc, text)?;
-        let plan = Plan::Seven;
+        let Some(plan) = plan_of(&tree) else {
+            return Err(RouteFault::Plan);
+        };
+        let limits = limits_of(&tree)?;
         let routes = read_tree(alloc, plan, &tree)?;
         Ok(RouteTable {
             routes,
             plan,
-            limits: Limits::standard(),
+            limits,
         })
     }
 

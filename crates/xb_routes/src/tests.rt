@@ -2,8 +2,9 @@
 mod faults;
 mod large;
 mod orders;
+mod plans;
 
-use crate::RouteTable;
+use crate::{RouteFault, RouteTable};
 use std::alloc::{AllocError, Global};
 use std::process::Abort;
 use xb_model::Digit;
@@ -65,4 +66,21 @@ fn check_route(
         "of {number} in {text}"
     );
     Ok(())
+}
+
+// Checks the fault with which a text is refused.
+fn check_fault(rt: &impl Abort, alloc: Global, text: &str, fault: RouteFault) {
+    match RouteTable::read(alloc, text.as_bytes()) {
+        Ok(_) => panic!(rt; "accepted in place of {fault:?}: {text}"),
+        Err(found) => assert_eq!(rt; found, fault, "of {text}"),
+    }
+}
+
+// A table of one route with these lines, after its code.
+fn one_route(alloc: Global, code: &str, lines: &str) -> Result<String, AllocError> {
+    let mut text = String::new(alloc);
+    for part in ["[[route]]\ncode = \"", code, "\"\n", lines, "\n"] {
+        text.push_str(part)?;
+    }
+    Ok(text)
 }

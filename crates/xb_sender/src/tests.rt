@@ -94,8 +94,8 @@ fn every_digit(rt: HostRuntime) -> Result<(), AllocError> {
 
 #[test]
 fn longest_keying(rt: HostRuntime) -> Result<(), AllocError> {
-    let digits = [1, 2, 3, 4, 5, 6, 7, 8, 9, 9, 9, 9, 9, 9, 9];
-    assert_keying(&rt, rt.alloc(), 9999, &digits, 18)
+    let digits = [1, 2, 3, 4, 5, 6, 7, 8, 2, 1, 2, 5, 5, 5, 1, 2, 3, 4];
+    assert_keying(&rt, rt.alloc(), 9999, &digits, 21)
 }
 
 #[test]

@@ -18,7 +18,8 @@ all_on line [] = tt
 all_on line (what ∷ whats) = (refl, all_on line whats)
 
 -- a stage that says `whats` for an item, and puts it on the item's line
-abbrev pub on_lines : {I A S : Type 0} → (I → LineNo) → S → (S → I → S) → (S → I → List A) → Machine I (On A) S
+abbrev pub on_lines :
+    {I A S : Type 0} → (I → LineNo) → S → (S → I → S) → (S → I → List A) → Machine I (On A) S
 on_lines line start next whats =
     record {
       start = start;

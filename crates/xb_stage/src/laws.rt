@@ -13,7 +13,7 @@ use crate::stage::LineStage;
 
 /// How many items a stage sends for one item at the most, and the room that it is given for them.
 pub fn constants()
-    ensures most_outputs { MOST_OUTPUTS ≡ 20 }
+    ensures most_outputs { MOST_OUTPUTS ≡ 24 }
     ensures output_room { OUTPUT_ROOM ≡ 24 }
 {}
 

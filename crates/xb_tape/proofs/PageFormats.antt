@@ -15,7 +15,9 @@ styled n =
 
 -- the line of a refusal
 pub refused : (line n : ℕ) (r : Reason) (heard : ℕ)
-    → styled_decimal (format_spec 32 0 4 4 18446744073709551615) line ++ (codes " " ++ (decimal n ++ (codes " REFUSED " ++ (reason_text r ++ (codes " " ++ (decimal heard ++ codes "\n")))))) ≡ refused_text line n r heard
+    → styled_decimal (format_spec 32 0 4 4 18446744073709551615) line
+    ++ (codes " " ++ (decimal n ++ (codes " REFUSED " ++ (reason_text r ++ (codes " " ++ (decimal heard ++ codes "\n"))))))
+    ≡ refused_text line n r heard
 refused line n r heard = rw (styled line) (simp append_assoc)
 
 -- the line of a keying, from its head on

@@ -1,31 +1,16 @@
 // Tables that are refused, and the texts of the faults.
-use super::{THREE_ROUTES, check_route};
+use super::{THREE_ROUTES, check_fault, check_route, one_route};
 use crate::{RouteFault, RouteTable};
 use std::alloc::{AllocError, Global};
 use std::process::Abort;
 use std::test::Fail;
 
-// Checks the fault with which a text is refused.
-fn check_fault(rt: &impl Abort, alloc: Global, text: &str, fault: RouteFault) {
-    match RouteTable::read(alloc, text.as_bytes()) {
-        Ok(_) => panic!(rt; "accepted in place of {fault:?}: {text}"),
-        Err(found) => assert_eq!(rt; found, fault, "of {text}"),
-    }
-}
-
-// A table of one route with these lines, after its code.
-fn one_route(alloc: Global, code: &str, lines: &str) -> Result<String, AllocError> {
-    let mut text = String::new(alloc);
-    for part in ["[[route]]\ncode = \"", code, "\"\n", lines, "\n"] {
-        text.push_str(part)?;
-    }
-    Ok(text)
-}
-
 #[test]
 fn texts_of_faults(rt: HostRuntime) -> Result<(), Fail> {
     for (fault, text) in [
         (RouteFault::NotToml, "not TOML"),
+        (RouteFault::Plan, "plan is neither 7 nor 10"),
+        (RouteFault::Limits(4), "limit 4 is wrong"),
         (RouteFault::TooMany, "more than 1000 routes"),
         (RouteFault::Shape(0), "route 0 has a wrong shape"),
         (RouteFault::Code(1), "route 1 has a wrong code"),

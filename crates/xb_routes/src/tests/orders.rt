@@ -4,7 +4,7 @@ use crate::{RouteTable, Translate};
 use std::alloc::{AllocError, Global};
 use std::process::Abort;
 use std::test::Fail;
-use xb_model::{Dialled, Limits, LineNo, NumberDigits, On, Order, Plan, Reason};
+use xb_model::{Dialled, LineNo, NumberDigits, On, Order, Reason};
 use xb_stage::{LineStage, OUTPUT_ROOM};
 
 // What the stage orders for an outcome on line 20.
@@ -39,7 +39,7 @@ fn check_order(
 ) -> Result<(), AllocError> {
     let (number, trunk, keyed) = row;
     let dialled = digits(rt, alloc, number)?;
-    let dialled = NumberDigits::of(&dialled).expect(rt, "at most seven digits");
+    let dialled = NumberDigits::of(&dialled).expect(rt, "at most ten digits");
     let keyed = digits(rt, alloc, keyed)?;
     match ordered(rt, alloc, table, number, Dialled::Number(dialled))? {
         Order::Key(group, order) => {
@@ -91,17 +91,6 @@ fn numbers_without_a_route(rt: HostRuntime) -> Result<(), Fail> {
     let empty = table_of(&rt, rt.alloc(), "");
     let number = digits(&rt, rt.alloc(), "2345678")?;
     assert!(rt; empty.look(&number).is_none());
-    Ok(())
-}
-
-#[test]
-fn plan_and_limits(rt: HostRuntime) -> Result<(), Fail> {
-    let other_keys = "plan = 10\nname = \"office\"\n[limits]\nrelease = 250\n";
-    for text in ["", THREE_ROUTES, other_keys] {
-        let table = table_of(&rt, rt.alloc(), text);
-        assert_eq!(rt; table.plan(), Plan::Seven, "of {text}");
-        assert_eq!(rt; table.limits(), Limits::standard(), "of {text}");
-    }
     Ok(())
 }
 

@@ -20,3 +20,24 @@ returns-clause-tables c = record {
   nothing_to_key = refl;
   repeated = refl;
 }
+
+pub returns-clause-plans_and_limits : goal.returns-clause-plans_and_limits
+unfolding toml_on_literals routes_from is_utf8 chars
+returns-clause-plans_and_limits c = record {
+  ten = refl;
+  ten_without_plan = refl;
+  eight = refl;
+  text_of_ten = refl;
+  plan_before_limits = refl;
+  limits_before_routes = refl;
+  own_release = refl;
+  own_makes = refl;
+  no_number = refl;
+  no_timeout = refl;
+  over_the_greatest = refl;
+  pulses_out_of_order = refl;
+  pulse_not_under_release = refl;
+  makes_out_of_order = refl;
+  pause_not_under_timeout = refl;
+  first_of_two = refl;
+}

@@ -7,5 +7,6 @@ pub returns : goal.returns
 returns c =
     on_ok_weaker c.push_str.result
     (λ e.
-    keyed _ _ _ _ c.args.line c.args.number c.args.entry.now (rw (c.laid_out.ensures, c.get-line.ensures.value) at c.in_ok-write.ensures.bytes) c.in_ok-write_marks.ensures e)
+    keyed _ _ _ _ c.args.line c.args.number c.args.entry.now (rw (c.laid_out.ensures, c.get-line.ensures.value) at c.in_ok-write.ensures.bytes)
+    c.in_ok-write_marks.ensures e)
     (search rules)

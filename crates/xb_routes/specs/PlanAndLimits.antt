@@ -1,0 +1,63 @@
+-- The plan and the limits of a table, by the keys `plan` and `limits` of its text (own format).
+use Rattle.std.specs.Prelude.{◌≡◌, ℕ, ℤ, pos, negsuc, ◌==◌, ◌&&◌, nat_le, nat_lt, if◌then◌else◌, List, codes, Option, Some, None, option_and_then, Result, Ok, Err}
+use Rattle.toml.specs.Data.{Data, Members, as_integer, as_table, get_member}
+use Rattle.xb_model.specs.declared.limits.Limits.{Limits}
+use Rattle.xb_model.specs.declared.limits.TheConstants.{GREATEST_LIMIT}
+use Rattle.xb_model.specs.declared.plan.Plan.{Plan}
+use Rattle.xb_model.specs.declared.plan.Plan.TheVariants.{Seven, Ten}
+use Rattle.xb_model.specs.LawfulLimits.{standard_limits}
+use Rattle.xb_routes.specs.declared.fault.RouteFault.{RouteFault}
+use Rattle.xb_routes.specs.declared.fault.RouteFault.TheVariants as fault
+use Rattle.xb_routes.specs.Steps.{or_fault}
+
+-- the plan of a number
+abbrev pub plan_of_number : ℤ → Option Plan
+plan_of_number (pos n) = if n == 7 then Some Seven else (if n == 10 then Some Ten else None)
+plan_of_number (negsuc n) = None
+
+-- the plan at the key `plan`: Seven where it is missing
+abbrev pub plan_of : Option Data → Option Plan
+plan_of None = Some Seven
+plan_of (Some value) = option_and_then plan_of_number (as_integer value)
+
+-- a limit, in ms
+abbrev pub limit_of_number : ℤ → Option ℕ
+limit_of_number (pos n) = if nat_le 1 n && nat_le n GREATEST_LIMIT then Some n else None
+limit_of_number (negsuc n) = None
+
+-- the limit at a key, or its default where the key is missing
+abbrev pub limit_at : Option Data → ℕ → Option ℕ
+limit_at None default = Some default
+limit_at (Some value) default = option_and_then limit_of_number (as_integer value)
+
+-- limits that stand in their order, or the first fault of it
+abbrev pub in_order : Limits → Result Limits RouteFault
+in_order limits =
+    if nat_lt limits.pulse_max limits.pulse_min then Err (fault.Limits 7)
+    else if nat_le limits.release limits.pulse_max then Err (fault.Limits 8)
+    else if nat_lt limits.pause limits.make_min then Err (fault.Limits 9)
+    else if nat_le limits.timeout limits.pause then Err (fault.Limits 10)
+    else Ok limits
+
+-- the limits of a table with these keys, or the first fault: of a limit by itself, then of their order
+abbrev pub limits_of_keys : Members → Result Limits RouteFault
+limits_of_keys keys =
+    or_fault (fault.Limits 1)
+      (limit_at (get_member (codes "pulse_min") keys) standard_limits.pulse_min) (λ pulse_min.
+    or_fault (fault.Limits 2)
+      (limit_at (get_member (codes "pulse_max") keys) standard_limits.pulse_max) (λ pulse_max.
+    or_fault (fault.Limits 3)
+      (limit_at (get_member (codes "make_min") keys) standard_limits.make_min) (λ make_min.
+    or_fault (fault.Limits 4)
+      (limit_at (get_member (codes "pause") keys) standard_limits.pause) (λ pause.
+    or_fault (fault.Limits 5)
+      (limit_at (get_member (codes "release") keys) standard_limits.release) (λ release.
+    or_fault (fault.Limits 6)
+      (limit_at (get_member (codes "timeout") keys) standard_limits.timeout) (λ timeout.
+    in_order (record { pulse_min = pulse_min; pulse_max = pulse_max; make_min = make_min; pause = pause;
+      release = release; timeout = timeout })))))))
+
+-- the limits at the key `limits`: the standard ones where it is missing
+abbrev pub limits_of : Option Data → Result Limits RouteFault
+limits_of None = Ok standard_limits
+limits_of (Some value) = or_fault (fault.Limits 0) (as_table value) limits_of_keys
