@@ -22,12 +22,7 @@ pub record AreLimits (limits : Limits) : Type 0 where
 
 -- each limit is in range, and they stand in their order
 pub record IsLawful (limits : Limits) : Type 0 where
-  pub pulse_min : IsLimit limits.pulse_min
-  pub pulse_max : IsLimit limits.pulse_max
-  pub make_min : IsLimit limits.make_min
-  pub pause : IsLimit limits.pause
-  pub release : IsLimit limits.release
-  pub timeout : IsLimit limits.timeout
+  pub each : AreLimits limits
   pub pulses_first : limits.pulse_min ≤ limits.pulse_max
   pub pulses_under : limits.pulse_max < limits.release
   pub makes_under : limits.make_min ≤ limits.pause

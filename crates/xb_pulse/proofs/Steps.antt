@@ -66,12 +66,12 @@ judge_timeout-begins L R x s l e = by (nat_le L.timeout s) refl
         → BeginsWith L (judge_timeout L s) R (after_seizure L (pieces_of L (join (make x) R)))
     by true t =
         let h : L.timeout ≤ s = leb-true L.timeout s t in
-        let k : L.timeout ≤ x + ms_taken_in Make R = omega (arith, l.timeout.1) in
+        let k : L.timeout ≤ x + ms_taken_in Make R = omega (arith, l.each.timeout.1) in
         let timed = after_seizure-timed L (x + ms_taken_in Make R) (pieces_of L (runs_left Make R)) k in
-        rw (t, join_is Make x R, timed, after_timeout-make L R l.release.0)
+        rw (t, join_is Make x R, timed, after_timeout-make L R l.each.release.0)
     by false t =
         let h : s < L.timeout = leb-false L.timeout s t in
-        let same : s ≡ x = omega (arith, l.timeout.1) in
+        let same : s ≡ x = omega (arith, l.each.timeout.1) in
         rw (t, same)
 
 -- a make of x ms inside a train sends the digit, if it reaches `pause` with the runs after it
@@ -100,7 +100,7 @@ judge_pause-begins L R tally x s l n e = by (nat_le L.pause s) refl
         rw (t, digit_sent L R tally x n k, judge_timeout-begins L R x s l e)
     by false t =
         let h : s < L.pause = leb-false L.pause s t in
-        let same : s ≡ x = omega (arith, l.pause.1) in
+        let same : s ≡ x = omega (arith, l.each.pause.1) in
         rw (t, same)
 
 -- in a break of x ms, which the stage knows as s: a release ends the piece, and nothing else is sent
@@ -122,7 +122,7 @@ release_at-begins L R x s phase pieces_send l e ends stays = by (nat_le L.releas
         rw (t, join_is Brk x R, released, without_first_break_is R) (ends (pieces_of L (runs_left Brk R)))
     by false t =
         let h : s < L.release = leb-false L.release s t in
-        let same : s ≡ x = omega (arith, l.release.1) in
+        let same : s ≡ x = omega (arith, l.each.release.1) in
         rw t (stays same)
 
 -- in a break of x ms inside a train, which the stage knows as s
@@ -203,7 +203,7 @@ take_make-begins L (InBreak t tally) m R l o =
     (judge_pause-begins L R (with_break L t tally) m (longer 0 m) l (omega arith) (omega arith))
 take_make-begins L (InMake t tally) m R l o =
     rw (join_sum Make t m R) (judge_pause-begins L R tally (t + m) (longer t m) l o.1 refl)
-take_make-begins L (TimedOut t) m R l o = timed_break_ended L t m R o l.release.0
+take_make-begins L (TimedOut t) m R l o = timed_break_ended L t m R o l.each.release.0
 take_make-begins L Closed m R l o = absurd o
 
 -- a break row sends the beginning
@@ -228,7 +228,7 @@ take_break-begins L Closed m R l o = absurd o
 judge_timeout-open : (L : Limits) (s : ℕ) → IsLawful L → IsOpen L (judge_timeout L s).phase
 judge_timeout-open L s l =
     cond_both (nat_le L.timeout s) (with_first TimeOut (enter (TimedOut 0))) (enter (BetweenTrains s))
-    (λ step. IsOpen L step.phase) (λ t. l.release.0) (λ f. leb-false L.timeout s f)
+    (λ step. IsOpen L step.phase) (λ t. l.each.release.0) (λ f. leb-false L.timeout s f)
 
 -- so does a make inside a train
 judge_pause-open :
@@ -254,7 +254,7 @@ take_make-open L (BetweenTrains t) m l o = judge_timeout-open L (longer t m) l
 take_make-open L (InBreak t tally) m l o =
     judge_pause-open L (longer 0 m) (with_break L t tally) l (omega arith)
 take_make-open L (InMake t tally) m l o = judge_pause-open L (longer t m) tally l o.1
-take_make-open L (TimedOut t) m l o = l.release.0
+take_make-open L (TimedOut t) m l o = l.each.release.0
 take_make-open L Closed m l o = absurd o
 
 -- a break row leaves an open phase

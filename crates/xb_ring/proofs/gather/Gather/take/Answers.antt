@@ -1,0 +1,27 @@
+use Rattle.std.proofs.Common.{◌≡◌, ◌+◌, ◌-◌, ◌^◌, min, map, sym, ap, ◌∙◌}
+use Rattle.std.proofs.lemmas.List.{length-map}
+use Rattle.rtrb.specs.Ring.{received, sent}
+use Rattle.xb_ring.specs.declared.gathered.Gathered.TheVariants.{Wants}
+use Rattle.xb_ring.proofs.Gathers.{gathers_taken, counts_taken, gather_law}
+use Rattle.xb_ring.proofs.gather.Gather.take.Goals as goal
+
+pub invariant_of-self-2 : goal.invariant_of-self-2
+invariant_of-self-2 g c =
+    let i = c.self.inside in
+    let ins = map received i.consumers.items in
+    let law = c.self.invariant.0 in
+    let e : i.held ≡ Wants = ap (λ v. v.held) c.self.view_is ∙ c.requires in
+    let n = c.len-inputs.ensures ∙ (i.consumers.ok.0 ∙ sym (length-map i.consumers.items received)) in
+    let count = c.saturating_add-self-inside.ensures ∙ ap (λ k. min (i.taken + k) (2 ^ 64 - 1)) c.count.ensures in
+    rw (c.in-Ok.ensures.ok, c.gather_next-held.ensures, n) (
+      gathers_taken g.T.Ending.ending ins (sent i.producer) i.held i.place law e c.in-Ok.taken,
+      count ∙ counts_taken g.T.Ending.ending ins (sent i.producer) i.held i.place law e c.in-Ok.taken i.taken c.self.invariant.1,
+    )
+
+pub returns-clause-lawful : goal.returns-clause-lawful
+returns-clause-lawful g c = gather_law g.T.Ending.ending _ (sent c.self.inside.producer) _ _ (invariant_of-self-2 g c).0
+
+pub returns-in-Err-clause-lawful : goal.returns-in-Err-clause-lawful
+returns-in-Err-clause-lawful g c =
+    let i = c.self.inside in
+    gather_law g.T.Ending.ending _ (sent i.producer) i.held i.place (rw c.in-Err.ensures.empty c.self.invariant.0)
