@@ -19,7 +19,7 @@ code = \"0\"
 trunk = 1
 ";
 
-// The keyings of that table, by the numbers that are dialled: 0, 234 5678 and 411.
+// What that table keys, by the numbers that are dialled: 0, 234 5678 and 411.
 const OPERATOR: &str = "KEYED 0001 KP:1100+1700 0:1300+1500 ST:1500+1700";
 
 const SEVEN_DIGITS: &str =

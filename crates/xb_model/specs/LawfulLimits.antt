@@ -6,7 +6,13 @@ use Rattle.xb_model.specs.declared.limits.TheConstants.{GREATEST_LIMIT}
 -- the limits of the profile
 abbrev pub standard_limits : Limits
 standard_limits = record {
-    pulse_min = 20; pulse_max = 119; make_min = 15; pause = 180; release = 300; timeout = 20000 }
+  pulse_min = 20;
+  pulse_max = 119;
+  make_min = 15;
+  pause = 180;
+  release = 300;
+  timeout = 20000;
+}
 
 abbrev pub IsLimit : ℕ → Type 0
 IsLimit limit = (0 < limit) × (limit ≤ GREATEST_LIMIT)

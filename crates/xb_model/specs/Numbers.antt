@@ -70,7 +70,7 @@ abbrev pub outcome_of : Plan → Limits → List Run → Dialled
 outcome_of plan limits attempt =
     or_refused (number_of plan limits attempt)
     (without_number (list_any is_none (train_digits limits attempt)) (is_timed limits attempt)
-      (length (good_digits limits attempt)))
+    (length (good_digits limits attempt)))
 
 -- one outcome for each attempt
 abbrev pub outcomes_of : Plan → Limits → List Run → List Dialled

@@ -51,7 +51,7 @@ record_up_to_close [] = []
 record_up_to_close (row ∷ rows) =
     if is_close row.contact then []
     else (if row.ms == 0 then record_up_to_close rows
-      else run_of row.contact row.ms ∷ record_up_to_close rows)
+    else run_of row.contact row.ms ∷ record_up_to_close rows)
 
 -- the record of line l, from the rows of all lines
 abbrev pub record_of : ℕ → List LoopRow → List Run

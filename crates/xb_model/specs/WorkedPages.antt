@@ -37,6 +37,6 @@ PageOfUnfinished = page_text ((Trunk 17 ∷ tone_kp ∷ tone_5 ∷ []) ∷ []) �
 abbrev pub PageOfRefusals : Type 0
 PageOfRefusals =
     page_text
-      (refused Mutilated 1 ∷ [] ∷ (refused Abandoned 2 ++ refused Unknown 7) ∷ refused TimedOut 6 ∷ [])
+    (refused Mutilated 1 ∷ [] ∷ (refused Abandoned 2 ++ refused Unknown 7) ∷ refused TimedOut 6 ∷ [])
     ≡ (codes "0000 1 REFUSED MUTILATED 1\n0002 1 REFUSED ABANDONED 2\n0002 2 REFUSED UNKNOWN 7\n"
     ++ codes "0003 1 REFUSED TIMEDOUT 6\nKEYED 0 REFUSED 4\n")

@@ -31,7 +31,7 @@ keyed_by_three =
 abbrev pub GivesTenDigits : List CodedRoute → Type 0
 GivesTenDigits routes =
     tapes_under Ten standard_limits routes (8 ∷ []) ten_digits_rows
-      ≡ (keyed_by_six ∷ keyed_by_three ∷ []) ∷ []
+    ≡ (keyed_by_six ∷ keyed_by_three ∷ []) ∷ []
 
 -- whichever of the two routes stands first
 pub record TenDigits : Type 0 where
@@ -65,7 +65,7 @@ OnLine6 limits rows tapes = tapes_under Seven limits three_routes (6 ∷ []) row
 pub record OwnLimits : Type 0 where
   pub short_release :
       OnLine6 (record standard_limits { release = 250 })
-        (rows_on 6 (make 500 ∷ break 260 ∷ make 600 ∷ [])) both_abandoned
+      (rows_on 6 (make 500 ∷ break 260 ∷ make 600 ∷ [])) both_abandoned
   pub short_makes :
       OnLine6 (record standard_limits { make_min = 1; pause = 1 })
       (rows_on 6 (make 500 ∷ break 60 ∷ make 1 ∷ break 60 ∷ make 1 ∷ []))

@@ -16,7 +16,7 @@ pub record SignalsOfRecords : Type 0 where
   pub short_break : Gives (make 500 ∷ break 19 ∷ make 600 ∷ []) (Seize ∷ Digit 1 true ∷ Close ∷ [])
   pub release : Gives (make 500 ∷ break 300 ∷ make 600 ∷ []) (Seize ∷ Release ∷ Seize ∷ Close ∷ [])
   pub released_in_a_train : Gives (make 500 ∷ break 60 ∷ make 40 ∷ break 400 ∷ [])
-    (Seize ∷ Release ∷ Close ∷ [])
+      (Seize ∷ Release ∷ Close ∷ [])
   pub eleven_pulses : Gives (make 500 ∷ pulses 11 600) (Seize ∷ Digit 11 false ∷ Close ∷ [])
   pub fourteen_pulses : Gives (make 500 ∷ pulses 14 600) (Seize ∷ Digit 11 false ∷ Close ∷ [])
   pub timed_out :
@@ -31,4 +31,4 @@ pub record SignalsOfRecords : Type 0 where
   pub long_break_and_short_make :
       Gives (make 500 ∷ break 150 ∷ make 10 ∷ break 60 ∷ make 600 ∷ []) (Seize ∷ Digit 2 true ∷ Close ∷ [])
   pub release_of_two_rows : Gives (make 500 ∷ break 150 ∷ break 150 ∷ make 1 ∷ [])
-    (Seize ∷ Release ∷ Seize ∷ Close ∷ [])
+      (Seize ∷ Release ∷ Seize ∷ Close ∷ [])

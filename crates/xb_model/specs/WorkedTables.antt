@@ -36,7 +36,7 @@ abbrev pub TwoMakeADigit : Type 0
 TwoMakeADigit =
     (zero one two four seven : Bool) →
     is_some (digit_of_pattern (five zero one two four seven))
-      ≡ (count_by (λ bit. bit) (five zero one two four seven) == 2)
+    ≡ (count_by (λ bit. bit) (five zero one two four seven) == 2)
 
 -- the pair of each key, in Hz
 pub record MfTable : Type 0 where
@@ -67,7 +67,7 @@ pub record NumbersOfSeven : Type 0 where
   pub service_code : Completes Seven (4 ∷ 1 ∷ 1 ∷ []) (4 ∷ 1 ∷ 1 ∷ [])
   pub teen_code : Completes Seven (4 ∷ 1 ∷ 2 ∷ 5 ∷ 5 ∷ 5 ∷ 1 ∷ []) (4 ∷ 1 ∷ 2 ∷ 5 ∷ 5 ∷ 5 ∷ 1 ∷ [])
   pub seven_of_ten : Completes Seven (2 ∷ 0 ∷ 1 ∷ 5 ∷ 5 ∷ 5 ∷ 1 ∷ 2 ∷ 3 ∷ 4 ∷ [])
-    (2 ∷ 0 ∷ 1 ∷ 5 ∷ 5 ∷ 5 ∷ 1 ∷ [])
+      (2 ∷ 0 ∷ 1 ∷ 5 ∷ 5 ∷ 5 ∷ 1 ∷ [])
   pub begins_with_1 : Completes Seven (1 ∷ 1 ∷ 1 ∷ 2 ∷ 3 ∷ 4 ∷ 5 ∷ []) (1 ∷ 1 ∷ 1 ∷ 2 ∷ 3 ∷ 4 ∷ 5 ∷ [])
   pub six_digits : IsIncomplete Seven (2 ∷ 3 ∷ 4 ∷ 5 ∷ 6 ∷ 7 ∷ [])
   pub no_digit : plan_len Seven [] ≡ None
@@ -80,7 +80,7 @@ pub record NumbersOfTen : Type 0 where
   pub service_code : Completes Ten (4 ∷ 1 ∷ 1 ∷ []) (4 ∷ 1 ∷ 1 ∷ [])
   pub teen_code : IsIncomplete Ten (4 ∷ 1 ∷ 2 ∷ 5 ∷ 5 ∷ 5 ∷ 1 ∷ [])
   pub all_ten : Completes Ten (2 ∷ 0 ∷ 1 ∷ 5 ∷ 5 ∷ 5 ∷ 1 ∷ 2 ∷ 3 ∷ 4 ∷ [])
-    (2 ∷ 0 ∷ 1 ∷ 5 ∷ 5 ∷ 5 ∷ 1 ∷ 2 ∷ 3 ∷ 4 ∷ [])
+      (2 ∷ 0 ∷ 1 ∷ 5 ∷ 5 ∷ 5 ∷ 1 ∷ 2 ∷ 3 ∷ 4 ∷ [])
   pub begins_with_1 : Completes Ten (1 ∷ 1 ∷ 1 ∷ 2 ∷ 3 ∷ 4 ∷ 5 ∷ []) (1 ∷ 1 ∷ 1 ∷ 2 ∷ 3 ∷ 4 ∷ 5 ∷ [])
   pub office_code : Completes Ten (2 ∷ 3 ∷ 4 ∷ 5 ∷ 6 ∷ 7 ∷ 8 ∷ []) (2 ∷ 3 ∷ 4 ∷ 5 ∷ 6 ∷ 7 ∷ 8 ∷ [])
   pub six_digits : IsIncomplete Ten (2 ∷ 3 ∷ 4 ∷ 5 ∷ 6 ∷ 7 ∷ [])

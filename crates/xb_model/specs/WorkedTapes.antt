@@ -30,7 +30,7 @@ abbrev pub SplitRows : Type 0
 SplitRows =
     tapes (7 ∷ []) (rows_on 7
     (make 500 ∷ break 30 ∷ make 0 ∷ break 30 ∷ make 40 ∷ break 60 ∷ make 600
-      ∷ dials (3 ∷ 4 ∷ 5 ∷ 6 ∷ 7 ∷ 8 ∷ [])))
+    ∷ dials (3 ∷ 4 ∷ 5 ∷ 6 ∷ 7 ∷ 8 ∷ [])))
     ≡ (keyed_seven ∷ []) ∷ []
 
 -- the rows of two lines, one of each in turn
@@ -49,7 +49,7 @@ abbrev pub BreakLimits : Type 0
 BreakLimits =
     tapes (11 ∷ 12 ∷ 13 ∷ 14 ∷ 15 ∷ 16 ∷ [])
     (one_break 11 19 ++ one_break 12 20 ++ one_break 13 119 ++ one_break 14 120 ++ one_break 15 299
-      ++ one_break 16 300)
+    ++ one_break 16 300)
     ≡ (refused Mutilated 0 ∷ [])
     ∷ (refused Abandoned 1 ∷ [])
     ∷ (refused Abandoned 1 ∷ [])
@@ -76,7 +76,7 @@ MakeLimits =
 abbrev pub ElevenPulses : Type 0
 ElevenPulses =
     tapes (8 ∷ [])
-      (rows_on 8 (make 500 ∷ dials (4 ∷ []) ++ pulses 11 600 ++ dials (1 ∷ 1 ∷ []) ++ close ∷ []))
+    (rows_on 8 (make 500 ∷ dials (4 ∷ []) ++ pulses 11 600 ++ dials (1 ∷ 1 ∷ []) ++ close ∷ []))
     ≡ (refused Mutilated 1 ∷ []) ∷ []
 
 -- a make of the time-out in an unfinished number, one ms less, and a day's after a complete one

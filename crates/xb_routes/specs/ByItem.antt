@@ -75,14 +75,14 @@ abbrev pub IsFaultOfRoutes : Plan → Members → RouteFault → Type 0
 IsFaultOfRoutes plan tree f =
     (route_items (get_member (codes "route") tree) ≡ Err f)
     ⊎ ((items : Items) × (route_items (get_member (codes "route") tree) ≡ Ok items)
-      × IsFaultOfItems plan items f)
+    × IsFaultOfItems plan items f)
 
 -- why a tree is refused whose plan is known: by its limits, or else by its routes
 abbrev pub IsFaultAfterPlan : Plan → Members → RouteFault → Type 0
 IsFaultAfterPlan plan tree f =
     (limits_of (get_member (codes "limits") tree) ≡ Err f)
     ⊎ ((limits : Limits) × (limits_of (get_member (codes "limits") tree) ≡ Ok limits)
-      × IsFaultOfRoutes plan tree f)
+    × IsFaultOfRoutes plan tree f)
 
 -- why a tree is refused: by its plan, or else by what comes after
 abbrev pub IsFaultOfTree : Members → RouteFault → Type 0

@@ -29,4 +29,4 @@ code_number digits = number_from 1 digits
 pub record IsIndex {S : Type 0} (index : HashMap ℕ ℕ S) (routes : List CodedRoute) : Type 0 where
   pub lengths : AllByRecursion (λ route. IsCodeLength (length route.code)) routes
   pub places : (code : List ℕ) → AreDigits code → hash.get nat_eq index (code_number code)
-    ≡ place_of code routes
+      ≡ place_of code routes

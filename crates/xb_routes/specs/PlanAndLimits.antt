@@ -43,19 +43,25 @@ in_order limits =
 abbrev pub limits_of_keys : Members → Result Limits RouteFault
 limits_of_keys keys =
     or_fault (fault.Limits 1)
-      (limit_at (get_member (codes "pulse_min") keys) standard_limits.pulse_min) (λ pulse_min.
+    (limit_at (get_member (codes "pulse_min") keys) standard_limits.pulse_min) (λ pulse_min.
     or_fault (fault.Limits 2)
-      (limit_at (get_member (codes "pulse_max") keys) standard_limits.pulse_max) (λ pulse_max.
+    (limit_at (get_member (codes "pulse_max") keys) standard_limits.pulse_max) (λ pulse_max.
     or_fault (fault.Limits 3)
-      (limit_at (get_member (codes "make_min") keys) standard_limits.make_min) (λ make_min.
+    (limit_at (get_member (codes "make_min") keys) standard_limits.make_min) (λ make_min.
     or_fault (fault.Limits 4)
-      (limit_at (get_member (codes "pause") keys) standard_limits.pause) (λ pause.
+    (limit_at (get_member (codes "pause") keys) standard_limits.pause) (λ pause.
     or_fault (fault.Limits 5)
-      (limit_at (get_member (codes "release") keys) standard_limits.release) (λ release.
+    (limit_at (get_member (codes "release") keys) standard_limits.release) (λ release.
     or_fault (fault.Limits 6)
-      (limit_at (get_member (codes "timeout") keys) standard_limits.timeout) (λ timeout.
-    in_order (record { pulse_min = pulse_min; pulse_max = pulse_max; make_min = make_min; pause = pause;
-      release = release; timeout = timeout })))))))
+    (limit_at (get_member (codes "timeout") keys) standard_limits.timeout) (λ timeout.
+    in_order (record {
+      pulse_min = pulse_min;
+      pulse_max = pulse_max;
+      make_min = make_min;
+      pause = pause;
+      release = release;
+      timeout = timeout;
+    })))))))
 
 -- the limits at the key `limits`: the standard ones where it is missing
 abbrev pub limits_of : Option Data → Result Limits RouteFault

@@ -38,7 +38,7 @@ prefixed_of (Some text) = digits_within PREFIX_DIGITS text
 abbrev pub if_keying : Plan → ℕ → CodedRoute → Result CodedRoute RouteFault
 if_keying plan i route =
     if (route.deleted == number_length plan route.code) && (length route.prefixed == 0)
-      then Err (fault.NothingToKey i) else Ok route
+    then Err (fault.NothingToKey i) else Ok route
 
 -- route i by its keys, or its first fault
 abbrev pub route_of : Plan → ℕ → Option FourKeys → Result CodedRoute RouteFault

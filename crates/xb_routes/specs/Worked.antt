@@ -68,15 +68,15 @@ pub record ReadsTables : Type 0 where
   pub no_trunk : table_of_text (codes "[[route]]\ncode = \"234\"\n") ≡ Err (fault.Shape 1)
   pub code_first : table_of_text (codes "[[route]]\ncode = \"23\"\ntrunk = 10000\n") ≡ Err (fault.Code 1)
   pub trunk_first : table_of_text (codes "[[route]]\ncode = \"234\"\ntrunk = 10000\ndelete = 9\n")
-    ≡ Err (fault.Trunk 1)
+      ≡ Err (fault.Trunk 1)
   pub delete_of_eight : table_of_text (codes "[[route]]\ncode = \"234\"\ntrunk = 17\ndelete = 8\n")
-    ≡ Err (fault.Delete 1)
+      ≡ Err (fault.Delete 1)
   pub prefix_of_nine : table_of_text (codes "[[route]]\ncode = \"0\"\ntrunk = 1\nprefix = \"123456789\"\n")
-    ≡ Err (fault.Prefix 1)
+      ≡ Err (fault.Prefix 1)
   pub nothing_to_key : table_of_text (codes "[[route]]\ncode = \"234\"\ntrunk = 17\ndelete = 7\n")
-    ≡ Err (fault.NothingToKey 1)
+      ≡ Err (fault.NothingToKey 1)
   pub repeated : table_of_text (three_lines ++ codes "[[route]]\ncode = \"234\"\ntrunk = 5\n")
-    ≡ Err (fault.Twice 4)
+      ≡ Err (fault.Twice 4)
 
 -- two routes of plan Ten
 abbrev pub ten_lines : List ℕ
@@ -91,7 +91,7 @@ Refuses lines k = table_of_text (codes "[limits]\n" ++ lines) ≡ Err (fault.Lim
 -- plans and limits
 pub record ReadsPlansAndLimits : Type 0 where
   pub ten : table_of_text (codes "plan = 10\n" ++ ten_lines)
-    ≡ Ok (table_by (long_route ∷ short_route ∷ []) Ten standard_limits)
+      ≡ Ok (table_by (long_route ∷ short_route ∷ []) Ten standard_limits)
   pub ten_without_plan : table_of_text ten_lines ≡ Err (fault.Code 1)
   pub eight : table_of_text (codes "plan = 8\nroute = 3") ≡ Err fault.Plan
   pub text_of_ten : table_of_text (codes "plan = \"10\"") ≡ Err fault.Plan
@@ -115,7 +115,7 @@ pub record ReadsPlansAndLimits : Type 0 where
 -- the route of a number
 pub record LooksUp : Type 0 where
   pub office_code : route_for three_routes (2 ∷ 3 ∷ 4 ∷ 5 ∷ 6 ∷ 7 ∷ 8 ∷ [])
-    ≡ Some (coded_route (2 ∷ 3 ∷ 4 ∷ []) 17 3 (5 ∷ 6 ∷ []))
+      ≡ Some (coded_route (2 ∷ 3 ∷ 4 ∷ []) 17 3 (5 ∷ 6 ∷ []))
   pub operator : route_for three_routes (0 ∷ []) ≡ Some (coded_route (0 ∷ []) 1 0 [])
   pub no_code : route_for three_routes (6 ∷ 1 ∷ 1 ∷ []) ≡ None
   pub too_short : route_for three_routes (2 ∷ 3 ∷ []) ≡ None

@@ -1,4 +1,4 @@
-// Worked keyings, and a refused attempt.
+// What is keyed for orders, and a refused attempt.
 use crate::Sender;
 use std::alloc::{AllocError, Global};
 use std::process::Abort;
