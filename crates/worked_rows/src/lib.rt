@@ -16,6 +16,8 @@ mod keyed;
 #[cfg(test)]
 mod memory;
 #[cfg(test)]
+mod posts;
+#[cfg(test)]
 mod pulses;
 #[cfg(test)]
 mod streams;
