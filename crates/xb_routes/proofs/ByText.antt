@@ -1,5 +1,5 @@
 -- The table of a text, by its tree and its array of routes.
-use Rattle.std.proofs.Common.{◌≡◌, List, ℕ, Option, Some, None, Result, Ok, Err, refl, sym, ap, ◌∙◌, inl, inr, ◌⊎◌, ◌↔◌}
+use Rattle.std.proofs.Common.{◌≡◌, List, ℕ, Option, Some, None, Result, Ok, Err, refl, sym, ap, inl, inr, ◌⊎◌, ◌↔◌}
 use Rattle.std.specs.Prelude.{codes}
 use Rattle.toml.specs.Data.{Items, Members, get_member}
 use Rattle.xb_model.specs.declared.limits.Limits.{Limits}
