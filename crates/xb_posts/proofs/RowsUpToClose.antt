@@ -1,0 +1,124 @@
+-- The rows that are kept: those of each line up to its close.
+use Rattle.std.proofs.Common.{◌≡◌, ℕ, eqb, true, false, not, cond, Bool, ◌||◌, List, [], ◌∷◌, ◌++◌, refl, sym, ap, ◌∙◌, ⊎_elim, eqb-true}
+use Rattle.std.proofs.lemmas.Bool.{cases_Bool, cond-true, cond-false}
+use Rattle.std.proofs.lemmas.List.Elements.{filter-append}
+use Rattle.xb_model.specs.Rows.{LoopRow}
+use Rattle.xb_model.specs.Records.{is_close, closes, rows_of}
+use Rattle.xb_model.proofs.Lines.{of_line-here, of_line-other}
+use Rattle.xb_posts.specs.Fed.{without, after, kept}
+use Rattle.xb_posts.specs.Closed.{until_close}
+use Rattle.xb_model.specs.Lines.{row_line}
+
+without-here : (k : ℕ) (row : LoopRow) (rows : List LoopRow) → eqb row.line k ≡ true → without k (row ∷ rows) ≡ without k rows
+without-here k row rows h = cond-false _ _ _ (ap not h)
+
+without-other : (k : ℕ) (row : LoopRow) (rows : List LoopRow) → eqb row.line k ≡ false → without k (row ∷ rows) ≡ row ∷ without k rows
+without-other k row rows h = cond-true _ _ _ (ap not h)
+
+-- without its rows, a line has none
+rows_of-without_same : (l : ℕ) (rows : List LoopRow) → rows_of l (without l rows) ≡ []
+rows_of-without_same l [] = refl
+rows_of-without_same l (row ∷ rows) =
+    ⊎_elim
+    (λ h. ap (rows_of l) (without-here l row rows h) ∙ rows_of-without_same l rows)
+    (λ h. ap (rows_of l) (without-other l row rows h) ∙ of_line-other row_line l row (without l rows) h ∙ rows_of-without_same l rows)
+    (cases_Bool (eqb row.line l))
+
+-- without the rows of a line, another has all its own
+rows_of-without_other : (k l : ℕ) (rows : List LoopRow) → eqb k l ≡ false → rows_of l (without k rows) ≡ rows_of l rows
+rows_of-without_other k l [] n = refl
+rows_of-without_other k l (row ∷ rows) n =
+    ⊎_elim
+    (λ h.
+    let other : eqb row.line l ≡ false = ap (λ i. eqb i l) (eqb-true row.line k h) ∙ n in
+    ap (rows_of l) (without-here k row rows h) ∙ rows_of-without_other k l rows n ∙ sym (of_line-other row_line l row rows other))
+    (λ h.
+    ap (rows_of l) (without-other k row rows h)
+    ∙ ⊎_elim
+    (λ t. of_line-here row_line l row (without k rows) t ∙ ap (λ ys. row ∷ ys) (rows_of-without_other k l rows n) ∙ sym (of_line-here row_line l row rows t))
+    (λ f. of_line-other row_line l row (without k rows) f ∙ rows_of-without_other k l rows n ∙ sym (of_line-other row_line l row rows f))
+    (cases_Bool (eqb row.line l)))
+    (cases_Bool (eqb row.line k))
+
+-- the kept rows of a line are its rows up to its close
+pub rows_of-kept : (l : ℕ) (rows : List LoopRow) → rows_of l (kept rows) ≡ until_close (rows_of l rows)
+rows_of-kept l [] = refl
+rows_of-kept l (row ∷ rows) =
+    ⊎_elim
+    (λ h.
+    of_line-here row_line l row (after row (kept rows)) h
+    ∙ ap (λ ys. row ∷ ys) (here h (rows_of-kept l rows) (is_close row.contact))
+    ∙ sym (ap until_close (of_line-here row_line l row rows h)))
+    (λ h.
+    of_line-other row_line l row (after row (kept rows)) h
+    ∙ there h (rows_of-kept l rows) (is_close row.contact)
+    ∙ sym (ap until_close (of_line-other row_line l row rows h)))
+    (cases_Bool (eqb row.line l))
+  where
+    here : eqb row.line l ≡ true → rows_of l (kept rows) ≡ until_close (rows_of l rows) → (b : Bool) → rows_of l (cond b (without row.line (kept rows)) (kept rows)) ≡ cond b [] (until_close (rows_of l rows))
+    here h ih true = ap (λ k. rows_of l (without k (kept rows))) (eqb-true row.line l h) ∙ rows_of-without_same l (kept rows)
+    here h ih false = ih
+
+    there : eqb row.line l ≡ false → rows_of l (kept rows) ≡ until_close (rows_of l rows) → (b : Bool) → rows_of l (cond b (without row.line (kept rows)) (kept rows)) ≡ until_close (rows_of l rows)
+    there h ih true = rows_of-without_other row.line l (kept rows) h ∙ ih
+    there h ih false = ih
+
+-- what a row leaves of nothing
+none_after : (x : LoopRow) → after x [] ≡ []
+none_after x = at (is_close x.contact)
+  where
+    at : (b : Bool) → cond b (without x.line []) [] ≡ []
+    at true = refl
+    at false = refl
+
+abbrev unless_closed : Bool → LoopRow → List LoopRow
+unless_closed b x = cond b [] (x ∷ [])
+
+without_same : (k : ℕ) (x : LoopRow) (b : Bool) → eqb x.line k ≡ true → without k (unless_closed b x) ≡ []
+without_same k x true h = refl
+without_same k x false h = cond-false _ _ _ (ap not h)
+
+without_other : (k : ℕ) (x : LoopRow) (b : Bool) → eqb x.line k ≡ false → without k (unless_closed b x) ≡ unless_closed b x
+without_other k x true h = refl
+without_other k x false h = cond-true _ _ _ (ap not h)
+
+turned : (a b : ℕ) → eqb a b ≡ true → eqb b a ≡ true
+turned a b h = ap (λ k. eqb k a) (sym (eqb-true a b h)) ∙ ap (λ k. eqb a k) (eqb-true a b h) ∙ h
+
+abbrev tail_of : LoopRow → List LoopRow → List LoopRow
+tail_of x rows = unless_closed (closes (rows_of x.line rows)) x
+
+-- one row more after a row
+after_more : (y x : LoopRow) (K : List LoopRow) (rows : List LoopRow) → after y (K ++ tail_of x rows) ≡ after y K ++ tail_of x (y ∷ rows)
+after_more y x K rows =
+    ⊎_elim
+    (λ h. ap (λ b. cond b (without y.line (K ++ tail_of x rows)) (K ++ tail_of x rows)) h
+    ∙ filter-append (λ other. not (eqb other.line y.line)) K (tail_of x rows)
+    ∙ ⊎_elim
+    (λ t.
+    let here : closes (rows_of x.line (y ∷ rows)) ≡ true = ap closes (of_line-here row_line x.line y rows t) ∙ ap (λ b. b || closes (rows_of x.line rows)) h in
+    ap (λ zs. without y.line K ++ zs) (without_same y.line x (closes (rows_of x.line rows)) (turned y.line x.line t) ∙ ap (λ b. unless_closed b x) (sym here))
+    ∙ ap (λ b. cond b (without y.line K) K ++ tail_of x (y ∷ rows)) (sym h))
+    (λ f.
+    ap (λ zs. without y.line K ++ zs) (without_other y.line x (closes (rows_of x.line rows)) (not_turned f) ∙ ap (λ R. unless_closed (closes R) x) (sym (of_line-other row_line x.line y rows f)))
+    ∙ ap (λ b. cond b (without y.line K) K ++ tail_of x (y ∷ rows)) (sym h))
+    (cases_Bool (eqb y.line x.line)))
+    (λ h. ap (λ b. cond b (without y.line (K ++ tail_of x rows)) (K ++ tail_of x rows)) h
+    ∙ ap (λ zs. K ++ zs) (still h)
+    ∙ ap (λ b. cond b (without y.line K) K ++ tail_of x (y ∷ rows)) (sym h))
+    (cases_Bool (is_close y.contact))
+  where
+    not_turned : eqb y.line x.line ≡ false → eqb x.line y.line ≡ false
+    not_turned f = ⊎_elim (λ t. absurd (cc (turned x.line y.line t, f))) (λ g. g) (cases_Bool (eqb x.line y.line))
+
+    still : is_close y.contact ≡ false → tail_of x rows ≡ tail_of x (y ∷ rows)
+    still h =
+        ⊎_elim
+        (λ t. ap (λ b. unless_closed b x) (sym (ap closes (of_line-here row_line x.line y rows t) ∙ ap (λ b. b || closes (rows_of x.line rows)) h)))
+        (λ f. ap (λ R. unless_closed (closes R) x) (sym (of_line-other row_line x.line y rows f)))
+        (cases_Bool (eqb y.line x.line))
+
+-- one row more is kept unless its line is closed
+pub kept_more : (rows : List LoopRow) (x : LoopRow) → kept (rows ++ x ∷ []) ≡ kept rows ++ cond (closes (rows_of x.line rows)) [] (x ∷ [])
+kept_more [] x = ap (λ zs. x ∷ zs) (none_after x)
+kept_more (y ∷ rows) x = ap (λ zs. y ∷ zs) (ap (after y) (kept_more rows x) ∙ after_more y x (kept rows) rows)

@@ -1,0 +1,19 @@
+//! The posts at the two ends of the chain: the feed, which sends the rows of a source, and the tape
+//! station, which keeps the marks.
+#![tactic(auto)]
+
+mod course;
+mod fed;
+mod feed;
+mod filling;
+pub mod laws;
+mod line_use;
+mod line_uses;
+mod tape_station;
+#[cfg(test)]
+mod tests;
+
+pub use fed::fed_rows;
+pub use feed::Feed;
+pub use filling::AHEAD;
+pub use tape_station::TapeStation;

@@ -1,0 +1,8 @@
+//! The chain on one thread: rows of many lines in, a tape for each line out.
+#![tactic(auto)]
+
+mod serial;
+#[cfg(test)]
+mod tests;
+
+pub use serial::key_serial;

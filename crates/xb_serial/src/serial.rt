@@ -1,0 +1,62 @@
+// The chain on one thread.
+ghost use Rattle.std.specs.Prelude.{◌≡◌, ℕ, ◌<◌, IfOk};
+ghost use Rattle.xb_model.specs.declared.line.TheConstants.{LINES};
+ghost use Rattle.xb_model.specs.LawfulLimits.{IsLawful};
+ghost use Rattle.xb_model.specs.Tapes.{tape_of, joined_tape, entries_of};
+ghost use Rattle.xb_serial.specs.Serial.{serial_image};
+ghost use Rattle.xb_model.specs.Tapes.{marks_at, tapes_of};
+ghost use Rattle.xb_tape.specs.GatheredMarks.{AreTapes};
+
+use xb_posts::fed_rows;
+use std::alloc::{AllocError, Global};
+use xb_model::{Mark, On, Row};
+use xb_pulse::Pulse;
+use xb_register::Register;
+use xb_routes::{RouteTable, Translate};
+use xb_sender::Sender;
+use xb_stage::image_of;
+use xb_tape::Tapes;
+
+// What the four stages make of rows.
+fn marks_of_rows(
+    alloc: Global,
+    rows: Vec<Row>,
+    table: &RouteTable,
+) -> Result<Vec<On<Mark>>, AllocError>
+    ensures marks { let t = table.now in
+        IfOk result (λ marks. marks.items ≡ serial_image t.plan t.limits t.routes rows.items) }
+    ensures lawful { IsLawful table.now.limits }
+{
+    let signals = image_of(alloc, &Pulse::new(table.limits()), rows)?;
+    let dialled = image_of(alloc, &Register::new(table.plan()), signals)?;
+    let orders = image_of(alloc, &Translate::new(table), dialled)?;
+    image_of(alloc, &Sender::new(), orders)
+}
+
+// Puts each mark on its line's tape.
+fn tapes_of_marks(alloc: Global, marks: &[On<Mark>]) -> Result<Tapes, AllocError>
+    ensures { IfOk result (λ tapes. AreTapes tapes marks.now) }
+{
+    let mut tapes = Tapes::new(alloc)?;
+    for mark in marks {
+        tapes.push(*mark)?;
+    }
+    Ok(tapes)
+}
+
+/// The tapes of all lines: of each line, one entry for each attempt in its record up to its close,
+/// in order. That is the keying of the number that was dialled, by its route in the table, or a
+/// refusal with its reason and count. The plan of the numbers and the limits of their pulses are
+/// the table's. `Err` where memory ran out.
+pub fn key_serial(alloc: Global, rows: &[Row], table: &RouteTable) -> Result<Tapes, AllocError>
+    ensures tapes { let t = table.now in
+        IfOk result (λ tapes. tapes ≡ tapes_of t.plan t.limits t.routes rows.now) }
+    ensures marks { let t = table.now in IfOk result (λ tapes. (l : ℕ) → l < LINES →
+        marks_at tapes l ≡ joined_tape t.plan t.limits t.routes l rows.now) }
+    ensures entries { let t = table.now in IfOk result (λ tapes. (l : ℕ) → l < LINES →
+        entries_of (marks_at tapes l) ≡ tape_of t.plan t.limits t.routes l rows.now) }
+{
+    let fed = fed_rows(alloc, rows)?;
+    let marks = marks_of_rows(alloc, fed, table)?;
+    tapes_of_marks(alloc, &marks)
+}
