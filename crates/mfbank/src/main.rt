@@ -10,7 +10,7 @@ use xb_office::operate;
 fn main(rt: HostRuntime) -> ExitCode {
     let mut deck = rt.stdin();
     let mut page = io::writer(&rt);
-    match operate(rt.alloc(), &mut deck, &mut page) {
+    match operate(&rt, rt.alloc(), &mut deck, &mut page, 4, 64) {
         Ok(()) => ExitCode::SUCCESS,
         Err(fault) => {
             let _ = eprintln!(rt; "mfbank: {fault}");

@@ -170,7 +170,7 @@ fn table_and_row_faults(rt: HostRuntime) -> Result<(), Fail> {
         }
         let mut reader = deck.as_bytes();
         let mut page: Vec<u8> = Vec::new(alloc);
-        let result = operate(alloc, &mut reader, &mut page);
+        let result = operate(&rt, alloc, &mut reader, &mut page, 3, 2);
         assert!(rt; result == Err(faulty.fault), "{deck}");
         assert!(rt; page.is_empty(), "{deck}");
     }

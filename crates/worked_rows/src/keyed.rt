@@ -1,28 +1,56 @@
 // The worked examples, through the whole office and through its parts.
+ghost use Rattle.std.specs.Prelude.{◌≤◌};
+ghost use Rattle.xb_ring.specs.declared.branches.TheConstants.{MOST_BRANCHES};
+ghost use Rattle.xb_ring.specs.declared.ends.TheConstants.{GREATEST_CAPACITY};
+
 use crate::attempts::{SHEETS, TWO_LINES_IN_TURN};
 use crate::decks::{TABLE, Worked, deck_of, joined, one_after_another, page_of, two_in_turn};
 use std::alloc::Global;
 use std::process::Abort;
+use std::sync::Wait;
 use std::test::Fail;
+use std::thread::Threads;
+use std::time::Clock;
 use xb_bank::key_serial;
 use xb_model::Row;
-use xb_office::{operate, page};
+use xb_office::{OfficeFault, operate, page};
 use xb_routes::RouteTable;
 
-// The deck gives the page.
-fn check_operated(
-    rt: &impl Abort,
+// What is written for a deck.
+fn written<R: Threads + Wait + Clock + Sync>(
+    rt: &R,
+    alloc: Global,
+    deck: &str,
+    senders: usize,
+    ring: usize,
+) -> Result<Vec<u8>, OfficeFault>
+    requires senders { (1 ≤ senders) × (senders ≤ MOST_BRANCHES) }
+    requires ring { (1 ≤ ring) × (ring ≤ GREATEST_CAPACITY) }
+{
+    let mut reader = deck.as_bytes();
+    let mut written: Vec<u8> = Vec::new(alloc);
+    operate(rt, alloc, &mut reader, &mut written, senders, ring)?;
+    Ok(written)
+}
+
+// The deck gives the page, however many senders and however small the rings.
+fn check_operated<R: Threads + Wait + Clock + Abort + Sync>(
+    rt: &R,
     alloc: Global,
     table: &str,
     rows: &[Row],
     worked: &Worked,
 ) -> Result<(), Fail> {
     let deck = deck_of(alloc, table, rows)?;
-    let mut reader = deck.as_bytes();
-    let mut written: Vec<u8> = Vec::new(alloc);
-    operate(alloc, &mut reader, &mut written)?;
     let wanted = page_of(alloc, worked.page)?;
-    assert_eq!(rt; written.as_slice(), wanted.as_bytes(), "{}", worked.name);
+    let pages = [
+        written(rt, alloc, deck.as_str(), 1, 1)?,
+        written(rt, alloc, deck.as_str(), 3, 2)?,
+        written(rt, alloc, deck.as_str(), 8, 1024)?,
+    ];
+    for page in &pages {
+        assert_eq!(rt; page.as_slice(), wanted.as_bytes(), "{}", worked.name);
+    }
     Ok(())
 }
 
@@ -43,8 +71,8 @@ fn check_serial(
 }
 
 // What lines do under one table, through the whole office and through its parts.
-fn check_sheet(
-    rt: &impl Abort,
+fn check_sheet<R: Threads + Wait + Clock + Abort + Sync>(
+    rt: &R,
     alloc: Global,
     table: &str,
     attempts: &[Worked],
@@ -58,7 +86,7 @@ fn check_sheet(
 }
 
 #[test]
-fn attempts_under_each_table(rt: HostRuntime) -> Result<(), Fail> {
+fn same_bytes_everywhere(rt: HostRuntime) -> Result<(), Fail> {
     for (parts, attempts) in SHEETS {
         let table = joined(rt.alloc(), parts)?;
         check_sheet(&rt, rt.alloc(), table.as_str(), attempts)?;

@@ -80,7 +80,7 @@ fn ample_memory_serves_streams(rt: HostRuntime) -> Result<(), Fail> {
     assert!(rt; scan.next_row()?.as_ref() == rows.first());
     let mut reader = deck.as_bytes();
     let mut written: Vec<u8> = Vec::new(alloc);
-    operate(alloc, &mut reader, &mut written)?;
+    operate(&rt, alloc, &mut reader, &mut written, 3, 2)?;
     assert_eq!(rt; written.as_slice(), page_of(alloc, PAGE)?.as_bytes());
     Ok(())
 }

@@ -49,10 +49,10 @@ fn failing_streams(rt: HostRuntime) -> Result<(), Fail> {
         taken: Vec::new(alloc),
         room: 10,
     };
-    assert!(rt; operate(alloc, &mut reader, &mut out) == Err(OfficeFault::Write));
+    assert!(rt; operate(&rt, alloc, &mut reader, &mut out, 3, 2) == Err(OfficeFault::Write));
     assert_eq!(rt; out.taken.as_slice(), b"0007 1 KEY".as_slice());
     let mut page: Vec<u8> = Vec::new(alloc);
-    assert!(rt; operate(alloc, &mut Failing, &mut page) == Err(OfficeFault::Read));
+    assert!(rt; operate(&rt, alloc, &mut Failing, &mut page, 3, 2) == Err(OfficeFault::Read));
     assert!(rt; page.is_empty());
     Ok(())
 }

@@ -1,5 +1,5 @@
 -- What a deck says: its page, or its first fault (own format).
-use Rattle.std.specs.Prelude.{ℕ, ◌≡◌, ◌+◌, ◌⊎◌, List, length, nat_lt, if◌then◌else◌, Option, Some, None, IfSome, Result, Ok, Err}
+use Rattle.std.specs.Prelude.{ℕ, ◌≡◌, ◌+◌, List, length, nat_lt, if◌then◌else◌, Option, Some, None, IfSome, IsOk, Result, Ok, Err}
 use Rattle.std.specs.Io.KnownBytes.{Appends, IsAtEnd, Keeps}
 use Rattle.xb_model.specs.declared.fault.RowFault.{RowFault}
 use Rattle.xb_model.specs.Tapes.{tapes_of}
@@ -39,9 +39,11 @@ abbrev pub says : List ℕ → Result (List ℕ) OfficeFault
 says deck = if nat_lt MOST_DECK_BYTES (length deck) then Err fault.DeckTooLong
     else says_parts (deck_parts deck)
 
--- out of memory, or what a deck says
+-- out of memory, a post that could not be started for a deck that has a page, or what a deck says
 abbrev pub IsFaultOfDeck : Result (List ℕ) OfficeFault → OfficeFault → Type 0
-IsFaultOfDeck said f = (f ≡ fault.NoMemory) ⊎ (said ≡ Err f)
+IsFaultOfDeck said fault.NoMemory = Unit {0}
+IsFaultOfDeck said (fault.Bank post) = IsOk said
+IsFaultOfDeck said f = said ≡ Err f
 
 -- the writer got the page, and nothing else
 abbrev pub GetsPage : Result (List ℕ) OfficeFault → Option (List ℕ) → Option (List ℕ) → Type 0
@@ -52,13 +54,15 @@ abbrev pub GetsBeginning : Result (List ℕ) OfficeFault → Option (List ℕ) �
 GetsBeginning said old new = (page : List ℕ) × (said ≡ Ok page) × AppendsBeginning old new page
 
 -- what is returned for a deck, and what the writer got of it: the page on Ok, its beginning where a
--- write failed, and nothing on any other fault; a fault of the deck is what the deck says
+-- write failed, and nothing on any other fault; a fault of the deck is what the deck says, and where a
+-- post could not be started the deck has no fault
 abbrev pub Delivers :
     Option (List ℕ) → Result (Unit {0}) OfficeFault → Option (List ℕ) → Option (List ℕ) → Type 0
 Delivers deck (Ok u) old new = IfSome deck (λ bytes. GetsPage (says bytes) old new)
 Delivers deck (Err fault.Write) old new = IfSome deck (λ bytes. GetsBeginning (says bytes) old new)
 Delivers deck (Err fault.Read) old new = Keeps old new
 Delivers deck (Err fault.NoMemory) old new = Keeps old new
+Delivers deck (Err (fault.Bank post)) old new = Keeps old new × IfSome deck (λ bytes. IsOk (says bytes))
 Delivers deck (Err f) old new = Keeps old new × IfSome deck (λ bytes. says bytes ≡ Err f)
 
 -- the reader was read to its end: not where reading failed, or the deck was too long, or memory ran out

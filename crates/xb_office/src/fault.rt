@@ -3,6 +3,7 @@ ghost use Rattle.std.specs.Prelude.{◌≡◌};
 
 use crate::writing::WriteFault;
 use thiserror::Error;
+use xb_bank::Post;
 use xb_model::RowFault;
 use xb_routes::RouteFault;
 use xb_rows::ReadFault;
@@ -10,7 +11,8 @@ use xb_rows::ReadFault;
 /// Why a deck gives no page.
 ///
 /// Of the faults of a deck, the first in the order `DeckTooLong`, `NoCut`, `Routes`, `Rows` is
-/// returned. Running out of memory is always `NoMemory`, also one of a `RouteFault` or a `RowFault`.
+/// returned; `Bank` only for a deck that has none of them. Running out of memory is always `NoMemory`,
+/// also one of a `RouteFault` or a `RowFault`.
 #[derive(Clone, Copy, Debug, PartialEq, Eq, Error)]
 pub enum OfficeFault {
     /// A read of the deck failed, an interrupted one too.
@@ -28,6 +30,9 @@ pub enum OfficeFault {
     /// The loop rows are refused.
     #[error("loop rows: {0}")]
     Rows(RowFault),
+    /// This post could not be started on a thread.
+    #[error("the post {0} could not be started")]
+    Bank(Post),
     /// Memory ran out.
     #[error("out of memory")]
     NoMemory,

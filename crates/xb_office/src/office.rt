@@ -1,57 +1,125 @@
 // From a deck on a reader to its page on a writer.
-ghost use Rattle.std.specs.Prelude.{◌≡◌, ◌≤◌, IfErr, IfOk, length};
-ghost use Rattle.xb_office.specs.Says.{Delivers, IsFaultOfDeck, Reads, page_of, says};
+ghost use Rattle.std.specs.Prelude.{◌≡◌, ◌≤◌, IfErr, IfOk, None, OnOk, length};
+ghost use Rattle.xb_ring.specs.declared.branches.TheConstants.{MOST_BRANCHES};
+ghost use Rattle.xb_ring.specs.declared.ends.TheConstants.{GREATEST_CAPACITY};
+ghost use Rattle.xb_model.specs.Tapes.{tapes_of};
+ghost use Rattle.xb_rows.specs.RowResults.{IsFaultOf};
+ghost use Rattle.xb_rows.specs.RowTexts.{fault_of_text, rows_of_text};
+ghost use Rattle.xb_office.specs.Says.{Delivers, IsFaultOfDeck, Reads, page_of, says, says_rows};
 
 use crate::deck::{Deck, MOST_DECK_BYTES};
 use crate::fault::OfficeFault;
 use crate::writing::write_whole;
-use std::alloc::{AllocError, Global};
+use std::alloc::Global;
 use std::io::{Read, Write};
-use xb_bank::key_serial;
-use xb_model::Row;
+use std::sync::Wait;
+use std::thread::Threads;
+use std::time::Clock;
+use xb_bank::{BankFault, NoGate, Tapes, run};
+use xb_model::{RowFault, RowSource};
+use xb_ring::{GREATEST_CAPACITY, MOST_BRANCHES};
 use xb_routes::RouteTable;
-use xb_rows::{read_text, read_whole};
+use xb_rows::{Scan, read_whole};
 use xb_tape::page;
 
-// The page of the tapes that rows make.
-#[tactic(auto, unfolding(crate::specs::Says::page_of))]
-fn page_of_rows(alloc: Global, rows: &[Row], table: &RouteTable) -> Result<Vec<u8>, AllocError>
-    ensures { IfOk result (λ page. page.items ≡ page_of table.now rows.now) }
+// Reads the rows of a text to their stop, and keeps none.
+fn read_to_stop(alloc: Global, text: &[u8]) -> Result<(), RowFault>
+    ensures end { OnOk result (fault_of_text text.now ≡ None) }
+    ensures fault { IfErr result (IsFaultOf text.now) }
 {
-    let tapes = key_serial(alloc, rows, table)?;
-    page(alloc, &tapes)
+    let mut scan = Scan::new(alloc, text);
+    while scan.next_row()?.is_some() {}
+    Ok(())
+}
+
+// The tapes that the rows of a text make. Where a post could not be started, the rows are read all the
+// same, since a fault of theirs comes first.
+fn tapes_of_text<H: Threads + Wait + Clock + Sync>(
+    rt: &H,
+    alloc: Global,
+    text: &[u8],
+    table: &RouteTable,
+    senders: usize,
+    ring: usize,
+) -> Result<Tapes, OfficeFault>
+    requires least_senders { 1 ≤ senders }
+    requires most_senders { senders ≤ MOST_BRANCHES }
+    requires least_ring { 1 ≤ ring }
+    requires most_ring { ring ≤ GREATEST_CAPACITY }
+    ensures tapes { let t = table.now in
+        IfOk result (λ tapes. tapes ≡ tapes_of t.plan t.limits t.routes (rows_of_text text.now)) }
+    ensures end { OnOk result (fault_of_text text.now ≡ None) }
+    ensures fault { IfErr result (IsFaultOfDeck
+        (says_rows table.now (rows_of_text text.now) (fault_of_text text.now))) }
+{
+    match run(
+        rt,
+        alloc,
+        Scan::new(alloc, text),
+        table,
+        senders,
+        ring,
+        &NoGate,
+    ) {
+        Ok(tapes) => Ok(tapes),
+        Err(BankFault::Rows(fault)) => Err(OfficeFault::Rows(fault)),
+        Err(BankFault::NoThread(post)) => {
+            read_to_stop(alloc, text)?;
+            Err(OfficeFault::Bank(post))
+        }
+        Err(BankFault::NoMemory) => Err(OfficeFault::NoMemory),
+    }
 }
 
 // The page of a deck that was read.
-fn page_of_deck(alloc: Global, bytes: &[u8]) -> Result<Vec<u8>, OfficeFault>
-    requires { length bytes.now ≤ MOST_DECK_BYTES }
+#[tactic(auto, unfolding(crate::specs::Says::page_of))]
+fn page_of_deck<H: Threads + Wait + Clock + Sync>(
+    rt: &H,
+    alloc: Global,
+    bytes: &[u8],
+    senders: usize,
+    ring: usize,
+) -> Result<Vec<u8>, OfficeFault>
+    requires short { length bytes.now ≤ MOST_DECK_BYTES }
+    requires least_senders { 1 ≤ senders }
+    requires most_senders { senders ≤ MOST_BRANCHES }
+    requires least_ring { 1 ≤ ring }
+    requires most_ring { ring ≤ GREATEST_CAPACITY }
     ensures page { IfOk result (λ page. says bytes.now ≡ Ok page.items) }
-    ensures fault { IfErr result (λ f. IsFaultOfDeck (says bytes.now) f) }
+    ensures fault { IfErr result (IsFaultOfDeck (says bytes.now)) }
 {
     let deck = Deck::cut(bytes).ok_or(OfficeFault::NoCut)?;
     let table = RouteTable::read(alloc, deck.table)?;
-    let rows = read_text(alloc, deck.rows)?;
-    page_of_rows(alloc, &rows, &table).map_err(|_| OfficeFault::NoMemory)
+    let tapes = tapes_of_text(rt, alloc, deck.rows, &table, senders, ring)?;
+    page(alloc, &tapes).map_err(|_| OfficeFault::NoMemory)
 }
 
 /// Reads a deck, and writes its page: the tapes of the lines, as the deck's rows and its table make
-/// them. The table is read before the rows, and nothing is written before both are.
+/// them, by `run` with 1 to 8 senders and rings of 1 to 1,024 items. The table is read before the
+/// rows, and nothing is written before the last row was read. It waits for the posts of `run`.
 ///
 /// On an `Err` nothing was written, except on `Write`, where the beginning of the page was. The reader
 /// stands at its end, except on `Read`, `DeckTooLong` and `NoMemory`.
 ///
 /// What the contract says of bytes it says of readers whose bytes and writers whose contents are
 /// known to contracts (byte slices, lists), which those of a process are not.
-pub fn operate<R: Read, W: Write>(
+pub fn operate<R: Read, W: Write, H: Threads + Wait + Clock + Sync>(
+    rt: &H,
     alloc: Global,
     deck: &mut R,
     out: &mut W,
+    senders: usize,
+    ring: usize,
 ) -> Result<(), OfficeFault>
+    requires least_senders { 1 ≤ senders }
+    requires most_senders { senders ≤ MOST_BRANCHES }
+    requires least_ring { 1 ≤ ring }
+    requires most_ring { ring ≤ GREATEST_CAPACITY }
     ensures delivers { Delivers (R.remaining deck.old) result (W.contents out.old) (W.contents out.new) }
     ensures reads { Reads result (R.remaining deck.old) (R.remaining deck.new) }
 {
     let bytes = read_whole(alloc, deck, MOST_DECK_BYTES)?;
-    let page = page_of_deck(alloc, &bytes)?;
+    let page = page_of_deck(rt, alloc, &bytes, senders, ring)?;
     write_whole(out, &page)?;
     Ok(())
 }

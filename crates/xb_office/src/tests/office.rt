@@ -3,6 +3,7 @@ use super::streams::{Halting, Short};
 use crate::{MOST_DECK_BYTES, OfficeFault, operate};
 use std::io::ErrorKind;
 use std::test::Fail;
+use xb_bank::Post;
 use xb_model::RowFault;
 use xb_routes::RouteFault;
 
@@ -53,7 +54,7 @@ const FAULTS: &[(&[u8], OfficeFault)] = &[
 fn pages_a_deck(rt: HostRuntime) -> Result<(), Fail> {
     let mut out = Vec::new(rt.alloc());
     let mut deck = OPERATOR;
-    assert!(rt; operate(rt.alloc(), &mut deck, &mut out) == Ok(()));
+    assert!(rt; operate(&rt, rt.alloc(), &mut deck, &mut out, 2, 8) == Ok(()));
     assert!(rt; out.as_slice() == PAGE);
     Ok(())
 }
@@ -63,7 +64,7 @@ fn writes_nothing_on_a_fault(rt: HostRuntime) {
     for (deck, fault) in FAULTS {
         let mut out = Vec::new(rt.alloc());
         let mut reader = *deck;
-        assert!(rt; operate(rt.alloc(), &mut reader, &mut out) == Err(*fault));
+        assert!(rt; operate(&rt, rt.alloc(), &mut reader, &mut out, 2, 8) == Err(*fault));
         assert!(rt; out.is_empty());
     }
 }
@@ -75,10 +76,12 @@ fn limits_a_deck(rt: HostRuntime) -> Result<(), Fail> {
     assert!(rt; deck.len() == 16_777_216);
     let mut out = Vec::new(rt.alloc());
     let mut reader = deck.as_slice();
-    assert!(rt; operate(rt.alloc(), &mut reader, &mut out) == Err(OfficeFault::NoCut));
+    assert!(rt; operate(&rt, rt.alloc(), &mut reader, &mut out, 2, 8) == Err(OfficeFault::NoCut));
     deck.push(b' ')?;
     let mut reader = deck.as_slice();
-    assert!(rt; operate(rt.alloc(), &mut reader, &mut out) == Err(OfficeFault::DeckTooLong));
+    assert!(rt;
+        operate(&rt, rt.alloc(), &mut reader, &mut out, 2, 8) == Err(OfficeFault::DeckTooLong)
+    );
     Ok(())
 }
 
@@ -91,7 +94,9 @@ fn fails_where_the_deck_fails(rt: HostRuntime) {
             fault: Some((place, ErrorKind::Interrupted)),
         };
         let mut out = Vec::new(rt.alloc());
-        assert!(rt; operate(rt.alloc(), &mut reader, &mut out) == Err(OfficeFault::Read));
+        assert!(rt;
+            operate(&rt, rt.alloc(), &mut reader, &mut out, 2, 8) == Err(OfficeFault::Read)
+        );
         assert!(rt; out.is_empty());
     }
 }
@@ -106,7 +111,7 @@ fn writes_the_beginning_where_the_page_fails(rt: HostRuntime) {
             fault: Some(ErrorKind::Other),
             flush: Some(ErrorKind::Other),
         };
-        assert!(rt; operate(rt.alloc(), &mut deck, &mut out) == Err(OfficeFault::Write));
+        assert!(rt; operate(&rt, rt.alloc(), &mut deck, &mut out, 2, 8) == Err(OfficeFault::Write));
         assert!(rt; out.taken.as_slice() == &PAGE[..room], "{room}");
     }
 }
@@ -127,6 +132,10 @@ fn texts_of_faults(rt: HostRuntime) -> Result<(), Fail> {
         (
             OfficeFault::Rows(RowFault::Ms(1)),
             "loop rows: record 1 has a wrong ms",
+        ),
+        (
+            OfficeFault::Bank(Post::Send(7)),
+            "the post send 7 could not be started",
         ),
         (OfficeFault::NoMemory, "out of memory"),
         (OfficeFault::Write, "the page could not be written"),
