@@ -1,17 +1,23 @@
-//! The program: a deck on standard input, its page on standard output.
+//! The program: words and a deck in, a status and a page out.
 #![tactic(auto)]
 
-use std::io;
 use std::process::ExitCode;
-use xb_office::operate;
+use std::{env, io};
+use xb_office::attend;
 
-/// Prints the page of the deck. On a fault nothing is printed but one line on standard error, and
-/// the status is 1; where the page could not be written, its beginning may have been.
+// The words of the command line, the program's name first.
+fn words(rt: &HostRuntime) -> io::Result<Vec<String>> {
+    Ok(env::args(rt)?.collect(rt.alloc())?)
+}
+
+/// Reads the deck on standard input, and prints its page, or one line on standard error, as `attend`
+/// does.
 fn main(rt: HostRuntime) -> ExitCode {
-    let mut deck = rt.stdin();
-    let mut page = io::writer(&rt);
-    match operate(&rt, rt.alloc(), &mut deck, &mut page, 4, 64) {
-        Ok(()) => ExitCode::SUCCESS,
+    let (mut deck, mut page, mut err) = (rt.stdin(), io::writer(&rt), rt.stderr());
+    match words(&rt) {
+        Ok(words) => {
+            ExitCode::from(attend(&rt, rt.alloc(), words, &mut deck, &mut page, &mut err))
+        }
         Err(fault) => {
             let _ = eprintln!(rt; "mfbank: {fault}");
             ExitCode::FAILURE

@@ -1,3 +1,6 @@
+pub mod Attending
+pub mod CommandLine
+pub mod Constants
 pub mod Deck
 pub mod Faults
 pub mod MadeDecks

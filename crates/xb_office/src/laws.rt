@@ -1,12 +1,11 @@
 //! What the definitions give: each law is the contract of a function that does nothing.
-ghost use Rattle.std.specs.Prelude.{◌≡◌};
-ghost use Rattle.xb_office.specs.declared.deck.TheConstants.{MOST_DECK_BYTES};
+ghost use Rattle.xb_office.specs.Constants.{AreConstants};
 ghost use Rattle.xb_office.specs.MadeDecks.{MadeDecksAreCut, MadeDecksSayTheirPage};
 ghost use Rattle.xb_office.specs.WorkedDecks.{CutsOfDecks};
 
-/// How many bytes a deck may have.
+/// The most bytes of a deck, the defaults of the options and the statuses, each as it is.
 pub fn constants()
-    ensures { MOST_DECK_BYTES ≡ 16777216 }
+    ensures { AreConstants }
 {}
 
 /// Where some decks are cut.

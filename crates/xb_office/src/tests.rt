@@ -1,4 +1,5 @@
 // The tests of this crate.
 mod decks;
 mod office;
+mod program;
 mod streams;

@@ -1,5 +1,5 @@
 // Writing without loss.
-ghost use Rattle.std.specs.Prelude.{OnOk, OnErr};
+ghost use Rattle.std.specs.Prelude.{OnOk};
 ghost use Rattle.std.specs.Io.KnownBytes.{Appends};
 ghost use Rattle.xb_office.specs.Writing.{AppendsBeginning};
 
@@ -13,7 +13,7 @@ pub struct WriteFault;
 /// has failed, and is not tried again.
 pub fn write_whole<W: Write>(out: &mut W, text: &[u8]) -> Result<(), WriteFault>
     ensures whole { OnOk result (Appends (W.contents out.old) (W.contents out.new) text.now) }
-    ensures beginning { OnErr result (AppendsBeginning (W.contents out.old) (W.contents out.new) text.now) }
+    ensures beginning { AppendsBeginning (W.contents out.old) (W.contents out.new) text.now }
 {
     let mut at = 0;
     while at < text.len() {

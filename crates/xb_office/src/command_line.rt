@@ -1,0 +1,82 @@
+// The words of the command line.
+ghost use Rattle.std.specs.Prelude.{◌≡◌, ◌≤◌, IfErr, IfOk};
+ghost use Rattle.clap.specs.Faults.{fault_of};
+ghost use Rattle.clap.specs.Kinds.{HasKind};
+ghost use Rattle.xb_ring.specs.declared.branches.TheConstants.{MOST_BRANCHES};
+ghost use Rattle.xb_ring.specs.declared.ends.TheConstants.{GREATEST_CAPACITY};
+ghost use Rattle.xb_office.specs.CommandLine.{AreAccepted, AreRefused, command, ring_of, senders_of, texts_of};
+
+use clap::error::ErrorKind;
+use clap::{Arg, ArgAction, Command, Error};
+use std::alloc::Global;
+use xb_ring::{GREATEST_CAPACITY, MOST_BRANCHES};
+
+/// How many senders there are unless the words say otherwise (own profile).
+pub const DEFAULT_SENDERS: u16 = 4;
+
+/// How many items a ring has room for unless the words say otherwise (own profile).
+pub const DEFAULT_RING: u16 = 64;
+
+/// What the words of the command line choose.
+#[derive(Clone, Copy, Debug, PartialEq, Eq)]
+pub struct Options {
+    /// How many senders there are.
+    pub senders: usize,
+    /// How many items each ring has room for.
+    pub ring: usize,
+}
+
+/// Why the words of the command line choose nothing.
+#[derive(Clone, Copy, Debug, PartialEq, Eq)]
+pub enum WordsFault {
+    /// They are refused; a request for help is, too.
+    Refused,
+    /// Memory ran out.
+    NoMemory,
+}
+
+// The options of the words, the program's name first, or why `clap` refuses them.
+fn parse(alloc: Global, words: &[String]) -> Result<Options, Error>
+    ensures accepted { IfOk result (λ o. AreAccepted (texts_of words.now)) }
+    ensures senders { IfOk result (λ o. o.senders ≡ senders_of (texts_of words.now)) }
+    ensures senders_range { IfOk result (λ o. (1 ≤ o.senders) × (o.senders ≤ MOST_BRANCHES)) }
+    ensures ring { IfOk result (λ o. o.ring ≡ ring_of (texts_of words.now)) }
+    ensures ring_range { IfOk result (λ o. (1 ≤ o.ring) × (o.ring ≤ GREATEST_CAPACITY)) }
+    ensures refused { IfErr result (HasKind (fault_of command (texts_of words.now))) }
+{
+    let senders = Arg::new(alloc, "senders")
+        .long("senders")
+        .action(ArgAction::Set)
+        .value_parser(clap::value_parser!(u16).range(1..=MOST_BRANCHES as i64));
+    let ring = Arg::new(alloc, "ring")
+        .long("ring")
+        .action(ArgAction::Set)
+        .value_parser(clap::value_parser!(u16).range(1..=GREATEST_CAPACITY as i64));
+    let command = Command::new(alloc, "mfbank").arg(senders)?.arg(ring)?;
+    let matches = command.try_get_matches_from(words)?;
+    let senders = matches.get_one::<u16>("senders");
+    let ring = matches.get_one::<u16>("ring");
+    Ok(Options {
+        senders: usize::from(senders.unwrap_or(DEFAULT_SENDERS)),
+        ring: usize::from(ring.unwrap_or(DEFAULT_RING)),
+    })
+}
+
+/// The options of the words, the program's name first. Each is in its range, and is its default where
+/// the words do not name it.
+pub fn options_of(alloc: Global, words: &[String]) -> Result<Options, WordsFault>
+    ensures accepted { IfOk result (λ o. AreAccepted (texts_of words.now)) }
+    ensures senders { IfOk result (λ o. o.senders ≡ senders_of (texts_of words.now)) }
+    ensures senders_range { IfOk result (λ o. (1 ≤ o.senders) × (o.senders ≤ MOST_BRANCHES)) }
+    ensures ring { IfOk result (λ o. o.ring ≡ ring_of (texts_of words.now)) }
+    ensures ring_range { IfOk result (λ o. (1 ≤ o.ring) × (o.ring ≤ GREATEST_CAPACITY)) }
+    ensures refused { IfErr result (λ f. f ≡ WordsFault.Refused → AreRefused (texts_of words.now)) }
+{
+    match parse(alloc, words) {
+        Ok(options) => Ok(options),
+        Err(error) => match error.kind() {
+            ErrorKind::OutOfMemory => Err(WordsFault::NoMemory),
+            _ => Err(WordsFault::Refused),
+        },
+    }
+}
