@@ -21,3 +21,5 @@ mod posts;
 mod pulses;
 #[cfg(test)]
 mod streams;
+#[cfg(test)]
+mod words;

@@ -79,8 +79,8 @@ passes_read old m p k d lt unique own q parser w v key pass =
     accepts_of _ pass.1 q v.now rules parser pass.4.1
 
 -- what one entry gives
-read_of : (c : Command) (f : Found) (id : Text) (Q : Text → Type 0) (how : Reading) (x : MatchedArg) (e : Entry)
-    → groups_of c ≡ [] → (id ≡ [] → ⊥) → ((r : Reading) → HasReading c id r → r ≡ how)
+read_of : (c : Command) (f : Found) (id : Text) (Q : Text → Type 0) (how : Reading) (x : MatchedArg)
+    (e : Entry) → groups_of c ≡ [] → (id ≡ [] → ⊥) → ((r : Reading) → HasReading c id r → r ≡ how)
     → ((v : Bor Text) → PassesArg c id v.now → Q v.now)
     → matched_of f id ≡ Some x → is_some (option_map (λ s. s.now) (slice_get x.vals.items 0)) ≡ true
     → e.1 ≡ x → e.0.now ≡ id → EntryPasses c e
@@ -94,7 +94,8 @@ read_of c f id Q how x e no_groups named reads read found first same_x key_id pa
     ] in
     let all : All (λ v. PassesArg c id v.now) x.vals.items = elim pass.0 [
       | inl g ↦ absurd (no_group g)
-      | inr vals ↦ subst (λ (w : Text). All (λ v. PassesArg c w v.now) x.vals.items) key_id (rw same_x at vals)
+      | inr vals ↦
+          subst (λ (w : Text). All (λ v. PassesArg c w v.now) x.vals.items) key_id (rw same_x at vals)
     ] in
     let is : e.1.reading ≡ how = elim pass.4 [
       | inl g ↦ absurd (no_group g)

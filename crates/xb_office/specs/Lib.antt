@@ -5,5 +5,6 @@ pub mod Deck
 pub mod Faults
 pub mod MadeDecks
 pub mod Says
+pub mod WordsFaults
 pub mod WorkedDecks
 pub mod Writing

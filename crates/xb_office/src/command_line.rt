@@ -1,14 +1,12 @@
 // The words of the command line.
 ghost use Rattle.std.specs.Prelude.{◌≡◌, ◌≤◌, IfErr, IfOk};
-ghost use Rattle.clap.specs.Faults.{fault_of};
-ghost use Rattle.clap.specs.Kinds.{HasKind};
 ghost use Rattle.xb_ring.specs.declared.branches.TheConstants.{MOST_BRANCHES};
 ghost use Rattle.xb_ring.specs.declared.ends.TheConstants.{GREATEST_CAPACITY};
-ghost use Rattle.xb_office.specs.CommandLine.{AreAccepted, AreRefused, command, ring_of, senders_of, texts_of};
+ghost use Rattle.xb_office.specs.CommandLine.{AreAccepted, AreRefused, ring_of, senders_of, texts_of};
 
 use clap::error::ErrorKind;
 use clap::{Arg, ArgAction, Command, Error};
-use std::alloc::Global;
+use std::alloc::{AllocError, Global};
 use xb_ring::{GREATEST_CAPACITY, MOST_BRANCHES};
 
 /// How many senders there are unless the words say otherwise (own profile).
@@ -35,14 +33,42 @@ pub enum WordsFault {
     NoMemory,
 }
 
-// The options of the words, the program's name first, or why `clap` refuses them.
-fn parse(alloc: Global, words: &[String]) -> Result<Options, Error>
+impl From<AllocError> for WordsFault {
+    ghost use Rattle.std.specs.Prelude.{◌≡◌};
+    ghost use Rattle.xb_office.specs.declared.command_line.WordsFault.TheVariants.{NoMemory};
+
+    ghost from_gives = { λ _ fault. fault ≡ NoMemory };
+
+    fn from(_error: AllocError) -> WordsFault {
+        WordsFault::NoMemory
+    }
+}
+
+impl From<Error> for WordsFault {
+    ghost use Rattle.std.specs.Prelude.{◌≡◌};
+    ghost use Rattle.clap.specs.Values.{kind_of};
+    ghost use Rattle.xb_office.specs.WordsFaults.{fault_of_kind};
+
+    ghost from_gives = { λ error fault. fault ≡ fault_of_kind (kind_of error) };
+
+    fn from(error: Error) -> WordsFault {
+        match error.kind() {
+            ErrorKind::OutOfMemory => WordsFault::NoMemory,
+            _ => WordsFault::Refused,
+        }
+    }
+}
+
+/// The options of the words, the program's name first, as `clap` reads them. Each is in its range, and
+/// is its default where the words do not name it. `Err` where `clap` refuses the words, or memory ran
+/// out.
+pub fn options_of(alloc: Global, words: &[String]) -> Result<Options, WordsFault>
     ensures accepted { IfOk result (λ o. AreAccepted (texts_of words.now)) }
     ensures senders { IfOk result (λ o. o.senders ≡ senders_of (texts_of words.now)) }
     ensures senders_range { IfOk result (λ o. (1 ≤ o.senders) × (o.senders ≤ MOST_BRANCHES)) }
     ensures ring { IfOk result (λ o. o.ring ≡ ring_of (texts_of words.now)) }
     ensures ring_range { IfOk result (λ o. (1 ≤ o.ring) × (o.ring ≤ GREATEST_CAPACITY)) }
-    ensures refused { IfErr result (HasKind (fault_of command (texts_of words.now))) }
+    ensures refused { IfErr result (λ f. f ≡ WordsFault.Refused → AreRefused (texts_of words.now)) }
 {
     let senders = Arg::new(alloc, "senders")
         .long("senders")
@@ -60,23 +86,4 @@ fn parse(alloc: Global, words: &[String]) -> Result<Options, Error>
         senders: usize::from(senders.unwrap_or(DEFAULT_SENDERS)),
         ring: usize::from(ring.unwrap_or(DEFAULT_RING)),
     })
-}
-
-/// The options of the words, the program's name first. Each is in its range, and is its default where
-/// the words do not name it.
-pub fn options_of(alloc: Global, words: &[String]) -> Result<Options, WordsFault>
-    ensures accepted { IfOk result (λ o. AreAccepted (texts_of words.now)) }
-    ensures senders { IfOk result (λ o. o.senders ≡ senders_of (texts_of words.now)) }
-    ensures senders_range { IfOk result (λ o. (1 ≤ o.senders) × (o.senders ≤ MOST_BRANCHES)) }
-    ensures ring { IfOk result (λ o. o.ring ≡ ring_of (texts_of words.now)) }
-    ensures ring_range { IfOk result (λ o. (1 ≤ o.ring) × (o.ring ≤ GREATEST_CAPACITY)) }
-    ensures refused { IfErr result (λ f. f ≡ WordsFault.Refused → AreRefused (texts_of words.now)) }
-{
-    match parse(alloc, words) {
-        Ok(options) => Ok(options),
-        Err(error) => match error.kind() {
-            ErrorKind::OutOfMemory => Err(WordsFault::NoMemory),
-            _ => Err(WordsFault::Refused),
-        },
-    }
 }

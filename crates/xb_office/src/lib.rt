@@ -1,5 +1,6 @@
-//! The two ends of the program: a deck from a reader, and its page to a writer. The module `laws`
-//! says what the definitions in `specs/` give, on worked examples and on decks as they are made.
+//! The program but for the process: a deck from a reader, and its page to a writer, by the words of the
+//! command line. The module `laws` says what the definitions in `specs/` give, on worked examples and on
+//! decks as they are made.
 #![tactic(auto)]
 
 mod command_line;

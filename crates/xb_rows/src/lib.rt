@@ -11,5 +11,5 @@ mod scan;
 mod tests;
 
 pub use reading::{ReadFault, read_whole};
-pub use rows::{read_rows, read_text};
+pub use rows::read_rows;
 pub use scan::{MOST_RECORDS, Scan};

@@ -8,9 +8,9 @@ use std::alloc::Global;
 use std::io::Read;
 use xb_model::{Row, RowFault, RowSource};
 
-/// The rows of a CSV text, or its first fault: the faults of `Scan`, and `NoMemory` where memory
-/// ran out.
-pub fn read_text(alloc: Global, text: &[u8]) -> Result<Vec<Row>, RowFault>
+// The rows of a CSV text, or its first fault: the faults of `Scan`, and `NoMemory` where memory
+// ran out.
+pub(crate) fn read_text(alloc: Global, text: &[u8]) -> Result<Vec<Row>, RowFault>
     ensures rows { IfOk result (λ rows. AreRowsOf text.now rows.items) }
     ensures fault { IfErr result (λ f. IsFaultOf text.now f) }
 {

@@ -1,5 +1,6 @@
 // The rows of texts, and their faults.
-use crate::{Scan, read_rows, read_text};
+use crate::rows::read_text;
+use crate::{Scan, read_rows};
 use std::alloc::{AllocError, Global};
 use std::process::Abort;
 use std::test::Fail;

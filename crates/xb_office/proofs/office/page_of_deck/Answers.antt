@@ -15,4 +15,6 @@ returns-in_err-tapes-clause-fault g c =
     let returned = c.from_residual-in_err-tapes in
     let p = err_from_is_err_and returned.result returned.ensures.1 in
     let fault = c.in_err-tapes.ensures.fault in
-    rw (p.1, p.2) (subst (λ (said : Result (List ℕ) OfficeFault). IsFaultOfDeck said c.in_err-tapes.field-0.0) (sym is) fault)
+    let of_deck = subst (λ (said : Result (List ℕ) OfficeFault). IsFaultOfDeck said c.in_err-tapes.field-0.0)
+    (sym is) fault in
+    rw (p.1, p.2) of_deck

@@ -1,13 +1,14 @@
 use Rattle.std.proofs.Common.{◌∙◌, ◌≡◌, ◌≢◌, false, ◌<◌, ℕ, List, [], rules, inl, inr, arith, refl, sym, ap, ap₂, subst, slice_index, codes, true}
 use Rattle.std.specs.Prelude.{Some, pos, unwrap_or}
-use Rattle.std.specs.Str.Parse.{ParsesUnsigned, ExplainsUnsignedError, HasUnsignedDigitsIfOk}
 use Rattle.std.proofs.lemmas.Result.{err_from_is_err_and}
 use Rattle.clap.specs.Words.{found_of, one_text}
 use Rattle.clap.specs.Walk.{one_of, rule_of}
 use Rattle.clap.specs.Simple.{app_of, is_simple, matches_of, with_rule}
 use Rattle.clap.specs.Faults.{fault_of, is_simple_and_free}
 use Rattle.clap.specs.Built.{IsPlainArg}
-use Rattle.clap.specs.Kinds.{HasKind}
+use Rattle.clap.specs.Kinds.{HasKind, Kinds}
+use Rattle.clap.specs.Values.{kind_of}
+use Rattle.clap.specs.declared.error.Error.{Error}
 use Rattle.clap.specs.declared.builder.arg.Arg.{Arg}
 use Rattle.clap.specs.declared.builder.value_parser.ValueParser.{ValueParser}
 use Rattle.clap.specs.declared.builder.value_parser.ValueParser.TheVariants as parser
@@ -17,10 +18,12 @@ use Rattle.xb_ring.specs.declared.branches.TheConstants.{MOST_BRANCHES}
 use Rattle.xb_ring.specs.declared.ends.TheConstants.{GREATEST_CAPACITY}
 use Rattle.xb_office.specs.declared.command_line.TheConstants.{DEFAULT_RING, DEFAULT_SENDERS}
 use Rattle.xb_office.specs.CommandLine.{command, number_option, number_or, texts_of}
+use Rattle.xb_office.specs.declared.command_line.WordsFault.TheVariants.{NoMemory, Refused}
+use Rattle.xb_office.specs.WordsFaults.{fault_of_kind}
 use Rattle.xb_office.proofs.OptionNumbers.{IsNumber, number_read}
 use Rattle.xb_office.proofs.OptionalArguments.{IsOwn, ReadsMaybe, two_optional}
-use Rattle.xb_office.proofs.command_line.parse.Goals as goal
-use Rattle.xb_office.proofs.command_line.parse.Goals.{After-try_get_matches_from}
+use Rattle.xb_office.proofs.command_line.options_of.Goals as goal
+use Rattle.xb_office.proofs.command_line.options_of.Goals.{After-try_get_matches_from}
 
 -- a parser of whole numbers from 1 to `most`
 abbrev numbers_to : ℕ → ValueParser
@@ -72,14 +75,23 @@ returns-clause-accepted c =
     ap (λ a. fault_of a (texts_of c.args.words.now)) (sym (command_is made))
     ∙ c.in_ok-matches.ensures.kinds (is_free made)
 
+-- an error that is none of memory is one of those that refuse the words
+kinds_of_refusal : (kinds : Kinds) (error : Error) → HasKind kinds error
+    → Refused ≡ fault_of_kind (kind_of error) → kinds ≢ []
+kinds_of_refusal kinds error (inl memory) is =
+    let bad : Refused ≡ NoMemory = rw memory at is in
+    cc
+kinds_of_refusal kinds error (inr among) is = λ none. rw none at among
+
 pub returns-in_err-matches-clause-refused : goal.returns-in_err-matches-clause-refused
 returns-in_err-matches-clause-refused c =
     let made = (goal.at.returns-in_err-matches-clause-refused c).After-try_get_matches_from in
-    let refused = subst (λ a. HasKind (fault_of a (texts_of c.args.words.now)) c.in_err-matches.field-0.0)
+    let error = c.in_err-matches.field-0.0 in
+    let has = subst (λ a. HasKind (fault_of a (texts_of c.args.words.now)) error)
     (command_is made) (c.in_err-matches.ensures.kinds (is_free made)) in
     let returned = c.from_residual-in_err-matches in
     let p = err_from_is_err_and returned.result returned.ensures.1 in
-    rw (p.1, p.2) refused
+    rw p.1 (λ is. kinds_of_refusal _ error has (sym is ∙ p.2))
 
 -- an argument whose name begins with this letter is the caller's own, since `help` and `version` are not
 own_argument : (a : Arg) (name : List ℕ) (letter : ℕ) → a.id.now ≡ name → slice_index name 0 ≡ letter
@@ -121,7 +133,8 @@ both c =
 
 -- the text of an option is that of the words
 text_is : (c : goal.Joined-matches) (id : List ℕ)
-    → one_text (found_of c.in_ok-matches.matches) id ≡ one_of id (matches_of command (texts_of c.args.words.now))
+    → one_text (found_of c.in_ok-matches.matches) id
+    ≡ one_of id (matches_of command (texts_of c.args.words.now))
 text_is c id =
     let rows = (c.in_ok-matches.ensures.matches (ap is_simple (command_is (to_parse c)))).0 in
     one_text-rows (found_of c.in_ok-matches.matches) id
@@ -132,18 +145,16 @@ senders_read : (c : goal.Joined-matches)
     → IsNumber MOST_BRANCHES DEFAULT_SENDERS (one_text (found_of c.in_ok-matches.matches) (codes "senders"))
     (unwrap_or c.get_one-senders.result DEFAULT_SENDERS)
 senders_read c =
-    number_read _ (λ bs r. ParsesUnsigned 16 10 bs r × ExplainsUnsignedError 10 bs r × HasUnsignedDigitsIfOk bs r)
-    16 MOST_BRANCHES DEFAULT_SENDERS _ _ c.get_one-senders.ensures.none c.get_one-senders.ensures.value
-    (λ u x g. g.0) (omega arith) (omega arith) (omega arith) (both c).0
+    number_read MOST_BRANCHES DEFAULT_SENDERS _ _ c.get_one-senders.ensures.none c.get_one-senders.ensures.value
+    (omega arith) (omega arith) (omega arith) (both c).0
 
 -- how large a ring is read
 ring_read : (c : goal.Joined-matches)
     → IsNumber GREATEST_CAPACITY DEFAULT_RING (one_text (found_of c.in_ok-matches.matches) (codes "ring"))
     (unwrap_or c.get_one-ring.result DEFAULT_RING)
 ring_read c =
-    number_read _ (λ bs r. ParsesUnsigned 16 10 bs r × ExplainsUnsignedError 10 bs r × HasUnsignedDigitsIfOk bs r)
-    16 GREATEST_CAPACITY DEFAULT_RING _ _ c.get_one-ring.ensures.none c.get_one-ring.ensures.value
-    (λ u x g. g.0) (omega arith) (omega arith) (omega arith) (both c).1
+    number_read GREATEST_CAPACITY DEFAULT_RING _ _ c.get_one-ring.ensures.none c.get_one-ring.ensures.value
+    (omega arith) (omega arith) (omega arith) (both c).1
 
 pub returns-clause-senders : goal.returns-clause-senders
 returns-clause-senders c =
