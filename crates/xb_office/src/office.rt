@@ -5,7 +5,7 @@ ghost use Rattle.xb_ring.specs.declared.ends.TheConstants.{GREATEST_CAPACITY};
 ghost use Rattle.xb_model.specs.Tapes.{tapes_of};
 ghost use Rattle.xb_rows.specs.RowResults.{IsFaultOf};
 ghost use Rattle.xb_rows.specs.RowTexts.{fault_of_text, rows_of_text};
-ghost use Rattle.xb_office.specs.Says.{Delivers, IsFaultOfDeck, Reads, page_of, says, says_rows};
+ghost use Rattle.xb_office.specs.Says.{Delivers, IsFaultOfDeck, Reads, says, says_rows};
 
 use crate::deck::{Deck, MOST_DECK_BYTES};
 use crate::fault::OfficeFault;
