@@ -1,5 +1,5 @@
 // The operator is called on line 5, and a second call is refused.
-use crate::{hear, marks_of_call};
+use crate::{hear, marks_of_call, marks_on_threads};
 use std::alloc::Global;
 use std::test::Fail;
 use xb_model::{Contact, Digit, Key, Limits, LineNo, Mark, On, Reason, Row, Signal, Tone, Trunk};
@@ -64,6 +64,11 @@ fn two_calls(rt: HostRuntime) -> Result<(), Fail> {
         [Mark::Refused(Reason::Abandoned, 0)].as_slice()
     );
     assert!(rt; marks_of_call(alloc, &table, &rows, line, 2)?.is_none());
+    let marks = marks_on_threads(&rt, alloc, &table, &rows, line);
+    let marks = marks.ok().ok_or("no tapes")?;
+    let (call, refusal) = marks.split_at(keyed.len().min(marks.len()));
+    assert_eq!(rt; call, keyed.as_slice());
+    assert_eq!(rt; refusal, second.as_slice());
     Ok(())
 }
 
