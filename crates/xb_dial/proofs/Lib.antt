@@ -1,0 +1,5 @@
+pub mod CompleteNumbers
+pub mod DialledTrains
+pub mod DialledRuns
+pub mod HeardNumbers
+pub mod RowsOfLines

@@ -1,0 +1,4 @@
+pub mod Speeds
+pub mod Dialling
+pub mod Heard
+pub mod WorkedCalls

@@ -1,0 +1,22 @@
+//! What the definitions give: each law is the contract of a function that does nothing.
+ghost use Rattle.xb_dial.specs.Heard.{DialledIsHeard, OrdersAreDialled};
+ghost use Rattle.xb_dial.specs.WorkedCalls.{RowsOfCalls};
+
+/// The rows of some calls.
+#[tactic(auto, unfolding(crate::specs::Dialling::pulses, crate::specs::Dialling::rounds))]
+pub fn rows_of_calls()
+    ensures { RowsOfCalls }
+{}
+
+/// A number that is dialled is the number that is heard, whatever rows of other lines stand between
+/// its own.
+#[tactic(auto, using(crate::proofs::HeardNumbers::dialled_is_heard))]
+pub fn dialled_is_heard()
+    ensures { DialledIsHeard }
+{}
+
+/// In both orders of the lines, the rows of each line are those that it dials.
+#[tactic(auto, using(crate::proofs::RowsOfLines::orders_are_dialled))]
+pub fn orders_are_dialled()
+    ensures { OrdersAreDialled }
+{}
