@@ -1,7 +1,8 @@
 -- The numbers that are dialled are heard.
 use Rattle.std.proofs.Common.{◌≡◌, ℕ, ◌<◌, Bool, true, false, List, [], ◌∷◌, ◌++◌, map, length, Option, Some, None, refl, sym, ap, ◌∙◌}
 use Rattle.std.specs.Prelude.{◌==◌}
-use Rattle.std.specs.List.{AllByRecursion, filter, flat_map}
+use Rattle.std.specs.List.{All, AllByRecursion, filter, flat_map}
+use Rattle.std.proofs.lemmas.List.Elements.{All-head, All-tail}
 use Rattle.xb_model.specs.declared.digit.TheConstants.{DIGITS}
 use Rattle.xb_model.specs.declared.dialled.Dialled.{Dialled}
 use Rattle.xb_model.specs.declared.dialled.Dialled.TheVariants.{Number}
@@ -18,22 +19,21 @@ use Rattle.xb_model.specs.Rows.{LoopRow}
 use Rattle.xb_model.specs.Tapes.{joined_tape, tape_of, tapes_of}
 use Rattle.xb_dial.specs.declared.speed.Speed.{Speed}
 use Rattle.xb_dial.specs.Speeds.{Fits}
-use Rattle.xb_dial.specs.Dialling.{DialledCall, call_line, call_runs, digit_runs, line_rows, line_runs, numbers_on, pulse_count}
-use Rattle.xb_dial.specs.Heard.{AreCalls, AreComplete, AreDialled, AreHeard, AreKeyed, AreTaped, DialledIsHeard, IsCall, IsHeard, entry_of}
+use Rattle.xb_dial.specs.Calls.{AreCalls, AreDigits, DialledCall, IsCall}
+use Rattle.xb_dial.specs.Dialling.{call_line, call_runs, digit_runs, line_rows, line_runs, numbers_on, pulse_count}
+use Rattle.xb_dial.specs.Heard.{AreComplete, AreDialled, AreHeard, AreKeyed, AreTaped, DialledIsHeard, IsHeard, entry_of}
 use Rattle.xb_dial.proofs.CompleteNumbers.{complete_is_shortest}
 use Rattle.xb_dial.proofs.DialledTrains.{cut-number, digit-train, train_of}
 use Rattle.xb_dial.proofs.DialledRuns.{heard-call, pieces-call, pieces-hung_up, record-line, runs-line}
-
--- digits
-abbrev AreDigits : List ℕ → Type 0
-AreDigits number = AllByRecursion (λ digit. digit < DIGITS) number
 
 -- the digits of the trains of a number
 digits-trains : (limits : Limits) (speed : Speed) → Fits limits speed → (number : List ℕ) → AreDigits number
     → before_mutilated (map (digit_of_train limits) (map (λ digit. train_of speed (pulse_count digit)) number)) ≡ number
 digits-trains limits speed fits [] below = refl
 digits-trains limits speed fits (digit ∷ number) below =
-    rw (digit-train limits speed fits digit below.0) (ap (λ digits. digit ∷ digits) (digits-trains limits speed fits number below.1))
+    let first = All-head (λ d. d < DIGITS) digit number below in
+    let more = All-tail (λ d. d < DIGITS) digit number below in
+    rw (digit-train limits speed fits digit first) (ap (λ digits. digit ∷ digits) (digits-trains limits speed fits number more))
 
 -- the good digits of a call are the number
 digits-call : (limits : Limits) (speed : Speed) → IsLawful limits → Fits limits speed → (number : List ℕ) → AreDigits number
@@ -80,11 +80,11 @@ dialled-on : (plan : Plan) (l : ℕ) (calls : List DialledCall) → AreCalls cal
     → AllByRecursion (IsDialled plan) (numbers_on l calls)
 dialled-on plan l [] calls complete = tt
 dialled-on plan l (call ∷ rest) calls complete =
-    at (dialled-on plan l rest calls.1 complete.1) (call.line == l) refl
+    at (dialled-on plan l rest (All-tail IsCall call rest calls) complete.1) (call.line == l) refl
   where
     at : AllByRecursion (IsDialled plan) (numbers_on l rest) → (on : Bool) → (call.line == l) ≡ on
         → AllByRecursion (IsDialled plan) (numbers_on l (call ∷ rest))
-    at later true e = rw e ((calls.0.digits, complete.0), later)
+    at later true e = rw e (((All-head IsCall call rest calls).digits, complete.0), later)
     at later false e = rw e later
 
 -- each line's outcomes are its numbers
@@ -131,7 +131,7 @@ dialled_is_heard speed calls rows are dialled =
     record {
       heard = heard speed calls rows are dialled;
       keyed = λ plan limits complete lawful fits.
-      keyed plan limits calls rows (heard speed calls rows are dialled plan limits complete lawful fits);
+          keyed plan limits calls rows (heard speed calls rows are dialled plan limits complete lawful fits);
       taped = λ plan limits complete lawful fits.
-      taped plan limits calls rows (heard speed calls rows are dialled plan limits complete lawful fits);
+          taped plan limits calls rows (heard speed calls rows are dialled plan limits complete lawful fits);
     }

@@ -5,6 +5,7 @@ use Rattle.std.specs.List.{AllByRecursion, filter, flat_map}
 use Rattle.std.proofs.lemmas.Bool.{cases_Bool, eqb-false}
 use Rattle.std.proofs.lemmas.Grind.{flat_map-append}
 use Rattle.std.proofs.lemmas.List.{map-append}
+use Rattle.std.proofs.lemmas.List.Elements.{All-head, All-tail}
 use Rattle.std.proofs.lemmas.Simd.{map-map}
 use Rattle.std.proofs.Math.Nat.{le-max_left, le-max_right}
 use Rattle.xb_model.specs.declared.line.TheConstants.{LINES}
@@ -16,8 +17,9 @@ use Rattle.xb_model.proofs.LinesBelow.{lines_below-more, lines_below-none}
 use Rattle.xb_dial.specs.declared.order.Order.{Order}
 use Rattle.xb_dial.specs.declared.order.Order.TheVariants.{ByLine, InTurn}
 use Rattle.xb_dial.specs.declared.speed.Speed.{Speed}
-use Rattle.xb_dial.specs.Dialling.{DialledCall, dialled, in_order, in_turn, joined_lists, line_rows, line_runs, longest, numbers_on, on_line, rounds}
-use Rattle.xb_dial.specs.Heard.{AreCalls, AreDialled, OrdersAreDialled}
+use Rattle.xb_dial.specs.Calls.{AreCalls, DialledCall, IsCall}
+use Rattle.xb_dial.specs.Dialling.{dialled, in_order, in_turn, joined_lists, line_rows, line_runs, longest, numbers_on, on_line, rounds}
+use Rattle.xb_dial.specs.Heard.{AreDialled, OrdersAreDialled}
 
 -- rows of line l
 abbrev AreOn : ℕ → List LoopRow → Type 0
@@ -154,7 +156,9 @@ own-on speed calls k = on-line k (line_runs speed (numbers_on k calls))
 no-numbers : (calls : List DialledCall) (l : ℕ) → AreCalls calls → LINES ≤ l → numbers_on l calls ≡ []
 no-numbers [] l are above = refl
 no-numbers (call ∷ calls) l are above =
-    rw (ne_eqb call.line l (λ e. omega (arith, e, above, are.0.line))) (no-numbers calls l are.1 above)
+    let below = (All-head IsCall call calls are).line in
+    rw (ne_eqb call.line l (λ e. omega (arith, e, above, below)))
+    (no-numbers calls l (All-tail IsCall call calls are) above)
 
 -- of each line the rows are those that it dials, where they are for the lines of the office and there
 -- are no others

@@ -7,16 +7,9 @@ use Rattle.xb_model.specs.Rows.{LoopRow, row_of}
 use Rattle.xb_model.specs.Records.{Run, make, break}
 use Rattle.xb_model.specs.Lines.{of_line, lines_below}
 use Rattle.xb_dial.specs.declared.speed.Speed.{Speed}
+use Rattle.xb_dial.specs.Calls.{DialledCall}
 use Rattle.xb_dial.specs.declared.order.Order.{Order}
 use Rattle.xb_dial.specs.declared.order.Order.TheVariants.{ByLine, InTurn}
-
--- a call: the line that dials, and the digits
-pub record DialledCall : Type 0 where
-  pub line : ℕ
-  pub digits : List ℕ
-
-abbrev pub call_of : ℕ → List ℕ → DialledCall
-call_of line digits = record { line = line; digits = digits }
 
 -- a digit has as many pulses as its value, and 0 has ten
 abbrev pub pulse_count : ℕ → ℕ

@@ -1,7 +1,6 @@
 -- A number that is dialled is the number that is heard (own profile).
 use Rattle.std.specs.Prelude.{◌≡◌, ℕ, ◌<◌, List, [], ◌∷◌, map, true}
 use Rattle.std.specs.List.{AllByRecursion}
-use Rattle.xb_model.specs.declared.digit.TheConstants.{DIGITS}
 use Rattle.xb_model.specs.declared.limits.Limits.{Limits}
 use Rattle.xb_model.specs.declared.line.TheConstants.{LINES}
 use Rattle.xb_model.specs.declared.mark.Mark.{Mark}
@@ -19,15 +18,8 @@ use Rattle.std.specs.List.{flat_map}
 use Rattle.xb_dial.specs.declared.order.Order.{Order}
 use Rattle.xb_dial.specs.declared.speed.Speed.{Speed}
 use Rattle.xb_dial.specs.Speeds.{Fits}
-use Rattle.xb_dial.specs.Dialling.{DialledCall, dialled, line_rows, numbers_on}
-
--- digits, and a line of the office
-pub record IsCall (call : DialledCall) : Type 0 where
-  pub line : call.line < LINES
-  pub digits : AllByRecursion (λ digit. digit < DIGITS) call.digits
-
-abbrev pub AreCalls : List DialledCall → Type 0
-AreCalls calls = AllByRecursion IsCall calls
+use Rattle.xb_dial.specs.Calls.{AreCalls, DialledCall}
+use Rattle.xb_dial.specs.Dialling.{dialled, line_rows, numbers_on}
 
 -- each number is complete by the plan
 abbrev pub AreComplete : Plan → List DialledCall → Type 0

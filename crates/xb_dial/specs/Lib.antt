@@ -1,4 +1,6 @@
 pub mod Speeds
+pub mod Calls
 pub mod Dialling
 pub mod Heard
+pub mod LineRows
 pub mod WorkedCalls

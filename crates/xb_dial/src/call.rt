@@ -1,6 +1,6 @@
 // Calls: what is dialled.
 ghost use Rattle.std.specs.Prelude.{◌≡◌};
-ghost use Rattle.xb_dial.specs.Dialling.{call_of};
+ghost use Rattle.xb_dial.specs.Calls.{call_of};
 
 use std::marker::Model;
 use xb_model::{Digit, LineNo};
@@ -13,7 +13,7 @@ pub struct Call {
 }
 
 impl Model for Call {
-    ghost use Rattle.xb_dial.specs.Dialling.{DialledCall};
+    ghost use Rattle.xb_dial.specs.Calls.{DialledCall};
 
     ghost Value = { DialledCall };
 

@@ -3,9 +3,12 @@
 
 mod call;
 pub mod laws;
+mod lines;
 mod order;
+mod runs;
 mod speed;
 
 pub use call::Call;
+pub use lines::rows_of_calls;
 pub use order::Order;
 pub use speed::{Speed, SpeedFault};

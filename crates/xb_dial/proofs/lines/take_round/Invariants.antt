@@ -1,0 +1,8 @@
+use Rattle.std.proofs.Common.{◌≡◌, ◌++◌, take, drop, map}
+use Rattle.std.specs.List.{flat_map}
+use Rattle.xb_dial.specs.LineRows.{Takes, lists_of, without_empty}
+use Rattle.xb_dial.proofs.lines.take_round.Given as goal
+
+abbrev pub invariant-loop-list : goal.invariant-loop-list
+invariant-loop-list l =
+    Takes (lists_of (take l.list-index l.lists)) l.initial.rows.items l.rows.items (lists_of l.left.items)
