@@ -4,5 +4,6 @@ pub mod DialledRuns
 pub mod HeardNumbers
 pub mod RowsOfLines
 pub mod Turns
+pub mod RowTexts
 pub mod Pulses
 pub mod LinesOfCalls

@@ -3,4 +3,5 @@ pub mod Calls
 pub mod Dialling
 pub mod Heard
 pub mod LineRows
+pub mod RowText
 pub mod WorkedCalls

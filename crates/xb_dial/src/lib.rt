@@ -7,8 +7,10 @@ mod lines;
 mod order;
 mod runs;
 mod speed;
+mod text;
 
 pub use call::Call;
 pub use lines::rows_of_calls;
 pub use order::Order;
 pub use speed::{Speed, SpeedFault};
+pub use text::text_of_rows;
