@@ -4,4 +4,5 @@ pub mod Dialling
 pub mod Heard
 pub mod LineRows
 pub mod RowText
+pub mod CallTexts
 pub mod WorkedCalls

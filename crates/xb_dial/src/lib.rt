@@ -2,6 +2,8 @@
 #![tactic(auto)]
 
 mod call;
+mod fault;
+mod fields;
 pub mod laws;
 mod lines;
 mod order;
@@ -10,6 +12,7 @@ mod speed;
 mod text;
 
 pub use call::Call;
+pub use fault::CallFault;
 pub use lines::rows_of_calls;
 pub use order::Order;
 pub use speed::{Speed, SpeedFault};
