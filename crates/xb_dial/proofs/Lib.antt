@@ -4,6 +4,7 @@ pub mod DialledRuns
 pub mod HeardNumbers
 pub mod RowsOfLines
 pub mod Turns
+pub mod TextLines
 pub mod CallFields
 pub mod RowTexts
 pub mod Pulses

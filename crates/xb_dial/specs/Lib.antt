@@ -5,4 +5,5 @@ pub mod Heard
 pub mod LineRows
 pub mod RowText
 pub mod CallTexts
+pub mod TextLines
 pub mod WorkedCalls
