@@ -7,6 +7,22 @@ use Rattle.xb_dial.specs.declared.speed.Speed.{Speed}
 use Rattle.xb_dial.specs.declared.speed.SpeedFault.{SpeedFault}
 use Rattle.xb_dial.specs.declared.speed.SpeedFault.TheVariants as fault
 
+abbrev pub speed_of : ℕ → ℕ → ℕ → ℕ → ℕ → Speed
+speed_of break_ms make_ms pause_ms seize_ms hang_up_ms = record {
+  break_ms = break_ms;
+  make_ms = make_ms;
+  pause_ms = pause_ms;
+  seize_ms = seize_ms;
+  hang_up_ms = hang_up_ms;
+}
+
+-- the standard speeds
+abbrev pub ten_pulses_a_second : Speed
+ten_pulses_a_second = speed_of 60 40 600 500 400
+
+abbrev pub twenty_pulses_a_second : Speed
+twenty_pulses_a_second = speed_of 30 20 600 500 400
+
 -- a break is a pulse
 abbrev pub BreakFits : Limits → Speed → Type 0
 BreakFits limits speed = (limits.pulse_min ≤ speed.break_ms) × (speed.break_ms ≤ limits.pulse_max)

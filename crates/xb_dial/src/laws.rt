@@ -1,12 +1,25 @@
 //! What the definitions give: each law is the contract of a function that does nothing.
 ghost use Rattle.xb_dial.specs.Heard.{DialledIsHeard, OrdersAreDialled};
 ghost use Rattle.xb_dial.specs.RowText.{IsCsvText};
-ghost use Rattle.xb_dial.specs.WorkedCalls.{RowsOfCalls};
+ghost use Rattle.xb_dial.specs.WorkedCalls.{BothOrders, CallsOfTexts, NumbersOfCalls, RowsOfCalls};
 
-/// The rows of some calls.
-#[tactic(auto, unfolding(crate::specs::Dialling::pulses, crate::specs::Dialling::rounds))]
+/// The rows of some calls, and the numbers that are heard of them.
+#[tactic(auto, unfolding(crate::specs::Dialling::pulses, xb_model::specs::WorkedRows::pulses, xb_model::specs::WorkedRows::dial))]
 pub fn rows_of_calls()
-    ensures { RowsOfCalls }
+    ensures rows { RowsOfCalls }
+    ensures numbers { NumbersOfCalls }
+{}
+
+/// Both orders of some lists.
+#[tactic(auto, unfolding(crate::specs::Dialling::rounds))]
+pub fn both_orders()
+    ensures { BothOrders }
+{}
+
+/// The calls of some texts, and each fault.
+#[tactic(auto, unfolding(crate::specs::CallTexts::calls_from))]
+pub fn calls_of_texts()
+    ensures { CallsOfTexts }
 {}
 
 /// A number that is dialled is the number that is heard, whatever rows of other lines stand between

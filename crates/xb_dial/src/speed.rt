@@ -1,7 +1,7 @@
 // The speed of a dial.
 ghost use Rattle.std.specs.Prelude.{◌≡◌, ◌↔◌, IsOk, IfErr};
 ghost use Rattle.xb_model.specs.LawfulLimits.{standard_limits};
-ghost use Rattle.xb_dial.specs.Speeds.{BreakFits, Fits, HangUpFits, IsFirstMisfit, MakeFits, PauseFits, SeizeFits};
+ghost use Rattle.xb_dial.specs.Speeds.{Fits, IsFirstMisfit, ten_pulses_a_second, twenty_pulses_a_second};
 
 use thiserror::Error;
 use xb_model::{GREATEST_MS, Limits};
@@ -41,7 +41,44 @@ pub enum SpeedFault {
     HangUp,
 }
 
+// The times that the standard speeds share.
+const PAUSE_MS: u32 = 600;
+
+const SEIZE_MS: u32 = 500;
+
+const HANG_UP_MS: u32 = 400;
+
 impl Speed {
+    /// 10 pulses a second: breaks of 60 ms and makes of 40 ms, a pause of 600, a seizing make of 500
+    /// and a hang-up of 400 ms. It fits the standard limits.
+    pub fn ten() -> Speed
+        ensures value { result ≡ ten_pulses_a_second }
+        ensures fits { Fits standard_limits result }
+    {
+        Speed {
+            break_ms: 60,
+            make_ms: 40,
+            pause_ms: PAUSE_MS,
+            seize_ms: SEIZE_MS,
+            hang_up_ms: HANG_UP_MS,
+        }
+    }
+
+    /// 20 pulses a second: breaks of 30 ms and makes of 20 ms, the rest as at 10. It fits the standard
+    /// limits.
+    pub fn twenty() -> Speed
+        ensures value { result ≡ twenty_pulses_a_second }
+        ensures fits { Fits standard_limits result }
+    {
+        Speed {
+            break_ms: 30,
+            make_ms: 20,
+            pause_ms: PAUSE_MS,
+            seize_ms: SEIZE_MS,
+            hang_up_ms: HANG_UP_MS,
+        }
+    }
+
     /// Whether the speed fits limits, as dialled numbers are heard by them: the break is a pulse; the
     /// make is none too short, and no pause; the pause is one, and no time-out; the seizing make is
     /// not 0, and no time-out; the hang-up is a release, of a day at the most. `Err` tells the first
