@@ -1,3 +1,5 @@
 pub mod Writing
 pub mod Faults
 pub mod Dials
+pub mod Rules
+pub mod Asked

@@ -4,6 +4,7 @@
 mod dialling;
 mod fault;
 mod request;
+mod words;
 mod writing;
 
 use std::io;
