@@ -3,3 +3,4 @@ pub mod Faults
 pub mod Dials
 pub mod Rules
 pub mod Asked
+pub mod Attended

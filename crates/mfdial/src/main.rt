@@ -1,31 +1,26 @@
 //! The program: calls on standard input, and the loop rows that dial them on standard output.
 #![tactic(auto)]
 
+mod attending;
 mod dialling;
 mod fault;
 mod request;
 mod words;
 mod writing;
 
+use attending::attend;
+use std::env::args;
 use std::io;
 use std::process::ExitCode;
 
 /// Prints the rows of the calls. On a fault nothing is printed but one line on standard error, and
 /// the status is 1, or 2 where the words are refused; where the rows could not be written, their
 /// beginning may have been.
-fn main(rt: HostRuntime) -> ExitCode {
+fn main(rt: HostRuntime) -> io::Result<ExitCode> {
+    let words: Vec<String> = args(&rt)?.collect(rt.alloc())?;
     let mut calls = rt.stdin();
     let mut out = io::writer(&rt);
-    let request = request::Request {
-        speed: xb_dial::Speed::ten(),
-        order: xb_dial::Order::ByLine,
-        whole: None,
-    };
-    match dialling::dial(rt.alloc(), request, &mut calls, &mut out) {
-        Ok(()) => ExitCode::SUCCESS,
-        Err(fault) => {
-            let _ = eprintln!(rt; "mfdial: {fault}");
-            ExitCode::FAILURE
-        }
-    }
+    let errors = rt.stderr();
+    let mut err = io::writer(&errors);
+    Ok(ExitCode::from(attend(rt.alloc(), &words, &mut calls, &mut out, &mut err)))
 }
