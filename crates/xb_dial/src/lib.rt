@@ -10,6 +10,8 @@ mod order;
 mod reading;
 mod runs;
 mod speed;
+#[cfg(test)]
+mod tests;
 mod text;
 
 pub use call::Call;
