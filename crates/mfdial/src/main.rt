@@ -5,6 +5,8 @@ mod attending;
 mod dialling;
 mod fault;
 mod request;
+#[cfg(test)]
+mod tests;
 mod words;
 mod writing;
 
