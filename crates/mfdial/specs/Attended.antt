@@ -1,9 +1,8 @@
 -- What the program did (own format).
-use Rattle.std.specs.Prelude.{ℕ, ◌≡◌, ◌⊎◌, List, Option, Err, Ok}
-use Rattle.std.specs.Io.KnownBytes.{Appends, Keeps}
+use Rattle.std.specs.Prelude.{ℕ, ◌⊎◌, List, Option, Err, Ok}
+use Rattle.std.specs.Io.KnownBytes.{Keeps}
 use Rattle.clap.specs.Walk.{Text}
 use Rattle.mfdial.specs.declared.fault.DialFault.{DialFault}
-use Rattle.mfdial.specs.declared.fault.DialFault.TheVariants as fault
 use Rattle.mfdial.specs.declared.request.Request.{Request}
 use Rattle.mfdial.specs.Asked.{Asks}
 use Rattle.mfdial.specs.Dials.{Delivers}

@@ -1,16 +1,15 @@
 -- What is printed of calls (own format).
-use Rattle.std.specs.Prelude.{◌≡◌, ◌⊎◌, ℕ, ◌<◌, ◌≤◌, List, length, Option, None, Result, Ok, Err, IfSome}
+use Rattle.std.specs.Prelude.{◌≡◌, ℕ, ◌<◌, ◌≤◌, List, length, Option, None, Result, Ok, Err, IfSome}
 use Rattle.std.specs.Io.KnownBytes.{Appends, Keeps}
 use Rattle.xb_model.specs.LawfulLimits.{standard_limits}
 use Rattle.xb_model.specs.Rows.{LoopRow}
 use Rattle.xb_rows.specs.declared.scan.TheConstants.{MOST_RECORDS}
-use Rattle.xb_rows.specs.Reading.{IsLongerThan}
 use Rattle.xb_rows.specs.RowTexts.{rest_of_text, rows_and_stop}
 use Rattle.xb_dial.specs.declared.reading.TheConstants.{MOST_TEXT_BYTES}
 use Rattle.xb_dial.specs.Calls.{DialledCall}
 use Rattle.xb_dial.specs.CallTexts.{calls_of_text}
 use Rattle.xb_dial.specs.Dialling.{dialled}
-use Rattle.xb_dial.specs.Heard.{AreComplete, AreHeard, AreKeyed, IsHeard}
+use Rattle.xb_dial.specs.Heard.{AreHeard, AreKeyed}
 use Rattle.xb_dial.specs.RowText.{rows_text}
 use Rattle.xb_dial.specs.Speeds.{IsFirstMisfit}
 use Rattle.mfdial.specs.declared.fault.DialFault.{DialFault}

@@ -1,8 +1,7 @@
 -- A number that is complete is the shortest complete beginning of itself.
-use Rattle.std.proofs.Common.{◌≡◌, ◌⊎◌, inl, inr, ℕ, ◌<◌, Bool, true, false, List, [], ◌∷◌, ◌++◌, map, length, Option, Some, None, refl, sym, ap, ◌∙◌, arith, eqb-true, ne_eqb, length-append}
-use Rattle.std.specs.Prelude.{option_map, if◌then◌else◌, ◌==◌}
+use Rattle.std.proofs.Common.{◌≡◌, ◌⊎◌, inl, inr, ℕ, ◌<◌, Bool, true, false, List, [], ◌∷◌, ◌++◌, map, length, Option, Some, None, refl, ap, ◌∙◌, arith, eqb-true, ne_eqb}
+use Rattle.std.specs.Prelude.{option_map, ◌==◌}
 use Rattle.std.specs.List.{find}
-use Rattle.std.proofs.lemmas.Bool.{cases_Bool, cond-true, cond-false}
 use Rattle.xb_model.specs.declared.plan.Plan.{Plan}
 use Rattle.xb_model.specs.Plans.{plan_len, length_after}
 use Rattle.xb_model.specs.Numbers.{fronts, has_length, is_complete, shortest_complete}

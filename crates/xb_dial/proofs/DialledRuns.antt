@@ -1,14 +1,13 @@
 -- What the runs of dialled calls are: makes and breaks in turn, of which none times out and only a
 -- hang-up releases.
-use Rattle.std.proofs.Common.{◌≡◌, ℕ, zero, suc, ◌<◌, ◌≤◌, Bool, true, false, List, [], ◌∷◌, ◌++◌, map, refl, sym, ap, ◌∙◌, arith, append_assoc, append-nil, le-leb, ne_eqb, subst}
-use Rattle.std.specs.Prelude.{◌&&◌, nat_le, ◌==◌}
-use Rattle.std.specs.List.{AllByRecursion, filter, flat_map}
+use Rattle.std.proofs.Common.{◌≡◌, ℕ, zero, suc, ◌<◌, Bool, true, false, List, [], ◌∷◌, ◌++◌, refl, sym, ap, ◌∙◌, arith, append_assoc, append-nil, le-leb, ne_eqb, subst}
+use Rattle.std.specs.Prelude.{◌==◌}
+use Rattle.std.specs.List.{AllByRecursion, flat_map}
 use Rattle.std.proofs.lemmas.Bool.{cond-true, cond-false, lt-leb}
 use Rattle.xb_model.specs.declared.limits.Limits.{Limits}
-use Rattle.xb_model.specs.declared.row.Contact.{Contact}
 use Rattle.xb_model.specs.declared.row.Contact.TheVariants.{Make, Brk}
 use Rattle.xb_model.specs.LawfulLimits.{IsLawful}
-use Rattle.xb_model.specs.Records.{Run, Attempt, break, make, has_runs, heard, into_first, is_break, is_close, is_release, join, joined, pieces_of, reaches_timeout, record_up_to_close, run_of, runs_of, same_contact, without_first_break}
+use Rattle.xb_model.specs.Records.{Run, Attempt, break, make, heard, into_first, is_release, join, joined, pieces_of, reaches_timeout, record_up_to_close, run_of, runs_of, without_first_break}
 use Rattle.xb_dial.specs.declared.speed.Speed.{Speed}
 use Rattle.xb_dial.specs.Speeds.{Fits}
 use Rattle.xb_dial.specs.Dialling.{call_runs, digit_runs, line_runs, on_line, pulse_count, pulses}

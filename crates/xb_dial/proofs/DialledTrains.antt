@@ -1,13 +1,13 @@
 -- The pulses of a digit are a train, whose digit is that digit.
-use Rattle.std.proofs.Common.{◌≡◌, ℕ, zero, suc, ◌<◌, ◌≤◌, ◌%◌, Bool, true, false, List, [], ◌∷◌, ◌++◌, map, length, Option, Some, None, refl, sym, ap, ◌∙◌, arith, append_assoc, le-leb, le-ltb, ne_eqb, mod-eq_of_lt}
-use Rattle.std.specs.Prelude.{◌||◌, ◌&&◌, not, nat_le, nat_lt, ◌==◌}
-use Rattle.std.specs.List.{AllByRecursion, filter, flat_map, list_any}
-use Rattle.std.proofs.lemmas.Bool.{cond-true, cond-false, lt-leb}
+use Rattle.std.proofs.Common.{◌≡◌, ℕ, zero, suc, ◌<◌, ◌%◌, true, false, List, [], ◌∷◌, ◌++◌, map, Some, refl, ap, ◌∙◌, arith, le-leb, le-ltb, ne_eqb, mod-eq_of_lt}
+use Rattle.std.specs.Prelude.{nat_le, nat_lt}
+use Rattle.std.specs.List.{flat_map}
+use Rattle.std.proofs.lemmas.Bool.{cond-false, lt-leb}
 use Rattle.xb_model.specs.declared.digit.TheConstants.{DIGITS}
 use Rattle.xb_model.specs.declared.limits.Limits.{Limits}
 use Rattle.xb_model.specs.Numbers.{digit_of_count, digit_of_train}
-use Rattle.xb_model.specs.Records.{Run, Train, break, make, cut_at_pauses, ends_train, is_break, onto_first}
-use Rattle.xb_model.specs.Signals.{breaks_in, is_bad_run, is_bad_train}
+use Rattle.xb_model.specs.Records.{Run, Train, break, make, cut_at_pauses}
+use Rattle.xb_model.specs.Signals.{breaks_in, is_bad_train}
 use Rattle.xb_dial.specs.declared.speed.Speed.{Speed}
 use Rattle.xb_dial.specs.Speeds.{Fits}
 use Rattle.xb_dial.specs.Dialling.{digit_runs, pulse_count, pulses}

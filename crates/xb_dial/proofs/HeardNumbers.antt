@@ -1,7 +1,7 @@
 -- The numbers that are dialled are heard.
-use Rattle.std.proofs.Common.{◌≡◌, ℕ, ◌<◌, Bool, true, false, List, [], ◌∷◌, ◌++◌, map, length, Option, Some, None, refl, sym, ap, ◌∙◌}
+use Rattle.std.proofs.Common.{◌≡◌, ℕ, ◌<◌, Bool, true, false, List, [], ◌∷◌, ◌++◌, map, Some, refl, ap, ◌∙◌}
 use Rattle.std.specs.Prelude.{◌==◌}
-use Rattle.std.specs.List.{All, AllByRecursion, filter, flat_map}
+use Rattle.std.specs.List.{AllByRecursion, filter, flat_map}
 use Rattle.std.proofs.lemmas.List.Elements.{All-head, All-tail}
 use Rattle.xb_model.specs.declared.digit.TheConstants.{DIGITS}
 use Rattle.xb_model.specs.declared.dialled.Dialled.{Dialled}
@@ -11,17 +11,17 @@ use Rattle.xb_model.specs.declared.line.TheConstants.{LINES}
 use Rattle.xb_model.specs.declared.plan.Plan.{Plan}
 use Rattle.xb_model.specs.Keyings.{marks_of}
 use Rattle.xb_model.specs.LawfulLimits.{IsLawful}
-use Rattle.xb_model.specs.Lines.{lines_below, of_line}
-use Rattle.xb_model.specs.Numbers.{before_mutilated, digit_of_train, good_digits, is_complete, number_of, or_refused, outcome_of, outcomes_of, shortest_complete, train_digits}
-use Rattle.xb_model.specs.Records.{Attempt, break, cut_at_pauses, has_runs, pieces_of, record_of, record_up_to_close, rows_of, trains_of, without_first}
+use Rattle.xb_model.specs.Lines.{lines_below}
+use Rattle.xb_model.specs.Numbers.{before_mutilated, digit_of_train, good_digits, is_complete, number_of, outcome_of, outcomes_of, shortest_complete}
+use Rattle.xb_model.specs.Records.{Attempt, cut_at_pauses, has_runs, pieces_of, record_up_to_close, without_first}
 use Rattle.xb_model.specs.Routing.{CodedRoute, order_of}
 use Rattle.xb_model.specs.Rows.{LoopRow}
-use Rattle.xb_model.specs.Tapes.{joined_tape, tape_of, tapes_of}
+use Rattle.xb_model.specs.Tapes.{joined_tape}
 use Rattle.xb_dial.specs.declared.speed.Speed.{Speed}
 use Rattle.xb_dial.specs.Speeds.{Fits}
 use Rattle.xb_dial.specs.Calls.{AreCalls, AreDigits, DialledCall, IsCall}
-use Rattle.xb_dial.specs.Dialling.{call_line, call_runs, digit_runs, line_rows, line_runs, numbers_on, pulse_count}
-use Rattle.xb_dial.specs.Heard.{AreComplete, AreDialled, AreHeard, AreKeyed, AreTaped, DialledIsHeard, IsHeard, entry_of}
+use Rattle.xb_dial.specs.Dialling.{call_runs, line_runs, numbers_on, pulse_count}
+use Rattle.xb_dial.specs.Heard.{AreComplete, AreDialled, AreHeard, AreKeyed, AreTaped, DialledIsHeard, entry_of}
 use Rattle.xb_dial.proofs.CompleteNumbers.{complete_is_shortest}
 use Rattle.xb_dial.proofs.DialledTrains.{cut-number, digit-train, train_of}
 use Rattle.xb_dial.proofs.DialledRuns.{heard-call, pieces-call, pieces-hung_up, record-line, runs-line}

@@ -1,13 +1,12 @@
 -- The rows of each line, call by call.
-use Rattle.std.proofs.Common.{◌≡◌, ◌≢◌, ℕ, zero, suc, ◌<◌, Bool, true, false, List, [], ◌∷◌, ◌++◌, map, length, take, get_or, set, refl, sym, ap, ap₂, ◌∙◌, arith, append_assoc, append-nil, subst, eqb, eqb-true, eq-eqb, inl, inr, length-set, get_or-set_same, get_or-set_other}
-use Rattle.std.specs.List.{All, flat_map}
+use Rattle.std.proofs.Common.{◌≡◌, ℕ, zero, suc, ◌<◌, false, List, [], ◌∷◌, ◌++◌, map, length, get_or, set, refl, sym, ap, ◌∙◌, arith, append_assoc, append-nil, subst, eqb, eqb-true, eq-eqb, inl, inr, length-set, get_or-set_same, get_or-set_other}
+use Rattle.std.specs.List.{All}
 use Rattle.std.proofs.lemmas.Bool.{cases_Bool, eqb-false, cond-true, cond-false}
-use Rattle.std.proofs.lemmas.Grind.{flat_map-append}
 use Rattle.std.proofs.lemmas.List.{get_or-map, length-map, map-append, map-set}
 use Rattle.std.proofs.lemmas.List.FromFn.{fill_by_all}
 use Rattle.xb_model.specs.declared.line.TheConstants.{LINES}
 use Rattle.xb_model.specs.Lines.{lines_below, of_line}
-use Rattle.xb_model.specs.Records.{Run, break}
+use Rattle.xb_model.specs.Records.{break}
 use Rattle.xb_model.specs.Rows.{LoopRow, row_of}
 use Rattle.xb_model.proofs.Lines.{of_line-append}
 use Rattle.xb_dial.specs.declared.speed.Speed.{Speed}

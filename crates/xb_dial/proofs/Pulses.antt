@@ -1,8 +1,8 @@
 -- The rows of a call, pulse by pulse and digit by digit.
-use Rattle.std.proofs.Common.{◌≡◌, ℕ, zero, suc, ◌+◌, ◌-◌, ◌<◌, ◌≤◌, List, [], ◌∷◌, ◌++◌, refl, sym, ap, ◌∙◌, arith, append_assoc, length, take, get_or}
+use Rattle.std.proofs.Common.{◌≡◌, ℕ, suc, ◌+◌, ◌-◌, ◌<◌, ◌≤◌, List, [], ◌∷◌, ◌++◌, sym, ap, ◌∙◌, arith, append_assoc, length, take, get_or}
 use Rattle.std.specs.List.{flat_map}
 use Rattle.std.proofs.lemmas.List.{flat_map_more, map-append, take_more}
-use Rattle.xb_model.specs.Records.{Run, break, make}
+use Rattle.xb_model.specs.Records.{break, make}
 use Rattle.xb_model.specs.Rows.{LoopRow, row_of}
 use Rattle.xb_model.specs.declared.row.Contact.TheVariants.{Make, Brk}
 use Rattle.xb_dial.specs.declared.speed.Speed.{Speed}

@@ -1,7 +1,6 @@
 -- Lists of rows, one for each line, put together in both orders.
-use Rattle.std.proofs.Common.{◌≡◌, ◌≢◌, ℕ, zero, suc, ◌+◌, ◌<◌, ◌≤◌, max, Bool, true, false, List, [], ◌∷◌, ◌++◌, map, length, take, drop, refl, sym, ap, ap₂, ◌∙◌, arith, append_assoc, append-nil, add-one, subst, take_all, eqb, eqb-true, ne_eqb, ltb, ltb-true, ltb-false, le_trans, inl, inr}
-use Rattle.std.specs.Prelude.{◌==◌}
-use Rattle.std.specs.List.{AllByRecursion, filter, flat_map}
+use Rattle.std.proofs.Common.{◌≡◌, ◌≢◌, ℕ, zero, suc, ◌<◌, ◌≤◌, max, Bool, true, false, List, [], ◌∷◌, ◌++◌, map, length, take, drop, refl, sym, ap, ap₂, ◌∙◌, arith, append-nil, add-one, take_all, eqb, eqb-true, ne_eqb, ltb, ltb-true, ltb-false, le_trans, inl, inr}
+use Rattle.std.specs.List.{AllByRecursion, flat_map}
 use Rattle.std.proofs.lemmas.Bool.{cases_Bool, eqb-false}
 use Rattle.std.proofs.lemmas.Grind.{flat_map-append}
 use Rattle.std.proofs.lemmas.List.{map-append}
@@ -9,16 +8,15 @@ use Rattle.std.proofs.lemmas.List.Elements.{All-head, All-tail}
 use Rattle.std.proofs.lemmas.Simd.{map-map}
 use Rattle.std.proofs.Math.Nat.{le-max_left, le-max_right}
 use Rattle.xb_model.specs.declared.line.TheConstants.{LINES}
-use Rattle.xb_model.specs.Lines.{lines_below, of_line, row_line}
+use Rattle.xb_model.specs.Lines.{lines_below, row_line}
 use Rattle.xb_model.specs.Records.{Run, rows_of}
 use Rattle.xb_model.specs.Rows.{LoopRow}
 use Rattle.xb_model.proofs.Lines.{of_line-all, of_line-append, of_line-none}
 use Rattle.xb_model.proofs.LinesBelow.{lines_below-more, lines_below-none}
-use Rattle.xb_dial.specs.declared.order.Order.{Order}
 use Rattle.xb_dial.specs.declared.order.Order.TheVariants.{ByLine, InTurn}
 use Rattle.xb_dial.specs.declared.speed.Speed.{Speed}
 use Rattle.xb_dial.specs.Calls.{AreCalls, DialledCall, IsCall}
-use Rattle.xb_dial.specs.Dialling.{dialled, in_order, in_turn, joined_lists, line_rows, line_runs, longest, numbers_on, on_line, rounds}
+use Rattle.xb_dial.specs.Dialling.{joined_lists, line_rows, line_runs, longest, numbers_on, on_line, rounds}
 use Rattle.xb_dial.specs.Heard.{AreDialled, OrdersAreDialled}
 
 -- rows of line l

@@ -1,9 +1,8 @@
 -- A text of calls, line by line; and where a plan is given, each number is complete by it.
-use Rattle.std.proofs.Common.{◌≡◌, ◌⊎◌, inl, inr, ℕ, ◌+◌, ◌<◌, ◌≤◌, Bool, true, false, List, [], ◌∷◌, ◌++◌, map, length, take, drop, Option, Some, None, Result, Ok, Err, refl, sym, ap, ◌∙◌, arith, append_assoc, append-nil, subst, IfSome, ltb-true, ltb-false}
+use Rattle.std.proofs.Common.{◌≡◌, ◌⊎◌, inl, inr, ℕ, ◌+◌, ◌≤◌, Bool, true, false, List, [], ◌∷◌, ◌++◌, length, Option, Some, None, Result, Ok, Err, refl, sym, ap, ◌∙◌, arith, append_assoc, append-nil, subst, IfSome, ltb-true, ltb-false}
 use Rattle.std.specs.Prelude.{nat_lt, ◌==◌, unwrap_or}
 use Rattle.std.specs.Result.{result_ok}
-use Rattle.std.specs.List.{AllByRecursion, position_or_len, before_first, after_first, slice_split}
-use Rattle.std.specs.Str.Lines.{strip_carriage_return}
+use Rattle.std.specs.List.{position_or_len, before_first, after_first, slice_split}
 use Rattle.std.proofs.lemmas.Bool.{cond-true, cond-false}
 use Rattle.std.proofs.lemmas.Grind.{common_steps}
 use Rattle.std.proofs.lemmas.List.Sums.{fails_before_first, count_by-le-length}
@@ -15,7 +14,7 @@ use Rattle.xb_rows.specs.RowTexts.{line_of}
 use Rattle.xb_dial.specs.declared.fault.CallFault.{CallFault}
 use Rattle.xb_dial.specs.declared.fault.CallFault.TheVariants as fault
 use Rattle.xb_dial.specs.Calls.{DialledCall, call_of}
-use Rattle.xb_dial.specs.CallTexts.{call_and_rest, call_of_digits, call_of_fields, call_of_line, call_unless, calls_from, calls_of_text, cut_at, digits_of, is_passed_over, length_fault, line_feed, number_fault, or_fault, or_wrong_digit, text_lines, two_fields}
+use Rattle.xb_dial.specs.CallTexts.{call_and_rest, call_of_digits, call_of_line, call_unless, calls_from, calls_of_text, cut_at, digits_of, is_passed_over, length_fault, line_feed, number_fault, or_fault, or_wrong_digit, text_lines, two_fields}
 use Rattle.xb_dial.specs.Heard.{AreComplete}
 use Rattle.xb_dial.specs.TextLines.{StopsBy, TakesLine, after, lines_left}
 

@@ -1,10 +1,10 @@
 -- Rounds of lists, from which empty lists are left out.
-use Rattle.std.proofs.Common.{◌≡◌, ℕ, zero, suc, ◌+◌, ◌<◌, ◌≤◌, max, Bool, true, false, List, [], ◌∷◌, ◌++◌, map, length, take, drop, refl, sym, ap, ap₂, ◌∙◌, arith, le_trans, lt_of_le_of_lt, subst, append_assoc, append-nil}
-use Rattle.std.specs.List.{filter, flat_map}
+use Rattle.std.proofs.Common.{◌≡◌, ℕ, zero, suc, ◌+◌, ◌<◌, ◌≤◌, max, List, [], ◌∷◌, ◌++◌, map, length, take, drop, refl, sym, ap, ap₂, ◌∙◌, arith, le_trans, lt_of_le_of_lt, subst, append_assoc, append-nil}
+use Rattle.std.specs.List.{flat_map}
 use Rattle.std.proofs.Math.Nat.{le-max_left, le-max_right}
 use Rattle.xb_model.specs.Rows.{LoopRow}
 use Rattle.xb_dial.specs.Dialling.{in_turn, longest, rounds}
-use Rattle.xb_dial.specs.LineRows.{has_items, without_empty}
+use Rattle.xb_dial.specs.LineRows.{without_empty}
 
 -- the items of lists, and the lists
 abbrev pub items_and_lists : {A : Type 0} → List (List A) → ℕ

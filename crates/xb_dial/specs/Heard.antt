@@ -1,5 +1,5 @@
 -- A number that is dialled is the number that is heard (own profile).
-use Rattle.std.specs.Prelude.{◌≡◌, ℕ, ◌<◌, List, [], ◌∷◌, map, true}
+use Rattle.std.specs.Prelude.{◌≡◌, ℕ, List, map, true}
 use Rattle.std.specs.List.{AllByRecursion}
 use Rattle.xb_model.specs.declared.limits.Limits.{Limits}
 use Rattle.xb_model.specs.declared.line.TheConstants.{LINES}

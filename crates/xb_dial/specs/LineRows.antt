@@ -1,5 +1,5 @@
 -- How the rows of calls are put together, step by step (own profile).
-use Rattle.std.specs.Prelude.{◌≡◌, ℕ, ◌≤◌, List, [], ◌∷◌, ◌++◌, map, drop, take, Bool, true, false}
+use Rattle.std.specs.Prelude.{◌≡◌, ◌≤◌, List, [], ◌∷◌, ◌++◌, map, drop, take, Bool, true, false}
 use Rattle.std.specs.List.{filter, flat_map}
 use Rattle.std.specs.Borrow.{Bor}
 use Rattle.xb_model.specs.declared.row.TheConstants.{GREATEST_MS}

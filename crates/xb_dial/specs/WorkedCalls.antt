@@ -1,10 +1,10 @@
 -- Worked calls, at 10 pulses a second.
-use Rattle.std.specs.Prelude.{◌≡◌, ℕ, List, [], ◌∷◌, ◌++◌, codes, Some, None, Ok, Err}
+use Rattle.std.specs.Prelude.{◌≡◌, ℕ, List, [], ◌∷◌, codes, Some, None, Ok, Err}
 use Rattle.xb_model.specs.declared.dialled.Dialled.TheVariants.{Number}
 use Rattle.xb_model.specs.declared.plan.Plan.TheVariants.{Seven}
 use Rattle.xb_model.specs.LawfulLimits.{standard_limits}
 use Rattle.xb_model.specs.Numbers.{outcomes_of}
-use Rattle.xb_model.specs.Records.{Run, make, break, record_of}
+use Rattle.xb_model.specs.Records.{make, break, record_of}
 use Rattle.xb_model.specs.WorkedRows.{dials}
 use Rattle.xb_dial.specs.declared.fault.CallFault.TheVariants as fault
 use Rattle.xb_dial.specs.Calls.{call_of}

@@ -1,4 +1,4 @@
-use Rattle.std.proofs.Common.{◌≡◌, ◌≤◌, ℕ, List, length, take, take_all, Option, Result, Ok, Err, OnOk, OnErr, sym, subst, arith}
+use Rattle.std.proofs.Common.{ℕ, List, length, take_all, Option, Result, Ok, Err, OnOk, OnErr, sym, subst, arith}
 use Rattle.std.specs.Io.KnownBytes.{Appends}
 use Rattle.mfdial.specs.Writing.{AppendsBeginning}
 use Rattle.mfdial.proofs.attending.say.Goals as goal

@@ -1,6 +1,6 @@
-use Rattle.std.proofs.Common.{◌≡◌, ap, ◌∙◌, codes, IfOk, Ok, Err, List, Result, ℕ}
-use Rattle.clap.specs.Simple.{App, app_of, with_rule}
-use Rattle.mfdial.specs.Rules.{command_of_words, flag_rule, number_rule}
+use Rattle.std.proofs.Common.{ap, ◌∙◌, codes, IfOk, Ok, Err, List, Result, ℕ}
+use Rattle.clap.specs.Simple.{App, with_rule}
+use Rattle.mfdial.specs.Rules.{flag_rule, number_rule}
 use Rattle.mfdial.proofs.words.command.Goals as goal
 
 -- what follows from what a call ensures of its value

@@ -1,6 +1,6 @@
 use Rattle.std.proofs.Common.{◌≡◌, ℕ, List, Option, Some, None, Ok, Err, Result, refl, ◌∙◌}
 use Rattle.std.specs.Str.Parse.{ExplainsUnsignedError, HasUnsignedDigitsIfOk, ParsesUnsigned}
-use Rattle.clap.specs.Matches.{found_of, one_text, ReadsOne}
+use Rattle.clap.specs.Matches.{found_of, ReadsOne}
 use Rattle.clap.specs.Walk.{rows_of}
 use Rattle.clap.proofs.WalkLemmas.{one_text-rows}
 use Rattle.mfdial.specs.Asked.{ReadsNumber, given_by}

@@ -1,7 +1,7 @@
 use Rattle.std.proofs.Common.{◌≡◌, ◌∙◌, ℕ, Bool, List, Option, true, refl, ap, codes, sym, subst}
 use Rattle.clap.specs.Faults.{fault_of, is_simple_and_free}
 use Rattle.clap.specs.Matches.{found_of}
-use Rattle.clap.specs.Simple.{app_of, is_simple, matches_of}
+use Rattle.clap.specs.Simple.{is_simple, matches_of}
 use Rattle.clap.specs.Walk.{rows_of}
 use Rattle.clap.proofs.OnLiterals.{clap_on_literals}
 use Rattle.mfdial.specs.Rules.{command_of_words}

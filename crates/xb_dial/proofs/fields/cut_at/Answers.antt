@@ -1,4 +1,4 @@
-use Rattle.std.proofs.Common.{◌≡◌, ◌+◌, Some, sym, ap, ◌∙◌, take, drop}
+use Rattle.std.proofs.Common.{◌+◌, Some, ap, ◌∙◌, take, drop}
 use Rattle.std.specs.Prelude.{option_map}
 use Rattle.std.proofs.lemmas.List.{take_rest}
 use Rattle.xb_dial.proofs.fields.cut_at.Goals as goal

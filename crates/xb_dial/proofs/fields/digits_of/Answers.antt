@@ -1,5 +1,5 @@
 use Rattle.std.proofs.Common.{◌≡◌, ◌+◌, ◌++◌, ◌∷◌, [], sym, ap, ◌∙◌, subst, rules}
-use Rattle.xb_dial.proofs.CallFields.{IsRestOf, IsRestOf-digit, IsRestOf-end, IsRestOf-grouping, IsRestOf-wrong, digit_at}
+use Rattle.xb_dial.proofs.CallFields.{IsRestOf, IsRestOf-digit, IsRestOf-grouping}
 use Rattle.xb_dial.proofs.fields.digits_of.Goals as goal
 use Rattle.xb_dial.proofs.fields.digits_of.Goals.{then-not-is_grouping+in_ok-digit+else-is_err, else-not-is_grouping}
 

@@ -1,8 +1,7 @@
-use Rattle.std.proofs.Common.{◌≡◌, ◌≢◌, ◌<◌, ℕ, List, length, vec_len, ap, ◌∙◌, sym, arith, subst, eqb-true}
+use Rattle.std.proofs.Common.{◌≡◌, ◌≢◌, ◌<◌, length, vec_len, sym, arith, eqb-true}
 use Rattle.std.proofs.lemmas.Bool.{eqb-false}
 use Rattle.std.proofs.lemmas.List.{length-map}
-use Rattle.xb_model.specs.Rows.{LoopRow}
-use Rattle.xb_dial.specs.LineRows.{Takes, lists_of}
+use Rattle.xb_dial.specs.LineRows.{lists_of}
 use Rattle.xb_dial.proofs.Turns.{turn-smaller, turn-more, turn-last}
 use Rattle.xb_dial.proofs.lines.in_turn.Goals as goal
 

@@ -1,6 +1,6 @@
 use Rattle.std.proofs.Common.{◌≡◌, ◌∷◌, ◌++◌, [], ◌+◌, ℕ, length, map, take, ap, ap₂, ◌∙◌, sym, arith, take_all}
 use Rattle.std.proofs.lemmas.List.{length_push, map-append, take_more}
-use Rattle.xb_model.proofs.LineValues.{IsLeft-start, IsLeft-turn, IsLeft-end}
+use Rattle.xb_model.proofs.LineValues.{IsLeft-turn, IsLeft-end}
 use Rattle.xb_dial.specs.LineRows.{lists_of}
 use Rattle.xb_dial.proofs.lines.lists_of.Goals as goal
 

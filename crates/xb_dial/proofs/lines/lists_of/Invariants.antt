@@ -1,5 +1,4 @@
-use Rattle.std.proofs.Common.{◌≡◌, ◌+◌, take, map, length}
-use Rattle.xb_model.specs.declared.line.TheConstants.{LINES}
+use Rattle.std.proofs.Common.{◌≡◌, take, map, length}
 use Rattle.xb_model.specs.LineValues.{IsLeft}
 use Rattle.xb_dial.specs.LineRows.{lists_of}
 use Rattle.xb_dial.proofs.lines.lists_of.Given as goal

@@ -1,8 +1,6 @@
-use Rattle.std.proofs.Common.{◌≡◌, List, ap, ◌∙◌, Ok, Err, Result, IfOk, subst, sym}
-use Rattle.xb_model.specs.Rows.{LoopRow}
-use Rattle.xb_dial.specs.Calls.{AreCalls, DialledCall}
-use Rattle.xb_dial.specs.Dialling.{dialled, in_order}
-use Rattle.xb_dial.specs.Heard.{AreDialled, IsHeard}
+use Rattle.std.proofs.Common.{ap, ◌∙◌, Ok, Err, Result, IfOk, subst, sym}
+use Rattle.xb_dial.specs.Dialling.{in_order}
+use Rattle.xb_dial.specs.Heard.{AreDialled}
 use Rattle.xb_dial.proofs.HeardNumbers.{dialled_is_heard}
 use Rattle.xb_dial.proofs.RowsOfLines.{orders_are_dialled}
 use Rattle.xb_dial.proofs.lines.rows_of_calls.Goals as goal

@@ -1,6 +1,5 @@
-use Rattle.std.proofs.Common.{◌≡◌, ◌++◌, take, drop, map}
-use Rattle.std.specs.List.{flat_map}
-use Rattle.xb_dial.specs.LineRows.{Takes, lists_of, without_empty}
+use Rattle.std.proofs.Common.{take}
+use Rattle.xb_dial.specs.LineRows.{Takes, lists_of}
 use Rattle.xb_dial.proofs.lines.take_round.Given as goal
 
 abbrev pub invariant-loop-list : goal.invariant-loop-list

@@ -1,4 +1,4 @@
-use Rattle.std.proofs.Common.{◌≡◌, ◌+◌, [], map, sym, ap, ◌∙◌, arith}
+use Rattle.std.proofs.Common.{◌+◌, map, sym, ap, ◌∙◌, arith}
 use Rattle.std.specs.Prelude.{option_copied}
 use Rattle.std.specs.Str.Lines.{strip_carriage_return}
 use Rattle.xb_dial.specs.CallTexts.{calls_from, calls_of_text}

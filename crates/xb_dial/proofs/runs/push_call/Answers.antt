@@ -1,4 +1,4 @@
-use Rattle.std.proofs.Common.{◌≡◌, ◌<◌, ◌++◌, ℕ, List, ap, ◌∙◌, length, get_or, subst, sym}
+use Rattle.std.proofs.Common.{◌≡◌, ◌<◌, ◌++◌, ℕ, List, ap, ◌∙◌, length, get_or, subst}
 use Rattle.std.proofs.lemmas.List.Elements.{All-more}
 use Rattle.xb_model.specs.declared.digit.TheConstants.{DIGITS}
 use Rattle.xb_dial.specs.Dialling.{digit_runs, on_line}

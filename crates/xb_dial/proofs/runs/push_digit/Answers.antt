@@ -1,4 +1,4 @@
-use Rattle.std.proofs.Common.{◌≡◌, ◌++◌, ◌∷◌, [], ◌≤◌, OnOk, Ok, Err, Result, arith}
+use Rattle.std.proofs.Common.{OnOk, Ok, Err, Result, arith}
 use Rattle.xb_dial.proofs.Pulses.{pulse-more, pulse-last}
 use Rattle.xb_dial.proofs.runs.push_digit.Goals as goal
 

@@ -1,12 +1,11 @@
-use Rattle.std.proofs.Common.{◌≡◌, ◌≤◌, ◌+◌, ◌++◌, ◌∷◌, [], ℕ, List, IfOk, Ok, length, take, take_all, string_bytes, sym, ap, ◌∙◌, subst, append_assoc}
+use Rattle.std.proofs.Common.{◌≡◌, ◌+◌, ◌++◌, ◌∷◌, [], ℕ, List, take, take_all, sym, ap, ◌∙◌, subst}
 use Rattle.std.specs.Prelude.{codes}
 use Rattle.std.specs.List.{All}
 use Rattle.std.proofs.lemmas.List.{take_more, flat_map_more}
 use Rattle.std.proofs.lemmas.List.Elements.{All-more}
 use Rattle.xb_model.specs.Rows.{LoopRow}
 use Rattle.xb_rows.specs.RowTexts.{rest_of_text}
-use Rattle.xb_rows.specs.declared.scan.TheConstants.{MOST_RECORDS}
-use Rattle.xb_dial.specs.RowText.{IsLawfulRow, record_text, records_text, rows_text}
+use Rattle.xb_dial.specs.RowText.{IsLawfulRow, record_text, rows_text}
 use Rattle.xb_dial.proofs.RowTexts.{rows_text-read}
 use Rattle.xb_dial.proofs.text.text_of_rows.Goals as goal
 
