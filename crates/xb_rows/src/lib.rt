@@ -11,5 +11,6 @@ mod scan;
 mod tests;
 
 pub use reading::{ReadFault, read_whole};
+pub use record::line_of;
 pub use rows::read_rows;
 pub use scan::{MOST_RECORDS, Scan};

@@ -35,8 +35,8 @@ fn field_number(most: usize, field: &[u8]) -> Option<u32>
     Some(number)
 }
 
-// The line that a field writes.
-fn line_of(field: &[u8]) -> Option<LineNo>
+/// The line that a field of 1 to 4 ASCII digits writes; `None` for any other field.
+pub fn line_of(field: &[u8]) -> Option<LineNo>
     ensures { result ≡ line_of field.now }
 {
     LineNo::new(field_number(LINE_DIGITS, field)? as u16)

@@ -1,0 +1,3 @@
+// The tests of this program.
+mod statuses;
+mod streams;

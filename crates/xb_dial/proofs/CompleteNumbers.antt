@@ -1,0 +1,72 @@
+-- A number that is complete is the shortest complete beginning of itself.
+use Rattle.std.proofs.Common.{◌≡◌, ◌⊎◌, inl, inr, ℕ, ◌<◌, Bool, true, false, List, [], ◌∷◌, ◌++◌, map, length, Option, Some, None, refl, ap, ◌∙◌, arith, eqb-true, ne_eqb}
+use Rattle.std.specs.Prelude.{option_map, ◌==◌}
+use Rattle.std.specs.List.{find}
+use Rattle.xb_model.specs.declared.plan.Plan.{Plan}
+use Rattle.xb_model.specs.Plans.{plan_len, length_after}
+use Rattle.xb_model.specs.Numbers.{fronts, has_length, is_complete, shortest_complete}
+
+-- finding among images
+find-map : {A B : Type 0} (test : B → Bool) (f : A → B) (xs : List A)
+    → find test (map f xs) ≡ option_map f (find (λ x. test (f x)) xs)
+find-map test f [] = refl
+find-map test f (x ∷ xs) = at (find-map test f xs) (test (f x)) refl
+  where
+    at : find test (map f xs) ≡ option_map f (find (λ y. test (f y)) xs)
+        → (passes : Bool) → test (f x) ≡ passes
+        → find test (map f (x ∷ xs)) ≡ option_map f (find (λ y. test (f y)) (x ∷ xs))
+    at later true e = rw e refl
+    at later false e = rw e later
+
+-- a list that passes is found where none of its shorter beginnings does
+find-fronts : (test : List ℕ → Bool) (digits : List ℕ) → test digits ≡ true
+    → ((front rest : List ℕ) → front ++ rest ≡ digits → length front < length digits → test front ≡ false)
+    → find test (fronts digits) ≡ Some digits
+find-fronts test [] passes fails = rw passes refl
+find-fronts test (d ∷ digits) passes fails =
+    let none : test [] ≡ false = fails [] (d ∷ digits) refl (omega arith) in
+    let later = find-fronts (λ front. test (d ∷ front)) digits passes
+    (λ front rest e shorter. fails (d ∷ front) rest (ap (λ more. d ∷ more) e) (omega arith)) in
+    rw none (find-map test (λ front. d ∷ front) (fronts digits) ∙ ap (option_map (λ front. d ∷ front)) later)
+
+-- what the first digits tell of the length, more digits tell too
+length_after-front : (plan : Plan) (a : ℕ) (front rest : List ℕ)
+    → (length_after plan a front ≡ None) ⊎ (length_after plan a front ≡ length_after plan a (front ++ rest))
+length_after-front plan a [] rest = inl refl
+length_after-front plan a (b ∷ []) rest = inl refl
+length_after-front plan a (b ∷ c ∷ front) rest = inr refl
+
+plan_len-front : (plan : Plan) (front rest : List ℕ)
+    → (plan_len plan front ≡ None) ⊎ (plan_len plan front ≡ plan_len plan (front ++ rest))
+plan_len-front plan [] rest = inl refl
+plan_len-front plan (a ∷ front) rest = at (a == 0) refl
+  where
+    at : (operator : Bool) → (a == 0) ≡ operator
+        → (plan_len plan (a ∷ front) ≡ None) ⊎ (plan_len plan (a ∷ front) ≡ plan_len plan ((a ∷ front) ++ rest))
+    at true e = inr (rw e refl)
+    at false e = rw e (length_after-front plan a front rest)
+
+-- a length that is so many
+has_length-is : (len : Option ℕ) (n : ℕ) → has_length len n ≡ true → len ≡ Some n
+has_length-is None n h = absurd (both h)
+  where
+    both : false ≡ true → ⊥
+    both e = cc
+has_length-is (Some len) n h = ap Some (eqb-true len n h)
+
+-- a shorter beginning of a complete number is not complete
+shorter_is_not : (plan : Plan) (digits front rest : List ℕ) → is_complete plan digits ≡ true → front ++ rest ≡ digits
+    → length front < length digits → is_complete plan front ≡ false
+shorter_is_not plan digits front rest complete e shorter =
+    let len : plan_len plan (front ++ rest) ≡ Some (length digits) = ap (plan_len plan) e ∙ has_length-is _ _ complete in
+    elim (plan_len-front plan front rest) [
+      | inl none ↦ rw none refl
+      | inr same ↦ rw (same ∙ len) (ne_eqb (length digits) (length front) (λ w. omega arith))
+    ]
+
+-- a number that is complete is the one that its digits make
+pub complete_is_shortest : (plan : Plan) (digits : List ℕ) → is_complete plan digits ≡ true
+    → shortest_complete plan digits ≡ Some digits
+complete_is_shortest plan digits complete =
+    find-fronts (is_complete plan) digits complete
+    (λ front rest e shorter. shorter_is_not plan digits front rest complete e shorter)

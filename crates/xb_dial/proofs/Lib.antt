@@ -1,0 +1,11 @@
+pub mod CompleteNumbers
+pub mod DialledTrains
+pub mod DialledRuns
+pub mod HeardNumbers
+pub mod RowsOfLines
+pub mod Turns
+pub mod TextLines
+pub mod CallFields
+pub mod RowTexts
+pub mod Pulses
+pub mod LinesOfCalls

@@ -1,0 +1,26 @@
+use Rattle.std.proofs.Common.{◌+◌, map, sym, ap, ◌∙◌, arith}
+use Rattle.std.specs.Prelude.{option_copied}
+use Rattle.std.specs.Str.Lines.{strip_carriage_return}
+use Rattle.xb_dial.specs.CallTexts.{calls_from, calls_of_text}
+use Rattle.xb_dial.specs.TextLines.{after, lines_left}
+use Rattle.xb_dial.proofs.TextLines.{after-none, calls_from-none, few-lines, numbers_are_complete}
+use Rattle.xb_dial.proofs.reading.calls_of_text.Goals as goal
+
+pub loop-left-init : goal.loop-left-init
+loop-left-init c =
+    let few = few-lines c.args.text.now in
+    let all = calls_of_text c.args.whole c.args.text.now in
+    record {
+      calls = sym (ap (λ calls. after calls all) c.new-calls.ensures.items ∙ after-none all);
+      few = omega (arith, few);
+    }
+
+pub returns-clause-calls : goal.returns-clause-calls
+returns-clause-calls c =
+    let n = c.loop-left.n + 1 in
+    c.loop-left.invariant.calls
+    ∙ ap (λ left. after c.loop-left.calls.items (calls_from c.args.whole n (map strip_carriage_return (lines_left (option_copied left))))) c.in_default.is
+    ∙ calls_from-none c.args.whole n c.loop-left.calls.items
+
+pub returns-clause-complete : goal.returns-clause-complete
+returns-clause-complete c = numbers_are_complete c.args.whole c.args.text.now _ (returns-clause-calls c)
