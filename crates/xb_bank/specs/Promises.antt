@@ -46,7 +46,9 @@ In T = Consumer (Flow T) Global AnyItems
 -- ---- what came of a post that served
 
 -- the feed sent all that is fed of rows that its source may have given, and the fault is their stop
-pub record FeedServed (made : FeedOf Global AnyItems) (fault : Option RowFault) (outs : List (Flow LoopRow)) : Type 0 where
+pub record FeedServed
+    (made : FeedOf Global AnyItems) (fault : Option RowFault) (outs : List (Flow LoopRow))
+    : Type 0 where
   pub rows : List LoopRow
   pub may_give : MayGive made.rest rows fault
   pub sends : outs ≡ sent made.producer ++ to_come made rows fault
@@ -58,7 +60,9 @@ pub record DealServed {T : Type 0} (ins : List (Flow T)) (outs : List (Out T)) :
       sent (slice_index_or outs j p) ≡ flow_of (dealt (length outs) j (items_of ins)) true
 
 -- of each input all was received, up to and with one End, and what is merged of that was sent, with one End
-pub record GatherServed {T : Type 0} (ends : T → Bool) (ins : List (List (Flow T))) (outs : List (Flow T)) : Type 0 where
+pub record GatherServed
+    {T : Type 0} (ends : T → Bool) (ins : List (List (Flow T))) (outs : List (Flow T))
+    : Type 0 where
   pub some : 0 < length ins
   pub inputs : (j : ℕ) → j < length ins → IsEnded (slice_index_or ins j [])
   pub output : outs ≡ flow_of (merged ends (length ins) (items_at ins)) true
@@ -81,14 +85,17 @@ pub record StationKept
     : Type 0 where
   pub input : SameConsumer made.consumer done.consumer
   pub output : SameProducer made.producer done.producer
-  pub served : done.served ≡ true → HasPassed line (machine made.stage) (received done.consumer) (sent done.producer)
+  pub served : done.served ≡ true →
+      HasPassed line (machine made.stage) (received done.consumer) (sent done.producer)
 
 pub record DealKept {T : Type 0} (made : DealOf T Global AnyItems AnyItems) (done : DealDone T) : Type 0 where
   pub input : SameConsumer made.consumer done.consumer
   pub outputs : Pairs SameProducer made.producers done.producers.items
   pub served : done.served ≡ true → DealServed (received done.consumer) done.producers.items
 
-pub record GatherKept {T : Type 0} (ends : T → Bool) (made : GatherOf T Global AnyItems AnyItems) (done : GatherDone T) : Type 0 where
+pub record GatherKept
+    {T : Type 0} (ends : T → Bool) (made : GatherOf T Global AnyItems AnyItems) (done : GatherDone T)
+    : Type 0 where
   pub inputs : Pairs SameConsumer made.consumers done.consumers.items
   pub output : SameProducer made.producer done.producer
   pub served : done.served ≡ true → GatherServed ends (map received done.consumers.items) (sent done.producer)

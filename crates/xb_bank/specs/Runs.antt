@@ -77,7 +77,8 @@ module _
     pub marks : IsPair gather.producer tape.consumer
     pub source : feed.rest ≡ rest
     pub fresh : sent feed.producer ≡ []
-    pub to_come : (given : List LoopRow) (stop : Option RowFault) → to_come feed given stop ≡ flow_of (fed given stop) true
+    pub to_come : (given : List LoopRow) (stop : Option RowFault) →
+        to_come feed given stop ≡ flow_of (fed given stop) true
     pub limits : pulse.stage ≡ table.limits
     pub plan : register.stage ≡ table.plan
     pub table_is : translate.stage ≡ table
@@ -90,9 +91,12 @@ module _
     pub feed_kept : FeedKept feed done.feed
     pub pulse_kept : StationKept row_line pulse_machine pulse done.pulse
     pub register_kept : StationKept on_line_of register_machine register done.register
-    pub translate_kept : StationKept on_line_of (λ table. translate_machine table.routes) translate done.translate
+    pub translate_kept :
+        StationKept on_line_of (λ table. translate_machine table.routes) translate done.translate
     pub deal_kept : DealKept deal done.deal
-    pub senders_kept : Pairs (λ sender back. StationKept on_line_of (λ stage. sender_machine) sender back) senders done.senders.items
+    pub senders_kept :
+        Pairs (λ sender back. StationKept on_line_of (λ stage. sender_machine) sender back)
+        senders done.senders.items
     pub gather_kept : GatherKept ends_entry gather done.gather
     pub tape_kept : TapeKept tape done.tape
 
@@ -112,8 +116,10 @@ pub record AreSettled (done : AllDone) : Type 0 where
   pub signals : IsSettled done.pulse.producer done.register.consumer
   pub dialled : IsSettled done.register.producer done.translate.consumer
   pub orders : IsSettled done.translate.producer done.deal.consumer
-  pub before : Pairs (λ end sender. IsSettled end sender.consumer) done.deal.producers.items done.senders.items
-  pub after : Pairs (λ sender end. IsSettled sender.producer end) done.senders.items done.gather.consumers.items
+  pub before :
+      Pairs (λ end sender. IsSettled end sender.consumer) done.deal.producers.items done.senders.items
+  pub after :
+      Pairs (λ sender end. IsSettled sender.producer end) done.senders.items done.gather.consumers.items
   pub marks : IsSettled done.gather.producer done.tape.consumer
 
 -- the tape station was served
@@ -134,17 +140,22 @@ pub record AllServed (done : AllDone) : Type 0 where
   pub tape : tape_served done.tape.taped ≡ true
 
 -- what came of the posts that were served, where these rows were fed
-pub record HaveServed (plan : Plan) (limits : Limits) (routes : List CodedRoute) (rows : List LoopRow) (done : AllDone) : Type 0 where
+pub record HaveServed
+    (plan : Plan) (limits : Limits) (routes : List CodedRoute) (rows : List LoopRow) (done : AllDone)
+    : Type 0 where
   pub feed : done.feed.served ≡ true → done.feed.fault ≡ None → sent done.feed.producer ≡ flow_of rows true
   pub pulse : done.pulse.served ≡ true →
       HasPassed row_line (pulse_machine limits) (received done.pulse.consumer) (sent done.pulse.producer)
   pub register : done.register.served ≡ true →
-      HasPassed on_line_of (register_machine plan) (received done.register.consumer) (sent done.register.producer)
+      HasPassed on_line_of (register_machine plan)
+      (received done.register.consumer) (sent done.register.producer)
   pub translate : done.translate.served ≡ true →
-      HasPassed on_line_of (translate_machine routes) (received done.translate.consumer) (sent done.translate.producer)
+      HasPassed on_line_of (translate_machine routes)
+      (received done.translate.consumer) (sent done.translate.producer)
   pub deal : done.deal.served ≡ true → DealServed (received done.deal.consumer) done.deal.producers.items
   pub senders : All (λ sender. sender.served ≡ true →
-      HasPassed on_line_of sender_machine (received sender.consumer) (sent sender.producer)) done.senders.items
+      HasPassed on_line_of sender_machine (received sender.consumer) (sent sender.producer))
+      done.senders.items
   pub gather : done.gather.served ≡ true →
       GatherServed ends_entry (map received done.gather.consumers.items) (sent done.gather.producer)
   pub tape : TapeServed done.tape.taped (received done.tape.consumer)

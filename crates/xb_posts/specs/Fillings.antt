@@ -18,7 +18,8 @@ MayGive rest rows stop =
     ⊎ ((rest.may_allocate ≡ true) × IsPrefix rows rest.rows × (stop ≡ Some NoMemory))
 
 -- what is held, and after it what is fed of the rows that are given and their stop
-abbrev pub held_and_left : List (Flow LoopRow) → List LineUse → List LoopRow → Option RowFault → List (Flow LoopRow)
+abbrev pub held_and_left :
+    List (Flow LoopRow) → List LineUse → List LoopRow → Option RowFault → List (Flow LoopRow)
 held_and_left held uses rows stop = held ++ flow_of (left uses rows stop) true
 
 -- whatever the source may give from now on, it gives that after rows that it may have given before, and
