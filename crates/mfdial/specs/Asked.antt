@@ -80,9 +80,11 @@ request_of options =
 
 -- clap takes the words, and they ask for this
 abbrev pub Asks : List Text → Request → Type 0
-Asks words request = IsTaken words × ((options : Options) × Say words options × (request_of options ≡ Some request))
+Asks words request = IsTaken words
+    × ((options : Options) × Say words options × (request_of options ≡ Some request))
 
 -- clap refuses the words, or they ask for another speed or plan
 abbrev pub AreRefused : List Text → Type 0
 AreRefused words =
-    (fault_of command_of_words words ≢ []) ⊎ ((options : Options) × Say words options × (request_of options ≡ None))
+    (fault_of command_of_words words ≢ []) ⊎ ((options : Options) × Say words options
+    × (request_of options ≡ None))

@@ -28,5 +28,6 @@ abbrev pub command_of_words : App
 command_of_words =
     let speeds = with_number (with_number (new_app (codes "mfdial")) (codes "speed")) (codes "break") in
     let makes = with_number (with_number speeds (codes "make")) (codes "pause") in
-    let plans = with_number (with_number (with_number makes (codes "seize")) (codes "hang-up")) (codes "plan") in
+    let plans = with_number (with_number (with_number makes (codes "seize")) (codes "hang-up"))
+    (codes "plan") in
     with_flag (with_flag plans (codes "in-turn")) (codes "any")

@@ -13,8 +13,8 @@ use std::alloc::{AllocError, Global};
 use std::io::{Read, Write};
 
 // The line for refused words.
-const USAGE: &[u8] =
-    b"mfdial: usage: mfdial [--speed 10|20] [--break N] [--make N] [--pause N] [--seize N] [--hang-up N] [--plan 7|10] [--in-turn] [--any]\n";
+const USAGE: &[u8] = b"mfdial: usage: mfdial [--speed 10|20] [--break N] [--make N] [--pause N] \
+[--seize N] [--hang-up N] [--plan 7|10] [--in-turn] [--any]\n";
 
 // The line of a fault.
 fn line_of(alloc: Global, fault: DialFault) -> Result<String, AllocError> {

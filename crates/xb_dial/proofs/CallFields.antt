@@ -25,14 +25,16 @@ with_none None = refl
 with_none (Some digits) = refl
 
 with_one : (earlier : List ℕ) (digit : ℕ) (later : Option (List ℕ))
-    → with_earlier earlier (option_map (λ digits. digit ∷ digits) later) ≡ with_earlier (earlier ++ digit ∷ []) later
+    → with_earlier earlier (option_map (λ digits. digit ∷ digits) later)
+    ≡ with_earlier (earlier ++ digit ∷ []) later
 with_one earlier digit None = refl
 with_one earlier digit (Some digits) = ap Some (sym (append_assoc earlier (digit ∷ []) digits))
 
 pub IsRestOf-start : (field : List ℕ) → IsRestOf field 0 []
 IsRestOf-start field = with_none (digits_of field)
 
-grouping-first : (byte : ℕ) (rest : List ℕ) → is_grouping byte ≡ true → digits_of (byte ∷ rest) ≡ digits_of rest
+grouping-first : (byte : ℕ) (rest : List ℕ) → is_grouping byte ≡ true
+    → digits_of (byte ∷ rest) ≡ digits_of rest
 grouping-first byte rest e = rw e refl
 
 if-one : (all : Bool) (digit : ℕ) (digits : List ℕ)
@@ -43,7 +45,8 @@ if-one false digit digits = refl
 digit-first : (byte : ℕ) (rest : List ℕ) → is_grouping byte ≡ false → is_ascii_digit byte ≡ true
     → digits_of (byte ∷ rest) ≡ option_map (λ digits. (byte - zero_byte) ∷ digits) (digits_of rest)
 digit-first byte rest e d =
-    rw (e, d) (if-one (all_ascii_digits (digit_bytes rest)) (byte - zero_byte) (map (λ b. b - zero_byte) (digit_bytes rest)))
+    rw (e, d) (if-one (all_ascii_digits (digit_bytes rest)) (byte - zero_byte)
+    (map (λ b. b - zero_byte) (digit_bytes rest)))
 
 wrong-first : (byte : ℕ) (rest : List ℕ) → is_grouping byte ≡ false → is_ascii_digit byte ≡ false
     → digits_of (byte ∷ rest) ≡ None
@@ -55,15 +58,18 @@ digit_at field i =
     if is_ascii_digit (get_or field i 0) then Some (get_or field i 0 - zero_byte) else None
 
 -- one byte more, which groups
-pub IsRestOf-grouping : (field : List ℕ) (i : ℕ) (earlier : List ℕ) → i < length field → IsRestOf field i earlier
+pub IsRestOf-grouping : (field : List ℕ) (i : ℕ) (earlier : List ℕ) → i < length field
+    → IsRestOf field i earlier
     → is_grouping (get_or field i 0) ≡ true → IsRestOf field (i + 1) earlier
 IsRestOf-grouping field i earlier below so_far grouping =
     so_far ∙ ap (λ rest. with_earlier earlier (digits_of rest)) (drop_more field i 0 below)
     ∙ ap (with_earlier earlier) (grouping-first (get_or field i 0) (drop (i + 1) field) grouping)
 
 -- one that is a digit
-pub IsRestOf-digit : (field : List ℕ) (i : ℕ) (earlier : List ℕ) (digit : ℕ) → i < length field → IsRestOf field i earlier
-    → is_grouping (get_or field i 0) ≡ false → digit_at field i ≡ Some digit → IsRestOf field (i + 1) (earlier ++ digit ∷ [])
+pub IsRestOf-digit : (field : List ℕ) (i : ℕ) (earlier : List ℕ) (digit : ℕ) → i < length field
+    → IsRestOf field i earlier
+    → is_grouping (get_or field i 0) ≡ false → digit_at field i ≡ Some digit
+    → IsRestOf field (i + 1) (earlier ++ digit ∷ [])
 IsRestOf-digit field i earlier digit below so_far other is =
     let byte = get_or field i 0 in
     let rest = drop (i + 1) field in
@@ -72,10 +78,12 @@ IsRestOf-digit field i earlier digit below so_far other is =
     ∙ with_one earlier digit (digits_of rest)
   where
     at : (yes : Bool) → is_ascii_digit (get_or field i 0) ≡ yes → digit_at field i ≡ Some digit
-        → digits_of (get_or field i 0 ∷ drop (i + 1) field) ≡ option_map (λ digits. digit ∷ digits) (digits_of (drop (i + 1) field))
+        → digits_of (get_or field i 0 ∷ drop (i + 1) field)
+        ≡ option_map (λ digits. digit ∷ digits) (digits_of (drop (i + 1) field))
     at true e is =
         let same : get_or field i 0 - zero_byte ≡ digit = some_is (rw e at is) in
-        digit-first (get_or field i 0) (drop (i + 1) field) other e ∙ ap (λ d. option_map (λ digits. d ∷ digits) (digits_of (drop (i + 1) field))) same
+        digit-first (get_or field i 0) (drop (i + 1) field) other e
+        ∙ ap (λ d. option_map (λ digits. d ∷ digits) (digits_of (drop (i + 1) field))) same
     at false e is = absurd (none_is (rw e at is))
 
 -- one that is neither
@@ -94,4 +102,5 @@ IsRestOf-wrong field i earlier below so_far other is =
 pub IsRestOf-end : (field : List ℕ) (i : ℕ) (earlier : List ℕ) → length field ≤ i → IsRestOf field i earlier
     → digits_of field ≡ Some earlier
 IsRestOf-end field i earlier whole so_far =
-    so_far ∙ ap (λ rest. with_earlier earlier (digits_of rest)) (drop_of_length-le field whole) ∙ ap Some (append-nil earlier)
+    so_far ∙ ap (λ rest. with_earlier earlier (digits_of rest)) (drop_of_length-le field whole)
+    ∙ ap Some (append-nil earlier)

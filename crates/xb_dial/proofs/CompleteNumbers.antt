@@ -42,7 +42,8 @@ plan_len-front plan [] rest = inl refl
 plan_len-front plan (a ∷ front) rest = at (a == 0) refl
   where
     at : (operator : Bool) → (a == 0) ≡ operator
-        → (plan_len plan (a ∷ front) ≡ None) ⊎ (plan_len plan (a ∷ front) ≡ plan_len plan ((a ∷ front) ++ rest))
+        → (plan_len plan (a ∷ front) ≡ None) ⊎ (plan_len plan (a ∷ front)
+        ≡ plan_len plan ((a ∷ front) ++ rest))
     at true e = inr (rw e refl)
     at false e = rw e (length_after-front plan a front rest)
 
@@ -55,10 +56,12 @@ has_length-is None n h = absurd (both h)
 has_length-is (Some len) n h = ap Some (eqb-true len n h)
 
 -- a shorter beginning of a complete number is not complete
-shorter_is_not : (plan : Plan) (digits front rest : List ℕ) → is_complete plan digits ≡ true → front ++ rest ≡ digits
+shorter_is_not : (plan : Plan) (digits front rest : List ℕ) → is_complete plan digits ≡ true
+    → front ++ rest ≡ digits
     → length front < length digits → is_complete plan front ≡ false
 shorter_is_not plan digits front rest complete e shorter =
-    let len : plan_len plan (front ++ rest) ≡ Some (length digits) = ap (plan_len plan) e ∙ has_length-is _ _ complete in
+    let len : plan_len plan (front ++ rest) ≡ Some (length digits) = ap (plan_len plan) e
+    ∙ has_length-is _ _ complete in
     elim (plan_len-front plan front rest) [
       | inl none ↦ rw none refl
       | inr same ↦ rw (same ∙ len) (ne_eqb (length digits) (length front) (λ w. omega arith))

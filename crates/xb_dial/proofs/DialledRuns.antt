@@ -13,7 +13,8 @@ use Rattle.xb_dial.specs.Speeds.{Fits}
 use Rattle.xb_dial.specs.Dialling.{call_runs, digit_runs, line_runs, on_line, pulse_count, pulses}
 
 -- a list and a further one
-AllByRecursion-append : {X : Type 0} (P : X → Type 0) (xs ys : List X) → AllByRecursion P xs → AllByRecursion P ys
+AllByRecursion-append : {X : Type 0} (P : X → Type 0) (xs ys : List X) → AllByRecursion P xs
+    → AllByRecursion P ys
     → AllByRecursion P (xs ++ ys)
 AllByRecursion-append P [] ys hx hy = hy
 AllByRecursion-append P (x ∷ xs) ys hx hy = (hx.0, AllByRecursion-append P xs ys hx.1 hy)
@@ -25,7 +26,8 @@ pub record EachRun (P : Run → Type 0) (speed : Speed) : Type 0 where
   pub pauses : P (make speed.pause_ms)
   pub seizes : P (make speed.seize_ms)
 
-all-pulses : (P : Run → Type 0) (speed : Speed) → EachRun P speed → (n : ℕ) → AllByRecursion P (pulses speed n)
+all-pulses : (P : Run → Type 0) (speed : Speed) → EachRun P speed → (n : ℕ)
+    → AllByRecursion P (pulses speed n)
 unfolding pulses
 all-pulses P speed each zero = tt
 all-pulses P speed each (suc zero) = (each.breaks, (each.pauses, tt))
@@ -38,7 +40,8 @@ all-digits P speed each (digit ∷ number) =
     AllByRecursion-append P _ _ (all-pulses P speed each (pulse_count digit)) (all-digits P speed each number)
 
 -- it holds of each run of a call
-all-call : (P : Run → Type 0) (speed : Speed) → EachRun P speed → (number : List ℕ) → AllByRecursion P (call_runs speed number)
+all-call : (P : Run → Type 0) (speed : Speed) → EachRun P speed → (number : List ℕ)
+    → AllByRecursion P (call_runs speed number)
 all-call P speed each number = (each.seizes, all-digits P speed each number)
 
 -- no make times out
@@ -53,7 +56,8 @@ timely limits speed lawful fits =
     }
 
 -- where no make times out, all is heard
-heard-all : (limits : Limits) (runs : List Run) → AllByRecursion (λ run. reaches_timeout limits run ≡ false) runs
+heard-all : (limits : Limits) (runs : List Run)
+    → AllByRecursion (λ run. reaches_timeout limits run ≡ false) runs
     → heard limits runs ≡ runs
 heard-all limits [] h = refl
 heard-all limits (run ∷ runs) h = rw h.0 (ap (λ rest. run ∷ rest) (heard-all limits runs h.1))
@@ -84,7 +88,8 @@ pieces-last : (limits : Limits) (run : Run) (runs : List Run)
     → AllByRecursion (λ r. is_release limits r ≡ false) (run ∷ runs)
     → pieces_of limits (run ∷ runs) ≡ piece (run ∷ runs) false ∷ []
 pieces-last limits run [] h = rw h.0 refl
-pieces-last limits run (next ∷ runs) h = cond-false _ _ _ h.0 ∙ ap (into_first run) (pieces-last limits next runs h.1)
+pieces-last limits run (next ∷ runs) h = cond-false _ _ _ h.0
+    ∙ ap (into_first run) (pieces-last limits next runs h.1)
 
 -- up to a release they are one piece too
 pieces-released : (limits : Limits) (runs : List Run) (end : Run) (rest : List Run)
@@ -145,14 +150,16 @@ alternate-digits : (speed : Speed) → Lasts speed → (number : List ℕ) (rest
     → Alternate false (flat_map (digit_runs speed) number ++ rest)
 alternate-digits speed last [] rest h = h
 alternate-digits speed last (digit ∷ number) rest h =
-    subst (Alternate false) (sym (append_assoc (digit_runs speed digit) (flat_map (digit_runs speed) number) rest))
+    subst (Alternate false) (sym (append_assoc (digit_runs speed digit) (flat_map (digit_runs speed) number)
+    rest))
     (alternate-pulses speed last (pulse_count digit) _ (alternate-digits speed last number rest h))
 
 alternate-call : (speed : Speed) → Lasts speed → (number : List ℕ) (rest : List Run) → Alternate false rest
     → Alternate true (call_runs speed number ++ rest)
 alternate-call speed last number rest h = (refl, last.seizes, alternate-digits speed last number rest h)
 
-alternate-line : (speed : Speed) → Lasts speed → (numbers : List (List ℕ)) → Alternate true (line_runs speed numbers)
+alternate-line : (speed : Speed) → Lasts speed → (numbers : List (List ℕ))
+    → Alternate true (line_runs speed numbers)
 alternate-line speed last [] = tt
 alternate-line speed last (number ∷ []) =
     subst (Alternate true) (append-nil (call_runs speed number)) (alternate-call speed last number [] tt)
@@ -172,7 +179,8 @@ record-alternate l false (run ∷ runs) h =
     rw (h.0, some) (ap (λ rest. run_of Brk run.ms ∷ rest) (record-alternate l true runs h.2))
 
 -- they are joined already
-join-alternate : (closed : Bool) (run : Run) (runs : List Run) → Alternate closed (run ∷ runs) → join run runs ≡ run ∷ runs
+join-alternate : (closed : Bool) (run : Run) (runs : List Run) → Alternate closed (run ∷ runs)
+    → join run runs ≡ run ∷ runs
 join-alternate closed run [] h = refl
 join-alternate true run (next ∷ runs) h = rw (h.0, h.2.0) refl
 join-alternate false run (next ∷ runs) h = rw (h.0, h.2.0) refl
@@ -189,12 +197,14 @@ kept-first [] h = refl
 kept-first (run ∷ runs) h = rw h.0 refl
 
 -- the calls of a line are the record of its rows, and its runs
-pub record-line : (limits : Limits) (speed : Speed) → IsLawful limits → Fits limits speed → (l : ℕ) (numbers : List (List ℕ))
+pub record-line : (limits : Limits) (speed : Speed) → IsLawful limits → Fits limits speed
+    → (l : ℕ) (numbers : List (List ℕ))
     → record_up_to_close (on_line l (line_runs speed numbers)) ≡ line_runs speed numbers
 record-line limits speed lawful fits l numbers =
     record-alternate l true _ (alternate-line speed (lasts limits speed lawful fits) numbers)
 
-pub runs-line : (limits : Limits) (speed : Speed) → IsLawful limits → Fits limits speed → (numbers : List (List ℕ))
+pub runs-line : (limits : Limits) (speed : Speed) → IsLawful limits → Fits limits speed
+    → (numbers : List (List ℕ))
     → runs_of (line_runs speed numbers) ≡ line_runs speed numbers
 runs-line limits speed lawful fits numbers =
     let alternate = alternate-line speed (lasts limits speed lawful fits) numbers in

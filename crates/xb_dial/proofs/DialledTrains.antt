@@ -41,11 +41,13 @@ cut-digit : (limits : Limits) (speed : Speed) → Fits limits speed → (digit :
     → cut_at_pauses limits (digit_runs speed digit ++ rest)
     ≡ train_of speed (pulse_count digit) ∷ cut_at_pauses limits rest
 cut-digit limits speed fits zero rest = cut-pulses limits speed fits 9 rest
-cut-digit limits speed fits (suc digit) rest = rw (pulse_count-suc digit) (cut-pulses limits speed fits digit rest)
+cut-digit limits speed fits (suc digit) rest = rw (pulse_count-suc digit)
+    (cut-pulses limits speed fits digit rest)
 
 -- the trains of a number
 pub cut-number : (limits : Limits) (speed : Speed) → Fits limits speed → (number : List ℕ)
-    → cut_at_pauses limits (flat_map (digit_runs speed) number) ≡ map (λ digit. train_of speed (pulse_count digit)) number
+    → cut_at_pauses limits (flat_map (digit_runs speed) number)
+    ≡ map (λ digit. train_of speed (pulse_count digit)) number
 cut-number limits speed fits [] = refl
 cut-number limits speed fits (digit ∷ number) =
     cut-digit limits speed fits digit (flat_map (digit_runs speed) number)
@@ -86,4 +88,5 @@ digit-count (suc digit) below =
 pub digit-train : (limits : Limits) (speed : Speed) → Fits limits speed → (digit : ℕ) → digit < DIGITS
     → digit_of_train limits (train_of speed (pulse_count digit)) ≡ Some digit
 digit-train limits speed fits digit below =
-    rw (breaks-train speed (pulse_count digit), good-train limits speed fits (pulse_count digit)) (digit-count digit below)
+    rw (breaks-train speed (pulse_count digit), good-train limits speed fits (pulse_count digit))
+    (digit-count digit below)

@@ -28,20 +28,24 @@ use Rattle.xb_dial.proofs.DialledRuns.{heard-call, pieces-call, pieces-hung_up, 
 
 -- the digits of the trains of a number
 digits-trains : (limits : Limits) (speed : Speed) → Fits limits speed → (number : List ℕ) → AreDigits number
-    → before_mutilated (map (digit_of_train limits) (map (λ digit. train_of speed (pulse_count digit)) number)) ≡ number
+    → before_mutilated (map (digit_of_train limits)
+    (map (λ digit. train_of speed (pulse_count digit)) number)) ≡ number
 digits-trains limits speed fits [] below = refl
 digits-trains limits speed fits (digit ∷ number) below =
     let first = All-head (λ d. d < DIGITS) digit number below in
     let more = All-tail (λ d. d < DIGITS) digit number below in
-    rw (digit-train limits speed fits digit first) (ap (λ digits. digit ∷ digits) (digits-trains limits speed fits number more))
+    rw (digit-train limits speed fits digit first)
+    (ap (λ digits. digit ∷ digits) (digits-trains limits speed fits number more))
 
 -- the good digits of a call are the number
-digits-call : (limits : Limits) (speed : Speed) → IsLawful limits → Fits limits speed → (number : List ℕ) → AreDigits number
+digits-call : (limits : Limits) (speed : Speed) → IsLawful limits → Fits limits speed → (number : List ℕ)
+    → AreDigits number
     → good_digits limits (call_runs speed number) ≡ number
 digits-call limits speed lawful fits number below =
     ap (λ runs. before_mutilated (map (digit_of_train limits) (cut_at_pauses limits (without_first runs))))
     (heard-call limits speed lawful fits number)
-    ∙ ap (λ trains. before_mutilated (map (digit_of_train limits) trains)) (cut-number limits speed fits number)
+    ∙ ap (λ trains. before_mutilated (map (digit_of_train limits) trains))
+    (cut-number limits speed fits number)
     ∙ digits-trains limits speed fits number below
 
 -- a number that may be dialled: digits that are complete by the plan
@@ -49,7 +53,8 @@ abbrev IsDialled : Plan → List ℕ → Type 0
 IsDialled plan number = AreDigits number × (is_complete plan number ≡ true)
 
 -- what comes of a call is its number
-outcome-call : (plan : Plan) (limits : Limits) (speed : Speed) → IsLawful limits → Fits limits speed → (number : List ℕ)
+outcome-call : (plan : Plan) (limits : Limits) (speed : Speed) → IsLawful limits → Fits limits speed
+    → (number : List ℕ)
     → IsDialled plan number → outcome_of plan limits (call_runs speed number) ≡ Number number
 outcome-call plan limits speed lawful fits number dialled =
     let is : number_of plan limits (call_runs speed number) ≡ Some number =
@@ -70,10 +75,13 @@ outcomes-line plan limits speed lawful fits (number ∷ []) dialled =
     ap (outcomes_of_pieces plan limits) (pieces-call limits speed lawful fits number)
     ∙ ap (λ outcome. outcome ∷ []) (outcome-call plan limits speed lawful fits number dialled.0)
 outcomes-line plan limits speed lawful fits (number ∷ next ∷ more) dialled =
-    ap (outcomes_of_pieces plan limits) (pieces-hung_up limits speed lawful fits number (line_runs speed (next ∷ more)))
-    ∙ ap (λ outcome. outcome ∷ outcomes_of_pieces plan limits (pieces_of limits (line_runs speed (next ∷ more))))
+    ap (outcomes_of_pieces plan limits) (pieces-hung_up limits speed lawful fits number
+    (line_runs speed (next ∷ more)))
+    ∙ ap (λ outcome. outcome ∷ outcomes_of_pieces plan limits
+    (pieces_of limits (line_runs speed (next ∷ more))))
     (outcome-call plan limits speed lawful fits number dialled.0)
-    ∙ ap (λ outcomes. Number number ∷ outcomes) (outcomes-line plan limits speed lawful fits (next ∷ more) dialled.1)
+    ∙ ap (λ outcomes. Number number ∷ outcomes)
+    (outcomes-line plan limits speed lawful fits (next ∷ more) dialled.1)
 
 -- the numbers of a line are numbers that may be dialled
 dialled-on : (plan : Plan) (l : ℕ) (calls : List DialledCall) → AreCalls calls → AreComplete plan calls
@@ -88,41 +96,50 @@ dialled-on plan l (call ∷ rest) calls complete =
     at later false e = rw e later
 
 -- each line's outcomes are its numbers
-heard : (speed : Speed) (calls : List DialledCall) (rows : List LoopRow) → AreCalls calls → AreDialled speed calls rows
+heard : (speed : Speed) (calls : List DialledCall) (rows : List LoopRow) → AreCalls calls
+    → AreDialled speed calls rows
     → (plan : Plan) (limits : Limits) → AreComplete plan calls → IsLawful limits → Fits limits speed
     → AreHeard plan limits calls rows
 heard speed calls rows are dialled plan limits complete lawful fits l =
     ap (λ own. outcomes_of plan limits (record_up_to_close own)) (dialled l)
     ∙ ap (outcomes_of plan limits) (record-line limits speed lawful fits l (numbers_on l calls))
-    ∙ ap (λ runs. outcomes_of_pieces plan limits (pieces_of limits runs)) (runs-line limits speed lawful fits (numbers_on l calls))
+    ∙ ap (λ runs. outcomes_of_pieces plan limits (pieces_of limits runs))
+    (runs-line limits speed lawful fits (numbers_on l calls))
     ∙ outcomes-line plan limits speed lawful fits (numbers_on l calls) (dialled-on plan l calls are complete)
 
 -- the entries of numbers
 entries-numbers : (routes : List CodedRoute) (numbers : List (List ℕ))
     → map (λ outcome. marks_of (order_of routes outcome)) (map Number numbers) ≡ map (entry_of routes) numbers
 entries-numbers routes [] = refl
-entries-numbers routes (number ∷ numbers) = ap (λ entries. entry_of routes number ∷ entries) (entries-numbers routes numbers)
+entries-numbers routes (number ∷ numbers) = ap (λ entries. entry_of routes number ∷ entries)
+    (entries-numbers routes numbers)
 
 -- joined entries
 joined-entries : (routes : List CodedRoute) (numbers : List (List ℕ))
     → flat_map (λ entry. entry) (map (entry_of routes) numbers) ≡ flat_map (entry_of routes) numbers
 joined-entries routes [] = refl
-joined-entries routes (number ∷ numbers) = ap (λ marks. entry_of routes number ++ marks) (joined-entries routes numbers)
+joined-entries routes (number ∷ numbers) = ap (λ marks. entry_of routes number ++ marks)
+    (joined-entries routes numbers)
 
-keyed : (plan : Plan) (limits : Limits) (calls : List DialledCall) (rows : List LoopRow) → AreHeard plan limits calls rows
+keyed : (plan : Plan) (limits : Limits) (calls : List DialledCall) (rows : List LoopRow)
+    → AreHeard plan limits calls rows
     → AreKeyed plan limits calls rows
 keyed plan limits calls rows are routes l =
-    ap (map (λ outcome. marks_of (order_of routes outcome))) (are l) ∙ entries-numbers routes (numbers_on l calls)
+    ap (map (λ outcome. marks_of (order_of routes outcome))) (are l)
+    ∙ entries-numbers routes (numbers_on l calls)
 
 map-same : {A B : Type 0} (f g : A → B) → ((x : A) → f x ≡ g x) → (xs : List A) → map f xs ≡ map g xs
 map-same f g same [] = refl
 map-same f g same (x ∷ xs) = ap (λ y. y ∷ map f xs) (same x) ∙ ap (λ ys. g x ∷ ys) (map-same f g same xs)
 
-taped : (plan : Plan) (limits : Limits) (calls : List DialledCall) (rows : List LoopRow) → AreHeard plan limits calls rows
+taped : (plan : Plan) (limits : Limits) (calls : List DialledCall) (rows : List LoopRow)
+    → AreHeard plan limits calls rows
     → AreTaped plan limits calls rows
 taped plan limits calls rows are routes =
-    map-same (λ l. joined_tape plan limits routes l rows) (λ l. flat_map (entry_of routes) (numbers_on l calls))
-    (λ l. ap (flat_map (λ entry. entry)) (keyed plan limits calls rows are routes l) ∙ joined-entries routes (numbers_on l calls))
+    map-same (λ l. joined_tape plan limits routes l rows)
+    (λ l. flat_map (entry_of routes) (numbers_on l calls))
+    (λ l. ap (flat_map (λ entry. entry)) (keyed plan limits calls rows are routes l)
+    ∙ joined-entries routes (numbers_on l calls))
     (lines_below LINES)
 
 -- what is dialled is heard, and keyed

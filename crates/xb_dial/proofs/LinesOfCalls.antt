@@ -21,7 +21,8 @@ line_runs-more : (speed : Speed) (numbers : List (List ℕ)) (number : List ℕ)
 line_runs-more speed [] number = refl
 line_runs-more speed (first ∷ []) number = refl
 line_runs-more speed (first ∷ next ∷ more) number =
-    ap (λ runs. call_runs speed first ++ break speed.hang_up_ms ∷ runs) (line_runs-more speed (next ∷ more) number)
+    ap (λ runs. call_runs speed first ++ break speed.hang_up_ms ∷ runs)
+    (line_runs-more speed (next ∷ more) number)
     ∙ sym (append_assoc (call_runs speed first) (break speed.hang_up_ms ∷ line_runs speed (next ∷ more))
     (break speed.hang_up_ms ∷ call_runs speed number))
 
@@ -44,16 +45,19 @@ numbers-other : (calls : List DialledCall) (call : DialledCall) (l : ℕ) → eq
     → numbers_on l (calls ++ call ∷ []) ≡ numbers_on l calls
 numbers-other calls call l off =
     ap (map (λ c. c.digits)) (of_line-append call_line l calls (call ∷ [])
-    ∙ ap (λ own. of_line call_line l calls ++ own) (cond-false _ _ _ off) ∙ append-nil (of_line call_line l calls))
+    ∙ ap (λ own. of_line call_line l calls ++ own) (cond-false _ _ _ off)
+    ∙ append-nil (of_line call_line l calls))
 
 -- the rows of a line, with one call more of it or of another
 rows-here : (speed : Speed) (calls : List DialledCall) (call : DialledCall) (rows : List LoopRow)
-    → AddsCall speed call (line_rows speed calls call.line) rows → rows ≡ line_rows speed (calls ++ call ∷ []) call.line
+    → AddsCall speed call (line_rows speed calls call.line) rows
+    → rows ≡ line_rows speed (calls ++ call ∷ []) call.line
 rows-here speed calls call rows adds =
     let l = call.line in
     let numbers = numbers_on l calls in
     adds
-    ∙ ap (λ hang_up. line_rows speed calls l ++ on_line l (hang_up ++ call_runs speed call.digits)) (hangs_up-rows speed l numbers)
+    ∙ ap (λ hang_up. line_rows speed calls l ++ on_line l (hang_up ++ call_runs speed call.digits))
+    (hangs_up-rows speed l numbers)
     ∙ sym (map-append (λ run. row_of l run.contact run.ms) (line_runs speed numbers)
     (hang_up_after numbers speed ++ call_runs speed call.digits))
     ∙ ap (on_line l) (sym (line_runs-more speed numbers call.digits))
@@ -61,7 +65,8 @@ rows-here speed calls call rows adds =
 
 rows-other : (speed : Speed) (calls : List DialledCall) (call : DialledCall) (l : ℕ) → eqb call.line l ≡ false
     → line_rows speed calls l ≡ line_rows speed (calls ++ call ∷ []) l
-rows-other speed calls call l off = ap (λ all. on_line l (line_runs speed all)) (sym (numbers-other calls call l off))
+rows-other speed calls call l off = ap (λ all. on_line l (line_runs speed all))
+    (sym (numbers-other calls call l off))
 
 -- at the place of each line stand its rows
 pub record AreLineRows (speed : Speed) (calls : List DialledCall) (lines : List (List LoopRow)) : Type 0 where
@@ -76,16 +81,20 @@ module _ {V : Type 0} (items : V → List LoopRow) where
       → AreLineRows speed (calls ++ call ∷ []) (map items (set lines call.line new))
   more-at speed calls call lines old new are below is adds =
       let lists = map items lines in
-      let same : map items (set lines call.line new) ≡ set lists call.line (items new) = map-set items lines call.line new in
+      let same : map items (set lines call.line new)
+      ≡ set lists call.line (items new) = map-set items lines call.line new in
       let long : call.line < length lists = omega (arith, below, are.lines_is) in
       let short : call.line < length lines = omega (arith, long, length-map lines items) in
       let own : items old ≡ line_rows speed calls call.line =
       ap items is ∙ sym (get_or-map items lines call.line old [] short) ∙ are.rows call.line below in
       subst (AreLineRows speed (calls ++ call ∷ [])) (sym same)
-      (more speed calls call lists (items new) are long (subst (λ rows. AddsCall speed call rows (items new)) own adds))
+      (more speed calls call lists (items new) are long
+      (subst (λ rows. AddsCall speed call rows (items new)) own adds))
     where
-      more : (speed : Speed) (calls : List DialledCall) (call : DialledCall) (lists : List (List LoopRow)) (rows : List LoopRow)
-          → AreLineRows speed calls lists → call.line < length lists → AddsCall speed call (line_rows speed calls call.line) rows
+      more : (speed : Speed) (calls : List DialledCall) (call : DialledCall) (lists : List (List LoopRow))
+          (rows : List LoopRow)
+          → AreLineRows speed calls lists → call.line < length lists
+          → AddsCall speed call (line_rows speed calls call.line) rows
           → AreLineRows speed (calls ++ call ∷ []) (set lists call.line rows)
       more speed calls call lists rows are long adds =
           record {
@@ -102,8 +111,10 @@ module _ {V : Type 0} (items : V → List LoopRow) where
             ];
           }
 
-  pub AreLineRows-more : (speed : Speed) (calls : List DialledCall) (call : DialledCall) (lines : List V) (line : ℕ) (old new : V)
-      → AreLineRows speed calls (map items lines) → line ≡ call.line → line < LINES → old ≡ get_or lines line old
+  pub AreLineRows-more : (speed : Speed) (calls : List DialledCall) (call : DialledCall) (lines : List V)
+      (line : ℕ) (old new : V)
+      → AreLineRows speed calls (map items lines) → line ≡ call.line → line < LINES
+      → old ≡ get_or lines line old
       → AddsCall speed call (items old) (items new)
       → AreLineRows speed (calls ++ call ∷ []) (map items (set lines line new))
   AreLineRows-more speed calls call lines line old new are on below is adds =
@@ -112,7 +123,8 @@ module _ {V : Type 0} (items : V → List LoopRow) where
       (subst (λ l. old ≡ get_or lines l old) on is) adds)
 
 -- no call, no rows
-pub AreLineRows-none : {W : Type 0} (items : W → List LoopRow) (speed : Speed) (lines : List W) → length lines ≡ LINES
+pub AreLineRows-none : {W : Type 0} (items : W → List LoopRow) (speed : Speed) (lines : List W)
+    → length lines ≡ LINES
     → All (λ v. items v ≡ []) lines → AreLineRows speed [] (map items lines)
 AreLineRows-none {W} items speed lines long none =
     record {
@@ -126,7 +138,8 @@ AreLineRows-none {W} items speed lines long none =
     none_at (v ∷ lists) (suc l) none = none_at lists l (λ k d h. none (suc k) d (omega (arith, h)))
 
 -- the rows of all lines
-pub AreLineRows-all : (speed : Speed) (calls : List DialledCall) (lines : List (List LoopRow)) → AreLineRows speed calls lines
+pub AreLineRows-all : (speed : Speed) (calls : List DialledCall) (lines : List (List LoopRow))
+    → AreLineRows speed calls lines
     → lines ≡ rows_by_line speed calls
 unfolding lines_below
 AreLineRows-all speed calls lines are =

@@ -9,7 +9,8 @@ use Rattle.xb_dial.specs.declared.speed.Speed.{Speed}
 use Rattle.xb_dial.specs.Dialling.{digit_runs, on_line, pulses}
 
 -- a pulse that is not the last, and those after it
-pulses-more : (speed : Speed) (n : ℕ) → pulses speed (n + 2) ≡ break speed.break_ms ∷ make speed.make_ms ∷ pulses speed (n + 1)
+pulses-more : (speed : Speed) (n : ℕ)
+    → pulses speed (n + 2) ≡ break speed.break_ms ∷ make speed.make_ms ∷ pulses speed (n + 1)
 unfolding pulses
 pulses-more speed n =
     let two : n + 2 ≡ suc (suc n) = omega arith in
@@ -17,7 +18,8 @@ pulses-more speed n =
     ap (pulses speed) two ∙ ap (λ k. break speed.break_ms ∷ make speed.make_ms ∷ pulses speed k) (sym one)
 
 -- one pulse is dialled, which is not the last
-pub pulse-more : (speed : Speed) (line count pulse : ℕ) (old earlier between new : List LoopRow) → 1 ≤ pulse → pulse < count
+pub pulse-more : (speed : Speed) (line count pulse : ℕ) (old earlier between new : List LoopRow)
+    → 1 ≤ pulse → pulse < count
     → earlier ++ on_line line (pulses speed (count + 1 - pulse)) ≡ old ++ on_line line (pulses speed count)
     → between ≡ earlier ++ row_of line Brk speed.break_ms ∷ []
     → new ≡ between ++ row_of line Make speed.make_ms ∷ []
@@ -37,7 +39,8 @@ pulse-more speed line count pulse old earlier between new from below so_far brea
     ∙ so_far
 
 -- the last pulse
-pub pulse-last : (speed : Speed) (line count pulse : ℕ) (old earlier between new : List LoopRow) → pulse ≤ count → count ≤ pulse
+pub pulse-last : (speed : Speed) (line count pulse : ℕ) (old earlier between new : List LoopRow)
+    → pulse ≤ count → count ≤ pulse
     → earlier ++ on_line line (pulses speed (count + 1 - pulse)) ≡ old ++ on_line line (pulses speed count)
     → between ≡ earlier ++ row_of line Brk speed.break_ms ∷ []
     → new ≡ between ++ row_of line Make speed.pause_ms ∷ []
@@ -64,6 +67,9 @@ digit-more speed line i digits digit old earlier new below is so_far more =
     more
     ∙ ap (λ rows. rows ++ on_line line (digit_runs speed digit)) so_far
     ∙ append_assoc old (on_line line first) (on_line line (digit_runs speed digit))
-    ∙ ap (λ rows. old ++ rows) (sym (map-append (λ run. row_of line run.contact run.ms) first (digit_runs speed digit)))
-    ∙ ap (λ runs. old ++ on_line line runs) (flat_map_more (digit_runs speed) (make speed.seize_ms ∷ []) (take i digits) digit)
+    ∙ ap (λ rows. old
+    ++ rows) (sym (map-append (λ run. row_of line run.contact run.ms) first (digit_runs speed digit)))
+    ∙ ap (λ runs. old
+    ++ on_line line runs) (flat_map_more (digit_runs speed) (make speed.seize_ms ∷ []) (take i digits)
+    digit)
     ∙ ap (λ all. old ++ on_line line (make speed.seize_ms ∷ flat_map (digit_runs speed) all)) (sym next)

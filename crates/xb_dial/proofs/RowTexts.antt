@@ -20,10 +20,16 @@ use Rattle.xb_dial.specs.RowText.{IsCsvText, IsLawfulRow, record_text, records_t
 -- a digit calls for no quotes
 plain_digit : (b : ℕ) → 48 ≤ b → needs_byte default_writer b ≡ false
 plain_digit b high =
-    rw (ne_eqb b 44 (λ e. omega arith), ne_eqb b 34 (λ e. omega arith), ne_eqb b 13 (λ e. omega arith), ne_eqb b 10 (λ e. omega arith)) refl
+    rw (
+      ne_eqb b 44 (λ e. omega arith),
+      ne_eqb b 34 (λ e. omega arith),
+      ne_eqb b 13 (λ e. omega arith),
+      ne_eqb b 10 (λ e. omega arith),
+    ) refl
 
 -- nor do two texts of which neither does
-plain-append : (xs ys : List ℕ) → needs_quotes default_writer xs ≡ false → needs_quotes default_writer ys ≡ false
+plain-append : (xs ys : List ℕ) → needs_quotes default_writer xs ≡ false
+    → needs_quotes default_writer ys ≡ false
     → needs_quotes default_writer (xs ++ ys) ≡ false
 plain-append xs ys hx hy = list_any-append (needs_byte default_writer) xs ys ∙ ap₂ (λ a b. a || b) hx hy
 
@@ -32,7 +38,8 @@ plain_number : (n : ℕ) → n < 2 ^ 64 → needs_quotes default_writer (decimal
 plain_number n small =
     decimal_by_steps (λ k text. needs_quotes default_writer text ≡ false)
     (λ k below. rw (plain_digit (48 + k) (omega arith)) refl)
-    (λ k text above plain. plain-append text ((48 + k % 10) ∷ []) plain (rw (plain_digit (48 + k % 10) (omega arith)) refl))
+    (λ k text above plain. plain-append text ((48 + k % 10) ∷ []) plain
+    (rw (plain_digit (48 + k % 10) (omega arith)) refl))
     n small
 
 plain_contact : (contact : Contact) → needs_quotes default_writer (contact_text contact) ≡ false
@@ -50,12 +57,15 @@ record-csv row lawful =
     rw (line, contact, ms) (append_assoc-all (decimal row.line) (contact_text row.contact) (decimal row.ms))
   where
     append_assoc-all : (a b c : List ℕ)
-        → (a ++ (44 ∷ (b ++ (44 ∷ (c ++ []))))) ++ (10 ∷ []) ≡ a ++ (44 ∷ []) ++ b ++ (44 ∷ []) ++ c ++ (10 ∷ [])
+        → (a ++ (44 ∷ (b ++ (44 ∷ (c ++ []))))) ++ (10 ∷ [])
+        ≡ a ++ (44 ∷ []) ++ b ++ (44 ∷ []) ++ c ++ (10 ∷ [])
     append_assoc-all a b c = simp (append_assoc, append-nil) refl
 
-records-csv : (rows : List LoopRow) → AreRows rows → written.records_text (map fields_of_row rows) ≡ records_text rows
+records-csv : (rows : List LoopRow) → AreRows rows
+    → written.records_text (map fields_of_row rows) ≡ records_text rows
 records-csv [] are = refl
-records-csv (row ∷ rows) are = ap₂ (λ xs ys. xs ++ ys) (record-csv row (are.0, are.1)) (records-csv rows are.2)
+records-csv (row ∷ rows) are = ap₂ (λ xs ys. xs ++ ys) (record-csv row (are.0, are.1))
+    (records-csv rows are.2)
 
 -- the whole text
 pub is_csv_text : IsCsvText

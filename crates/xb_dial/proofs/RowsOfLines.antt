@@ -28,11 +28,14 @@ abbrev lists_below : (ℕ → List LoopRow) → ℕ → List (List LoopRow)
 lists_below own n = map own (lines_below n)
 
 -- one list more
-lists_below-more : (own : ℕ → List LoopRow) (n : ℕ) → lists_below own (suc n) ≡ lists_below own n ++ own n ∷ []
+lists_below-more : (own : ℕ → List LoopRow) (n : ℕ)
+    → lists_below own (suc n) ≡ lists_below own n ++ own n ∷ []
 lists_below-more own n =
-    ap (λ k. lists_below own k) (sym (add-one n)) ∙ ap (map own) (lines_below-more n) ∙ map-append own (lines_below n) (n ∷ [])
+    ap (λ k. lists_below own k) (sym (add-one n)) ∙ ap (map own) (lines_below-more n)
+    ∙ map-append own (lines_below n) (n ∷ [])
 
-joined-more : (own : ℕ → List LoopRow) (n : ℕ) → joined_lists (lists_below own (suc n)) ≡ joined_lists (lists_below own n) ++ own n
+joined-more : (own : ℕ → List LoopRow) (n : ℕ)
+    → joined_lists (lists_below own (suc n)) ≡ joined_lists (lists_below own n) ++ own n
 joined-more own n =
     ap joined_lists (lists_below-more own n) ∙ flat_map-append (λ xs. xs) (lists_below own n) (own n ∷ [])
     ∙ ap (λ rows. joined_lists (lists_below own n) ++ rows) (append-nil (own n))
@@ -95,9 +98,11 @@ rounds-below : (m : ℕ) (own : ℕ → List LoopRow) → ((k : ℕ) → AreOn k
 unfolding rounds
 rounds-below zero own on n l below = refl
 rounds-below (suc m) own on n l below =
-    of_line-append row_line l (flat_map (take 1) (lists_below own n)) (rounds m (map (drop 1) (lists_below own n)))
+    of_line-append row_line l (flat_map (take 1) (lists_below own n))
+    (rounds m (map (drop 1) (lists_below own n)))
     ∙ ap₂ (λ xs ys. xs ++ ys)
-    (ap (rows_of l) (first-rows own n) ∙ rows-below (λ k. take 1 (own k)) (λ k. on-take k 1 (own k) (on k)) n l below)
+    (ap (rows_of l) (first-rows own n)
+    ∙ rows-below (λ k. take 1 (own k)) (λ k. on-take k 1 (own k) (on k)) n l below)
     (ap (λ lists. rows_of l (rounds m lists)) (map-map (drop 1) own (lines_below n))
     ∙ rounds-below m (λ k. drop 1 (own k)) (λ k. on-rest k (own k) (on k)) n l below)
     ∙ take-first m (own l)
@@ -108,9 +113,11 @@ rounds-above : (m : ℕ) (own : ℕ → List LoopRow) → ((k : ℕ) → AreOn k
 unfolding rounds
 rounds-above zero own on n l above = refl
 rounds-above (suc m) own on n l above =
-    of_line-append row_line l (flat_map (take 1) (lists_below own n)) (rounds m (map (drop 1) (lists_below own n)))
+    of_line-append row_line l (flat_map (take 1) (lists_below own n))
+    (rounds m (map (drop 1) (lists_below own n)))
     ∙ ap₂ (λ xs ys. xs ++ ys)
-    (ap (rows_of l) (first-rows own n) ∙ rows-above (λ k. take 1 (own k)) (λ k. on-take k 1 (own k) (on k)) n l above)
+    (ap (rows_of l) (first-rows own n)
+    ∙ rows-above (λ k. take 1 (own k)) (λ k. on-take k 1 (own k) (on k)) n l above)
     (ap (λ lists. rows_of l (rounds m lists)) (map-map (drop 1) own (lines_below n))
     ∙ rounds-above m (λ k. drop 1 (own k)) (λ k. on-rest k (own k) (on k)) n l above)
 
@@ -131,7 +138,8 @@ length-longest : (own : ℕ → List LoopRow) (n l : ℕ) → l < n → length (
 length-longest own zero l below = absurd (omega arith)
 length-longest own (suc n) l below =
     let (earlier, here) = longest-append (lists_below own n) (own n) in
-    let more : longest (lists_below own (suc n)) ≡ longest (lists_below own n ++ own n ∷ []) = ap longest (lists_below-more own n) in
+    let more : longest (lists_below own (suc n))
+    ≡ longest (lists_below own n ++ own n ∷ []) = ap longest (lists_below-more own n) in
     elim (cases_Bool (eqb n l)) [
       | inl e ↦
           let same : length (own n) ≡ length (own l) = ap (λ k. length (own k)) (eqb-true n l e) in
@@ -161,7 +169,8 @@ no-numbers (call ∷ calls) l are above =
 -- of each line the rows are those that it dials, where they are for the lines of the office and there
 -- are no others
 of-all-lines : (speed : Speed) (calls : List DialledCall) (rows : List LoopRow) → AreCalls calls
-    → ((l : ℕ) → l < LINES → rows_of l rows ≡ line_rows speed calls l) → ((l : ℕ) → LINES ≤ l → rows_of l rows ≡ [])
+    → ((l : ℕ) → l < LINES → rows_of l rows ≡ line_rows speed calls l)
+    → ((l : ℕ) → LINES ≤ l → rows_of l rows ≡ [])
     → AreDialled speed calls rows
 of-all-lines speed calls rows are below above l = at (ltb l LINES) refl
   where

@@ -34,7 +34,8 @@ err_is : {A E : Type 0} {x : A} {f : E} → ◌≡◌ {A = Result A E} (Err f) (
 err_is e = cc
 
 -- a line that is passed over
-pub passes_over : (whole : Option Plan) (n : ℕ) (line : List ℕ) (calls : List DialledCall) → is_passed_over line ≡ true
+pub passes_over : (whole : Option Plan) (n : ℕ) (line : List ℕ) (calls : List DialledCall)
+    → is_passed_over line ≡ true
     → TakesLine whole n line calls calls
 unfolding calls_from
 passes_over whole n line calls passed later = ap (after calls) (cond-true _ _ _ passed)
@@ -46,10 +47,12 @@ after-more calls call (Err f) = refl
 
 -- a line with a call
 pub takes_call : (whole : Option Plan) (n : ℕ) (line : List ℕ) (calls : List DialledCall) (call : DialledCall)
-    → is_passed_over line ≡ false → call_of_line whole n line ≡ Ok call → TakesLine whole n line calls (calls ++ call ∷ [])
+    → is_passed_over line ≡ false → call_of_line whole n line ≡ Ok call
+    → TakesLine whole n line calls (calls ++ call ∷ [])
 unfolding calls_from
 takes_call whole n line calls call read is later =
-    ap (after calls) (cond-false _ _ _ read ∙ ap (λ first. call_and_rest first (calls_from whole (n + 1) later)) is)
+    ap (after calls) (cond-false _ _ _ read
+    ∙ ap (λ first. call_and_rest first (calls_from whole (n + 1) later)) is)
     ∙ after-more calls call (calls_from whole (n + 1) later)
 
 -- a line with a fault
@@ -58,10 +61,12 @@ pub stops_by : (whole : Option Plan) (n : ℕ) (line : List ℕ) (f : CallFault)
 unfolding calls_from
 stops_by whole n line f read (inl memory) = inl memory
 stops_by whole n line f read (inr is) =
-    inr (λ later. cond-false _ _ _ read ∙ ap (λ first. call_and_rest first (calls_from whole (n + 1) later)) is)
+    inr (λ later. cond-false _ _ _ read
+    ∙ ap (λ first. call_and_rest first (calls_from whole (n + 1) later)) is)
 
 -- no text line is left
-pub calls_from-none : (whole : Option Plan) (n : ℕ) (calls : List DialledCall) → after calls (calls_from whole n []) ≡ Ok calls
+pub calls_from-none : (whole : Option Plan) (n : ℕ) (calls : List DialledCall)
+    → after calls (calls_from whole n []) ≡ Ok calls
 unfolding calls_from
 calls_from-none whole n calls = ap Ok (append-nil calls)
 
@@ -73,7 +78,8 @@ line-cut text line later e = at (nat_lt (position_or_len ends_line text) (length
     at : (there : Bool) → nat_lt (position_or_len ends_line text) (length text) ≡ there
         → lines_left (Some text) ≡ line ∷ lines_left (Some later)
     at true t =
-        let parts : (line, later) ≡ (before_first ends_line text, after_first ends_line text) = some_is (rw t at e) in
+        let parts : (line, later)
+        ≡ (before_first ends_line text, after_first ends_line text) = some_is (rw t at e) in
         slice_split_first ends_line text 0 (ltb-true _ _ t)
         ∙ ap (λ (p : List ℕ × List ℕ). p.0 ∷ slice_split ends_line p.1) (sym parts)
     at false t = absurd (none_is (sym (rw t at e)))
@@ -81,11 +87,13 @@ line-cut text line later e = at (nat_lt (position_or_len ends_line text) (length
 pub line-whole : (text : List ℕ) → None ≡ cut_at line_feed text → lines_left (Some text) ≡ text ∷ []
 line-whole text e = at (nat_lt (position_or_len ends_line text) (length text)) refl
   where
-    at : (there : Bool) → nat_lt (position_or_len ends_line text) (length text) ≡ there → lines_left (Some text) ≡ text ∷ []
+    at : (there : Bool) → nat_lt (position_or_len ends_line text) (length text) ≡ there
+        → lines_left (Some text) ≡ text ∷ []
     at true t = absurd (none_is (rw t at e))
     at false t =
         let all : length text ≤ position_or_len ends_line text = ltb-false _ _ t in
-        slice_split_none ends_line text (λ k byte m. let f = fails_before_first ends_line text k byte in grind (arith, common_steps))
+        slice_split_none ends_line text (λ k byte m. let f = fails_before_first ends_line text k byte in
+        grind (arith, common_steps))
 
 -- there are no more lines than bytes, and one
 pub few-lines : (text : List ℕ) → length (lines_left (Some text)) ≤ length text + 1
@@ -95,7 +103,8 @@ few-lines text =
     omega (arith, some, few)
 
 -- a number of the right length is complete
-complete-length : (n : ℕ) (len : Option ℕ) (count : ℕ) → length_fault n len count ≡ None → has_length len count ≡ true
+complete-length : (n : ℕ) (len : Option ℕ) (count : ℕ) → length_fault n len count ≡ None
+    → has_length len count ≡ true
 complete-length n None count h = absurd (none_is (sym h))
 complete-length n (Some len) count h = at (len == count) refl
   where
@@ -108,9 +117,11 @@ complete-length n (Some len) count h = at (len == count) refl
         other false l = none_is (sym (rw (e, l) at h))
 
 -- so a call whose number has no fault is complete
-complete-unless : (plan : Plan) (f : Option CallFault) (call read : DialledCall) → call_unless f call ≡ Ok read
+complete-unless : (plan : Plan) (f : Option CallFault) (call read : DialledCall)
+    → call_unless f call ≡ Ok read
     → (f ≡ None → is_complete plan call.digits ≡ true) → is_complete plan read.digits ≡ true
-complete-unless plan None call read is complete = subst (λ c. is_complete plan c.digits ≡ true) (ok_is is) (complete refl)
+complete-unless plan None call read is complete = subst (λ c. is_complete plan c.digits ≡ true) (ok_is is)
+    (complete refl)
 complete-unless plan (Some f) call read is complete = absurd (err_is is)
 
 complete-digits : (plan : Plan) (n line : ℕ) (digits : List ℕ) (read : DialledCall)
@@ -121,22 +132,26 @@ complete-digits plan n line (digit ∷ digits) read is =
     (complete-length n (plan_len plan (digit ∷ digits)) (length (digit ∷ digits)))
 
 complete-wrong : (plan : Plan) (n line : ℕ) (digits : Option (List ℕ)) (read : DialledCall)
-    → or_wrong_digit n digits (λ d. call_of_digits (Some plan) n line d) ≡ Ok read → is_complete plan read.digits ≡ true
+    → or_wrong_digit n digits (λ d. call_of_digits (Some plan) n line d) ≡ Ok read
+    → is_complete plan read.digits ≡ true
 complete-wrong plan n line None read is = absurd (err_is is)
 complete-wrong plan n line (Some digits) read is = complete-digits plan n line digits read is
 
 complete-fields : (plan : Plan) (n : ℕ) (line : Option ℕ) (digits : Option (List ℕ)) (read : DialledCall)
-    → or_fault (fault.Line n) line (λ l. or_wrong_digit n digits (λ d. call_of_digits (Some plan) n l d)) ≡ Ok read
+    → or_fault (fault.Line n) line (λ l. or_wrong_digit n digits (λ d. call_of_digits (Some plan) n l d))
+    ≡ Ok read
     → is_complete plan read.digits ≡ true
 complete-fields plan n None digits read is = absurd (err_is is)
 complete-fields plan n (Some line) digits read is = complete-wrong plan n line digits read is
 
-complete-call : (plan : Plan) (n : ℕ) (line : List ℕ) (read : DialledCall) → call_of_line (Some plan) n line ≡ Ok read
+complete-call : (plan : Plan) (n : ℕ) (line : List ℕ) (read : DialledCall)
+    → call_of_line (Some plan) n line ≡ Ok read
     → is_complete plan read.digits ≡ true
 complete-call plan n line read is =
     complete-fields plan n (line_of (two_fields line).0) (digits_of (two_fields line).1) read is
 
-complete-rest : (plan : Plan) (first : Result DialledCall CallFault) (rest : Result (List DialledCall) CallFault)
+complete-rest : (plan : Plan) (first : Result DialledCall CallFault)
+    (rest : Result (List DialledCall) CallFault)
     (calls : List DialledCall) → call_and_rest first rest ≡ Ok calls
     → ((call : DialledCall) → first ≡ Ok call → is_complete plan call.digits ≡ true)
     → ((later : List DialledCall) → rest ≡ Ok later → AreComplete plan later) → AreComplete plan calls
@@ -152,7 +167,8 @@ complete-lines plan n [] calls is = subst (AreComplete plan) (ok_is is) tt
 complete-lines plan n (line ∷ lines) calls is =
     at (complete-lines plan (n + 1) lines) (is_passed_over line) refl
   where
-    at : ((later : List DialledCall) → calls_from (Some plan) (n + 1) lines ≡ Ok later → AreComplete plan later)
+    at : ((later : List DialledCall) → calls_from (Some plan) (n + 1) lines ≡ Ok later
+        → AreComplete plan later)
         → (passed : Bool) → is_passed_over line ≡ passed → AreComplete plan calls
     at more true e = more calls (sym (cond-true _ _ _ e) ∙ is)
     at more false e =
@@ -160,7 +176,8 @@ complete-lines plan n (line ∷ lines) calls is =
         (sym (cond-false _ _ _ e) ∙ is) (λ call. complete-call plan n line call) more
 
 -- where a plan is given, each number of a text is complete by it
-pub numbers_are_complete : (whole : Option Plan) (text : List ℕ) (calls : List DialledCall) → calls_of_text whole text ≡ Ok calls
+pub numbers_are_complete : (whole : Option Plan) (text : List ℕ) (calls : List DialledCall)
+    → calls_of_text whole text ≡ Ok calls
     → IfSome whole (λ plan. AreComplete plan calls)
 numbers_are_complete None text calls is = tt
 numbers_are_complete (Some plan) text calls is = complete-lines plan 1 (text_lines text) calls is

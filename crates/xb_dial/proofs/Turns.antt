@@ -32,21 +32,25 @@ module _ {A : Type 0} where
       omega (arith, rest, first)
 
   -- rounds after the last item give nothing
-  rounds-enough : (m n : ℕ) (lists : List (List A)) → longest lists ≤ m → longest lists ≤ n → rounds m lists ≡ rounds n lists
+  rounds-enough : (m n : ℕ) (lists : List (List A)) → longest lists ≤ m → longest lists ≤ n
+      → rounds m lists ≡ rounds n lists
   unfolding rounds
   rounds-enough zero zero lists hm hn = refl
   rounds-enough zero (suc n) lists hm hn =
       let none : longest (map (drop 1) lists) ≤ 0 = longest-rest lists 0 (omega (arith, hm)) in
-      ap₂ (λ xs ys. xs ++ ys) (sym (no-firsts lists hm)) (rounds-enough zero n (map (drop 1) lists) none (omega (arith, none)))
+      ap₂ (λ xs ys. xs ++ ys) (sym (no-firsts lists hm))
+      (rounds-enough zero n (map (drop 1) lists) none (omega (arith, none)))
   rounds-enough (suc m) zero lists hm hn =
       let none : longest (map (drop 1) lists) ≤ 0 = longest-rest lists 0 (omega (arith, hn)) in
-      ap₂ (λ xs ys. xs ++ ys) (no-firsts lists hn) (rounds-enough m zero (map (drop 1) lists) (omega (arith, none)) none)
+      ap₂ (λ xs ys. xs ++ ys) (no-firsts lists hn)
+      (rounds-enough m zero (map (drop 1) lists) (omega (arith, none)) none)
   rounds-enough (suc m) (suc n) lists hm hn =
       ap (λ ys. flat_map (take 1) lists ++ ys)
       (rounds-enough m n (map (drop 1) lists) (longest-rest lists m hm) (longest-rest lists n hn))
 
   -- an empty list has no first item
-  firsts-without_empty : (lists : List (List A)) → flat_map (take 1) (without_empty lists) ≡ flat_map (take 1) lists
+  firsts-without_empty : (lists : List (List A))
+      → flat_map (take 1) (without_empty lists) ≡ flat_map (take 1) lists
   firsts-without_empty [] = refl
   firsts-without_empty ([] ∷ lists) = firsts-without_empty lists
   firsts-without_empty ((x ∷ xs) ∷ lists) = ap (λ ys. x ∷ ys) (firsts-without_empty lists)
@@ -78,23 +82,28 @@ module _ {A : Type 0} where
 
   in_turn-without_empty : (lists : List (List A)) → in_turn (without_empty lists) ≡ in_turn lists
   in_turn-without_empty lists =
-      ap (λ n. rounds n (without_empty lists)) (longest-without_empty lists) ∙ rounds-without_empty (longest lists) lists
+      ap (λ n. rounds n (without_empty lists)) (longest-without_empty lists)
+      ∙ rounds-without_empty (longest lists) lists
 
   -- a round, and then the others
-  rounds-more : (lists : List (List A)) → in_turn lists ≡ flat_map (take 1) lists ++ in_turn (map (drop 1) lists)
+  rounds-more : (lists : List (List A))
+      → in_turn lists ≡ flat_map (take 1) lists ++ in_turn (map (drop 1) lists)
   unfolding rounds
   rounds-more lists =
       let n = longest lists in
       let rest : longest (map (drop 1) lists) ≤ n = longest-rest lists n (omega arith) in
       rounds-enough n (suc n) lists (omega arith) (omega arith)
-      ∙ ap (λ ys. flat_map (take 1) lists ++ ys) (rounds-enough n (longest (map (drop 1) lists)) (map (drop 1) lists) rest (omega arith))
+      ∙ ap (λ ys. flat_map (take 1) lists ++ ys)
+      (rounds-enough n (longest (map (drop 1) lists)) (map (drop 1) lists) rest (omega arith))
 
   pub in_turn-round : (lists : List (List A))
       → in_turn lists ≡ flat_map (take 1) lists ++ in_turn (without_empty (map (drop 1) lists))
-  in_turn-round lists = rounds-more lists ∙ ap (λ ys. flat_map (take 1) lists ++ ys) (sym (in_turn-without_empty (map (drop 1) lists)))
+  in_turn-round lists = rounds-more lists
+      ∙ ap (λ ys. flat_map (take 1) lists ++ ys) (sym (in_turn-without_empty (map (drop 1) lists)))
 
   -- a round leaves no more than there was
-  rest-no-more : (lists : List (List A)) → items_and_lists (without_empty (map (drop 1) lists)) ≤ items_and_lists lists
+  rest-no-more : (lists : List (List A))
+      → items_and_lists (without_empty (map (drop 1) lists)) ≤ items_and_lists lists
   rest-no-more [] = omega arith
   rest-no-more ([] ∷ lists) = le_trans (rest-no-more lists) (omega arith)
   rest-no-more ((x ∷ []) ∷ lists) = le_trans (rest-no-more lists) (omega arith)
@@ -108,14 +117,16 @@ module _ {A : Type 0} where
   rest-less (x ∷ y ∷ xs) lists = let rest = rest-no-more lists in omega (arith, rest)
 
 -- what is left of lists after a round is less
-pub turn-smaller : (lists left : List (List LoopRow)) → 0 < length lists → left ≡ without_empty (map (drop 1) lists)
+pub turn-smaller : (lists left : List (List LoopRow)) → 0 < length lists
+    → left ≡ without_empty (map (drop 1) lists)
     → items_and_lists left < items_and_lists lists
 turn-smaller [] left some is = absurd (omega arith)
 turn-smaller (xs ∷ lists) left some is =
     subst (λ rest. items_and_lists rest < items_and_lists (xs ∷ lists)) (sym is) (rest-less xs lists)
 
 -- the rows so far, and those of the rounds to come, after a round more
-pub turn-more : (lists left : List (List LoopRow)) (rows next whole : List LoopRow) → rows ++ in_turn lists ≡ whole
+pub turn-more : (lists left : List (List LoopRow)) (rows next whole : List LoopRow)
+    → rows ++ in_turn lists ≡ whole
     → next ≡ rows ++ flat_map (take 1) lists → left ≡ without_empty (map (drop 1) lists)
     → next ++ in_turn left ≡ whole
 turn-more lists left rows next whole so_far taken is =
@@ -125,7 +136,8 @@ turn-more lists left rows next whole so_far taken is =
     ∙ so_far
 
 -- no list, no rows
-pub turn-last : (lists : List (List LoopRow)) (rows whole : List LoopRow) → rows ++ in_turn lists ≡ whole → length lists ≡ 0
+pub turn-last : (lists : List (List LoopRow)) (rows whole : List LoopRow) → rows ++ in_turn lists ≡ whole
+    → length lists ≡ 0
     → rows ≡ whole
 unfolding rounds
 turn-last [] rows whole so_far none = sym (append-nil rows) ∙ so_far

@@ -54,13 +54,15 @@ digit_bytes field = filter (λ byte. not (is_grouping byte)) field
 -- the digits that a field writes, where it has no other byte
 abbrev pub digits_of : List ℕ → Option (List ℕ)
 digits_of field =
-    if all_ascii_digits (digit_bytes field) then Some (map (λ byte. byte - zero_byte) (digit_bytes field)) else None
+    if all_ascii_digits (digit_bytes field) then Some (map (λ byte. byte - zero_byte) (digit_bytes field))
+    else None
 
 -- of so many digits, whose number has this length: they are fewer, or more
 abbrev pub length_fault : ℕ → Option ℕ → ℕ → Option CallFault
 length_fault n None count = Some (fault.Unfinished n)
 length_fault n (Some len) count =
-    if len == count then None else (if nat_lt count len then Some (fault.Unfinished n) else Some (fault.GoesOn n))
+    if len == count then None else (if nat_lt count len then Some (fault.Unfinished n) else Some
+    (fault.GoesOn n))
 
 -- where a plan is given, the number is complete by it
 abbrev pub number_fault : Option Plan → ℕ → List ℕ → Option CallFault
@@ -82,7 +84,8 @@ abbrev pub or_fault : CallFault → Option ℕ → (ℕ → Result DialledCall C
 or_fault f None next = Err f
 or_fault f (Some x) next = next x
 
-abbrev pub or_wrong_digit : ℕ → Option (List ℕ) → (List ℕ → Result DialledCall CallFault) → Result DialledCall CallFault
+abbrev pub or_wrong_digit : ℕ → Option (List ℕ) → (List ℕ → Result DialledCall CallFault)
+    → Result DialledCall CallFault
 or_wrong_digit n None next = Err (fault.Digit n)
 or_wrong_digit n (Some digits) next = next digits
 
@@ -97,7 +100,8 @@ abbrev pub call_of_line : Option Plan → ℕ → List ℕ → Result DialledCal
 call_of_line whole n line = call_of_fields whole n (two_fields line)
 
 -- a call before the later ones, or the first fault
-abbrev pub call_and_rest : Result DialledCall CallFault → Result (List DialledCall) CallFault → Result (List DialledCall) CallFault
+abbrev pub call_and_rest : Result DialledCall CallFault → Result (List DialledCall) CallFault
+    → Result (List DialledCall) CallFault
 call_and_rest (Err f) rest = Err f
 call_and_rest (Ok call) (Err f) = Err f
 call_and_rest (Ok call) (Ok calls) = Ok (call ∷ calls)

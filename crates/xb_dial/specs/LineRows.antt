@@ -40,6 +40,7 @@ abbrev pub without_empty : {A : Type 0} → List (List A) → List (List A)
 without_empty lists = filter has_items lists
 
 -- the first row of each list stands after the earlier rows, and the others are left
-pub record Takes (lists : List (List LoopRow)) (old new : List LoopRow) (left : List (List LoopRow)) : Type 0 where
-  pub rows : new ≡ old ++ flat_map (take 1) lists
-  pub left_is : left ≡ without_empty (map (drop 1) lists)
+pub record Takes (lists : List (List LoopRow)) (old new : List LoopRow) (left : List (List LoopRow)) : Type 0
+  where
+    pub rows : new ≡ old ++ flat_map (take 1) lists
+    pub left_is : left ≡ without_empty (map (drop 1) lists)

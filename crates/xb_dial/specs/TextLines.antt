@@ -13,14 +13,16 @@ lines_left None = []
 lines_left (Some text) = slice_split (λ byte. byte == line_feed) text
 
 -- calls after earlier ones, or their fault
-abbrev pub after : List DialledCall → Result (List DialledCall) CallFault → Result (List DialledCall) CallFault
+abbrev pub after : List DialledCall → Result (List DialledCall) CallFault
+    → Result (List DialledCall) CallFault
 after earlier (Ok later) = Ok (earlier ++ later)
 after earlier (Err f) = Err f
 
 -- a text line is taken, whatever lines come after it
 abbrev pub TakesLine : Option Plan → ℕ → List ℕ → List DialledCall → List DialledCall → Type 0
 TakesLine whole n line old new =
-    (later : List (List ℕ)) → after old (calls_from whole n (line ∷ later)) ≡ after new (calls_from whole (n + 1) later)
+    (later : List (List ℕ))
+    → after old (calls_from whole n (line ∷ later)) ≡ after new (calls_from whole (n + 1) later)
 
 -- a text line has a fault, whatever lines come after it; or memory ran out
 abbrev pub StopsBy : Option Plan → ℕ → List ℕ → CallFault → Type 0

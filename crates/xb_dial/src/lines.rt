@@ -60,7 +60,8 @@ fn take_round<'a>(
     rows: &mut Vec<Row>,
     lists: &[&'a [Row]],
 ) -> Result<Vec<&'a [Row]>, AllocError>
-    ensures { IfOk result (λ left. Takes (lists_of lists.now) rows.old.items rows.new.items (lists_of left.items)) }
+    ensures { let given = lists_of lists.now in
+        IfOk result (λ left. Takes given rows.old.items rows.new.items (lists_of left.items)) }
 {
     let mut left = Vec::new(alloc);
     for list in lists {

@@ -1,6 +1,6 @@
 // The rows of texts, and their faults.
 use crate::rows::read_text;
-use crate::{Scan, read_rows};
+use crate::{Scan, line_of, read_rows};
 use std::alloc::{AllocError, Global};
 use std::process::Abort;
 use std::test::Fail;
@@ -213,4 +213,13 @@ fn reads_a_million_records(rt: HostRuntime) -> Result<(), Fail> {
     let mut reader = text.as_slice();
     assert!(rt; read_rows(alloc, &mut reader).err() == Some(RowFault::TooMany));
     Ok(())
+}
+
+#[test]
+fn reads_the_line_of_a_field(rt: HostRuntime) {
+    assert_eq!(rt; line_of(b"0042").map(|line| line.get()), Some(42));
+    assert_eq!(rt; line_of(b"9999").map(|line| line.get()), Some(9999));
+    for field in [b"".as_slice(), b"10000", b"+5", b" 5", b"5 "] {
+        assert!(rt; line_of(field).is_none());
+    }
 }

@@ -25,12 +25,16 @@ returns-clause-taken c =
 pub returns-clause-say : goal.returns-clause-say
 returns-clause-say c =
     let is = c.in_ok-command.ensures in
-    let rows : rows_of (found_of c.in_ok-matches.matches) ≡ matches_of command_of_words (texts_of c.args.words.now) =
-    (c.in_ok-matches.ensures.matches (ap is_simple is ∙ is_plain)).0 ∙ ap (λ app. matches_of app (texts_of c.args.words.now)) is in
-    let number : (name : List ℕ) (n : Option ℕ) → ReadsNumber (given_by (rows_of (found_of c.in_ok-matches.matches)) name) n
+    let rows : rows_of (found_of c.in_ok-matches.matches)
+    ≡ matches_of command_of_words (texts_of c.args.words.now) =
+    (c.in_ok-matches.ensures.matches (ap is_simple is ∙ is_plain)).0
+    ∙ ap (λ app. matches_of app (texts_of c.args.words.now)) is in
+    let number : (name : List ℕ) (n : Option ℕ)
+    → ReadsNumber (given_by (rows_of (found_of c.in_ok-matches.matches)) name) n
     → ReadsNumber (given_by (matches_of command_of_words (texts_of c.args.words.now)) name) n =
     λ name n. subst (λ all. ReadsNumber (given_by all name) n) rows in
-    let flag : (name : List ℕ) (b : Bool) → ReadsFlag (given_by (rows_of (found_of c.in_ok-matches.matches)) name) b
+    let flag : (name : List ℕ) (b : Bool)
+    → ReadsFlag (given_by (rows_of (found_of c.in_ok-matches.matches)) name) b
     → ReadsFlag (given_by (matches_of command_of_words (texts_of c.args.words.now)) name) b =
     λ name b. subst (λ all. ReadsFlag (given_by all name) b) rows in
     record {

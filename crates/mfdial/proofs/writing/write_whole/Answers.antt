@@ -5,8 +5,10 @@ use Rattle.std.proofs.KnownBytes.{Appends-trans}
 use Rattle.mfdial.proofs.writing.write_whole.Goals as goal
 
 -- the beginning so far, and the part of the rest that was taken
-beginnings : (at n : ℕ) (text : List ℕ) → at ≤ length text → n ≤ length (take (length text - at) (drop at text))
-    → (at + n ≤ length text) × (take at text ++ take n (take (length text - at) (drop at text)) ≡ take (at + n) text)
+beginnings : (at n : ℕ) (text : List ℕ) → at ≤ length text
+    → n ≤ length (take (length text - at) (drop at text))
+    → (at + n ≤ length text)
+    × (take at text ++ take n (take (length text - at) (drop at text)) ≡ take (at + n) text)
 beginnings at n text h b =
     let c : n ≤ length (drop at text) = rw (take_rest text at) at b in
     (omega (arith, length-drop at text), rw (take_rest text at) (sym (take-add at n text)))

@@ -9,12 +9,15 @@ loop-byte-preserved c =
     let i = c.loop-byte.byte-index in
     elim c.if-not-is_grouping.branch [
       | then-not-is_grouping+in_ok-digit+else-is_err w ↦
-          let items : w.push.new.self.items ≡ c.loop-byte.digits.items ++ w.in_ok-digit.digit ∷ [] = search rules in
+          let items : w.push.new.self.items
+          ≡ c.loop-byte.digits.items ++ w.in_ok-digit.digit ∷ [] = search rules in
           let digit = sym w.digit_of.ensures ∙ w.in_ok-digit.ensures.ok_part in
           subst (IsRestOf field (i + 1)) (sym (ap (λ v. v.items) w.digits-is ∙ items))
-          (IsRestOf-digit field i c.loop-byte.digits.items w.in_ok-digit.digit c.loop-byte-test.true c.loop-byte.invariant
+          (IsRestOf-digit field i c.loop-byte.digits.items w.in_ok-digit.digit c.loop-byte-test.true
+          c.loop-byte.invariant
           (sym w.if-not-is_grouping.ensures) digit)
       | else-not-is_grouping w ↦
           subst (IsRestOf field (i + 1)) (sym (ap (λ v. v.items) w.digits-is))
-          (IsRestOf-grouping field i c.loop-byte.digits.items c.loop-byte-test.true c.loop-byte.invariant (sym w.if-not-is_grouping.ensures))
+          (IsRestOf-grouping field i c.loop-byte.digits.items c.loop-byte-test.true c.loop-byte.invariant
+          (sym w.if-not-is_grouping.ensures))
     ]

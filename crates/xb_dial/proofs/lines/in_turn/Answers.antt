@@ -18,7 +18,8 @@ loop-alloc-preserved c =
     let refs = c.loop-alloc.left.items in
     let rows = c.in_ok-left.ensures.rows in
     let left = c.in_ok-left.ensures.left_is in
-    turn-more (lists_of refs) (lists_of c.in_ok-left.left.items) c.loop-alloc.rows.items c.take_round.new.rows.items _
+    turn-more (lists_of refs) (lists_of c.in_ok-left.left.items) c.loop-alloc.rows.items
+    c.take_round.new.rows.items _
     c.loop-alloc.invariant (rw c.deref.ensures.value at rows) (rw c.deref.ensures.value at left)
 
 pub returns : goal.returns

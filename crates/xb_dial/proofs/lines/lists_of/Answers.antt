@@ -9,7 +9,8 @@ loop-line-preserved c =
     let lines = c.args.lines.now in
     let n : ℕ = length c.loop-line.yielded in
     let t = IsLeft-turn lines n _ _ _ _ c.loop-line.invariant.left c.in-Some.ensures.steps in
-    let more : length (c.loop-line.yielded ++ (c.in-Some._line, c.in-Some.rows) ∷ []) ≡ n + 1 = length_push _ _ in
+    let more : length (c.loop-line.yielded ++ (c.in-Some._line, c.in-Some.rows) ∷ [])
+    ≡ n + 1 = length_push _ _ in
     let first = c.in-Some.rows.now in
     record {
       can = tt;
@@ -28,4 +29,5 @@ pub returns : goal.returns
 returns c =
     let lines = c.args.lines.now in
     let whole = IsLeft-end lines _ _ c.loop-line.invariant.left c.in-None.ensures.steps.0 in
-    c.loop-line.invariant.lists ∙ ap (map (λ rows. rows.items)) (take_all (length c.loop-line.yielded) lines (omega (arith, whole)))
+    c.loop-line.invariant.lists
+    ∙ ap (map (λ rows. rows.items)) (take_all (length c.loop-line.yielded) lines (omega (arith, whole)))

@@ -11,7 +11,9 @@ if_ok (Ok x) then h = then x h
 if_ok (Err e) then h = tt
 
 pub returns-clause-rows : goal.returns-clause-rows
-returns-clause-rows c = if_ok c.in_order.result (λ rows is. is ∙ ap (in_order c.args.order) (c.in_ok-lists.ensures ∙ c.in_ok-lines.ensures.rows)) c.in_order.ensures
+returns-clause-rows c = if_ok c.in_order.result
+    (λ rows is. is ∙ ap (in_order c.args.order) (c.in_ok-lists.ensures ∙ c.in_ok-lines.ensures.rows))
+    c.in_order.ensures
 
 pub returns-clause-lines : goal.returns-clause-lines
 returns-clause-lines c =

@@ -19,7 +19,9 @@ pub returns-clause-calls : goal.returns-clause-calls
 returns-clause-calls c =
     let n = c.loop-left.n + 1 in
     c.loop-left.invariant.calls
-    ∙ ap (λ left. after c.loop-left.calls.items (calls_from c.args.whole n (map strip_carriage_return (lines_left (option_copied left))))) c.in_default.is
+    ∙ ap (λ left. after c.loop-left.calls.items
+    (calls_from c.args.whole n (map strip_carriage_return (lines_left (option_copied left)))))
+    c.in_default.is
     ∙ calls_from-none c.args.whole n c.loop-left.calls.items
 
 pub returns-clause-complete : goal.returns-clause-complete

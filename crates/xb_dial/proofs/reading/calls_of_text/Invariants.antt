@@ -9,7 +9,8 @@ abbrev pub invariant-loop-left : goal.invariant-loop-left
 invariant-loop-left l = record {
   calls :
       calls_of_text l.fn.whole l.fn.text
-      ≡ after l.calls.items (calls_from l.fn.whole (l.n + 1) (map strip_carriage_return (lines_left (option_copied l.left))));
+      ≡ after l.calls.items (calls_from l.fn.whole (l.n + 1)
+      (map strip_carriage_return (lines_left (option_copied l.left))));
   few : l.n + length (lines_left (option_copied l.left)) ≤ length l.fn.text + 1;
 }
 

@@ -13,8 +13,12 @@ loop-digit-preserved c =
     let now : c.digits-digit-items.result.now ≡ digits = c.digits-digit-items.ensures in
     let below : i < length digits = subst (λ all. i < length all) now c.loop-digit-test.true in
     let is : digit ≡ get_or digits i digit = c.digit-item.is ∙ ap (λ all. get_or all i digit) now in
-    let made = c.in_ok-push_digit.ensures.rows ∙ ap (λ l. c.loop-digit.rows.items ++ on_line l (digit_runs c.args.speed digit)) c.line-line.ensures in
+    let made = c.in_ok-push_digit.ensures.rows
+    ∙ ap (λ l. c.loop-digit.rows.items ++ on_line l (digit_runs c.args.speed digit)) c.line-line.ensures
+    in
     record {
-      rows = digit-more c.args.speed c.args.call.now.line i digits digit c.args.rows.now.items c.loop-digit.rows.items c.push_digit.new.rows.items below is c.loop-digit.invariant.rows made;
-      digits = All-more (λ d. d < DIGITS) digits i digit below c.loop-digit.invariant.digits (subst (λ d. d < DIGITS) is c.in_ok-push_digit.ensures.below);
+      rows = digit-more c.args.speed c.args.call.now.line i digits digit c.args.rows.now.items
+          c.loop-digit.rows.items c.push_digit.new.rows.items below is c.loop-digit.invariant.rows made;
+      digits = All-more (λ d. d < DIGITS) digits i digit below c.loop-digit.invariant.digits
+          (subst (λ d. d < DIGITS) is c.in_ok-push_digit.ensures.below);
     }

@@ -9,6 +9,8 @@ abbrev pub invariant-loop-digit : goal.invariant-loop-digit
 invariant-loop-digit l = record {
   rows :
       l.rows.items
-      ≡ l.fn.rows.items ++ on_line l.fn.call.line (make l.speed.seize_ms ∷ flat_map (digit_runs l.speed) (take l.digit-index l.fn.call.digits));
+      ≡ l.fn.rows.items
+      ++ on_line l.fn.call.line (make l.speed.seize_ms ∷ flat_map (digit_runs l.speed)
+      (take l.digit-index l.fn.call.digits));
   digits : AreDigits (take l.digit-index l.fn.call.digits);
 }

@@ -7,9 +7,11 @@ loop-pulse-preserved c =
     record {
       within = omega arith;
       rows =
-          pulse-more c.args.speed c.args.line _ c.loop-pulse._pulse c.args.rows.now.items c.loop-pulse.rows.items
+          pulse-more c.args.speed c.args.line _ c.loop-pulse._pulse c.args.rows.now.items
+          c.loop-pulse.rows.items
           c.push_run.new.rows.items c.push_run-in-loop-pulse.new.rows.items
-          c.loop-pulse.auto._pulse (omega arith) c.loop-pulse.invariant.rows c.in_ok-push_run.ensures c.in_ok-push_run-2.ensures;
+          c.loop-pulse.auto._pulse (omega arith) c.loop-pulse.invariant.rows c.in_ok-push_run.ensures
+          c.in_ok-push_run-2.ensures;
     }
 
 -- what follows from what a call ensures at Ok
@@ -20,7 +22,8 @@ on_ok (Err e) then h = tt
 pub returns-clause-rows : goal.returns-clause-rows
 returns-clause-rows c =
     on_ok c.push_run-3.result
-    (λ last. pulse-last c.args.speed c.args.line _ c.loop-pulse._pulse c.args.rows.now.items c.loop-pulse.rows.items
+    (λ last. pulse-last c.args.speed c.args.line _ c.loop-pulse._pulse c.args.rows.now.items
+    c.loop-pulse.rows.items
     c.push_run-2.new.rows.items c.push_run-3.new.rows.items c.loop-pulse.invariant.within (omega arith)
     c.loop-pulse.invariant.rows c.in_ok-push_run-3.ensures last)
     c.push_run-3.ensures

@@ -28,6 +28,7 @@ loop-row-preserved c =
 pub returns-clause-read : goal.returns-clause-read
 returns-clause-read c = λ few.
     let rows : List LoopRow = c.args.rows.now in
-    let whole : take c.loop-row.row-index rows ≡ rows = take_all c.loop-row.row-index rows c.loop-row-test.false in
+    let whole : take c.loop-row.row-index rows
+    ≡ rows = take_all c.loop-row.row-index rows c.loop-row-test.false in
     ap rest_of_text (c.loop-row.invariant.text ∙ ap rows_text whole)
     ∙ rows_text-read rows (subst (All IsLawfulRow) whole c.loop-row.invariant.lawful) few
