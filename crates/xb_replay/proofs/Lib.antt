@@ -1,6 +1,6 @@
 pub mod BranchEvents
-pub mod BranchWorlds
 pub mod BranchLists
+pub mod BranchWorlds
 pub mod Events
 pub mod Feeds
 pub mod LookSteps
@@ -9,4 +9,5 @@ pub mod Prefixes
 pub mod Returns
 pub mod Sent
 pub mod Sets
+pub mod Waiting
 pub mod Worlds

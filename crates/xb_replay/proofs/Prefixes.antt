@@ -81,6 +81,10 @@ line-prefix l some all p = (
       ∙ ap (λ ms. whats_of (of_line on_line_of l ms)) p.1,
 )
 
+-- what stands for no sender
+abbrev pub no_sender : World → SenderPost
+no_sender w = record { stage = record {}; consumer = w.deal.consumer; producer = w.gather.producer; pending = [] }
+
 module _ (w : World) (r : RingLaws w) (k : PostLaws w) where
   abbrev fed_rows : List LoopRow
   fed_rows = fed w.rows None
@@ -134,24 +138,21 @@ module _ (w : World) (r : RingLaws w) (k : PostLaws w) where
       (station-prefix on_line_of (translate_machine w.table.routes) (received w.translate.consumer) (sent w.translate.producer) w.translate.pending k.translate dialled dialled-prefix)
 
   -- ---- one branch
-  abbrev no_sender : SenderPost
-  no_sender = record { stage = record {}; consumer = w.deal.consumer; producer = w.gather.producer; pending = [] }
-
   module _ (j : ℕ) (below : j < branches) where
     abbrev output : Output (On Order)
     output = get_or w.deal.producers j w.translate.producer
 
     abbrev sender : SenderPost
-    sender = get_or w.senders j no_sender
+    sender = get_or w.senders j (no_sender w)
 
     abbrev input : Input (On Mark)
     input = get_or w.gather.consumers j w.tape.consumer
 
     dealt_ring : IsRing output sender.consumer
-    dealt_ring = r.dealt j w.translate.producer no_sender below
+    dealt_ring = r.dealt j w.translate.producer (no_sender w) below
 
     keyed_ring : IsRing sender.producer input
-    keyed_ring = r.keyed j no_sender w.tape.consumer below
+    keyed_ring = r.keyed j (no_sender w) w.tape.consumer below
 
     in_deal : j < length w.deal.producers
     in_deal = subst (λ n. j < n) (sym r.outputs) below
@@ -167,7 +168,7 @@ module _ (w : World) (r : RingLaws w) (k : PostLaws w) where
         prefix_on (items_of (received input)) (items_of (sent sender.producer)) (flat_map keyed (dealt branches j taken))
         (ring-prefix sender.producer input keyed_ring)
         (subst (IsPrefix (items_of (sent sender.producer))) (sends-of (dealt branches j taken))
-        (station-prefix on_line_of sender_machine (received sender.consumer) (sent sender.producer) sender.pending (k.senders j no_sender below) (dealt branches j taken) dealt-prefix))
+        (station-prefix on_line_of sender_machine (received sender.consumer) (sent sender.producer) sender.pending (k.senders j (no_sender w) below) (dealt branches j taken) dealt-prefix))
 
     -- once the gather has the branch's End
     module _ (end : has_end (received input) ≡ true) where
@@ -175,7 +176,7 @@ module _ (w : World) (r : RingLaws w) (k : PostLaws w) where
       sender-end = (ring-whole sender.producer input keyed_ring end).1
 
       sender-whole : (has_end (received sender.consumer) ≡ true) × (items_of (received sender.consumer) ≡ dealt branches j taken → items_of (sent sender.producer) ≡ image on_line_of sender_machine (dealt branches j taken))
-      sender-whole = station-whole on_line_of sender_machine (received sender.consumer) (sent sender.producer) sender.pending (k.senders j no_sender below) (dealt branches j taken) sender-end
+      sender-whole = station-whole on_line_of sender_machine (received sender.consumer) (sent sender.producer) sender.pending (k.senders j (no_sender w) below) (dealt branches j taken) sender-end
 
       output-end : has_end (sent output) ≡ true
       output-end = (ring-whole output sender.consumer dealt_ring sender-whole.0).1
@@ -313,7 +314,7 @@ module _ (w : World) (r : RingLaws w) (k : PostLaws w) where
         subst (λ o. has_end (sent o) ≡ true) (any-default w.deal.producers j w.translate.producer p h) (output-end j below (input-end j below))
     all-ended (posts.Send j) there = (
       there,
-      λ s. subst (λ (z : SenderPost). has_end (sent z.producer) ≡ true) (any-default w.senders j no_sender s there) (sender-end j there (input-end j there)),
+      λ s. subst (λ (z : SenderPost). has_end (sent z.producer) ≡ true) (any-default w.senders j (no_sender w) s there) (sender-end j there (input-end j there)),
     )
     all-ended posts.Gather there = gather-end
     all-ended posts.Tape there = tape-end

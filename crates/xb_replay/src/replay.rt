@@ -66,10 +66,10 @@ impl<'a> Replay<'a> {
     ghost use Rattle.xb_ring.specs.declared.branches.TheConstants.{MOST_BRANCHES};
     ghost use Rattle.xb_ring.specs.declared.ends.TheConstants.{GREATEST_CAPACITY};
     ghost use Rattle.xb_ring.specs.declared.post.Post.TheVariants as posts;
-    ghost use Rattle.xb_ring.specs.declared.turn.Turn.TheVariants.{Ended};
+    ghost use Rattle.xb_ring.specs.declared.turn.Turn.TheVariants.{Idle, Ended};
     ghost use Rattle.xb_replay.specs.Blank.{IsBlank};
     ghost use Rattle.xb_replay.specs.Marks.{marks_of, whole_tape, ArePrefixes, AreWhole};
-    ghost use Rattle.xb_replay.specs.Turns.{SameRecords, HasEnded, AllEnded, Stays, OthersStay, IsTurn, HasTurned, HasRefused};
+    ghost use Rattle.xb_replay.specs.Turns.{SameRecords, Waits, HasEnded, AllEnded, Stays, OthersStay, IsTurn, HasTurned, HasRefused};
     ghost use Rattle.xb_replay.specs.World.{WorldLaw};
 
     /// All posts, with 1 to 8 senders, on new rings with room for 1 to 1,024 items each. Nothing was
@@ -130,6 +130,8 @@ impl<'a> Replay<'a> {
         ensures records { SameRecords self.old self.new }
         ensures event { IfOk result (λ turn. IsTurn self.old post turn self.new) }
         ensures ended { (result ≡ Ok Ended) ↔ HasEnded self.old post }
+        ensures idle { IfOk result (λ turn.
+            Waits self.old post → (HasEnded self.old post → ⊥) → turn ≡ Idle) }
         ensures refused { OnErr result ((post ≡ posts.Tape) × Stays self.old post self.new) }
         ensures others { OthersStay self.old post self.new }
         ensures prefixes { ArePrefixes self.new }
