@@ -188,7 +188,18 @@ module _ {T : Type 0} (ends : T → Bool) (ins : List (List (Flow T))) (outs : L
       at Ends m = λ k h. absurd (cc (sym (none 0 g.least) ∙ m.1 0 g.least))
       at Over m = λ k h. absurd (cc (sym (none 0 g.least) ∙ m.1 0 g.least))
 
-  pub gather_law : GatherLawOf ends ins outs held
+  -- where an item is wanted, it is of an input that is there
+  awaits_below : Awaits held → place < length ins
+  awaits_below = at held refl
+    where
+      at : (h : Gathered T) → held ≡ h → Awaits h → place < length ins
+      at Wants e a = wants_below e
+      at (One x) e a = absurd a
+      at (Closing first) e a = let c = subst (λ k. HasGathered ends (length ins) k ins place g.items) e g.gathered in c.1
+      at Ends e a = absurd a
+      at Over e a = absurd a
+
+  pub gather_law : GatherLawOf ends ins outs held place
   gather_law = record {
     least = g.least;
     most = g.most;
@@ -198,6 +209,7 @@ module _ {T : Type 0} (ends : T → Bool) (ins : List (List (Flow T))) (outs : L
         ∙ ap (flow_of (merged ends (length ins) (items_at ins))) ended_all);
     formed = g.formed;
     none_left_out = left_out;
+    within = awaits_below;
   }
 
   -- the End was sent where the gather is over
@@ -257,9 +269,9 @@ gather_ended ends old new Moved g t = (λ e. absurd (cc e), λ h. ⊎_elim (λ u
 gather_ended ends old new Ended g t = (λ e. over_sent ends _ _ _ _ g t.1, λ h. refl)
 
 -- a gather that is over has merged all
-pub gather_whole : {T : Type 0} (ends : T → Bool) (ins : List (List (Flow T))) (outs : List (Flow T)) (held : Gathered T)
-    → GatherLawOf ends ins outs held → held ≡ Over → has_end outs ≡ true → HasMergedOf ends ins outs held
-gather_whole ends ins outs held l e h =
+pub gather_whole : {T : Type 0} (ends : T → Bool) (ins : List (List (Flow T))) (outs : List (Flow T)) (held : Gathered T) (place : ℕ)
+    → GatherLawOf ends ins outs held place → held ≡ Over → has_end outs ≡ true → HasMergedOf ends ins outs held
+gather_whole ends ins outs held place l e h =
     let all : list_all has_end ins ≡ true = (flow-whole outs (to_send held) (merged ends (length ins) (items_at ins)) (list_all has_end ins) l.law h).1 in
     record {
       inputs = λ j k. l.formed j k ∙ ap (flow_of (items_of (get_or ins j []))) (AllPass-from_list_all has_end ins all j [] k);

@@ -24,8 +24,9 @@ pub record GatherView (C P T : Type 0) : Type 0 where
 module _ {T : Type 0} (ends : T → Bool) where
   -- what was sent, followed by what is held, is merged of what was received, and once the End of
   -- every input was received one End; before the first End nothing was received that merging leaves
-  -- out
-  pub record GatherLawOf (ins : List (List (Flow T))) (outs : List (Flow T)) (held : Gathered T)
+  -- out; where an item is wanted, it is of an input that is there
+  pub record GatherLawOf
+      (ins : List (List (Flow T))) (outs : List (Flow T)) (held : Gathered T) (place : ℕ)
       : Type 0 where
     pub least : 1 ≤ length ins
     pub most : length ins ≤ MOST_BRANCHES
@@ -33,6 +34,7 @@ module _ {T : Type 0} (ends : T → Bool) where
     pub formed : (j : ℕ) → j < length ins → IsFlow (slice_index_or ins j [])
     pub none_left_out : ((j : ℕ) → j < length ins → ended_in ins j ≡ false) →
         (k : ℕ) → stop ends (length ins) (items_at ins) < k → piece_at ends (length ins) (items_at ins) k ≡ []
+    pub within : Awaits held → place < length ins
 
   -- of each input all was received, up to and with one End, and what is merged of that was sent, with
   -- one End; nothing is held
@@ -49,7 +51,7 @@ GatherOf T A P Q = GatherView (Consumer (Flow T) A P) (Producer (Flow T) A Q) T
 module _ {T A P Q : Type 0} where
   -- the law of a gather, over what its ends received and sent
   abbrev pub GatherLaw : (T → Bool) → GatherOf T A P Q → Type 0
-  GatherLaw ends g = GatherLawOf ends (map received g.consumers) (sent g.producer) g.held
+  GatherLaw ends g = GatherLawOf ends (map received g.consumers) (sent g.producer) g.held g.place
 
   -- what holds of a gather that has ended, over what its ends received and sent
   abbrev pub HasMerged : (T → Bool) → GatherOf T A P Q → Type 0

@@ -36,7 +36,7 @@ use Rattle.xb_model.specs.Tapes.{marks_at, tapes_of}
 use Rattle.xb_tape.specs.GatheredMarks.{whats_of, AreTapes}
 use Rattle.xb_serial.proofs.Chain.{chain, chain-fed}
 
-whats_of-on_line : (l : ℕ) (marks : List Mark) → whats_of (on_line l marks) ≡ marks
+pub whats_of-on_line : (l : ℕ) (marks : List Mark) → whats_of (on_line l marks) ≡ marks
 whats_of-on_line l [] = refl
 whats_of-on_line l (mark ∷ marks) = ap (λ ms. mark ∷ ms) (whats_of-on_line l marks)
 
@@ -54,7 +54,7 @@ each_line f tapes lines each = fill_by_all f tapes LINES [] lines each
 
 module _ (plan : Plan) (limits : Limits) (routes : List CodedRoute) where
   -- the items of a line in the four images are the four images of the line's items
-  serial_image-line : (l : ℕ) (rows : List LoopRow) → of_line on_line_of l (serial_image plan limits routes rows) ≡ chain plan limits routes (rows_of l rows)
+  pub serial_image-line : (l : ℕ) (rows : List LoopRow) → of_line on_line_of l (serial_image plan limits routes rows) ≡ chain plan limits routes (rows_of l rows)
   serial_image-line l rows =
       let signals : List (On Signal) = image row_line (pulse_machine limits) rows in
       let dialled : List (On Dialled) = image on_line_of (register_machine plan) signals in

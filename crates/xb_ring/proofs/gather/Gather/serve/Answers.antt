@@ -9,4 +9,4 @@ returns-in-Ended-clause-served g c =
     let event = c.in-Ended.ensures.event in
     let same = event.0 in
     let ended = c.turn.ensures.ended.0 c.in-Ended.is in
-    gather_whole g.T.Ending.ending _ _ _ c.turn.ensures.lawful (ap (λ v. v.held) same ∙ event.1) (ap (λ v. has_end (sent v.producer)) same ∙ ended)
+    gather_whole g.T.Ending.ending _ _ _ _ c.turn.ensures.lawful (ap (λ v. v.held) same ∙ event.1) (ap (λ v. has_end (sent v.producer)) same ∙ ended)

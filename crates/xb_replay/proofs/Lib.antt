@@ -1,0 +1,13 @@
+pub mod BranchEvents
+pub mod BranchLists
+pub mod BranchWorlds
+pub mod Events
+pub mod Feeds
+pub mod LookSteps
+pub mod Others
+pub mod Prefixes
+pub mod Returns
+pub mod Sent
+pub mod Sets
+pub mod Waiting
+pub mod Worlds

@@ -1,0 +1,64 @@
+use Rattle.std.proofs.Common.{◌∙◌, map, refl, ap}
+use Rattle.rtrb.specs.Ring.{received}
+use Rattle.xb_replay.proofs.BranchWorlds.{world-tape}
+use Rattle.xb_replay.proofs.Events.{tape-ended, tape-turned, tape-refused, tape-kept}
+use Rattle.xb_replay.proofs.LookSteps.{one-ring, gather-on}
+use Rattle.xb_replay.proofs.Returns.{tape-has-turned, tape-has-refused}
+use Rattle.xb_replay.proofs.replay.Replay.turn_tape.Goals as goal
+
+pub invariant_of-self : goal.invariant_of-self
+invariant_of-self c =
+    let i = c.self.inside in
+    let e = c.look.ensures in
+    let f = c.look-2.ensures in
+    world-tape _ c.self.invariant c.look-2.new.up c.look-2.new.self (gather-on i.gather c.look.new.up c.look-2.new.up e.up.0 f.up.0) f.up.2 (one-ring _ _ f.ring) f.lawful
+    (tape-kept i.tape c.look.new.self c.turn-turn.new.self c.look-2.new.self e.rest f.rest c.turn-turn.result c.turn-turn.ensures.event c.self.invariant.posts.lost)
+
+pub returns-clause-lawful : goal.returns-clause-lawful
+returns-clause-lawful c = invariant_of-self c
+
+pub returns-clause-turned : goal.returns-clause-turned
+returns-clause-turned c =
+    let i = c.self.inside in
+    let e = c.look.ensures in
+    let f = c.look-2.ensures in
+    let ended = tape-ended i.gather.producer c.look.new.up.producer c.look-2.new.up.producer i.tape c.look.new.self c.turn-turn.new.self c.look-2.new.self
+    (e.rest, e.consumer) (one-ring _ _ e.ring) e.up.1.1 (f.rest, f.consumer) (one-ring _ _ f.ring) (f.up.1.1 ∙ e.up.1.1) c.turn-turn.result c.turn-turn.ensures.ended in
+    let same = gather-on i.gather c.look.new.up c.look-2.new.up e.up.0 f.up.0 in
+    rw (← c.self.view_is) (tape-has-turned _ _ (record { rows = refl; table = refl; senders = refl })
+    (record {
+      feed = λ n. (refl, refl);
+      pulse = λ n. (refl, refl, refl);
+      register = λ n. (refl, refl, refl);
+      translate = λ n. (refl, refl, refl);
+      deal = λ n. (refl, (refl, λ j p h. refl), refl, refl);
+      senders = λ j s n h. (refl, refl, refl);
+      gather = λ n. (ap (λ x. map received x.consumers) same, f.up.1.1 ∙ e.up.1.1, ap (λ x. x.held) same, ap (λ x. x.place) same);
+      tape = λ n. absurd (n refl);
+    })
+    c.turn-turn.result ended
+    (tape-turned i.gather.producer c.look.new.up.producer c.look-2.new.up.producer i.tape c.look.new.self c.turn-turn.new.self c.look-2.new.self
+    (e.rest, e.consumer) (one-ring _ _ e.ring) e.up.1.1 (f.rest, f.consumer) (one-ring _ _ f.ring) (f.up.1.1 ∙ e.up.1.1) c.turn-turn.result c.turn-turn.ensures.event ended))
+
+pub returns-clause-refused : goal.returns-clause-refused
+returns-clause-refused c =
+    let i = c.self.inside in
+    let e = c.look.ensures in
+    let f = c.look-2.ensures in
+    let ended = tape-ended i.gather.producer c.look.new.up.producer c.look-2.new.up.producer i.tape c.look.new.self c.turn-turn.new.self c.look-2.new.self
+    (e.rest, e.consumer) (one-ring _ _ e.ring) e.up.1.1 (f.rest, f.consumer) (one-ring _ _ f.ring) (f.up.1.1 ∙ e.up.1.1) c.turn-turn.result c.turn-turn.ensures.ended in
+    let same = gather-on i.gather c.look.new.up c.look-2.new.up e.up.0 f.up.0 in
+    rw (← c.self.view_is) (tape-has-refused _ _ (record { rows = refl; table = refl; senders = refl })
+    (record {
+      feed = λ n. (refl, refl);
+      pulse = λ n. (refl, refl, refl);
+      register = λ n. (refl, refl, refl);
+      translate = λ n. (refl, refl, refl);
+      deal = λ n. (refl, (refl, λ j p h. refl), refl, refl);
+      senders = λ j s n h. (refl, refl, refl);
+      gather = λ n. (ap (λ x. map received x.consumers) same, f.up.1.1 ∙ e.up.1.1, ap (λ x. x.held) same, ap (λ x. x.place) same);
+      tape = λ n. absurd (n refl);
+    })
+    c.turn-turn.result ended
+    (tape-refused i.gather.producer c.look.new.up.producer c.look-2.new.up.producer i.tape c.look.new.self c.turn-turn.new.self c.look-2.new.self
+    (e.rest, e.consumer) (one-ring _ _ e.ring) e.up.1.1 (f.rest, f.consumer) (one-ring _ _ f.ring) (f.up.1.1 ∙ e.up.1.1) c.turn-turn.result c.turn-turn.ensures.event))

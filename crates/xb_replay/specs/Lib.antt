@@ -1,0 +1,5 @@
+pub mod Blank
+pub mod Looks
+pub mod Marks
+pub mod Turns
+pub mod World

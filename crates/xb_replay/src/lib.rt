@@ -1,0 +1,10 @@
+//! The posts and rings of the chain, held by one owner who says which post makes the next turn.
+#![tactic(auto)]
+
+mod branches;
+mod looks;
+mod replay;
+#[cfg(test)]
+mod tests;
+
+pub use replay::Replay;
