@@ -27,7 +27,7 @@ abbrev pub AddsCall : Speed → DialledCall → List LoopRow → List LoopRow �
 AddsCall speed call old new =
     new ≡ old ++ on_line call.line (hang_up_after old speed ++ call_runs speed call.digits)
 
--- the rows behind references
+-- the rows that references point to
 abbrev pub lists_of : List (Bor (List LoopRow)) → List (List LoopRow)
 lists_of lists = map (λ list. list.now) lists
 

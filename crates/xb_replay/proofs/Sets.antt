@@ -18,7 +18,7 @@ module _ {X : Type 0} (xs ys : List X) (j : ℕ) (o z : X) (len : length ys ≡ 
         (cases_eq i j),
   )
 
-  -- those behind it are as they were
+  -- those after it are as they were
   pub same-set : ((i : ℕ) (d : X) → j ≤ i → get_or ys i d ≡ get_or xs i d) → (i : ℕ) (d : X) → j + 1 ≤ i → get_or (set ys j z) i d ≡ get_or xs i d
   same-set same i d h =
       let other : i ≢ j = λ e. absurd (omega (arith, e)) in
