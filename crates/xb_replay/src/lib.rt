@@ -4,7 +4,5 @@
 mod branches;
 mod looks;
 mod replay;
-#[cfg(test)]
-mod tests;
 
 pub use replay::Replay;
