@@ -3,14 +3,16 @@ ghost use Rattle.std.specs.Prelude.{◌≤◌};
 ghost use Rattle.xb_ring.specs.declared.branches.TheConstants.{MOST_BRANCHES};
 ghost use Rattle.xb_ring.specs.declared.ends.TheConstants.{GREATEST_CAPACITY};
 
-use crate::attempts::{SHEETS, TWO_LINES_IN_TURN};
-use crate::decks::{TABLE, Worked, deck_of, joined, one_after_another, page_of, two_in_turn};
 use std::alloc::Global;
 use std::process::Abort;
 use std::sync::Wait;
 use std::test::Fail;
 use std::thread::Threads;
 use std::time::Clock;
+use worked_decks::attempts::{SHEETS, TWO_LINES_IN_TURN};
+use worked_decks::decks::{
+    TABLE, Worked, deck_of, joined, one_after_another, page_of, two_in_turn,
+};
 use xb_bank::key_serial;
 use xb_model::Row;
 use xb_office::{OfficeFault, operate, page};

@@ -4,10 +4,6 @@
 #![tactic(auto)]
 
 #[cfg(test)]
-mod attempts;
-#[cfg(test)]
-mod decks;
-#[cfg(test)]
 mod faults;
 #[cfg(test)]
 mod forms;
@@ -17,8 +13,6 @@ mod keyed;
 mod memory;
 #[cfg(test)]
 mod posts;
-#[cfg(test)]
-mod pulses;
 #[cfg(test)]
 mod streams;
 #[cfg(test)]

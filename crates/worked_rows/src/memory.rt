@@ -1,7 +1,7 @@
 // Every call that may run out of memory, run with enough: an operator call on line 5.
-use crate::decks::{TABLE, deck_of, page_of};
-use crate::pulses::rows_of;
 use std::test::Fail;
+use worked_decks::decks::{TABLE, deck_of, page_of};
+use worked_decks::pulses::rows_of;
 use xb_bank::{RowSource, Tapes, fed_rows, key_serial};
 use xb_model::{Contact, Digit, Key, LineNo, Mark, On, Row, Signal, Tone, Trunk};
 use xb_office::{Scan, operate, page, read_rows};

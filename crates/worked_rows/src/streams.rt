@@ -1,9 +1,9 @@
 // A writer that fails in the middle of a page, and a reader that fails at once.
-use crate::attempts::SEVEN_DIGITS;
-use crate::decks::{TABLE, deck_of, one_after_another};
 use std::io;
 use std::io::{Error, ErrorKind, Read, Write};
 use std::test::Fail;
+use worked_decks::attempts::SEVEN_DIGITS;
+use worked_decks::decks::{TABLE, deck_of, one_after_another};
 use xb_office::{OfficeFault, operate};
 
 /// A writer that takes so many bytes more, and then fails.

@@ -1,12 +1,12 @@
 // The words of the command line, with the deck of an operator call.
-use crate::attempts::OPERATOR_CALL;
-use crate::decks::{TABLE, deck_of, one_after_another, page_of};
 use std::alloc::{AllocError, Global};
 use std::process::Abort;
 use std::sync::Wait;
 use std::test::Fail;
 use std::thread::Threads;
 use std::time::Clock;
+use worked_decks::attempts::OPERATOR_CALL;
+use worked_decks::decks::{TABLE, deck_of, one_after_another, page_of};
 use xb_office::attend;
 
 // Words after the program's name that are refused.

@@ -33,8 +33,8 @@ pub const SEVEN_DIGITS: Worked = Worked {
     page: &["0007 1 SEVEN_DIGITS", "KEYED 1 REFUSED 0"],
 };
 
-// What lines do under the usual table.
-const ATTEMPTS: &[Worked] = &[
+/// What lines do under the usual table.
+pub const ATTEMPTS: &[Worked] = &[
     Worked {
         name: "header_only",
         lines: &[],
