@@ -1,8 +1,6 @@
 -- The rings and posts, once all came back: what they make of the rows that were fed.
-use Rattle.std.proofs.Common.{◌≡◌, ℕ, ◌<◌, ◌≤◌, Bool, true, false, None, Some, Option, Result, List, [], ◌∷◌, ◌++◌, length, map, get_or, refl, sym, ap, ◌∙◌, subst, ⊎_elim, arith}
-use Rattle.std.specs.List.{AllZip, All, AllByRecursion}
+use Rattle.std.proofs.Common.{◌≡◌, ℕ, true, None, Some, List, ◌++◌, sym, ap, ◌∙◌, subst, ⊎_elim}
 use Rattle.std.specs.declared.alloc.Global.{Global}
-use Rattle.std.proofs.lemmas.List.{length-map, get_or-map}
 use Rattle.std.proofs.lemmas.Option.{none-some}
 use Rattle.rtrb.specs.declared.AnyItems.{AnyItems}
 use Rattle.rtrb.specs.Ring.{sent, received, IsPair, SameProducer, SameConsumer}
@@ -16,40 +14,31 @@ use Rattle.xb_model.specs.declared.order.Order.{Order}
 use Rattle.xb_model.specs.declared.plan.Plan.{Plan}
 use Rattle.xb_model.specs.declared.signal.Signal.{Signal}
 use Rattle.xb_model.specs.Lines.{row_line, on_line_of}
-use Rattle.xb_model.specs.Routing.{CodedRoute}
 use Rattle.xb_model.specs.Rows.{LoopRow}
 use Rattle.xb_model.specs.Sources.{Rest}
-use Rattle.xb_stage.specs.Image.{Machine, image}
+use Rattle.xb_stage.specs.Image.{Machine}
 use Rattle.xb_pulse.specs.Machine.{machine as pulse_machine}
 use Rattle.xb_register.specs.Registering.{machine as register_machine}
 use Rattle.xb_routes.specs.Table.{Table}
 use Rattle.xb_routes.specs.Translating.{machine as translate_machine}
 use Rattle.xb_sender.specs.Sending.{machine as sender_machine}
 use Rattle.xb_ring.specs.declared.flow.Flow.{Flow}
-use Rattle.xb_ring.specs.Flows.{items_of, has_end, flow_of, IsEnded}
-use Rattle.xb_ring.specs.Dealt.{dealt}
-use Rattle.xb_ring.specs.GatherSteps.{items_at}
-use Rattle.xb_ring.specs.Merged.{merged}
+use Rattle.xb_ring.specs.Flows.{items_of, flow_of, IsEnded}
 use Rattle.xb_ring.specs.Stations.{HasPassed}
 use Rattle.xb_ring.specs.Deals.{DealOf}
 use Rattle.xb_ring.specs.Gathers.{GatherOf}
-use Rattle.xb_ring.proofs.Flows.{items_of-flow, has_end-flow}
-use Rattle.xb_ring.proofs.Merged.{merged_same}
-use Rattle.xb_ring.proofs.MergedImages.{merged-stateless}
+use Rattle.xb_ring.proofs.Flows.{items_of-flow}
 use Rattle.xb_ring.proofs.Rings.{pair_kept}
-use Rattle.xb_serial.specs.Serial.{serial_image}
-use Rattle.xb_tape.specs.GatheredMarks.{AreTapes}
 use Rattle.xb_posts.specs.Fed.{fed}
 use Rattle.xb_posts.specs.Feeds.{FeedOf, to_come}
 use Rattle.xb_posts.specs.TapeStations.{TapeOf}
 use Rattle.xb_bank.specs.Pairs.{Pairs}
-use Rattle.xb_bank.specs.Promises.{Out, In, StationKept, TapeServed, ends_entry}
+use Rattle.xb_bank.specs.Promises.{Out, In, StationKept}
 use Rattle.xb_bank.specs.Rings.{IsSettled}
-use Rattle.xb_bank.specs.Runs.{StationPost, IsChain, PostsKept, AreLinked, AreSettled, AllServed, HaveServed}
+use Rattle.xb_bank.specs.Runs.{StationPost, IsChain, PostsKept, AreLinked, HaveServed}
 use Rattle.xb_bank.specs.declared.done.StationDone.{StationDone}
-use Rattle.xb_bank.specs.declared.done.Taped.TheVariants.{Kept}
 use Rattle.xb_bank.specs.declared.posts.AllDone.{AllDone}
-use Rattle.xb_bank.proofs.Pairs.{pairs-joined, pairs-flip, pairs-right, pairs-long, at_pair}
+use Rattle.xb_bank.proofs.Pairs.{pairs-joined, pairs-flip, pairs-right}
 use Rattle.xb_bank.proofs.Promises.{same_producer, same_consumer}
 
 -- a flow that is known ends with an End, and these are its items
@@ -106,13 +95,13 @@ module _
   -- each ring has the two ends that it was made with
   pub linked : AreLinked done
   linked = record {
-    rows = pair_kept feed.producer done.feed.producer pulse.consumer done.pulse.consumer kept.feed_kept.output kept.pulse_kept.input chain.rows;
-    signals = pair_kept pulse.producer done.pulse.producer register.consumer done.register.consumer kept.pulse_kept.output kept.register_kept.input chain.signals;
-    dialled = pair_kept register.producer done.register.producer translate.consumer done.translate.consumer kept.register_kept.output kept.translate_kept.input chain.dialled;
-    orders = pair_kept translate.producer done.translate.producer deal.consumer done.deal.consumer kept.translate_kept.output kept.deal_kept.input chain.orders;
-    before = before_kept on_line_of (λ (stage : Z). sender_machine) chain.before kept.deal_kept.outputs kept.senders_kept;
-    after = after_kept on_line_of (λ (stage : Z). sender_machine) chain.after kept.gather_kept.inputs kept.senders_kept;
-    marks = pair_kept gather.producer done.gather.producer tape.consumer done.tape.consumer kept.gather_kept.output kept.tape_kept.input chain.marks;
+    rows = pair_kept feed.producer done.feed.producer pulse.consumer done.pulse.consumer kept.feed_kept.output kept.pulse_kept.input chain.originating.rows;
+    signals = pair_kept pulse.producer done.pulse.producer register.consumer done.register.consumer kept.pulse_kept.output kept.register_kept.input chain.originating.signals;
+    dialled = pair_kept register.producer done.register.producer translate.consumer done.translate.consumer kept.register_kept.output kept.translate_kept.input chain.originating.dialled;
+    orders = pair_kept translate.producer done.translate.producer deal.consumer done.deal.consumer kept.translate_kept.output kept.deal_kept.input chain.originating.orders;
+    before = before_kept on_line_of (λ (stage : Z). sender_machine) chain.outgoing.before kept.deal_kept.outputs kept.senders_kept;
+    after = after_kept on_line_of (λ (stage : Z). sender_machine) chain.outgoing.after kept.gather_kept.inputs kept.senders_kept;
+    marks = pair_kept gather.producer done.gather.producer tape.consumer done.tape.consumer kept.gather_kept.output kept.tape_kept.input chain.outgoing.marks;
   }
 
   -- a feed that was served and met no fault sent what is fed of all rows of its source, which ended
@@ -122,18 +111,18 @@ module _
       let whole : (h.rows ≡ feed.rest.rows) × (done.feed.fault ≡ feed.rest.stop) =
       ⊎_elim (λ all. all) (λ part. absurd (none-some row.NoMemory (sym none ∙ part.2))) h.may_give in (
         h.sends
-            ∙ ap (λ xs. xs ++ to_come feed h.rows done.feed.fault) chain.fresh
-            ∙ chain.to_come h.rows done.feed.fault
-            ∙ ap (λ rs. flow_of (fed rs done.feed.fault) true) (whole.0 ∙ ap (λ (r : Rest). r.rows) chain.source)
+            ∙ ap (λ xs. xs ++ to_come feed h.rows done.feed.fault) chain.originating.fresh
+            ∙ chain.originating.to_come h.rows done.feed.fault
+            ∙ ap (λ rs. flow_of (fed rs done.feed.fault) true) (whole.0 ∙ ap (λ (r : Rest). r.rows) chain.originating.source)
             ∙ ap (λ stop. flow_of (fed rest.rows stop) true) none,
-        ap (λ (r : Rest). r.stop) (sym chain.source) ∙ sym whole.1 ∙ none,
+        ap (λ (r : Rest). r.stop) (sym chain.originating.source) ∙ sym whole.1 ∙ none,
       )
 
   -- a fault of the feed that is not that memory ran out is its source's stop
   pub fault_is : (fault : RowFault) → done.feed.served ≡ true → done.feed.fault ≡ Some fault → (fault ≡ row.NoMemory → ⊥) → rest.stop ≡ Some fault
   fault_is fault served met other =
       ⊎_elim
-      (λ all. ap (λ (r : Rest). r.stop) (sym chain.source) ∙ sym all.1 ∙ met)
+      (λ all. ap (λ (r : Rest). r.stop) (sym chain.originating.source) ∙ sym all.1 ∙ met)
       (λ part. absurd (other (some_same (sym met ∙ part.2))))
       (kept.feed_kept.served served).may_give
     where
@@ -145,15 +134,15 @@ module _
   have_served = record {
     feed = λ served none. (fed_whole served none).0;
     pulse = λ served.
-        subst (λ limits. HasPassed row_line (pulse_machine limits) (received done.pulse.consumer) (sent done.pulse.producer)) chain.limits (kept.pulse_kept.served served);
+        subst (λ limits. HasPassed row_line (pulse_machine limits) (received done.pulse.consumer) (sent done.pulse.producer)) chain.originating.limits (kept.pulse_kept.served served);
     register = λ served.
-        subst (λ plan. HasPassed on_line_of (register_machine plan) (received done.register.consumer) (sent done.register.producer)) chain.plan (kept.register_kept.served served);
+        subst (λ plan. HasPassed on_line_of (register_machine plan) (received done.register.consumer) (sent done.register.producer)) chain.originating.plan (kept.register_kept.served served);
     translate = λ served.
-        subst (λ (t : Table). HasPassed on_line_of (translate_machine t.routes) (received done.translate.consumer) (sent done.translate.producer)) chain.table_is (kept.translate_kept.served served);
+        subst (λ (t : Table). HasPassed on_line_of (translate_machine t.routes) (received done.translate.consumer) (sent done.translate.producer)) chain.originating.table_is (kept.translate_kept.served served);
     deal = kept.deal_kept.served;
     senders = pairs-right (λ (m : StationPost Z (On Order) (On Mark)) (d : StationDone (On Order) (On Mark)). StationKept on_line_of (λ stage. sender_machine) m d)
         (λ (d : StationDone (On Order) (On Mark)). d.served ≡ true → HasPassed on_line_of sender_machine (received d.consumer) (sent d.producer))
         (λ m d k. k.served) kept.senders_kept;
     gather = kept.gather_kept.served;
-    tape = kept.tape_kept.taped chain.kept;
+    tape = kept.tape_kept.taped chain.outgoing.kept;
   }

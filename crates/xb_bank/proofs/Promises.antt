@@ -1,8 +1,7 @@
 -- What the posts' threads promise, of what a serve leaves.
-use Rattle.std.proofs.Common.{◌≡◌, ℕ, ◌<◌, ◌≤◌, Bool, true, false, List, [], map, length, get_or, refl, sym, ap, ◌∙◌, subst, arith}
+use Rattle.std.proofs.Common.{◌≡◌, Bool, true, false, map, get_or, refl, sym, ◌∙◌, subst, arith}
 use Rattle.std.proofs.lemmas.Bool.{false≢true}
 use Rattle.rtrb.specs.Ring.{sent, received, SameProducer, SameConsumer}
-use Rattle.xb_ring.specs.declared.flow.Flow.{Flow}
 use Rattle.xb_ring.specs.Deals.{DealOf, HasDealt, SameDeal}
 use Rattle.xb_ring.specs.Gathers.{GatherOf, GatherLaw, HasMerged, SameGather}
 use Rattle.std.specs.declared.alloc.Global.{Global}

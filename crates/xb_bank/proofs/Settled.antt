@@ -1,5 +1,5 @@
 -- The two ends of a ring in one thread.
-use Rattle.std.proofs.Common.{◌≡◌, ℕ, zero, suc, ◌<◌, true, List, [], ◌∷◌, ◌++◌, length, sym, ap, ◌∙◌, subst, arith}
+use Rattle.std.proofs.Common.{◌≡◌, zero, suc, true, List, [], ◌∷◌, ◌++◌, sym, ap, ◌∙◌, subst, arith}
 use Rattle.std.specs.List.{All}
 use Rattle.std.proofs.lemmas.List.Elements.{All-append}
 use Rattle.rtrb.specs.Ring.{sent, received, IsPair}
@@ -31,5 +31,8 @@ fresh_more {A} {B} {outs} {outs'} {ins} {ins'} p c h s r eo ei = record {
 }
 
 -- ends that are those of a ring are its ends
+pub ring_before : {T : Type 0} {p0 p : Out T} (c : In T) → IsPair p0 c → p ≡ p0 → IsPair p c
+ring_before {T} {p0} {p} c pair ep = subst (λ (q : Out T). IsPair q c) (sym ep) pair
+
 pub ring_at : {T : Type 0} {p0 p : Out T} {c0 c : In T} → IsPair p0 c0 → p ≡ p0 → c ≡ c0 → IsPair p c
-ring_at {T} {p0} {p} {c0} {c} pair ep ec = subst (λ (q : Out T). IsPair q c) (sym ep) (subst (λ (d : In T). IsPair p0 d) (sym ec) pair)
+ring_at {T} {p0} {p} {c0} {c} pair ep ec = ring_before c (subst (λ (d : In T). IsPair p0 d) (sym ec) pair) ep

@@ -33,7 +33,7 @@ use Rattle.xb_posts.specs.Fed.{fed}
 use Rattle.xb_posts.specs.Feeds.{FeedOf, to_come}
 use Rattle.xb_posts.specs.TapeStations.{TapeOf}
 use Rattle.xb_bank.specs.Pairs.{Pairs}
-use Rattle.xb_bank.specs.Promises.{FeedKept, StationKept, DealKept, GatherKept, TapeKept, DealServed, GatherServed, TapeServed, ends_entry}
+use Rattle.xb_bank.specs.Promises.{In, FeedKept, StationKept, DealKept, GatherKept, TapeKept, DealServed, GatherServed, TapeServed, ends_entry}
 use Rattle.xb_bank.specs.Rings.{IsSettled}
 use Rattle.xb_bank.specs.declared.done.Taped.{Taped}
 use Rattle.xb_bank.specs.declared.done.Taped.TheVariants.{Stopped, Refused, Kept}
@@ -56,6 +56,43 @@ IsBankFault stop (Rows fault) = (stop ≡ Some fault) × (fault ≢ row.NoMemory
 abbrev pub StationPost : Type 0 → Type 0 → Type 0 → Type 0
 StationPost S I O = StationOf S (Flow I) (Flow O) Global AnyItems AnyItems
 
+-- posts from the rows of this source to orders by this table, with rings between them through which
+-- nothing went, and the other end of the one that the orders go to
+pub record IsOriginating
+    (feed : FeedOf Global AnyItems)
+    (pulse : StationPost Limits LoopRow (On Signal))
+    (register : StationPost Plan (On Signal) (On Dialled))
+    (translate : StationPost Table (On Dialled) (On Order))
+    (end : In (On Order))
+    (rest : Rest) (table : Table)
+    : Type 0 where
+  pub rows : IsPair feed.producer pulse.consumer
+  pub signals : IsPair pulse.producer register.consumer
+  pub dialled : IsPair register.producer translate.consumer
+  pub orders : IsPair translate.producer end
+  pub source : feed.rest ≡ rest
+  pub fresh : sent feed.producer ≡ []
+  pub to_come : (given : List LoopRow) (stop : Option RowFault) →
+      to_come feed given stop ≡ flow_of (fed given stop) true
+  pub limits : pulse.stage ≡ table.limits
+  pub plan : register.stage ≡ table.plan
+  pub table_is : translate.stage ≡ table
+  pub lawful : IsLawful table.limits
+
+-- posts from orders to tapes, with rings between them
+pub record IsOutgoing
+    {Z : Type 0}
+    (deal : DealOf (On Order) Global AnyItems AnyItems)
+    (senders : List (StationPost Z (On Order) (On Mark)))
+    (gather : GatherOf (On Mark) Global AnyItems AnyItems)
+    (tape : TapeOf Global AnyItems)
+    : Type 0 where
+  pub before : Pairs (λ end sender. IsPair end sender.consumer) deal.producers senders
+  pub after : Pairs (λ sender end. IsPair sender.producer end) senders gather.consumers
+  pub marks : IsPair gather.producer tape.consumer
+  pub few : length senders ≤ MOST_BRANCHES
+  pub kept : tape.lost ≡ false
+
 module _
     {Z : Type 0}
     (feed : FeedOf Global AnyItems)
@@ -68,23 +105,8 @@ module _
     (tape : TapeOf Global AnyItems) where
   -- posts of this source and table, with rings between them through which nothing went
   pub record IsChain (rest : Rest) (table : Table) : Type 0 where
-    pub rows : IsPair feed.producer pulse.consumer
-    pub signals : IsPair pulse.producer register.consumer
-    pub dialled : IsPair register.producer translate.consumer
-    pub orders : IsPair translate.producer deal.consumer
-    pub before : Pairs (λ end sender. IsPair end sender.consumer) deal.producers senders
-    pub after : Pairs (λ sender end. IsPair sender.producer end) senders gather.consumers
-    pub marks : IsPair gather.producer tape.consumer
-    pub source : feed.rest ≡ rest
-    pub fresh : sent feed.producer ≡ []
-    pub to_come : (given : List LoopRow) (stop : Option RowFault) →
-        to_come feed given stop ≡ flow_of (fed given stop) true
-    pub limits : pulse.stage ≡ table.limits
-    pub plan : register.stage ≡ table.plan
-    pub table_is : translate.stage ≡ table
-    pub lawful : IsLawful table.limits
-    pub few : length senders ≤ MOST_BRANCHES
-    pub kept : tape.lost ≡ false
+    pub originating : IsOriginating feed pulse register translate deal.consumer rest table
+    pub outgoing : IsOutgoing deal senders gather tape
 
   -- what the threads of the posts promise of all that they gave back
   pub record PostsKept (done : AllDone) : Type 0 where

@@ -24,17 +24,29 @@ use xb_ring::{Deal, Gate, Gather, Post, Station};
 use xb_routes::Translate;
 use xb_sender::Sender;
 
-/// All posts, before they are started.
+/// The posts from rows to orders, before they are started.
 #[derive(Drop)]
-pub(crate) struct Posts<'t, S: RowSource> {
+pub(crate) struct Originating<'t, S: RowSource> {
     pub(crate) feed: Feed<S>,
     pub(crate) pulse: Station<Pulse>,
     pub(crate) register: Station<Register>,
     pub(crate) translate: Station<Translate<'t>>,
+}
+
+/// The posts from orders to tapes, before they are started.
+#[derive(Drop)]
+pub(crate) struct Outgoing {
     pub(crate) deal: Deal<On<Order>>,
     pub(crate) senders: Vec<Station<Sender>>,
     pub(crate) gather: Gather<On<Mark>>,
     pub(crate) tape: TapeStation,
+}
+
+/// All posts, before they are started.
+#[derive(Drop)]
+pub(crate) struct Posts<'t, S: RowSource> {
+    pub(crate) originating: Originating<'t, S>,
+    pub(crate) outgoing: Outgoing,
 }
 
 /// What all posts give back.
@@ -53,16 +65,105 @@ pub(crate) struct AllDone {
 /// The handle of a post's thread.
 type Handle<P> = PromisedHandle<<P as Threaded>::Done, Kept<P>>;
 
-/// The handles of all threads. Those of the senders stand from the last sender on.
-pub(crate) struct Handles<'t, S: RowSource + Drop> {
+/// The handles of the threads from rows to orders.
+#[derive(Drop)]
+pub(crate) struct OriginatingHandles<'t, S: RowSource + Drop> {
     feed: Handle<Feed<S>>,
     pulse: Handle<Station<Pulse>>,
     register: Handle<Station<Register>>,
     translate: Handle<Station<Translate<'t>>>,
+}
+
+/// The handles of the threads from orders to tapes. Those of the senders stand from the last sender on.
+#[derive(Drop)]
+pub(crate) struct OutgoingHandles {
     deal: Handle<Deal<On<Order>>>,
     senders: Vec<Handle<Station<Sender>>>,
     gather: Handle<Gather<On<Mark>>>,
     tape: Handle<TapeStation>,
+}
+
+/// The handles of all threads.
+pub(crate) struct Handles<'t, S: RowSource + Drop> {
+    originating: OriginatingHandles<'t, S>,
+    outgoing: OutgoingHandles,
+}
+
+// Starts the posts from orders to tapes, from the tape up.
+fn start_outgoing<'s, E, R: Wait + Clock + Sync, G: Gate + Sync>(
+    scope: &'s Scope<'s, E>,
+    rt: &'s R,
+    word: &'s AtomicU64,
+    posts: Outgoing,
+    mut sender_handles: Vec<Handle<Station<Sender>>>,
+    gate: &'s G,
+) -> Result<OutgoingHandles, Post>
+    requires few { vec_len posts.senders ≤ MOST_BRANCHES }
+    requires none { sender_handles.items ≡ [] }
+    requires room { vec_len posts.senders ≤ vec_capacity sender_handles }
+    ensures deal { IfOk result (λ handles. handles.deal.promise.made.value ≡ posts.deal) }
+    ensures senders { IfOk result (λ handles.
+        Pairs (λ sender handle. handle.promise.made.value ≡ sender) posts.senders.items
+        (reverse handles.senders.items)) }
+    ensures few { IfOk result (λ handles. vec_len handles.senders ≤ vec_len posts.senders) }
+    ensures gather { IfOk result (λ handles. handles.gather.promise.made.value ≡ posts.gather) }
+    ensures tape { IfOk result (λ handles. handles.tape.promise.made.value ≡ posts.tape) }
+{
+    let Outgoing {
+        deal,
+        senders,
+        gather,
+        tape,
+    } = posts;
+    let tape = start(scope, rt, word, Post::Tape, tape, gate)?;
+    let gather = start(scope, rt, word, Post::Gather, gather, gate)?;
+    start_senders(scope, rt, word, senders, &mut sender_handles, gate)?;
+    let deal = start(scope, rt, word, Post::Deal, deal, gate)?;
+    Ok(OutgoingHandles {
+        deal,
+        senders: sender_handles,
+        gather,
+        tape,
+    })
+}
+
+// Starts the posts from rows to orders, from translation up.
+fn start_originating<
+    's,
+    't: 's,
+    E,
+    S: RowSource + Drop + Send + 's,
+    R: Wait + Clock + Sync,
+    G: Gate + Sync,
+>(
+    scope: &'s Scope<'s, E>,
+    rt: &'s R,
+    word: &'s AtomicU64,
+    posts: Originating<'t, S>,
+    gate: &'s G,
+) -> Result<OriginatingHandles<'t, S>, Post>
+    ensures feed { IfOk result (λ handles. handles.feed.promise.made.value ≡ posts.entry.feed) }
+    ensures pulse { IfOk result (λ handles. handles.pulse.promise.made.value ≡ posts.entry.pulse) }
+    ensures register { IfOk result (λ handles. handles.register.promise.made.value ≡ posts.entry.register) }
+    ensures translate { IfOk result (λ handles.
+        handles.translate.promise.made.value ≡ posts.entry.translate) }
+{
+    let Originating {
+        feed,
+        pulse,
+        register,
+        translate,
+    } = posts;
+    let translate = start(scope, rt, word, Post::Translate, translate, gate)?;
+    let register = start(scope, rt, word, Post::Register, register, gate)?;
+    let pulse = start(scope, rt, word, Post::Pulse, pulse, gate)?;
+    let feed = start(scope, rt, word, Post::Feed, feed, gate)?;
+    Ok(OriginatingHandles {
+        feed,
+        pulse,
+        register,
+        translate,
+    })
 }
 
 /// Starts all posts on threads of the scope, from the tape up to the feed, where they wait for the
@@ -79,52 +180,41 @@ pub(crate) fn start_posts<
     rt: &'s R,
     word: &'s AtomicU64,
     posts: Posts<'t, S>,
-    mut sender_handles: Vec<Handle<Station<Sender>>>,
+    sender_handles: Vec<Handle<Station<Sender>>>,
     gate: &'s G,
 ) -> Result<Handles<'t, S>, Post>
-    requires few { vec_len posts.senders ≤ MOST_BRANCHES }
+    requires few { vec_len posts.outgoing.senders ≤ MOST_BRANCHES }
     requires none { sender_handles.items ≡ [] }
-    requires room { vec_len posts.senders ≤ vec_capacity sender_handles }
-    ensures feed { IfOk result (λ handles. handles.feed.promise.made.value ≡ posts.entry.feed) }
-    ensures pulse { IfOk result (λ handles. handles.pulse.promise.made.value ≡ posts.entry.pulse) }
-    ensures register { IfOk result (λ handles. handles.register.promise.made.value ≡ posts.entry.register) }
+    requires room { vec_len posts.outgoing.senders ≤ vec_capacity sender_handles }
+    ensures feed { IfOk result (λ handles.
+        handles.originating.feed.promise.made.value ≡ posts.entry.originating.feed) }
+    ensures pulse { IfOk result (λ handles.
+        handles.originating.pulse.promise.made.value ≡ posts.entry.originating.pulse) }
+    ensures register { IfOk result (λ handles.
+        handles.originating.register.promise.made.value ≡ posts.entry.originating.register) }
     ensures translate { IfOk result (λ handles.
-        handles.translate.promise.made.value ≡ posts.entry.translate) }
-    ensures deal { IfOk result (λ handles. handles.deal.promise.made.value ≡ posts.entry.deal) }
+        handles.originating.translate.promise.made.value ≡ posts.entry.originating.translate) }
+    ensures deal { IfOk result (λ handles.
+        handles.outgoing.deal.promise.made.value ≡ posts.entry.outgoing.deal) }
     ensures senders { IfOk result (λ handles.
-        Pairs (λ sender handle. handle.promise.made.value ≡ sender) posts.entry.senders.items
-        (reverse handles.senders.items)) }
-    ensures few { IfOk result (λ handles. vec_len handles.senders ≤ vec_len posts.entry.senders) }
-    ensures gather { IfOk result (λ handles. handles.gather.promise.made.value ≡ posts.entry.gather) }
-    ensures tape { IfOk result (λ handles. handles.tape.promise.made.value ≡ posts.entry.tape) }
+        Pairs (λ sender handle. handle.promise.made.value ≡ sender) posts.entry.outgoing.senders.items
+        (reverse handles.outgoing.senders.items)) }
+    ensures few { IfOk result (λ handles.
+        vec_len handles.outgoing.senders ≤ vec_len posts.entry.outgoing.senders) }
+    ensures gather { IfOk result (λ handles.
+        handles.outgoing.gather.promise.made.value ≡ posts.entry.outgoing.gather) }
+    ensures tape { IfOk result (λ handles.
+        handles.outgoing.tape.promise.made.value ≡ posts.entry.outgoing.tape) }
 {
     let Posts {
-        feed,
-        pulse,
-        register,
-        translate,
-        deal,
-        senders,
-        gather,
-        tape,
+        originating,
+        outgoing,
     } = posts;
-    let tape = start(scope, rt, word, Post::Tape, tape, gate)?;
-    let gather = start(scope, rt, word, Post::Gather, gather, gate)?;
-    start_senders(scope, rt, word, senders, &mut sender_handles, gate)?;
-    let deal = start(scope, rt, word, Post::Deal, deal, gate)?;
-    let translate = start(scope, rt, word, Post::Translate, translate, gate)?;
-    let register = start(scope, rt, word, Post::Register, register, gate)?;
-    let pulse = start(scope, rt, word, Post::Pulse, pulse, gate)?;
-    let feed = start(scope, rt, word, Post::Feed, feed, gate)?;
+    let outgoing = start_outgoing(scope, rt, word, outgoing, sender_handles, gate)?;
+    let originating = start_originating(scope, rt, word, originating, gate)?;
     Ok(Handles {
-        feed,
-        pulse,
-        register,
-        translate,
-        deal,
-        senders: sender_handles,
-        gather,
-        tape,
+        originating,
+        outgoing,
     })
 }
 
@@ -135,29 +225,35 @@ pub(crate) fn join_posts<S: RowSource + Drop, R: Threads>(
     mut senders_done: Vec<StationDone<On<Order>, On<Mark>>>,
 ) -> AllDone
     requires none { senders_done.items ≡ [] }
-    requires room { vec_len handles.senders ≤ vec_capacity senders_done }
-    ensures feed { FeedKept handles.entry.feed.promise.made.value result.feed }
-    ensures pulse { StationKept row_line pulse_machine handles.entry.pulse.promise.made.value result.pulse }
+    requires room { vec_len handles.outgoing.senders ≤ vec_capacity senders_done }
+    ensures feed { FeedKept handles.entry.originating.feed.promise.made.value result.feed }
+    ensures pulse { StationKept row_line pulse_machine handles.entry.originating.pulse.promise.made.value result.pulse }
     ensures register { StationKept on_line_of register_machine
-        handles.entry.register.promise.made.value result.register }
+        handles.entry.originating.register.promise.made.value result.register }
     ensures translate { StationKept on_line_of (λ table. translate_machine table.routes)
-        handles.entry.translate.promise.made.value result.translate }
-    ensures deal { DealKept handles.entry.deal.promise.made.value result.deal }
+        handles.entry.originating.translate.promise.made.value result.translate }
+    ensures deal { DealKept handles.entry.outgoing.deal.promise.made.value result.deal }
     ensures senders { Pairs (λ handle done. StationKept on_line_of (λ stage. sender_machine)
-        handle.promise.made.value done) (reverse handles.entry.senders.items) result.senders.items }
-    ensures gather { GatherKept ends_entry handles.entry.gather.promise.made.value result.gather }
-    ensures tape { TapeKept handles.entry.tape.promise.made.value result.tape }
+        handle.promise.made.value done) (reverse handles.entry.outgoing.senders.items) result.senders.items }
+    ensures gather { GatherKept ends_entry handles.entry.outgoing.gather.promise.made.value result.gather }
+    ensures tape { TapeKept handles.entry.outgoing.tape.promise.made.value result.tape }
 {
     let Handles {
+        originating,
+        outgoing,
+    } = handles;
+    let OriginatingHandles {
         feed,
         pulse,
         register,
         translate,
+    } = originating;
+    let OutgoingHandles {
         deal,
         senders,
         gather,
         tape,
-    } = handles;
+    } = outgoing;
     let feed = feed.join(rt);
     let pulse = pulse.join(rt);
     let register = register.join(rt);

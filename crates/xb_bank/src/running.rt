@@ -1,30 +1,92 @@
 // The posts, each on a thread of its own.
-ghost use Rattle.std.specs.Prelude.{◌≡◌, ◌≤◌, ◌<◌, ℕ, IfOk, IfErr, None, vec_len};
+ghost use Rattle.std.specs.Prelude.{◌≡◌, ◌≤◌, ◌<◌, [], ℕ, IfOk, IfErr, None, vec_len};
 ghost use Rattle.std.specs.Thread.{IsSend, IsSync};
 ghost use Rattle.xb_model.specs.declared.line.TheConstants.{LINES};
 ghost use Rattle.xb_model.specs.Tapes.{tape_of, joined_tape, entries_of, marks_at, tapes_of};
 ghost use Rattle.xb_ring.specs.declared.branches.TheConstants.{MOST_BRANCHES};
 ghost use Rattle.xb_ring.specs.declared.ends.TheConstants.{GREATEST_CAPACITY};
-ghost use Rattle.xb_bank.specs.Runs.{IsChain, PostsKept, IsBankFault};
+ghost use Rattle.rtrb.specs.Ring.{received};
+ghost use Rattle.xb_bank.specs.Runs.{IsOriginating, IsOutgoing, IsChain, PostsKept, IsBankFault};
 
 use crate::fault::BankFault;
 use crate::finish::finish;
-use crate::posts::{AllDone, Posts, join_posts, start_posts};
+use crate::posts::{AllDone, Originating, Outgoing, Posts, join_posts, start_posts};
 use crate::senders::make_bank;
 use crate::start::{GO, STOP};
+use rtrb::Consumer;
 use std::alloc::{AllocError, Global};
 use std::sync::Wait;
 use std::sync::atomic::{AtomicU64, Ordering};
 use std::thread;
 use std::thread::{Scope, Threads};
 use std::time::Clock;
-use xb_model::RowSource;
+use xb_model::{On, Order, RowSource};
 use xb_posts::{Feed, TapeStation};
 use xb_pulse::Pulse;
 use xb_register::Register;
-use xb_ring::{Deal, Gate, Gather, Station, link};
+use xb_ring::{Deal, Flow, Gate, Gather, Station, link};
 use xb_routes::{RouteTable, Translate};
 use xb_tape::Tapes;
+
+// Makes the posts from rows to orders, the rings between them, and the one after them, whose other end
+// comes with them.
+fn make_originating<'t, S: RowSource + Drop>(
+    alloc: Global,
+    source: S,
+    table: &'t RouteTable,
+    ring: usize,
+) -> Result<(Originating<'t, S>, Consumer<Flow<On<Order>>>), AllocError>
+    requires least_ring { 1 ≤ ring }
+    requires most_ring { ring ≤ GREATEST_CAPACITY }
+    ensures chain { IfOk result (λ made. IsOriginating made.0.feed made.0.pulse made.0.register
+        made.0.translate made.1 (S.rest source) table.now) }
+    ensures fresh { IfOk result (λ made. received made.1 ≡ []) }
+{
+    let (rows_in, rows_out) = link(alloc, ring)?;
+    let feed = Feed::new(alloc, source, rows_in)?;
+    let (signals_in, signals_out) = link(alloc, ring)?;
+    let pulse = Station::new(alloc, Pulse::new(table.limits()), rows_out, signals_in)?;
+    let (dialled_in, dialled_out) = link(alloc, ring)?;
+    let register = Station::new(alloc, Register::new(table.plan()), signals_out, dialled_in)?;
+    let (orders_in, orders_out) = link(alloc, ring)?;
+    let translate = Station::new(alloc, Translate::new(table), dialled_out, orders_in)?;
+    let posts = Originating {
+        feed,
+        pulse,
+        register,
+        translate,
+    };
+    Ok((posts, orders_out))
+}
+
+// Makes the posts from orders to tapes, and the rings between them.
+fn make_outgoing(
+    alloc: Global,
+    orders: Consumer<Flow<On<Order>>>,
+    senders: usize,
+    ring: usize,
+) -> Result<Outgoing, AllocError>
+    requires fresh { received orders ≡ [] }
+    requires least_senders { 1 ≤ senders }
+    requires most_senders { senders ≤ MOST_BRANCHES }
+    requires least_ring { 1 ≤ ring }
+    requires most_ring { ring ≤ GREATEST_CAPACITY }
+    ensures orders { IfOk result (λ posts. posts.deal.consumer ≡ orders) }
+    ensures chain { IfOk result (λ posts.
+        IsOutgoing posts.deal posts.senders.items posts.gather posts.tape) }
+{
+    let bank = make_bank(alloc, senders, ring)?;
+    let (marks_in, marks_out) = link(alloc, ring)?;
+    let deal = Deal::new(orders, bank.orders);
+    let gather = Gather::new(bank.marks, marks_in);
+    let tape = TapeStation::new(alloc, marks_out)?;
+    Ok(Outgoing {
+        deal,
+        senders: bank.senders,
+        gather,
+        tape,
+    })
+}
 
 // Makes the posts, and the rings between them.
 fn make_posts<'t, S: RowSource + Drop>(
@@ -38,32 +100,16 @@ fn make_posts<'t, S: RowSource + Drop>(
     requires most_senders { senders ≤ MOST_BRANCHES }
     requires least_ring { 1 ≤ ring }
     requires most_ring { ring ≤ GREATEST_CAPACITY }
-    ensures { IfOk result (λ posts. IsChain posts.feed posts.pulse posts.register
-        posts.translate posts.deal posts.senders.items posts.gather posts.tape
+    ensures { IfOk result (λ posts. IsChain posts.originating.feed posts.originating.pulse
+        posts.originating.register posts.originating.translate posts.outgoing.deal
+        posts.outgoing.senders.items posts.outgoing.gather posts.outgoing.tape
         (S.rest source) table.now) }
 {
-    let (rows_in, rows_out) = link(alloc, ring)?;
-    let (signals_in, signals_out) = link(alloc, ring)?;
-    let (dialled_in, dialled_out) = link(alloc, ring)?;
-    let (orders_in, orders_out) = link(alloc, ring)?;
-    let (marks_in, marks_out) = link(alloc, ring)?;
-    let bank = make_bank(alloc, senders, ring)?;
-    let feed = Feed::new(alloc, source, rows_in)?;
-    let pulse = Station::new(alloc, Pulse::new(table.limits()), rows_out, signals_in)?;
-    let register = Station::new(alloc, Register::new(table.plan()), signals_out, dialled_in)?;
-    let translate = Station::new(alloc, Translate::new(table), dialled_out, orders_in)?;
-    let deal = Deal::new(orders_out, bank.orders);
-    let gather = Gather::new(bank.marks, marks_in);
-    let tape = TapeStation::new(alloc, marks_out)?;
+    let (originating, orders) = make_originating(alloc, source, table, ring)?;
+    let outgoing = make_outgoing(alloc, orders, senders, ring)?;
     Ok(Posts {
-        feed,
-        pulse,
-        register,
-        translate,
-        deal,
-        senders: bank.senders,
-        gather,
-        tape,
+        originating,
+        outgoing,
     })
 }
 
@@ -84,13 +130,13 @@ fn serve_all<
     posts: Posts<'t, S>,
     gate: &'s G,
 ) -> Result<AllDone, BankFault>
-    requires few { vec_len posts.senders ≤ MOST_BRANCHES }
-    ensures kept { IfOk result (λ done. PostsKept posts.entry.feed posts.entry.pulse
-        posts.entry.register posts.entry.translate posts.entry.deal posts.entry.senders.items
-        posts.entry.gather posts.entry.tape done) }
+    requires few { vec_len posts.outgoing.senders ≤ MOST_BRANCHES }
+    ensures kept { IfOk result (λ done. PostsKept posts.entry.originating.feed posts.entry.originating.pulse
+        posts.entry.originating.register posts.entry.originating.translate posts.entry.outgoing.deal posts.entry.outgoing.senders.items
+        posts.entry.outgoing.gather posts.entry.outgoing.tape done) }
     ensures fault { IfErr result (IsBankFault None) }
 {
-    let count = posts.senders.len();
+    let count = posts.outgoing.senders.len();
     let handles = Vec::with_capacity(alloc, count)?;
     let senders_done = Vec::with_capacity(alloc, count)?;
     match start_posts(scope, rt, word, posts, handles, gate) {
@@ -112,10 +158,10 @@ fn serve_posts<S: RowSource + Drop + Send, R: Threads + Wait + Clock + Sync, G: 
     posts: Posts<'_, S>,
     gate: &G,
 ) -> Result<AllDone, BankFault>
-    requires few { vec_len posts.senders ≤ MOST_BRANCHES }
-    ensures kept { IfOk result (λ done. PostsKept posts.entry.feed posts.entry.pulse
-        posts.entry.register posts.entry.translate posts.entry.deal posts.entry.senders.items
-        posts.entry.gather posts.entry.tape done) }
+    requires few { vec_len posts.outgoing.senders ≤ MOST_BRANCHES }
+    ensures kept { IfOk result (λ done. PostsKept posts.entry.originating.feed posts.entry.originating.pulse
+        posts.entry.originating.register posts.entry.originating.translate posts.entry.outgoing.deal posts.entry.outgoing.senders.items
+        posts.entry.outgoing.gather posts.entry.outgoing.tape done) }
     ensures fault { IfErr result (IsBankFault None) }
 {
     let word = AtomicU64::new(0);
@@ -124,11 +170,11 @@ fn serve_posts<S: RowSource + Drop + Send, R: Threads + Wait + Clock + Sync, G: 
         thread::scope_env(),
         rt,
         move |scope| -> Result<AllDone, BankFault>
-            requires few { vec_len posts.senders ≤ MOST_BRANCHES }
+            requires few { vec_len posts.outgoing.senders ≤ MOST_BRANCHES }
             requires types { IsSend S.row × IsSync R.row × IsSync G.row }
-            ensures kept { IfOk result (λ done. PostsKept posts.entry.feed posts.entry.pulse
-                posts.entry.register posts.entry.translate posts.entry.deal
-                posts.entry.senders.items posts.entry.gather posts.entry.tape done) }
+            ensures kept { IfOk result (λ done. PostsKept posts.entry.originating.feed posts.entry.originating.pulse
+                posts.entry.originating.register posts.entry.originating.translate posts.entry.outgoing.deal
+                posts.entry.outgoing.senders.items posts.entry.outgoing.gather posts.entry.outgoing.tape done) }
             ensures fault { IfErr result (IsBankFault None) }
         { serve_all(scope, rt, start_word, alloc, posts, gate) },
     )

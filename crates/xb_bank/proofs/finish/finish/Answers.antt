@@ -1,4 +1,4 @@
-use Rattle.std.proofs.Common.{◌≡◌, sym, ◌∙◌}
+use Rattle.std.proofs.Common.{sym, ◌∙◌}
 use Rattle.xb_bank.proofs.Drained.{tapes_are}
 use Rattle.xb_bank.proofs.finish.finish.Goals as goal
 

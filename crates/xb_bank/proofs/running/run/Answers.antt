@@ -13,7 +13,7 @@ returns-in-Ok-clause-tapes g c =
     let t = c.args.table.now in
     let rows = (g.S.RowSource.rest c.args.source).rows in
     let served = have_served _ _ _ _ _ _ _ _ _ _ _ c.in_ok-posts.ensures c.in_ok-done.ensures.kept in
-    tapes-serial t.plan t.limits t.routes c.in_ok-posts.ensures.lawful c.in-Ok.tapes _ rows
+    tapes-serial t.plan t.limits t.routes c.in_ok-posts.ensures.originating.lawful c.in-Ok.tapes _ rows
     (c.in-Ok.ensures.tapes t.plan t.limits t.routes (fed rows None) served) refl
 
 pub returns-in-Ok-clause-marks : goal.returns-in-Ok-clause-marks
@@ -21,7 +21,7 @@ returns-in-Ok-clause-marks g c =
     let t = c.args.table.now in
     let rows = (g.S.RowSource.rest c.args.source).rows in
     let served = have_served _ _ _ _ _ _ _ _ _ _ _ c.in_ok-posts.ensures c.in_ok-done.ensures.kept in
-    marks_at-serial t.plan t.limits t.routes c.in_ok-posts.ensures.lawful c.in-Ok.tapes _ rows
+    marks_at-serial t.plan t.limits t.routes c.in_ok-posts.ensures.originating.lawful c.in-Ok.tapes _ rows
     (c.in-Ok.ensures.tapes t.plan t.limits t.routes (fed rows None) served) refl
 
 pub returns-in-Ok-clause-entries : goal.returns-in-Ok-clause-entries
@@ -29,5 +29,5 @@ returns-in-Ok-clause-entries g c =
     let t = c.args.table.now in
     let rows = (g.S.RowSource.rest c.args.source).rows in
     let served = have_served _ _ _ _ _ _ _ _ _ _ _ c.in_ok-posts.ensures c.in_ok-done.ensures.kept in
-    entries-serial t.plan t.limits t.routes c.in_ok-posts.ensures.lawful c.in-Ok.tapes _ rows
+    entries-serial t.plan t.limits t.routes c.in_ok-posts.ensures.originating.lawful c.in-Ok.tapes _ rows
     (c.in-Ok.ensures.tapes t.plan t.limits t.routes (fed rows None) served) refl

@@ -1,4 +1,4 @@
-use Rattle.std.proofs.Common.{ℕ, subst, sym, ap, arith}
+use Rattle.std.proofs.Common.{subst, sym, ap, arith}
 use Rattle.rtrb.specs.Ring.{IsPair}
 use Rattle.xb_model.specs.declared.on.On.{On}
 use Rattle.xb_model.specs.declared.mark.Mark.{Mark}
