@@ -2,23 +2,20 @@
 ghost use Rattle.std.specs.Prelude.{◌≡◌, ℕ, ◌+◌, ◌-◌, ◌^◌, min, nat_lt, if◌then◌else◌};
 
 use std::marker::Model;
+use std::thread;
 use std::time::{Clock, Duration};
-use std::{hint, thread};
 
-/// How often a wait spins before it yields.
-const SPINS: u32 = 32;
-
-/// How often a wait spins and yields before it sleeps.
-const AWAKE: u32 = 52;
+/// How often a wait yields before it sleeps.
+const AWAKE: u32 = 40;
 
 /// How long each sleep is, in microseconds.
 const NAP: u64 = 1;
 
-/// How a post waits whose turn made no event (own profile): it spins, then yields, then sleeps. A
-/// post that spins or yields for ever takes the processor from those that it waits for, and one that
-/// sleeps at once wakes too late; so a short wait costs little, and a long one leaves the processor
-/// to others. A wait that follows one that slept yields once and then sleeps, since the others are
-/// then slow. Clauses see how often this wait has spun, yielded or slept.
+/// How a post waits whose turn made no event (own profile): it yields, then sleeps. A post that yields
+/// for ever takes the processor from those that it waits for, and one that sleeps at once wakes too
+/// late; so a short wait costs little, and a long one leaves the processor to others. A wait that
+/// follows one that slept yields once and then sleeps, since the others are then slow. Clauses see how
+/// often this wait has yielded or slept.
 #[derive(Debug, Drop)]
 pub struct Pause {
     waited: u32,
@@ -40,13 +37,11 @@ impl Pause {
         Pause { waited: 0 }
     }
 
-    /// Waits a little: each call spins, yields or sleeps once.
+    /// Waits a little: each call yields or sleeps once.
     pub fn wait<R: Clock>(&mut self, rt: &R)
         ensures { self.new ≡ min (self.old + 1) (2 ^ 32 - 1) }
     {
-        if self.waited < SPINS {
-            hint::spin_loop();
-        } else if self.waited < AWAKE {
+        if self.waited < AWAKE {
             thread::yield_now();
         } else {
             thread::sleep(rt, Duration::from_micros(NAP));
@@ -54,7 +49,7 @@ impl Pause {
         self.waited = self.waited.saturating_add(1);
     }
 
-    /// The wait is over: the next one spins first, or after a sleep yields once.
+    /// The wait is over: the next one sleeps after `AWAKE` yields, or after one where this one slept.
     pub fn over(&mut self)
         ensures { self.new ≡ (if nat_lt AWAKE self.old then AWAKE - 1 else 0) }
     {

@@ -87,7 +87,7 @@ fn serves_with_a_pass_for_each_turn(rt: HostRuntime) -> Result<(), AllocError> {
     Ok(())
 }
 
-// The End comes 5 ms late: the station spins, yields and sleeps until then.
+// The End comes 5 ms late: the station yields and sleeps until then.
 #[test]
 fn serves_what_comes_late(rt: HostRuntime) -> Result<(), AllocError> {
     let alloc = rt.alloc();
