@@ -18,7 +18,7 @@ const WORKED: Worked = Worked {
 #[test]
 fn deck_is_written_out(rt: HostRuntime) -> Result<(), Fail> {
     let alloc = rt.alloc();
-    let rows = one_after_another(&rt, alloc, &WORKED)?;
+    let rows = one_after_another(alloc, &WORKED)?;
     assert_eq!(rt; deck_of(alloc, TABLE, &rows)?.as_str(), DECK);
     assert_eq!(rt; page_of(alloc, WORKED.page)?.as_str(), PAGE);
     assert_eq!(rt; rows.len(), ROWS);
