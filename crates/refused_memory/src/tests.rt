@@ -1,5 +1,8 @@
-// The deck is the one that its short form makes, and so is its page.
+// The deck is the one that its short form makes, and each call succeeds where nothing is refused.
+use crate::calls::try_call;
 use crate::decks::{DECK, PAGE, ROWS, row_at};
+use crate::outcome::Outcome;
+use crate::refusal::Aim;
 use std::test::Fail;
 use worked_decks::decks::{TABLE, Worked, deck_of, one_after_another, page_of};
 
@@ -15,6 +18,33 @@ const WORKED: Worked = Worked {
     ],
 };
 
+// The calls that may run out of memory.
+const CALLS: [&str; 13] = [
+    "link",
+    "Station::new",
+    "RouteTable::read",
+    "read_rows",
+    "Scan::next_row",
+    "Feed::new",
+    "Feed::turn",
+    "TapeStation::new",
+    "TapeStation::turn",
+    "key_serial",
+    "page",
+    "Replay::new",
+    "Replay::turn",
+];
+
+// Those of them that wait for others, a serve among them.
+const WAITING: [&str; 6] = [
+    "Feed::serve",
+    "TapeStation::serve",
+    "run",
+    "operate",
+    "operate_on_a_fault",
+    "attend",
+];
+
 #[test]
 fn deck_is_written_out(rt: HostRuntime) -> Result<(), Fail> {
     let alloc = rt.alloc();
@@ -26,4 +56,26 @@ fn deck_is_written_out(rt: HostRuntime) -> Result<(), Fail> {
         assert!(rt; row_at(n) == Some(*row), "{n}");
     }
     Ok(())
+}
+
+#[test]
+fn ample_memory_succeeds(rt: HostRuntime) {
+    for name in CALLS {
+        let outcome = try_call(&rt, rt.alloc(), name, Aim::Call(0));
+        assert_eq!(rt; outcome, Some(Outcome::Ample), "{name}");
+    }
+}
+
+#[test]
+fn serve_ends(rt: HostRuntime) {
+    for name in WAITING {
+        let outcome = try_call(&rt, rt.alloc(), name, Aim::Call(0));
+        assert_eq!(rt; outcome, Some(Outcome::Ample), "{name}");
+    }
+}
+
+#[test]
+fn another_call_is_wrong(rt: HostRuntime) {
+    let outcome = try_call(&rt, rt.alloc(), "no_call", Aim::Call(0));
+    assert_eq!(rt; outcome, Some(Outcome::Wrong));
 }
