@@ -9,6 +9,7 @@
 mod calls;
 mod chain;
 mod decks;
+mod dialling;
 mod feeds;
 mod held;
 mod office;
