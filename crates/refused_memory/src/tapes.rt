@@ -1,4 +1,7 @@
 // The tape station: a keying of nine marks on line 7, and two refusals on line 16.
+ghost use Rattle.std.specs.Prelude.{◌≡◌, [], IfSome};
+ghost use Rattle.rtrb.specs.Ring.{received};
+
 use crate::decks::{ABANDONED, tone};
 use crate::outcome::Outcome;
 use crate::refusal::Aim;
@@ -46,8 +49,10 @@ fn push_marks(output: &mut Producer<Flow<On<Mark>>>, line: LineNo, marks: &[Mark
     })
 }
 
-// A ring that holds the marks and the End, or as much as fits.
-fn filled_ring(alloc: Global) -> Option<MarkInput> {
+// The end of a ring that holds the marks and the End, of which nothing was received.
+fn filled_ring(alloc: Global) -> Option<MarkInput>
+    ensures { IfSome result (λ input. received input ≡ []) }
+{
     let (mut output, input) = link(alloc, RING).ok()?;
     let (keyed, refused) = lines()?;
     let marks = keying()?;
