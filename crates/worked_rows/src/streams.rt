@@ -108,6 +108,19 @@ fn operated<R: Read, W: Write, H: Threads + Wait + Clock + Sync>(
     operate(rt, alloc, deck, out, 3, 2)
 }
 
+// A writer that fails after ten bytes, and a reader that fails at once.
+#[test]
+fn failing_streams(rt: HostRuntime) -> Result<(), Fail> {
+    let alloc = rt.alloc();
+    let (deck, _page) = deck_and_page(alloc)?;
+    let mut reader = deck.as_bytes();
+    let mut out = Taking::until(alloc, 10, Some(ErrorKind::Other));
+    assert!(rt; operated(&rt, alloc, &mut reader, &mut out) == Err(OfficeFault::Write));
+    assert_eq!(rt; out.taken.as_slice(), b"0007 1 KEY".as_slice());
+    check_reader(&rt, alloc, b"", ErrorKind::Other);
+    Ok(())
+}
+
 // A reader that fails after these bytes is read once more, and no page is written.
 fn check_reader<H: Threads + Wait + Clock + Abort + Sync>(
     rt: &H,
