@@ -30,7 +30,12 @@ fn count_rows(ring: &mut Consumer<Flow<Row>>) -> (usize, Option<Flow<Row>>) {
 
 // Whether a ring gives these items, and no more.
 fn gives(ring: &mut Consumer<Flow<Row>>, items: &[Flow<Row>]) -> bool {
-    items.iter().all(|item| ring.pop().ok() == Some(*item)) && ring.pop().is_err()
+    for item in items {
+        if ring.pop().ok() != Some(*item) {
+            return false;
+        }
+    }
+    ring.pop().is_err()
 }
 
 // Whether a ring gives all rows, a close of each line, and the End.

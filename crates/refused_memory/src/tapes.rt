@@ -43,10 +43,13 @@ fn lines() -> Option<(LineNo, LineNo)> {
 }
 
 fn push_marks(output: &mut Producer<Flow<On<Mark>>>, line: LineNo, marks: &[Mark]) -> bool {
-    marks.iter().all(|mark| {
+    for mark in marks {
         let what = *mark;
-        output.push(Flow::Item(On { line, what })).is_ok()
-    })
+        if output.push(Flow::Item(On { line, what })).is_err() {
+            return false;
+        }
+    }
+    true
 }
 
 // The end of a ring that holds the marks and the End, of which nothing was received.
