@@ -33,7 +33,7 @@ fn written<H: Threads + Wait + Clock + Sync>(
 ) -> Result<Vec<u8>, OfficeFault> {
     let mut reader = deck;
     let mut page: Vec<u8> = Vec::new(alloc);
-    match operate(rt, alloc, &mut reader, &mut page, 3, 2) {
+    match operate(rt, alloc, &mut reader, &mut page, 4, 1024) {
         Ok(()) => Ok(page),
         // nothing may be written then
         Err(_) if !page.is_empty() => Err(OfficeFault::Write),
