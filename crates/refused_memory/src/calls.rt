@@ -1,7 +1,7 @@
 // The calls by their names.
 use crate::outcome::Outcome;
 use crate::refusal::Aim;
-use crate::{chain, dialling, feeds, office, rings, tapes, texts};
+use crate::{chain, feeds, office, rings, tapes, texts};
 use std::alloc::Global;
 use std::sync::Wait;
 use std::thread::Threads;
@@ -34,9 +34,6 @@ pub fn try_call<R: Threads + Wait + Clock + Sync>(
         "operate" => office::try_operate(rt, alloc, aim),
         "operate_on_a_fault" => office::try_faulty(rt, alloc, aim),
         "attend" => office::try_attend(rt, alloc, aim),
-        "calls_of_text" => dialling::try_calls(alloc, aim),
-        "rows_of_calls" => dialling::try_rows(alloc, aim),
-        "text_of_rows" => dialling::try_text(alloc, aim),
         _ => Some(Outcome::Wrong),
     }
 }

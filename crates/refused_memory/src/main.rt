@@ -9,7 +9,6 @@
 mod calls;
 mod chain;
 mod decks;
-mod dialling;
 mod feeds;
 mod held;
 mod office;

@@ -19,7 +19,7 @@ const WORKED: Worked = Worked {
 };
 
 // The calls that may run out of memory.
-const CALLS: [&str; 16] = [
+const CALLS: [&str; 13] = [
     "link",
     "Station::new",
     "RouteTable::read",
@@ -33,9 +33,6 @@ const CALLS: [&str; 16] = [
     "page",
     "Replay::new",
     "Replay::turn",
-    "calls_of_text",
-    "rows_of_calls",
-    "text_of_rows",
 ];
 
 // Those of them that wait for others, a serve among them.
