@@ -1,7 +1,6 @@
 // Decks and pages, as text.
 use crate::pulses::{in_turn, rows_of};
 use std::alloc::{AllocError, Global};
-use std::process::Abort;
 use std::test::Fail;
 use xb_model::{Contact, Row};
 
@@ -40,25 +39,21 @@ pub struct Worked {
 }
 
 /// The rows of the lines, one line after the other.
-pub fn one_after_another(
-    rt: &impl Abort,
-    alloc: Global,
-    worked: &Worked,
-) -> Result<Vec<Row>, Fail> {
+pub fn one_after_another(alloc: Global, worked: &Worked) -> Result<Vec<Row>, Fail> {
     let mut rows = Vec::new(alloc);
     for (line, pieces) in worked.lines {
-        rows.extend_from_slice(&rows_of(rt, alloc, *line, pieces)?)?;
+        rows.extend_from_slice(&rows_of(alloc, *line, pieces)?)?;
     }
     Ok(rows)
 }
 
 /// The rows of two lines, one row of each in turn.
-pub fn two_in_turn(rt: &impl Abort, alloc: Global, worked: &Worked) -> Result<Vec<Row>, Fail> {
+pub fn two_in_turn(alloc: Global, worked: &Worked) -> Result<Vec<Row>, Fail> {
     let [(first, first_pieces), (second, second_pieces)] = worked.lines else {
         return Err(Fail::from("not two lines"));
     };
-    let first_rows = rows_of(rt, alloc, *first, first_pieces)?;
-    let second_rows = rows_of(rt, alloc, *second, second_pieces)?;
+    let first_rows = rows_of(alloc, *first, first_pieces)?;
+    let second_rows = rows_of(alloc, *second, second_pieces)?;
     in_turn(alloc, &first_rows, &second_rows)
 }
 

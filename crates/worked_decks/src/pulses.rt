@@ -4,7 +4,6 @@
 // breaks of 60 ms with makes of 40 ms between them and one of 600 ms after; or `#4`, the train
 // `*4/600`, and `#0` ten breaks.
 use std::alloc::Global;
-use std::process::Abort;
 use std::test::Fail;
 use xb_model::{Contact, LineNo, Row};
 
@@ -17,62 +16,51 @@ const MAKE: u32 = 40;
 /// The make after a digit, in ms.
 const PAUSE: u32 = 600;
 
-fn push(
-    rt: &impl Abort,
-    rows: &mut Vec<Row>,
-    line: LineNo,
-    contact: Contact,
-    ms: u32,
-) -> Result<(), Fail> {
-    rows.push(Row::new(line, contact, ms).expect(rt, "a row"))?;
+fn push(rows: &mut Vec<Row>, line: LineNo, contact: Contact, ms: u32) -> Result<(), Fail> {
+    rows.push(Row::new(line, contact, ms).ok_or("a row that is none")?)?;
     Ok(())
 }
 
 // So many breaks, and the make after the last.
-fn push_train(
-    rt: &impl Abort,
-    rows: &mut Vec<Row>,
-    line: LineNo,
-    breaks: u32,
-    last: u32,
-) -> Result<(), Fail> {
+fn push_train(rows: &mut Vec<Row>, line: LineNo, breaks: u32, last: u32) -> Result<(), Fail> {
     for n in 0..breaks {
-        push(rt, rows, line, Contact::Brk, BREAK)?;
+        push(rows, line, Contact::Brk, BREAK)?;
         if n + 1 < breaks {
-            push(rt, rows, line, Contact::Make, MAKE)?;
+            push(rows, line, Contact::Make, MAKE)?;
         }
     }
-    push(rt, rows, line, Contact::Make, last)
+    push(rows, line, Contact::Make, last)
 }
 
-fn push_piece(rt: &impl Abort, rows: &mut Vec<Row>, line: LineNo, piece: &str) -> Result<(), Fail> {
+fn push_piece(rows: &mut Vec<Row>, line: LineNo, piece: &str) -> Result<(), Fail> {
     if let Some(ms) = piece.strip_prefix('M') {
-        push(rt, rows, line, Contact::Make, ms.parse::<u32>()?)
+        push(rows, line, Contact::Make, ms.parse::<u32>()?)
     } else if let Some(ms) = piece.strip_prefix('B') {
-        push(rt, rows, line, Contact::Brk, ms.parse::<u32>()?)
+        push(rows, line, Contact::Brk, ms.parse::<u32>()?)
     } else if let Some(digit) = piece.strip_prefix('#') {
         let breaks = match digit.parse::<u32>()? {
             0 => 10,
             digit => digit,
         };
-        push_train(rt, rows, line, breaks, PAUSE)
+        push_train(rows, line, breaks, PAUSE)
     } else if let Some(train) = piece.strip_prefix('*') {
         let (breaks, last) = train
             .split_once('/')
             .ok_or("a train without its last make")?;
-        push_train(rt, rows, line, breaks.parse::<u32>()?, last.parse::<u32>()?)
+        push_train(rows, line, breaks.parse::<u32>()?, last.parse::<u32>()?)
+    } else if piece == "C" {
+        push(rows, line, Contact::Close, 0)
     } else {
-        assert_eq!(rt; piece, "C");
-        push(rt, rows, line, Contact::Close, 0)
+        Err(Fail::from("a piece that is none"))
     }
 }
 
 /// The rows of a line.
-pub fn rows_of(rt: &impl Abort, alloc: Global, line: u16, pieces: &str) -> Result<Vec<Row>, Fail> {
-    let line = LineNo::new(line).expect(rt, "a line");
+pub fn rows_of(alloc: Global, line: u16, pieces: &str) -> Result<Vec<Row>, Fail> {
+    let line = LineNo::new(line).ok_or("a line that is none")?;
     let mut rows = Vec::new(alloc);
     for piece in pieces.split(' ') {
-        push_piece(rt, &mut rows, line, piece)?;
+        push_piece(&mut rows, line, piece)?;
     }
     Ok(rows)
 }

@@ -37,7 +37,7 @@ KEYED 1 REFUSED 0
 #[test]
 fn operator_call_is_written_out(rt: HostRuntime) -> Result<(), Fail> {
     let alloc = rt.alloc();
-    let rows = one_after_another(&rt, alloc, &OPERATOR_CALL)?;
+    let rows = one_after_another(alloc, &OPERATOR_CALL)?;
     let deck = deck_of(alloc, TABLE, &rows)?;
     assert_eq!(rt; deck.as_str().strip_prefix(TABLE), Some(ROWS));
     assert_eq!(rt; page_of(alloc, OPERATOR_CALL.page)?.as_str(), PAGE);

@@ -80,7 +80,7 @@ fn check_sheet<R: Threads + Wait + Clock + Abort + Sync>(
     attempts: &[Worked],
 ) -> Result<(), Fail> {
     for worked in attempts {
-        let rows = one_after_another(rt, alloc, worked)?;
+        let rows = one_after_another(alloc, worked)?;
         check_operated(rt, alloc, table, &rows, worked)?;
         check_serial(rt, alloc, table, &rows, worked)?;
     }
@@ -99,7 +99,7 @@ fn same_bytes_everywhere(rt: HostRuntime) -> Result<(), Fail> {
 #[test]
 fn two_lines_in_turn(rt: HostRuntime) -> Result<(), Fail> {
     let alloc = rt.alloc();
-    let rows = two_in_turn(&rt, alloc, &TWO_LINES_IN_TURN)?;
+    let rows = two_in_turn(alloc, &TWO_LINES_IN_TURN)?;
     check_operated(&rt, alloc, TABLE, &rows, &TWO_LINES_IN_TURN)?;
     check_serial(&rt, alloc, TABLE, &rows, &TWO_LINES_IN_TURN)?;
     Ok(())

@@ -8,6 +8,10 @@ mod faults;
 #[cfg(test)]
 mod forms;
 #[cfg(test)]
+mod hostile;
+#[cfg(test)]
+mod hostile_decks;
+#[cfg(test)]
 mod keyed;
 #[cfg(test)]
 mod memory;

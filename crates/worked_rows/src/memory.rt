@@ -21,7 +21,7 @@ fn tone(key: Key, low: u16, high: u16) -> Mark {
 fn ample_memory_succeeds(rt: HostRuntime) -> Result<(), Fail> {
     let alloc = rt.alloc();
     let line = LineNo::new(5).ok_or("no line 5")?;
-    let rows = rows_of(&rt, alloc, 5, PIECES)?;
+    let rows = rows_of(alloc, 5, PIECES)?;
     let mut closed = rows.clone()?;
     closed.push(Row::new(line, Contact::Close, 0).ok_or("no close")?)?;
     let fed = fed_rows(alloc, &rows)?;
@@ -71,7 +71,7 @@ fn ample_memory_lengthens_tapes(rt: HostRuntime) -> Result<(), Fail> {
 #[test]
 fn ample_memory_serves_streams(rt: HostRuntime) -> Result<(), Fail> {
     let alloc = rt.alloc();
-    let rows = rows_of(&rt, alloc, 5, PIECES)?;
+    let rows = rows_of(alloc, 5, PIECES)?;
     let deck = deck_of(alloc, TABLE, &rows)?;
     let (_, text) = deck.as_str().split_once("---\n").ok_or("no cut")?;
     let mut reader = text.as_bytes();

@@ -1,6 +1,5 @@
 // The words of the command line, with the deck of an operator call.
 use std::alloc::{AllocError, Global};
-use std::process::Abort;
 use std::sync::Wait;
 use std::test::Fail;
 use std::thread::Threads;
@@ -54,15 +53,15 @@ fn run_by<R: Threads + Wait + Clock + Sync>(
 }
 
 // The deck of the operator call.
-fn operator_deck(rt: &impl Abort, alloc: Global) -> Result<String, Fail> {
-    let rows = one_after_another(rt, alloc, &OPERATOR_CALL)?;
+fn operator_deck(alloc: Global) -> Result<String, Fail> {
+    let rows = one_after_another(alloc, &OPERATOR_CALL)?;
     deck_of(alloc, TABLE, &rows)
 }
 
 #[test]
 fn ring_of_one(rt: HostRuntime) -> Result<(), Fail> {
     let alloc = rt.alloc();
-    let deck = operator_deck(&rt, alloc)?;
+    let deck = operator_deck(alloc)?;
     let got = run_by(&rt, alloc, &["--ring", "1"], deck.as_str())?;
     let wanted = page_of(alloc, OPERATOR_CALL.page)?;
     assert_eq!(rt; got.status, 0);
@@ -74,7 +73,7 @@ fn ring_of_one(rt: HostRuntime) -> Result<(), Fail> {
 #[test]
 fn usage(rt: HostRuntime) -> Result<(), Fail> {
     let alloc = rt.alloc();
-    let deck = operator_deck(&rt, alloc)?;
+    let deck = operator_deck(alloc)?;
     for words in REFUSED {
         let got = run_by(&rt, alloc, words, deck.as_str())?;
         assert_eq!(rt; got.status, 2, "{words:?}");
