@@ -28,18 +28,42 @@ fn starve(
     Ok(())
 }
 
-fn starve_each(rt: &impl Abort, alloc: Global, deck: &Deck) -> Result<(), Fail> {
+fn starve_each(rt: &impl Abort, alloc: Global, deck: &Deck, posts: &[Post]) -> Result<(), Fail> {
     let all = round_of(alloc, 8)?;
-    for starved in &all {
+    for starved in posts {
         starve(rt, alloc, deck, &all, *starved)?;
     }
     Ok(())
 }
 
-#[test]
-fn hostile_decks_with_each_post_starved(rt: HostRuntime) -> Result<(), Fail> {
-    for deck in &all_decks(&rt, rt.alloc())? {
-        starve_each(&rt, rt.alloc(), deck)?;
+// Each of these posts in turn, on each deck.
+fn starve_on_all(rt: &impl Abort, alloc: Global, posts: &[Post]) -> Result<(), Fail> {
+    for deck in &all_decks(rt, alloc)? {
+        starve_each(rt, alloc, deck, posts)?;
     }
     Ok(())
+}
+
+#[test]
+fn hostile_decks_with_a_stage_starved(rt: HostRuntime) -> Result<(), Fail> {
+    let stages = [Post::Feed, Post::Pulse, Post::Register, Post::Translate];
+    starve_on_all(&rt, rt.alloc(), &stages)
+}
+
+#[test]
+fn hostile_decks_with_an_early_sender_starved(rt: HostRuntime) -> Result<(), Fail> {
+    let senders = [Post::Send(0), Post::Send(1), Post::Send(2), Post::Send(3)];
+    starve_on_all(&rt, rt.alloc(), &senders)
+}
+
+#[test]
+fn hostile_decks_with_a_late_sender_starved(rt: HostRuntime) -> Result<(), Fail> {
+    let senders = [Post::Send(4), Post::Send(5), Post::Send(6), Post::Send(7)];
+    starve_on_all(&rt, rt.alloc(), &senders)
+}
+
+#[test]
+fn hostile_decks_with_a_shared_post_starved(rt: HostRuntime) -> Result<(), Fail> {
+    let shared = [Post::Deal, Post::Gather, Post::Tape];
+    starve_on_all(&rt, rt.alloc(), &shared)
 }
