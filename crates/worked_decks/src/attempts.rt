@@ -33,6 +33,17 @@ pub const SEVEN_DIGITS: Worked = Worked {
     page: &["0007 1 SEVEN_DIGITS", "KEYED 1 REFUSED 0"],
 };
 
+/// A line dials the operator, hangs up, and dials a service.
+pub const SECOND_CALL: Worked = Worked {
+    name: "second_call",
+    lines: &[(3, "M500 #0 #9 B400 M500 #4 #1 #1")],
+    page: &[
+        "0003 1 OPERATOR",
+        "0003 2 SERVICE_CODE",
+        "KEYED 2 REFUSED 0",
+    ],
+};
+
 /// What lines do under the usual table.
 pub const ATTEMPTS: &[Worked] = &[
     Worked {
@@ -134,15 +145,7 @@ pub const ATTEMPTS: &[Worked] = &[
             "KEYED 1 REFUSED 2",
         ],
     },
-    Worked {
-        name: "second_call",
-        lines: &[(3, "M500 #0 #9 B400 M500 #4 #1 #1")],
-        page: &[
-            "0003 1 OPERATOR",
-            "0003 2 SERVICE_CODE",
-            "KEYED 2 REFUSED 0",
-        ],
-    },
+    SECOND_CALL,
 ];
 
 /// Two lines, one row of each in turn, under the usual table.

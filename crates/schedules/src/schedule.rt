@@ -1,0 +1,63 @@
+// Lists of posts, and turns by them.
+use crate::played::Played;
+use crate::wanted::Wanted;
+use std::alloc::{AllocError, Global};
+use std::process::Abort;
+use std::test::Fail;
+use xb_ring::Post;
+
+/// All posts of a chain with so many senders, each once, the feed first and the tape last.
+pub fn round_of(alloc: Global, senders: u8) -> Result<Vec<Post>, AllocError> {
+    let mut posts = Vec::new(alloc);
+    posts.extend_from_slice(&[
+        Post::Feed,
+        Post::Pulse,
+        Post::Register,
+        Post::Translate,
+        Post::Deal,
+    ])?;
+    for sender in 0..senders {
+        posts.push(Post::Send(sender))?;
+    }
+    posts.extend_from_slice(&[Post::Gather, Post::Tape])?;
+    Ok(posts)
+}
+
+/// The same posts but for one.
+pub fn without(alloc: Global, posts: &[Post], starved: Post) -> Result<Vec<Post>, AllocError> {
+    let mut others = Vec::new(alloc);
+    for post in posts {
+        if *post != starved {
+            others.push(*post)?;
+        }
+    }
+    Ok(others)
+}
+
+// One turn of each post. After each turn the marks of each line are the beginning of its tape.
+fn play_round(
+    rt: &impl Abort,
+    played: &mut impl Played,
+    wanted: &Wanted,
+    posts: &[Post],
+) -> Result<(), Fail> {
+    for post in posts {
+        played.turn(*post)?;
+        assert!(rt; wanted.begin_with(played), "after a turn of {post}");
+    }
+    Ok(())
+}
+
+/// So many rounds of these posts. After each turn the marks of each line are the beginning of its tape.
+pub fn play_rounds(
+    rt: &impl Abort,
+    played: &mut impl Played,
+    wanted: &Wanted,
+    posts: &[Post],
+    rounds: u32,
+) -> Result<(), Fail> {
+    for _round in 0..rounds {
+        play_round(rt, played, wanted, posts)?;
+    }
+    Ok(())
+}

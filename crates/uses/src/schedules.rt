@@ -1,0 +1,44 @@
+// A schedule of turns, on one thread.
+ghost use Rattle.std.specs.Prelude.{◌≡◌, IfOk, IsTrue};
+ghost use mathlib.Core.List.{IsPrefix};
+ghost use Rattle.xb_model.specs.Tapes.{joined_tape};
+
+use std::alloc::{AllocError, Global};
+use xb_model::{LineNo, Mark, Row};
+use xb_replay::Replay;
+use xb_ring::Post;
+use xb_routes::RouteTable;
+
+/// What a schedule has made of a line.
+#[derive(Debug, Drop)]
+pub struct SoFar {
+    /// The marks of the line so far.
+    pub marks: Vec<Mark>,
+    /// Whether all posts have ended.
+    pub ended: bool,
+}
+
+/// What the posts make of a line if they have their turns in this order, given the rows of all lines.
+/// Two senders share the work, and one item may wait between two posts. `Err` where memory ran out.
+pub fn marks_by_schedule(
+    alloc: Global,
+    table: &RouteTable,
+    rows: &[Row],
+    line: LineNo,
+    schedule: &[Post],
+) -> Result<SoFar, AllocError>
+    ensures prefix { let t = table.now in IfOk result (λ so_far.
+        IsPrefix so_far.marks.items (joined_tape t.plan t.limits t.routes line rows.now)) }
+    ensures whole { let t = table.now in IfOk result (λ so_far. IsTrue so_far.ended →
+        so_far.marks.items ≡ joined_tape t.plan t.limits t.routes line rows.now) }
+{
+    let mut replay = Replay::new(alloc, rows, table, 2, 1)?;
+    for post in schedule {
+        replay.turn(*post)?;
+    }
+    let marks = Vec::from_slice(alloc, replay.marks(line))?;
+    Ok(SoFar {
+        marks,
+        ended: replay.ended(),
+    })
+}
