@@ -38,7 +38,7 @@ fn starve_each(rt: &impl Abort, alloc: Global, deck: &Deck, posts: &[Post]) -> R
 
 // Each of these posts in turn, on each deck.
 fn starve_on_all(rt: &impl Abort, alloc: Global, posts: &[Post]) -> Result<(), Fail> {
-    for deck in &all_decks(rt, alloc)? {
+    for deck in &all_decks(alloc)? {
         starve_each(rt, alloc, deck, posts)?;
     }
     Ok(())
