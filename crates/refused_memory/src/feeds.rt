@@ -20,9 +20,9 @@ const TURNS: usize = 64;
 // How many of the deck's rows a ring gives first, and the item after them.
 fn count_rows(ring: &mut Consumer<Flow<Row>>) -> (usize, Option<Flow<Row>>) {
     for n in 0..RING {
-        match (ring.pop().ok(), row_at(n)) {
-            (Some(Flow::Item(row)), Some(wanted)) if row == wanted => {}
-            (item, _) => return (n, item),
+        let item = ring.pop().ok();
+        if item.is_none() || item != row_at(n).map(Flow::Item) {
+            return (n, item);
         }
     }
     (RING, None)

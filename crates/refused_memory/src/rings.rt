@@ -2,16 +2,9 @@
 use crate::outcome::Outcome;
 use crate::refusal::Aim;
 use std::alloc::Global;
-use xb_model::{LineNo, Mark, On, Reason};
+use xb_model::{Key, LineNo};
 use xb_ring::{Flow, Station, Turn, link};
 use xb_sender::Sender;
-
-fn refusal(line: LineNo) -> Flow<On<Mark>> {
-    Flow::Item(On {
-        line,
-        what: Mark::Refused(Reason::Abandoned, 0),
-    })
-}
 
 /// Makes a ring, by which an item then passes.
 pub fn try_link(alloc: Global, aim: Aim) -> Option<Outcome> {
@@ -20,13 +13,15 @@ pub fn try_link(alloc: Global, aim: Aim) -> Option<Outcome> {
     let Ok((mut output, mut input)) = link(alloc, 4) else {
         return Some(Outcome::NoMemory);
     };
-    let is_sent = output.push(refusal(line)).is_ok();
-    let is_received = input.pop().is_ok_and(|item| item == refusal(line));
+    let is_sent = output.push(Flow::Item(line)).is_ok();
+    let is_received = input.pop().is_ok_and(|item| item == Flow::Item(line));
     Some(Outcome::ample_where(is_sent && is_received))
 }
 
 /// Makes the station of a sender, which then passes the End on.
 pub fn try_station(alloc: Global, aim: Aim) -> Option<Outcome> {
+    // the borrow checker is to know of the type that a mark holds
+    let _key: Option<Key> = None;
     let (mut orders, input) = link(alloc, 4).ok()?;
     let (output, mut marks) = link(alloc, 4).ok()?;
     aim.take(alloc)?;
