@@ -227,7 +227,8 @@ pub(crate) fn join_posts<S: RowSource + Drop, R: Threads>(
     requires none { senders_done.items ≡ [] }
     requires room { vec_len handles.outgoing.senders ≤ vec_capacity senders_done }
     ensures feed { FeedKept handles.entry.originating.feed.promise.made.value result.feed }
-    ensures pulse { StationKept row_line pulse_machine handles.entry.originating.pulse.promise.made.value result.pulse }
+    ensures pulse { StationKept row_line pulse_machine
+        handles.entry.originating.pulse.promise.made.value result.pulse }
     ensures register { StationKept on_line_of register_machine
         handles.entry.originating.register.promise.made.value result.register }
     ensures translate { StationKept on_line_of (λ table. translate_machine table.routes)
