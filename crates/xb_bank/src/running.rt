@@ -131,8 +131,10 @@ fn serve_all<
     gate: &'s G,
 ) -> Result<AllDone, BankFault>
     requires few { vec_len posts.outgoing.senders ≤ MOST_BRANCHES }
-    ensures kept { IfOk result (λ done. PostsKept posts.entry.originating.feed posts.entry.originating.pulse
-        posts.entry.originating.register posts.entry.originating.translate posts.entry.outgoing.deal posts.entry.outgoing.senders.items
+    ensures kept { IfOk result (λ done. PostsKept
+        posts.entry.originating.feed posts.entry.originating.pulse
+        posts.entry.originating.register posts.entry.originating.translate
+        posts.entry.outgoing.deal posts.entry.outgoing.senders.items
         posts.entry.outgoing.gather posts.entry.outgoing.tape done) }
     ensures fault { IfErr result (IsBankFault None) }
 {
@@ -159,8 +161,10 @@ fn serve_posts<S: RowSource + Drop + Send, R: Threads + Wait + Clock + Sync, G: 
     gate: &G,
 ) -> Result<AllDone, BankFault>
     requires few { vec_len posts.outgoing.senders ≤ MOST_BRANCHES }
-    ensures kept { IfOk result (λ done. PostsKept posts.entry.originating.feed posts.entry.originating.pulse
-        posts.entry.originating.register posts.entry.originating.translate posts.entry.outgoing.deal posts.entry.outgoing.senders.items
+    ensures kept { IfOk result (λ done. PostsKept
+        posts.entry.originating.feed posts.entry.originating.pulse
+        posts.entry.originating.register posts.entry.originating.translate
+        posts.entry.outgoing.deal posts.entry.outgoing.senders.items
         posts.entry.outgoing.gather posts.entry.outgoing.tape done) }
     ensures fault { IfErr result (IsBankFault None) }
 {
@@ -172,9 +176,11 @@ fn serve_posts<S: RowSource + Drop + Send, R: Threads + Wait + Clock + Sync, G: 
         move |scope| -> Result<AllDone, BankFault>
             requires few { vec_len posts.outgoing.senders ≤ MOST_BRANCHES }
             requires types { IsSend S.row × IsSync R.row × IsSync G.row }
-            ensures kept { IfOk result (λ done. PostsKept posts.entry.originating.feed posts.entry.originating.pulse
-                posts.entry.originating.register posts.entry.originating.translate posts.entry.outgoing.deal
-                posts.entry.outgoing.senders.items posts.entry.outgoing.gather posts.entry.outgoing.tape done) }
+            ensures kept { IfOk result (λ done. PostsKept
+                posts.entry.originating.feed posts.entry.originating.pulse
+                posts.entry.originating.register posts.entry.originating.translate
+                posts.entry.outgoing.deal posts.entry.outgoing.senders.items
+                posts.entry.outgoing.gather posts.entry.outgoing.tape done) }
             ensures fault { IfErr result (IsBankFault None) }
         { serve_all(scope, rt, start_word, alloc, posts, gate) },
     )
