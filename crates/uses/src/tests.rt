@@ -1,8 +1,9 @@
 // The operator is called on line 5, and a second call is refused.
-use crate::{hear, marks_of_call, marks_on_threads};
+use crate::{hear, marks_by_schedule, marks_of_call, marks_on_threads};
 use std::alloc::Global;
 use std::test::Fail;
 use xb_model::{Contact, Digit, Key, Limits, LineNo, Mark, On, Reason, Row, Signal, Tone, Trunk};
+use xb_ring::Post;
 use xb_routes::RouteTable;
 
 const TABLE: &[u8] = b"[[route]]\ncode = \"0\"\ntrunk = 1\n";
@@ -87,5 +88,44 @@ fn signals_in_order(rt: HostRuntime) -> Result<(), Fail> {
         heard.as_slice(),
         wanted.map(|what| On { line, what }).as_slice()
     );
+    Ok(())
+}
+
+// Each post but the second sender, which would send the refusal.
+const ROUND: [Post; 8] = [
+    Post::Feed,
+    Post::Pulse,
+    Post::Register,
+    Post::Translate,
+    Post::Deal,
+    Post::Send(0),
+    Post::Gather,
+    Post::Tape,
+];
+
+#[test]
+fn second_call_has_to_wait(rt: HostRuntime) -> Result<(), Fail> {
+    let alloc = rt.alloc();
+    let line = LineNo::new(5).ok_or("a line")?;
+    let rows = rows_on(alloc, line)?;
+    let table = RouteTable::read(alloc, TABLE)?;
+    let call = marks_of_call(alloc, &table, &rows, line, 0)?.ok_or("a first call")?;
+    let mut schedule = Vec::new(alloc);
+    for _round in 0..200 {
+        schedule.extend_from_slice(&ROUND)?;
+    }
+    let held = marks_by_schedule(alloc, &table, &rows, line, &schedule)?;
+    assert_eq!(rt; held.marks.as_slice(), call.as_slice());
+    assert!(rt; !held.ended);
+    for _round in 0..200 {
+        schedule.push(Post::Send(1))?;
+        schedule.extend_from_slice(&ROUND)?;
+    }
+    let whole = marks_by_schedule(alloc, &table, &rows, line, &schedule)?;
+    assert_eq!(rt;
+        whole.marks.last(),
+        Some(&Mark::Refused(Reason::Abandoned, 0))
+    );
+    assert!(rt; whole.ended);
     Ok(())
 }

@@ -1,0 +1,20 @@
+//! Schedules of a replay: rounds in which posts have turns in some order, or none, and random walks. Each
+//! is compared with the tapes of the chain on one thread.
+//!
+//! Tests alone.
+#![tactic(auto)]
+
+#[cfg(test)]
+mod decks;
+#[cfg(test)]
+mod played;
+#[cfg(test)]
+mod rounds;
+#[cfg(test)]
+mod schedule;
+#[cfg(test)]
+mod starved;
+#[cfg(test)]
+mod walks;
+#[cfg(test)]
+mod wanted;
