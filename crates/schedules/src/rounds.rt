@@ -7,23 +7,9 @@ use std::alloc::Global;
 use std::process::Abort;
 use std::test::Fail;
 use worked_decks::attempts::{OPERATOR_CALL, SECOND_CALL};
-use xb_model::{Digit, Key, LineNo, Mark, Tone, Trunk};
+use worked_decks::marks::operator_marks;
+use xb_model::{LineNo, Mark};
 use xb_ring::{Post, Turn};
-
-fn tone(key: Key, low: u16, high: u16) -> Mark {
-    Mark::Tone(key, Tone { low, high })
-}
-
-// The keying of an operator call: the trunk group, KP, 0, ST.
-fn operator_keying() -> Result<[Mark; 4], Fail> {
-    let zero = Digit::new(0).ok_or("a digit")?;
-    Ok([
-        Mark::Trunk(Trunk::new(1).ok_or("a trunk group")?),
-        tone(Key::Kp, 1100, 1700),
-        tone(Key::Digit(zero), 1300, 1500),
-        tone(Key::St, 1500, 1700),
-    ])
-}
 
 // Turns before any item is there, and then rounds until line 5 has called the operator.
 #[derive(Clone, Copy)]
@@ -43,7 +29,7 @@ impl<'a> Schedule for OperatorInRounds<'a> {
         play_rounds(rt, chain, wanted, self.posts, 200)?;
         assert!(rt; chain.ended());
         let line = LineNo::new(5).ok_or("a line")?;
-        assert_eq!(rt; chain.marks(line), operator_keying()?.as_slice());
+        assert_eq!(rt; chain.marks(line), operator_marks()?.as_slice());
         Ok(())
     }
 }
@@ -124,7 +110,7 @@ fn play_without<A: Abort>(rt: &A, alloc: Global, sender: u8, marks: &[Mark]) -> 
 
 #[test]
 fn replay_without_the_second_sender(rt: HostRuntime) -> Result<(), Fail> {
-    play_without(&rt, rt.alloc(), 1, &operator_keying()?)
+    play_without(&rt, rt.alloc(), 1, &operator_marks()?)
 }
 
 #[test]

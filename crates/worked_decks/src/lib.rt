@@ -3,4 +3,5 @@
 
 pub mod attempts;
 pub mod decks;
+pub mod marks;
 pub mod pulses;
