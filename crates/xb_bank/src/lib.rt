@@ -8,8 +8,6 @@ mod posts;
 mod running;
 mod senders;
 mod start;
-#[cfg(test)]
-mod tests;
 
 pub use fault::BankFault;
 pub use running::run;

@@ -1,9 +1,9 @@
 // Sources that stop with a fault.
 ghost use Rattle.std.specs.Prelude.{false};
 
-use super::{SEVEN_DIGITS, line, push_call, table};
-use crate::{BankFault, NoGate, RowSource, run};
+use crate::decks::{SEVEN_DIGITS, line, push_call, table};
 use std::test::Fail;
+use xb_bank::{BankFault, NoGate, RowSource, run};
 use xb_model::{Row, RowFault};
 
 // Rows, and a fault after them.

@@ -1,8 +1,8 @@
 // How often each post passes the gate.
-use super::{are_same, line, push_call, table};
-use crate::{Gate, Listed, Post, key_serial, run};
+use crate::decks::{are_same, line, push_call, table};
 use std::sync::atomic::{AtomicU64, Ordering};
 use std::test::Fail;
+use xb_bank::{Gate, Listed, Post, key_serial, run};
 
 // Counts the passes of one post.
 #[derive(Drop)]

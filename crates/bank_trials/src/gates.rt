@@ -1,8 +1,7 @@
 // Gates that hold one post until another has come so far: the posts run at the same time.
 ghost use Rattle.std.specs.Prelude.{◌≤◌, false, None};
 
-use super::{are_same, six_calls, table};
-use crate::{Gate, Listed, MOST_BRANCHES, Post, RowSource, key_serial, run};
+use crate::decks::{are_same, six_calls, table};
 use std::alloc::Global;
 use std::process::Abort;
 use std::sync::Wait;
@@ -11,6 +10,7 @@ use std::test::Fail;
 use std::thread;
 use std::thread::Threads;
 use std::time::Clock;
+use xb_bank::{Gate, Listed, MOST_BRANCHES, Post, RowSource, key_serial, run};
 use xb_model::{Row, RowFault};
 
 /// How often a gate, or a source, looks at most.

@@ -1,10 +1,10 @@
 // Gates that refuse the start of posts.
 ghost use Rattle.std.specs.Prelude.{None, false};
 
-use super::{six_calls, table};
-use crate::{BankFault, Gate, Post, RowSource, run};
+use crate::decks::{six_calls, table};
 use std::sync::atomic::{AtomicU64, Ordering};
 use std::test::Fail;
+use xb_bank::{BankFault, Gate, Post, RowSource, run};
 use xb_model::{Row, RowFault};
 
 /// The posts of two senders, in the order in which they are started.

@@ -1,11 +1,11 @@
 // Random decks on threads, beside the chain on one thread.
 ghost use Rattle.std.specs.Prelude.{◌<◌, ◌≤◌};
 
-use super::{are_same, line, push_digit, row, table};
-use crate::{Listed, NoGate, key_serial, run};
+use crate::decks::{are_same, line, push_digit, row, table};
 use std::alloc::{AllocError, Global};
 use std::process::Abort;
 use std::test::Fail;
+use xb_bank::{Listed, NoGate, key_serial, run};
 use xb_model::{Contact, Row};
 
 /// How many decks are tried.
