@@ -1,0 +1,141 @@
+// The tape station: a keying of nine marks on line 7, and two refusals on line 16.
+ghost use Rattle.std.specs.Prelude.{◌≡◌, [], IfSome};
+ghost use Rattle.rtrb.specs.Ring.{received};
+
+use crate::decks::{ABANDONED, tone};
+use crate::outcome::Outcome;
+use crate::refusal::Aim;
+use rtrb::{Consumer, Producer};
+use std::alloc::{AllocError, Global};
+use std::sync::Wait;
+use std::time::Clock;
+use xb_bank::{NoGate, TapeStation};
+use xb_model::{Digit, Key, LineNo, Mark, On, Trunk};
+use xb_ring::{Flow, Turn, link};
+
+// Room for all marks and the End.
+const RING: usize = 16;
+
+// How many turns are enough, one of them refused.
+const TURNS: usize = 32;
+
+type MarkInput = Consumer<Flow<On<Mark>>>;
+
+// The marks that 234 5678 gets, of which 56 5678 is keyed on trunk group 17.
+fn keying() -> Option<[Mark; 9]> {
+    let [five, six] = [Digit::new(5)?, Digit::new(6)?];
+    let [seven, eight] = [Digit::new(7)?, Digit::new(8)?];
+    Some([
+        Mark::Trunk(Trunk::new(17)?),
+        tone(Key::Kp, 1100, 1700),
+        tone(Key::Digit(five), 900, 1300),
+        tone(Key::Digit(six), 1100, 1300),
+        tone(Key::Digit(five), 900, 1300),
+        tone(Key::Digit(six), 1100, 1300),
+        tone(Key::Digit(seven), 700, 1500),
+        tone(Key::Digit(eight), 900, 1500),
+        tone(Key::St, 1500, 1700),
+    ])
+}
+
+fn lines() -> Option<(LineNo, LineNo)> {
+    Some((LineNo::new(7)?, LineNo::new(16)?))
+}
+
+fn push_marks(output: &mut Producer<Flow<On<Mark>>>, line: LineNo, marks: &[Mark]) -> bool {
+    for mark in marks {
+        let what = *mark;
+        if output.push(Flow::Item(On { line, what })).is_err() {
+            return false;
+        }
+    }
+    true
+}
+
+// The end of a ring that holds the marks and the End, of which nothing was received.
+fn filled_ring(alloc: Global) -> Option<MarkInput>
+    ensures { IfSome result (λ input. received input ≡ []) }
+{
+    let (mut output, input) = link(alloc, RING).ok()?;
+    let (keyed, refused) = lines()?;
+    let marks = keying()?;
+    let all = push_marks(&mut output, keyed, &marks)
+        && push_marks(&mut output, refused, &ABANDONED)
+        && output.push(Flow::End).is_ok();
+    if all { Some(input) } else { None }
+}
+
+// Whether the station has all marks.
+fn has_all(tape: &TapeStation) -> bool {
+    let (Some((keyed, refused)), Some(marks)) = (lines(), keying()) else {
+        return false;
+    };
+    tape.marks(keyed) == marks.as_slice() && tape.marks(refused) == ABANDONED.as_slice()
+}
+
+// How many marks the station has.
+fn count_marks(tape: &TapeStation) -> usize {
+    match lines() {
+        Some((keyed, refused)) => tape
+            .marks(keyed)
+            .len()
+            .saturating_add(tape.marks(refused).len()),
+        None => 0,
+    }
+}
+
+fn turn_of(tape: &mut TapeStation) -> Result<Turn, AllocError> {
+    tape.turn()
+}
+
+// Turns to the End, and whether one was refused; `None` where a refusal changes the marks, or the end
+// does not come.
+fn turn_to_end(tape: &mut TapeStation) -> Option<bool> {
+    let mut was_refused = false;
+    for _ in 0..TURNS {
+        let before = count_marks(tape);
+        match turn_of(tape) {
+            Ok(Turn::Ended) => return Some(was_refused),
+            Ok(Turn::Moved) => {}
+            Err(_) if !was_refused && count_marks(tape) == before => was_refused = true,
+            _ => return None,
+        }
+    }
+    None
+}
+
+/// Makes a tape station, which has no marks.
+pub fn try_tape(alloc: Global, aim: Aim) -> Option<Outcome> {
+    let (_output, input) = link(alloc, RING).ok()?;
+    aim.take(alloc)?;
+    Some(match TapeStation::new(alloc, input) {
+        Ok(tape) => Outcome::ample_where(count_marks(&tape) == 0 && !tape.has_ended()),
+        Err(_) => Outcome::NoMemory,
+    })
+}
+
+/// Makes the turns of a tape station, which go on after a refusal to the same marks.
+pub fn try_turns(alloc: Global, aim: Aim) -> Option<Outcome> {
+    let mut tape = TapeStation::new(alloc, filled_ring(alloc)?).ok()?;
+    aim.take(alloc)?;
+    Some(match turn_to_end(&mut tape) {
+        Some(true) => Outcome::no_memory_where(has_all(&tape)),
+        Some(false) => Outcome::ample_where(has_all(&tape)),
+        None => Outcome::Wrong,
+    })
+}
+
+/// Serves a tape station, which after a refusal takes the rest up to the End.
+pub fn try_serve<R: Wait + Clock>(rt: &R, alloc: Global, aim: Aim) -> Option<Outcome> {
+    let mut tape = TapeStation::new(alloc, filled_ring(alloc)?).ok()?;
+    aim.take(alloc)?;
+    let served = tape.serve(rt, &NoGate);
+    let has_ended = tape.has_ended();
+    let has_all = has_all(&tape);
+    let (mut input, _tapes) = tape.into_parts();
+    let is_drained = has_ended && input.pop().is_err();
+    Some(match served {
+        Ok(()) => Outcome::ample_where(is_drained && has_all),
+        Err(_) => Outcome::no_memory_where(is_drained),
+    })
+}

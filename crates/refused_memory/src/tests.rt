@@ -1,0 +1,81 @@
+// The deck is the one that its short form makes, and each call succeeds where nothing is refused.
+use crate::calls::try_call;
+use crate::decks::{DECK, PAGE, ROWS, row_at};
+use crate::outcome::Outcome;
+use crate::refusal::Aim;
+use std::test::Fail;
+use worked_decks::decks::{TABLE, Worked, deck_of, one_after_another, page_of};
+
+// An operator call, and the seizures at a break of the release limit.
+const WORKED: Worked = Worked {
+    name: "operator_call and a release",
+    lines: &[(5, "M500 #0"), (16, "M500 B300 M600")],
+    page: &[
+        "0005 1 OPERATOR",
+        "0016 1 REFUSED ABANDONED 0",
+        "0016 2 REFUSED ABANDONED 0",
+        "KEYED 1 REFUSED 2",
+    ],
+};
+
+// The calls that may run out of memory.
+const CALLS: [&str; 13] = [
+    "link",
+    "Station::new",
+    "RouteTable::read",
+    "read_rows",
+    "Scan::next_row",
+    "Feed::new",
+    "Feed::turn",
+    "TapeStation::new",
+    "TapeStation::turn",
+    "key_serial",
+    "page",
+    "Replay::new",
+    "Replay::turn",
+];
+
+// Those of them that wait for others, a serve among them.
+const WAITING: [&str; 6] = [
+    "Feed::serve",
+    "TapeStation::serve",
+    "run",
+    "operate",
+    "operate_on_a_fault",
+    "attend",
+];
+
+#[test]
+fn deck_is_written_out(rt: HostRuntime) -> Result<(), Fail> {
+    let alloc = rt.alloc();
+    let rows = one_after_another(alloc, &WORKED)?;
+    assert_eq!(rt; deck_of(alloc, TABLE, &rows)?.as_str(), DECK);
+    assert_eq!(rt; page_of(alloc, WORKED.page)?.as_str(), PAGE);
+    assert_eq!(rt; rows.len(), ROWS);
+    for (n, row) in rows.iter().enumerate() {
+        assert!(rt; row_at(n) == Some(*row), "{n}");
+    }
+    Ok(())
+}
+
+#[test]
+fn ample_memory_succeeds(rt: HostRuntime) {
+    for name in CALLS {
+        let outcome = try_call(&rt, rt.alloc(), name, Aim::Call(0));
+        assert_eq!(rt; outcome, Some(Outcome::Ample), "{name}");
+    }
+}
+
+#[test]
+fn serve_ends(rt: HostRuntime) {
+    for name in WAITING {
+        let outcome = try_call(&rt, rt.alloc(), name, Aim::Call(0));
+        assert_eq!(rt; outcome, Some(Outcome::Ample), "{name}");
+    }
+}
+
+#[test]
+fn another_call_is_wrong(rt: HostRuntime) {
+    let outcome = try_call(&rt, rt.alloc(), "no_call", Aim::Call(0));
+    assert_eq!(rt; outcome, Some(Outcome::Wrong));
+}

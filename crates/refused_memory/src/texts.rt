@@ -1,0 +1,80 @@
+// The calls that read texts.
+use crate::decks::{ROWS, row_at, table_and_rows};
+use crate::outcome::Outcome;
+use crate::refusal::Aim;
+use std::alloc::Global;
+use xb_bank::RowSource;
+use xb_model::{Digit, Row, RowFault};
+use xb_office::{Scan, read_rows};
+use xb_routes::{RouteFault, RouteTable};
+
+// Whether the table sends numbers that begin so to this trunk group, without so many digits.
+fn routes(table: &RouteTable, digits: &[Digit], trunk: u16, deleted: u8) -> bool {
+    table.look(digits).is_some_and(|route| route.trunk.get() == trunk && route.deleted == deleted)
+}
+
+// Whether these are the three routes of the deck.
+fn has_routes(table: &RouteTable) -> Option<bool> {
+    let [zero, one, two] = [Digit::new(0)?, Digit::new(1)?, Digit::new(2)?];
+    let [three, four] = [Digit::new(3)?, Digit::new(4)?];
+    Some(
+        routes(table, &[zero], 1, 0)
+            && routes(table, &[four, one, one], 3, 0)
+            && routes(table, &[two, three, four, zero, zero, zero, zero], 17, 3)
+            && table.look(&[one]).is_none(),
+    )
+}
+
+/// Reads the table.
+pub fn try_table(alloc: Global, aim: Aim) -> Option<Outcome> {
+    let (text, _) = table_and_rows()?;
+    aim.take(alloc)?;
+    Some(match RouteTable::read(alloc, text.as_bytes()) {
+        Ok(table) => Outcome::ample_where(has_routes(&table) == Some(true)),
+        Err(RouteFault::NoMemory) => Outcome::NoMemory,
+        Err(_) => Outcome::Wrong,
+    })
+}
+
+fn are_all_rows(rows: &[Row]) -> bool {
+    rows.len() == ROWS
+        && rows
+            .iter()
+            .enumerate()
+            .all(|(n, row)| row_at(n) == Some(*row))
+}
+
+/// Reads all rows.
+pub fn try_rows(alloc: Global, aim: Aim) -> Option<Outcome> {
+    let (_, text) = table_and_rows()?;
+    aim.take(alloc)?;
+    let mut reader = text.as_bytes();
+    Some(match read_rows(alloc, &mut reader) {
+        Ok(rows) => Outcome::ample_where(are_all_rows(&rows)),
+        Err(RowFault::NoMemory) => Outcome::NoMemory,
+        Err(_) => Outcome::Wrong,
+    })
+}
+
+// The rows of a scan to its stop, which it then gives once more.
+fn scan_to_stop(scan: &mut Scan<'_>) -> Outcome {
+    for n in 0..=ROWS {
+        match scan.next_row() {
+            Ok(Some(row)) if row_at(n) == Some(row) => {}
+            Ok(None) => return Outcome::ample_where(n == ROWS && scan.next_row() == Ok(None)),
+            Err(RowFault::NoMemory) => {
+                return Outcome::no_memory_where(scan.next_row() == Err(RowFault::NoMemory));
+            }
+            _ => return Outcome::Wrong,
+        }
+    }
+    Outcome::Wrong
+}
+
+/// Reads one row after the other.
+pub fn try_next_row(alloc: Global, aim: Aim) -> Option<Outcome> {
+    let (_, text) = table_and_rows()?;
+    let mut scan = Scan::new(alloc, text.as_bytes());
+    aim.take(alloc)?;
+    Some(scan_to_stop(&mut scan))
+}
