@@ -1,7 +1,7 @@
 // The calls by their names.
 use crate::outcome::Outcome;
 use crate::refusal::Aim;
-use crate::{chain, feeds, office, rings, tapes, texts};
+use crate::{chain, feeds, office, replays, rings, tapes, texts};
 use std::alloc::Global;
 use std::sync::Wait;
 use std::thread::Threads;
@@ -29,8 +29,8 @@ pub fn try_call<R: Threads + Wait + Clock + Sync>(
         "key_serial" => chain::try_serial(alloc, aim),
         "page" => chain::try_page(alloc, aim),
         "run" => chain::try_run(rt, alloc, aim),
-        "Replay::new" => chain::try_replay(alloc, aim),
-        "Replay::turn" => chain::try_turns(alloc, aim),
+        "Replay::new" => replays::try_replay(alloc, aim),
+        "Replay::turn" => replays::try_turns(alloc, aim),
         "operate" => office::try_operate(rt, alloc, aim),
         "operate_on_a_fault" => office::try_faulty(rt, alloc, aim),
         "attend" => office::try_attend(rt, alloc, aim),

@@ -82,27 +82,57 @@ fn turn_to_end(feed: &mut Feed<Scan<'_>>) -> Option<usize> {
     None
 }
 
+// Whether a feed of no rows sends the End, and nothing more.
+fn sends_end(feed: &mut Feed<Listed<'_>>, ring: &mut Consumer<Flow<Row>>) -> bool {
+    let turns = [feed.turn(), feed.turn()];
+    turns == [Ok(Turn::Moved), Ok(Turn::Ended)] && gives(ring, &[Flow::End])
+}
+
 /// Makes a feed, which then sends the End of no rows.
 pub fn try_feed(alloc: Global, aim: Aim) -> Option<Outcome> {
     let (output, mut input) = link(alloc, RING).ok()?;
     aim.take(alloc)?;
-    let Ok(mut feed) = Feed::new(alloc, Listed::new(&[]), output) else {
-        return Some(Outcome::NoMemory);
-    };
-    let turns = [feed.turn(), feed.turn()];
-    let has_ended = turns == [Ok(Turn::Moved), Ok(Turn::Ended)];
-    Some(Outcome::ample_where(has_ended && gives(&mut input, &[Flow::End])))
+    Some(match Feed::new(alloc, Listed::new(&[]), output) {
+        Ok(mut feed) => Outcome::ample_where(sends_end(&mut feed, &mut input)),
+        Err(_) => Outcome::NoMemory,
+    })
+}
+
+fn judge_turns(
+    feed: &mut Feed<Scan<'_>>,
+    ring: &mut Consumer<Flow<Row>>,
+    alloc: Global,
+    aim: Aim,
+) -> Option<Outcome> {
+    aim.take(alloc)?;
+    Some(match turn_to_end(feed) {
+        Some(faults) => judge(faults, ring),
+        None => Outcome::Wrong,
+    })
 }
 
 /// Makes the turns of a feed.
 pub fn try_turns(alloc: Global, aim: Aim) -> Option<Outcome> {
     let (_, text) = table_and_rows()?;
     let (output, mut input) = link(alloc, RING).ok()?;
-    let mut feed = Feed::new(alloc, Scan::new(alloc, text.as_bytes()), output).ok()?;
+    match Feed::new(alloc, Scan::new(alloc, text.as_bytes()), output) {
+        Ok(mut feed) => judge_turns(&mut feed, &mut input, alloc, aim),
+        Err(_) => None,
+    }
+}
+
+fn judge_serve<R: Wait + Clock>(
+    rt: &R,
+    feed: &mut Feed<Scan<'_>>,
+    ring: &mut Consumer<Flow<Row>>,
+    alloc: Global,
+    aim: Aim,
+) -> Option<Outcome> {
     aim.take(alloc)?;
-    Some(match turn_to_end(&mut feed) {
-        Some(faults) => judge(faults, &mut input),
-        None => Outcome::Wrong,
+    Some(match feed.serve(rt, &NoGate) {
+        Ok(()) => judge(0, ring),
+        Err(RowFault::NoMemory) => judge(1, ring),
+        Err(_) => Outcome::Wrong,
     })
 }
 
@@ -110,11 +140,8 @@ pub fn try_turns(alloc: Global, aim: Aim) -> Option<Outcome> {
 pub fn try_serve<R: Wait + Clock>(rt: &R, alloc: Global, aim: Aim) -> Option<Outcome> {
     let (_, text) = table_and_rows()?;
     let (output, mut input) = link(alloc, RING).ok()?;
-    let mut feed = Feed::new(alloc, Scan::new(alloc, text.as_bytes()), output).ok()?;
-    aim.take(alloc)?;
-    Some(match feed.serve(rt, &NoGate) {
-        Ok(()) => judge(0, &mut input),
-        Err(RowFault::NoMemory) => judge(1, &mut input),
-        Err(_) => Outcome::Wrong,
-    })
+    match Feed::new(alloc, Scan::new(alloc, text.as_bytes()), output) {
+        Ok(mut feed) => judge_serve(rt, &mut feed, &mut input, alloc, aim),
+        Err(_) => None,
+    }
 }

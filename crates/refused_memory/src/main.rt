@@ -13,7 +13,9 @@ mod feeds;
 mod held;
 mod office;
 mod outcome;
+mod played;
 mod refusal;
+mod replays;
 mod rings;
 mod tapes;
 #[cfg(test)]

@@ -16,9 +16,9 @@ pub fn try_operate<R: Threads + Wait + Clock + Sync>(
     alloc: Global,
     aim: Aim,
 ) -> Option<Outcome> {
+    aim.take(alloc)?;
     let mut deck = DECK.as_bytes();
     let mut out = Held::new();
-    aim.take(alloc)?;
     let operated = operate(rt, alloc, &mut deck, &mut out, 2, 4);
     let is_empty = out.text().is_empty();
     Some(match operated {
@@ -35,9 +35,9 @@ pub fn try_faulty<R: Threads + Wait + Clock + Sync>(
     alloc: Global,
     aim: Aim,
 ) -> Option<Outcome> {
+    aim.take(alloc)?;
     let mut deck = FAULTY.as_bytes();
     let mut out = Held::new();
-    aim.take(alloc)?;
     let operated = operate(rt, alloc, &mut deck, &mut out, 2, 4);
     let is_empty = out.text().is_empty();
     Some(match operated {
@@ -73,6 +73,18 @@ fn judge(status: u8, page: &[u8], line: &[u8]) -> Outcome {
     }
 }
 
+fn attend_to<R: Threads + Wait + Clock + Sync>(
+    rt: &R,
+    alloc: Global,
+    words: Vec<String>,
+) -> Outcome {
+    let mut deck = DECK.as_bytes();
+    let mut out = Held::new();
+    let mut err = Held::new();
+    let status = attend(rt, alloc, words, &mut deck, &mut out, &mut err);
+    judge(status, out.text(), err.text())
+}
+
 /// Attends to the words and the deck.
 pub fn try_attend<R: Threads + Wait + Clock + Sync>(
     rt: &R,
@@ -80,10 +92,6 @@ pub fn try_attend<R: Threads + Wait + Clock + Sync>(
     aim: Aim,
 ) -> Option<Outcome> {
     let words = words(alloc).ok()?;
-    let mut deck = DECK.as_bytes();
-    let mut out = Held::new();
-    let mut err = Held::new();
     aim.take(alloc)?;
-    let status = attend(rt, alloc, words, &mut deck, &mut out, &mut err);
-    Some(judge(status, out.text(), err.text()))
+    Some(attend_to(rt, alloc, words))
 }

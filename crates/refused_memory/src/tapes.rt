@@ -52,17 +52,33 @@ fn push_marks(output: &mut Producer<Flow<On<Mark>>>, line: LineNo, marks: &[Mark
     true
 }
 
+// Sends the marks and the End; `None` where they do not fit.
+fn fill(output: &mut Producer<Flow<On<Mark>>>) -> Option<()> {
+    let (keyed, refused) = lines()?;
+    let marks = keying()?;
+    let are_sent = push_marks(output, keyed, &marks) && push_marks(output, refused, &ABANDONED);
+    if are_sent {
+        output.push(Flow::End).ok()
+    } else {
+        None
+    }
+}
+
 // The end of a ring that holds the marks and the End, of which nothing was received.
 fn filled_ring(alloc: Global) -> Option<MarkInput>
     ensures { IfSome result (λ input. received input ≡ []) }
 {
     let (mut output, input) = link(alloc, RING).ok()?;
-    let (keyed, refused) = lines()?;
-    let marks = keying()?;
-    let all = push_marks(&mut output, keyed, &marks)
-        && push_marks(&mut output, refused, &ABANDONED)
-        && output.push(Flow::End).is_ok();
-    if all { Some(input) } else { None }
+    match fill(&mut output) {
+        Some(()) => Some(input),
+        None => None,
+    }
+}
+
+// A tape station before that ring.
+fn filled_tape(alloc: Global) -> Option<TapeStation> {
+    let input = filled_ring(alloc)?;
+    TapeStation::new(alloc, input).ok()
 }
 
 // Whether the station has all marks.
@@ -114,28 +130,43 @@ pub fn try_tape(alloc: Global, aim: Aim) -> Option<Outcome> {
     })
 }
 
+fn judge_turns(tape: &mut TapeStation, alloc: Global, aim: Aim) -> Option<Outcome> {
+    aim.take(alloc)?;
+    Some(match turn_to_end(tape) {
+        Some(true) => Outcome::no_memory_where(has_all(tape)),
+        Some(false) => Outcome::ample_where(has_all(tape)),
+        None => Outcome::Wrong,
+    })
+}
+
 /// Makes the turns of a tape station, which go on after a refusal to the same marks.
 pub fn try_turns(alloc: Global, aim: Aim) -> Option<Outcome> {
-    let mut tape = TapeStation::new(alloc, filled_ring(alloc)?).ok()?;
+    let mut tape = filled_tape(alloc)?;
+    judge_turns(&mut tape, alloc, aim)
+}
+
+fn judge_serve<R: Wait + Clock>(
+    rt: &R,
+    tape: &mut TapeStation,
+    alloc: Global,
+    aim: Aim,
+) -> Option<Outcome> {
     aim.take(alloc)?;
-    Some(match turn_to_end(&mut tape) {
-        Some(true) => Outcome::no_memory_where(has_all(&tape)),
-        Some(false) => Outcome::ample_where(has_all(&tape)),
-        None => Outcome::Wrong,
+    Some(match tape.serve(rt, &NoGate) {
+        Ok(()) => Outcome::ample_where(tape.has_ended() && has_all(tape)),
+        Err(_) => Outcome::no_memory_where(tape.has_ended()),
     })
 }
 
 /// Serves a tape station, which after a refusal takes the rest up to the End.
 pub fn try_serve<R: Wait + Clock>(rt: &R, alloc: Global, aim: Aim) -> Option<Outcome> {
-    let mut tape = TapeStation::new(alloc, filled_ring(alloc)?).ok()?;
-    aim.take(alloc)?;
-    let served = tape.serve(rt, &NoGate);
-    let has_ended = tape.has_ended();
-    let has_all = has_all(&tape);
+    let mut tape = filled_tape(alloc)?;
+    let outcome = judge_serve(rt, &mut tape, alloc, aim);
     let (mut input, _tapes) = tape.into_parts();
-    let is_drained = has_ended && input.pop().is_err();
-    Some(match served {
-        Ok(()) => Outcome::ample_where(is_drained && has_all),
-        Err(_) => Outcome::no_memory_where(is_drained),
-    })
+    if input.pop().is_err() {
+        outcome
+    } else {
+        // without a call all is still there
+        outcome.and(Some(Outcome::Wrong))
+    }
 }

@@ -3,8 +3,11 @@ use crate::calls::try_call;
 use crate::decks::{DECK, PAGE, ROWS, row_at};
 use crate::outcome::Outcome;
 use crate::refusal::Aim;
+use std::alloc::Global;
+use std::process::Abort;
 use std::test::Fail;
 use worked_decks::decks::{TABLE, Worked, deck_of, one_after_another, page_of};
+use xb_model::Row;
 
 // An operator call, and the seizures at a break of the release limit.
 const WORKED: Worked = Worked {
@@ -45,17 +48,24 @@ const WAITING: [&str; 6] = [
     "attend",
 ];
 
-#[test]
-fn deck_is_written_out(rt: HostRuntime) -> Result<(), Fail> {
-    let alloc = rt.alloc();
-    let rows = one_after_another(alloc, &WORKED)?;
-    assert_eq!(rt; deck_of(alloc, TABLE, &rows)?.as_str(), DECK);
+fn check_texts(rt: &impl Abort, alloc: Global, rows: &[Row]) -> Result<(), Fail> {
+    assert_eq!(rt; deck_of(alloc, TABLE, rows)?.as_str(), DECK);
     assert_eq!(rt; page_of(alloc, WORKED.page)?.as_str(), PAGE);
+    Ok(())
+}
+
+fn check_rows(rt: &impl Abort, rows: &[Row]) {
     assert_eq!(rt; rows.len(), ROWS);
     for (n, row) in rows.iter().enumerate() {
         assert!(rt; row_at(n) == Some(*row), "{n}");
     }
-    Ok(())
+}
+
+#[test]
+fn deck_is_written_out(rt: HostRuntime) -> Result<(), Fail> {
+    let rows = one_after_another(rt.alloc(), &WORKED)?;
+    check_rows(&rt, &rows);
+    check_texts(&rt, rt.alloc(), &rows)
 }
 
 #[test]

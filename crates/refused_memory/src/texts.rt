@@ -74,7 +74,7 @@ fn scan_to_stop(scan: &mut Scan<'_>) -> Outcome {
 /// Reads one row after the other.
 pub fn try_next_row(alloc: Global, aim: Aim) -> Option<Outcome> {
     let (_, text) = table_and_rows()?;
-    let mut scan = Scan::new(alloc, text.as_bytes());
     aim.take(alloc)?;
+    let mut scan = Scan::new(alloc, text.as_bytes());
     Some(scan_to_stop(&mut scan))
 }
