@@ -48,7 +48,7 @@ pub const PAGE: &str = "0005 1 KEYED 0001 KP:1100+1700 0:1300+1500 ST:1500+1700
 KEYED 1 REFUSED 2
 ";
 
-/// A deck whose record 3 has two fields.
+/// A deck whose record 3 has two fields. Line 5 has a mark before it, so that the tape takes memory too.
 pub const FAULTY: &str = "[[route]]
 code = \"234\"
 trunk = 17
@@ -63,7 +63,7 @@ trunk = 1
 ---
 line,state,ms
 5,M,500
-5,B,60
+5,C,0
 5,M
 5,M,600
 ";
