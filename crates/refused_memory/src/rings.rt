@@ -3,7 +3,7 @@ use crate::outcome::Outcome;
 use crate::refusal::Aim;
 use rtrb::{Consumer, Producer};
 use std::alloc::Global;
-use xb_model::{Key, LineNo, Mark, On, Order};
+use xb_model::{LineNo, Mark, On, Order};
 use xb_ring::{Flow, Station, Turn, link};
 use xb_sender::Sender;
 
@@ -28,14 +28,12 @@ fn passes_end(orders: &mut Orders, station: &mut Station<Sender>, marks: &mut Ma
     let is_sent = orders.push(Flow::End).is_ok();
     let turns = [station.turn(), station.turn(), station.turn()];
     let has_ended = turns == [Turn::Moved, Turn::Moved, Turn::Ended];
-    let is_received = marks.pop().is_ok_and(|item| item == Flow::End);
+    let is_received = matches!(marks.pop(), Ok(Flow::End));
     is_sent && has_ended && is_received
 }
 
 /// Makes the station of a sender, which then passes the End on.
 pub fn try_station(alloc: Global, aim: Aim) -> Option<Outcome> {
-    // the borrow checker is to know of the type that a mark holds
-    let _key: Option<Key> = None;
     let (mut orders, input) = link(alloc, 4).ok()?;
     let (output, mut marks) = link(alloc, 4).ok()?;
     aim.take(alloc)?;
