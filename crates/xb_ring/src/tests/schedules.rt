@@ -101,21 +101,6 @@ fn link_branches(alloc: Global, count: usize, ring: usize) -> Result<Branches, A
     })
 }
 
-// A station on the output of another, and its own output.
-fn next_station(
-    alloc: Global,
-    input: Consumer<Flow<Numbered>>,
-    ring: usize,
-) -> Result<(Station<Pairs>, Consumer<Flow<Numbered>>), AllocError>
-    requires fresh { received input ≡ [] }
-    requires least { 1 ≤ ring }
-    requires most { ring ≤ 1024 }
-    ensures { IfOk result (λ made. received made.1 ≡ []) }
-{
-    let (output, next) = link(alloc, ring)?;
-    Ok((Station::new(alloc, Pairs, input, output)?, next))
-}
-
 // The posts, with the end that feeds them and the end that they send to.
 fn link_posts(
     alloc: Global,
@@ -128,18 +113,22 @@ fn link_posts(
     requires most { ring ≤ 1024 }
 {
     let (feed, rows) = link(alloc, ring)?;
+    let (to_second, of_first) = link(alloc, ring)?;
+    let (to_third, of_second) = link(alloc, ring)?;
+    let (to_deal, of_third) = link(alloc, ring)?;
     let (to_tape, tape) = link(alloc, ring)?;
-    let all = link_branches(alloc, count, ring)?;
-    let (first, of_first) = next_station(alloc, rows, ring)?;
-    let (second, of_second) = next_station(alloc, of_first, ring)?;
-    let (third, of_third) = next_station(alloc, of_second, ring)?;
+    let Branches {
+        outputs,
+        stations,
+        inputs,
+    } = link_branches(alloc, count, ring)?;
     let posts = Posts {
-        first,
-        second,
-        third,
-        deal: Deal::new(of_third, all.outputs),
-        branches: all.stations,
-        gather: Gather::new(all.inputs, to_tape),
+        first: Station::new(alloc, Pairs, rows, to_second)?,
+        second: Station::new(alloc, Pairs, of_first, to_third)?,
+        third: Station::new(alloc, Pairs, of_second, to_deal)?,
+        deal: Deal::new(of_third, outputs),
+        branches: stations,
+        gather: Gather::new(inputs, to_tape),
     };
     Ok((feed, posts, tape))
 }
