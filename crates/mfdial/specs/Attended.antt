@@ -1,4 +1,4 @@
--- What the program did (own format).
+-- What the program did.
 use Rattle.std.specs.Prelude.{ℕ, ◌⊎◌, List, Option, Err, Ok}
 use Rattle.std.specs.Io.KnownBytes.{Keeps}
 use Rattle.clap.specs.Walk.{Text}

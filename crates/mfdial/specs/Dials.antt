@@ -1,4 +1,4 @@
--- What is printed of calls (own format).
+-- What is printed of calls.
 use Rattle.std.specs.Prelude.{◌≡◌, ℕ, ◌<◌, ◌≤◌, List, length, Option, None, Result, Ok, Err, IfSome}
 use Rattle.std.specs.Io.KnownBytes.{Appends, Keeps}
 use Rattle.xb_model.specs.LawfulLimits.{standard_limits}

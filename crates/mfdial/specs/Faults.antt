@@ -1,4 +1,4 @@
--- What is returned where a part is refused (own format).
+-- What is returned where a part is refused.
 use Rattle.std.specs.Prelude.{◌≡◌, ◌≢◌, ◌⊎◌}
 use Rattle.xb_rows.specs.declared.reading.ReadFault.{ReadFault}
 use Rattle.xb_rows.specs.declared.reading.ReadFault.TheVariants as read_fault

@@ -1,4 +1,4 @@
--- What is heard in rows of one line whose record is open (own profile).
+-- What is heard in rows of one line whose record is open.
 use Rattle.std.specs.Prelude.{◌≡◌, List, [], ◌∷◌, ◌++◌, false}
 use Rattle.std.specs.List.{AllByRecursion}
 use Rattle.xb_model.specs.declared.limits.Limits.{Limits}

@@ -18,10 +18,10 @@ use Rattle.xb_model.specs.Rows.{LoopRow}
 use Rattle.xb_model.specs.Sources.{Rest}
 use Rattle.xb_stage.specs.Image.{Machine}
 use Rattle.xb_pulse.specs.Machine.{machine as pulse_machine}
-use Rattle.xb_register.specs.Registering.{machine as register_machine}
+use Rattle.xb_register.specs.Machine.{machine as register_machine}
 use Rattle.xb_routes.specs.Table.{Table}
-use Rattle.xb_routes.specs.Translating.{machine as translate_machine}
-use Rattle.xb_sender.specs.Sending.{machine as sender_machine}
+use Rattle.xb_routes.specs.Machine.{machine as translate_machine}
+use Rattle.xb_sender.specs.Machine.{machine as sender_machine}
 use Rattle.xb_ring.specs.declared.flow.Flow.{Flow}
 use Rattle.xb_ring.specs.Flows.{items_of, flow_of, IsEnded}
 use Rattle.xb_ring.specs.Stations.{HasPassed}

@@ -1,4 +1,4 @@
--- What the posts' threads promise of what they give back (own profile).
+-- What the posts' threads promise of what they give back.
 use Rattle.std.specs.Prelude.{◌≡◌, ℕ, ◌<◌, Bool, true, false, List, [], ◌++◌, map, length, slice_index_or, Option}
 use Rattle.std.specs.declared.alloc.Global.{Global}
 use Rattle.rtrb.specs.declared.producer.Producer.{Producer}

@@ -1,4 +1,4 @@
--- The rings between the posts, once their ends are in one thread (own profile).
+-- The rings between the posts, once their ends are in one thread.
 use Rattle.std.specs.Prelude.{◌≡◌, List, []}
 use Rattle.std.specs.List.{All}
 use Rattle.rtrb.specs.Ring.{sent, received}

@@ -1,4 +1,4 @@
--- The posts and their rings, and what they make of a source's rows (own profile).
+-- The posts and their rings, and what they make of a source's rows.
 use Rattle.std.specs.Prelude.{◌≡◌, ◌≢◌, ◌≤◌, Bool, true, false, List, [], length, map, Option, Some, None}
 use Rattle.std.specs.List.{All}
 use Rattle.std.specs.declared.alloc.Global.{Global}
@@ -19,10 +19,10 @@ use Rattle.xb_model.specs.Routing.{CodedRoute}
 use Rattle.xb_model.specs.Rows.{LoopRow}
 use Rattle.xb_model.specs.Sources.{Rest}
 use Rattle.xb_pulse.specs.Machine.{machine as pulse_machine}
-use Rattle.xb_register.specs.Registering.{machine as register_machine}
+use Rattle.xb_register.specs.Machine.{machine as register_machine}
 use Rattle.xb_routes.specs.Table.{Table}
-use Rattle.xb_routes.specs.Translating.{machine as translate_machine}
-use Rattle.xb_sender.specs.Sending.{machine as sender_machine}
+use Rattle.xb_routes.specs.Machine.{machine as translate_machine}
+use Rattle.xb_sender.specs.Machine.{machine as sender_machine}
 use Rattle.xb_ring.specs.declared.flow.Flow.{Flow}
 use Rattle.xb_ring.specs.declared.branches.TheConstants.{MOST_BRANCHES}
 use Rattle.xb_ring.specs.Flows.{flow_of}

@@ -2,9 +2,9 @@
 ghost use Rattle.std.specs.Prelude.{◌≡◌, ◌≤◌, [], IfOk, reverse, vec_len, vec_capacity};
 ghost use Rattle.xb_model.specs.Lines.{row_line, on_line_of};
 ghost use Rattle.xb_pulse.specs.Machine.{machine as pulse_machine};
-ghost use Rattle.xb_register.specs.Registering.{machine as register_machine};
-ghost use Rattle.xb_routes.specs.Translating.{machine as translate_machine};
-ghost use Rattle.xb_sender.specs.Sending.{machine as sender_machine};
+ghost use Rattle.xb_register.specs.Machine.{machine as register_machine};
+ghost use Rattle.xb_routes.specs.Machine.{machine as translate_machine};
+ghost use Rattle.xb_sender.specs.Machine.{machine as sender_machine};
 ghost use Rattle.xb_ring.specs.declared.branches.TheConstants.{MOST_BRANCHES};
 ghost use Rattle.xb_bank.specs.Pairs.{Pairs};
 ghost use Rattle.xb_bank.specs.Promises.{FeedKept, StationKept, DealKept, GatherKept, TapeKept, ends_entry};

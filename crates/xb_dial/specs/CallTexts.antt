@@ -1,4 +1,4 @@
--- The text of calls: one in each text line, as `7 234-5678` (own format).
+-- The text of calls: one in each text line, as `7 234-5678`.
 use Rattle.std.specs.Prelude.{◌≡◌, ◌⊎◌, ℕ, ◌+◌, ◌-◌, ◌==◌, ◌||◌, not, nat_lt, if◌then◌else◌, List, [], ◌∷◌, map, length, take, drop, Bool, true, Option, Some, None, Result, Ok, Err, option_map}
 use Rattle.std.specs.List.{filter, position, slice_split}
 use Rattle.std.specs.Option.{unwrap_or}

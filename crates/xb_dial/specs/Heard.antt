@@ -1,4 +1,4 @@
--- A number that is dialled is the number that is heard (own profile).
+-- A number that is dialled is the number that is heard.
 use Rattle.std.specs.Prelude.{◌≡◌, ℕ, List, map, true}
 use Rattle.std.specs.List.{AllByRecursion}
 use Rattle.xb_model.specs.declared.limits.Limits.{Limits}

@@ -1,4 +1,4 @@
--- How the rows of calls are put together, step by step (own profile).
+-- How the rows of calls are put together, step by step.
 use Rattle.std.specs.Prelude.{◌≡◌, ◌≤◌, List, [], ◌∷◌, ◌++◌, map, drop, take, Bool, true, false}
 use Rattle.std.specs.List.{filter, flat_map}
 use Rattle.std.specs.Borrow.{Bor}

@@ -1,4 +1,4 @@
--- The text of loop rows (own format).
+-- The text of loop rows.
 use Rattle.std.specs.Prelude.{◌≡◌, ℕ, ◌<◌, List, ◌++◌, codes, decimal}
 use Rattle.std.specs.List.{flat_map}
 use Rattle.xb_model.specs.declared.line.TheConstants.{LINES}

@@ -1,4 +1,4 @@
--- The speed of a dial, and the limits that it fits (rotary dial; the limits are own profile).
+-- The speed of a dial, and the limits that it fits (rotary dial).
 use Rattle.std.specs.Prelude.{ℕ, ◌<◌, ◌≤◌}
 use Rattle.xb_model.specs.declared.limits.Limits.{Limits}
 use Rattle.xb_model.specs.declared.row.TheConstants.{GREATEST_MS}

@@ -1,4 +1,4 @@
--- How a text of calls is read, line by line (own format).
+-- How a text of calls is read, line by line.
 use Rattle.std.specs.Prelude.{◌≡◌, ◌⊎◌, ℕ, ◌+◌, ◌==◌, List, [], ◌∷◌, ◌++◌, Option, Some, None, Result, Ok, Err}
 use Rattle.std.specs.List.{slice_split}
 use Rattle.xb_model.specs.declared.plan.Plan.{Plan}

@@ -1,4 +1,4 @@
--- The numbers of the profile, each as it is (own profile).
+-- The numbers of the profile, each as it is.
 use Rattle.std.specs.Prelude.{◌≡◌}
 use Rattle.xb_model.specs.declared.digit.TheConstants.{DIGITS}
 use Rattle.xb_model.specs.declared.digits.TheConstants.{NUMBER_DIGITS, PREFIX_DIGITS, KEY_DIGITS}

@@ -1,4 +1,4 @@
--- A row may be cut into two (own profile).
+-- A row may be cut into two.
 use Rattle.std.specs.Prelude.{◌≡◌, ℕ, ◌+◌, List, [], ◌∷◌, ◌++◌}
 use Rattle.xb_model.specs.declared.row.Contact.{Contact}
 use Rattle.xb_model.specs.Rows.{LoopRow, row_of}

@@ -1,4 +1,4 @@
--- The limits by which pulses are judged, each in ms (own profile).
+-- The limits by which pulses are judged, each in ms.
 use Rattle.std.specs.Prelude.{ℕ, ◌<◌, ◌≤◌}
 use Rattle.xb_model.specs.declared.limits.Limits.{Limits}
 use Rattle.xb_model.specs.declared.limits.TheConstants.{GREATEST_LIMIT}

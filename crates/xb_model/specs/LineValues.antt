@@ -1,4 +1,4 @@
--- Lists with a value for each line (own profile).
+-- Lists with a value for each line.
 use Rattle.std.specs.Prelude.{◌≡◌, ℕ, ◌<◌, ◌≤◌, List, length, drop, slice_set, slice_index_or}
 use Rattle.std.specs.List.{enumerate_from}
 use Rattle.std.specs.Borrow.{Lends, Fml, RattleType, MutBor}

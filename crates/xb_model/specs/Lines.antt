@@ -1,4 +1,4 @@
--- The line that an item is on, and the items of one line (own profile).
+-- The line that an item is on, and the items of one line.
 use Rattle.std.specs.Prelude.{ℕ, ◌==◌, List}
 use Rattle.std.specs.List.{filter, range_with_len}
 use Rattle.xb_model.specs.declared.on.On.{On}

@@ -1,4 +1,4 @@
--- The text of the page (own format): ASCII, each line ended by one LF.
+-- The text of the page: ASCII, each line ended by one LF.
 use Rattle.std.specs.Prelude.{ℕ, ◌+◌, ◌-◌, replicate, length, List, [], ◌∷◌, ◌++◌, codes, decimal, Bool, not, Option, Some, None, is_some, option_and_then, slice_get, sum_by, count_by}
 use Rattle.xb_model.specs.declared.key.Key.{Key}
 use Rattle.xb_model.specs.declared.key.Key.TheVariants as key

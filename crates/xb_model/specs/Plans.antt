@@ -1,4 +1,4 @@
--- The length of a number (own profile). N is 2 to 9, X is 0 to 9.
+-- The length of a number. N is 2 to 9, X is 0 to 9.
 use Rattle.std.specs.Prelude.{ℕ, List, [], ◌∷◌, Bool, not, ◌&&◌, if◌then◌else◌, nat_le, ◌==◌, Option, Some, None}
 use Rattle.xb_model.specs.declared.plan.Plan.{Plan}
 use Rattle.xb_model.specs.declared.plan.Plan.TheVariants.{Seven, Ten}

@@ -1,5 +1,5 @@
 -- The record of a line, cut at releases into attempts, and an attempt cut at pauses into pulse
--- trains (own profile).
+-- trains.
 use Rattle.std.specs.Prelude.{ℕ, ◌+◌, List, [], ◌∷◌, Bool, true, false, ◌&&◌, if◌then◌else◌, nat_le, ◌==◌}
 use Rattle.std.specs.List.{filter, list_any}
 use Rattle.xb_model.specs.declared.row.Contact.{Contact}

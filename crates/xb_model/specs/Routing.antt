@@ -1,4 +1,4 @@
--- Routing a number (own format).
+-- Routing a number.
 use Rattle.std.specs.Prelude.{ℕ, List, [], ◌∷◌, ◌++◌, drop, length, Bool, true, false, ◌&&◌, ◌==◌, nat_lt, if◌then◌else◌, Option, Some, None}
 use Rattle.std.specs.List.{filter}
 use Rattle.xb_model.specs.declared.dialled.Dialled.{Dialled}

@@ -1,4 +1,4 @@
--- The rows of loop records (own profile).
+-- The rows of loop records.
 use Rattle.std.specs.Prelude.{ℕ, Bool, IsTrue, nat_le, ◌==◌}
 use Rattle.xb_model.specs.declared.row.Contact.{Contact}
 use Rattle.xb_model.specs.declared.row.Contact.TheVariants.{Make, Brk, Close}

@@ -1,4 +1,4 @@
--- The signals of a record (own profile).
+-- The signals of a record.
 use Rattle.std.specs.Prelude.{ℕ, min, List, [], ◌∷◌, ◌++◌, map, length, Bool, false, ◌||◌, if◌then◌else◌, nat_lt}
 use Rattle.std.specs.List.{filter, list_any, flat_map}
 use Rattle.xb_model.specs.declared.limits.Limits.{Limits}

@@ -1,4 +1,4 @@
--- The tape of a line (own profile).
+-- The tape of a line.
 use Rattle.std.specs.Prelude.{◌≡◌, ℕ, true, false, List, [], ◌∷◌, ◌++◌, map, if◌then◌else◌, slice_index_or}
 use Rattle.std.specs.List.{AllByRecursion, flat_map}
 use Rattle.xb_model.specs.declared.limits.Limits.{Limits}

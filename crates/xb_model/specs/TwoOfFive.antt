@@ -1,4 +1,4 @@
--- Two out of five (own profile).
+-- Two out of five.
 use Rattle.std.specs.Prelude.{ℕ, ◌+◌, List, [], ◌∷◌, Bool, true, false, if◌then◌else◌, ◌==◌, Option, Some, None}
 
 -- what the operated elements stand for, given what each of the five does

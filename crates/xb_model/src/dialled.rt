@@ -4,7 +4,7 @@ ghost use Rattle.std.specs.Prelude.{◌≡◌};
 use crate::digits::NumberDigits;
 use crate::reason::Reason;
 
-/// What comes of an attempt (own profile).
+/// What comes of an attempt.
 #[derive(Drop)]
 pub enum Dialled {
     /// The number that was dialled.

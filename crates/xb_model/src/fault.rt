@@ -1,7 +1,7 @@
 // Faults of loop rows.
 use thiserror::Error;
 
-/// Why loop rows are refused (own format). A number is that of the record, the first after the
+/// Why loop rows are refused. A number is that of the record, the first after the
 /// header being 1.
 #[derive(Clone, Copy, Debug, PartialEq, Eq, Error)]
 pub enum RowFault {

@@ -5,7 +5,7 @@ ghost use Rattle.xb_model.specs.LawfulLimits.{IsLawful, standard_limits};
 /// The greatest value of any limit, in ms. Running totals stop here.
 pub const GREATEST_LIMIT: u32 = 1_000_000;
 
-/// The limits of a line's pulses, each in ms (own profile).
+/// The limits of a line's pulses, each in ms.
 ///
 /// They are lawful from 1 to 1,000,000 and in their order, `pulse_min` ≤ `pulse_max` < `release`
 /// and `make_min` ≤ `pause` < `timeout`; the type does not enforce it.

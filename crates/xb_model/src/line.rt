@@ -3,10 +3,10 @@ ghost use Rattle.std.specs.Prelude.{◌≡◌, ℕ, ◌<◌, ◌↔◌, IsSome, 
 
 use std::marker::Model;
 
-/// How many lines the office has (own profile).
+/// How many lines the office has.
 pub const LINES: u16 = 10_000;
 
-/// A line of the office, 0 to 9999 (own profile).
+/// A line of the office, 0 to 9999.
 #[derive(Clone, Copy, Debug, PartialEq, Eq)]
 pub struct LineNo {
     number: u16,

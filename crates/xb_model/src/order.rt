@@ -5,7 +5,7 @@ use crate::digits::KeyDigits;
 use crate::reason::Reason;
 use crate::trunk::Trunk;
 
-/// What a sender is told (own profile).
+/// What a sender is told.
 #[derive(Drop)]
 pub enum Order {
     /// To key these digits on this trunk group.

@@ -4,7 +4,7 @@ ghost use Rattle.xb_model.specs.Plans.{plan_len, length_after_three, is_service_
 
 use crate::digit::Digit;
 
-/// How the length of a number follows from its first digits (own profile). N is 2 to 9, X is 0 to 9.
+/// How the length of a number follows from its first digits. N is 2 to 9, X is 0 to 9.
 #[derive(Clone, Copy, Debug, PartialEq, Eq)]
 pub enum Plan {
     /// One digit where the first is 0, three for N11, seven for anything else.
@@ -13,14 +13,14 @@ pub enum Plan {
     Ten,
 }
 
-/// Whether three digits are N11, as 411 (own profile).
+/// Whether three digits are N11, as 411.
 pub fn is_service_code(first: Digit, second: Digit, third: Digit) -> bool
     ensures { result ≡ is_service_code first second third }
 {
     first.get() >= 2 && second.get() == 1 && third.get() == 1
 }
 
-/// Whether three digits are N0X, or N1X other than N11, as 212 (own profile).
+/// Whether three digits are N0X, or N1X other than N11, as 212.
 pub fn is_area_code(first: Digit, second: Digit, third: Digit) -> bool
     ensures { result ≡ is_area_code first second third }
 {

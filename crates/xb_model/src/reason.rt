@@ -1,6 +1,6 @@
 // Why an attempt is refused.
 
-/// Why an attempt is refused (own profile).
+/// Why an attempt is refused.
 #[derive(Clone, Copy, Debug, PartialEq, Eq)]
 pub enum Reason {
     /// A mutilated digit was heard before a number was complete.

@@ -6,7 +6,7 @@ ghost use Rattle.xb_model.specs.TwoOfFive.{digit_of_pattern, pattern_of_count, a
 use crate::digit::Digit;
 use std::marker::Model;
 
-/// Five elements, of the weights 0, 1, 2, 4 and 7, each of which operates or not (own profile).
+/// Five elements, of the weights 0, 1, 2, 4 and 7, each of which operates or not.
 #[derive(Clone, Copy, Debug, PartialEq, Eq)]
 pub struct Relays {
     zero: bool,

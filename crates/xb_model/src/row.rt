@@ -5,10 +5,10 @@ ghost use Rattle.xb_model.specs.Rows.{IsRow, close_row, row_of};
 use crate::line::LineNo;
 use std::marker::Model;
 
-/// The longest time that one row gives, in ms: a day (own profile).
+/// The longest time that one row gives, in ms: a day.
 pub const GREATEST_MS: u32 = 86_400_000;
 
-/// What a line's loop does in a row (own profile).
+/// What a line's loop does in a row.
 #[derive(Clone, Copy, Debug, PartialEq, Eq)]
 pub enum Contact {
     /// The loop is closed.
@@ -19,7 +19,7 @@ pub enum Contact {
     Close,
 }
 
-/// One row of loop records: a line, what its loop does, and for how many ms (own profile).
+/// One row of loop records: a line, what its loop does, and for how many ms.
 #[derive(Clone, Copy, Debug, PartialEq, Eq)]
 pub struct Row {
     line: LineNo,

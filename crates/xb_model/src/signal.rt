@@ -6,7 +6,7 @@ pub const MOST_PULSES: u8 = 10;
 /// Where the count of a train's breaks stops: one more than the pulses of any digit.
 pub const MANY_BREAKS: u8 = MOST_PULSES + 1;
 
-/// What is heard on a line (own profile).
+/// What is heard on a line.
 #[derive(Clone, Copy, Debug, PartialEq, Eq, Default)]
 pub enum Signal {
     /// An attempt's first make: a register is seized, and the attempt begins.

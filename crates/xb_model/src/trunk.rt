@@ -3,10 +3,10 @@ ghost use Rattle.std.specs.Prelude.{◌≡◌, ℕ, ◌<◌, ◌↔◌, IsSome, 
 
 use std::marker::Model;
 
-/// How many trunk groups there can be (own profile).
+/// How many trunk groups there can be.
 pub const TRUNKS: u16 = 10_000;
 
-/// A trunk group, 0 to 9999 (own profile).
+/// A trunk group, 0 to 9999.
 #[derive(Clone, Copy, Debug, PartialEq, Eq)]
 pub struct Trunk {
     number: u16,

@@ -1,4 +1,4 @@
--- What the program gives for words and a deck, by its status (own format).
+-- What the program gives for words and a deck, by its status.
 use Rattle.std.specs.Prelude.{ℕ, ◌⊎◌, List, codes, Option, IfSome}
 use Rattle.std.specs.Io.KnownBytes.{Keeps}
 use Rattle.xb_office.specs.Says.{GetsBeginning, GetsPage, says}

@@ -1,4 +1,4 @@
--- What the words of the command line choose, as `clap` reads them (own format).
+-- What the words of the command line choose, as `clap` reads them.
 use Rattle.std.specs.Prelude.{ℕ, ◌≡◌, ◌≢◌, [], List, Option, Some, None, String, codes, string_bytes, map, pos}
 use Rattle.std.specs.Str.Parse.{digits_value, without_leading_plus}
 use Rattle.clap.specs.Faults.{fault_of}

@@ -1,4 +1,4 @@
--- The numbers of the program, each as it is (own profile).
+-- The numbers of the program, each as it is.
 use Rattle.std.specs.Prelude.{◌≡◌}
 use Rattle.xb_office.specs.declared.command_line.TheConstants.{DEFAULT_RING, DEFAULT_SENDERS}
 use Rattle.xb_office.specs.declared.deck.TheConstants.{MOST_DECK_BYTES}

@@ -1,4 +1,4 @@
--- The two parts of a deck (own format).
+-- The two parts of a deck.
 use Rattle.std.specs.Prelude.{ℕ, ◌==◌, ◌||◌, List, [], ◌∷◌, ◌++◌, codes, Bool, Option, Some, None, option_map, if◌then◌else◌, bytes_eq}
 use Rattle.std.specs.List.{slice_split, join_with_byte}
 use Rattle.xb_office.specs.declared.deck.Deck.{Deck}

@@ -1,4 +1,4 @@
--- What an office returns where one of its parts is refused (own format).
+-- What an office returns where one of its parts is refused.
 use Rattle.std.specs.Prelude.{◌≡◌, ◌≢◌, ◌⊎◌}
 use Rattle.xb_model.specs.declared.fault.RowFault.{RowFault}
 use Rattle.xb_model.specs.declared.fault.RowFault.TheVariants as row_fault

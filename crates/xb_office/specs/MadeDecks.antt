@@ -1,4 +1,4 @@
--- Decks as they are made (own format).
+-- Decks as they are made.
 use Rattle.std.specs.Prelude.{ℕ, ◌≡◌, ◌≤◌, ◌++◌, List, [], ◌∷◌, codes, length, false, Some, Ok}
 use Rattle.std.specs.List.{All}
 use Rattle.xb_model.specs.Rows.{LoopRow}

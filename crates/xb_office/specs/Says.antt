@@ -1,4 +1,4 @@
--- What a deck says: its page, or its first fault (own format).
+-- What a deck says: its page, or its first fault.
 use Rattle.std.specs.Prelude.{ℕ, ◌≡◌, ◌+◌, List, length, nat_lt, if◌then◌else◌, Option, Some, None, IfSome, IsOk, Result, Ok, Err}
 use Rattle.std.specs.Io.KnownBytes.{Appends, IsAtEnd, Keeps}
 use Rattle.xb_model.specs.declared.fault.RowFault.{RowFault}

@@ -1,4 +1,4 @@
--- What an error of `clap` is to the program (own format).
+-- What an error of `clap` is to the program.
 use Rattle.clap.specs.declared.error.kind.ErrorKind.{ErrorKind}
 use Rattle.clap.specs.declared.error.kind.ErrorKind.TheVariants as kind
 use Rattle.xb_office.specs.declared.command_line.WordsFault.{WordsFault}

@@ -1,4 +1,4 @@
--- Decks, worked out by hand (own format).
+-- Decks, worked out by hand.
 use Rattle.std.specs.Prelude.{◌≡◌, [], codes, None}
 use Rattle.xb_office.specs.Deck.{deck_parts}
 use Rattle.xb_office.specs.MadeDecks.{IsCutInto}

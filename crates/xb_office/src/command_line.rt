@@ -9,10 +9,10 @@ use clap::{Arg, ArgAction, Command, Error};
 use std::alloc::{AllocError, Global};
 use xb_ring::{GREATEST_CAPACITY, MOST_BRANCHES};
 
-/// How many senders there are unless the words say otherwise (own profile).
+/// How many senders there are unless the words say otherwise.
 pub const DEFAULT_SENDERS: u16 = 4;
 
-/// How many items a ring has room for unless the words say otherwise (own profile).
+/// How many items a ring has room for unless the words say otherwise.
 pub const DEFAULT_RING: u16 = 64;
 
 /// What the words of the command line choose.

@@ -1,4 +1,4 @@
--- The rows of one line, closed once (own profile).
+-- The rows of one line, closed once.
 use Rattle.std.specs.Prelude.{◌≡◌, ℕ, ◌<◌, List, [], ◌∷◌, ◌++◌, if◌then◌else◌, None}
 use Rattle.xb_model.specs.declared.line.TheConstants.{LINES}
 use Rattle.xb_model.specs.Rows.{LoopRow, close_row}

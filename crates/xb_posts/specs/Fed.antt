@@ -1,4 +1,4 @@
--- The fed rows: those that are heard, and the closes that the records lack (own profile).
+-- The fed rows: those that are heard, and the closes that the records lack.
 use Rattle.std.specs.Prelude.{ℕ, List, [], ◌∷◌, ◌++◌, map, Bool, true, false, not, ◌&&◌, ◌==◌, if◌then◌else◌, Option, Some, None}
 use Rattle.std.specs.List.{filter}
 use Rattle.xb_model.specs.declared.fault.RowFault.{RowFault}

@@ -1,4 +1,4 @@
--- What a feed has still to send, and what it takes ahead from its source (own profile).
+-- What a feed has still to send, and what it takes ahead from its source.
 use Rattle.std.specs.Prelude.{◌≡◌, ◌⊎◌, true, false, Bool, List, ◌++◌, Option, None, Some, Result, Ok, Err}
 use mathlib.Core.List.{IsPrefix}
 use Rattle.xb_model.specs.declared.fault.RowFault.{RowFault}

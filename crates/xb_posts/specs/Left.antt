@@ -1,4 +1,4 @@
--- What is left to be fed of further rows, where the rows before them left the lines so (own profile).
+-- What is left to be fed of further rows, where the rows before them left the lines so.
 use Rattle.std.specs.Prelude.{ℕ, List, [], ◌++◌, map, Bool, not, Option, Some, None}
 use Rattle.std.specs.List.{filter}
 use Rattle.xb_model.specs.declared.fault.RowFault.{RowFault}

@@ -1,4 +1,4 @@
--- What the rows so far leave of a line (own profile).
+-- What the rows so far leave of a line.
 use Rattle.std.specs.Prelude.{ℕ, List, Bool, true, false, fold, slice_index_or}
 use Rattle.xb_model.specs.declared.row.Contact.{Contact}
 use Rattle.xb_model.specs.declared.row.Contact.TheVariants.{Make, Brk, Close}

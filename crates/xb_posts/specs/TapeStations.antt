@@ -1,4 +1,4 @@
--- What a tape station holds, and what one turn of it does (own profile).
+-- What a tape station holds, and what one turn of it does.
 use Rattle.std.specs.Prelude.{◌≡◌, Bool, true, false, List, [], ◌∷◌, ◌++◌, Result, Ok, Err, length}
 use Rattle.rtrb.specs.declared.consumer.Consumer.{Consumer}
 use Rattle.rtrb.specs.Ring.{received, known_items, ConsumerLooked}

@@ -18,7 +18,7 @@ fn close_lines(mut uses: LineUses, fed: &mut Vec<Row>) -> Result<(), AllocError>
 }
 
 /// The fed rows of a list: those without the ones of a line after its close, then a close for each
-/// line that has rows and none, lines ascending (own profile). `Err` where memory ran out.
+/// line that has rows and none, lines ascending. `Err` where memory ran out.
 pub fn fed_rows(alloc: Global, rows: &[Row]) -> Result<Vec<Row>, AllocError>
     ensures { IfOk result (λ all. all.items ≡ fed rows.now None) }
 {

@@ -11,8 +11,8 @@ use xb_model::{Row, RowFault, RowSource};
 use xb_ring::{Flow, Gate, Pause, Post, Sends, Turn, look_at_both};
 
 /// A post that sends the fed rows of its source: the rows without those of a line after its close,
-/// then, where the source ends, a close for each line that lacks one, lines ascending, and the End
-/// (own profile). It holds up to 16 rows. Clauses see what the source has still to give, the feed's
+/// then, where the source ends, a close for each line that lacks one, lines ascending, and the End.
+/// It holds up to 16 rows. Clauses see what the source has still to give, the feed's
 /// end, the rows that it holds, what the rows so far leave of the lines, and whether the source's stop
 /// was met.
 #[derive(Drop)]

@@ -7,7 +7,7 @@ use crate::line_uses::LineUses;
 use xb_model::{Row, RowFault, RowSource};
 use xb_ring::Flow;
 
-/// The most rows that a feed holds, and sends by one push (own profile).
+/// The most rows that a feed holds, and sends by one push.
 pub const AHEAD: usize = 16;
 
 // Takes rows from the source until it holds `AHEAD` of them or the source stops: whether it ended.

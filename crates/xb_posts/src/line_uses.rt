@@ -5,7 +5,7 @@ use std::marker::Model;
 use xb_model::{LINES, LineNo, PerLine, Row, RowFault};
 
 /// What the rows so far leave of each line: which rows are heard, and which closes are lacking at the
-/// end (own profile).
+/// end.
 #[derive(Drop)]
 pub(crate) struct LineUses {
     uses: PerLine<LineUse>,

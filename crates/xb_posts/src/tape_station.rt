@@ -8,7 +8,7 @@ use xb_model::{LineNo, Mark, On};
 use xb_ring::{Flow, Gate, Pause, Post, Sends, Turn};
 use xb_tape::Tapes;
 
-/// A post that puts each mark that it receives on its line's tape (own profile). Clauses see its end,
+/// A post that puts each mark that it receives on its line's tape. Clauses see its end,
 /// the tapes, and whether marks were dropped because memory ran out.
 #[derive(Drop)]
 pub struct TapeStation {

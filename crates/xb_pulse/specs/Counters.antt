@@ -1,4 +1,4 @@
--- How far the counters of a line go (own profile).
+-- How far the counters of a line go.
 use Rattle.std.specs.Prelude.{◌≤◌}
 use Rattle.xb_model.specs.declared.limits.TheConstants.{GREATEST_LIMIT}
 use Rattle.xb_model.specs.declared.signal.TheConstants.{MANY_BREAKS}

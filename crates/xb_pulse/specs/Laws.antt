@@ -1,4 +1,4 @@
--- What the pulse stage hears in the rows of a line's loop (own profile). A stage is given by its
+-- What the pulse stage hears in the rows of a line's loop. A stage is given by its
 -- machine, and lawful limits are those that it judges by.
 use Rattle.std.specs.Prelude.{◌≡◌, List, [], ◌∷◌, ◌++◌, true, false}
 use Rattle.std.specs.List.{AllByRecursion}

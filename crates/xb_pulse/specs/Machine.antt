@@ -1,5 +1,5 @@
 -- The pulse stage on one line, row by row: what a row sends, and the phase in which it leaves the
--- line (own profile). The laws say what this comes to over a whole record.
+-- line. The laws say what this comes to over a whole record.
 use Rattle.std.specs.Prelude.{ℕ, ◌+◌, min, List, [], ◌∷◌, false, ◌||◌, if◌then◌else◌, nat_le, ◌==◌}
 use Rattle.xb_model.specs.declared.row.Contact.{Contact}
 use Rattle.xb_model.specs.declared.row.Contact.TheVariants as contacts

@@ -1,4 +1,4 @@
--- Where a row's signals stand (own profile).
+-- Where a row's signals stand.
 use Rattle.std.specs.Prelude.{◌≡◌}
 use Rattle.std.specs.List.{AllByRecursion}
 use Rattle.xb_model.specs.declared.limits.Limits.{Limits}

@@ -13,7 +13,7 @@ use std::marker::Model;
 use xb_model::{Contact, GREATEST_LIMIT, Limits, MANY_BREAKS, On, Row, Signal};
 use xb_stage::{LineStage, send};
 
-/// The stage that turns the rows of each line's loop into signals, by its limits (own profile).
+/// The stage that turns the rows of each line's loop into signals, by its limits.
 ///
 /// Neighbouring rows of one contact are one run, and rows of 0 ms count for nothing. Each limit is
 /// judged on the whole run so far, and each signal is sent by the row in which its limit is

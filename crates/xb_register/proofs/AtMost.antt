@@ -12,7 +12,7 @@ use Rattle.xb_model.specs.TwoOfFive.{digit_of_pattern, pattern_of_count}
 use Rattle.xb_register.specs.declared.step.Step.{Step}
 use Rattle.xb_register.specs.declared.state.Phase.{Phase}
 use Rattle.xb_register.specs.declared.state.Phase.TheVariants.{OnHook, Listening, Done}
-use Rattle.xb_register.specs.Registering.{reaches, enter, give, store, advance, machine}
+use Rattle.xb_register.specs.Machine.{reaches, enter, give, store, advance, machine}
 use Rattle.xb_register.specs.Laws.{seizures, EachSeizureGivesAtMostOne, GivesNoMoreThanSeizures, GivesNoneBeforeASeizure}
 use Rattle.xb_register.proofs.Outcomes.{outcomes_from, outcomes_given-machine}
 

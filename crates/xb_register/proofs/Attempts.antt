@@ -19,7 +19,7 @@ use Rattle.xb_model.proofs.Spelled.{spelled}
 use Rattle.xb_stage.specs.OnLines.{on_line}
 use Rattle.xb_register.specs.declared.state.Phase.TheVariants.{OnHook, Listening, Done}
 use Rattle.xb_register.specs.Laws.{GivesOutcomes}
-use Rattle.xb_register.specs.Registering.{store, phase_after, machine}
+use Rattle.xb_register.specs.Machine.{store, phase_after, machine}
 use Rattle.xb_register.proofs.Outcomes.{outcomes_from, outcomes_given-machine}
 use Rattle.xb_register.proofs.Pending.{IsPending, one, reaches-pending}
 

@@ -8,7 +8,7 @@ use Rattle.xb_stage.specs.OnLines.{on_line, whats_from}
 use Rattle.xb_stage.proofs.OnLines.{image_from-whats}
 use Rattle.xb_register.specs.declared.state.Phase.{Phase}
 use Rattle.xb_register.specs.declared.state.Phase.TheVariants.{OnHook}
-use Rattle.xb_register.specs.Registering.{phase_after, outcomes_by, machine}
+use Rattle.xb_register.specs.Machine.{phase_after, outcomes_by, machine}
 use Rattle.xb_register.specs.Laws.{outcomes_given}
 
 -- the outcomes that signals give, from a phase on

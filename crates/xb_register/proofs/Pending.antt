@@ -6,7 +6,7 @@ use Rattle.xb_model.specs.Plans.{plan_len, length_after_three}
 use Rattle.xb_model.specs.Numbers.{is_complete, has_length}
 use Rattle.xb_model.specs.declared.plan.Plan.{Plan}
 use Rattle.xb_model.specs.declared.plan.Plan.TheVariants.{Seven, Ten}
-use Rattle.xb_register.specs.Registering.{reaches}
+use Rattle.xb_register.specs.Machine.{reaches}
 
 -- one digit alone
 abbrev pub one : ℕ → List ℕ

@@ -1,4 +1,4 @@
--- What a register gives for the signals of a line (own profile).
+-- What a register gives for the signals of a line.
 use Rattle.std.specs.Prelude.{◌≡◌, ℕ, ◌+◌, ◌≤◌, List, ◌∷◌, ◌++◌, length, Bool, true, false}
 use Rattle.std.specs.List.{filter}
 use Rattle.xb_model.specs.declared.dialled.Dialled.{Dialled}

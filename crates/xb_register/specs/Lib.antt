@@ -1,4 +1,4 @@
 pub mod Stored
 pub mod Phases
-pub mod Registering
+pub mod Machine
 pub mod Laws

@@ -1,4 +1,4 @@
--- Where an attempt stands on a line (own profile).
+-- Where an attempt stands on a line.
 use Rattle.std.specs.Prelude.{◌<◌, length}
 use Rattle.xb_model.specs.declared.digits.TheConstants.{NUMBER_DIGITS}
 use Rattle.xb_register.specs.declared.state.Phase.{Phase}

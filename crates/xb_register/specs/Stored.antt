@@ -1,4 +1,4 @@
--- Digits that are kept as patterns (two out of five, own profile).
+-- Digits that are kept as patterns (two out of five).
 use Rattle.std.specs.Prelude.{◌≡◌, ℕ, ◌≤◌, List, length, Bool}
 use Rattle.std.specs.List.{filter_map}
 use Rattle.xb_model.specs.declared.digits.TheConstants.{NUMBER_DIGITS}

@@ -2,7 +2,7 @@
 //! does nothing.
 ghost use Rattle.xb_model.specs.declared.plan.Plan.{Plan};
 ghost use Rattle.xb_register.specs.Laws.{GivesOutcomes, EachSeizureGivesAtMostOne, GivesNoMoreThanSeizures, GivesNoneBeforeASeizure};
-ghost use Rattle.xb_register.specs.Registering.{machine};
+ghost use Rattle.xb_register.specs.Machine.{machine};
 
 /// The signals of a record give one outcome for each of its attempts, in order, on the line.
 pub fn gives_outcomes()

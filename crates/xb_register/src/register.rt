@@ -5,7 +5,7 @@ ghost use Rattle.xb_model.specs.TwoOfFive.{digit_of_pattern};
 ghost use Rattle.xb_stage.specs.OnLines.{all_on};
 ghost use Rattle.xb_register.specs.Laws.{GivesOutcomes, EachSeizureGivesAtMostOne, GivesNoMoreThanSeizures, GivesNoneBeforeASeizure};
 ghost use Rattle.xb_register.specs.Phases.{HasRoom};
-ghost use Rattle.xb_register.specs.Registering.{advance, listen, store, reaches, outcomes_by, machine};
+ghost use Rattle.xb_register.specs.Machine.{advance, listen, store, reaches, outcomes_by, machine};
 
 use crate::state::{Phase, RegisterState};
 use crate::step::Step;
@@ -14,7 +14,7 @@ use std::marker::Model;
 use xb_model::{Dialled, NUMBER_DIGITS, On, Plan, Reason, Relays, Signal, plan_len};
 use xb_stage::{LineStage, send};
 
-/// The register stage: signals of each line in, what comes of each attempt out (own profile).
+/// The register stage: signals of each line in, what comes of each attempt out.
 ///
 /// Each digit is kept as its two-out-of-five pattern, checked when it is stored, and read back to
 /// learn whether the number is complete and to give it. A complete number decides first, then a

@@ -1,6 +1,6 @@
 // What a signal does on its line.
 ghost use Rattle.std.specs.Prelude.{◌≡◌};
-ghost use Rattle.xb_register.specs.Registering.{enter, give, refuse};
+ghost use Rattle.xb_register.specs.Machine.{enter, give, refuse};
 
 use crate::state::Phase;
 use crate::stored::StoredDigits;

@@ -11,8 +11,8 @@ use Rattle.xb_ring.specs.Deals.{DealLaw}
 use Rattle.xb_ring.specs.Gathers.{GatherLaw}
 use Rattle.xb_ring.specs.Rings.{IsRing, ProducersLooked}
 use Rattle.xb_routes.specs.Table.{Table}
-use Rattle.xb_routes.specs.Translating.{machine as translate_machine}
-use Rattle.xb_sender.specs.Sending.{machine as sender_machine}
+use Rattle.xb_routes.specs.Machine.{machine as translate_machine}
+use Rattle.xb_sender.specs.Machine.{machine as sender_machine}
 use Rattle.xb_posts.specs.TapeStations.{TapeLaw}
 use Rattle.xb_replay.specs.Looks.{OutputLooked, AllInputsLooked, AllOutputsLooked}
 use Rattle.xb_replay.specs.World.{World, Input, Output, StationPost, SenderPost, DealPost, GatherPost, TapePost, AreDealt, AreKeyed, SenderLaw, WorldLaw}

@@ -21,7 +21,7 @@ use Rattle.xb_stage.specs.Image.{image}
 use Rattle.xb_stage.specs.OnLines.{on_line}
 use Rattle.xb_stage.proofs.Stateless.{image_all-stateless}
 use Rattle.xb_pulse.specs.Machine.{machine as pulse_machine}
-use Rattle.xb_register.specs.Registering.{machine as register_machine}
+use Rattle.xb_register.specs.Machine.{machine as register_machine}
 use Rattle.xb_ring.specs.declared.flow.Flow.{Flow}
 use Rattle.xb_ring.specs.declared.post.Post.{Post}
 use Rattle.xb_ring.specs.declared.post.Post.TheVariants as posts
@@ -33,8 +33,8 @@ use Rattle.xb_ring.specs.Rings.{IsRing}
 use Rattle.xb_ring.proofs.Flows.{flow-front, flow-whole}
 use Rattle.xb_ring.proofs.ImagePrefixes.{image-prefix}
 use Rattle.xb_ring.proofs.Prefixes.{prefix_on}
-use Rattle.xb_routes.specs.Translating.{machine as translate_machine}
-use Rattle.xb_sender.specs.Sending.{machine as sender_machine}
+use Rattle.xb_routes.specs.Machine.{machine as translate_machine}
+use Rattle.xb_sender.specs.Machine.{machine as sender_machine}
 use Rattle.xb_tape.specs.GatheredMarks.{whats_of}
 use Rattle.xb_posts.specs.Fed.{fed}
 use Rattle.xb_posts.specs.Feeds.{to_come}

@@ -10,11 +10,11 @@ use Rattle.xb_model.specs.declared.signal.Signal.{Signal}
 use Rattle.xb_model.specs.Lines.{row_line, on_line_of}
 use Rattle.xb_model.specs.Rows.{LoopRow}
 use Rattle.xb_pulse.specs.Machine.{machine as pulse_machine}
-use Rattle.xb_register.specs.Registering.{machine as register_machine}
+use Rattle.xb_register.specs.Machine.{machine as register_machine}
 use Rattle.xb_ring.specs.Deals.{DealLaw}
 use Rattle.xb_ring.specs.Rings.{IsRing}
 use Rattle.xb_routes.specs.Table.{Table}
-use Rattle.xb_routes.specs.Translating.{machine as translate_machine}
+use Rattle.xb_routes.specs.Machine.{machine as translate_machine}
 use Rattle.xb_replay.specs.Looks.{InputLooked, OutputLooked}
 use Rattle.xb_replay.specs.World.{World, FeedPost, StationPost, DealPost, FeedLaw, KeepsImage, WorldLaw}
 use Rattle.xb_replay.proofs.Feeds.{feed_law-looked}

@@ -1,4 +1,4 @@
--- The posts before their first turn (own profile).
+-- The posts before their first turn.
 use Rattle.std.specs.Prelude.{◌≡◌, ℕ, List, [], length}
 use Rattle.std.specs.List.{All}
 use Rattle.rtrb.specs.Ring.{sent, received}

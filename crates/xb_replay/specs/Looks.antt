@@ -1,4 +1,4 @@
--- Looks at the rings between the posts (own profile).
+-- Looks at the rings between the posts.
 use Rattle.std.specs.Prelude.{◌≡◌, ℕ, ◌<◌, List, length, slice_index_or}
 use Rattle.rtrb.specs.Ring.{sent, received, IsPair}
 use Rattle.xb_model.specs.declared.mark.Mark.{Mark}

@@ -1,4 +1,4 @@
--- The marks of each line so far, and the whole tapes (own profile).
+-- The marks of each line so far, and the whole tapes.
 use Rattle.std.specs.Prelude.{◌≡◌, ℕ, ◌<◌, List}
 use mathlib.Core.List.{IsPrefix}
 use Rattle.xb_model.specs.declared.line.TheConstants.{LINES}

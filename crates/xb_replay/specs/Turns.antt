@@ -1,4 +1,4 @@
--- What one turn of a post does (own profile).
+-- What one turn of a post does.
 use Rattle.std.specs.Prelude.{◌≡◌, ◌≢◌, ◌⊎◌, ◌↔◌, ℕ, ◌<◌, ◌==◌, true, List, [], ◌∷◌, ◌++◌, if◌then◌else◌, map, length, slice_index_or}
 use Rattle.std.specs.List.{All}
 use mathlib.Core.List.{IsPrefix}

@@ -1,4 +1,4 @@
--- The posts of the chain with the rings between them, as one value (own profile).
+-- The posts of the chain with the rings between them, as one value.
 use Rattle.std.specs.Prelude.{◌≡◌, ℕ, ◌<◌, true, false, None, List, ◌++◌, length, slice_index_or}
 use Rattle.std.specs.List.{All}
 use Rattle.std.specs.declared.alloc.Global.{Global}
@@ -19,7 +19,7 @@ use Rattle.xb_model.specs.Lines.{row_line, on_line_of}
 use Rattle.xb_model.specs.Rows.{LoopRow}
 use Rattle.xb_stage.specs.Image.{Machine}
 use Rattle.xb_pulse.specs.Machine.{machine as pulse_machine}
-use Rattle.xb_register.specs.Registering.{machine as register_machine}
+use Rattle.xb_register.specs.Machine.{machine as register_machine}
 use Rattle.xb_ring.specs.declared.flow.Flow.{Flow}
 use Rattle.xb_ring.specs.Deals.{DealView, DealLaw}
 use Rattle.xb_ring.specs.Flows.{flow_of}
@@ -27,9 +27,9 @@ use Rattle.xb_ring.specs.Gathers.{GatherView, GatherLaw}
 use Rattle.xb_ring.specs.Rings.{IsRing}
 use Rattle.xb_ring.specs.Stations.{StationView, StationLaw}
 use Rattle.xb_routes.specs.Table.{Table}
-use Rattle.xb_routes.specs.Translating.{machine as translate_machine}
+use Rattle.xb_routes.specs.Machine.{machine as translate_machine}
 use Rattle.xb_sender.specs.declared.sender.Sender.{Sender}
-use Rattle.xb_sender.specs.Sending.{machine as sender_machine}
+use Rattle.xb_sender.specs.Machine.{machine as sender_machine}
 use Rattle.xb_posts.specs.Fed.{fed}
 use Rattle.xb_posts.specs.Feeds.{FeedView, to_come}
 use Rattle.xb_posts.specs.TapeStations.{TapeView, TapeLaw}

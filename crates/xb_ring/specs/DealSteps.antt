@@ -1,4 +1,4 @@
--- The small steps of a deal: what it holds after each event (own profile).
+-- The small steps of a deal: what it holds after each event.
 use Rattle.std.specs.Prelude.{ℕ, ◌+◌, nat_lt, Bool, if◌then◌else◌}
 use Rattle.xb_ring.specs.declared.flow.Flow.{Flow}
 use Rattle.xb_ring.specs.declared.flow.Flow.TheVariants.{Item, End}

@@ -1,4 +1,4 @@
--- Items as they go through a ring (own profile).
+-- Items as they go through a ring.
 use Rattle.std.specs.Prelude.{◌≡◌, ℕ, ◌-◌, ◌^◌, min, Bool, true, false, if◌then◌else◌, List, [], ◌∷◌, ◌++◌, map}
 use Rattle.xb_stage.specs.Image.{Machine, image}
 use Rattle.xb_ring.specs.declared.flow.Flow.{Flow}

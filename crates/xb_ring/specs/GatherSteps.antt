@@ -1,4 +1,4 @@
--- What a gather knows of its inputs, and its small steps (own profile).
+-- What a gather knows of its inputs, and its small steps.
 use Rattle.std.specs.Prelude.{◌≡◌, ◌≢◌, ℕ, ◌+◌, ◌%◌, ◌<◌, ◌≤◌, ◌==◌, ◌||◌, nat_lt, Bool, true, false, List, [], ◌∷◌, ◌++◌, length, slice_index_or, if◌then◌else◌}
 use Rattle.std.specs.List.{sum_by}
 use Rattle.xb_ring.specs.declared.flow.Flow.{Flow}

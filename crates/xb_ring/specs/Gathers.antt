@@ -1,4 +1,4 @@
--- What a gather holds, and what one turn of it does (own profile).
+-- What a gather holds, and what one turn of it does.
 use Rattle.std.specs.Prelude.{◌≡◌, ◌⊎◌, ℕ, ◌<◌, ◌≤◌, Bool, true, false, List, [], ◌∷◌, ◌++◌, map, length, slice_index_or, slice_set}
 use Rattle.std.specs.List.{list_all}
 use Rattle.rtrb.specs.declared.producer.Producer.{Producer}

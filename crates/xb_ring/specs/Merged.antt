@@ -1,4 +1,4 @@
--- Lists merged by pieces, which end at certain items (own profile).
+-- Lists merged by pieces, which end at certain items.
 use Rattle.std.specs.Prelude.{◌≡◌, ℕ, zero, suc, ◌*◌, ◌/◌, ◌%◌, ◌<◌, ◌≤◌, nat_lt, Bool, true, false, List, [], ◌∷◌, ◌++◌, if◌then◌else◌, count_by}
 use Rattle.std.specs.List.{AllByRecursion, prefix_len, range_with_len}
 

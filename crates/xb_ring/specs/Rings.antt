@@ -1,4 +1,4 @@
--- The two ends of a ring, and looks at both (own profile).
+-- The two ends of a ring, and looks at both.
 use Rattle.std.specs.Prelude.{◌≡◌, ◌≢◌, ℕ, ◌<◌, List, slice_index_or, ◌++◌, length}
 use Rattle.std.specs.List.{HoldsAt}
 use Rattle.rtrb.specs.declared.producer.Producer.{Producer}

@@ -14,7 +14,7 @@ use crate::flow::Flow;
 use crate::sends::Sends;
 use rtrb::{Consumer, PopError, Producer};
 
-/// The most outputs of a deal, and the most inputs of a gather (own profile).
+/// The most outputs of a deal, and the most inputs of a gather.
 pub const MOST_BRANCHES: usize = 8;
 
 // The place after a place, of `len` in turn.

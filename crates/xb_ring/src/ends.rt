@@ -8,7 +8,7 @@ use crate::flow::Flow;
 use rtrb::{Consumer, Producer, RingBuffer};
 use std::alloc::{AllocError, Global};
 
-/// The greatest capacity of a ring (own profile).
+/// The greatest capacity of a ring.
 pub const GREATEST_CAPACITY: usize = 1_024;
 
 /// The two ends of an empty ring with room for 1 to 1,024 items, an End being one of them; `Err`

@@ -2,7 +2,7 @@
 ghost use Rattle.std.specs.Prelude.{◌≡◌, [], ◌∷◌, length};
 ghost use Rattle.xb_ring.specs.Flows.{items_of};
 
-/// An item, or the end of the items (own profile).
+/// An item, or the end of the items.
 #[derive(Clone, Copy, Debug, PartialEq, Eq, Drop)]
 pub enum Flow<T> {
     /// An item.

@@ -1,7 +1,7 @@
 // What each `serve` passes before its turns.
 use crate::post::Post;
 
-/// What each `serve` passes before its turns, and each start of a post asks (own profile). It sees
+/// What each `serve` passes before its turns, and each start of a post asks. It sees
 /// how far a post has come, and may hold it or refuse its start.
 pub trait Gate {
     /// A turn of `post` comes next. So far it has received `n` items, or for the feed sent `n`; from

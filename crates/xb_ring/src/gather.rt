@@ -15,7 +15,7 @@ use std::mem;
 use std::sync::Wait;
 use std::time::Clock;
 
-/// A post that takes a piece of each input in turn, up to and with an ending item (own profile). At
+/// A post that takes a piece of each input in turn, up to and with an ending item. At
 /// the first End it takes those of the other inputs, lowest first, drops the items that it meets
 /// there, and sends one End. It holds at most one item. Clauses see its ends, what it holds, and the
 /// input to take from next.

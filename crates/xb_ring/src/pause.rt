@@ -11,7 +11,7 @@ const AWAKE: u32 = 40;
 /// How long each sleep is, in microseconds.
 const NAP: u64 = 1;
 
-/// How a post waits whose turn made no event (own profile): it yields, then sleeps. A post that yields
+/// How a post waits whose turn made no event: it yields, then sleeps. A post that yields
 /// for ever takes the processor from those that it waits for, and one that sleeps at once wakes too
 /// late; so a short wait costs little, and a long one leaves the processor to others. A wait that
 /// follows one that slept yields once and then sleeps, since the others are then slow. Clauses see how

@@ -1,7 +1,7 @@
 // The posts of the chain.
 use std::fmt;
 
-/// A post of the chain: a stage with its ring ends (own profile). It prints as one word, or for a
+/// A post of the chain: a stage with its ring ends. It prints as one word, or for a
 /// sender two.
 #[derive(Clone, Copy, Debug, PartialEq, Eq)]
 pub enum Post {

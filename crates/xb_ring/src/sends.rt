@@ -10,7 +10,7 @@ ghost use Rattle.xb_ring.specs.Rings.{IsPairAt, IsRingAt};
 use crate::flow::Flow;
 use rtrb::Consumer;
 
-/// A post that sends into rings (own profile).
+/// A post that sends into rings.
 pub trait Sends<T> {
     // the ends that it sends by
     ghost outputs: { Self → List (Producer (Flow T) Global AnyItems) };

@@ -16,8 +16,8 @@ use std::time::Clock;
 use xb_model::PerLine;
 use xb_stage::{LineStage, OUTPUT_ROOM};
 
-/// A post that takes the items of a stage from one ring, and sends by another what the stage sends
-/// (own profile). Of each line it keeps the state. Clauses see the stage, the two ends, and what is
+/// A post that takes the items of a stage from one ring, and sends by another what the stage sends.
+/// Of each line it keeps the state. Clauses see the stage, the two ends, and what is
 /// pending: outputs, or the End.
 #[derive(Drop)]
 pub struct Station<S: LineStage> {

@@ -1,6 +1,6 @@
 // What a turn of a post did.
 
-/// What a turn did: one event or none (own profile).
+/// What a turn did: one event or none.
 #[derive(Clone, Copy, Debug, PartialEq, Eq)]
 pub enum Turn {
     /// An item is wanted, and the input ring gave none.

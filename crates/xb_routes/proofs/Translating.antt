@@ -7,7 +7,7 @@ use Rattle.xb_model.specs.Routing.{CodedRoute, order_of}
 use Rattle.xb_stage.specs.Image.{image_on}
 use Rattle.xb_stage.specs.OnLines.{on_line}
 use Rattle.xb_stage.proofs.Stateless.{image-stateless}
-use Rattle.xb_routes.specs.Translating.{machine}
+use Rattle.xb_routes.specs.Machine.{machine}
 
 -- what is dialled on a line gives its orders, one each, in order
 pub image-machine : (routes : List CodedRoute) (line : LineNo) (outcomes : List Dialled)

@@ -1,4 +1,4 @@
--- The routes of an array and of a text, said of all items at once (own format).
+-- The routes of an array and of a text, said of all items at once.
 use Rattle.std.specs.Prelude.{◌≡◌, ◌≢◌, ◌⊎◌, ℕ, ◌+◌, ◌<◌, ◌≤◌, List, [], ◌∷◌, ◌++◌, codes, length, map, Some, None, Result, Ok, Err}
 use Rattle.std.specs.List.{AllPairs, Contains, enumerate_from}
 use Rattle.toml.specs.Data.{Data, Items, no_items, item, Members, get_member}

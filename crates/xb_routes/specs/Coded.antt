@@ -1,4 +1,4 @@
--- What a route of the table says (own format).
+-- What a route of the table says.
 use Rattle.xb_model.specs.Routing.{CodedRoute, coded_route}
 use Rattle.xb_routes.specs.declared.route.Route.{Route}
 use Rattle.xb_routes.specs.declared.route.Entry.{Entry}

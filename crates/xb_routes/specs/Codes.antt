@@ -1,4 +1,4 @@
--- The codes that a route may have (own format). N is 2 to 9, X is 0 to 9.
+-- The codes that a route may have. N is 2 to 9, X is 0 to 9.
 use Rattle.std.specs.Prelude.{ℕ, ◌<◌, ◌-◌, List, [], ◌∷◌, length, Bool, false, true, ◌&&◌, ◌||◌, ◌==◌, nat_le, if◌then◌else◌, Option, Some, None, option_and_then, option_map, unwrap_or}
 use Rattle.std.specs.Char.{is_ascii_digit}
 use Rattle.std.specs.List.{AllByRecursion, Contains}

@@ -1,4 +1,4 @@
--- The keys of a table's text, over the untyped tree that the text writes (own format).
+-- The keys of a table's text, over the untyped tree that the text writes.
 use Rattle.std.specs.Prelude.{ℕ, ℤ, List, codes, Option, Some, None, option_and_then, option_map}
 use Rattle.toml.specs.Data.{Data, Members, as_integer, as_str, as_table, get_member}
 use denote.Ref.{Bor}

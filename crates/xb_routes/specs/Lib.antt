@@ -6,6 +6,6 @@ pub mod PlanAndLimits
 pub mod Text
 pub mod Coded
 pub mod Places
-pub mod Translating
+pub mod Machine
 pub mod ByItem
 pub mod Worked

@@ -1,4 +1,4 @@
--- The plan and the limits of a table, by the keys `plan` and `limits` of its text (own format).
+-- The plan and the limits of a table, by the keys `plan` and `limits` of its text.
 use Rattle.std.specs.Prelude.{ℕ, ℤ, pos, negsuc, ◌==◌, ◌&&◌, nat_le, nat_lt, if◌then◌else◌, codes, Option, Some, None, option_and_then, Result, Ok, Err}
 use Rattle.toml.specs.Data.{Data, Members, as_integer, as_table, get_member}
 use Rattle.xb_model.specs.declared.limits.Limits.{Limits}

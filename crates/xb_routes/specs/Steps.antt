@@ -1,4 +1,4 @@
--- One step after another, up to the first fault (own format).
+-- One step after another, up to the first fault.
 use Rattle.std.specs.Prelude.{Option, Some, None, Result, Ok, Err}
 use Rattle.xb_routes.specs.declared.fault.RouteFault.{RouteFault}
 

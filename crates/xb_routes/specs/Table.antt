@@ -1,4 +1,4 @@
--- What a route table says (own format).
+-- What a route table says.
 use Rattle.std.specs.Prelude.{List}
 use Rattle.xb_model.specs.declared.limits.Limits.{Limits}
 use Rattle.xb_model.specs.declared.plan.Plan.{Plan}

@@ -1,4 +1,4 @@
--- What the definitions give at worked tables (own format).
+-- What the definitions give at worked tables.
 use Rattle.std.specs.Prelude.{◌≡◌, ℕ, List, [], ◌∷◌, ◌++◌, codes, Some, None, Ok, Err}
 use Rattle.xb_model.specs.declared.plan.Plan.TheVariants.{Seven, Ten}
 use Rattle.xb_model.specs.Routing.{CodedRoute, coded_route, route_for}

@@ -9,10 +9,10 @@ use xb_model::{
     Digit, DigitList, PREFIX_DIGITS, Plan, PrefixDigits, is_area_code, is_service_code, plan_len,
 };
 
-/// The most digits of a code (own format).
+/// The most digits of a code.
 pub(crate) const CODE_DIGITS: usize = 6;
 
-/// How many digits a code has, the greatest number first (own format).
+/// How many digits a code has, the greatest number first.
 pub(crate) const CODE_LENGTHS: [usize; 3] = [CODE_DIGITS, 3, 1];
 
 /// A code of a route: digits that numbers begin with.

@@ -1,7 +1,7 @@
 // Faults of route tables.
 use thiserror::Error;
 
-/// Why a route table is refused (own format). A number is that of the route, the first being 1.
+/// Why a route table is refused. A number is that of the route, the first being 1.
 ///
 /// The first fault in this order is returned: that of the text, of the plan, of the limits, of the
 /// array of routes, of their count, and then those of each route in turn, from its shape on.

@@ -1,6 +1,6 @@
 //! The route table of an office, and the stage that gives each dialled number its order by it.
 //!
-//! `RouteTable::read` reads a table from TOML text (own format), which has up to 1,000 routes like
+//! `RouteTable::read` reads a table from TOML text, which has up to 1,000 routes like
 //! this one:
 //!
 //! ```toml

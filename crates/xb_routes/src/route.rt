@@ -12,7 +12,7 @@ use crate::keys::keys_of;
 use toml::Value;
 use xb_model::{Plan, PrefixDigits, Trunk};
 
-/// What becomes of a number (own format).
+/// What becomes of a number.
 #[derive(Drop)]
 pub struct Route {
     /// The trunk group that it takes.

@@ -21,7 +21,7 @@ use std::marker::Model;
 use toml::{Table, Value};
 use xb_model::{Digit, Limits, Plan};
 
-/// The most routes of a table (own format).
+/// The most routes of a table.
 pub const MOST_ROUTES: usize = 1_000;
 
 /// The routes of an office, the plan of its numbers and the limits of their pulses.
@@ -121,7 +121,7 @@ fn read_tree(alloc: Global, plan: Plan, tree: &Table) -> Result<Routes, RouteFau
 }
 
 impl RouteTable {
-    /// The table that a text writes (own format): TOML whose array of tables `route` has a route
+    /// The table that a text writes: TOML whose array of tables `route` has a route
     /// each, with the keys `code`, `trunk`, `delete` and `prefix`. The key `plan` is 7 or 10, and 7
     /// where it is missing; the table `limits` may hold any of the six limits, in ms, and those that
     /// are missing are the standard ones. All other keys are ignored.

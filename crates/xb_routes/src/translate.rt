@@ -2,7 +2,7 @@
 ghost use Rattle.std.specs.Prelude.{◌≡◌, ◌+◌, ◌≤◌, [], ◌∷◌, ◌++◌, drop, length};
 ghost use Rattle.xb_model.specs.Routing.{order_of, routed};
 ghost use Rattle.xb_stage.specs.OnLines.{all_on};
-ghost use Rattle.xb_routes.specs.Translating.{GivesOrders};
+ghost use Rattle.xb_routes.specs.Machine.{GivesOrders};
 ghost use Rattle.xb_model.specs.declared.digits.TheConstants.{KEY_DIGITS, NUMBER_DIGITS};
 
 use crate::table::RouteTable;
@@ -74,7 +74,7 @@ impl<'t> LineStage for Translate<'t> {
     ghost use Rattle.std.specs.Prelude.{[], ◌∷◌};
     ghost use Rattle.xb_model.specs.Routing.{order_of};
     ghost use Rattle.xb_stage.specs.OnLines.{all_on};
-    ghost use Rattle.xb_routes.specs.Translating.{machine};
+    ghost use Rattle.xb_routes.specs.Machine.{machine};
 
     type In = On<Dialled>;
 

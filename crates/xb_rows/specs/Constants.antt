@@ -1,4 +1,4 @@
--- The numbers of the format, each as it is (own format).
+-- The numbers of the format, each as it is.
 use Rattle.std.specs.Prelude.{◌≡◌}
 use Rattle.xb_rows.specs.declared.record.TheConstants.{LINE_DIGITS, MS_DIGITS}
 use Rattle.xb_rows.specs.declared.scan.TheConstants.{MOST_RECORDS}

@@ -1,4 +1,4 @@
--- What was read of a stream (own profile).
+-- What was read of a stream.
 use Rattle.std.specs.Prelude.{ℕ, ◌≤◌, ◌<◌, List, length, Option, IfSome}
 use Rattle.std.specs.Io.KnownBytes.{Consumes}
 

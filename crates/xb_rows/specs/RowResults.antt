@@ -1,4 +1,4 @@
--- What the calls that read rows return (own format).
+-- What the calls that read rows return.
 use Rattle.std.specs.Prelude.{ℕ, ◌≡◌, ◌⊎◌, List, Option, Some, None, Result, Err}
 use Rattle.std.specs.Io.KnownBytes.{IsAtEnd}
 use Rattle.xb_model.specs.declared.fault.RowFault.{RowFault}

@@ -1,5 +1,5 @@
--- What the text of the loop rows says: its rows before the first fault, and that fault (own format,
--- read as `csv` reads it). A text, its records, and the records from the n-th on are each a `Rest`:
+-- What the text of the loop rows says: its rows before the first fault, and that fault,
+-- read as `csv` reads it. A text, its records, and the records from the n-th on are each a `Rest`:
 -- what a source of their rows has to give.
 use Rattle.std.specs.Prelude.{ℕ, ◌+◌, ◌&&◌, nat_lt, nat_le, if◌then◌else◌, List, [], ◌∷◌, length, codes, Bool, false, true, Option, Some, None, Result, Ok, Err, bytes_eq, option_and_then}
 use Rattle.std.specs.Str.{all_ascii_digits}

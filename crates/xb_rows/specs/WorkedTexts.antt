@@ -1,4 +1,4 @@
--- Texts of rows, worked out by hand (own format).
+-- Texts of rows, worked out by hand.
 use Rattle.std.specs.Prelude.{ℕ, ◌≡◌, ◌+◌, List, [], ◌∷◌, codes, Option, Some, None}
 use Rattle.xb_model.specs.declared.row.Contact.TheVariants.{Make, Brk, Close}
 use Rattle.xb_model.specs.declared.fault.RowFault.{RowFault}

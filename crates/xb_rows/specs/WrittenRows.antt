@@ -1,4 +1,4 @@
--- The text of rows as a `csv` writer writes them (own format).
+-- The text of rows as a `csv` writer writes them.
 use Rattle.std.specs.Prelude.{ℕ, ◌≡◌, ◌≤◌, ◌<◌, ◌++◌, List, [], ◌∷◌, codes, decimal, length, map, None}
 use Rattle.csv.specs.Writing.{default_writer, row_text}
 use Rattle.xb_model.specs.declared.line.TheConstants.{LINES}

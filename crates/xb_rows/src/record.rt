@@ -10,10 +10,10 @@ use xb_model::{Contact, LineNo, Row, RowFault};
 // How many fields a row has.
 const ROW_FIELDS: usize = 3;
 
-// The most digits of a line (own format).
+// The most digits of a line.
 const LINE_DIGITS: usize = 4;
 
-// The most digits of a time in ms (own format).
+// The most digits of a time in ms.
 const MS_DIGITS: usize = 8;
 
 // The number that a field of 1 to `most` ASCII digits writes.

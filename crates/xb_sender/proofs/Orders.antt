@@ -10,7 +10,7 @@ use Rattle.xb_model.proofs.Entries.{entries_of-flat_map}
 use Rattle.xb_stage.specs.OnLines.{on_line}
 use Rattle.xb_stage.proofs.Stateless.{image-stateless}
 use Rattle.xb_sender.specs.Laws.{GivesMarks, GivesOneEntryEach}
-use Rattle.xb_sender.specs.Sending.{machine}
+use Rattle.xb_sender.specs.Machine.{machine}
 
 -- the orders of a line give their marks
 pub gives_marks : GivesMarks machine

@@ -6,7 +6,7 @@ ghost use Rattle.xb_model.specs.declared.order.Order.{Order};
 ghost use Rattle.xb_model.specs.Keyings.{marks_of};
 ghost use Rattle.xb_model.specs.Tapes.{EndsAtLast, entries_of};
 ghost use Rattle.xb_sender.specs.Laws.{GivesMarks};
-ghost use Rattle.xb_sender.specs.Sending.{machine};
+ghost use Rattle.xb_sender.specs.Machine.{machine};
 
 /// The orders of a line give their marks, in order.
 pub fn marks_of_orders()

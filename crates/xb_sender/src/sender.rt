@@ -4,7 +4,7 @@ ghost use Rattle.xb_model.specs.declared.key.Key.TheVariants.{Digit as DigitKey}
 ghost use Rattle.xb_model.specs.Keyings.{tone, marks_of};
 ghost use Rattle.xb_stage.specs.OnLines.{on_line, all_on};
 ghost use Rattle.xb_sender.specs.Laws.{GivesMarks, GivesOneEntryEach};
-ghost use Rattle.xb_sender.specs.Sending.{machine};
+ghost use Rattle.xb_sender.specs.Machine.{machine};
 
 use xb_model::{Digit, Key, LineNo, Mark, On, Order, mf};
 use xb_stage::{LineStage, send};
@@ -34,7 +34,7 @@ fn push_digits(line: LineNo, out: &mut Vec<On<Mark>>, digits: &[Digit])
 
 /// The stage that keys orders ("Notes on Distance Dialing"): for an order to key, the trunk group,
 /// KP, the digits and ST, each key with its pair of tones; for a refused attempt, one mark with the
-/// reason and the count (own profile). It keeps no state.
+/// reason and the count. It keeps no state.
 #[derive(Clone, Copy, Debug, Default, PartialEq, Eq)]
 pub struct Sender;
 

@@ -21,11 +21,11 @@ use Rattle.xb_model.proofs.Lines.{of_line-on}
 use Rattle.xb_stage.proofs.Stateless.{image-stateless}
 use Rattle.xb_pulse.specs.Machine.{machine as pulse_machine}
 use Rattle.xb_pulse.proofs.Hearing.{record_heard}
-use Rattle.xb_register.specs.Registering.{machine as register_machine}
+use Rattle.xb_register.specs.Machine.{machine as register_machine}
 use Rattle.xb_register.proofs.Attempts.{gives_outcomes}
-use Rattle.xb_routes.specs.Translating.{machine as translate_machine}
+use Rattle.xb_routes.specs.Machine.{machine as translate_machine}
 use Rattle.xb_routes.proofs.Translating.{image-machine}
-use Rattle.xb_sender.specs.Sending.{machine as sender_machine}
+use Rattle.xb_sender.specs.Machine.{machine as sender_machine}
 use Rattle.xb_posts.specs.Closed.{closed_once}
 use Rattle.xb_posts.specs.Fed.{fed}
 use Rattle.xb_model.specs.Lines.{row_line}

@@ -25,9 +25,9 @@ use Rattle.xb_stage.specs.OnLines.{on_line, all_on}
 use Rattle.xb_stage.proofs.Images.{image-of_line}
 use Rattle.xb_pulse.specs.Machine.{machine as pulse_machine}
 use Rattle.xb_pulse.specs.Outputs.{outs_on_line}
-use Rattle.xb_register.specs.Registering.{machine as register_machine}
-use Rattle.xb_routes.specs.Translating.{machine as translate_machine}
-use Rattle.xb_sender.specs.Sending.{machine as sender_machine}
+use Rattle.xb_register.specs.Machine.{machine as register_machine}
+use Rattle.xb_routes.specs.Machine.{machine as translate_machine}
+use Rattle.xb_sender.specs.Machine.{machine as sender_machine}
 use Rattle.xb_model.proofs.Entries.{entries_of-flat_map}
 use Rattle.xb_posts.specs.Fed.{fed}
 use Rattle.xb_model.specs.Lines.{lines_below}

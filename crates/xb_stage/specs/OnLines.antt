@@ -1,4 +1,4 @@
--- Stages that put what they say on the item's line (own profile).
+-- Stages that put what they say on the item's line.
 use Rattle.std.specs.Prelude.{◌≡◌, List, [], ◌∷◌, ◌++◌, map, refl}
 use Rattle.std.specs.List.{AllByRecursion}
 use Rattle.xb_model.specs.declared.line.LineNo.{LineNo}

@@ -1,4 +1,4 @@
--- Stages that keep no state (own profile).
+-- Stages that keep no state.
 use Rattle.std.specs.Prelude.{List}
 use Rattle.xb_model.specs.declared.on.On.{On}
 use Rattle.xb_stage.specs.Image.{Machine}

@@ -1,4 +1,4 @@
--- The states of all lines (own profile).
+-- The states of all lines.
 use Rattle.std.specs.Prelude.{ℕ, List}
 use Rattle.xb_model.specs.LineValues.{AreValues}
 use Rattle.xb_stage.specs.Image.{Machine, state_after}

@@ -7,13 +7,13 @@ ghost use Rattle.xb_stage.specs.OnLines.{on_line};
 use xb_model::{KEYING_MARKS, LineNo, On, OnLine};
 
 /// The most that a stage sends for one item: the marks of the longest keying, rounded up to a
-/// multiple of four (own profile).
+/// multiple of four.
 pub const MOST_OUTPUTS: usize = (KEYING_MARKS + 3) / 4 * 4;
 
 /// The room that a stage is given for what it sends for one item.
 pub const OUTPUT_ROOM: usize = 24;
 
-/// A stage of the chain (own profile): it takes items of many lines, and treats each line by
+/// A stage of the chain: it takes items of many lines, and treats each line by
 /// itself. Its caller keeps a state for each line. Neither call takes memory or waits.
 pub trait LineStage {
     /// What the stage takes.
@@ -49,7 +49,7 @@ pub trait LineStage {
         ((machine stage).outs state item) };
 }
 
-/// Appends one thing to what a stage sends, on the line (own profile). The list has room for it.
+/// Appends one thing to what a stage sends, on the line. The list has room for it.
 pub fn send<T>(line: LineNo, out: &mut Vec<On<T>>, what: T)
     requires { vec_len out.old < vec_capacity out.old }
     ensures items { out.new.items ≡ out.old.items ++ on_line line (what ∷ []) }

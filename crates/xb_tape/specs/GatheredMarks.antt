@@ -1,4 +1,4 @@
--- The marks of each line, gathered from those of all lines (own profile).
+-- The marks of each line, gathered from those of all lines.
 use Rattle.std.specs.Prelude.{◌≡◌, ℕ, ◌<◌, List, map, length}
 use Rattle.xb_model.specs.declared.line.TheConstants.{LINES}
 use Rattle.xb_model.specs.declared.mark.Mark.{Mark}

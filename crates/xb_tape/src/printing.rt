@@ -126,7 +126,7 @@ fn write_tape(out: &mut String, line: LineNo, marks: &[Mark]) -> Result<Totals, 
     Ok(totals)
 }
 
-/// The page of the tapes (own format): ASCII, each printed line ended by one LF. It has the entries
+/// The page of the tapes: ASCII, each printed line ended by one LF. It has the entries
 /// of each line of the office, the lines ascending and the entries of a line counted from 1, and
 /// last the totals of keyed and of refused entries.
 ///

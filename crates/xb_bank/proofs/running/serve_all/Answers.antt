@@ -1,9 +1,9 @@
 use Rattle.std.proofs.Common.{subst}
 use Rattle.xb_model.specs.Lines.{row_line, on_line_of}
 use Rattle.xb_pulse.specs.Machine.{machine as pulse_machine}
-use Rattle.xb_register.specs.Registering.{machine as register_machine}
-use Rattle.xb_routes.specs.Translating.{machine as translate_machine}
-use Rattle.xb_sender.specs.Sending.{machine as sender_machine}
+use Rattle.xb_register.specs.Machine.{machine as register_machine}
+use Rattle.xb_routes.specs.Machine.{machine as translate_machine}
+use Rattle.xb_sender.specs.Machine.{machine as sender_machine}
 use Rattle.xb_bank.specs.Promises.{FeedKept, StationKept, DealKept, GatherKept, TapeKept, ends_entry}
 use Rattle.xb_bank.proofs.Pairs.{pairs-made}
 use Rattle.xb_bank.proofs.running.serve_all.Goals as goal

@@ -4,9 +4,9 @@ use Rattle.xb_model.specs.Lines.{row_line, on_line_of}
 use Rattle.xb_model.specs.LawfulLimits.{IsLawful}
 use Rattle.xb_model.specs.Sources.{Rest}
 use Rattle.xb_pulse.specs.Machine.{machine as pulse_machine}
-use Rattle.xb_register.specs.Registering.{machine as register_machine}
+use Rattle.xb_register.specs.Machine.{machine as register_machine}
 use Rattle.xb_routes.specs.Table.{Table}
-use Rattle.xb_routes.specs.Translating.{machine as translate_machine}
+use Rattle.xb_routes.specs.Machine.{machine as translate_machine}
 use Rattle.xb_posts.specs.Feeds.{to_come}
 use Rattle.xb_replay.specs.World.{KeepsImage}
 use Rattle.xb_replay.proofs.replay.Replay.new.Goals as goal

@@ -1,4 +1,4 @@
--- What the translation does (own format).
+-- What the translation does.
 use Rattle.std.specs.Prelude.{◌≡◌, List, [], ◌∷◌, map}
 use Rattle.xb_stage.specs.Image.{Machine, image_on}
 use Rattle.xb_stage.specs.OnLines.{on_line}

@@ -1,4 +1,4 @@
--- The register, signal by signal (own profile).
+-- The register, signal by signal.
 use Rattle.std.specs.Prelude.{ℕ, List, [], ◌∷◌, ◌++◌, length, Bool, false, if◌then◌else◌, nat_le, Option, Some, None}
 use Rattle.std.specs.Option.{option_to_list}
 use Rattle.xb_stage.specs.Image.{Machine}
