@@ -6,7 +6,7 @@ use crate::refusal::Aim;
 use std::alloc::Global;
 use std::process::Abort;
 use std::test::Fail;
-use worked_decks::decks::{TABLE, Worked, deck_of, one_after_another, page_of};
+use test_decks::decks::{TABLE, Worked, deck_of, one_after_another, page_of};
 use xb_model::Row;
 
 // An operator call, and the seizures at a break of the release limit.

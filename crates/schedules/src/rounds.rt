@@ -6,8 +6,8 @@ use crate::wanted::Wanted;
 use std::alloc::Global;
 use std::process::Abort;
 use std::test::Fail;
-use worked_decks::attempts::{OPERATOR_CALL, SECOND_CALL};
-use worked_decks::marks::operator_marks;
+use test_decks::attempts::{OPERATOR_CALL, SECOND_CALL};
+use test_decks::marks::operator_marks;
 use xb_model::{LineNo, Mark};
 use xb_ring::{Post, Turn};
 

@@ -1,7 +1,7 @@
 // Decks with a fault in their table or their rows.
 use std::test::Fail;
-use worked_decks::attempts::{LONGER_CODE, SHORTER_CODE};
-use worked_decks::decks::{TABLE, joined};
+use test_decks::attempts::{LONGER_CODE, SHORTER_CODE};
+use test_decks::decks::{TABLE, joined};
 use xb_bank::RowSource;
 use xb_model::RowFault;
 use xb_office::{OfficeFault, Scan, operate, read_rows};

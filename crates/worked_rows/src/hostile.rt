@@ -6,8 +6,8 @@ use std::sync::Wait;
 use std::test::Fail;
 use std::thread::Threads;
 use std::time::Clock;
-use worked_decks::attempts::OPERATOR_CALL;
-use worked_decks::decks::{TABLE, deck_of, one_after_another, page_of};
+use test_decks::attempts::OPERATOR_CALL;
+use test_decks::decks::{TABLE, deck_of, one_after_another, page_of};
 use xb_model::RowFault;
 use xb_office::{OfficeFault, operate};
 

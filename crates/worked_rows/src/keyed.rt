@@ -9,8 +9,8 @@ use std::sync::Wait;
 use std::test::Fail;
 use std::thread::Threads;
 use std::time::Clock;
-use worked_decks::attempts::{SHEETS, TWO_LINES_IN_TURN};
-use worked_decks::decks::{
+use test_decks::attempts::{SHEETS, TWO_LINES_IN_TURN};
+use test_decks::decks::{
     TABLE, Worked, deck_of, joined, one_after_another, page_of, two_in_turn,
 };
 use xb_bank::key_serial;

@@ -1,8 +1,8 @@
 // Every call that may run out of memory, run with enough: an operator call on line 5.
 use std::test::Fail;
-use worked_decks::decks::{TABLE, deck_of, page_of};
-use worked_decks::marks::{operator_marks, tone};
-use worked_decks::pulses::rows_of;
+use test_decks::decks::{TABLE, deck_of, page_of};
+use test_decks::marks::{operator_marks, tone};
+use test_decks::pulses::rows_of;
 use xb_bank::{RowSource, Tapes, fed_rows, key_serial};
 use xb_model::{Contact, Digit, Key, Limits, LineNo, On, Row, Signal, Trunk};
 use xb_office::{Scan, operate, page, read_rows};

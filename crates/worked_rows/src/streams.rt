@@ -7,8 +7,8 @@ use std::sync::Wait;
 use std::test::Fail;
 use std::thread::Threads;
 use std::time::Clock;
-use worked_decks::attempts::SEVEN_DIGITS;
-use worked_decks::decks::{TABLE, deck_of, one_after_another, page_of};
+use test_decks::attempts::SEVEN_DIGITS;
+use test_decks::decks::{TABLE, deck_of, one_after_another, page_of};
 use xb_office::{OfficeFault, operate};
 
 /// How a stream fails. An interrupted call has failed as any other.
