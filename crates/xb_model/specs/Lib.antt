@@ -15,6 +15,7 @@ pub mod Keyings
 pub mod Routing
 pub mod Tapes
 pub mod Page
+pub mod Digits
 pub mod WorkedRows
 pub mod WorkedTables
 pub mod WorkedSignals

@@ -1,5 +1,6 @@
 // Digits.
 ghost use Rattle.std.specs.Prelude.{◌≡◌, ℕ, ◌<◌, ◌↔◌, IsSome, IfSome};
+ghost use Rattle.xb_model.specs.Digits.{digit_of_ascii};
 
 use std::marker::Model;
 
@@ -35,6 +36,16 @@ impl Digit {
             Some(Digit { value })
         } else {
             None
+        }
+    }
+
+    /// The digit that an ASCII character is; `None` of any other byte.
+    pub fn from_ascii(byte: u8) -> Option<Digit>
+        ensures { result ≡ digit_of_ascii byte }
+    {
+        match byte {
+            b'0'..=b'9' => Digit::new(byte - b'0'),
+            _ => None,
         }
     }
 

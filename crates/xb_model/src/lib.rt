@@ -22,8 +22,6 @@ mod relays;
 mod row;
 mod signal;
 mod source;
-#[cfg(test)]
-mod tests;
 mod trunk;
 
 pub use dialled::Dialled;

@@ -5,13 +5,14 @@ use Rattle.std.proofs.lemmas.Bool.{cases_Bool, cond-false, cond-true}
 use Rattle.std.proofs.lemmas.Bool.Decides.{nat_tests}
 use Rattle.std.proofs.lemmas.List.Elements.{All-contains, All-from_recursion}
 use Rattle.xb_model.specs.declared.plan.Plan.{Plan}
-use Rattle.xb_routes.specs.Codes.{IsCodeLength, code_of, digit_of_character, digits_of_text, digits_within, if_code, is_code}
+use Rattle.xb_routes.specs.Codes.{IsCodeLength, code_of, digits_of_text, digits_within, if_code, is_code}
+use Rattle.xb_model.specs.Digits.{digit_of_ascii}
 use Rattle.xb_routes.specs.declared.code.TheConstants.{CODE_DIGITS, CODE_LENGTHS}
 
 -- a text has as many digits as characters
 pub digits-length : (text digits : List ℕ) → digits_of_text text ≡ Some digits → length digits ≡ length text
 digits-length [] digits e = grind (arith)
-digits-length (c ∷ text) digits e = by (digit_of_character c) (digits_of_text text) refl e (digits-length text)
+digits-length (c ∷ text) digits e = by (digit_of_ascii c) (digits_of_text text) refl e (digits-length text)
   where
     by : (d : Option ℕ) (rest : Option (List ℕ)) → digits_of_text text ≡ rest
         → option_and_then (λ x. option_map (λ xs. x ∷ xs) rest) d ≡ Some digits

@@ -1,23 +1,18 @@
 -- The codes that a route may have. N is 2 to 9, X is 0 to 9.
-use Rattle.std.specs.Prelude.{ℕ, ◌<◌, ◌-◌, List, [], ◌∷◌, length, Bool, false, true, ◌&&◌, ◌||◌, ◌==◌, nat_le, if◌then◌else◌, Option, Some, None, option_and_then, option_map, unwrap_or}
-use Rattle.std.specs.Char.{is_ascii_digit}
+use Rattle.std.specs.Prelude.{ℕ, ◌<◌, List, [], ◌∷◌, length, Bool, false, true, ◌&&◌, ◌||◌, ◌==◌, nat_le, if◌then◌else◌, Option, Some, None, option_and_then, option_map, unwrap_or}
 use Rattle.std.specs.List.{AllByRecursion, Contains}
 use Rattle.xb_model.specs.declared.digit.TheConstants.{DIGITS}
 use Rattle.xb_model.specs.declared.plan.Plan.{Plan}
 use Rattle.xb_model.specs.declared.plan.Plan.TheVariants.{Seven, Ten}
-use Rattle.xb_model.specs.Page.{zero_byte}
+use Rattle.xb_model.specs.Digits.{digit_of_ascii}
 use Rattle.xb_model.specs.Plans.{plan_len, is_service_code, is_area_code}
 use Rattle.xb_routes.specs.declared.code.TheConstants.{CODE_LENGTHS}
-
--- the digit that an ASCII character is
-abbrev pub digit_of_character : ℕ → Option ℕ
-digit_of_character c = if is_ascii_digit c then Some (c - zero_byte) else None
 
 -- the digits of a text that has nothing else
 abbrev pub digits_of_text : List ℕ → Option (List ℕ)
 digits_of_text [] = Some []
 digits_of_text (c ∷ text) =
-    option_and_then (λ d. option_map (λ digits. d ∷ digits) (digits_of_text text)) (digit_of_character c)
+    option_and_then (λ d. option_map (λ digits. d ∷ digits) (digits_of_text text)) (digit_of_ascii c)
 
 -- the same of a text that is not too long
 abbrev pub digits_within : ℕ → List ℕ → Option (List ℕ)

@@ -1,6 +1,6 @@
 // The codes that a route may have.
 ghost use Rattle.std.specs.Prelude.{◌≡◌, length, option_map};
-ghost use Rattle.xb_routes.specs.Codes.{IsCodeLength, code_of, digit_of_character, digits_within};
+ghost use Rattle.xb_routes.specs.Codes.{IsCodeLength, code_of, digits_within};
 ghost use Rattle.xb_routes.specs.Codes.{begins_office, has_area_codes, is_code, number_length};
 ghost use Rattle.xb_routes.specs.Text.{prefixed_of};
 
@@ -43,15 +43,6 @@ impl Code {
     }
 }
 
-fn digit_of(character: u8) -> Option<Digit>
-    ensures { result ≡ digit_of_character character }
-{
-    match character {
-        b'0'..=b'9' => Digit::new(character - b'0'),
-        _ => None,
-    }
-}
-
 // The digits of a text that has nothing else; `None` also where they are more than the capacity.
 fn digits_of<const CAPACITY: usize>(text: &[u8]) -> Option<DigitList<CAPACITY>>
     ensures { result ≡ digits_within CAPACITY text.now }
@@ -61,7 +52,7 @@ fn digits_of<const CAPACITY: usize>(text: &[u8]) -> Option<DigitList<CAPACITY>>
     }
     let mut digits = DigitList::new();
     for character in text {
-        digits.push(digit_of(*character)?);
+        digits.push(Digit::from_ascii(*character)?);
     }
     Some(digits)
 }

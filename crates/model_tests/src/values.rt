@@ -1,7 +1,11 @@
 // Each public call at values of the profile.
-use super::*;
 use std::alloc::Global;
 use std::test::Fail;
+use xb_model::{
+    Contact, Dialled, Digit, Key, KeyDigits, Limits, LineNo, Listed, Mark, NumberDigits, On,
+    OnLine, Order, Plan, PrefixDigits, Reason, Relays, Row, RowFault, RowSource, Signal, Tone,
+    Trunk, is_area_code, is_service_code, mf, plan_len,
+};
 
 #[test]
 fn lines_and_trunk_groups(rt: HostRuntime) -> Result<(), Fail> {
@@ -26,6 +30,12 @@ fn digits_are_0_to_9(rt: HostRuntime) -> Result<(), Fail> {
     assert!(rt; Digit::new(10).is_none());
     assert!(rt; Digit::new(255).is_none());
     assert_eq!(rt; Digit::default().get(), 0);
+    for (byte, value) in [(b'0', 0), (b'7', 7), (b'9', 9)] {
+        assert_eq!(rt; Digit::from_ascii(byte).ok_or("a digit")?.get(), value);
+    }
+    for byte in [0, b'/', b':', 255] {
+        assert!(rt; Digit::from_ascii(byte).is_none(), "byte {byte}");
+    }
     Ok(())
 }
 
