@@ -29,7 +29,7 @@ use Rattle.xb_ring.specs.Flows.{flow_of}
 use Rattle.xb_ring.specs.Stations.{StationOf, HasPassed}
 use Rattle.xb_ring.specs.Deals.{DealOf}
 use Rattle.xb_ring.specs.Gathers.{GatherOf}
-use Rattle.xb_posts.specs.Fed.{fed}
+use Rattle.xb_fed.specs.Fed.{fed}
 use Rattle.xb_posts.specs.Feeds.{FeedOf, to_come}
 use Rattle.xb_posts.specs.TapeStations.{TapeOf}
 use Rattle.xb_bank.specs.Pairs.{Pairs}

@@ -10,8 +10,8 @@ use Rattle.xb_ring.specs.declared.flow.Flow.{Flow}
 use Rattle.xb_ring.specs.declared.flow.Flow.TheVariants.{Item, End}
 use Rattle.xb_ring.specs.Flows.{flow_of}
 use Rattle.xb_ring.proofs.Prefixes.{prefix_cons}
-use Rattle.xb_posts.specs.declared.line_use.LineUse.{LineUse}
-use Rattle.xb_posts.specs.Left.{left}
+use Rattle.xb_fed.specs.declared.line_use.LineUse.{LineUse}
+use Rattle.xb_fed.specs.Left.{left}
 use Rattle.xb_posts.specs.Fillings.{MayGive, held_and_left, Fills}
 
 -- the row that a call of a source gave

@@ -1,10 +1,4 @@
-pub mod Closings
-pub mod FedRows
 pub mod Feeds
 pub mod Fillings
-pub mod Filters
-pub mod Lefts
-pub mod LineUses
-pub mod RowsUpToClose
 pub mod Slices
 pub mod TapeStations

@@ -1,12 +1,12 @@
 // The post that sends the rows.
 use crate::course::Course;
 use crate::filling::{AHEAD, fill};
-use crate::line_uses::LineUses;
 use rtrb::{Consumer, Producer};
 use std::alloc::{AllocError, Global};
 use std::marker::Model;
 use std::sync::Wait;
 use std::time::Clock;
+use xb_fed::LineUses;
 use xb_model::{Row, RowFault, RowSource};
 use xb_ring::{Flow, Gate, Pause, Post, Sends, Turn, look_at_both};
 
@@ -57,7 +57,7 @@ impl<S: RowSource> Feed<S> {
     ghost use Rattle.xb_model.specs.declared.fault.RowFault.{RowFault as Fault};
     ghost use Rattle.xb_ring.specs.Flows.{flow_of};
     ghost use Rattle.xb_ring.specs.declared.turn.Turn.TheVariants.{Ended};
-    ghost use Rattle.xb_posts.specs.Fed.{fed};
+    ghost use Rattle.xb_fed.specs.Fed.{fed};
     ghost use Rattle.xb_posts.specs.Feeds.{FeedsOn, SendsOne, IsFeedTurn, HasFed, has_fed, to_come, result_of};
 
     /// A feed of this source, on an end that has sent nothing. It takes the room for the rows that it

@@ -3,7 +3,7 @@ ghost use Rattle.std.specs.Prelude.{◌≡◌, ◌≤◌, Ok, false, vec_len, ve
 ghost use Rattle.xb_posts.specs.Feeds.{AreRows};
 ghost use Rattle.xb_posts.specs.Fillings.{Fills, IsFilled};
 
-use crate::line_uses::LineUses;
+use xb_fed::LineUses;
 use xb_model::{Row, RowFault, RowSource};
 use xb_ring::Flow;
 

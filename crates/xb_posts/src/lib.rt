@@ -3,17 +3,13 @@
 #![tactic(auto)]
 
 mod course;
-mod fed;
 mod feed;
 mod filling;
 pub mod laws;
-mod line_use;
-mod line_uses;
 mod tape_station;
 #[cfg(test)]
 mod tests;
 
-pub use fed::fed_rows;
 pub use feed::Feed;
 pub use filling::AHEAD;
 pub use tape_station::TapeStation;

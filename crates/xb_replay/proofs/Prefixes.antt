@@ -36,7 +36,7 @@ use Rattle.xb_ring.proofs.Prefixes.{prefix_on}
 use Rattle.xb_routes.specs.Machine.{machine as translate_machine}
 use Rattle.xb_sender.specs.Machine.{machine as sender_machine}
 use Rattle.xb_tape.specs.GatheredMarks.{whats_of}
-use Rattle.xb_posts.specs.Fed.{fed}
+use Rattle.xb_fed.specs.Fed.{fed}
 use Rattle.xb_posts.specs.Feeds.{to_come}
 use Rattle.xb_serial.specs.Serial.{serial_image}
 use Rattle.xb_serial.proofs.Chain.{chain-fed}

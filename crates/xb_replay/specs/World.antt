@@ -30,7 +30,7 @@ use Rattle.xb_routes.specs.Table.{Table}
 use Rattle.xb_routes.specs.Machine.{machine as translate_machine}
 use Rattle.xb_sender.specs.declared.sender.Sender.{Sender}
 use Rattle.xb_sender.specs.Machine.{machine as sender_machine}
-use Rattle.xb_posts.specs.Fed.{fed}
+use Rattle.xb_fed.specs.Fed.{fed}
 use Rattle.xb_posts.specs.Feeds.{FeedView, to_come}
 use Rattle.xb_posts.specs.TapeStations.{TapeView, TapeLaw}
 

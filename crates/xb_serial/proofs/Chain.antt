@@ -26,11 +26,11 @@ use Rattle.xb_register.proofs.Attempts.{gives_outcomes}
 use Rattle.xb_routes.specs.Machine.{machine as translate_machine}
 use Rattle.xb_routes.proofs.Translating.{image-machine}
 use Rattle.xb_sender.specs.Machine.{machine as sender_machine}
-use Rattle.xb_posts.specs.Closed.{closed_once}
-use Rattle.xb_posts.specs.Fed.{fed}
+use Rattle.xb_fed.specs.Closed.{closed_once}
+use Rattle.xb_fed.specs.Fed.{fed}
 use Rattle.xb_model.specs.Lines.{row_line}
 use Rattle.xb_serial.proofs.ClosedOnce.{closes-once, record-once, is_on-once}
-use Rattle.xb_posts.proofs.FedRows.{rows_of-fed}
+use Rattle.xb_fed.proofs.FedRows.{rows_of-fed}
 
 module _ (plan : Plan) (limits : Limits) (routes : List CodedRoute) where
   -- what the four stages make of rows of one line

@@ -8,8 +8,8 @@ ghost use Rattle.xb_model.specs.Tapes.{marks_at, tapes_of};
 ghost use Rattle.xb_tape.specs.GatheredMarks.{AreTapes};
 
 use std::alloc::{AllocError, Global};
+use xb_fed::fed_rows;
 use xb_model::{Mark, On, Row};
-use xb_posts::fed_rows;
 use xb_pulse::Pulse;
 use xb_register::Register;
 use xb_routes::{RouteTable, Translate};

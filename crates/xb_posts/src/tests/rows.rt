@@ -1,7 +1,7 @@
 // The fed rows by hand.
 use super::{line, make};
-use crate::fed_rows;
 use std::alloc::AllocError;
+use xb_fed::fed_rows;
 use xb_model::Row;
 
 #[test]

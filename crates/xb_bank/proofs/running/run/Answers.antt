@@ -1,5 +1,5 @@
 use Rattle.std.proofs.Common.{None, refl}
-use Rattle.xb_posts.specs.Fed.{fed}
+use Rattle.xb_fed.specs.Fed.{fed}
 use Rattle.xb_serial.proofs.LineTapes.{marks_at-serial, entries-serial, tapes-serial}
 use Rattle.xb_bank.proofs.Chains.{linked, have_served}
 use Rattle.xb_bank.proofs.running.run.Goals as goal

@@ -1,6 +1,6 @@
 use Rattle.std.proofs.Common.{◌≡◌, None, ap, ◌∙◌}
 use Rattle.std.proofs.lemmas.Result.{IfOk-weaker}
-use Rattle.xb_posts.specs.Fed.{fed}
+use Rattle.xb_fed.specs.Fed.{fed}
 use Rattle.xb_serial.specs.Serial.{serial_image}
 use Rattle.xb_serial.proofs.LineTapes.{marks_at-serial, entries-serial, tapes-serial}
 use Rattle.xb_serial.proofs.serial.key_serial.Goals as goal

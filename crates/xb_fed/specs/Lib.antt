@@ -1,0 +1,4 @@
+pub mod Closed
+pub mod Fed
+pub mod Left
+pub mod LineUses
