@@ -1,0 +1,4 @@
+pub mod Constants
+pub mod Reading
+pub mod Telling
+pub mod Writing
