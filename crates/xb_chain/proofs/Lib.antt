@@ -1,0 +1,2 @@
+pub mod BranchLists
+pub mod Pushes

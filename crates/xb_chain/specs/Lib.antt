@@ -1,0 +1,6 @@
+pub mod Blank
+pub mod Chains
+pub mod Laws
+pub mod Made
+pub mod Posts
+pub mod Rings
