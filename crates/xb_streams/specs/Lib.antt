@@ -1,4 +1,5 @@
 pub mod Constants
+pub mod Programs
 pub mod Reading
 pub mod Telling
 pub mod Writing

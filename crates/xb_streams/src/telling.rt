@@ -1,6 +1,6 @@
 // What a program tells: one line on its stream of errors, and the status of the process.
-ghost use Rattle.std.specs.Prelude.{◌≡◌, IfOk, codes, string_bytes};
-ghost use Rattle.xb_streams.specs.Telling.{IsLineOf, Tells, line_of};
+ghost use Rattle.std.specs.Prelude.{◌≡◌, IfOk, string_bytes};
+ghost use Rattle.xb_streams.specs.Telling.{IsLineOf, Tells, TellsOfWords, line_of, no_memory_line};
 ghost use Rattle.xb_streams.specs.Writing.{AppendsBeginning};
 
 use crate::writing::write_whole;
@@ -16,6 +16,15 @@ pub const FAULT: u8 = 1;
 
 /// The status of words that are refused, a request for help too.
 pub const WORDS_REFUSED: u8 = 2;
+
+/// Why the words of a command line choose nothing.
+#[derive(Clone, Copy, Debug, PartialEq, Eq)]
+pub enum WordsFault {
+    /// They are refused, a request for help too.
+    Refused,
+    /// Memory ran out.
+    NoMemory,
+}
 
 // A text as a line, after the program's name.
 fn line_of_text(alloc: Global, program: &str, text: &str) -> Result<String, AllocError>
@@ -39,7 +48,7 @@ fn line_of_fault<F: Display + Drop>(
 // Writes the line that tells that memory ran out.
 fn tell_no_memory<E: Write>(err: &mut E, program: &str)
     ensures { AppendsBeginning (E.contents err.old) (E.contents err.new)
-        (line_of program.now (codes "out of memory")) }
+        (no_memory_line program.now) }
 {
     if write_whole(err, program.as_bytes()).is_ok() {
         let _ = write_whole(err, b": out of memory\n");
@@ -73,4 +82,18 @@ pub fn refuse<E: Write>(err: &mut E, usage: &[u8]) -> u8
 {
     let _ = write_whole(err, usage);
     WORDS_REFUSED
+}
+
+/// Tells in one line why the words choose nothing, how the program is called or that memory ran out, as
+/// far as it can be written, and returns the status.
+pub fn tell_words<E: Write>(err: &mut E, program: &str, usage: &[u8], fault: WordsFault) -> u8
+    ensures { TellsOfWords program.now usage.now fault (E.contents err.old) (E.contents err.new) result }
+{
+    match fault {
+        WordsFault::Refused => refuse(err, usage),
+        WordsFault::NoMemory => {
+            tell_no_memory(err, program);
+            FAULT
+        }
+    }
 }
