@@ -1,17 +1,17 @@
 -- What was sent, followed by what is still to be sent, from event to event.
-use Rattle.std.proofs.Common.{◌≡◌, ◌⊎◌, true, false, cond, List, [], ◌∷◌, ◌++◌, length, Option, Some, None, Result, Ok, refl, sym, ap, ◌∙◌, subst, inl, inr, ⊎_elim, append-nil, append_assoc}
+use Rattle.std.proofs.Common.{◌≡◌, Bool, true, false, cond, List, [], ◌∷◌, ◌++◌, Option, Result, Ok, refl, sym, ap, ◌∙◌, subst, inl, append-nil, append_assoc}
 use Rattle.rtrb.specs.Ring.{sent}
 use Rattle.xb_model.specs.declared.fault.RowFault.{RowFault}
 use Rattle.xb_model.specs.Rows.{LoopRow}
-use Rattle.xb_model.specs.Sources.{Rest, told}
+use Rattle.xb_model.specs.Sources.{told}
 use Rattle.xb_ring.specs.declared.flow.Flow.{Flow}
 use Rattle.xb_ring.specs.declared.flow.Flow.TheVariants.{Item, End}
 use Rattle.xb_ring.specs.declared.turn.Turn.TheVariants.{Moved}
 use Rattle.xb_ring.specs.Flows.{has_end, flow_of}
 use Rattle.xb_fed.specs.Left.{left}
-use Rattle.xb_posts.specs.Fillings.{MayGive, held_and_left, Fills}
-use Rattle.xb_posts.specs.Feeds.{FeedOf, AreRows, has_fed, to_come, FeedsOn, SendsOne, IsFeedTurn, HasFed, result_of}
-use Rattle.xb_posts.proofs.Fillings.{may_give-told}
+use Rattle.xb_posts.specs.Fillings.{MayGive, held_and_left, held_with, Fills}
+use Rattle.xb_posts.specs.Feeds.{FeedOf, AreRows, has_fed, to_come, FeedsOn, TakesAhead, SendsHeld, SendsOne, IsFeedTurn, HasFed, result_of}
+use Rattle.xb_posts.proofs.Fillings.{may_give-told, fills-earlier}
 use Rattle.xb_posts.proofs.Slices.{rows_end, has_end-append}
 
 module _ {A P : Type 0} where
@@ -35,12 +35,17 @@ module _ {A P : Type 0} where
   }
 
   -- what was taken ahead, and then one event, are a turn
-  pub moved : (old now new : FeedOf A P) → sent now.producer ≡ sent old.producer → (now.met ≡ old.met) ⊎ (now.rest ≡ told None)
-      → SendsOne now new → IsFeedTurn old (Ok Moved) new
-  moved old now new looked met s = (
-    (s.items, s.sends ∙ ap (λ zs. zs ++ s.items) looked, s.event),
-    ⊎_elim (λ e. inl (s.met ∙ e)) (λ e. inr (s.rest ∙ e)) met,
-  )
+  pub moved : (old now new : FeedOf A P) (taken : List LoopRow) → sent now.producer ≡ sent old.producer
+      → now.held ≡ held_with old.held old.uses taken → TakesAhead old taken now → SendsOne now new → IsFeedTurn old (Ok Moved) new
+  moved old now new taken looked holds takes s = record {
+    taken = taken;
+    takes = subst (λ rest. TakesAhead old taken (record new { rest = rest })) (sym s.rest)
+        (subst (λ met. TakesAhead old taken (record new { rest = now.rest; met = met })) (sym s.met) takes);
+    items = s.items;
+    sends = s.sends ∙ ap (λ zs. zs ++ s.items) looked;
+    event = s.event;
+    held = subst (λ ready. SendsHeld ready s.items new.held) holds s.held;
+  }
 
   module _ (old new : FeedOf A P) where
     -- a look for room
@@ -58,10 +63,10 @@ module _ {A P : Type 0} where
 
     module _ (going : has_fed old ≡ false) where
       -- rows were taken ahead
-      pub feeds_on-filled : new.producer ≡ old.producer → Fills old.rest old.held old.uses new.rest new.held new.uses → FeedsOn old new
-      feeds_on-filled end fills = record {
+      pub feeds_on-filled : (result : Result Bool RowFault) → new.producer ≡ old.producer → Fills old.rest old.held old.uses result new.rest new.held new.uses → FeedsOn old new
+      feeds_on-filled result end fills = record {
         earlier = λ rows stop m.
-            let f = fills.earlier rows stop m in
+            let f = fills-earlier _ _ _ result _ _ _ fills rows stop m in
             let still : has_fed new ≡ false = ap (λ p. has_end (sent p)) end ∙ going in (
               f.0,
               f.1,

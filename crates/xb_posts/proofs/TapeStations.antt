@@ -1,5 +1,5 @@
 -- The tapes, from one received mark to the next.
-use Rattle.std.proofs.Common.{◌≡◌, ◌<◌, ◌-◌, ◌+◌, ◌^◌, min, ℕ, true, false, List, [], ◌∷◌, ◌++◌, length, set, refl, sym, ap, ◌∙◌, subst}
+use Rattle.std.proofs.Common.{◌≡◌, ◌<◌, true, false, List, [], ◌∷◌, ◌++◌, set, sym, ap, ◌∙◌, subst}
 use Rattle.std.proofs.lemmas.Bool.{false≢true}
 use Rattle.rtrb.specs.Ring.{received}
 use Rattle.xb_model.specs.declared.line.TheConstants.{LINES}
@@ -8,7 +8,7 @@ use Rattle.xb_model.specs.declared.mark.Mark.{Mark}
 use Rattle.xb_model.specs.Tapes.{marks_at}
 use Rattle.xb_ring.specs.declared.flow.Flow.{Flow}
 use Rattle.xb_ring.specs.declared.flow.Flow.TheVariants.{Item, End}
-use Rattle.xb_ring.specs.Flows.{items_of, has_end, IsFlow, counted}
+use Rattle.xb_ring.specs.Flows.{items_of, has_end, IsFlow}
 use Rattle.xb_ring.proofs.Flows.{items_of-item, items_of-end, IsFlow-more}
 use Rattle.xb_tape.specs.GatheredMarks.{AreTapes}
 use Rattle.xb_tape.proofs.MarksInOrder.{are_tapes-more}

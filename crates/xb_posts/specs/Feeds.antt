@@ -11,7 +11,7 @@ use Rattle.xb_ring.specs.declared.flow.Flow.TheVariants.{Item}
 use Rattle.xb_ring.specs.declared.turn.Turn.{Turn}
 use Rattle.xb_ring.specs.declared.turn.Turn.TheVariants.{Idle, Blocked, Moved, Ended}
 use Rattle.xb_ring.specs.Flows.{items_of, has_end, IsFlow, counted}
-use Rattle.xb_posts.specs.Fillings.{MayGive, held_and_left}
+use Rattle.xb_posts.specs.Fillings.{MayGive, GaveAll, GaveRows, held_and_left, held_with}
 use Rattle.xb_posts.specs.declared.course.Course.{Course}
 use Rattle.xb_posts.specs.declared.course.Course.TheVariants.{Going, Stopped, Over}
 use Rattle.xb_posts.specs.declared.filling.TheConstants.{AHEAD}
@@ -71,6 +71,13 @@ result_of (Some fault) = Err fault
 abbrev pub IsOnePush : List (Flow LoopRow) → Type 0
 IsOnePush items = (length items ≡ 1) ⊎ ((2 ≤ length items) × (length items ≤ AHEAD) × AreRows items)
 
+-- of what was held the first item was sent, or all of it; where nothing was, one item: a close or the
+-- End
+abbrev pub SendsHeld : (ready items held : List (Flow LoopRow)) → Type 0
+SendsHeld ready items held =
+    ((ready ≡ items ++ held) × (2 ≤ length items → held ≡ []))
+    ⊎ ((ready ≡ []) × (length items ≡ 1) × (held ≡ []))
+
 abbrev pub FeedOf : Type 0 → Type 0 → Type 0
 FeedOf A P = FeedView (Producer (Flow LoopRow) A P)
 
@@ -91,29 +98,55 @@ module _ {A P : Type 0} where
         (all : List LoopRow) × MayGive old.rest all stop
         × (sent new.producer ++ to_come new rows stop ≡ sent old.producer ++ to_come old all stop)
 
+  -- the source gave these rows, and then met its stop
+  abbrev pub MeetsStop : FeedOf A P → List LoopRow → Option RowFault → FeedOf A P → Type 0
+  MeetsStop old taken stop new =
+      (old.met ≡ false) × (new.met ≡ true) × GaveAll old.rest taken stop new.rest
+
+  -- the source gave these rows alone: as many as make the feed hold all that it can, or none where its
+  -- stop was met before
+  abbrev pub TakesRows : FeedOf A P → List LoopRow → FeedOf A P → Type 0
+  TakesRows old taken new =
+      (new.met ≡ old.met) × GaveRows old.rest taken new.rest
+      × (((old.met ≡ true) × (taken ≡ []))
+      ⊎ ((old.met ≡ false) × (length (held_with old.held old.uses taken) ≡ AHEAD)))
+
+  -- these rows were taken ahead, and a stop that was met after them is an end
+  abbrev pub TakesAhead : FeedOf A P → List LoopRow → FeedOf A P → Type 0
+  TakesAhead old taken new = TakesRows old taken new ⊎ MeetsStop old taken None new
+
   -- the first of what was still to be sent was sent, by one event
   pub record SendsOne (old new : FeedOf A P) : Type 0 where
     pub items : List (Flow LoopRow)
     pub sends : sent new.producer ≡ sent old.producer ++ items
     pub event : IsOnePush items
+    pub held : SendsHeld old.held items new.held
     pub rest : new.rest ≡ old.rest
     pub met : new.met ≡ old.met
     pub feeds_on : FeedsOn old new
 
-  -- one turn. Blocked: no room is known of. Moved: one item was sent, or a slice of rows, and a stop
-  -- that was met is an end. A fault: it was met, and nothing was sent
+  -- one event: rows were taken ahead, and then one item was sent, or a slice of all the rows that were
+  -- held by then. So no slice has a close that the feed made, and a fault of the source is no event
+  pub record HasMoved (old new : FeedOf A P) : Type 0 where
+    pub taken : List LoopRow
+    pub takes : TakesAhead old taken new
+    pub items : List (Flow LoopRow)
+    pub sends : sent new.producer ≡ sent old.producer ++ items
+    pub event : IsOnePush items
+    pub held : SendsHeld (held_with old.held old.uses taken) items new.held
+
+  -- one turn. Blocked: no room is known of, and nothing is taken from the source. A fault: it was met,
+  -- after the rows that are held now, and nothing was sent
   abbrev pub IsFeedTurn : FeedOf A P → Result Turn RowFault → FeedOf A P → Type 0
   IsFeedTurn old (Ok Idle) new = ⊥
   IsFeedTurn old (Ok Blocked) new =
       (new ≡ record old { producer = new.producer }) × ProducerLooked old.producer new.producer
       × (known_free old.producer ≡ 0) × (known_free new.producer ≡ 0)
-  IsFeedTurn old (Ok Moved) new =
-      ((items : List (Flow LoopRow)) × (sent new.producer ≡ sent old.producer ++ items) × IsOnePush items)
-      × ((new.met ≡ old.met) ⊎ (new.rest ≡ told None))
+  IsFeedTurn old (Ok Moved) new = HasMoved old new
   IsFeedTurn old (Ok Ended) new = new ≡ old
   IsFeedTurn old (Err fault) new =
-      (sent new.producer ≡ sent old.producer) × (old.met ≡ false) × (new.met ≡ true)
-      × (new.rest ≡ told (Some fault))
+      (sent new.producer ≡ sent old.producer) × (taken : List LoopRow)
+      × (new.held ≡ held_with old.held old.uses taken) × MeetsStop old taken (Some fault) new
 
   -- all was sent of rows that the source may have given, up to its stop, with one End
   pub record HasFed (old : FeedOf A P) (result : Result (Unit {0}) RowFault) (new : FeedOf A P) : Type 0 where

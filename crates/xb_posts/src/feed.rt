@@ -50,7 +50,7 @@ impl<S: RowSource> Model for Feed<S> {
 }
 
 impl<S: RowSource> Feed<S> {
-    ghost use Rattle.std.specs.Prelude.{◌≡◌, ◌≢◌, ◌<◌, ◌↔◌, ◌⊎◌, [], List, Option, Some, None, IfOk, IfErr, OnOk, Ok, true, false};
+    ghost use Rattle.std.specs.Prelude.{◌≡◌, ◌≢◌, ◌<◌, ◌↔◌, [], List, Option, Some, IfOk, IfErr, OnOk, Ok, true, false};
     ghost use Rattle.rtrb.specs.Ring.{sent, known_free, SameProducer};
     ghost use Rattle.xb_model.specs.Rows.{LoopRow};
     ghost use Rattle.xb_model.specs.Sources.{told};
@@ -58,7 +58,8 @@ impl<S: RowSource> Feed<S> {
     ghost use Rattle.xb_ring.specs.Flows.{flow_of};
     ghost use Rattle.xb_ring.specs.declared.turn.Turn.TheVariants.{Ended};
     ghost use Rattle.xb_fed.specs.Fed.{fed};
-    ghost use Rattle.xb_posts.specs.Feeds.{FeedsOn, SendsOne, IsFeedTurn, HasFed, has_fed, to_come, result_of};
+    ghost use Rattle.xb_posts.specs.Fillings.{held_with};
+    ghost use Rattle.xb_posts.specs.Feeds.{FeedsOn, TakesAhead, MeetsStop, SendsOne, IsFeedTurn, HasFed, has_fed, to_come, result_of};
 
     /// A feed of this source, on an end that has sent nothing. It takes the room for the rows that it
     /// holds, and for what it knows of each line; `Err` where memory ran out.
@@ -94,9 +95,11 @@ impl<S: RowSource> Feed<S> {
         ensures producer { self.new.producer ≡ self.old.producer }
         ensures feeds_on { FeedsOn self.old self.new }
         ensures ready { OnOk result (self.new.held ≡ [] → self.new.met ≡ true) }
-        ensures end { OnOk result ((self.new.met ≡ self.old.met) ⊎ (self.new.rest ≡ told None)) }
-        ensures fault { IfErr result (λ fault. (self.old.met ≡ false) × (self.new.met ≡ true)
-            × (self.new.rest ≡ told (Some fault))) }
+        ensures takes { OnOk result ((taken : List LoopRow) × TakesAhead self.old taken self.new
+            × (self.new.held ≡ held_with self.old.held self.old.uses taken)) }
+        ensures fault { IfErr result (λ fault. (taken : List LoopRow)
+            × (self.new.held ≡ held_with self.old.held self.old.uses taken)
+            × MeetsStop self.old taken (Some fault) self.new) }
     {
         if self.course == Course::Going {
             match fill(&mut self.source, &mut self.held, &mut self.uses) {

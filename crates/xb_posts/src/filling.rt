@@ -1,7 +1,7 @@
 // The rows that a feed takes ahead.
 ghost use Rattle.std.specs.Prelude.{◌≡◌, ◌≤◌, Ok, false, vec_len, vec_capacity};
 ghost use Rattle.xb_posts.specs.Feeds.{AreRows};
-ghost use Rattle.xb_posts.specs.Fillings.{Fills, IsFilled};
+ghost use Rattle.xb_posts.specs.Fillings.{Fills};
 
 use xb_fed::LineUses;
 use xb_model::{Row, RowFault, RowSource};
@@ -23,9 +23,8 @@ pub(crate) fn fill<S: RowSource>(
     ensures few { vec_len held.new ≤ AHEAD }
     ensures rows { AreRows held.new.items }
     ensures fills { Fills (S.rest source.old) held.old.items uses.old
-        (S.rest source.new) held.new.items uses.new }
+        result (S.rest source.new) held.new.items uses.new }
     ensures full { result ≡ Ok false → vec_len held.new ≡ AHEAD }
-    ensures stop { IsFilled result (S.rest source.new) }
 {
     while held.len() < AHEAD {
         match source.next_row() {

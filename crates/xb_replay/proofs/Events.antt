@@ -164,7 +164,7 @@ module _ (a b c d : FeedPost) (ab : (b ≡ record a { producer = b.producer }) �
   pub feed-turned : (turn : Turn) → IsFeedTurn b (Ok turn) c → (turn ≡ Ended) ↔ (has_end (sent a.producer) ≡ true) → FeedTurned a d turn
   feed-turned Idle t h = absurd t
   feed-turned Blocked t h = (no_room a.producer a.producer b.producer refl ab.1 t.2, feed-stays t.0 t.1.1)
-  feed-turned Moved t h = (t.0.0, cd.1.1 ∙ (t.0.1 ∙ ap (λ zs. zs ++ t.0.0) ab.1.1), t.0.2)
+  feed-turned Moved t h = (t.items, cd.1.1 ∙ (t.sends ∙ ap (λ zs. zs ++ t.items) ab.1.1), t.event)
   feed-turned Ended t h = (
     h.0 refl,
     feed-stays (subst (λ z. c ≡ record z { producer = c.producer }) t refl) (ap (λ (f : FeedPost). sent f.producer) t),

@@ -1,8 +1,8 @@
-use Rattle.std.proofs.Common.{rules, ◌≡◌, ◌≤◌, ◌<◌, ◌+◌, ◌++◌, ◌∷◌, [], List, Err, cond, map, vec_len, vec_capacity, refl, sym, ap, ◌∙◌, subst, append-nil, arith}
+use Rattle.std.proofs.Common.{rules, ◌≤◌, ◌++◌, ◌∷◌, [], cond, map, sym, ap, ◌∙◌, subst, append-nil}
 use Rattle.xb_model.specs.Rows.{LoopRow}
 use Rattle.xb_ring.specs.declared.flow.Flow.TheVariants.{Item}
 use Rattle.xb_posts.specs.declared.filling.TheConstants.{AHEAD}
-use Rattle.xb_posts.proofs.Fillings.{fills-stop, fills-row}
+use Rattle.xb_posts.proofs.Fillings.{fills-fault, fills-row}
 use Rattle.xb_posts.proofs.Slices.{rows_push}
 use Rattle.xb_posts.proofs.filling.fill.Goals as goal
 
@@ -34,4 +34,4 @@ loop-source-preserved g c =
     }
 
 pub returns-in-Err-clause-fills : goal.returns-in-Err-clause-fills
-returns-in-Err-clause-fills g c = fills-stop _ _ _ _ _ _ c.loop-source.invariant.fills (Err c.in-Err.fault) _ refl c.in-Err.ensures
+returns-in-Err-clause-fills g c = fills-fault _ _ _ _ _ _ c.loop-source.invariant.fills c.in-Err.fault _ c.in-Err.ensures

@@ -1,8 +1,8 @@
-use Rattle.std.proofs.Common.{◌≡◌, ◌<◌, ◌++◌, ◌∷◌, [], true, false, refl, sym, ap, ◌∙◌, inl, length}
+use Rattle.std.proofs.Common.{◌≡◌, ◌∷◌, [], false, refl, sym, ap, ◌∙◌, inl, inr, length}
 use Rattle.rtrb.specs.Ring.{sent}
 use Rattle.xb_model.specs.Sources.{told}
 use Rattle.xb_ring.specs.declared.flow.Flow.TheVariants.{Item, End}
-use Rattle.xb_ring.specs.Flows.{items_of, has_end, counted}
+use Rattle.xb_ring.specs.Flows.{has_end, counted}
 use Rattle.xb_ring.proofs.Flows.{has_end-item, has_end-end, items_of-end, IsFlow-more, count_more}
 use Rattle.xb_posts.specs.Feeds.{has_fed, has_met}
 use Rattle.xb_posts.proofs.Feeds.{feeds_on-close, feeds_on-end}
@@ -52,6 +52,7 @@ returns-in-Some-clause-sends g c =
       items = Item c.in-Some.close ∷ [];
       sends = sends;
       event = inl refl;
+      held = inr (none, refl, none);
       rest = refl;
       met = refl;
       feeds_on = feeds_on-close _ _ going c.in-Stopped.stop at refl none c.in-Some.close sends none c.in-Some.ensures.some;
@@ -68,6 +69,7 @@ returns-in-None-clause-sends g c =
       items = End ∷ [];
       sends = sends;
       event = inl refl;
+      held = inr (none, refl, none);
       rest = refl;
       met = sym (ap has_met c.in-Stopped.is);
       feeds_on = feeds_on-end _ _ going c.in-Stopped.stop at refl none sends c.in-None.ensures.none;

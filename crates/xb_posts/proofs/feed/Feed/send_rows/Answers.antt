@@ -1,6 +1,6 @@
-use Rattle.std.proofs.Common.{rules, ◌≡◌, ◌≢◌, ◌<◌, ◌≤◌, ◌+◌, ◌-◌, ◌^◌, min, ◌++◌, ◌∷◌, [], true, false, refl, sym, ap, ◌∙◌, inl, subst, length, vec_len, vec_capacity, append-nil, arith}
+use Rattle.std.proofs.Common.{rules, ◌≡◌, ◌≢◌, ◌≤◌, ◌+◌, ◌-◌, ◌^◌, min, ◌++◌, ◌∷◌, [], false, refl, sym, ap, ◌∙◌, inl, subst, length, append-nil, arith}
 use Rattle.rtrb.specs.Ring.{sent}
-use Rattle.xb_ring.specs.Flows.{items_of, has_end, counted}
+use Rattle.xb_ring.specs.Flows.{has_end}
 use Rattle.xb_posts.specs.declared.filling.TheConstants.{AHEAD}
 use Rattle.xb_posts.specs.Feeds.{AreRows, has_fed}
 use Rattle.xb_posts.proofs.Feeds.{feeds_on-sent}
@@ -37,13 +37,15 @@ returns-in-Ok-clause-sends g c =
     let some : rows ≢ [] = λ none. c.requires.held (ap (λ view. view.held) (sym c.self.view_is) ∙ none) in
     let e : sent c.push_entire_slice.new.self ≡ sent i.producer ++ rows = rw c.as_slice.ensures.value at c.in-Ok.ensures.ok.0 in
     let few : length rows ≤ AHEAD = omega (arith, v.few, i.held.ok.0) in
+    let split : rows ≡ rows ++ c.clear.new.self.items = sym (append-nil rows) ∙ ap (λ zs. rows ++ zs) (sym c.clear.ensures.items) in
     rw (← c.self.view_is) (record {
       items = rows;
       sends = e;
       event = one_push rows some few v.rows;
+      held = inl (split, λ two. c.clear.ensures.items);
       rest = refl;
       met = refl;
-      feeds_on = feeds_on-sent _ _ going rows v.rows e (sym (append-nil rows) ∙ ap (λ zs. rows ++ zs) (sym c.clear.ensures.items)) refl refl;
+      feeds_on = feeds_on-sent _ _ going rows v.rows e split refl refl;
     })
 
 -- the first row was sent
@@ -86,6 +88,7 @@ returns-in-Err-clause-sends g c =
       items = x ∷ [];
       sends = e;
       event = inl refl;
+      held = inl (split, λ two. absurd (omega (arith, two)));
       rest = refl;
       met = refl;
       feeds_on = feeds_on-sent _ _ going (x ∷ []) are.0 e split refl refl;

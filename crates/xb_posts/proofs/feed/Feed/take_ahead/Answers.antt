@@ -8,14 +8,14 @@ use Rattle.xb_posts.proofs.feed.Feed.take_ahead.Goals as goal
 pub returns-in-Err-clause-feeds_on : goal.returns-in-Err-clause-feeds_on
 returns-in-Err-clause-feeds_on g c =
     let going : has_end (sent c.self.inside.producer) ≡ false = ap has_fed c.self.view_is ∙ c.requires in
-    rw (← c.self.view_is) (feeds_on-filled _ _ going refl c.fill.ensures.fills)
+    rw (← c.self.view_is) (feeds_on-filled _ _ going c.fill.result refl c.fill.ensures.fills)
 
 pub returns-in-Ok-true-clause-feeds_on : goal.returns-in-Ok-true-clause-feeds_on
 returns-in-Ok-true-clause-feeds_on g c =
     let going : has_end (sent c.self.inside.producer) ≡ false = ap has_fed c.self.view_is ∙ c.requires in
-    rw (← c.self.view_is) (feeds_on-filled _ _ going refl c.fill.ensures.fills)
+    rw (← c.self.view_is) (feeds_on-filled _ _ going c.fill.result refl c.fill.ensures.fills)
 
 pub returns-in-Ok-false-clause-feeds_on : goal.returns-in-Ok-false-clause-feeds_on
 returns-in-Ok-false-clause-feeds_on g c =
     let going : has_end (sent c.self.inside.producer) ≡ false = ap has_fed c.self.view_is ∙ c.requires in
-    rw (← c.self.view_is) (feeds_on-filled _ _ going refl c.fill.ensures.fills)
+    rw (← c.self.view_is) (feeds_on-filled _ _ going c.fill.result refl c.fill.ensures.fills)

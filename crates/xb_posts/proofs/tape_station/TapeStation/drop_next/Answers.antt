@@ -1,7 +1,7 @@
-use Rattle.std.proofs.Common.{◌≡◌, ◌<◌, ◌++◌, ◌∷◌, [], false, refl, sym, ap, ◌∙◌, length}
+use Rattle.std.proofs.Common.{◌≡◌, ◌++◌, ◌∷◌, [], false, refl, sym, ap, ◌∙◌, length}
 use Rattle.rtrb.specs.Ring.{received}
 use Rattle.xb_ring.specs.declared.flow.Flow.TheVariants.{Item, End}
-use Rattle.xb_ring.specs.Flows.{items_of, has_end, counted}
+use Rattle.xb_ring.specs.Flows.{has_end, counted}
 use Rattle.xb_ring.proofs.Flows.{has_end-item, has_end-end, items_of-end, count_more}
 use Rattle.xb_posts.specs.TapeStations.{has_ended}
 use Rattle.xb_posts.proofs.TapeStations.{tape_law-lost}

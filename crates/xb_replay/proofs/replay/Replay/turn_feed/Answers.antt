@@ -17,7 +17,7 @@ unreachable-requires c =
     feed_law-no_fault i.rows.now c.look.new.up c.turn.new.self c.in-Err.field-0
     (feed_law-on i.rows.now c.look.new.up c.turn.new.self c.turn.ensures.feeds_on
     (feed_law-looked i.rows.now i.feed c.look.new.up e.up.0 e.up.1.1 c.self.invariant.posts.feed))
-    fault.3
+    fault.3.2.1
 
 pub invariant_of-self : goal.invariant_of-self
 invariant_of-self c =
