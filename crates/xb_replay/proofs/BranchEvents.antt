@@ -22,7 +22,8 @@ use Rattle.xb_ring.specs.Rings.{IsRing, ProducersLooked}
 use Rattle.xb_ring.proofs.Rings.{map_same}
 use Rattle.xb_replay.specs.Looks.{ConsumersLooked}
 use Rattle.xb_replay.specs.Turns.{OutputsStay, DealStays, DealWaits, DealMoves, GatherStays, GatherWaits, GatherMoves, IsNext}
-use Rattle.xb_replay.specs.World.{Output, SenderPost, DealPost, GatherPost, AreKeyed}
+use Rattle.xb_chain.specs.Posts.{Output, SenderPost, DealPost, GatherPost}
+use Rattle.xb_chain.specs.Rings.{AreGathered}
 use Rattle.xb_replay.proofs.Events.{Turned, takes, empty, no_room}
 
 -- ---- the deal
@@ -160,12 +161,12 @@ pub gather-place_below : (g : GatherPost) → GatherLaw (λ mark. is_ending mark
 gather-place_below g law awaits = subst (λ n. g.place < n) (length-map g.consumers received) (law.within awaits)
 
 module _ (ups nows : List SenderPost) (a b c d e f : GatherPost)
-    (ab : (b ≡ record a { consumers = b.consumers }) × ConsumersLooked a.consumers b.consumers) (rings : AreKeyed nows b.consumers)
+    (ab : (b ≡ record a { consumers = b.consumers }) × ConsumersLooked a.consumers b.consumers) (rings : AreGathered nows b.consumers)
     (before : (length nows ≡ length ups) × ((j : ℕ) (s : SenderPost) → j < length ups → sent (get_or nows j s).producer ≡ sent (get_or ups j s).producer))
     (bc : (c ≡ record b { producer = c.producer }) × ProducerLooked b.producer c.producer)
     (de : (e ≡ record d { producer = e.producer }) × ProducerLooked d.producer e.producer)
     (ef : (f ≡ record e { consumers = f.consumers }) × ConsumersLooked e.consumers f.consumers)
-    (laters : List SenderPost) (again : AreKeyed laters f.consumers)
+    (laters : List SenderPost) (again : AreGathered laters f.consumers)
     (after : (length laters ≡ length ups) × ((j : ℕ) (s : SenderPost) → j < length ups → sent (get_or laters j s).producer ≡ sent (get_or ups j s).producer))
     (same_count : length f.consumers ≡ length a.consumers) (counted : length a.consumers ≡ length ups) (place_below : Awaits a.held → a.place < length ups) where
   gather-in : map received c.consumers ≡ map received a.consumers

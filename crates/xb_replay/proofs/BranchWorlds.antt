@@ -15,86 +15,88 @@ use Rattle.xb_routes.specs.Machine.{machine as translate_machine}
 use Rattle.xb_sender.specs.Machine.{machine as sender_machine}
 use Rattle.xb_posts.specs.TapeStations.{TapeLaw}
 use Rattle.xb_replay.specs.Looks.{OutputLooked, AllInputsLooked, AllOutputsLooked}
-use Rattle.xb_replay.specs.World.{World, Input, Output, StationPost, SenderPost, DealPost, GatherPost, TapePost, AreDealt, AreKeyed, SenderLaw, WorldLaw}
+use Rattle.xb_chain.specs.Laws.{SenderLaw}
+use Rattle.xb_chain.specs.Posts.{Input, Output, StationPost, SenderPost, DealPost, GatherPost, TapePost}
+use Rattle.xb_chain.specs.Rings.{AreDealt, AreGathered}
+use Rattle.xb_replay.specs.World.{World, WorldLaw}
 use Rattle.xb_replay.proofs.LookSteps.{ring_kept, input-law, output-law, input-ring, output-ring, output-stage, each-set}
 
 module _ (w : World) (k : WorldLaw w) where
   -- the deal
   pub world-deal : (translate : StationPost Table (On Dialled) (On Order)) (deal : DealPost) (senders : List SenderPost)
-      → OutputLooked w.translate translate → IsRing translate.producer deal.consumer
-      → length deal.producers ≡ length w.deal.producers → DealLaw deal
-      → AllInputsLooked w.senders senders → AreDealt deal.producers senders
-      → WorldLaw (record w { translate = translate; deal = deal; senders = senders })
+      → OutputLooked w.posts.translate translate → IsRing translate.producer deal.consumer
+      → length deal.producers ≡ length w.posts.deal.producers → DealLaw deal
+      → AllInputsLooked w.posts.senders senders → AreDealt deal.producers senders
+      → WorldLaw (record w { posts = record w.posts { translate = translate; deal = deal; senders = senders } })
   world-deal translate deal senders gives orders count deals seen dealt =
-      let r = k.rings in
-      let l = k.posts in
-      let below : (j : ℕ) → j < length senders → j < length w.senders = λ j h. subst (λ n. j < n) seen.0 h in
+      let r = k.links in
+      let l = k.stages in
+      let below : (j : ℕ) → j < length senders → j < length w.posts.senders = λ j h. subst (λ n. j < n) seen.0 h in
       record {
-        rings = record {
+        links = record {
           rows = r.rows;
           signals = r.signals;
-          dialled = output-ring w.translate translate gives w.register.producer r.dialled;
+          dialled = output-ring w.posts.translate translate gives w.posts.register.producer r.dialled;
           orders = orders;
           outputs = count ∙ (r.outputs ∙ sym seen.0);
           inputs = r.inputs ∙ sym seen.0;
           dealt = dealt;
-          keyed = λ j s c h. input-ring (get_or w.senders j s) (get_or senders j s) (seen.1 j s (below j h)) (get_or w.gather.consumers j c) (r.keyed j s c (below j h));
+          gathered = λ j s c h. input-ring (get_or w.posts.senders j s) (get_or senders j s) (seen.1 j s (below j h)) (get_or w.posts.gather.consumers j c) (r.gathered j s c (below j h));
           marks = r.marks;
         };
-        posts = record {
+        stages = record {
           limits = l.limits;
-          feed = l.feed;
           pulse = l.pulse;
           pulse_stage = l.pulse_stage;
           register = l.register;
           register_stage = l.register_stage;
-          translate = output-law on_line_of (translate_machine w.table.routes) w.translate translate gives l.translate;
-          translate_stage = output-stage w.translate translate gives ∙ l.translate_stage;
+          translate = output-law on_line_of (translate_machine w.table.routes) w.posts.translate translate gives l.translate;
+          translate_stage = output-stage w.posts.translate translate gives ∙ l.translate_stage;
           deal = deals;
-          senders = λ j s h. input-law on_line_of sender_machine (get_or w.senders j s) (get_or senders j s) (seen.1 j s (below j h)) (l.senders j s (below j h));
+          senders = λ j s h. input-law on_line_of sender_machine (get_or w.posts.senders j s) (get_or senders j s) (seen.1 j s (below j h)) (l.senders j s (below j h));
           gather = l.gather;
           tape = l.tape;
           lost = l.lost;
         };
+        feed = k.feed;
       }
 
   -- sender i
   pub world-sender : (i : ℕ) (deal : DealPost) (sender : SenderPost) (gather : GatherPost)
-      → i < length w.senders
-      → deal ≡ record w.deal { producers = deal.producers } → ProducersLooked w.deal.producers deal.producers → DealLaw deal
+      → i < length w.posts.senders
+      → deal ≡ record w.posts.deal { producers = deal.producers } → ProducersLooked w.posts.deal.producers deal.producers → DealLaw deal
       → ((p : Output (On Order)) → IsRing (get_or deal.producers i p) sender.consumer)
       → ((c : Input (On Mark)) → IsRing sender.producer (get_or gather.consumers i c))
       → SenderLaw sender
-      → gather ≡ record w.gather { consumers = gather.consumers } → length gather.consumers ≡ length w.gather.consumers
-      → ((j : ℕ) (c : Input (On Mark)) → j ≢ i → get_or gather.consumers j c ≡ get_or w.gather.consumers j c) → GatherLaw (λ mark. is_ending mark.what) gather
-      → WorldLaw (record w { deal = deal; senders = set w.senders i sender; gather = gather })
+      → gather ≡ record w.posts.gather { consumers = gather.consumers } → length gather.consumers ≡ length w.posts.gather.consumers
+      → ((j : ℕ) (c : Input (On Mark)) → j ≢ i → get_or gather.consumers j c ≡ get_or w.posts.gather.consumers j c) → GatherLaw (λ mark. is_ending mark.what) gather
+      → WorldLaw (record w { posts = record w.posts { deal = deal; senders = set w.posts.senders i sender; gather = gather } })
   world-sender i deal sender gather below same looked deals dealt keyed law kept count others gathers =
-      let r = k.rings in
-      let l = k.posts in
-      let counted : length (set w.senders i sender) ≡ length w.senders = length-set w.senders i sender in
-      let consumer : deal.consumer ≡ w.deal.consumer = ap (λ (d : DealPost). d.consumer) same in
-      let producer : gather.producer ≡ w.gather.producer = ap (λ (g : GatherPost). g.producer) kept in
+      let r = k.links in
+      let l = k.stages in
+      let counted : length (set w.posts.senders i sender) ≡ length w.posts.senders = length-set w.posts.senders i sender in
+      let consumer : deal.consumer ≡ w.posts.deal.consumer = ap (λ (d : DealPost). d.consumer) same in
+      let producer : gather.producer ≡ w.posts.gather.producer = ap (λ (g : GatherPost). g.producer) kept in
       record {
-        rings = record {
+        links = record {
           rows = r.rows;
           signals = r.signals;
           dialled = r.dialled;
-          orders = subst (IsRing w.translate.producer) (sym consumer) r.orders;
+          orders = subst (IsRing w.posts.translate.producer) (sym consumer) r.orders;
           outputs = looked.0 ∙ (r.outputs ∙ sym counted);
           inputs = count ∙ (r.inputs ∙ sym counted);
           dealt = λ j p s h.
-              each-set (λ m v. (q : Output (On Order)) → IsRing (get_or deal.producers m q) v.consumer) w.senders i sender below dealt
-              (λ m v n d q. let e = looked.1 m q (subst (λ z. m < z) (sym r.outputs) n) in ring_kept (get_or w.deal.producers m q) (get_or deal.producers m q) (get_or w.senders m v).consumer e.0 e.1 (r.dealt m q v n))
+              each-set (λ m v. (q : Output (On Order)) → IsRing (get_or deal.producers m q) v.consumer) w.posts.senders i sender below dealt
+              (λ m v n d q. let e = looked.1 m q (subst (λ z. m < z) (sym r.outputs) n) in ring_kept (get_or w.posts.deal.producers m q) (get_or deal.producers m q) (get_or w.posts.senders m v).consumer e.0 e.1 (r.dealt m q v n))
               j s h p;
-          keyed = λ j s c h.
-              each-set (λ m v. (q : Input (On Mark)) → IsRing v.producer (get_or gather.consumers m q)) w.senders i sender below keyed
-              (λ m v n d q. subst (IsRing (get_or w.senders m v).producer) (sym (others m q d)) (r.keyed m v q n))
+          gathered = λ j s c h.
+              each-set (λ m v. (q : Input (On Mark)) → IsRing v.producer (get_or gather.consumers m q)) w.posts.senders i sender below keyed
+              (λ m v n d q. subst (IsRing (get_or w.posts.senders m v).producer) (sym (others m q d)) (r.gathered m v q n))
               j s h c;
-          marks = subst (λ p. IsRing p w.tape.consumer) (sym producer) r.marks;
+          marks = subst (λ p. IsRing p w.posts.tape.consumer) (sym producer) r.marks;
         };
-        posts = record {
+        stages = record {
           limits = l.limits;
-          feed = l.feed;
           pulse = l.pulse;
           pulse_stage = l.pulse_stage;
           register = l.register;
@@ -102,37 +104,37 @@ module _ (w : World) (k : WorldLaw w) where
           translate = l.translate;
           translate_stage = l.translate_stage;
           deal = deals;
-          senders = each-set (λ m v. SenderLaw v) w.senders i sender below law (λ m v n d. l.senders m v n);
+          senders = each-set (λ m v. SenderLaw v) w.posts.senders i sender below law (λ m v n d. l.senders m v n);
           gather = gathers;
           tape = l.tape;
           lost = l.lost;
         };
+        feed = k.feed;
       }
 
   -- the gather
   pub world-gather : (senders : List SenderPost) (gather : GatherPost) (tape : TapePost)
-      → AllOutputsLooked w.senders senders → AreKeyed senders gather.consumers → length gather.consumers ≡ length w.gather.consumers
+      → AllOutputsLooked w.posts.senders senders → AreGathered senders gather.consumers → length gather.consumers ≡ length w.posts.gather.consumers
       → GatherLaw (λ mark. is_ending mark.what) gather → IsRing gather.producer tape.consumer → TapeLaw tape → tape.lost ≡ false
-      → WorldLaw (record w { senders = senders; gather = gather; tape = tape })
+      → WorldLaw (record w { posts = record w.posts { senders = senders; gather = gather; tape = tape } })
   world-gather senders gather tape gives keyed count gathers marks taped lost =
-      let r = k.rings in
-      let l = k.posts in
-      let below : (j : ℕ) → j < length senders → j < length w.senders = λ j h. subst (λ n. j < n) gives.0 h in
+      let r = k.links in
+      let l = k.stages in
+      let below : (j : ℕ) → j < length senders → j < length w.posts.senders = λ j h. subst (λ n. j < n) gives.0 h in
       record {
-        rings = record {
+        links = record {
           rows = r.rows;
           signals = r.signals;
           dialled = r.dialled;
           orders = r.orders;
           outputs = r.outputs ∙ sym gives.0;
           inputs = count ∙ (r.inputs ∙ sym gives.0);
-          dealt = λ j p s h. output-ring (get_or w.senders j s) (get_or senders j s) (gives.1 j s (below j h)) (get_or w.deal.producers j p) (r.dealt j p s (below j h));
-          keyed = keyed;
+          dealt = λ j p s h. output-ring (get_or w.posts.senders j s) (get_or senders j s) (gives.1 j s (below j h)) (get_or w.posts.deal.producers j p) (r.dealt j p s (below j h));
+          gathered = keyed;
           marks = marks;
         };
-        posts = record {
+        stages = record {
           limits = l.limits;
-          feed = l.feed;
           pulse = l.pulse;
           pulse_stage = l.pulse_stage;
           register = l.register;
@@ -140,24 +142,25 @@ module _ (w : World) (k : WorldLaw w) where
           translate = l.translate;
           translate_stage = l.translate_stage;
           deal = l.deal;
-          senders = λ j s h. output-law on_line_of sender_machine (get_or w.senders j s) (get_or senders j s) (gives.1 j s (below j h)) (l.senders j s (below j h));
+          senders = λ j s h. output-law on_line_of sender_machine (get_or w.posts.senders j s) (get_or senders j s) (gives.1 j s (below j h)) (l.senders j s (below j h));
           gather = gathers;
           tape = taped;
           lost = lost;
         };
+        feed = k.feed;
       }
 
   -- the tape
   pub world-tape : (gather : GatherPost) (tape : TapePost)
-      → gather ≡ record w.gather { producer = gather.producer } → GatherLaw (λ mark. is_ending mark.what) gather
+      → gather ≡ record w.posts.gather { producer = gather.producer } → GatherLaw (λ mark. is_ending mark.what) gather
       → IsRing gather.producer tape.consumer → TapeLaw tape → tape.lost ≡ false
-      → WorldLaw (record w { gather = gather; tape = tape })
+      → WorldLaw (record w { posts = record w.posts { gather = gather; tape = tape } })
   world-tape gather tape same gathers marks taped lost =
-      let r = k.rings in
-      let l = k.posts in
-      let consumers : gather.consumers ≡ w.gather.consumers = ap (λ (g : GatherPost). g.consumers) same in
+      let r = k.links in
+      let l = k.stages in
+      let consumers : gather.consumers ≡ w.posts.gather.consumers = ap (λ (g : GatherPost). g.consumers) same in
       record {
-        rings = record {
+        links = record {
           rows = r.rows;
           signals = r.signals;
           dialled = r.dialled;
@@ -165,12 +168,11 @@ module _ (w : World) (k : WorldLaw w) where
           outputs = r.outputs;
           inputs = ap length consumers ∙ r.inputs;
           dealt = r.dealt;
-          keyed = λ j s c h. subst (λ cs. IsRing (get_or w.senders j s).producer (get_or cs j c)) (sym consumers) (r.keyed j s c h);
+          gathered = λ j s c h. subst (λ cs. IsRing (get_or w.posts.senders j s).producer (get_or cs j c)) (sym consumers) (r.gathered j s c h);
           marks = marks;
         };
-        posts = record {
+        stages = record {
           limits = l.limits;
-          feed = l.feed;
           pulse = l.pulse;
           pulse_stage = l.pulse_stage;
           register = l.register;
@@ -183,4 +185,5 @@ module _ (w : World) (k : WorldLaw w) where
           tape = taped;
           lost = lost;
         };
+        feed = k.feed;
       }

@@ -11,12 +11,12 @@ use Rattle.xb_ring.specs.declared.turn.Turn.{Turn}
 use Rattle.xb_ring.specs.declared.turn.Turn.TheVariants.{Idle, Blocked, Moved, Ended}
 use Rattle.xb_ring.specs.Flows.{has_end}
 use Rattle.xb_ring.specs.Rings.{IsRing}
-use Rattle.xb_ring.specs.Stations.{IsStationTurn}
+use Rattle.xb_ring.specs.Stations.{IsStationTurn, Stays as StationStays}
 use Rattle.xb_posts.specs.Feeds.{IsFeedTurn}
 use Rattle.xb_posts.specs.TapeStations.{IsTapeTurn}
 use Rattle.xb_replay.specs.Looks.{InputLooked, OutputLooked}
-use Rattle.xb_replay.specs.Turns.{FeedStays, FeedMoves, StationStays, StationWaits, StationHasNoRoom, StationMoves, TapeStays, Takes, Waits, HasNoRoom, Moves, HasEnded, Stays, IsTurn}
-use Rattle.xb_replay.specs.World.{World, Input, Output, FeedPost, StationPost, SenderPost, TapePost}
+use Rattle.xb_replay.specs.Turns.{FeedStays, FeedMoves, StationWaits, StationHasNoRoom, StationMoves, TapeStays, Takes, Waits, HasNoRoom, Moves, HasEnded, Stays, IsTurn}
+use Rattle.xb_chain.specs.Posts.{Input, Output, FeedPost, StationPost, SenderPost, TapePost, Posts}
 use Rattle.xb_replay.proofs.LookSteps.{feed-on}
 
 -- ---- one turn of any post
@@ -27,7 +27,7 @@ Turned waits has_no_room moves ended stays Blocked = has_no_room × stays
 Turned waits has_no_room moves ended stays Moved = moves
 Turned waits has_no_room moves ended stays Ended = ended × stays
 
-pub is-turn : (old : World) (post : Post) (turn : Turn) (new : World)
+pub is-turn : (old : Posts) (post : Post) (turn : Turn) (new : Posts)
     → Turned (Waits old post) (HasNoRoom old post) (Moves old post new) (HasEnded old post) (Stays old post new) turn → IsTurn old post turn new
 is-turn old post Idle new t = t
 is-turn old post Blocked new t = t
@@ -137,7 +137,7 @@ module _ {S I O : Type 0} (up now later : Output I) (a b c d e f : StationPost S
   )
 
 -- a sender that is there
-pub sender-turned : (old new : World) (j : ℕ) → j < length old.senders → (turn : Turn)
+pub sender-turned : (old new : Posts) (j : ℕ) → j < length old.senders → (turn : Turn)
     → ((p : Output (On Order)) (s : SenderPost) → StationTurned (sent (get_or old.deal.producers j p)) (get_or old.senders j s) (get_or new.senders j s) turn)
     → Turned (Waits old (Send j)) (HasNoRoom old (Send j)) (Moves old (Send j) new) (HasEnded old (Send j)) (Stays old (Send j) new) turn
 sender-turned old new j there Idle t = (λ h p s. (t p s).0, λ s h. (t old.translate.producer s).1)

@@ -1,5 +1,5 @@
+pub mod Begun
 pub mod BranchEvents
-pub mod BranchLists
 pub mod BranchWorlds
 pub mod Events
 pub mod Feeds

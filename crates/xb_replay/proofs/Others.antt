@@ -2,11 +2,12 @@
 use Rattle.std.proofs.Common.{◌≢◌, ℕ, ◌<◌, length, get_or}
 use Rattle.xb_ring.specs.declared.post.Post.{Post}
 use Rattle.xb_ring.specs.declared.post.Post.TheVariants as posts
-use Rattle.xb_replay.specs.Turns.{FeedStays, StationStays, DealStays, GatherStays, TapeStays, OthersStay}
-use Rattle.xb_replay.specs.World.{World, SenderPost}
+use Rattle.xb_ring.specs.Stations.{Stays as StationStays}
+use Rattle.xb_replay.specs.Turns.{FeedStays, DealStays, GatherStays, TapeStays, OthersStay}
+use Rattle.xb_chain.specs.Posts.{SenderPost, Posts}
 
 -- no post but this one makes an event, post by post
-pub record EachOther (post : Post) (old new : World) : Type 0 where
+pub record EachOther (post : Post) (old new : Posts) : Type 0 where
   pub feed : posts.Feed ≢ post → FeedStays old.feed new.feed
   pub pulse : posts.Pulse ≢ post → StationStays old.pulse new.pulse
   pub register : posts.Register ≢ post → StationStays old.register new.register
@@ -17,7 +18,7 @@ pub record EachOther (post : Post) (old new : World) : Type 0 where
   pub gather : posts.Gather ≢ post → GatherStays old.gather new.gather
   pub tape : posts.Tape ≢ post → TapeStays old.tape new.tape
 
-pub others-stay : (post : Post) (old new : World) → EachOther post old new → OthersStay old post new
+pub others-stay : (post : Post) (old new : Posts) → EachOther post old new → OthersStay old post new
 others-stay post old new each posts.Feed other = each.feed other
 others-stay post old new each posts.Pulse other = each.pulse other
 others-stay post old new each posts.Register other = each.register other

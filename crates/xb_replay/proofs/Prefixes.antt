@@ -43,7 +43,10 @@ use Rattle.xb_serial.proofs.Chain.{chain-fed}
 use Rattle.xb_serial.proofs.LineTapes.{serial_image-line, whats_of-on_line}
 use Rattle.xb_replay.specs.Marks.{marks_of as marks_on, whole_tape, ArePrefixes, AreWhole}
 use Rattle.xb_replay.specs.Turns.{IsThere, HasEnded}
-use Rattle.xb_replay.specs.World.{World, Input, Output, SenderPost, RingLaws, PostLaws}
+use Rattle.xb_chain.specs.Laws.{StageLaws}
+use Rattle.xb_chain.specs.Posts.{Input, Output, SenderPost, Posts}
+use Rattle.xb_chain.specs.Rings.{AreLinked}
+use Rattle.xb_replay.specs.World.{World, FeedLaw}
 use Rattle.xb_replay.proofs.Sent.{ring-prefix, ring-whole, station-prefix, station-whole, deal-prefix, deal-whole, gather-prefix, gather-whole, gather-ended}
 
 -- the marks of an order, on its line
@@ -82,16 +85,16 @@ line-prefix l some all p = (
 )
 
 -- what stands for no sender
-abbrev pub no_sender : World → SenderPost
-no_sender w = record { stage = record {}; consumer = w.deal.consumer; producer = w.gather.producer; pending = [] }
+abbrev pub no_sender : Posts → SenderPost
+no_sender posts = record { stage = record {}; consumer = posts.deal.consumer; producer = posts.gather.producer; pending = [] }
 
-module _ (w : World) (r : RingLaws w) (k : PostLaws w) where
+module _ (w : World) (r : AreLinked w.posts) (k : StageLaws w.table w.posts) (f : FeedLaw w.rows w.posts.feed) where
   abbrev fed_rows : List LoopRow
   fed_rows = fed w.rows None
 
   -- what the feed has still to send
   abbrev coming : List (Flow LoopRow)
-  coming = to_come w.feed w.feed.rest.rows None
+  coming = to_come w.posts.feed w.posts.feed.rest.rows None
 
   abbrev signals : List (On Signal)
   signals = image row_line (pulse_machine w.table.limits) fed_rows
@@ -104,71 +107,71 @@ module _ (w : World) (r : RingLaws w) (k : PostLaws w) where
 
   -- the orders that the deal has received
   abbrev taken : List (On Order)
-  taken = items_of (received w.deal.consumer)
+  taken = items_of (received w.posts.deal.consumer)
 
   abbrev branches : ℕ
-  branches = length w.senders
+  branches = length w.posts.senders
 
   sends-of : (xs : List (On Order)) → image on_line_of sender_machine xs ≡ flat_map keyed xs
   sends-of xs = image_all-stateless marks_of xs
 
   -- ---- prefixes
-  rows-prefix : IsPrefix (items_of (received w.pulse.consumer)) fed_rows
+  rows-prefix : IsPrefix (items_of (received w.posts.pulse.consumer)) fed_rows
   rows-prefix =
-      prefix_on (items_of (received w.pulse.consumer)) (items_of (sent w.feed.producer)) fed_rows
-      (ring-prefix w.feed.producer w.pulse.consumer r.rows)
-      (flow-front (sent w.feed.producer) coming fed_rows true k.feed.fed)
+      prefix_on (items_of (received w.posts.pulse.consumer)) (items_of (sent w.posts.feed.producer)) fed_rows
+      (ring-prefix w.posts.feed.producer w.posts.pulse.consumer r.rows)
+      (flow-front (sent w.posts.feed.producer) coming fed_rows true f.fed)
 
-  signals-prefix : IsPrefix (items_of (received w.register.consumer)) signals
+  signals-prefix : IsPrefix (items_of (received w.posts.register.consumer)) signals
   signals-prefix =
-      prefix_on (items_of (received w.register.consumer)) (items_of (sent w.pulse.producer)) signals
-      (ring-prefix w.pulse.producer w.register.consumer r.signals)
-      (station-prefix row_line (pulse_machine w.table.limits) (received w.pulse.consumer) (sent w.pulse.producer) w.pulse.pending k.pulse fed_rows rows-prefix)
+      prefix_on (items_of (received w.posts.register.consumer)) (items_of (sent w.posts.pulse.producer)) signals
+      (ring-prefix w.posts.pulse.producer w.posts.register.consumer r.signals)
+      (station-prefix row_line (pulse_machine w.table.limits) (received w.posts.pulse.consumer) (sent w.posts.pulse.producer) w.posts.pulse.pending k.pulse fed_rows rows-prefix)
 
-  dialled-prefix : IsPrefix (items_of (received w.translate.consumer)) dialled
+  dialled-prefix : IsPrefix (items_of (received w.posts.translate.consumer)) dialled
   dialled-prefix =
-      prefix_on (items_of (received w.translate.consumer)) (items_of (sent w.register.producer)) dialled
-      (ring-prefix w.register.producer w.translate.consumer r.dialled)
-      (station-prefix on_line_of (register_machine w.table.plan) (received w.register.consumer) (sent w.register.producer) w.register.pending k.register signals signals-prefix)
+      prefix_on (items_of (received w.posts.translate.consumer)) (items_of (sent w.posts.register.producer)) dialled
+      (ring-prefix w.posts.register.producer w.posts.translate.consumer r.dialled)
+      (station-prefix on_line_of (register_machine w.table.plan) (received w.posts.register.consumer) (sent w.posts.register.producer) w.posts.register.pending k.register signals signals-prefix)
 
   orders-prefix : IsPrefix taken orders
   orders-prefix =
-      prefix_on taken (items_of (sent w.translate.producer)) orders
-      (ring-prefix w.translate.producer w.deal.consumer r.orders)
-      (station-prefix on_line_of (translate_machine w.table.routes) (received w.translate.consumer) (sent w.translate.producer) w.translate.pending k.translate dialled dialled-prefix)
+      prefix_on taken (items_of (sent w.posts.translate.producer)) orders
+      (ring-prefix w.posts.translate.producer w.posts.deal.consumer r.orders)
+      (station-prefix on_line_of (translate_machine w.table.routes) (received w.posts.translate.consumer) (sent w.posts.translate.producer) w.posts.translate.pending k.translate dialled dialled-prefix)
 
   -- ---- one branch
   module _ (j : ℕ) (below : j < branches) where
     abbrev output : Output (On Order)
-    output = get_or w.deal.producers j w.translate.producer
+    output = get_or w.posts.deal.producers j w.posts.translate.producer
 
     abbrev sender : SenderPost
-    sender = get_or w.senders j (no_sender w)
+    sender = get_or w.posts.senders j (no_sender w.posts)
 
     abbrev input : Input (On Mark)
-    input = get_or w.gather.consumers j w.tape.consumer
+    input = get_or w.posts.gather.consumers j w.posts.tape.consumer
 
     dealt_ring : IsRing output sender.consumer
-    dealt_ring = r.dealt j w.translate.producer (no_sender w) below
+    dealt_ring = r.dealt j w.posts.translate.producer (no_sender w.posts) below
 
     keyed_ring : IsRing sender.producer input
-    keyed_ring = r.keyed j (no_sender w) w.tape.consumer below
+    keyed_ring = r.gathered j (no_sender w.posts) w.posts.tape.consumer below
 
-    in_deal : j < length w.deal.producers
+    in_deal : j < length w.posts.deal.producers
     in_deal = subst (λ n. j < n) (sym r.outputs) below
 
     dealt-prefix : IsPrefix (items_of (received sender.consumer)) (dealt branches j taken)
     dealt-prefix =
         prefix_on (items_of (received sender.consumer)) (items_of (sent output)) (dealt branches j taken)
         (ring-prefix output sender.consumer dealt_ring)
-        (subst (λ n. IsPrefix (items_of (sent output)) (dealt n j taken)) r.outputs (deal-prefix w.deal k.deal j w.translate.producer in_deal))
+        (subst (λ n. IsPrefix (items_of (sent output)) (dealt n j taken)) r.outputs (deal-prefix w.posts.deal k.deal j w.posts.translate.producer in_deal))
 
     branch-prefix : IsPrefix (items_of (received input)) (flat_map keyed (dealt branches j taken))
     branch-prefix =
         prefix_on (items_of (received input)) (items_of (sent sender.producer)) (flat_map keyed (dealt branches j taken))
         (ring-prefix sender.producer input keyed_ring)
         (subst (IsPrefix (items_of (sent sender.producer))) (sends-of (dealt branches j taken))
-        (station-prefix on_line_of sender_machine (received sender.consumer) (sent sender.producer) sender.pending (k.senders j (no_sender w) below) (dealt branches j taken) dealt-prefix))
+        (station-prefix on_line_of sender_machine (received sender.consumer) (sent sender.producer) sender.pending (k.senders j (no_sender w.posts) below) (dealt branches j taken) dealt-prefix))
 
     -- once the gather has the branch's End
     module _ (end : has_end (received input) ≡ true) where
@@ -176,18 +179,18 @@ module _ (w : World) (r : RingLaws w) (k : PostLaws w) where
       sender-end = (ring-whole sender.producer input keyed_ring end).1
 
       sender-whole : (has_end (received sender.consumer) ≡ true) × (items_of (received sender.consumer) ≡ dealt branches j taken → items_of (sent sender.producer) ≡ image on_line_of sender_machine (dealt branches j taken))
-      sender-whole = station-whole on_line_of sender_machine (received sender.consumer) (sent sender.producer) sender.pending (k.senders j (no_sender w) below) (dealt branches j taken) sender-end
+      sender-whole = station-whole on_line_of sender_machine (received sender.consumer) (sent sender.producer) sender.pending (k.senders j (no_sender w.posts) below) (dealt branches j taken) sender-end
 
       output-end : has_end (sent output) ≡ true
       output-end = (ring-whole output sender.consumer dealt_ring sender-whole.0).1
 
-      deal-end : has_end (received w.deal.consumer) ≡ true
-      deal-end = (deal-whole w.deal k.deal j w.translate.producer in_deal output-end).1
+      deal-end : has_end (received w.posts.deal.consumer) ≡ true
+      deal-end = (deal-whole w.posts.deal k.deal j w.posts.translate.producer in_deal output-end).1
 
       dealt-whole : items_of (received sender.consumer) ≡ dealt branches j taken
       dealt-whole =
           (ring-whole output sender.consumer dealt_ring sender-whole.0).0
-          ∙ (deal-whole w.deal k.deal j w.translate.producer in_deal output-end).0
+          ∙ (deal-whole w.posts.deal k.deal j w.posts.translate.producer in_deal output-end).0
           ∙ ap (λ n. dealt n j taken) r.outputs
 
       branch-whole : items_of (received input) ≡ flat_map keyed (dealt branches j taken)
@@ -195,32 +198,32 @@ module _ (w : World) (r : RingLaws w) (k : PostLaws w) where
 
   -- ---- all branches
   abbrev ins : List (List (Flow (On Mark)))
-  ins = map received w.gather.consumers
+  ins = map received w.posts.gather.consumers
 
   counted : length ins ≡ branches
-  counted = length-map w.gather.consumers received ∙ r.inputs
+  counted = length-map w.posts.gather.consumers received ∙ r.inputs
 
-  input-is : (j : ℕ) → j < branches → get_or ins j [] ≡ received (get_or w.gather.consumers j w.tape.consumer)
-  input-is j h = get_or-map received w.gather.consumers j w.tape.consumer [] (subst (λ n. j < n) (sym r.inputs) h)
+  input-is : (j : ℕ) → j < branches → get_or ins j [] ≡ received (get_or w.posts.gather.consumers j w.posts.tape.consumer)
+  input-is j h = get_or-map received w.posts.gather.consumers j w.posts.tape.consumer [] (subst (λ n. j < n) (sym r.inputs) h)
 
   branches-prefix : (j : ℕ) → j < length ins → IsPrefix (items_at ins j) (flat_map keyed (dealt (length ins) j taken))
   branches-prefix j h =
       let below : j < branches = subst (λ n. j < n) counted h in
       rw (counted, input-is j below) (branch-prefix j below)
 
-  merged-prefix : IsPrefix (items_of (sent w.gather.producer)) (flat_map keyed taken)
-  merged-prefix = gather-prefix (λ mark. is_ending mark.what) ins (sent w.gather.producer) w.gather.held w.gather.place k.gather keyed keyed-piece taken branches-prefix
+  merged-prefix : IsPrefix (items_of (sent w.posts.gather.producer)) (flat_map keyed taken)
+  merged-prefix = gather-prefix (λ mark. is_ending mark.what) ins (sent w.posts.gather.producer) w.posts.gather.held w.posts.gather.place k.gather keyed keyed-piece taken branches-prefix
 
   abbrev all_marks : List (On Mark)
   all_marks = serial_image w.table.plan w.table.limits w.table.routes fed_rows
 
   -- the marks that the tape station has received are the first of those that the stages make of the
   -- fed rows
-  marks-prefix : IsPrefix (items_of (received w.tape.consumer)) all_marks
+  marks-prefix : IsPrefix (items_of (received w.posts.tape.consumer)) all_marks
   marks-prefix =
-      prefix_on (items_of (received w.tape.consumer)) (items_of (sent w.gather.producer)) (image on_line_of sender_machine orders)
-      (ring-prefix w.gather.producer w.tape.consumer r.marks)
-      (prefix_on (items_of (sent w.gather.producer)) (flat_map keyed taken) (image on_line_of sender_machine orders)
+      prefix_on (items_of (received w.posts.tape.consumer)) (items_of (sent w.posts.gather.producer)) (image on_line_of sender_machine orders)
+      (ring-prefix w.posts.gather.producer w.posts.tape.consumer r.marks)
+      (prefix_on (items_of (sent w.posts.gather.producer)) (flat_map keyed taken) (image on_line_of sender_machine orders)
       merged-prefix
       (subst (λ ms. IsPrefix ms (image on_line_of sender_machine orders)) (sends-of taken) (image-prefix on_line_of sender_machine taken orders orders-prefix)))
 
@@ -232,66 +235,66 @@ module _ (w : World) (r : RingLaws w) (k : PostLaws w) where
       ∙ chain-fed w.table.plan w.table.limits w.table.routes l w.rows k.limits below)
       ∙ whats_of-on_line l (whole_tape w l)
 
-  line-marks : (l : ℕ) → l < LINES → marks_on w l ≡ whats_of (of_line on_line_of l (items_of (received w.tape.consumer)))
+  line-marks : (l : ℕ) → l < LINES → marks_on w l ≡ whats_of (of_line on_line_of l (items_of (received w.posts.tape.consumer)))
   line-marks = (k.tape.marks k.lost).each
 
   -- so the marks of each line are a prefix of its tape
   pub tape-prefix : ArePrefixes w
   tape-prefix l below =
       rw (line-marks l below, ← line-whole l below)
-      (line-prefix l (items_of (received w.tape.consumer)) all_marks marks-prefix)
+      (line-prefix l (items_of (received w.posts.tape.consumer)) all_marks marks-prefix)
 
   -- ---- once the tape station has its End
-  module _ (tape-end : has_end (received w.tape.consumer) ≡ true) where
-    gather-end : has_end (sent w.gather.producer) ≡ true
-    gather-end = (ring-whole w.gather.producer w.tape.consumer r.marks tape-end).1
+  module _ (tape-end : has_end (received w.posts.tape.consumer) ≡ true) where
+    gather-end : has_end (sent w.posts.gather.producer) ≡ true
+    gather-end = (ring-whole w.posts.gather.producer w.posts.tape.consumer r.marks tape-end).1
 
-    input-end : (j : ℕ) → j < branches → has_end (received (get_or w.gather.consumers j w.tape.consumer)) ≡ true
+    input-end : (j : ℕ) → j < branches → has_end (received (get_or w.posts.gather.consumers j w.posts.tape.consumer)) ≡ true
     input-end j h =
         ap has_end (sym (input-is j h))
-        ∙ gather-ended (λ mark. is_ending mark.what) ins (sent w.gather.producer) w.gather.held w.gather.place k.gather gather-end j (subst (λ n. j < n) (sym counted) h)
+        ∙ gather-ended (λ mark. is_ending mark.what) ins (sent w.posts.gather.producer) w.posts.gather.held w.posts.gather.place k.gather gather-end j (subst (λ n. j < n) (sym counted) h)
 
-    merged-whole : items_of (sent w.gather.producer) ≡ flat_map keyed taken
-    merged-whole = gather-whole (λ mark. is_ending mark.what) ins (sent w.gather.producer) w.gather.held w.gather.place k.gather keyed keyed-piece taken gather-end
+    merged-whole : items_of (sent w.posts.gather.producer) ≡ flat_map keyed taken
+    merged-whole = gather-whole (λ mark. is_ending mark.what) ins (sent w.posts.gather.producer) w.posts.gather.held w.posts.gather.place k.gather keyed keyed-piece taken gather-end
         (λ j h. let below : j < branches = subst (λ n. j < n) counted h in rw (counted, input-is j below) (branch-whole j below (input-end j below)))
 
-    deal-has_end : has_end (received w.deal.consumer) ≡ true
+    deal-has_end : has_end (received w.posts.deal.consumer) ≡ true
     deal-has_end =
         let first : 0 < branches = subst (λ n. 0 < n) r.outputs k.deal.least in
         deal-end 0 first (input-end 0 first)
 
-    orders-ring : (taken ≡ items_of (sent w.translate.producer)) × (has_end (sent w.translate.producer) ≡ true)
-    orders-ring = ring-whole w.translate.producer w.deal.consumer r.orders deal-has_end
+    orders-ring : (taken ≡ items_of (sent w.posts.translate.producer)) × (has_end (sent w.posts.translate.producer) ≡ true)
+    orders-ring = ring-whole w.posts.translate.producer w.posts.deal.consumer r.orders deal-has_end
 
-    translate-whole : (has_end (received w.translate.consumer) ≡ true) × (items_of (received w.translate.consumer) ≡ dialled → items_of (sent w.translate.producer) ≡ orders)
-    translate-whole = station-whole on_line_of (translate_machine w.table.routes) (received w.translate.consumer) (sent w.translate.producer) w.translate.pending k.translate dialled orders-ring.1
+    translate-whole : (has_end (received w.posts.translate.consumer) ≡ true) × (items_of (received w.posts.translate.consumer) ≡ dialled → items_of (sent w.posts.translate.producer) ≡ orders)
+    translate-whole = station-whole on_line_of (translate_machine w.table.routes) (received w.posts.translate.consumer) (sent w.posts.translate.producer) w.posts.translate.pending k.translate dialled orders-ring.1
 
-    dialled-ring : (items_of (received w.translate.consumer) ≡ items_of (sent w.register.producer)) × (has_end (sent w.register.producer) ≡ true)
-    dialled-ring = ring-whole w.register.producer w.translate.consumer r.dialled translate-whole.0
+    dialled-ring : (items_of (received w.posts.translate.consumer) ≡ items_of (sent w.posts.register.producer)) × (has_end (sent w.posts.register.producer) ≡ true)
+    dialled-ring = ring-whole w.posts.register.producer w.posts.translate.consumer r.dialled translate-whole.0
 
-    register-whole : (has_end (received w.register.consumer) ≡ true) × (items_of (received w.register.consumer) ≡ signals → items_of (sent w.register.producer) ≡ dialled)
-    register-whole = station-whole on_line_of (register_machine w.table.plan) (received w.register.consumer) (sent w.register.producer) w.register.pending k.register signals dialled-ring.1
+    register-whole : (has_end (received w.posts.register.consumer) ≡ true) × (items_of (received w.posts.register.consumer) ≡ signals → items_of (sent w.posts.register.producer) ≡ dialled)
+    register-whole = station-whole on_line_of (register_machine w.table.plan) (received w.posts.register.consumer) (sent w.posts.register.producer) w.posts.register.pending k.register signals dialled-ring.1
 
-    signals-ring : (items_of (received w.register.consumer) ≡ items_of (sent w.pulse.producer)) × (has_end (sent w.pulse.producer) ≡ true)
-    signals-ring = ring-whole w.pulse.producer w.register.consumer r.signals register-whole.0
+    signals-ring : (items_of (received w.posts.register.consumer) ≡ items_of (sent w.posts.pulse.producer)) × (has_end (sent w.posts.pulse.producer) ≡ true)
+    signals-ring = ring-whole w.posts.pulse.producer w.posts.register.consumer r.signals register-whole.0
 
-    pulse-whole : (has_end (received w.pulse.consumer) ≡ true) × (items_of (received w.pulse.consumer) ≡ fed_rows → items_of (sent w.pulse.producer) ≡ signals)
-    pulse-whole = station-whole row_line (pulse_machine w.table.limits) (received w.pulse.consumer) (sent w.pulse.producer) w.pulse.pending k.pulse fed_rows signals-ring.1
+    pulse-whole : (has_end (received w.posts.pulse.consumer) ≡ true) × (items_of (received w.posts.pulse.consumer) ≡ fed_rows → items_of (sent w.posts.pulse.producer) ≡ signals)
+    pulse-whole = station-whole row_line (pulse_machine w.table.limits) (received w.posts.pulse.consumer) (sent w.posts.pulse.producer) w.posts.pulse.pending k.pulse fed_rows signals-ring.1
 
-    rows-ring : (items_of (received w.pulse.consumer) ≡ items_of (sent w.feed.producer)) × (has_end (sent w.feed.producer) ≡ true)
-    rows-ring = ring-whole w.feed.producer w.pulse.consumer r.rows pulse-whole.0
+    rows-ring : (items_of (received w.posts.pulse.consumer) ≡ items_of (sent w.posts.feed.producer)) × (has_end (sent w.posts.feed.producer) ≡ true)
+    rows-ring = ring-whole w.posts.feed.producer w.posts.pulse.consumer r.rows pulse-whole.0
 
-    feed-whole : items_of (sent w.feed.producer) ≡ fed_rows
-    feed-whole = (flow-whole (sent w.feed.producer) coming fed_rows true k.feed.fed rows-ring.1).0
+    feed-whole : items_of (sent w.posts.feed.producer) ≡ fed_rows
+    feed-whole = (flow-whole (sent w.posts.feed.producer) coming fed_rows true f.fed rows-ring.1).0
 
     orders-whole : taken ≡ orders
     orders-whole =
         orders-ring.0
         ∙ translate-whole.1 (dialled-ring.0 ∙ register-whole.1 (signals-ring.0 ∙ pulse-whole.1 (rows-ring.0 ∙ feed-whole)))
 
-    marks-whole : items_of (received w.tape.consumer) ≡ all_marks
+    marks-whole : items_of (received w.posts.tape.consumer) ≡ all_marks
     marks-whole =
-        (ring-whole w.gather.producer w.tape.consumer r.marks tape-end).0
+        (ring-whole w.posts.gather.producer w.posts.tape.consumer r.marks tape-end).0
         ∙ merged-whole
         ∙ sym (sends-of taken)
         ∙ ap (image on_line_of sender_machine) orders-whole
@@ -304,17 +307,17 @@ module _ (w : World) (r : RingLaws w) (k : PostLaws w) where
         ∙ line-whole l below
 
     -- and every post has ended
-    pub all-ended : (post : Post) → IsThere w post → HasEnded w post
+    pub all-ended : (post : Post) → IsThere w.posts post → HasEnded w.posts post
     all-ended posts.Feed there = rows-ring.1
     all-ended posts.Pulse there = signals-ring.1
     all-ended posts.Register there = dialled-ring.1
     all-ended posts.Translate there = orders-ring.1
     all-ended posts.Deal there = λ j p h.
         let below : j < branches = subst (λ n. j < n) r.outputs h in
-        subst (λ o. has_end (sent o) ≡ true) (any-default w.deal.producers j w.translate.producer p h) (output-end j below (input-end j below))
+        subst (λ o. has_end (sent o) ≡ true) (any-default w.posts.deal.producers j w.posts.translate.producer p h) (output-end j below (input-end j below))
     all-ended (posts.Send j) there = (
       there,
-      λ s. subst (λ (z : SenderPost). has_end (sent z.producer) ≡ true) (any-default w.senders j (no_sender w) s there) (sender-end j there (input-end j there)),
+      λ s. subst (λ (z : SenderPost). has_end (sent z.producer) ≡ true) (any-default w.posts.senders j (no_sender w.posts) s there) (sender-end j there (input-end j there)),
     )
     all-ended posts.Gather there = gather-end
     all-ended posts.Tape there = tape-end

@@ -1,8 +1,6 @@
 -- A post that wants an item of an empty ring is idle.
-use Rattle.std.proofs.Common.{◌≡◌, ◌+◌, Result, Ok, Err, IfOk, List, [], ◌∷◌, ◌++◌, length, get_or, length-append, refl, sym, ap, ◌∙◌, subst, ⊎_elim, append_assoc, arith}
+use Rattle.std.proofs.Common.{◌≡◌, Result, Ok, Err, IfOk, List, [], ◌∷◌, ◌++◌, length, get_or, length-append, refl, sym, ap, ◌∙◌, subst, ⊎_elim, append_assoc, arith}
 use Rattle.rtrb.specs.Ring.{sent, received}
-use Rattle.xb_model.specs.declared.mark.Mark.{Mark}
-use Rattle.xb_model.specs.declared.on.On.{On}
 use Rattle.xb_ring.specs.declared.flow.Flow.{Flow}
 use Rattle.xb_ring.specs.declared.gathered.Gathered.{Gathered}
 use Rattle.xb_ring.specs.declared.gathered.Gathered.TheVariants.{Wants, One, Closing, Ends, Over}
@@ -13,7 +11,8 @@ use Rattle.xb_ring.specs.declared.turn.Turn.TheVariants.{Idle, Blocked, Moved, E
 use Rattle.xb_ring.specs.DealSteps.{CanSend}
 use Rattle.xb_ring.specs.GatherSteps.{Awaits, CanGather}
 use Rattle.xb_replay.specs.Turns.{Takes, StationWaits, StationMoves, Waits, HasNoRoom, Moves, HasEnded, IsTurn, HasTurned}
-use Rattle.xb_replay.specs.World.{World, Input, StationPost}
+use Rattle.xb_chain.specs.Posts.{Input, StationPost, Posts}
+use Rattle.xb_replay.specs.World.{World}
 use Rattle.xb_replay.proofs.Prefixes.{no_sender}
 
 not_longer : {X : Type 0} (xs rest : List X) (x : X) → xs ≡ xs ++ x ∷ rest → ⊥
@@ -38,7 +37,7 @@ awaits_not_sends Ends a c = a
 awaits_not_sends Over a c = a
 
 -- a post that wants an item holds none
-holds_nothing : (w : World) (post : Post) → Waits w post → HasNoRoom w post → ⊥
+holds_nothing : (w : Posts) (post : Post) → Waits w post → HasNoRoom w post → ⊥
 holds_nothing w posts.Feed waits room = waits
 holds_nothing w posts.Pulse waits room = room.0 waits.0
 holds_nothing w posts.Register waits room = room.0 waits.0
@@ -48,7 +47,7 @@ holds_nothing w (posts.Send j) waits room = (room.1 (no_sender w)).0 (waits room
 holds_nothing w posts.Gather waits room = awaits_not_sends w.gather.held waits.0 room.0
 holds_nothing w posts.Tape waits room = room
 
-makes_none : (old new : World) (post : Post) → Waits old post → Moves old post new → ⊥
+makes_none : (old new : Posts) (post : Post) → Waits old post → Moves old post new → ⊥
 makes_none old new posts.Feed waits moves = waits
 makes_none old new posts.Pulse waits moves = station_waits (sent old.feed.producer) old.pulse new.pulse waits moves
 makes_none old new posts.Register waits moves = station_waits (sent old.pulse.producer) old.register new.register waits moves
@@ -71,13 +70,13 @@ makes_none old new posts.Gather waits moves =
     moves
 makes_none old new posts.Tape waits moves = nothing_to_take (sent old.gather.producer) old.tape.consumer new.tape.consumer waits moves
 
-pub only-idle : (old new : World) (post : Post) (turn : Turn) → IsTurn old post turn new → Waits old post → (HasEnded old post → ⊥) → turn ≡ Idle
+pub only-idle : (old new : Posts) (post : Post) (turn : Turn) → IsTurn old post turn new → Waits old post → (HasEnded old post → ⊥) → turn ≡ Idle
 only-idle old new post Idle t waits going = refl
 only-idle old new post Blocked t waits going = absurd (holds_nothing old post waits t.0)
 only-idle old new post Moved t waits going = absurd (makes_none old new post waits t)
 only-idle old new post Ended t waits going = absurd (going t.0)
 
 pub turned-idle : {E : Type 0} (old new : World) (post : Post) (result : Result Turn E) → IfOk result (λ turn. HasTurned old post turn new)
-    → IfOk result (λ turn. Waits old post → (HasEnded old post → ⊥) → turn ≡ Idle)
-turned-idle old new post (Ok turn) turned = only-idle old new post turn turned.event
+    → IfOk result (λ turn. Waits old.posts post → (HasEnded old.posts post → ⊥) → turn ≡ Idle)
+turned-idle old new post (Ok turn) turned = only-idle old.posts new.posts post turn turned.event
 turned-idle old new post (Err error) turned = tt

@@ -1,4 +1,3 @@
-pub mod Blank
 pub mod Looks
 pub mod Marks
 pub mod Turns

@@ -8,7 +8,7 @@ use Rattle.xb_replay.specs.World.{World}
 
 -- the marks of line l so far
 abbrev pub marks_of : World → ℕ → List Mark
-marks_of w l = marks_at w.tape.tapes l
+marks_of w l = marks_at w.posts.tape.tapes l
 
 -- the tape of line l: that of the rows by the plan, the limits and the routes of the table
 abbrev pub whole_tape : World → ℕ → List Mark

@@ -17,40 +17,46 @@ use Rattle.xb_ring.specs.DealSteps.{CanSend}
 use Rattle.xb_ring.specs.Flows.{has_end}
 use Rattle.xb_ring.specs.GatherSteps.{Awaits, CanGather}
 use Rattle.xb_ring.specs.Gathers.{TakesAt}
+use Rattle.xb_ring.specs.Stations.{Stays as StationStays}
 use Rattle.xb_posts.specs.Feeds.{IsOnePush}
-use Rattle.xb_replay.specs.World.{World, Input, Output, FeedPost, StationPost, SenderPost, DealPost, GatherPost, TapePost}
+use Rattle.xb_chain.specs.Posts.{Input, Output, FeedPost, StationPost, SenderPost, DealPost, GatherPost, TapePost, Posts}
+use Rattle.xb_replay.specs.World.{World}
 
 -- the rows, the route table and the number of senders are the same
 pub record SameRecords (old new : World) : Type 0 where
   pub rows : new.rows ≡ old.rows
   pub table : new.table ≡ old.table
-  pub senders : length new.senders ≡ length old.senders
+  pub senders : length new.posts.senders ≡ length old.posts.senders
 
 -- ---- which posts are there, and which have ended
-abbrev pub IsThere : World → Post → Type 0
-IsThere w Feed = Unit {0}
-IsThere w Pulse = Unit {0}
-IsThere w Register = Unit {0}
-IsThere w Translate = Unit {0}
-IsThere w Deal = Unit {0}
-IsThere w (Send j) = j < length w.senders
-IsThere w Gather = Unit {0}
-IsThere w Tape = Unit {0}
+abbrev pub IsThere : Posts → Post → Type 0
+IsThere posts Feed = Unit {0}
+IsThere posts Pulse = Unit {0}
+IsThere posts Register = Unit {0}
+IsThere posts Translate = Unit {0}
+IsThere posts Deal = Unit {0}
+IsThere posts (Send j) = j < length posts.senders
+IsThere posts Gather = Unit {0}
+IsThere posts Tape = Unit {0}
 
 -- the post has sent its End, a deal to each output; the tape has received it
-abbrev pub HasEnded : World → Post → Type 0
-HasEnded w Feed = has_end (sent w.feed.producer) ≡ true
-HasEnded w Pulse = has_end (sent w.pulse.producer) ≡ true
-HasEnded w Register = has_end (sent w.register.producer) ≡ true
-HasEnded w Translate = has_end (sent w.translate.producer) ≡ true
-HasEnded w Deal = All (λ output. has_end (sent output) ≡ true) w.deal.producers
-HasEnded w (Send j) =
-    (j < length w.senders) × ((s : SenderPost) → has_end (sent (slice_index_or w.senders j s).producer) ≡ true)
-HasEnded w Gather = has_end (sent w.gather.producer) ≡ true
-HasEnded w Tape = has_end (received w.tape.consumer) ≡ true
+abbrev pub HasEnded : Posts → Post → Type 0
+HasEnded posts Feed = has_end (sent posts.feed.producer) ≡ true
+HasEnded posts Pulse = has_end (sent posts.pulse.producer) ≡ true
+HasEnded posts Register = has_end (sent posts.register.producer) ≡ true
+HasEnded posts Translate = has_end (sent posts.translate.producer) ≡ true
+HasEnded posts Deal = All (λ output. has_end (sent output) ≡ true) posts.deal.producers
+HasEnded posts (Send j) =
+    (j < length posts.senders)
+    × ((s : SenderPost) → has_end (sent (slice_index_or posts.senders j s).producer) ≡ true)
+HasEnded posts Gather = has_end (sent posts.gather.producer) ≡ true
+HasEnded posts Tape = has_end (received posts.tape.consumer) ≡ true
 
-abbrev pub AllEnded : World → Type 0
-AllEnded w = (post : Post) → IsThere w post → HasEnded w post
+abbrev pub AllEnded : Posts → Type 0
+AllEnded posts = (post : Post) → IsThere posts post → HasEnded posts post
+
+abbrev pub NoneEnded : Posts → Type 0
+NoneEnded posts = (post : Post) → HasEnded posts post → ⊥
 
 -- ---- a post that waits for an item
 -- a station holds nothing, and took all that was sent to it
@@ -68,43 +74,38 @@ GatherWaits senders g =
     received (slice_index_or g.consumers g.place c) ≡ sent (slice_index_or senders g.place s).producer)
 
 -- the post isn't there, or wants an item and its ring is empty
-abbrev pub Waits : World → Post → Type 0
-Waits w Feed = ⊥
-Waits w Pulse = StationWaits (sent w.feed.producer) w.pulse
-Waits w Register = StationWaits (sent w.pulse.producer) w.register
-Waits w Translate = StationWaits (sent w.register.producer) w.translate
-Waits w Deal = DealWaits (sent w.translate.producer) w.deal
-Waits w (Send j) = j < length w.senders → (p : Output (On Order)) (s : SenderPost) →
-    StationWaits (sent (slice_index_or w.deal.producers j p)) (slice_index_or w.senders j s)
-Waits w Gather = GatherWaits w.senders w.gather
-Waits w Tape = received w.tape.consumer ≡ sent w.gather.producer
+abbrev pub Waits : Posts → Post → Type 0
+Waits posts Feed = ⊥
+Waits posts Pulse = StationWaits (sent posts.feed.producer) posts.pulse
+Waits posts Register = StationWaits (sent posts.pulse.producer) posts.register
+Waits posts Translate = StationWaits (sent posts.register.producer) posts.translate
+Waits posts Deal = DealWaits (sent posts.translate.producer) posts.deal
+Waits posts (Send j) = j < length posts.senders → (p : Output (On Order)) (s : SenderPost) →
+    StationWaits (sent (slice_index_or posts.deal.producers j p)) (slice_index_or posts.senders j s)
+Waits posts Gather = GatherWaits posts.senders posts.gather
+Waits posts Tape = received posts.tape.consumer ≡ sent posts.gather.producer
 
 -- ---- a post that holds an item and knows of no room for it
 abbrev pub StationHasNoRoom : {S I O : Type 0} → StationPost S I O → Type 0
 StationHasNoRoom s = (s.pending ≢ []) × (known_free s.producer ≡ 0)
 
-abbrev pub HasNoRoom : World → Post → Type 0
-HasNoRoom w Feed = known_free w.feed.producer ≡ 0
-HasNoRoom w Pulse = StationHasNoRoom w.pulse
-HasNoRoom w Register = StationHasNoRoom w.register
-HasNoRoom w Translate = StationHasNoRoom w.translate
-HasNoRoom w Deal =
-    CanSend w.deal.held
-    × ((p : Output (On Order)) → known_free (slice_index_or w.deal.producers w.deal.place p) ≡ 0)
-HasNoRoom w (Send j) =
-    (j < length w.senders) × ((s : SenderPost) → StationHasNoRoom (slice_index_or w.senders j s))
-HasNoRoom w Gather = CanGather w.gather.held × (known_free w.gather.producer ≡ 0)
-HasNoRoom w Tape = ⊥
+abbrev pub HasNoRoom : Posts → Post → Type 0
+HasNoRoom posts Feed = known_free posts.feed.producer ≡ 0
+HasNoRoom posts Pulse = StationHasNoRoom posts.pulse
+HasNoRoom posts Register = StationHasNoRoom posts.register
+HasNoRoom posts Translate = StationHasNoRoom posts.translate
+HasNoRoom posts Deal =
+    CanSend posts.deal.held
+    × ((p : Output (On Order)) → known_free (slice_index_or posts.deal.producers posts.deal.place p) ≡ 0)
+HasNoRoom posts (Send j) =
+    (j < length posts.senders) × ((s : SenderPost) → StationHasNoRoom (slice_index_or posts.senders j s))
+HasNoRoom posts Gather = CanGather posts.gather.held × (known_free posts.gather.producer ≡ 0)
+HasNoRoom posts Tape = ⊥
 
 -- ---- no event of a post: nothing was received or sent, and what it holds is the same
 abbrev pub FeedStays : FeedPost → FeedPost → Type 0
 FeedStays old new =
     (new ≡ record old { producer = new.producer }) × (sent new.producer ≡ sent old.producer)
-
-abbrev pub StationStays : {S I O : Type 0} → StationPost S I O → StationPost S I O → Type 0
-StationStays old new =
-    (received new.consumer ≡ received old.consumer) × (sent new.producer ≡ sent old.producer)
-    × (new.pending ≡ old.pending)
 
 abbrev pub OutputsStay : List (Output (On Order)) → List (Output (On Order)) → Type 0
 OutputsStay old new =
@@ -126,7 +127,7 @@ abbrev pub TapeStays : TapePost → TapePost → Type 0
 TapeStays old new =
     (new ≡ record old { consumer = new.consumer }) × (received new.consumer ≡ received old.consumer)
 
-abbrev pub Stays : World → Post → World → Type 0
+abbrev pub Stays : Posts → Post → Posts → Type 0
 Stays old Feed new = FeedStays old.feed new.feed
 Stays old Pulse new = StationStays old.pulse new.pulse
 Stays old Register new = StationStays old.register new.register
@@ -138,7 +139,7 @@ Stays old Gather new = GatherStays old.gather new.gather
 Stays old Tape new = TapeStays old.tape new.tape
 
 -- no event of any other post
-abbrev pub OthersStay : World → Post → World → Type 0
+abbrev pub OthersStay : Posts → Post → Posts → Type 0
 OthersStay old post new = (other : Post) → other ≢ post → Stays old other new
 
 -- ---- one event of a post
@@ -186,7 +187,7 @@ GatherMoves senders old new =
     ⊎ ((y : Flow (On Mark)) × (map received new.consumers ≡ map received old.consumers)
     × (sent new.producer ≡ sent old.producer ++ y ∷ []) × CanGather old.held)
 
-abbrev pub Moves : World → Post → World → Type 0
+abbrev pub Moves : Posts → Post → Posts → Type 0
 Moves old Feed new = FeedMoves old.feed new.feed
 Moves old Pulse new = StationMoves (sent old.feed.producer) old.pulse new.pulse
 Moves old Register new = StationMoves (sent old.pulse.producer) old.register new.register
@@ -199,7 +200,7 @@ Moves old Gather new = GatherMoves old.senders old.gather new.gather
 Moves old Tape new = Takes (sent old.gather.producer) old.tape.consumer new.tape.consumer
 
 -- ---- one turn
-abbrev pub IsTurn : World → Post → Turn → World → Type 0
+abbrev pub IsTurn : Posts → Post → Turn → Posts → Type 0
 IsTurn old post Idle new = Waits old post × Stays old post new
 IsTurn old post Blocked new = HasNoRoom old post × Stays old post new
 IsTurn old post Moved new = Moves old post new
@@ -208,13 +209,13 @@ IsTurn old post Ended new = HasEnded old post × Stays old post new
 -- a turn that made this: what it did, and that nothing else changed
 pub record HasTurned (old : World) (post : Post) (turn : Turn) (new : World) : Type 0 where
   pub records : SameRecords old new
-  pub event : IsTurn old post turn new
-  pub ended : (turn ≡ Ended) ↔ HasEnded old post
-  pub others : OthersStay old post new
+  pub event : IsTurn old.posts post turn new.posts
+  pub ended : (turn ≡ Ended) ↔ HasEnded old.posts post
+  pub others : OthersStay old.posts post new.posts
 
 -- a turn of the tape station that ran out of memory: nothing changed
 pub record HasRefused (old new : World) : Type 0 where
   pub records : SameRecords old new
-  pub stays : Stays old Tape new
-  pub going : HasEnded old Tape → ⊥
-  pub others : OthersStay old Tape new
+  pub stays : Stays old.posts Tape new.posts
+  pub going : HasEnded old.posts Tape → ⊥
+  pub others : OthersStay old.posts Tape new.posts

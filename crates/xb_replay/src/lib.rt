@@ -1,7 +1,6 @@
 //! The posts and rings of the chain, held by one owner who says which post makes the next turn.
 #![tactic(auto)]
 
-mod branches;
 mod looks;
 mod replay;
 

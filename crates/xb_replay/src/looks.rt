@@ -2,7 +2,7 @@
 ghost use Rattle.std.specs.Prelude.{◌≡◌, length, vec_len};
 ghost use Rattle.xb_ring.specs.Rings.{ProducersLooked};
 ghost use Rattle.xb_replay.specs.Looks.{ArePairedOutputs, ArePairedInputs, AllInputsLooked, AllOutputsLooked, ConsumersLooked};
-ghost use Rattle.xb_replay.specs.World.{AreDealt, AreKeyed};
+ghost use Rattle.xb_chain.specs.Rings.{AreDealt, AreGathered};
 
 use xb_model::{Mark, On, Order};
 use xb_ring::{Deal, Gather, Station};
@@ -30,7 +30,7 @@ pub(crate) fn look_at_inputs(gather: &mut Gather<On<Mark>>, senders: &mut Vec<St
     ensures rest { gather.new ≡ record gather.old { consumers = gather.new.consumers } }
     ensures consumers { ConsumersLooked gather.old.consumers gather.new.consumers }
     ensures senders { AllOutputsLooked senders.old.items senders.new.items }
-    ensures rings { AreKeyed senders.new.items gather.new.consumers }
+    ensures rings { AreGathered senders.new.items gather.new.consumers }
 {
     for k in 0..senders.len() {
         let sender = &mut senders[k];

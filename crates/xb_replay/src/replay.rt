@@ -1,15 +1,11 @@
 // All posts with one owner.
-use crate::branches::link_branches;
 use crate::looks::{look_at_inputs, look_at_outputs};
 use std::alloc::{AllocError, Global};
 use std::marker::Model;
-use xb_model::{LineNo, Listed, Mark, On, Order, Row};
-use xb_posts::{Feed, TapeStation};
-use xb_pulse::Pulse;
-use xb_register::Register;
-use xb_ring::{Deal, Gather, Post, Station, Turn, link};
-use xb_routes::{RouteTable, Translate};
-use xb_sender::Sender;
+use xb_chain::Chain;
+use xb_model::{LineNo, Listed, Mark, Row};
+use xb_ring::{Post, Turn};
+use xb_routes::RouteTable;
 
 /// The posts and rings of the chain, held by one owner who says which post makes the next turn (own
 /// profile). Clauses see the rows and the route table, which it keeps by reference, and each post: what
@@ -18,17 +14,11 @@ use xb_sender::Sender;
 pub struct Replay<'a> {
     rows: &'a [Row],
     table: &'a RouteTable,
-    feed: Feed<Listed<'a>>,
-    pulse: Station<Pulse>,
-    register: Station<Register>,
-    translate: Station<Translate<'a>>,
-    deal: Deal<On<Order>>,
-    senders: Vec<Station<Sender>>,
-    gather: Gather<On<Mark>>,
-    tape: TapeStation,
+    chain: Chain<'a, Listed<'a>>,
 }
 
 impl<'a> Model for Replay<'a> {
+    ghost use Rattle.xb_chain.specs.Chains.{posts_of};
     ghost use Rattle.xb_replay.specs.World.{World, WorldLaw};
 
     ghost Value = { World };
@@ -36,27 +26,13 @@ impl<'a> Model for Replay<'a> {
     ghost view = { λ all. record {
       rows = all.rows.now;
       table = all.table.now;
-      feed = all.feed;
-      pulse = all.pulse;
-      register = all.register;
-      translate = all.translate;
-      deal = all.deal;
-      senders = all.senders.items;
-      gather = all.gather;
-      tape = all.tape;
+      posts = posts_of all.chain;
     } };
 
     ghost invariant = { λ all. WorldLaw (record {
       rows = all.rows.now;
       table = all.table.now;
-      feed = all.feed;
-      pulse = all.pulse;
-      register = all.register;
-      translate = all.translate;
-      deal = all.deal;
-      senders = all.senders.items;
-      gather = all.gather;
-      tape = all.tape;
+      posts = posts_of all.chain;
     }) };
 }
 
@@ -67,9 +43,10 @@ impl<'a> Replay<'a> {
     ghost use Rattle.xb_ring.specs.declared.ends.TheConstants.{GREATEST_CAPACITY};
     ghost use Rattle.xb_ring.specs.declared.post.Post.TheVariants as posts;
     ghost use Rattle.xb_ring.specs.declared.turn.Turn.TheVariants.{Idle, Ended};
-    ghost use Rattle.xb_replay.specs.Blank.{IsBlank};
+    ghost use Rattle.xb_chain.specs.Blank.{IsBlank};
+    ghost use Rattle.xb_chain.specs.Rings.{HaveRoom};
     ghost use Rattle.xb_replay.specs.Marks.{marks_of, whole_tape, ArePrefixes, AreWhole};
-    ghost use Rattle.xb_replay.specs.Turns.{SameRecords, Waits, HasEnded, AllEnded, Stays, OthersStay, IsTurn, HasTurned, HasRefused};
+    ghost use Rattle.xb_replay.specs.Turns.{SameRecords, Waits, HasEnded, AllEnded, NoneEnded, Stays, OthersStay, IsTurn, HasTurned, HasRefused};
     ghost use Rattle.xb_replay.specs.World.{WorldLaw};
 
     /// All posts, with 1 to 8 senders, on new rings with room for 1 to 1,024 items each. Nothing was
@@ -87,40 +64,15 @@ impl<'a> Replay<'a> {
         requires ring_most { ring ≤ GREATEST_CAPACITY }
         ensures rows { IfOk result (λ all. all.rows ≡ rows.now) }
         ensures table { IfOk result (λ all. all.table ≡ table.now) }
-        ensures senders { IfOk result (λ all. length all.senders ≡ senders) }
-        ensures blank { IfOk result (λ all. IsBlank all) }
+        ensures senders { IfOk result (λ all. length all.posts.senders ≡ senders) }
+        ensures room { IfOk result (λ all. HaveRoom ring all.posts) }
+        ensures blank { IfOk result (λ all. IsBlank all.posts) }
+        ensures going { IfOk result (λ all. NoneEnded all.posts) }
         ensures lawful { IfOk result (λ all. WorldLaw all) }
     {
-        let (row_output, row_input) = link(alloc, ring)?;
-        let (signal_output, signal_input) = link(alloc, ring)?;
-        let (dialled_output, dialled_input) = link(alloc, ring)?;
-        let (order_output, order_input) = link(alloc, ring)?;
-        let (mark_output, mark_input) = link(alloc, ring)?;
-        let all = link_branches(alloc, senders, ring)?;
-        let feed = Feed::new(alloc, Listed::new(rows), row_output)?;
-        let pulse = Station::new(alloc, Pulse::new(table.limits()), row_input, signal_output)?;
-        let register = Station::new(
-            alloc,
-            Register::new(table.plan()),
-            signal_input,
-            dialled_output,
-        )?;
-        let translate = Station::new(alloc, Translate::new(table), dialled_input, order_output)?;
-        let deal = Deal::new(order_input, all.outputs);
-        let gather = Gather::new(all.inputs, mark_output);
-        let tape = TapeStation::new(alloc, mark_input)?;
-        Ok(Replay {
-            rows,
-            table,
-            feed,
-            pulse,
-            register,
-            translate,
-            deal,
-            senders: all.senders,
-            gather,
-            tape,
-        })
+        let chain = Chain::link(alloc, Listed::new(rows), table, senders, ring)?;
+        let replay = Replay { rows, table, chain };
+        Ok(replay)
     }
 
     /// Makes one turn of a post, with a look at its rings before and after it: the very turn that its
@@ -128,12 +80,12 @@ impl<'a> Replay<'a> {
     /// then nothing changed, and its next turn tries again.
     pub fn turn(&mut self, post: Post) -> Result<Turn, AllocError>
         ensures records { SameRecords self.old self.new }
-        ensures event { IfOk result (λ turn. IsTurn self.old post turn self.new) }
-        ensures ended { (result ≡ Ok Ended) ↔ HasEnded self.old post }
+        ensures event { IfOk result (λ turn. IsTurn self.old.posts post turn self.new.posts) }
+        ensures ended { (result ≡ Ok Ended) ↔ HasEnded self.old.posts post }
         ensures idle { IfOk result (λ turn.
-            Waits self.old post → (HasEnded self.old post → ⊥) → turn ≡ Idle) }
-        ensures refused { OnErr result ((post ≡ posts.Tape) × Stays self.old post self.new) }
-        ensures others { OthersStay self.old post self.new }
+            Waits self.old.posts post → (HasEnded self.old.posts post → ⊥) → turn ≡ Idle) }
+        ensures refused { OnErr result ((post ≡ posts.Tape) × Stays self.old.posts post self.new.posts) }
+        ensures others { OthersStay self.old.posts post self.new.posts }
         ensures prefixes { ArePrefixes self.new }
         ensures lawful { WorldLaw self.new }
     {
@@ -161,29 +113,30 @@ impl<'a> Replay<'a> {
     pub fn marks(&self, line: LineNo) -> &[Mark]
         ensures value { result.now ≡ marks_of self.now line }
         ensures prefix { IsPrefix result.now (whole_tape self.now line) }
-        ensures whole { AllEnded self.now → result.now ≡ whole_tape self.now line }
+        ensures whole { AllEnded self.now.posts → result.now ≡ whole_tape self.now line }
     {
-        self.tape.marks(line)
+        self.chain.tape.marks(line)
     }
 
     /// Whether all posts have ended: each has sent its End, and the tape station has received its own.
     pub fn ended(&self) -> bool
-        ensures ended { IsTrue result ↔ AllEnded self.now }
+        ensures ended { IsTrue result ↔ AllEnded self.now.posts }
         ensures whole { IsTrue result → AreWhole self.now }
     {
-        self.tape.has_ended()
+        self.chain.tape.has_ended()
     }
 
     fn turn_feed(&mut self) -> Turn
         ensures turned { HasTurned self.old posts.Feed result self.new }
         ensures lawful { WorldLaw self.new }
     {
-        self.pulse.look(0, &mut self.feed, 0);
-        let turn = match self.feed.turn() {
+        let chain = &mut self.chain;
+        chain.pulse.look(0, &mut chain.feed, 0);
+        let turn = match chain.feed.turn() {
             Ok(turn) => turn,
             Err(_) => unreachable!(),
         };
-        self.pulse.look(0, &mut self.feed, 0);
+        chain.pulse.look(0, &mut chain.feed, 0);
         turn
     }
 
@@ -191,11 +144,12 @@ impl<'a> Replay<'a> {
         ensures turned { HasTurned self.old posts.Pulse result self.new }
         ensures lawful { WorldLaw self.new }
     {
-        self.pulse.look(0, &mut self.feed, 0);
-        self.register.look(0, &mut self.pulse, 0);
-        let turn = self.pulse.turn();
-        self.register.look(0, &mut self.pulse, 0);
-        self.pulse.look(0, &mut self.feed, 0);
+        let chain = &mut self.chain;
+        chain.pulse.look(0, &mut chain.feed, 0);
+        chain.register.look(0, &mut chain.pulse, 0);
+        let turn = chain.pulse.turn();
+        chain.register.look(0, &mut chain.pulse, 0);
+        chain.pulse.look(0, &mut chain.feed, 0);
         turn
     }
 
@@ -203,11 +157,12 @@ impl<'a> Replay<'a> {
         ensures turned { HasTurned self.old posts.Register result self.new }
         ensures lawful { WorldLaw self.new }
     {
-        self.register.look(0, &mut self.pulse, 0);
-        self.translate.look(0, &mut self.register, 0);
-        let turn = self.register.turn();
-        self.translate.look(0, &mut self.register, 0);
-        self.register.look(0, &mut self.pulse, 0);
+        let chain = &mut self.chain;
+        chain.register.look(0, &mut chain.pulse, 0);
+        chain.translate.look(0, &mut chain.register, 0);
+        let turn = chain.register.turn();
+        chain.translate.look(0, &mut chain.register, 0);
+        chain.register.look(0, &mut chain.pulse, 0);
         turn
     }
 
@@ -215,11 +170,12 @@ impl<'a> Replay<'a> {
         ensures turned { HasTurned self.old posts.Translate result self.new }
         ensures lawful { WorldLaw self.new }
     {
-        self.translate.look(0, &mut self.register, 0);
-        self.deal.look(0, &mut self.translate, 0);
-        let turn = self.translate.turn();
-        self.deal.look(0, &mut self.translate, 0);
-        self.translate.look(0, &mut self.register, 0);
+        let chain = &mut self.chain;
+        chain.translate.look(0, &mut chain.register, 0);
+        chain.deal.look(0, &mut chain.translate, 0);
+        let turn = chain.translate.turn();
+        chain.deal.look(0, &mut chain.translate, 0);
+        chain.translate.look(0, &mut chain.register, 0);
         turn
     }
 
@@ -227,11 +183,12 @@ impl<'a> Replay<'a> {
         ensures turned { HasTurned self.old posts.Deal result self.new }
         ensures lawful { WorldLaw self.new }
     {
-        self.deal.look(0, &mut self.translate, 0);
-        look_at_outputs(&mut self.deal, &mut self.senders);
-        let turn = self.deal.turn();
-        look_at_outputs(&mut self.deal, &mut self.senders);
-        self.deal.look(0, &mut self.translate, 0);
+        let chain = &mut self.chain;
+        chain.deal.look(0, &mut chain.translate, 0);
+        look_at_outputs(&mut chain.deal, &mut chain.senders);
+        let turn = chain.deal.turn();
+        look_at_outputs(&mut chain.deal, &mut chain.senders);
+        chain.deal.look(0, &mut chain.translate, 0);
         turn
     }
 
@@ -240,15 +197,16 @@ impl<'a> Replay<'a> {
         ensures turned { HasTurned self.old (posts.Send number) result self.new }
         ensures lawful { WorldLaw self.new }
     {
-        if number >= self.senders.len() {
+        if number >= self.chain.senders.len() {
             return Turn::Idle;
         }
-        let sender = &mut self.senders[number];
-        sender.look(0, &mut self.deal, number);
-        self.gather.look(number, sender, 0);
+        let chain = &mut self.chain;
+        let sender = &mut chain.senders[number];
+        sender.look(0, &mut chain.deal, number);
+        chain.gather.look(number, sender, 0);
         let turn = sender.turn();
-        self.gather.look(number, sender, 0);
-        sender.look(0, &mut self.deal, number);
+        chain.gather.look(number, sender, 0);
+        sender.look(0, &mut chain.deal, number);
         turn
     }
 
@@ -256,11 +214,12 @@ impl<'a> Replay<'a> {
         ensures turned { HasTurned self.old posts.Gather result self.new }
         ensures lawful { WorldLaw self.new }
     {
-        look_at_inputs(&mut self.gather, &mut self.senders);
-        self.tape.look(0, &mut self.gather, 0);
-        let turn = self.gather.turn();
-        self.tape.look(0, &mut self.gather, 0);
-        look_at_inputs(&mut self.gather, &mut self.senders);
+        let chain = &mut self.chain;
+        look_at_inputs(&mut chain.gather, &mut chain.senders);
+        chain.tape.look(0, &mut chain.gather, 0);
+        let turn = chain.gather.turn();
+        chain.tape.look(0, &mut chain.gather, 0);
+        look_at_inputs(&mut chain.gather, &mut chain.senders);
         turn
     }
 
@@ -269,9 +228,10 @@ impl<'a> Replay<'a> {
         ensures refused { OnErr result (HasRefused self.old self.new) }
         ensures lawful { WorldLaw self.new }
     {
-        self.tape.look(0, &mut self.gather, 0);
-        let turn = self.tape.turn();
-        self.tape.look(0, &mut self.gather, 0);
+        let chain = &mut self.chain;
+        chain.tape.look(0, &mut chain.gather, 0);
+        let turn = chain.tape.turn();
+        chain.tape.look(0, &mut chain.gather, 0);
         turn
     }
 }

@@ -9,10 +9,10 @@ pub returns-clause-prefix : goal.returns-clause-prefix
 returns-clause-prefix c =
     let law : WorldLaw c.args.self.now = subst WorldLaw c.self.view_is c.self.invariant in
     let marks : c.marks.result.now ≡ marks_of c.args.self.now c.args.line = c.marks.ensures.value ∙ ap (λ w. marks_of w c.args.line) c.self.view_is in
-    rw marks (tape-prefix c.args.self.now law.rings law.posts c.args.line c.marks.ensures.line)
+    rw marks (tape-prefix c.args.self.now law.links law.stages law.feed c.args.line c.marks.ensures.line)
 
 pub returns-clause-whole : goal.returns-clause-whole
 returns-clause-whole c =
     let law : WorldLaw c.args.self.now = subst WorldLaw c.self.view_is c.self.invariant in
     let marks : c.marks.result.now ≡ marks_of c.args.self.now c.args.line = c.marks.ensures.value ∙ ap (λ w. marks_of w c.args.line) c.self.view_is in
-    λ all. marks ∙ tape-whole c.args.self.now law.rings law.posts (all Tape tt) c.args.line c.marks.ensures.line
+    λ all. marks ∙ tape-whole c.args.self.now law.links law.stages law.feed (all Tape tt) c.args.line c.marks.ensures.line

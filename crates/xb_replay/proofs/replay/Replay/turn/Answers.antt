@@ -22,4 +22,4 @@ pub returns-clause-others : goal.returns-clause-others
 returns-clause-others c = turned-others c.args.self.now c.make_turn.new.self c.args.post c.make_turn.result c.make_turn.ensures.turned c.make_turn.ensures.refused
 
 pub returns-clause-prefixes : goal.returns-clause-prefixes
-returns-clause-prefixes c = let law = c.make_turn.ensures.lawful in tape-prefix c.make_turn.new.self law.rings law.posts
+returns-clause-prefixes c = let law = c.make_turn.ensures.lawful in tape-prefix c.make_turn.new.self law.links law.stages law.feed

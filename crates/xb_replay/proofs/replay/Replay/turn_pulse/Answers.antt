@@ -17,13 +17,13 @@ invariant_of-self c =
     let d = c.look-3.ensures in
     let e = c.look-4.ensures in
     world-pulse _ c.self.invariant c.look-4.new.up c.look-4.new.self c.look-3.new.self
-    (feed-on i.feed c.look.new.up c.look-4.new.up a.up.0 e.up.0)
+    (feed-on i.chain.feed c.look.new.up c.look-4.new.up a.up.0 e.up.0)
     (e.up.1.1 ∙ a.up.1.1)
     (one-ring _ _ e.ring)
     (mid-ring c.look-3.new.up c.look-4.new.self c.look-3.new.self.consumer e.rest (one-ring _ _ d.ring))
-    (mid-stage i.pulse c.look.new.self c.look-2.new.up c.turn-turn.new.self c.look-3.new.up c.look-4.new.self a.rest b.up.0 t.ends.0 d.up.0 e.rest)
+    (mid-stage i.chain.pulse c.look.new.self c.look-2.new.up c.turn-turn.new.self c.look-3.new.up c.look-4.new.self a.rest b.up.0 t.ends.0 d.up.0 e.rest)
     e.lawful
-    (input-on i.register c.look-2.new.self c.look-3.new.self (b.rest, b.consumer.1) (d.rest, d.consumer.1))
+    (input-on i.chain.register c.look-2.new.self c.look-3.new.self (b.rest, b.consumer.1) (d.rest, d.consumer.1))
 
 pub returns-clause-lawful : goal.returns-clause-lawful
 returns-clause-lawful c = invariant_of-self c
@@ -36,16 +36,16 @@ returns-clause-turned c =
     let t = c.turn-turn.ensures in
     let d = c.look-3.ensures in
     let e = c.look-4.ensures in
-    let ended = ended-same c.turn-turn.result Ended (sent i.pulse.producer) (sent c.look-2.new.up.producer) (b.up.1.1 ∙ ap (λ x. sent x.producer) a.rest) t.ended in
+    let ended = ended-same c.turn-turn.result Ended (sent i.chain.pulse.producer) (sent c.look-2.new.up.producer) (b.up.1.1 ∙ ap (λ x. sent x.producer) a.rest) t.ended in
     rw (← c.self.view_is) (has-turned _ _ posts.Pulse c.turn-turn.result (record { rows = refl; table = refl; senders = refl })
-    (station-turned i.feed.producer c.look.new.up.producer c.look-4.new.up.producer i.pulse c.look.new.self c.look-2.new.up c.turn-turn.new.self c.look-3.new.up c.look-4.new.self
+    (station-turned i.chain.feed.producer c.look.new.up.producer c.look-4.new.up.producer i.chain.pulse c.look.new.self c.look-2.new.up c.turn-turn.new.self c.look-3.new.up c.look-4.new.self
     (a.rest, a.consumer.1) (one-ring _ _ a.ring) a.up.1.1 (b.up.0, b.up.1) (d.up.0, d.up.1.1) (e.rest, e.consumer.1) (one-ring _ _ e.ring) (e.up.1.1 ∙ a.up.1.1)
     c.turn-turn.result t.event ended)
     ended
     (record {
-      feed = λ n. (feed-on i.feed c.look.new.up c.look-4.new.up a.up.0 e.up.0, e.up.1.1 ∙ a.up.1.1);
+      feed = λ n. (feed-on i.chain.feed c.look.new.up c.look-4.new.up a.up.0 e.up.0, e.up.1.1 ∙ a.up.1.1);
       pulse = λ n. absurd (n refl);
-      register = λ n. input-stays i.register c.look-3.new.self (input-on i.register c.look-2.new.self c.look-3.new.self (b.rest, b.consumer.1) (d.rest, d.consumer.1));
+      register = λ n. input-stays i.chain.register c.look-3.new.self (input-on i.chain.register c.look-2.new.self c.look-3.new.self (b.rest, b.consumer.1) (d.rest, d.consumer.1));
       translate = λ n. (refl, refl, refl);
       deal = λ n. (refl, (refl, λ j p h. refl), refl, refl);
       senders = λ j s n h. (refl, refl, refl);

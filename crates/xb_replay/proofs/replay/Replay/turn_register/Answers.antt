@@ -17,12 +17,12 @@ invariant_of-self c =
     let d = c.look-3.ensures in
     let e = c.look-4.ensures in
     world-register _ c.self.invariant c.look-4.new.up c.look-4.new.self c.look-3.new.self
-    (output-on i.pulse c.look.new.up c.look-4.new.up (a.up.0, a.up.1.1) (e.up.0, e.up.1.1))
+    (output-on i.chain.pulse c.look.new.up c.look-4.new.up (a.up.0, a.up.1.1) (e.up.0, e.up.1.1))
     (one-ring _ _ e.ring)
     (mid-ring c.look-3.new.up c.look-4.new.self c.look-3.new.self.consumer e.rest (one-ring _ _ d.ring))
-    (mid-stage i.register c.look.new.self c.look-2.new.up c.turn-turn.new.self c.look-3.new.up c.look-4.new.self a.rest b.up.0 t.ends.0 d.up.0 e.rest)
+    (mid-stage i.chain.register c.look.new.self c.look-2.new.up c.turn-turn.new.self c.look-3.new.up c.look-4.new.self a.rest b.up.0 t.ends.0 d.up.0 e.rest)
     e.lawful
-    (input-on i.translate c.look-2.new.self c.look-3.new.self (b.rest, b.consumer.1) (d.rest, d.consumer.1))
+    (input-on i.chain.translate c.look-2.new.self c.look-3.new.self (b.rest, b.consumer.1) (d.rest, d.consumer.1))
 
 pub returns-clause-lawful : goal.returns-clause-lawful
 returns-clause-lawful c = invariant_of-self c
@@ -35,17 +35,17 @@ returns-clause-turned c =
     let t = c.turn-turn.ensures in
     let d = c.look-3.ensures in
     let e = c.look-4.ensures in
-    let ended = ended-same c.turn-turn.result Ended (sent i.register.producer) (sent c.look-2.new.up.producer) (b.up.1.1 ∙ ap (λ x. sent x.producer) a.rest) t.ended in
+    let ended = ended-same c.turn-turn.result Ended (sent i.chain.register.producer) (sent c.look-2.new.up.producer) (b.up.1.1 ∙ ap (λ x. sent x.producer) a.rest) t.ended in
     rw (← c.self.view_is) (has-turned _ _ posts.Register c.turn-turn.result (record { rows = refl; table = refl; senders = refl })
-    (station-turned i.pulse.producer c.look.new.up.producer c.look-4.new.up.producer i.register c.look.new.self c.look-2.new.up c.turn-turn.new.self c.look-3.new.up c.look-4.new.self
+    (station-turned i.chain.pulse.producer c.look.new.up.producer c.look-4.new.up.producer i.chain.register c.look.new.self c.look-2.new.up c.turn-turn.new.self c.look-3.new.up c.look-4.new.self
     (a.rest, a.consumer.1) (one-ring _ _ a.ring) a.up.1.1 (b.up.0, b.up.1) (d.up.0, d.up.1.1) (e.rest, e.consumer.1) (one-ring _ _ e.ring) (e.up.1.1 ∙ a.up.1.1)
     c.turn-turn.result t.event ended)
     ended
     (record {
       feed = λ n. (refl, refl);
-      pulse = λ n. output-stays i.pulse c.look-4.new.up (output-on i.pulse c.look.new.up c.look-4.new.up (a.up.0, a.up.1.1) (e.up.0, e.up.1.1));
+      pulse = λ n. output-stays i.chain.pulse c.look-4.new.up (output-on i.chain.pulse c.look.new.up c.look-4.new.up (a.up.0, a.up.1.1) (e.up.0, e.up.1.1));
       register = λ n. absurd (n refl);
-      translate = λ n. input-stays i.translate c.look-3.new.self (input-on i.translate c.look-2.new.self c.look-3.new.self (b.rest, b.consumer.1) (d.rest, d.consumer.1));
+      translate = λ n. input-stays i.chain.translate c.look-3.new.self (input-on i.chain.translate c.look-2.new.self c.look-3.new.self (b.rest, b.consumer.1) (d.rest, d.consumer.1));
       deal = λ n. (refl, (refl, λ j p h. refl), refl, refl);
       senders = λ j s n h. (refl, refl, refl);
       gather = λ n. (refl, refl, refl, refl);

@@ -11,8 +11,8 @@ invariant_of-self c =
     let i = c.self.inside in
     let e = c.look.ensures in
     let f = c.look-2.ensures in
-    world-tape _ c.self.invariant c.look-2.new.up c.look-2.new.self (gather-on i.gather c.look.new.up c.look-2.new.up e.up.0 f.up.0) f.up.2 (one-ring _ _ f.ring) f.lawful
-    (tape-kept i.tape c.look.new.self c.turn-turn.new.self c.look-2.new.self e.rest f.rest c.turn-turn.result c.turn-turn.ensures.event c.self.invariant.posts.lost)
+    world-tape _ c.self.invariant c.look-2.new.up c.look-2.new.self (gather-on i.chain.gather c.look.new.up c.look-2.new.up e.up.0 f.up.0) f.up.2 (one-ring _ _ f.ring) f.lawful
+    (tape-kept i.chain.tape c.look.new.self c.turn-turn.new.self c.look-2.new.self e.rest f.rest c.turn-turn.result c.turn-turn.ensures.event c.self.invariant.stages.lost)
 
 pub returns-clause-lawful : goal.returns-clause-lawful
 returns-clause-lawful c = invariant_of-self c
@@ -22,9 +22,9 @@ returns-clause-turned c =
     let i = c.self.inside in
     let e = c.look.ensures in
     let f = c.look-2.ensures in
-    let ended = tape-ended i.gather.producer c.look.new.up.producer c.look-2.new.up.producer i.tape c.look.new.self c.turn-turn.new.self c.look-2.new.self
+    let ended = tape-ended i.chain.gather.producer c.look.new.up.producer c.look-2.new.up.producer i.chain.tape c.look.new.self c.turn-turn.new.self c.look-2.new.self
     (e.rest, e.consumer) (one-ring _ _ e.ring) e.up.1.1 (f.rest, f.consumer) (one-ring _ _ f.ring) (f.up.1.1 ∙ e.up.1.1) c.turn-turn.result c.turn-turn.ensures.ended in
-    let same = gather-on i.gather c.look.new.up c.look-2.new.up e.up.0 f.up.0 in
+    let same = gather-on i.chain.gather c.look.new.up c.look-2.new.up e.up.0 f.up.0 in
     rw (← c.self.view_is) (tape-has-turned _ _ (record { rows = refl; table = refl; senders = refl })
     (record {
       feed = λ n. (refl, refl);
@@ -37,7 +37,7 @@ returns-clause-turned c =
       tape = λ n. absurd (n refl);
     })
     c.turn-turn.result ended
-    (tape-turned i.gather.producer c.look.new.up.producer c.look-2.new.up.producer i.tape c.look.new.self c.turn-turn.new.self c.look-2.new.self
+    (tape-turned i.chain.gather.producer c.look.new.up.producer c.look-2.new.up.producer i.chain.tape c.look.new.self c.turn-turn.new.self c.look-2.new.self
     (e.rest, e.consumer) (one-ring _ _ e.ring) e.up.1.1 (f.rest, f.consumer) (one-ring _ _ f.ring) (f.up.1.1 ∙ e.up.1.1) c.turn-turn.result c.turn-turn.ensures.event ended))
 
 pub returns-clause-refused : goal.returns-clause-refused
@@ -45,9 +45,9 @@ returns-clause-refused c =
     let i = c.self.inside in
     let e = c.look.ensures in
     let f = c.look-2.ensures in
-    let ended = tape-ended i.gather.producer c.look.new.up.producer c.look-2.new.up.producer i.tape c.look.new.self c.turn-turn.new.self c.look-2.new.self
+    let ended = tape-ended i.chain.gather.producer c.look.new.up.producer c.look-2.new.up.producer i.chain.tape c.look.new.self c.turn-turn.new.self c.look-2.new.self
     (e.rest, e.consumer) (one-ring _ _ e.ring) e.up.1.1 (f.rest, f.consumer) (one-ring _ _ f.ring) (f.up.1.1 ∙ e.up.1.1) c.turn-turn.result c.turn-turn.ensures.ended in
-    let same = gather-on i.gather c.look.new.up c.look-2.new.up e.up.0 f.up.0 in
+    let same = gather-on i.chain.gather c.look.new.up c.look-2.new.up e.up.0 f.up.0 in
     rw (← c.self.view_is) (tape-has-refused _ _ (record { rows = refl; table = refl; senders = refl })
     (record {
       feed = λ n. (refl, refl);
@@ -60,5 +60,5 @@ returns-clause-refused c =
       tape = λ n. absurd (n refl);
     })
     c.turn-turn.result ended
-    (tape-refused i.gather.producer c.look.new.up.producer c.look-2.new.up.producer i.tape c.look.new.self c.turn-turn.new.self c.look-2.new.self
+    (tape-refused i.chain.gather.producer c.look.new.up.producer c.look-2.new.up.producer i.chain.tape c.look.new.self c.turn-turn.new.self c.look-2.new.self
     (e.rest, e.consumer) (one-ring _ _ e.ring) e.up.1.1 (f.rest, f.consumer) (one-ring _ _ f.ring) (f.up.1.1 ∙ e.up.1.1) c.turn-turn.result c.turn-turn.ensures.event))
