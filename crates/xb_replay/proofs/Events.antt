@@ -12,10 +12,11 @@ use Rattle.xb_ring.specs.declared.turn.Turn.TheVariants.{Idle, Blocked, Moved, E
 use Rattle.xb_ring.specs.Flows.{has_end}
 use Rattle.xb_ring.specs.Rings.{IsRing}
 use Rattle.xb_ring.specs.Stations.{IsStationTurn, Stays as StationStays}
-use Rattle.xb_posts.specs.Feeds.{IsFeedTurn}
+use Rattle.xb_posts.specs.Feeds.{IsFeedTurn, HasMoved, SendsHeld, TakesAhead}
+use Rattle.xb_posts.specs.Fillings.{held_with}
 use Rattle.xb_posts.specs.TapeStations.{IsTapeTurn}
 use Rattle.xb_replay.specs.Looks.{InputLooked, OutputLooked}
-use Rattle.xb_replay.specs.Turns.{FeedStays, FeedMoves, StationWaits, StationHasNoRoom, StationMoves, TapeStays, Takes, Waits, HasNoRoom, Moves, HasEnded, Stays, IsTurn}
+use Rattle.xb_replay.specs.Turns.{FeedStays, StationWaits, StationHasNoRoom, StationMoves, TapeStays, Takes, Waits, HasNoRoom, Moves, HasEnded, Stays, IsTurn}
 use Rattle.xb_chain.specs.Posts.{Input, Output, FeedPost, StationPost, SenderPost, TapePost, Posts}
 use Rattle.xb_replay.proofs.LookSteps.{feed-on}
 
@@ -147,7 +148,7 @@ sender-turned old new j there Ended t = ((there, λ s. (t old.translate.producer
 
 -- ---- the feed
 abbrev pub FeedTurned : FeedPost → FeedPost → Turn → Type 0
-FeedTurned old new = Turned ⊥ (known_free old.producer ≡ 0) (FeedMoves old new) (has_end (sent old.producer) ≡ true) (FeedStays old new)
+FeedTurned old new = Turned ⊥ (known_free old.producer ≡ 0) (HasMoved old new) (has_end (sent old.producer) ≡ true) (FeedStays old new)
 
 module _ (a b c d : FeedPost) (ab : (b ≡ record a { producer = b.producer }) × ProducerLooked a.producer b.producer)
     (cd : (d ≡ record c { producer = d.producer }) × ProducerLooked c.producer d.producer) where
@@ -164,7 +165,16 @@ module _ (a b c d : FeedPost) (ab : (b ≡ record a { producer = b.producer }) �
   pub feed-turned : (turn : Turn) → IsFeedTurn b (Ok turn) c → (turn ≡ Ended) ↔ (has_end (sent a.producer) ≡ true) → FeedTurned a d turn
   feed-turned Idle t h = absurd t
   feed-turned Blocked t h = (no_room a.producer a.producer b.producer refl ab.1 t.2, feed-stays t.0 t.1.1)
-  feed-turned Moved t h = (t.items, cd.1.1 ∙ (t.sends ∙ ap (λ zs. zs ++ t.items) ab.1.1), t.event)
+  feed-turned Moved t h = record {
+    taken = t.taken;
+    takes = subst (λ (z : FeedPost). TakesAhead a t.taken z) (sym cd.0) (subst (λ (z : FeedPost). TakesAhead z t.taken c) ab.0 t.takes);
+    items = t.items;
+    sends = cd.1.1 ∙ (t.sends ∙ ap (λ zs. zs ++ t.items) ab.1.1);
+    event = t.event;
+    held =
+        subst (λ (z : FeedPost). SendsHeld (held_with a.held a.uses t.taken) t.items z.held) (sym cd.0)
+        (subst (λ (z : FeedPost). SendsHeld (held_with z.held z.uses t.taken) t.items c.held) ab.0 t.held);
+  }
   feed-turned Ended t h = (
     h.0 refl,
     feed-stays (subst (λ z. c ≡ record z { producer = c.producer }) t refl) (ap (λ (f : FeedPost). sent f.producer) t),

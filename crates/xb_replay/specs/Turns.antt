@@ -6,7 +6,6 @@ use Rattle.rtrb.specs.Ring.{sent, received, known_free}
 use Rattle.xb_model.specs.declared.mark.Mark.{Mark}
 use Rattle.xb_model.specs.declared.on.On.{On}
 use Rattle.xb_model.specs.declared.order.Order.{Order}
-use Rattle.xb_model.specs.Rows.{LoopRow}
 use Rattle.xb_ring.specs.declared.flow.Flow.{Flow}
 use Rattle.xb_ring.specs.declared.held.Held.TheVariants.{Nothing}
 use Rattle.xb_ring.specs.declared.post.Post.{Post}
@@ -18,7 +17,7 @@ use Rattle.xb_ring.specs.Flows.{has_end}
 use Rattle.xb_ring.specs.GatherSteps.{Awaits, CanGather}
 use Rattle.xb_ring.specs.Gathers.{TakesAt}
 use Rattle.xb_ring.specs.Stations.{Stays as StationStays}
-use Rattle.xb_posts.specs.Feeds.{IsOnePush}
+use Rattle.xb_posts.specs.Feeds.{HasMoved}
 use Rattle.xb_chain.specs.Posts.{Input, Output, FeedPost, StationPost, SenderPost, DealPost, GatherPost, TapePost, Posts}
 use Rattle.xb_replay.specs.World.{World}
 
@@ -142,17 +141,12 @@ Stays old Tape new = TapeStays old.tape new.tape
 abbrev pub OthersStay : Posts → Post → Posts → Type 0
 OthersStay old post new = (other : Post) → other ≢ post → Stays old other new
 
--- ---- one event of a post
+-- ---- one event of a post; that of the feed is said by HasMoved
 -- the first item that was sent and not received was received
 abbrev pub Takes : {T : Type 0} → List (Flow T) → Input T → Input T → Type 0
 Takes {T} sent_to old new =
     (x : Flow T) × (rest : List (Flow T)) × (sent_to ≡ received old ++ x ∷ rest)
     × (received new ≡ received old ++ x ∷ [])
-
--- one item was sent, or a slice of rows
-abbrev pub FeedMoves : FeedPost → FeedPost → Type 0
-FeedMoves old new =
-    (items : List (Flow LoopRow)) × (sent new.producer ≡ sent old.producer ++ items) × IsOnePush items
 
 -- a station that held nothing took an item, or it sent the first that it held
 abbrev pub StationMoves : {S I O : Type 0} → List (Flow I) → StationPost S I O → StationPost S I O → Type 0
@@ -188,7 +182,7 @@ GatherMoves senders old new =
     × (sent new.producer ≡ sent old.producer ++ y ∷ []) × CanGather old.held)
 
 abbrev pub Moves : Posts → Post → Posts → Type 0
-Moves old Feed new = FeedMoves old.feed new.feed
+Moves old Feed new = HasMoved old.feed new.feed
 Moves old Pulse new = StationMoves (sent old.feed.producer) old.pulse new.pulse
 Moves old Register new = StationMoves (sent old.pulse.producer) old.register new.register
 Moves old Translate new = StationMoves (sent old.register.producer) old.translate new.translate
