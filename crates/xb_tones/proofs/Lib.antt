@@ -1,0 +1,11 @@
+pub mod SineTables
+pub mod Silences
+pub mod Places
+pub mod Insides
+pub mod KeyWaves
+pub mod HeardMarks
+pub mod ClearKeys
+pub mod Levels
+pub mod ReadWavs
+pub mod TapeKeys
+pub mod Beginnings
