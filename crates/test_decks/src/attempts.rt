@@ -29,7 +29,7 @@ pub const OPERATOR_CALL: Worked = Worked {
 /// A number of seven digits is dialled.
 pub const SEVEN_DIGITS: Worked = Worked {
     name: "seven_digits",
-    lines: &[(7, "M500 #2 #3 #4 #5 #6 #7 #8")],
+    lines: &[(7, DIALS_SEVEN)],
     page: &["0007 1 SEVEN_DIGITS", "KEYED 1 REFUSED 0"],
 };
 
@@ -41,6 +41,31 @@ pub const SECOND_CALL: Worked = Worked {
         "0003 1 OPERATOR",
         "0003 2 SERVICE_CODE",
         "KEYED 2 REFUSED 0",
+    ],
+};
+
+// The pieces of a number of seven digits.
+const DIALS_SEVEN: &str = "M500 #2 #3 #4 #5 #6 #7 #8";
+
+/// Six lines dial seven digits each: 426 rows, and 54 marks.
+pub const SIX_CALLS: Worked = Worked {
+    name: "six_calls",
+    lines: &[
+        (1, DIALS_SEVEN),
+        (2, DIALS_SEVEN),
+        (3, DIALS_SEVEN),
+        (4, DIALS_SEVEN),
+        (5, DIALS_SEVEN),
+        (6, DIALS_SEVEN),
+    ],
+    page: &[
+        "0001 1 SEVEN_DIGITS",
+        "0002 1 SEVEN_DIGITS",
+        "0003 1 SEVEN_DIGITS",
+        "0004 1 SEVEN_DIGITS",
+        "0005 1 SEVEN_DIGITS",
+        "0006 1 SEVEN_DIGITS",
+        "KEYED 6 REFUSED 0",
     ],
 };
 

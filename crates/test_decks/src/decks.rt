@@ -111,3 +111,9 @@ pub fn page_of(alloc: Global, lines: &[&str]) -> Result<String, Fail> {
     }
     Ok(page)
 }
+
+/// Whether this is the page of its short form.
+pub fn is_page(alloc: Global, written: &[u8], lines: &[&str]) -> Result<bool, Fail> {
+    let wanted = page_of(alloc, lines)?;
+    Ok(written == wanted.as_bytes())
+}

@@ -16,27 +16,29 @@ const MAKE: u32 = 40;
 /// The make after a digit, in ms.
 const PAUSE: u32 = 600;
 
-fn push(rows: &mut Vec<Row>, line: LineNo, contact: Contact, ms: u32) -> Result<(), Fail> {
+/// A row of the line.
+pub fn push_row(rows: &mut Vec<Row>, line: LineNo, contact: Contact, ms: u32) -> Result<(), Fail> {
     rows.push(Row::new(line, contact, ms).ok_or("a row that is none")?)?;
     Ok(())
 }
 
-// So many breaks, and the make after the last.
-fn push_train(rows: &mut Vec<Row>, line: LineNo, breaks: u32, last: u32) -> Result<(), Fail> {
+/// So many breaks, and the make after the last.
+pub fn push_train(rows: &mut Vec<Row>, line: LineNo, breaks: u32, last: u32) -> Result<(), Fail> {
     for n in 0..breaks {
-        push(rows, line, Contact::Brk, BREAK)?;
+        push_row(rows, line, Contact::Brk, BREAK)?;
         if n + 1 < breaks {
-            push(rows, line, Contact::Make, MAKE)?;
+            push_row(rows, line, Contact::Make, MAKE)?;
         }
     }
-    push(rows, line, Contact::Make, last)
+    push_row(rows, line, Contact::Make, last)
 }
 
-fn push_piece(rows: &mut Vec<Row>, line: LineNo, piece: &str) -> Result<(), Fail> {
+/// The rows of a piece.
+pub fn push_piece(rows: &mut Vec<Row>, line: LineNo, piece: &str) -> Result<(), Fail> {
     if let Some(ms) = piece.strip_prefix('M') {
-        push(rows, line, Contact::Make, ms.parse::<u32>()?)
+        push_row(rows, line, Contact::Make, ms.parse::<u32>()?)
     } else if let Some(ms) = piece.strip_prefix('B') {
-        push(rows, line, Contact::Brk, ms.parse::<u32>()?)
+        push_row(rows, line, Contact::Brk, ms.parse::<u32>()?)
     } else if let Some(digit) = piece.strip_prefix('#') {
         let breaks = match digit.parse::<u32>()? {
             0 => 10,
@@ -49,7 +51,7 @@ fn push_piece(rows: &mut Vec<Row>, line: LineNo, piece: &str) -> Result<(), Fail
             .ok_or("a train without its last make")?;
         push_train(rows, line, breaks.parse::<u32>()?, last.parse::<u32>()?)
     } else if piece == "C" {
-        push(rows, line, Contact::Close, 0)
+        push_row(rows, line, Contact::Close, 0)
     } else {
         Err(Fail::from("a piece that is none"))
     }

@@ -1,7 +1,7 @@
 // Gates that hold one post until another has come so far: the posts run at the same time.
 ghost use Rattle.std.specs.Prelude.{◌≤◌, false, None};
 
-use crate::decks::{are_same, six_calls, table};
+use crate::calls::{Calls, calls_of, check_page, run_on};
 use std::alloc::Global;
 use std::process::Abort;
 use std::sync::Wait;
@@ -10,7 +10,8 @@ use std::test::Fail;
 use std::thread;
 use std::thread::Threads;
 use std::time::Clock;
-use xb_bank::{Gate, Listed, MOST_BRANCHES, Post, RowSource, key_serial, run};
+use test_decks::attempts::SIX_CALLS;
+use xb_bank::{Gate, Listed, MOST_BRANCHES, Post, RowSource};
 use xb_model::{Row, RowFault};
 
 /// How often a gate, or a source, looks at most.
@@ -63,24 +64,23 @@ impl Gate for Holding {
     }
 }
 
-// Under the gate the posts give the tapes of one thread, and the gate never let go by itself.
+// Under the gate the posts give the page of six calls, and the gate never let go by itself.
 fn check_held<R: Threads + Wait + Clock + Abort + Sync>(
     rt: &R,
     alloc: Global,
     senders: usize,
     gate: &Holding,
 ) -> Result<(), Fail>
-    requires least { 1 ≤ senders }
-    requires most { senders ≤ MOST_BRANCHES }
+    requires senders { (1 ≤ senders) × (senders ≤ MOST_BRANCHES) }
 {
-    let rows = six_calls(rt, alloc)?;
-    let table = table(rt, alloc);
-    let wanted = key_serial(alloc, &rows, &table)?;
-    let tapes = run(rt, alloc, Listed::new(&rows), &table, senders, 1_024, gate);
-    let tapes = tapes.ok().ok_or("no tapes")?;
-    assert!(rt; are_same(rt, &tapes, &wanted));
+    let calls = calls_of(alloc, &SIX_CALLS)?;
+    let source = Listed::new(&calls.rows);
+    let tapes = run_on(rt, alloc, source, &calls.table, senders, 1_024, gate);
     assert_eq!(rt; gate.let_go.load(Ordering::SeqCst), 0);
-    Ok(())
+    match tapes {
+        Ok(tapes) => check_page(rt, alloc, &tapes, SIX_CALLS.page),
+        Err(_) => Err(Fail::from("no tapes")),
+    }
 }
 
 #[test]
@@ -152,24 +152,34 @@ impl<'a> RowSource for Waiting<'a> {
 }
 
 // Five lines give 45 marks before the sixth has dialled its number, and no more.
-#[test]
-fn the_source_waits_for_the_tape(rt: HostRuntime) -> Result<(), Fail> {
-    let alloc = rt.alloc();
-    let rows = six_calls(&rt, alloc)?;
-    let table = table(&rt, alloc);
-    let wanted = key_serial(alloc, &rows, &table)?;
+fn check_waiting<R: Threads + Wait + Clock + Abort + Sync>(
+    rt: &R,
+    alloc: Global,
+    calls: &Calls,
+    senders: usize,
+) -> Result<(), Fail>
+    requires senders { (1 ≤ senders) × (senders ≤ MOST_BRANCHES) }
+{
     let (tape, then) = (AtomicU64::new(0), AtomicU64::new(0));
     let source = Waiting {
-        rows: &rows,
+        rows: &calls.rows,
         given: 0,
         tape: &tape,
         then: &then,
     };
     let gate = Watching { tape: &tape };
-    let tapes = run(&rt, alloc, source, &table, 4, 1_024, &gate);
-    let tapes = tapes.ok().ok_or("no tapes")?;
-    assert!(rt; are_same(&rt, &tapes, &wanted));
-    assert_eq!(rt; then.load(Ordering::SeqCst), 45);
-    assert_eq!(rt; tape.load(Ordering::SeqCst), 54);
-    Ok(())
+    let tapes = run_on(rt, alloc, source, &calls.table, senders, 1_024, &gate);
+    assert_eq!(rt; then.load(Ordering::SeqCst), 45, "{senders} senders");
+    assert_eq!(rt; tape.load(Ordering::SeqCst), 54, "{senders} senders");
+    match tapes {
+        Ok(tapes) => check_page(rt, alloc, &tapes, SIX_CALLS.page),
+        Err(_) => Err(Fail::from("no tapes")),
+    }
+}
+
+#[test]
+fn the_source_waits_for_the_tape(rt: HostRuntime) -> Result<(), Fail> {
+    let calls = calls_of(rt.alloc(), &SIX_CALLS)?;
+    check_waiting(&rt, rt.alloc(), &calls, 1)?;
+    check_waiting(&rt, rt.alloc(), &calls, 4)
 }

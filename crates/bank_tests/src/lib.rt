@@ -1,18 +1,20 @@
 //! Trials of `run`: gates that hold posts or refuse their start, sources that stop, and random decks beside
 //! the chain on one thread.
 //!
-//! Tests alone, beside `xb_bank`: in it, they would have all of it proved once more.
+//! Tests alone, in a crate of their own: in that of `run`, they would have all of it proved once more.
 #![tactic(auto)]
 
 #[cfg(test)]
-mod counts;
+mod calls;
 #[cfg(test)]
-mod decks;
+mod counts;
 #[cfg(test)]
 mod faults;
 #[cfg(test)]
 mod gates;
 #[cfg(test)]
 mod soak;
+#[cfg(test)]
+mod sources;
 #[cfg(test)]
 mod starts;
