@@ -6,8 +6,6 @@ pub mod laws;
 mod pulse;
 mod state;
 mod step;
-#[cfg(test)]
-mod tests;
 
 pub use pulse::Pulse;
 pub use state::PulseState;

@@ -6,8 +6,6 @@ mod register;
 mod state;
 mod step;
 mod stored;
-#[cfg(test)]
-mod tests;
 
 pub use register::Register;
 pub use state::RegisterState;

@@ -18,8 +18,6 @@ mod post;
 mod sends;
 mod states;
 mod station;
-#[cfg(test)]
-mod tests;
 mod turn;
 
 pub use branches::MOST_BRANCHES;

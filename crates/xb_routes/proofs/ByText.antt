@@ -9,30 +9,12 @@ use Rattle.xb_routes.specs.declared.fault.RouteFault.{RouteFault}
 use Rattle.xb_routes.specs.declared.fault.RouteFault.TheVariants as fault
 use Rattle.xb_routes.specs.Table.{Table}
 use Rattle.xb_routes.specs.PlanAndLimits.{limits_of, plan_of}
-use Rattle.xb_routes.specs.Steps.{and_then, or_fault}
+use Rattle.xb_routes.specs.Steps.{and_then}
 use Rattle.xb_routes.specs.Text.{route_items, routes_of_array, table_by, table_of_text, table_of_tree, tree_of}
 use Rattle.xb_routes.specs.ByItem.{IsFaultAfterPlan, IsFaultOfRoutes, IsFaultOfText, IsFaultOfTree, Writes}
 use Rattle.xb_routes.proofs.ByItem.{accepted, refused-by}
-
-module _ (A B : Type 0) where
-  -- what two steps give, and what stops the first or the second
-  both : (r : Result A RouteFault) (next : A → Result B RouteFault) (y : B) → and_then r next ≡ Ok y → (x : A) × (r ≡ Ok x) × (next x ≡ Ok y)
-  both (Err f) next y e = absurd (cc)
-  both (Ok x) next y e = (x, refl, e)
-
-  either : (r : Result A RouteFault) (next : A → Result B RouteFault) (f : RouteFault) → and_then r next ≡ Err f
-      → (r ≡ Err f) ⊎ ((x : A) × (r ≡ Ok x) × (next x ≡ Err f))
-  either (Err g) next f e = inl (cc)
-  either (Ok x) next f e = inr (x, refl, e)
-
-  both-option : (g : RouteFault) (o : Option A) (next : A → Result B RouteFault) (y : B) → or_fault g o next ≡ Ok y → (x : A) × (o ≡ Some x) × (next x ≡ Ok y)
-  both-option g None next y e = absurd (cc)
-  both-option g (Some x) next y e = (x, refl, e)
-
-  either-option : (g : RouteFault) (o : Option A) (next : A → Result B RouteFault) (f : RouteFault) → or_fault g o next ≡ Err f
-      → ((o ≡ None) × (f ≡ g)) ⊎ ((x : A) × (o ≡ Some x) × (next x ≡ Err f))
-  either-option g None next f e = inl (refl, cc)
-  either-option g (Some x) next f e = inr (x, refl, e)
+use Rattle.xb_routes.proofs.ByKey.{limits-accepted, limits-refused}
+use Rattle.xb_routes.proofs.Steps.{both, both-option, either, either-option}
 
 -- what stands at the key `route` of a tree
 abbrev routes_at : Members → Result Items RouteFault
@@ -60,8 +42,9 @@ text-accepted text table = (to, from)
   where
     from : Writes text table → table_of_text text ≡ Ok table
     from w =
+        let limits = (limits-accepted (get_member (codes "limits") w.tree) table.limits).1 w.limits in
         let routes = (accepted table.plan w.items table.routes).1 w.routes in
-        rw (w.toml, w.plan, w.limits, w.array, routes) refl
+        rw (w.toml, w.plan, limits, w.array, routes) refl
 
     to : table_of_text text ≡ Ok table → Writes text table
     to e =
@@ -76,7 +59,7 @@ text-accepted text table = (to, from)
           items = i.0;
           toml = t.1;
           plan = p.1;
-          limits = l.1;
+          limits = (limits-accepted (get_member (codes "limits") t.0) l.0).0 l.1;
           array = i.1;
           routes = (accepted p.0 i.0 r.0).0 i.2;
         })
@@ -88,11 +71,16 @@ text-refused text f = (to, from)
     from : IsFaultOfText text f → table_of_text text ≡ Err f
     from (inl none) = rw none.0 (ap (λ g. Err g) (sym none.1))
     from (inr (tree, toml, inl none)) = rw (toml, none.0) (ap (λ g. Err g) (sym none.1))
-    from (inr (tree, toml, inr (plan, is, inl limits))) = rw (toml, is, limits) refl
-    from (inr (tree, toml, inr (plan, is, inr (limits, has, inl array)))) = rw (toml, is, has, array) refl
+    from (inr (tree, toml, inr (plan, is, inl limits))) =
+        let refused = (limits-refused (get_member (codes "limits") tree) f).1 limits in
+        rw (toml, is, refused) refl
+    from (inr (tree, toml, inr (plan, is, inr (limits, has, inl array)))) =
+        let given = (limits-accepted (get_member (codes "limits") tree) limits).1 has in
+        rw (toml, is, given, array) refl
     from (inr (tree, toml, inr (plan, is, inr (limits, has, inr (items, array, why))))) =
+        let given = (limits-accepted (get_member (codes "limits") tree) limits).1 has in
         let routes = (refused-by plan items f).1 why in
-        rw (toml, is, has, array, routes) refl
+        rw (toml, is, given, array, routes) refl
 
     of-routes : (plan : Plan) (tree : Members) (limits : Limits) → with_limits plan tree limits ≡ Err f → IsFaultOfRoutes plan tree f
     of-routes plan tree limits e = by (either (List CodedRoute) Table (routes_by plan tree) (λ routes. Ok (table_by routes plan limits)) f e)
@@ -110,8 +98,9 @@ text-refused text f = (to, from)
     after-plan plan tree e = by (either Limits Table (limits_at tree) (with_limits plan tree) f e)
       where
         by : (limits_at tree ≡ Err f) ⊎ ((limits : Limits) × (limits_at tree ≡ Ok limits) × (with_limits plan tree limits ≡ Err f)) → IsFaultAfterPlan plan tree f
-        by (inl why) = inl why
-        by (inr (limits, has, why)) = inr (limits, has, of-routes plan tree limits why)
+        by (inl why) = inl ((limits-refused (get_member (codes "limits") tree) f).0 why)
+        by (inr (limits, has, why)) =
+            inr (limits, (limits-accepted (get_member (codes "limits") tree) limits).0 has, of-routes plan tree limits why)
 
     of-tree : (tree : Members) → table_of_tree tree ≡ Err f → IsFaultOfTree tree f
     of-tree tree e = by (either-option Plan Table fault.Plan (plan_at tree) (with_plan tree) f e)

@@ -6,5 +6,7 @@ pub mod Longest
 pub mod Reading
 pub mod Translating
 pub mod Items
+pub mod Steps
+pub mod ByKey
 pub mod ByItem
 pub mod ByText

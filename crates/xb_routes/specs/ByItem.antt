@@ -9,7 +9,8 @@ use Rattle.xb_routes.specs.declared.fault.RouteFault.{RouteFault}
 use Rattle.xb_routes.specs.declared.fault.RouteFault.TheVariants as fault
 use Rattle.xb_routes.specs.declared.table.TheConstants.{MOST_ROUTES}
 use Rattle.xb_routes.specs.Keys.{keys_of}
-use Rattle.xb_routes.specs.PlanAndLimits.{limits_of, plan_of}
+use Rattle.xb_routes.specs.ByKey.{AreLimitsAt, IsFaultOfLimits}
+use Rattle.xb_routes.specs.PlanAndLimits.{plan_of}
 use Rattle.xb_routes.specs.Table.{Table}
 use Rattle.xb_routes.specs.Text.{count, route_items, route_of, tree_of}
 
@@ -66,7 +67,7 @@ pub record Writes (text : List ℕ) (table : Table) : Type 0 where
   pub items : Items
   pub toml : tree_of text ≡ Some tree
   pub plan : plan_of (get_member (codes "plan") tree) ≡ Some table.plan
-  pub limits : limits_of (get_member (codes "limits") tree) ≡ Ok table.limits
+  pub limits : AreLimitsAt (get_member (codes "limits") tree) table.limits
   pub array : route_items (get_member (codes "route") tree) ≡ Ok items
   pub routes : AreRoutesOf table.plan items table.routes
 
@@ -80,8 +81,8 @@ IsFaultOfRoutes plan tree f =
 -- why a tree is refused whose plan is known: by its limits, or else by its routes
 abbrev pub IsFaultAfterPlan : Plan → Members → RouteFault → Type 0
 IsFaultAfterPlan plan tree f =
-    (limits_of (get_member (codes "limits") tree) ≡ Err f)
-    ⊎ ((limits : Limits) × (limits_of (get_member (codes "limits") tree) ≡ Ok limits)
+    IsFaultOfLimits (get_member (codes "limits") tree) f
+    ⊎ ((limits : Limits) × AreLimitsAt (get_member (codes "limits") tree) limits
     × IsFaultOfRoutes plan tree f)
 
 -- why a tree is refused: by its plan, or else by what comes after

@@ -7,5 +7,6 @@ pub mod Text
 pub mod Coded
 pub mod Places
 pub mod Machine
+pub mod ByKey
 pub mod ByItem
 pub mod Worked

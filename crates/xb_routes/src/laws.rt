@@ -1,12 +1,15 @@
 //! Laws of route tables: functions that do nothing, each with a theorem as its contract.
-ghost use Rattle.std.specs.Prelude.{◌≡◌, ◌<◌, ◌↔◌, ℕ, List, Ok, Err};
-ghost use Rattle.toml.specs.Data.{Items};
+ghost use Rattle.std.specs.Prelude.{◌≡◌, ◌<◌, ◌↔◌, ℕ, List, Option, Ok, Err};
+ghost use Rattle.toml.specs.Data.{Data, Items};
+ghost use Rattle.xb_model.specs.declared.limits.Limits.{Limits};
 ghost use Rattle.xb_model.specs.declared.plan.Plan.{Plan};
 ghost use Rattle.xb_model.specs.Routing.{CodedRoute};
 ghost use Rattle.xb_routes.specs.declared.fault.RouteFault.{RouteFault};
 ghost use Rattle.xb_routes.specs.declared.fault.RouteFault.TheVariants.{TooMany};
 ghost use Rattle.xb_routes.specs.declared.table.TheConstants.{MOST_ROUTES};
 ghost use Rattle.xb_routes.specs.ByItem.{AreRoutesOf, IsFaultOfItems, IsFaultOfText, Writes};
+ghost use Rattle.xb_routes.specs.ByKey.{AreLimitsAt, IsFaultOfLimits};
+ghost use Rattle.xb_routes.specs.PlanAndLimits.{limits_of};
 ghost use Rattle.xb_routes.specs.Table.{Table};
 ghost use Rattle.xb_routes.specs.Text.{count, routes_of_array, table_of_text};
 ghost use Rattle.xb_routes.specs.Worked.{LooksUp, ReadsCodes, ReadsCodesOfTen, ReadsPlansAndLimits, ReadsTables};
@@ -22,6 +25,17 @@ pub fn routes_by_item()
         (routes_of_array plan items ≡ Err fault) ↔ IsFaultOfItems plan items fault }
     ensures too_many { (plan : Plan) (items : Items) →
         (routes_of_array plan items ≡ Err TooMany) ↔ (MOST_ROUTES < count items) }
+{}
+
+/// The limits at the key `limits`, said of all its keys at once. They are accepted exactly where each
+/// key that is there holds a whole number of 1 to `GREATEST_LIMIT`, and the limits, which are those of
+/// their keys or else the standard ones, stand in their order. Else the fault is the first of these:
+/// the key holds no table, one of the six keys is wrong, or two limits stand in the wrong order.
+pub fn limits_by_key()
+    ensures accepted { (held : Option Data) (limits : Limits) →
+        (limits_of held ≡ Ok limits) ↔ AreLimitsAt held limits }
+    ensures refused { (held : Option Data) (fault : RouteFault) →
+        (limits_of held ≡ Err fault) ↔ IsFaultOfLimits held fault }
 {}
 
 /// The table of a text, said in the same way. `RouteTable::read` gives what `table_of_text` gives:

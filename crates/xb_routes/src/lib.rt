@@ -27,8 +27,6 @@ mod limits;
 mod route;
 mod routes;
 mod table;
-#[cfg(test)]
-mod tests;
 mod translate;
 
 pub use fault::RouteFault;

@@ -3,7 +3,5 @@
 
 pub mod laws;
 mod sender;
-#[cfg(test)]
-mod tests;
 
 pub use sender::Sender;

@@ -4,8 +4,6 @@
 mod image;
 pub mod laws;
 mod stage;
-#[cfg(test)]
-mod tests;
 
 pub use image::image_of;
 pub use stage::{LineStage, MOST_OUTPUTS, OUTPUT_ROOM, send};

@@ -5,8 +5,6 @@ mod entries;
 mod printing;
 mod tapes;
 mod tapes_iter;
-#[cfg(test)]
-mod tests;
 
 pub use printing::page;
 pub use tapes::Tapes;

@@ -151,6 +151,3 @@ pub fn page(alloc: Global, tapes: &Tapes) -> Result<Vec<u8>, AllocError>
     write!(out, "KEYED {keyed} REFUSED {refused}\n")?;
     Ok(out.into_bytes())
 }
-
-#[cfg(test)]
-mod tests;

@@ -1,0 +1,73 @@
+// Looks at both ends of a ring: the consumer then knows of what was sent.
+ghost use Rattle.std.specs.Prelude.{◌≡◌, [], IfOk};
+ghost use Rattle.rtrb.specs.Ring.{received, IsPair};
+
+use crate::numbered::{Numbered, push};
+use crate::stages::Pairs;
+use rtrb::Consumer;
+use std::alloc::{AllocError, Global};
+use std::process::Abort;
+use xb_ring::{Deal, Flow, Gather, Sends, Station, Turn, link};
+
+// A station that has sent one item, of which the other end of its output does not know.
+fn sent_one(
+    rt: &impl Abort,
+    alloc: Global,
+) -> Result<(Station<Pairs>, Consumer<Flow<Numbered>>), AllocError>
+    ensures pair { IfOk result (λ ends. IsPair ends.0.producer ends.1) }
+    ensures received { IfOk result (λ ends. received ends.1 ≡ []) }
+{
+    let (mut items, orders) = link(alloc, 1)?;
+    let (marks, sent) = link(alloc, 1)?;
+    let mut station = Station::new(alloc, Pairs, orders, marks)?;
+    push(rt, &mut items, &[(5, 1)]);
+    assert_eq!(rt; station.turn(), Turn::Moved);
+    assert_eq!(rt; station.turn(), Turn::Moved);
+    assert_eq!(rt; sent.cached_slots(), 0);
+    Ok((station, sent))
+}
+
+#[test]
+fn station_looks_at_its_output(rt: HostRuntime) -> Result<(), AllocError> {
+    let (mut station, mut sent) = sent_one(&rt, rt.alloc())?;
+    station.look_at(0, &mut sent);
+    assert_eq!(rt; sent.cached_slots(), 1);
+    Ok(())
+}
+
+#[test]
+fn station_looks_at_its_input(rt: HostRuntime) -> Result<(), AllocError> {
+    let (mut first, of_first) = sent_one(&rt, rt.alloc())?;
+    let (marks, _sent) = link(rt.alloc(), 1)?;
+    let mut second = Station::new(rt.alloc(), Pairs, of_first, marks)?;
+    second.look(0, &mut first, 0);
+    let (input, _marks) = second.into_ends();
+    assert_eq!(rt; input.cached_slots(), 1);
+    Ok(())
+}
+
+#[test]
+fn deal_looks_at_its_rings(rt: HostRuntime) -> Result<(), AllocError> {
+    let (mut station, input) = sent_one(&rt, rt.alloc())?;
+    let (output, mut sent) = link(rt.alloc(), 1)?;
+    let mut deal = Deal::new(input, vec![in rt.alloc(); output]?);
+    deal.look(0, &mut station, 0);
+    assert_eq!(rt; deal.turn(), Turn::Moved);
+    assert_eq!(rt; deal.turn(), Turn::Moved);
+    deal.look_at(0, &mut sent);
+    assert_eq!(rt; sent.cached_slots(), 1);
+    Ok(())
+}
+
+#[test]
+fn gather_looks_at_its_rings(rt: HostRuntime) -> Result<(), AllocError> {
+    let (mut station, input) = sent_one(&rt, rt.alloc())?;
+    let (output, mut sent) = link(rt.alloc(), 1)?;
+    let mut gather: Gather<Numbered> = Gather::new(vec![in rt.alloc(); input]?, output);
+    gather.look(0, &mut station, 0);
+    assert_eq!(rt; gather.turn(), Turn::Moved);
+    assert_eq!(rt; gather.turn(), Turn::Moved);
+    gather.look_at(0, &mut sent);
+    assert_eq!(rt; sent.cached_slots(), 1);
+    Ok(())
+}

@@ -1,0 +1,44 @@
+// Rings, the words of posts, and the gate that lets all pass.
+use std::alloc::AllocError;
+use std::process::Abort;
+use std::test::Fail;
+use xb_ring::{Flow, Gate, NoGate, Post, drained, link};
+
+#[test]
+fn drained_once_all_was_received(rt: HostRuntime) -> Result<(), AllocError> {
+    let (mut producer, mut consumer) = link(rt.alloc(), 2)?;
+    assert!(rt; drained(&mut producer, &mut consumer), "nothing was sent");
+    producer.push_reserved(Flow::Item(7u8));
+    assert!(rt;
+        !drained(&mut producer, &mut consumer),
+        "one item was not received"
+    );
+    assert_eq!(rt; consumer.pop().ok(), Some(Flow::Item(7)));
+    assert!(rt; drained(&mut producer, &mut consumer), "all was received");
+    Ok(())
+}
+
+#[test]
+fn words_of_posts(rt: HostRuntime) -> Result<(), Fail> {
+    for (post, word) in [
+        (Post::Feed, "feed"),
+        (Post::Pulse, "pulse"),
+        (Post::Register, "register"),
+        (Post::Translate, "translate"),
+        (Post::Deal, "deal"),
+        (Post::Send(7), "send 7"),
+        (Post::Gather, "gather"),
+        (Post::Tape, "tape"),
+    ] {
+        let mut written = String::new(rt.alloc());
+        write!(&mut written, "{post}")?;
+        assert_eq!(rt; written.as_str(), word);
+    }
+    Ok(())
+}
+
+#[test]
+fn no_gate_admits_all(rt: HostRuntime) {
+    NoGate.pass(Post::Deal, 0);
+    assert!(rt; NoGate.admit(Post::Tape), "the tape may start");
+}
