@@ -1,6 +1,4 @@
 // Random walks: the next turn is that of any post.
-ghost use Rattle.std.specs.Prelude.{◌<◌, ◌≤◌};
-
 use crate::decks::{Deck, all_decks};
 use crate::played::Played;
 use crate::schedule::{Schedule, play_rounds, round_of};
@@ -8,6 +6,7 @@ use crate::wanted::Wanted;
 use std::alloc::Global;
 use std::process::Abort;
 use std::test::Fail;
+use test_fakes::Dice;
 use xb_ring::{Post, Turn};
 
 // How many walks are made.
@@ -25,34 +24,6 @@ const NOT_THERE: Post = Post::Send(8);
 // How many rounds end a chain, however far its walk came.
 const LAST_ROUNDS: u32 = 1_000;
 
-// Random numbers, by xorshift.
-#[derive(Clone, Copy)]
-struct Dice {
-    state: u64,
-}
-
-impl Dice {
-    // The dice of a walk.
-    fn of_walk(walk: u64) -> Dice {
-        Dice {
-            state: walk.saturating_add(1),
-        }
-    }
-
-    // A number under `sides`.
-    fn throw(&mut self, sides: u64) -> u64
-        requires { 0 < sides }
-        ensures { result < sides }
-    {
-        let mut x = self.state;
-        x ^= x << 13;
-        x ^= x >> 7;
-        x ^= x << 17;
-        self.state = x;
-        x % sides
-    }
-}
-
 // What a turn may say, beside the count of marks before and after it: only the tape station adds a mark,
 // and only one; the feed never waits for an item, the tape station never for room; and a post that isn't
 // there is idle.
@@ -64,7 +35,7 @@ fn is_legal(post: Post, turn: Turn, before: usize, after: usize, ended: bool) ->
     }
 }
 
-// Makes one turn, which has to be legal and to leave the beginning of each tape.
+// Makes one turn, which has to be legal and to leave the beginning of each tape, at the end the whole.
 fn step<A: Abort, P: Played>(
     rt: &A,
     chain: &mut P,
@@ -78,7 +49,7 @@ fn step<A: Abort, P: Played>(
         is_legal(post, turn, before, after, chain.ended()),
         "{post}"
     );
-    assert!(rt; wanted.begin_with(chain), "{post}");
+    assert!(rt; wanted.agree_with(chain), "{post}");
     Ok(())
 }
 
@@ -122,7 +93,7 @@ impl<'a> Schedule for Walk<'a> {
 
 // A walk on a random deck by 1 to 8 senders, with room for 1 to 3 items in each ring.
 fn walk_on<A: Abort>(rt: &A, alloc: Global, decks: &[Deck], walk: u64) -> Result<(), Fail> {
-    let mut dice = Dice::of_walk(walk);
+    let mut dice = Dice::new(walk.saturating_add(1));
     let place = dice.throw(decks.len().max(1) as u64) as usize;
     let deck = decks.get(place).ok_or("a deck")?;
     let senders = dice.throw(8) as u8 + 1;

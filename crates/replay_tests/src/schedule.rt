@@ -40,7 +40,8 @@ pub fn without(alloc: Global, posts: &[Post], starved: Post) -> Result<Vec<Post>
     Ok(others)
 }
 
-// One turn of each post. After each turn the marks of each line are the beginning of its tape.
+// One turn of each post. After each turn the marks of each line are the beginning of its tape, and where
+// the chain says that it has ended, the whole.
 fn play_round<A: Abort, P: Played>(
     rt: &A,
     chain: &mut P,
@@ -49,12 +50,13 @@ fn play_round<A: Abort, P: Played>(
 ) -> Result<(), Fail> {
     for post in posts {
         chain.turn(*post)?;
-        assert!(rt; wanted.begin_with(chain), "after a turn of {post}");
+        assert!(rt; wanted.agree_with(chain), "after a turn of {post}");
     }
     Ok(())
 }
 
-/// So many rounds of these posts. After each turn the marks of each line are the beginning of its tape.
+/// So many rounds of these posts. After each turn the marks of each line are the beginning of its tape,
+/// and where the chain says that it has ended, the whole.
 pub fn play_rounds<A: Abort, P: Played>(
     rt: &A,
     chain: &mut P,

@@ -34,14 +34,20 @@ impl Wanted {
         })
     }
 
-    /// Whether the marks of each line so far are the beginning of its tape.
-    pub fn begin_with(&self, played: &impl Played) -> bool {
+    // Whether the marks of each line so far are the beginning of its tape.
+    fn begin_with(&self, played: &impl Played) -> bool {
         for line in &self.lines {
             if !self.tapes.marks(*line).starts_with(played.marks(*line)) {
                 return false;
             }
         }
         true
+    }
+
+    /// Whether the marks of each line so far are the beginning of its tape, and once all posts have
+    /// ended the whole.
+    pub fn agree_with(&self, played: &impl Played) -> bool {
+        self.begin_with(played) && (!played.ended() || self.are_given_by(played))
     }
 
     /// Whether all posts have ended, and the marks of each line are its tape.
