@@ -7,8 +7,6 @@ mod feed;
 mod filling;
 pub mod laws;
 mod tape_station;
-#[cfg(test)]
-mod tests;
 
 pub use feed::Feed;
 pub use filling::AHEAD;

@@ -2,7 +2,5 @@
 #![tactic(auto)]
 
 mod serial;
-#[cfg(test)]
-mod tests;
 
 pub use serial::key_serial;
