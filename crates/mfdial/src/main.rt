@@ -1,28 +1,25 @@
-//! The program: calls on standard input, and the loop rows that dial them on standard output.
+//! The program: words and calls in, a status and the loop rows that dial them out.
 #![tactic(auto)]
 
-mod attending;
-mod dialling;
-mod fault;
-mod request;
-#[cfg(test)]
-mod tests;
-mod words;
-mod writing;
-
-use attending::attend;
-use std::env::args;
-use std::io;
 use std::process::ExitCode;
+use std::{env, io};
+use xb_dial_program::attend;
 
-/// Prints the rows of the calls. On a fault nothing is printed but one line on standard error, and
-/// the status is 1, or 2 where the words are refused; where the rows could not be written, their
-/// beginning may have been.
-fn main(rt: HostRuntime) -> io::Result<ExitCode> {
-    let words: Vec<String> = args(&rt)?.collect(rt.alloc())?;
-    let mut calls = rt.stdin();
-    let mut out = io::writer(&rt);
-    let errors = rt.stderr();
+// The words of the command line, the program's name first.
+fn words(rt: &HostRuntime) -> io::Result<Vec<String>> {
+    Ok(env::args(rt)?.collect(rt.alloc())?)
+}
+
+/// Reads the calls on standard input, and prints the rows that dial them, or one line on standard error,
+/// as `attend` does.
+fn main(rt: HostRuntime) -> ExitCode {
+    let (mut calls, mut rows, errors) = (rt.stdin(), io::writer(&rt), rt.stderr());
     let mut err = io::writer(&errors);
-    Ok(ExitCode::from(attend(rt.alloc(), &words, &mut calls, &mut out, &mut err)))
+    match words(&rt) {
+        Ok(words) => ExitCode::from(attend(rt.alloc(), &words, &mut calls, &mut rows, &mut err)),
+        Err(fault) => {
+            let _ = eprintln!(rt; "mfdial: {fault}");
+            ExitCode::FAILURE
+        }
+    }
 }

@@ -1,10 +1,12 @@
 -- The fields of a text line, byte by byte.
 use Rattle.std.proofs.Common.{◌≡◌, ℕ, ◌+◌, ◌-◌, ◌<◌, ◌≤◌, Bool, true, false, List, [], ◌∷◌, ◌++◌, map, length, drop, get_or, Option, Some, None, refl, sym, ap, ◌∙◌, append-nil, append_assoc, cond, drop_of_length-le}
-use Rattle.std.specs.Prelude.{option_map, unwrap_or, if◌then◌else◌}
+use Rattle.std.specs.Prelude.{option_map, unwrap_or}
 use Rattle.std.specs.Char.{is_ascii_digit}
 use Rattle.std.specs.Str.{all_ascii_digits}
 use Rattle.std.proofs.lemmas.List.{drop_more}
-use Rattle.xb_dial.specs.CallTexts.{digit_bytes, digits_of, is_grouping, zero_byte}
+use Rattle.xb_model.specs.Digits.{digit_of_ascii}
+use Rattle.xb_model.specs.Page.{zero_byte}
+use Rattle.xb_dial.specs.CallTexts.{digit_bytes, digits_of, is_grouping}
 
 -- the digits so far, and those of the rest
 abbrev pub with_earlier : List ℕ → Option (List ℕ) → Option (List ℕ)
@@ -54,8 +56,7 @@ wrong-first byte rest e d = rw (e, d) refl
 
 -- what a byte that is a digit writes
 abbrev pub digit_at : List ℕ → ℕ → Option ℕ
-digit_at field i =
-    if is_ascii_digit (get_or field i 0) then Some (get_or field i 0 - zero_byte) else None
+digit_at field i = digit_of_ascii (get_or field i 0)
 
 -- one byte more, which groups
 pub IsRestOf-grouping : (field : List ℕ) (i : ℕ) (earlier : List ℕ) → i < length field

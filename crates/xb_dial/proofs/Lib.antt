@@ -6,6 +6,5 @@ pub mod RowsOfLines
 pub mod Turns
 pub mod TextLines
 pub mod CallFields
-pub mod RowTexts
 pub mod Pulses
 pub mod LinesOfCalls

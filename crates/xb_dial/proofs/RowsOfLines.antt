@@ -13,7 +13,7 @@ use Rattle.xb_model.specs.Records.{Run, rows_of}
 use Rattle.xb_model.specs.Rows.{LoopRow}
 use Rattle.xb_model.proofs.Lines.{of_line-all, of_line-append, of_line-none}
 use Rattle.xb_model.proofs.LinesBelow.{lines_below-more, lines_below-none}
-use Rattle.xb_dial.specs.declared.order.Order.TheVariants.{ByLine, InTurn}
+use Rattle.xb_dial.specs.declared.order.RowOrder.TheVariants.{ByLine, InTurn}
 use Rattle.xb_dial.specs.declared.speed.Speed.{Speed}
 use Rattle.xb_dial.specs.Calls.{AreCalls, DialledCall, IsCall}
 use Rattle.xb_dial.specs.Dialling.{joined_lists, line_rows, line_runs, longest, numbers_on, on_line, rounds}

@@ -5,13 +5,14 @@ use Rattle.std.specs.Option.{unwrap_or}
 use Rattle.std.specs.Str.{all_ascii_digits}
 use Rattle.std.specs.Str.Lines.{strip_carriage_return}
 use Rattle.xb_model.specs.declared.plan.Plan.{Plan}
+use Rattle.xb_model.specs.Page.{zero_byte}
 use Rattle.xb_model.specs.Plans.{plan_len}
 use Rattle.xb_rows.specs.RowTexts.{line_of}
 use Rattle.xb_dial.specs.declared.fault.CallFault.{CallFault}
 use Rattle.xb_dial.specs.declared.fault.CallFault.TheVariants as fault
 use Rattle.xb_dial.specs.Calls.{DialledCall, call_of}
 
--- the bytes that set things apart: LF, space, hyphen, #; and the digit 0
+-- the bytes that set things apart: LF, space, hyphen, #
 abbrev pub line_feed : ℕ
 line_feed = 10
 
@@ -23,9 +24,6 @@ hyphen = 45
 
 abbrev pub hash : ℕ
 hash = 35
-
-abbrev pub zero_byte : ℕ
-zero_byte = 48
 
 -- text lines end at LF or at the end of the text; one CR before that end is dropped
 abbrev pub text_lines : List ℕ → List (List ℕ)

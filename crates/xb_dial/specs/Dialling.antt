@@ -8,8 +8,8 @@ use Rattle.xb_model.specs.Records.{Run, make, break}
 use Rattle.xb_model.specs.Lines.{of_line, lines_below}
 use Rattle.xb_dial.specs.declared.speed.Speed.{Speed}
 use Rattle.xb_dial.specs.Calls.{DialledCall}
-use Rattle.xb_dial.specs.declared.order.Order.{Order}
-use Rattle.xb_dial.specs.declared.order.Order.TheVariants.{ByLine, InTurn}
+use Rattle.xb_dial.specs.declared.order.RowOrder.{RowOrder}
+use Rattle.xb_dial.specs.declared.order.RowOrder.TheVariants.{ByLine, InTurn}
 
 -- a digit has as many pulses as its value, and 0 has ten
 abbrev pub pulse_count : ℕ → ℕ
@@ -74,10 +74,10 @@ abbrev pub in_turn : {A : Type 0} → List (List A) → List A
 in_turn lists = rounds (longest lists) lists
 
 -- lists in an order
-abbrev pub in_order : {A : Type 0} → Order → List (List A) → List A
+abbrev pub in_order : {A : Type 0} → RowOrder → List (List A) → List A
 in_order ByLine lists = joined_lists lists
 in_order InTurn lists = in_turn lists
 
 -- the rows of calls: those of one line after those of another, or one row of each in turn
-abbrev pub dialled : Order → Speed → List DialledCall → List LoopRow
+abbrev pub dialled : RowOrder → Speed → List DialledCall → List LoopRow
 dialled order speed calls = in_order order (rows_by_line speed calls)

@@ -15,7 +15,7 @@ use Rattle.xb_model.specs.Routing.{CodedRoute, routed}
 use Rattle.xb_model.specs.Rows.{LoopRow}
 use Rattle.xb_model.specs.Tapes.{tape_of, tapes_of}
 use Rattle.std.specs.List.{flat_map}
-use Rattle.xb_dial.specs.declared.order.Order.{Order}
+use Rattle.xb_dial.specs.declared.order.RowOrder.{RowOrder}
 use Rattle.xb_dial.specs.declared.speed.Speed.{Speed}
 use Rattle.xb_dial.specs.Speeds.{Fits}
 use Rattle.xb_dial.specs.Calls.{AreCalls, DialledCall}
@@ -70,5 +70,5 @@ DialledIsHeard =
 -- in both orders the rows of each line are those that it dials
 abbrev pub OrdersAreDialled : Type 0
 OrdersAreDialled =
-    (order : Order) (speed : Speed) (calls : List DialledCall) → AreCalls calls
+    (order : RowOrder) (speed : Speed) (calls : List DialledCall) → AreCalls calls
     → AreDialled speed calls (dialled order speed calls)

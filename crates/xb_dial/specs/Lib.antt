@@ -3,7 +3,6 @@ pub mod Calls
 pub mod Dialling
 pub mod Heard
 pub mod LineRows
-pub mod RowText
 pub mod CallTexts
 pub mod TextLines
 pub mod WorkedCalls

@@ -1,8 +1,7 @@
 // What one text line of calls writes.
-ghost use Rattle.std.specs.Prelude.{◌≡◌, ◌-◌, ◌==◌, position, IfOk, IfErr, Some, None, Ok, option_map, if◌then◌else◌};
+ghost use Rattle.std.specs.Prelude.{◌≡◌, ◌==◌, position, IfOk, IfErr, Some, Ok, option_map};
 ghost use Rattle.std.specs.Str.Lines.{strip_carriage_return};
-ghost use Rattle.std.specs.Char.{is_ascii_digit};
-ghost use Rattle.xb_dial.specs.CallTexts.{IsFaultOf, IsWrongDigit, call_of_line, cut_at, digits_of, is_grouping, is_passed_over, number_fault, two_fields, zero_byte};
+ghost use Rattle.xb_dial.specs.CallTexts.{IsFaultOf, IsWrongDigit, call_of_line, cut_at, digits_of, is_grouping, is_passed_over, number_fault, two_fields};
 
 use crate::call::Call;
 use crate::fault::CallFault;
@@ -52,13 +51,6 @@ fn is_grouping(byte: u8) -> bool
     byte == b' ' || byte == b'-'
 }
 
-// The digit that a byte writes.
-fn digit_of(byte: u8) -> Option<Digit>
-    ensures { result ≡ (if is_ascii_digit byte then Some (byte - zero_byte) else None) }
-{
-    Digit::new(byte.checked_sub(b'0')?)
-}
-
 // The digits that a field writes.
 fn digits_of(alloc: Global, n: u32, field: &[u8]) -> Result<Vec<Digit>, CallFault>
     ensures digits { IfOk result (λ digits. digits_of field.now ≡ Some digits.items) }
@@ -67,7 +59,7 @@ fn digits_of(alloc: Global, n: u32, field: &[u8]) -> Result<Vec<Digit>, CallFaul
     let mut digits = Vec::new(alloc);
     for byte in field {
         if !is_grouping(*byte) {
-            let digit = digit_of(*byte).ok_or(CallFault::Digit(n))?;
+            let digit = Digit::from_ascii(*byte).ok_or(CallFault::Digit(n))?;
             if digits.push(digit).is_err() {
                 return Err(CallFault::NoMemory);
             }

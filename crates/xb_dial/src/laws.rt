@@ -1,6 +1,5 @@
 //! What the definitions give: each law is the contract of a function that does nothing.
 ghost use Rattle.xb_dial.specs.Heard.{DialledIsHeard, OrdersAreDialled};
-ghost use Rattle.xb_dial.specs.RowText.{IsCsvText};
 ghost use Rattle.xb_dial.specs.WorkedCalls.{BothOrders, CallsOfTexts, NumbersOfCalls, RowsOfCalls};
 
 /// The rows of some calls, and the numbers that are heard of them.
@@ -33,10 +32,4 @@ pub fn dialled_is_heard()
 #[tactic(auto, using(crate::proofs::RowsOfLines::orders_are_dialled))]
 pub fn orders_are_dialled()
     ensures { OrdersAreDialled }
-{}
-
-/// The text of rows is the one that a `csv` writer writes of them.
-#[tactic(auto, using(crate::proofs::RowTexts::is_csv_text))]
-pub fn rows_are_csv()
-    ensures { IsCsvText }
 {}

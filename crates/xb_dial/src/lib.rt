@@ -10,14 +10,10 @@ mod order;
 mod reading;
 mod runs;
 mod speed;
-#[cfg(test)]
-mod tests;
-mod text;
 
 pub use call::Call;
 pub use fault::CallFault;
 pub use lines::rows_of_calls;
-pub use order::Order;
+pub use order::RowOrder;
 pub use reading::{MOST_TEXT_BYTES, calls_of_text};
 pub use speed::{Speed, SpeedFault};
-pub use text::text_of_rows;

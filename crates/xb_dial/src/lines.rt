@@ -9,7 +9,7 @@ ghost use Rattle.xb_dial.specs.LineRows.{Takes, MayStand, lists_of};
 ghost use Rattle.xb_dial.specs.Speeds.{FitsSome};
 
 use crate::call::Call;
-use crate::order::Order;
+use crate::order::RowOrder;
 use crate::runs::push_next_call;
 use crate::speed::Speed;
 use std::alloc::{AllocError, Global};
@@ -88,12 +88,12 @@ fn in_turn(alloc: Global, lists: Vec<&[Row]>) -> Result<Vec<Row>, AllocError>
 }
 
 // The rows of lists, in an order.
-fn in_order(alloc: Global, lists: Vec<&[Row]>, order: Order) -> Result<Vec<Row>, AllocError>
+fn in_order(alloc: Global, lists: Vec<&[Row]>, order: RowOrder) -> Result<Vec<Row>, AllocError>
     ensures { IfOk result (λ rows. rows.items ≡ in_order order (lists_of lists.entry.items)) }
 {
     match order {
-        Order::ByLine => joined(alloc, &lists),
-        Order::InTurn => in_turn(alloc, lists),
+        RowOrder::ByLine => joined(alloc, &lists),
+        RowOrder::InTurn => in_turn(alloc, lists),
     }
 }
 
@@ -107,7 +107,7 @@ pub fn rows_of_calls(
     alloc: Global,
     calls: &[Call],
     speed: Speed,
-    order: Order,
+    order: RowOrder,
 ) -> Result<Vec<Row>, AllocError>
     requires fits { FitsSome speed }
     ensures rows { IfOk result (λ rows. rows.items ≡ dialled order speed calls.now) }

@@ -1,7 +1,7 @@
--- The text of rows is the text that a `csv` writer writes, and so is read.
-use Rattle.std.proofs.Common.{◌≡◌, ℕ, ◌+◌, ◌%◌, ◌<◌, ◌≤◌, ◌^◌, ◌||◌, false, List, [], ◌∷◌, ◌++◌, map, length, refl, sym, ap, ap₂, ◌∙◌, arith, append_assoc, append-nil, ne_eqb, None}
+-- The text of rows is the text that a `csv` writer writes.
+use Rattle.std.proofs.Common.{◌≡◌, ℕ, ◌+◌, ◌%◌, ◌<◌, ◌≤◌, ◌^◌, ◌||◌, false, List, [], ◌∷◌, ◌++◌, map, refl, sym, ap, ap₂, ◌∙◌, arith, append_assoc, append-nil, ne_eqb}
 use Rattle.std.specs.Prelude.{codes, decimal}
-use Rattle.std.specs.List.{All}
+use Rattle.std.specs.List.{flat_map}
 use Rattle.std.proofs.lemmas.Fmt.{decimal_by_steps}
 use Rattle.std.proofs.lemmas.List.Folds.{list_any-append}
 use Rattle.std.proofs.lemmas.List.Elements.{All-head, All-tail}
@@ -10,12 +10,7 @@ use Rattle.xb_model.specs.declared.row.Contact.{Contact}
 use Rattle.xb_model.specs.declared.row.Contact.TheVariants.{Make, Brk, Close}
 use Rattle.xb_model.specs.Rows.{LoopRow}
 use Rattle.xb_model.proofs.RowTimes.{at_most_a_day}
-use Rattle.xb_rows.specs.RowTexts.{rest_of_text, rows_and_stop}
-use Rattle.xb_rows.specs.declared.scan.TheConstants.{MOST_RECORDS}
-use Rattle.xb_rows.specs.WrittenRows.{AreRows, contact_text, fields_of_row, header, text_of_rows}
-use Rattle.xb_rows.specs.WrittenRows as written
-use Rattle.xb_rows.proofs.WrittenRecords.{written_rows_are_read}
-use Rattle.xb_dial.specs.RowText.{IsCsvText, IsLawfulRow, record_text, records_text, rows_text}
+use Rattle.xb_rows.specs.WrittenRows.{AreRows, IsLawfulRow, WrittenRowsAreCsv, contact_text, csv_text, fields_of_row, record_text}
 
 -- a digit calls for no quotes
 plain_digit : (b : ℕ) → 48 ≤ b → needs_byte default_writer b ≡ false
@@ -48,9 +43,9 @@ plain_contact Brk = refl
 plain_contact Close = refl
 
 -- the record of a row
-record-csv : (row : LoopRow) → IsLawfulRow row → row_text default_writer (fields_of_row row) ≡ record_text row
+record_text-csv : (row : LoopRow) → IsLawfulRow row → row_text default_writer (fields_of_row row) ≡ record_text row
 unfolding fields_text is_blank
-record-csv row lawful =
+record_text-csv row lawful =
     let line = plain_number row.line (omega (arith, lawful.0)) in
     let contact = plain_contact row.contact in
     let ms = plain_number row.ms (omega (arith, at_most_a_day row.contact row.ms lawful.1)) in
@@ -62,26 +57,13 @@ record-csv row lawful =
     append_assoc-all a b c = simp (append_assoc, append-nil) refl
 
 records-csv : (rows : List LoopRow) → AreRows rows
-    → written.records_text (map fields_of_row rows) ≡ records_text rows
+    → csv_text (map fields_of_row rows) ≡ flat_map record_text rows
 records-csv [] are = refl
-records-csv (row ∷ rows) are = ap₂ (λ xs ys. xs ++ ys) (record-csv row (are.0, are.1))
-    (records-csv rows are.2)
+records-csv (row ∷ rows) are =
+    ap₂ (λ xs ys. xs ++ ys) (record_text-csv row (All-head IsLawfulRow row rows are))
+    (records-csv rows (All-tail IsLawfulRow row rows are))
 
 -- the whole text
-pub is_csv_text : IsCsvText
+pub written_rows_are_csv : WrittenRowsAreCsv
 unfolding fields_text is_blank
-is_csv_text rows are = ap (λ text. codes "line,state,ms\n" ++ text) (sym (records-csv rows are))
-
--- rows of which each is lawful
-pub AreRows-all : (rows : List LoopRow) → All IsLawfulRow rows → AreRows rows
-AreRows-all [] all = tt
-AreRows-all (row ∷ rows) all =
-    let first = All-head IsLawfulRow row rows all in
-    (first.0, first.1, AreRows-all rows (All-tail IsLawfulRow row rows all))
-
--- the text is read
-pub rows_text-read : (rows : List LoopRow) → All IsLawfulRow rows → length rows ≤ MOST_RECORDS
-    → rest_of_text (rows_text rows) ≡ rows_and_stop rows None
-rows_text-read rows all few =
-    let are = AreRows-all rows all in
-    ap rest_of_text (is_csv_text rows are) ∙ written_rows_are_read rows are few
+written_rows_are_csv rows are = ap (λ text. codes "line,state,ms\n" ++ text) (sym (records-csv rows are))

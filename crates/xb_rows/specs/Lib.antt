@@ -1,4 +1,3 @@
-pub mod Reading
 pub mod RowTexts
 pub mod RowResults
 pub mod Scanning

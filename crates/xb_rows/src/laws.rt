@@ -1,7 +1,7 @@
 //! What the definitions give: each law is the contract of a function that does nothing.
 ghost use Rattle.xb_rows.specs.Constants.{AreConstants};
 ghost use Rattle.xb_rows.specs.WorkedTexts.{MostRecords, RowsOfTexts};
-ghost use Rattle.xb_rows.specs.WrittenRows.{WrittenRowsAreRead};
+ghost use Rattle.xb_rows.specs.WrittenRows.{WrittenRowsAreCsv, WrittenRowsAreRead};
 
 /// The most digits of a line and of a time, and the most records, each as it is.
 pub fn constants()
@@ -20,8 +20,14 @@ pub fn most_records()
     ensures { MostRecords }
 {}
 
-/// Rows that a `csv` writer writes are read, if they are not too many.
+/// Rows that are written are read, if they are not too many.
 #[tactic(auto, using(crate::proofs::WrittenRecords::written_rows_are_read))]
 pub fn written_rows_are_read()
     ensures { WrittenRowsAreRead }
+{}
+
+/// The text of rows is the one that a `csv` writer writes of them.
+#[tactic(auto, using(crate::proofs::CsvTexts::written_rows_are_csv))]
+pub fn written_rows_are_csv()
+    ensures { WrittenRowsAreCsv }
 {}

@@ -1,16 +1,14 @@
-//! The loop records: a CSV text in, its rows out, whole or one at a time. The module `laws` says what
-//! the definitions in `specs/` give, on worked texts and on rows as they are written.
+//! The loop records: a CSV text in, its rows out, whole or one at a time; and rows in, their text out. The
+//! module `laws` says what the definitions in `specs/` give, on worked texts and on rows as they are written.
 #![tactic(auto)]
 
 pub mod laws;
-mod reading;
 mod record;
 mod rows;
 mod scan;
-#[cfg(test)]
-mod tests;
+mod writing;
 
-pub use reading::{ReadFault, read_whole};
 pub use record::line_of;
 pub use rows::read_rows;
 pub use scan::{MOST_RECORDS, Scan};
+pub use writing::text_of_rows;

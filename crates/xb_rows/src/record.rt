@@ -5,7 +5,7 @@ ghost use Rattle.xb_rows.specs.declared.record.TheConstants.{MS_DIGITS};
 ghost use Rattle.xb_rows.specs.RowTexts.{contact_of, field_number, is_header, line_of, row_of_fields, three_fields};
 
 use csv::ByteRecord;
-use xb_model::{Contact, LineNo, Row, RowFault};
+use xb_model::{Contact, Digit, LineNo, Row, RowFault};
 
 // How many fields a row has.
 const ROW_FIELDS: usize = 3;
@@ -26,11 +26,9 @@ fn field_number(most: usize, field: &[u8]) -> Option<u32>
         return None;
     }
     let mut number: u32 = 0;
-    for digit in field {
-        if !digit.is_ascii_digit() {
-            return None;
-        }
-        number = number * 10 + u32::from(*digit - b'0');
+    for byte in field {
+        let digit = Digit::from_ascii(*byte)?;
+        number = number * 10 + u32::from(digit.get());
     }
     Some(number)
 }

@@ -2,11 +2,11 @@
 ghost use Rattle.std.specs.Prelude.{IfErr, IfOk, IfSome};
 ghost use Rattle.xb_rows.specs.RowResults.{AreRowsOf, IsFaultOf, IsReadFaultOf, IsReadToEnd};
 
-use crate::reading::{ReadFault, read_whole};
 use crate::scan::Scan;
 use std::alloc::Global;
 use std::io::Read;
 use xb_model::{Row, RowFault, RowSource};
+use xb_streams::{ReadFault, read_whole};
 
 // The rows of a CSV text, or its first fault: the faults of `Scan`, and `NoMemory` where memory
 // ran out.

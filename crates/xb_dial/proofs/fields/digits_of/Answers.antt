@@ -11,7 +11,7 @@ loop-byte-preserved c =
       | then-not-is_grouping+in_ok-digit+else-is_err w ↦
           let items : w.push.new.self.items
           ≡ c.loop-byte.digits.items ++ w.in_ok-digit.digit ∷ [] = search rules in
-          let digit = sym w.digit_of.ensures ∙ w.in_ok-digit.ensures.ok_part in
+          let digit = sym w.from_ascii.ensures ∙ w.in_ok-digit.ensures.ok_part in
           subst (IsRestOf field (i + 1)) (sym (ap (λ v. v.items) w.digits-is ∙ items))
           (IsRestOf-digit field i c.loop-byte.digits.items w.in_ok-digit.digit c.loop-byte-test.true
           c.loop-byte.invariant

@@ -10,18 +10,18 @@ pow_bound n i h b =
 
 pub overflow_mul-number : goal.overflow_mul-number
 overflow_mul-number c =
-    let digit = c.loop-digit in
-    let b = pow_bound digit.number digit.digit-index (omega arith) digit.invariant.short in
+    let read = c.loop-byte in
+    let b = pow_bound read.number read.byte-index (omega arith) read.invariant.short in
     omega arith
 
 pub overflow_add-number : goal.overflow_add-number
 overflow_add-number c =
-    let digit = c.loop-digit in
-    let b = pow_bound digit.number digit.digit-index (omega arith) digit.invariant.short in
+    let read = c.loop-byte in
+    let b = pow_bound read.number read.byte-index (omega arith) read.invariant.short in
     omega (arith, c.from.ensures)
 
 pub returns-clause-bound : goal.returns-clause-bound
 returns-clause-bound c =
-    let n : c.loop-digit.digit-index ≤ c.args.most = omega arith in
-    let m : 10 ^ c.loop-digit.digit-index ≤ 10 ^ c.args.most = pow-le-pow_right {n = 10} (lit< tt) n in
+    let n : c.loop-byte.byte-index ≤ c.args.most = omega arith in
+    let m : 10 ^ c.loop-byte.byte-index ≤ 10 ^ c.args.most = pow-le-pow_right {n = 10} (lit< tt) n in
     omega arith

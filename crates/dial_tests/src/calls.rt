@@ -1,0 +1,97 @@
+// Texts of calls, and their faults.
+use std::process::Abort;
+use std::test::Fail;
+use xb_dial::{Call, CallFault, MOST_TEXT_BYTES, calls_of_text};
+use xb_model::Plan;
+
+// A line, and the values of its digits.
+type Parts = (u16, &'static [u8]);
+
+// A text, the plan by which its numbers have to be complete, and its calls or its fault.
+type Case = (
+    &'static [u8],
+    Option<Plan>,
+    Result<&'static [Parts], CallFault>,
+);
+
+const SEVEN: Option<Plan> = Some(Plan::Seven);
+
+const TEN: Option<Plan> = Some(Plan::Ten);
+
+const CASES: &[Case] = &[
+    (b"", SEVEN, Ok(&[])),
+    (b"\n\r\n# 7 0\n#", SEVEN, Ok(&[])),
+    (b"7 0", SEVEN, Ok(&[(7, &[0])])),
+    (
+        b"7 234-5678\r\n0009  4 1-1 \n",
+        SEVEN,
+        Ok(&[(7, &[2, 3, 4, 5, 6, 7, 8]), (9, &[4, 1, 1])]),
+    ),
+    (
+        b"9999 212-555-1234\n0 411\n1 2345678\n",
+        TEN,
+        Ok(&[
+            (9999, &[2, 1, 2, 5, 5, 5, 1, 2, 3, 4]),
+            (0, &[4, 1, 1]),
+            (1, &[2, 3, 4, 5, 6, 7, 8]),
+        ]),
+    ),
+    (b"7 1112345", TEN, Ok(&[(7, &[1, 1, 1, 2, 3, 4, 5])])),
+    // the line
+    (b"10000 0", SEVEN, Err(CallFault::Line(1))),
+    (b"7 0\n\n 7 0", SEVEN, Err(CallFault::Line(3))),
+    (b"-7 0", SEVEN, Err(CallFault::Line(1))),
+    (b"7\t0", SEVEN, Err(CallFault::Line(1))),
+    (b"#\n\r7 0", SEVEN, Err(CallFault::Line(2))),
+    // the digits
+    (b"7 23x", SEVEN, Err(CallFault::Digit(1))),
+    (b"7 0\r\r\n", SEVEN, Err(CallFault::Digit(1))),
+    (b"7 0 # call", SEVEN, Err(CallFault::Digit(1))),
+    (b"7\n", SEVEN, Err(CallFault::NoDigits(1))),
+    (b"7 - \n", None, Err(CallFault::NoDigits(1))),
+    // the number
+    (b"7 41", SEVEN, Err(CallFault::Unfinished(1))),
+    (b"7 234567", SEVEN, Err(CallFault::Unfinished(1))),
+    (b"7 2125551", TEN, Err(CallFault::Unfinished(1))),
+    (b"7 00", SEVEN, Err(CallFault::GoesOn(1))),
+    (b"7 4112", SEVEN, Err(CallFault::GoesOn(1))),
+    (b"7 2125551234", SEVEN, Err(CallFault::GoesOn(1))),
+    (b"7 21255512345", TEN, Err(CallFault::GoesOn(1))),
+    (b"7 00\n8 41", None, Ok(&[(7, &[0, 0]), (8, &[4, 1])])),
+    // the first fault
+    (b"7 0\n7 00\nx", SEVEN, Err(CallFault::GoesOn(2))),
+];
+
+// Whether a call is on this line and has these digits.
+fn is_call(call: &Call, parts: &Parts) -> bool {
+    let (line, digits) = *parts;
+    call.line().get() == line
+        && call.digits().len() == digits.len()
+        && call
+            .digits()
+            .iter()
+            .zip(digits)
+            .all(|(digit, value)| digit.get() == *value)
+}
+
+fn check_calls(rt: &impl Abort, text: &[u8], calls: &[Call], want: &[Parts]) {
+    assert_eq!(rt; calls.len(), want.len(), "{}", text.escape_ascii());
+    for (call, parts) in calls.iter().zip(want) {
+        assert!(rt; is_call(call, parts), "{}", text.escape_ascii());
+    }
+}
+
+#[test]
+fn reads_calls_and_names_the_first_fault(rt: HostRuntime) {
+    for (text, whole, want) in CASES {
+        let short = text.len() <= MOST_TEXT_BYTES;
+        assert!(rt; short);
+        match calls_of_text(rt.alloc(), text, *whole) {
+            Ok(calls) => match want {
+                Ok(want) => check_calls(&rt, text, &calls, want),
+                Err(_) => assert!(rt; false, "{} has a fault", text.escape_ascii()),
+            },
+            Err(fault) => assert!(rt; want.is_err_and(|f| f == fault), "{}", text.escape_ascii()),
+        }
+    }
+}

@@ -1,3 +1,0 @@
-// The tests of this program.
-mod statuses;
-mod streams;

@@ -1,0 +1,5 @@
+pub mod Faults
+pub mod Options
+pub mod Printed
+pub mod Program
+pub mod Rules

@@ -1,3 +1,0 @@
-// The tests of this crate.
-mod reading;
-mod rows;
