@@ -1,5 +1,0 @@
-pub mod Chains
-pub mod Drained
-pub mod Pairs
-pub mod Promises
-pub mod Settled

@@ -1,4 +1,0 @@
-pub mod Pairs
-pub mod Promises
-pub mod Rings
-pub mod Runs

@@ -1,0 +1,19 @@
+-- The threads of the posts, once all were started.
+use Rattle.std.specs.Prelude.{◌≡◌, ◌≤◌, length, reverse, vec_len}
+use Rattle.xb_chain.specs.Posts.{Posts}
+use Rattle.xb_run.specs.Pairs.{Pairs}
+use Rattle.xb_run.specs.declared.posts.Handles.{Handles}
+
+-- each handle is that of the thread of its post; those of the senders stand from the last sender on
+pub record AreStarted {S : Type 0} (posts : Posts) (handles : Handles S) : Type 0 where
+  pub feed : handles.originating.feed.promise.made.value ≡ posts.feed
+  pub pulse : handles.originating.pulse.promise.made.value ≡ posts.pulse
+  pub register : handles.originating.register.promise.made.value ≡ posts.register
+  pub translate : handles.originating.translate.promise.made.value ≡ posts.translate
+  pub deal : handles.outgoing.deal.promise.made.value ≡ posts.deal
+  pub senders :
+      Pairs (λ sender handle. handle.promise.made.value ≡ sender) posts.senders
+      (reverse handles.outgoing.senders.items)
+  pub few : vec_len handles.outgoing.senders ≤ length posts.senders
+  pub gather : handles.outgoing.gather.promise.made.value ≡ posts.gather
+  pub tape : handles.outgoing.tape.promise.made.value ≡ posts.tape

@@ -1,0 +1,126 @@
+// The posts, each on a thread of its own.
+ghost use Rattle.std.specs.Prelude.{◌≡◌, ◌≤◌, ◌<◌, ℕ, IfOk, IfErr, None, vec_len};
+ghost use Rattle.std.specs.Thread.{IsSend, IsSync};
+ghost use Rattle.xb_model.specs.declared.line.TheConstants.{LINES};
+ghost use Rattle.xb_model.specs.Tapes.{tape_of, joined_tape, entries_of, marks_at, tapes_of};
+ghost use Rattle.xb_ring.specs.declared.branches.TheConstants.{MOST_BRANCHES};
+ghost use Rattle.xb_ring.specs.declared.ends.TheConstants.{GREATEST_CAPACITY};
+ghost use Rattle.xb_chain.specs.Chains.{posts_of};
+ghost use Rattle.xb_run.specs.Faults.{IsBankFault};
+ghost use Rattle.xb_run.specs.Promises.{PostsPromised};
+
+use crate::fault::BankFault;
+use crate::finish::finish;
+use crate::posts::{AllDone, join_posts, start_posts};
+use crate::start::{GO, STOP};
+use std::alloc::Global;
+use std::sync::Wait;
+use std::sync::atomic::{AtomicU64, Ordering};
+use std::thread;
+use std::thread::{Scope, Threads};
+use std::time::Clock;
+use xb_chain::Chain;
+use xb_model::RowSource;
+use xb_ring::Gate;
+use xb_routes::RouteTable;
+use xb_tape::Tapes;
+
+// Serves the posts on threads of the scope, and joins them. Where a start is refused the threads that
+// wait are told to stop; the scope joins them.
+fn serve_all<
+    's,
+    't: 's,
+    E,
+    S: RowSource + Drop + Send + 's,
+    R: Threads + Wait + Clock + Sync,
+    G: Gate + Sync,
+>(
+    scope: &'s Scope<'s, E>,
+    rt: &'s R,
+    word: &'s AtomicU64,
+    alloc: Global,
+    chain: Chain<'t, S>,
+    gate: &'s G,
+) -> Result<AllDone, BankFault>
+    requires few { vec_len chain.senders ≤ MOST_BRANCHES }
+    ensures promised { IfOk result (PostsPromised (posts_of chain.entry)) }
+    ensures fault { IfErr result (IsBankFault (vec_len chain.entry.senders) None) }
+{
+    let count = chain.senders.len();
+    let handles = Vec::with_capacity(alloc, count)?;
+    let senders_done = Vec::with_capacity(alloc, count)?;
+    match start_posts(scope, rt, word, chain, handles, gate) {
+        Ok(handles) => {
+            word.store(GO, Ordering::SeqCst);
+            Ok(join_posts(rt, handles, senders_done))
+        }
+        Err(post) => {
+            word.store(STOP, Ordering::SeqCst);
+            Err(BankFault::NoThread(post))
+        }
+    }
+}
+
+// Serves the posts of a chain on threads of their own.
+fn serve_posts<S: RowSource + Drop + Send, R: Threads + Wait + Clock + Sync, G: Gate + Sync>(
+    rt: &R,
+    alloc: Global,
+    chain: Chain<'_, S>,
+    gate: &G,
+) -> Result<AllDone, BankFault>
+    requires few { vec_len chain.senders ≤ MOST_BRANCHES }
+    ensures promised { IfOk result (PostsPromised (posts_of chain.entry)) }
+    ensures fault { IfErr result (IsBankFault (vec_len chain.entry.senders) None) }
+{
+    let word = AtomicU64::new(0);
+    let start_word = &word;
+    thread::scope(
+        thread::scope_env(),
+        rt,
+        move |scope| -> Result<AllDone, BankFault>
+            requires few { vec_len chain.senders ≤ MOST_BRANCHES }
+            requires types { IsSend S.row × IsSync R.row × IsSync G.row }
+            ensures promised { IfOk result (PostsPromised (posts_of chain.entry)) }
+            ensures fault { IfErr result (IsBankFault (vec_len chain.entry.senders) None) }
+        { serve_all(scope, rt, start_word, alloc, chain, gate) },
+    )
+}
+
+/// The tapes of all lines, of the rows that the source still has: of each line, one entry for each
+/// attempt in its record up to its close, in order. That is the keying of the number that was
+/// dialled, by its route in the table, or a refusal with its reason and count; nothing of another
+/// line is on it.
+///
+/// Each of the posts (feed, pulse, register, translate, deal, 1 to 8 senders, gather and tape) runs
+/// on a thread of its own, and rings of 1 to 1,024 places stand between them. `run` waits for all.
+///
+/// There are no tapes where memory ran out, where a thread could not be started, which the gate may
+/// refuse too (then no row is taken, and the first post that was refused is named, of tape, gather,
+/// the senders from the highest, deal, translate, register, pulse and feed), and where the source
+/// stops with a fault. A fault of the source comes before that of the tapes.
+pub fn run<S: RowSource + Drop + Send, R: Threads + Wait + Clock + Sync, G: Gate + Sync>(
+    rt: &R,
+    alloc: Global,
+    source: S,
+    table: &RouteTable,
+    senders: usize,
+    ring: usize,
+    gate: &G,
+) -> Result<Tapes, BankFault>
+    requires least_senders { 1 ≤ senders }
+    requires most_senders { senders ≤ MOST_BRANCHES }
+    requires least_ring { 1 ≤ ring }
+    requires most_ring { ring ≤ GREATEST_CAPACITY }
+    ensures tapes { let t = table.now in IfOk result (λ tapes.
+        tapes ≡ tapes_of t.plan t.limits t.routes (S.rest source).rows) }
+    ensures marks { let t = table.now in IfOk result (λ tapes. (l : ℕ) → l < LINES →
+        marks_at tapes l ≡ joined_tape t.plan t.limits t.routes l (S.rest source).rows) }
+    ensures entries { let t = table.now in IfOk result (λ tapes. (l : ℕ) → l < LINES →
+        entries_of (marks_at tapes l) ≡ tape_of t.plan t.limits t.routes l (S.rest source).rows) }
+    ensures end { IfOk result (λ tapes. (S.rest source).stop ≡ None) }
+    ensures fault { IfErr result (IsBankFault senders (S.rest source).stop) }
+{
+    let chain = Chain::link(alloc, source, table, senders, ring)?;
+    let done = serve_posts(rt, alloc, chain, gate)?;
+    finish(done)
+}
