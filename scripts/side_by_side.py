@@ -1,9 +1,12 @@
-"""Proves the crates that a program stands on, several side by side, and builds it: side_by_side.py PROGRAM.
+"""Proves the crates that a program stands on, several side by side, and builds it.
 
-scripts/built calls it where the program is to be built. Each crate is proved by `rt lib` as soon as those that it
-stands on are, the one with the longest chain above it first, and the program is built by `rt run`. One rt holds a
-lock on the folder of each crate below the one that it works on, so that two of them would wait for each other. Here
-this process holds these locks for all, and each rt takes none: none works on a crate while another one reads it.
+    side_by_side.py PROGRAM [-- WORD..]
+
+scripts/built calls it where the program is to be built, with its own words. Each crate is proved by `rt lib` as soon
+as those that it stands on are, the one with the longest chain above it first, and the program is built by `rt run`.
+One rt holds a lock on the folder of each crate below the one that it works on, so that two of them would wait for
+each other. Here this process holds these locks for all, and each rt takes none: none works on a crate while another
+one reads it.
 """
 import fcntl
 import os
@@ -15,6 +18,8 @@ import sys
 import time
 
 PARTS = ("src", "specs", "proofs")
+# The status where a program was to be run and could not be built; 0, 1 and 2 are the program's.
+NOT_BUILT = 3
 # At most so many crates are proved side by side.
 LANES = 4
 # What the check of a crate takes in memory, and what each further job of it takes, in bytes.
@@ -34,7 +39,8 @@ class Crate:
     def __init__(self, name, below):
         self.name, self.below = name, below
         self.folder = f"crates/{name}"
-        self.stamp = f"{self.folder}/out/rlib/stamp"
+        # rt writes it last.
+        self.made = self.stamp = f"{self.folder}/out/rlib/stamp"
         self.log = f"{self.folder}/out/log"
 
     def files(self):
@@ -75,9 +81,8 @@ class Program(Crate):
 
     def __init__(self, name, below):
         super().__init__(name, below)
-        self.file = f"{self.folder}/out/{name}"
-        # rt writes it once it has built the program of what it has proved.
-        self.stamp = f"{self.file}.stamp"
+        self.made = f"{self.folder}/out/{name}"
+        self.stamp = f"{self.made}.stamp"
 
     def is_built(self, _):
         """Returns whether rt has come to run the program; the status is then the program's."""
@@ -116,7 +121,7 @@ def number_in(file, pattern):
 
 
 def processors():
-    """Returns how many processors there are to use: what RT_JOBS says, or all, by the quota of the control group too."""
+    """Returns how many processors there are to use: what RT_JOBS says, or all by the control group's quota."""
     found = os.environ.get("RT_JOBS", "")
     if found.isdigit() and int(found):
         return int(found)
@@ -232,7 +237,7 @@ class Lanes:
             ran.wait()
 
 
-def prove_all(lanes):
+def prove_all(lanes, begun):
     """Returns the crate that is not proved, or None."""
     done = 0
     while lanes.left or lanes.running:
@@ -240,38 +245,54 @@ def prove_all(lanes):
         crate, is_proved = lanes.wait()
         if not is_proved:
             return crate
+        # What is edited from then on is newer.
+        os.utime(crate.made, ns=(begun, begun))
         done += 1
         lanes.say(f"{crate.name} is {crate.done}, {done} of {lanes.count}")
     return None
 
 
-def main(name):
+def build(name):
+    """Returns the program, proved and built, or None, where it has said why not."""
     crates = crates_below(name)
     program = crates[-1]
     lanes = Lanes(name, crates)
     for it in (signal.SIGINT, signal.SIGTERM, signal.SIGHUP):
         signal.signal(it, lambda number, _: sys.exit(128 + number))
     lanes.lock()
+    # scripts/built takes no program beside this file.
+    unfinished = f"{program.made}.unfinished"
     os.makedirs(f"{program.folder}/out", exist_ok=True)
-    # Its time is that of what is built: what is edited from now on is newer.
-    unfinished = f"{program.file}.unfinished"
     with open(unfinished, "w"):
         os.utime(unfinished)
     lanes.plan()
     lanes.say(f"{lanes.count} of {len(crates)} crates are to be proved, up to {LANES} side by side")
     try:
-        failed = prove_all(lanes)
+        failed = prove_all(lanes, os.stat(unfinished).st_mtime_ns)
     finally:
         lanes.stop()
     if failed:
         print(*failed.errors(), sep="\n", file=sys.stderr)
         lanes.say(f"{failed.name} is not proved, so {name} is not built: {failed.log} says why")
-        return 1
-    begun = os.stat(unfinished).st_mtime_ns
-    os.utime(program.file, ns=(begun, begun))
+        return None
     os.remove(unfinished)
-    return 0
+    return os.path.abspath(program.made)
+
+
+def main(name, *words):
+    here = os.getcwd()
+    os.chdir(os.path.dirname(os.path.dirname(os.path.realpath(__file__))))
+    program = build(name)
+    if not words:
+        return 0 if program else 1
+    if not program:
+        return NOT_BUILT
+    # Python ignores some signals, and the program would too.
+    for it in (signal.SIGINT, signal.SIGTERM, signal.SIGHUP, signal.SIGPIPE, signal.SIGXFSZ):
+        signal.signal(it, signal.SIG_DFL)
+    os.chdir(here)
+    os.execv(program, [program, *words[1:]])
 
 
 if __name__ == "__main__":
-    sys.exit(main(sys.argv[1]))
+    sys.exit(main(*sys.argv[1:]))
