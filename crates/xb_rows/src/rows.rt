@@ -1,6 +1,6 @@
 // The rows of a whole text, and of a reader.
-ghost use Rattle.std.specs.Prelude.{IfErr, IfOk, IfSome};
-ghost use Rattle.xb_rows.specs.RowResults.{AreRowsOf, IsFaultOf, IsReadFaultOf, IsReadToEnd};
+ghost use Rattle.std.specs.Prelude.{◌≡◌, IfErr, IfOk, IfSome};
+ghost use Rattle.xb_rows.specs.RowResults.{AreRowsOf, IsFaultOf, IsReadFaultOf, IsReadToEnd, fault_of_read};
 
 use crate::scan::Scan;
 use std::alloc::Global;
@@ -24,6 +24,16 @@ pub(crate) fn read_text(alloc: Global, text: &[u8]) -> Result<Vec<Row>, RowFault
     Ok(rows)
 }
 
+// Why there are no rows, where the reader was not read to its end.
+fn fault_of_read(fault: ReadFault) -> RowFault
+    ensures { result ≡ fault_of_read fault }
+{
+    match fault {
+        ReadFault::NoMemory => RowFault::NoMemory,
+        ReadFault::Failed | ReadFault::TooLong => RowFault::Read,
+    }
+}
+
 /// The rows of a reader's bytes, which are read to their end first: `Read` where a read failed, an
 /// interrupted one too, or 2^64 - 1 reads did not reach the end; else the faults of `Scan`, and
 /// `NoMemory` where memory ran out. After any result but `Read` and `NoMemory` the reader stands at
@@ -38,7 +48,6 @@ pub fn read_rows<R: Read>(alloc: Global, reader: &mut R) -> Result<Vec<Row>, Row
 {
     match read_whole(alloc, reader, usize::MAX) {
         Ok(text) => read_text(alloc, text.as_slice()),
-        Err(ReadFault::NoMemory) => Err(RowFault::NoMemory),
-        Err(_) => Err(RowFault::Read),
+        Err(fault) => Err(fault_of_read(fault)),
     }
 }
