@@ -35,23 +35,43 @@ fn station_looks_at_its_output(rt: HostRuntime) -> Result<(), AllocError> {
     Ok(())
 }
 
-#[test]
-fn station_looks_at_its_input(rt: HostRuntime) -> Result<(), AllocError> {
-    let (mut first, of_first) = sent_one(&rt, rt.alloc())?;
-    let (marks, _sent) = link(rt.alloc(), 1)?;
-    let mut second = Station::new(rt.alloc(), Pairs, of_first, marks)?;
-    second.look(0, &mut first, 0);
+// A second station after the first looks at its input.
+fn assert_station_looks(
+    rt: &impl Abort,
+    alloc: Global,
+    first: &mut Station<Pairs>,
+    of_first: Consumer<Flow<Numbered>>,
+) -> Result<(), AllocError>
+    requires pair { IsPair first.old.producer of_first }
+    requires received { received of_first ≡ [] }
+{
+    let (marks, _sent) = link(alloc, 1)?;
+    let mut second = Station::new(alloc, Pairs, of_first, marks)?;
+    second.look(0, first, 0);
     let (input, _marks) = second.into_ends();
     assert_eq!(rt; input.cached_slots(), 1);
     Ok(())
 }
 
 #[test]
-fn deal_looks_at_its_rings(rt: HostRuntime) -> Result<(), AllocError> {
-    let (mut station, input) = sent_one(&rt, rt.alloc())?;
-    let (output, mut sent) = link(rt.alloc(), 1)?;
-    let mut deal = Deal::new(input, vec![in rt.alloc(); output]?);
-    deal.look(0, &mut station, 0);
+fn station_looks_at_its_input(rt: HostRuntime) -> Result<(), AllocError> {
+    let (mut first, of_first) = sent_one(&rt, rt.alloc())?;
+    assert_station_looks(&rt, rt.alloc(), &mut first, of_first)
+}
+
+// A deal after a station looks at its input, and then at its output.
+fn assert_deal_looks(
+    rt: &impl Abort,
+    alloc: Global,
+    station: &mut Station<Pairs>,
+    input: Consumer<Flow<Numbered>>,
+) -> Result<(), AllocError>
+    requires pair { IsPair station.old.producer input }
+    requires received { received input ≡ [] }
+{
+    let (output, mut sent) = link(alloc, 1)?;
+    let mut deal = Deal::new(input, vec![in alloc; output]?);
+    deal.look(0, station, 0);
     assert_eq!(rt; deal.turn(), Turn::Moved);
     assert_eq!(rt; deal.turn(), Turn::Moved);
     deal.look_at(0, &mut sent);
@@ -60,14 +80,33 @@ fn deal_looks_at_its_rings(rt: HostRuntime) -> Result<(), AllocError> {
 }
 
 #[test]
-fn gather_looks_at_its_rings(rt: HostRuntime) -> Result<(), AllocError> {
+fn deal_looks_at_its_rings(rt: HostRuntime) -> Result<(), AllocError> {
     let (mut station, input) = sent_one(&rt, rt.alloc())?;
-    let (output, mut sent) = link(rt.alloc(), 1)?;
-    let mut gather: Gather<Numbered> = Gather::new(vec![in rt.alloc(); input]?, output);
-    gather.look(0, &mut station, 0);
+    assert_deal_looks(&rt, rt.alloc(), &mut station, input)
+}
+
+// A gather after a station looks at its input, and then at its output.
+fn assert_gather_looks(
+    rt: &impl Abort,
+    alloc: Global,
+    station: &mut Station<Pairs>,
+    input: Consumer<Flow<Numbered>>,
+) -> Result<(), AllocError>
+    requires pair { IsPair station.old.producer input }
+    requires received { received input ≡ [] }
+{
+    let (output, mut sent) = link(alloc, 1)?;
+    let mut gather: Gather<Numbered> = Gather::new(vec![in alloc; input]?, output);
+    gather.look(0, station, 0);
     assert_eq!(rt; gather.turn(), Turn::Moved);
     assert_eq!(rt; gather.turn(), Turn::Moved);
     gather.look_at(0, &mut sent);
     assert_eq!(rt; sent.cached_slots(), 1);
     Ok(())
+}
+
+#[test]
+fn gather_looks_at_its_rings(rt: HostRuntime) -> Result<(), AllocError> {
+    let (mut station, input) = sent_one(&rt, rt.alloc())?;
+    assert_gather_looks(&rt, rt.alloc(), &mut station, input)
 }

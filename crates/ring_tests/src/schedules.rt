@@ -77,36 +77,54 @@ fn link_branches(alloc: Global, count: usize, ring: usize) -> Result<Branches, A
     })
 }
 
-// The posts, with the end that feeds them and the end that they send to.
-fn link_posts(
+// A station after the end of a ring, and the end of the ring that it sends to.
+fn station_after(
     alloc: Global,
+    items: Consumer<Flow<Numbered>>,
+    ring: usize,
+) -> Result<(Station<Pairs>, Consumer<Flow<Numbered>>), AllocError>
+    requires least { 1 ≤ ring }
+    requires most { ring ≤ 1024 }
+    requires received { received items ≡ [] }
+    ensures { IfOk result (λ ends. received ends.1 ≡ []) }
+{
+    let (output, sent) = link(alloc, ring)?;
+    let station = Station::new(alloc, Pairs, items, output)?;
+    Ok((station, sent))
+}
+
+// The posts after the end of a ring, and the end of the ring that they send to.
+fn posts_after(
+    alloc: Global,
+    items: Consumer<Flow<Numbered>>,
     count: usize,
     ring: usize,
-) -> Result<(Producer<Flow<Numbered>>, Posts, Consumer<Flow<Numbered>>), AllocError>
+) -> Result<(Posts, Consumer<Flow<Numbered>>), AllocError>
     requires some { 1 ≤ count }
     requires few { count ≤ 8 }
     requires least { 1 ≤ ring }
     requires most { ring ≤ 1024 }
+    requires received { received items ≡ [] }
 {
-    let (feed, rows) = link(alloc, ring)?;
-    let (to_second, of_first) = link(alloc, ring)?;
-    let (to_third, of_second) = link(alloc, ring)?;
-    let (to_deal, of_third) = link(alloc, ring)?;
     let (to_tape, tape) = link(alloc, ring)?;
     let Branches {
         outputs,
         stations,
         inputs,
     } = link_branches(alloc, count, ring)?;
+    let gather = Gather::new(inputs, to_tape);
+    let (first, of_first) = station_after(alloc, items, ring)?;
+    let (second, of_second) = station_after(alloc, of_first, ring)?;
+    let (third, of_third) = station_after(alloc, of_second, ring)?;
     let posts = Posts {
-        first: Station::new(alloc, Pairs, rows, to_second)?,
-        second: Station::new(alloc, Pairs, of_first, to_third)?,
-        third: Station::new(alloc, Pairs, of_second, to_deal)?,
+        first,
+        second,
+        third,
         deal: Deal::new(of_third, outputs),
         branches: stations,
-        gather: Gather::new(inputs, to_tape),
+        gather,
     };
-    Ok((feed, posts, tape))
+    Ok((posts, tape))
 }
 
 // What the stages make of the items, each for the whole list.
@@ -169,6 +187,32 @@ fn take_all(
     false
 }
 
+// Feeds the items and gives the posts turns by the dice; whether the End arrived.
+fn play(
+    rt: &impl Abort,
+    dice: &mut Dice,
+    posts: &mut Posts,
+    ends: (&mut Producer<Flow<Numbered>>, &mut Consumer<Flow<Numbered>>),
+    lists: (&[Numbered], &[Numbered]),
+    schedule: u64,
+) -> bool {
+    let (feed, tape) = ends;
+    let (items, whole) = lists;
+    let sides = (posts.branches.len() as u64).saturating_add(6);
+    let mut fed = 0;
+    let mut taken = 0;
+    for _ in 0..MOST_TURNS {
+        let post = dice.throw(sides) as usize;
+        if posts.turn(post).is_none() && feed_next(feed, items, fed) {
+            fed = fed.saturating_add(1);
+        }
+        if take_all(rt, tape, whole, &mut taken, schedule) {
+            return true;
+        }
+    }
+    false
+}
+
 // Runs one schedule; whether the End arrived.
 fn run_schedule(rt: &impl Abort, alloc: Global, schedule: u64) -> Result<bool, AllocError> {
     let mut dice = Dice::new(schedule.saturating_add(1));
@@ -176,19 +220,10 @@ fn run_schedule(rt: &impl Abort, alloc: Global, schedule: u64) -> Result<bool, A
     let ring = dice.throw(3) as usize + 1;
     let items = random_items(rt, alloc, &mut dice)?;
     let whole = whole_image(alloc, items.clone()?)?;
-    let (mut feed, mut posts, mut tape) = link_posts(alloc, count, ring)?;
-    let mut fed = 0;
-    let mut taken = 0;
-    for _ in 0..MOST_TURNS {
-        let post = dice.throw(count as u64 + 6) as usize;
-        if posts.turn(post).is_none() && feed_next(&mut feed, &items, fed) {
-            fed = fed.saturating_add(1);
-        }
-        if take_all(rt, &mut tape, &whole, &mut taken, schedule) {
-            return Ok(true);
-        }
-    }
-    Ok(false)
+    let (mut feed, rows) = link(alloc, ring)?;
+    let (mut posts, mut tape) = posts_after(alloc, rows, count, ring)?;
+    let ends = (&mut feed, &mut tape);
+    Ok(play(rt, &mut dice, &mut posts, ends, (&items, &whole), schedule))
 }
 
 #[test]

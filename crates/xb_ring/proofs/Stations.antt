@@ -1,5 +1,5 @@
 -- What keeps the fields of a station in agreement.
-use Rattle.std.proofs.Common.{min, ◌+◌, ◌-◌, ◌^◌, ◌≡◌, ℕ, ◌<◌, ◌≤◌, true, false, eqb, List, [], ◌∷◌, ◌++◌, map, get_or, set, drop, length, refl, sym, ap, ◌∙◌, subst, ⊎_elim, eqb-true, append-nil, append_assoc, vec_len, vec_capacity, arith}
+use Rattle.std.proofs.Common.{◌≢◌, Bool, min, ◌+◌, ◌-◌, ◌^◌, ◌≡◌, ℕ, ◌<◌, ◌≤◌, true, false, eqb, List, [], ◌∷◌, ◌++◌, map, get_or, set, drop, length, refl, sym, ap, ◌∙◌, subst, ⊎_elim, eqb-true, append-nil, append_assoc, vec_len, vec_capacity, arith}
 use Rattle.std.specs.declared.vec.Vec.{Vec}
 use Rattle.std.specs.List.{All}
 use Rattle.std.proofs.lemmas.Bool.{cases_Bool}
@@ -11,7 +11,7 @@ use Rattle.xb_stage.specs.declared.stage.TheConstants.{OUTPUT_ROOM}
 use Rattle.xb_model.specs.declared.line.TheConstants.{LINES}
 use Rattle.xb_stage.specs.Image.{Machine, state_after}
 use Rattle.xb_stage.specs.States.{AreStates}
-use Rattle.xb_ring.specs.Flows.{items_of, flow_of, flow_image, counted}
+use Rattle.xb_ring.specs.Flows.{has_end, items_of, flow_of, flow_image, counted}
 use Rattle.xb_ring.specs.Stations.{FieldsAgree, StationLaw, is_ending, is_closed, is_over}
 use Rattle.xb_stage.proofs.Images.{image_after-none}
 use Rattle.xb_ring.proofs.Flows.{items_of-item, items_of-end, has_end-item, has_end-end, flow_image-item, flow_image-end, IsFlow-item, IsFlow-end, count_more}
@@ -43,11 +43,37 @@ over_phase Open h = cc
 over_phase Ending h = cc
 over_phase Over h = refl
 
+-- nothing is pending
+pub none_pending : {X : Type 0} (xs : List X) (ends : Bool) → flow_of xs ends ≡ [] → (xs ≡ []) × (ends ≡ false)
+none_pending [] false h = (refl, refl)
+none_pending [] true h = absurd (cc)
+none_pending (x ∷ xs) ends h = absurd (cc)
+
+open_of : (p : Phase) → is_ending p ≡ false → is_over p ≡ false → p ≡ Open
+open_of Open a b = refl
+open_of Ending a b = absurd (cc)
+open_of Over a b = absurd (cc)
+
+ending_of : (p : Phase) → is_ending p ≡ true → p ≡ Ending
+ending_of Open a = absurd (cc)
+ending_of Ending a = refl
+ending_of Over a = absurd (cc)
+
 module _ {I O S Z : Type 0} (line : I → ℕ) (m : Machine I O S) (states : List S) (pending : Vec O Z) (phase : Phase) (taken : ℕ) (ins : List (Flow I)) (outs : List (Flow O))
     (k : FieldsAgree line m states pending phase taken ins outs) where
   -- with nothing held, all was sent
   all_sent : phase ≡ Open → pending.items ≡ [] → outs ≡ flow_image line m ins
   all_sent e n = sym (append-nil outs) ∙ ap (λ zs. outs ++ zs) (sym (ap (λ ys. flow_of ys (is_ending phase)) n ∙ ap (λ p. flow_of {X = O} [] (is_ending p)) e)) ∙ k.law
+
+  -- with nothing pending and no End sent, it is open
+  pub opens : flow_of pending.items (is_ending phase) ≡ [] → has_end outs ≡ false → (phase ≡ Open) × (pending.items ≡ [])
+  opens h e =
+      let n = none_pending _ _ h in
+      (open_of phase n.1 (sym k.over ∙ e), n.0)
+
+  -- with no item pending, but the End, it is ending
+  pub ends_next : pending.items ≡ [] → flow_of pending.items (is_ending phase) ≢ [] → phase ≡ Ending
+  ends_next n h = ⊎_elim (λ t. ending_of phase t) (λ f. absurd (h (ap (λ ys. flow_of ys (is_ending phase)) n ∙ ap (λ ends. flow_of {X = O} [] ends) f))) (cases_Bool (is_ending phase))
 
   -- the station takes an item
   module _ (x : I) (e : phase ≡ Open) (n : pending.items ≡ []) (lines : length states ≡ LINES) (below : line x < LINES)

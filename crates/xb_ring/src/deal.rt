@@ -158,7 +158,8 @@ impl<T: Drop> Deal<T> {
     }
 
     /// Looks at both ends of the input, which is output `j` of `up`. The consumer then knows of
-    /// every item that was sent and not received.
+    /// every item that was sent and not received. Any `_k` names the one input, so that a caller
+    /// looks at each kind of post alike.
     pub fn look<U: Sends<T>>(&mut self, _k: usize, up: &mut U, j: usize)
         requires { IsPairAt (U.outputs up.old) j self.old.consumer }
         ensures up { U.looked up.old up.new }

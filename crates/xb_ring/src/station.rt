@@ -56,7 +56,7 @@ impl<S: LineStage> Model for Station<S> {
 }
 
 impl<S: LineStage> Station<S> {
-    ghost use Rattle.std.specs.Prelude.{◌≡◌, ◌↔◌, [], IfOk, true};
+    ghost use Rattle.std.specs.Prelude.{◌≡◌, ◌≢◌, ◌↔◌, [], IfOk, true, false};
     ghost use Rattle.rtrb.specs.Ring.{sent, received, ConsumerLooked};
     ghost use Rattle.xb_ring.specs.Flows.{has_end};
     ghost use Rattle.xb_ring.specs.Rings.{IsPairAt, IsRingAt};
@@ -93,35 +93,39 @@ impl<S: LineStage> Station<S> {
         })
     }
 
-    /// Makes at most one event: where something is pending it sends the first of it, else it takes
-    /// one item with the state of its line. It neither waits nor takes memory.
-    pub fn turn(&mut self) -> Turn
+    // Takes an item with the state of its line, or the End.
+    fn take(&mut self) -> Turn
+        requires wanted { self.old.pending ≡ [] }
+        requires open { has_end (sent self.old.producer) ≡ false }
         ensures ends { SameStation self.old self.new }
         ensures event { IsStationTurn self.old result self.new }
-        ensures ended { (result ≡ Ended) ↔ (has_end (sent self.old.producer) ≡ true) }
+        ensures not_ended { result ≢ Ended }
         ensures lawful { StationLaw S.In.line_of (S.machine self.new.stage)
             (received self.new.consumer) (sent self.new.producer) self.new.pending }
     {
-        if self.pending.is_empty() {
-            match self.phase {
-                Phase::Open => {
-                    return match self.consumer.pop() {
-                        Ok(Flow::Item(item)) => {
-                            self.taken = self.taken.saturating_add(1);
-                            take_item(&self.stage, &mut self.states, item, &mut self.pending);
-                            Turn::Moved
-                        }
-                        Ok(Flow::End) => {
-                            self.phase = Phase::Ending;
-                            Turn::Moved
-                        }
-                        Err(_) => Turn::Idle,
-                    };
-                }
-                Phase::Over => return Turn::Ended,
-                Phase::Ending => {}
+        match self.consumer.pop() {
+            Ok(Flow::Item(item)) => {
+                self.taken = self.taken.saturating_add(1);
+                take_item(&self.stage, &mut self.states, item, &mut self.pending);
+                Turn::Moved
             }
+            Ok(Flow::End) => {
+                self.phase = Phase::Ending;
+                Turn::Moved
+            }
+            Err(_) => Turn::Idle,
         }
+    }
+
+    // Sends the first of what is pending, the End being the last of it.
+    fn send(&mut self) -> Turn
+        requires { self.old.pending ≢ [] }
+        ensures ends { SameStation self.old self.new }
+        ensures event { IsStationTurn self.old result self.new }
+        ensures not_ended { result ≢ Ended }
+        ensures lawful { StationLaw S.In.line_of (S.machine self.new.stage)
+            (received self.new.consumer) (sent self.new.producer) self.new.pending }
+    {
         if self.producer.is_full() {
             return Turn::Blocked;
         }
@@ -133,6 +137,25 @@ impl<S: LineStage> Station<S> {
             self.producer.push_reserved(Flow::Item(first));
         }
         Turn::Moved
+    }
+
+    /// Makes at most one event: where something is pending it sends the first of it, else it takes
+    /// one item with the state of its line. It neither waits nor takes memory.
+    pub fn turn(&mut self) -> Turn
+        ensures ends { SameStation self.old self.new }
+        ensures event { IsStationTurn self.old result self.new }
+        ensures ended { (result ≡ Ended) ↔ (has_end (sent self.old.producer) ≡ true) }
+        ensures lawful { StationLaw S.In.line_of (S.machine self.new.stage)
+            (received self.new.consumer) (sent self.new.producer) self.new.pending }
+    {
+        if !self.pending.is_empty() {
+            return self.send();
+        }
+        match self.phase {
+            Phase::Open => self.take(),
+            Phase::Ending => self.send(),
+            Phase::Over => Turn::Ended,
+        }
     }
 
     /// Makes turns until the End was sent. It passes the gate before each turn, as this post, and
@@ -158,7 +181,8 @@ impl<S: LineStage> Station<S> {
     }
 
     /// Looks at both ends of the input, which is output `j` of `up`. The consumer then knows of
-    /// every item that was sent and not received.
+    /// every item that was sent and not received. Any `_k` names the one input, so that a caller
+    /// looks at each kind of post alike.
     pub fn look<U: Sends<S::In>>(&mut self, _k: usize, up: &mut U, j: usize)
         requires { IsPairAt (U.outputs up.old) j self.old.consumer }
         ensures up { U.looked up.old up.new }
