@@ -70,10 +70,17 @@ class Crate:
         """Returns whether rt has ended well; where a source changed while it worked it leaves no stamp."""
         return status == 0 and os.path.isfile(self.stamp)
 
-    def errors(self):
+    def said(self):
+        """Returns the lines of what rt said."""
         with open(self.log, encoding="utf-8", errors="replace") as log:
-            lines = log.read().splitlines()
-        return [f"{self.folder}: {it}" for it in [it for it in lines if ERRORS.search(it)][:20] or lines[-5:]]
+            return log.read().splitlines()
+
+    def faults(self):
+        """Returns lines that say why the crate is not proved."""
+        if any(it.startswith("logic=proved ") for it in self.said()):
+            return [f"{self.folder}: a file was changed while it was proved; run this again"]
+        found = [it for it in self.said() if ERRORS.search(it)][:20] or self.said()[-5:]
+        return [f"{self.folder}: {it}" for it in found]
 
 
 class Program(Crate):
@@ -86,9 +93,8 @@ class Program(Crate):
 
     def is_built(self, _):
         """Returns whether rt has come to run the program; the status is then the program's."""
-        with open(self.log, encoding="utf-8", errors="replace") as log:
-            has_run = re.search(r"^rt: running ", log.read(), re.M)
-        return bool(has_run) and os.path.isfile(self.stamp)
+        has_run = any(it.startswith("rt: running ") for it in self.said())
+        return has_run and os.path.isfile(self.stamp)
 
 
 def crates_below(program):
@@ -106,9 +112,8 @@ def crates_below(program):
             made[name] = kind(name, below)
         return made[name]
 
-    if program not in named:
-        sys.exit(f"built: crates.txt does not name {program}")
-    make(program, Program)
+    if program in named:
+        make(program, Program)
     return [*made.values()]
 
 
@@ -210,10 +215,7 @@ class Lanes:
         nice = [] if self.is_awaited(crate) else ["nice", "-n", "5"]
         self.left.remove(crate)
         os.makedirs(f"{crate.folder}/out", exist_ok=True)
-        rt = shutil.which("rt") or sys.exit("built: the kit's command rt is not in PATH")
-        with open(rt, "rb") as text:
-            is_python = b"python" in text.readline()
-        words = [*nice, *([sys.executable, "-c", WITHOUT_LOCKS] if is_python else []), rt]
+        words = [*nice, sys.executable, "-c", WITHOUT_LOCKS, shutil.which("rt")]
         words += ["run" if isinstance(crate, Program) else "lib", "--jobs", str(jobs)]
         with open(crate.log, "wb") as log:
             how = {"stdin": subprocess.DEVNULL, "stdout": log, "stderr": subprocess.STDOUT, "pass_fds": self.held}
@@ -255,8 +257,11 @@ def prove_all(lanes, begun):
 def build(name):
     """Returns the program, proved and built, or None, where it has said why not."""
     crates = crates_below(name)
-    program = crates[-1]
-    lanes = Lanes(name, crates)
+    if not crates or not shutil.which("rt"):
+        why = "the kit's command rt is not in PATH" if crates else "crates.txt does not name it"
+        print(f"{name} is not built: {why}", file=sys.stderr)
+        return None
+    program, lanes = crates[-1], Lanes(name, crates)
     for it in (signal.SIGINT, signal.SIGTERM, signal.SIGHUP):
         signal.signal(it, lambda number, _: sys.exit(128 + number))
     lanes.lock()
@@ -272,7 +277,7 @@ def build(name):
     finally:
         lanes.stop()
     if failed:
-        print(*failed.errors(), sep="\n", file=sys.stderr)
+        print(*failed.faults(), sep="\n", file=sys.stderr)
         lanes.say(f"{failed.name} is not proved, so {name} is not built: {failed.log} says why")
         return None
     os.remove(unfinished)
