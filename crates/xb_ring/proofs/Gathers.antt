@@ -20,7 +20,7 @@ use Rattle.xb_ring.specs.declared.turn.Turn.TheVariants.{Idle, Blocked, Moved, E
 use Rattle.xb_ring.specs.Flows.{items_of, has_end, flow_of, IsFlow, counted}
 use Rattle.xb_ring.specs.DealSteps.{next_place}
 use Rattle.xb_ring.specs.Merged.{piece_at, stop, merged, IsMerged}
-use Rattle.xb_ring.specs.GatherSteps.{sent_of, left_of, GatherAgrees, Open, Closes, HasGathered, items_at, ended_in, to_send, all_ended, close_next, closed_by, gathered_of, IsClosing, Awaits, CanGather, items_in}
+use Rattle.xb_ring.specs.GatherSteps.{sent_of, left_of, GatherAgrees, Open, Closes, HasGathered, items_at, ended_in, to_send, all_ended, close_next, closed_by, gathered_of, held_after, Awaits, CanGather, items_in}
 use Rattle.xb_ring.specs.Gathers.{GatherOf, GatherLawOf, HasMergedOf, IsGatherTurn}
 use Rattle.xb_ring.proofs.Flows.{has_end-flow, flow-whole, count_on}
 use Rattle.xb_ring.proofs.Merged.{merged_from, merged_from-last, merged_is, merged_is-last, merged_once, stop_once, merges_none}
@@ -123,6 +123,31 @@ module _ {T : Type 0} (ends : T → Bool) (ins : List (List (Flow T))) (outs : L
   counts_closed first e y =
       let c = subst (λ h. HasGathered ends (length ins) h ins place g.items) e g.gathered in
       counts y c.1 (closing_open first c)
+
+  -- it takes what is wanted
+  pub gathers_wanted : Awaits held → (y : Flow T)
+      → GatherAgrees ends (set ins place (get_or ins place [] ++ y ∷ [])) outs (held_after ends (length ins) place held y).0 (held_after ends (length ins) place held y).1
+  gathers_wanted awaits y = at held refl awaits
+    where
+      at : (h : Gathered T) → held ≡ h → Awaits h
+          → GatherAgrees ends (set ins place (get_or ins place [] ++ y ∷ [])) outs (held_after ends (length ins) place h y).0 (held_after ends (length ins) place h y).1
+      at Wants e a = gathers_taken e y
+      at (One x) e a = absurd a
+      at (Closing first) e a = gathers_closed first e y
+      at Ends e a = absurd a
+      at Over e a = absurd a
+
+  pub counts_wanted : Awaits held → (y : Flow T) (taken : ℕ) → taken ≡ counted (items_in ins)
+      → min (taken + length (items_of (y ∷ []))) (2 ^ 64 - 1) ≡ counted (items_in (set ins place (get_or ins place [] ++ y ∷ [])))
+  counts_wanted awaits y taken = at held refl awaits
+    where
+      at : (h : Gathered T) → held ≡ h → Awaits h → taken ≡ counted (items_in ins)
+          → min (taken + length (items_of (y ∷ []))) (2 ^ 64 - 1) ≡ counted (items_in (set ins place (get_or ins place [] ++ y ∷ [])))
+      at Wants e a = counts_taken e y taken
+      at (One x) e a = absurd a
+      at (Closing first) e a = counts_closed first e y taken
+      at Ends e a = absurd a
+      at Over e a = absurd a
 
   -- the gather sends what it holds
   pub gathers_sent : CanGather held → GatherAgrees ends ins (outs ++ sent_of held ∷ []) (left_of held) place
@@ -251,13 +276,6 @@ pub pop_empty : {T A P E : Type 0} (cs : List (Consumer T A P)) (place : ℕ) (c
     → OnErr r ((received d ≡ received c) × Q) → OnErr r (map received (set cs place d) ≡ map received cs)
 pop_empty cs place c d (Ok x) Q h is e = tt
 pop_empty cs place c d (Err f) Q h is e = map-set_same received cs place d c (e.0 ∙ ap received is)
-
-pub closing_is : {T : Type 0} (h : Gathered T) (first : ℕ) → IsClosing h first → h ≡ Closing first
-closing_is Wants first k = absurd k
-closing_is (One x) first k = absurd k
-closing_is (Closing i) first k = ap Closing k
-closing_is Ends first k = absurd k
-closing_is Over first k = absurd k
 
 -- a turn returns Ended exactly where the End was sent before
 pub gather_ended : {T A P Q : Type 0} (ends : T → Bool) (old new : GatherOf T A P Q) (r : Turn)

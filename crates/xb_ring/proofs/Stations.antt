@@ -12,7 +12,7 @@ use Rattle.xb_model.specs.declared.line.TheConstants.{LINES}
 use Rattle.xb_stage.specs.Image.{Machine, state_after}
 use Rattle.xb_stage.specs.States.{AreStates}
 use Rattle.xb_ring.specs.Flows.{has_end, items_of, flow_of, flow_image, counted}
-use Rattle.xb_ring.specs.Stations.{FieldsAgree, StationLaw, is_ending, is_closed, is_over}
+use Rattle.xb_ring.specs.Stations.{FieldsAgree, StationLaw, end_is_pending, is_closed, is_over}
 use Rattle.xb_stage.proofs.Images.{image_after-none}
 use Rattle.xb_ring.proofs.Flows.{items_of-item, items_of-end, has_end-item, has_end-end, flow_image-item, flow_image-end, IsFlow-item, IsFlow-end, count_more}
 use Rattle.xb_stage.proofs.States.{states_more, states_fresh}
@@ -49,12 +49,12 @@ none_pending [] false h = (refl, refl)
 none_pending [] true h = absurd (cc)
 none_pending (x ∷ xs) ends h = absurd (cc)
 
-open_of : (p : Phase) → is_ending p ≡ false → is_over p ≡ false → p ≡ Open
+open_of : (p : Phase) → end_is_pending p ≡ false → is_over p ≡ false → p ≡ Open
 open_of Open a b = refl
 open_of Ending a b = absurd (cc)
 open_of Over a b = absurd (cc)
 
-ending_of : (p : Phase) → is_ending p ≡ true → p ≡ Ending
+ending_of : (p : Phase) → end_is_pending p ≡ true → p ≡ Ending
 ending_of Open a = absurd (cc)
 ending_of Ending a = refl
 ending_of Over a = absurd (cc)
@@ -63,27 +63,27 @@ module _ {I O S Z : Type 0} (line : I → ℕ) (m : Machine I O S) (states : Lis
     (k : FieldsAgree line m states pending phase taken ins outs) where
   -- with nothing held, all was sent
   all_sent : phase ≡ Open → pending.items ≡ [] → outs ≡ flow_image line m ins
-  all_sent e n = sym (append-nil outs) ∙ ap (λ zs. outs ++ zs) (sym (ap (λ ys. flow_of ys (is_ending phase)) n ∙ ap (λ p. flow_of {X = O} [] (is_ending p)) e)) ∙ k.law
+  all_sent e n = sym (append-nil outs) ∙ ap (λ zs. outs ++ zs) (sym (ap (λ ys. flow_of ys (end_is_pending phase)) n ∙ ap (λ p. flow_of {X = O} [] (end_is_pending p)) e)) ∙ k.law
 
   -- with nothing pending and no End sent, it is open
-  pub opens : flow_of pending.items (is_ending phase) ≡ [] → has_end outs ≡ false → (phase ≡ Open) × (pending.items ≡ [])
+  pub opens : flow_of pending.items (end_is_pending phase) ≡ [] → has_end outs ≡ false → (phase ≡ Open) × (pending.items ≡ [])
   opens h e =
       let n = none_pending _ _ h in
       (open_of phase n.1 (sym k.over ∙ e), n.0)
 
   -- with no item pending, but the End, it is ending
-  pub ends_next : pending.items ≡ [] → flow_of pending.items (is_ending phase) ≢ [] → phase ≡ Ending
-  ends_next n h = ⊎_elim (λ t. ending_of phase t) (λ f. absurd (h (ap (λ ys. flow_of ys (is_ending phase)) n ∙ ap (λ ends. flow_of {X = O} [] ends) f))) (cases_Bool (is_ending phase))
+  pub ends_next : pending.items ≡ [] → flow_of pending.items (end_is_pending phase) ≢ [] → phase ≡ Ending
+  ends_next n h = ⊎_elim (λ t. ending_of phase t) (λ f. absurd (h (ap (λ ys. flow_of ys (end_is_pending phase)) n ∙ ap (λ ends. flow_of {X = O} [] ends) f))) (cases_Bool (end_is_pending phase))
 
   -- the station takes an item
   module _ (x : I) (e : phase ≡ Open) (n : pending.items ≡ []) (lines : length states ≡ LINES) (below : line x < LINES)
       (states' : List S) (state : (d : S) → states' ≡ set states (line x) (m.next (get_or states (line x) d) x))
       (pending' : Vec O Z) (sends : (d : S) → pending'.items ≡ m.outs (get_or states (line x) d) x) (room : vec_capacity pending' ≡ vec_capacity pending) where
-    pub item_law : outs ++ flow_of pending'.items (is_ending phase) ≡ flow_image line m (ins ++ Item x ∷ [])
+    pub item_law : outs ++ flow_of pending'.items (end_is_pending phase) ≡ flow_image line m (ins ++ Item x ∷ [])
     item_law =
         let q = state_after line m (items_of ins) (line x) in
         let s : get_or states (line x) q ≡ q = k.lines (line x) q below in
-        ap (λ p. outs ++ flow_of pending'.items (is_ending p)) e
+        ap (λ p. outs ++ flow_of pending'.items (end_is_pending p)) e
         ∙ ap (λ ys. outs ++ ys) (append-nil (map Item pending'.items) ∙ ap (map Item) (sends q ∙ ap (λ p. m.outs p x) s))
         ∙ ap (λ zs. zs ++ map Item (m.outs q x)) (all_sent e n)
         ∙ sym (flow_image-item line m ins x (k.closed ∙ ap is_closed e))
@@ -135,7 +135,7 @@ module _ {I O S Z : Type 0} (line : I → ℕ) (m : Machine I O S) (states : Lis
     law =
         ap (λ ys. (outs ++ End ∷ []) ++ flow_of ys false) n
         ∙ append-nil (outs ++ End ∷ [])
-        ∙ ap (λ zs. outs ++ zs) (sym (ap (λ ys. flow_of ys (is_ending phase)) n ∙ ap (λ p. flow_of {X = O} [] (is_ending p)) e))
+        ∙ ap (λ zs. outs ++ zs) (sym (ap (λ ys. flow_of ys (end_is_pending phase)) n ∙ ap (λ p. flow_of {X = O} [] (end_is_pending p)) e))
         ∙ k.law;
     closed = k.closed ∙ ap is_closed e;
     over = has_end-end outs (k.over ∙ ap is_over e);
@@ -149,8 +149,8 @@ module _ {I O S Z : Type 0} (line : I → ℕ) (m : Machine I O S) (states : Lis
     open_phase : is_closed phase ≡ false
     open_phase = ⊎_elim (λ t. let none = k.none t in cc) (λ f. f) (cases_Bool (is_closed phase))
 
-    sent_law : (outs ++ Item y ∷ []) ++ flow_of pending'.items (is_ending phase) ≡ flow_image line m ins
-    sent_law = append_assoc outs (Item y ∷ []) _ ∙ ap (λ ys. outs ++ flow_of ys (is_ending phase)) (sym first) ∙ k.law
+    sent_law : (outs ++ Item y ∷ []) ++ flow_of pending'.items (end_is_pending phase) ≡ flow_image line m ins
+    sent_law = append_assoc outs (Item y ∷ []) _ ∙ ap (λ ys. outs ++ flow_of ys (end_is_pending phase)) (sym first) ∙ k.law
 
     pub keeps_sent_item : FieldsAgree line m states pending' phase taken ins (outs ++ Item y ∷ [])
     keeps_sent_item = record {
@@ -181,11 +181,11 @@ module _ {I O S Z : Type 0} (line : I → ℕ) (m : Machine I O S) (states : Lis
 module _ {I O S Z : Type 0} (line : I → ℕ) (m : Machine I O S) (states : List S) (pending : Vec O Z) (phase : Phase) (taken : ℕ) (ins : List (Flow I)) (outs : List (Flow O))
     (k : FieldsAgree line m states pending phase taken ins outs) where
   -- then the law of a station holds
-  pub lawful : StationLaw line m ins outs (flow_of pending.items (is_ending phase))
+  pub lawful : StationLaw line m ins outs (flow_of pending.items (end_is_pending phase))
   lawful = record {
     image_of = k.law;
     formed = k.formed;
     whole = λ h.
         let e : phase ≡ Over = over_phase phase (sym k.over ∙ h) in
-        (k.closed ∙ ap is_closed e, ap (λ ys. flow_of ys (is_ending phase)) (k.none (ap is_closed e)) ∙ ap (λ p. flow_of {X = O} [] (is_ending p)) e);
+        (k.closed ∙ ap is_closed e, ap (λ ys. flow_of ys (end_is_pending phase)) (k.none (ap is_closed e)) ∙ ap (λ p. flow_of {X = O} [] (end_is_pending p)) e);
   }

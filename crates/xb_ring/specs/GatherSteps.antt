@@ -92,6 +92,14 @@ abbrev pub gathered_of : {T : Type 0} → (T → Bool) → ℕ → ℕ → Flow 
 gathered_of ends n place (Item x) = (One x, (if ends x then next_place n place else place))
 gathered_of ends n place End = close_next n place 0
 
+-- the same, whatever is held; where nothing is wanted it stays
+abbrev pub held_after : {T : Type 0} → (T → Bool) → ℕ → ℕ → Gathered T → Flow T → Gathered T × ℕ
+held_after ends n place Wants taken = gathered_of ends n place taken
+held_after ends n place (One x) taken = (One x, place)
+held_after ends n place (Closing first) taken = closed_by n first place taken
+held_after ends n place Ends taken = (Ends, place)
+held_after ends n place Over taken = (Over, place)
+
 -- something is held that is to be sent
 abbrev pub CanGather : {T : Type 0} → Gathered T → Type 0
 CanGather Wants = ⊥
@@ -107,14 +115,6 @@ Awaits (One x) = ⊥
 Awaits (Closing first) = Unit {0}
 Awaits Ends = ⊥
 Awaits Over = ⊥
-
--- the End of input `first` was received first, and another is wanted
-abbrev pub IsClosing : {T : Type 0} → Gathered T → ℕ → Type 0
-IsClosing Wants first = ⊥
-IsClosing (One x) first = ⊥
-IsClosing (Closing i) first = i ≡ first
-IsClosing Ends first = ⊥
-IsClosing Over first = ⊥
 
 -- what is sent of what is held
 abbrev pub sent_of : {T : Type 0} → Gathered T → Flow T

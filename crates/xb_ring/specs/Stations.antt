@@ -22,10 +22,10 @@ pub record StationView (S C P T : Type 0) : Type 0 where
   pub pending : List T
 
 -- the End was received, and is to be sent
-abbrev pub is_ending : Phase → Bool
-is_ending Open = false
-is_ending Ending = true
-is_ending Over = false
+abbrev pub end_is_pending : Phase → Bool
+end_is_pending Open = false
+end_is_pending Ending = true
+end_is_pending Over = false
 
 -- the End was received
 abbrev pub is_closed : Phase → Bool
@@ -48,7 +48,7 @@ module _ {I O S : Type 0} (line : I → ℕ) (machine : Machine I O S) where
       : Type 0 where
     pub lines : AreStates line machine states (items_of ins)
     pub room : OUTPUT_ROOM ≤ vec_capacity pending
-    pub law : outs ++ flow_of pending.items (is_ending phase) ≡ flow_image line machine ins
+    pub law : outs ++ flow_of pending.items (end_is_pending phase) ≡ flow_image line machine ins
     pub closed : has_end ins ≡ is_closed phase
     pub over : has_end outs ≡ is_over phase
     pub formed : IsFlow ins

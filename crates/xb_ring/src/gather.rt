@@ -4,7 +4,7 @@ use crate::ending::Ending;
 use crate::ends::look_at_both;
 use crate::flow::Flow;
 use crate::gate::Gate;
-use crate::gathered::{Gathered, close_by, gather_next, release};
+use crate::gathered::{Gathered, held_after, release};
 use crate::pause::Pause;
 use crate::post::Post;
 use crate::sends::Sends;
@@ -63,7 +63,7 @@ impl<T: Ending + Drop> Gather<T> {
     ghost use Rattle.xb_ring.specs.Flows.{has_end};
     ghost use Rattle.xb_ring.specs.Rings.{IsPairAt, IsRingAt, ConsumerLookedAt};
     ghost use Rattle.xb_ring.specs.Gathers.{GatherLaw, HasMerged, SameGather, IsGatherTurn};
-    ghost use Rattle.xb_ring.specs.GatherSteps.{CanGather, IsClosing};
+    ghost use Rattle.xb_ring.specs.GatherSteps.{Awaits, CanGather};
     ghost use Rattle.xb_ring.specs.declared.gathered.Gathered.TheVariants.{Wants};
     ghost use Rattle.xb_ring.specs.declared.turn.Turn.TheVariants.{Ended};
     ghost use Rattle.xb_ring.specs.declared.branches.TheConstants.{MOST_BRANCHES};
@@ -87,9 +87,9 @@ impl<T: Ending + Drop> Gather<T> {
         }
     }
 
-    // Takes an item of the input at the place.
+    // Takes an item of the input at the place: it is held, or dropped where the inputs are closed.
     fn take(&mut self) -> Turn
-        requires { self.old.held ≡ Wants }
+        requires { Awaits self.old.held }
         ensures ends { SameGather self.old self.new }
         ensures event { IsGatherTurn self.old result self.new }
         ensures lawful { GatherLaw T.ending self.new }
@@ -101,27 +101,7 @@ impl<T: Ending + Drop> Gather<T> {
             Err(_) => return Turn::Idle,
         };
         self.taken = self.taken.saturating_add(taken.count());
-        let (held, next) = gather_next(taken, place, inputs);
-        self.held = held;
-        self.place = next;
-        Turn::Moved
-    }
-
-    // Takes what is left of the input at the place, and drops it.
-    fn close(&mut self, first: usize) -> Turn
-        requires { IsClosing self.old.held first }
-        ensures ends { SameGather self.old self.new }
-        ensures event { IsGatherTurn self.old result self.new }
-        ensures lawful { GatherLaw T.ending self.new }
-    {
-        let place = self.place;
-        let inputs = self.consumers.len();
-        let taken = match pop_at(&mut self.consumers, place) {
-            Ok(taken) => taken,
-            Err(_) => return Turn::Idle,
-        };
-        self.taken = self.taken.saturating_add(taken.count());
-        let (held, next) = close_by(taken, inputs, first, place);
+        let (held, next) = held_after(&self.held, taken, place, inputs);
         self.held = held;
         self.place = next;
         Turn::Moved
@@ -153,11 +133,7 @@ impl<T: Ending + Drop> Gather<T> {
     {
         match &self.held {
             Gathered::Over => Turn::Ended,
-            Gathered::Wants => self.take(),
-            Gathered::Closing(first) => {
-                let first = *first;
-                self.close(first)
-            }
+            Gathered::Wants | Gathered::Closing(_) => self.take(),
             Gathered::One(_) | Gathered::Ends => self.send(),
         }
     }

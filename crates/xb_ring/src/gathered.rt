@@ -1,7 +1,7 @@
 // What a gather holds.
 ghost use Rattle.std.specs.Prelude.{◌≡◌, ◌<◌, ◌≤◌};
 ghost use Rattle.xb_ring.specs.declared.branches.TheConstants.{MOST_BRANCHES};
-ghost use Rattle.xb_ring.specs.GatherSteps.{close_next, closed_by, gathered_of, CanGather, sent_of, left_of};
+ghost use Rattle.xb_ring.specs.GatherSteps.{close_next, closed_by, gathered_of, held_after, Awaits, CanGather, sent_of, left_of};
 
 use crate::branches::after;
 use crate::ending::Ending;
@@ -38,7 +38,7 @@ fn close_after<T>(inputs: usize, first: usize, next: usize) -> (Gathered<T>, usi
 }
 
 // What is held after an item that is dropped, or the End, of the input at the place.
-pub(crate) fn close_by<T: Drop>(
+fn close_by<T: Drop>(
     taken: Flow<T>,
     inputs: usize,
     first: usize,
@@ -55,11 +55,7 @@ pub(crate) fn close_by<T: Drop>(
 }
 
 // What is held after an item or the End of the input at the place.
-pub(crate) fn gather_next<T: Ending>(
-    taken: Flow<T>,
-    place: usize,
-    inputs: usize,
-) -> (Gathered<T>, usize)
+fn gather_next<T: Ending>(taken: Flow<T>, place: usize, inputs: usize) -> (Gathered<T>, usize)
     requires within { place < inputs }
     requires few { inputs ≤ MOST_BRANCHES }
     ensures { result ≡ gathered_of T.ending inputs place taken }
@@ -74,6 +70,25 @@ pub(crate) fn gather_next<T: Ending>(
             (Gathered::One(item), next)
         }
         Flow::End => close_after(inputs, place, 0),
+    }
+}
+
+// What is held after an item or the End of the input at the place, where one is wanted.
+pub(crate) fn held_after<T: Ending + Drop>(
+    held: &Gathered<T>,
+    taken: Flow<T>,
+    place: usize,
+    inputs: usize,
+) -> (Gathered<T>, usize)
+    requires wanted { Awaits held.now }
+    requires within { place < inputs }
+    requires few { inputs ≤ MOST_BRANCHES }
+    ensures { result ≡ held_after T.ending inputs place held.now taken }
+{
+    match held {
+        Gathered::Wants => gather_next(taken, place, inputs),
+        Gathered::Closing(first) => close_by(taken, inputs, *first, place),
+        Gathered::One(_) | Gathered::Ends | Gathered::Over => unreachable!(),
     }
 }
 

@@ -39,7 +39,7 @@ impl<S: LineStage> Model for Station<S> {
     ghost use Rattle.rtrb.specs.Ring.{sent, received};
     ghost use Rattle.xb_ring.specs.declared.flow.Flow.{Flow};
     ghost use Rattle.xb_ring.specs.Flows.{flow_of};
-    ghost use Rattle.xb_ring.specs.Stations.{StationView, FieldsAgree, is_ending};
+    ghost use Rattle.xb_ring.specs.Stations.{StationView, FieldsAgree, end_is_pending};
 
     ghost Value = { StationView S (Consumer (Flow S.In) Global AnyItems)
         (Producer (Flow S.Out) Global AnyItems) (Flow S.Out) };
@@ -48,7 +48,7 @@ impl<S: LineStage> Model for Station<S> {
       stage = post.stage;
       consumer = post.consumer;
       producer = post.producer;
-      pending = flow_of post.pending.items (is_ending post.phase);
+      pending = flow_of post.pending.items (end_is_pending post.phase);
     } };
 
     ghost invariant = { λ post. FieldsAgree S.In.line_of (S.machine post.stage) post.states post.pending

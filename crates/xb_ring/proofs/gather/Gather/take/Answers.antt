@@ -1,8 +1,8 @@
-use Rattle.std.proofs.Common.{◌≡◌, ◌+◌, ◌-◌, ◌^◌, min, map, sym, ap, ◌∙◌}
+use Rattle.std.proofs.Common.{◌+◌, ◌-◌, ◌^◌, min, map, sym, ap, subst, ◌∙◌}
 use Rattle.std.proofs.lemmas.List.{length-map}
 use Rattle.rtrb.specs.Ring.{received, sent}
-use Rattle.xb_ring.specs.declared.gathered.Gathered.TheVariants.{Wants}
-use Rattle.xb_ring.proofs.Gathers.{gathers_taken, counts_taken, gather_law}
+use Rattle.xb_ring.specs.GatherSteps.{Awaits}
+use Rattle.xb_ring.proofs.Gathers.{gathers_wanted, counts_wanted, gather_law}
 use Rattle.xb_ring.proofs.gather.Gather.take.Goals as goal
 
 pub invariant_of-self-2 : goal.invariant_of-self-2
@@ -10,12 +10,12 @@ invariant_of-self-2 g c =
     let i = c.self.inside in
     let ins = map received i.consumers.items in
     let law = c.self.invariant.0 in
-    let e : i.held ≡ Wants = ap (λ v. v.held) c.self.view_is ∙ c.requires in
+    let awaits : Awaits i.held = subst (λ v. Awaits v.held) (sym c.self.view_is) c.requires in
     let n = c.len-inputs.ensures ∙ (i.consumers.ok.0 ∙ sym (length-map i.consumers.items received)) in
     let count = c.saturating_add-self-inside.ensures ∙ ap (λ k. min (i.taken + k) (2 ^ 64 - 1)) c.count.ensures in
-    rw (c.in-Ok.ensures.ok, c.gather_next-held.ensures, n) (
-      gathers_taken g.T.Ending.ending ins (sent i.producer) i.held i.place law e c.in-Ok.taken,
-      count ∙ counts_taken g.T.Ending.ending ins (sent i.producer) i.held i.place law e c.in-Ok.taken i.taken c.self.invariant.1,
+    rw (c.in-Ok.ensures.ok, c.held_after-held.ensures, n) (
+      gathers_wanted g.T.Ending.ending ins (sent i.producer) i.held i.place law awaits c.in-Ok.taken,
+      count ∙ counts_wanted g.T.Ending.ending ins (sent i.producer) i.held i.place law awaits c.in-Ok.taken i.taken c.self.invariant.1,
     )
 
 pub returns-clause-lawful : goal.returns-clause-lawful

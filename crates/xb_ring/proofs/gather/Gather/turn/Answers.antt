@@ -21,10 +21,6 @@ pub returns-in-Wants-clause-ended : goal.returns-in-Wants-clause-ended
 returns-in-Wants-clause-ended g c =
     gather_ended _ _ _ _ (subst (λ v. GatherAgrees g.T.Ending.ending (map received v.consumers) (sent v.producer) v.held v.place) c.self.view_is c.self.invariant.0) c.take.ensures.event
 
-pub returns-in-Closing-clause-ended : goal.returns-in-Closing-clause-ended
-returns-in-Closing-clause-ended g c =
-    gather_ended _ _ _ _ (subst (λ v. GatherAgrees g.T.Ending.ending (map received v.consumers) (sent v.producer) v.held v.place) c.self.view_is c.self.invariant.0) c.close.ensures.event
-
 pub returns-in-One-clause-ended : goal.returns-in-One-clause-ended
 returns-in-One-clause-ended g c =
     gather_ended _ _ _ _ (subst (λ v. GatherAgrees g.T.Ending.ending (map received v.consumers) (sent v.producer) v.held v.place) c.self.view_is c.self.invariant.0) c.send.ensures.event
