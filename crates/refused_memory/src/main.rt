@@ -13,7 +13,6 @@ mod feeds;
 mod held;
 mod office;
 mod outcome;
-mod played;
 mod refusal;
 mod replays;
 mod rings;

@@ -2,8 +2,8 @@
 use crate::chain::{Parts, parts_of_deck};
 use crate::decks::{are_marks, lines};
 use crate::outcome::Outcome;
-use crate::played::Played;
 use crate::refusal::Aim;
+use replay_tests::Played;
 use std::alloc::Global;
 use xb_replay::Replay;
 use xb_ring::Post;

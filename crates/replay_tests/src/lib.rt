@@ -1,12 +1,11 @@
 //! Schedules of a replay: rounds in which posts have turns in some order, or none, and random walks. Each
 //! is compared with the tapes of the chain on one thread.
 //!
-//! Tests alone.
+//! Tests, and the trait by which they play a replay.
 #![tactic(auto)]
 
 #[cfg(test)]
 mod decks;
-#[cfg(test)]
 mod played;
 #[cfg(test)]
 mod rounds;
@@ -18,3 +17,5 @@ mod starved;
 mod walks;
 #[cfg(test)]
 mod wanted;
+
+pub use played::Played;

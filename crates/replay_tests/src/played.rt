@@ -4,8 +4,8 @@ use xb_model::{LineNo, Mark};
 use xb_replay::Replay;
 use xb_ring::{Post, Turn};
 
-/// What the schedules need of a replay. They are written for any such chain, so that the contract of a
-/// replay, which is wide, is read here alone.
+/// What tests need of a replay. They are written for any such chain, so that the contract of a replay,
+/// which is wide, is read here alone.
 pub trait Played {
     /// Makes one turn of a post.
     fn turn(&mut self, post: Post) -> Result<Turn, AllocError>;

@@ -1,10 +1,10 @@
 -- The posts that make no event in a turn of another.
-use Rattle.std.proofs.Common.{◌≢◌, ℕ, ◌<◌, length, get_or}
+use Rattle.std.proofs.Common.{◌≢◌, ℕ, ◌<◌, length, get_or, refl}
 use Rattle.xb_ring.specs.declared.post.Post.{Post}
 use Rattle.xb_ring.specs.declared.post.Post.TheVariants as posts
 use Rattle.xb_ring.specs.Stations.{Stays as StationStays}
 use Rattle.xb_replay.specs.Turns.{FeedStays, DealStays, GatherStays, TapeStays, OthersStay}
-use Rattle.xb_chain.specs.Posts.{SenderPost, Posts}
+use Rattle.xb_chain.specs.Posts.{SenderPost, GatherPost, TapePost, Posts}
 
 -- no post but this one makes an event, post by post
 pub record EachOther (post : Post) (old new : Posts) : Type 0 where
@@ -27,3 +27,17 @@ others-stay post old new each posts.Deal other = each.deal other
 others-stay post old new each (posts.Send j) other = λ s h. each.senders j s other h
 others-stay post old new each posts.Gather other = each.gather other
 others-stay post old new each posts.Tape other = each.tape other
+
+-- after a turn of the tape station
+pub tape-others : (old : Posts) (gather : GatherPost) (tape : TapePost) → GatherStays old.gather gather
+    → EachOther posts.Tape old (record old { gather = gather; tape = tape })
+tape-others old gather tape stays = record {
+  feed = λ n. (refl, refl);
+  pulse = λ n. (refl, refl, refl);
+  register = λ n. (refl, refl, refl);
+  translate = λ n. (refl, refl, refl);
+  deal = λ n. (refl, (refl, λ j p h. refl), refl, refl);
+  senders = λ j s n h. (refl, refl, refl);
+  gather = λ n. stays;
+  tape = λ n. absurd (n refl);
+}

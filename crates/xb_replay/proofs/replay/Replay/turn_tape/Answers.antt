@@ -1,8 +1,10 @@
 use Rattle.std.proofs.Common.{◌∙◌, map, refl, ap}
 use Rattle.rtrb.specs.Ring.{received}
+use Rattle.xb_chain.specs.Chains.{posts_of}
 use Rattle.xb_replay.proofs.BranchWorlds.{world-tape}
 use Rattle.xb_replay.proofs.Events.{tape-ended, tape-turned, tape-refused, tape-kept}
 use Rattle.xb_replay.proofs.LookSteps.{one-ring, gather-on}
+use Rattle.xb_replay.proofs.Others.{tape-others}
 use Rattle.xb_replay.proofs.Returns.{tape-has-turned, tape-has-refused}
 use Rattle.xb_replay.proofs.replay.Replay.turn_tape.Goals as goal
 
@@ -26,16 +28,8 @@ returns-clause-turned c =
     (e.rest, e.consumer) (one-ring _ _ e.ring) e.up.1.1 (f.rest, f.consumer) (one-ring _ _ f.ring) (f.up.1.1 ∙ e.up.1.1) c.turn-turn.result c.turn-turn.ensures.ended in
     let same = gather-on i.chain.gather c.look.new.up c.look-2.new.up e.up.0 f.up.0 in
     rw (← c.self.view_is) (tape-has-turned _ _ (record { rows = refl; table = refl; senders = refl })
-    (record {
-      feed = λ n. (refl, refl);
-      pulse = λ n. (refl, refl, refl);
-      register = λ n. (refl, refl, refl);
-      translate = λ n. (refl, refl, refl);
-      deal = λ n. (refl, (refl, λ j p h. refl), refl, refl);
-      senders = λ j s n h. (refl, refl, refl);
-      gather = λ n. (ap (λ x. map received x.consumers) same, f.up.1.1 ∙ e.up.1.1, ap (λ x. x.held) same, ap (λ x. x.place) same);
-      tape = λ n. absurd (n refl);
-    })
+    (tape-others (posts_of i.chain) c.look-2.new.up c.look-2.new.self
+    (ap (λ x. map received x.consumers) same, f.up.1.1 ∙ e.up.1.1, ap (λ x. x.held) same, ap (λ x. x.place) same))
     c.turn-turn.result ended
     (tape-turned i.chain.gather.producer c.look.new.up.producer c.look-2.new.up.producer i.chain.tape c.look.new.self c.turn-turn.new.self c.look-2.new.self
     (e.rest, e.consumer) (one-ring _ _ e.ring) e.up.1.1 (f.rest, f.consumer) (one-ring _ _ f.ring) (f.up.1.1 ∙ e.up.1.1) c.turn-turn.result c.turn-turn.ensures.event ended))
@@ -49,16 +43,8 @@ returns-clause-refused c =
     (e.rest, e.consumer) (one-ring _ _ e.ring) e.up.1.1 (f.rest, f.consumer) (one-ring _ _ f.ring) (f.up.1.1 ∙ e.up.1.1) c.turn-turn.result c.turn-turn.ensures.ended in
     let same = gather-on i.chain.gather c.look.new.up c.look-2.new.up e.up.0 f.up.0 in
     rw (← c.self.view_is) (tape-has-refused _ _ (record { rows = refl; table = refl; senders = refl })
-    (record {
-      feed = λ n. (refl, refl);
-      pulse = λ n. (refl, refl, refl);
-      register = λ n. (refl, refl, refl);
-      translate = λ n. (refl, refl, refl);
-      deal = λ n. (refl, (refl, λ j p h. refl), refl, refl);
-      senders = λ j s n h. (refl, refl, refl);
-      gather = λ n. (ap (λ x. map received x.consumers) same, f.up.1.1 ∙ e.up.1.1, ap (λ x. x.held) same, ap (λ x. x.place) same);
-      tape = λ n. absurd (n refl);
-    })
+    (tape-others (posts_of i.chain) c.look-2.new.up c.look-2.new.self
+    (ap (λ x. map received x.consumers) same, f.up.1.1 ∙ e.up.1.1, ap (λ x. x.held) same, ap (λ x. x.place) same))
     c.turn-turn.result ended
     (tape-refused i.chain.gather.producer c.look.new.up.producer c.look-2.new.up.producer i.chain.tape c.look.new.self c.turn-turn.new.self c.look-2.new.self
     (e.rest, e.consumer) (one-ring _ _ e.ring) e.up.1.1 (f.rest, f.consumer) (one-ring _ _ f.ring) (f.up.1.1 ∙ e.up.1.1) c.turn-turn.result c.turn-turn.ensures.event))
