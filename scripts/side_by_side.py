@@ -51,11 +51,11 @@ class Crate:
                 yield from (f"{folder}/{name}" for name in names)
 
     def lines(self):
+        """Returns how many lines of code and of proofs there are, by which its check takes longer or shorter."""
         found = 0
-        for file in self.files():
-            if file.endswith(".rt"):
-                with open(file, "rb") as text:
-                    found += text.read().count(b"\n")
+        for file in filter(os.path.isfile, self.files()):
+            with open(file, "rb") as text:
+                found += text.read().count(b"\n")
         return found
 
     def is_older(self):
@@ -192,10 +192,11 @@ class Lanes:
         room = self.memory - sum(CHECK + JOB * (jobs - 1) for _, jobs, _ in self.running.values())
         if len(self.running) >= lanes or (self.running and room < CHECK):
             return 0
-        # Nine tenths of a check can be done by several jobs, at a fifth more of processor time, so only the crate
-        # that all wait for gets as many as there are processors, and others those that no crate waits for.
-        spare = self.most if self.is_awaited(crate) else self.most - len(self.running) - (ready - 1)
-        return max(1, min(4, spare, 1 + (room - CHECK) // JOB))
+        # Nine tenths of a check can be done by several jobs. So the crate that others wait for longest gets as many
+        # as there are processors, and another those that no crate waits for, or two, lest it be the last to end.
+        spare = max(self.most - len(self.running) - (ready - 1), self.most // 2)
+        jobs = self.most if self.is_awaited(crate) else spare
+        return max(1, min(4, jobs, 1 + (room - CHECK) // JOB))
 
     def is_awaited(self, crate):
         """Returns whether no crate that is not yet proved has a longer chain above it."""
