@@ -8,7 +8,7 @@ use std::sync::Wait;
 use std::thread::Threads;
 use std::time::Clock;
 use xb_model::RowFault;
-use xb_office::{FAULT, OfficeFault, PAGE_WRITTEN, attend, operate};
+use xb_office::{DONE, FAULT, OfficeFault, attend, operate};
 
 /// Writes the page of the deck.
 pub fn try_operate<R: Threads + Wait + Clock + Sync>(
@@ -58,7 +58,7 @@ fn words(alloc: Global) -> Result<Vec<String>, AllocError> {
 
 // What the program came to, by its status, its page and its line.
 fn judge(status: u8, page: &[u8], line: &[u8]) -> Outcome {
-    if status == PAGE_WRITTEN {
+    if status == DONE {
         return Outcome::ample_where(page == PAGE.as_bytes() && line.is_empty());
     }
     if status != FAULT || !page.is_empty() {

@@ -6,8 +6,8 @@ use Rattle.xb_routes.specs.declared.fault.RouteFault.{RouteFault}
 use Rattle.xb_routes.specs.declared.fault.RouteFault.TheVariants as route_fault
 use Rattle.xb_office.specs.declared.fault.OfficeFault.{OfficeFault}
 use Rattle.xb_office.specs.declared.fault.OfficeFault.TheVariants as fault
-use Rattle.xb_rows.specs.declared.reading.ReadFault.{ReadFault}
-use Rattle.xb_rows.specs.declared.reading.ReadFault.TheVariants as read_fault
+use Rattle.xb_streams.specs.declared.reading.ReadFault.{ReadFault}
+use Rattle.xb_streams.specs.declared.reading.ReadFault.TheVariants as read_fault
 
 abbrev pub of_read : ReadFault → OfficeFault
 of_read read_fault.Failed = fault.Read

@@ -1,10 +1,4 @@
-pub mod Attending
-pub mod CommandLine
-pub mod Constants
-pub mod Deck
+pub mod DeckPage
 pub mod Faults
 pub mod MadeDecks
-pub mod Says
-pub mod WordsFaults
-pub mod WorkedDecks
-pub mod Writing
+pub mod Program

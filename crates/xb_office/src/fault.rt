@@ -1,12 +1,11 @@
 // Why an office gives no page.
 ghost use Rattle.std.specs.Prelude.{◌≡◌};
 
-use crate::writing::WriteFault;
 use thiserror::Error;
-use xb_bank::Post;
 use xb_model::RowFault;
+use xb_ring::Post;
 use xb_routes::RouteFault;
-use xb_rows::ReadFault;
+use xb_streams::{ReadFault, WriteFault};
 
 /// Why a deck gives no page.
 ///

@@ -1,26 +1,28 @@
 // From a deck on a reader to its page on a writer.
 ghost use Rattle.std.specs.Prelude.{◌≡◌, ◌≤◌, IfErr, IfOk, None, OnOk, length};
+ghost use Rattle.xb_deck.specs.declared.deck.TheConstants.{MOST_DECK_BYTES};
 ghost use Rattle.xb_ring.specs.declared.branches.TheConstants.{MOST_BRANCHES};
 ghost use Rattle.xb_ring.specs.declared.ends.TheConstants.{GREATEST_CAPACITY};
 ghost use Rattle.xb_model.specs.Tapes.{tapes_of};
 ghost use Rattle.xb_rows.specs.RowResults.{IsFaultOf};
 ghost use Rattle.xb_rows.specs.RowTexts.{fault_of_text, rows_of_text};
-ghost use Rattle.xb_office.specs.Says.{Delivers, IsFaultOfDeck, Reads, says, says_rows};
+ghost use Rattle.xb_office.specs.DeckPage.{Delivers, IsFaultOfDeck, Reads, says, says_rows};
 
-use crate::deck::{Deck, MOST_DECK_BYTES};
 use crate::fault::OfficeFault;
-use crate::writing::write_whole;
 use std::alloc::Global;
 use std::io::{Read, Write};
 use std::sync::Wait;
 use std::thread::Threads;
 use std::time::Clock;
-use xb_bank::{BankFault, NoGate, Tapes, run};
+use xb_deck::{Deck, MOST_DECK_BYTES};
 use xb_model::{RowFault, RowSource};
-use xb_ring::{GREATEST_CAPACITY, MOST_BRANCHES};
+use xb_options::Options;
+use xb_ring::{GREATEST_CAPACITY, Gate, MOST_BRANCHES, NoGate};
 use xb_routes::RouteTable;
-use xb_rows::{Scan, read_whole};
-use xb_tape::page;
+use xb_rows::Scan;
+use xb_run::{BankFault, run};
+use xb_streams::{read_whole, write_whole};
+use xb_tape::{Tapes, page};
 
 // Reads the rows of a text to their stop, and keeps none.
 fn read_to_stop(alloc: Global, text: &[u8]) -> Result<(), RowFault>
@@ -34,33 +36,22 @@ fn read_to_stop(alloc: Global, text: &[u8]) -> Result<(), RowFault>
 
 // The tapes that the rows of a text make. Where a post could not be started, the rows are read all the
 // same, since a fault of theirs comes first.
-fn tapes_of_text<H: Threads + Wait + Clock + Sync>(
+fn tapes_of_text<H: Threads + Wait + Clock + Sync, G: Gate + Sync>(
     rt: &H,
     alloc: Global,
     text: &[u8],
     table: &RouteTable,
-    senders: usize,
-    ring: usize,
+    options: Options,
+    gate: &G,
 ) -> Result<Tapes, OfficeFault>
-    requires least_senders { 1 ≤ senders }
-    requires most_senders { senders ≤ MOST_BRANCHES }
-    requires least_ring { 1 ≤ ring }
-    requires most_ring { ring ≤ GREATEST_CAPACITY }
     ensures tapes { let t = table.now in
         IfOk result (λ tapes. tapes ≡ tapes_of t.plan t.limits t.routes (rows_of_text text.now)) }
     ensures end { OnOk result (fault_of_text text.now ≡ None) }
     ensures fault { IfErr result (IsFaultOfDeck
         (says_rows table.now (rows_of_text text.now) (fault_of_text text.now))) }
 {
-    match run(
-        rt,
-        alloc,
-        Scan::new(alloc, text),
-        table,
-        senders,
-        ring,
-        &NoGate,
-    ) {
+    let scan = Scan::new(alloc, text);
+    match run(rt, alloc, scan, table, options.senders, options.ring, gate) {
         Ok(tapes) => Ok(tapes),
         Err(BankFault::Rows(fault)) => Err(OfficeFault::Rows(fault)),
         Err(BankFault::NoThread(post)) => {
@@ -72,26 +63,40 @@ fn tapes_of_text<H: Threads + Wait + Clock + Sync>(
 }
 
 // The page of a deck that was read.
-#[tactic(auto, unfolding(crate::specs::Says::page_of))]
-fn page_of_deck<H: Threads + Wait + Clock + Sync>(
+#[tactic(auto, unfolding(crate::specs::DeckPage::page_of))]
+fn page_of_deck<H: Threads + Wait + Clock + Sync, G: Gate + Sync>(
     rt: &H,
     alloc: Global,
     bytes: &[u8],
-    senders: usize,
-    ring: usize,
+    options: Options,
+    gate: &G,
 ) -> Result<Vec<u8>, OfficeFault>
-    requires short { length bytes.now ≤ MOST_DECK_BYTES }
-    requires least_senders { 1 ≤ senders }
-    requires most_senders { senders ≤ MOST_BRANCHES }
-    requires least_ring { 1 ≤ ring }
-    requires most_ring { ring ≤ GREATEST_CAPACITY }
+    requires { length bytes.now ≤ MOST_DECK_BYTES }
     ensures page { IfOk result (λ page. says bytes.now ≡ Ok page.items) }
     ensures fault { IfErr result (IsFaultOfDeck (says bytes.now)) }
 {
     let deck = Deck::cut(bytes).ok_or(OfficeFault::NoCut)?;
     let table = RouteTable::read(alloc, deck.table)?;
-    let tapes = tapes_of_text(rt, alloc, deck.rows, &table, senders, ring)?;
+    let tapes = tapes_of_text(rt, alloc, deck.rows, &table, options, gate)?;
     page(alloc, &tapes).map_err(|_| OfficeFault::NoMemory)
+}
+
+/// As `operate`, with a gate that each post passes before its turns.
+pub fn operate_by<R: Read, W: Write, H: Threads + Wait + Clock + Sync, G: Gate + Sync>(
+    rt: &H,
+    alloc: Global,
+    deck: &mut R,
+    out: &mut W,
+    options: Options,
+    gate: &G,
+) -> Result<(), OfficeFault>
+    ensures delivers { Delivers (R.remaining deck.old) result (W.contents out.old) (W.contents out.new) }
+    ensures reads { Reads result (R.remaining deck.old) (R.remaining deck.new) }
+{
+    let bytes = read_whole(alloc, deck, MOST_DECK_BYTES)?;
+    let page = page_of_deck(rt, alloc, &bytes, options, gate)?;
+    write_whole(out, &page)?;
+    Ok(())
 }
 
 /// Reads a deck, and writes its page: the tapes of the lines, as the deck's rows and its table make
@@ -118,8 +123,5 @@ pub fn operate<R: Read, W: Write, H: Threads + Wait + Clock + Sync>(
     ensures delivers { Delivers (R.remaining deck.old) result (W.contents out.old) (W.contents out.new) }
     ensures reads { Reads result (R.remaining deck.old) (R.remaining deck.new) }
 {
-    let bytes = read_whole(alloc, deck, MOST_DECK_BYTES)?;
-    let page = page_of_deck(rt, alloc, &bytes, senders, ring)?;
-    write_whole(out, &page)?;
-    Ok(())
+    operate_by(rt, alloc, deck, out, Options { senders, ring }, &NoGate)
 }

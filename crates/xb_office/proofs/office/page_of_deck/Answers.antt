@@ -4,7 +4,7 @@ use Rattle.std.proofs.lemmas.Grind.{common_steps}
 use Rattle.std.proofs.lemmas.Result.{err_from_is_err_and}
 use Rattle.xb_rows.specs.RowTexts.{fault_of_text, rows_of_text}
 use Rattle.xb_office.specs.declared.fault.OfficeFault.{OfficeFault}
-use Rattle.xb_office.specs.Says.{IsFaultOfDeck, says, says_rows}
+use Rattle.xb_office.specs.DeckPage.{IsFaultOfDeck, says, says_rows}
 use Rattle.xb_office.proofs.office.page_of_deck.Goals as goal
 
 pub returns-in_err-tapes-clause-fault : goal.returns-in_err-tapes-clause-fault

@@ -1,0 +1,4 @@
+pub mod Constants
+pub mod Deck
+pub mod MadeDecks
+pub mod WorkedDecks

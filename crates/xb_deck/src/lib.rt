@@ -1,0 +1,8 @@
+//! A deck, and where it is cut: a route table, a line `---`, and loop rows. The module `laws` says what
+//! the definitions in `specs/` give, on worked examples and on decks as they are made.
+#![tactic(auto)]
+
+mod deck;
+pub mod laws;
+
+pub use deck::{Deck, MOST_DECK_BYTES};

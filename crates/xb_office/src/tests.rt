@@ -1,5 +1,0 @@
-// The tests of this crate.
-mod decks;
-mod office;
-mod program;
-mod streams;

@@ -1,0 +1,2 @@
+mod OptionNumbers
+mod OptionalArguments
