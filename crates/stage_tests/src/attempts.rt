@@ -259,10 +259,13 @@ fn lines_are_apart(rt: HostRuntime) -> Result<(), Fail> {
         (1, pulses(1)),
     ];
     let given = outcomes(&rt, rt.alloc(), Plan::Seven, &signals)?;
-    assert_eq!(rt; given.len(), 2);
-    assert_eq!(rt; given[0].line.get(), 2);
-    assert!(rt; is_outcome(&given[0].what, Outcome::Number(&[0])));
-    assert_eq!(rt; given[1].line.get(), 1);
-    assert!(rt; is_outcome(&given[1].what, Outcome::Number(&[4, 1, 1])));
+    let wanted = [(2, Outcome::Number(&[0])), (1, Outcome::Number(&[4, 1, 1]))];
+    assert_eq!(rt; given.len(), wanted.len());
+    for (given, (line, outcome)) in given.iter().zip(&wanted) {
+        assert!(rt;
+            given.line.get() == *line && is_outcome(&given.what, *outcome),
+            "line {line}"
+        );
+    }
     Ok(())
 }

@@ -34,6 +34,16 @@ fn tapes_of(rt: &impl Abort, alloc: Global, entries: &[(u16, Entry)]) -> Result<
     Ok(tapes)
 }
 
+// Checks the page of tapes.
+fn check_tapes(rt: &impl Abort, alloc: Global, tapes: &Tapes, text: &str) -> Result<(), Fail> {
+    let page = page(alloc, tapes)?;
+    assert!(rt;
+        page.as_slice() == text.as_bytes(),
+        "the page is not {text}"
+    );
+    Ok(())
+}
+
 // Checks the page of tapes with these entries.
 fn check_page(
     rt: &impl Abort,
@@ -42,9 +52,7 @@ fn check_page(
     text: &str,
 ) -> Result<(), Fail> {
     let tapes = tapes_of(rt, alloc, entries)?;
-    let page = page(alloc, &tapes)?;
-    assert_eq!(rt; page.as_slice(), text.as_bytes());
-    Ok(())
+    check_tapes(rt, alloc, &tapes, text)
 }
 
 #[test]
@@ -125,14 +133,18 @@ fn first_and_last_line(rt: HostRuntime) -> Result<(), Fail> {
     check_page(&rt, rt.alloc(), &entries, text)
 }
 
+// The beginning of a keyed call.
+fn put_unended(alloc: Global, tapes: &mut Tapes, line: LineNo) -> Result<(), Fail> {
+    put(tapes, line, &unended(alloc, 3, &[4, 1])?)?;
+    Ok(())
+}
+
 // Marks after the last ending mark of a line are no entry.
 #[test]
 fn unended_marks(rt: HostRuntime) -> Result<(), Fail> {
     let mut tapes = tapes_of(&rt, rt.alloc(), &[(5, Keyed(1, &[0]))])?;
-    put(&mut tapes, line(&rt, 5), &unended(rt.alloc(), 3, &[4, 1])?)?;
-    let page = page(rt.alloc(), &tapes)?;
+    put_unended(rt.alloc(), &mut tapes, line(&rt, 5))?;
     let text = "0005 1 KEYED 0001 KP:1100+1700 0:1300+1500 ST:1500+1700\n\
         KEYED 1 REFUSED 0\n";
-    assert_eq!(rt; page.as_slice(), text.as_bytes());
-    Ok(())
+    check_tapes(&rt, rt.alloc(), &tapes, text)
 }
