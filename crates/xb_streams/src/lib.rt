@@ -8,5 +8,5 @@ mod telling;
 mod writing;
 
 pub use reading::{ReadFault, read_whole};
-pub use telling::{DONE, FAULT, WORDS_REFUSED, WordsFault, refuse, report, tell_words};
+pub use telling::{DONE, FAULT, WORDS_REFUSED, WordsFault, report, tell_words};
 pub use writing::{WriteFault, write_whole};

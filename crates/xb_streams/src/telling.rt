@@ -75,8 +75,8 @@ pub fn report<E: Write, F: Display + Drop>(
     FAULT
 }
 
-/// Writes the line of refused words, which is how the program is called, as far as it can be written.
-pub fn refuse<E: Write>(err: &mut E, usage: &[u8]) -> u8
+// Writes the line of refused words, which is how the program is called, as far as it can be written.
+fn refuse<E: Write>(err: &mut E, usage: &[u8]) -> u8
     ensures status { result ≡ WORDS_REFUSED }
     ensures line { AppendsBeginning (E.contents err.old) (E.contents err.new) usage.now }
 {
