@@ -1,8 +1,16 @@
--- The threads of the posts, once all were started.
-use Rattle.std.specs.Prelude.{◌≡◌, ◌≤◌, length, reverse, vec_len}
+-- The threads of the posts, before and after they are started.
+use Rattle.std.specs.Prelude.{◌≡◌, ◌≤◌, ℕ, [], length, reverse, vec_len, vec_capacity}
 use Rattle.xb_chain.specs.Posts.{Posts}
 use Rattle.xb_run.specs.Pairs.{Pairs}
 use Rattle.xb_run.specs.declared.posts.Handles.{Handles}
+use Rattle.xb_run.specs.declared.posts.Room.{Room}
+
+-- nothing is there, and there is room for so many senders
+pub record HasRoom (senders : ℕ) (room : Room) : Type 0 where
+  pub no_handle : room.handles.items ≡ []
+  pub none_done : room.done.items ≡ []
+  pub for_handles : senders ≤ vec_capacity room.handles
+  pub for_done : senders ≤ vec_capacity room.done
 
 -- each handle is that of the thread of its post; those of the senders stand from the last sender on
 pub record AreStarted {S : Type 0} (posts : Posts) (handles : Handles S) : Type 0 where

@@ -6,11 +6,12 @@ ghost use Rattle.xb_chain.specs.Posts.{Posts};
 ghost use Rattle.xb_run.specs.Faults.{IsPostOf};
 ghost use Rattle.xb_run.specs.Pairs.{Pairs};
 ghost use Rattle.xb_run.specs.Promises.{PostsPromised};
-ghost use Rattle.xb_run.specs.Started.{AreStarted};
+ghost use Rattle.xb_run.specs.Started.{HasRoom, AreStarted};
 
 use crate::done::{DealDone, FeedDone, GatherDone, StationDone, TapeDone};
 use crate::senders::{join_senders, start_senders};
 use crate::start::{Promised, Threaded, start};
+use std::alloc::{AllocError, Global};
 use std::sync::Wait;
 use std::sync::atomic::AtomicU64;
 use std::thread::{PromisedHandle, Scope, Threads};
@@ -57,7 +58,24 @@ pub(crate) struct AllDone {
 }
 
 /// The handle of a post's thread.
-type Handle<P> = PromisedHandle<<P as Threaded>::Done, Promised<P>>;
+pub(crate) type Handle<P> = PromisedHandle<<P as Threaded>::Done, Promised<P>>;
+
+/// Room for the handles of the senders, and for what these give back. It is taken before the posts are
+/// made: no post is owned where memory runs out.
+#[derive(Drop)]
+pub(crate) struct Room {
+    pub(crate) handles: Vec<Handle<Station<Sender>>>,
+    pub(crate) done: Vec<StationDone<On<Order>, On<Mark>>>,
+}
+
+/// Room for so many senders.
+pub(crate) fn make_room(alloc: Global, senders: usize) -> Result<Room, AllocError>
+    ensures { IfOk result (HasRoom senders) }
+{
+    let handles = Vec::with_capacity(alloc, senders)?;
+    let done = Vec::with_capacity(alloc, senders)?;
+    Ok(Room { handles, done })
+}
 
 /// The handles of the threads from rows to orders.
 #[derive(Drop)]

@@ -6,12 +6,13 @@ ghost use Rattle.xb_model.specs.Tapes.{tape_of, joined_tape, entries_of, marks_a
 ghost use Rattle.xb_ring.specs.declared.branches.TheConstants.{MOST_BRANCHES};
 ghost use Rattle.xb_ring.specs.declared.ends.TheConstants.{GREATEST_CAPACITY};
 ghost use Rattle.xb_chain.specs.Chains.{posts_of};
-ghost use Rattle.xb_run.specs.Faults.{IsBankFault};
+ghost use Rattle.xb_run.specs.Faults.{IsPostOf, IsBankFault};
 ghost use Rattle.xb_run.specs.Promises.{PostsPromised};
+ghost use Rattle.xb_run.specs.Started.{HasRoom};
 
 use crate::fault::BankFault;
 use crate::finish::finish;
-use crate::posts::{AllDone, join_posts, start_posts};
+use crate::posts::{AllDone, Room, join_posts, make_room, start_posts};
 use crate::start::{GO, STOP};
 use std::alloc::Global;
 use std::sync::Wait;
@@ -21,7 +22,7 @@ use std::thread::{Scope, Threads};
 use std::time::Clock;
 use xb_chain::Chain;
 use xb_model::RowSource;
-use xb_ring::Gate;
+use xb_ring::{Gate, Post};
 use xb_routes::RouteTable;
 use xb_tape::Tapes;
 
@@ -38,51 +39,52 @@ fn serve_all<
     scope: &'s Scope<'s, E>,
     rt: &'s R,
     word: &'s AtomicU64,
-    alloc: Global,
     chain: Chain<'t, S>,
+    room: Room,
     gate: &'s G,
-) -> Result<AllDone, BankFault>
+) -> Result<AllDone, Post>
     requires few { vec_len chain.senders ≤ MOST_BRANCHES }
+    requires room { HasRoom (vec_len chain.senders) room }
     ensures promised { IfOk result (PostsPromised (posts_of chain.entry)) }
-    ensures fault { IfErr result (IsBankFault (vec_len chain.entry.senders) None) }
+    ensures refused { IfErr result (IsPostOf (vec_len chain.entry.senders)) }
 {
-    let count = chain.senders.len();
-    let handles = Vec::with_capacity(alloc, count)?;
-    let senders_done = Vec::with_capacity(alloc, count)?;
+    let Room { handles, done } = room;
     match start_posts(scope, rt, word, chain, handles, gate) {
         Ok(handles) => {
             word.store(GO, Ordering::SeqCst);
-            Ok(join_posts(rt, handles, senders_done))
+            Ok(join_posts(rt, handles, done))
         }
         Err(post) => {
             word.store(STOP, Ordering::SeqCst);
-            Err(BankFault::NoThread(post))
+            Err(post)
         }
     }
 }
 
-// Serves the posts of a chain on threads of their own.
+// Serves the posts of a chain on threads of their own. `Err` names the post whose start was refused.
 fn serve_posts<S: RowSource + Drop + Send, R: Threads + Wait + Clock + Sync, G: Gate + Sync>(
     rt: &R,
-    alloc: Global,
     chain: Chain<'_, S>,
+    room: Room,
     gate: &G,
-) -> Result<AllDone, BankFault>
+) -> Result<AllDone, Post>
     requires few { vec_len chain.senders ≤ MOST_BRANCHES }
+    requires room { HasRoom (vec_len chain.senders) room }
     ensures promised { IfOk result (PostsPromised (posts_of chain.entry)) }
-    ensures fault { IfErr result (IsBankFault (vec_len chain.entry.senders) None) }
+    ensures refused { IfErr result (IsPostOf (vec_len chain.entry.senders)) }
 {
     let word = AtomicU64::new(0);
     let start_word = &word;
     thread::scope(
         thread::scope_env(),
         rt,
-        move |scope| -> Result<AllDone, BankFault>
+        move |scope| -> Result<AllDone, Post>
             requires few { vec_len chain.senders ≤ MOST_BRANCHES }
+            requires room { HasRoom (vec_len chain.senders) room }
             requires types { IsSend S.row × IsSync R.row × IsSync G.row }
             ensures promised { IfOk result (PostsPromised (posts_of chain.entry)) }
-            ensures fault { IfErr result (IsBankFault (vec_len chain.entry.senders) None) }
-        { serve_all(scope, rt, start_word, alloc, chain, gate) },
+            ensures refused { IfErr result (IsPostOf (vec_len chain.entry.senders)) }
+        { serve_all(scope, rt, start_word, chain, room, gate) },
     )
 }
 
@@ -120,7 +122,10 @@ pub fn run<S: RowSource + Drop + Send, R: Threads + Wait + Clock + Sync, G: Gate
     ensures end { IfOk result (λ tapes. (S.rest source).stop ≡ None) }
     ensures fault { IfErr result (IsBankFault senders (S.rest source).stop) }
 {
+    let room = make_room(alloc, senders)?;
     let chain = Chain::link(alloc, source, table, senders, ring)?;
-    let done = serve_posts(rt, alloc, chain, gate)?;
-    finish(done)
+    match serve_posts(rt, chain, room, gate) {
+        Ok(done) => finish(done),
+        Err(post) => Err(BankFault::NoThread(post)),
+    }
 }
