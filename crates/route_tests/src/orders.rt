@@ -1,5 +1,5 @@
 // The routes of a table, and the orders of what is dialled.
-use crate::tables::{check_route, digits, table_of};
+use crate::tables::{are_digits, check_route, digits, table_of};
 use std::alloc::{AllocError, Global};
 use std::process::Abort;
 use std::test::Fail;
@@ -41,11 +41,10 @@ fn check_order(
     let (number, trunk, keyed) = row;
     let dialled = digits(rt, alloc, number)?;
     let dialled = NumberDigits::of(&dialled).expect(rt, "at most ten digits");
-    let keyed = digits(rt, alloc, keyed)?;
     match ordered(rt, alloc, table, number, Dialled::Number(dialled))? {
         Order::Key(group, order) => {
             assert_eq!(rt; group.get(), trunk, "of {number}");
-            assert_eq!(rt; order.digits(), keyed.as_slice(), "of {number}");
+            assert!(rt; are_digits(order.digits(), keyed), "of {number}");
         }
         Order::Refused(reason, heard) => panic!(rt; "{number} is refused: {reason:?} {heard}"),
     }
@@ -82,16 +81,31 @@ fn routes_are_looked_up(rt: HostRuntime) -> Result<(), Fail> {
     Ok(())
 }
 
+// Checks that a table has no route of a number.
+fn assert_no_route(
+    rt: &impl Abort,
+    alloc: Global,
+    table: &RouteTable,
+    number: &str,
+) -> Result<(), AllocError> {
+    let digits = digits(rt, alloc, number)?;
+    assert!(rt; table.look(&digits).is_none(), "{number} has no route");
+    Ok(())
+}
+
 #[test]
 fn numbers_without_a_route(rt: HostRuntime) -> Result<(), Fail> {
     let table = table_of(&rt, rt.alloc(), TABLE);
     for number in ["", "2", "23", "611", "5551234", "1234567", "412"] {
-        let digits = digits(&rt, rt.alloc(), number)?;
-        assert!(rt; table.look(&digits).is_none(), "{number} has no route");
+        assert_no_route(&rt, rt.alloc(), &table, number)?;
     }
-    let empty = table_of(&rt, rt.alloc(), "");
-    let number = digits(&rt, rt.alloc(), "2345678")?;
-    assert!(rt; empty.look(&number).is_none());
+    Ok(())
+}
+
+#[test]
+fn an_empty_table_has_no_route(rt: HostRuntime) -> Result<(), Fail> {
+    let table = table_of(&rt, rt.alloc(), "");
+    assert_no_route(&rt, rt.alloc(), &table, "2345678")?;
     Ok(())
 }
 
