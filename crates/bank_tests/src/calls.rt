@@ -8,10 +8,11 @@ use std::test::Fail;
 use std::thread::Threads;
 use std::time::Clock;
 use test_decks::decks::{TABLE, Worked, is_page, one_after_another};
-use xb_bank::{BankFault, GREATEST_CAPACITY, Gate, MOST_BRANCHES, RowSource, Tapes, run};
-use xb_model::Row;
+use xb_model::{Row, RowSource};
+use xb_ring::{GREATEST_CAPACITY, Gate, MOST_BRANCHES};
 use xb_routes::RouteTable;
-use xb_tape::page;
+use xb_run::{BankFault, run};
+use xb_tape::{Tapes, page};
 
 /// Rows, and the usual table.
 #[derive(Drop)]

@@ -8,7 +8,8 @@ use std::test::Fail;
 use std::thread::Threads;
 use std::time::Clock;
 use test_decks::attempts::OPERATOR_CALL;
-use xb_bank::{Gate, Listed, Post};
+use xb_model::Listed;
+use xb_ring::{Gate, Post};
 
 // Counts the passes of one post.
 #[derive(Drop)]

@@ -11,8 +11,9 @@ use std::test::Fail;
 use std::thread::Threads;
 use std::time::Clock;
 use test_decks::attempts::SEVEN_DIGITS;
-use xb_bank::{BankFault, MOST_BRANCHES, NoGate};
 use xb_model::RowFault;
+use xb_ring::{MOST_BRANCHES, NoGate};
+use xb_run::BankFault;
 
 // A source that stops so after all rows gives this fault in place of tapes, and was asked up to its stop.
 fn check_stop<R: Threads + Wait + Clock + Abort + Sync>(

@@ -11,8 +11,8 @@ use std::thread;
 use std::thread::Threads;
 use std::time::Clock;
 use test_decks::attempts::SIX_CALLS;
-use xb_bank::{Gate, Listed, MOST_BRANCHES, Post, RowSource};
-use xb_model::{Row, RowFault};
+use xb_model::{Listed, Row, RowFault, RowSource};
+use xb_ring::{Gate, MOST_BRANCHES, Post};
 
 /// How often a gate, or a source, looks at most.
 const LOOKS: u64 = 1_000_000_000;

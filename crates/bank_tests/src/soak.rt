@@ -10,9 +10,11 @@ use std::thread::Threads;
 use std::time::Clock;
 use test_decks::pulses::{push_row, push_train};
 use test_fakes::Dice;
-use xb_bank::{GREATEST_CAPACITY, Listed, MOST_BRANCHES, NoGate, Tapes, key_serial};
-use xb_model::{Contact, LineNo, Row};
+use xb_model::{Contact, LineNo, Listed, Row};
+use xb_ring::{GREATEST_CAPACITY, MOST_BRANCHES, NoGate};
 use xb_routes::RouteTable;
+use xb_serial::key_serial;
+use xb_tape::Tapes;
 
 /// How many decks are tried.
 const DECKS: u64 = 200;

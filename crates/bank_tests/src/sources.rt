@@ -2,8 +2,7 @@
 ghost use Rattle.std.specs.Prelude.{false};
 
 use std::sync::atomic::{AtomicU64, Ordering};
-use xb_bank::RowSource;
-use xb_model::{Row, RowFault};
+use xb_model::{Row, RowFault, RowSource};
 
 /// Rows, and their end or a fault after them. It counts how often it is asked for a row.
 #[derive(Drop)]

@@ -9,7 +9,8 @@ use std::test::Fail;
 use std::thread::Threads;
 use std::time::Clock;
 use test_decks::attempts::OPERATOR_CALL;
-use xb_bank::{BankFault, Gate, Post};
+use xb_ring::{Gate, Post};
+use xb_run::BankFault;
 
 /// The posts of two senders, in the order in which they are started.
 const POSTS: [Post; 9] = [

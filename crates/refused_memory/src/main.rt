@@ -4,25 +4,14 @@
 //! the 1,000th allocation of the process is refused (`rt try --fail-alloc 1000`), that number moves the
 //! refusal through the call. Printed is what the call came to, and how many allocations succeed after it:
 //! 1,000 where the refusal has been. `CALL set-up` makes only what the call needs, and counts then.
+//!
+//! The calls stand in `refused_calls`, so that they are proved once, and not once more with the tests.
 #![tactic(auto)]
 
-mod calls;
-mod chain;
-mod decks;
-mod feeds;
-mod held;
-mod office;
-mod outcome;
-mod refusal;
-mod replays;
-mod rings;
-mod tapes;
 #[cfg(test)]
 mod tests;
-mod texts;
 
-use calls::try_call;
-use refusal::{Aim, asked_of, count_left};
+use refused_calls::{Aim, asked_of, count_left, try_call};
 use std::io::Read;
 use std::process::ExitCode;
 

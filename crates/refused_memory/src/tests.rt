@@ -1,13 +1,7 @@
 // The deck is the one that its short form makes, and each call succeeds where nothing is refused.
-use crate::calls::try_call;
-use crate::decks::{DECK, PAGE, ROWS, row_at};
-use crate::outcome::Outcome;
-use crate::refusal::Aim;
-use std::alloc::Global;
-use std::process::Abort;
+use refused_calls::{Aim, Outcome, PAGE, are_all_rows, table_and_rows, try_call};
 use std::test::Fail;
-use test_decks::decks::{TABLE, Worked, deck_of, one_after_another, page_of};
-use xb_model::Row;
+use test_decks::decks::{TABLE, Worked, is_page, one_after_another};
 
 // An operator call, and the seizures at a break of the release limit.
 const WORKED: Worked = Worked {
@@ -48,24 +42,14 @@ const WAITING: [&str; 6] = [
     "attend",
 ];
 
-fn check_texts(rt: &impl Abort, alloc: Global, rows: &[Row]) -> Result<(), Fail> {
-    assert_eq!(rt; deck_of(alloc, TABLE, rows)?.as_str(), DECK);
-    assert_eq!(rt; page_of(alloc, WORKED.page)?.as_str(), PAGE);
-    Ok(())
-}
-
-fn check_rows(rt: &impl Abort, rows: &[Row]) {
-    assert_eq!(rt; rows.len(), ROWS);
-    for (n, row) in rows.iter().enumerate() {
-        assert!(rt; row_at(n) == Some(*row), "{n}");
-    }
-}
-
 #[test]
 fn deck_is_written_out(rt: HostRuntime) -> Result<(), Fail> {
+    let (table, _) = table_and_rows();
     let rows = one_after_another(rt.alloc(), &WORKED)?;
-    check_rows(&rt, &rows);
-    check_texts(&rt, rt.alloc(), &rows)
+    let is_page = is_page(rt.alloc(), PAGE.as_bytes(), WORKED.page)?;
+    assert!(rt; are_all_rows(&rows) && is_page);
+    assert_eq!(rt; table, TABLE);
+    Ok(())
 }
 
 #[test]

@@ -2,7 +2,7 @@
 use crate::pulses::{in_turn, rows_of};
 use std::alloc::{AllocError, Global};
 use std::test::Fail;
-use xb_model::{Contact, Row};
+use xb_model::Row;
 
 /// The route table of most decks.
 pub const TABLE: &str = "[[route]]
@@ -64,22 +64,6 @@ pub fn joined(alloc: Global, parts: &[&str]) -> Result<String, AllocError> {
         text.push_str(part)?;
     }
     Ok(text)
-}
-
-/// The table, the line that cuts, and the rows as CSV.
-pub fn deck_of(alloc: Global, table: &str, rows: &[Row]) -> Result<String, Fail> {
-    let mut deck = String::new(alloc);
-    deck.push_str(table)?;
-    deck.push_str("---\nline,state,ms\n")?;
-    for row in rows {
-        let state = match row.contact() {
-            Contact::Make => 'M',
-            Contact::Brk => 'B',
-            Contact::Close => 'C',
-        };
-        writeln!(deck, "{},{state},{}", row.line().get(), row.ms())?;
-    }
-    Ok(deck)
 }
 
 fn written_out(word: &str) -> &str {

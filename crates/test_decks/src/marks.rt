@@ -23,10 +23,10 @@ pub fn tone(key: Key, low: u16, high: u16) -> Mark {
 }
 
 /// The mark of a digit, with its pair.
-pub fn digit_tone(value: u8) -> Result<Mark, Fail> {
-    let digit = Digit::new(value).ok_or("a digit")?;
-    let (low, high) = PAIRS.get(usize::from(value)).ok_or("a pair")?;
-    Ok(tone(Key::Digit(digit), *low, *high))
+pub fn digit_tone(value: u8) -> Option<Mark> {
+    let digit = Digit::new(value)?;
+    let (low, high) = PAIRS.get(usize::from(value))?;
+    Some(tone(Key::Digit(digit), *low, *high))
 }
 
 /// The marks of a keying that has not ended: its trunk group, KP and the digits.
@@ -34,7 +34,7 @@ pub fn unended(alloc: Global, trunk: u16, digits: &[u8]) -> Result<Vec<Mark>, Fa
     let trunk = Trunk::new(trunk).ok_or("a trunk group")?;
     let mut marks = vec![in alloc; Mark::Trunk(trunk), tone(Key::Kp, 1100, 1700)]?;
     for digit in digits {
-        marks.push(digit_tone(*digit)?)?;
+        marks.push(digit_tone(*digit).ok_or("a digit")?)?;
     }
     Ok(marks)
 }
@@ -46,13 +46,18 @@ pub fn keying(alloc: Global, trunk: u16, digits: &[u8]) -> Result<Vec<Mark>, Fai
     Ok(marks)
 }
 
-/// The marks of an operator call by the usual table: the trunk group, KP, 0, ST.
-pub fn operator_marks() -> Result<[Mark; 4], Fail> {
-    let trunk = Trunk::new(1).ok_or("a trunk group")?;
-    Ok([
-        Mark::Trunk(trunk),
+/// The marks of an operator call by the usual table, the trunk group, KP, 0, ST, without a text for where
+/// there were none.
+pub fn marks_of_operator() -> Option<[Mark; 4]> {
+    Some([
+        Mark::Trunk(Trunk::new(1)?),
         tone(Key::Kp, 1100, 1700),
         digit_tone(0)?,
         tone(Key::St, 1500, 1700),
     ])
+}
+
+/// The marks of an operator call by the usual table.
+pub fn operator_marks() -> Result<[Mark; 4], Fail> {
+    Ok(marks_of_operator().ok_or("marks")?)
 }

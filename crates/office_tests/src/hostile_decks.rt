@@ -1,4 +1,5 @@
 // Decks that are malformed or as large as they may be, and what the rules say of each.
+use crate::office::Gives;
 use xb_model::RowFault;
 use xb_office::OfficeFault;
 use xb_routes::RouteFault;
@@ -23,22 +24,22 @@ pub struct Hostile {
     /// The deck.
     pub deck: &'static [Part],
     /// The short form of its page, or its fault.
-    pub gives: Result<&'static [&'static str], OfficeFault>,
+    pub gives: Gives,
 }
 
-// The line that cuts, and the header.
-const HEADER: Part = Part::Bytes(b"---\nline,state,ms\n");
+/// The line that cuts, and the header.
+pub const HEADER: Part = Part::Bytes(b"---\nline,state,ms\n");
 
 // A route whose code is none.
 const WRONG_ROUTE: &[u8] = b"[[route]]\ncode = \"x\"\ntrunk = 1\n";
 
-const NOT_TOML: Result<&[&str], OfficeFault> = Err(OfficeFault::Routes(RouteFault::NotToml));
+const NOT_TOML: Gives = Err(OfficeFault::Routes(RouteFault::NotToml));
 
-const NO_CUT: Result<&[&str], OfficeFault> = Err(OfficeFault::NoCut);
+const NO_CUT: Gives = Err(OfficeFault::NoCut);
 
-const NO_ENTRIES: Result<&[&str], OfficeFault> = Ok(&["KEYED 0 REFUSED 0"]);
+const NO_ENTRIES: Gives = Ok(&["KEYED 0 REFUSED 0"]);
 
-const THE_CALL: Result<&[&str], OfficeFault> = Ok(&["0005 1 OPERATOR", "KEYED 1 REFUSED 0"]);
+const THE_CALL: Gives = Ok(&["0005 1 OPERATOR", "KEYED 1 REFUSED 0"]);
 
 /// The most and the longest that a deck may hold, and one more.
 pub const LARGE: &[Hostile] = &[
@@ -105,6 +106,10 @@ pub const LARGE: &[Hostile] = &[
         deck: &[Part::Times(16_777_217, b" ")],
         gives: Err(OfficeFault::DeckTooLong),
     },
+];
+
+/// Texts that never close, and lines without end.
+pub const LONG: &[Hostile] = &[
     Hostile {
         name: "a million empty lines before the header and after the rows",
         deck: &[

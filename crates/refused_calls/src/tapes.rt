@@ -2,16 +2,17 @@
 ghost use Rattle.std.specs.Prelude.{◌≡◌, [], IfSome};
 ghost use Rattle.rtrb.specs.Ring.{received};
 
-use crate::decks::{ABANDONED, tone};
+use crate::decks::ABANDONED;
 use crate::outcome::Outcome;
 use crate::refusal::Aim;
 use rtrb::{Consumer, Producer};
 use std::alloc::{AllocError, Global};
 use std::sync::Wait;
 use std::time::Clock;
-use xb_bank::{NoGate, TapeStation};
-use xb_model::{Digit, Key, LineNo, Mark, On, Trunk};
-use xb_ring::{Flow, Turn, link};
+use test_decks::marks::{digit_tone, tone};
+use xb_model::{Key, LineNo, Mark, On, Trunk};
+use xb_posts::TapeStation;
+use xb_ring::{Flow, NoGate, Turn, link};
 
 // Room for all marks and the End.
 const RING: usize = 16;
@@ -22,20 +23,12 @@ const TURNS: usize = 32;
 type MarkInput = Consumer<Flow<On<Mark>>>;
 
 // The marks that 234 5678 gets, of which 56 5678 is keyed on trunk group 17.
-fn keying() -> Option<[Mark; 9]> {
-    let [five, six] = [Digit::new(5)?, Digit::new(6)?];
-    let [seven, eight] = [Digit::new(7)?, Digit::new(8)?];
-    Some([
-        Mark::Trunk(Trunk::new(17)?),
-        tone(Key::Kp, 1100, 1700),
-        tone(Key::Digit(five), 900, 1300),
-        tone(Key::Digit(six), 1100, 1300),
-        tone(Key::Digit(five), 900, 1300),
-        tone(Key::Digit(six), 1100, 1300),
-        tone(Key::Digit(seven), 700, 1500),
-        tone(Key::Digit(eight), 900, 1500),
-        tone(Key::St, 1500, 1700),
-    ])
+fn marks_of_seven() -> Option<[Mark; 9]> {
+    let [five, six] = [digit_tone(5)?, digit_tone(6)?];
+    let [seven, eight] = [digit_tone(7)?, digit_tone(8)?];
+    let [start, end] = [tone(Key::Kp, 1100, 1700), tone(Key::St, 1500, 1700)];
+    let trunk = Mark::Trunk(Trunk::new(17)?);
+    Some([trunk, start, five, six, five, six, seven, eight, end])
 }
 
 fn lines() -> Option<(LineNo, LineNo)> {
@@ -55,7 +48,7 @@ fn push_marks(output: &mut Producer<Flow<On<Mark>>>, line: LineNo, marks: &[Mark
 // Sends the marks and the End; `None` where they do not fit.
 fn fill(output: &mut Producer<Flow<On<Mark>>>) -> Option<()> {
     let (keyed, refused) = lines()?;
-    let marks = keying()?;
+    let marks = marks_of_seven()?;
     let are_sent = push_marks(output, keyed, &marks) && push_marks(output, refused, &ABANDONED);
     if are_sent {
         output.push(Flow::End).ok()
@@ -83,7 +76,7 @@ fn filled_tape(alloc: Global) -> Option<TapeStation> {
 
 // Whether the station has all marks.
 fn has_all(tape: &TapeStation) -> bool {
-    let (Some((keyed, refused)), Some(marks)) = (lines(), keying()) else {
+    let (Some((keyed, refused)), Some(marks)) = (lines(), marks_of_seven()) else {
         return false;
     };
     tape.marks(keyed) == marks.as_slice() && tape.marks(refused) == ABANDONED.as_slice()

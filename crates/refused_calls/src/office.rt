@@ -1,5 +1,5 @@
 // A whole deck, and the program by its words.
-use crate::decks::{DECK, FAULTY, PAGE};
+use crate::decks::{PAGE, deck, faulty_deck};
 use crate::held::Held;
 use crate::outcome::Outcome;
 use crate::refusal::Aim;
@@ -8,7 +8,8 @@ use std::sync::Wait;
 use std::thread::Threads;
 use std::time::Clock;
 use xb_model::RowFault;
-use xb_office::{DONE, FAULT, OfficeFault, attend, operate};
+use xb_office::{OfficeFault, attend, operate};
+use xb_streams::{DONE, FAULT};
 
 /// Writes the page of the deck.
 pub fn try_operate<R: Threads + Wait + Clock + Sync>(
@@ -17,7 +18,7 @@ pub fn try_operate<R: Threads + Wait + Clock + Sync>(
     aim: Aim,
 ) -> Option<Outcome> {
     aim.take(alloc)?;
-    let mut deck = DECK.as_bytes();
+    let mut deck = deck();
     let mut out = Held::new();
     let operated = operate(rt, alloc, &mut deck, &mut out, 2, 4);
     let is_empty = out.text().is_empty();
@@ -36,7 +37,7 @@ pub fn try_faulty<R: Threads + Wait + Clock + Sync>(
     aim: Aim,
 ) -> Option<Outcome> {
     aim.take(alloc)?;
-    let mut deck = FAULTY.as_bytes();
+    let mut deck = faulty_deck();
     let mut out = Held::new();
     let operated = operate(rt, alloc, &mut deck, &mut out, 2, 4);
     let is_empty = out.text().is_empty();
@@ -78,7 +79,7 @@ fn attend_to<R: Threads + Wait + Clock + Sync>(
     alloc: Global,
     words: Vec<String>,
 ) -> Outcome {
-    let mut deck = DECK.as_bytes();
+    let mut deck = deck();
     let mut out = Held::new();
     let mut err = Held::new();
     let status = attend(rt, alloc, words, &mut deck, &mut out, &mut err);

@@ -6,10 +6,13 @@ use std::alloc::Global;
 use std::sync::Wait;
 use std::thread::Threads;
 use std::time::Clock;
-use xb_bank::{BankFault, NoGate, Tapes, key_serial, run};
 use xb_model::Row;
-use xb_office::{Scan, page, read_rows};
+use xb_ring::NoGate;
 use xb_routes::RouteTable;
+use xb_rows::{Scan, read_rows};
+use xb_run::{BankFault, run};
+use xb_serial::key_serial;
+use xb_tape::{Tapes, page};
 
 /// What a deck has.
 #[derive(Drop)]
@@ -28,12 +31,12 @@ pub fn parts_of_deck(alloc: Global) -> Option<Parts> {
 }
 
 fn table_of_deck(alloc: Global) -> Option<RouteTable> {
-    let (text, _) = table_and_rows()?;
+    let (text, _) = table_and_rows();
     RouteTable::read(alloc, text.as_bytes()).ok()
 }
 
 fn rows_of_deck(alloc: Global) -> Option<Vec<Row>> {
-    let (_, text) = table_and_rows()?;
+    let (_, text) = table_and_rows();
     let mut reader = text.as_bytes();
     read_rows(alloc, &mut reader).ok()
 }
@@ -81,7 +84,7 @@ fn run_table<R: Threads + Wait + Clock + Sync>(
     table: &RouteTable,
     aim: Aim,
 ) -> Option<Outcome> {
-    let (_, text) = table_and_rows()?;
+    let (_, text) = table_and_rows();
     aim.take(alloc)?;
     let source = Scan::new(alloc, text.as_bytes());
     Some(match run(rt, alloc, source, table, 2, 2, &NoGate) {

@@ -1,20 +1,11 @@
-// The decks, written out, since making a text takes memory.
-use xb_model::{Contact, Digit, Key, LineNo, Mark, Reason, Row, Tone, Trunk};
+// The decks: their parts are constants, since making a text takes memory.
+use std::io::{Chain, Read};
+use test_decks::decks::TABLE;
+use test_decks::marks::marks_of_operator;
+use xb_model::{Contact, LineNo, Mark, Reason, Row};
 
-/// Line 5 dials an operator. Line 16 seizes, hangs up and seizes again.
-pub const DECK: &str = "[[route]]
-code = \"234\"
-trunk = 17
-delete = 3
-prefix = \"56\"
-[[route]]
-code = \"411\"
-trunk = 3
-[[route]]
-code = \"0\"
-trunk = 1
----
-line,state,ms
+/// The rows of the deck. Line 5 dials an operator. Line 16 seizes, hangs up and seizes again.
+const ROWS_TEXT: &str = "line,state,ms
 5,M,500
 5,B,60
 5,M,40
@@ -48,32 +39,43 @@ pub const PAGE: &str = "0005 1 KEYED 0001 KP:1100+1700 0:1300+1500 ST:1500+1700
 KEYED 1 REFUSED 2
 ";
 
-/// A deck whose record 3 has two fields. Line 5 has a mark before it, so that the tape takes memory too.
-pub const FAULTY: &str = "[[route]]
-code = \"234\"
-trunk = 17
-delete = 3
-prefix = \"56\"
-[[route]]
-code = \"411\"
-trunk = 3
-[[route]]
-code = \"0\"
-trunk = 1
----
-line,state,ms
+/// Rows whose record 3 has two fields. Line 5 has a mark before it, so that the tape takes memory too.
+const FAULTY_ROWS: &str = "line,state,ms
 5,M,500
 5,C,0
 5,M
 5,M,600
 ";
 
+// The line that cuts a deck.
+const CUT: &str = "---\n";
+
+/// A reader of a deck under the usual table.
+pub type DeckReader = Chain<Chain<&'static [u8], &'static [u8]>, &'static [u8]>;
+
+fn deck_with(rows: &'static str) -> DeckReader {
+    TABLE
+        .as_bytes()
+        .chain(CUT.as_bytes())
+        .chain(rows.as_bytes())
+}
+
+/// A reader of the deck.
+pub fn deck() -> DeckReader {
+    deck_with(ROWS_TEXT)
+}
+
+/// A reader of the deck with a fault.
+pub fn faulty_deck() -> DeckReader {
+    deck_with(FAULTY_ROWS)
+}
+
 /// How many rows the deck has.
 pub const ROWS: usize = 24;
 
 /// The text of the deck's table, and that of its rows.
-pub fn table_and_rows() -> Option<(&'static str, &'static str)> {
-    DECK.split_once("---\n")
+pub fn table_and_rows() -> (&'static str, &'static str) {
+    (TABLE, ROWS_TEXT)
 }
 
 /// Row `n` of the deck, from 0.
@@ -91,26 +93,19 @@ pub fn row_at(n: usize) -> Option<Row> {
     Row::new(LineNo::new(line)?, contact, ms)
 }
 
-/// The marks of the operator call.
-pub fn operator_marks() -> Option<[Mark; 4]> {
-    let zero = Digit::new(0)?;
-    Some([
-        Mark::Trunk(Trunk::new(1)?),
-        tone(Key::Kp, 1100, 1700),
-        tone(Key::Digit(zero), 1300, 1500),
-        tone(Key::St, 1500, 1700),
-    ])
-}
-
 /// The marks of the two seizures that dial nothing.
 pub const ABANDONED: [Mark; 2] = [
     Mark::Refused(Reason::Abandoned, 0),
     Mark::Refused(Reason::Abandoned, 0),
 ];
 
-/// The mark of a key, with its pair in Hz.
-pub fn tone(key: Key, low: u16, high: u16) -> Mark {
-    Mark::Tone(key, Tone { low, high })
+/// Whether these are the rows of the deck.
+pub fn are_all_rows(rows: &[Row]) -> bool {
+    rows.len() == ROWS
+        && rows
+            .iter()
+            .enumerate()
+            .all(|(n, row)| row_at(n) == Some(*row))
 }
 
 /// The lines of the deck.
@@ -120,6 +115,6 @@ pub fn lines() -> Option<(LineNo, LineNo)> {
 
 /// Whether these are the marks of the deck's lines.
 pub fn are_marks(of_caller: &[Mark], of_seizures: &[Mark]) -> bool {
-    operator_marks().is_some_and(|marks| of_caller == marks.as_slice())
+    marks_of_operator().is_some_and(|marks| of_caller == marks.as_slice())
         && of_seizures == ABANDONED.as_slice()
 }

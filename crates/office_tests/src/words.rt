@@ -1,11 +1,13 @@
 // The words of the command line, with the deck of an operator call.
+use crate::office::usual_deck;
 use std::alloc::{AllocError, Global};
+use std::process::Abort;
 use std::sync::Wait;
 use std::test::Fail;
 use std::thread::Threads;
 use std::time::Clock;
 use test_decks::attempts::OPERATOR_CALL;
-use test_decks::decks::{TABLE, deck_of, one_after_another, page_of};
+use test_decks::decks::page_of;
 use xb_office::attend;
 
 // Words after the program's name that are refused.
@@ -18,6 +20,8 @@ const REFUSED: &[&[&str]] = &[
     &["stray"],
     &["--help"],
 ];
+
+const USAGE: &str = "mfbank: usage: mfbank [--senders N] [--ring N]\n";
 
 /// What the program gave.
 #[derive(Drop)]
@@ -41,61 +45,52 @@ fn command_line(alloc: Global, words: &[&str]) -> Result<Vec<String>, AllocError
 fn run_by<R: Threads + Wait + Clock + Sync>(
     rt: &R,
     alloc: Global,
-    words: &[&str],
+    words: Vec<String>,
     deck: &str,
-) -> Result<Outcome, AllocError> {
-    let words = command_line(alloc, words)?;
+) -> Outcome {
     let mut reader = deck.as_bytes();
     let mut page: Vec<u8> = Vec::new(alloc);
     let mut line: Vec<u8> = Vec::new(alloc);
     let status = attend(rt, alloc, words, &mut reader, &mut page, &mut line);
-    Ok(Outcome { status, page, line })
+    Outcome { status, page, line }
 }
 
-// The deck of the operator call.
-fn operator_deck(alloc: Global) -> Result<String, Fail> {
-    let rows = one_after_another(alloc, &OPERATOR_CALL)?;
-    deck_of(alloc, TABLE, &rows)
-}
-
-#[test]
-fn ring_of_one(rt: HostRuntime) -> Result<(), Fail> {
-    let alloc = rt.alloc();
-    let deck = operator_deck(alloc)?;
-    let got = run_by(&rt, alloc, &["--ring", "1"], deck.as_str())?;
-    let wanted = page_of(alloc, OPERATOR_CALL.page)?;
-    assert_eq!(rt; got.status, 0);
-    assert_eq!(rt; got.page.as_slice(), wanted.as_bytes());
-    assert!(rt; got.line.is_empty());
+// The words and the deck give this status, page and line.
+fn check_words<R: Threads + Wait + Clock + Abort + Sync>(
+    rt: &R,
+    alloc: Global,
+    words: &[&str],
+    deck: &str,
+    wanted: (u8, &str, &str),
+) -> Result<(), Fail> {
+    let got = run_by(rt, alloc, command_line(alloc, words)?, deck);
+    let (status, page, line) = wanted;
+    assert_eq!(rt; got.status, status, "{words:?}");
+    assert!(rt; got.page.as_slice() == page.as_bytes(), "{words:?}");
+    assert!(rt; got.line.as_slice() == line.as_bytes(), "{words:?}");
     Ok(())
 }
 
 #[test]
+fn ring_of_one(rt: HostRuntime) -> Result<(), Fail> {
+    let deck = usual_deck(rt.alloc(), &OPERATOR_CALL)?;
+    let page = page_of(rt.alloc(), OPERATOR_CALL.page)?;
+    let wanted = (0, page.as_str(), "");
+    check_words(&rt, rt.alloc(), &["--ring", "1"], deck.as_str(), wanted)
+}
+
+#[test]
 fn usage(rt: HostRuntime) -> Result<(), Fail> {
-    let alloc = rt.alloc();
-    let deck = operator_deck(alloc)?;
+    let deck = usual_deck(rt.alloc(), &OPERATOR_CALL)?;
     for words in REFUSED {
-        let got = run_by(&rt, alloc, words, deck.as_str())?;
-        assert_eq!(rt; got.status, 2, "{words:?}");
-        assert!(rt; got.page.is_empty(), "{words:?}");
-        assert_eq!(rt;
-            got.line.as_slice(),
-            b"mfbank: usage: mfbank [--senders N] [--ring N]\n".as_slice()
-        );
+        check_words(&rt, rt.alloc(), words, deck.as_str(), (2, "", USAGE))?;
     }
     Ok(())
 }
 
 #[test]
 fn line_of_a_row_fault(rt: HostRuntime) -> Result<(), Fail> {
-    let alloc = rt.alloc();
     let deck = "---\nline,state,ms\n7,M,86400001\n";
-    let got = run_by(&rt, alloc, &[], deck)?;
-    assert_eq!(rt; got.status, 1);
-    assert!(rt; got.page.is_empty());
-    assert_eq!(rt;
-        got.line.as_slice(),
-        b"mfbank: loop rows: record 1 has a wrong ms\n".as_slice()
-    );
-    Ok(())
+    let line = "mfbank: loop rows: record 1 has a wrong ms\n";
+    check_words(&rt, rt.alloc(), &[], deck, (1, "", line))
 }

@@ -1,12 +1,11 @@
 // The calls that read texts.
-use crate::decks::{ROWS, row_at, table_and_rows};
+use crate::decks::{ROWS, are_all_rows, row_at, table_and_rows};
 use crate::outcome::Outcome;
 use crate::refusal::Aim;
 use std::alloc::Global;
-use xb_bank::RowSource;
-use xb_model::{Digit, Row, RowFault};
-use xb_office::{Scan, read_rows};
+use xb_model::{Digit, RowFault, RowSource};
 use xb_routes::{RouteFault, RouteTable};
+use xb_rows::{Scan, read_rows};
 
 // Whether the table sends numbers that begin so to this trunk group, without so many digits.
 fn routes(table: &RouteTable, digits: &[Digit], trunk: u16, deleted: u8) -> bool {
@@ -27,7 +26,7 @@ fn has_routes(table: &RouteTable) -> Option<bool> {
 
 /// Reads the table.
 pub fn try_table(alloc: Global, aim: Aim) -> Option<Outcome> {
-    let (text, _) = table_and_rows()?;
+    let (text, _) = table_and_rows();
     aim.take(alloc)?;
     Some(match RouteTable::read(alloc, text.as_bytes()) {
         Ok(table) => Outcome::ample_where(has_routes(&table) == Some(true)),
@@ -36,17 +35,9 @@ pub fn try_table(alloc: Global, aim: Aim) -> Option<Outcome> {
     })
 }
 
-fn are_all_rows(rows: &[Row]) -> bool {
-    rows.len() == ROWS
-        && rows
-            .iter()
-            .enumerate()
-            .all(|(n, row)| row_at(n) == Some(*row))
-}
-
 /// Reads all rows.
 pub fn try_rows(alloc: Global, aim: Aim) -> Option<Outcome> {
-    let (_, text) = table_and_rows()?;
+    let (_, text) = table_and_rows();
     aim.take(alloc)?;
     let mut reader = text.as_bytes();
     Some(match read_rows(alloc, &mut reader) {
@@ -73,7 +64,7 @@ fn scan_to_stop(scan: &mut Scan<'_>) -> Outcome {
 
 /// Reads one row after the other.
 pub fn try_next_row(alloc: Global, aim: Aim) -> Option<Outcome> {
-    let (_, text) = table_and_rows()?;
+    let (_, text) = table_and_rows();
     aim.take(alloc)?;
     let mut scan = Scan::new(alloc, text.as_bytes());
     Some(scan_to_stop(&mut scan))

@@ -3,10 +3,10 @@ use crate::chain::{Parts, parts_of_deck};
 use crate::decks::{are_marks, lines};
 use crate::outcome::Outcome;
 use crate::refusal::Aim;
-use replay_tests::Played;
-use std::alloc::Global;
+use std::alloc::{AllocError, Global};
+use xb_model::{LineNo, Mark};
 use xb_replay::Replay;
-use xb_ring::Post;
+use xb_ring::{Post, Turn};
 
 // The posts of two senders.
 const POSTS: [Post; 9] = [
@@ -24,22 +24,34 @@ const POSTS: [Post; 9] = [
 // How many rounds of all posts are enough, one turn of them refused.
 const ROUNDS: usize = 400;
 
+// The contract of a turn is wide, and is read here alone.
+fn turn_of(chain: &mut Replay<'_>, post: Post) -> Result<Turn, AllocError> {
+    chain.turn(post)
+}
+
+fn marks_of<'a>(chain: &'a Replay<'_>, line: LineNo) -> &'a [Mark] {
+    chain.marks(line)
+}
+
+fn has_ended(chain: &Replay<'_>) -> bool {
+    chain.ended()
+}
+
 // How many marks the chain has.
-fn count_marks<P: Played>(chain: &P) -> usize {
+fn count_marks(chain: &Replay<'_>) -> usize {
     match lines() {
-        Some((caller, seizing)) => chain
-            .marks(caller)
+        Some((caller, seizing)) => marks_of(chain, caller)
             .len()
-            .saturating_add(chain.marks(seizing).len()),
+            .saturating_add(marks_of(chain, seizing).len()),
         None => 0,
     }
 }
 
 // One turn of a post: whether it was refused; `None` where that is not for the tape to say, or changes
 // the marks.
-fn is_refused<P: Played>(chain: &mut P, post: Post) -> Option<bool> {
+fn is_refused(chain: &mut Replay<'_>, post: Post) -> Option<bool> {
     let before = count_marks(chain);
-    match chain.turn(post) {
+    match turn_of(chain, post) {
         Ok(_) => Some(false),
         Err(_) if post == Post::Tape && count_marks(chain) == before => Some(true),
         Err(_) => None,
@@ -47,7 +59,7 @@ fn is_refused<P: Played>(chain: &mut P, post: Post) -> Option<bool> {
 }
 
 // A turn of each post: how many were refused.
-fn round_of<P: Played>(chain: &mut P) -> Option<usize> {
+fn round_of(chain: &mut Replay<'_>) -> Option<usize> {
     let mut refused: usize = 0;
     for post in POSTS {
         if is_refused(chain, post)? {
@@ -58,10 +70,10 @@ fn round_of<P: Played>(chain: &mut P) -> Option<usize> {
 }
 
 // Rounds to the end, and how many turns were refused; `None` where the end does not come.
-fn rounds_to_end<P: Played>(chain: &mut P) -> Option<usize> {
+fn rounds_to_end(chain: &mut Replay<'_>) -> Option<usize> {
     let mut refused: usize = 0;
     for _ in 0..ROUNDS {
-        if chain.ended() {
+        if has_ended(chain) {
             return Some(refused);
         }
         refused = refused.saturating_add(round_of(chain)?);
@@ -69,15 +81,18 @@ fn rounds_to_end<P: Played>(chain: &mut P) -> Option<usize> {
     None
 }
 
-fn has_all<P: Played>(chain: &P) -> bool {
-    lines().is_some_and(|(caller, seizing)| are_marks(chain.marks(caller), chain.marks(seizing)))
+fn has_all(chain: &Replay<'_>) -> bool {
+    lines().is_some_and(|(caller, seizing)| are_marks(
+        marks_of(chain, caller),
+        marks_of(chain, seizing),
+    ))
 }
 
-fn is_blank<P: Played>(chain: &P) -> bool {
-    !chain.ended() && count_marks(chain) == 0
+fn is_blank(chain: &Replay<'_>) -> bool {
+    !has_ended(chain) && count_marks(chain) == 0
 }
 
-fn judge_turns<P: Played>(chain: &mut P, alloc: Global, aim: Aim) -> Option<Outcome> {
+fn judge_turns(chain: &mut Replay<'_>, alloc: Global, aim: Aim) -> Option<Outcome> {
     aim.take(alloc)?;
     Some(match rounds_to_end(chain) {
         Some(0) => Outcome::ample_where(has_all(chain)),

@@ -6,10 +6,10 @@ use rtrb::Consumer;
 use std::alloc::Global;
 use std::sync::Wait;
 use std::time::Clock;
-use xb_bank::{Feed, Listed, NoGate};
-use xb_model::{Row, RowFault};
-use xb_office::Scan;
-use xb_ring::{Flow, Turn, link};
+use xb_model::{Listed, Row, RowFault};
+use xb_posts::Feed;
+use xb_ring::{Flow, NoGate, Turn, link};
+use xb_rows::Scan;
 
 // Room for all rows, the closes and the End.
 const RING: usize = 32;
@@ -113,7 +113,7 @@ fn judge_turns(
 
 /// Makes the turns of a feed.
 pub fn try_turns(alloc: Global, aim: Aim) -> Option<Outcome> {
-    let (_, text) = table_and_rows()?;
+    let (_, text) = table_and_rows();
     let (output, mut input) = link(alloc, RING).ok()?;
     match Feed::new(alloc, Scan::new(alloc, text.as_bytes()), output) {
         Ok(mut feed) => judge_turns(&mut feed, &mut input, alloc, aim),
@@ -138,7 +138,7 @@ fn judge_serve<R: Wait + Clock>(
 
 /// Serves a feed to its end.
 pub fn try_serve<R: Wait + Clock>(rt: &R, alloc: Global, aim: Aim) -> Option<Outcome> {
-    let (_, text) = table_and_rows()?;
+    let (_, text) = table_and_rows();
     let (output, mut input) = link(alloc, RING).ok()?;
     match Feed::new(alloc, Scan::new(alloc, text.as_bytes()), output) {
         Ok(mut feed) => judge_serve(rt, &mut feed, &mut input, alloc, aim),
