@@ -7,4 +7,6 @@
 #[cfg(test)]
 mod keyed;
 #[cfg(test)]
+mod pauses;
+#[cfg(test)]
 mod posts;
