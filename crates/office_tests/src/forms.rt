@@ -1,8 +1,7 @@
 // The short forms, written out.
-use crate::office::deck_of;
 use std::test::Fail;
 use test_decks::attempts::OPERATOR_CALL;
-use test_decks::decks::{TABLE, one_after_another, page_of};
+use test_decks::decks::{TABLE, deck_of, one_after_another, page_of};
 
 // What stands after the table in the deck of an operator call, whole.
 const ROWS: &str = "---

@@ -1,7 +1,7 @@
 // The worked examples, however many senders and however small the rings.
 ghost use Rattle.std.specs.Prelude.{◌≤◌};
 
-use crate::office::{deck_of, operate_on};
+use crate::office::operate_on;
 use std::alloc::Global;
 use std::process::Abort;
 use std::sync::Wait;
@@ -9,7 +9,7 @@ use std::test::Fail;
 use std::thread::Threads;
 use std::time::Clock;
 use test_decks::attempts::{SHEETS, TWO_LINES_IN_TURN};
-use test_decks::decks::{TABLE, Worked, is_page, joined, one_after_another, two_in_turn};
+use test_decks::decks::{TABLE, Worked, deck_of, is_page, joined, one_after_another, two_in_turn};
 use xb_model::Row;
 use xb_ring::{GREATEST_CAPACITY, MOST_BRANCHES};
 

@@ -8,11 +8,9 @@ use std::sync::Wait;
 use std::test::Fail;
 use std::thread::Threads;
 use std::time::Clock;
-use test_decks::decks::{TABLE, Worked, is_page, joined, one_after_another};
-use xb_model::Row;
+use test_decks::decks::{TABLE, Worked, deck_of, is_page, one_after_another};
 use xb_office::{OfficeFault, operate};
 use xb_ring::{GREATEST_CAPACITY, MOST_BRANCHES};
-use xb_rows::text_of_rows;
 
 /// The lines of a page in its short form, or a fault without a page.
 pub type Gives = Result<&'static [&'static str], OfficeFault>;
@@ -30,12 +28,6 @@ pub fn operate_on<R: Read, W: Write, H: Threads + Wait + Clock + Sync>(
     requires ring { (1 ≤ ring) × (ring ≤ GREATEST_CAPACITY) }
 {
     operate(rt, alloc, deck, out, senders, ring)
-}
-
-/// The table, the line that cuts, and the rows as CSV.
-pub fn deck_of(alloc: Global, table: &str, rows: &[Row]) -> Result<String, Fail> {
-    let text = text_of_rows(alloc, rows)?;
-    Ok(joined(alloc, &[table, "---\n", text.as_str()])?)
 }
 
 /// The deck of a worked example under the usual table.

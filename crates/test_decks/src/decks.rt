@@ -3,6 +3,7 @@ use crate::pulses::{in_turn, rows_of};
 use std::alloc::{AllocError, Global};
 use std::test::Fail;
 use xb_model::Row;
+use xb_rows::text_of_rows;
 
 /// The route table of most decks.
 pub const TABLE: &str = "[[route]]
@@ -64,6 +65,12 @@ pub fn joined(alloc: Global, parts: &[&str]) -> Result<String, AllocError> {
         text.push_str(part)?;
     }
     Ok(text)
+}
+
+/// The table, the line that cuts, and the rows as CSV.
+pub fn deck_of(alloc: Global, table: &str, rows: &[Row]) -> Result<String, Fail> {
+    let text = text_of_rows(alloc, rows)?;
+    Ok(joined(alloc, &[table, "---\n", text.as_str()])?)
 }
 
 fn written_out(word: &str) -> &str {
