@@ -145,7 +145,7 @@ released-into_first run [] r = (inr refl, tt)
 released-into_first run (piece ∷ pieces) r = r
 
 -- so it is of the pieces of runs that are cut at releases
-released-pieces_of : (limits : Limits) (runs : List Run) → AllButLastReleased (pieces_of limits runs)
+pub released-pieces_of : (limits : Limits) (runs : List Run) → AllButLastReleased (pieces_of limits runs)
 released-pieces_of limits [] = tt
 released-pieces_of limits (run ∷ runs) = at (is_release limits run) (released-pieces_of limits runs)
   where
@@ -156,7 +156,7 @@ released-pieces_of limits (run ∷ runs) = at (is_release limits run) (released-
     at false r = released-into_first run (pieces_of limits runs) r
 
 -- and of those of the pieces that pass a test
-released-filter : (test : Attempt → Bool) (pieces : List Attempt) → AllButLastReleased pieces
+pub released-filter : (test : Attempt → Bool) (pieces : List Attempt) → AllButLastReleased pieces
     → AllButLastReleased (filter test pieces)
 released-filter test [] r = tt
 released-filter test (piece ∷ pieces) r = at (test piece) (released-filter test pieces r.1)
@@ -211,15 +211,15 @@ ends-close plan false true = record { unfinished = λ digits. refl; finished = r
 ends-close plan false false = record { unfinished = λ digits. refl; finished = refl }
 
 -- the signals of attempts, and the close
-abbrev signals_and_close : Limits → List Attempt → List Signal
+abbrev pub signals_and_close : Limits → List Attempt → List Signal
 signals_and_close limits attempts = flat_map (attempt_signals limits) attempts ++ Close ∷ []
 
 -- the outcome of each attempt
-abbrev outcomes_of_attempts : Plan → Limits → List Attempt → List Dialled
+abbrev pub outcomes_of_attempts : Plan → Limits → List Attempt → List Dialled
 outcomes_of_attempts plan limits attempts = map (λ attempt. outcome_of plan limits attempt.runs) attempts
 
 -- attempts give their outcomes, in order
-outcomes_from-attempts : (plan : Plan) (limits : Limits) (attempts : List Attempt)
+pub outcomes_from-attempts : (plan : Plan) (limits : Limits) (attempts : List Attempt)
     → AllButLastReleased attempts
     → outcomes_from plan OnHook (signals_and_close limits attempts) ≡ outcomes_of_attempts plan limits attempts
 outcomes_from-attempts plan limits [] r = refl

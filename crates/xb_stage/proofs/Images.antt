@@ -82,7 +82,7 @@ module _ {I O S : Type 0} (line : I → ℕ) (out_line : O → ℕ) (m : Machine
 
 module _ {I O S : Type 0} (line : I → ℕ) (m : Machine I O S) where
   -- where every item is on one line, each finds the state that the one before it left
-  image_after-one : (l : ℕ) (earlier xs : List I) → AllByRecursion (λ x. line x ≡ l) xs → image_after line m earlier xs ≡ image_from m (state_after line m earlier l) xs
+  pub image_after-one : (l : ℕ) (earlier xs : List I) → AllByRecursion (λ x. line x ≡ l) xs → image_after line m earlier xs ≡ image_from m (state_after line m earlier l) xs
   unfolding image_after
   image_after-one l earlier [] a = refl
   image_after-one l earlier (x ∷ xs) a =
