@@ -3,9 +3,9 @@ ghost use Rattle.std.specs.Prelude.{◌≡◌, IfOk, option_map, slice_get};
 ghost use Rattle.xb_model.specs.Tapes.{tape_of};
 
 use std::alloc::{AllocError, Global};
-use xb_bank::key_serial;
 use xb_model::{LineNo, Mark, Row};
 use xb_routes::RouteTable;
+use xb_serial::key_serial;
 
 /// What became of call attempt `call` of a line, counted from 0, given the rows of all lines: the marks
 /// of its keying, or the one mark of its refusal. `None` if the line made fewer attempts; `Err` where

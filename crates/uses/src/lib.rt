@@ -6,8 +6,6 @@
 mod calls;
 mod hearing;
 mod schedules;
-#[cfg(test)]
-mod tests;
 mod threads;
 
 pub use calls::marks_of_call;

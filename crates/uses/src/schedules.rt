@@ -4,8 +4,8 @@ ghost use mathlib.Core.List.{IsPrefix};
 ghost use Rattle.xb_model.specs.Tapes.{joined_tape};
 
 use std::alloc::{AllocError, Global};
-use xb_bank::Replay;
 use xb_model::{LineNo, Mark, Row};
+use xb_replay::Replay;
 use xb_ring::Post;
 use xb_routes::RouteTable;
 

@@ -6,9 +6,10 @@ use std::alloc::Global;
 use std::sync::Wait;
 use std::thread::Threads;
 use std::time::Clock;
-use xb_bank::{BankFault, Listed, NoGate, run};
-use xb_model::{LineNo, Mark, Row};
+use xb_model::{LineNo, Listed, Mark, Row};
+use xb_ring::NoGate;
 use xb_routes::RouteTable;
+use xb_run::{BankFault, run};
 
 /// What is sent or refused on a line, given the rows of all lines: the marks of all its call attempts,
 /// in order. Four senders share the work, and 64 items may wait between two stages. `Err` where memory
