@@ -11,6 +11,7 @@ use std::test::Fail;
 use std::thread::Threads;
 use std::time::Clock;
 use test_decks::attempts::SEVEN_DIGITS;
+use test_decks::sources::Stopping;
 use xb_model::RowFault;
 use xb_ring::{MOST_BRANCHES, NoGate};
 use xb_run::BankFault;
@@ -28,8 +29,10 @@ fn check_stop<R: Threads + Wait + Clock + Abort + Sync>(
 {
     let asked = AtomicU64::new(0);
     let source = Counted {
-        rows: &calls.rows,
-        stop: Some(stop),
+        source: Stopping {
+            rows: &calls.rows,
+            stop: Some(stop),
+        },
         calls: &asked,
     };
     let fault = run_on(rt, alloc, source, &calls.table, senders, 2, &NoGate).err();

@@ -9,6 +9,7 @@ use std::test::Fail;
 use std::thread::Threads;
 use std::time::Clock;
 use test_decks::attempts::OPERATOR_CALL;
+use test_decks::sources::Stopping;
 use xb_ring::{Gate, Post};
 use xb_run::BankFault;
 
@@ -63,8 +64,10 @@ fn check_refused<R: Threads + Wait + Clock + Abort + Sync>(
     };
     let taken = AtomicU64::new(0);
     let source = Counted {
-        rows: &calls.rows,
-        stop: None,
+        source: Stopping {
+            rows: &calls.rows,
+            stop: None,
+        },
         calls: &taken,
     };
     let fault = run_on(rt, alloc, source, &calls.table, 2, 64, &gate).err();

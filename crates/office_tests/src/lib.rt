@@ -1,5 +1,4 @@
-//! Decks through the whole office: worked examples, faults, hostile decks, streams that fail, and the words
-//! of the command line.
+//! Decks through the whole office: worked examples, faults, hostile decks, and streams that fail.
 //!
 //! Tests alone. An example is what some lines do, in a short form, beside the page of it, worked out by
 //! hand.
@@ -23,5 +22,3 @@ mod lines;
 mod office;
 #[cfg(test)]
 mod streams;
-#[cfg(test)]
-mod words;

@@ -1,11 +1,11 @@
 // Turns of a feed: slices, single rows, closes, the End, and a fault of the source.
 use crate::rows::{make, makes};
-use crate::stopping::Stopping;
 use rtrb::Consumer;
 use std::alloc::Global;
 use std::process::Abort;
 use std::sync::atomic::{AtomicU64, Ordering};
 use std::test::Fail;
+use test_decks::sources::Stopping;
 use xb_model::{LineNo, Row, RowFault, RowSource};
 use xb_posts::Feed;
 use xb_ring::{Flow, Gate, Post, Turn, link};

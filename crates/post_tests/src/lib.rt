@@ -8,6 +8,4 @@ mod feeds;
 #[cfg(test)]
 mod rows;
 #[cfg(test)]
-mod stopping;
-#[cfg(test)]
 mod tapes;

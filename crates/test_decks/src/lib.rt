@@ -5,3 +5,4 @@ pub mod attempts;
 pub mod decks;
 pub mod marks;
 pub mod pulses;
+pub mod sources;

@@ -1,5 +1,5 @@
 -- Lists in which one element after another is replaced.
-use Rattle.std.proofs.Common.{◌≡◌, ◌≢◌, ℕ, zero, suc, ◌+◌, ◌<◌, ◌≤◌, List, [], ◌∷◌, ◌++◌, length, length-set, length-append, get_or, set, refl, sym, ◌∙◌, subst, ⊎_elim, arith, get_or-set_same, get_or-set_other}
+use Rattle.std.proofs.Common.{◌≡◌, ◌≢◌, ℕ, ◌+◌, ◌<◌, ◌≤◌, List, length, length-set, get_or, set, sym, ◌∙◌, subst, ⊎_elim, arith, get_or-set_same, get_or-set_other}
 use Rattle.std.proofs.lemmas.Bool.{cases_eq}
 use Rattle.std.proofs.lemmas.List.{get_or_read}
 
@@ -31,23 +31,3 @@ module _ {X : Type 0} (xs ys : List X) (j : ℕ) (o z : X) (len : length ys ≡ 
       (λ same. subst (λ m. Q m (get_or (set ys j z) m d)) (sym same) (subst (Q j) (sym (get_or-set_same ys j z d below)) here))
       (λ other. subst (Q i) (sym (get_or-set_other ys j i z d other)) (before i d (omega (arith, other))))
       (cases_eq i j)
-
--- ---- one element more
-module _ {X : Type 0} where
-  pub push-here : (ys : List X) (z d : X) → get_or (ys ++ z ∷ []) (length ys) d ≡ z
-  push-here [] z d = refl
-  push-here (y ∷ ys) z d = push-here ys z d
-
-  pub push-before : (ys : List X) (z : X) (i : ℕ) (d : X) → i < length ys → get_or (ys ++ z ∷ []) i d ≡ get_or ys i d
-  push-before [] z i d h = absurd (omega arith)
-  push-before (y ∷ ys) z zero d h = refl
-  push-before (y ∷ ys) z (suc i) d h = push-before ys z i d (omega arith)
-
-  -- what holds of all elements, and of one more
-  pub each-push : (Q : ℕ → X → Type 0) (ys : List X) (z : X) → Q (length ys) z → ((i : ℕ) (d : X) → i < length ys → Q i (get_or ys i d)) → (i : ℕ) (d : X) → i < length (ys ++ z ∷ []) → Q i (get_or (ys ++ z ∷ []) i d)
-  each-push Q ys z here before i d h =
-      let within : i < length ys + 1 = subst (λ n. i < n) (length-append ys (z ∷ [])) h in
-      ⊎_elim
-      (λ same. subst (λ m. Q m (get_or (ys ++ z ∷ []) m d)) (sym same) (subst (Q (length ys)) (sym (push-here ys z d)) here))
-      (λ other. let less : i < length ys = omega (arith, within, other) in subst (Q i) (sym (push-before ys z i d less)) (before i d less))
-      (cases_eq i (length ys))

@@ -1,4 +1,4 @@
-// Rows and a stop after them.
+// Sources of rows.
 use xb_model::{Row, RowFault, RowSource};
 
 /// A source that gives these rows, and then stops so.
