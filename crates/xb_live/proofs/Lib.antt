@@ -1,0 +1,10 @@
+pub mod OneLine
+pub mod Fusion
+pub mod OneOutcome
+pub mod Without
+pub mod Settled
+pub mod Taking
+pub mod Ends
+pub mod Lacking
+pub mod Promises
+pub mod WorkedRows
