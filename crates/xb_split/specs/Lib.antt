@@ -1,0 +1,5 @@
+pub mod Parts
+pub mod Loads
+pub mod PlanFaults
+pub mod Ranges
+pub mod Counts
