@@ -1,0 +1,142 @@
+-- How a page is read line by line.
+use Rattle.std.proofs.Common.{◌≡◌, ◌≤◌, ◌<◌, ◌+◌, ◌-◌, ℕ, true, false, not, List, [], ◌∷◌, ◌++◌, length, get_or, take, drop, Some, None, sym, ap, ap₂, ◌∙◌, arith, append_assoc}
+use Rattle.std.specs.Prelude.{Ok, Err, Result, codes}
+use Rattle.std.specs.List.{All, join_with_byte, position, position_or_len, slice_split}
+use Rattle.std.proofs.lemmas.Grind.{common_steps}
+use Rattle.std.proofs.lemmas.Bool.{cond-true, cond-false, eq-eqb, ne_eqb}
+use Rattle.std.proofs.lemmas.List.{drop-drop, drop_more, length-drop, take-append-drop, take_more, take_rest}
+use Rattle.std.proofs.Math.Seq.{take-add}
+use Rattle.std.proofs.lemmas.List.Quantifiers.{position-Some}
+use Rattle.std.proofs.lemmas.List.Splits.{slice_split_at, slice_split_none, join_with_byte-slice_split}
+use Rattle.std.proofs.lemmas.List.Sums.{fails_before_first}
+use Rattle.xb_parts.specs.declared.damage.Damage.{Damage}
+use Rattle.xb_parts.specs.declared.damage.Damage.TheVariants as damage
+use Rattle.xb_parts.specs.declared.place.Place.{Place}
+use Rattle.xb_parts.specs.PageLines.{Read, ends_line, has_more, head_of, is_totals, line_feed, or_damage, place_after, read_lines, read_page, read_totals, read_with, says_totals}
+use Rattle.xb_parts.proofs.ReadEntries.{has_more-slice_split, read_lines-more}
+
+-- the first line, and the lines after its LF
+first_line : (xs : List ℕ) (n : ℕ) → position ends_line xs ≡ Some n → slice_split ends_line xs ≡ take n xs ∷ slice_split ends_line (drop (n + 1) xs)
+first_line xs n e =
+    let (within, is, before) = position-Some ends_line xs n 0 e in
+    let front : All (λ byte. ends_line byte ≡ false) (take n xs) = λ k byte m. let b = before k in grind (arith, common_steps) in
+    let whole : xs ≡ take n xs ++ (get_or xs n 0 ∷ drop (n + 1) xs) = sym (take-append-drop n xs) ∙ ap (λ (rest : List ℕ). take n xs ++ rest) (drop_more xs n 0 within) in
+    ap (slice_split ends_line) whole ∙ slice_split_at ends_line (take n xs) (get_or xs n 0) (drop (n + 1) xs) front is
+
+-- a text without LF is one line
+one_line : (xs : List ℕ) → position ends_line xs ≡ None → slice_split ends_line xs ≡ xs ∷ []
+one_line xs e =
+    let all : length xs ≤ position_or_len ends_line xs = grind (arith, common_steps) in
+    slice_split_none ends_line xs (λ k byte m. let f = fails_before_first ends_line xs k byte in grind (arith, common_steps))
+
+-- the first line with its LF
+with_end : (xs : List ℕ) (n : ℕ) → position ends_line xs ≡ Some n → take n xs ++ codes "\n" ≡ take (n + 1) xs
+with_end xs n e =
+    let (within, is, before) = position-Some ends_line xs n 0 e in
+    let lf : get_or xs n 0 ≡ line_feed = grind (arith, common_steps) in
+    ap (λ (byte : ℕ). take n xs ++ (byte ∷ [])) (sym lf) ∙ sym (take_more xs n 0 within)
+
+-- a page is read as its rest from a line's start on is, after the earlier lines
+abbrev pub IsRestRead : ℕ → List ℕ → Place → ℕ → Type 0
+IsRestRead from page place start =
+    read_page from page ≡ read_lines (take start page) place (slice_split ends_line (drop start page))
+
+-- the length of a line from its ends
+line_length : (start n : ℕ) → start + n - start ≡ n
+line_length start n = omega arith
+
+-- the bytes after a line
+drop-line : (xs : List ℕ) (start n : ℕ) → drop (n + 1) (drop start xs) ≡ drop (start + n + 1) xs
+drop-line xs start n =
+    let e : start + (n + 1) ≡ start + n + 1 = omega arith in
+    drop-drop (n + 1) start xs ∙ ap (λ (k : ℕ). drop k xs) e
+
+-- the bytes up to and with a line
+take-line : (xs : List ℕ) (start n : ℕ) → take start xs ++ take (n + 1) (drop start xs) ≡ take (start + n + 1) xs
+take-line xs start n =
+    let e : start + (n + 1) ≡ start + n + 1 = omega arith in
+    sym (take-add start (n + 1) xs) ∙ ap (λ (k : ℕ). take k xs) e
+
+module _ (from : ℕ) (page : List ℕ) (place : Place) (start n : ℕ) (rest : IsRestRead from page place start)
+    (e : Some n ≡ position ends_line (take (length page - start) (drop start page))) where
+  -- the text of the line
+  abbrev pub text : List ℕ
+  text = take (start + n - start) (drop start page)
+
+  at : position ends_line (drop start page) ≡ Some n
+  at = rw (take_rest page start) at (sym e)
+
+  is_text : text ≡ take n (drop start page)
+  is_text = ap (λ (k : ℕ). take k (drop start page)) (line_length start n)
+
+  pub line_within : start + n + 1 ≤ length page
+  line_within =
+      let (within, lf, before) = position-Some ends_line (drop start page) n 0 at in
+      omega (arith, length-drop start page)
+
+  abbrev pub later : List (List ℕ)
+  later = slice_split ends_line (drop (start + n + 1) page)
+
+  pub lines_from : slice_split ends_line (drop start page) ≡ text ∷ later
+  lines_from =
+      first_line (drop start page) n at
+      ∙ ap₂ (λ (t : List ℕ) (r : List ℕ). t ∷ slice_split ends_line r) (sym is_text) (drop-line page start n)
+
+  here : read_page from page ≡ read_lines (take start page) place (text ∷ later)
+  here = rest ∙ ap (read_lines (take start page) place) lines_from
+
+  more : has_more later ≡ true
+  more = has_more-slice_split (drop (start + n + 1) page)
+
+  -- a line that is not the totals
+  pub not_totals : false ≡ is_totals text
+      → read_page from page ≡ or_damage (place_after place (head_of text)) (λ next. read_lines (take (start + n + 1) page) next (slice_split ends_line (drop (start + n + 1) page)))
+  not_totals other =
+      here ∙ read_lines-more (take start page) place text later more (sym other)
+      ∙ ap (λ (bytes : List ℕ). or_damage (place_after place (head_of text)) (λ next. read_lines bytes next later))
+      (append_assoc (take start page) text (codes "\n")
+      ∙ ap (λ (t : List ℕ). take start page ++ (t ++ codes "\n")) is_text
+      ∙ ap (λ (t : List ℕ). take start page ++ t) (with_end (drop start page) n at)
+      ∙ take-line page start n)
+
+  -- the totals
+  pub totals : true ≡ is_totals text → read_page from page ≡ read_totals (take start page) place text (slice_split ends_line (drop (start + n + 1) page))
+  totals t = here ∙ cond-false _ _ _ (ap not more) ∙ cond-true _ _ _ (sym t)
+
+  -- wrong ones
+  pub wrong_totals : true ≡ is_totals text → false ≡ says_totals place.keyed place.refused text → read_page from page ≡ Err damage.WrongTotals
+  wrong_totals t f = totals t ∙ cond-true _ _ _ (ap not (sym f))
+
+  -- the bytes after the totals
+  after : length (join_with_byte line_feed (slice_split ends_line (drop (start + n + 1) page))) ≡ length page - (start + n + 1)
+  after = ap length (join_with_byte-slice_split line_feed (drop (start + n + 1) page)) ∙ length-drop (start + n + 1) page
+
+  -- right ones, with something after them
+  pub goes_on : true ≡ is_totals text → true ≡ says_totals place.keyed place.refused text → start + n + 1 < length page → read_page from page ≡ Err damage.GoesOn
+  goes_on t says far =
+      totals t ∙ cond-false _ _ _ (ap not (sym says))
+      ∙ cond-false _ _ _ (ne_eqb (length (join_with_byte line_feed later)) 0 (λ none. omega (arith, after, none)))
+
+  -- right ones at the end
+  pub ends : true ≡ is_totals text → true ≡ says_totals place.keyed place.refused text → length page ≤ start + n + 1
+      → read_page from page ≡ Ok (read_with (take start page) place)
+  ends t says far =
+      totals t ∙ cond-false _ _ _ (ap not (sym says))
+      ∙ cond-true _ _ _ (eq-eqb (length (join_with_byte line_feed later)) 0 (omega (arith, after)))
+
+-- a line that is wrong
+pub after_fails : (d : Damage) → (place : Place) (text : List ℕ) (next : Place → Result Read Damage)
+    → Err d ≡ place_after place (head_of text) → or_damage (place_after place (head_of text)) next ≡ Err d
+after_fails d place words next e = ap (λ (r : Result Place Damage). or_damage r next) (sym e)
+
+-- a line that is right
+pub after_goes : (place' place : Place) (text : List ℕ) (next : Place → Result Read Damage)
+    → Ok place' ≡ place_after place (head_of text) → or_damage (place_after place (head_of text)) next ≡ next place'
+after_goes place' place words next e = ap (λ (r : Result Place Damage). or_damage r next) (sym e)
+
+-- no line is left
+pub no_line : (from : ℕ) (page : List ℕ) (place : Place) (start : ℕ) → IsRestRead from page place start
+    → None ≡ position ends_line (take (length page - start) (drop start page)) → read_page from page ≡ Err damage.NoTotals
+no_line from page place start rest e =
+    let at = rw (take_rest page start) at (sym e) in
+    rest ∙ ap (read_lines (take start page) place) (one_line (drop start page) at)
