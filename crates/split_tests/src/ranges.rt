@@ -1,0 +1,142 @@
+// The ranges that are planned for counted rows.
+use std::alloc::{AllocError, Global};
+use std::process::Abort;
+use std::test::Fail;
+use test_decks::attempts::SIX_CALLS;
+use test_decks::decks::one_after_another;
+use xb_model::{Contact, LINES, LineNo, PerLine, Row};
+use xb_rows::text_of_rows;
+use xb_split::{LineRange, Load, PlanFault, count_row, part_of, plan_ranges};
+
+const MOST: Load = Load {
+    records: 1_000_000,
+    bytes: 16_000_000,
+};
+
+// What two lines of six calls have, and one record less.
+const TWO_LINES: Load = Load {
+    records: 142,
+    bytes: 16_000_000,
+};
+
+const LESS_THAN_TWO: Load = Load {
+    records: 141,
+    bytes: 16_000_000,
+};
+
+// Less than one of the lines has.
+const FEW_RECORDS: Load = Load {
+    records: 70,
+    bytes: 16_000_000,
+};
+
+const FEW_BYTES: Load = Load {
+    records: 71,
+    bytes: 100,
+};
+
+// The header's bytes, its LF counted.
+const HEADER_BYTES: u64 = 14;
+
+// What each line has of rows.
+fn loads_of(alloc: Global, rows: &[Row]) -> Result<PerLine<Load>, AllocError> {
+    let mut loads = PerLine::from_fn(alloc, Load::default)?;
+    for row in rows {
+        count_row(&mut loads, *row);
+    }
+    Ok(loads)
+}
+
+fn range(first: u16, end: u16) -> LineRange {
+    LineRange { first, end }
+}
+
+#[test]
+fn rows_are_counted(rt: HostRuntime) -> Result<(), Fail> {
+    let alloc = rt.alloc();
+    let rows = one_after_another(alloc, &SIX_CALLS)?;
+    let loads = loads_of(alloc, &rows)?;
+    let text = text_of_rows(alloc, &rows)?;
+    let mut count: usize = 0;
+    let mut bytes = HEADER_BYTES;
+    for (line, load) in loads.iter() {
+        let of_line = rows.iter().filter(|row| row.line() == line).count();
+        assert_eq!(rt; load.records, of_line as u64);
+        count = count.saturating_add(of_line);
+        bytes = bytes.saturating_add(load.bytes);
+    }
+    assert_eq!(rt; count, rows.len());
+    assert_eq!(rt; bytes, text.as_str().len() as u64);
+    Ok(())
+}
+
+#[test]
+fn all_lines_are_one_range_where_they_fit(rt: HostRuntime) -> Result<(), Fail> {
+    let alloc = rt.alloc();
+    let rows = one_after_another(alloc, &SIX_CALLS)?;
+    let loads = loads_of(alloc, &rows)?;
+    let ranges = plan_ranges(alloc, &loads, MOST, MOST).expect(&rt, "a plan");
+    assert_eq!(rt; ranges.as_slice(), [range(0, LINES)].as_slice());
+    let none = loads_of(alloc, &[])?;
+    let ranges = plan_ranges(alloc, &none, Load::default(), Load::default()).expect(&rt, "a plan");
+    assert_eq!(rt; ranges.as_slice(), [range(0, LINES)].as_slice());
+    Ok(())
+}
+
+// Six lines of 71 rows each.
+#[test]
+fn ranges_end_before_they_have_too_much(rt: HostRuntime) -> Result<(), Fail> {
+    let alloc = rt.alloc();
+    let rows = one_after_another(alloc, &SIX_CALLS)?;
+    let loads = loads_of(alloc, &rows)?;
+    let two_lines = [range(0, 3), range(3, 5), range(5, LINES)];
+    let ranges = plan_ranges(alloc, &loads, TWO_LINES, MOST).expect(&rt, "a plan");
+    assert_eq!(rt; ranges.as_slice(), two_lines.as_slice());
+    let ranges = plan_ranges(alloc, &loads, TWO_LINES, TWO_LINES).expect(&rt, "a plan");
+    assert_eq!(rt; ranges.as_slice(), two_lines.as_slice());
+    let ranges = plan_ranges(alloc, &loads, LESS_THAN_TWO, MOST).expect(&rt, "a plan");
+    assert_eq!(rt; ranges.len(), 6);
+    let ranges = plan_ranges(alloc, &loads, Load::default(), MOST).expect(&rt, "a plan");
+    assert_eq!(rt; ranges.len(), 8);
+    Ok(())
+}
+
+#[test]
+fn a_line_with_too_much_is_named(rt: HostRuntime) -> Result<(), Fail> {
+    let alloc = rt.alloc();
+    let rows = one_after_another(alloc, &SIX_CALLS)?;
+    let loads = loads_of(alloc, &rows)?;
+    let first = LineNo::new(1).ok_or("a line")?;
+    let fault = plan_ranges(alloc, &loads, FEW_RECORDS, FEW_RECORDS).err();
+    assert_eq!(rt; fault, Some(PlanFault::Line(first)));
+    let fault = plan_ranges(alloc, &loads, FEW_BYTES, FEW_BYTES).err();
+    assert_eq!(rt; fault, Some(PlanFault::Line(first)));
+    Ok(())
+}
+
+// The rows of lines 0, 4999, 5000 and 9999, one of each in turn.
+#[test]
+fn ranges_have_their_rows_in_order(rt: HostRuntime) -> Result<(), Fail> {
+    let alloc = rt.alloc();
+    let mut rows = Vec::new(alloc);
+    for ms in 1..3 {
+        for line in [9_999, 0, 5_000, 4_999] {
+            let line = LineNo::new(line).ok_or("a line")?;
+            rows.push(Row::new(line, Contact::Make, ms).ok_or("a row")?)?;
+        }
+    }
+    let low = part_of(alloc, &rows, range(0, 5_000))?;
+    let low_lines: Vec<(u16, u32)> = low
+        .iter()
+        .map(|row| (row.line().get(), row.ms()))
+        .collect(alloc)?;
+    assert_eq!(rt;
+        low_lines.as_slice(),
+        [(0u16, 1u32), (4_999, 1), (0, 2), (4_999, 2)].as_slice()
+    );
+    let high = part_of(alloc, &rows, range(5_000, LINES))?;
+    assert_eq!(rt; high.len(), 4);
+    let none = part_of(alloc, &rows, range(1, 4_999))?;
+    assert_eq!(rt; none.len(), 0);
+    Ok(())
+}
