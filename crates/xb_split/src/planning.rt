@@ -3,7 +3,7 @@ ghost use Rattle.std.specs.Prelude.{◌≡◌, ◌≤◌, ◌<◌, ◌^◌, IfOk
 ghost use Rattle.std.specs.List.{All};
 ghost use Rattle.xb_split.specs.Loads.{IsWithin};
 ghost use Rattle.xb_split.specs.PlanFaults.{IsPlanFault};
-ghost use Rattle.xb_split.specs.Ranges.{CoverAll, Fits};
+ghost use Rattle.xb_split.specs.Ranges.{CoverAll, Fits, IsFull};
 
 use crate::load::Load;
 use crate::range::LineRange;
@@ -47,6 +47,7 @@ pub fn plan_ranges(
     requires bytes { most.bytes < 2 ^ 63 }
     ensures cover { IfOk result (λ ranges. CoverAll ranges.items) }
     ensures fit { IfOk result (λ ranges. All (Fits loads.now most) ranges.items) }
+    ensures full { IfOk result (λ ranges. All (IsFull loads.now aim) ranges.items) }
     ensures too_much { IfErr result (IsPlanFault loads.now most) }
 {
     let mut ranges = Vec::new(alloc);
