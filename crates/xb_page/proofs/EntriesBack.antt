@@ -1,0 +1,192 @@
+-- Entries that are printed are read.
+use Rattle.std.proofs.Common.{◌≡◌, ◌≢◌, ◌∙◌, ℕ, ◌≤◌, ◌<◌, ◌^◌, true, false, cond, List, [], ◌∷◌, ◌++◌, map, leb, Option, Some, None, Ok, ap, arith, refl, codes}
+use Rattle.std.specs.Prelude.{decimal, bytes_eq, nat_lt, option_and_then}
+use Rattle.std.specs.List.{AllByRecursion, list_all}
+use Rattle.std.proofs.lemmas.Bool.{cond-false, cond-true, le-ltb, leb-true, lt-ltb}
+use Rattle.xb_model.specs.declared.mark.Mark.{Mark}
+use Rattle.xb_model.specs.declared.mark.Mark.TheVariants.{Refused}
+use Rattle.xb_model.specs.declared.reason.Reason.{Reason}
+use Rattle.xb_model.specs.declared.reason.Reason.TheVariants.{Mutilated, Unknown, Abandoned, TimedOut}
+use Rattle.xb_model.specs.Page.{four_digits, marks_text, reason_text}
+use Rattle.xb_rows.specs.RowTexts.{field_number}
+use Rattle.xb_rows.proofs.WrittenFields.{field_number-decimal}
+use Rattle.xb_page.specs.declared.fault.PageFault.TheVariants as fault
+use Rattle.xb_page.specs.declared.place.Place.{Place}
+use Rattle.xb_page.specs.Entries.{Entry, entry_with}
+use Rattle.xb_page.specs.Places.{line_at, next_number, number_at, text_line}
+use Rattle.xb_page.specs.ReadPages.{entry_of_fields, entry_of_kind, heard_of, is_totals, or_fault, pieces, refusal_of_fields, refusal_of_two}
+use Rattle.xb_page.proofs.MarksBack.{IsKeyMark, mark_field, marks-back, marks-no_line_feed, marks-pieces}
+use Rattle.xb_page.proofs.NumbersBack.{and-both, avoids-line_feed, avoids-space, bytes_eq-same, decimal-bytes, four_digits-back, four_digits-bytes, four_digits-no_word}
+use Rattle.xb_page.proofs.Avoiding.{Avoids, both, pieces-cut, pieces-whole, weaker}
+
+-- a text line of an entry, without its LF: four digits, the number, a word, and what follows
+abbrev pub entry_line : ℕ → ℕ → List ℕ → List ℕ
+entry_line line n rest = four_digits line ++ (32 ∷ (decimal n ++ (32 ∷ rest)))
+
+pub entry_line-pieces : (line n : ℕ) (rest : List ℕ) → line < 10000 → n < 10 ^ 8
+    → pieces 32 (entry_line line n rest) ≡ four_digits line ∷ decimal n ∷ pieces 32 rest
+entry_line-pieces line n rest below small =
+    pieces-cut 32 (four_digits line) (decimal n ++ (32 ∷ rest))
+    (avoids-space (four_digits line) (four_digits-bytes line below))
+    ∙ ap (λ (more : List (List ℕ)). four_digits line ∷ more)
+    (pieces-cut 32 (decimal n) rest (avoids-space (decimal n) (decimal-bytes n (omega arith))))
+
+pub entry_line-no_line_feed : (line n : ℕ) (rest : List ℕ) → line < 10000 → n < 10 ^ 8 → Avoids 10 rest
+    → Avoids 10 (entry_line line n rest)
+entry_line-no_line_feed line n rest below small avoids =
+    let P : ℕ → Type 0 = λ x. x ≢ 10 in
+    both P (four_digits line) (32 ∷ (decimal n ++ (32 ∷ rest)))
+    (avoids-line_feed (four_digits line) (four_digits-bytes line below)) (
+      (λ e. absurd (omega arith)),
+      both P (decimal n) (32 ∷ rest)
+          (avoids-line_feed (decimal n) (decimal-bytes n (omega arith))) ((λ e. absurd (omega arith)), avoids),
+    )
+
+-- a line and the number of its next entry come next at a place
+pub record At (place : Place) (line n : ℕ) : Type 0 where
+  pub low : place.line ≤ line
+  pub next : number_at place line ≡ n
+
+line-back : (place : Place) (line : ℕ) → line < 10000 → place.line ≤ line → line_at place (four_digits line) ≡ Some line
+line-back place line below low =
+    ap (λ (o : Option ℕ). option_and_then (λ l. cond (nat_lt l place.line) None (Some l)) o) (four_digits-back line below)
+    ∙ cond-false _ _ _ (le-ltb line place.line low)
+
+number-back : (place : Place) (line n : ℕ) → number_at place line ≡ n → next_number place line (decimal n) ≡ Some n
+number-back place line n is =
+    ap (λ (k : ℕ). cond (bytes_eq (decimal n) (decimal k)) (Some k) None) is
+    ∙ cond-true _ _ _ (bytes_eq-same (decimal n))
+
+-- what a text line of an entry says depends on the word and what follows
+pub entry_of_head : (place : Place) (line n : ℕ) (kind : List ℕ) (fields : List (List ℕ)) → line < 10000 → At place line n
+    → entry_of_fields place (four_digits line ∷ decimal n ∷ kind ∷ fields) ≡ entry_of_kind (text_line place) line n kind fields
+entry_of_head place line n kind fields below at =
+    let k = text_line place in
+    ap (λ (l : Option ℕ). or_fault (fault.Line k) l (λ l. or_fault (fault.Number k) (next_number place l (decimal n))
+    (λ number. entry_of_kind k l number kind fields))) (line-back place line below at.low)
+    ∙ ap (λ (m : Option ℕ). or_fault (fault.Number k) m (λ number. entry_of_kind k line number kind fields))
+    (number-back place line n at.next)
+
+abbrev pub keyed_rest : List Mark → List ℕ
+keyed_rest entry = codes "KEYED" ++ marks_text entry
+
+pub keyed-pieces : (line n : ℕ) (entry : List Mark) → line < 10000 → n < 10 ^ 8 → AllByRecursion IsKeyMark entry
+    → pieces 32 (entry_line line n (keyed_rest entry))
+    ≡ four_digits line ∷ decimal n ∷ codes "KEYED" ∷ map mark_field entry
+keyed-pieces line n entry below small are =
+    let word : Avoids 32 (codes "KEYED") = (
+      (λ e. absurd (omega arith)),
+      (
+        (λ e. absurd (omega arith)),
+        ((λ e. absurd (omega arith)), ((λ e. absurd (omega arith)), ((λ e. absurd (omega arith)), tt))),
+      ),
+    ) in
+    entry_line-pieces line n (keyed_rest entry) below small
+    ∙ ap (λ (more : List (List ℕ)). four_digits line ∷ decimal n ∷ more) (marks-pieces (codes "KEYED") entry word are)
+
+pub keyed-not_totals : (line n : ℕ) (entry : List Mark) → line < 10000 → n < 10 ^ 8 → AllByRecursion IsKeyMark entry
+    → is_totals (pieces 32 (entry_line line n (keyed_rest entry))) ≡ false
+keyed-not_totals line n entry below small are =
+    ap (λ (fields : List (List ℕ)). is_totals fields) (keyed-pieces line n entry below small are)
+    ∙ four_digits-no_word line below
+
+pub keyed-back : (place : Place) (line n : ℕ) (entry : List Mark) → line < 10000 → n < 10 ^ 8 → At place line n
+    → AllByRecursion IsKeyMark entry
+    → entry_of_fields place (pieces 32 (entry_line line n (keyed_rest entry))) ≡ Ok (entry_with line n entry)
+keyed-back place line n entry below small at are =
+    ap (λ (fields : List (List ℕ)). entry_of_fields place fields) (keyed-pieces line n entry below small are)
+    ∙ entry_of_head place line n (codes "KEYED") (map mark_field entry) below at
+    ∙ ap (λ (marks : Option (List Mark)). or_fault {B = Entry} (fault.Key (text_line place)) marks
+    (λ marks. Ok (entry_with line n marks))) (marks-back entry are)
+
+pub keyed-no_line_feed : (entry : List Mark) → AllByRecursion IsKeyMark entry → Avoids 10 (keyed_rest entry)
+keyed-no_line_feed entry are = (
+  (λ e. absurd (omega arith)),
+  (
+    (λ e. absurd (omega arith)),
+    (
+      (λ e. absurd (omega arith)),
+      ((λ e. absurd (omega arith)), ((λ e. absurd (omega arith)), marks-no_line_feed entry are)),
+    ),
+  ),
+)
+
+-- words have letters alone
+abbrev IsLetter : ℕ → Type 0
+IsLetter x = 65 ≤ x
+
+letter : (byte : ℕ) → byte < 65 → (x : ℕ) → IsLetter x → x ≢ byte
+letter byte low x is e = absurd (omega arith)
+
+letters : (xs : List ℕ) → list_all (λ x. leb 65 x) xs ≡ true → AllByRecursion IsLetter xs
+letters [] all = tt
+letters (x ∷ xs) all =
+    let parts = and-both (leb 65 x) (list_all (λ x. leb 65 x) xs) all in
+    (leb-true 65 x parts.0, letters xs parts.1)
+
+heard-back : (heard : ℕ) → heard < 256 → heard_of (decimal heard) ≡ Some heard
+heard-back heard few =
+    let read : field_number 3 (decimal heard) ≡ Some heard =
+    field_number-decimal 3 heard (omega arith) (omega arith) (omega arith) in
+    let low : nat_lt heard 256 ≡ true = lt-ltb heard 256 few in
+    rw (read, low) refl
+
+-- a refusal
+abbrev pub refused_rest : Reason → ℕ → List ℕ
+refused_rest reason heard = codes "REFUSED" ++ (32 ∷ (reason_text reason ++ (32 ∷ decimal heard)))
+
+reason-bytes : (byte : ℕ) (reason : Reason) → byte < 65 → Avoids byte (reason_text reason)
+reason-bytes byte Mutilated low = weaker IsLetter (λ x. x ≢ byte) (letter byte low) (codes "MUTILATED") (letters (codes "MUTILATED") refl)
+reason-bytes byte Unknown low = weaker IsLetter (λ x. x ≢ byte) (letter byte low) (codes "UNKNOWN") (letters (codes "UNKNOWN") refl)
+reason-bytes byte Abandoned low = weaker IsLetter (λ x. x ≢ byte) (letter byte low) (codes "ABANDONED") (letters (codes "ABANDONED") refl)
+reason-bytes byte TimedOut low = weaker IsLetter (λ x. x ≢ byte) (letter byte low) (codes "TIMEDOUT") (letters (codes "TIMEDOUT") refl)
+
+pub keyed-word : (byte : ℕ) → byte < 65 → Avoids byte (codes "KEYED")
+keyed-word byte low = weaker IsLetter (λ x. x ≢ byte) (letter byte low) (codes "KEYED") (letters (codes "KEYED") refl)
+
+pub refused-word : (byte : ℕ) → byte < 65 → Avoids byte (codes "REFUSED")
+refused-word byte low = weaker IsLetter (λ x. x ≢ byte) (letter byte low) (codes "REFUSED") (letters (codes "REFUSED") refl)
+
+pub refused-pieces : (line n : ℕ) (reason : Reason) (heard : ℕ) → line < 10000 → n < 10 ^ 8 → heard < 256
+    → pieces 32 (entry_line line n (refused_rest reason heard))
+    ≡ four_digits line ∷ decimal n ∷ codes "REFUSED" ∷ reason_text reason ∷ decimal heard ∷ []
+refused-pieces line n reason heard below small few =
+    entry_line-pieces line n (refused_rest reason heard) below small
+    ∙ ap (λ (more : List (List ℕ)). four_digits line ∷ decimal n ∷ more)
+    (pieces-cut 32 (codes "REFUSED") (reason_text reason ++ (32 ∷ decimal heard)) (refused-word 32 (omega arith)))
+    ∙ ap (λ (more : List (List ℕ)). four_digits line ∷ decimal n ∷ codes "REFUSED" ∷ more)
+    (pieces-cut 32 (reason_text reason) (decimal heard) (reason-bytes 32 reason (omega arith)))
+    ∙ ap (λ (more : List (List ℕ)). four_digits line ∷ decimal n ∷ codes "REFUSED" ∷ reason_text reason ∷ more)
+    (pieces-whole 32 (decimal heard) (avoids-space (decimal heard) (decimal-bytes heard (omega arith))))
+
+pub refused-not_totals : (line n : ℕ) (reason : Reason) (heard : ℕ) → line < 10000 → n < 10 ^ 8 → heard < 256
+    → is_totals (pieces 32 (entry_line line n (refused_rest reason heard))) ≡ false
+refused-not_totals line n reason heard below small few =
+    ap (λ (fields : List (List ℕ)). is_totals fields) (refused-pieces line n reason heard below small few)
+    ∙ four_digits-no_word line below
+
+refusal-back : (reason : Reason) (heard : ℕ) → heard < 256
+    → refusal_of_fields (reason_text reason ∷ decimal heard ∷ []) ≡ Some (Refused reason heard)
+refusal-back Mutilated heard few = ap (λ (h : Option ℕ). refusal_of_two (Some Mutilated) h) (heard-back heard few)
+refusal-back Unknown heard few = ap (λ (h : Option ℕ). refusal_of_two (Some Unknown) h) (heard-back heard few)
+refusal-back Abandoned heard few = ap (λ (h : Option ℕ). refusal_of_two (Some Abandoned) h) (heard-back heard few)
+refusal-back TimedOut heard few = ap (λ (h : Option ℕ). refusal_of_two (Some TimedOut) h) (heard-back heard few)
+
+pub refused-back : (place : Place) (line n : ℕ) (reason : Reason) (heard : ℕ) → line < 10000 → n < 10 ^ 8 → At place line n
+    → heard < 256
+    → entry_of_fields place (pieces 32 (entry_line line n (refused_rest reason heard)))
+    ≡ Ok (entry_with line n (Refused reason heard ∷ []))
+refused-back place line n reason heard below small at few =
+    ap (λ (fields : List (List ℕ)). entry_of_fields place fields) (refused-pieces line n reason heard below small few)
+    ∙ entry_of_head place line n (codes "REFUSED") (reason_text reason ∷ decimal heard ∷ []) below at
+    ∙ ap (λ (mark : Option Mark). or_fault {B = Entry} (fault.Refusal (text_line place)) mark
+    (λ mark. Ok (entry_with line n (mark ∷ [])))) (refusal-back reason heard few)
+
+pub refused-no_line_feed : (reason : Reason) (heard : ℕ) → heard < 256 → Avoids 10 (refused_rest reason heard)
+refused-no_line_feed reason heard few =
+    let P : ℕ → Type 0 = λ x. x ≢ 10 in
+    both P (codes "REFUSED") (32 ∷ (reason_text reason ++ (32 ∷ decimal heard))) (refused-word 10 (omega arith)) (
+      (λ e. absurd (omega arith)),
+      both P (reason_text reason) (32 ∷ decimal heard) (reason-bytes 10 reason (omega arith))
+          ((λ e. absurd (omega arith)), avoids-line_feed (decimal heard) (decimal-bytes heard (omega arith))),
+    )

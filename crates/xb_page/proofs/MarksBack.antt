@@ -1,0 +1,171 @@
+-- Marks that are printed are read.
+use Rattle.std.proofs.Common.{◌≡◌, ◌≢◌, ◌∙◌, ℕ, zero, suc, ◌≤◌, ◌<◌, true, List, [], ◌∷◌, ◌++◌, map, Option, Some, None, ap, append_assoc, append-nil, arith, refl, codes}
+use Rattle.std.specs.Fmt.{digits}
+use Rattle.std.specs.Prelude.{decimal, option_and_then, option_map, nat_lt}
+use Rattle.std.specs.List.{AllByRecursion}
+use Rattle.xb_model.specs.declared.digit.TheConstants.{DIGITS}
+use Rattle.xb_model.specs.declared.key.Key.{Key}
+use Rattle.xb_model.specs.declared.key.Key.TheVariants.{Digit, Kp, St}
+use Rattle.xb_model.specs.declared.key.Tone.{Tone as Pair}
+use Rattle.xb_model.specs.declared.mark.Mark.{Mark}
+use Rattle.xb_model.specs.declared.mark.Mark.TheVariants.{Trunk, Tone, Refused}
+use Rattle.xb_model.specs.Page.{four_digits, key_text, mark_text, marks_text, pair_text}
+use Rattle.xb_rows.specs.RowTexts.{field_number}
+use Rattle.xb_rows.proofs.WrittenFields.{field_number-decimal}
+use Rattle.std.proofs.lemmas.Bool.{lt-ltb}
+use Rattle.xb_page.specs.ReadBack.{IsKey, IsMark}
+use Rattle.xb_page.specs.ReadPages.{before, hz_of, key_of, mark_of, mark_of_two, marks_of, pair_of, pair_of_two, pieces, tone_of_two, two_of}
+use Rattle.xb_page.proofs.Avoiding.{Avoids, both, pieces-cut, pieces-whole, weaker}
+use Rattle.xb_page.proofs.NumbersBack.{IsDigitByte, avoids-colon, avoids-plus, decimal-bytes, four_digits-back, four_digits-bytes}
+
+-- a mark of a keyed entry
+abbrev pub IsKeyMark : Mark → Type 0
+IsKeyMark (Trunk t) = IsMark (Trunk t)
+IsKeyMark (Tone key pair) = IsMark (Tone key pair)
+IsKeyMark (Refused reason heard) = ⊥
+
+-- what is printed of it, without the space before
+abbrev pub mark_field : Mark → List ℕ
+mark_field (Trunk t) = four_digits t
+mark_field (Tone key pair) = key_text key ++ codes ":" ++ pair_text pair
+mark_field (Refused reason heard) = []
+
+pub each_digit : (P : ℕ → Type 0) → P 0 → P 1 → P 2 → P 3 → P 4 → P 5 → P 6 → P 7 → P 8 → P 9
+    → (d : ℕ) → d < DIGITS → P d
+each_digit P p0 p1 p2 p3 p4 p5 p6 p7 p8 p9 zero below = p0
+each_digit P p0 p1 p2 p3 p4 p5 p6 p7 p8 p9 (suc zero) below = p1
+each_digit P p0 p1 p2 p3 p4 p5 p6 p7 p8 p9 (suc (suc zero)) below = p2
+each_digit P p0 p1 p2 p3 p4 p5 p6 p7 p8 p9 (suc (suc (suc zero))) below = p3
+each_digit P p0 p1 p2 p3 p4 p5 p6 p7 p8 p9 (suc (suc (suc (suc zero)))) below = p4
+each_digit P p0 p1 p2 p3 p4 p5 p6 p7 p8 p9 (suc (suc (suc (suc (suc zero))))) below = p5
+each_digit P p0 p1 p2 p3 p4 p5 p6 p7 p8 p9 (suc (suc (suc (suc (suc (suc zero)))))) below = p6
+each_digit P p0 p1 p2 p3 p4 p5 p6 p7 p8 p9 (suc (suc (suc (suc (suc (suc (suc zero))))))) below = p7
+each_digit P p0 p1 p2 p3 p4 p5 p6 p7 p8 p9 (suc (suc (suc (suc (suc (suc (suc (suc zero)))))))) below = p8
+each_digit P p0 p1 p2 p3 p4 p5 p6 p7 p8 p9 (suc (suc (suc (suc (suc (suc (suc (suc (suc zero))))))))) below = p9
+each_digit P p0 p1 p2 p3 p4 p5 p6 p7 p8 p9 (suc (suc (suc (suc (suc (suc (suc (suc (suc (suc d)))))))))) below =
+    absurd (omega arith)
+
+key-back : (key : Key) → IsKey key → key_of (key_text key) ≡ Some key
+unfolding digits
+key-back (Digit d) is =
+    each_digit (λ d. key_of (decimal d) ≡ Some (Digit d)) refl refl refl refl refl refl refl refl refl refl d is
+key-back Kp is = refl
+key-back St is = refl
+
+-- the bytes of a key, and of a field
+abbrev IsWordByte : ℕ → Type 0
+IsWordByte x = (48 ≤ x) × (x ≢ 58)
+
+abbrev IsFieldByte : ℕ → Type 0
+IsFieldByte x = 43 ≤ x
+
+digit-word : (x : ℕ) → IsDigitByte x → IsWordByte x
+digit-word x digit = (digit.0, λ e. absurd (omega arith))
+
+key-bytes : (key : Key) → IsKey key → AllByRecursion IsWordByte (key_text key)
+key-bytes (Digit d) is = weaker IsDigitByte IsWordByte digit-word (decimal d) (decimal-bytes d (omega arith))
+key-bytes Kp is = ((omega arith, λ e. absurd (omega arith)), ((omega arith, λ e. absurd (omega arith)), tt))
+key-bytes St is = ((omega arith, λ e. absurd (omega arith)), ((omega arith, λ e. absurd (omega arith)), tt))
+
+hz-back : (hz : ℕ) → hz < 4000 → hz_of (decimal hz) ≡ Some hz
+hz-back hz below =
+    let read : field_number 4 (decimal hz) ≡ Some hz =
+    field_number-decimal 4 hz (omega arith) (omega arith) (omega arith) in
+    let low : nat_lt hz 4000 ≡ true = lt-ltb hz 4000 below in
+    rw (read, low) refl
+
+pair-back : (pair : Pair) → pair.low < 4000 → pair.high < 4000 → pair_of (pair_text pair) ≡ Some pair
+pair-back pair low high =
+    let low_bytes = decimal-bytes pair.low (omega arith) in
+    let high_bytes = decimal-bytes pair.high (omega arith) in
+    let cut : pieces 43 (pair_text pair) ≡ decimal pair.low ∷ decimal pair.high ∷ [] =
+    ap (λ (text : List ℕ). pieces 43 text) (append_assoc (decimal pair.low) (codes "+") (decimal pair.high))
+    ∙ pieces-cut 43 (decimal pair.low) (decimal pair.high) (avoids-plus (decimal pair.low) low_bytes)
+    ∙ ap (λ (rest : List (List ℕ)). decimal pair.low ∷ rest)
+    (pieces-whole 43 (decimal pair.high) (avoids-plus (decimal pair.high) high_bytes)) in
+    ap (λ (parts : List (List ℕ)). option_and_then (λ (two : List ℕ × List ℕ). pair_of_two (hz_of two.0) (hz_of two.1)) (two_of parts)) cut
+    ∙ ap (λ (l : Option ℕ). pair_of_two l (hz_of (decimal pair.high))) (hz-back pair.low low)
+    ∙ ap (λ (h : Option ℕ). pair_of_two (Some pair.low) h) (hz-back pair.high high)
+
+pair-field : (pair : Pair) → pair.low < 4000 → pair.high < 4000 → AllByRecursion (λ x. (43 ≤ x) × (x ≢ 58)) (pair_text pair)
+pair-field pair low high =
+    let P : ℕ → Type 0 = λ x. (43 ≤ x) × (x ≢ 58) in
+    let digits_are : (x : ℕ) → IsDigitByte x → P x = λ x digit. (omega arith, λ e. absurd (omega arith)) in
+    both P (decimal pair.low ++ codes "+") (decimal pair.high)
+    (both P (decimal pair.low) (codes "+")
+    (weaker IsDigitByte P digits_are (decimal pair.low) (decimal-bytes pair.low (omega arith)))
+    ((omega arith, λ e. absurd (omega arith)), tt))
+    (weaker IsDigitByte P digits_are (decimal pair.high) (decimal-bytes pair.high (omega arith)))
+
+tone-back : (key : Key) (pair : Pair) → IsKey key → pair.low < 4000 → pair.high < 4000
+    → mark_of (key_text key ++ codes ":" ++ pair_text pair) ≡ Some (Tone key pair)
+tone-back key pair is low high =
+    let key_avoids = weaker IsWordByte (λ x. x ≢ 58) (λ x word. word.1) (key_text key) (key-bytes key is) in
+    let pair_avoids = weaker (λ x. (43 ≤ x) × (x ≢ 58)) (λ x. x ≢ 58) (λ x word. word.1) (pair_text pair)
+    (pair-field pair low high) in
+    let cut : pieces 58 (key_text key ++ codes ":" ++ pair_text pair) ≡ key_text key ∷ pair_text pair ∷ [] =
+    ap (λ (text : List ℕ). pieces 58 text) (append_assoc (key_text key) (codes ":") (pair_text pair))
+    ∙ pieces-cut 58 (key_text key) (pair_text pair) key_avoids
+    ∙ ap (λ (rest : List (List ℕ)). key_text key ∷ rest) (pieces-whole 58 (pair_text pair) pair_avoids) in
+    ap (λ (parts : List (List ℕ)). mark_of_two (key_text key ++ codes ":" ++ pair_text pair) (two_of parts)) cut
+    ∙ ap (λ (k : Option Key). tone_of_two k (pair_of (pair_text pair))) (key-back key is)
+    ∙ ap (λ (p : Option Pair). tone_of_two (Some key) p) (pair-back pair low high)
+
+trunk-back : (t : ℕ) → t < 10000 → mark_of (four_digits t) ≡ Some (Trunk t)
+trunk-back t below =
+    let avoids = avoids-colon (four_digits t) (four_digits-bytes t below) in
+    ap (λ (parts : List (List ℕ)). mark_of_two (four_digits t) (two_of parts)) (pieces-whole 58 (four_digits t) avoids)
+    ∙ ap (λ (o : Option ℕ). option_map (λ n. Trunk n) o) (four_digits-back t below)
+
+-- a mark is read back
+pub mark-back : (mark : Mark) → IsKeyMark mark → mark_of (mark_field mark) ≡ Some mark
+mark-back (Trunk t) is = trunk-back t is
+mark-back (Tone key pair) is = tone-back key pair is.0 is.1 is.2
+mark-back (Refused reason heard) is = absurd is
+
+pub marks-back : (marks : List Mark) → AllByRecursion IsKeyMark marks → marks_of (map mark_field marks) ≡ Some marks
+marks-back [] are = refl
+marks-back (mark ∷ marks) are =
+    ap (λ (m : Option Mark). before m (marks_of (map mark_field marks))) (mark-back mark are.0)
+    ∙ ap (λ (ms : Option (List Mark)). before (Some mark) ms) (marks-back marks are.1)
+
+-- the bytes of a field
+field-bytes : (mark : Mark) → IsKeyMark mark → AllByRecursion IsFieldByte (mark_field mark)
+field-bytes (Trunk t) is =
+    weaker IsDigitByte IsFieldByte (λ x digit. omega arith) (four_digits t) (four_digits-bytes t is)
+field-bytes (Tone key pair) is =
+    both IsFieldByte (key_text key ++ codes ":") (pair_text pair)
+    (both IsFieldByte (key_text key) (codes ":")
+    (weaker IsWordByte IsFieldByte (λ x word. omega (arith, word.0)) (key_text key) (key-bytes key is.0))
+    (omega arith, tt))
+    (weaker (λ x. (43 ≤ x) × (x ≢ 58)) IsFieldByte (λ x word. word.0) (pair_text pair) (pair-field pair is.1 is.2))
+field-bytes (Refused reason heard) is = absurd is
+
+mark_text-field : (mark : Mark) → IsKeyMark mark → mark_text mark ≡ 32 ∷ mark_field mark
+mark_text-field (Trunk t) is = refl
+mark_text-field (Tone key pair) is = refl
+mark_text-field (Refused reason heard) is = absurd is
+
+-- marks that are printed after a field are the fields after it
+pub marks-pieces : (first : List ℕ) (marks : List Mark) → Avoids 32 first → AllByRecursion IsKeyMark marks
+    → pieces 32 (first ++ marks_text marks) ≡ first ∷ map mark_field marks
+unfolding marks_text
+marks-pieces first [] avoids are = pieces-whole 32 (first ++ []) (both (λ x. x ≢ 32) first [] avoids tt)
+    ∙ ap (λ (text : List ℕ). text ∷ []) (append-nil first)
+marks-pieces first (mark ∷ marks) avoids are =
+    let field = mark_field mark in
+    let field_avoids = weaker IsFieldByte (λ x. x ≢ 32) (λ x is e. absurd (omega arith)) field (field-bytes mark are.0) in
+    ap (λ (text : List ℕ). pieces 32 (first ++ (text ++ marks_text marks))) (mark_text-field mark are.0)
+    ∙ pieces-cut 32 first (field ++ marks_text marks) avoids
+    ∙ ap (λ (rest : List (List ℕ)). first ∷ rest) (marks-pieces field marks field_avoids are.1)
+
+-- no mark writes an LF
+pub marks-no_line_feed : (marks : List Mark) → AllByRecursion IsKeyMark marks → Avoids 10 (marks_text marks)
+unfolding marks_text
+marks-no_line_feed [] are = tt
+marks-no_line_feed (mark ∷ marks) are =
+    let P : ℕ → Type 0 = λ x. x ≢ 10 in
+    both P (mark_text mark) (marks_text marks)
+    (rw (mark_text-field mark are.0)
+    ((λ e. absurd (omega arith)), weaker IsFieldByte P (λ x is e. absurd (omega arith)) (mark_field mark) (field-bytes mark are.0)))
+    (marks-no_line_feed marks are.1)

@@ -1,0 +1,221 @@
+-- How a page is read back (own format).
+use Rattle.std.specs.Prelude.{◌≡◌, ◌⊎◌, ℕ, ◌+◌, ◌==◌, ◌&&◌, if◌then◌else◌, nat_lt, List, [], ◌∷◌, ◌++◌, codes, decimal, drop, slice_index_or, Bool, true, false, Option, Some, None, option_and_then, option_map, Result, Ok, Err, bytes_eq}
+use Rattle.std.specs.List.{slice_split}
+use Rattle.xb_model.specs.declared.key.Key.{Key}
+use Rattle.xb_model.specs.declared.key.Key.TheVariants.{Digit, Kp, St}
+use Rattle.xb_model.specs.declared.key.Tone.{Tone as Pair}
+use Rattle.xb_model.specs.declared.mark.Mark.{Mark}
+use Rattle.xb_model.specs.declared.mark.Mark.TheVariants.{Trunk, Tone, Refused}
+use Rattle.xb_model.specs.declared.reason.Reason.{Reason}
+use Rattle.xb_model.specs.declared.reason.Reason.TheVariants.{Mutilated, Unknown, Abandoned, TimedOut}
+use Rattle.xb_model.specs.MfPairs.{pair}
+use Rattle.xb_rows.specs.RowTexts.{field_number}
+use Rattle.xb_page.specs.Entries.{Entry, entry_with}
+use Rattle.xb_page.specs.Places.{four_digits_of, line_at, next_number, place_after, place_with, text_line}
+use Rattle.xb_page.specs.declared.fault.PageFault.{PageFault}
+use Rattle.xb_page.specs.declared.fault.PageFault.TheVariants as fault
+use Rattle.xb_page.specs.declared.place.Place.{Place}
+
+-- the pieces of a text between bytes
+abbrev pub pieces : ℕ → List ℕ → List (List ℕ)
+pieces byte text = slice_split (λ b. b == byte) text
+
+-- the pieces that are left of a text
+abbrev pub pieces_left : ℕ → Option (List ℕ) → List (List ℕ)
+pieces_left byte None = []
+pieces_left byte (Some text) = pieces byte text
+
+-- LF, space, plus, colon
+abbrev pub line_feed : ℕ
+line_feed = 10
+
+abbrev pub space : ℕ
+space = 32
+
+abbrev pub plus : ℕ
+plus = 43
+
+abbrev pub colon : ℕ
+colon = 58
+
+-- the key that a text names
+abbrev pub key_of : List ℕ → Option Key
+key_of text =
+    if bytes_eq text (codes "KP") then Some Kp
+    else (if bytes_eq text (codes "ST") then Some St else option_map (λ d. Digit d) (field_number 1 text))
+
+-- the frequency that a text writes, below half of 8,000 samples a second
+abbrev pub hz_of : List ℕ → Option ℕ
+hz_of text = option_and_then (λ hz. if nat_lt hz 4000 then Some hz else None) (field_number 4 text)
+
+abbrev pub pair_of_two : Option ℕ → Option ℕ → Option Pair
+pair_of_two low high = option_and_then (λ l. option_map (λ h. pair l h) high) low
+
+-- what stands on both sides of the one such byte
+abbrev pub two_of : List (List ℕ) → Option (List ℕ × List ℕ)
+two_of (a ∷ b ∷ []) = Some (a, b)
+two_of other = None
+
+-- the pair that a text writes, as 1100+1700
+abbrev pub pair_of : List ℕ → Option Pair
+pair_of text = option_and_then (λ two. pair_of_two (hz_of two.0) (hz_of two.1)) (two_of (pieces plus text))
+
+abbrev pub tone_of_two : Option Key → Option Pair → Option Mark
+tone_of_two key tones = option_and_then (λ k. option_map (λ p. Tone k p) tones) key
+
+-- a trunk group is four digits
+abbrev pub trunk_of : List ℕ → Option Mark
+trunk_of text = option_map (λ t. Trunk t) (four_digits_of text)
+
+abbrev pub mark_of_two : List ℕ → Option (List ℕ × List ℕ) → Option Mark
+mark_of_two field None = trunk_of field
+mark_of_two field (Some two) = tone_of_two (key_of two.0) (pair_of two.1)
+
+-- the mark that a field writes, as 0017 or KP:1100+1700
+abbrev pub mark_of : List ℕ → Option Mark
+mark_of field = mark_of_two field (two_of (pieces colon field))
+
+abbrev pub before : Option Mark → Option (List Mark) → Option (List Mark)
+before mark marks = option_and_then (λ m. option_map (λ ms. m ∷ ms) marks) mark
+
+-- the marks that fields write
+abbrev pub marks_of : List (List ℕ) → Option (List Mark)
+marks_of [] = Some []
+marks_of (field ∷ fields) = before (mark_of field) (marks_of fields)
+
+-- the reason that a text names
+abbrev pub reason_of : List ℕ → Option Reason
+reason_of text =
+    if bytes_eq text (codes "MUTILATED") then Some Mutilated
+    else (if bytes_eq text (codes "UNKNOWN") then Some Unknown
+    else (if bytes_eq text (codes "ABANDONED") then Some Abandoned
+    else (if bytes_eq text (codes "TIMEDOUT") then Some TimedOut else None)))
+
+-- the count that a text writes, of one byte
+abbrev pub heard_of : List ℕ → Option ℕ
+heard_of text = option_and_then (λ n. if nat_lt n 256 then Some n else None) (field_number 3 text)
+
+abbrev pub refusal_of_two : Option Reason → Option ℕ → Option Mark
+refusal_of_two reason heard = option_and_then (λ r. option_map (λ h. Refused r h) heard) reason
+
+-- the refusal that two fields write, as UNKNOWN 3
+abbrev pub refusal_of_fields : List (List ℕ) → Option Mark
+refusal_of_fields fields = option_and_then (λ two. refusal_of_two (reason_of two.0) (heard_of two.1)) (two_of fields)
+
+-- what is there, or else a fault
+abbrev pub or_fault : {A B : Type 0} → PageFault → Option A → (A → Result B PageFault) → Result B PageFault
+or_fault f None next = Err f
+or_fault f (Some x) next = next x
+
+-- field k of a text line; one that is missing is empty
+abbrev pub field_at : List (List ℕ) → ℕ → List ℕ
+field_at fields k = slice_index_or fields k []
+
+abbrev pub entry_of_kind : ℕ → ℕ → ℕ → List ℕ → List (List ℕ) → Result Entry PageFault
+entry_of_kind n line number kind rest =
+    if bytes_eq kind (codes "KEYED")
+    then or_fault (fault.Key n) (marks_of rest) (λ marks. Ok (entry_with line number marks))
+    else (if bytes_eq kind (codes "REFUSED")
+    then or_fault (fault.Refusal n) (refusal_of_fields rest) (λ mark. Ok (entry_with line number (mark ∷ [])))
+    else Err (fault.Kind n))
+
+-- the entry that the text line at a place writes, or its first fault
+abbrev pub entry_of_fields : Place → List (List ℕ) → Result Entry PageFault
+entry_of_fields place fields =
+    or_fault (fault.Line (text_line place)) (line_at place (field_at fields 0)) (λ line.
+    or_fault (fault.Number (text_line place)) (next_number place line (field_at fields 1)) (λ number.
+    entry_of_kind (text_line place) line number (field_at fields 2) (drop 3 fields)))
+
+-- four pieces
+abbrev pub four_of : List (List ℕ) → Option (List ℕ × List ℕ × List ℕ × List ℕ)
+four_of [] = None
+four_of (a ∷ []) = None
+four_of (a ∷ b ∷ more) = option_map (λ two. (a, b, two.0, two.1)) (two_of more)
+
+-- a text line that begins with KEYED is one of totals
+abbrev pub is_totals : List (List ℕ) → Bool
+is_totals fields = bytes_eq (field_at fields 0) (codes "KEYED")
+
+abbrev pub are_four : ℕ → ℕ → Option (List ℕ × List ℕ × List ℕ × List ℕ) → Bool
+are_four keyed refused None = false
+are_four keyed refused (Some f) =
+    bytes_eq f.0 (codes "KEYED") && bytes_eq f.1 (decimal keyed) && bytes_eq f.2 (codes "REFUSED")
+    && bytes_eq f.3 (decimal refused)
+
+-- whether these are the totals, as KEYED 1 REFUSED 0
+abbrev pub says_totals : Place → List (List ℕ) → Bool
+says_totals place fields = are_four place.keyed place.refused (four_of fields)
+
+-- nothing stands after the last LF
+abbrev pub is_end : List (List ℕ) → Bool
+is_end ([] ∷ []) = true
+is_end other = false
+
+-- nothing is left, not even an LF
+abbrev pub is_cut : List (List ℕ) → Bool
+is_cut [] = true
+is_cut other = false
+
+-- the end of a page: its totals are those of the entries, and end it
+abbrev pub end_of : Place → List (List ℕ) → List (List ℕ) → Result (List Entry) PageFault
+end_of place fields lines =
+    if says_totals place fields
+    then (if is_end lines then Ok []
+    else (if is_cut lines then Err (fault.NoTotals (text_line place)) else Err (fault.GoesOn (text_line place))))
+    else Err (fault.Totals (text_line place))
+
+-- an entry before the later ones, or the first fault
+abbrev pub before_entries : Entry → Result (List Entry) PageFault → Result (List Entry) PageFault
+before_entries entry (Err f) = Err f
+before_entries entry (Ok entries) = Ok (entry ∷ entries)
+
+abbrev pub entry_and_rest : Result Entry PageFault → (Entry → Result (List Entry) PageFault)
+    → Result (List Entry) PageFault
+entry_and_rest (Err f) rest = Err f
+entry_and_rest (Ok entry) rest = before_entries entry (rest entry)
+
+-- the entries of the text lines from a place on; the last one has the totals
+unfoldable pub entries_from : Place → List (List ℕ) → Result (List Entry) PageFault
+entries_from place [] = Err (fault.NoTotals (text_line place))
+entries_from place (line ∷ lines) =
+    if is_end (line ∷ lines) then Err (fault.NoTotals (text_line place))
+    else (if is_totals (pieces space line) then end_of place (pieces space line) lines
+    else entry_and_rest (entry_of_fields place (pieces space line))
+    (λ entry. entries_from (place_after place entry) lines))
+
+-- before the first entry
+abbrev pub first_place : Place
+first_place = place_with 0 0 0 0
+
+-- the entries of a page, or its first fault; text lines count from 1
+abbrev pub entries_of_page : List ℕ → Result (List Entry) PageFault
+entries_of_page text = entries_from first_place (pieces line_feed text)
+
+-- entries after earlier ones, or their fault
+abbrev pub after : List Entry → Result (List Entry) PageFault → Result (List Entry) PageFault
+after earlier (Ok later) = Ok (earlier ++ later)
+after earlier (Err f) = Err f
+
+-- marks after earlier ones
+abbrev pub with_earlier : List Mark → Option (List Mark) → Option (List Mark)
+with_earlier earlier marks = option_map (λ later. earlier ++ later) marks
+
+-- the entry of a text line is taken, and the place goes on, whatever lines come after it
+abbrev pub TakesLine : Place → List ℕ → List Entry → Place → List Entry → Type 0
+TakesLine place line old next new =
+    (later : List (List ℕ))
+    → after old (entry_and_rest (entry_of_fields place (pieces space line))
+    (λ entry. entries_from (place_after place entry) later))
+    ≡ after new (entries_from next later)
+
+-- memory ran out, or a field writes no mark
+abbrev pub IsWrongKey : ℕ → Option (List Mark) → PageFault → Type 0
+IsWrongKey n marks f = (f ≡ fault.NoMemory) ⊎ ((marks ≡ None) × (f ≡ fault.Key n))
+
+-- memory ran out, or the fields write no refusal
+abbrev pub IsWrongRefusal : ℕ → Option Mark → PageFault → Type 0
+IsWrongRefusal n mark f = (f ≡ fault.NoMemory) ⊎ ((mark ≡ None) × (f ≡ fault.Refusal n))
+
+-- memory ran out, or this is the fault
+abbrev pub IsFaultOf : {T : Type 0} → Result T PageFault → PageFault → Type 0
+IsFaultOf says f = (f ≡ fault.NoMemory) ⊎ (says ≡ Err f)

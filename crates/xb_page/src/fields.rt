@@ -1,0 +1,136 @@
+// What the fields of a text line write.
+ghost use Rattle.std.specs.Prelude.{◌≡◌, ◌≤◌, ◌<◌, ◌^◌, IfSome, option_copied, bytes_eq, decimal};
+ghost use Rattle.xb_rows.specs.RowTexts.{field_number};
+ghost use Rattle.xb_page.specs.Places.{four_digits_of};
+ghost use Rattle.xb_page.specs.ReadPages.{heard_of, hz_of, key_of, mark_of, pair_of, pieces_left, reason_of, refusal_of_fields, space, trunk_of};
+
+use crate::pieces::two_pieces;
+use itoa::Buffer;
+use xb_model::{Digit, Key, Mark, Reason, Tone, Trunk};
+
+// Frequencies lie below half of 8,000 samples a second.
+const TOO_HIGH_HZ: u32 = 4_000;
+
+// How many digits a line has, and a trunk group.
+const DIGITS_OF_FOUR: usize = 4;
+
+// The number that a field of 1 to `most` ASCII digits writes.
+fn number_of(most: usize, field: &[u8]) -> Option<u32>
+    requires { most ≤ 8 }
+    ensures value { result ≡ field_number most field.now }
+    ensures bound { IfSome result (λ n. n < 10 ^ most) }
+{
+    if field.is_empty() || field.len() > most {
+        return None;
+    }
+    let mut number: u32 = 0;
+    for digit in field {
+        if !digit.is_ascii_digit() {
+            return None;
+        }
+        number = number * 10 + u32::from(*digit - b'0');
+    }
+    Some(number)
+}
+
+// The number that four digits write.
+pub(crate) fn four_digits(field: &[u8]) -> Option<u16>
+    ensures value { result ≡ four_digits_of field.now }
+    ensures below { IfSome result (λ n. n < 10 ^ 4) }
+{
+    if field.len() != DIGITS_OF_FOUR {
+        return None;
+    }
+    Some(number_of(DIGITS_OF_FOUR, field)? as u16)
+}
+
+// Whether a text is this number in decimal.
+pub(crate) fn is_decimal(text: &[u8], number: usize) -> bool
+    ensures { result ≡ bytes_eq text.now (decimal number) }
+{
+    let mut buffer = Buffer::new();
+    text == buffer.format(number).as_bytes()
+}
+
+// The key that a text names.
+fn key_of(text: &[u8]) -> Option<Key>
+    ensures { result ≡ key_of text.now }
+{
+    match text {
+        b"KP" => Some(Key::Kp),
+        b"ST" => Some(Key::St),
+        _ => Some(Key::Digit(Digit::new(number_of(1, text)? as u8)?)),
+    }
+}
+
+// The frequency that a text writes.
+fn hz_of(text: &[u8]) -> Option<u16>
+    ensures { result ≡ hz_of text.now }
+{
+    let hz = number_of(4, text)?;
+    if hz < TOO_HIGH_HZ {
+        Some(hz as u16)
+    } else {
+        None
+    }
+}
+
+// The pair that a text writes, as `1100+1700`.
+fn pair_of(text: &[u8]) -> Option<Tone>
+    ensures { result ≡ pair_of text.now }
+{
+    let (low, high) = two_pieces(b'+', text)?;
+    let low = hz_of(low)?;
+    let high = hz_of(high)?;
+    Some(Tone { low, high })
+}
+
+// The mark of the trunk group that four digits write.
+fn trunk_of(field: &[u8]) -> Option<Mark>
+    ensures { result ≡ trunk_of field.now }
+{
+    Some(Mark::Trunk(Trunk::new(four_digits(field)?)?))
+}
+
+// The mark that a field writes, as `0017` or `KP:1100+1700`.
+pub(crate) fn mark_of(field: &[u8]) -> Option<Mark>
+    ensures { result ≡ mark_of field.now }
+{
+    match two_pieces(b':', field) {
+        Some((key, pair)) => Some(Mark::Tone(key_of(key)?, pair_of(pair)?)),
+        None => trunk_of(field),
+    }
+}
+
+// The reason that a text names.
+fn reason_of(text: &[u8]) -> Option<Reason>
+    ensures { result ≡ reason_of text.now }
+{
+    if text == b"MUTILATED".as_slice() {
+        Some(Reason::Mutilated)
+    } else if text == b"UNKNOWN".as_slice() {
+        Some(Reason::Unknown)
+    } else if text == b"ABANDONED".as_slice() {
+        Some(Reason::Abandoned)
+    } else if text == b"TIMEDOUT".as_slice() {
+        Some(Reason::TimedOut)
+    } else {
+        None
+    }
+}
+
+// The count of a refusal that a text writes.
+fn heard_of(text: &[u8]) -> Option<u8>
+    ensures { result ≡ heard_of text.now }
+{
+    let heard = number_of(3, text)?;
+    if heard < 256 { Some(heard as u8) } else { None }
+}
+
+// The refusal that is left of a text line: a reason and a count.
+pub(crate) fn refusal_of(left: Option<&[u8]>) -> Option<Mark>
+    ensures { result ≡ refusal_of_fields (pieces_left space (option_copied left.entry)) }
+{
+    let (reason, heard) = two_pieces(b' ', left?)?;
+    Some(Mark::Refused(reason_of(reason)?, heard_of(heard)?))
+}
