@@ -1,0 +1,25 @@
+//! The program: words and a page in, a status and the sound of its calls out.
+#![tactic(auto)]
+
+use std::process::ExitCode;
+use std::{env, io};
+use xb_tone_program::attend;
+
+// The words of the command line, the program's name first.
+fn words(rt: &HostRuntime) -> io::Result<Vec<String>> {
+    Ok(env::args(rt)?.collect(rt.alloc())?)
+}
+
+/// Reads the page on standard input, and writes its sound on standard output, or one line on standard
+/// error, as `attend` does.
+fn main(rt: HostRuntime) -> ExitCode {
+    let (mut page, mut sound, errors) = (rt.stdin(), io::writer(&rt), rt.stderr());
+    let mut err = io::writer(&errors);
+    match words(&rt) {
+        Ok(words) => ExitCode::from(attend(rt.alloc(), &words, &mut page, &mut sound, &mut err)),
+        Err(fault) => {
+            let _ = eprintln!(rt; "mftone: {fault}");
+            ExitCode::FAILURE
+        }
+    }
+}
