@@ -42,7 +42,7 @@ fn order(trunk: u16, values: &[u8]) -> Result<Order, Fail> {
     Ok(Order::Key(trunk, digits))
 }
 
-// Trunk groups and digits, with how many marks their keyings have.
+// Trunk groups and digits, with how many marks are keyed of them.
 const KEYINGS: &[(u16, &[u8], usize)] = &[
     // the operator
     (1, &[0], 4),

@@ -1,4 +1,4 @@
-//! The sound of keyings: marks in, the samples of their MF tones out, and the WAV file that holds
+//! The sound of what is keyed: marks in, the samples of their MF tones out, and the WAV file that holds
 //! them. The module `laws` says what the samples are: the table is a sine, and what is keyed is what a
 //! receiver hears.
 #![tactic(auto)]
