@@ -204,13 +204,13 @@ impl<S: RowSource> Feed<S> {
         ensures served { HasFed self.old result self.new }
         ensures ended { has_fed self.new ≡ true }
     {
-        let mut pause = Pause::new();
+        let mut blocked = Pause::new();
         for _ in rt.forever() {
             gate.pass(Post::Feed, self.given);
             match self.turn() {
                 Ok(Turn::Ended) => return self.stopped_by(),
-                Ok(Turn::Moved) => pause.over(),
-                Ok(Turn::Idle | Turn::Blocked) => pause.wait(rt),
+                Ok(Turn::Moved) => blocked.room_came(&self.producer),
+                Ok(Turn::Idle | Turn::Blocked) => blocked.wait(rt),
                 Err(_) => {}
             }
         }

@@ -1,8 +1,9 @@
 -- What keeps the fields of a station in agreement.
-use Rattle.std.proofs.Common.{◌≢◌, Bool, min, ◌+◌, ◌-◌, ◌^◌, ◌≡◌, ℕ, ◌<◌, ◌≤◌, true, false, eqb, List, [], ◌∷◌, ◌++◌, map, get_or, set, drop, length, refl, sym, ap, ◌∙◌, subst, ⊎_elim, eqb-true, append-nil, append_assoc, vec_len, vec_capacity, arith}
+use Rattle.std.proofs.Common.{◌≢◌, Bool, min, ◌+◌, ◌-◌, ◌^◌, ◌≡◌, ℕ, ◌<◌, ◌≤◌, true, false, List, [], ◌∷◌, ◌++◌, map, get_or, set, length, reverse, refl, sym, ap, ◌∙◌, subst, ⊎_elim, append-nil, append_assoc, vec_len, vec_capacity, arith}
 use Rattle.std.specs.declared.vec.Vec.{Vec}
 use Rattle.std.specs.List.{All}
 use Rattle.std.proofs.lemmas.Bool.{cases_Bool}
+use Rattle.std.proofs.lemmas.List.{reverse-append, reverse-reverse}
 use Rattle.xb_ring.specs.declared.flow.Flow.{Flow}
 use Rattle.xb_ring.specs.declared.flow.Flow.TheVariants.{Item, End}
 use Rattle.xb_ring.specs.declared.phase.Phase.{Phase}
@@ -22,16 +23,20 @@ nil_from_length : {X : Type 0} (xs : List X) → length xs ≡ 0 → xs ≡ []
 nil_from_length [] h = refl
 nil_from_length (x ∷ xs) h = absurd (omega (arith, h))
 
-pub items_none : {X Z : Type 0} (v : Vec X Z) → true ≡ eqb (vec_len v) 0 → v.items ≡ []
-items_none v h = nil_from_length v.items (sym v.ok.0 ∙ eqb-true _ _ (sym h))
+pub items_none : {X Z : Type 0} (v : Vec X Z) → vec_len v ≡ 0 → v.items ≡ []
+items_none v h = nil_from_length v.items (sym v.ok.0 ∙ h)
 
-split_first : {X : Type 0} (xs : List X) (d : X) → eqb (length xs) 0 ≡ false → xs ≡ get_or xs 0 d ∷ drop 1 xs
-split_first [] d h = cc
-split_first (x ∷ xs) d h = refl
+-- a list with a last element is not empty
+has_last : {X : Type 0} (ys : List X) (y : X) → ys ++ y ∷ [] ≢ []
+has_last [] y h = absurd (cc)
+has_last (x ∷ ys) y h = absurd (cc)
 
--- the first of what a vector holds, and the rest
-pub first_and_rest : {X Z : Type 0} (v w : Vec X Z) (x : X) → false ≡ eqb (vec_len v) 0 → x ≡ get_or v.items 0 x → w.items ≡ drop 1 v.items → v.items ≡ x ∷ w.items
-first_and_rest v w x h at rest = split_first v.items x (ap (λ n. eqb n 0) (sym v.ok.0) ∙ sym h) ∙ ap (λ y. y ∷ drop 1 v.items) (sym at) ∙ ap (λ ys. x ∷ ys) (sym rest)
+-- what stands last, from the last on
+pub last_first : {X : Type 0} (xs ys : List X) (y : X) → xs ≡ ys ++ y ∷ [] → reverse xs ≡ y ∷ reverse ys
+last_first xs ys y h = ap reverse h ∙ reverse-append ys (y ∷ [])
+
+nothing_reversed : {X : Type 0} (xs : List X) → reverse xs ≡ [] → xs ≡ []
+nothing_reversed xs h = sym (reverse-reverse xs) ∙ ap reverse h
 
 not_over : (p : Phase) → is_closed p ≡ false → is_over p ≡ false
 not_over Open h = refl
@@ -63,28 +68,28 @@ module _ {I O S Z : Type 0} (line : I → ℕ) (m : Machine I O S) (states : Lis
     (k : FieldsAgree line m states pending phase taken ins outs) where
   -- with nothing held, all was sent
   all_sent : phase ≡ Open → pending.items ≡ [] → outs ≡ flow_image line m ins
-  all_sent e n = sym (append-nil outs) ∙ ap (λ zs. outs ++ zs) (sym (ap (λ ys. flow_of ys (end_is_pending phase)) n ∙ ap (λ p. flow_of {X = O} [] (end_is_pending p)) e)) ∙ k.law
+  all_sent e n = sym (append-nil outs) ∙ ap (λ zs. outs ++ zs) (sym (ap (λ ys. flow_of (reverse ys) (end_is_pending phase)) n ∙ ap (λ p. flow_of {X = O} [] (end_is_pending p)) e)) ∙ k.law
 
   -- with nothing pending and no End sent, it is open
-  pub opens : flow_of pending.items (end_is_pending phase) ≡ [] → has_end outs ≡ false → (phase ≡ Open) × (pending.items ≡ [])
+  pub opens : flow_of (reverse pending.items) (end_is_pending phase) ≡ [] → has_end outs ≡ false → (phase ≡ Open) × (pending.items ≡ [])
   opens h e =
       let n = none_pending _ _ h in
-      (open_of phase n.1 (sym k.over ∙ e), n.0)
+      (open_of phase n.1 (sym k.over ∙ e), nothing_reversed pending.items n.0)
 
   -- with no item pending, but the End, it is ending
-  pub ends_next : pending.items ≡ [] → flow_of pending.items (end_is_pending phase) ≢ [] → phase ≡ Ending
-  ends_next n h = ⊎_elim (λ t. ending_of phase t) (λ f. absurd (h (ap (λ ys. flow_of ys (end_is_pending phase)) n ∙ ap (λ ends. flow_of {X = O} [] ends) f))) (cases_Bool (end_is_pending phase))
+  pub ends_next : pending.items ≡ [] → flow_of (reverse pending.items) (end_is_pending phase) ≢ [] → phase ≡ Ending
+  ends_next n h = ⊎_elim (λ t. ending_of phase t) (λ f. absurd (h (ap (λ ys. flow_of (reverse ys) (end_is_pending phase)) n ∙ ap (λ ends. flow_of {X = O} [] ends) f))) (cases_Bool (end_is_pending phase))
 
   -- the station takes an item
   module _ (x : I) (e : phase ≡ Open) (n : pending.items ≡ []) (lines : length states ≡ LINES) (below : line x < LINES)
       (states' : List S) (state : (d : S) → states' ≡ set states (line x) (m.next (get_or states (line x) d) x))
-      (pending' : Vec O Z) (sends : (d : S) → pending'.items ≡ m.outs (get_or states (line x) d) x) (room : vec_capacity pending' ≡ vec_capacity pending) where
-    pub item_law : outs ++ flow_of pending'.items (end_is_pending phase) ≡ flow_image line m (ins ++ Item x ∷ [])
+      (pending' : Vec O Z) (sends : (d : S) → pending'.items ≡ reverse (m.outs (get_or states (line x) d) x)) (room : vec_capacity pending' ≡ vec_capacity pending) where
+    pub item_law : outs ++ flow_of (reverse pending'.items) (end_is_pending phase) ≡ flow_image line m (ins ++ Item x ∷ [])
     item_law =
         let q = state_after line m (items_of ins) (line x) in
         let s : get_or states (line x) q ≡ q = k.lines (line x) q below in
-        ap (λ p. outs ++ flow_of pending'.items (end_is_pending p)) e
-        ∙ ap (λ ys. outs ++ ys) (append-nil (map Item pending'.items) ∙ ap (map Item) (sends q ∙ ap (λ p. m.outs p x) s))
+        ap (λ p. outs ++ flow_of (reverse pending'.items) (end_is_pending p)) e
+        ∙ ap (λ ys. outs ++ ys) (append-nil (map Item (reverse pending'.items)) ∙ ap (map Item) (ap reverse (sends q) ∙ reverse-reverse _ ∙ ap (λ p. m.outs p x) s))
         ∙ ap (λ zs. zs ++ map Item (m.outs q x)) (all_sent e n)
         ∙ sym (flow_image-item line m ins x (k.closed ∙ ap is_closed e))
 
@@ -109,9 +114,9 @@ module _ {I O S Z : Type 0} (line : I → ℕ) (m : Machine I O S) (states : Lis
 
   -- the station takes the End
   module _ (e : phase ≡ Open) (n : pending.items ≡ []) where
-    pub end_law : outs ++ flow_of pending.items true ≡ flow_image line m (ins ++ End ∷ [])
+    pub end_law : outs ++ flow_of (reverse pending.items) true ≡ flow_image line m (ins ++ End ∷ [])
     end_law =
-        ap (λ ys. outs ++ flow_of ys true) n
+        ap (λ ys. outs ++ flow_of (reverse ys) true) n
         ∙ ap (λ zs. zs ++ End ∷ []) (all_sent e n)
         ∙ sym (flow_image-end line m ins (k.closed ∙ ap is_closed e))
 
@@ -128,29 +133,30 @@ module _ {I O S Z : Type 0} (line : I → ℕ) (m : Machine I O S) (states : Lis
     }
 
   -- the station sends the End
-  pub keeps_sent_end : phase ≡ Ending → pending.items ≡ [] → FieldsAgree line m states pending Over taken ins (outs ++ End ∷ [])
-  keeps_sent_end e n = record {
+  pub keeps_sent_end : (pending' : Vec O Z) → phase ≡ Ending → pending.items ≡ [] → pending'.items ≡ [] → vec_capacity pending' ≡ vec_capacity pending
+      → FieldsAgree line m states pending' Over taken ins (outs ++ End ∷ [])
+  keeps_sent_end pending' e n n' room = record {
     lines = k.lines;
-    room = k.room;
+    room = subst (λ n. OUTPUT_ROOM ≤ n) (sym room) k.room;
     law =
-        ap (λ ys. (outs ++ End ∷ []) ++ flow_of ys false) n
+        ap (λ ys. (outs ++ End ∷ []) ++ flow_of (reverse ys) false) n'
         ∙ append-nil (outs ++ End ∷ [])
-        ∙ ap (λ zs. outs ++ zs) (sym (ap (λ ys. flow_of ys (end_is_pending phase)) n ∙ ap (λ p. flow_of {X = O} [] (end_is_pending p)) e))
+        ∙ ap (λ zs. outs ++ zs) (sym (ap (λ ys. flow_of (reverse ys) (end_is_pending phase)) n ∙ ap (λ p. flow_of {X = O} [] (end_is_pending p)) e))
         ∙ k.law;
     closed = k.closed ∙ ap is_closed e;
     over = has_end-end outs (k.over ∙ ap is_over e);
     formed = k.formed;
-    none = λ t. n;
+    none = λ t. n';
     count = k.count;
   }
 
   -- the station sends the first of what it holds
-  module _ (y : O) (pending' : Vec O Z) (first : pending.items ≡ y ∷ pending'.items) (room : vec_capacity pending' ≡ vec_capacity pending) where
+  module _ (y : O) (pending' : Vec O Z) (first : pending.items ≡ pending'.items ++ y ∷ []) (room : vec_capacity pending' ≡ vec_capacity pending) where
     open_phase : is_closed phase ≡ false
-    open_phase = ⊎_elim (λ t. let none = k.none t in cc) (λ f. f) (cases_Bool (is_closed phase))
+    open_phase = ⊎_elim (λ t. absurd (has_last pending'.items y (sym first ∙ k.none t))) (λ f. f) (cases_Bool (is_closed phase))
 
-    sent_law : (outs ++ Item y ∷ []) ++ flow_of pending'.items (end_is_pending phase) ≡ flow_image line m ins
-    sent_law = append_assoc outs (Item y ∷ []) _ ∙ ap (λ ys. outs ++ flow_of ys (end_is_pending phase)) (sym first) ∙ k.law
+    sent_law : (outs ++ Item y ∷ []) ++ flow_of (reverse pending'.items) (end_is_pending phase) ≡ flow_image line m ins
+    sent_law = append_assoc outs (Item y ∷ []) _ ∙ ap (λ ys. outs ++ flow_of ys (end_is_pending phase)) (sym (last_first pending.items pending'.items y first)) ∙ k.law
 
     pub keeps_sent_item : FieldsAgree line m states pending' phase taken ins (outs ++ Item y ∷ [])
     keeps_sent_item = record {
@@ -170,7 +176,7 @@ module _ {I O S Z : Type 0} (line : I → ℕ) (m : Machine I O S) (states : Lis
   keeps_fresh lines fresh none room = record {
     lines = states_fresh line m states lines fresh;
     room = room;
-    law = ap (λ ys. flow_of ys false) none ∙ ap (λ ys. flow_of ys false) (sym (image_after-none line m []));
+    law = ap (λ ys. flow_of (reverse ys) false) none ∙ ap (λ ys. flow_of ys false) (sym (image_after-none line m []));
     closed = refl;
     over = refl;
     formed = refl;
@@ -181,11 +187,11 @@ module _ {I O S Z : Type 0} (line : I → ℕ) (m : Machine I O S) (states : Lis
 module _ {I O S Z : Type 0} (line : I → ℕ) (m : Machine I O S) (states : List S) (pending : Vec O Z) (phase : Phase) (taken : ℕ) (ins : List (Flow I)) (outs : List (Flow O))
     (k : FieldsAgree line m states pending phase taken ins outs) where
   -- then the law of a station holds
-  pub lawful : StationLaw line m ins outs (flow_of pending.items (end_is_pending phase))
+  pub lawful : StationLaw line m ins outs (flow_of (reverse pending.items) (end_is_pending phase))
   lawful = record {
     image_of = k.law;
     formed = k.formed;
     whole = λ h.
         let e : phase ≡ Over = over_phase phase (sym k.over ∙ h) in
-        (k.closed ∙ ap is_closed e, ap (λ ys. flow_of ys (end_is_pending phase)) (k.none (ap is_closed e)) ∙ ap (λ p. flow_of {X = O} [] (end_is_pending p)) e);
+        (k.closed ∙ ap is_closed e, ap (λ ys. flow_of (reverse ys) (end_is_pending phase)) (k.none (ap is_closed e)) ∙ ap (λ p. flow_of {X = O} [] (end_is_pending p)) e);
   }

@@ -1,5 +1,5 @@
 -- What a station holds, and what one turn of it does.
-use Rattle.std.specs.Prelude.{◌≡◌, ◌≢◌, ◌⊎◌, ℕ, ◌≤◌, Bool, true, false, List, [], ◌∷◌, ◌++◌, length, vec_capacity}
+use Rattle.std.specs.Prelude.{◌≡◌, ◌≢◌, ◌⊎◌, ℕ, ◌≤◌, Bool, true, false, List, [], ◌∷◌, ◌++◌, length, reverse, vec_capacity}
 use Rattle.std.specs.declared.vec.Vec.{Vec}
 use Rattle.rtrb.specs.declared.producer.Producer.{Producer}
 use Rattle.rtrb.specs.declared.consumer.Consumer.{Consumer}
@@ -41,14 +41,14 @@ is_over Over = true
 
 module _ {I O S : Type 0} (line : I → ℕ) (machine : Machine I O S) where
   -- the fields of a station agree: its states are those of the lines, what it sent followed by what
-  -- it holds is the image of what it received, and it counted that
+  -- it holds, from the last on, is the image of what it received, and it counted that
   pub record FieldsAgree
       {Z : Type 0} (states : List S) (pending : Vec O Z) (phase : Phase) (taken : ℕ)
       (ins : List (Flow I)) (outs : List (Flow O))
       : Type 0 where
     pub lines : AreStates line machine states (items_of ins)
     pub room : OUTPUT_ROOM ≤ vec_capacity pending
-    pub law : outs ++ flow_of pending.items (end_is_pending phase) ≡ flow_image line machine ins
+    pub law : outs ++ flow_of (reverse pending.items) (end_is_pending phase) ≡ flow_image line machine ins
     pub closed : has_end ins ≡ is_closed phase
     pub over : has_end outs ≡ is_over phase
     pub formed : IsFlow ins

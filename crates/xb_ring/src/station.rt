@@ -25,6 +25,7 @@ pub struct Station<S: LineStage> {
     consumer: Consumer<Flow<S::In>>,
     producer: Producer<Flow<S::Out>>,
     states: PerLine<S::State>,
+    // what is to be sent, the last of it first
     pending: Vec<S::Out>,
     phase: Phase,
     // how many items were received, 2^64 - 1 at most
@@ -32,6 +33,7 @@ pub struct Station<S: LineStage> {
 }
 
 impl<S: LineStage> Model for Station<S> {
+    ghost use Rattle.std.specs.Prelude.{reverse};
     ghost use Rattle.std.specs.declared.alloc.Global.{Global};
     ghost use Rattle.rtrb.specs.declared.producer.Producer.{Producer};
     ghost use Rattle.rtrb.specs.declared.consumer.Consumer.{Consumer};
@@ -48,7 +50,7 @@ impl<S: LineStage> Model for Station<S> {
       stage = post.stage;
       consumer = post.consumer;
       producer = post.producer;
-      pending = flow_of post.pending.items (end_is_pending post.phase);
+      pending = flow_of (reverse post.pending.items) (end_is_pending post.phase);
     } };
 
     ghost invariant = { λ post. FieldsAgree S.In.line_of (S.machine post.stage) post.states post.pending
@@ -129,12 +131,12 @@ impl<S: LineStage> Station<S> {
         if self.producer.is_full() {
             return Turn::Blocked;
         }
-        if self.pending.is_empty() {
-            self.producer.push_reserved(Flow::End);
-            self.phase = Phase::Over;
-        } else {
-            let first = self.pending.remove(0);
-            self.producer.push_reserved(Flow::Item(first));
+        match self.pending.pop() {
+            Some(first) => self.producer.push_reserved(Flow::Item(first)),
+            None => {
+                self.producer.push_reserved(Flow::End);
+                self.phase = Phase::Over;
+            }
         }
         Turn::Moved
     }
@@ -168,13 +170,18 @@ impl<S: LineStage> Station<S> {
             (received self.new.consumer) (sent self.new.producer) }
         ensures nothing_held { self.new.pending ≡ [] }
     {
-        let mut pause = Pause::new();
+        let mut idle = Pause::new();
+        let mut blocked = Pause::new();
         for _ in rt.forever() {
             gate.pass(post, self.taken);
             match self.turn() {
                 Turn::Ended => return,
-                Turn::Moved => pause.over(),
-                Turn::Idle | Turn::Blocked => pause.wait(rt),
+                Turn::Moved => {
+                    idle.items_came(&self.consumer);
+                    blocked.room_came(&self.producer);
+                }
+                Turn::Idle => idle.wait(rt),
+                Turn::Blocked => blocked.wait(rt),
             }
         }
         unreachable!()

@@ -1,18 +1,18 @@
-use Rattle.std.proofs.Common.{ap, sym, ◌∙◌}
-use Rattle.xb_ring.proofs.Stations.{ends_next, items_none, first_and_rest, keeps_sent_end, keeps_sent_item, lawful}
+use Rattle.std.proofs.Common.{sym, ap, ◌∙◌}
+use Rattle.xb_ring.proofs.Stations.{ends_next, items_none, keeps_sent_end, keeps_sent_item, lawful}
 use Rattle.xb_ring.proofs.station.Station.send.Goals as goal
 
-pub invariant_of-self-then-is_empty : goal.invariant_of-self-then-is_empty
-invariant_of-self-then-is_empty g c =
-    let n = items_none c.self.inside.pending (sym c.if-is_empty.true ∙ c.is_empty.ensures) in
+pub invariant_of-self-in-Some : goal.invariant_of-self-in-Some
+invariant_of-self-in-Some g c =
+    let r = c.in-Some.ensures in
+    rw (c.push_reserved.ensures.sent.0, c.is_full.ensures.looked.1) (keeps_sent_item _ _ _ _ _ _ _ _ c.self.invariant c.in-Some.first c.pop.new.self r.items r.capacity)
+
+pub invariant_of-self-in-None : goal.invariant_of-self-in-None
+invariant_of-self-in-None g c =
+    let r = c.in-None.ensures in
+    let n = items_none c.self.inside.pending r.cases.0 in
     let ending = ends_next _ _ _ _ _ _ _ _ c.self.invariant n (λ none. c.requires (sym (ap (λ v. v.pending) c.self.view_is) ∙ none)) in
-    rw (c.push_reserved.ensures.sent.0, c.is_full.ensures.looked.1) (keeps_sent_end _ _ _ _ _ _ _ _ c.self.invariant ending n)
+    rw (c.push_reserved-in-None.ensures.sent.0, c.is_full.ensures.looked.1) (keeps_sent_end _ _ _ _ _ _ _ _ c.self.invariant c.pop.new.self ending n (items_none c.pop.new.self r.cases.1) r.capacity)
 
-pub invariant_of-self-else-is_empty : goal.invariant_of-self-else-is_empty
-invariant_of-self-else-is_empty g c =
-    let r = c.remove-first.ensures in
-    let first = first_and_rest c.self.inside.pending c.remove-first.new.self c.remove-first.result (sym c.if-is_empty.false ∙ c.is_empty.ensures) r.value r.items in
-    rw (c.push_reserved-else-is_empty.ensures.sent.0, c.is_full.ensures.looked.1) (keeps_sent_item _ _ _ _ _ _ _ _ c.self.invariant c.remove-first.result _ first r.capacity)
-
-pub returns-else-is_empty-clause-lawful : goal.returns-else-is_empty-clause-lawful
-returns-else-is_empty-clause-lawful g c = lawful _ _ _ _ _ _ _ _ (invariant_of-self-else-is_empty g c)
+pub returns-in-Some-clause-lawful : goal.returns-in-Some-clause-lawful
+returns-in-Some-clause-lawful g c = lawful _ _ _ _ _ _ _ _ (invariant_of-self-in-Some g c)
