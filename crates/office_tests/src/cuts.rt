@@ -35,7 +35,7 @@ fn gives_of_records(records: usize) -> Gives {
 
 // What comes of whole records and a piece of the next. A piece that has a part of its time is a shorter row.
 fn gives_of_piece(records: usize, piece: &str) -> Gives {
-    let number = u32::try_from(records.saturating_add(1)).unwrap_or(u32::MAX);
+    let number = records.saturating_add(1) as u64;
     match piece.len() {
         0 => gives_of_records(records),
         1..=3 => Err(OfficeFault::Rows(RowFault::Fields(number))),

@@ -1,2 +1,3 @@
 mod Lines
 pub mod MadeDecks
+mod TableLines

@@ -11,7 +11,7 @@ use Rattle.std.proofs.lemmas.List.Sums.{fails_before_first}
 use Rattle.xb_deck.specs.Deck.{Parts, with_earlier, deck_parts, ends_line, is_cut, line_feed}
 
 -- the first line, and the lines after its LF
-first_line : (xs : List ℕ) (n : ℕ) → position ends_line xs ≡ Some n → slice_split ends_line xs ≡ take n xs ∷ slice_split ends_line (drop (n + 1) xs)
+pub first_line : (xs : List ℕ) (n : ℕ) → position ends_line xs ≡ Some n → slice_split ends_line xs ≡ take n xs ∷ slice_split ends_line (drop (n + 1) xs)
 first_line xs n e =
     let (within, is, before) = position-Some ends_line xs n 0 e in
     let front : All (λ byte. ends_line byte ≡ false) (take n xs) = λ k byte m. let b = before k in grind (arith, common_steps) in
@@ -19,7 +19,7 @@ first_line xs n e =
     ap (slice_split ends_line) whole ∙ slice_split_at ends_line (take n xs) (get_or xs n 0) (drop (n + 1) xs) front is
 
 -- a text without LF is one line
-one_line : (xs : List ℕ) → position ends_line xs ≡ None → slice_split ends_line xs ≡ xs ∷ []
+pub one_line : (xs : List ℕ) → position ends_line xs ≡ None → slice_split ends_line xs ≡ xs ∷ []
 one_line xs e =
     let all : length xs ≤ position_or_len ends_line xs = grind (arith, common_steps) in
     slice_split_none ends_line xs (λ k byte m. let f = fails_before_first ends_line xs k byte in grind (arith, common_steps))
@@ -32,7 +32,7 @@ with_end xs n e =
     ap (λ (byte : ℕ). take n xs ++ (byte ∷ [])) (sym lf) ∙ sym (take_more xs n 0 within)
 
 -- bytes before bytes before the table
-with_earlier-with_earlier : (a b : List ℕ) (o : Option Parts) → option_map (with_earlier a) (option_map (with_earlier b) o) ≡ option_map (with_earlier (a ++ b)) o
+pub with_earlier-with_earlier : (a b : List ℕ) (o : Option Parts) → option_map (with_earlier a) (option_map (with_earlier b) o) ≡ option_map (with_earlier (a ++ b)) o
 with_earlier-with_earlier a b None = refl
 with_earlier-with_earlier a b (Some p) = rw (append_assoc a b p.table) refl
 

@@ -1,4 +1,5 @@
 pub mod Constants
 pub mod Deck
 pub mod MadeDecks
+pub mod Tables
 pub mod WorkedDecks

@@ -16,7 +16,7 @@ pub struct Deck<'a> {
 }
 
 // Whether a line is the cut.
-fn is_cut(line: &[u8]) -> bool
+pub(crate) fn is_cut(line: &[u8]) -> bool
     ensures { result ≡ is_cut line.now }
 {
     line == b"---".as_slice() || line == b"---\r".as_slice()

@@ -13,16 +13,16 @@ pub enum RowFault {
     Header,
     /// The record has not three fields.
     #[error("record {0} has not three fields")]
-    Fields(u32),
+    Fields(u64),
     /// The line is not 1 to 4 ASCII digits.
     #[error("record {0} has a wrong line")]
-    Line(u32),
+    Line(u64),
     /// The state is not `M`, `B` or `C`.
     #[error("record {0} has a wrong state")]
-    Contact(u32),
+    Contact(u64),
     /// The time is not 1 to 8 ASCII digits of at most 86,400,000, or not 0 in a close.
     #[error("record {0} has a wrong ms")]
-    Ms(u32),
+    Ms(u64),
     /// More than 1,000,000 records follow the header.
     #[error("more than 1000000 records")]
     TooMany,

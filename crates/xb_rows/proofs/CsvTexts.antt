@@ -13,7 +13,7 @@ use Rattle.xb_model.proofs.RowTimes.{at_most_a_day}
 use Rattle.xb_rows.specs.WrittenRows.{AreRows, IsLawfulRow, WrittenRowsAreCsv, contact_text, csv_text, fields_of_row, record_text}
 
 -- a digit calls for no quotes
-plain_digit : (b : ℕ) → 48 ≤ b → needs_byte default_writer b ≡ false
+pub plain_digit : (b : ℕ) → 48 ≤ b → needs_byte default_writer b ≡ false
 plain_digit b high =
     rw (
       ne_eqb b 44 (λ e. omega arith),

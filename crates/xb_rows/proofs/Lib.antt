@@ -5,4 +5,7 @@ pub mod RestOfRecords
 pub mod WrittenFields
 pub mod CsvTexts
 pub mod WrittenRecords
+pub mod RowSteps
 pub mod ScanSteps
+pub mod PlainRecords
+pub mod PlainSteps

@@ -45,10 +45,10 @@ row_of_written n row h =
 
 -- the rows of written records
 rows_of_written : (n : ℕ) (rows : List LoopRow) → AreRows rows → n + length rows ≤ MOST_RECORDS + 1
-    → rest_from n (map read_back (map fields_of_row rows)) ≡ rows_and_stop rows None
-rows_of_written n [] h few = rest_from-none n [] refl
+    → rest_from MOST_RECORDS n (map read_back (map fields_of_row rows)) ≡ rows_and_stop rows None
+rows_of_written n [] h few = rest_from-none MOST_RECORDS n [] refl
 rows_of_written n (row ∷ rows) h few =
-    rest_from-more n _ _ _ (Ok row) refl (omega arith) (sym (row_of_written n row (All-head IsLawfulRow row rows h)))
+    rest_from-more MOST_RECORDS n _ _ _ (Ok row) refl (omega arith) (sym (row_of_written n row (All-head IsLawfulRow row rows h)))
     ∙ ap (row_and_rest (Ok row)) (rows_of_written (n + 1) rows (All-tail IsLawfulRow row rows h) (omega arith))
 
 -- a text that begins with the header begins with no byte order mark
@@ -60,5 +60,5 @@ no_mark rows = refl
 pub written_rows_are_read : WrittenRowsAreRead
 written_rows_are_read rows h few =
     let fields = header ∷ map fields_of_row rows in
-    ap rest_of_records (ap (records default_config) (no_mark rows ∙ written_rows_are_csv rows h) ∙ records_of_text fields)
+    ap (rest_of_records MOST_RECORDS) (ap (records default_config) (no_mark rows ∙ written_rows_are_csv rows h) ∙ records_of_text fields)
     ∙ rows_of_written 1 rows h (omega arith)

@@ -85,12 +85,12 @@ abbrev pub row_and_rest : Result LoopRow RowFault → Rest → Rest
 row_and_rest (Ok row) rest = rows_and_stop (row ∷ rest.rows) rest.stop
 row_and_rest (Err f) rest = fault_alone f
 
--- the rest from record n on
-unfoldable pub rest_from : ℕ → List Fields → Rest
-rest_from n [] = stop_alone None
-rest_from n (fields ∷ later) =
-    if nat_lt MOST_RECORDS n then fault_alone fault.TooMany
-    else row_and_rest (row_of_fields n (three_fields fields)) (rest_from (n + 1) later)
+-- the rest from record n on, where at most so many records may follow the header
+unfoldable pub rest_from : ℕ → ℕ → List Fields → Rest
+rest_from most n [] = stop_alone None
+rest_from most n (fields ∷ later) =
+    if nat_lt most n then fault_alone fault.TooMany
+    else row_and_rest (row_of_fields n (three_fields fields)) (rest_from most (n + 1) later)
 
 -- whether a record is the header
 abbrev pub is_header : Option ThreeFields → Bool
@@ -98,14 +98,18 @@ is_header None = false
 is_header (Some t) = bytes_eq t.0 (codes "line") && bytes_eq t.1 (codes "state") && bytes_eq t.2 (codes "ms")
 
 -- all records: the first is the header, and those after it count from 1
-abbrev pub rest_of_records : List Fields → Rest
-rest_of_records [] = fault_alone fault.Header
-rest_of_records (first ∷ later) =
-    if is_header (three_fields first) then rest_from 1 later else fault_alone fault.Header
+abbrev pub rest_of_records : ℕ → List Fields → Rest
+rest_of_records most [] = fault_alone fault.Header
+rest_of_records most (first ∷ later) =
+    if is_header (three_fields first) then rest_from most 1 later else fault_alone fault.Header
 
--- a text
+-- a text, where at most so many records may follow the header
+abbrev pub rest_within : ℕ → List ℕ → Rest
+rest_within most text = rest_of_records most (records default_config (strip_bom text))
+
+-- the text of a deck's rows
 abbrev pub rest_of_text : List ℕ → Rest
-rest_of_text text = rest_of_records (records default_config (strip_bom text))
+rest_of_text text = rest_within MOST_RECORDS text
 
 -- the rows of a text before its first fault, and that fault
 abbrev pub rows_of_text : List ℕ → List LoopRow

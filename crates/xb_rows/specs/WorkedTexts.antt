@@ -4,7 +4,6 @@ use Rattle.xb_model.specs.declared.row.Contact.TheVariants.{Make, Brk, Close}
 use Rattle.xb_model.specs.declared.fault.RowFault.{RowFault}
 use Rattle.xb_model.specs.declared.fault.RowFault.TheVariants as fault
 use Rattle.xb_model.specs.Rows.{LoopRow, row_of}
-use Rattle.xb_rows.specs.declared.scan.TheConstants.{MOST_RECORDS}
 use Rattle.xb_rows.specs.RowTexts.{Fields, fault_alone, rest_from, rest_of_text, rows_and_stop}
 
 -- the rows of a text, and the stop after them
@@ -32,5 +31,5 @@ RowsOfTexts =
 -- after the most records a further one is the fault, whatever its fields are
 abbrev pub MostRecords : Type 0
 MostRecords =
-    (fields : Fields) (later : List Fields)
-    → rest_from (MOST_RECORDS + 1) (fields ∷ later) ≡ fault_alone fault.TooMany
+    (most : ℕ) (fields : Fields) (later : List Fields)
+    → rest_from most (most + 1) (fields ∷ later) ≡ fault_alone fault.TooMany

@@ -66,7 +66,7 @@ fn three_fields(fields: &ByteRecord) -> Option<(&[u8], &[u8], &[u8])>
 }
 
 // The row that record `n` writes in its three fields, or the first fault of these.
-fn row_of_fields(n: u32, line: &[u8], state: &[u8], ms: &[u8]) -> Result<Row, RowFault>
+pub(crate) fn row_of_fields(n: u64, line: &[u8], state: &[u8], ms: &[u8]) -> Result<Row, RowFault>
     ensures { result ≡ row_of_fields n (Some (line.now, state.now, ms.now)) }
 {
     let line = line_of(line).ok_or(RowFault::Line(n))?;
@@ -76,7 +76,7 @@ fn row_of_fields(n: u32, line: &[u8], state: &[u8], ms: &[u8]) -> Result<Row, Ro
 }
 
 /// The row that record `n` writes, or its first fault, in the order fields, line, state, ms.
-pub fn parse_row(n: u32, fields: &ByteRecord) -> Result<Row, RowFault>
+pub fn parse_row(n: u64, fields: &ByteRecord) -> Result<Row, RowFault>
     ensures { result ≡ row_of_fields n (three_fields (fields_of fields.now)) }
 {
     let (line, state, ms) = three_fields(fields).ok_or(RowFault::Fields(n))?;

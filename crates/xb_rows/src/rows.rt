@@ -1,5 +1,6 @@
 // The rows of a whole text, and of a reader.
-ghost use Rattle.std.specs.Prelude.{◌≡◌, IfErr, IfOk, IfSome};
+ghost use Rattle.std.specs.Prelude.{◌≡◌, ◌≤◌, IfErr, IfOk, IfSome, length};
+ghost use Rattle.xb_rows.specs.declared.scan.TheConstants.{MOST_RECORDS};
 ghost use Rattle.xb_rows.specs.RowResults.{AreRowsOf, IsFaultOf, IsReadFaultOf, IsReadToEnd, fault_of_read};
 
 use crate::scan::Scan;
@@ -12,6 +13,7 @@ use xb_streams::{ReadFault, read_whole};
 // ran out.
 pub(crate) fn read_text(alloc: Global, text: &[u8]) -> Result<Vec<Row>, RowFault>
     ensures rows { IfOk result (λ rows. AreRowsOf text.now rows.items) }
+    ensures few { IfOk result (λ rows. length rows.items ≤ MOST_RECORDS) }
     ensures fault { IfErr result (λ f. IsFaultOf text.now f) }
 {
     let mut scan = Scan::new(alloc, text);
@@ -43,6 +45,7 @@ fn fault_of_read(fault: ReadFault) -> RowFault
 /// of a process's standard input are not known.
 pub fn read_rows<R: Read>(alloc: Global, reader: &mut R) -> Result<Vec<Row>, RowFault>
     ensures rows { IfSome (R.remaining reader.old) (λ text. IfOk result (λ rows. AreRowsOf text rows.items)) }
+    ensures few { IfOk result (λ rows. length rows.items ≤ MOST_RECORDS) }
     ensures fault { IfSome (R.remaining reader.old) (λ text. IfErr result (λ f. IsReadFaultOf text f)) }
     ensures end { IsReadToEnd result (R.remaining reader.new) }
 {

@@ -1,11 +1,10 @@
 // The rows of a text, one at a time.
-ghost use Rattle.std.specs.Prelude.{◌≡◌};
-ghost use Rattle.csv.specs.Records.{fields_of};
-ghost use Rattle.xb_rows.specs.RowTexts.{rest_from, rest_of_records, rest_of_text};
-ghost use Rattle.xb_rows.specs.Scanning.{IsGoing, TakesHeader, TakesRecord, TakesRow, records_left};
+ghost use Rattle.std.specs.Prelude.{◌≡◌, ℕ, List};
+ghost use Rattle.xb_rows.specs.Plain.{BeginsWith, HandsOver};
+ghost use Rattle.xb_rows.specs.RowTexts.{Fields, rest_of_text};
 
-use crate::record::{is_header, parse_row};
-use csv::{ByteRecord, Reader, ReaderBuilder};
+use crate::csv_scan::CsvScan;
+use crate::plain::{after_header, plain_row};
 use std::alloc::Global;
 use std::marker::Model;
 use xb_model::{Row, RowFault, RowSource};
@@ -13,88 +12,48 @@ use xb_model::{Row, RowFault, RowSource};
 /// The most records that follow the header (own limit).
 pub const MOST_RECORDS: u32 = 1_000_000;
 
-// Where a scan stands.
-#[derive(Clone, Copy)]
-enum Place {
-    /// Before the header.
-    Header,
-    /// Before this record.
-    Record(u32),
-    /// At its stop, a fault or the end.
-    Stopped(Option<RowFault>),
-}
-
-// Reads the next record of a text, and whether there was one.
-fn take_record(reader: &mut Reader<&[u8]>, fields: &mut ByteRecord) -> Result<bool, RowFault>
-    requires { IsGoing reader.old }
-    ensures { TakesRecord reader.old reader.new (fields_of fields.new) result }
-{
-    match reader.read_byte_record(fields) {
-        Ok(found) => Ok(found),
-        // a slice does not fail, so memory ran out
-        Err(_) => Err(RowFault::NoMemory),
-    }
-}
-
-// Reads the header.
-fn take_header(reader: &mut Reader<&[u8]>, fields: &mut ByteRecord) -> Result<(), RowFault>
-    requires { IsGoing reader.old }
-    ensures { TakesHeader (records_left reader.old) reader.new result }
-{
-    if take_record(reader, fields)? && is_header(fields) {
-        Ok(())
-    } else {
-        Err(RowFault::Header)
-    }
-}
-
-// Reads record `n`, if there is one.
-fn take_row(
-    n: u32,
-    reader: &mut Reader<&[u8]>,
-    fields: &mut ByteRecord,
-) -> Result<Option<Row>, RowFault>
-    requires { IsGoing reader.old }
-    ensures { TakesRow n (rest_from n (records_left reader.old)) reader.new result }
-{
-    if !take_record(reader, fields)? {
-        return Ok(None);
-    }
-    if n > MOST_RECORDS {
-        return Err(RowFault::TooMany);
-    }
-    Ok(Some(parse_row(n, fields)?))
-}
-
-// Reads the header, and record 1.
-fn take_first_row(
-    reader: &mut Reader<&[u8]>,
-    fields: &mut ByteRecord,
-) -> Result<Option<Row>, RowFault>
-    requires { IsGoing reader.old }
-    ensures { TakesRow 1 (rest_of_records (records_left reader.old)) reader.new result }
-{
-    take_header(reader, fields)?;
-    take_row(1, reader, fields)
-}
-
-/// The rows of a CSV text, one at a time: a source that takes memory, in `next_row` alone.
+/// The rows of a CSV text, one at a time: a source that takes memory, in `next_row` alone. As long as the
+/// records are plain they are read directly, and from the first other one on by `csv`.
 #[derive(Drop)]
 pub struct Scan<'a> {
-    reader: Reader<&'a [u8]>,
-    fields: ByteRecord,
-    place: Place,
+    alloc: Global,
+    // what begins with the last record that was read directly
+    last: &'a [u8],
+    // what follows that record
+    rest: &'a [u8],
+    // how many records were read directly
+    taken: u64,
+    // what reads the text in its place
+    csv: Option<CsvScan<'a>>,
 }
 
 impl<'a> Model for Scan<'a> {
     ghost use Rattle.xb_model.specs.Sources.{Rest};
-    ghost use Rattle.xb_rows.specs.Scanning.{CanGo, rest_at};
+    ghost use Rattle.xb_rows.specs.Plain.{IsPlainSoFar, rest_after};
 
     ghost Value = { Rest };
 
-    ghost view = { λ s. rest_at s.place s.reader };
+    ghost view = { λ s. rest_after s.taken s.rest.now s.csv };
 
-    ghost invariant = { λ s. CanGo s.place s.reader };
+    ghost invariant = { λ s. IsPlainSoFar s.last.now s.rest.now s.csv };
+}
+
+// Has `csv` read on after the first record of a text, which it reads once more.
+#[cold]
+#[inline(never)]
+fn hand_over<'a>(
+    alloc: Global,
+    last: &'a [u8],
+    taken: u64,
+    csv: &mut Option<CsvScan<'a>>,
+) -> Result<Option<Row>, RowFault>
+    ensures { (fields : Fields) → (rest : List ℕ) → BeginsWith last.now fields rest
+        → HandsOver taken rest result csv.new }
+{
+    let mut scan = CsvScan::after(alloc, last, taken);
+    let given = scan.next_row();
+    *csv = Some(scan);
+    given
 }
 
 impl<'a> Scan<'a> {
@@ -103,13 +62,16 @@ impl<'a> Scan<'a> {
     pub fn new(alloc: Global, text: &'a [u8]) -> Scan<'a>
         ensures { result ≡ rest_of_text text.now }
     {
+        let (rest, csv) = match after_header(text) {
+            Some(rest) => (rest, None),
+            None => (text, Some(CsvScan::new(alloc, text))),
+        };
         Scan {
-            reader: ReaderBuilder::new()
-                .has_headers(false)
-                .flexible(true)
-                .from_reader(alloc, text),
-            fields: ByteRecord::new(alloc),
-            place: Place::Header,
+            alloc,
+            last: text,
+            rest,
+            taken: 0,
+            csv,
         }
     }
 }
@@ -122,17 +84,17 @@ impl<'a> RowSource for Scan<'a> {
     /// `Fields`, `Line`, `Contact` or `Ms` of the first record that is no row, and `NoMemory`
     /// where memory ran out. After the end or a fault each call returns it again.
     fn next_row(&mut self) -> Result<Option<Row>, RowFault> {
-        let (n, taken) = match self.place {
-            Place::Stopped(None) => return Ok(None),
-            Place::Stopped(Some(fault)) => return Err(fault),
-            Place::Header => (1, take_first_row(&mut self.reader, &mut self.fields)),
-            Place::Record(n) => (n, take_row(n, &mut self.reader, &mut self.fields)),
-        };
-        self.place = match taken {
-            Ok(Some(_)) => Place::Record(n + 1),
-            Ok(None) => Place::Stopped(None),
-            Err(fault) => Place::Stopped(Some(fault)),
-        };
-        taken
+        if let Some(csv) = &mut self.csv {
+            return csv.next_row();
+        }
+        if self.taken < u64::from(MOST_RECORDS) {
+            if let Some(plain) = plain_row(self.rest) {
+                self.last = self.rest;
+                self.rest = plain.rest;
+                self.taken += 1;
+                return Ok(Some(plain.row));
+            }
+        }
+        hand_over(self.alloc, self.last, self.taken, &mut self.csv)
     }
 }

@@ -1,11 +1,18 @@
-use Rattle.std.proofs.Common.{ap}
-use Rattle.csv.specs.Reading.{strip_bom}
-use Rattle.xb_rows.specs.RowTexts.{rest_of_records}
-use Rattle.xb_rows.proofs.RecordsLeft.{records_left-start}
+use Rattle.xb_rows.specs.WrittenRows.{header}
+use Rattle.xb_rows.proofs.PlainSteps.{header-rest}
 use Rattle.xb_rows.proofs.scan.Scan.new.Goals as goal
+use Rattle.xb_rows.proofs.scan.Scan.new.Goals.{in-Some, in-None}
+
+pub invariant_of-result : goal.invariant_of-result
+invariant_of-result c =
+    elim c.match-after_header.branch [
+      | in-Some w ↦ rw w.csv-is (header, w.in-Some.ensures)
+      | in-None w ↦ rw w.csv-is tt
+    ]
 
 pub returns : goal.returns
 returns c =
-    let new = c.from_reader in
-    let unread = strip_bom c.args.text.now in
-    ap rest_of_records (records_left-start new.result unread new.ensures.source new.ensures.state)
+    elim c.match-after_header.branch [
+      | in-Some w ↦ rw w.csv-is (header-rest c.args.text.now _ w.in-Some.ensures)
+      | in-None w ↦ rw w.csv-is w.new.ensures
+    ]

@@ -1,0 +1,12 @@
+//! Rows read: what no clause says of them, on streams that give little at a time and that fail,
+//! and of texts beside `csv` alone.
+//!
+//! Tests alone.
+#![tactic(auto)]
+
+#[cfg(test)]
+mod plain;
+#[cfg(test)]
+mod streams;
+#[cfg(test)]
+mod tables;
