@@ -1,10 +1,8 @@
 -- What the words of the command line ask for, as clap reads them.
-use Rattle.std.specs.Prelude.{ℕ, ◌≡◌, ◌≢◌, ◌⊎◌, ◌<◌, ◌^◌, ◌==◌, List, [], Bool, true, false, Option, Some, None, String, SomeIff, codes, string_bytes, map, option_and_then, option_map, if◌then◌else◌}
+use Rattle.std.specs.Prelude.{ℕ, ◌==◌, List, Option, Some, None, codes, option_and_then, option_map, if◌then◌else◌}
 use Rattle.std.specs.Option.{unwrap_or}
-use Rattle.std.specs.Str.Parse.{IsNumeral, digits_value, without_leading_plus}
-use Rattle.clap.specs.Faults.{fault_of}
-use Rattle.clap.specs.Simple.{matches_of}
-use Rattle.clap.specs.Walk.{Row, Text, one_of}
+use Rattle.clap.specs.Walk.{Row, Text}
+use Rattle.xb_words.specs.Given.{AskForNothing, AsksFor, ReadsFlag, ReadsNumber, given_by}
 use Rattle.xb_model.specs.declared.plan.Plan.{Plan}
 use Rattle.xb_model.specs.declared.plan.Plan.TheVariants.{Seven, Ten}
 use Rattle.xb_dial.specs.declared.order.RowOrder.TheVariants.{ByLine, InTurn}
@@ -14,45 +12,17 @@ use Rattle.xb_dial_program.specs.declared.request.Request.{Request}
 use Rattle.xb_dial_program.specs.declared.words.Options.{Options}
 use Rattle.xb_dial_program.specs.Rules.{command_of_words}
 
-abbrev pub texts_of : {A : Type 0} → List (String A) → List Text
-texts_of words = map string_bytes words
-
--- the text that an option was given
-abbrev pub given_by : List Row → Text → Option Text
-given_by rows name = one_of name rows
-
--- the number of an option: none where it was not given, or its text is no number of 32 bits, which clap
--- refuses
-abbrev pub ReadsNumber : Option Text → Option ℕ → Type 0
-ReadsNumber None number = number ≡ None
-ReadsNumber (Some text) number =
-    let digits = without_leading_plus text in
-    SomeIff number (IsNumeral 10 digits × (digits_value 10 digits < 2 ^ 32)) (digits_value 10 digits)
-
--- whether a flag was given
-pub record ReadsFlag (text : Option Text) (given : Bool) : Type 0 where
-  pub absent : text ≡ None → given ≡ false
-  pub yes : text ≡ Some (codes "true") → given ≡ true
-  pub no : text ≡ Some (codes "false") → given ≡ false
-
--- clap takes the words
-abbrev pub IsTaken : List Text → Type 0
-IsTaken words = fault_of command_of_words words ≡ []
-
-abbrev pub given : List Text → Text → Option Text
-given words name = given_by (matches_of command_of_words words) name
-
--- the words say these options
-pub record Say (words : List Text) (options : Options) : Type 0 where
-  pub speed : ReadsNumber (given words (codes "speed")) options.speed
-  pub break_ms : ReadsNumber (given words (codes "break")) options.break_ms
-  pub make_ms : ReadsNumber (given words (codes "make")) options.make_ms
-  pub pause_ms : ReadsNumber (given words (codes "pause")) options.pause_ms
-  pub seize_ms : ReadsNumber (given words (codes "seize")) options.seize_ms
-  pub hang_up_ms : ReadsNumber (given words (codes "hang-up")) options.hang_up_ms
-  pub plan : ReadsNumber (given words (codes "plan")) options.plan
-  pub in_turn : ReadsFlag (given words (codes "in-turn")) options.in_turn
-  pub any : ReadsFlag (given words (codes "any")) options.any
+-- what clap matched says these options
+pub record Say (rows : List Row) (options : Options) : Type 0 where
+  pub speed : ReadsNumber (given_by rows (codes "speed")) options.speed
+  pub break_ms : ReadsNumber (given_by rows (codes "break")) options.break_ms
+  pub make_ms : ReadsNumber (given_by rows (codes "make")) options.make_ms
+  pub pause_ms : ReadsNumber (given_by rows (codes "pause")) options.pause_ms
+  pub seize_ms : ReadsNumber (given_by rows (codes "seize")) options.seize_ms
+  pub hang_up_ms : ReadsNumber (given_by rows (codes "hang-up")) options.hang_up_ms
+  pub plan : ReadsNumber (given_by rows (codes "plan")) options.plan
+  pub in_turn : ReadsFlag (given_by rows (codes "in-turn")) options.in_turn
+  pub any : ReadsFlag (given_by rows (codes "any")) options.any
 
 abbrev pub standard_speed : ℕ → Option Speed
 standard_speed pulses =
@@ -80,11 +50,8 @@ request_of options =
 
 -- clap takes the words, and they ask for this
 abbrev pub Asks : List Text → Request → Type 0
-Asks words request = IsTaken words
-    × ((options : Options) × Say words options × (request_of options ≡ Some request))
+Asks words request = AsksFor command_of_words Say request_of words request
 
 -- clap refuses the words, or they ask for another speed or plan
 abbrev pub AreRefused : List Text → Type 0
-AreRefused words =
-    (fault_of command_of_words words ≢ []) ⊎ ((options : Options) × Say words options
-    × (request_of options ≡ None))
+AreRefused words = AskForNothing command_of_words Say request_of words

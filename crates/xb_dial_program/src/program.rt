@@ -1,6 +1,6 @@
 // The program: its words and calls in, a status and rows out.
 ghost use Rattle.xb_streams.specs.Programs.{streams};
-ghost use Rattle.xb_dial_program.specs.Options.{texts_of};
+ghost use Rattle.xb_words.specs.Commands.{texts_of};
 ghost use Rattle.xb_dial_program.specs.Program.{AttendsDial};
 
 use crate::dialling::dial;
@@ -10,7 +10,7 @@ use std::io::{Read, Write};
 use xb_streams::{DONE, report, tell_words};
 
 // The program's name.
-const PROGRAM: &str = "mfdial";
+pub(crate) const PROGRAM: &str = "mfdial";
 
 // The line of refused words.
 const USAGE: &[u8] = b"mfdial: usage: mfdial [--speed 10|20] [--break N] [--make N] [--pause N] \

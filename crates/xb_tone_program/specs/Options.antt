@@ -1,9 +1,7 @@
 -- What the words of the command line ask for, as clap reads them.
-use Rattle.std.specs.Prelude.{ℕ, ◌≡◌, ◌≢◌, ◌⊎◌, ◌<◌, ◌^◌, List, [], Bool, true, false, Option, Some, None, String, SomeIff, codes, string_bytes, map, min, option_map}
-use Rattle.std.specs.Str.Parse.{IsNumeral, digits_value, without_leading_plus}
-use Rattle.clap.specs.Faults.{fault_of}
-use Rattle.clap.specs.Simple.{matches_of}
-use Rattle.clap.specs.Walk.{Row, Text, one_of}
+use Rattle.std.specs.Prelude.{ℕ, List, Option, Some, None, codes, min, option_map}
+use Rattle.clap.specs.Walk.{Row, Text}
+use Rattle.xb_words.specs.Given.{AskForNothing, AsksFor, ReadsFlag, ReadsNumber, given_by}
 use Rattle.xb_tones.specs.Cadences.{standard_cadence}
 use Rattle.xb_tones.specs.declared.cadence.Cadence.{Cadence}
 use Rattle.xb_tone_program.specs.declared.request.Choice.{Choice}
@@ -12,43 +10,15 @@ use Rattle.xb_tone_program.specs.declared.request.Request.{Request}
 use Rattle.xb_tone_program.specs.declared.words.Options.{Options}
 use Rattle.xb_tone_program.specs.Rules.{command_of_words}
 
-abbrev pub texts_of : {A : Type 0} → List (String A) → List Text
-texts_of words = map string_bytes words
-
--- the text that an option was given
-abbrev pub given_by : List Row → Text → Option Text
-given_by rows name = one_of name rows
-
--- the number of an option: none where it was not given, or its text is no number of 32 bits, which clap
--- refuses
-abbrev pub ReadsNumber : Option Text → Option ℕ → Type 0
-ReadsNumber None number = number ≡ None
-ReadsNumber (Some text) number =
-    let digits = without_leading_plus text in
-    SomeIff number (IsNumeral 10 digits × (digits_value 10 digits < 2 ^ 32)) (digits_value 10 digits)
-
--- whether a flag was given
-pub record ReadsFlag (text : Option Text) (given : Bool) : Type 0 where
-  pub absent : text ≡ None → given ≡ false
-  pub yes : text ≡ Some (codes "true") → given ≡ true
-  pub no : text ≡ Some (codes "false") → given ≡ false
-
--- clap takes the words
-abbrev pub IsTaken : List Text → Type 0
-IsTaken words = fault_of command_of_words words ≡ []
-
-abbrev pub given : List Text → Text → Option Text
-given words name = given_by (matches_of command_of_words words) name
-
--- the words say these options
-pub record Say (words : List Text) (options : Options) : Type 0 where
-  pub line : ReadsNumber (given words (codes "line")) options.line
-  pub entry : ReadsNumber (given words (codes "entry")) options.entry
-  pub lead_ms : ReadsNumber (given words (codes "lead")) options.lead_ms
-  pub kp_ms : ReadsNumber (given words (codes "kp")) options.kp_ms
-  pub key_ms : ReadsNumber (given words (codes "key")) options.key_ms
-  pub gap_ms : ReadsNumber (given words (codes "gap")) options.gap_ms
-  pub raw : ReadsFlag (given words (codes "raw")) options.raw
+-- what clap matched says these options
+pub record Say (rows : List Row) (options : Options) : Type 0 where
+  pub line : ReadsNumber (given_by rows (codes "line")) options.line
+  pub entry : ReadsNumber (given_by rows (codes "entry")) options.entry
+  pub lead_ms : ReadsNumber (given_by rows (codes "lead")) options.lead_ms
+  pub kp_ms : ReadsNumber (given_by rows (codes "kp")) options.kp_ms
+  pub key_ms : ReadsNumber (given_by rows (codes "key")) options.key_ms
+  pub gap_ms : ReadsNumber (given_by rows (codes "gap")) options.gap_ms
+  pub raw : ReadsFlag (given_by rows (codes "raw")) options.raw
 
 -- all entries, or those of a line, or one of a line; an entry without its line is none
 abbrev pub choice_of : Option ℕ → Option ℕ → Option Choice
@@ -81,11 +51,8 @@ request_of options = option_map (λ entries. record {
 
 -- clap takes the words, and they ask for this
 abbrev pub Asks : List Text → Request → Type 0
-Asks words request = IsTaken words
-    × ((options : Options) × Say words options × (request_of options ≡ Some request))
+Asks words request = AsksFor command_of_words Say request_of words request
 
 -- clap refuses the words, or they ask for an entry without its line
 abbrev pub AreRefused : List Text → Type 0
-AreRefused words =
-    (fault_of command_of_words words ≢ []) ⊎ ((options : Options) × Say words options
-    × (request_of options ≡ None))
+AreRefused words = AskForNothing command_of_words Say request_of words

@@ -1,6 +1,6 @@
 // The program: its words and a page in, a status and sound out.
 ghost use Rattle.xb_streams.specs.Programs.{streams};
-ghost use Rattle.xb_tone_program.specs.Options.{texts_of};
+ghost use Rattle.xb_words.specs.Commands.{texts_of};
 ghost use Rattle.xb_tone_program.specs.Program.{AttendsTone};
 
 use crate::playing::play;
@@ -10,7 +10,7 @@ use std::io::{Read, Write};
 use xb_streams::{DONE, report, tell_words};
 
 // The program's name.
-const PROGRAM: &str = "mftone";
+pub(crate) const PROGRAM: &str = "mftone";
 
 // The line of refused words.
 const USAGE: &[u8] = b"mftone: usage: mftone [--line N] [--entry N] [--lead N] [--kp N] [--key N] \

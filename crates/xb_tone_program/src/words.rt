@@ -1,19 +1,14 @@
 // What the words of the command line ask for.
 ghost use Rattle.std.specs.Prelude.{◌≡◌, IfErr, IfOk};
-ghost use Rattle.clap.specs.Kinds.{HasKind};
-ghost use Rattle.clap.specs.Faults.{fault_of};
-ghost use Rattle.clap.specs.Simple.{app_of, with_rule};
-ghost use Rattle.clap.specs.Matches.{found_of};
-ghost use Rattle.clap.specs.Walk.{rows_of};
-ghost use Rattle.xb_tone_program.specs.Rules.{command_of_words, flag_rule, number_rule};
-ghost use Rattle.xb_tone_program.specs.Options.{AreRefused, Asks, IsTaken, ReadsFlag, ReadsNumber, Say, cadence_of, choice_of, given_by, request_of, texts_of, time_of};
+ghost use Rattle.xb_words.specs.Commands.{texts_of};
+ghost use Rattle.xb_tone_program.specs.Options.{AreRefused, Asks, Say, cadence_of, choice_of, request_of, time_of};
 
+use crate::program::PROGRAM;
 use crate::request::{Choice, Request};
-use clap::error::ErrorKind;
-use clap::{Arg, ArgAction, ArgMatches, Command, Error};
-use std::alloc::{AllocError, Global};
+use std::alloc::Global;
 use xb_streams::WordsFault;
 use xb_tones::Cadence;
+use xb_words::{Takes, Words, read_words};
 
 // What the options of the command line say.
 #[derive(Clone, Copy)]
@@ -27,76 +22,30 @@ pub(crate) struct Options {
     pub(crate) raw: bool,
 }
 
-// A command that also takes an option with a number of ms.
-fn with_number<'a>(
-    alloc: Global,
-    command: Command<'a>,
-    name: &'a str,
-) -> Result<Command<'a>, AllocError>
-    ensures { IfOk result (λ c. app_of c ≡ with_rule (app_of command.entry) (number_rule name.entry.now)) }
-{
-    let arg = Arg::new(alloc, name)
-        .long(name)
-        .action(ArgAction::Set)
-        .value_parser(clap::value_parser!(u32));
-    command.arg(arg)
-}
+// The options of the program, each under its name.
+const OPTIONS: [(&str, Takes); 7] = [
+    ("line", Takes::Number),
+    ("entry", Takes::Number),
+    ("lead", Takes::Number),
+    ("kp", Takes::Number),
+    ("key", Takes::Number),
+    ("gap", Takes::Number),
+    ("raw", Takes::Nothing),
+];
 
-// A command that also takes a flag.
-fn with_flag<'a>(
-    alloc: Global,
-    command: Command<'a>,
-    name: &'a str,
-) -> Result<Command<'a>, AllocError>
-    ensures { IfOk result (λ c. app_of c ≡ with_rule (app_of command.entry) (flag_rule name.entry.now)) }
+// What the words say.
+fn options_of(words: &Words) -> Options
+    ensures { Say words.now result }
 {
-    command.arg(Arg::new(alloc, name).long(name).action(ArgAction::SetTrue))
-}
-
-// The command: `mftone` and its options.
-fn command<'a>(alloc: Global) -> Result<Command<'a>, AllocError>
-    ensures { IfOk result (λ c. app_of c ≡ command_of_words) }
-{
-    let command = Command::new(alloc, "mftone");
-    let command = with_number(alloc, command, "line")?;
-    let command = with_number(alloc, command, "entry")?;
-    let command = with_number(alloc, command, "lead")?;
-    let command = with_number(alloc, command, "kp")?;
-    let command = with_number(alloc, command, "key")?;
-    let command = with_number(alloc, command, "gap")?;
-    with_flag(alloc, command, "raw")
-}
-
-// The number that an option was given.
-fn number(matches: &ArgMatches, name: &str) -> Option<u32>
-    ensures { ReadsNumber (given_by (rows_of (found_of matches.now)) name.now) result }
-{
-    matches.get_one::<u32>(name)
-}
-
-// Whether a flag was given.
-fn flag(matches: &ArgMatches, name: &str) -> bool
-    ensures { ReadsFlag (given_by (rows_of (found_of matches.now)) name.now) result }
-{
-    matches.get_flag(name)
-}
-
-// What the words say; `Err` where clap refuses the words, or memory ran out.
-fn options_of(alloc: Global, words: &[String]) -> Result<Options, Error>
-    ensures taken { IfOk result (λ _. IsTaken (texts_of words.now)) }
-    ensures say { IfOk result (λ options. Say (texts_of words.now) options) }
-    ensures refused { IfErr result (λ e. HasKind (fault_of command_of_words (texts_of words.now)) e) }
-{
-    let matches = command(alloc)?.try_get_matches_from(words)?;
-    Ok(Options {
-        line: number(&matches, "line"),
-        entry: number(&matches, "entry"),
-        lead_ms: number(&matches, "lead"),
-        kp_ms: number(&matches, "kp"),
-        key_ms: number(&matches, "key"),
-        gap_ms: number(&matches, "gap"),
-        raw: flag(&matches, "raw"),
-    })
+    Options {
+        line: words.number("line"),
+        entry: words.number("entry"),
+        lead_ms: words.number("lead"),
+        kp_ms: words.number("kp"),
+        key_ms: words.number("key"),
+        gap_ms: words.number("gap"),
+        raw: words.flag("raw"),
+    }
 }
 
 // The entries that a line and a number ask for; `None` for a number alone.
@@ -157,9 +106,6 @@ pub fn request_of_words(alloc: Global, words: &[String]) -> Result<Request, Word
     ensures asks { IfOk result (λ request. Asks (texts_of words.now) request) }
     ensures refused { IfErr result (λ f. f ≡ WordsFault.Refused → AreRefused (texts_of words.now)) }
 {
-    match options_of(alloc, words) {
-        Ok(options) => request_of(options).ok_or(WordsFault::Refused),
-        Err(error) if error.kind() == ErrorKind::OutOfMemory => Err(WordsFault::NoMemory),
-        Err(_) => Err(WordsFault::Refused),
-    }
+    let words = read_words(alloc, PROGRAM, &OPTIONS, words)?;
+    request_of(options_of(&words)).ok_or(WordsFault::Refused)
 }

@@ -1,11 +1,13 @@
-use Rattle.std.proofs.Common.{◌∙◌}
+use Rattle.std.proofs.Common.{◌∙◌, ap}
 use Rattle.clap.specs.Matches.{found_of}
+use Rattle.clap.specs.Walk.{one_of}
 use Rattle.clap.proofs.WalkLemmas.{one_text-rows}
-use Rattle.xb_dial_program.proofs.words.flag.Goals as goal
+use Rattle.xb_words.proofs.reading.Words.flag.Goals as goal
 
 pub returns : goal.returns
 returns c =
-    let same = one_text-rows (found_of c.args.matches.now) c.args.name.now in
+    let same = one_text-rows (found_of c.self.inside.matches) c.args.name.now
+    ∙ ap (one_of c.args.name.now) c.self.view_is in
     record {
       absent = λ e. c.get_flag.ensures.none (same ∙ e);
       yes = λ e. c.get_flag.ensures.value (same ∙ e);
