@@ -1,9 +1,11 @@
-//! Pages read back, and the program that lets them sound: each fault of a page, and sounds whose bytes
-//! another program computed.
+//! Pages read back, the program that lets them sound, and calls from the dial to the ear: each fault of a
+//! page, and sounds whose bytes another program computed.
 //!
 //! Tests alone.
 #![tactic(auto)]
 
+#[cfg(test)]
+mod dialled;
 #[cfg(test)]
 mod pages;
 #[cfg(test)]

@@ -18,8 +18,9 @@ pub const SHORTEST_KP_MS: u16 = 58;
 /// The shortest tone of a digit or of ST, in ms: as for KP.
 pub const SHORTEST_KEY_MS: u16 = 46;
 
-/// The shortest silence after a tone, in ms: a limit of our own.
-pub const SHORTEST_GAP_MS: u16 = 30;
+/// The shortest silence after a tone, in ms: from this on such a receiver tells a key from the same
+/// key before it.
+pub const SHORTEST_GAP_MS: u16 = 38;
 
 /// How long the tones of a keying last, and the silences between them, each in ms.
 #[derive(Clone, Copy, Debug, PartialEq, Eq)]
