@@ -79,7 +79,7 @@ module _ (table : Table) where
       ∙ ap (λ signals. image_from r k now ++ image_after on_line_of r signals later) (sym (image-push row_line p earlier row))))
 
   -- translation and the sender, one after another
-  keyed-in_turn : (dialled : List (On Dialled)) → image on_line_of sender_machine (image on_line_of (translate_machine table.routes) dialled) ≡ flat_map (keyed table) dialled
+  pub keyed-in_turn : (dialled : List (On Dialled)) → image on_line_of sender_machine (image on_line_of (translate_machine table.routes) dialled) ≡ flat_map (keyed table) dialled
   keyed-in_turn dialled =
       ap (image on_line_of sender_machine) (image_all-stateless (λ outcome. order_of table.routes outcome ∷ []) dialled)
       ∙ image_all-stateless marks_of (orders dialled)

@@ -69,15 +69,20 @@ module _ (table : Table) (lawful : IsLawful table.limits) (rows : List LoopRow) 
   lacking-marks open_ =
       subst (λ marks. LackARefusalAtMost marks (tape_on table l rows)) (sym (open-marks open_)) (settled-lacks table l rows)
 
--- an office keeps its promises
-pub keeps_promises : (office : Office) (rows : List LoopRow) (marks : List (On Mark)) → HasTaken office rows marks → KeepsPromises office.table rows marks
-keeps_promises office rows marks taken =
-    subst (KeepsPromises office.table rows) (sym taken.chain)
+-- the marks that the chain gives of rows keep its promises
+pub chain_keeps_promises : (table : Table) → IsLawful table.limits → (rows : List LoopRow) (marks : List (On Mark))
+    → marks ≡ marks_of_rows table rows → KeepsPromises table rows marks
+chain_keeps_promises table lawful rows marks chain =
+    subst (KeepsPromises table rows) (sym chain)
     (record {
       chain = refl;
-      own_rows = λ l. marks_of_line office.table l rows;
-      never_back = λ l later. first-marks office.table taken.lawful rows l later;
-      whole = λ l closed. whole-marks office.table taken.lawful rows l closed;
-      prompt = λ l open_. open-marks office.table taken.lawful rows l open_;
-      lacking = λ l open_. lacking-marks office.table taken.lawful rows l open_;
+      own_rows = λ l. marks_of_line table l rows;
+      never_back = λ l later. first-marks table lawful rows l later;
+      whole = λ l closed. whole-marks table lawful rows l closed;
+      prompt = λ l open_. open-marks table lawful rows l open_;
+      lacking = λ l open_. lacking-marks table lawful rows l open_;
     })
+
+-- an office keeps its promises
+pub keeps_promises : (office : Office) (rows : List LoopRow) (marks : List (On Mark)) → HasTaken office rows marks → KeepsPromises office.table rows marks
+keeps_promises office rows marks taken = chain_keeps_promises office.table taken.lawful rows marks taken.chain

@@ -1,10 +1,9 @@
 -- How the entries of a line are written and counted, one after another.
-use Rattle.std.proofs.Common.{◌≡◌, ◌+◌, ℕ, List, [], ◌∷◌, ◌++◌, Bool, true, false, not, cond, refl, sym, ap, ◌∙◌, subst, append_assoc, arith}
+use Rattle.std.proofs.Common.{◌≡◌, ◌+◌, ℕ, List, [], ◌∷◌, ◌++◌, Bool, true, false, not, cond, refl, ap, ◌∙◌, subst, append_assoc, arith}
 use Rattle.std.proofs.lemmas.List.{append-nil}
-use Rattle.std.specs.Prelude.{Some, None, is_some, count_by}
+use Rattle.std.specs.Prelude.{count_by}
 use Rattle.std.proofs.lemmas.List.Sums.{sum_by-cons}
-use Rattle.xb_model.specs.declared.reason.Reason.{Reason}
-use Rattle.xb_model.specs.Page.{entries_text, entry_text, entry_text_by, is_keyed, is_refused, keyed_text, last_refusal, refused_text}
+use Rattle.xb_model.specs.Page.{entries_text, entry_text, is_keyed, is_refused}
 use Rattle.xb_model.specs.declared.mark.Mark.{Mark}
 
 -- what is written of a line's entries, and how many are counted, before those that are left
@@ -58,33 +57,28 @@ module _ {line : ℕ} {before : List ℕ} {entries here left : List (List Mark)}
 
   -- the entry is a keyed call
   pub IsWritten-keyed :
-      (out' : List ℕ) → last_refusal entry ≡ None → out' ≡ out ++ keyed_text line (keyed + refused + 1) entry
+      (out' : List ℕ) → is_refused entry ≡ false → out' ≡ out ++ entry_text line (keyed + refused + 1) entry
       → IsWritten line before entries out' (keyed + 1) refused left
-  IsWritten-keyed out' none more =
-      let n : ℕ = keyed + refused + 1 in
-      let number : keyed + 1 + refused + 1 ≡ n + 1 = omega arith in
-      let is_text : entry_text line n entry ≡ keyed_text line n entry = ap (entry_text_by line n entry) none in
+  IsWritten-keyed out' kept more =
+      let number : keyed + 1 + refused + 1 ≡ keyed + refused + 1 + 1 = omega arith in
       record {
         text =
             ap (λ n. out' ++ entries_text line n left) number
-            ∙ text-more line n out out' _ entry left written.text (more ∙ ap (λ text. out ++ text) (sym is_text));
-        keyed_are = count-more is_keyed entry left keyed _ (ap (λ r. not (is_some r)) none) written.keyed_are;
-        refused_are = count-same is_refused entry left refused _ (ap is_some none) written.refused_are;
+            ∙ text-more line (keyed + refused + 1) out out' _ entry left written.text more;
+        keyed_are = count-more is_keyed entry left keyed _ (ap not kept) written.keyed_are;
+        refused_are = count-same is_refused entry left refused _ kept written.refused_are;
       }
 
   -- the entry is a refused one
   pub IsWritten-refused :
-      (out' : List ℕ) (reason : Reason) (heard : ℕ) → last_refusal entry ≡ Some (reason, heard)
-      → out' ≡ out ++ refused_text line (keyed + refused + 1) reason heard
+      (out' : List ℕ) → is_refused entry ≡ true → out' ≡ out ++ entry_text line (keyed + refused + 1) entry
       → IsWritten line before entries out' keyed (refused + 1) left
-  IsWritten-refused out' reason heard some more =
-      let n : ℕ = keyed + refused + 1 in
-      let number : keyed + (refused + 1) + 1 ≡ n + 1 = omega arith in
-      let is_text : entry_text line n entry ≡ refused_text line n reason heard = ap (entry_text_by line n entry) some in
+  IsWritten-refused out' refuses more =
+      let number : keyed + (refused + 1) + 1 ≡ keyed + refused + 1 + 1 = omega arith in
       record {
         text =
             ap (λ n. out' ++ entries_text line n left) number
-            ∙ text-more line n out out' _ entry left written.text (more ∙ ap (λ text. out ++ text) (sym is_text));
-        keyed_are = count-same is_keyed entry left keyed _ (ap (λ r. not (is_some r)) some) written.keyed_are;
-        refused_are = count-more is_refused entry left refused _ (ap is_some some) written.refused_are;
+            ∙ text-more line (keyed + refused + 1) out out' _ entry left written.text more;
+        keyed_are = count-same is_keyed entry left keyed _ (ap not refuses) written.keyed_are;
+        refused_are = count-more is_refused entry left refused _ refuses written.refused_are;
       }

@@ -2,9 +2,10 @@
 use Rattle.std.proofs.Common.{◌≡◌, ◌++◌, ◌-◌, ℕ, List, replicate, length, decimal, ap, arith, codes, append_assoc}
 use Rattle.std.proofs.lemmas.List.{append-nil}
 use Rattle.std.specs.Fmt.{char_count, format_spec, padded_integral, styled_decimal}
-use Rattle.xb_model.specs.Page.{four_digits, keyed_text, marks_text, reason_text, refused_text}
+use Rattle.xb_model.specs.Page.{four_digits, keyed_text, mark_text, marks_text, reason_text, refused_text}
 use Rattle.xb_model.specs.declared.reason.Reason.{Reason}
 use Rattle.xb_model.specs.declared.mark.Mark.{Mark}
+use Rattle.xb_tape.specs.MarkLines.{mark_line, word_before}
 
 -- the hole writes four digits
 pub styled : (n : ℕ) → styled_decimal (format_spec 32 0 4 4 18446744073709551615) n ≡ four_digits n
@@ -26,3 +27,10 @@ pub keyed : (out out1 out2 out3 : List ℕ) (line n : ℕ) (entry : List Mark)
     → out2 ≡ out1 ++ marks_text entry → out3 ≡ out2 ++ codes "\n" → out3 ≡ out ++ keyed_text line n entry
 keyed out out1 out2 out3 line n entry head marks end =
     rw (end, marks, head, styled line) (simp append_assoc)
+
+-- the line of a mark, from its head on
+pub alone : (out out1 out2 out3 : List ℕ) (line n : ℕ) (mark : Mark)
+    → out1 ≡ out ++ (styled_decimal (format_spec 32 0 4 4 18446744073709551615) line ++ (codes " " ++ (decimal n ++ word_before mark)))
+    → out2 ≡ out1 ++ mark_text mark → out3 ≡ out2 ++ codes "\n" → out3 ≡ out ++ mark_line line n mark
+alone out out1 out2 out3 line n mark head text end =
+    rw (end, text, head, styled line) (simp append_assoc)

@@ -1,5 +1,5 @@
 -- How the tapes of all lines are written and counted, one after another.
-use Rattle.std.proofs.Common.{◌≡◌, ◌<◌, ◌+◌, ℕ, List, [], ◌∷◌, ◌++◌, length, drop, Bool, get_or, refl, sym, ap, ◌∙◌, arith, append_assoc, codes, decimal}
+use Rattle.std.proofs.Common.{◌≡◌, ◌<◌, ◌+◌, ℕ, List, [], ◌∷◌, ◌++◌, length, drop, Bool, get_or, refl, sym, ap, ◌∙◌, arith, append_assoc}
 use Rattle.std.specs.Prelude.{count_by}
 use Rattle.std.proofs.lemmas.List.Sums.{sum_by-cons}
 use Rattle.std.proofs.lemmas.List.{append-nil, drop_all, drop_more}
@@ -60,7 +60,3 @@ AreWritten-end {tapes} {out} {keyed} {refused} {n} written whole =
     let all_keyed : keyed ≡ count_entries is_keyed tapes = omega (arith, rw none at written.keyed_are) in
     let all_refused : refused ≡ count_entries is_refused tapes = omega (arith, rw none at written.refused_are) in
     rw (text, all_keyed, all_refused) refl
-
--- the line of the totals, as a format writes it
-pub totals : (k r : ℕ) → codes "KEYED " ++ (decimal k ++ (codes " REFUSED " ++ (decimal r ++ codes "\n"))) ≡ totals_text k r
-totals k r = simp append_assoc

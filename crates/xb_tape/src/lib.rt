@@ -6,6 +6,6 @@ mod printing;
 mod tapes;
 mod tapes_iter;
 
-pub use printing::page;
+pub use printing::{is_refused, page, write_entry, write_mark_line, write_totals};
 pub use tapes::Tapes;
 pub use tapes_iter::EachTape;

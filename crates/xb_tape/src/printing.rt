@@ -1,8 +1,9 @@
 // The page: one line for each entry of the tapes, and the totals.
 ghost use Rattle.std.specs.Prelude.{◌≡◌, ◌<◌, ◌^◌, ◌++◌, OnOk, IfOk, count_by, string_bytes};
-ghost use Rattle.xb_model.specs.Page.{mark_text, marks_text, reason_text, keyed_text, refused_text};
-ghost use Rattle.xb_model.specs.Page.{last_refusal, is_keyed, is_refused, tape_text, page_text};
+ghost use Rattle.xb_model.specs.Page.{mark_text, marks_text, reason_text, keyed_text, refused_text, entry_text};
+ghost use Rattle.xb_model.specs.Page.{last_refusal, is_keyed, is_refused, tape_text, totals_text, page_text};
 ghost use Rattle.xb_model.specs.Tapes.{entries_of};
+ghost use Rattle.xb_tape.specs.MarkLines.{mark_line, word_before};
 
 use crate::entries::entries;
 use crate::tapes::Tapes;
@@ -101,6 +102,73 @@ fn write_keyed(
     out.push_str("\n")
 }
 
+/// Whether an entry is a refused call: a refusal is its last mark.
+pub fn is_refused(entry: &[Mark]) -> bool
+    ensures { result ≡ is_refused entry.now }
+{
+    last_refusal(entry).is_some()
+}
+
+/// Writes entry `number` of a line, counted from 1, as the page has it: one printed line, ended by
+/// one LF.
+///
+/// On an `Err`, which says that memory ran out, some of it may have been written.
+pub fn write_entry(
+    out: &mut String,
+    line: LineNo,
+    number: usize,
+    entry: &[Mark],
+) -> Result<(), AllocError>
+    ensures { OnOk result (string_bytes out.new
+        ≡ string_bytes out.old ++ entry_text line number entry.now) }
+{
+    match last_refusal(entry) {
+        Some((reason, heard)) => write_refused(out, line, number, reason, heard),
+        None => write_keyed(out, line, number, entry),
+    }
+}
+
+// What stands before a mark that is printed by itself, and says what it begins.
+fn word_before(mark: &Mark) -> &'static str
+    ensures { result.now ≡ word_before mark.now }
+{
+    match mark {
+        Mark::Trunk(_) => " KEYED",
+        Mark::Tone(_, _) => "",
+        Mark::Refused(_, _) => " REFUSED",
+    }
+}
+
+/// Writes a mark of entry `number` of a line by itself: the line, the entry's number, and the mark as the
+/// page has it, as `0005 1 KEYED 0001`, `0005 1 KP:1100+1700` and `0008 1 REFUSED MUTILATED 1`, ended by
+/// one LF.
+///
+/// On an `Err`, which says that memory ran out, some of it may have been written.
+pub fn write_mark_line(
+    out: &mut String,
+    line: LineNo,
+    number: usize,
+    mark: &Mark,
+) -> Result<(), AllocError>
+    ensures { OnOk result (string_bytes out.new
+        ≡ string_bytes out.old ++ mark_line line number mark.now) }
+{
+    let line = line.get();
+    let word = word_before(mark);
+    write!(out, "{line:04} {number}{word}")?;
+    write_mark(out, mark)?;
+    out.push_str("\n")
+}
+
+/// Writes the last line of a page: how many entries are keyed, and how many refused.
+///
+/// On an `Err`, which says that memory ran out, some of it may have been written.
+pub fn write_totals(out: &mut String, keyed: u128, refused: u128) -> Result<(), AllocError>
+    ensures { OnOk result (string_bytes out.new ≡ string_bytes out.old ++ totals_text keyed refused) }
+{
+    write!(out, "KEYED {keyed} REFUSED {refused}\n")
+}
+
 // Writes the entries of a line, and counts them.
 fn write_tape(out: &mut String, line: LineNo, marks: &[Mark]) -> Result<Totals, AllocError>
     ensures text { OnOk result (string_bytes out.new ≡ string_bytes out.old ++ tape_text line marks.now) }
@@ -112,15 +180,11 @@ fn write_tape(out: &mut String, line: LineNo, marks: &[Mark]) -> Result<Totals, 
     let mut totals = Totals::default();
     for entry in entries(marks) {
         let number = totals.keyed + totals.refused + 1;
-        match last_refusal(entry) {
-            Some((reason, heard)) => {
-                write_refused(out, line, number, reason, heard)?;
-                totals.refused += 1;
-            }
-            None => {
-                write_keyed(out, line, number, entry)?;
-                totals.keyed += 1;
-            }
+        write_entry(out, line, number, entry)?;
+        if is_refused(entry) {
+            totals.refused += 1;
+        } else {
+            totals.keyed += 1;
         }
     }
     Ok(totals)
@@ -148,6 +212,6 @@ pub fn page(alloc: Global, tapes: &Tapes) -> Result<Vec<u8>, AllocError>
         keyed += totals.keyed as u128;
         refused += totals.refused as u128;
     }
-    write!(out, "KEYED {keyed} REFUSED {refused}\n")?;
+    write_totals(&mut out, keyed, refused)?;
     Ok(out.into_bytes())
 }

@@ -3,7 +3,7 @@ use Rattle.std.proofs.lemmas.List.{length_push}
 use Rattle.std.proofs.lemmas.List.FromFn.{length-enumerate_from}
 use Rattle.xb_model.specs.Page.{tape_text}
 use Rattle.xb_model.proofs.LineValues.{IsLeft-start, IsLeft-turn, IsLeft-end}
-use Rattle.xb_tape.proofs.PageLines.{AreWritten-start, AreWritten-more, AreWritten-end, totals}
+use Rattle.xb_tape.proofs.PageLines.{AreWritten-start, AreWritten-more, AreWritten-end}
 use Rattle.xb_tape.proofs.printing.page.Goals as goal
 
 pub loop-line-init : goal.loop-line-init
@@ -41,6 +41,5 @@ pub returns : goal.returns
 returns c =
     let whole = IsLeft-end c.args.tapes.now _ _ c.loop-line.invariant.left c.in-None.ensures.steps.0 in
     ap (λ v. v.items) c.into_bytes.ensures.value
-    ∙ c.in_ok-write.ensures.bytes
-    ∙ ap (λ text. string_bytes c.loop-line.out ++ text) (totals c.loop-line.keyed c.loop-line.refused)
+    ∙ c.in_ok-write_totals.ensures
     ∙ AreWritten-end c.loop-line.invariant.written whole

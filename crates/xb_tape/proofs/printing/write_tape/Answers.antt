@@ -16,15 +16,15 @@ loop-entry-init c =
       written = rw (same, c.default-totals.ensures.0, c.default-totals.ensures.1) (IsWritten-start _ _ _);
     }
 
-pub loop-entry-preserved-in-Some-last_refusal : goal.loop-entry-preserved-in-Some-last_refusal
-loop-entry-preserved-in-Some-last_refusal c =
+pub loop-entry-preserved-then-is_refused : goal.loop-entry-preserved-then-is_refused
+loop-entry-preserved-then-is_refused c =
     record {
       can = tt;
       finite = tt;
       few = omega (arith, ap length c.in-Some.ensures.steps, c.loop-entry.invariant.few);
       written =
-          IsWritten-refused c.loop-entry.invariant.written c.in-Some.ensures.steps _ _ _
-          (sym c.last_refusal.ensures ∙ c.in-Some-last_refusal.is) c.in_ok-write_refused-in-Some-last_refusal.ensures;
+          IsWritten-refused c.loop-entry.invariant.written c.in-Some.ensures.steps _
+          (sym c.is_refused.ensures ∙ c.if-is_refused.true) c.in_ok-write_entry.ensures;
     }
 
 pub loop-entry-preserved : goal.loop-entry-preserved
@@ -35,7 +35,7 @@ loop-entry-preserved c =
       few = omega (arith, ap length c.in-Some.ensures.steps, c.loop-entry.invariant.few);
       written =
           IsWritten-keyed c.loop-entry.invariant.written c.in-Some.ensures.steps _
-          (sym c.last_refusal.ensures ∙ c.in-None-last_refusal.is) c.in_ok-write_keyed-in-None-last_refusal.ensures;
+          (sym c.is_refused.ensures ∙ c.if-is_refused.false) c.in_ok-write_entry.ensures;
     }
 
 pub returns-clause-text : goal.returns-clause-text

@@ -1,0 +1,7 @@
+//! Entries of a live office, as they are printed.
+//!
+//! Tests alone.
+#![tactic(auto)]
+
+#[cfg(test)]
+mod printed;

@@ -1,0 +1,94 @@
+// What is printed of a line's rows.
+use std::alloc::Global;
+use std::test::Fail;
+use xb_entries::{Counting, Form, end, take_row};
+use xb_model::{Contact, LineNo, Row};
+use xb_routes::RouteTable;
+
+// Numbers that begin with 0 go to trunk group 1.
+const TABLE: &[u8] = b"[[route]]\ncode = \"0\"\ntrunk = 1\n";
+
+// What line 7 does: it is seized, dials 0, hangs up, and is seized again.
+const RUNS: [(Contact, u32); 24] = [
+    (Contact::Make, 500),
+    (Contact::Brk, 60),
+    (Contact::Make, 40),
+    (Contact::Brk, 60),
+    (Contact::Make, 40),
+    (Contact::Brk, 60),
+    (Contact::Make, 40),
+    (Contact::Brk, 60),
+    (Contact::Make, 40),
+    (Contact::Brk, 60),
+    (Contact::Make, 40),
+    (Contact::Brk, 60),
+    (Contact::Make, 40),
+    (Contact::Brk, 60),
+    (Contact::Make, 40),
+    (Contact::Brk, 60),
+    (Contact::Make, 40),
+    (Contact::Brk, 60),
+    (Contact::Make, 40),
+    (Contact::Brk, 60),
+    (Contact::Make, 100),
+    (Contact::Make, 80),
+    (Contact::Brk, 400),
+    (Contact::Make, 500),
+];
+
+// A row of line 7.
+fn row_of(contact: Contact, ms: u32) -> Result<Row, Fail> {
+    let line = LineNo::new(7).ok_or("a line")?;
+    Ok(Row::new(line, contact, ms).ok_or("a row")?)
+}
+
+// An office by the table.
+fn office_of_table(alloc: Global) -> Result<Counting, Fail> {
+    let table = RouteTable::read(alloc, TABLE)?;
+    Ok(Counting::new(alloc, table)?)
+}
+
+// Takes a row, while few entries were counted.
+fn take(
+    alloc: Global,
+    form: Form,
+    office: &mut Counting,
+    row: Row,
+    out: &mut Vec<u8>,
+) -> Result<(), Fail> {
+    if office.keyed() < 1000 && office.refused() < 1000 {
+        take_row(alloc, form, office, row, out)?;
+    }
+    Ok(())
+}
+
+// What is printed of the runs of line 7, and of their end.
+fn printed(alloc: Global, form: Form) -> Result<Vec<u8>, Fail> {
+    let mut office = office_of_table(alloc)?;
+    let mut out = Vec::new(alloc);
+    for (contact, ms) in &RUNS {
+        take(alloc, form, &mut office, row_of(*contact, *ms)?, &mut out)?;
+    }
+    if office.keyed() < 1000 && office.refused() < 1000 {
+        end(alloc, form, &mut office, &mut out)?;
+    }
+    Ok(out)
+}
+
+#[test]
+fn entries_are_printed_as_on_the_page(rt: HostRuntime) -> Result<(), Fail> {
+    let out = printed(rt.alloc(), Form::Entries)?;
+    let wanted = b"0007 1 KEYED 0001 KP:1100+1700 0:1300+1500 ST:1500+1700\n\
+0007 2 REFUSED ABANDONED 0\nKEYED 1 REFUSED 1\n";
+    assert_eq!(rt; out.as_slice(), wanted.as_slice());
+    Ok(())
+}
+
+#[test]
+fn marks_are_printed_each_by_itself(rt: HostRuntime) -> Result<(), Fail> {
+    let out = printed(rt.alloc(), Form::Marks)?;
+    let wanted = b"0007 1 KEYED 0001\n0007 1 KP:1100+1700\n0007 1 0:1300+1500\n\
+0007 1 ST:1500+1700\n0007 2 REFUSED ABANDONED 0\nKEYED 1 REFUSED 1\n";
+    assert_eq!(rt; out.as_slice(), wanted.as_slice());
+    Ok(())
+}

@@ -1,0 +1,4 @@
+pub mod Completed
+pub mod Numbers
+pub mod Counts
+pub mod Written

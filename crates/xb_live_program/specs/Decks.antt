@@ -1,0 +1,14 @@
+-- A deck that is read as it comes: its route table, and then its rows.
+use Rattle.std.specs.Prelude.{ℕ, ◌≡◌, ◌-◌, ◌^◌, List, Some, Ok}
+use Rattle.xb_model.specs.Sources.{Rest}
+use Rattle.xb_deck.specs.Deck.{Parts, deck_parts}
+use Rattle.xb_routes.specs.Table.{Table}
+use Rattle.xb_routes.specs.Text.{table_of_text}
+use Rattle.xb_rows.specs.RowTexts.{rest_within}
+
+-- a deck has this table, and these rows with a stop after them; there may be any number of records
+pub record Has (deck : List ℕ) (table : Table) (rest : Rest) : Type 0 where
+  pub parts : Parts
+  pub cut : deck_parts deck ≡ Some parts
+  pub reads : table_of_text parts.table ≡ Ok table
+  pub is : rest ≡ rest_within (2 ^ 64 - 1) parts.rows
