@@ -2,3 +2,4 @@ pub mod JoinedRuns
 pub mod RemainingSignals
 pub mod Steps
 pub mod Hearing
+pub mod PlainStates

@@ -1,4 +1,5 @@
 pub mod Counters
+pub mod Plain
 pub mod Laws
 pub mod Machine
 pub mod Outputs

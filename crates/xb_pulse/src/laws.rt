@@ -2,6 +2,7 @@
 ghost use Rattle.xb_model.specs.declared.limits.Limits.{Limits};
 ghost use Rattle.xb_pulse.specs.Laws.{HearsTheRecord, HearsTheRecordOfEach, HearsSoFar, HearsSoFarOfEach};
 ghost use Rattle.xb_pulse.specs.Machine.{machine};
+ghost use Rattle.xb_pulse.specs.Plain.{StatesComeBack};
 
 /// What is sent for the rows of a line whose record is closed are the record's signals, however
 /// its runs are cut into rows, and whatever rows of other lines stand between. Rows after the
@@ -16,4 +17,9 @@ pub fn hears_the_record()
 pub fn hears_so_far()
     ensures one_line { (limits : Limits) → HearsSoFar limits (machine limits) }
     ensures all_lines { (limits : Limits) → HearsSoFarOfEach limits (machine limits) }
+{}
+
+/// Each state comes back from its plain numbers.
+pub fn states_come_back()
+    ensures { StatesComeBack }
 {}

@@ -3,9 +3,12 @@
 #![tactic(auto)]
 
 pub mod laws;
+mod plain;
 mod pulse;
 mod state;
 mod step;
 
+pub use plain::PlainPulse;
 pub use pulse::Pulse;
 pub use state::PulseState;
+pub use step::MOST_SIGNALS;

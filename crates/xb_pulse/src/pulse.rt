@@ -5,10 +5,12 @@ ghost use Rattle.xb_pulse.specs.Counters.{IsWithin};
 ghost use Rattle.xb_pulse.specs.Laws.{HearsTheRecord, HearsTheRecordOfEach, HearsSoFar, HearsSoFarOfEach};
 ghost use Rattle.xb_pulse.specs.Machine.{machine, longer, with_break, with_make, judge_timeout, judge_pause};
 ghost use Rattle.xb_pulse.specs.Machine.{take_make, lengthen_break, judge_release, take_close, take_row};
+ghost use Rattle.xb_pulse.specs.Machine.{phase_after, signals_by};
 ghost use Rattle.xb_pulse.specs.Outputs.{outs_on_line};
 
 use crate::state::{Phase, PulseState, Tally};
 use crate::step::{MOST_SIGNALS, Step};
+use arrayvec::ArrayVec;
 use std::marker::Model;
 use xb_model::{Contact, GREATEST_LIMIT, Limits, MANY_BREAKS, On, Row, Signal};
 use xb_stage::{LineStage, send};
@@ -183,6 +185,17 @@ impl Pulse {
             Contact::Make | Contact::Brk => Step::enter(phase),
             Contact::Close => take_close(phase),
         }
+    }
+
+    /// Takes one row with its line's state, which then is the state for the line's next row, and
+    /// returns the signals that it sends. It is what `step` does, for a caller without lists.
+    pub fn take(&self, state: &mut PulseState, row: Row) -> ArrayVec<Signal, MOST_SIGNALS>
+        ensures state { state.new ≡ phase_after self.now state.old row }
+        ensures sent { result.items ≡ signals_by self.now state.old row }
+    {
+        let Step { sent, phase } = self.take_row(state.phase(), row.contact(), row.ms());
+        *state = PulseState::at(phase);
+        sent
     }
 }
 

@@ -7,8 +7,8 @@ use crate::state::Phase;
 use arrayvec::ArrayVec;
 use xb_model::Signal;
 
-// The most signals of one row.
-pub(crate) const MOST_SIGNALS: usize = 2;
+/// The most signals that one row sends.
+pub const MOST_SIGNALS: usize = 2;
 
 // What a row sends on its line, and the phase after it.
 #[derive(Drop)]

@@ -3,3 +3,4 @@ pub mod Outcomes
 pub mod Pending
 pub mod Attempts
 pub mod AtMost
+pub mod PlainStates

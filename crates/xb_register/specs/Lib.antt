@@ -1,4 +1,5 @@
 pub mod Stored
 pub mod Phases
+pub mod Plain
 pub mod Machine
 pub mod Laws

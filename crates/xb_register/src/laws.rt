@@ -3,6 +3,7 @@
 ghost use Rattle.xb_model.specs.declared.plan.Plan.{Plan};
 ghost use Rattle.xb_register.specs.Laws.{GivesOutcomes, EachSeizureGivesAtMostOne, GivesNoMoreThanSeizures, GivesNoneBeforeASeizure};
 ghost use Rattle.xb_register.specs.Machine.{machine};
+ghost use Rattle.xb_register.specs.Plain.{StatesComeBack};
 
 /// The signals of a record give one outcome for each of its attempts, in order, on the line.
 pub fn gives_outcomes()
@@ -20,4 +21,9 @@ pub fn gives_at_most_one()
 /// what comes after.
 pub fn gives_none_before_a_seizure()
     ensures { (plan : Plan) → GivesNoneBeforeASeizure (machine plan) }
+{}
+
+/// Each state comes back from its plain values.
+pub fn states_come_back()
+    ensures { StatesComeBack }
 {}

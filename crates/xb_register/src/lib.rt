@@ -2,10 +2,12 @@
 #![tactic(auto)]
 
 pub mod laws;
+mod plain;
 mod register;
 mod state;
 mod step;
 mod stored;
 
+pub use plain::PlainRegister;
 pub use register::Register;
 pub use state::RegisterState;

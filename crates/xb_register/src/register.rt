@@ -2,10 +2,11 @@
 ghost use Rattle.std.specs.Prelude.{◌≡◌, ◌<◌, length};
 ghost use Rattle.xb_model.specs.Plans.{plan_len};
 ghost use Rattle.xb_model.specs.TwoOfFive.{digit_of_pattern};
+ghost use Rattle.std.specs.Option.{option_to_list};
 ghost use Rattle.xb_stage.specs.OnLines.{all_on};
 ghost use Rattle.xb_register.specs.Laws.{GivesOutcomes, EachSeizureGivesAtMostOne, GivesNoMoreThanSeizures, GivesNoneBeforeASeizure};
 ghost use Rattle.xb_register.specs.Phases.{HasRoom};
-ghost use Rattle.xb_register.specs.Machine.{advance, listen, store, reaches, outcomes_by, machine};
+ghost use Rattle.xb_register.specs.Machine.{advance, listen, store, reaches, outcomes_by, phase_after, machine};
 
 use crate::state::{Phase, RegisterState};
 use crate::step::Step;
@@ -103,6 +104,18 @@ impl Register {
         ensures none_before { GivesNoneBeforeASeizure (⟦<Register as LineStage>⟧.machine result) }
     {
         Register { plan }
+    }
+
+    /// Takes one signal with its line's state, which then is the state for the line's next signal,
+    /// and returns the outcome that it brings, if it does. It is what `step` does, for a caller
+    /// without lists.
+    pub fn take(&self, state: &mut RegisterState, signal: Signal) -> Option<Dialled>
+        ensures state { state.new ≡ phase_after self.now state.old signal }
+        ensures outcome { option_to_list result ≡ outcomes_by self.now state.old signal }
+    {
+        let Step { outcome, phase } = advance(self.plan, state.take(), signal);
+        state.put(phase);
+        outcome
     }
 }
 

@@ -21,7 +21,7 @@ pub(crate) enum Phase {
 /// nothing is heard until release or close.
 #[derive(Drop)]
 pub struct RegisterState {
-    phase: Phase,
+    pub(crate) phase: Phase,
 }
 
 impl Model for RegisterState {
@@ -43,6 +43,14 @@ impl RegisterState {
         RegisterState {
             phase: Phase::OnHook,
         }
+    }
+
+    /// A line in this phase.
+    pub(crate) fn at(phase: Phase) -> RegisterState
+        requires { HasRoom phase }
+        ensures { result ≡ phase }
+    {
+        RegisterState { phase }
     }
 
     /// Takes the phase out; the line is then on-hook.

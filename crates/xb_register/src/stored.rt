@@ -1,12 +1,12 @@
 // The digits of an attempt, kept as two-out-of-five patterns.
-ghost use Rattle.std.specs.Prelude.{◌≡◌, ◌<◌, ◌≤◌, [], ◌++◌, length, IsTrue, is_some};
+ghost use Rattle.std.specs.Prelude.{◌≡◌, ◌<◌, ◌≤◌, [], ◌++◌, length, IsTrue, is_some, Some};
 ghost use Rattle.std.specs.Option.{option_to_list};
 ghost use Rattle.xb_model.specs.TwoOfFive.{digit_of_pattern};
 ghost use Rattle.xb_register.specs.Stored.{digits_of};
 
 use arrayvec::ArrayVec;
 use std::marker::Model;
-use xb_model::{NUMBER_DIGITS, NumberDigits, Relays};
+use xb_model::{Digit, MOST_PULSES, NUMBER_DIGITS, NumberDigits, Relays};
 
 // The digits that patterns stand for.
 fn digits_of(patterns: &[Relays]) -> NumberDigits
@@ -20,6 +20,18 @@ fn digits_of(patterns: &[Relays]) -> NumberDigits
         }
     }
     digits
+}
+
+// The pattern of a digit.
+fn pattern_of(digit: Digit) -> Relays
+    ensures { digit_of_pattern result ≡ Some digit }
+{
+    let pulses = if digit.get() == 0 {
+        MOST_PULSES
+    } else {
+        digit.get()
+    };
+    Relays::of_count(pulses, false)
 }
 
 /// The digits of an attempt, each kept as the pattern of its five elements.
@@ -48,6 +60,18 @@ impl StoredDigits {
         StoredDigits {
             patterns: ArrayVec::new(),
         }
+    }
+
+    /// These digits.
+    pub(crate) fn of(digits: &[Digit]) -> StoredDigits
+        requires { length digits.now ≤ NUMBER_DIGITS }
+        ensures { result ≡ digits.now }
+    {
+        let mut stored = StoredDigits::new();
+        for digit in digits {
+            stored.push(pattern_of(*digit));
+        }
+        stored
     }
 
     /// How many digits are stored.

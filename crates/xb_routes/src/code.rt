@@ -10,10 +10,10 @@ use xb_model::{
 };
 
 /// The most digits of a code.
-pub(crate) const CODE_DIGITS: usize = 6;
+pub const CODE_DIGITS: usize = 6;
 
 /// How many digits a code has, the greatest number first.
-pub(crate) const CODE_LENGTHS: [usize; 3] = [CODE_DIGITS, 3, 1];
+pub const CODE_LENGTHS: [usize; 3] = [CODE_DIGITS, 3, 1];
 
 /// A code of a route: digits that numbers begin with.
 #[derive(Drop)]

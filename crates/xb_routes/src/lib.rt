@@ -29,7 +29,9 @@ mod routes;
 mod table;
 mod translate;
 
+pub use code::{CODE_DIGITS, CODE_LENGTHS};
 pub use fault::RouteFault;
-pub use route::Route;
+pub use route::{Entry, Route};
+pub use routes::code_number;
 pub use table::{MOST_ROUTES, RouteTable};
-pub use translate::Translate;
+pub use translate::{Translate, keyed};

@@ -5,12 +5,13 @@ ghost use Rattle.toml.specs.View.{view};
 ghost use Rattle.xb_routes.specs.Keys.{keys_of};
 ghost use Rattle.xb_routes.specs.Text.{deleted_of, route_of, trunk_of};
 ghost use Rattle.xb_routes.specs.Coded.{coded};
+ghost use Rattle.xb_routes.specs.Codes.{IsCodeLength};
 
 use crate::code::{Code, code_of, number_length, prefixed_of};
 use crate::fault::RouteFault;
 use crate::keys::keys_of;
 use toml::Value;
-use xb_model::{Plan, PrefixDigits, Trunk};
+use xb_model::{Digit, Plan, PrefixDigits, Trunk};
 
 /// What becomes of a number.
 #[derive(Drop)]
@@ -25,11 +26,21 @@ pub struct Route {
 
 /// A route with its code.
 #[derive(Drop)]
-pub(crate) struct Entry {
+pub struct Entry {
     /// The code of the numbers that take it.
     pub(crate) code: Code,
     /// What becomes of them.
-    pub(crate) route: Route,
+    pub route: Route,
+}
+
+impl Entry {
+    /// The digits of its code.
+    pub fn code(&self) -> &[Digit]
+        ensures value { result.now ≡ self.now.code }
+        ensures length { IsCodeLength (length self.now.code) }
+    {
+        self.code.digits()
+    }
 }
 
 fn trunk_of(number: i64) -> Option<Trunk>

@@ -1,5 +1,5 @@
 // The routes of a table, and the look-up of the one that a number takes.
-ghost use Rattle.std.specs.Prelude.{◌≡◌, ◌≤◌, [], ◌∷◌, ◌++◌, IfOk, false, length, option_copied, option_map};
+ghost use Rattle.std.specs.Prelude.{◌≡◌, ◌≤◌, [], ◌∷◌, ◌++◌, IfOk, false, length, map, option_copied, option_map};
 ghost use Rattle.std.specs.List.{list_any};
 ghost use Rattle.xb_model.specs.Routing.{route_for};
 ghost use Rattle.xb_routes.specs.Codes.{AreDigits};
@@ -37,8 +37,8 @@ impl Model for Routes {
     ghost invariant = { λ routes. IsIndex routes.places (map coded routes.entries.items) };
 }
 
-// The decimal number that 1 and then the digits of a code write: no two codes have the same.
-fn code_number(digits: &[Digit]) -> u32
+/// The decimal number that 1 and then the digits of a code write: no two codes have the same.
+pub fn code_number(digits: &[Digit]) -> u32
     requires { length digits.now ≤ CODE_DIGITS }
     ensures number { result ≡ code_number digits.now }
     ensures digits { AreDigits digits.now }
@@ -78,6 +78,13 @@ impl Routes {
         self.places.insert(number, self.entries.len())?;
         self.entries.push_reserved(entry);
         Ok(())
+    }
+
+    /// The routes, in order.
+    pub(crate) fn entries(&self) -> &[Entry]
+        ensures { map coded result.now ≡ self.now }
+    {
+        &self.entries
     }
 
     // Where the route stands whose code is the first digits, as many as the length.

@@ -1,12 +1,12 @@
 // The route table.
 ghost use Rattle.std.specs.Prelude.{◌≡◌, ◌≢◌, ◌≤◌, [], None, Some, Ok, Err, IfOk, IfErr};
-ghost use Rattle.std.specs.Prelude.{codes, length, nat_lt, option_map, option_copied};
+ghost use Rattle.std.specs.Prelude.{codes, length, map, nat_lt, option_map, option_copied};
 ghost use Rattle.std.specs.Result.{result_map_both};
 ghost use Rattle.toml.specs.Data.{get_member};
 ghost use Rattle.toml.specs.View.{items_view, table_view};
 ghost use Rattle.xb_model.specs.LawfulLimits.{IsLawful};
 ghost use Rattle.xb_model.specs.Routing.{route_for};
-ghost use Rattle.xb_routes.specs.Coded.{uncoded};
+ghost use Rattle.xb_routes.specs.Coded.{coded, uncoded};
 ghost use Rattle.xb_routes.specs.Text.{route_items, routes_from, routes_of_array, routes_of_key};
 ghost use Rattle.xb_routes.specs.Text.{table_of_text, tree_of};
 ghost use Rattle.xb_routes.specs.declared.fault.RouteFault.TheVariants.{NoMemory, NotToml};
@@ -14,7 +14,7 @@ ghost use Rattle.xb_routes.specs.declared.fault.RouteFault.TheVariants.{NoMemory
 use crate::fault::RouteFault;
 use crate::keys::value_at;
 use crate::limits::{limits_of, plan_of};
-use crate::route::{Route, route_of};
+use crate::route::{Entry, Route, route_of};
 use crate::routes::Routes;
 use std::alloc::Global;
 use std::marker::Model;
@@ -151,6 +151,13 @@ impl RouteTable {
         ensures { option_copied result ≡ option_map uncoded (route_for self.now.routes digits.now) }
     {
         self.routes.look(digits)
+    }
+
+    /// The routes with their codes, in the order of the text.
+    pub fn entries(&self) -> &[Entry]
+        ensures { map coded result.now ≡ self.now.routes }
+    {
+        self.routes.entries()
     }
 
     /// How long numbers are.

@@ -56,8 +56,8 @@ fn append(keyed: &mut KeyDigits, digits: &[Digit])
     }
 }
 
-// The digits that are keyed: those of the prefix, then those of the number that are not deleted.
-fn keyed(prefixed: &PrefixDigits, deleted: u8, digits: &[Digit]) -> KeyDigits
+/// The digits that are keyed: those of the prefix, then those of the number that are not deleted.
+pub fn keyed(prefixed: &PrefixDigits, deleted: u8, digits: &[Digit]) -> KeyDigits
     requires { length digits.now ≤ NUMBER_DIGITS }
     ensures { result ≡ prefixed.now ++ drop deleted digits.now }
 {

@@ -1,0 +1,168 @@
+/* The dialling chain of a No. 5 Crossbar office, one row at a time, in the caller's own memory.
+
+   The library keeps nothing between two calls, starts no thread and, but for mf_open, takes no memory. Calls
+   on different lines may be made at the same time, by one table or several.
+
+   What the caller owes, since no C library can test it: a pointer that is not null points to an object of its
+   type, or to as many as the length beside it says, and what a call writes overlaps nothing else that the call
+   is given. What the bytes there say is all the same: any bytes are some table, or none that was opened, and
+   any bytes are some line. */
+#ifndef MFCHAIN_H
+#define MFCHAIN_H
+
+#include <stddef.h>
+#include <stdint.h>
+
+#ifdef __cplusplus
+extern "C" {
+#endif
+
+/* The lines are 0 to 9999. */
+#define MF_LINES 10000
+
+/* The longest time of a row, in ms: a day. */
+#define MF_MOST_MS 86400000
+
+/* The most marks that one row gives: room for so many is always enough. */
+#define MF_MOST_MARKS 24
+
+/* The most routes of a table. */
+#define MF_MOST_ROUTES 1000
+
+/* Room for the text of any fault of a table. */
+#define MF_FAULT_ROOM 64
+
+/* What a call returns. On any status but MF_DONE nothing was done. */
+enum mf_status {
+    MF_DONE = 0,
+    MF_NO_MEMORY = 1,       /* memory ran out (mf_open alone) */
+    MF_NULL = 2,            /* a pointer is null */
+    MF_NOT_OPENED = 3,      /* the table is none that mf_open wrote */
+    MF_WRONG_LINE = 4,      /* the line is over 9999 */
+    MF_WRONG_STATE = 5,     /* the state is none of MF_MAKE, MF_BREAK and MF_CLOSE */
+    MF_WRONG_MS = 6,        /* the time is over a day, or a close has one */
+    MF_NO_ROOM = 7,         /* the row gives more marks than there is room for */
+    /* of a table's text; the text of the fault says of which limit or route */
+    MF_NOT_TOML = 8,        /* it is not TOML */
+    MF_WRONG_PLAN = 9,      /* `plan` is neither 7 nor 10 */
+    MF_WRONG_LIMIT = 10,    /* a limit is wrong */
+    MF_MANY_ROUTES = 11,    /* it has more than 1,000 routes */
+    MF_WRONG_SHAPE = 12,    /* a route lacks a key, or has one of another kind */
+    MF_WRONG_CODE = 13,     /* the code of a route is none */
+    MF_WRONG_TRUNK = 14,    /* the trunk group of a route is not 0 to 9999 */
+    MF_WRONG_DELETE = 15,   /* a route deletes more digits than its numbers have */
+    MF_WRONG_PREFIX = 16,   /* the prefix of a route is not 0 to 8 digits */
+    MF_NOTHING_TO_KEY = 17, /* a route deletes all digits and has no prefix */
+    MF_CODE_TWICE = 18      /* two routes have the same code */
+};
+
+/* What the loop of a line does. */
+enum mf_state {
+    MF_MAKE = 'M',  /* it is closed */
+    MF_BREAK = 'B', /* it is open */
+    MF_CLOSE = 'C'  /* the line's record ends */
+};
+
+/* A row: the line, what its loop does, and for how many ms (0 in a close). */
+typedef struct {
+    uint32_t line, state, ms;
+} mf_row;
+
+/* What a mark is. */
+enum mf_kind {
+    MF_TRUNK = 0,     /* begins an entry: `value` is the trunk group */
+    MF_DIGIT = 1,     /* `value` is the digit */
+    MF_KP = 2,        /* comes before the digits */
+    MF_ST = 3,        /* comes after them, and ends the entry */
+    MF_MUTILATED = 4, /* an entry by itself, a refusal: a digit was spoiled; `value` counts those before it */
+    MF_UNKNOWN = 5,   /* a refusal: no route has the number; `value` is the length of the number */
+    MF_ABANDONED = 6, /* a refusal: the line hung up, or its record ended; `value` counts the digits */
+    MF_TIMED_OUT = 7  /* a refusal: a make reached the time-out; `value` counts the digits */
+};
+
+/* A mark on a line. `low` and `high` are the two tones of a digit, of KP or of ST in Hz, and else 0. */
+typedef struct {
+    uint32_t line, kind, value, low, high;
+} mf_mark;
+
+/* What is known of a line from its rows so far. All zeros is a line before its first row. What the fields
+   are, a caller need not know. */
+typedef struct {
+    uint32_t entries, total;
+    uint8_t phase, breaks, bad, unused;
+    uint8_t attempt, count, digits[10];
+} mf_line;
+
+/* A route of a table, and a table: written by mf_open alone. All zeros is a table that was not opened. */
+typedef struct {
+    uint32_t code;
+    uint16_t trunk;
+    uint8_t deleted, length, prefix[8];
+} mf_route;
+
+typedef struct {
+    uint32_t plan, pulse_min, pulse_max, make_min, pause, release, timeout, count;
+    mf_route routes[MF_MOST_ROUTES];
+} mf_table;
+
+/* The library's own entries: no pointer may be null, not even where its length is 0. */
+uint32_t mfchain_open(const uint8_t *text, size_t text_len, mf_table *table, uint8_t *fault, size_t fault_len);
+uint32_t mfchain_take(const mf_table *table, mf_line *line, const mf_row *row, mf_mark *room, size_t room_len,
+                      size_t *count);
+uint32_t mfchain_close(const mf_table *table, mf_line *line, uint32_t number, mf_mark *room, size_t room_len,
+                       size_t *count);
+void mfchain_reopen(mf_line *line);
+uint32_t mfchain_entries(const mf_line *line);
+
+/* Reads the route table that a TOML text of `len` bytes writes. Where it is refused, `fault` gets the reason, a
+   text that ends with a zero and is cut to `fault_len` bytes, and the table is as it was. */
+static inline enum mf_status mf_open(const char *text, size_t len, mf_table *table, char *fault, size_t fault_len)
+{
+    if (!text || !table || !fault)
+        return MF_NULL;
+    return (enum mf_status)mfchain_open((const uint8_t *)text, len, table, (uint8_t *)fault, fault_len);
+}
+
+/* Takes one row: `line` is what is known of the row's line, and `marks` has room for `room` marks. On MF_DONE
+   the first *count of them are those that the row makes certain: one whole entry, or none. On any other status
+   the line and the marks are as they were; *count is then 0. */
+static inline enum mf_status mf_take(const mf_table *table, mf_line *line, const mf_row *row, mf_mark *marks,
+                                     size_t room, size_t *count)
+{
+    if (!table || !line || !row || !marks || !count)
+        return MF_NULL;
+    return (enum mf_status)mfchain_take(table, line, row, marks, room, count);
+}
+
+/* Ends the record of a line, as the row MF_CLOSE does: after it the line gives no more until it is reopened. */
+static inline enum mf_status mf_close(const mf_table *table, mf_line *line, uint32_t number, mf_mark *marks,
+                                      size_t room, size_t *count)
+{
+    if (!table || !line || !marks || !count)
+        return MF_NULL;
+    return (enum mf_status)mfchain_close(table, line, number, marks, room, count);
+}
+
+/* Forgets what is known of a line: its next row begins a new record. */
+static inline enum mf_status mf_reopen(mf_line *line)
+{
+    if (!line)
+        return MF_NULL;
+    mfchain_reopen(line);
+    return MF_DONE;
+}
+
+/* Counts the entries that the rows of a line have given since it was fresh. */
+static inline enum mf_status mf_entries(const mf_line *line, uint32_t *entries)
+{
+    if (!line || !entries)
+        return MF_NULL;
+    *entries = mfchain_entries(line);
+    return MF_DONE;
+}
+
+#ifdef __cplusplus
+}
+#endif
+
+#endif

@@ -1,0 +1,9 @@
+pub mod Digits
+pub mod Rows
+pub mod Lines
+pub mod Marks
+pub mod Routes
+pub mod Tables
+pub mod Opening
+pub mod Taking
+pub mod Promises

@@ -1,0 +1,29 @@
+/* Prints entries as a page has them. */
+#ifndef SHOW_H
+#define SHOW_H
+
+#include "mfchain.h"
+#include <stdio.h>
+
+/* Prints the marks of one entry, the entry of this number on its line. */
+static inline void show_entry(const mf_mark *marks, size_t count, uint32_t number)
+{
+    static const char *const reasons[] = {"MUTILATED", "UNKNOWN", "ABANDONED", "TIMEDOUT"};
+    const mf_mark *first = marks;
+    printf("%04u %u", (unsigned)first->line, (unsigned)number);
+    if (first->kind >= MF_MUTILATED) {
+        printf(" REFUSED %s %u\n", reasons[first->kind - MF_MUTILATED], (unsigned)first->value);
+        return;
+    }
+    printf(" KEYED %04u", (unsigned)first->value);
+    for (size_t i = 1; i < count; i++) {
+        if (marks[i].kind == MF_DIGIT)
+            printf(" %u", (unsigned)marks[i].value);
+        else
+            printf(marks[i].kind == MF_KP ? " KP" : " ST");
+        printf(":%u+%u", (unsigned)marks[i].low, (unsigned)marks[i].high);
+    }
+    putchar('\n');
+}
+
+#endif

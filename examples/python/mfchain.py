@@ -1,0 +1,158 @@
+"""The dialling chain of a No. 5 Crossbar office, one row at a time, by its C library.
+
+An `Office` takes what the loops of its lines do, and yields each mark the moment it is certain:
+
+    office = Office(table_text, "libmfchain.so")
+    for mark in office.take(7, "M", 500):
+        print(mark)
+
+Needs Python 3.8 and no package. The shared object is made by `make` in examples/c.
+"""
+import ctypes
+from typing import Iterator, NamedTuple
+
+LINES = 10000
+MOST_MARKS = 24
+MOST_ROUTES = 1000
+FAULT_ROOM = 64
+
+KINDS = ("TRUNK", "DIGIT", "KP", "ST", "MUTILATED", "UNKNOWN", "ABANDONED", "TIMEDOUT")
+"""What a mark is, by its number in C. The last four are refusals, each an entry by itself."""
+
+NO_MEMORY, NOT_OPENED, WRONG_LINE, WRONG_STATE, WRONG_MS, NO_ROOM = 1, 3, 4, 5, 6, 7
+
+
+class TableError(ValueError):
+    """A route table is refused: `status` is the number of its fault, and the text says which it is."""
+
+    def __init__(self, status: int, text: str):
+        super().__init__(text)
+        self.status = status
+
+
+class RowError(ValueError):
+    """A row is refused, and what is known of its line is as it was: `status` says which part is wrong."""
+
+    TEXTS = {
+        NOT_OPENED: "a table that was not opened",
+        WRONG_LINE: "a line is 0 to 9999",
+        WRONG_STATE: "a state is M, B or C",
+        WRONG_MS: "a time is 0 to 86400000 ms, and 0 for C",
+        NO_ROOM: "the row gives more marks than there is room for",
+    }
+
+    def __init__(self, status: int):
+        super().__init__(self.TEXTS[status])
+        self.status = status
+
+
+class Mark(NamedTuple):
+    """A mark on a line: `kind` is one of `KINDS`; `value` is the trunk group, the digit, or the count of a
+    refusal; `low` and `high` are the two tones in Hz of a digit, of KP or of ST, and else 0."""
+
+    line: int
+    kind: str
+    value: int
+    low: int
+    high: int
+
+
+class _Row(ctypes.Structure):
+    _fields_ = [(name, ctypes.c_uint32) for name in ("line", "state", "ms")]
+
+
+class _Mark(ctypes.Structure):
+    _fields_ = [(name, ctypes.c_uint32) for name in ("line", "kind", "value", "low", "high")]
+
+
+class _Line(ctypes.Structure):
+    _fields_ = [("entries", ctypes.c_uint32), ("rest", ctypes.c_uint32 * 5)]
+
+
+class _Route(ctypes.Structure):
+    _fields_ = [
+        ("code", ctypes.c_uint32),
+        ("trunk", ctypes.c_uint16),
+        ("deleted", ctypes.c_uint8),
+        ("length", ctypes.c_uint8),
+        ("prefix", ctypes.c_uint8 * 8),
+    ]
+
+
+class _Table(ctypes.Structure):
+    _fields_ = [("head", ctypes.c_uint32 * 8), ("routes", _Route * MOST_ROUTES)]
+
+
+def _declare(library: ctypes.CDLL) -> None:
+    """Says what the calls of the library take and return. Structs are passed by their addresses."""
+    size, number, address = ctypes.c_size_t, ctypes.c_uint32, ctypes.c_void_p
+    library.mfchain_open.argtypes = [ctypes.c_char_p, size, address, ctypes.c_char_p, size]
+    library.mfchain_open.restype = number
+    library.mfchain_take.argtypes = [address, address, address, address, size, address]
+    library.mfchain_take.restype = number
+    library.mfchain_reopen.argtypes = [address]
+    library.mfchain_reopen.restype = None
+    library.mfchain_entries.argtypes = [address]
+    library.mfchain_entries.restype = number
+
+
+class Office:
+    """An office by a route table. It keeps what is known of each line, 24 bytes a line."""
+
+    def __init__(self, table: str, library: str = "libmfchain.so"):
+        """Opens an office by the route table of a TOML text. Raises `TableError` where it is refused, and
+        `MemoryError` where memory ran out."""
+        self._library = ctypes.CDLL(library)
+        _declare(self._library)
+        self._table = _Table()
+        self._lines = (_Line * LINES)()
+        self._row = _Row()
+        self._room = (_Mark * MOST_MARKS)()
+        self._count = ctypes.c_size_t()
+        self._places = tuple(map(ctypes.addressof, (self._table, self._row, self._room, self._count)))
+        text = table.encode()
+        fault = ctypes.create_string_buffer(FAULT_ROOM)
+        status = self._library.mfchain_open(text, len(text), self._places[0], fault, FAULT_ROOM)
+        if status == NO_MEMORY:
+            raise MemoryError
+        if status:
+            raise TableError(status, fault.value.decode())
+
+    def take(self, line: int, state: str, ms: int) -> Iterator[Mark]:
+        """Takes a row: what the loop of a line does (`M` make, `B` break, `C` the end of its record), and for
+        how many ms. Yields the marks that the row makes certain, one whole entry or none. Raises `RowError`
+        where the row is refused; the line is then as it was."""
+        return iter(self.marks_of(line, state, ms))
+
+    def marks_of(self, line: int, state: str, ms: int) -> list:
+        """The same marks, as a list."""
+        table, at, room, count = self._places
+        row = self._row
+        row.line = line
+        row.state = ord(state) if len(state) == 1 else 0
+        row.ms = ms if 0 <= ms <= 0xFFFFFFFF else 0xFFFFFFFF
+        status = self._library.mfchain_take(table, self._known(line), at, room, MOST_MARKS, count)
+        if status:
+            raise RowError(status)
+        return [
+            Mark(mark.line, KINDS[mark.kind], mark.value, mark.low, mark.high)
+            for mark in self._room[: self._count.value]
+        ]
+
+    def close(self, line: int) -> Iterator[Mark]:
+        """Ends the record of a line, which gives no more marks until it is reopened."""
+        return self.take(line, "C", 0)
+
+    def reopen(self, line: int) -> None:
+        """Forgets what is known of a line: its next row begins a new record."""
+        self._library.mfchain_reopen(self._known(line))
+
+    def entries(self, line: int) -> int:
+        """How many entries the rows of a line have given since it was reopened."""
+        return self._library.mfchain_entries(self._known(line))
+
+    def _known(self, line: int) -> int:
+        """Where what is known of a line stands."""
+        if not 0 <= line < LINES:
+            raise RowError(WRONG_LINE)
+        return ctypes.addressof(self._lines) + ctypes.sizeof(_Line) * line

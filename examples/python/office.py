@@ -1,0 +1,108 @@
+"""Dials 234 5678 on line 7, and prints each entry in the row that makes it certain, as examples/c/dial.c does.
+
+usage: office.py LIBRARY          the dialling
+       office.py LIBRARY DECK     the page of a deck
+       office.py LIBRARY --time   how many nanoseconds a row takes
+"""
+import sys
+import time
+
+from mfchain import Office, RowError, TableError
+
+ROUTES = """
+[[route]]
+code = "234"
+trunk = 17
+delete = 3
+prefix = "56"
+"""
+
+
+def entry_text(marks: list, number: int) -> str:
+    """An entry as a page has it: the entry of this number on its line."""
+    first = marks[0]
+    head = f"{first.line:04} {number}"
+    if first.kind != "TRUNK":
+        return f"{head} REFUSED {first.kind} {first.value}"
+    keys = (f"{m.value if m.kind == 'DIGIT' else m.kind}:{m.low}+{m.high}" for m in marks[1:])
+    return f"{head} KEYED {first.value:04} {' '.join(keys)}"
+
+
+def rows_of(number: str) -> list:
+    """The makes and breaks of a number: each pulse is a break of 60 ms, and 600 ms of make end a digit."""
+    rows = [("M", 500)]
+    for digit in number:
+        pulses = int(digit) or 10
+        for pulse in range(1, pulses + 1):
+            rows += [("B", 60), ("M", 40 if pulse < pulses else 600)]
+    return rows + [("B", 400)]
+
+
+def dial(library: str) -> None:
+    """Prints each entry in the row that makes it certain."""
+    office = Office(ROUTES, library)
+    rows = rows_of("2345678")
+    for n, (state, ms) in enumerate(rows, 1):
+        marks = list(office.take(7, state, ms))
+        if marks:
+            print(f"row {n}: {entry_text(marks, office.entries(7))}")
+    print(f"{len(rows)} rows")
+
+
+def page(library: str, deck: str) -> None:
+    """Prints the page of a deck."""
+    with open(deck, encoding="utf-8", newline="") as file:
+        table, _, records = file.read().partition("---\n")
+    office, entries, used = Office(table, library), [], set()
+
+    def keep(line: int, marks: list) -> None:
+        used.add(line)
+        if marks:
+            entries.append((line, office.entries(line), marks))
+
+    for record in records.splitlines()[1:]:
+        line, state, ms = record.split(",")
+        keep(int(line), list(office.take(int(line), state, int(ms))))
+    for line in sorted(used):
+        keep(line, list(office.close(line)))
+    for line, number, marks in sorted(entries):
+        print(entry_text(marks, number))
+    refused = sum(marks[0].kind != "TRUNK" for _, _, marks in entries)
+    print(f"KEYED {len(entries) - refused} REFUSED {refused}")
+
+
+def measure(library: str) -> None:
+    """Prints how many nanoseconds a row takes, the best of five."""
+    office, rows = Office(ROUTES, library), rows_of("2345678") * 200
+    best = float("inf")
+    for _ in range(5):
+        start = time.perf_counter()
+        for state, ms in rows:
+            office.marks_of(7, state, ms)
+        best = min(best, (time.perf_counter() - start) / len(rows))
+    print(f"{best * 1e9:.0f} ns a row")
+
+
+def main(words: list) -> int:
+    """Does what the words ask."""
+    if len(words) == 1:
+        dial(words[0])
+    elif len(words) == 2 and words[1] == "--time":
+        measure(words[0])
+    elif len(words) == 2:
+        try:
+            page(words[0], words[1])
+        except TableError as fault:
+            print(f"office.py: route table: {fault}", file=sys.stderr)
+            return 1
+        except RowError as fault:
+            print(f"office.py: {fault}", file=sys.stderr)
+            return 1
+    else:
+        print(__doc__, file=sys.stderr)
+        return 2
+    return 0
+
+
+if __name__ == "__main__":
+    sys.exit(main(sys.argv[1:]))
