@@ -1,0 +1,18 @@
+-- What is returned where a part is refused.
+use Rattle.std.specs.Prelude.{◌≡◌, ◌≢◌, ◌⊎◌}
+use Rattle.xb_routes.specs.declared.fault.RouteFault.{RouteFault}
+use Rattle.xb_routes.specs.declared.fault.RouteFault.TheVariants as route_fault
+use Rattle.xb_hear_program.specs.declared.fault.HearFault.{HearFault}
+use Rattle.xb_hear_program.specs.declared.fault.HearFault.TheVariants as fault
+use Rattle.xb_streams.specs.declared.reading.ReadFault.{ReadFault}
+use Rattle.xb_streams.specs.declared.reading.ReadFault.TheVariants as read_fault
+
+abbrev pub of_read : ReadFault → HearFault
+of_read read_fault.Failed = fault.Read
+of_read read_fault.TooLong = fault.DeckTooLong
+of_read read_fault.NoMemory = fault.NoMemory
+
+-- running out of memory is one fault, in whatever part
+abbrev pub IsOfRoutes : RouteFault → HearFault → Type 0
+IsOfRoutes f e = ((f ≡ route_fault.NoMemory) × (e ≡ fault.NoMemory))
+    ⊎ ((f ≢ route_fault.NoMemory) × (e ≡ fault.Routes f))

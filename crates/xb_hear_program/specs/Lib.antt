@@ -1,0 +1,5 @@
+pub mod DeckReport
+pub mod Faults
+pub mod Hearing
+pub mod Options
+pub mod Program

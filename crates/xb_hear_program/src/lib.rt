@@ -1,0 +1,16 @@
+//! The program `mfhear` but for the process: a deck from a reader, and what was heard of its lines to a
+//! writer, by the words of the command line. The module `laws` says what the definitions in `specs/` give.
+#![tactic(auto)]
+
+mod fault;
+mod hearing;
+pub mod laws;
+mod program;
+mod request;
+mod telling;
+mod words;
+
+pub use fault::HearFault;
+pub use hearing::hear;
+pub use program::attend;
+pub use request::Choice;

@@ -1,0 +1,124 @@
+-- The text of a report: ASCII, each line ended by one LF.
+use Rattle.std.specs.Prelude.{ℕ, ◌+◌, ◌%◌, ◌==◌, List, [], ◌∷◌, ◌++◌, codes, decimal, length, map, Bool, if◌then◌else◌, Option, Some, None}
+use Rattle.xb_model.specs.declared.dialled.Dialled.{Dialled}
+use Rattle.xb_model.specs.declared.limits.Limits.{Limits}
+use Rattle.xb_model.specs.declared.on.On.{On}
+use Rattle.xb_model.specs.declared.signal.TheConstants.{MOST_PULSES}
+use Rattle.xb_model.specs.Page.{four_digits}
+use Rattle.xb_model.specs.Records.{is_break, is_make}
+use Rattle.xb_hear.specs.declared.run.PlacedRun.{PlacedRun}
+use Rattle.xb_hear.specs.declared.fault.Spoiler.{Spoiler}
+use Rattle.xb_hear.specs.Attempts.{AttemptOfRuns}
+use Rattle.xb_hear.specs.Digits.{DigitOfRuns}
+use Rattle.xb_hear.specs.Figures.{extent_from, percent_of, speed_of, times_of}
+use Rattle.xb_hear.specs.PlacedRuns.{run_in}
+use Rattle.xb_report.specs.Cells.{at_right, extent_text, place_text, tenths_or_dash}
+use Rattle.xb_report.specs.Words.{fault_text, is_taken, is_timed_out, outcome_text}
+
+-- the first line: the limits
+abbrev pub limits_text : Limits → List ℕ
+limits_text limits =
+    codes "limits in ms: break " ++ decimal limits.pulse_min ++ codes " to " ++ decimal limits.pulse_max
+    ++ codes ", make from " ++ decimal limits.make_min ++ codes ", pause from " ++ decimal limits.pause
+    ++ codes ", release from " ++ decimal limits.release
+    ++ codes ", time-out from " ++ decimal limits.timeout ++ codes "\n"
+
+-- how many pulses a train has
+abbrev pub pulses_in : DigitOfRuns → ℕ
+pulses_in digit = (times_of digit.pulses).breaks
+
+-- the digit that is heard, or x where it is spoiled
+abbrev pub name_by : ℕ → Option Spoiler → List ℕ
+name_by pulses None = decimal (pulses % MOST_PULSES)
+name_by pulses (Some spoiler) = codes "x"
+
+-- what spoils a digit, and where
+abbrev pub spoiler_text : Limits → Option Spoiler → List ℕ
+spoiler_text limits None = []
+spoiler_text limits (Some spoiler) =
+    codes "  " ++ fault_text limits spoiler.fault spoiler.run.ms ++ codes " at " ++ place_text spoiler.run
+
+-- what is said of a digit after its figures
+abbrev pub remark_text : Limits → Bool → Option Spoiler → List ℕ
+remark_text limits taken spoiler = if taken then spoiler_text limits spoiler else codes "  ignored"
+
+-- the figures of a train: pulses a second, how much of the time is break, the breaks and the makes in ms
+abbrev pub figures_text : List PlacedRun → List ℕ
+figures_text pulses =
+    at_right 7 (tenths_or_dash (speed_of pulses)) ++ at_right 9 (tenths_or_dash (percent_of pulses))
+    ++ at_right 10 (extent_text (extent_from (λ run. is_break (run_in run)) None pulses))
+    ++ at_right 10 (extent_text (extent_from (λ run. is_make (run_in run)) None pulses))
+
+-- the line of a digit
+abbrev pub digit_text : Limits → Bool → DigitOfRuns → List ℕ
+digit_text limits taken digit =
+    at_right 7 (name_by (pulses_in digit) digit.spoiler) ++ at_right 8 (decimal (pulses_in digit))
+    ++ figures_text digit.pulses ++ at_right 10 (decimal digit.pause.ms)
+    ++ remark_text limits taken digit.spoiler ++ codes "\n"
+
+-- the lines of the digits of an attempt, from digit k on
+abbrev pub digits_from : Limits → Dialled → ℕ → List DigitOfRuns → List ℕ
+digits_from limits outcome k [] = []
+digits_from limits outcome k (digit ∷ digits) =
+    digit_text limits (is_taken outcome k) digit ++ digits_from limits outcome (k + 1) digits
+
+abbrev pub columns_text : List ℕ
+columns_text = codes "  digit  pulses    p/s  % break  break ms   make ms  pause ms\n"
+
+-- the table of the digits, where there are any
+abbrev pub table_text : Limits → Dialled → List DigitOfRuns → List ℕ
+table_text limits outcome digits =
+    if length digits == 0 then [] else columns_text ++ digits_from limits outcome 0 digits
+
+-- so many pulses after the last digit, from a run on
+abbrev pub pulses_text : ℕ → PlacedRun → List ℕ
+pulses_text count run =
+    codes "  pulses that no pause ended: " ++ decimal count ++ codes ", from " ++ place_text run ++ codes "\n"
+
+-- the pulses after the last digit, where there are any
+abbrev pub unfinished_text : List PlacedRun → List ℕ
+unfinished_text [] = []
+unfinished_text (run ∷ rest) = pulses_text (times_of (run ∷ rest)).breaks run
+
+-- the make after which nothing is heard; it is no fault where the attempt was not refused for it
+abbrev pub timeout_text : Dialled → Option PlacedRun → List ℕ
+timeout_text outcome None = []
+timeout_text outcome (Some run) =
+    (if is_timed_out outcome then codes "  timed out by a make of "
+    else codes "  nothing more is heard after a make of ")
+    ++ decimal run.ms ++ codes " ms at " ++ place_text run ++ codes "\n"
+
+-- how the attempt ended
+abbrev pub release_text : Option PlacedRun → List ℕ
+release_text None = codes "  the record ends\n"
+release_text (Some run) =
+    codes "  hung up for " ++ decimal run.ms ++ codes " ms at " ++ place_text run ++ codes "\n"
+
+-- where an attempt begins
+abbrev pub front_text : List PlacedRun → List ℕ
+front_text [] = []
+front_text (run ∷ rest) = codes " from " ++ place_text run
+
+-- the first line of attempt n of a line
+abbrev pub heading_text : ℕ → ℕ → List PlacedRun → Dialled → List ℕ
+heading_text line n runs outcome =
+    codes "\nline " ++ four_digits line ++ codes ", attempt " ++ decimal n ++ front_text runs ++ codes ": "
+    ++ outcome_text outcome ++ codes "\n"
+
+-- attempt n of a line, and what came of it
+abbrev pub attempt_text : Limits → ℕ → ℕ → AttemptOfRuns → Dialled → List ℕ
+attempt_text limits line n attempt outcome =
+    heading_text line n attempt.runs outcome ++ table_text limits outcome attempt.digits
+    ++ unfinished_text attempt.unfinished ++ timeout_text outcome attempt.timeout
+    ++ release_text attempt.release
+
+-- the attempts of a line, each with its outcome, from attempt n on
+abbrev pub attempts_from : Limits → ℕ → ℕ → List AttemptOfRuns → List Dialled → List ℕ
+attempts_from limits line n [] outcomes = []
+attempts_from limits line n (attempt ∷ attempts) [] = []
+attempts_from limits line n (attempt ∷ attempts) (outcome ∷ outcomes) =
+    attempt_text limits line n attempt outcome ++ attempts_from limits line (n + 1) attempts outcomes
+
+-- what the outcomes of a line are
+abbrev pub outcomes_in : List (On Dialled) → List Dialled
+outcomes_in outcomes = map (λ (outcome : On Dialled). outcome.what) outcomes

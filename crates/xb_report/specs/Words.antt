@@ -1,0 +1,43 @@
+-- The words of a report.
+use Rattle.std.specs.Prelude.{ℕ, List, [], ◌∷◌, ◌++◌, codes, decimal, length, nat_le, nat_lt, Bool, true, false}
+use Rattle.xb_model.specs.declared.dialled.Dialled.{Dialled}
+use Rattle.xb_model.specs.declared.dialled.Dialled.TheVariants as dialled
+use Rattle.xb_model.specs.declared.limits.Limits.{Limits}
+use Rattle.xb_model.specs.declared.reason.Reason.TheVariants as reason
+use Rattle.xb_model.specs.Page.{reason_text}
+use Rattle.xb_hear.specs.declared.fault.PulseFault.{PulseFault}
+use Rattle.xb_hear.specs.declared.fault.PulseFault.TheVariants as fault
+
+-- digits, one after the other
+abbrev pub digits_text : List ℕ → List ℕ
+digits_text [] = []
+digits_text (digit ∷ digits) = decimal digit ++ digits_text digits
+
+-- what came of an attempt: its number, or why it was refused, in the words of the page
+abbrev pub outcome_text : Dialled → List ℕ
+outcome_text (dialled.Number digits) = codes "NUMBER " ++ digits_text digits
+outcome_text (dialled.Refused r heard) = codes "REFUSED " ++ reason_text r ++ codes " " ++ decimal heard
+
+-- what is wrong with a run of so many ms, and the limit
+abbrev pub fault_text : Limits → PulseFault → ℕ → List ℕ
+fault_text limits fault.ShortBreak ms =
+    codes "break " ++ decimal ms ++ codes " ms < " ++ decimal limits.pulse_min
+fault_text limits fault.LongBreak ms =
+    codes "break " ++ decimal ms ++ codes " ms > " ++ decimal limits.pulse_max
+fault_text limits fault.ShortMake ms =
+    codes "make " ++ decimal ms ++ codes " ms < " ++ decimal limits.make_min
+fault_text limits fault.TooManyPulses ms = codes "pulse 11"
+
+-- whether the register takes digit k of an attempt, from 0: it takes none after a complete number, and
+-- none after a mutilated digit, before which so many good ones were heard
+abbrev pub is_taken : Dialled → ℕ → Bool
+is_taken (dialled.Number digits) k = nat_lt k (length digits)
+is_taken (dialled.Refused r heard) k = nat_le k heard
+
+-- whether the attempt was refused because it timed out
+abbrev pub is_timed_out : Dialled → Bool
+is_timed_out (dialled.Number digits) = false
+is_timed_out (dialled.Refused reason.Mutilated heard) = false
+is_timed_out (dialled.Refused reason.Unknown heard) = false
+is_timed_out (dialled.Refused reason.Abandoned heard) = false
+is_timed_out (dialled.Refused reason.TimedOut heard) = true

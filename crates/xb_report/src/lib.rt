@@ -1,0 +1,12 @@
+//! The text of a report: what a register heard of each attempt of a line, with its figures, what spoiled a
+//! digit, and where.
+#![tactic(auto)]
+
+mod attempt;
+mod cells;
+mod digit;
+mod report;
+mod words;
+
+pub use report::{push_attempts, push_limits};
+pub use words::{push_outcome, push_place};

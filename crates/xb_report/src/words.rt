@@ -1,0 +1,105 @@
+// The words of a report.
+ghost use Rattle.std.specs.Prelude.{◌≡◌, ◌++◌, OnOk, string_bytes};
+ghost use Rattle.xb_model.specs.Page.{reason_text};
+ghost use Rattle.xb_report.specs.Cells.{place_text};
+ghost use Rattle.xb_report.specs.Words.{digits_text, fault_text, is_taken, is_timed_out, outcome_text};
+
+use std::alloc::AllocError;
+use xb_hear::{PlacedRun, PulseFault};
+use xb_model::{Dialled, Digit, Limits, Reason};
+
+fn reason_text(reason: Reason) -> &'static str
+    ensures { result.now ≡ reason_text reason }
+{
+    match reason {
+        Reason::Mutilated => "MUTILATED",
+        Reason::Unknown => "UNKNOWN",
+        Reason::Abandoned => "ABANDONED",
+        Reason::TimedOut => "TIMEDOUT",
+    }
+}
+
+// Puts digits after the text, one after the other.
+fn push_digits(out: &mut String, digits: &[Digit]) -> Result<(), AllocError>
+    ensures { OnOk result (string_bytes out.new ≡ string_bytes out.old ++ digits_text digits.now) }
+{
+    for digit in digits {
+        let digit = digit.get();
+        write!(out, "{digit}")?;
+    }
+    Ok(())
+}
+
+/// Puts what came of an attempt after the text: its number, or why it was refused, in the words of the
+/// page. `Err` says that memory ran out.
+pub fn push_outcome(out: &mut String, outcome: &Dialled) -> Result<(), AllocError>
+    ensures { OnOk result (string_bytes out.new ≡ string_bytes out.old ++ outcome_text outcome.now) }
+{
+    match outcome {
+        Dialled::Number(number) => {
+            out.push_str("NUMBER ")?;
+            push_digits(out, number.digits())
+        }
+        Dialled::Refused(reason, heard) => {
+            let word = reason_text(*reason);
+            write!(out, "REFUSED {word} {heard}")
+        }
+    }
+}
+
+// Puts what is wrong with a run of so many ms after the text, and the limit.
+pub(crate) fn push_fault(
+    out: &mut String,
+    limits: Limits,
+    fault: PulseFault,
+    ms: u64,
+) -> Result<(), AllocError>
+    ensures { OnOk result (string_bytes out.new ≡ string_bytes out.old ++ fault_text limits fault ms) }
+{
+    match fault {
+        PulseFault::ShortBreak => {
+            let least = limits.pulse_min;
+            write!(out, "break {ms} ms < {least}")
+        }
+        PulseFault::LongBreak => {
+            let most = limits.pulse_max;
+            write!(out, "break {ms} ms > {most}")
+        }
+        PulseFault::ShortMake => {
+            let least = limits.make_min;
+            write!(out, "make {ms} ms < {least}")
+        }
+        PulseFault::TooManyPulses => out.push_str("pulse 11"),
+    }
+}
+
+/// Puts where a run begins after the text: the time from the line's first record, and the number of its
+/// record among those of all lines. `Err` says that memory ran out.
+pub fn push_place(out: &mut String, run: &PlacedRun) -> Result<(), AllocError>
+    ensures { OnOk result (string_bytes out.new ≡ string_bytes out.old ++ place_text run.now) }
+{
+    let seconds = run.start / 1000;
+    let ms = run.start % 1000;
+    let record = run.first_record;
+    write!(out, "{seconds}.{ms:03} s, record {record}")
+}
+
+// Whether the register takes digit `index` of an attempt, from 0.
+pub(crate) fn is_taken(outcome: &Dialled, index: usize) -> bool
+    ensures { result ≡ is_taken outcome.now index }
+{
+    match outcome {
+        Dialled::Number(number) => index < number.digits().len(),
+        Dialled::Refused(_, heard) => index <= usize::from(*heard),
+    }
+}
+
+// Whether the attempt was refused because it timed out.
+pub(crate) fn is_timed_out(outcome: &Dialled) -> bool
+    ensures { result ≡ is_timed_out outcome.now }
+{
+    match outcome {
+        Dialled::Refused(Reason::TimedOut, _) => true,
+        Dialled::Refused(_, _) | Dialled::Number(_) => false,
+    }
+}
