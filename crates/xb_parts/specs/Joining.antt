@@ -59,6 +59,14 @@ join_from number line sheet (part ∷ parts) =
 abbrev pub join_of : List Given → Result (List ℕ) JoinFault
 join_of parts = join_from 1 0 no_entries parts
 
+-- the lines from this one on that a page takes: up to that of its last entry, or all where it is damaged
+abbrev pub lines_by : ℕ → Result Read Damage → LineRange
+lines_by first (Ok read) = record { first = first; end = read.next_line }
+lines_by first (Err d) = record { first = first; end = LINES }
+
+abbrev pub lines_taken : ℕ → List ℕ → LineRange
+lines_taken first page = lines_by first (read_page first page)
+
 -- memory ran out, or what the pages say
 abbrev pub IsFaultOf : Result (List ℕ) JoinFault → JoinFault → Type 0
 IsFaultOf said fault.NoMemory = Unit {0}

@@ -1,10 +1,13 @@
 // The page that the pages of parts make together.
-ghost use Rattle.std.specs.Prelude.{◌≡◌, Ok, IfOk, IfErr, map};
-ghost use Rattle.xb_parts.specs.Joining.{BlamesNoPart, IsFaultOf, MakesTheWhole, given_of, join_of};
+ghost use Rattle.std.specs.Prelude.{◌≡◌, ◌≤◌, Ok, IfOk, IfErr, map};
+ghost use Rattle.xb_model.specs.declared.line.TheConstants.{LINES};
+ghost use Rattle.xb_parts.specs.Joining.{BlamesNoPart, IsFaultOf, MakesTheWhole, given_of, join_of, lines_taken};
 
 use crate::fault::JoinFault;
 use crate::joiner::Joiner;
+use crate::reading::read_page;
 use std::alloc::Global;
+use xb_model::LINES;
 use xb_split::LineRange;
 
 /// The page of a part.
@@ -14,6 +17,20 @@ pub struct PartPage<'a> {
     pub lines: LineRange,
     /// Its page.
     pub page: &'a [u8],
+}
+
+/// The lines that a page takes where no list says it: from this one up to that of its last entry, or all that
+/// are left where it is damaged.
+pub fn lines_taken(first: u16, page: &[u8]) -> LineRange
+    requires { first ≤ LINES }
+    ensures lines { result ≡ lines_taken first page.now }
+    ensures within { result.end ≤ LINES }
+{
+    let end = match read_page(page, first) {
+        Ok(read) => read.next_line,
+        Err(_) => LINES,
+    };
+    LineRange { first, end }
 }
 
 // The entries of pages, part by part, and a line with the sums of their totals.

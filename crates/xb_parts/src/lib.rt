@@ -14,4 +14,4 @@ mod words;
 pub use damage::Damage;
 pub use fault::JoinFault;
 pub use joiner::Joiner;
-pub use joining::{PartPage, join_pages};
+pub use joining::{PartPage, join_pages, lines_taken};

@@ -3,3 +3,5 @@ pub mod Loads
 pub mod PlanFaults
 pub mod Ranges
 pub mod Counts
+pub mod Pieces
+pub mod Lists

@@ -1,0 +1,39 @@
+//! The program: words and the files that they name in, a status and the page of the whole out.
+#![tactic(auto)]
+
+use std::alloc::Global;
+use std::process::ExitCode;
+use std::{env, fs, io};
+use xb_join_program::{PageFiles, attend};
+
+// The files of the system.
+#[derive(Drop)]
+struct SystemFiles<'a> {
+    rt: &'a HostRuntime,
+}
+
+impl<'a> PageFiles for SystemFiles<'a> {
+    fn read(&self, _alloc: Global, name: &str) -> io::Result<Vec<u8>> {
+        fs::read(self.rt, name)
+    }
+}
+
+// The words of the command line, the program's name first.
+fn words(rt: &HostRuntime) -> io::Result<Vec<String>> {
+    Ok(env::args(rt)?.collect(rt.alloc())?)
+}
+
+/// Reads the pages in files, and prints the page that they make together, or one line on standard error, as
+/// `attend` does.
+fn main(rt: HostRuntime) -> ExitCode {
+    let (mut page, errors) = (io::writer(&rt), rt.stderr());
+    let mut err = io::writer(&errors);
+    let files = SystemFiles { rt: &rt };
+    match words(&rt) {
+        Ok(words) => ExitCode::from(attend(rt.alloc(), &words, &files, &mut page, &mut err)),
+        Err(fault) => {
+            let _ = eprintln!(rt; "mfjoin: {fault}");
+            ExitCode::FAILURE
+        }
+    }
+}

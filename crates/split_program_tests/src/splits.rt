@@ -1,0 +1,101 @@
+// A deck that is counted, planned, and written as the decks of its parts, from a stream that gives few bytes at a
+// time.
+use std::io::{self, ErrorKind};
+use std::test::Fail;
+use xb_model::RowFault;
+use xb_rows::RowReader;
+use xb_split::{LineRange, ListFault, ListedPart, list_of, ranges_of_list};
+use xb_split_program::{PartDecks, count_rows, plan_parts, write_parts};
+
+const TABLE: &[u8] = b"[[route]]\ncode = \"0\"\ntrunk = 1\n";
+
+const ROWS: &[u8] =
+    b"line,state,ms\n7,M,500\n9999,M,500\n\"0007\",B,060\n0,M,1\n7,C,0\n5000,B,400\n";
+
+const LOW: &[u8] =
+    b"[[route]]\ncode = \"0\"\ntrunk = 1\n---\nline,state,ms\n7,M,500\n7,B,60\n0,M,1\n7,C,0\n";
+
+const HIGH: &[u8] =
+    b"[[route]]\ncode = \"0\"\ntrunk = 1\n---\nline,state,ms\n9999,M,500\n5000,B,400\n";
+
+// Two decks in memory.
+#[derive(Drop)]
+struct TwoDecks {
+    low: Vec<u8>,
+    high: Vec<u8>,
+}
+
+impl PartDecks for TwoDecks {
+    fn write(&mut self, part: usize, bytes: &[u8]) -> io::Result<()> {
+        let deck = match part {
+            0 => &mut self.low,
+            1 => &mut self.high,
+            _ => return Err(io::Error::from(ErrorKind::NotFound)),
+        };
+        deck.extend_from_slice(bytes)?;
+        Ok(())
+    }
+}
+
+const HALVES: [LineRange; 2] = [
+    LineRange {
+        first: 0,
+        end: 5_000,
+    },
+    LineRange {
+        first: 5_000,
+        end: 10_000,
+    },
+];
+
+#[test]
+fn decks_of_parts(rt: HostRuntime) -> Result<(), Fail> {
+    let alloc = rt.alloc();
+    let mut rows = RowReader::new(alloc, ROWS, u64::MAX);
+    let loads = count_rows(alloc, &mut rows)?;
+    // lines 0 and 7 have 27 of the 49 bytes, more than half, so the half of the bytes makes three parts
+    let halves = plan_parts(alloc, TABLE.len(), &loads, Some(2))?;
+    assert_eq!(rt; halves.len(), 3);
+    let one = plan_parts(alloc, TABLE.len(), &loads, None)?;
+    assert_eq!(rt; one.len(), 1);
+    let mut rows = RowReader::new(alloc, ROWS, u64::MAX);
+    let mut decks = TwoDecks {
+        low: Vec::new(alloc),
+        high: Vec::new(alloc),
+    };
+    write_parts(TABLE, &mut rows, &HALVES, &mut decks)?;
+    assert_eq!(rt; decks.low.as_slice(), LOW);
+    assert_eq!(rt; decks.high.as_slice(), HIGH);
+    Ok(())
+}
+
+#[test]
+fn faults_have_their_record(rt: HostRuntime) -> Result<(), Fail> {
+    let alloc = rt.alloc();
+    let mut rows = RowReader::new(alloc, b"line,state,ms\n7,M,5\n7,X,5\n".as_slice(), u64::MAX);
+    assert_eq!(rt;
+        count_rows(alloc, &mut rows).err(),
+        Some(RowFault::Contact(2))
+    );
+    Ok(())
+}
+
+// What is listed is read.
+#[test]
+fn lists(rt: HostRuntime) -> Result<(), Fail> {
+    let alloc = rt.alloc();
+    let mut parts = Vec::new(alloc);
+    for lines in HALVES {
+        parts.push(ListedPart { lines, records: 3 })?;
+    }
+    let list = list_of(alloc, &parts)?;
+    assert_eq!(rt;
+        list.as_str(),
+        "0000-4999.deck 0 4999 3\n5000-9999.deck 5000 9999 3\n"
+    );
+    let ranges = ranges_of_list(alloc, list.as_bytes())?;
+    assert_eq!(rt; ranges.as_slice(), HALVES.as_slice());
+    let cut = ranges_of_list(alloc, b"0000-4999.deck 0 4999").err();
+    assert_eq!(rt; cut, Some(ListFault::NoList));
+    Ok(())
+}

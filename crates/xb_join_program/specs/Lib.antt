@@ -1,0 +1,6 @@
+pub mod Files
+pub mod Given
+pub mod Options
+pub mod Program
+pub mod Rules
+pub mod JoinedFiles

@@ -1,0 +1,2 @@
+mod StreamedRows
+mod WrittenParts
