@@ -1,0 +1,33 @@
+// A small deck, and what a person reckoned of it.
+use std::alloc::{AllocError, Global};
+
+/// Line 7 dials 0, which record 22 completes, and line 9 hangs up in record 23.
+pub const BEGINNING: &[u8] =
+    b"[[route]]\ncode = \"0\"\ntrunk = 1\n---\nline,state,ms\n9,M,500\n7,M,500\n\
+7,B,60\n7,M,40\n7,B,60\n7,M,40\n7,B,60\n7,M,40\n7,B,60\n7,M,40\n7,B,60\n7,M,40\n7,B,60\n7,M,40\n\
+7,B,60\n7,M,40\n7,B,60\n7,M,40\n7,B,60\n7,M,40\n7,B,60\n7,M,600\n9,B,400\n";
+
+/// Line 7 hangs up, and is seized again; the deck ends.
+pub const END: &[u8] = b"7,B,400\n7,M,500\n";
+
+/// The entry of record 22.
+pub const KEYED: &[u8] = b"0007 1 KEYED 0001 KP:1100+1700 0:1300+1500 ST:1500+1700\n";
+
+/// The same, each mark by itself.
+pub const MARKS: &[u8] =
+    b"0007 1 KEYED 0001\n0007 1 KP:1100+1700\n0007 1 0:1300+1500\n0007 1 ST:1500+1700\n";
+
+/// The entry of record 23.
+pub const REFUSED: &[u8] = b"0009 1 REFUSED ABANDONED 0\n";
+
+/// The entry of the end, and the totals.
+pub const LAST: &[u8] = b"0007 2 REFUSED ABANDONED 0\nKEYED 1 REFUSED 2\n";
+
+/// Texts, one after the other.
+pub fn joined(alloc: Global, parts: &[&[u8]]) -> Result<Vec<u8>, AllocError> {
+    let mut all = Vec::new(alloc);
+    for part in parts {
+        all.extend_from_slice(part)?;
+    }
+    Ok(all)
+}
