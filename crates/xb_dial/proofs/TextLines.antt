@@ -1,25 +1,21 @@
 -- A text of calls, line by line; and where a plan is given, each number is complete by it.
-use Rattle.std.proofs.Common.{◌≡◌, ◌⊎◌, inl, inr, ℕ, ◌+◌, ◌≤◌, Bool, true, false, List, [], ◌∷◌, ◌++◌, length, Option, Some, None, Result, Ok, Err, refl, sym, ap, ◌∙◌, arith, append_assoc, append-nil, subst, IfSome, ltb-true, ltb-false}
+use Rattle.std.proofs.Common.{◌≡◌, ◌⊎◌, inl, inr, ℕ, ◌+◌, ◌≤◌, Bool, true, false, List, [], ◌∷◌, ◌++◌, length, Option, Some, None, Result, Ok, Err, refl, sym, ap, ◌∙◌, arith, append_assoc, append-nil, subst, IfSome}
 use Rattle.std.specs.Prelude.{nat_lt, ◌==◌, unwrap_or}
 use Rattle.std.specs.Result.{result_ok}
-use Rattle.std.specs.List.{position_or_len, before_first, after_first, slice_split}
 use Rattle.std.proofs.lemmas.Bool.{cond-true, cond-false}
-use Rattle.std.proofs.lemmas.Grind.{common_steps}
-use Rattle.std.proofs.lemmas.List.Sums.{fails_before_first, count_by-le-length}
-use Rattle.std.proofs.lemmas.List.Splits.{slice_split_first, slice_split_none, length-slice_split}
+use Rattle.std.proofs.lemmas.List.Sums.{count_by-le-length}
+use Rattle.std.proofs.lemmas.List.Splits.{length-slice_split}
 use Rattle.xb_model.specs.declared.plan.Plan.{Plan}
 use Rattle.xb_model.specs.Numbers.{has_length, is_complete}
 use Rattle.xb_model.specs.Plans.{plan_len}
+use Rattle.xb_pieces.specs.Pieces.{pieces}
 use Rattle.xb_rows.specs.RowTexts.{line_of}
 use Rattle.xb_dial.specs.declared.fault.CallFault.{CallFault}
 use Rattle.xb_dial.specs.declared.fault.CallFault.TheVariants as fault
 use Rattle.xb_dial.specs.Calls.{DialledCall, call_of}
-use Rattle.xb_dial.specs.CallTexts.{call_and_rest, call_of_digits, call_of_line, call_unless, calls_from, calls_of_text, cut_at, digits_of, is_passed_over, length_fault, line_feed, number_fault, or_fault, or_wrong_digit, text_lines, two_fields}
+use Rattle.xb_dial.specs.CallTexts.{call_and_rest, call_of_digits, call_of_line, call_unless, calls_from, calls_of_text, digits_of, is_passed_over, length_fault, line_feed, number_fault, or_fault, or_wrong_digit, text_lines, two_fields}
 use Rattle.xb_dial.specs.Heard.{AreComplete}
-use Rattle.xb_dial.specs.TextLines.{StopsBy, TakesLine, after, lines_left}
-
-abbrev ends_line : ℕ → Bool
-ends_line byte = byte == line_feed
+use Rattle.xb_dial.specs.TextLines.{StopsBy, TakesLine, after}
 
 some_is : {A : Type 0} {x y : A} → Some x ≡ Some y → x ≡ y
 some_is {A} {x} {y} e = ap (λ o. unwrap_or o x) e
@@ -70,36 +66,11 @@ pub calls_from-none : (whole : Option Plan) (n : ℕ) (calls : List DialledCall)
 unfolding calls_from
 calls_from-none whole n calls = ap Ok (append-nil calls)
 
--- the first line of a text in which there is an LF, and of one in which there is none
-pub line-cut : (text : List ℕ) (line later : List ℕ) → Some (line, later) ≡ cut_at line_feed text
-    → lines_left (Some text) ≡ line ∷ lines_left (Some later)
-line-cut text line later e = at (nat_lt (position_or_len ends_line text) (length text)) refl
-  where
-    at : (there : Bool) → nat_lt (position_or_len ends_line text) (length text) ≡ there
-        → lines_left (Some text) ≡ line ∷ lines_left (Some later)
-    at true t =
-        let parts : (line, later)
-        ≡ (before_first ends_line text, after_first ends_line text) = some_is (rw t at e) in
-        slice_split_first ends_line text 0 (ltb-true _ _ t)
-        ∙ ap (λ (p : List ℕ × List ℕ). p.0 ∷ slice_split ends_line p.1) (sym parts)
-    at false t = absurd (none_is (sym (rw t at e)))
-
-pub line-whole : (text : List ℕ) → None ≡ cut_at line_feed text → lines_left (Some text) ≡ text ∷ []
-line-whole text e = at (nat_lt (position_or_len ends_line text) (length text)) refl
-  where
-    at : (there : Bool) → nat_lt (position_or_len ends_line text) (length text) ≡ there
-        → lines_left (Some text) ≡ text ∷ []
-    at true t = absurd (none_is (rw t at e))
-    at false t =
-        let all : length text ≤ position_or_len ends_line text = ltb-false _ _ t in
-        slice_split_none ends_line text (λ k byte m. let f = fails_before_first ends_line text k byte in
-        grind (arith, common_steps))
-
 -- there are no more lines than bytes, and one
-pub few-lines : (text : List ℕ) → length (lines_left (Some text)) ≤ length text + 1
+pub few-lines : (text : List ℕ) → length (pieces line_feed text) ≤ length text + 1
 few-lines text =
-    let some = length-slice_split ends_line text in
-    let few = count_by-le-length ends_line text in
+    let some = length-slice_split (λ byte. byte == line_feed) text in
+    let few = count_by-le-length (λ byte. byte == line_feed) text in
     omega (arith, some, few)
 
 -- a number of the right length is complete

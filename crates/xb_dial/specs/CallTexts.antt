@@ -1,12 +1,13 @@
 -- The text of calls: one in each text line, as `7 234-5678`.
-use Rattle.std.specs.Prelude.{◌≡◌, ◌⊎◌, ℕ, ◌+◌, ◌-◌, ◌==◌, ◌||◌, not, nat_lt, if◌then◌else◌, List, [], ◌∷◌, map, length, take, drop, Bool, true, Option, Some, None, Result, Ok, Err, option_map}
-use Rattle.std.specs.List.{filter, position, slice_split}
+use Rattle.std.specs.Prelude.{◌≡◌, ◌⊎◌, ℕ, ◌+◌, ◌-◌, ◌==◌, ◌||◌, not, nat_lt, if◌then◌else◌, List, [], ◌∷◌, map, length, Bool, true, Option, Some, None, Result, Ok, Err}
+use Rattle.std.specs.List.{filter}
 use Rattle.std.specs.Option.{unwrap_or}
 use Rattle.std.specs.Str.{all_ascii_digits}
 use Rattle.std.specs.Str.Lines.{strip_carriage_return}
 use Rattle.xb_model.specs.declared.plan.Plan.{Plan}
 use Rattle.xb_model.specs.Page.{zero_byte}
 use Rattle.xb_model.specs.Plans.{plan_len}
+use Rattle.xb_pieces.specs.Pieces.{cut_at, pieces}
 use Rattle.xb_rows.specs.RowTexts.{line_of}
 use Rattle.xb_dial.specs.declared.fault.CallFault.{CallFault}
 use Rattle.xb_dial.specs.declared.fault.CallFault.TheVariants as fault
@@ -27,16 +28,12 @@ hash = 35
 
 -- text lines end at LF or at the end of the text; one CR before that end is dropped
 abbrev pub text_lines : List ℕ → List (List ℕ)
-text_lines text = map strip_carriage_return (slice_split (λ byte. byte == line_feed) text)
+text_lines text = map strip_carriage_return (pieces line_feed text)
 
 -- an empty line, or one that begins with #
 abbrev pub is_passed_over : List ℕ → Bool
 is_passed_over [] = true
 is_passed_over (byte ∷ rest) = byte == hash
-
--- what stands before the first such byte, and after it
-abbrev pub cut_at : ℕ → List ℕ → Option (List ℕ × List ℕ)
-cut_at at text = option_map (λ n. (take n text, drop (n + 1) text)) (position (λ byte. byte == at) text)
 
 -- the two fields of a text line, with a space between them
 abbrev pub two_fields : List ℕ → List ℕ × List ℕ

@@ -1,16 +1,10 @@
 -- How a text of calls is read, line by line.
-use Rattle.std.specs.Prelude.{◌≡◌, ◌⊎◌, ℕ, ◌+◌, ◌==◌, List, [], ◌∷◌, ◌++◌, Option, Some, None, Result, Ok, Err}
-use Rattle.std.specs.List.{slice_split}
+use Rattle.std.specs.Prelude.{◌≡◌, ◌⊎◌, ℕ, ◌+◌, List, ◌∷◌, ◌++◌, Option, Result, Ok, Err}
 use Rattle.xb_model.specs.declared.plan.Plan.{Plan}
 use Rattle.xb_dial.specs.declared.fault.CallFault.{CallFault}
 use Rattle.xb_dial.specs.declared.fault.CallFault.TheVariants as fault
 use Rattle.xb_dial.specs.Calls.{DialledCall}
-use Rattle.xb_dial.specs.CallTexts.{calls_from, line_feed}
-
--- the text lines of what is left of a text
-abbrev pub lines_left : Option (List ℕ) → List (List ℕ)
-lines_left None = []
-lines_left (Some text) = slice_split (λ byte. byte == line_feed) text
+use Rattle.xb_dial.specs.CallTexts.{calls_from}
 
 -- calls after earlier ones, or their fault
 abbrev pub after : List DialledCall → Result (List DialledCall) CallFault

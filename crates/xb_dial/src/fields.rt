@@ -1,28 +1,14 @@
 // What one text line of calls writes.
-ghost use Rattle.std.specs.Prelude.{◌≡◌, ◌==◌, position, IfOk, IfErr, Some, Ok, option_map};
+ghost use Rattle.std.specs.Prelude.{◌≡◌, IfOk, IfErr, Some, Ok};
 ghost use Rattle.std.specs.Str.Lines.{strip_carriage_return};
-ghost use Rattle.xb_dial.specs.CallTexts.{IsFaultOf, IsWrongDigit, call_of_line, cut_at, digits_of, is_grouping, is_passed_over, number_fault, two_fields};
+ghost use Rattle.xb_dial.specs.CallTexts.{IsFaultOf, IsWrongDigit, call_of_line, digits_of, is_grouping, is_passed_over, number_fault, two_fields};
 
 use crate::call::Call;
 use crate::fault::CallFault;
 use std::alloc::Global;
 use xb_model::{Digit, Plan, plan_len};
+use xb_pieces::cut_at;
 use xb_rows::line_of;
-
-// The place of the first such byte.
-fn place_of(byte: u8, text: &[u8]) -> Option<usize>
-    ensures { result ≡ position (λ b. b == byte) text.now }
-{
-    text.iter().position(|b| *b == byte)
-}
-
-// What stands before the first such byte, and after it.
-pub(crate) fn cut_at(byte: u8, text: &[u8]) -> Option<(&[u8], &[u8])>
-    ensures { option_map (λ parts. (parts.0.now, parts.1.now)) result ≡ cut_at byte text.now }
-{
-    let n = place_of(byte, text)?;
-    Some((&text[..n], &text[n + 1..]))
-}
 
 // A text line without one CR at its end.
 pub(crate) fn strip_carriage_return(line: &[u8]) -> &[u8]

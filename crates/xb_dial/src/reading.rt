@@ -1,28 +1,18 @@
 // The calls of a text.
-ghost use Rattle.std.specs.Prelude.{◌≡◌, ◌+◌, ◌<◌, ◌≤◌, ◌∷◌, ◌⊎◌, Ok, Err, IfOk, IfErr, IfSome, List, OnOk, ℕ, length, option_copied, Some};
-ghost use Rattle.xb_dial.specs.declared.fault.CallFault.TheVariants.{NoMemory};
+ghost use Rattle.std.specs.Prelude.{◌≡◌, ◌≤◌, Ok, IfOk, IfErr, IfSome, OnOk, length};
 ghost use Rattle.xb_dial.specs.CallTexts.{IsFaultOf, calls_from, calls_of_text};
 ghost use Rattle.xb_dial.specs.Heard.{AreComplete};
-ghost use Rattle.xb_dial.specs.TextLines.{StopsBy, TakesLine, lines_left};
+ghost use Rattle.xb_dial.specs.TextLines.{StopsBy, TakesLine};
 
 use crate::call::Call;
 use crate::fault::CallFault;
-use crate::fields::{call_of_line, cut_at, is_passed_over, strip_carriage_return};
+use crate::fields::{call_of_line, is_passed_over, strip_carriage_return};
 use std::alloc::Global;
 use xb_model::Plan;
+use xb_pieces::first_piece;
 
 /// The most bytes of a text of calls (own limit).
 pub const MOST_TEXT_BYTES: usize = 16_777_216;
-
-// The first text line, and the later ones, if there are any.
-fn first_line(lines: &[u8]) -> (&[u8], Option<&[u8]>)
-    ensures { lines_left (Some lines.now) ≡ result.0.now ∷ lines_left (option_copied result.1) }
-{
-    match cut_at(b'\n', lines) {
-        Some((line, later)) => (line, Some(later)),
-        None => (lines, None),
-    }
-}
 
 // Puts the call of text line `n` after the earlier ones, unless the line is passed over.
 fn take_line(
@@ -63,7 +53,7 @@ pub fn calls_of_text(
     let mut n = 0;
     let mut left = Some(text);
     while let Some(lines) = left {
-        let (line, later) = first_line(lines);
+        let (line, later) = first_piece(b'\n', lines);
         n += 1;
         take_line(alloc, whole, n, strip_carriage_return(line), &mut calls)?;
         left = later;

@@ -14,7 +14,8 @@ use Rattle.xb_page.specs.declared.fault.PageFault.TheVariants as fault
 use Rattle.xb_page.specs.declared.place.Place.{Place}
 use Rattle.xb_page.specs.Entries.{Entry, entry_with}
 use Rattle.xb_page.specs.Places.{line_at, next_number, number_at, text_line}
-use Rattle.xb_page.specs.ReadPages.{entry_of_fields, entry_of_kind, heard_of, is_totals, or_fault, pieces, refusal_of_fields, refusal_of_two}
+use Rattle.xb_page.specs.ReadPages.{entry_of_fields, entry_of_kind, heard_of, is_totals, or_fault, refusal_of_fields, refusal_of_two}
+use Rattle.xb_pieces.specs.Pieces.{pieces}
 use Rattle.xb_page.proofs.MarksBack.{IsKeyMark, mark_field, marks-back, marks-no_line_feed, marks-pieces}
 use Rattle.xb_page.proofs.NumbersBack.{and-both, avoids-line_feed, avoids-space, bytes_eq-same, decimal-bytes, four_digits-back, four_digits-bytes, four_digits-no_word}
 use Rattle.xb_page.proofs.Avoiding.{Avoids, both, pieces-cut, pieces-whole, weaker}

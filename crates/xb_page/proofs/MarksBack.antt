@@ -1,5 +1,5 @@
 -- Marks that are printed are read.
-use Rattle.std.proofs.Common.{◌≡◌, ◌≢◌, ◌∙◌, ℕ, zero, suc, ◌≤◌, ◌<◌, true, List, [], ◌∷◌, ◌++◌, map, Option, Some, None, ap, append_assoc, append-nil, arith, refl, codes}
+use Rattle.std.proofs.Common.{◌≡◌, ◌≢◌, ◌∙◌, ℕ, zero, suc, ◌≤◌, ◌<◌, true, List, [], ◌∷◌, ◌++◌, map, Option, Some, ap, append_assoc, append-nil, arith, refl, codes}
 use Rattle.std.specs.Fmt.{digits}
 use Rattle.std.specs.Prelude.{decimal, option_and_then, option_map, nat_lt}
 use Rattle.std.specs.List.{AllByRecursion}
@@ -14,7 +14,8 @@ use Rattle.xb_rows.specs.RowTexts.{field_number}
 use Rattle.xb_rows.proofs.WrittenFields.{field_number-decimal}
 use Rattle.std.proofs.lemmas.Bool.{lt-ltb}
 use Rattle.xb_page.specs.ReadBack.{IsKey, IsMark}
-use Rattle.xb_page.specs.ReadPages.{before, hz_of, key_of, mark_of, mark_of_two, marks_of, pair_of, pair_of_two, pieces, tone_of_two, two_of}
+use Rattle.xb_page.specs.ReadPages.{before, hz_of, key_of, mark_of, mark_of_two, marks_of, pair_of, pair_of_two, tone_of_two, two_of}
+use Rattle.xb_pieces.specs.Pieces.{pieces}
 use Rattle.xb_page.proofs.Avoiding.{Avoids, both, pieces-cut, pieces-whole, weaker}
 use Rattle.xb_page.proofs.NumbersBack.{IsDigitByte, avoids-colon, avoids-plus, decimal-bytes, four_digits-back, four_digits-bytes}
 

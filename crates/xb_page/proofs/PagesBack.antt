@@ -17,7 +17,8 @@ use Rattle.xb_page.specs.declared.place.Place.{Place}
 use Rattle.xb_page.specs.Entries.{Entry, entry_with}
 use Rattle.xb_page.specs.Places.{place_after, place_with}
 use Rattle.xb_page.specs.ReadBack.{AreMarks, IsMark, PagesAreReadBack, entries_of_line, entries_of_tapes, said_by, said_of}
-use Rattle.xb_page.specs.ReadPages.{are_four, before_entries, end_of, entries_from, entry_and_rest, entry_of_fields, first_place, is_end, is_totals, pieces, says_totals}
+use Rattle.xb_page.specs.ReadPages.{are_four, before_entries, end_of, entries_from, entry_and_rest, entry_of_fields, first_place, is_end, is_totals, says_totals}
+use Rattle.xb_pieces.specs.Pieces.{pieces}
 use Rattle.xb_page.proofs.EntriesBack.{At, entry_line, entry_line-no_line_feed, keyed-back, keyed-no_line_feed, keyed-not_totals, keyed_rest, refused-back, refused-no_line_feed, refused-not_totals, refused_rest, keyed-word, refused-word}
 use Rattle.xb_page.proofs.MarksBack.{IsKeyMark}
 use Rattle.xb_page.proofs.NumbersBack.{avoids-line_feed, avoids-space, bytes_eq-same, decimal-bytes}

@@ -11,7 +11,8 @@ use Rattle.xb_page.specs.Places.{line_at, next_number, place_after, text_line}
 use Rattle.xb_page.specs.declared.fault.PageFault.{PageFault}
 use Rattle.xb_page.specs.declared.fault.PageFault.TheVariants as fault
 use Rattle.xb_page.specs.declared.place.Place.{Place}
-use Rattle.xb_page.specs.ReadPages.{IsFaultOf, TakesLine, after, before, before_entries, end_of, entries_from, entry_and_rest, entry_of_fields, entry_of_kind, field_at, is_cut, is_end, is_totals, mark_of, marks_of, or_fault, pieces, says_totals, with_earlier}
+use Rattle.xb_page.specs.ReadPages.{IsFaultOf, TakesLine, after, before, before_entries, end_of, entries_from, entry_and_rest, entry_of_fields, entry_of_kind, field_at, is_cut, is_end, is_totals, mark_of, marks_of, or_fault, says_totals, with_earlier}
+use Rattle.xb_pieces.specs.Pieces.{pieces}
 
 pub earlier-none : (marks : Option (List Mark)) → marks ≡ with_earlier [] marks
 earlier-none None = refl

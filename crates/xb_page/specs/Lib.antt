@@ -1,5 +1,4 @@
 pub mod Entries
-pub mod Cuts
 pub mod Places
 pub mod ReadPages
 pub mod ReadBack

@@ -1,6 +1,5 @@
 -- How a page is read back (own format).
-use Rattle.std.specs.Prelude.{◌≡◌, ◌⊎◌, ℕ, ◌+◌, ◌==◌, ◌&&◌, if◌then◌else◌, nat_lt, List, [], ◌∷◌, ◌++◌, codes, decimal, drop, slice_index_or, Bool, true, false, Option, Some, None, option_and_then, option_map, Result, Ok, Err, bytes_eq}
-use Rattle.std.specs.List.{slice_split}
+use Rattle.std.specs.Prelude.{◌≡◌, ◌⊎◌, ℕ, ◌&&◌, if◌then◌else◌, nat_lt, List, [], ◌∷◌, ◌++◌, codes, decimal, drop, slice_index_or, Bool, true, false, Option, Some, None, option_and_then, option_map, Result, Ok, Err, bytes_eq}
 use Rattle.xb_model.specs.declared.key.Key.{Key}
 use Rattle.xb_model.specs.declared.key.Key.TheVariants.{Digit, Kp, St}
 use Rattle.xb_model.specs.declared.key.Tone.{Tone as Pair}
@@ -9,21 +8,13 @@ use Rattle.xb_model.specs.declared.mark.Mark.TheVariants.{Trunk, Tone, Refused}
 use Rattle.xb_model.specs.declared.reason.Reason.{Reason}
 use Rattle.xb_model.specs.declared.reason.Reason.TheVariants.{Mutilated, Unknown, Abandoned, TimedOut}
 use Rattle.xb_model.specs.MfPairs.{pair}
+use Rattle.xb_pieces.specs.Pieces.{pieces}
 use Rattle.xb_rows.specs.RowTexts.{field_number}
 use Rattle.xb_page.specs.Entries.{Entry, entry_with}
 use Rattle.xb_page.specs.Places.{four_digits_of, line_at, next_number, place_after, place_with, text_line}
 use Rattle.xb_page.specs.declared.fault.PageFault.{PageFault}
 use Rattle.xb_page.specs.declared.fault.PageFault.TheVariants as fault
 use Rattle.xb_page.specs.declared.place.Place.{Place}
-
--- the pieces of a text between bytes
-abbrev pub pieces : ℕ → List ℕ → List (List ℕ)
-pieces byte text = slice_split (λ b. b == byte) text
-
--- the pieces that are left of a text
-abbrev pub pieces_left : ℕ → Option (List ℕ) → List (List ℕ)
-pieces_left byte None = []
-pieces_left byte (Some text) = pieces byte text
 
 -- LF, space, plus, colon
 abbrev pub line_feed : ℕ

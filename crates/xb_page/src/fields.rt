@@ -2,7 +2,8 @@
 ghost use Rattle.std.specs.Prelude.{◌≡◌, ◌≤◌, ◌<◌, ◌^◌, IfSome, option_copied, bytes_eq, decimal};
 ghost use Rattle.xb_rows.specs.RowTexts.{field_number};
 ghost use Rattle.xb_page.specs.Places.{four_digits_of};
-ghost use Rattle.xb_page.specs.ReadPages.{heard_of, hz_of, key_of, mark_of, pair_of, pieces_left, reason_of, refusal_of_fields, space, trunk_of};
+ghost use Rattle.xb_page.specs.ReadPages.{heard_of, hz_of, key_of, mark_of, pair_of, reason_of, refusal_of_fields, space, trunk_of};
+ghost use Rattle.xb_pieces.specs.Pieces.{pieces_left};
 
 use crate::pieces::two_pieces;
 use itoa::Buffer;

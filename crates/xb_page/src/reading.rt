@@ -1,15 +1,17 @@
 // The entries of a page.
 ghost use Rattle.std.specs.Prelude.{◌≡◌, ◌≤◌, ◌<◌, ◌+◌, ◌^◌, Ok, IfOk, IfErr, OnOk, ◌∷◌, option_map, Some, [], length, drop, option_copied};
 ghost use Rattle.xb_page.specs.Places.{text_line};
-ghost use Rattle.xb_page.specs.ReadPages.{IsFaultOf, IsWrongKey, IsWrongRefusal, TakesLine, end_of, entries_of_page, entry_of_fields, entry_of_kind, field_at, is_end, is_totals, line_feed, marks_of, pieces, pieces_left, refusal_of_fields, says_totals, space};
+ghost use Rattle.xb_page.specs.ReadPages.{IsFaultOf, IsWrongKey, IsWrongRefusal, TakesLine, end_of, entries_of_page, entry_of_fields, entry_of_kind, field_at, is_end, is_totals, line_feed, marks_of, refusal_of_fields, says_totals, space};
+ghost use Rattle.xb_pieces.specs.Pieces.{pieces, pieces_left};
 
 use crate::entry::PageEntry;
 use crate::fault::PageFault;
 use crate::fields::{is_decimal, mark_of, refusal_of};
-use crate::pieces::{first_piece, four_pieces};
+use crate::pieces::four_pieces;
 use crate::place::Place;
 use std::alloc::Global;
 use xb_model::{Key, LineNo, Mark};
+use xb_pieces::first_piece;
 
 /// The most bytes of a page (own limit).
 pub const MOST_PAGE_BYTES: usize = 67_108_864;

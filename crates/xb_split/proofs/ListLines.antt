@@ -4,7 +4,7 @@ use Rattle.std.specs.Prelude.{◌==◌}
 use Rattle.std.specs.List.{join_with_byte}
 use Rattle.std.proofs.lemmas.List.Splits.{join_with_byte-slice_split}
 use Rattle.xb_split.specs.Lists.{before, line_feed, range_of_words, ranges_of_lines, space}
-use Rattle.xb_split.specs.Pieces.{pieces}
+use Rattle.xb_pieces.specs.Pieces.{pieces}
 
 false_is_true : false ≡ true → ⊥
 false_is_true e = cc

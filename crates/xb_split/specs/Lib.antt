@@ -3,5 +3,4 @@ pub mod Loads
 pub mod PlanFaults
 pub mod Ranges
 pub mod Counts
-pub mod Pieces
 pub mod Lists

@@ -1,6 +1,6 @@
 -- The list of parts (own format): a text line for each, with the name of its deck, its first and its last line,
 -- and how many records it has.
-use Rattle.std.specs.Prelude.{ℕ, ◌≡◌, ◌+◌, ◌-◌, ◌++◌, List, [], ◌∷◌, codes, decimal, drop, slice_index_or, Option, Some, None, option_and_then, option_map}
+use Rattle.std.specs.Prelude.{ℕ, ◌≡◌, ◌+◌, ◌-◌, ◌++◌, List, [], ◌∷◌, codes, decimal, slice_index_or, Option, Some, None, option_and_then, option_map}
 use Rattle.std.specs.List.{flat_map}
 use Rattle.xb_model.specs.Page.{four_digits}
 use Rattle.xb_rows.specs.RowTexts.{line_of}
@@ -8,7 +8,7 @@ use Rattle.xb_split.specs.declared.list.ListFault.{ListFault}
 use Rattle.xb_split.specs.declared.list.ListFault.TheVariants as fault
 use Rattle.xb_split.specs.declared.list.ListedPart.{ListedPart}
 use Rattle.xb_split.specs.declared.range.LineRange.{LineRange}
-use Rattle.xb_split.specs.Pieces.{pieces}
+use Rattle.xb_pieces.specs.Pieces.{pieces}
 
 -- LF, space
 abbrev pub line_feed : ℕ

@@ -1,13 +1,13 @@
 // The list of parts.
 ghost use Rattle.std.specs.Prelude.{◌≡◌, ◌++◌, IfErr, IfOk, OnOk, Some, drop, option_copied, string_bytes};
 ghost use Rattle.xb_split.specs.Lists.{IsListFault, deck_name, list_of, listed_part, range_of_words, ranges_of_list, space, word_at};
-ghost use Rattle.xb_split.specs.Pieces.{pieces, pieces_left};
+ghost use Rattle.xb_pieces.specs.Pieces.{pieces, pieces_left};
 
 use crate::load::Load;
-use crate::pieces::first_piece;
 use crate::range::LineRange;
 use std::alloc::{AllocError, AllocFailed, Global};
 use thiserror::Error;
+use xb_pieces::first_piece;
 use xb_rows::line_of;
 
 /// Why a text gives no ranges.

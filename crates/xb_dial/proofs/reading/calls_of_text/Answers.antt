@@ -1,8 +1,9 @@
 use Rattle.std.proofs.Common.{◌+◌, map, sym, ap, ◌∙◌, arith}
 use Rattle.std.specs.Prelude.{option_copied}
 use Rattle.std.specs.Str.Lines.{strip_carriage_return}
-use Rattle.xb_dial.specs.CallTexts.{calls_from, calls_of_text}
-use Rattle.xb_dial.specs.TextLines.{after, lines_left}
+use Rattle.xb_dial.specs.CallTexts.{calls_from, calls_of_text, line_feed}
+use Rattle.xb_dial.specs.TextLines.{after}
+use Rattle.xb_pieces.specs.Pieces.{pieces_left}
 use Rattle.xb_dial.proofs.TextLines.{after-none, calls_from-none, few-lines, numbers_are_complete}
 use Rattle.xb_dial.proofs.reading.calls_of_text.Goals as goal
 
@@ -20,7 +21,7 @@ returns-clause-calls c =
     let n = c.loop-left.n + 1 in
     c.loop-left.invariant.calls
     ∙ ap (λ left. after c.loop-left.calls.items
-    (calls_from c.args.whole n (map strip_carriage_return (lines_left (option_copied left)))))
+    (calls_from c.args.whole n (map strip_carriage_return (pieces_left line_feed (option_copied left)))))
     c.in_default.is
     ∙ calls_from-none c.args.whole n c.loop-left.calls.items
 

@@ -1,8 +1,9 @@
 use Rattle.std.proofs.Common.{◌≡◌, ◌+◌, ◌≤◌, length, map}
 use Rattle.std.specs.Prelude.{option_copied}
 use Rattle.std.specs.Str.Lines.{strip_carriage_return}
-use Rattle.xb_dial.specs.CallTexts.{calls_from, calls_of_text}
-use Rattle.xb_dial.specs.TextLines.{after, lines_left}
+use Rattle.xb_dial.specs.CallTexts.{calls_from, calls_of_text, line_feed}
+use Rattle.xb_dial.specs.TextLines.{after}
+use Rattle.xb_pieces.specs.Pieces.{pieces_left}
 use Rattle.xb_dial.proofs.reading.calls_of_text.Given as goal
 
 abbrev pub invariant-loop-left : goal.invariant-loop-left
@@ -10,9 +11,9 @@ invariant-loop-left l = record {
   calls :
       calls_of_text l.fn.whole l.fn.text
       ≡ after l.calls.items (calls_from l.fn.whole (l.n + 1)
-      (map strip_carriage_return (lines_left (option_copied l.left))));
-  few : l.n + length (lines_left (option_copied l.left)) ≤ length l.fn.text + 1;
+      (map strip_carriage_return (pieces_left line_feed (option_copied l.left))));
+  few : l.n + length (pieces_left line_feed (option_copied l.left)) ≤ length l.fn.text + 1;
 }
 
 abbrev pub decreases-loop-left : goal.decreases-loop-left
-decreases-loop-left l = length (lines_left (option_copied l.left))
+decreases-loop-left l = length (pieces_left line_feed (option_copied l.left))

@@ -1,6 +1,7 @@
 use Rattle.std.proofs.Common.{◌∙◌, sym}
 use Rattle.std.specs.Prelude.{option_copied}
-use Rattle.xb_page.specs.ReadPages.{pieces, pieces_left, space}
+use Rattle.xb_page.specs.ReadPages.{space}
+use Rattle.xb_pieces.specs.Pieces.{pieces, pieces_left}
 use Rattle.xb_page.proofs.ReadSteps.{fields-in_turn, same-fault, same-ok}
 use Rattle.xb_page.proofs.reading.entry_of_line.Goals as goal
 

@@ -1,7 +1,8 @@
-use Rattle.std.proofs.Common.{◌≡◌, ◌∙◌, ℕ, ◌+◌, List, [], ◌∷◌, length, ap, sym, inr, arith, rules, Err, false}
+use Rattle.std.proofs.Common.{◌≡◌, ◌∙◌, ℕ, List, [], ◌∷◌, length, ap, sym, inr, arith, rules, Err, false}
 use Rattle.std.specs.Prelude.{option_copied}
 use Rattle.xb_page.specs.declared.fault.PageFault.TheVariants as fault
-use Rattle.xb_page.specs.ReadPages.{IsFaultOf, after, entries_from, entries_of_page, first_place, is_end, line_feed, pieces, pieces_left}
+use Rattle.xb_page.specs.ReadPages.{IsFaultOf, after, entries_from, entries_of_page, first_place, is_end, line_feed}
+use Rattle.xb_pieces.specs.Pieces.{pieces, pieces_left}
 use Rattle.xb_page.specs.Places.{place_with, text_line}
 use Rattle.xb_page.specs.declared.place.Place.{Place}
 use Rattle.xb_page.proofs.ReadSteps.{after-none, few-lines, line-early, line-fault, line-last, line-more, line-none, lines-end}

@@ -1,7 +1,7 @@
-use Rattle.std.proofs.Common.{◌≡◌, ◌∙◌, ◌∷◌, List, ℕ, ap, sym}
+use Rattle.std.proofs.Common.{◌∙◌, List, ℕ, ap, sym}
 use Rattle.std.specs.Prelude.{option_copied}
 use Rattle.xb_split.specs.Lists.{line_feed, ranges_of_lines, with_earlier}
-use Rattle.xb_split.specs.Pieces.{pieces_left}
+use Rattle.xb_pieces.specs.Pieces.{pieces_left}
 use Rattle.xb_split.proofs.ListLines.{no_range}
 use Rattle.xb_split.proofs.list.ranges_of_list.Goals as goal
 

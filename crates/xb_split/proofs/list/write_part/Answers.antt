@@ -1,4 +1,3 @@
-use Rattle.std.proofs.Common.{rules}
 use Rattle.std.proofs.lemmas.Result.{on_ok_weaker}
 use Rattle.xb_split.proofs.ListFormats.{part_line}
 use Rattle.xb_split.proofs.list.write_part.Goals as goal

@@ -5,8 +5,7 @@ use Rattle.std.specs.List.{position_or_len, before_first, after_first, slice_spl
 use Rattle.std.proofs.lemmas.Grind.{common_steps}
 use Rattle.std.proofs.lemmas.List.Sums.{fails_before_first}
 use Rattle.std.proofs.lemmas.List.Splits.{slice_split_first, slice_split_none}
-use Rattle.xb_split.specs.Pieces.{cut_at}
-use Rattle.xb_split.specs.Pieces.{pieces, pieces_left}
+use Rattle.xb_pieces.specs.Pieces.{cut_at, pieces, pieces_left}
 
 some_is : {A : Type 0} {x y : A} → Some x ≡ Some y → x ≡ y
 some_is {A} {x} {y} e = ap (λ o. unwrap_or o x) e
