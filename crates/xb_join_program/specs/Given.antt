@@ -1,5 +1,5 @@
 -- Which lines each page is given.
-use Rattle.std.specs.Prelude.{ℕ, ◌≡◌, List, [], ◌∷◌, Option, Some, None, Result, Ok, Err}
+use Rattle.std.specs.Prelude.{ℕ, List, [], ◌∷◌, Option, Some, None}
 use Rattle.xb_model.specs.declared.line.TheConstants.{LINES}
 use Rattle.xb_split.specs.declared.range.LineRange.{LineRange}
 use Rattle.xb_parts.specs.Joining.{Given, given_with, lines_taken}

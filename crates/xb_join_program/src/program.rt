@@ -1,7 +1,7 @@
 // The program: its words and files in, a status and a page out.
 ghost use Rattle.std.specs.Prelude.{None};
 ghost use Rattle.xb_streams.specs.Programs.{streams};
-ghost use Rattle.xb_join_program.specs.Options.{texts_of};
+ghost use Rattle.xb_words.specs.Commands.{texts_of};
 ghost use Rattle.xb_join_program.specs.Program.{AttendsJoin};
 
 use crate::files::PageFiles;
@@ -12,7 +12,7 @@ use std::io::Write;
 use xb_streams::{DONE, report, tell_words};
 
 // The program's name.
-const PROGRAM: &str = "mfjoin";
+pub(crate) const PROGRAM: &str = "mfjoin";
 
 // The line of refused words.
 const USAGE: &[u8] = b"mfjoin: usage: mfjoin [--list FILE] PAGE...\n";

@@ -1,7 +1,6 @@
 -- The command of a program, as clap is given it.
-use Rattle.std.specs.Prelude.{List, [], ◌∷◌, Some, String, map, pos, string_bytes}
+use Rattle.std.specs.Prelude.{List, [], ◌∷◌, Some, String, map, pos, string_bytes, true}
 use Rattle.std.specs.Borrow.{Bor}
-use Rattle.clap.specs.Lexer.{usize_max}
 use Rattle.clap.specs.Simple.{App, new_app, new_rule, with_rule}
 use Rattle.clap.specs.Walk.{Rule, Text}
 use Rattle.clap.specs.declared.builder.action.ArgAction.TheVariants.{Append, Set, SetTrue}
@@ -22,11 +21,8 @@ rule_of_word name takes.Number = record (new_rule name) {
   parser = Some (parser.Signed (pos 0) (pos 4294967295));
 }
 rule_of_word name takes.Text = record (new_rule name) { long = Some name; action = Some Set }
-rule_of_word name takes.Itself = record (new_rule name) { action = Some Set }
-rule_of_word name takes.AllThatFollow = record (new_rule name) {
-  action = Some Append;
-  range = Some (record { start_inclusive = 1; end_inclusive = usize_max });
-}
+rule_of_word name takes.Itself = record (new_rule name) { action = Some Set; required = true }
+rule_of_word name takes.AllThatFollow = record (new_rule name) { action = Some Append; required = true }
 
 -- a command that also takes these words
 abbrev pub with_words : App → List (Text × Takes) → App

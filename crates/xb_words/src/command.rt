@@ -16,9 +16,9 @@ pub enum Takes {
     Number,
     /// A text: `--name TEXT`.
     Text,
-    /// The word itself, which stands alone.
+    /// The word itself, which stands alone and may not be left out.
     Itself,
-    /// The word itself, and each later one that stands alone.
+    /// The word itself and each later one that stands alone, of which there is one at least.
     AllThatFollow,
 }
 
@@ -36,8 +36,8 @@ fn arg_of<'a>(alloc: Global, name: &'a str, takes: Takes) -> Arg<'a>
                 .value_parser(clap::value_parser!(u32))
         }
         Takes::Text => arg.long(name).action(ArgAction::Set),
-        Takes::Itself => arg.action(ArgAction::Set),
-        Takes::AllThatFollow => arg.num_args(1..).action(ArgAction::Append),
+        Takes::Itself => arg.required(true).action(ArgAction::Set),
+        Takes::AllThatFollow => arg.required(true).action(ArgAction::Append),
     }
 }
 
