@@ -22,13 +22,16 @@ static void check(int right, const char *what)
     }
 }
 
-/* A row that is refused with this status: the line is as it was, and no mark is given. */
+/* A row that is refused with this status: the line and the marks are as they were, and no mark is given. */
 static void refuses(const mf_table *by, mf_row row, size_t room, enum mf_status status, const char *what)
 {
     const mf_line before = line;
+    mf_mark there[MF_MOST_MARKS];
+    memcpy(there, marks, sizeof there);
     count = 99;
     check(mf_take(by, &line, &row, marks, room, &count) == status, what);
     check(count == 0 && memcmp(&before, &line, sizeof line) == 0, what);
+    check(memcmp(there, marks, sizeof there) == 0, what);
 }
 
 /* A text that is refused with this status and text: the table is as it was. */
@@ -59,7 +62,7 @@ static void try_rows(void)
     check(mf_close(&table, &line, MF_LINES, marks, MF_MOST_MARKS, &count) == MF_WRONG_LINE, "a close of line 10000");
 }
 
-/* The row that gives four marks, with room for so many. */
+/* The row that gives four marks, after it was refused for each reason and given again. */
 static void try_room(void)
 {
     mf_row row = good;
@@ -70,10 +73,17 @@ static void try_room(void)
         row = (mf_row){7, MF_MAKE, pulse < 10 ? 40 : 179};
         check(mf_take(&table, &line, &row, marks, 0, &count) == MF_DONE && count == 0, "a make");
     }
-    for (size_t room = 0; room < 4; room++)
-        refuses(&table, (mf_row){7, MF_MAKE, 1}, room, MF_NO_ROOM, "room for too few marks");
     row = (mf_row){7, MF_MAKE, 1};
+    refuses(&zeros, row, 4, MF_NOT_OPENED, "a table that was not opened");
+    refuses(&table, (mf_row){10000, MF_MAKE, 1}, 4, MF_WRONG_LINE, "a wrong line, while a line dials");
+    refuses(&table, (mf_row){7, 'X', 1}, 4, MF_WRONG_STATE, "a wrong state, while a line dials");
+    refuses(&table, (mf_row){7, MF_CLOSE, 1}, 4, MF_WRONG_MS, "a wrong ms, while a line dials");
+    for (size_t room = 0; room < 4; room++)
+        refuses(&table, row, room, MF_NO_ROOM, "room for too few marks");
     check(mf_take(&table, &line, &row, marks, 4, &count) == MF_DONE && count == 4, "room for four marks");
+    check(marks[0].kind == MF_TRUNK && marks[0].value == 1 && marks[1].kind == MF_KP && marks[2].kind == MF_DIGIT &&
+              marks[2].value == 0 && marks[3].kind == MF_ST,
+          "the four marks");
 }
 
 static void try_nulls(void)

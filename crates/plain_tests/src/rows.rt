@@ -2,7 +2,7 @@
 use std::alloc::Global;
 use std::process::Abort;
 use std::test::Fail;
-use xb_plain::{PlainLine, PlainMark, PlainRoute, PlainRow, PlainTable, Refusal, open, take};
+use xb_plain::{PlainLine, PlainMark, PlainRoute, PlainRow, PlainTable, open, take};
 
 const OPERATOR: &[u8] = b"[[route]]\ncode = \"0\"\ntrunk = 1\n";
 
@@ -90,46 +90,5 @@ fn keyed_in_the_row_of_its_pause(rt: HostRuntime) -> Result<(), Fail> {
     for i in 0..4 {
         assert!(rt; is_same(&room[i], &keyed[i]));
     }
-    Ok(())
-}
-
-#[test]
-fn a_refused_row_may_be_given_again(rt: HostRuntime) -> Result<(), Fail> {
-    let table = opened(rt.alloc())?;
-    let mut line = PlainLine::new();
-    let mut room = [mark(9, 9, 9, 9); 4];
-    dial_nearly(&rt, &table, &mut line, &mut room);
-    let last = row(MAKE, 1);
-    let far = PlainRow {
-        line: 10_000,
-        state: MAKE,
-        ms: 1,
-    };
-    assert!(rt;
-        matches!(
-            take(&unopened(), &mut line, &last, &mut room),
-            Err(Refusal::NotOpened)
-        )
-    );
-    assert!(rt; matches!(take(&table, &mut line, &far, &mut room), Err(Refusal::Line)));
-    assert!(rt;
-        matches!(
-            take(&table, &mut line, &row(88, 1), &mut room),
-            Err(Refusal::State)
-        )
-    );
-    assert!(rt;
-        matches!(
-            take(&table, &mut line, &row(67, 1), &mut room),
-            Err(Refusal::Ms)
-        )
-    );
-    assert!(rt;
-        matches!(
-            take(&table, &mut line, &last, &mut room[..3]),
-            Err(Refusal::Room)
-        )
-    );
-    assert!(rt; matches!(take(&table, &mut line, &last, &mut room), Ok(4)));
     Ok(())
 }

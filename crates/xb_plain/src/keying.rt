@@ -24,7 +24,8 @@ pub(crate) fn outcome_of(
     state: &mut RegisterState,
     signals: &[Signal],
 ) -> Option<Dialled>
-    requires { length (whats_from (phase_after register.now) (outcomes_by register.now) state.old signals.now) ≤ 1 }
+    requires { length (whats_from (phase_after register.now) (outcomes_by register.now) state.old signals.now)
+        ≤ 1 }
     ensures outcome { option_to_list result
         ≡ whats_from (phase_after register.now) (outcomes_by register.now) state.old signals.now }
     ensures state { state.new ≡ fold (phase_after register.now) state.old signals.now }
@@ -79,7 +80,8 @@ fn push_key(line: LineNo, key: &Key, marks: &mut ArrayVec<On<Mark>, MOST_MARKS>)
 // Appends each digit with its pair of tones.
 fn push_digits(line: LineNo, digits: &[Digit], marks: &mut ArrayVec<On<Mark>, MOST_MARKS>)
     requires { array_vec_len marks.old + length digits.now ≤ MOST_MARKS }
-    ensures items { marks.new.items ≡ marks.old.items ++ on_line line (map (λ d. tone (DigitKey d)) digits.now) }
+    ensures items { marks.new.items
+        ≡ marks.old.items ++ on_line line (map (λ d. tone (DigitKey d)) digits.now) }
     ensures len { array_vec_len marks.new ≡ array_vec_len marks.old + length digits.now }
 {
     for digit in digits {

@@ -55,7 +55,8 @@ fn put_routes(routes: &[PlainRoute], room: &mut [PlainRoute])
 /// Reads the table that a text writes, as `RouteTable::read` does, into plain numbers. On an `Err` the table
 /// is as it was.
 pub fn open(alloc: Global, text: &[u8], table: &mut PlainTable) -> Result<(), RouteFault>
-    ensures opened { OnOk result ((read : Table) × (table_of_text text.now ≡ Ok read) × Holds table.new read) }
+    ensures opened { OnOk result
+        ((read : Table) × (table_of_text text.now ≡ Ok read) × Holds table.new read) }
     ensures refused { IfErr result (λ f. f ≢ NoMemory → table_of_text text.now ≡ Err f) }
     ensures kept { OnErr result (table.new ≡ table.old) }
 {

@@ -23,7 +23,8 @@ fn numbered(routes: &[PlainRoute], number: u32) -> Option<Route>
 // The route of the code that is the first digits, so many.
 fn numbered_first(routes: &[PlainRoute], digits: &[Digit], count: usize) -> Option<Route>
     requires { count ≤ CODE_DIGITS }
-    ensures route { Rise routes.now → result ≡ option_map route_in (numbered_first count digits.now routes.now) }
+    ensures route { Rise routes.now
+        → result ≡ option_map route_in (numbered_first count digits.now routes.now) }
     ensures digits { count ≤ length digits.now → AreDigits (take count digits.now) }
 {
     let code = digits.get(..count)?;
@@ -33,7 +34,8 @@ fn numbered_first(routes: &[PlainRoute], digits: &[Digit], count: usize) -> Opti
 /// The route of the longest code that the digits begin with; `None` exactly where they begin with no
 /// code.
 pub(crate) fn look(routes: &[PlainRoute], digits: &[Digit]) -> Option<Route>
-    ensures { (all : List CodedRoute) → AreRoutes routes.now all → result ≡ option_map uncoded (route_for all digits.now) }
+    ensures { (all : List CodedRoute) → AreRoutes routes.now all
+        → result ≡ option_map uncoded (route_for all digits.now) }
 {
     for count in CODE_LENGTHS {
         if let Some(route) = numbered_first(routes, digits, count) {

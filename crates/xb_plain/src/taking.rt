@@ -83,7 +83,8 @@ pub fn take(
 ) -> Result<usize, Refusal>
     ensures takes { IfOk result (Takes table.now line.old line.new row.now room.new) }
     ensures few { IfOk result (λ count. count ≤ length room.new) }
-    ensures refused { IfErr result (λ refusal. IsRefused refusal table.now row.now line.old (length room.old)) }
+    ensures refused { IfErr result (λ refusal.
+        IsRefused refusal table.now row.now line.old (length room.old)) }
     ensures kept { OnErr result ((line.new ≡ line.old) × (room.new ≡ room.old)) }
 {
     let Some(plan) = plan_of(table.plan) else {

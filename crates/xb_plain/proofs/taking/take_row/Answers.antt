@@ -1,10 +1,11 @@
 use Rattle.std.proofs.Common.{◌≡◌, ◌∙◌, ◌∷◌, [], ap, sym, length, map, take, arith}
+use Rattle.std.specs.List.{flat_map}
 use Rattle.std.specs.Option.{option_to_list}
 use Rattle.xb_model.specs.Keyings.{marks_of}
 use Rattle.xb_model.specs.Routing.{order_of}
 use Rattle.xb_stage.specs.OnLines.{on_line}
 use Rattle.xb_routes.specs.Text.{table_by}
-use Rattle.xb_live.specs.Chain.{marks_of_row}
+use Rattle.xb_live.specs.Chain.{keyed, marks_of_row, outcomes_of_row}
 use Rattle.xb_plain.specs.Lines.{state_in}
 use Rattle.xb_plain.specs.Marks.{plain_mark}
 use Rattle.xb_plain.specs.Taking.{entries_among}
@@ -26,4 +27,17 @@ returns-else-len-room-clause-takes c = λ all are.
       state = c.hear-outcome.ensures.state;
       marks = ap (λ n. take n c.put_marks.new.room) count ∙ c.put_marks.ensures.written ∙ ap (map plain_mark) (marks ∙ sym given);
       entries = omega (arith, c.saturating_add.ensures, c.hear-outcome.ensures.entries, ap entries_among given, among-order c.args.row.line order);
+    }
+
+pub returns-in_default-clause-takes : goal.returns-in_default-clause-takes
+returns-in_default-clause-takes c = λ all are.
+    let table = table_by all c.args.plan c.args.limits in
+    let state = state_in c.args.line.now in
+    let none : [] ≡ outcomes_of_row table state c.args.row = ap (λ o. on_line c.args.row.line (option_to_list o)) (sym c.in_default.is) ∙ c.hear-outcome.ensures.outcome in
+    let given : marks_of_row table state c.args.row ≡ [] = ap (flat_map (keyed table)) (sym none) in
+    let zero : entries_among (marks_of_row table state c.args.row) ≡ 0 = ap entries_among given in
+    record {
+      state = c.hear-outcome.ensures.state;
+      marks = ap (map plain_mark) (sym given);
+      entries = omega (arith, c.hear-outcome.ensures.entries, zero);
     }
