@@ -1,6 +1,5 @@
 -- What is counted, one row after another.
 use Rattle.std.proofs.Common.{◌≡◌, ◌≤◌, ◌<◌, ℕ, ◌+◌, eqb, true, false, Bool, cond, not, List, [], ◌∷◌, ◌++◌, length, get_or, set, refl, sym, ap, ◌∙◌, subst, eq-eqb, append-nil, length-append, add-zero, arith, Some, ⊎_elim, eqb-true, vec_len, Vec}
-use Rattle.std.specs.Prelude.{count_by, sum_by}
 use Rattle.std.specs.List.{All, AllByRecursion}
 use Rattle.std.proofs.lemmas.Bool.{cases_lt, eqb-false}
 use Rattle.std.proofs.lemmas.List.{get_or_past, nil_from_length}
@@ -14,8 +13,8 @@ use Rattle.xb_model.specs.Page.{is_keyed, is_refused}
 use Rattle.xb_model.specs.Rows.{LoopRow}
 use Rattle.xb_model.proofs.Lines.{of_line-append, of_line-here, of_line-other}
 use Rattle.xb_model.proofs.LineValues.{AreValues-same, AreValues-set}
-use Rattle.xb_routes.specs.Table.{Table}
 use Rattle.xb_tape.specs.GatheredMarks.{whats_of}
+use Rattle.xb_live.proofs.OneLine.{both_all}
 use Rattle.xb_live.specs.Office.{HasTaken, IsEntryOrNone, marks_of_rows}
 use Rattle.xb_entries.specs.Entries.{Entry, count_keyed, count_refused, entries_given, entries_of_rows, entry_on, next_number, numbered_after}
 use Rattle.xb_entries.specs.Counting.{Counted, HasCounted, entry_of, numbered_by}
@@ -34,6 +33,7 @@ counted-none office taken lines zeros keyed refused =
     let none : entries_of_rows office.live.table [] ≡ [] = ap entries_given (sym taken.chain) in
     record {
       taken = subst (HasTaken office.live []) taken.chain taken;
+      lines = tt;
       numbers = λ l d h. AreValues-same office.numbers 0 lines zeros l d h ∙ sym (ap (λ es. length (of_line on_line_of l es)) none);
       keyed = keyed ∙ sym (ap count_keyed none);
       refused = refused ∙ sym (ap count_refused none);
@@ -47,13 +47,14 @@ pub counted-more :
     → entries_of_rows office.live.table (rows ++ row ∷ []) ≡ entries_of_rows office.live.table rows ++ more
     → AreValues after.numbers (λ l. length (of_line on_line_of l (entries_of_rows office.live.table rows ++ more)))
     → after.keyed ≡ office.keyed + count_keyed more → after.refused ≡ office.refused + count_refused more
-    → HasCounted after (rows ++ row ∷ [])
-counted-more office after rows row more counted table taken entries numbers keyed refused =
+    → row.line < LINES → HasCounted after (rows ++ row ∷ [])
+counted-more office after rows row more counted table taken entries numbers keyed refused below =
     let now : entries_of_rows after.live.table (rows ++ row ∷ []) ≡ entries_of_rows office.live.table rows ++ more
     = ap (λ t. entries_of_rows t (rows ++ row ∷ [])) table ∙ entries in
     let count = λ (test : Entry → Bool). sum_by-append (λ e. cond (test e) 1 0) (entries_of_rows office.live.table rows) more in
     record {
       taken = subst (HasTaken after.live (rows ++ row ∷ [])) taken.chain taken;
+      lines = both_all (λ r. row_line r < LINES) rows (row ∷ []) counted.lines (below, tt);
       numbers = λ l d h. numbers l d h ∙ sym (ap (λ es. length (of_line on_line_of l es)) now);
       keyed = keyed ∙ ap (λ n. n + count_keyed more) counted.keyed ∙ sym (count (λ e. is_keyed e.what)) ∙ sym (ap count_keyed now);
       refused = refused ∙ ap (λ n. n + count_refused more) counted.refused ∙ sym (count (λ e. is_refused e.what)) ∙ sym (ap count_refused now);
@@ -116,12 +117,12 @@ module _ (office after : Counted) (row : LoopRow) (table : after.live.table ≡ 
 
   -- it completes no entry
   module _ (none : after.entry ≡ []) where
-    pub row-silent : after.numbers ≡ office.numbers → after.keyed ≡ office.keyed → after.refused ≡ office.refused → HasCounted after (rows ++ row ∷ [])
-    row-silent numbers keyed refused =
+    pub row-silent : row.line < LINES → after.numbers ≡ office.numbers → after.keyed ≡ office.keyed → after.refused ≡ office.refused → HasCounted after (rows ++ row ∷ [])
+    row-silent below numbers keyed refused =
         counted-more office after rows row [] counted table now
         (row-completes ∙ ap (λ marks. earlier ++ entry_of row.line marks) none)
         (subst (λ ns. AreValues ns (λ l. length (of_line on_line_of l (earlier ++ [])))) (sym numbers) (numbers-same office.numbers earlier counted.numbers))
-        (keyed ∙ sym (add-zero office.keyed)) (refused ∙ sym (add-zero office.refused))
+        (keyed ∙ sym (add-zero office.keyed)) (refused ∙ sym (add-zero office.refused)) below
 
     pub row-unnumbered : numbered_after earlier (entry_of row.line after.entry) ≡ []
     row-unnumbered = ap (λ marks. numbered_after earlier (entry_of row.line marks)) none ∙ numbered_after-none earlier
@@ -150,7 +151,7 @@ module _ (office after : Counted) (row : LoopRow) (table : after.live.table ≡ 
         (subst (λ ns. AreValues ns (λ l. length (of_line on_line_of l (earlier ++ entry_on row.line after.entry ∷ [])))) (sym numbers)
         (numbers-more office.numbers earlier row.line after.entry number counted.numbers lines below next))
         (keyed_is ∙ ap (λ n. office.keyed + n) ((counts refused (is_refused after.entry) refuses).0 ∙ sym (sum_by-cons (λ (e : Entry). cond (is_keyed e.what) 1 0) (entry_on row.line after.entry) [])))
-        (refused_is ∙ ap (λ n. office.refused + n) ((counts refused (is_refused after.entry) refuses).1 ∙ sym (sum_by-cons (λ (e : Entry). cond (is_refused e.what) 1 0) (entry_on row.line after.entry) [])))
+        (refused_is ∙ ap (λ n. office.refused + n) ((counts refused (is_refused after.entry) refuses).1 ∙ sym (sum_by-cons (λ (e : Entry). cond (is_refused e.what) 1 0) (entry_on row.line after.entry) []))) below
       where
         counts : (r s : Bool) → s ≡ r → (cond r 0 1 ≡ cond (not s) 1 0 + 0) × (cond r 1 0 ≡ cond s 1 0 + 0)
         counts true s e = rw e (refl, refl)

@@ -1,11 +1,10 @@
 -- Entries with their numbers.
-use Rattle.std.proofs.Common.{◌≡◌, ℕ, ◌+◌, eqb, true, false, List, [], ◌∷◌, ◌++◌, map, length, refl, sym, ap, ◌∙◌, append_assoc, append-nil, length-append}
+use Rattle.std.proofs.Common.{◌≡◌, ℕ, List, [], ◌∷◌, ◌++◌, refl, sym, ap, ◌∙◌, append_assoc, append-nil}
 use Rattle.std.specs.List.{flat_map}
 use Rattle.std.proofs.lemmas.List.Concat.{flat_map-append}
 use Rattle.xb_model.specs.declared.mark.Mark.{Mark}
-use Rattle.xb_model.specs.Lines.{on_line_of, of_line}
 use Rattle.xb_entries.specs.declared.form.Form.{Form}
-use Rattle.xb_entries.specs.Entries.{Entry, Numbered, entry_on, next_number, numbered_after}
+use Rattle.xb_entries.specs.Entries.{Entry, Numbered, next_number, numbered_after}
 use Rattle.xb_entries.specs.Counting.{entry_of}
 use Rattle.xb_entries.specs.Texts.{text_of, text_after}
 

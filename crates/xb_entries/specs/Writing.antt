@@ -1,5 +1,5 @@
 -- What was written of the entries of rows.
-use Rattle.std.specs.Prelude.{◌≡◌, ◌⊎◌, ℕ, List, [], ◌∷◌, ◌++◌, Option, Result, Ok, Err}
+use Rattle.std.specs.Prelude.{◌⊎◌, ℕ, List, Option, Result, Ok, Err}
 use Rattle.std.specs.Io.KnownBytes.{Appends}
 use mathlib.Core.List.{IsPrefix}
 use Rattle.xb_model.specs.Rows.{LoopRow}
@@ -9,6 +9,7 @@ use Rattle.xb_entries.specs.declared.fault.EntriesFault.{EntriesFault}
 use Rattle.xb_entries.specs.declared.fault.EntriesFault.TheVariants.{NoMemory, Write}
 use Rattle.xb_entries.specs.declared.form.Form.{Form}
 use Rattle.xb_entries.specs.Counting.{Counted, HasCounted}
+use Rattle.xb_entries.specs.Pages.{SortsIntoPage}
 use Rattle.xb_entries.specs.Texts.{entries_text, whole_text, with_closes}
 
 -- an office has taken these rows, and a writer that had `start` got exactly their entries
@@ -36,10 +37,14 @@ Writes form office rows (Ok u) start out = HasWritten form office rows start out
 Writes form office rows (Err NoMemory) start out = GotFirst form office.live.table rows start out
 Writes form office rows (Err Write) start out = GotBeginning form office.live.table rows start out
 
+-- a writer got all that is printed of rows that end: sorted by line and number, this is their page
+abbrev pub GotAll : Form → Table → List LoopRow → Option (List ℕ) → Option (List ℕ) → Type 0
+GotAll form table rows start out = Appends start out (whole_text form table rows) × SortsIntoPage table rows
+
 -- what came of the end of rows
 abbrev pub Ends :
     Form → Table → List LoopRow → Result (Unit {0}) EntriesFault → Option (List ℕ) → Option (List ℕ) → Type 0
-Ends form table rows (Ok u) start out = Appends start out (whole_text form table rows)
+Ends form table rows (Ok u) start out = GotAll form table rows start out
 Ends form table rows (Err NoMemory) start out = GotFirst form table (with_closes rows) start out
 Ends form table rows (Err Write) start out = AppendsBeginning start out (whole_text form table rows)
     ⊎ GotBeginning form table (with_closes rows) start out

@@ -13,7 +13,7 @@ use Rattle.xb_routes.specs.Text.{table_of_text}
 use Rattle.xb_streams.specs.Writing.{AppendsBeginning}
 use Rattle.xb_entries.specs.declared.form.Form.{Form}
 use Rattle.xb_entries.specs.Texts.{entries_text, whole_text, with_closes}
-use Rattle.xb_entries.specs.Writing.{GotBeginning, GotFirst}
+use Rattle.xb_entries.specs.Writing.{GotAll, GotBeginning, GotFirst}
 use Rattle.xb_live_program.specs.declared.fault.LiveFault.{LiveFault}
 use Rattle.xb_live_program.specs.declared.fault.LiveFault.TheVariants as fault
 use Rattle.xb_live_program.specs.Decks.{Has}
@@ -23,13 +23,12 @@ abbrev pub rows_taken : List LoopRow → Option RowFault → List LoopRow
 rows_taken rows None = with_closes rows
 rows_taken rows (Some f) = rows
 
--- what was written of rows and the stop after them: all that is to be printed where they end; where a fault
--- stops them, exactly the entries that they complete; where a write failed, the beginning of what is to be
--- printed; else the entries of the first of them
+-- what was written of rows and the stop after them: all that is to be printed where they end, which sorted is their
+-- page; where a fault stops them, exactly the entries that they complete; where a write failed, the beginning of what
+-- is to be printed; else the entries of the first of them
 abbrev pub Prints :
     Form → Table → Rest → Result (Unit {0}) LiveFault → Option (List ℕ) → Option (List ℕ) → Type 0
-Prints form table rest (Ok u) old new =
-    (rest.stop ≡ None) × Appends old new (whole_text form table rest.rows)
+Prints form table rest (Ok u) old new = (rest.stop ≡ None) × GotAll form table rest.rows old new
 Prints form table rest (Err (fault.Rows f)) old new =
     (rest.stop ≡ Some f) × Appends old new (entries_text form table rest.rows)
 Prints form table rest (Err fault.Write) old new =

@@ -1,4 +1,5 @@
-use Rattle.std.proofs.Common.{◌≡◌, ◌+◌, ◌<◌, ◌++◌, ◌∷◌, [], ℕ, Err, refl, rules, sym, ap, ◌∙◌, subst, arith}
+use Rattle.std.proofs.Common.{◌≡◌, ◌+◌, ◌++◌, ◌∷◌, [], ℕ, Err, refl, rules, sym, ap, ◌∙◌, subst, arith}
+use Rattle.xb_model.specs.declared.line.TheConstants.{LINES}
 use Rattle.xb_model.specs.Rows.{close_row}
 use Rattle.xb_entries.specs.Texts.{with_closes}
 use Rattle.xb_entries.specs.Writing.{HasWritten, Writes}
@@ -40,3 +41,9 @@ loop-number-preserved g c =
       })
       | in_default w ↦ absurd (none_below c.new.result c.loop-number.number c.new.ensures.variant c.loop-number-test.true w.in_default.is)
     ]
+
+pub returns-clause-written : goal.returns-clause-written
+returns-clause-written g c = λ rows start before.
+    let last : c.loop-number.number ≡ LINES = omega arith in
+    subst (λ n. HasWritten c.args.form c.loop-number.office (with_closes_below n rows) start (g.W.Write.contents c.loop-number.out)) last
+    (c.loop-number.invariant.written rows start before)

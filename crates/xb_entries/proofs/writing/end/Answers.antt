@@ -1,9 +1,9 @@
-use Rattle.std.proofs.Common.{◌≡◌, Err, inl, refl, rules, sym, ap, ◌∙◌, subst}
+use Rattle.std.proofs.Common.{◌≡◌, Err, inl, rules, sym, ◌∙◌, subst}
 use Rattle.std.specs.Io.KnownBytes.{Appends}
-use Rattle.xb_model.specs.Page.{totals_text}
 use Rattle.xb_streams.specs.Writing.{AppendsBeginning}
 use Rattle.xb_entries.specs.declared.fault.EntriesFault.TheVariants.{NoMemory, Write}
 use Rattle.xb_entries.specs.Writing.{Ends}
+use Rattle.xb_entries.proofs.Pages.{sorts_into_page}
 use Rattle.xb_entries.proofs.Written.{faults-end, totals-missing, totals-whole, totals-begun}
 use Rattle.xb_entries.proofs.writing.end.Goals as goal
 
@@ -30,7 +30,9 @@ returns-in_err-write_whole g c = λ rows start before.
     (subst (AppendsBeginning _ _) (c.as_bytes.ensures.value ∙ c.in_ok-text.ensures) c.write_whole.ensures.beginning)))
 
 pub returns : goal.returns
-returns g c = λ rows start before.
-    totals-whole c.args.form c.close_lines.new.office c.args.office.now.live.table rows start _ c.close_lines.ensures.table
-    (c.in_ok-close_lines.ensures.written rows start before) _
-    (subst (Appends _ _) (c.as_bytes.ensures.value ∙ c.in_ok-text.ensures) c.in_ok-write_whole.ensures.whole)
+returns g c = λ rows start before. (
+  totals-whole c.args.form c.close_lines.new.office c.args.office.now.live.table rows start _ c.close_lines.ensures.table
+      (c.in_ok-close_lines.ensures.written rows start before) _
+      (subst (Appends _ _) (c.as_bytes.ensures.value ∙ c.in_ok-text.ensures) c.in_ok-write_whole.ensures.whole),
+  sorts_into_page c.args.office.now.live.table before.counted.taken.lawful rows before.counted.lines,
+)

@@ -1,4 +1,4 @@
-use Rattle.std.proofs.Common.{◌≡◌, ◌++◌, ◌∷◌, [], Err, refl, rules, sym, ap, ◌∙◌, subst}
+use Rattle.std.proofs.Common.{◌≡◌, ◌++◌, ◌∷◌, [], Err, rules, sym, ap, ◌∙◌, subst}
 use Rattle.std.specs.Io.KnownBytes.{Appends}
 use Rattle.xb_streams.specs.Writing.{AppendsBeginning}
 use Rattle.xb_entries.specs.declared.fault.EntriesFault.TheVariants.{Write}
@@ -6,7 +6,7 @@ use Rattle.xb_entries.specs.Counting.{numbered_by}
 use Rattle.xb_entries.specs.Entries.{Numbered}
 use Rattle.xb_entries.specs.Texts.{text_of}
 use Rattle.xb_entries.specs.Writing.{Writes}
-use Rattle.xb_entries.proofs.Written.{written-none, written-one, written-beginning, written-first}
+use Rattle.xb_entries.proofs.Written.{written-none, written-one, written-beginning}
 use Rattle.xb_entries.proofs.writing.take_row.Goals as goal
 
 pub returns-in_err-write_whole-clause-written : goal.returns-in_err-write_whole-clause-written

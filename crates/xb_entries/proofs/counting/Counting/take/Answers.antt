@@ -1,4 +1,4 @@
-use Rattle.std.proofs.Common.{◌≡◌, ◌+◌, ℕ, [], ◌∷◌, ◌++◌, ◌<◌, Some, true, false, Bool, refl, sym, ap, ◌∙◌, subst, set, add-zero}
+use Rattle.std.proofs.Common.{◌≡◌, ◌+◌, [], ◌∷◌, ◌++◌, ◌<◌, Some, true, false, refl, sym, ap, ◌∙◌, subst, set, add-zero}
 use Rattle.xb_model.specs.declared.line.TheConstants.{LINES}
 use Rattle.xb_model.specs.Page.{is_refused}
 use Rattle.xb_tape.specs.GatheredMarks.{whats_of}
@@ -13,7 +13,7 @@ returns-then-is_empty-clause-counted c = λ rows counted.
     let before : HasCounted office rows = subst (λ (o : Counted). HasCounted o rows) (sym c.self.view_is) counted in
     let after : Counted = record { live = c.take.new.self; numbers = c.self.inside.numbers; keyed = c.self.inside.keyed; refused = c.self.inside.refused; entry = c.keep_marks.new.entry.items } in
     row-silent office after c.args.row c.take.ensures.table c.take.ensures.taken c.take.ensures.line c.take.ensures.entry
-    (c.keep_marks.ensures.marks ∙ ap whats_of c.given.ensures.value) rows before (no_items c.keep_marks.new.entry (sym c.if-is_empty.true ∙ c.is_empty.ensures)) refl refl refl
+    (c.keep_marks.ensures.marks ∙ ap whats_of c.given.ensures.value) rows before (no_items c.keep_marks.new.entry (sym c.if-is_empty.true ∙ c.is_empty.ensures)) (search c.well_formed) refl refl refl
 
 pub returns-then-is_empty-clause-completed : goal.returns-then-is_empty-clause-completed
 returns-then-is_empty-clause-completed c = λ rows counted.
