@@ -75,7 +75,9 @@ fn check_random(rt: &impl Abort, alloc: Global, seed: u64) -> Result<(), Fail> {
     let mut dice = Dice::new(seed.saturating_add(1));
     let first = random_rows(alloc, 0, &mut dice)?;
     let second = random_rows(alloc, 9999, &mut dice)?;
-    check_rows(rt, alloc, &[TABLE], &in_turn(alloc, &first, &second)?)
+    let rows = in_turn(alloc, &first, &second)?;
+    check_rows(rt, alloc, &[TABLE], &rows)?;
+    check_cuts(rt, alloc, &[TABLE], &rows)
 }
 
 #[test]
