@@ -5,8 +5,8 @@
 
    What the caller owes, since no C library can test it: a pointer that is not null points to an object of its
    type, or to as many as the length beside it says, and what a call writes overlaps nothing else that the call
-   is given. What the bytes there say is all the same: any bytes are some table, or none that was opened, and
-   any bytes are some line. */
+   is given. What the bytes there say makes no call unsafe: any bytes in a line are some state of a line, and any
+   bytes in a table are refused, or give some marks; which ones is known of a table that mf_open wrote. */
 #ifndef MFCHAIN_H
 #define MFCHAIN_H
 
