@@ -1,6 +1,6 @@
 // Sounds, byte for byte as another program computed them from sines of its own.
-use std::alloc::Global;
 use std::test::Fail;
+use test_fakes::words_of;
 use xb_tone_program::attend;
 
 pub const PAGE: &[u8] = b"0007 1 REFUSED UNKNOWN 3\n\
@@ -40,20 +40,10 @@ fn adler(bytes: &[u8]) -> u64 {
     b.saturating_mul(65_536).saturating_add(a)
 }
 
-// The words of a command line, the program's name first.
-pub fn words_of(alloc: Global, words: &[&str]) -> Result<Vec<String>, Fail> {
-    let mut all = Vec::new(alloc);
-    all.push("mftone".to_string(alloc)?)?;
-    for word in words {
-        all.push(word.to_string(alloc)?)?;
-    }
-    Ok(all)
-}
-
 #[test]
 fn sounds_as_computed(rt: HostRuntime) -> Result<(), Fail> {
     for (words, page, length, sum) in SOUNDS {
-        let line = words_of(rt.alloc(), words)?;
+        let line = words_of(rt.alloc(), "mftone", words)?;
         let mut reader = *page;
         let mut out = Vec::new(rt.alloc());
         let mut err = Vec::new(rt.alloc());

@@ -1,8 +1,8 @@
 // Words, pages and streams in; a status and lines of faults out.
-use crate::sounds::{PAGE, words_of};
+use crate::sounds::PAGE;
 use std::io::ErrorKind;
 use std::test::Fail;
-use test_fakes::{Halting, Short};
+use test_fakes::{Halting, Short, words_of};
 use xb_tone_program::attend;
 
 const USAGE: &[u8] = b"mftone: usage: mftone [--line N] [--entry N] [--lead N] [--kp N] [--key N] \
@@ -82,7 +82,7 @@ const CASES: &[(&[&str], &[u8], u8, &[u8])] = &[
 #[test]
 fn gives_each_fault(rt: HostRuntime) -> Result<(), Fail> {
     for (words, page, status, line) in CASES {
-        let all = words_of(rt.alloc(), words)?;
+        let all = words_of(rt.alloc(), "mftone", words)?;
         let mut reader = *page;
         let mut out = Vec::new(rt.alloc());
         let mut err = Vec::new(rt.alloc());
@@ -96,7 +96,7 @@ fn gives_each_fault(rt: HostRuntime) -> Result<(), Fail> {
 
 #[test]
 fn fails_where_the_page_fails(rt: HostRuntime) -> Result<(), Fail> {
-    let words = words_of(rt.alloc(), &[])?;
+    let words = words_of(rt.alloc(), "mftone", &[])?;
     for place in [0, 1, 99, PAGE.len()] {
         let mut reader = Halting::failing(PAGE, 40, place, ErrorKind::Interrupted);
         let mut out = Vec::new(rt.alloc());
@@ -112,7 +112,7 @@ fn fails_where_the_page_fails(rt: HostRuntime) -> Result<(), Fail> {
 
 #[test]
 fn writes_the_beginning_where_the_sound_fails(rt: HostRuntime) -> Result<(), Fail> {
-    let words = words_of(rt.alloc(), &["--line", "42"])?;
+    let words = words_of(rt.alloc(), "mftone", &["--line", "42"])?;
     let mut page = PAGE;
     let mut whole = Vec::new(rt.alloc());
     let mut quiet = Vec::new(rt.alloc());
