@@ -66,14 +66,15 @@ fn marks_chosen(
     Ok(marks)
 }
 
-// The marks that a page has of what is asked for.
-fn marks_of_page(alloc: Global, choice: Choice, page: &[u8]) -> Result<Vec<Mark>, ToneFault>
-    requires { length page.now ≤ MOST_PAGE_BYTES }
-    ensures marks { IfOk result (λ marks. Names choice page.now marks.items) }
+// The marks that a page has of what is asked for. The text is let go as soon as its entries are read.
+fn marks_of_page(alloc: Global, choice: Choice, page: Vec<u8>) -> Result<Vec<Mark>, ToneFault>
+    requires { length page.items ≤ MOST_PAGE_BYTES }
+    ensures marks { IfOk result (λ marks. Names choice page.items marks.items) }
     ensures some { IfOk result (λ marks. 0 < length marks.items) }
-    ensures fault { IfErr result (λ f. IsFaultOfPage choice page.now f) }
+    ensures fault { IfErr result (λ f. IsFaultOfPage choice page.items f) }
 {
-    let entries = page_entries(alloc, page)?;
+    let entries = page_entries(alloc, &page)?;
+    drop(page);
     if !has_chosen(choice, &entries) {
         return Err(ToneFault::NoEntry);
     }
@@ -124,7 +125,7 @@ pub fn play<R: Read, W: Write>(
 {
     request.cadence.check()?;
     let text = read_whole(alloc, page, MOST_PAGE_BYTES)?;
-    let marks = marks_of_page(alloc, request.choice, &text)?;
+    let marks = marks_of_page(alloc, request.choice, text)?;
     write_sound(alloc, request, &marks, out)?;
     Ok(())
 }

@@ -181,7 +181,8 @@ pub fn write_wav<W: Write>(
         (wav_of (sound_of cadence marks.now))) }
     ensures beginning { AppendsBeginning (W.contents out.old) (W.contents out.new)
         (wav_of (sound_of cadence marks.now)) }
-    ensures too_long { (result ≡ Err SoundFault.TooLong) ↔ (2 ^ 32 ≤ wav_length (sound_of cadence marks.now)) }
+    ensures too_long { (result ≡ Err SoundFault.TooLong)
+        ↔ (2 ^ 32 ≤ wav_length (sound_of cadence marks.now)) }
     ensures untouched { result ≡ Err SoundFault.TooLong → Keeps (W.contents out.old) (W.contents out.new) }
 {
     let sample_bytes = bytes_of_sound(cadence, marks).ok_or(SoundFault::TooLong)?;
