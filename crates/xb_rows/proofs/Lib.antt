@@ -8,4 +8,5 @@ pub mod WrittenRecords
 pub mod RowSteps
 pub mod ScanSteps
 pub mod PlainRecords
+pub mod LeadingNumbers
 pub mod PlainSteps

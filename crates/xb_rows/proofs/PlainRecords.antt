@@ -1,6 +1,8 @@
 -- Records of the plain form are read as `csv` reads them.
-use Rattle.std.proofs.Common.{◌≡◌, ◌≤◌, ◌<◌, ℕ, List, [], ◌∷◌, ◌++◌, length, Option, Some, None, Bool, true, false, ◌&&◌, Result, Ok, refl, sym, ap, ◌∙◌, arith, append_assoc, append-nil, ne_eqb, leb-true}
-use Rattle.std.specs.Prelude.{codes, bytes_eq, nat_le, if◌then◌else◌, option_and_then}
+use Rattle.std.proofs.Common.{◌≡◌, ◌≤◌, ◌<◌, ℕ, List, [], ◌∷◌, ◌++◌, length, Option, Some, None, Bool, true, false, ◌&&◌, Result, Ok, refl, sym, ap, ◌∙◌, arith, append_assoc, append-nil, ne_eqb, leb-true, ◌≢◌}
+use denote.Ref.{Bor}
+use Rattle.std.specs.Option.{MatchOption}
+use Rattle.std.specs.Prelude.{IfSome, codes, bytes_eq, nat_le, if◌then◌else◌, option_and_then}
 use Rattle.std.specs.Str.Parse.{digits_value}
 use Rattle.std.specs.Str.{all_ascii_digits}
 use Rattle.std.proofs.lemmas.Slice.Eq.{bytes_eq-Decides}
@@ -14,7 +16,7 @@ use Rattle.xb_model.specs.declared.row.Contact.{Contact}
 use Rattle.xb_model.specs.declared.row.Contact.TheVariants.{Make, Brk, Close}
 use Rattle.xb_model.specs.declared.fault.RowFault.{RowFault}
 use Rattle.xb_model.specs.declared.fault.RowFault.TheVariants as fault
-use Rattle.xb_rows.specs.Plain.{BeginsWith, IsPlainRow}
+use Rattle.xb_rows.specs.Plain.{BeginsWith, BeginsWithContact, BeginsWithNumber, IsPlainRow}
 use Rattle.xb_rows.specs.RowTexts.{contact_of, field_number, line_of, ms_of, or_fault, row_of_fields}
 use Rattle.xb_rows.specs.WrittenRows.{header}
 use Rattle.xb_rows.specs.declared.record.TheConstants.{LINE_DIGITS, MS_DIGITS}
@@ -25,7 +27,7 @@ and-both true b e = (refl, e)
 and-both false b e = cc e
 
 -- a byte that is a digit
-digit_is : (c : ℕ) → (nat_le 48 c && nat_le c 57) ≡ true → (48 ≤ c) × (c ≤ 57)
+pub digit_is : (c : ℕ) → (nat_le 48 c && nat_le c 57) ≡ true → (48 ≤ c) × (c ≤ 57)
 digit_is c e =
     let both = and-both (nat_le 48 c) (nat_le c 57) e in
     (leb-true 48 c both.0, leb-true c 57 both.1)
@@ -147,18 +149,30 @@ begins-plain a b c rest are = (
         let both = and-both (nat_le 48 x && nat_le x 57) (all_ascii_digits xs) number.0 in
         no_mark x _ (omega (arith, (digit_is x both.0).1))
 
+-- fields that were read one by one are a row, whatever its number is
+row_is : (a b c : List ℕ) (line ms : ℕ) (contact : Contact) → line_of a ≡ Some line → contact_of b ≡ Some contact
+    → field_number MS_DIGITS c ≡ Some ms → may_last contact ms ≡ true
+    → row_of_fields 0 (Some (a, b, c)) ≡ Ok (row_of line contact ms)
+row_is a b c line ms contact el ec em may = rw (el, ec, em, may) refl
+
 -- a row that was found is the first record of the text
-pub plain_row-is : (a b c text rest1 rest2 rest : List ℕ) (row : LoopRow) → text ≡ a ++ 44 ∷ rest1
-    → rest1 ≡ b ++ 44 ∷ rest2 → rest2 ≡ c ++ 10 ∷ rest → row_of_fields 0 (Some (a, b, c)) ≡ Ok row
-    → IsPlainRow text row rest
-plain_row-is a b c text rest1 rest2 rest row e1 e2 e3 is =
-    let are = fields_of_row_are 0 a b c row is in
-    rw (e1, e2, e3) ((a ∷ b ∷ c ∷ []), begins-plain a b c rest are.0, are.1)
+pub plain_row-is : (text rest1 rest2 rest3 rest : List ℕ) (line ms : ℕ) (contact : Contact)
+    → BeginsWithNumber LINE_DIGITS text line rest1 → BeginsWithContact rest1 contact rest2
+    → BeginsWithNumber MS_DIGITS rest2 ms rest3 → rest3 ≡ 10 ∷ rest → may_last contact ms ≡ true
+    → IsPlainRow text (row_of line contact ms) rest
+plain_row-is text rest1 rest2 rest3 rest line ms contact (a, ea, el) (b, eb, ec) (c, e3, em) end may =
+    let are = fields_of_row_are 0 a b c (row_of line contact ms) (row_is a b c line ms contact el ec em may) in
+    rw (ea, eb, e3, end) ((a ∷ b ∷ c ∷ []), begins-plain a b c rest are.0, are.1)
 
 -- a header of the plain form
-pub plain_header : (first text rest : List ℕ) → text ≡ first ++ 10 ∷ rest
-    → bytes_eq first (codes "line,state,ms") ≡ true → BeginsWith text header rest
+plain_header : (text rest : List ℕ) → text ≡ codes "line,state,ms\n" ++ rest → BeginsWith text header rest
 unfolding fields_text is_blank
-plain_header first text rest e same =
-    let is = (bytes_eq-Decides first (codes "line,state,ms")).0 same in
-    rw (e, is) (no_mark 108 _ (omega arith), read-write header rest)
+plain_header text rest e = rw e (no_mark 108 _ (omega arith), read-write header rest)
+
+-- what follows the header's text
+pub header_after : (text : List ℕ) (found : Option (Bor (List ℕ)))
+    → MatchOption found ((rest : List ℕ) → text ≢ codes "line,state,ms\n" ++ rest)
+    (λ rest. text ≡ codes "line,state,ms\n" ++ rest.now)
+    → IfSome found (λ rest. BeginsWith text header rest.now)
+header_after text None e = tt
+header_after text (Some rest) e = plain_header text rest.now e

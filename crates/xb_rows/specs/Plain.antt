@@ -1,20 +1,31 @@
 -- Records that are read directly of the bytes, and the scan that reads them.
-use Rattle.std.specs.Prelude.{ℕ, ◌≡◌, ◌+◌, ◌⊎◌, List, [], Option, Some, None, Result, Ok}
+use Rattle.std.specs.Prelude.{ℕ, ◌≡◌, ◌+◌, ◌⊎◌, ◌++◌, List, [], ◌∷◌, Option, Some, None, Result, Ok}
 use Rattle.csv.specs.Machine.{next_record}
 use Rattle.csv.specs.Reading.{default_config, records, strip_bom}
 use Rattle.csv.specs.declared.parser.State.TheVariants as st
 use Rattle.xb_model.specs.Rows.{LoopRow}
+use Rattle.xb_model.specs.declared.row.Contact.{Contact}
 use Rattle.xb_model.specs.Sources.{Gives, Rest, told}
 use Rattle.xb_model.specs.declared.fault.RowFault.{RowFault}
 use Rattle.xb_model.specs.declared.fault.RowFault.TheVariants as fault
 use Rattle.xb_rows.specs.declared.scan.TheConstants.{MOST_RECORDS}
-use Rattle.xb_rows.specs.RowTexts.{Fields, rest_from, row_of_fields, three_fields}
+use Rattle.xb_rows.specs.RowTexts.{Fields, contact_of, field_number, rest_from, row_of_fields, three_fields}
 
 -- a text begins with no byte order mark, and with a record of these fields, after which `csv` stops at this rest
 abbrev pub BeginsWith : List ℕ → Fields → List ℕ → Type 0
 BeginsWith text fields rest =
     (strip_bom text ≡ text)
     × (next_record default_config st.StartRecord [] [] text ≡ Some (fields, st.StartRecord, rest))
+
+-- a text begins with this number of at most so many digits, and this follows it
+abbrev pub BeginsWithNumber : ℕ → List ℕ → ℕ → List ℕ → Type 0
+BeginsWithNumber most text n rest =
+    (field : List ℕ) × (text ≡ field ++ rest) × (field_number most field ≡ Some n)
+
+-- a text begins with what the loop does, between two commas, and this follows them
+abbrev pub BeginsWithContact : List ℕ → Contact → List ℕ → Type 0
+BeginsWithContact text contact rest =
+    (field : List ℕ) × (text ≡ 44 ∷ (field ++ 44 ∷ rest)) × (contact_of field ≡ Some contact)
 
 -- the first record of a text is this row, whatever its number is
 abbrev pub IsPlainRow : List ℕ → LoopRow → List ℕ → Type 0

@@ -74,6 +74,8 @@ impl<'a> CsvScan<'a> {
 impl<'a> RowSource for CsvScan<'a> {
     ghost rest = { λ s. s };
 
+    // a call would cost as much as what the record's row takes
+    #[inline(always)]
     fn next_row(&mut self) -> Result<Option<Row>, RowFault> {
         let most = u64::from(MOST_RECORDS);
         let (taken, step) = match self.place {

@@ -11,10 +11,10 @@ use xb_model::{Contact, Digit, LineNo, Row, RowFault};
 const ROW_FIELDS: usize = 3;
 
 // The most digits of a line.
-const LINE_DIGITS: usize = 4;
+pub(crate) const LINE_DIGITS: usize = 4;
 
 // The most digits of a time in ms.
-const MS_DIGITS: usize = 8;
+pub(crate) const MS_DIGITS: usize = 8;
 
 // The number that a field of 1 to `most` ASCII digits writes.
 fn field_number(most: usize, field: &[u8]) -> Option<u32>
@@ -41,7 +41,7 @@ pub fn line_of(field: &[u8]) -> Option<LineNo>
 }
 
 // What the loop does, as a field names it.
-fn contact_of(field: &[u8]) -> Option<Contact>
+pub(crate) fn contact_of(field: &[u8]) -> Option<Contact>
     ensures { result ≡ contact_of field.now }
 {
     match field {
@@ -66,7 +66,7 @@ fn three_fields(fields: &ByteRecord) -> Option<(&[u8], &[u8], &[u8])>
 }
 
 // The row that record `n` writes in its three fields, or the first fault of these.
-pub(crate) fn row_of_fields(n: u64, line: &[u8], state: &[u8], ms: &[u8]) -> Result<Row, RowFault>
+fn row_of_fields(n: u64, line: &[u8], state: &[u8], ms: &[u8]) -> Result<Row, RowFault>
     ensures { result ≡ row_of_fields n (Some (line.now, state.now, ms.now)) }
 {
     let line = line_of(line).ok_or(RowFault::Line(n))?;

@@ -1,8 +1,9 @@
-use Rattle.std.proofs.Common.{sym}
-use Rattle.xb_rows.proofs.PlainRecords.{plain_header}
+use Rattle.std.proofs.lemmas.Bool.Decides.{Decides-eqb}
+use Rattle.std.proofs.lemmas.Slice.Eq.{strip_prefix_is}
+use Rattle.xb_rows.proofs.PlainRecords.{header_after}
 use Rattle.xb_rows.proofs.plain.after_header.Goals as goal
 
-pub returns-then-eq : goal.returns-then-eq
-returns-then-eq c =
-    let parts = c.in_ok-first in
-    plain_header parts.first.now c.args.text.now parts.rest.now parts.ensures (rw c.as_slice.ensures at (sym c.if-eq.ensures))
+pub returns : goal.returns
+returns c =
+    let found = rw c.as_slice.ensures at (strip_prefix_is Decides-eqb c.args.text.now c.as_slice.result.now c.strip_prefix.result c.strip_prefix.ensures.cases) in
+    header_after c.args.text.now c.strip_prefix.result found
