@@ -14,7 +14,7 @@ attempts-end L l n (a ∷ A) [] none = refl
 attempts-end L l n (a ∷ A) (o ∷ O) none = absurd (omega arith)
 
 -- what is left of a list from place i on
-left : {A : Type 0} (xs : List A) (i : ℕ) (d : A) → i < length xs → drop i xs ≡ get_or xs i d ∷ drop (i + 1) xs
+pub left : {A : Type 0} (xs : List A) (i : ℕ) (d : A) → i < length xs → drop i xs ≡ get_or xs i d ∷ drop (i + 1) xs
 left xs i d below = drop-cons xs i d below ∙ ap (λ k. get_or xs i d ∷ drop k xs) (sym (add-one i))
 
 pub attempts-more : (L : Limits) (l : ℕ) (A : List HeardAttempt) (O : List (On Dialled)) (i : ℕ) (a : HeardAttempt) (o : On Dialled)

@@ -9,4 +9,4 @@ mod report;
 mod words;
 
 pub use report::{push_attempts, push_limits};
-pub use words::{push_outcome, push_place};
+pub use words::{is_taken, is_timed_out, push_outcome, push_place};

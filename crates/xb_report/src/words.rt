@@ -84,8 +84,8 @@ pub fn push_place(out: &mut String, run: &PlacedRun) -> Result<(), AllocError>
     write!(out, "{seconds}.{ms:03} s, record {record}")
 }
 
-// Whether the register takes digit `index` of an attempt, from 0.
-pub(crate) fn is_taken(outcome: &Dialled, index: usize) -> bool
+/// Whether the register takes digit `index` of an attempt, from 0.
+pub fn is_taken(outcome: &Dialled, index: usize) -> bool
     ensures { result ≡ is_taken outcome.now index }
 {
     match outcome {
@@ -94,8 +94,8 @@ pub(crate) fn is_taken(outcome: &Dialled, index: usize) -> bool
     }
 }
 
-// Whether the attempt was refused because it timed out.
-pub(crate) fn is_timed_out(outcome: &Dialled) -> bool
+/// Whether the attempt was refused because it timed out.
+pub fn is_timed_out(outcome: &Dialled) -> bool
     ensures { result ≡ is_timed_out outcome.now }
 {
     match outcome {

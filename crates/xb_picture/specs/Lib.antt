@@ -1,0 +1,5 @@
+pub mod Said
+pub mod Courses
+pub mod Digits
+pub mod Attempts
+pub mod Pictures

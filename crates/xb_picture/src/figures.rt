@@ -1,0 +1,107 @@
+// The figures of a digit, and the times of makes.
+ghost use Rattle.std.specs.Prelude.{◌≡◌, ◌++◌, OnOk, codes};
+ghost use Rattle.xb_hear.specs.Figures.{percent_of, speed_of};
+ghost use Rattle.xb_picture.specs.Digits.{figure_words, make_words, tenths_words, value_words};
+ghost use Rattle.xb_picture.specs.Said.{says};
+
+use crate::course::drawn;
+use crate::sheet::{HIGH, LOW, SMALL, Sheet, below, put, put_caption};
+use std::alloc::AllocError;
+use xb_hear::{PlacedRun, Spoiler, percent_of, speed_of, times_of};
+use xb_model::MOST_PULSES;
+use xb_svg::{Anchor, Caption, Ink, Label, Look, Shape};
+
+// A make of so many ms has its time over it.
+pub(crate) const TOLD: u64 = 300;
+
+// Writes the time over a make that is long enough, where the row ends; red where it timed the attempt out.
+pub(crate) fn put_make(
+    sheet: &mut Sheet,
+    run: &PlacedRun,
+    timed_out: bool,
+) -> Result<(), AllocError>
+    ensures { OnOk result (says sheet.new ≡ says sheet.old ++ make_words run.now.ms) }
+{
+    if run.ms < TOLD {
+        return Ok(());
+    }
+    let middle = u64::from(sheet.x) + u64::from(drawn(run) / 2);
+    let ink = if timed_out { Ink::Red } else { Ink::Faint };
+    if timed_out {
+        let bold = Look {
+            ink,
+            bold: true,
+            ..SMALL
+        };
+        put_caption(sheet, middle, HIGH - 140, bold, Caption::TimeOut)?;
+    }
+    let y = below(sheet, HIGH - 70);
+    put(
+        sheet,
+        Shape::Text(middle, y, Look { ink, ..SMALL }, Label::Time(run.ms)),
+    )
+}
+
+// Writes the value of a digit over it, or a cross where it is spoiled.
+pub(crate) fn put_value(
+    sheet: &mut Sheet,
+    middle: u64,
+    ink: Ink,
+    pulses: &[PlacedRun],
+    spoiler: Option<Spoiler>,
+) -> Result<(), AllocError>
+    ensures { OnOk result (says sheet.new ≡ says sheet.old ++ value_words pulses.now spoiler) }
+{
+    let big = Look {
+        size: 150,
+        ink,
+        anchor: Anchor::Middle,
+        bold: true,
+    };
+    match spoiler {
+        None => {
+            let value = times_of(pulses).breaks % u64::from(MOST_PULSES);
+            let y = below(sheet, 180);
+            put(sheet, Shape::Text(middle, y, big, Label::Value(value)))
+        }
+        Some(_) => put_caption(sheet, middle, 180, big, Caption::Cross),
+    }
+}
+
+// Writes pulses a second under a digit, if it has more than one.
+fn put_speed(sheet: &mut Sheet, middle: u64, speed: Option<u128>) -> Result<(), AllocError>
+    ensures { OnOk result (says sheet.new ≡ says sheet.old ++ tenths_words speed (codes "/s")) }
+{
+    match speed {
+        Some(tenths) => {
+            let y = below(sheet, LOW + 140);
+            put(sheet, Shape::Text(middle, y, SMALL, Label::Speed(tenths)))
+        }
+        None => put_caption(sheet, middle, LOW + 140, SMALL, Caption::OnePulse),
+    }
+}
+
+// Writes the share of break under a digit, if it has one.
+fn put_share(sheet: &mut Sheet, middle: u64, share: Option<u128>) -> Result<(), AllocError>
+    ensures { OnOk result (says sheet.new ≡ says sheet.old ++ tenths_words share (codes " %")) }
+{
+    match share {
+        Some(tenths) => {
+            let y = below(sheet, LOW + 210);
+            put(sheet, Shape::Text(middle, y, SMALL, Label::Share(tenths)))
+        },
+        None => Ok(()),
+    }
+}
+
+// Writes the figures of a good digit under it.
+pub(crate) fn put_figures(
+    sheet: &mut Sheet,
+    middle: u64,
+    pulses: &[PlacedRun],
+) -> Result<(), AllocError>
+    ensures { OnOk result (says sheet.new ≡ says sheet.old ++ figure_words pulses.now) }
+{
+    put_speed(sheet, middle, speed_of(pulses))?;
+    put_share(sheet, middle, percent_of(pulses))
+}

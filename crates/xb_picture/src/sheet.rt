@@ -1,0 +1,161 @@
+// The sheet on which a picture is drawn: shapes, in rows from the top down.
+ghost use Rattle.std.specs.Prelude.{◌≡◌, ◌++◌, [], OnOk};
+ghost use Rattle.xb_picture.specs.Said.{said_by, says};
+
+use std::alloc::{AllocError, Global};
+use xb_svg::{Anchor, Caption, Ink, Label, Look, Shape, Step};
+
+// Where rows begin, from the left.
+pub(crate) const LEFT: u32 = 260;
+
+// Where they end at most: a row holds 6,000 ms.
+pub(crate) const RIGHT: u32 = 6260;
+
+// Where the first row stands, from the top.
+const FIRST: u64 = 420;
+
+// How high a slot is. A heading has one, and a row four.
+const SLOT: u64 = 260;
+
+// How far below the top of its row the loop is drawn while it is closed, and while it is open, in units.
+pub(crate) const HIGH: u16 = 330;
+
+pub(crate) const LOW: u16 = 530;
+
+// How far below the top of its row the axis stands.
+pub(crate) const AXIS: u16 = 820;
+
+// How a text beside the drawing looks.
+pub(crate) const SMALL: Look = Look {
+    size: 54,
+    ink: Ink::Faint,
+    anchor: Anchor::Middle,
+    bold: false,
+};
+
+// How a big text looks.
+pub(crate) const HEAD: Look = Look {
+    size: 92,
+    ink: Ink::Dark,
+    anchor: Anchor::Start,
+    bold: true,
+};
+
+// Shapes, and where the next one is drawn.
+#[derive(Drop)]
+pub struct Sheet<'a> {
+    // The shapes so far.
+    pub shapes: Vec<Shape<'a>>,
+    // The slot in which the current row begins.
+    pub slot: u32,
+    // The first slot that is free.
+    pub free: u32,
+    // How far the current row is drawn, from the left.
+    pub x: u32,
+}
+
+// A sheet with nothing on it.
+pub(crate) fn new_sheet<'a>(alloc: Global) -> Sheet<'a>
+    ensures { says result ≡ [] }
+{
+    Sheet {
+        shapes: Vec::new(alloc),
+        slot: 0,
+        free: 0,
+        x: LEFT,
+    }
+}
+
+// A place in the current row, from the top of the sheet.
+pub(crate) fn below(sheet: &Sheet, depth: u16) -> u64 {
+    FIRST + SLOT * u64::from(sheet.slot) + u64::from(depth)
+}
+
+// How high the sheet is, so far.
+pub(crate) fn height_of(sheet: &Sheet) -> u64 {
+    FIRST + SLOT * u64::from(sheet.free) + 80
+}
+
+// Draws a shape.
+pub(crate) fn put<'a>(sheet: &mut Sheet<'a>, shape: Shape<'a>) -> Result<(), AllocError>
+    ensures { OnOk result (says sheet.new ≡ says sheet.old ++ said_by shape.entry) }
+{
+    sheet.shapes.push(shape)?;
+    Ok(())
+}
+
+// Writes words of the picture's own in the current row.
+pub(crate) fn put_caption(
+    sheet: &mut Sheet,
+    x: u64,
+    depth: u16,
+    look: Look,
+    caption: Caption,
+) -> Result<(), AllocError>
+    ensures { OnOk result (says sheet.new ≡ says sheet.old) }
+{
+    let y = below(sheet, depth);
+    put(sheet, Shape::Text(x, y, look, Label::Caption(caption)))
+}
+
+// Draws a line.
+pub(crate) fn put_line(
+    sheet: &mut Sheet,
+    steps: Vec<Step>,
+    ink: Ink,
+    width: u16,
+) -> Result<(), AllocError>
+    ensures { OnOk result (says sheet.new ≡ says sheet.old) }
+{
+    put(sheet, Shape::Line(steps, ink, width))
+}
+
+// Draws the ground of something in the current row.
+pub(crate) fn put_band(sheet: &mut Sheet, x: u32, width: u32, ink: Ink) -> Result<(), AllocError>
+    ensures { OnOk result (says sheet.new ≡ says sheet.old) }
+{
+    let y = below(sheet, 40);
+    put(
+        sheet,
+        Shape::Band(u64::from(x), y, u64::from(width), 560, ink),
+    )
+}
+
+// Begins a slot for words.
+pub(crate) fn begin_words(sheet: &mut Sheet)
+    ensures { says sheet.new ≡ says sheet.old }
+{
+    sheet.slot = sheet.free;
+    sheet.free = sheet.free.saturating_add(1);
+}
+
+// Begins a row, and names its two heights.
+pub(crate) fn begin_row(sheet: &mut Sheet) -> Result<(), AllocError>
+    ensures { OnOk result (says sheet.new ≡ says sheet.old) }
+{
+    sheet.slot = sheet.free;
+    sheet.free = sheet.free.saturating_add(4);
+    sheet.x = LEFT;
+    let look = Look {
+        size: 50,
+        ink: Ink::Faint,
+        anchor: Anchor::End,
+        bold: false,
+    };
+    put_caption(sheet, 190, HIGH + 20, look, Caption::Closed)?;
+    put_caption(sheet, 190, LOW + 20, look, Caption::Open)
+}
+
+// Goes on in a new row where so many ms do not fit the current one. The new row leads in with the make that
+// stands before them.
+pub(crate) fn make_room(alloc: Global, sheet: &mut Sheet, ms: u32) -> Result<(), AllocError>
+    ensures { OnOk result (says sheet.new ≡ says sheet.old) }
+{
+    if sheet.x.saturating_add(ms) > RIGHT {
+        begin_row(sheet)?;
+        let y = below(sheet, HIGH);
+        let steps = vec![in alloc; Step::Move(200, y), Step::Across(260)]?;
+        put_line(sheet, steps, Ink::Dark, 11)?;
+    }
+    Ok(())
+}
