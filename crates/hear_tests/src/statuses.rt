@@ -5,7 +5,7 @@ use std::test::Fail;
 use test_fakes::{Halting, Short};
 use xb_hear_program::attend;
 
-const USAGE: &[u8] = b"mfhear: usage: mfhear [--line N]\n";
+const USAGE: &[u8] = b"mfhear: usage: mfhear [--line N] [--svg [--attempt K]]\n";
 
 // The words after the program's name, the deck, the status, and what stands on standard error; nothing is
 // written.
@@ -30,7 +30,15 @@ const CASES: &[(&[&str], &[u8], u8, &[u8])] = &[
     ),
     (&["--line", "10000"], DECK, 2, USAGE),
     (&["--line", "x"], DECK, 2, USAGE),
+    (
+        &["--line", "8", "--svg", "--attempt", "3"],
+        DECK,
+        1,
+        b"mfhear: the line has no attempt 3\n",
+    ),
     (&["--svg"], DECK, 2, USAGE),
+    (&["--line", "8", "--attempt", "1"], DECK, 2, USAGE),
+    (&["--line", "8", "--svg", "--attempt", "0"], DECK, 2, USAGE),
     (&["--help"], DECK, 2, USAGE),
     (&["deck"], DECK, 2, USAGE),
 ];

@@ -23,11 +23,18 @@ abbrev pub told_text : Bool → Limits → ℕ → List AttemptOfRuns → List D
 told_text alone limits line attempts outcomes =
     if length attempts == 0 then nothing_text alone line else attempts_from limits line 1 attempts outcomes
 
+-- the attempts of a line
+abbrev pub attempts_of_line : Table → List LoopRow → ℕ → List AttemptOfRuns
+attempts_of_line table rows line = heard_attempts table.limits (placed_runs line rows)
+
+-- what came of them
+abbrev pub outcomes_of_line : Table → List LoopRow → ℕ → List Dialled
+outcomes_of_line table rows line = outcomes_of table.plan table.limits (record_of line rows)
+
 -- what was heard of a line: its attempts, and the outcomes that the chain has of its record
 abbrev pub line_text : Bool → Table → List LoopRow → ℕ → List ℕ
 line_text alone table rows line =
-    told_text alone table.limits line (heard_attempts table.limits (placed_runs line rows))
-    (outcomes_of table.plan table.limits (record_of line rows))
+    told_text alone table.limits line (attempts_of_line table rows line) (outcomes_of_line table rows line)
 
 -- whether a line has rows
 abbrev pub has_rows : List LoopRow → ℕ → Bool

@@ -7,7 +7,7 @@ use Rattle.xb_streams.specs.Programs.{Attends, Streams}
 use Rattle.xb_streams.specs.Telling.{Tells}
 use Rattle.xb_streams.specs.Usages.{names_option}
 use Rattle.xb_hear_program.specs.declared.fault.HearFault.{HearFault}
-use Rattle.xb_hear_program.specs.declared.request.Choice.{Choice}
+use Rattle.xb_hear_program.specs.declared.request.Request.{Request}
 use Rattle.xb_hear_program.specs.DeckReport.{Delivers}
 use Rattle.xb_hear_program.specs.Options.{AreRefused, Asks, command_of_words}
 
@@ -17,7 +17,7 @@ program = codes "mfhear"
 
 -- the line for words that are refused
 abbrev pub usage_line : List ℕ
-usage_line = codes "mfhear: usage: mfhear [--line N]\n"
+usage_line = codes "mfhear: usage: mfhear [--line N] [--svg [--attempt K]]\n"
 
 -- it names each option of the command
 abbrev pub UsageNamesEachOption : Type 0
@@ -25,17 +25,17 @@ UsageNamesEachOption = list_all (λ rule. names_option usage_line rule.id) comma
 
 -- the words ask for something, and exactly the report of it was written
 pub record WritesReport (words : List Text) (old new : Streams) : Type 0 where
-  pub choice : Choice
-  pub asks : Asks words choice
-  pub report : Delivers choice old.input (Ok tt) old.output new.output
+  pub request : Request
+  pub asks : Asks words request
+  pub report : Delivers request old.input (Ok tt) old.output new.output
   pub quiet : Keeps old.errors new.errors
 
 -- they ask for something that gave a fault, of which a line was told
 pub record HasFault (words : List Text) (old new : Streams) : Type 0 where
-  pub choice : Choice
+  pub request : Request
   pub fault : HearFault
-  pub asks : Asks words choice
-  pub report : Delivers choice old.input (Err fault) old.output new.output
+  pub asks : Asks words request
+  pub report : Delivers request old.input (Err fault) old.output new.output
   pub line : Tells program None old.errors new.errors
 
 -- what the program did with its words and its streams

@@ -9,7 +9,7 @@ use xb_streams::{ReadFault, WriteFault};
 
 /// Why a deck gives no report.
 ///
-/// Of the faults of a deck, the first in the order `DeckTooLong`, `NoCut`, `Routes`, `Rows` is
+/// Of the faults of a deck, the first in the order `DeckTooLong`, `NoCut`, `Routes`, `Rows`, `NoAttempt` is
 /// returned. Running out of memory is always `NoMemory`, also one of a `RouteFault` or a `RowFault`.
 #[derive(Clone, Copy, Debug, PartialEq, Eq, Error)]
 pub enum HearFault {
@@ -28,6 +28,9 @@ pub enum HearFault {
     /// The loop rows are refused.
     #[error("loop rows: {0}")]
     Rows(RowFault),
+    /// The line has fewer attempts than the one of which a picture is asked for.
+    #[error("the line has no attempt {0}")]
+    NoAttempt(u32),
     /// Memory ran out.
     #[error("out of memory")]
     NoMemory,

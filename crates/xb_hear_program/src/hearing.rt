@@ -1,12 +1,13 @@
-// From a deck on a reader to its report on a writer.
-ghost use Rattle.std.specs.Prelude.{◌≡◌, ◌≤◌, ◌<◌, ◌^◌, IfErr, IfOk, Ok, length, string_bytes};
+// From a deck on a reader to its report or picture on a writer.
+ghost use Rattle.std.specs.Prelude.{◌≡◌, ◌≤◌, ◌<◌, ◌^◌, IfErr, IfOk, length, string_bytes};
 ghost use Rattle.xb_deck.specs.declared.deck.TheConstants.{MOST_DECK_BYTES};
-ghost use Rattle.xb_hear_program.specs.DeckReport.{Delivers, IsFaultOfDeck, IsFaultOfRows, says, says_rows};
+ghost use Rattle.xb_hear_program.specs.DeckReport.{Delivers, IsFaultOfDeck, IsFaultOfRows, Tells, contents, says, says_asked, says_rows};
 ghost use Rattle.xb_rows.specs.RowResults.{AreRowsOf};
 ghost use Rattle.xb_rows.specs.RowTexts.{fault_of_text, rows_of_text};
 
+use crate::drawing::picture;
 use crate::fault::HearFault;
-use crate::request::Choice;
+use crate::request::{Choice, Request};
 use crate::telling::report;
 use std::alloc::Global;
 use std::io::{Read, Write};
@@ -31,50 +32,70 @@ fn rows_of_text(alloc: Global, text: &[u8]) -> Result<Vec<Row>, HearFault>
     }
 }
 
-// The report of a table, and of the text of rows.
-fn report_of_text(
+// What is asked for of a table and of rows.
+fn text_of(
     alloc: Global,
-    choice: Choice,
+    request: Request,
     table: &RouteTable,
-    text: &[u8],
+    rows: &[Row],
 ) -> Result<String, HearFault>
-    ensures report { IfOk result (λ report.
-        says_rows choice table.now (rows_of_text text.now) (fault_of_text text.now) ≡ Ok (string_bytes report)) }
-    ensures fault { IfErr result (IsFaultOfRows text.now) }
+    requires { length rows.now < 2 ^ 32 }
+    ensures text { IfOk result (λ text.
+        Tells request (says_asked request (contents table.now rows.now)) (string_bytes text)) }
+    ensures fault { IfErr result (IsFaultOfDeck (says_asked request (contents table.now rows.now))) }
 {
-    let rows = rows_of_text(alloc, text)?;
-    Ok(report(alloc, table, &rows, choice)?)
+    match request {
+        Request::All => Ok(report(alloc, table, rows, Choice::All)?),
+        Request::Line(line) => Ok(report(alloc, table, rows, Choice::Line(line))?),
+        Request::Picture(line, attempt) => picture(alloc, table, rows, line, attempt),
+    }
 }
 
-// The report of a deck that was read.
-fn report_of_deck(alloc: Global, choice: Choice, bytes: &[u8]) -> Result<String, HearFault>
+// What is asked for of a table, and of the text of rows.
+fn text_of_rows(
+    alloc: Global,
+    request: Request,
+    table: &RouteTable,
+    rows: &[u8],
+) -> Result<String, HearFault>
+    ensures text { IfOk result (λ text. Tells request
+        (says_rows request table.now (rows_of_text rows.now) (fault_of_text rows.now)) (string_bytes text)) }
+    ensures fault { IfErr result (IsFaultOfDeck
+        (says_rows request table.now (rows_of_text rows.now) (fault_of_text rows.now))) }
+{
+    let rows = rows_of_text(alloc, rows)?;
+    text_of(alloc, request, table, &rows)
+}
+
+// What is asked for of a deck that was read.
+fn text_of_deck(alloc: Global, request: Request, bytes: &[u8]) -> Result<String, HearFault>
     requires { length bytes.now ≤ MOST_DECK_BYTES }
-    ensures report { IfOk result (λ text. says choice bytes.now ≡ Ok (string_bytes text)) }
-    ensures fault { IfErr result (IsFaultOfDeck (says choice bytes.now)) }
+    ensures text { IfOk result (λ text. Tells request (says request bytes.now) (string_bytes text)) }
+    ensures fault { IfErr result (IsFaultOfDeck (says request bytes.now)) }
 {
     let deck = Deck::cut(bytes).ok_or(HearFault::NoCut)?;
     let table = RouteTable::read(alloc, deck.table)?;
-    report_of_text(alloc, choice, &table, deck.rows)
+    text_of_rows(alloc, request, &table, deck.rows)
 }
 
-/// Reads a deck, and writes what was heard of the lines that are asked for: the limits of the deck, and
-/// each attempt with its digits, their figures, what spoiled them and where, and what came of it. Nothing
+/// Reads a deck, and writes what is asked for: of the report the limits of the deck, and each attempt with its
+/// digits, their figures, what spoiled them and where, and what came of it; or the picture of a line. Nothing
 /// is written before the whole deck is read.
 ///
-/// On an `Err` nothing was written, except on `Write`, where the beginning of the report was.
+/// On an `Err` nothing was written, except on `Write`, where the beginning was.
 ///
 /// What the contract says of bytes it says of readers whose bytes and writers whose contents are known to
 /// contracts (byte slices, lists), which those of a process are not.
 pub fn hear<R: Read, W: Write>(
     alloc: Global,
-    choice: Choice,
+    request: Request,
     deck: &mut R,
     out: &mut W,
 ) -> Result<(), HearFault>
-    ensures { Delivers choice (R.remaining deck.old) result (W.contents out.old) (W.contents out.new) }
+    ensures { Delivers request (R.remaining deck.old) result (W.contents out.old) (W.contents out.new) }
 {
     let bytes = read_whole(alloc, deck, MOST_DECK_BYTES)?;
-    let report = report_of_deck(alloc, choice, &bytes)?;
-    write_whole(out, report.as_bytes())?;
+    let text = text_of_deck(alloc, request, &bytes)?;
+    write_whole(out, text.as_bytes())?;
     Ok(())
 }

@@ -1,7 +1,8 @@
-//! The program `mfhear` but for the process: a deck from a reader, and what was heard of its lines to a
-//! writer, by the words of the command line. The module `laws` says what the definitions in `specs/` give.
+//! The program `mfhear` but for the process: a deck from a reader, and what was heard of its lines, or
+//! the picture of one, to a writer, by the words of the command line. The module `laws` says what the definitions in `specs/` give.
 #![tactic(auto)]
 
+mod drawing;
 mod fault;
 mod hearing;
 pub mod laws;
@@ -13,4 +14,4 @@ mod words;
 pub use fault::HearFault;
 pub use hearing::hear;
 pub use program::attend;
-pub use request::Choice;
+pub use request::{Choice, Request};

@@ -4,7 +4,7 @@ ghost use Rattle.xb_words.specs.Commands.{texts_of};
 ghost use Rattle.xb_hear_program.specs.Program.{AttendsHear};
 
 use crate::hearing::hear;
-use crate::words::choice_of_words;
+use crate::words::request_of_words;
 use std::alloc::Global;
 use std::io::{Read, Write};
 use xb_streams::{DONE, report, tell_words};
@@ -13,12 +13,12 @@ use xb_streams::{DONE, report, tell_words};
 pub(crate) const PROGRAM: &str = "mfhear";
 
 // The line of refused words.
-const USAGE: &[u8] = b"mfhear: usage: mfhear [--line N]\n";
+const USAGE: &[u8] = b"mfhear: usage: mfhear [--line N] [--svg [--attempt K]]\n";
 
 /// Reads the words of the command line, the program's name first, and by them writes what was heard of a
-/// deck's lines, as `hear` does. It returns the status of the process:
+/// deck's lines, or draws a line, as `hear` does. It returns the status of the process:
 ///
-/// - `DONE`: the words ask for something, `out` got exactly its report, and `err` nothing;
+/// - `DONE`: the words ask for something, `out` got exactly its report or picture, and `err` nothing;
 /// - `FAULT`: `hear` has a fault, or memory ran out while the words were read; `err` gets the fault as
 ///   one line, and `out` got nothing, or the beginning of the report where this was not written whole;
 /// - `WORDS_REFUSED`: the words are refused, or ask for help; `err` gets the usage as one line, the
@@ -36,8 +36,8 @@ pub fn attend<R: Read, W: Write, E: Write>(
         (streams (R.remaining deck.old) (W.contents out.old) (E.contents err.old))
         (streams (R.remaining deck.new) (W.contents out.new) (E.contents err.new)) result }
 {
-    match choice_of_words(alloc, words) {
-        Ok(choice) => match hear(alloc, choice, deck, out) {
+    match request_of_words(alloc, words) {
+        Ok(request) => match hear(alloc, request, deck, out) {
             Ok(()) => DONE,
             Err(fault) => report(alloc, err, PROGRAM, fault),
         },

@@ -10,3 +10,14 @@ pub enum Choice {
     /// Of this one.
     Line(LineNo),
 }
+
+/// What is to be written of a deck.
+#[derive(Clone, Copy, Debug, PartialEq, Eq)]
+pub enum Request {
+    /// The report of all lines that have attempts, as a text.
+    All,
+    /// The report of this line, as a text.
+    Line(LineNo),
+    /// The picture of a line: of its attempt of this number, from 1, or of the first ones.
+    Picture(LineNo, Option<u32>),
+}

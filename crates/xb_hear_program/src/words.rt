@@ -1,23 +1,39 @@
 // What the words of the command line ask for.
 ghost use Rattle.std.specs.Prelude.{◌≡◌, IfErr, IfOk};
 ghost use Rattle.xb_words.specs.Commands.{texts_of};
-ghost use Rattle.xb_hear_program.specs.Options.{AreRefused, Asks, Says, choice_of};
+ghost use Rattle.xb_hear_program.specs.Options.{AreRefused, Asks, Say, choice_of, picture_of, request_of, text_of};
 
 use crate::program::PROGRAM;
-use crate::request::Choice;
+use crate::request::{Choice, Request};
 use std::alloc::Global;
 use xb_model::{LINES, LineNo};
 use xb_streams::WordsFault;
 use xb_words::{Takes, Words, read_words};
 
-// The options of the program, each under its name.
-const OPTIONS: [(&str, Takes); 1] = [("line", Takes::Number)];
+// What the options of the command line say.
+#[derive(Clone, Copy)]
+pub(crate) struct Options {
+    pub(crate) line: Option<u32>,
+    pub(crate) attempt: Option<u32>,
+    pub(crate) svg: bool,
+}
 
-// The line that the words name.
-fn line_of(words: &Words) -> Option<u32>
-    ensures { Says words.now result }
+// The options of the program, each under its name.
+const OPTIONS: [(&str, Takes); 3] = [
+    ("line", Takes::Number),
+    ("attempt", Takes::Number),
+    ("svg", Takes::Nothing),
+];
+
+// What the words say.
+fn options_of(words: &Words) -> Options
+    ensures { Say words.now result }
 {
-    words.number("line")
+    Options {
+        line: words.number("line"),
+        attempt: words.number("attempt"),
+        svg: words.flag("svg"),
+    }
 }
 
 // The lines that a number asks for; `None` where there is no such line.
@@ -34,11 +50,49 @@ fn choice_of(line: Option<u32>) -> Option<Choice>
     }
 }
 
-/// What the words ask for: the report of a line, or of all.
-pub fn choice_of_words(alloc: Global, words: &[String]) -> Result<Choice, WordsFault>
-    ensures asks { IfOk result (λ choice. Asks (texts_of words.now) choice) }
+// The picture of one line, of one of its attempts or of the first ones; `None` of all lines, and of an attempt 0.
+fn picture_of(choice: Choice, attempt: Option<u32>) -> Option<Request>
+    ensures { result ≡ picture_of choice attempt }
+{
+    match choice {
+        Choice::All => None,
+        Choice::Line(line) => match attempt {
+            Some(0) => None,
+            attempt => Some(Request::Picture(line, attempt)),
+        },
+    }
+}
+
+// The report of lines.
+fn text_of(choice: Choice) -> Request
+    ensures { result ≡ text_of choice }
+{
+    match choice {
+        Choice::All => Request::All,
+        Choice::Line(line) => Request::Line(line),
+    }
+}
+
+// What the options ask for; `None` where they name no line of the office, a picture without its line, or an
+// attempt without a picture.
+fn request_of(options: Options) -> Option<Request>
+    ensures { result ≡ request_of options }
+{
+    let choice = choice_of(options.line)?;
+    if options.svg {
+        return picture_of(choice, options.attempt);
+    }
+    match options.attempt {
+        None => Some(text_of(choice)),
+        Some(_attempt) => None,
+    }
+}
+
+/// What the words ask for: the report of a line, or of all, or the picture of a line.
+pub fn request_of_words(alloc: Global, words: &[String]) -> Result<Request, WordsFault>
+    ensures asks { IfOk result (λ request. Asks (texts_of words.now) request) }
     ensures refused { IfErr result (λ f. f ≡ WordsFault.Refused → AreRefused (texts_of words.now)) }
 {
     let words = read_words(alloc, PROGRAM, &OPTIONS, words)?;
-    choice_of(line_of(&words)).ok_or(WordsFault::Refused)
+    request_of(options_of(&words)).ok_or(WordsFault::Refused)
 }
