@@ -7,3 +7,5 @@
 mod joins;
 #[cfg(test)]
 mod splits;
+#[cfg(test)]
+mod statuses;

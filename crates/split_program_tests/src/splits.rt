@@ -1,5 +1,6 @@
 // A deck that is counted, planned, and written as the decks of its parts, from a stream that gives few bytes at a
 // time.
+use std::alloc::Global;
 use std::io::{self, ErrorKind};
 use std::test::Fail;
 use xb_model::RowFault;
@@ -20,9 +21,18 @@ const HIGH: &[u8] =
 
 // Two decks in memory.
 #[derive(Drop)]
-struct TwoDecks {
-    low: Vec<u8>,
-    high: Vec<u8>,
+pub(crate) struct TwoDecks {
+    pub(crate) low: Vec<u8>,
+    pub(crate) high: Vec<u8>,
+}
+
+impl TwoDecks {
+    pub(crate) fn new(alloc: Global) -> TwoDecks {
+        TwoDecks {
+            low: Vec::new(alloc),
+            high: Vec::new(alloc),
+        }
+    }
 }
 
 impl PartDecks for TwoDecks {
@@ -33,6 +43,10 @@ impl PartDecks for TwoDecks {
             _ => return Err(io::Error::from(ErrorKind::NotFound)),
         };
         deck.extend_from_slice(bytes)?;
+        Ok(())
+    }
+
+    fn keep(&mut self) -> io::Result<()> {
         Ok(())
     }
 }
@@ -59,10 +73,7 @@ fn decks_of_parts(rt: HostRuntime) -> Result<(), Fail> {
     let one = plan_parts(alloc, TABLE.len(), &loads, None)?;
     assert_eq!(rt; one.len(), 1);
     let mut rows = RowReader::new(alloc, ROWS, u64::MAX);
-    let mut decks = TwoDecks {
-        low: Vec::new(alloc),
-        high: Vec::new(alloc),
-    };
+    let mut decks = TwoDecks::new(alloc);
     write_parts(TABLE, &mut rows, &HALVES, &mut decks)?;
     assert_eq!(rt; decks.low.as_slice(), LOW);
     assert_eq!(rt; decks.high.as_slice(), HIGH);

@@ -1,2 +1,3 @@
 mod StreamedRows
 mod WrittenParts
+mod SplitDecks

@@ -1,5 +1,5 @@
 -- What the parts of a deck may have.
-use Rattle.std.specs.Prelude.{ℕ, ◌≤◌, ◌<◌, ◌+◌, ◌^◌, List}
+use Rattle.std.specs.Prelude.{ℕ, ◌≤◌, ◌+◌, List}
 use Rattle.std.specs.List.{All}
 use Rattle.xb_deck.specs.declared.deck.TheConstants.{MOST_DECK_BYTES}
 use Rattle.xb_rows.specs.declared.scan.TheConstants.{MOST_RECORDS}

@@ -100,9 +100,8 @@ fn write_heads<D: PartDecks>(decks: &mut D, parts: usize, table: &[u8]) -> io::R
     Ok(())
 }
 
-/// Writes the deck of each part: the table, the cut, the header, and exactly the rows of its lines, in their
-/// order. On an `Err` the decks are not whole.
-pub fn write_parts<S: RowStream, D: PartDecks>(
+// Writes the deck of each part. On an `Err` the decks are not whole.
+fn write_decks<S: RowStream, D: PartDecks>(
     table: &[u8],
     rows: &mut S,
     ranges: &[LineRange],
@@ -114,4 +113,21 @@ pub fn write_parts<S: RowStream, D: PartDecks>(
         return Err(WriteRowsFault::Write(fault));
     }
     write_rows(rows, ranges, decks)
+}
+
+/// Writes the deck of each part: the table, the cut, the header, and exactly the rows of its lines, in their
+/// order; and makes sure that they stay. On an `Err` the decks are not whole.
+pub fn write_parts<S: RowStream, D: PartDecks>(
+    table: &[u8],
+    rows: &mut S,
+    ranges: &[LineRange],
+    decks: &mut D,
+) -> Result<(), WriteRowsFault>
+    ensures decks { OnOk result (GetsDecks table.now (S.left rows.old) ranges.now (D.contents decks.old) (D.contents decks.new)) }
+{
+    write_decks(table, rows, ranges, decks)?;
+    match decks.keep() {
+        Ok(()) => Ok(()),
+        Err(fault) => Err(WriteRowsFault::Write(fault)),
+    }
 }

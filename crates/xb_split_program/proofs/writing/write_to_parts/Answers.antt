@@ -1,7 +1,7 @@
-use Rattle.std.proofs.Common.{◌≡◌, ◌∙◌, ◌∷◌, ◌+◌, [], ℕ, Bool, List, ap, sym, subst}
+use Rattle.std.proofs.Common.{◌≡◌, ◌∙◌, ◌∷◌, ◌+◌, [], ℕ, Bool, ap, sym, subst}
 use Rattle.std.specs.Prelude.{◌&&◌, if◌then◌else◌, nat_le, nat_lt}
 use Rattle.xb_rows.specs.WrittenRows.{record_text}
-use Rattle.xb_split_program.specs.PartDecks.{Gets, only_for, range_at, records_of_part}
+use Rattle.xb_split_program.specs.PartDecks.{Gets, range_at, records_of_part}
 use Rattle.xb_split_program.proofs.WrittenParts.{Gets-next, Gets-nothing, only_before, records_of_one}
 use Rattle.xb_split_program.proofs.writing.write_to_parts.Goals.{then-has+in_ok-write_row, else-has}
 use Rattle.xb_split_program.proofs.writing.write_to_parts.Goals as goal

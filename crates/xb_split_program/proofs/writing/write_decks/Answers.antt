@@ -4,7 +4,7 @@ use Rattle.std.proofs.KnownBytes.{Appends-trans}
 use Rattle.std.proofs.lemmas.Result.{on_ok_weaker}
 use Rattle.xb_split_program.specs.PartDecks.{head_of, only_below, records_of_part}
 use Rattle.xb_split_program.proofs.WrittenParts.{deck_of_part-is}
-use Rattle.xb_split_program.proofs.writing.write_parts.Goals as goal
+use Rattle.xb_split_program.proofs.writing.write_decks.Goals as goal
 
 pub returns : goal.returns
 returns g c =

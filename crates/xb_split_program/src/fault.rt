@@ -1,20 +1,26 @@
 // Why a deck is not split.
+ghost use Rattle.std.specs.Prelude.{List, Option, ℕ};
+ghost use Rattle.xb_deck.specs.declared.deck.TheConstants.{MOST_DECK_BYTES};
+ghost use Rattle.xb_deck.specs.Tables.{IsTableFault};
+ghost use Rattle.xb_split_program.specs.SplitFaults.{IsFaultOf};
+
+use crate::planning::PlanPartsFault;
+use crate::writing::WriteRowsFault;
 use std::io;
 use thiserror::Error;
 use xb_deck::TableFault;
 use xb_model::RowFault;
-use xb_split_program::{PlanPartsFault, WriteRowsFault};
 
 /// Why a deck is not split.
 #[derive(Debug, Drop, Error)]
-pub enum Fault {
+pub enum SplitFault {
     /// The deck could not be opened.
     #[error("the deck could not be opened: {0}")]
     Deck(io::Error),
     /// The folder could not be looked at, or the parts could not get its name.
     #[error("the folder could not be used: {0}")]
     Folder(io::Error),
-    /// The folder of an unfinished run could not be made.
+    /// The parts could not be made under another name.
     #[error("the folder with .incomplete after its name could not be made: {0}")]
     Unfinished(io::Error),
     /// The folder has something in it.
@@ -52,12 +58,15 @@ pub enum Fault {
     NoMemory,
 }
 
-/// Why a deck gives no table.
-pub fn fault_of_table(fault: TableFault) -> Fault {
+// Why a deck gives no table.
+pub(crate) fn fault_of_table(fault: TableFault) -> SplitFault
+    ensures { (deck : Option (List ℕ)) (parts : Option ℕ) → IsTableFault MOST_DECK_BYTES deck fault
+        → IsFaultOf deck parts result }
+{
     match fault {
-        TableFault::Read => Fault::Read,
-        TableFault::TooLong => Fault::LongTable,
-        TableFault::NoCut => Fault::NoCut,
-        TableFault::NoMemory => Fault::NoMemory,
+        TableFault::Read => SplitFault::Read,
+        TableFault::TooLong => SplitFault::LongTable,
+        TableFault::NoCut => SplitFault::NoCut,
+        TableFault::NoMemory => SplitFault::NoMemory,
     }
 }

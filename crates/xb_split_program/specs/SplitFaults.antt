@@ -1,0 +1,34 @@
+-- Why a deck is not split, where its bytes are known.
+use Rattle.std.specs.Prelude.{ℕ, ◌≡◌, ◌<◌, ◌⊎◌, List, Option, Some, IfSome, Result, Ok, Err}
+use Rattle.std.specs.Io.KnownBytes.{Appends, Keeps}
+use Rattle.xb_deck.specs.Deck.{deck_parts}
+use Rattle.xb_deck.specs.Tables.{IsTableFault}
+use Rattle.xb_deck.specs.declared.deck.TheConstants.{MOST_DECK_BYTES}
+use Rattle.xb_deck.specs.declared.table.TableFault.TheVariants as table
+use Rattle.xb_split_program.specs.PartDecks.{Decks}
+use Rattle.xb_split_program.specs.RowStreams.{IsStop}
+use Rattle.xb_split_program.specs.Splits.{IsSplit, rest_of_rows}
+use Rattle.xb_split_program.specs.declared.splitting.TheConstants.{MOST_PARTS}
+use Rattle.xb_split_program.specs.declared.fault.SplitFault.{SplitFault}
+use Rattle.xb_split_program.specs.declared.fault.SplitFault.TheVariants as fault
+
+-- why a deck is not split into so many parts: what the fault says of the deck holds
+abbrev pub IsFaultOf : Option (List ℕ) → Option ℕ → SplitFault → Type 0
+IsFaultOf deck parts fault.NoParts = parts ≡ Some 0
+IsFaultOf deck parts fault.NoCut = IsTableFault MOST_DECK_BYTES deck table.NoCut
+IsFaultOf deck parts fault.LongTable = IsTableFault MOST_DECK_BYTES deck table.TooLong
+IsFaultOf deck parts (fault.Rows f) = IfSome deck (λ text.
+    IfSome (deck_parts text) (λ cut. IsStop (rest_of_rows cut.rows).stop f))
+IsFaultOf deck parts (fault.TooMany count) = MOST_PARTS < count
+IsFaultOf deck parts f = Unit {0}
+
+-- the list of parts has its name only where their decks are whole, and have theirs
+abbrev pub IsWholeOrNone : Option (List ℕ) → Option (List ℕ) → Decks → Option (List ℕ) → Option (List ℕ) → Type 0
+IsWholeOrNone deck fresh decks old new =
+    Keeps old new ⊎ ((list : List ℕ) × IsSplit deck fresh decks list × Appends old new list)
+
+-- what is returned for a deck, and what became of the list of its parts
+abbrev pub Delivers : Option (List ℕ) → Option (List ℕ) → Option ℕ → Result (Unit {0}) SplitFault
+    → Decks → Option (List ℕ) → Option (List ℕ) → Type 0
+Delivers deck fresh parts (Ok u) decks old new = (list : List ℕ) × IsSplit deck fresh decks list × Appends old new list
+Delivers deck fresh parts (Err f) decks old new = IsFaultOf deck parts f × IsWholeOrNone deck fresh decks old new
