@@ -1,9 +1,11 @@
 //! Rows read: what no clause says of them, on streams that give little at a time and that fail,
-//! and of texts beside `csv` alone.
+//! and of texts beside `csv` alone; and fields that write numbers.
 //!
 //! Tests alone.
 #![tactic(auto)]
 
+#[cfg(test)]
+mod fields;
 #[cfg(test)]
 mod plain;
 #[cfg(test)]

@@ -1,9 +1,7 @@
 -- Marks that are printed are read.
-use Rattle.std.proofs.Common.{◌≡◌, ◌≢◌, ◌∙◌, ℕ, zero, suc, ◌≤◌, ◌<◌, true, List, [], ◌∷◌, ◌++◌, map, Option, Some, ap, append_assoc, append-nil, arith, refl, codes}
-use Rattle.std.specs.Fmt.{digits}
+use Rattle.std.proofs.Common.{◌≡◌, ◌≢◌, ◌∙◌, ℕ, ◌≤◌, ◌<◌, ◌+◌, true, List, [], ◌∷◌, ◌++◌, map, Option, Some, ap, append_assoc, append-nil, arith, refl, codes, eqb}
 use Rattle.std.specs.Prelude.{decimal, option_and_then, option_map, nat_lt}
 use Rattle.std.specs.List.{AllByRecursion}
-use Rattle.xb_model.specs.declared.digit.TheConstants.{DIGITS}
 use Rattle.xb_model.specs.declared.key.Key.{Key}
 use Rattle.xb_model.specs.declared.key.Key.TheVariants.{Digit, Kp, St}
 use Rattle.xb_model.specs.declared.key.Tone.{Tone as Pair}
@@ -12,7 +10,9 @@ use Rattle.xb_model.specs.declared.mark.Mark.TheVariants.{Trunk, Tone, Refused}
 use Rattle.xb_model.specs.Page.{four_digits, key_text, mark_text, marks_text, pair_text}
 use Rattle.xb_rows.specs.RowTexts.{field_number}
 use Rattle.xb_rows.proofs.WrittenFields.{field_number-decimal}
+use Rattle.std.proofs.Math.Bool.{and-false}
 use Rattle.std.proofs.lemmas.Bool.{lt-ltb}
+use Rattle.std.proofs.lemmas.Fmt.{decimal_digit}
 use Rattle.xb_page.specs.ReadBack.{IsKey, IsMark}
 use Rattle.xb_page.specs.ReadPages.{before, hz_of, key_of, mark_of, mark_of_two, marks_of, pair_of, pair_of_two, tone_of_two, two_of}
 use Rattle.xb_pieces.specs.Pieces.{pieces}
@@ -31,25 +31,11 @@ mark_field (Trunk t) = four_digits t
 mark_field (Tone key pair) = key_text key ++ codes ":" ++ pair_text pair
 mark_field (Refused reason heard) = []
 
-pub each_digit : (P : ℕ → Type 0) → P 0 → P 1 → P 2 → P 3 → P 4 → P 5 → P 6 → P 7 → P 8 → P 9
-    → (d : ℕ) → d < DIGITS → P d
-each_digit P p0 p1 p2 p3 p4 p5 p6 p7 p8 p9 zero below = p0
-each_digit P p0 p1 p2 p3 p4 p5 p6 p7 p8 p9 (suc zero) below = p1
-each_digit P p0 p1 p2 p3 p4 p5 p6 p7 p8 p9 (suc (suc zero)) below = p2
-each_digit P p0 p1 p2 p3 p4 p5 p6 p7 p8 p9 (suc (suc (suc zero))) below = p3
-each_digit P p0 p1 p2 p3 p4 p5 p6 p7 p8 p9 (suc (suc (suc (suc zero)))) below = p4
-each_digit P p0 p1 p2 p3 p4 p5 p6 p7 p8 p9 (suc (suc (suc (suc (suc zero))))) below = p5
-each_digit P p0 p1 p2 p3 p4 p5 p6 p7 p8 p9 (suc (suc (suc (suc (suc (suc zero)))))) below = p6
-each_digit P p0 p1 p2 p3 p4 p5 p6 p7 p8 p9 (suc (suc (suc (suc (suc (suc (suc zero))))))) below = p7
-each_digit P p0 p1 p2 p3 p4 p5 p6 p7 p8 p9 (suc (suc (suc (suc (suc (suc (suc (suc zero)))))))) below = p8
-each_digit P p0 p1 p2 p3 p4 p5 p6 p7 p8 p9 (suc (suc (suc (suc (suc (suc (suc (suc (suc zero))))))))) below = p9
-each_digit P p0 p1 p2 p3 p4 p5 p6 p7 p8 p9 (suc (suc (suc (suc (suc (suc (suc (suc (suc (suc d)))))))))) below =
-    absurd (omega arith)
-
 key-back : (key : Key) → IsKey key → key_of (key_text key) ≡ Some key
-unfolding digits
 key-back (Digit d) is =
-    each_digit (λ d. key_of (decimal d) ≡ Some (Digit d)) refl refl refl refl refl refl refl refl refl refl d is
+    -- one byte is neither KP nor ST
+    let read = field_number-decimal 1 d (omega arith) (omega arith) (omega arith) in
+    rw (read, decimal_digit d is, and-false (eqb (48 + d) 75), and-false (eqb (48 + d) 83)) refl
 key-back Kp is = refl
 key-back St is = refl
 

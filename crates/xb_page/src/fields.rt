@@ -1,6 +1,5 @@
 // What the fields of a text line write.
-ghost use Rattle.std.specs.Prelude.{◌≡◌, ◌≤◌, ◌<◌, ◌^◌, IfSome, option_copied, bytes_eq, decimal};
-ghost use Rattle.xb_rows.specs.RowTexts.{field_number};
+ghost use Rattle.std.specs.Prelude.{◌≡◌, ◌<◌, ◌^◌, IfSome, option_copied, bytes_eq, decimal};
 ghost use Rattle.xb_page.specs.Places.{four_digits_of};
 ghost use Rattle.xb_page.specs.ReadPages.{heard_of, hz_of, key_of, mark_of, pair_of, reason_of, refusal_of_fields, space, trunk_of};
 ghost use Rattle.xb_pieces.specs.Pieces.{pieces_left};
@@ -8,31 +7,13 @@ ghost use Rattle.xb_pieces.specs.Pieces.{pieces_left};
 use crate::pieces::two_pieces;
 use itoa::Buffer;
 use xb_model::{Digit, Key, Mark, Reason, Tone, Trunk};
+use xb_rows::field_number;
 
 // Frequencies lie below half of 8,000 samples a second.
 const TOO_HIGH_HZ: u32 = 4_000;
 
 // How many digits a line has, and a trunk group.
 const DIGITS_OF_FOUR: usize = 4;
-
-// The number that a field of 1 to `most` ASCII digits writes.
-fn number_of(most: usize, field: &[u8]) -> Option<u32>
-    requires { most ≤ 8 }
-    ensures value { result ≡ field_number most field.now }
-    ensures bound { IfSome result (λ n. n < 10 ^ most) }
-{
-    if field.is_empty() || field.len() > most {
-        return None;
-    }
-    let mut number: u32 = 0;
-    for digit in field {
-        if !digit.is_ascii_digit() {
-            return None;
-        }
-        number = number * 10 + u32::from(*digit - b'0');
-    }
-    Some(number)
-}
 
 // The number that four digits write.
 pub(crate) fn four_digits(field: &[u8]) -> Option<u16>
@@ -42,7 +23,7 @@ pub(crate) fn four_digits(field: &[u8]) -> Option<u16>
     if field.len() != DIGITS_OF_FOUR {
         return None;
     }
-    Some(number_of(DIGITS_OF_FOUR, field)? as u16)
+    Some(field_number(DIGITS_OF_FOUR, field)? as u16)
 }
 
 // Whether a text is this number in decimal.
@@ -60,7 +41,7 @@ fn key_of(text: &[u8]) -> Option<Key>
     match text {
         b"KP" => Some(Key::Kp),
         b"ST" => Some(Key::St),
-        _ => Some(Key::Digit(Digit::new(number_of(1, text)? as u8)?)),
+        _ => Some(Key::Digit(Digit::new(field_number(1, text)? as u8)?)),
     }
 }
 
@@ -68,7 +49,7 @@ fn key_of(text: &[u8]) -> Option<Key>
 fn hz_of(text: &[u8]) -> Option<u16>
     ensures { result ≡ hz_of text.now }
 {
-    let hz = number_of(4, text)?;
+    let hz = field_number(4, text)?;
     if hz < TOO_HIGH_HZ {
         Some(hz as u16)
     } else {
@@ -124,7 +105,7 @@ fn reason_of(text: &[u8]) -> Option<Reason>
 fn heard_of(text: &[u8]) -> Option<u8>
     ensures { result ≡ heard_of text.now }
 {
-    let heard = number_of(3, text)?;
+    let heard = field_number(3, text)?;
     if heard < 256 { Some(heard as u8) } else { None }
 }
 

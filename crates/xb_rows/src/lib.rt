@@ -13,7 +13,7 @@ mod scan;
 mod steps;
 mod writing;
 
-pub use record::line_of;
+pub use record::{field_number, line_of};
 pub use row_reader::RowReader;
 pub use rows::read_rows;
 pub use scan::{MOST_RECORDS, Scan};
