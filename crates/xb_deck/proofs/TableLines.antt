@@ -9,10 +9,11 @@ use Rattle.std.proofs.lemmas.Slice.Eq.{bytes_eq-Decides}
 use Rattle.std.proofs.lemmas.List.Elements.{All-get_or}
 use Rattle.std.proofs.lemmas.List.Quantifiers.{position-Some}
 use Rattle.std.proofs.lemmas.List.Splits.{slice_split_at, slice_split_none, join_with_byte-slice_split}
+use Rattle.xb_pieces.proofs.PlacedPieces.{first_piece, one_piece}
 use Rattle.xb_deck.specs.Deck.{Parts, with_earlier, deck_parts, ends_line, is_cut, line_feed}
 use Rattle.xb_deck.specs.Tables.{IsCutAfter, IsReadSoFar, IsTableFault, ReadsByte}
 use Rattle.xb_deck.specs.declared.table.TableFault.TheVariants as fault
-use Rattle.xb_deck.proofs.Lines.{first_line, one_line, with_earlier-with_earlier}
+use Rattle.xb_deck.proofs.Lines.{with_earlier-with_earlier}
 
 -- the end of a line was read
 pub end_read : (old new : Option (List ℕ)) (read : Option ℕ) (byte : ℕ) → read ≡ Some byte → byte ≡ line_feed
@@ -161,13 +162,13 @@ long-line line rest no_end long = by (position ends_line (line ++ rest)) refl
         → IfSome (deck_parts (line ++ rest)) (λ parts. length line < length parts.table)
     by None e =
         let no_cut = long-no_cut (line ++ rest) (omega (arith, total)) in
-        rw (one_line (line ++ rest) e, no_cut) tt
+        rw (one_piece line_feed (line ++ rest) e, no_cut) tt
     by (Some n) e =
         let (inside, is, before) = position-Some ends_line (line ++ rest) n 0 e in
         let whole : length line ≤ n = past_line line rest n no_end is in
         let size = length-take n (line ++ rest) in
         let no_cut = long-no_cut (take n (line ++ rest)) (omega (arith, size, total)) in
-        rw (first_line (line ++ rest) n e, no_cut)
+        rw (first_piece line_feed (line ++ rest) n e, no_cut)
         (longer (take n (line ++ rest)) (deck_parts (drop (n + 1) (line ++ rest))) (omega (arith, size, total)))
 
 -- a table that goes on beyond the most bytes

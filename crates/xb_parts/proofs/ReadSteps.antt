@@ -1,61 +1,22 @@
 -- How a page is read line by line.
-use Rattle.std.proofs.Common.{◌≡◌, ◌≤◌, ◌<◌, ◌+◌, ◌-◌, ℕ, true, false, not, List, [], ◌∷◌, ◌++◌, length, get_or, take, drop, Some, None, sym, ap, ap₂, ◌∙◌, arith, append_assoc}
+use Rattle.std.proofs.Common.{◌≡◌, ◌≤◌, ◌<◌, ◌+◌, ◌-◌, ℕ, true, false, not, List, ◌∷◌, ◌++◌, length, take, drop, Some, None, sym, ap, ap₂, ◌∙◌, arith, append_assoc}
 use Rattle.std.specs.Prelude.{Ok, Err, Result, codes}
-use Rattle.std.specs.List.{All, join_with_byte, position, position_or_len, slice_split}
-use Rattle.std.proofs.lemmas.Grind.{common_steps}
+use Rattle.std.specs.List.{join_with_byte, position, slice_split}
 use Rattle.std.proofs.lemmas.Bool.{cond-true, cond-false, eq-eqb, ne_eqb}
-use Rattle.std.proofs.lemmas.List.{drop-drop, drop_more, length-drop, take-append-drop, take_more, take_rest}
-use Rattle.std.proofs.Math.Seq.{take-add}
+use Rattle.std.proofs.lemmas.List.{length-drop, take_rest}
 use Rattle.std.proofs.lemmas.List.Quantifiers.{position-Some}
-use Rattle.std.proofs.lemmas.List.Splits.{slice_split_at, slice_split_none, join_with_byte-slice_split}
-use Rattle.std.proofs.lemmas.List.Sums.{fails_before_first}
+use Rattle.std.proofs.lemmas.List.Splits.{join_with_byte-slice_split}
+use Rattle.xb_pieces.proofs.PlacedPieces.{drop-piece, first_piece, one_piece, piece_length, take-piece, with_byte}
 use Rattle.xb_parts.specs.declared.damage.Damage.{Damage}
 use Rattle.xb_parts.specs.declared.damage.Damage.TheVariants as damage
 use Rattle.xb_parts.specs.declared.place.Place.{Place}
 use Rattle.xb_parts.specs.PageLines.{Read, ends_line, has_more, head_of, is_totals, line_feed, or_damage, place_after, read_lines, read_page, read_totals, read_with, says_totals}
 use Rattle.xb_parts.proofs.ReadEntries.{has_more-slice_split, read_lines-more}
 
--- the first line, and the lines after its LF
-first_line : (xs : List ℕ) (n : ℕ) → position ends_line xs ≡ Some n → slice_split ends_line xs ≡ take n xs ∷ slice_split ends_line (drop (n + 1) xs)
-first_line xs n e =
-    let (within, is, before) = position-Some ends_line xs n 0 e in
-    let front : All (λ byte. ends_line byte ≡ false) (take n xs) = λ k byte m. let b = before k in grind (arith, common_steps) in
-    let whole : xs ≡ take n xs ++ (get_or xs n 0 ∷ drop (n + 1) xs) = sym (take-append-drop n xs) ∙ ap (λ (rest : List ℕ). take n xs ++ rest) (drop_more xs n 0 within) in
-    ap (slice_split ends_line) whole ∙ slice_split_at ends_line (take n xs) (get_or xs n 0) (drop (n + 1) xs) front is
-
--- a text without LF is one line
-one_line : (xs : List ℕ) → position ends_line xs ≡ None → slice_split ends_line xs ≡ xs ∷ []
-one_line xs e =
-    let all : length xs ≤ position_or_len ends_line xs = grind (arith, common_steps) in
-    slice_split_none ends_line xs (λ k byte m. let f = fails_before_first ends_line xs k byte in grind (arith, common_steps))
-
--- the first line with its LF
-with_end : (xs : List ℕ) (n : ℕ) → position ends_line xs ≡ Some n → take n xs ++ codes "\n" ≡ take (n + 1) xs
-with_end xs n e =
-    let (within, is, before) = position-Some ends_line xs n 0 e in
-    let lf : get_or xs n 0 ≡ line_feed = grind (arith, common_steps) in
-    ap (λ (byte : ℕ). take n xs ++ (byte ∷ [])) (sym lf) ∙ sym (take_more xs n 0 within)
-
 -- a page is read as its rest from a line's start on is, after the earlier lines
 abbrev pub IsRestRead : ℕ → List ℕ → Place → ℕ → Type 0
 IsRestRead from page place start =
     read_page from page ≡ read_lines (take start page) place (slice_split ends_line (drop start page))
-
--- the length of a line from its ends
-line_length : (start n : ℕ) → start + n - start ≡ n
-line_length start n = omega arith
-
--- the bytes after a line
-drop-line : (xs : List ℕ) (start n : ℕ) → drop (n + 1) (drop start xs) ≡ drop (start + n + 1) xs
-drop-line xs start n =
-    let e : start + (n + 1) ≡ start + n + 1 = omega arith in
-    drop-drop (n + 1) start xs ∙ ap (λ (k : ℕ). drop k xs) e
-
--- the bytes up to and with a line
-take-line : (xs : List ℕ) (start n : ℕ) → take start xs ++ take (n + 1) (drop start xs) ≡ take (start + n + 1) xs
-take-line xs start n =
-    let e : start + (n + 1) ≡ start + n + 1 = omega arith in
-    sym (take-add start (n + 1) xs) ∙ ap (λ (k : ℕ). take k xs) e
 
 module _ (from : ℕ) (page : List ℕ) (place : Place) (start n : ℕ) (rest : IsRestRead from page place start)
     (e : Some n ≡ position ends_line (take (length page - start) (drop start page))) where
@@ -67,7 +28,7 @@ module _ (from : ℕ) (page : List ℕ) (place : Place) (start n : ℕ) (rest : 
   at = rw (take_rest page start) at (sym e)
 
   is_text : text ≡ take n (drop start page)
-  is_text = ap (λ (k : ℕ). take k (drop start page)) (line_length start n)
+  is_text = ap (λ (k : ℕ). take k (drop start page)) (piece_length start n)
 
   pub line_within : start + n + 1 ≤ length page
   line_within =
@@ -79,8 +40,8 @@ module _ (from : ℕ) (page : List ℕ) (place : Place) (start n : ℕ) (rest : 
 
   pub lines_from : slice_split ends_line (drop start page) ≡ text ∷ later
   lines_from =
-      first_line (drop start page) n at
-      ∙ ap₂ (λ (t : List ℕ) (r : List ℕ). t ∷ slice_split ends_line r) (sym is_text) (drop-line page start n)
+      first_piece line_feed (drop start page) n at
+      ∙ ap₂ (λ (t : List ℕ) (r : List ℕ). t ∷ slice_split ends_line r) (sym is_text) (drop-piece page start n)
 
   here : read_page from page ≡ read_lines (take start page) place (text ∷ later)
   here = rest ∙ ap (read_lines (take start page) place) lines_from
@@ -96,8 +57,8 @@ module _ (from : ℕ) (page : List ℕ) (place : Place) (start n : ℕ) (rest : 
       ∙ ap (λ (bytes : List ℕ). or_damage (place_after place (head_of text)) (λ next. read_lines bytes next later))
       (append_assoc (take start page) text (codes "\n")
       ∙ ap (λ (t : List ℕ). take start page ++ (t ++ codes "\n")) is_text
-      ∙ ap (λ (t : List ℕ). take start page ++ t) (with_end (drop start page) n at)
-      ∙ take-line page start n)
+      ∙ ap (λ (t : List ℕ). take start page ++ t) (with_byte line_feed (drop start page) n at)
+      ∙ take-piece page start n)
 
   -- the totals
   pub totals : true ≡ is_totals text → read_page from page ≡ read_totals (take start page) place text (slice_split ends_line (drop (start + n + 1) page))
@@ -139,4 +100,4 @@ pub no_line : (from : ℕ) (page : List ℕ) (place : Place) (start : ℕ) → I
     → None ≡ position ends_line (take (length page - start) (drop start page)) → read_page from page ≡ Err damage.NoTotals
 no_line from page place start rest e =
     let at = rw (take_rest page start) at (sym e) in
-    rest ∙ ap (read_lines (take start page) place) (one_line (drop start page) at)
+    rest ∙ ap (read_lines (take start page) place) (one_piece line_feed (drop start page) at)

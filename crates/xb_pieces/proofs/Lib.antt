@@ -1,1 +1,2 @@
 mod CutPieces
+pub mod PlacedPieces
