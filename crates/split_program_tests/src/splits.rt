@@ -5,8 +5,8 @@ use std::io::{self, ErrorKind};
 use std::test::Fail;
 use xb_model::RowFault;
 use xb_rows::RowReader;
-use xb_split::{LineRange, ListFault, ListedPart, list_of, ranges_of_list};
-use xb_split_program::{PartDecks, count_rows, plan_parts, write_parts};
+use xb_split::{LineRange, ListFault, ListedPart, PlanFault, list_of, ranges_of_list};
+use xb_split_program::{PartDecks, PlanPartsFault, count_rows, plan_parts, write_parts};
 
 const TABLE: &[u8] = b"[[route]]\ncode = \"0\"\ntrunk = 1\n";
 
@@ -67,9 +67,9 @@ fn decks_of_parts(rt: HostRuntime) -> Result<(), Fail> {
     let alloc = rt.alloc();
     let mut rows = RowReader::new(alloc, ROWS, u64::MAX);
     let loads = count_rows(alloc, &mut rows)?;
-    // lines 0 and 7 have 27 of the 49 bytes, more than half, so the half of the bytes makes three parts
+    // lines 0 and 7 have 4 of the 6 records, and line 7 alone has 3
     let halves = plan_parts(alloc, TABLE.len(), &loads, Some(2))?;
-    assert_eq!(rt; halves.len(), 3);
+    assert_eq!(rt; halves.as_slice(), HALVES.as_slice());
     let one = plan_parts(alloc, TABLE.len(), &loads, None)?;
     assert_eq!(rt; one.len(), 1);
     let mut rows = RowReader::new(alloc, ROWS, u64::MAX);
@@ -77,6 +77,56 @@ fn decks_of_parts(rt: HostRuntime) -> Result<(), Fail> {
     write_parts(TABLE, &mut rows, &HALVES, &mut decks)?;
     assert_eq!(rt; decks.low.as_slice(), LOW);
     assert_eq!(rt; decks.high.as_slice(), HIGH);
+    Ok(())
+}
+
+// Lines 1 to 6 have 5, 1, 1, 1, 1 and 1 records, of 6 bytes each.
+const UNEVEN: &[u8] =
+    b"line,state,ms\n1,M,5\n1,B,5\n1,M,5\n1,B,5\n1,M,5\n2,M,5\n3,M,5\n4,M,5\n5,M,5\n6,M,5\n";
+
+const ALL: &[LineRange] = &[LineRange {
+    first: 0,
+    end: 10_000,
+}];
+
+// Five records are on line 1, and five on later lines. Six and four would be less even.
+const FIVES: &[LineRange] = &[
+    LineRange { first: 0, end: 2 },
+    LineRange {
+        first: 2,
+        end: 10_000,
+    },
+];
+
+// A table that leaves 30 bytes for records: 16,777,216 - 18 - 30.
+const LONG: usize = 16_777_168;
+
+// The table, how many parts are asked for, and their ranges.
+const PLANS: &[(usize, Option<u32>, &[LineRange])] = &[
+    (0, None, ALL),
+    (0, Some(1), ALL),
+    (0, Some(2), FIVES),
+    // no third part makes the first one smaller
+    (0, Some(3), FIVES),
+    (LONG, None, FIVES),
+    // one part would not fit
+    (LONG, Some(1), FIVES),
+];
+
+#[test]
+fn even_parts(rt: HostRuntime) -> Result<(), Fail> {
+    let alloc = rt.alloc();
+    let mut rows = RowReader::new(alloc, UNEVEN, u64::MAX);
+    let loads = count_rows(alloc, &mut rows)?;
+    for (table, parts, ranges) in PLANS {
+        let plan = plan_parts(alloc, *table, &loads, *parts)?;
+        assert_eq!(rt; plan.as_slice(), *ranges);
+    }
+    // line 1 alone has 30 bytes; and there is a table that leaves none
+    let no_plan = plan_parts(alloc, LONG + 1, &loads, Some(9)).err();
+    assert!(rt; matches!(no_plan, Some(PlanPartsFault::Plan(PlanFault::Line(_)))));
+    let no_room = plan_parts(alloc, LONG + 31, &loads, None).err();
+    assert_eq!(rt; no_room, Some(PlanPartsFault::Table));
     Ok(())
 }
 

@@ -14,6 +14,9 @@ const NO_CUT: &[u8] = b"[[route]]\ncode = \"0\"\ntrunk = 1\nline,state,ms\n7,M,5
 
 const WRONG: &[u8] = b"---\nline,state,ms\n7,M,500\n7,X,500\n";
 
+// A record on each of three lines.
+const THREE: &[u8] = b"---\nline,state,ms\n1,M,500\n2,M,500\n3,M,500\n";
+
 const LIST: &str = "0000-9999.deck 0 9999 4\n";
 
 const USAGE: &[u8] = b"mfsplit: usage: mfsplit BIG FOLDER [--parts N]\n";
@@ -56,6 +59,7 @@ impl SplitFiles for Folder {
             "deck" => Ok(DECK),
             "no cut" => Ok(NO_CUT),
             "wrong" => Ok(WRONG),
+            "three" => Ok(THREE),
             _ => Err(missing()),
         }
     }
@@ -161,7 +165,7 @@ const FAULTS: &[(&[&str], u8, &[u8])] = &[
         b"mfsplit: there would be 501 parts, and the most is 500\n",
     ),
     (
-        &["deck", "parts", "--parts", "4"],
+        &["three", "parts", "--parts", "4"],
         1,
         b"mfsplit: a part could not be written: entity not found\n",
     ),

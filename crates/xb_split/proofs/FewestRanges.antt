@@ -1,5 +1,5 @@
 -- Ranges that are as long as they may be are the fewest.
-use Rattle.std.proofs.Common.{◌≡◌, ◌≤◌, ◌<◌, ◌+◌, ◌-◌, ℕ, zero, suc, List, [], ◌∷◌, length, ap, ◌∙◌, arith, inl, inr}
+use Rattle.std.proofs.Common.{◌≡◌, ◌≤◌, ◌<◌, ◌+◌, ◌-◌, ℕ, zero, suc, List, [], ◌∷◌, get_or, length, ap, ◌∙◌, arith, inl, inr}
 use Rattle.std.specs.Prelude.{sum_by, slice_range, ◌⊎◌}
 use Rattle.std.specs.List.{AllByRecursion}
 use Rattle.std.proofs.lemmas.Bool.{cases_lt}
@@ -7,6 +7,7 @@ use Rattle.std.proofs.lemmas.List.Elements.{recursion_from_All}
 use Rattle.xb_model.specs.declared.line.TheConstants.{LINES}
 use Rattle.xb_split.specs.declared.load.Load.{Load}
 use Rattle.xb_split.specs.declared.range.LineRange.{LineRange}
+use Rattle.xb_split.specs.Loads.{IsWithin}
 use Rattle.xb_split.specs.Ranges.{Cover, Fits, FullRangesAreFewest, IsFull}
 use Rattle.xb_split.proofs.PlannedRanges.{sum-more, sum-none}
 
@@ -37,7 +38,7 @@ module _ (f : Load → ℕ) (loads : List Load) (d : Load) where
       omega (arith, rest, more, more')
 
   -- lines among others have no more
-  within-sum : (a b a' b' : ℕ) → a' ≤ a → a ≤ b → b ≤ b' → b' ≤ length loads
+  pub within-sum : (a b a' b' : ℕ) → a' ≤ a → a ≤ b → b ≤ b' → b' ≤ length loads
       → sum_by f (slice_range loads a b) ≤ sum_by f (slice_range loads a' b')
   unfolding sum
   within-sum a b a' b' low up high all =
@@ -57,9 +58,42 @@ module _ (f : Load → ℕ) (loads : List Load) (d : Load) where
       )
 
 module _ (loads : List Load) (most : Load) (all : length loads ≡ LINES) where
-  Cover-le : (a b : ℕ) (ranges : List LineRange) → Cover a b ranges → a ≤ b
+  pub Cover-le : (a b : ℕ) (ranges : List LineRange) → Cover a b ranges → a ≤ b
   Cover-le a b [] cover = omega arith
   Cover-le a b (range ∷ ranges) cover = omega (arith, cover.1, Cover-le range.end b ranges cover.2)
+
+  -- a line of ranges that fit has no more by itself
+  pub line_fits : (a n : ℕ) (d : Load) (ranges : List LineRange) → Cover a LINES ranges
+      → AllByRecursion (Fits loads most) ranges → a ≤ n → n < LINES → IsWithin (get_or loads n d) most
+  line_fits a n d [] cover fit low below = absurd (omega (arith, cover))
+  line_fits a n d (range ∷ ranges) cover fit low below =
+      at (λ high. line_fits range.end n d ranges cover.2 fit.1 high below) (cases_lt n range.end)
+    where
+      first : range.first ≤ n
+      first = omega (arith, cover.0, low)
+
+      within : range.end ≤ length loads
+      within = omega (arith, all, Cover-le range.end LINES ranges cover.2)
+
+      alone : (f : Load → ℕ) → n < range.end → f (get_or loads n d) ≤ sum_by f (slice_range loads range.first range.end)
+      alone f inside =
+          let some : n ≤ n = omega arith in
+          let next : n + 1 ≤ range.end = omega (arith, inside) in
+          let here : n < length loads = omega (arith, all) in
+          omega (
+            arith,
+            sum-none f loads n,
+            sum-more f loads n n d some here,
+            within-sum f loads d n (n + 1) range.first range.end first (omega arith) next within,
+          )
+
+      at : (range.end ≤ n → IsWithin (get_or loads n d) most) → (n < range.end) ⊎ (range.end ≤ n)
+          → IsWithin (get_or loads n d) most
+      at later (inr high) = later high
+      at later (inl inside) = (
+        omega (arith, fit.0.0, alone (λ l. l.records) inside),
+        omega (arith, fit.0.1, alone (λ l. l.bytes) inside),
+      )
 
   -- a range that begins no later and fits ends no later than one that is full
   ends_first : (range other : LineRange) → other.first ≤ range.first → range.first < range.end → other.end ≤ LINES

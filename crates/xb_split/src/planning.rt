@@ -1,6 +1,7 @@
 // Which lines go into which part.
-ghost use Rattle.std.specs.Prelude.{◌≡◌, ◌≤◌, ◌<◌, ◌^◌, IfOk, IfErr};
+ghost use Rattle.std.specs.Prelude.{◌≡◌, ◌≤◌, ◌<◌, ◌^◌, IfOk, IfErr, length};
 ghost use Rattle.std.specs.List.{All};
+ghost use Rattle.xb_model.specs.declared.line.TheConstants.{LINES};
 ghost use Rattle.xb_split.specs.Loads.{IsWithin};
 ghost use Rattle.xb_split.specs.PlanFaults.{IsPlanFault};
 ghost use Rattle.xb_split.specs.Ranges.{CoverAll, Fits, IsFull};
@@ -49,6 +50,7 @@ pub fn plan_ranges(
     ensures fit { IfOk result (λ ranges. All (Fits loads.now most) ranges.items) }
     ensures full { IfOk result (λ ranges. All (IsFull loads.now aim) ranges.items) }
     ensures too_much { IfErr result (IsPlanFault loads.now most) }
+    ensures lines { length loads.now ≡ LINES }
 {
     let mut ranges = Vec::new(alloc);
     let mut first = 0;

@@ -1,3 +1,4 @@
 mod StreamedRows
 mod WrittenParts
 mod SplitDecks
+mod EvenRanges

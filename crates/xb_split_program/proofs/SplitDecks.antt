@@ -60,10 +60,11 @@ are_made fresh start made table ranges left empty gets = (
 )
 
 -- they are those of all parts of the deck
-pub is_split : (deck fresh : Option (List ℕ)) (made named : Decks) (table : List ℕ) (ranges : List LineRange)
-    (list : List ℕ) (left : Option Rest) → IsReady deck table ranges list left → AreMade fresh made table ranges left
-    → ((i : ℕ) → named i ≡ made i) → IsSplit deck fresh named list
-is_split deck fresh made named table ranges list left ready are same = record {
+pub is_split : (deck : Option (List ℕ)) (wanted : Option ℕ) (fresh : Option (List ℕ)) (made named : Decks)
+    (table : List ℕ) (ranges : List LineRange) (list : List ℕ) (left : Option Rest)
+    → IsReady deck wanted table ranges list left → AreMade fresh made table ranges left
+    → ((i : ℕ) → named i ≡ made i) → IsSplit deck wanted fresh named list
+is_split deck wanted fresh made named table ranges list left ready are same = record {
   table = table;
   ranges = ranges;
   rows = are.0;

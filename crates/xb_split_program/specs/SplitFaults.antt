@@ -23,12 +23,15 @@ IsFaultOf deck parts (fault.TooMany count) = MOST_PARTS < count
 IsFaultOf deck parts f = Unit {0}
 
 -- the list of parts has its name only where their decks are whole, and have theirs
-abbrev pub IsWholeOrNone : Option (List ℕ) → Option (List ℕ) → Decks → Option (List ℕ) → Option (List ℕ) → Type 0
-IsWholeOrNone deck fresh decks old new =
-    Keeps old new ⊎ ((list : List ℕ) × IsSplit deck fresh decks list × Appends old new list)
+abbrev pub IsWholeOrNone : Option (List ℕ) → Option (List ℕ) → Option ℕ → Decks → Option (List ℕ)
+    → Option (List ℕ) → Type 0
+IsWholeOrNone deck fresh parts decks old new =
+    Keeps old new ⊎ ((list : List ℕ) × IsSplit deck parts fresh decks list × Appends old new list)
 
 -- what is returned for a deck, and what became of the list of its parts
 abbrev pub Delivers : Option (List ℕ) → Option (List ℕ) → Option ℕ → Result (Unit {0}) SplitFault
     → Decks → Option (List ℕ) → Option (List ℕ) → Type 0
-Delivers deck fresh parts (Ok u) decks old new = (list : List ℕ) × IsSplit deck fresh decks list × Appends old new list
-Delivers deck fresh parts (Err f) decks old new = IsFaultOf deck parts f × IsWholeOrNone deck fresh decks old new
+Delivers deck fresh parts (Ok u) decks old new =
+    (list : List ℕ) × IsSplit deck parts fresh decks list × Appends old new list
+Delivers deck fresh parts (Err f) decks old new =
+    IsFaultOf deck parts f × IsWholeOrNone deck fresh parts decks old new

@@ -12,7 +12,7 @@ use Rattle.xb_split.specs.declared.list.ListedPart.{ListedPart}
 use Rattle.xb_split.specs.declared.load.Load.{Load}
 use Rattle.xb_split.specs.declared.range.LineRange.{LineRange}
 use Rattle.xb_split_program.specs.PartDecks.{Decks, deck_of_part}
-use Rattle.xb_split_program.specs.Plans.{FitDecks}
+use Rattle.xb_split_program.specs.Plans.{AreAsked, FitDecks}
 use Rattle.xb_split_program.specs.RowStreams.{HasGivenAll}
 use Rattle.xb_split_program.specs.declared.splitting.TheConstants.{MOST_PARTS}
 
@@ -35,22 +35,24 @@ abbrev pub IsCounted : Option (List ℕ) → List ℕ → List Load → Type 0
 IsCounted deck table loads =
     IfSome deck (λ text. (rows : List LoopRow) × HasRows text table rows × AreLoadsOf rows loads)
 
--- the ranges of the parts of a deck: they take all lines, the deck of each is one that an office takes, there are
--- no more than may be, and the list names them
-pub record IsPlan (deck : Option (List ℕ)) (table : List ℕ) (ranges : List LineRange) (list : List ℕ) : Type 0 where
+-- the ranges of the parts of a deck: they take all lines, the deck of each is one that an office takes, they are those
+-- that are asked for, there are no more than may be, and the list names them
+pub record IsPlan (deck : Option (List ℕ)) (wanted : Option ℕ) (table : List ℕ) (ranges : List LineRange)
+    (list : List ℕ) : Type 0 where
   pub loads : List Load
   pub parts : List ListedPart
   pub counted : IsCounted deck table loads
   pub cover : CoverAll ranges
   pub fit : FitDecks (length table) loads ranges
+  pub asked : AreAsked wanted (length table) loads ranges
   pub few : length ranges ≤ MOST_PARTS
   pub lines : map (λ part. part.lines) parts ≡ ranges
   pub listed : list ≡ list_of parts
 
 -- the parts of a deck are planned, and it was opened again
-pub record IsReady (deck : Option (List ℕ)) (table : List ℕ) (ranges : List LineRange) (list : List ℕ)
-    (left : Option Rest) : Type 0 where
-  pub plan : IsPlan deck table ranges list
+pub record IsReady (deck : Option (List ℕ)) (wanted : Option ℕ) (table : List ℕ) (ranges : List LineRange)
+    (list : List ℕ) (left : Option Rest) : Type 0 where
+  pub plan : IsPlan deck wanted table ranges list
   pub opened : IsOpened deck table left
 
 -- decks that have exactly the rows of their parts, of all that were left
@@ -59,17 +61,18 @@ AreMade fresh made table ranges left = (rows : List LoopRow) × HasGivenAll rows
     × ((i : ℕ) → i < length ranges → Appends fresh (made i) (deck_of_part table ranges rows i))
 
 -- the decks of all parts of a deck, each with exactly its rows, and their list
-pub record IsSplit (deck fresh : Option (List ℕ)) (decks : Decks) (list : List ℕ) : Type 0 where
+pub record IsSplit (deck : Option (List ℕ)) (wanted : Option ℕ) (fresh : Option (List ℕ)) (decks : Decks)
+    (list : List ℕ) : Type 0 where
   pub table : List ℕ
   pub ranges : List LineRange
   pub rows : List LoopRow
-  pub plan : IsPlan deck table ranges list
+  pub plan : IsPlan deck wanted table ranges list
   pub read : IfSome deck (λ text. HasRows text table rows)
   pub written : (i : ℕ) → i < length ranges → Appends fresh (decks i) (deck_of_part table ranges rows i)
 
 -- these are the decks of all parts of some deck
 abbrev pub AreWhole : Option (List ℕ) → Decks → List ℕ → Type 0
-AreWhole fresh decks list = (deck : Option (List ℕ)) × IsSplit deck fresh decks list
+AreWhole fresh decks list = (deck : Option (List ℕ)) × (wanted : Option ℕ) × IsSplit deck wanted fresh decks list
 
 -- decks that have their names, and their list, which has its own
 pub record IsNamed (made : Decks) (list : List ℕ) (named : Decks) (old new : Option (List ℕ)) : Type 0 where

@@ -1,8 +1,7 @@
 // The ranges of a deck's parts.
-ghost use Rattle.std.specs.Prelude.{IfOk, IfSome};
-ghost use Rattle.xb_split.specs.Loads.{IsWithin};
+ghost use Rattle.std.specs.Prelude.{◌<◌, ◌^◌, ◌↔◌, ℕ, IfOk, IfSome, IsTrue};
 ghost use Rattle.xb_split.specs.Ranges.{CoverAll};
-ghost use Rattle.xb_split_program.specs.Plans.{FitDecks, LeavesRoom};
+ghost use Rattle.xb_split_program.specs.Plans.{AreAsked, AreEnough, FitDecks, IsLeast, IsRoom, IsWanted};
 
 use std::alloc::Global;
 use thiserror::Error;
@@ -30,7 +29,7 @@ pub enum PlanPartsFault {
 
 // What the records of a part may have after a table of so many bytes.
 fn most_after(table: usize) -> Option<Load>
-    ensures { IfSome result (λ most. LeavesRoom table most) }
+    ensures { IfSome result (λ most. IsRoom table most) }
 {
     let bytes = MOST_DECK_BYTES.checked_sub(HEAD_BYTES)?.checked_sub(table)?;
     Some(Load {
@@ -39,30 +38,90 @@ fn most_after(table: usize) -> Option<Load>
     })
 }
 
-// What all lines have together, up to the greatest counts.
-fn total_of(loads: &PerLine<Load>) -> Load {
-    let mut total = Load::default();
-    for (_line, load) in loads.iter() {
-        total.records = total.records.saturating_add(load.records);
-        total.bytes = total.bytes.saturating_add(load.bytes);
-    }
-    total
-}
-
-// What a part is to have, of which about so many are wanted: no more than a part may have.
-fn aim_of(loads: &PerLine<Load>, parts: u32, most: Load) -> Load
-    ensures { IsWithin result most }
+// Whether so many ranges, or fewer, are enough for all lines, if each has no more than `most`.
+fn are_enough(
+    alloc: Global,
+    loads: &PerLine<Load>,
+    parts: u32,
+    most: Load,
+) -> Result<bool, PlanFault>
+    requires records { most.records < 2 ^ 63 }
+    requires bytes { most.bytes < 2 ^ 63 }
+    ensures { IfOk result (λ enough. IsTrue enough ↔ AreEnough parts loads.now most) }
 {
-    let total = total_of(loads);
-    let parts = u64::from(parts.max(1));
-    Load {
-        records: (total.records / parts).saturating_add(1).min(most.records),
-        bytes: (total.bytes / parts).saturating_add(1).min(most.bytes),
+    match plan_ranges(alloc, loads, most, most) {
+        Ok(ranges) => Ok(ranges.len() <= parts as usize),
+        Err(PlanFault::Line(_)) => Ok(false),
+        Err(fault) => Err(fault),
     }
 }
 
-/// The ranges of the parts of a deck, by what each line has: about so many as are wanted, or the fewest. The
-/// deck of each, with a table of so many bytes, is one that an office takes.
+// The fewest records for which so many ranges are enough, found by halving; or `most`, where they are not enough
+// for fewer.
+fn least_most(
+    alloc: Global,
+    loads: &PerLine<Load>,
+    parts: u32,
+    most: Load,
+) -> Result<Load, PlanFault>
+    requires records { most.records < 2 ^ 63 }
+    requires bytes { most.bytes < 2 ^ 63 }
+    ensures { IfOk result (IsLeast parts loads.now most) }
+{
+    let bytes = most.bytes;
+    let mut low = 0;
+    let mut high = most.records;
+    while low < high {
+        let records = low + (high - low) / 2;
+        if are_enough(alloc, loads, parts, Load { records, bytes })? {
+            high = records;
+        } else {
+            low = records + 1;
+        }
+    }
+    Ok(Load {
+        records: high,
+        bytes,
+    })
+}
+
+// What the parts that are asked for are to have at most, of which each may have `most`.
+fn wanted_most(
+    alloc: Global,
+    loads: &PerLine<Load>,
+    parts: Option<u32>,
+    most: Load,
+) -> Result<Load, PlanFault>
+    requires records { most.records < 2 ^ 63 }
+    requires bytes { most.bytes < 2 ^ 63 }
+    ensures { IfOk result (IsWanted parts loads.now most) }
+{
+    match parts {
+        Some(parts) => least_most(alloc, loads, parts, most),
+        None => Ok(most),
+    }
+}
+
+// The ranges that are asked for, with a table of so many bytes after which `most` is left.
+fn ranges_within(
+    alloc: Global,
+    loads: &PerLine<Load>,
+    parts: Option<u32>,
+    most: Load,
+) -> Result<Vec<LineRange>, PlanFault>
+    requires room { (table : ℕ) × IsRoom table most }
+    ensures cover { IfOk result (λ ranges. CoverAll ranges.items) }
+    ensures fit { (table : ℕ) → IsRoom table most → IfOk result (λ ranges. FitDecks table loads.now ranges.items) }
+    ensures asked { (table : ℕ) → IsRoom table most → IfOk result (λ ranges.
+        AreAsked parts table loads.now ranges.items) }
+{
+    let wanted = wanted_most(alloc, loads, parts, most)?;
+    plan_ranges(alloc, loads, wanted, wanted)
+}
+
+/// The ranges of the parts of a deck, by what each line has: the fewest, or, where so many are asked for, at most so
+/// many, whose greatest has as few records as that many parts allow; there are more only where no fewer fit. The deck
+/// of each, with a table of so many bytes, is one that an office takes.
 pub fn plan_parts(
     alloc: Global,
     table: usize,
@@ -71,16 +130,13 @@ pub fn plan_parts(
 ) -> Result<Vec<LineRange>, PlanPartsFault>
     ensures cover { IfOk result (λ ranges. CoverAll ranges.items) }
     ensures fit { IfOk result (λ ranges. FitDecks table loads.now ranges.items) }
+    ensures asked { IfOk result (λ ranges. AreAsked parts table loads.now ranges.items) }
 {
     let most = match most_after(table) {
         Some(most) => most,
         None => return Err(PlanPartsFault::Table),
     };
-    let aim = match parts {
-        Some(parts) => aim_of(loads, parts, most),
-        None => most,
-    };
-    match plan_ranges(alloc, loads, aim, most) {
+    match ranges_within(alloc, loads, parts, most) {
         Ok(ranges) => Ok(ranges),
         Err(fault) => Err(PlanPartsFault::Plan(fault)),
     }

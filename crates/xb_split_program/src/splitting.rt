@@ -124,7 +124,7 @@ fn plan_deck<F: SplitFiles>(
     parts: Option<u32>,
 ) -> Result<Plan, SplitFault>
     ensures plan { let deck = F.bytes files.now big.now in
-        IfOk result (λ p. IsPlan deck p.table.items p.ranges.items (string_bytes p.list)) }
+        IfOk result (λ p. IsPlan deck parts p.table.items p.ranges.items (string_bytes p.list)) }
     ensures fault { IfErr result (IsFaultOf (F.bytes files.now big.now) parts) }
 {
     let (table, loads) = match count(alloc, files, big) {
@@ -160,7 +160,7 @@ fn prepare<F: SplitFiles>(
     parts: Option<u32>,
 ) -> Result<(Plan, RowReader<F::Deck>), SplitFault>
     ensures ready { let deck = F.bytes files.now big.now in
-        IfOk result (λ r. IsReady deck r.0.table.items r.0.ranges.items (string_bytes r.0.list) r.1) }
+        IfOk result (λ r. IsReady deck parts r.0.table.items r.0.ranges.items (string_bytes r.0.list) r.1) }
     ensures fault { IfErr result (IsFaultOf (F.bytes files.now big.now) parts) }
 {
     let plan = match plan_deck(alloc, files, big, parts) {
@@ -213,10 +213,10 @@ fn make_and_name<F: SplitFiles>(
     plan: &Plan,
     rows: &mut RowReader<F::Deck>,
 ) -> Result<(), SplitFault>
-    requires ready { (deck : Option (List ℕ))
-        × IsReady deck plan.now.table.items plan.now.ranges.items (string_bytes plan.now.list) rows.old }
+    requires ready { (deck : Option (List ℕ)) × (parts : Option ℕ)
+        × IsReady deck parts plan.now.table.items plan.now.ranges.items (string_bytes plan.now.list) rows.old }
     ensures { (deck : Option (List ℕ)) (parts : Option ℕ)
-        → IsReady deck plan.now.table.items plan.now.ranges.items (string_bytes plan.now.list) rows.old
+        → IsReady deck parts plan.now.table.items plan.now.ranges.items (string_bytes plan.now.list) rows.old
         → Delivers deck (F.fresh files.old) parts result (F.named files.new) (F.listed files.old) (F.listed files.new) }
 {
     let parts = match make_parts(alloc, files, folder, plan, rows) {
@@ -230,8 +230,9 @@ fn make_and_name<F: SplitFiles>(
 }
 
 /// Splits the deck in a file by lines: the folder gets the deck of each part, with exactly the rows of its lines,
-/// and their list; as many parts as are asked for, as far as the lines allow, or as few as may be. The decks are made
-/// under another name, which they lose once all of them are whole, and the list gets its name after that.
+/// and their list; as few parts as may be, or at most as many as are asked for, as even as the lines allow (more only
+/// where no fewer fit). The decks are made under another name, which they lose once all of them are whole, and the
+/// list gets its name after that.
 ///
 /// On an `Err` there is no list, unless all decks are whole.
 pub fn split<F: SplitFiles>(

@@ -12,9 +12,9 @@ name-requires g c =
     let plan = c.args.plan.now in
     let made = g.F.Parts.PartDecks.contents c.in-Ok.parts in
     let ready = c.requires.ready in
-    let whole = is_split ready.0 (g.F.SplitFiles.fresh c.args.files.now) made made plan.table.items plan.ranges.items
-    (string_bytes plan.list) c.args.rows.now ready.1 c.in-Ok.ensures.made (λ i. refl) in
-    record { whole = rw (c.in-Ok.ensures.fresh, c.deref.ensures) (ready.0, whole) }
+    let whole = is_split ready.0 ready.1 (g.F.SplitFiles.fresh c.args.files.now) made made plan.table.items plan.ranges.items
+    (string_bytes plan.list) c.args.rows.now ready.2 c.in-Ok.ensures.made (λ i. refl) in
+    record { whole = rw (c.in-Ok.ensures.fresh, c.deref.ensures) (ready.0, ready.1, whole) }
 
 pub returns-in-Err-name : goal.returns-in-Err-name
 returns-in-Err-name g c deck parts ready =
@@ -30,7 +30,7 @@ returns-in-Err-name g c deck parts ready =
         | inl kept ↦ inl (Keeps-trans old mid new none kept)
         | inr named ↦ inr (
           list,
-          rw c.deref.ensures (is_split deck (g.F.SplitFiles.fresh c.args.files.now) made
+          rw c.deref.ensures (is_split deck parts (g.F.SplitFiles.fresh c.args.files.now) made
               (g.F.SplitFiles.named c.name.new.self) plan.table.items plan.ranges.items (string_bytes plan.list)
               c.args.rows.now ready c.in-Ok.ensures.made named.decks),
           kept_then old mid new list none named.listed,
