@@ -1,46 +1,16 @@
 // What is printed of a line's rows.
 use std::alloc::Global;
 use std::test::Fail;
+use test_decks::pulses::rows_of;
 use xb_entries::{Counting, Form, end, take_row};
-use xb_model::{Contact, LineNo, Row};
+use xb_model::Row;
 use xb_routes::RouteTable;
 
 // Numbers that begin with 0 go to trunk group 1.
 const TABLE: &[u8] = b"[[route]]\ncode = \"0\"\ntrunk = 1\n";
 
 // What line 7 does: it is seized, dials 0, hangs up, and is seized again.
-const RUNS: [(Contact, u32); 24] = [
-    (Contact::Make, 500),
-    (Contact::Brk, 60),
-    (Contact::Make, 40),
-    (Contact::Brk, 60),
-    (Contact::Make, 40),
-    (Contact::Brk, 60),
-    (Contact::Make, 40),
-    (Contact::Brk, 60),
-    (Contact::Make, 40),
-    (Contact::Brk, 60),
-    (Contact::Make, 40),
-    (Contact::Brk, 60),
-    (Contact::Make, 40),
-    (Contact::Brk, 60),
-    (Contact::Make, 40),
-    (Contact::Brk, 60),
-    (Contact::Make, 40),
-    (Contact::Brk, 60),
-    (Contact::Make, 40),
-    (Contact::Brk, 60),
-    (Contact::Make, 100),
-    (Contact::Make, 80),
-    (Contact::Brk, 400),
-    (Contact::Make, 500),
-];
-
-// A row of line 7.
-fn row_of(contact: Contact, ms: u32) -> Result<Row, Fail> {
-    let line = LineNo::new(7).ok_or("a line")?;
-    Ok(Row::new(line, contact, ms).ok_or("a row")?)
-}
+const RUNS: &str = "M500 *10/100 M80 B400 M500";
 
 // An office by the table.
 fn office_of_table(alloc: Global) -> Result<Counting, Fail> {
@@ -66,8 +36,8 @@ fn take(
 fn printed(alloc: Global, form: Form) -> Result<Vec<u8>, Fail> {
     let mut office = office_of_table(alloc)?;
     let mut out = Vec::new(alloc);
-    for (contact, ms) in &RUNS {
-        take(alloc, form, &mut office, row_of(*contact, *ms)?, &mut out)?;
+    for row in &rows_of(alloc, 7, RUNS)? {
+        take(alloc, form, &mut office, *row, &mut out)?;
     }
     if office.keyed() < 1000 && office.refused() < 1000 {
         end(alloc, form, &mut office, &mut out)?;
