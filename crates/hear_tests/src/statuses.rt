@@ -1,9 +1,30 @@
 // Words, decks and streams in; a status and lines of faults out.
-use crate::reports::{DECK, words_of};
-use std::io::ErrorKind;
+use crate::reports::DECK;
+use std::alloc::Global;
 use std::test::Fail;
-use test_fakes::{Halting, Short};
+use test_fakes::{Gives, Halting, Program, Short, check_reads, check_status, check_writes};
 use xb_hear_program::attend;
+
+// The program `mfhear`.
+#[derive(Clone, Copy)]
+struct Mfhear;
+
+impl Program for Mfhear {
+    fn name(&self) -> &'static str {
+        "mfhear"
+    }
+
+    fn attend(
+        &self,
+        alloc: Global,
+        words: &[String],
+        reader: &mut Halting<'_>,
+        out: &mut Short,
+        err: &mut Vec<u8>,
+    ) -> u8 {
+        attend(alloc, words, reader, out, err)
+    }
+}
 
 const USAGE: &[u8] = b"mfhear: usage: mfhear [--line N] [--svg [--attempt K]]\n";
 
@@ -46,52 +67,26 @@ const CASES: &[(&[&str], &[u8], u8, &[u8])] = &[
 #[test]
 fn tells_statuses(rt: HostRuntime) -> Result<(), Fail> {
     for (words, deck, status, line) in CASES {
-        let all = words_of(rt.alloc(), words)?;
-        let mut reader = *deck;
-        let mut out = Vec::new(rt.alloc());
-        let mut err = Vec::new(rt.alloc());
-        let got = attend(rt.alloc(), &all, &mut reader, &mut out, &mut err);
-        assert_eq!(rt; got, *status, "{words:?}");
-        assert!(rt; out.is_empty(), "{words:?}");
-        assert!(rt; err.as_slice() == *line, "{words:?}");
+        let wanted = Gives {
+            status: *status,
+            written: b"",
+            line,
+        };
+        check_status(rt.alloc(), &Mfhear, words, deck, wanted)?;
     }
     Ok(())
 }
 
 #[test]
 fn fails_where_the_deck_fails(rt: HostRuntime) -> Result<(), Fail> {
-    let words = words_of(rt.alloc(), &[])?;
-    for place in [0, 1, 99, DECK.len()] {
-        let mut reader = Halting::failing(DECK, 40, place, ErrorKind::Interrupted);
-        let mut out = Vec::new(rt.alloc());
-        let mut err = Vec::new(rt.alloc());
-        let got = attend(rt.alloc(), &words, &mut reader, &mut out, &mut err);
-        assert_eq!(rt; got, 1, "{place}");
-        assert!(rt; out.is_empty(), "{place}");
-        let line = b"mfhear: the deck could not be read\n".as_slice();
-        assert!(rt; err.as_slice() == line, "{place}");
-    }
-    Ok(())
+    let places = [0, 1, 99, DECK.len()];
+    let line = b"mfhear: the deck could not be read\n";
+    check_reads(rt.alloc(), &Mfhear, DECK, &places, line)
 }
 
 #[test]
 fn writes_the_beginning_where_the_report_fails(rt: HostRuntime) -> Result<(), Fail> {
-    let words = words_of(rt.alloc(), &[])?;
-    let mut deck = DECK;
-    let mut whole = Vec::new(rt.alloc());
-    let mut quiet = Vec::new(rt.alloc());
-    let got = attend(rt.alloc(), &words, &mut deck, &mut whole, &mut quiet);
-    assert_eq!(rt; got, 0);
-    for room in [0, 1, 98, 300] {
-        let mut deck = DECK;
-        let mut out = Short::new(rt.alloc(), room, Some(ErrorKind::Other));
-        let mut err = Vec::new(rt.alloc());
-        let got = attend(rt.alloc(), &words, &mut deck, &mut out, &mut err);
-        assert_eq!(rt; got, 1, "{room}");
-        assert_eq!(rt; out.taken.len(), room, "{room}");
-        assert!(rt; whole.starts_with(&out.taken), "{room}");
-        let line = b"mfhear: the report could not be written\n".as_slice();
-        assert!(rt; err.as_slice() == line, "{room}");
-    }
-    Ok(())
+    let rooms = [0, 1, 98, 300];
+    let line = b"mfhear: the report could not be written\n";
+    check_writes(rt.alloc(), &Mfhear, &[], DECK, &rooms, line)
 }

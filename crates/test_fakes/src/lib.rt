@@ -1,11 +1,13 @@
 //! Fakes for tests: a reader and a writer that fail or that give and take little at a time, random numbers that
-//! are the same in each run, and the words of a command line.
+//! are the same in each run, the words of a command line, and what a program gives on such streams.
 #![tactic(auto)]
 
 mod dice;
+mod programs;
 mod streams;
 mod words;
 
 pub use dice::Dice;
+pub use programs::{Gives, Program, check_reads, check_status, check_writes};
 pub use streams::{Halting, Short};
 pub use words::words_of;
