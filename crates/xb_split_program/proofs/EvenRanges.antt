@@ -1,5 +1,5 @@
 -- As many ranges as are asked for, as even as the lines allow.
-use Rattle.std.proofs.Common.{◌≡◌, ◌≤◌, ◌<◌, ℕ, List, Option, Some, None, Result, Ok, Err, IfOk, get_or, length, ap, arith, inl, inr}
+use Rattle.std.proofs.Common.{◌≡◌, ◌≤◌, ◌<◌, ℕ, List, Option, Some, None, Result, Ok, Err, IfOk, IfErr, get_or, length, ap, subst, sym, arith, inl, inr}
 use Rattle.std.specs.Prelude.{◌⊎◌}
 use Rattle.std.specs.List.{All}
 use Rattle.std.proofs.lemmas.Bool.{cases_lt}
@@ -9,6 +9,9 @@ use Rattle.xb_split.proofs.FewestRanges.{full_ranges_are_fewest, line_fits}
 use Rattle.xb_split.specs.declared.load.Load.{Load}
 use Rattle.xb_split.specs.declared.range.LineRange.{LineRange}
 use Rattle.xb_split.specs.Loads.{IsWithin}
+use Rattle.xb_split.specs.PlanFaults.{IsPlanFault}
+use Rattle.xb_split.specs.declared.planning.PlanFault.{PlanFault}
+use Rattle.xb_split.specs.declared.planning.PlanFault.TheVariants.{Line, NoMemory}
 use Rattle.xb_split.specs.Ranges.{CoverAll, Fits, IsFull}
 use Rattle.xb_split_program.specs.Plans.{AreAsked, AreEnough, AreEven, AreFewest, FitDecks, IsLeast, IsRoom, IsWanted}
 
@@ -104,3 +107,19 @@ pub asked_of_plan : {V E : Type 0} (table : ℕ) (loads : List Load) (most wante
 asked_of_plan table loads most wanted items (Ok v) room parts is all cover fit full =
     asked table loads most wanted (items v) room all cover fit full parts is
 asked_of_plan table loads most wanted items (Err e) room parts is all cover fit full = tt
+
+-- a line that has more than is wanted has more than there may be
+pub fault_of_plan : {V : Type 0} (loads : List Load) (most wanted : Load) (plan : Result V PlanFault) (parts : Option ℕ)
+    → IsWanted parts loads most wanted → length loads ≡ LINES → IfErr plan (IsPlanFault loads wanted)
+    → IfErr plan (IsPlanFault loads most)
+fault_of_plan loads most wanted (Ok v) parts is all fault = tt
+fault_of_plan loads most wanted (Err NoMemory) parts is all fault = tt
+fault_of_plan loads most wanted (Err (Line line)) None is all fault =
+    (fault.0, λ d fits. fault.1 d (subst (λ (load : Load). IsWithin (get_or loads line d) load) (sym is) fits))
+fault_of_plan loads most wanted (Err (Line line)) (Some n) least all fault =
+    (fault.0, at (cases_lt wanted.records most.records))
+  where
+    at : (wanted.records < most.records) ⊎ (most.records ≤ wanted.records) → (d : Load)
+        → IsWithin (get_or loads line d) most → ⊥
+    at (inl h) d fits = not_enough n line loads wanted all fault.0 fault.1 (least.enough h)
+    at (inr h) d fits = fault.1 d (omega (arith, fits.0, h), omega (arith, fits.1, least.bytes))

@@ -2,3 +2,4 @@ mod StreamedRows
 mod WrittenParts
 mod SplitDecks
 mod EvenRanges
+mod RangeRecords

@@ -6,7 +6,10 @@ use Rattle.xb_rows.specs.declared.scan.TheConstants.{MOST_RECORDS}
 use Rattle.xb_split.specs.declared.load.Load.{Load}
 use Rattle.xb_split.specs.declared.range.LineRange.{LineRange}
 use Rattle.xb_split.specs.Loads.{records_of}
+use Rattle.xb_split.specs.PlanFaults.{IsPlanFault}
 use Rattle.xb_split.specs.Ranges.{CoverAll, Fits}
+use Rattle.xb_split_program.specs.declared.planning.PlanPartsFault.{PlanPartsFault}
+use Rattle.xb_split_program.specs.declared.planning.PlanPartsFault.TheVariants as fault
 
 -- the most records, and the bytes that a table and the 18 bytes of the cut and the header leave
 pub record LeavesRoom (table : ℕ) (most : Load) : Type 0 where
@@ -44,6 +47,11 @@ abbrev pub AreAsked : Option ℕ → ℕ → List Load → List LineRange → Ty
 AreAsked None table loads ranges = AreFewest table loads ranges
 AreAsked (Some n) table loads ranges =
     AreEven n table loads ranges × (n < length ranges → AreFewest table loads ranges)
+
+-- why there are no parts: the table leaves no room, or a line has more than that room by itself
+abbrev pub IsPlanPartsFault : ℕ → List Load → PlanPartsFault → Type 0
+IsPlanPartsFault table loads fault.Table = MOST_DECK_BYTES < table + 18
+IsPlanPartsFault table loads (fault.Plan f) = (most : Load) × IsRoom table most × IsPlanFault loads most f
 
 -- n ranges, or fewer, are enough for all lines, if each may have no more than this
 abbrev pub AreEnough : ℕ → List Load → Load → Type 0

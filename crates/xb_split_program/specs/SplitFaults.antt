@@ -1,13 +1,15 @@
 -- Why a deck is not split, where its bytes are known.
-use Rattle.std.specs.Prelude.{ℕ, ◌≡◌, ◌<◌, ◌⊎◌, List, Option, Some, IfSome, Result, Ok, Err}
+use Rattle.std.specs.Prelude.{ℕ, ◌≡◌, ◌<◌, ◌⊎◌, List, length, Option, Some, IfSome, Result, Ok, Err}
 use Rattle.std.specs.Io.KnownBytes.{Appends, Keeps}
 use Rattle.xb_deck.specs.Deck.{deck_parts}
 use Rattle.xb_deck.specs.Tables.{IsTableFault}
 use Rattle.xb_deck.specs.declared.deck.TheConstants.{MOST_DECK_BYTES}
 use Rattle.xb_deck.specs.declared.table.TableFault.TheVariants as table
+use Rattle.xb_split.specs.declared.load.Load.{Load}
 use Rattle.xb_split_program.specs.PartDecks.{Decks}
+use Rattle.xb_split_program.specs.Plans.{IsPlanPartsFault}
 use Rattle.xb_split_program.specs.RowStreams.{IsStop}
-use Rattle.xb_split_program.specs.Splits.{IsSplit, rest_of_rows}
+use Rattle.xb_split_program.specs.Splits.{IsCounted, IsSplit, rest_of_rows}
 use Rattle.xb_split_program.specs.declared.splitting.TheConstants.{MOST_PARTS}
 use Rattle.xb_split_program.specs.declared.fault.SplitFault.{SplitFault}
 use Rattle.xb_split_program.specs.declared.fault.SplitFault.TheVariants as fault
@@ -19,6 +21,8 @@ IsFaultOf deck parts fault.NoCut = IsTableFault MOST_DECK_BYTES deck table.NoCut
 IsFaultOf deck parts fault.LongTable = IsTableFault MOST_DECK_BYTES deck table.TooLong
 IsFaultOf deck parts (fault.Rows f) = IfSome deck (λ text.
     IfSome (deck_parts text) (λ cut. IsStop (rest_of_rows cut.rows).stop f))
+IsFaultOf deck parts (fault.Plan f) =
+    (table : List ℕ) × (loads : List Load) × IsCounted deck table loads × IsPlanPartsFault (length table) loads f
 IsFaultOf deck parts (fault.TooMany count) = MOST_PARTS < count
 IsFaultOf deck parts f = Unit {0}
 

@@ -5,8 +5,9 @@ use Rattle.xb_deck.specs.Deck.{deck_parts}
 use Rattle.xb_model.specs.Rows.{LoopRow}
 use Rattle.xb_model.specs.Sources.{Rest}
 use Rattle.xb_rows.specs.RowTexts.{rest_within}
-use Rattle.xb_split.specs.Counts.{AreLoadsOf}
+use Rattle.xb_split.specs.Counts.{AreLoadsOf, counted}
 use Rattle.xb_split.specs.Lists.{list_of}
+use Rattle.xb_split.specs.Loads.{records_of}
 use Rattle.xb_split.specs.Ranges.{CoverAll}
 use Rattle.xb_split.specs.declared.list.ListedPart.{ListedPart}
 use Rattle.xb_split.specs.declared.load.Load.{Load}
@@ -35,19 +36,21 @@ abbrev pub IsCounted : Option (List ℕ) → List ℕ → List Load → Type 0
 IsCounted deck table loads =
     IfSome deck (λ text. (rows : List LoopRow) × HasRows text table rows × AreLoadsOf rows loads)
 
+-- a part as the list has it: its lines, and how many records they have
+abbrev pub listed : List Load → LineRange → ListedPart
+listed loads range = record { lines = range; records = counted (records_of loads range.first range.end) }
+
 -- the ranges of the parts of a deck: they take all lines, the deck of each is one that an office takes, they are those
 -- that are asked for, there are no more than may be, and the list names them
 pub record IsPlan (deck : Option (List ℕ)) (wanted : Option ℕ) (table : List ℕ) (ranges : List LineRange)
     (list : List ℕ) : Type 0 where
   pub loads : List Load
-  pub parts : List ListedPart
   pub counted : IsCounted deck table loads
   pub cover : CoverAll ranges
   pub fit : FitDecks (length table) loads ranges
   pub asked : AreAsked wanted (length table) loads ranges
   pub few : length ranges ≤ MOST_PARTS
-  pub lines : map (λ part. part.lines) parts ≡ ranges
-  pub listed : list ≡ list_of parts
+  pub list_is : list ≡ list_of (map (listed loads) ranges)
 
 -- the parts of a deck are planned, and it was opened again
 pub record IsReady (deck : Option (List ℕ)) (wanted : Option ℕ) (table : List ℕ) (ranges : List LineRange)

@@ -1,7 +1,9 @@
 // The ranges of a deck's parts.
-ghost use Rattle.std.specs.Prelude.{◌<◌, ◌^◌, ◌↔◌, ℕ, IfOk, IfSome, IsTrue};
+ghost use Rattle.std.specs.Prelude.{◌≡◌, ◌<◌, ◌+◌, ◌^◌, ◌↔◌, ℕ, IfErr, IfOk, IsTrue, MatchOption};
+ghost use Rattle.xb_deck.specs.declared.deck.TheConstants.{MOST_DECK_BYTES};
+ghost use Rattle.xb_split.specs.PlanFaults.{IsPlanFault};
 ghost use Rattle.xb_split.specs.Ranges.{CoverAll};
-ghost use Rattle.xb_split_program.specs.Plans.{AreAsked, AreEnough, FitDecks, IsLeast, IsRoom, IsWanted};
+ghost use Rattle.xb_split_program.specs.Plans.{AreAsked, AreEnough, FitDecks, IsLeast, IsPlanPartsFault, IsRoom, IsWanted};
 
 use std::alloc::Global;
 use thiserror::Error;
@@ -29,7 +31,7 @@ pub enum PlanPartsFault {
 
 // What the records of a part may have after a table of so many bytes.
 fn most_after(table: usize) -> Option<Load>
-    ensures { IfSome result (λ most. IsRoom table most) }
+    ensures { MatchOption result (MOST_DECK_BYTES < table + 18) (IsRoom table) }
 {
     let bytes = MOST_DECK_BYTES.checked_sub(HEAD_BYTES)?.checked_sub(table)?;
     Some(Load {
@@ -47,12 +49,13 @@ fn are_enough(
 ) -> Result<bool, PlanFault>
     requires records { most.records < 2 ^ 63 }
     requires bytes { most.bytes < 2 ^ 63 }
-    ensures { IfOk result (λ enough. IsTrue enough ↔ AreEnough parts loads.now most) }
+    ensures enough { IfOk result (λ enough. IsTrue enough ↔ AreEnough parts loads.now most) }
+    ensures fault { IfErr result (λ f. f ≡ PlanFault.NoMemory) }
 {
     match plan_ranges(alloc, loads, most, most) {
         Ok(ranges) => Ok(ranges.len() <= parts as usize),
         Err(PlanFault::Line(_)) => Ok(false),
-        Err(fault) => Err(fault),
+        Err(PlanFault::NoMemory) => Err(PlanFault::NoMemory),
     }
 }
 
@@ -66,7 +69,8 @@ fn least_most(
 ) -> Result<Load, PlanFault>
     requires records { most.records < 2 ^ 63 }
     requires bytes { most.bytes < 2 ^ 63 }
-    ensures { IfOk result (IsLeast parts loads.now most) }
+    ensures least { IfOk result (IsLeast parts loads.now most) }
+    ensures fault { IfErr result (λ f. f ≡ PlanFault.NoMemory) }
 {
     let bytes = most.bytes;
     let mut low = 0;
@@ -94,7 +98,8 @@ fn wanted_most(
 ) -> Result<Load, PlanFault>
     requires records { most.records < 2 ^ 63 }
     requires bytes { most.bytes < 2 ^ 63 }
-    ensures { IfOk result (IsWanted parts loads.now most) }
+    ensures wanted { IfOk result (IsWanted parts loads.now most) }
+    ensures fault { IfErr result (λ f. f ≡ PlanFault.NoMemory) }
 {
     match parts {
         Some(parts) => least_most(alloc, loads, parts, most),
@@ -114,6 +119,7 @@ fn ranges_within(
     ensures fit { (table : ℕ) → IsRoom table most → IfOk result (λ ranges. FitDecks table loads.now ranges.items) }
     ensures asked { (table : ℕ) → IsRoom table most → IfOk result (λ ranges.
         AreAsked parts table loads.now ranges.items) }
+    ensures fault { IfErr result (IsPlanFault loads.now most) }
 {
     let wanted = wanted_most(alloc, loads, parts, most)?;
     plan_ranges(alloc, loads, wanted, wanted)
@@ -121,7 +127,8 @@ fn ranges_within(
 
 /// The ranges of the parts of a deck, by what each line has: the fewest, or, where so many are asked for, at most so
 /// many, whose greatest has as few records as that many parts allow; there are more only where no fewer fit. The deck
-/// of each, with a table of so many bytes, is one that an office takes.
+/// of each, with a table of so many bytes, is one that an office takes. `Err` says that the table leaves no room, names
+/// a line that has more than a part may have, or says that memory ran out.
 pub fn plan_parts(
     alloc: Global,
     table: usize,
@@ -131,6 +138,7 @@ pub fn plan_parts(
     ensures cover { IfOk result (λ ranges. CoverAll ranges.items) }
     ensures fit { IfOk result (λ ranges. FitDecks table loads.now ranges.items) }
     ensures asked { IfOk result (λ ranges. AreAsked parts table loads.now ranges.items) }
+    ensures fault { IfErr result (IsPlanPartsFault table loads.now) }
 {
     let most = match most_after(table) {
         Some(most) => most,

@@ -1,8 +1,10 @@
 // From the file of a deck to the decks of its parts.
 ghost use Rattle.std.specs.Prelude.{◌≡◌, IfErr, IfOk, List, OnOk, Option, map, string_bytes, ℕ};
 ghost use Rattle.std.specs.Io.KnownBytes.{Keeps};
+ghost use Rattle.xb_split.specs.Counts.{counted};
+ghost use Rattle.xb_split.specs.Loads.{records_of};
 ghost use Rattle.xb_split_program.specs.SplitFaults.{Delivers, IsFaultOf};
-ghost use Rattle.xb_split_program.specs.Splits.{AreMade, IsCounted, IsOpened, IsPlan, IsReady};
+ghost use Rattle.xb_split_program.specs.Splits.{AreMade, IsCounted, IsOpened, IsPlan, IsReady, listed};
 
 use crate::counting::count_rows;
 use crate::fault::{SplitFault, fault_of_table};
@@ -66,7 +68,9 @@ fn count<F: SplitFiles>(
 }
 
 // How many records the lines of a range have.
-fn records_in(loads: &PerLine<Load>, lines: LineRange) -> u64 {
+fn records_in(loads: &PerLine<Load>, lines: LineRange) -> u64
+    ensures { result ≡ counted (records_of loads.now lines.first lines.end) }
+{
     let mut records = 0u64;
     for (line, load) in loads.iter() {
         if lines.has(line) {
@@ -82,7 +86,7 @@ fn listed_parts(
     loads: &PerLine<Load>,
     ranges: &[LineRange],
 ) -> Result<Vec<ListedPart>, AllocError>
-    ensures { IfOk result (λ parts. map (λ part. part.lines) parts.items ≡ ranges.now) }
+    ensures { IfOk result (λ parts. parts.items ≡ map (listed loads.now) ranges.now) }
 {
     let mut parts = Vec::new(alloc);
     for range in ranges {

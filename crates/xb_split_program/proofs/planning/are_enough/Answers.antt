@@ -3,8 +3,8 @@ use Rattle.std.proofs.lemmas.Bool.{both_ways, le-leb, leb-true}
 use Rattle.xb_split_program.proofs.EvenRanges.{few, not_enough}
 use Rattle.xb_split_program.proofs.planning.are_enough.Goals as goal
 
-pub returns-in-Ok : goal.returns-in-Ok
-returns-in-Ok c =
+pub returns-in-Ok-clause-enough : goal.returns-in-Ok-clause-enough
+returns-in-Ok-clause-enough c =
     let ranges = c.in-Ok.ranges.items in
     let plan = c.in-Ok.ensures in
     let count : c.len.result ≡ length ranges = c.len.ensures ∙ c.in-Ok.ranges.ok.0 in (
@@ -14,8 +14,8 @@ returns-in-Ok c =
           le-leb _ _ (omega (arith, count, least)),
     )
 
-pub returns-in-Err-Line : goal.returns-in-Err-Line
-returns-in-Err-Line c =
+pub returns-in-Err-Line-clause-enough : goal.returns-in-Err-Line-clause-enough
+returns-in-Err-Line-clause-enough c =
     let plan = c.in-Err-Line.ensures in
     let fault = rw c.in-Err-Line.field-0-is at plan.too_much in (
       λ enough. absurd (both_ways _ refl enough),
