@@ -1,9 +1,30 @@
 // Words, pages and streams in; a status and lines of faults out.
 use crate::sounds::PAGE;
-use std::io::ErrorKind;
+use std::alloc::Global;
 use std::test::Fail;
-use test_fakes::{Halting, Short, words_of};
+use test_fakes::{Gives, Halting, Program, Short, check_reads, check_status, check_writes};
 use xb_tone_program::attend;
+
+// The program `mftone`.
+#[derive(Clone, Copy)]
+struct Mftone;
+
+impl Program for Mftone {
+    fn name(&self) -> &'static str {
+        "mftone"
+    }
+
+    fn attend(
+        &self,
+        alloc: Global,
+        words: &[String],
+        reader: &mut Halting<'_>,
+        out: &mut Short,
+        err: &mut Vec<u8>,
+    ) -> u8 {
+        attend(alloc, words, reader, out, err)
+    }
+}
 
 const USAGE: &[u8] = b"mftone: usage: mftone [--line N] [--entry N] [--lead N] [--kp N] [--key N] \
 [--gap N] [--raw]\n";
@@ -82,52 +103,26 @@ const CASES: &[(&[&str], &[u8], u8, &[u8])] = &[
 #[test]
 fn gives_each_fault(rt: HostRuntime) -> Result<(), Fail> {
     for (words, page, status, line) in CASES {
-        let all = words_of(rt.alloc(), "mftone", words)?;
-        let mut reader = *page;
-        let mut out = Vec::new(rt.alloc());
-        let mut err = Vec::new(rt.alloc());
-        let got = attend(rt.alloc(), &all, &mut reader, &mut out, &mut err);
-        assert_eq!(rt; got, *status, "{words:?}");
-        assert!(rt; out.is_empty(), "{words:?}");
-        assert!(rt; err.as_slice() == *line, "{words:?}");
+        let wanted = Gives {
+            status: *status,
+            written: b"",
+            line,
+        };
+        check_status(rt.alloc(), &Mftone, words, page, wanted)?;
     }
     Ok(())
 }
 
 #[test]
 fn fails_where_the_page_fails(rt: HostRuntime) -> Result<(), Fail> {
-    let words = words_of(rt.alloc(), "mftone", &[])?;
-    for place in [0, 1, 99, PAGE.len()] {
-        let mut reader = Halting::failing(PAGE, 40, place, ErrorKind::Interrupted);
-        let mut out = Vec::new(rt.alloc());
-        let mut err = Vec::new(rt.alloc());
-        let got = attend(rt.alloc(), &words, &mut reader, &mut out, &mut err);
-        assert_eq!(rt; got, 1, "{place}");
-        assert!(rt; out.is_empty(), "{place}");
-        let line = b"mftone: the page could not be read\n".as_slice();
-        assert!(rt; err.as_slice() == line, "{place}");
-    }
-    Ok(())
+    let places = [0, 1, 99, PAGE.len()];
+    let line = b"mftone: the page could not be read\n";
+    check_reads(rt.alloc(), &Mftone, PAGE, &places, line)
 }
 
 #[test]
 fn writes_the_beginning_where_the_sound_fails(rt: HostRuntime) -> Result<(), Fail> {
-    let words = words_of(rt.alloc(), "mftone", &["--line", "42"])?;
-    let mut page = PAGE;
-    let mut whole = Vec::new(rt.alloc());
-    let mut quiet = Vec::new(rt.alloc());
-    let got = attend(rt.alloc(), &words, &mut page, &mut whole, &mut quiet);
-    assert_eq!(rt; got, 0);
-    for room in [0, 1, 44, 45, 8_044, 12_907] {
-        let mut page = PAGE;
-        let mut out = Short::new(rt.alloc(), room, Some(ErrorKind::Other));
-        let mut err = Vec::new(rt.alloc());
-        let got = attend(rt.alloc(), &words, &mut page, &mut out, &mut err);
-        assert_eq!(rt; got, 1, "{room}");
-        assert_eq!(rt; out.taken.len(), room, "{room}");
-        assert!(rt; whole.starts_with(&out.taken), "{room}");
-        let line = b"mftone: the sound could not be written\n".as_slice();
-        assert!(rt; err.as_slice() == line, "{room}");
-    }
-    Ok(())
+    let rooms = [0, 1, 44, 45, 8_044, 12_907];
+    let line = b"mftone: the sound could not be written\n";
+    check_writes(rt.alloc(), &Mftone, &["--line", "42"], PAGE, &rooms, line)
 }
