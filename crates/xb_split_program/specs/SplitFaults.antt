@@ -6,13 +6,20 @@ use Rattle.xb_deck.specs.Tables.{IsTableFault}
 use Rattle.xb_deck.specs.declared.deck.TheConstants.{MOST_DECK_BYTES}
 use Rattle.xb_deck.specs.declared.table.TableFault.TheVariants as table
 use Rattle.xb_split.specs.declared.load.Load.{Load}
+use Rattle.xb_split.specs.declared.range.LineRange.{LineRange}
+use Rattle.xb_split.specs.Ranges.{CoverAll}
 use Rattle.xb_split_program.specs.PartDecks.{Decks}
-use Rattle.xb_split_program.specs.Plans.{IsPlanPartsFault}
+use Rattle.xb_split_program.specs.Plans.{AreAsked, FitDecks, IsPlanPartsFault}
 use Rattle.xb_split_program.specs.RowStreams.{IsStop}
 use Rattle.xb_split_program.specs.Splits.{IsCounted, IsSplit, rest_of_rows}
 use Rattle.xb_split_program.specs.declared.splitting.TheConstants.{MOST_PARTS}
 use Rattle.xb_split_program.specs.declared.fault.SplitFault.{SplitFault}
 use Rattle.xb_split_program.specs.declared.fault.SplitFault.TheVariants as fault
+
+-- the ranges that are asked for of a deck
+abbrev pub IsPlanned : Option (List ℕ) → Option ℕ → List LineRange → Type 0
+IsPlanned deck parts ranges = (table : List ℕ) × (loads : List Load) × IsCounted deck table loads
+    × CoverAll ranges × FitDecks (length table) loads ranges × AreAsked parts (length table) loads ranges
 
 -- why a deck is not split into so many parts: what the fault says of the deck holds
 abbrev pub IsFaultOf : Option (List ℕ) → Option ℕ → SplitFault → Type 0
@@ -23,7 +30,9 @@ IsFaultOf deck parts (fault.Rows f) = IfSome deck (λ text.
     IfSome (deck_parts text) (λ cut. IsStop (rest_of_rows cut.rows).stop f))
 IsFaultOf deck parts (fault.Plan f) =
     (table : List ℕ) × (loads : List Load) × IsCounted deck table loads × IsPlanPartsFault (length table) loads f
-IsFaultOf deck parts (fault.TooMany count) = MOST_PARTS < count
+IsFaultOf deck parts (fault.TooMany count) =
+    (MOST_PARTS < count) × ((parts ≡ Some count) ⊎ ((ranges : List LineRange)
+    × IsPlanned deck parts ranges × (length ranges ≡ count)))
 IsFaultOf deck parts f = Unit {0}
 
 -- the list of parts has its name only where their decks are whole, and have theirs
