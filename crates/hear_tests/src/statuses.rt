@@ -26,7 +26,7 @@ impl Program for Mfhear {
     }
 }
 
-const USAGE: &[u8] = b"mfhear: usage: mfhear [--line N] [--svg [--attempt K]]\n";
+const USAGE: &[u8] = b"mfhear: usage: mfhear [--line N] [--html] [--svg [--attempt K]]\n";
 
 // The words after the program's name, the deck, the status, and what stands on standard error; nothing is
 // written.
@@ -58,6 +58,8 @@ const CASES: &[(&[&str], &[u8], u8, &[u8])] = &[
         b"mfhear: the line has no attempt 3\n",
     ),
     (&["--svg"], DECK, 2, USAGE),
+    (&["--line", "8", "--html", "--svg"], DECK, 2, USAGE),
+    (&["--line", "8", "--html", "--attempt", "1"], DECK, 2, USAGE),
     (&["--line", "8", "--attempt", "1"], DECK, 2, USAGE),
     (&["--line", "8", "--svg", "--attempt", "0"], DECK, 2, USAGE),
     (&["--help"], DECK, 2, USAGE),

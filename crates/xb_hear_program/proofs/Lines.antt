@@ -32,7 +32,7 @@ lines-more o p q T R n l so_far put is =
     ∙ ap (λ k. o ++ lines_below T R k) (sym (add-one n))
 
 -- rows of other lines place no run
-placed_from-none : (l n t : ℕ) (rows : List LoopRow) → has_rows rows l ≡ false → placed_from l n t rows ≡ []
+pub placed_from-none : (l n t : ℕ) (rows : List LoopRow) → has_rows rows l ≡ false → placed_from l n t rows ≡ []
 placed_from-none l n t [] none = refl
 placed_from-none l n t (row ∷ rows) none = by (row.line == l) none (placed_from-none l (n + 1) t rows)
   where

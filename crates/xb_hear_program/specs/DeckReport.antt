@@ -17,6 +17,7 @@ use Rattle.xb_hear_program.specs.declared.request.Request.{Request}
 use Rattle.xb_hear_program.specs.declared.request.Request.TheVariants as request
 use Rattle.xb_hear_program.specs.Drawing.{IsPicture}
 use Rattle.xb_hear_program.specs.Hearing.{attempts_of_line, outcomes_of_line, report_text}
+use Rattle.xb_hear_program.specs.Paging.{IsPage}
 
 -- a route table, and loop rows
 pub record Contents : Type 0 where
@@ -33,6 +34,8 @@ IsAsked (request.Line line) deck text = text ≡ report_text (choice.Line line) 
 IsAsked (request.Picture line attempt) deck text =
     IsPicture deck.table.limits line attempt (attempts_of_line deck.table deck.rows line)
     (outcomes_of_line deck.table deck.rows line) text
+IsAsked request.Page deck text = IsPage choice.All deck.table deck.rows text
+IsAsked (request.PageOf line) deck text = IsPage (choice.Line line) deck.table deck.rows text
 
 -- whether the attempt that is to be drawn is missing
 abbrev pub unless_missing : Option ℕ → ℕ → Contents → Result Contents HearFault
@@ -44,6 +47,8 @@ unless_missing (Some attempt) attempts deck =
 abbrev pub says_asked : Request → Contents → Result Contents HearFault
 says_asked request.All deck = Ok deck
 says_asked (request.Line line) deck = Ok deck
+says_asked request.Page deck = Ok deck
+says_asked (request.PageOf line) deck = Ok deck
 says_asked (request.Picture line attempt) deck =
     unless_missing attempt (length (attempts_of_line deck.table deck.rows line)) deck
 

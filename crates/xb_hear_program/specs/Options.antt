@@ -12,16 +12,18 @@ use Rattle.xb_hear_program.specs.declared.request.Request.{Request}
 use Rattle.xb_hear_program.specs.declared.request.Request.TheVariants as request
 use Rattle.xb_hear_program.specs.declared.words.Options.{Options}
 
--- `mfhear [--line N] [--svg [--attempt K]]`
+-- `mfhear [--line N] [--html] [--svg [--attempt K]]`
 abbrev pub command_of_words : App
 command_of_words = command_of (codes "mfhear")
-    ((codes "line", takes.Number) ∷ (codes "attempt", takes.Number) ∷ (codes "svg", takes.Nothing) ∷ [])
+    ((codes "line", takes.Number) ∷ (codes "attempt", takes.Number) ∷ (codes "svg", takes.Nothing)
+    ∷ (codes "html", takes.Nothing) ∷ [])
 
 -- what clap matched says these options
 pub record Say (rows : List Row) (options : Options) : Type 0 where
   pub line : ReadsNumber (given_by rows (codes "line")) options.line
   pub attempt : ReadsNumber (given_by rows (codes "attempt")) options.attempt
   pub svg : ReadsFlag (given_by rows (codes "svg")) options.svg
+  pub html : ReadsFlag (given_by rows (codes "html")) options.html
 
 -- all lines, or the one that is named, if there is such a line
 abbrev pub choice_of : Option ℕ → Option Choice
@@ -40,14 +42,26 @@ abbrev pub text_of : Choice → Request
 text_of choice.All = request.All
 text_of (choice.Line line) = request.Line line
 
-abbrev pub unless_attempt : Choice → Option ℕ → Option Request
-unless_attempt choice None = Some (text_of choice)
-unless_attempt choice (Some attempt) = None
+-- the page of lines
+abbrev pub page_of : Choice → Request
+page_of choice.All = request.Page
+page_of (choice.Line line) = request.PageOf line
+
+-- the report or the page of lines
+abbrev pub written_of : Choice → Bool → Request
+written_of choice html = if html then page_of choice else text_of choice
+
+-- of lines: a picture, or a report, or a page; an attempt is of a picture
+abbrev pub asked_of : Choice → Bool → Bool → Option ℕ → Option Request
+asked_of choice true true attempt = None
+asked_of choice true false attempt = picture_of choice attempt
+asked_of choice false html None = Some (written_of choice html)
+asked_of choice false html (Some attempt) = None
 
 -- what the options ask for
 abbrev pub request_of : Options → Option Request
 request_of options =
-    option_and_then (λ choice. if options.svg then picture_of choice options.attempt else unless_attempt choice options.attempt)
+    option_and_then (λ choice. asked_of choice options.svg options.html options.attempt)
     (choice_of options.line)
 
 -- clap takes the words, and they ask for this

@@ -36,7 +36,7 @@ fn many(attempt: Option<u32>) -> usize
 }
 
 // The picture of the attempts of a line: of one, or of the first ones.
-fn picture_of_attempts(
+pub(crate) fn picture_of_attempts(
     alloc: Global,
     limits: Limits,
     line: LineNo,

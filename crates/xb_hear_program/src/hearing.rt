@@ -1,4 +1,4 @@
-// From a deck on a reader to its report or picture on a writer.
+// From a deck on a reader to its report, page or picture on a writer.
 ghost use Rattle.std.specs.Prelude.{◌≡◌, ◌≤◌, ◌<◌, ◌^◌, IfErr, IfOk, length, string_bytes};
 ghost use Rattle.xb_deck.specs.declared.deck.TheConstants.{MOST_DECK_BYTES};
 ghost use Rattle.xb_hear_program.specs.DeckReport.{Delivers, IsFaultOfDeck, IsFaultOfRows, Tells, contents, says, says_asked, says_rows};
@@ -7,6 +7,7 @@ ghost use Rattle.xb_rows.specs.RowTexts.{fault_of_text, rows_of_text};
 
 use crate::drawing::picture;
 use crate::fault::HearFault;
+use crate::paging::page;
 use crate::request::{Choice, Request};
 use crate::telling::report;
 use std::alloc::Global;
@@ -48,6 +49,8 @@ fn text_of(
         Request::All => Ok(report(alloc, table, rows, Choice::All)?),
         Request::Line(line) => Ok(report(alloc, table, rows, Choice::Line(line))?),
         Request::Picture(line, attempt) => picture(alloc, table, rows, line, attempt),
+        Request::Page => Ok(page(alloc, table, rows, Choice::All)?),
+        Request::PageOf(line) => Ok(page(alloc, table, rows, Choice::Line(line))?),
     }
 }
 
@@ -79,8 +82,9 @@ fn text_of_deck(alloc: Global, request: Request, bytes: &[u8]) -> Result<String,
 }
 
 /// Reads a deck, and writes what is asked for: of the report the limits of the deck, and each attempt with its
-/// digits, their figures, what spoiled them and where, and what came of it; or the picture of a line. Nothing
-/// is written before the whole deck is read.
+/// digits, their figures, what spoiled them and where, and what came of it, as a text or as a page of HTML; or
+/// the picture of a line. Nothing is written before the whole deck is read: a page is held in memory, and then
+/// written.
 ///
 /// On an `Err` nothing was written, except on `Write`, where the beginning was.
 ///

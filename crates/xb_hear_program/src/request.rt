@@ -20,4 +20,8 @@ pub enum Request {
     Line(LineNo),
     /// The picture of a line: of its attempt of this number, from 1, or of the first ones.
     Picture(LineNo, Option<u32>),
+    /// The page of all lines that have attempts, as HTML.
+    Page,
+    /// The page of this line, as HTML.
+    PageOf(LineNo),
 }

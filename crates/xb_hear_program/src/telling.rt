@@ -65,7 +65,7 @@ fn push_line(
 }
 
 // Which lines have rows.
-fn lines_with_rows(alloc: Global, rows: &[Row]) -> Result<PerLine<bool>, AllocError>
+pub(crate) fn lines_with_rows(alloc: Global, rows: &[Row]) -> Result<PerLine<bool>, AllocError>
     ensures { IfOk result (λ lines. AreValues lines (has_rows rows.now)) }
 {
     let mut lines = PerLine::from_fn(alloc, || false)?;

@@ -1,7 +1,7 @@
 // What the words of the command line ask for.
 ghost use Rattle.std.specs.Prelude.{◌≡◌, IfErr, IfOk};
 ghost use Rattle.xb_words.specs.Commands.{texts_of};
-ghost use Rattle.xb_hear_program.specs.Options.{AreRefused, Asks, Say, choice_of, picture_of, request_of, text_of};
+ghost use Rattle.xb_hear_program.specs.Options.{AreRefused, Asks, Say, choice_of, page_of, picture_of, request_of, text_of, written_of};
 
 use crate::program::PROGRAM;
 use crate::request::{Choice, Request};
@@ -16,13 +16,15 @@ pub(crate) struct Options {
     pub(crate) line: Option<u32>,
     pub(crate) attempt: Option<u32>,
     pub(crate) svg: bool,
+    pub(crate) html: bool,
 }
 
 // The options of the program, each under its name.
-const OPTIONS: [(&str, Takes); 3] = [
+const OPTIONS: [(&str, Takes); 4] = [
     ("line", Takes::Number),
     ("attempt", Takes::Number),
     ("svg", Takes::Nothing),
+    ("html", Takes::Nothing),
 ];
 
 // What the words say.
@@ -33,6 +35,7 @@ fn options_of(words: &Words) -> Options
         line: words.number("line"),
         attempt: words.number("attempt"),
         svg: words.flag("svg"),
+        html: words.flag("html"),
     }
 }
 
@@ -73,22 +76,41 @@ fn text_of(choice: Choice) -> Request
     }
 }
 
-// What the options ask for; `None` where they name no line of the office, a picture without its line, or an
-// attempt without a picture.
+// The page of lines.
+fn page_of(choice: Choice) -> Request
+    ensures { result ≡ page_of choice }
+{
+    match choice {
+        Choice::All => Request::Page,
+        Choice::Line(line) => Request::PageOf(line),
+    }
+}
+
+// The report or the page of lines.
+fn written_of(choice: Choice, html: bool) -> Request
+    ensures { result ≡ written_of choice html }
+{
+    if html {
+        page_of(choice)
+    } else {
+        text_of(choice)
+    }
+}
+
+// What the options ask for; `None` where they name no line of the office, a picture without its line, an
+// attempt without a picture, or both a picture and a page.
 fn request_of(options: Options) -> Option<Request>
     ensures { result ≡ request_of options }
 {
     let choice = choice_of(options.line)?;
-    if options.svg {
-        return picture_of(choice, options.attempt);
-    }
-    match options.attempt {
-        None => Some(text_of(choice)),
-        Some(_attempt) => None,
+    match (options.svg, options.html, options.attempt) {
+        (true, false, attempt) => picture_of(choice, attempt),
+        (false, html, None) => Some(written_of(choice, html)),
+        (true, true, _) | (false, _, Some(_)) => None,
     }
 }
 
-/// What the words ask for: the report of a line, or of all, or the picture of a line.
+/// What the words ask for: the report or the page of a line, or of all, or the picture of a line.
 pub fn request_of_words(alloc: Global, words: &[String]) -> Result<Request, WordsFault>
     ensures asks { IfOk result (λ request. Asks (texts_of words.now) request) }
     ensures refused { IfErr result (λ f. f ≡ WordsFault.Refused → AreRefused (texts_of words.now)) }

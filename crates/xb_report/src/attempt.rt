@@ -21,16 +21,17 @@ fn push_front(out: &mut String, runs: &[PlacedRun]) -> Result<(), AllocError>
     Ok(())
 }
 
-// Puts a line's number after the text, in four digits.
-fn push_line(out: &mut String, line: LineNo) -> Result<(), AllocError>
+/// Puts a line's number after the text, in four digits. `Err` says that memory ran out.
+pub fn push_line(out: &mut String, line: LineNo) -> Result<(), AllocError>
     ensures { OnOk result (string_bytes out.new ≡ string_bytes out.old ++ four_digits line) }
 {
     let number = line.get();
     write!(out, "{number:04}")
 }
 
-// Puts the first line of attempt `number` of a line after the text.
-fn push_heading(
+/// Puts the first line of attempt `number` of a line after the text: where it begins, and what came of it.
+/// `Err` says that memory ran out.
+pub fn push_heading(
     out: &mut String,
     line: LineNo,
     number: usize,
@@ -59,8 +60,8 @@ fn push_pulses(out: &mut String, count: u64, run: &PlacedRun) -> Result<(), Allo
     out.push_str("\n")
 }
 
-// Puts the pulses that no pause ended after the text, if there are any.
-fn push_unfinished(out: &mut String, pulses: &[PlacedRun]) -> Result<(), AllocError>
+/// Puts the pulses that no pause ended after the text, if there are any. `Err` says that memory ran out.
+pub fn push_unfinished(out: &mut String, pulses: &[PlacedRun]) -> Result<(), AllocError>
     ensures { OnOk result (string_bytes out.new ≡ string_bytes out.old ++ unfinished_text pulses.now) }
 {
     if let Some(run) = pulses.first() {
@@ -69,8 +70,8 @@ fn push_unfinished(out: &mut String, pulses: &[PlacedRun]) -> Result<(), AllocEr
     Ok(())
 }
 
-// Puts the make after which nothing is heard after the text, if there is one.
-fn push_timeout(
+/// Puts the make after which nothing is heard after the text, if there is one. `Err` says that memory ran out.
+pub fn push_timeout(
     out: &mut String,
     outcome: &Dialled,
     timeout: Option<PlacedRun>,
@@ -91,8 +92,8 @@ fn push_timeout(
     Ok(())
 }
 
-// Puts how an attempt ended after the text.
-fn push_release(out: &mut String, release: Option<PlacedRun>) -> Result<(), AllocError>
+/// Puts how an attempt ended after the text. `Err` says that memory ran out.
+pub fn push_release(out: &mut String, release: Option<PlacedRun>) -> Result<(), AllocError>
     ensures { OnOk result (string_bytes out.new ≡ string_bytes out.old ++ release_text release) }
 {
     match release {

@@ -15,8 +15,8 @@ pub(crate) fn push_right(out: &mut String, width: usize, text: &str) -> Result<(
     out.push_str(text)
 }
 
-// Puts a number at the right of a cell.
-pub(crate) fn push_number(
+/// Puts a number at the right of a cell so many letters wide. `Err` says that memory ran out.
+pub fn push_number(
     alloc: Global,
     out: &mut String,
     width: usize,
@@ -28,8 +28,9 @@ pub(crate) fn push_number(
     push_right(out, width, &text)
 }
 
-// Puts a number in tenths at the right of a cell, or a dash.
-pub(crate) fn push_tenths(
+/// Puts a number in tenths at the right of a cell so many letters wide, or a dash. `Err` says that memory ran
+/// out.
+pub fn push_tenths(
     alloc: Global,
     out: &mut String,
     width: usize,
@@ -49,8 +50,9 @@ pub(crate) fn push_tenths(
     }
 }
 
-// Puts what lies between two numbers at the right of a cell, or a dash.
-pub(crate) fn push_extent(
+/// Puts what lies between two numbers at the right of a cell so many letters wide, or a dash. `Err` says that
+/// memory ran out.
+pub fn push_extent(
     alloc: Global,
     out: &mut String,
     width: usize,

@@ -1,12 +1,11 @@
 // What a text of a picture says.
 ghost use Rattle.std.specs.Prelude.{◌≡◌, ◌++◌, OnOk, string_bytes};
-ghost use Rattle.xb_model.specs.Page.{four_digits};
 ghost use Rattle.xb_svg.specs.Labels.{caption_text, fault_marked, label_text, left_out_text, limits_words, tenths_with};
 
 use std::alloc::AllocError;
 use xb_hear::{PlacedRun, PulseFault};
 use xb_model::{Dialled, Limits, LineNo};
-use xb_report::{push_outcome, push_place};
+use xb_report::{push_line, push_outcome, push_place};
 
 /// The words that a picture has of its own.
 #[derive(Clone, Copy, Debug, PartialEq, Eq)]
@@ -92,14 +91,6 @@ fn caption_text(caption: Caption) -> &'static str
     }
 }
 
-// Puts the line's number after the text.
-fn push_line(out: &mut String, line: LineNo) -> Result<(), AllocError>
-    ensures { OnOk result (string_bytes out.new ≡ string_bytes out.old ++ four_digits line) }
-{
-    let number = line.get();
-    write!(out, "{number:04}")
-}
-
 // Puts the limits after the text, in words.
 fn push_limits(out: &mut String, limits: Limits) -> Result<(), AllocError>
     ensures { OnOk result (string_bytes out.new ≡ string_bytes out.old ++ limits_words limits) }
@@ -131,8 +122,9 @@ fn push_tenths(out: &mut String, tenths: u128, unit: &str) -> Result<(), AllocEr
     write!(out, "{whole}.{tenth}{unit}")
 }
 
-// Puts what is wrong with a run after the text, its signs marked as a picture wants them.
-fn push_fault(
+/// Puts what is wrong with a run of so many ms after the text, in the words of the report, its signs marked as
+/// XML and HTML want them. `Err` says that memory ran out.
+pub fn push_fault(
     out: &mut String,
     limits: Limits,
     fault: PulseFault,

@@ -8,7 +8,7 @@ mod picture;
 mod shape;
 mod writing;
 
-pub use label::{Caption, Label};
+pub use label::{Caption, Label, push_fault};
 pub use look::{Anchor, Ink, Look};
 pub use picture::push_picture;
 pub use shape::{Shape, Step};

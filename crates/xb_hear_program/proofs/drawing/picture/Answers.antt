@@ -7,7 +7,6 @@ use Rattle.xb_hear.specs.Attempts.{attempt_in, heard_attempts}
 use Rattle.xb_hear.specs.PlacedRuns.{run_in}
 use Rattle.xb_hear.specs.Report.{signals_told}
 use Rattle.xb_report.specs.ReportTexts.{outcomes_in}
-use Rattle.xb_hear_program.specs.DeckReport.{IsFaultOfDeck}
 use Rattle.xb_hear_program.specs.Hearing.{attempts_of_line, outcomes_of_line}
 use Rattle.xb_hear_program.proofs.Drawn.{drawn-as-asked, fault-as-asked}
 use Rattle.xb_hear_program.proofs.Lines.{whats}
