@@ -1,4 +1,4 @@
-use Rattle.std.proofs.Common.{◌++◌, ◌∙◌, ap, string_bytes}
+use Rattle.std.proofs.Common.{◌++◌, ◌∙◌, ap}
 use Rattle.xb_html.specs.Pages.{head_text}
 use Rattle.xb_hear_program.proofs.Paged.{page-is}
 use Rattle.xb_hear_program.proofs.paging.page.Goals as goal

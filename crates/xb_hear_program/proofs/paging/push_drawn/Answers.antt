@@ -1,9 +1,8 @@
-use Rattle.std.proofs.Common.{◌≡◌, ◌++◌, ◌∙◌, ap, map, refl, string_bytes}
+use Rattle.std.proofs.Common.{◌++◌, ◌∙◌, ap, map, refl, string_bytes}
 use Rattle.std.proofs.lemmas.Result.{on_ok_weaker}
 use Rattle.xb_hear.specs.Attempts.{attempt_in}
 use Rattle.xb_report.specs.ReportTexts.{outcomes_in}
 use Rattle.xb_html.specs.Pages.{section_text}
-use Rattle.xb_hear_program.specs.Paging.{Adds, IsSection}
 use Rattle.xb_hear_program.proofs.paging.push_drawn.Goals as goal
 
 pub returns : goal.returns

@@ -1,4 +1,4 @@
-use Rattle.std.proofs.Common.{◌≡◌, ◌∙◌, ap, map, string_bytes}
+use Rattle.std.proofs.Common.{◌≡◌, ◌∙◌, ap, map}
 use Rattle.std.proofs.lemmas.Result.{on_ok_weaker}
 use Rattle.xb_model.specs.Numbers.{outcomes_of}
 use Rattle.xb_model.specs.Records.{record_of}

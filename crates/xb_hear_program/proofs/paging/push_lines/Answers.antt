@@ -1,5 +1,4 @@
-use Rattle.std.proofs.Common.{◌≡◌, ◌∙◌, ap, false, subst, sym, true, string_bytes}
-use Rattle.xb_hear_program.specs.Paging.{Adds, IsOfLinesBelow}
+use Rattle.std.proofs.Common.{◌≡◌, ◌∙◌, false, sym, true, string_bytes}
 use Rattle.xb_hear_program.proofs.Paged.{sections-start, sections-more, sections-none}
 use Rattle.xb_hear_program.proofs.paging.push_lines.Goals as goal
 use Rattle.xb_hear_program.proofs.paging.push_lines.Goals.{in-Some+then-get+in_ok-push_line, in-Some+else-get, in_default}
