@@ -26,7 +26,8 @@ svg{max-width:100%;height:auto;margin:1em 0}
 </p>
 ";
 
-const COLUMNS: &str = "<tr><th>digit</th><th>pulses</th><th>p/s</th><th>% break</th><th>break ms</th>\
+const COLUMNS: &str =
+    "<tr><th>digit</th><th>pulses</th><th>p/s</th><th>% break</th><th>break ms</th>\
 <th>make ms</th><th>pause ms</th><th></th></tr>
 ";
 
