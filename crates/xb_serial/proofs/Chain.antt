@@ -1,5 +1,5 @@
 -- The four stages, one after another, on one line.
-use Rattle.std.proofs.Common.{◌≡◌, ℕ, ◌<◌, List, [], ◌∷◌, map, None, refl, sym, ap, ◌∙◌}
+use Rattle.std.proofs.Common.{◌≡◌, ℕ, ◌<◌, List, [], ◌∷◌, ◌++◌, map, None, refl, sym, ap, ◌∙◌}
 use Rattle.std.specs.List.{flat_map, AllByRecursion}
 use Rattle.std.proofs.lemmas.List.Folds.{flat_map-map}
 use Rattle.xb_model.specs.declared.limits.Limits.{Limits}
@@ -8,7 +8,7 @@ use Rattle.xb_model.specs.declared.on.On.{On}
 use Rattle.xb_model.specs.declared.mark.Mark.{Mark}
 use Rattle.xb_model.specs.declared.plan.Plan.{Plan}
 use Rattle.xb_model.specs.LawfulLimits.{IsLawful}
-use Rattle.xb_model.specs.Rows.{LoopRow}
+use Rattle.xb_model.specs.Rows.{LoopRow, close_row}
 use Rattle.xb_model.specs.Records.{Run, rows_of, record_up_to_close}
 use Rattle.xb_model.specs.Numbers.{outcomes_of}
 use Rattle.xb_model.specs.Signals.{signals_of}
@@ -31,6 +31,8 @@ use Rattle.xb_fed.specs.Fed.{fed}
 use Rattle.xb_model.specs.Lines.{row_line}
 use Rattle.xb_serial.proofs.ClosedOnce.{closes-once, record-once, is_on-once}
 use Rattle.xb_fed.proofs.FedRows.{rows_of-fed}
+use Rattle.xb_serial.specs.Serial.{closed_rows}
+use Rattle.xb_serial.proofs.ClosedAll.{closes-closed, record-closed, is_on-closed, rows_of-closed}
 
 module _ (plan : Plan) (limits : Limits) (routes : List CodedRoute) where
   -- what the four stages make of rows of one line
@@ -69,3 +71,14 @@ module _ (plan : Plan) (limits : Limits) (routes : List CodedRoute) where
   chain-fed l rows lawful below =
       ap chain (rows_of-fed l rows below)
       ∙ chain-once l (rows_of l rows) lawful (of_line-on row_line l rows)
+
+  -- so they do of its rows and a close of each line after them
+  pub chain-closed : (l : ℕ) (rows : List LoopRow) → IsLawful limits → l < LINES
+      → chain (rows_of l (closed_rows rows)) ≡ on_line l (joined_tape plan limits routes l rows)
+  chain-closed l rows lawful below =
+      let own : List LoopRow = rows_of l rows in
+      ap chain (rows_of-closed l rows below)
+      ∙ ap (λ xs. image_on sender_machine (image_on (translate_machine routes) (image_on (register_machine plan) xs)))
+      (record_heard limits l (own ++ close_row l ∷ []) lawful (is_on-closed l own (of_line-on row_line l rows)) (closes-closed l own))
+      ∙ chain-signals l (record_up_to_close (own ++ close_row l ∷ []))
+      ∙ ap (λ runs. on_line l (record_marks runs)) (record-closed l own)

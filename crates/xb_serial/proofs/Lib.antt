@@ -1,3 +1,5 @@
 pub mod Chain
+pub mod ClosedAll
 pub mod ClosedOnce
 pub mod LineTapes
+pub mod Taking

@@ -64,19 +64,35 @@ module _ (plan : Plan) (limits : Limits) (routes : List CodedRoute) where
       ∙ ap (λ xs. image_on sender_machine (image_on (translate_machine routes) xs)) (image-of_line on_line_of on_line_of (register_machine plan) (λ q x. all_on x.line _) l signals)
       ∙ ap (λ xs. image_on sender_machine (image_on (translate_machine routes) (image_on (register_machine plan) xs))) (image-of_line row_line on_line_of (pulse_machine limits) (outs_on_line limits) l rows)
 
-  module _ (lawful : IsLawful limits) (tapes : List (List Mark)) (marks : List (On Mark)) (rows : List LoopRow)
-      (are : AreTapes tapes marks) (e : marks ≡ serial_image plan limits routes (fed rows None)) where
+  -- where the chain makes of each line's given rows the tape of its rows
+  module _ (given rows : List LoopRow) (made : (l : ℕ) → l < LINES → chain plan limits routes (rows_of l given) ≡ on_line l (joined_tape plan limits routes l rows))
+      (tapes : List (List Mark)) (marks : List (On Mark)) (are : AreTapes tapes marks) (e : marks ≡ serial_image plan limits routes given) where
     -- each line has its tape
-    pub marks_at-serial : (l : ℕ) → l < LINES → marks_at tapes l ≡ joined_tape plan limits routes l rows
-    marks_at-serial l below =
+    pub marks_at-made : (l : ℕ) → l < LINES → marks_at tapes l ≡ joined_tape plan limits routes l rows
+    marks_at-made l below =
         are.each l below
-        ∙ ap whats_of (ap (of_line on_line_of l) e ∙ serial_image-line l (fed rows None) ∙ chain-fed plan limits routes l rows lawful below)
+        ∙ ap whats_of (ap (of_line on_line_of l) e ∙ serial_image-line l given ∙ made l below)
         ∙ whats_of-on_line l (joined_tape plan limits routes l rows)
 
     -- its entries are those of the tape
-    pub entries-serial : (l : ℕ) → l < LINES → entries_of (marks_at tapes l) ≡ tape_of plan limits routes l rows
-    entries-serial l below = ap entries_of (marks_at-serial l below) ∙ entries_of-orders (order_of routes) (outcomes_of plan limits (record_of l rows))
+    pub entries-made : (l : ℕ) → l < LINES → entries_of (marks_at tapes l) ≡ tape_of plan limits routes l rows
+    entries-made l below = ap entries_of (marks_at-made l below) ∙ entries_of-orders (order_of routes) (outcomes_of plan limits (record_of l rows))
 
     -- so the tapes are those of the rows
+    pub tapes-made : tapes ≡ tapes_of plan limits routes rows
+    tapes-made = each_line (λ l. joined_tape plan limits routes l rows) tapes are.lines marks_at-made
+
+  -- so it does of the fed rows
+  module _ (lawful : IsLawful limits) (tapes : List (List Mark)) (marks : List (On Mark)) (rows : List LoopRow)
+      (are : AreTapes tapes marks) (e : marks ≡ serial_image plan limits routes (fed rows None)) where
+    abbrev made : (l : ℕ) → l < LINES → chain plan limits routes (rows_of l (fed rows None)) ≡ on_line l (joined_tape plan limits routes l rows)
+    made l below = chain-fed plan limits routes l rows lawful below
+
+    pub marks_at-serial : (l : ℕ) → l < LINES → marks_at tapes l ≡ joined_tape plan limits routes l rows
+    marks_at-serial = marks_at-made (fed rows None) rows made tapes marks are e
+
+    pub entries-serial : (l : ℕ) → l < LINES → entries_of (marks_at tapes l) ≡ tape_of plan limits routes l rows
+    entries-serial = entries-made (fed rows None) rows made tapes marks are e
+
     pub tapes-serial : tapes ≡ tapes_of plan limits routes rows
-    tapes-serial = each_line (λ l. joined_tape plan limits routes l rows) tapes are.lines marks_at-serial
+    tapes-serial = tapes-made (fed rows None) rows made tapes marks are e

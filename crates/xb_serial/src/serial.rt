@@ -3,32 +3,49 @@ ghost use Rattle.std.specs.Prelude.{◌≡◌, ℕ, ◌<◌, IfOk};
 ghost use Rattle.xb_model.specs.declared.line.TheConstants.{LINES};
 ghost use Rattle.xb_model.specs.LawfulLimits.{IsLawful};
 ghost use Rattle.xb_model.specs.Tapes.{tape_of, joined_tape, entries_of};
-ghost use Rattle.xb_serial.specs.Serial.{serial_image};
+ghost use Rattle.xb_model.specs.Lines.{on_line_of};
+ghost use Rattle.xb_stage.specs.Image.{image};
+ghost use Rattle.xb_routes.specs.Machine.{machine as translate_machine};
+ghost use Rattle.xb_sender.specs.Machine.{machine as sender_machine};
+ghost use Rattle.xb_serial.specs.Serial.{closed_rows, dialled_image};
 ghost use Rattle.xb_model.specs.Tapes.{marks_at, tapes_of};
 ghost use Rattle.xb_tape.specs.GatheredMarks.{AreTapes};
 
+use crate::closes::close_rows;
+use crate::loops::Loops;
 use std::alloc::{AllocError, Global};
-use xb_fed::fed_rows;
-use xb_model::{Mark, On, Row};
-use xb_pulse::Pulse;
-use xb_register::Register;
+use xb_model::{Dialled, Mark, On, Row};
 use xb_routes::{RouteTable, Translate};
 use xb_sender::Sender;
 use xb_stage::image_of;
 use xb_tape::Tapes;
 
-// What the four stages make of rows.
-fn marks_of_rows(
+// What comes of the attempts in rows, each line closed after the last of them.
+fn dialled_of_rows(
     alloc: Global,
-    rows: Vec<Row>,
+    rows: &[Row],
     table: &RouteTable,
-) -> Result<Vec<On<Mark>>, AllocError>
-    ensures marks { let t = table.now in
-        IfOk result (λ marks. marks.items ≡ serial_image t.plan t.limits t.routes rows.items) }
+) -> Result<Vec<On<Dialled>>, AllocError>
+    ensures dialled { let t = table.now in
+        IfOk result (λ dialled. dialled.items ≡ dialled_image t.plan t.limits (closed_rows rows.now)) }
     ensures lawful { IsLawful table.now.limits }
 {
-    let signals = image_of(alloc, &Pulse::new(table.limits()), rows)?;
-    let dialled = image_of(alloc, &Register::new(table.plan()), signals)?;
+    let mut loops = Loops::new(alloc, table)?;
+    loops.take_all(rows)?;
+    let closes = close_rows(alloc)?;
+    loops.take_all(&closes)?;
+    Ok(loops.into_dialled())
+}
+
+// What translation and the sender make of that.
+fn marks_of_dialled(
+    alloc: Global,
+    dialled: Vec<On<Dialled>>,
+    table: &RouteTable,
+) -> Result<Vec<On<Mark>>, AllocError>
+    ensures { IfOk result (λ marks. marks.items ≡ image on_line_of sender_machine
+        (image on_line_of (translate_machine table.now.routes) dialled.items)) }
+{
     let orders = image_of(alloc, &Translate::new(table), dialled)?;
     image_of(alloc, &Sender::new(), orders)
 }
@@ -56,7 +73,7 @@ pub fn key_serial(alloc: Global, rows: &[Row], table: &RouteTable) -> Result<Tap
     ensures entries { let t = table.now in IfOk result (λ tapes. (l : ℕ) → l < LINES →
         entries_of (marks_at tapes l) ≡ tape_of t.plan t.limits t.routes l rows.now) }
 {
-    let fed = fed_rows(alloc, rows)?;
-    let marks = marks_of_rows(alloc, fed, table)?;
+    let dialled = dialled_of_rows(alloc, rows, table)?;
+    let marks = marks_of_dialled(alloc, dialled, table)?;
     tapes_of_marks(alloc, &marks)
 }
