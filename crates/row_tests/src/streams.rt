@@ -2,9 +2,10 @@
 use std::alloc::Global;
 use std::io::ErrorKind;
 use std::process::Abort;
+use std::test::Fail;
 use test_fakes::Halting;
 use xb_model::{Contact, Row, RowFault};
-use xb_rows::RowReader;
+use xb_rows::{RowReader, rows_of_text};
 
 const TEXT: &[u8] = b"line,state,ms\n7,M,500\n\"7\",B,60\n0042,C,0\n";
 
@@ -75,4 +76,14 @@ fn counts_the_records_of_a_stream(rt: HostRuntime) {
     for _ in 0..3 {
         assert!(rt; reader.next_row().err() == Some(RowFault::TooMany));
     }
+}
+
+#[test]
+fn reads_all_rows_of_a_text(rt: HostRuntime) -> Result<(), Fail> {
+    let rows = rows_of_text(rt.alloc(), TEXT)?;
+    assert_eq!(rt; rows.len(), 3);
+    for (n, row) in rows.iter().enumerate() {
+        check_row(&rt, n + 1, Ok(Some(*row)));
+    }
+    Ok(())
 }

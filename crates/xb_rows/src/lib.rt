@@ -15,6 +15,6 @@ mod writing;
 
 pub use record::{field_number, line_of};
 pub use row_reader::RowReader;
-pub use rows::read_rows;
+pub use rows::{read_rows, rows_of_text};
 pub use scan::{MOST_RECORDS, Scan};
 pub use writing::text_of_rows;

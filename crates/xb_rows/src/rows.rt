@@ -9,9 +9,9 @@ use std::io::Read;
 use xb_model::{Row, RowFault, RowSource};
 use xb_streams::{ReadFault, read_whole};
 
-// The rows of a CSV text, or its first fault: the faults of `Scan`, and `NoMemory` where memory
-// ran out.
-pub(crate) fn read_text(alloc: Global, text: &[u8]) -> Result<Vec<Row>, RowFault>
+/// The rows of a CSV text, or its first fault: the faults of `Scan`, and `NoMemory` where memory
+/// ran out. A text that is in memory already is not copied, as it is by `read_rows`.
+pub fn rows_of_text(alloc: Global, text: &[u8]) -> Result<Vec<Row>, RowFault>
     ensures rows { IfOk result (λ rows. AreRowsOf text.now rows.items) }
     ensures few { IfOk result (λ rows. length rows.items ≤ MOST_RECORDS) }
     ensures fault { IfErr result (λ f. IsFaultOf text.now f) }
@@ -50,7 +50,7 @@ pub fn read_rows<R: Read>(alloc: Global, reader: &mut R) -> Result<Vec<Row>, Row
     ensures end { IsReadToEnd result (R.remaining reader.new) }
 {
     match read_whole(alloc, reader, usize::MAX) {
-        Ok(text) => read_text(alloc, text.as_slice()),
+        Ok(text) => rows_of_text(alloc, text.as_slice()),
         Err(fault) => Err(fault_of_read(fault)),
     }
 }

@@ -2,7 +2,7 @@ use Rattle.std.proofs.Common.{length, ap, arith, length-append}
 use Rattle.csv.specs.Reading.{default_config, records, strip_bom}
 use Rattle.xb_rows.specs.declared.scan.TheConstants.{MOST_RECORDS}
 use Rattle.xb_rows.proofs.RestOfRecords.{few_rows}
-use Rattle.xb_rows.proofs.rows.read_text.Goals as goal
+use Rattle.xb_rows.proofs.rows.rows_of_text.Goals as goal
 
 pub returns-clause-few : goal.returns-clause-few
 returns-clause-few c =

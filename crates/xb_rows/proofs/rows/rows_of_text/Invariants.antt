@@ -1,6 +1,6 @@
 use Rattle.std.proofs.Common.{◌≡◌, ◌++◌, length}
 use Rattle.xb_rows.specs.RowTexts.{fault_of_text, rows_of_text}
-use Rattle.xb_rows.proofs.rows.read_text.Given as goal
+use Rattle.xb_rows.proofs.rows.rows_of_text.Given as goal
 
 abbrev pub invariant-loop-rows : goal.invariant-loop-rows
 invariant-loop-rows l = record {
