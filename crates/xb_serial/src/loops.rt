@@ -21,7 +21,10 @@ impl Model for Loops {
     ghost Value = { Hearing };
 
     ghost view = { λ loops. record {
-        limits = loops.pulse; lines = loops.lines; registers = loops.registers } };
+      limits = loops.pulse;
+      lines = loops.lines;
+      registers = loops.registers;
+    } };
 }
 
 impl Loops {

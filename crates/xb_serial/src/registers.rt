@@ -19,7 +19,10 @@ impl Model for Registers {
     ghost Value = { Dialling };
 
     ghost view = { λ registers. record {
-        plan = registers.register; lines = registers.lines; dialled = registers.dialled.items } };
+      plan = registers.register;
+      lines = registers.lines;
+      dialled = registers.dialled.items;
+    } };
 }
 
 impl Registers {

@@ -14,13 +14,13 @@ pub loop-number-preserved : goal.loop-number-preserved
 loop-number-preserved c =
     let n = c.loop-number.number in
     elim c.match-new.branch [
-      in-Some+in_ok-push w ↦
-        rw w.rows-is
-        (w.in_ok-push.ensures.items
-        ∙ ap (λ items. items ++ w.close.result ∷ []) c.loop-number.invariant
-        ∙ ap (λ (x : LoopRow). map close_row (lines_below n) ++ x ∷ []) (w.close.ensures ∙ ap close_row w.in-Some.ensures.value)
-        ∙ sym (closes_more n))
-    | in_default w ↦ absurd (cc (w.in_default.ensures.variant.1 c.loop-number-test.true))
+      | in-Some+in_ok-push w ↦
+          rw w.rows-is
+          (w.in_ok-push.ensures.items
+          ∙ ap (λ items. items ++ w.close.result ∷ []) c.loop-number.invariant
+          ∙ ap (λ (x : LoopRow). map close_row (lines_below n) ++ x ∷ []) (w.close.ensures ∙ ap close_row w.in-Some.ensures.value)
+          ∙ sym (closes_more n))
+      | in_default w ↦ absurd (cc (w.in_default.ensures.variant.1 c.loop-number-test.true))
     ]
 
 pub returns : goal.returns
