@@ -1,8 +1,7 @@
 // Words, calls and streams in; a status, rows and lines of faults out.
-use std::alloc::Global;
 use std::io::ErrorKind;
 use std::test::Fail;
-use test_fakes::{Halting, Short};
+use test_fakes::{Halting, Short, words_of};
 use xb_dial_program::attend;
 
 // The words after the program's name, the calls, the status, and what stands on standard output and on
@@ -139,20 +138,10 @@ const SEVEN_DIGITS: &[u8] = b"line,state,ms
 7,B,60\n7,M,40\n7,B,60\n7,M,40\n7,B,60\n7,M,40\n7,B,60\n7,M,40\n7,B,60\n7,M,600
 7,B,60\n7,M,600\n";
 
-// The words of a command line, the program's name first.
-fn words_of(alloc: Global, words: &[&str]) -> Result<Vec<String>, Fail> {
-    let mut all = Vec::new(alloc);
-    all.push("mfdial".to_string(alloc)?)?;
-    for word in words {
-        all.push(word.to_string(alloc)?)?;
-    }
-    Ok(all)
-}
-
 #[test]
 fn gives_each_status(rt: HostRuntime) -> Result<(), Fail> {
     for (words, calls, status, rows, line) in CASES {
-        let words = words_of(rt.alloc(), words)?;
+        let words = words_of(rt.alloc(), "mfdial", words)?;
         let mut reader = *calls;
         let mut out = Vec::new(rt.alloc());
         let mut err = Vec::new(rt.alloc());
@@ -174,7 +163,7 @@ fn gives_each_status(rt: HostRuntime) -> Result<(), Fail> {
 
 #[test]
 fn fails_where_the_calls_fail(rt: HostRuntime) -> Result<(), Fail> {
-    let words = words_of(rt.alloc(), &[])?;
+    let words = words_of(rt.alloc(), "mfdial", &[])?;
     let calls = b"7 234-5678\n9 0\n";
     for place in 0..=calls.len() {
         let mut reader = Halting::failing(calls, 4, place, ErrorKind::Interrupted);
@@ -191,7 +180,7 @@ fn fails_where_the_calls_fail(rt: HostRuntime) -> Result<(), Fail> {
 
 #[test]
 fn writes_the_beginning_where_the_rows_fail(rt: HostRuntime) -> Result<(), Fail> {
-    let words = words_of(rt.alloc(), &[])?;
+    let words = words_of(rt.alloc(), "mfdial", &[])?;
     for room in 0..=SEVEN_DIGITS.len() {
         let mut calls = b"7 212-5551".as_slice();
         let mut out = Short::new(rt.alloc(), room, Some(ErrorKind::Other));

@@ -1,7 +1,8 @@
 // Pages of a small deck: the tables as a person wrote them, and below each the picture that `--svg` draws.
-use crate::reports::{DECK, words_of};
+use crate::reports::DECK;
 use std::alloc::Global;
 use std::test::Fail;
+use test_fakes::words_of;
 use xb_hear_program::attend;
 
 const HEAD: &str = "<!DOCTYPE html>
@@ -71,7 +72,7 @@ const PAGES: &[(&[&str], &[(&str, &str)])] = &[
 
 // What the program writes of the deck for words and one more.
 fn written(alloc: Global, words: &[&str], last: &str) -> Result<Vec<u8>, Fail> {
-    let mut all = words_of(alloc, words)?;
+    let mut all = words_of(alloc, "mfhear", words)?;
     all.push(last.to_string(alloc)?)?;
     let mut deck = DECK;
     let mut out = Vec::new(alloc);

@@ -1,6 +1,7 @@
 // What the pictures of a small deck say, as a person reckoned it.
-use crate::reports::{DECK, words_of};
+use crate::reports::DECK;
 use std::test::Fail;
+use test_fakes::words_of;
 use xb_hear_program::attend;
 
 // The words after those that ask for a picture, and texts that it has, in their order.
@@ -43,7 +44,7 @@ const PICTURES: &[(&[&str], &[&str])] = &[
 #[test]
 fn pictures_say_what_was_heard(rt: HostRuntime) -> Result<(), Fail> {
     for (words, parts) in PICTURES {
-        let mut all = words_of(rt.alloc(), words)?;
+        let mut all = words_of(rt.alloc(), "mfhear", words)?;
         all.push("--svg".to_string(rt.alloc())?)?;
         let mut deck = DECK;
         let mut out = Vec::new(rt.alloc());

@@ -1,6 +1,6 @@
 // Reports of a small deck, as a person reckoned them.
-use std::alloc::Global;
 use std::test::Fail;
+use test_fakes::words_of;
 use xb_hear_program::attend;
 
 // Line 7 dials 0 with a make at its limit, line 8 a digit with a break over its limit, and line 9 nothing.
@@ -30,16 +30,6 @@ line 0008, attempt 2 from 1.261 s, record 33: REFUSED ABANDONED 0
   the record ends
 ";
 
-// The words of a command line, the program's name first.
-pub fn words_of(alloc: Global, words: &[&str]) -> Result<Vec<String>, Fail> {
-    let mut all = Vec::new(alloc);
-    all.push("mfhear".to_string(alloc)?)?;
-    for word in words {
-        all.push(word.to_string(alloc)?)?;
-    }
-    Ok(all)
-}
-
 // The words after the program's name, and the parts of the report.
 const REPORTS: &[(&[&str], &[&str])] = &[
     (&[], &[LIMITS, SEVEN, EIGHT]),
@@ -59,7 +49,7 @@ fn reports_as_reckoned(rt: HostRuntime) -> Result<(), Fail> {
         for part in *parts {
             want.push_str(part)?;
         }
-        let all = words_of(rt.alloc(), words)?;
+        let all = words_of(rt.alloc(), "mfhear", words)?;
         let mut deck = DECK;
         let mut out = Vec::new(rt.alloc());
         let mut err = Vec::new(rt.alloc());

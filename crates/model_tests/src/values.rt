@@ -289,6 +289,18 @@ fn defaults(rt: HostRuntime) {
 }
 
 #[test]
+fn words_of_reasons(rt: HostRuntime) {
+    for (reason, word) in [
+        (Reason::Mutilated, "MUTILATED"),
+        (Reason::Unknown, "UNKNOWN"),
+        (Reason::Abandoned, "ABANDONED"),
+        (Reason::TimedOut, "TIMEDOUT"),
+    ] {
+        assert_eq!(rt; reason.word(), word);
+    }
+}
+
+#[test]
 fn texts_of_faults(rt: HostRuntime) -> Result<(), Fail> {
     for (fault, text) in [
         (RowFault::Read, "the rows could not be read"),

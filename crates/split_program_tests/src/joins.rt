@@ -2,6 +2,7 @@
 use std::alloc::Global;
 use std::io::{self, ErrorKind};
 use std::test::Fail;
+use test_fakes::words_of;
 use xb_join_program::{PageFiles, attend};
 
 const FIRST: &[u8] = b"0000 1 REFUSED UNKNOWN 3\n\
@@ -45,16 +46,6 @@ impl PageFiles for Folder {
         }
         Err(io::Error::from(ErrorKind::NotFound))
     }
-}
-
-// The words of a command line, the program's name first.
-fn words_of(alloc: Global, words: &[&str]) -> Result<Vec<String>, Fail> {
-    let mut all = Vec::new(alloc);
-    all.push("mfjoin".to_string(alloc)?)?;
-    for word in words {
-        all.push(word.to_string(alloc)?)?;
-    }
-    Ok(all)
 }
 
 // The words, the status, the page, and what stands on standard error.
@@ -126,7 +117,7 @@ const CASES: &[(&[&str], u8, &[u8], &[u8])] = &[
 fn each_status(rt: HostRuntime) -> Result<(), Fail> {
     let alloc = rt.alloc();
     for (words, status, page, line) in CASES {
-        let words = words_of(alloc, words)?;
+        let words = words_of(alloc, "mfjoin", words)?;
         let (mut out, mut err) = (Vec::new(alloc), Vec::new(alloc));
         assert_eq!(rt; attend(alloc, &words, &Folder, &mut out, &mut err), *status);
         assert_eq!(rt; out.as_slice(), *page);

@@ -3,6 +3,7 @@ use crate::splits::TwoDecks;
 use std::alloc::Global;
 use std::io::{self, ErrorKind};
 use std::test::Fail;
+use test_fakes::words_of;
 use xb_split::LineRange;
 use xb_split_program::{SplitFiles, attend};
 
@@ -101,16 +102,6 @@ impl SplitFiles for Folder {
     }
 }
 
-// The words of a command line, the program's name first.
-fn words_of(alloc: Global, words: &[&str]) -> Result<Vec<String>, Fail> {
-    let mut all = Vec::new(alloc);
-    all.push("mfsplit".to_string(alloc)?)?;
-    for word in words {
-        all.push(word.to_string(alloc)?)?;
-    }
-    Ok(all)
-}
-
 // Whether these words have this status in a folder, and this is what stands on standard error.
 fn ends_so(
     folder: &mut Folder,
@@ -119,7 +110,7 @@ fn ends_so(
     status: u8,
     line: &[u8],
 ) -> Result<bool, Fail> {
-    let words = words_of(alloc, words)?;
+    let words = words_of(alloc, "mfsplit", words)?;
     let mut err = Vec::new(alloc);
     Ok(attend(alloc, &words, folder, &mut err) == status && err.as_slice() == line)
 }

@@ -75,10 +75,10 @@ fn all_lines_are_one_range_where_they_fit(rt: HostRuntime) -> Result<(), Fail> {
     let alloc = rt.alloc();
     let rows = one_after_another(alloc, &SIX_CALLS)?;
     let loads = loads_of(alloc, &rows)?;
-    let ranges = plan_ranges(alloc, &loads, MOST, MOST).expect(&rt, "a plan");
+    let ranges = plan_ranges(alloc, &loads, MOST).expect(&rt, "a plan");
     assert_eq!(rt; ranges.as_slice(), [range(0, LINES)].as_slice());
     let none = loads_of(alloc, &[])?;
-    let ranges = plan_ranges(alloc, &none, Load::default(), Load::default()).expect(&rt, "a plan");
+    let ranges = plan_ranges(alloc, &none, Load::default()).expect(&rt, "a plan");
     assert_eq!(rt; ranges.as_slice(), [range(0, LINES)].as_slice());
     Ok(())
 }
@@ -90,14 +90,10 @@ fn ranges_end_before_they_have_too_much(rt: HostRuntime) -> Result<(), Fail> {
     let rows = one_after_another(alloc, &SIX_CALLS)?;
     let loads = loads_of(alloc, &rows)?;
     let two_lines = [range(0, 3), range(3, 5), range(5, LINES)];
-    let ranges = plan_ranges(alloc, &loads, TWO_LINES, MOST).expect(&rt, "a plan");
+    let ranges = plan_ranges(alloc, &loads, TWO_LINES).expect(&rt, "a plan");
     assert_eq!(rt; ranges.as_slice(), two_lines.as_slice());
-    let ranges = plan_ranges(alloc, &loads, TWO_LINES, TWO_LINES).expect(&rt, "a plan");
-    assert_eq!(rt; ranges.as_slice(), two_lines.as_slice());
-    let ranges = plan_ranges(alloc, &loads, LESS_THAN_TWO, MOST).expect(&rt, "a plan");
+    let ranges = plan_ranges(alloc, &loads, LESS_THAN_TWO).expect(&rt, "a plan");
     assert_eq!(rt; ranges.len(), 6);
-    let ranges = plan_ranges(alloc, &loads, Load::default(), MOST).expect(&rt, "a plan");
-    assert_eq!(rt; ranges.len(), 8);
     Ok(())
 }
 
@@ -107,9 +103,9 @@ fn a_line_with_too_much_is_named(rt: HostRuntime) -> Result<(), Fail> {
     let rows = one_after_another(alloc, &SIX_CALLS)?;
     let loads = loads_of(alloc, &rows)?;
     let first = LineNo::new(1).ok_or("a line")?;
-    let fault = plan_ranges(alloc, &loads, FEW_RECORDS, FEW_RECORDS).err();
+    let fault = plan_ranges(alloc, &loads, FEW_RECORDS).err();
     assert_eq!(rt; fault, Some(PlanFault::Line(first)));
-    let fault = plan_ranges(alloc, &loads, FEW_BYTES, FEW_BYTES).err();
+    let fault = plan_ranges(alloc, &loads, FEW_BYTES).err();
     assert_eq!(rt; fault, Some(PlanFault::Line(first)));
     Ok(())
 }

@@ -1,23 +1,11 @@
 // The words of a report.
 ghost use Rattle.std.specs.Prelude.{◌≡◌, ◌++◌, OnOk, string_bytes};
-ghost use Rattle.xb_model.specs.Page.{reason_text};
 ghost use Rattle.xb_report.specs.Cells.{place_text};
 ghost use Rattle.xb_report.specs.Words.{digits_text, fault_text, is_taken, is_timed_out, outcome_text};
 
 use std::alloc::AllocError;
 use xb_hear::{PlacedRun, PulseFault};
 use xb_model::{Dialled, Digit, Limits, Reason};
-
-fn reason_text(reason: Reason) -> &'static str
-    ensures { result.now ≡ reason_text reason }
-{
-    match reason {
-        Reason::Mutilated => "MUTILATED",
-        Reason::Unknown => "UNKNOWN",
-        Reason::Abandoned => "ABANDONED",
-        Reason::TimedOut => "TIMEDOUT",
-    }
-}
 
 // Puts digits after the text, one after the other.
 fn push_digits(out: &mut String, digits: &[Digit]) -> Result<(), AllocError>
@@ -41,7 +29,7 @@ pub fn push_outcome(out: &mut String, outcome: &Dialled) -> Result<(), AllocErro
             push_digits(out, number.digits())
         }
         Dialled::Refused(reason, heard) => {
-            let word = reason_text(*reason);
+            let word = reason.word();
             write!(out, "REFUSED {word} {heard}")
         }
     }

@@ -24,8 +24,8 @@ Fits loads most range =
 
 -- a range that ends with the last line, or would have more than this with the line after it
 abbrev pub IsFull : List Load → Load → LineRange → Type 0
-IsFull loads aim range =
-    range.end < LINES → Fits loads aim (record { first = range.first; end = range.end + 1 }) → ⊥
+IsFull loads most range =
+    range.end < LINES → Fits loads most (record { first = range.first; end = range.end + 1 }) → ⊥
 
 -- the rows of a range, in their order
 abbrev pub rows_in : LineRange → List LoopRow → List LoopRow

@@ -2,7 +2,6 @@
 ghost use Rattle.std.specs.Prelude.{◌≡◌, ◌≤◌, ◌<◌, ◌^◌, IfOk, IfErr, length};
 ghost use Rattle.std.specs.List.{All};
 ghost use Rattle.xb_model.specs.declared.line.TheConstants.{LINES};
-ghost use Rattle.xb_split.specs.Loads.{IsWithin};
 ghost use Rattle.xb_split.specs.PlanFaults.{IsPlanFault};
 ghost use Rattle.xb_split.specs.Ranges.{CoverAll, Fits, IsFull};
 
@@ -35,20 +34,18 @@ impl From<AllocFailed<LineRange>> for PlanFault {
 }
 
 /// Ranges of lines that take all lines, each with no more than `most`. A range ends before the line
-/// with which it would have more than `aim`. `Err` names a line that has more than `most` by
-/// itself, or says that memory ran out.
+/// with which it would have more. `Err` names a line that has more than `most` by itself, or says
+/// that memory ran out.
 pub fn plan_ranges(
     alloc: Global,
     loads: &PerLine<Load>,
-    aim: Load,
     most: Load,
 ) -> Result<Vec<LineRange>, PlanFault>
-    requires aim { IsWithin aim most }
     requires records { most.records < 2 ^ 63 }
     requires bytes { most.bytes < 2 ^ 63 }
     ensures cover { IfOk result (λ ranges. CoverAll ranges.items) }
     ensures fit { IfOk result (λ ranges. All (Fits loads.now most) ranges.items) }
-    ensures full { IfOk result (λ ranges. All (IsFull loads.now aim) ranges.items) }
+    ensures full { IfOk result (λ ranges. All (IsFull loads.now most) ranges.items) }
     ensures too_much { IfErr result (IsPlanFault loads.now most) }
     ensures lines { length loads.now ≡ LINES }
 {
@@ -60,7 +57,7 @@ pub fn plan_ranges(
             return Err(PlanFault::Line(line));
         }
         let more = load.with(*here);
-        if line.get() == first || more.is_within(aim) {
+        if line.get() == first || more.is_within(most) {
             load = more;
         } else {
             ranges.push(LineRange {

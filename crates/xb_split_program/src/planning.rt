@@ -52,7 +52,7 @@ fn are_enough(
     ensures enough { IfOk result (λ enough. IsTrue enough ↔ AreEnough parts loads.now most) }
     ensures fault { IfErr result (λ f. f ≡ PlanFault.NoMemory) }
 {
-    match plan_ranges(alloc, loads, most, most) {
+    match plan_ranges(alloc, loads, most) {
         Ok(ranges) => Ok(ranges.len() <= parts as usize),
         Err(PlanFault::Line(_)) => Ok(false),
         Err(PlanFault::NoMemory) => Err(PlanFault::NoMemory),
@@ -116,13 +116,14 @@ fn ranges_within(
 ) -> Result<Vec<LineRange>, PlanFault>
     requires room { (table : ℕ) × IsRoom table most }
     ensures cover { IfOk result (λ ranges. CoverAll ranges.items) }
-    ensures fit { (table : ℕ) → IsRoom table most → IfOk result (λ ranges. FitDecks table loads.now ranges.items) }
+    ensures fit { (table : ℕ) → IsRoom table most → IfOk result (λ ranges.
+        FitDecks table loads.now ranges.items) }
     ensures asked { (table : ℕ) → IsRoom table most → IfOk result (λ ranges.
         AreAsked parts table loads.now ranges.items) }
     ensures fault { IfErr result (IsPlanFault loads.now most) }
 {
     let wanted = wanted_most(alloc, loads, parts, most)?;
-    plan_ranges(alloc, loads, wanted, wanted)
+    plan_ranges(alloc, loads, wanted)
 }
 
 /// The ranges of the parts of a deck, by what each line has: the fewest, or, where so many are asked for, at most so

@@ -1,6 +1,6 @@
 // The page: one line for each entry of the tapes, and the totals.
 ghost use Rattle.std.specs.Prelude.{◌≡◌, ◌<◌, ◌^◌, ◌++◌, OnOk, IfOk, count_by, string_bytes};
-ghost use Rattle.xb_model.specs.Page.{mark_text, marks_text, reason_text, keyed_text, refused_text, entry_text};
+ghost use Rattle.xb_model.specs.Page.{mark_text, marks_text, keyed_text, refused_text, entry_text};
 ghost use Rattle.xb_model.specs.Page.{last_refusal, is_keyed, is_refused, tape_text, totals_text, page_text};
 ghost use Rattle.xb_model.specs.Tapes.{entries_of};
 ghost use Rattle.xb_tape.specs.MarkLines.{mark_line, word_before};
@@ -15,17 +15,6 @@ use xb_model::{Key, LineNo, Mark, Reason, Tone};
 struct Totals {
     keyed: usize,
     refused: usize,
-}
-
-fn reason_text(reason: Reason) -> &'static str
-    ensures { result.now ≡ reason_text reason }
-{
-    match reason {
-        Reason::Mutilated => "MUTILATED",
-        Reason::Unknown => "UNKNOWN",
-        Reason::Abandoned => "ABANDONED",
-        Reason::TimedOut => "TIMEDOUT",
-    }
 }
 
 // Writes a mark, after a blank.
@@ -44,7 +33,7 @@ fn write_mark(out: &mut String, mark: &Mark) -> Result<(), AllocError>
         Mark::Tone(Key::Kp, Tone { low, high }) => write!(out, " KP:{low}+{high}"),
         Mark::Tone(Key::St, Tone { low, high }) => write!(out, " ST:{low}+{high}"),
         Mark::Refused(reason, heard) => {
-            let word = reason_text(*reason);
+            let word = reason.word();
             write!(out, " {word} {heard}")
         }
     }
@@ -82,7 +71,7 @@ fn write_refused(
         ≡ string_bytes out.old ++ refused_text line number reason heard) }
 {
     let line = line.get();
-    let word = reason_text(reason);
+    let word = reason.word();
     write!(out, "{line:04} {number} REFUSED {word} {heard}\n")
 }
 
