@@ -36,7 +36,7 @@ const CASES: &[(&[&str], &[u8], u8, &[u8])] = &[
         &["--line", "7", "--entry", "1"],
         PAGE,
         1,
-        b"mftone: what was asked for is refused\n",
+        b"mftone: none of the calls asked for is keyed\n",
     ),
     (
         &["--line", "7", "--entry", "3"],
@@ -60,7 +60,7 @@ const CASES: &[(&[&str], &[u8], u8, &[u8])] = &[
         &[],
         b"0007 1 REFUSED UNKNOWN 3\nKEYED 0 REFUSED 1\n",
         1,
-        b"mftone: what was asked for is refused\n",
+        b"mftone: none of the calls asked for is keyed\n",
     ),
     (
         &[],

@@ -26,8 +26,8 @@ pub enum ToneFault {
     /// The page has no entry that was asked for.
     #[error("the page has no such entry")]
     NoEntry,
-    /// What was asked for is refused, so it has no tones.
-    #[error("what was asked for is refused")]
+    /// None of the calls asked for is keyed; a refusal has no tones.
+    #[error("none of the calls asked for is keyed")]
     Refused,
     /// The WAV file would have more than 4,294,967,295 bytes.
     #[error("the sound is too long for a WAV file")]
