@@ -8,4 +8,4 @@ returns c =
     let text = refused c.args.line c.args.number c.args.reason c.args.heard in
     on_ok_weaker c.write.result
     (λ e. e ∙ ap (λ (t : List ℕ). string_bytes c.args.out.now ++ t) text)
-    (rw (c.laid_out.ensures, c.word.ensures, c.get-line.ensures.value) at c.write.ensures.bytes)
+    (rw (c.laid_out.ensures, c.word-word.ensures, c.get-line.ensures.value) at c.write.ensures.bytes)
