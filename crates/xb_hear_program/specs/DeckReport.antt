@@ -77,17 +77,6 @@ IsFaultOfDeck said fault.Read = Unit {0}
 IsFaultOfDeck said fault.NoMemory = Unit {0}
 IsFaultOfDeck said f = said ≡ Err f
 
--- the same, of the text of rows
-abbrev pub IsFaultOfRows : List ℕ → HearFault → Type 0
-IsFaultOfRows text fault.Read = Unit {0}
-IsFaultOfRows text fault.NoMemory = Unit {0}
-IsFaultOfRows text fault.DeckTooLong = ⊥
-IsFaultOfRows text fault.NoCut = ⊥
-IsFaultOfRows text (fault.Routes f) = ⊥
-IsFaultOfRows text (fault.Rows f) = fault_of_text text ≡ Some f
-IsFaultOfRows text (fault.NoAttempt attempt) = ⊥
-IsFaultOfRows text fault.Write = ⊥
-
 -- a text is what is asked for of what a deck has in it
 pub record Tells (asked : Request) (said : Result Contents HearFault) (text : List ℕ) : Type 0 where
   pub deck : Contents

@@ -1,5 +1,7 @@
 -- What is returned where a part is refused.
 use Rattle.std.specs.Prelude.{◌≡◌, ◌≢◌, ◌⊎◌}
+use Rattle.xb_model.specs.declared.fault.RowFault.{RowFault}
+use Rattle.xb_model.specs.declared.fault.RowFault.TheVariants as row_fault
 use Rattle.xb_routes.specs.declared.fault.RouteFault.{RouteFault}
 use Rattle.xb_routes.specs.declared.fault.RouteFault.TheVariants as route_fault
 use Rattle.xb_hear_program.specs.declared.fault.HearFault.{HearFault}
@@ -16,3 +18,7 @@ of_read read_fault.NoMemory = fault.NoMemory
 abbrev pub IsOfRoutes : RouteFault → HearFault → Type 0
 IsOfRoutes f e = ((f ≡ route_fault.NoMemory) × (e ≡ fault.NoMemory))
     ⊎ ((f ≢ route_fault.NoMemory) × (e ≡ fault.Routes f))
+
+abbrev pub IsOfRows : RowFault → HearFault → Type 0
+IsOfRows f e = ((f ≡ row_fault.NoMemory) × (e ≡ fault.NoMemory))
+    ⊎ ((f ≢ row_fault.NoMemory) × (e ≡ fault.Rows f))

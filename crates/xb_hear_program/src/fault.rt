@@ -66,6 +66,19 @@ impl From<RouteFault> for HearFault {
     }
 }
 
+impl From<RowFault> for HearFault {
+    ghost use Rattle.xb_hear_program.specs.Faults.{IsOfRows};
+
+    ghost from_gives = { IsOfRows };
+
+    fn from(fault: RowFault) -> HearFault {
+        match fault {
+            RowFault::NoMemory => HearFault::NoMemory,
+            fault => HearFault::Rows(fault),
+        }
+    }
+}
+
 impl From<AllocError> for HearFault {
     ghost use Rattle.xb_hear_program.specs.declared.fault.HearFault.TheVariants.{NoMemory};
 

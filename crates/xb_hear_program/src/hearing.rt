@@ -1,8 +1,7 @@
 // From a deck on a reader to its report, page or picture on a writer.
-ghost use Rattle.std.specs.Prelude.{◌≡◌, ◌≤◌, ◌<◌, ◌^◌, IfErr, IfOk, length, string_bytes};
+ghost use Rattle.std.specs.Prelude.{◌≤◌, ◌<◌, ◌^◌, IfErr, IfOk, length, string_bytes};
 ghost use Rattle.xb_deck.specs.declared.deck.TheConstants.{MOST_DECK_BYTES};
-ghost use Rattle.xb_hear_program.specs.DeckReport.{Delivers, IsFaultOfDeck, IsFaultOfRows, Tells, contents, says, says_asked, says_rows};
-ghost use Rattle.xb_rows.specs.RowResults.{AreRowsOf};
+ghost use Rattle.xb_hear_program.specs.DeckReport.{Delivers, IsFaultOfDeck, Tells, contents, says, says_asked, says_rows};
 ghost use Rattle.xb_rows.specs.RowTexts.{fault_of_text, rows_of_text};
 
 use crate::drawing::picture;
@@ -13,25 +12,10 @@ use crate::telling::report;
 use std::alloc::Global;
 use std::io::{Read, Write};
 use xb_deck::{Deck, MOST_DECK_BYTES};
-use xb_model::{Row, RowFault};
+use xb_model::Row;
 use xb_routes::RouteTable;
-use xb_rows::read_rows;
+use xb_rows::rows_of_text;
 use xb_streams::{read_whole, write_whole};
-
-// The rows of a text.
-fn rows_of_text(alloc: Global, text: &[u8]) -> Result<Vec<Row>, HearFault>
-    ensures rows { IfOk result (λ rows. AreRowsOf text.now rows.items) }
-    ensures few { IfOk result (λ rows. length rows.items < 2 ^ 32) }
-    ensures fault { IfErr result (IsFaultOfRows text.now) }
-{
-    let mut rest = text;
-    match read_rows(alloc, &mut rest) {
-        Ok(rows) => Ok(rows),
-        Err(RowFault::NoMemory) => Err(HearFault::NoMemory),
-        Err(RowFault::Read) => Err(HearFault::Read),
-        Err(fault) => Err(HearFault::Rows(fault)),
-    }
-}
 
 // What is asked for of a table and of rows.
 fn text_of(
