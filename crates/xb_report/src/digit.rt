@@ -20,7 +20,8 @@ pub fn push_name(
     pulses: u64,
     spoiler: Option<Spoiler>,
 ) -> Result<(), AllocError>
-    ensures { OnOk result (string_bytes out.new ≡ string_bytes out.old ++ at_right 7 (name_by pulses spoiler)) }
+    ensures { OnOk result (string_bytes out.new
+        ≡ string_bytes out.old ++ at_right 7 (name_by pulses spoiler)) }
 {
     match spoiler {
         None => push_number(alloc, out, 7, pulses % u64::from(MOST_PULSES)),

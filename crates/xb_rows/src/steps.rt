@@ -64,7 +64,8 @@ pub(crate) fn take_row<R: Read>(
     fields: &mut ByteRecord,
 ) -> Result<Option<Row>, RowFault>
     requires { IsGoing reader.old }
-    ensures row { TakesRow most taken (option_map (rest_from most (taken + 1)) (records_left R.remaining reader.old))
+    ensures row { TakesRow most taken
+        (option_map (rest_from most (taken + 1)) (records_left R.remaining reader.old))
         (records_left R.remaining reader.new) result }
     ensures going { IfOk result (λ row. IsSome row → IsGoing reader.new) }
 {

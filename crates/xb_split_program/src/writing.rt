@@ -46,7 +46,8 @@ fn contact_between(contact: Contact) -> &'static [u8]
 
 // Writes the record of a row to the deck of a part.
 fn write_row<D: PartDecks>(decks: &mut D, part: usize, row: Row) -> io::Result<()>
-    ensures { OnOk result (Gets (only_for part (record_text row)) (D.contents decks.old) (D.contents decks.new)) }
+    ensures { OnOk result (Gets (only_for part (record_text row))
+        (D.contents decks.old) (D.contents decks.new)) }
 {
     let mut buffer = Buffer::new();
     decks.write(part, buffer.format(row.line().get()).as_bytes())?;
@@ -57,7 +58,8 @@ fn write_row<D: PartDecks>(decks: &mut D, part: usize, row: Row) -> io::Result<(
 
 // Writes a row to the deck of each part that has its line.
 fn write_to_parts<D: PartDecks>(decks: &mut D, ranges: &[LineRange], row: Row) -> io::Result<()>
-    ensures { OnOk result (Gets (records_of_part ranges.now (row ∷ [])) (D.contents decks.old) (D.contents decks.new)) }
+    ensures { OnOk result (Gets (records_of_part ranges.now (row ∷ []))
+        (D.contents decks.old) (D.contents decks.new)) }
 {
     for part in 0..ranges.len() {
         if ranges[part].has(row.line()) {
@@ -74,7 +76,8 @@ fn write_rows<S: RowStream, D: PartDecks>(
     ranges: &[LineRange],
     decks: &mut D,
 ) -> Result<(), WriteRowsFault>
-    ensures decks { OnOk result (GetsRecords (S.left rows.old) ranges.now (D.contents decks.old) (D.contents decks.new)) }
+    ensures decks { OnOk result (GetsRecords (S.left rows.old) ranges.now
+        (D.contents decks.old) (D.contents decks.new)) }
 {
     for _ in 0..u64::MAX {
         match rows.next_row()? {
@@ -91,7 +94,8 @@ fn write_rows<S: RowStream, D: PartDecks>(
 
 // Writes a table, the cut and the header to the deck of each part.
 fn write_heads<D: PartDecks>(decks: &mut D, parts: usize, table: &[u8]) -> io::Result<()>
-    ensures { OnOk result (Gets (only_below parts (head_of table.now)) (D.contents decks.old) (D.contents decks.new)) }
+    ensures { OnOk result (Gets (only_below parts (head_of table.now))
+        (D.contents decks.old) (D.contents decks.new)) }
 {
     for part in 0..parts {
         decks.write(part, table)?;
@@ -107,7 +111,8 @@ fn write_decks<S: RowStream, D: PartDecks>(
     ranges: &[LineRange],
     decks: &mut D,
 ) -> Result<(), WriteRowsFault>
-    ensures decks { OnOk result (GetsDecks table.now (S.left rows.old) ranges.now (D.contents decks.old) (D.contents decks.new)) }
+    ensures decks { OnOk result (GetsDecks table.now (S.left rows.old) ranges.now
+        (D.contents decks.old) (D.contents decks.new)) }
 {
     if let Err(fault) = write_heads(decks, ranges.len(), table) {
         return Err(WriteRowsFault::Write(fault));
@@ -123,7 +128,8 @@ pub fn write_parts<S: RowStream, D: PartDecks>(
     ranges: &[LineRange],
     decks: &mut D,
 ) -> Result<(), WriteRowsFault>
-    ensures decks { OnOk result (GetsDecks table.now (S.left rows.old) ranges.now (D.contents decks.old) (D.contents decks.new)) }
+    ensures decks { OnOk result (GetsDecks table.now (S.left rows.old) ranges.now
+        (D.contents decks.old) (D.contents decks.new)) }
 {
     write_decks(table, rows, ranges, decks)?;
     match decks.keep() {
