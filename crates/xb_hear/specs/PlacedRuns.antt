@@ -1,8 +1,9 @@
 -- The runs of a line, each with its place in the recording.
-use Rattle.std.specs.Prelude.{ℕ, ◌+◌, List, [], ◌∷◌, ◌++◌, if◌then◌else◌, ◌==◌, Option, Some, None}
+use Rattle.std.specs.Prelude.{ℕ, ◌≡◌, ◌<◌, ◌+◌, List, [], ◌∷◌, Bool, if◌then◌else◌, ◌==◌, map, slice_index_or}
+use Rattle.xb_model.specs.declared.line.TheConstants.{LINES}
 use Rattle.xb_model.specs.declared.row.Contact.{Contact}
 use Rattle.xb_model.specs.Rows.{LoopRow}
-use Rattle.xb_model.specs.Records.{Run, run_of, is_close, same_contact}
+use Rattle.xb_model.specs.Records.{Run, run_of, is_close, same_contact, joined, record_of}
 use Rattle.xb_hear.specs.declared.run.PlacedRun.{PlacedRun}
 
 abbrev pub placed : Contact → ℕ → ℕ → ℕ → PlacedRun
@@ -39,15 +40,25 @@ joined_placed (run ∷ rest) = join_placed run (joined_placed rest)
 abbrev pub placed_runs : ℕ → List LoopRow → List PlacedRun
 placed_runs l rows = joined_placed (placed_from l 1 0 rows)
 
-abbrev pub as_list : Option PlacedRun → List PlacedRun
-as_list None = []
-as_list (Some run) = run ∷ []
+-- of the runs of all lines, each line's are those of its record
+abbrev pub AreOfRecords : List LoopRow → List (List PlacedRun) → Type 0
+AreOfRecords rows lines = (l : ℕ) (none : List PlacedRun) → l < LINES
+    → map run_in (slice_index_or lines l none) ≡ joined (record_of l rows)
 
--- the runs that are done, and those that the current one and the rest make
-abbrev pub gone_on : List PlacedRun → Option PlacedRun → List PlacedRun → List PlacedRun
-gone_on done current rest = done ++ joined_placed (as_list current ++ rest)
+-- when the last of runs ends, in ms from the line's first row
+abbrev pub end_of : List PlacedRun → ℕ
+end_of [] = 0
+end_of (run ∷ []) = run.start + run.ms
+end_of (run ∷ next ∷ rest) = end_of (next ∷ rest)
 
--- how long the current run is
-abbrev pub current_ms : Option PlacedRun → ℕ
-current_ms None = 0
-current_ms (Some run) = run.ms
+-- runs that are joined, and what more runs make of the last of them and after it
+abbrev pub joined_after : List PlacedRun → List PlacedRun → List PlacedRun
+joined_after [] more = joined_placed more
+joined_after (run ∷ []) more = joined_placed (run ∷ more)
+joined_after (run ∷ next ∷ rest) more = run ∷ joined_after (next ∷ rest) more
+
+-- the runs of line l, where these are those of its rows so far, and more rows come, the first of which
+-- is record n: once the line is closed, rows add nothing
+abbrev pub runs_after : List PlacedRun → Bool → ℕ → ℕ → List LoopRow → List PlacedRun
+runs_after runs closed l n rows =
+    if closed then runs else joined_after runs (placed_from l n (end_of runs) rows)

@@ -1,6 +1,7 @@
 -- Where a run stands in the recording, in words.
-use Rattle.std.specs.Prelude.{◌≡◌, ℕ, ◌+◌, List, [], ◌∷◌, ◌++◌, length, false, ◌==◌}
+use Rattle.std.specs.Prelude.{◌≡◌, ℕ, ◌+◌, List, [], ◌∷◌, ◌++◌, length, false, ◌==◌, ◌<◌, slice_index_or}
 use Rattle.std.specs.List.{AllByRecursion}
+use Rattle.xb_model.specs.declared.line.TheConstants.{LINES}
 use Rattle.xb_model.specs.Rows.{LoopRow}
 use Rattle.xb_model.specs.Records.{Run, closes, rows_of, record_of}
 use Rattle.xb_hear.specs.declared.run.PlacedRun.{PlacedRun}
@@ -27,3 +28,8 @@ pub record IsPlaced (l : ℕ) (rows : List LoopRow) (run : PlacedRun) : Type 0 w
 -- so it is of each run of a line
 abbrev pub ArePlaced : ℕ → List LoopRow → List PlacedRun → Type 0
 ArePlaced l rows runs = AllByRecursion (IsPlaced l rows) runs
+
+-- of the runs of all lines, each line's
+abbrev pub ArePlacedByLine : List LoopRow → List (List PlacedRun) → Type 0
+ArePlacedByLine rows lines =
+    (l : ℕ) (none : List PlacedRun) → l < LINES → ArePlaced l rows (slice_index_or lines l none)

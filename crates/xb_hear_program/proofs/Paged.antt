@@ -4,13 +4,11 @@ use Rattle.xb_model.specs.declared.dialled.Dialled.{Dialled}
 use Rattle.xb_model.specs.declared.limits.Limits.{Limits}
 use Rattle.xb_model.specs.Rows.{LoopRow}
 use Rattle.xb_routes.specs.Table.{Table}
-use Rattle.xb_hear.specs.Attempts.{AttemptOfRuns, heard_attempts}
-use Rattle.xb_hear.specs.PlacedRuns.{joined_placed}
+use Rattle.xb_hear.specs.Attempts.{AttemptOfRuns}
 use Rattle.xb_html.specs.Pages.{head_text, tail_text}
 use Rattle.xb_hear_program.specs.declared.request.Choice.{Choice}
-use Rattle.xb_hear_program.specs.Hearing.{attempts_of_line, has_rows, outcomes_of_line}
+use Rattle.xb_hear_program.specs.Hearing.{attempts_of_line, outcomes_of_line}
 use Rattle.xb_hear_program.specs.Paging.{Adds, AreSections, IsOfLine, IsOfLinesBelow, IsPage, IsSection, IsSectionIf}
-use Rattle.xb_hear_program.proofs.Lines.{placed_from-none}
 
 -- a section that is shown
 pub if-shown : (b : Bool) (L : Limits) (l : ℕ) (A : List AttemptOfRuns) (O : List Dialled) (o n : List ℕ) → b ≡ true
@@ -53,16 +51,6 @@ sections-more o p q T R n l so_far put is =
       is = (front, section, so_far.is, subst (λ k. IsOfLine false T R k section) is put.is, refl);
       put = put.put ∙ ap (λ t. t ++ section) so_far.put ∙ append_assoc o front section;
     })
-
--- of a line without rows a page has nothing
-pub sections-none : (o p : List ℕ) (T : Table) (R : List LoopRow) (n l : ℕ) → Adds (IsOfLinesBelow T R n) o p
-    → has_rows R l ≡ false → l ≡ n → Adds (IsOfLinesBelow T R (n + 1)) o p
-sections-none o p T R n l so_far none is =
-    let hidden : (false || nat_lt 0 (length (attempts_of_line T R l))) ≡ false =
-    ap (λ runs. nat_lt 0 (length (heard_attempts T.limits (joined_placed runs)))) (placed_from-none l 1 0 R none) in
-    sections-more o p p T R n l so_far
-    (if-hidden (false || nat_lt 0 (length (attempts_of_line T R l))) T.limits l (attempts_of_line T R l) (outcomes_of_line T R l) p hidden)
-    is
 
 -- three texts, one after the other
 parts : (h s t o p q : List ℕ) → o ≡ h → p ≡ o ++ s → q ≡ p ++ t → q ≡ h ++ s ++ t

@@ -1,6 +1,5 @@
 -- What was heard of the lines of a deck.
 use Rattle.std.specs.Prelude.{ℕ, zero, suc, ◌==◌, List, [], ◌++◌, codes, decimal, length, Bool, true, false, if◌then◌else◌}
-use Rattle.std.specs.List.{list_any}
 use Rattle.xb_model.specs.declared.line.TheConstants.{LINES}
 use Rattle.xb_model.specs.declared.dialled.Dialled.{Dialled}
 use Rattle.xb_model.specs.declared.limits.Limits.{Limits}
@@ -35,10 +34,6 @@ outcomes_of_line table rows line = outcomes_of table.plan table.limits (record_o
 abbrev pub line_text : Bool → Table → List LoopRow → ℕ → List ℕ
 line_text alone table rows line =
     told_text alone table.limits line (attempts_of_line table rows line) (outcomes_of_line table rows line)
-
--- whether a line has rows
-abbrev pub has_rows : List LoopRow → ℕ → Bool
-has_rows rows line = list_any (λ row. row.line == line) rows
 
 -- the lines below n, ascending
 unfoldable pub lines_below : Table → List LoopRow → ℕ → List ℕ

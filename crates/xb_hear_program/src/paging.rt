@@ -1,15 +1,16 @@
 // The page of the lines of a deck.
-ghost use Rattle.std.specs.Prelude.{◌≡◌, ◌<◌, ◌^◌, ◌||◌, IfOk, OnOk, length, map, nat_lt, string_bytes};
+ghost use Rattle.std.specs.Prelude.{◌≡◌, ◌<◌, ◌^◌, ◌||◌, IfOk, List, OnOk, length, map, nat_lt, string_bytes, true};
 ghost use Rattle.xb_hear.specs.Attempts.{attempt_in};
+ghost use Rattle.xb_hear.specs.PlacedRuns.{placed_runs};
+ghost use Rattle.xb_model.specs.Rows.{LoopRow};
 ghost use Rattle.xb_report.specs.ReportTexts.{outcomes_in};
 ghost use Rattle.xb_model.specs.declared.line.TheConstants.{LINES};
 ghost use Rattle.xb_hear_program.specs.Paging.{Adds, AreSections, IsOfLine, IsOfLinesBelow, IsPage, IsSection, IsSectionIf};
 
 use crate::drawing::picture_of_attempts;
 use crate::request::Choice;
-use crate::telling::lines_with_rows;
 use std::alloc::{AllocError, Global};
-use xb_hear::{HeardAttempt, heard_of, runs_of_line};
+use xb_hear::{HeardAttempt, PlacedRun, heard_of, runs_by_line, runs_of_line};
 use xb_html::{push_head, push_section, push_tail};
 use xb_model::{Dialled, LINES, Limits, LineNo, On, Row};
 use xb_routes::RouteTable;
@@ -58,27 +59,41 @@ fn push_told(
     Ok(())
 }
 
-// Puts what a page has of a line after the text.
+// Puts what a page has of the runs of a line after the text.
 fn push_line(
+    alloc: Global,
+    out: &mut String,
+    table: &RouteTable,
+    runs: &[PlacedRun],
+    line: LineNo,
+    alone: bool,
+) -> Result<(), AllocError>
+    ensures { OnOk result ((rows : List LoopRow) → runs.now ≡ placed_runs line rows →
+        Adds (IsOfLine alone table.now rows line) (string_bytes out.old) (string_bytes out.new)) }
+{
+    let limits = table.limits();
+    let attempts = heard_of(alloc, runs, limits)?;
+    let outcomes = outcomes_of_report(alloc, &attempts, line, limits, table.plan())?;
+    push_told(alloc, out, limits, line, &attempts, &outcomes, alone)
+}
+
+// Puts what a page has of a line that is alone after the text.
+fn push_alone(
     alloc: Global,
     out: &mut String,
     table: &RouteTable,
     rows: &[Row],
     line: LineNo,
-    alone: bool,
 ) -> Result<(), AllocError>
     requires { length rows.now < 2 ^ 32 }
-    ensures { OnOk result (Adds (IsOfLine alone table.now rows.now line)
+    ensures { OnOk result (Adds (IsOfLine true table.now rows.now line)
         (string_bytes out.old) (string_bytes out.new)) }
 {
-    let limits = table.limits();
     let runs = runs_of_line(alloc, rows, line)?;
-    let attempts = heard_of(alloc, &runs, limits)?;
-    let outcomes = outcomes_of_report(alloc, &attempts, line, limits, table.plan())?;
-    push_told(alloc, out, limits, line, &attempts, &outcomes, alone)
+    push_line(alloc, out, table, &runs, line, true)
 }
 
-// Puts what a page has of each line after the text, the lines ascending; of one without rows it has nothing.
+// Puts what a page has of each line after the text, the lines ascending; of one without runs it has nothing.
 fn push_lines(
     alloc: Global,
     out: &mut String,
@@ -89,12 +104,10 @@ fn push_lines(
     ensures { OnOk result (Adds (IsOfLinesBelow table.now rows.now LINES)
         (string_bytes out.old) (string_bytes out.new)) }
 {
-    let lines = lines_with_rows(alloc, rows)?;
+    let lines = runs_by_line(alloc, rows)?;
     for number in 0..LINES {
         if let Some(line) = LineNo::new(number) {
-            if *lines.get(line) {
-                push_line(alloc, out, table, rows, line, false)?;
-            }
+            push_line(alloc, out, table, lines.get(line), line, false)?;
         }
     }
     Ok(())
@@ -114,7 +127,7 @@ fn push_sections(
 {
     match choice {
         Choice::All => push_lines(alloc, out, table, rows),
-        Choice::Line(line) => push_line(alloc, out, table, rows, line, true),
+        Choice::Line(line) => push_alone(alloc, out, table, rows, line),
     }
 }
 

@@ -1,15 +1,16 @@
 // The text of what was heard of rows.
-ghost use Rattle.std.specs.Prelude.{◌≡◌, ◌++◌, ◌<◌, ◌^◌, IfOk, OnOk, length, map, string_bytes};
+ghost use Rattle.std.specs.Prelude.{◌≡◌, ◌++◌, ◌<◌, ◌^◌, IfOk, List, OnOk, length, map, string_bytes, true};
 ghost use Rattle.xb_hear.specs.Attempts.{attempt_in};
 ghost use Rattle.xb_report.specs.ReportTexts.{outcomes_in};
-ghost use Rattle.xb_model.specs.LineValues.{AreValues};
-ghost use Rattle.xb_hear_program.specs.Hearing.{has_rows, line_text, lines_below, nothing_text, report_text, told_text};
+ghost use Rattle.xb_hear.specs.PlacedRuns.{placed_runs};
+ghost use Rattle.xb_model.specs.Rows.{LoopRow};
+ghost use Rattle.xb_hear_program.specs.Hearing.{line_text, lines_below, nothing_text, report_text, told_text};
 ghost use Rattle.xb_model.specs.declared.line.TheConstants.{LINES};
 
 use crate::request::Choice;
 use std::alloc::{AllocError, Global};
-use xb_hear::{HeardAttempt, heard_of, runs_of_line};
-use xb_model::{Dialled, LINES, Limits, LineNo, On, PerLine, Row};
+use xb_hear::{HeardAttempt, PlacedRun, heard_of, runs_by_line, runs_of_line};
+use xb_model::{Dialled, LINES, Limits, LineNo, On, Row};
 use xb_report::{push_attempts, push_limits};
 use xb_routes::RouteTable;
 use xb_told::outcomes_of_report;
@@ -44,38 +45,42 @@ fn push_told(
     push_attempts(alloc, out, limits, line, attempts, outcomes)
 }
 
-// Puts what was heard of a line after the text; where nothing was, that is said of a line that is alone.
+// Puts what was heard of the runs of a line after the text; where nothing was, that is said of a line that is
+// alone.
 fn push_line(
+    alloc: Global,
+    out: &mut String,
+    table: &RouteTable,
+    runs: &[PlacedRun],
+    line: LineNo,
+    alone: bool,
+) -> Result<(), AllocError>
+    ensures { OnOk result ((rows : List LoopRow) → runs.now ≡ placed_runs line rows →
+        string_bytes out.new ≡ string_bytes out.old ++ line_text alone table.now rows line) }
+{
+    let limits = table.limits();
+    let attempts = heard_of(alloc, runs, limits)?;
+    let outcomes = outcomes_of_report(alloc, &attempts, line, limits, table.plan())?;
+    push_told(alloc, out, limits, line, &attempts, &outcomes, alone)
+}
+
+// Puts what was heard of a line that is alone after the text.
+fn push_alone(
     alloc: Global,
     out: &mut String,
     table: &RouteTable,
     rows: &[Row],
     line: LineNo,
-    alone: bool,
 ) -> Result<(), AllocError>
     requires { length rows.now < 2 ^ 32 }
     ensures { OnOk result (string_bytes out.new
-        ≡ string_bytes out.old ++ line_text alone table.now rows.now line) }
+        ≡ string_bytes out.old ++ line_text true table.now rows.now line) }
 {
-    let limits = table.limits();
     let runs = runs_of_line(alloc, rows, line)?;
-    let attempts = heard_of(alloc, &runs, limits)?;
-    let outcomes = outcomes_of_report(alloc, &attempts, line, limits, table.plan())?;
-    push_told(alloc, out, limits, line, &attempts, &outcomes, alone)
+    push_line(alloc, out, table, &runs, line, true)
 }
 
-// Which lines have rows.
-pub(crate) fn lines_with_rows(alloc: Global, rows: &[Row]) -> Result<PerLine<bool>, AllocError>
-    ensures { IfOk result (λ lines. AreValues lines (has_rows rows.now)) }
-{
-    let mut lines = PerLine::from_fn(alloc, || false)?;
-    for row in rows {
-        *lines.get_mut(row.line()) = true;
-    }
-    Ok(lines)
-}
-
-// Puts what was heard of each line after the text, the lines ascending; one without rows says nothing.
+// Puts what was heard of each line after the text, the lines ascending; one without runs says nothing.
 fn push_lines(
     alloc: Global,
     out: &mut String,
@@ -86,12 +91,10 @@ fn push_lines(
     ensures { OnOk result (string_bytes out.new
         ≡ string_bytes out.old ++ lines_below table.now rows.now LINES) }
 {
-    let lines = lines_with_rows(alloc, rows)?;
+    let lines = runs_by_line(alloc, rows)?;
     for number in 0..LINES {
         if let Some(line) = LineNo::new(number) {
-            if *lines.get(line) {
-                push_line(alloc, out, table, rows, line, false)?;
-            }
+            push_line(alloc, out, table, lines.get(line), line, false)?;
         }
     }
     Ok(())
@@ -111,7 +114,7 @@ pub(crate) fn report(
     push_limits(&mut out, table.limits())?;
     match choice {
         Choice::All => push_lines(alloc, &mut out, table, rows)?,
-        Choice::Line(line) => push_line(alloc, &mut out, table, rows, line, true)?,
+        Choice::Line(line) => push_alone(alloc, &mut out, table, rows, line)?,
     }
     Ok(out)
 }

@@ -4,7 +4,7 @@ use Rattle.xb_hear_program.specs.Hearing.{line_text, lines_below, report_text, r
 use Rattle.xb_hear_program.specs.declared.request.Choice.{Choice}
 use Rattle.xb_model.specs.declared.line.TheConstants.{LINES}
 use Rattle.xb_hear_program.proofs.telling.report.Goals as goal
-use Rattle.xb_hear_program.proofs.telling.report.Goals.{in-All+in_ok-push_lines-in-All, in-Line+in_ok-push_line-in-Line}
+use Rattle.xb_hear_program.proofs.telling.report.Goals.{in-All+in_ok-push_lines-in-All, in-Line+in_ok-push_alone-in-Line}
 
 pub returns : goal.returns
 unfolding report_text
@@ -16,6 +16,6 @@ returns c =
     elim c.match-choice.branch [
       | in-All+in_ok-push_lines-in-All w ↦ ap string_bytes w.out-is ∙ w.in_ok-push_lines-in-All.ensures
           ∙ ap (λ t. t ++ lines_below c.args.table.now c.args.rows.now LINES) front ∙ ap after (sym w.in-All.is)
-      | in-Line+in_ok-push_line-in-Line w ↦ ap string_bytes w.out-is ∙ w.in_ok-push_line-in-Line.ensures
+      | in-Line+in_ok-push_alone-in-Line w ↦ ap string_bytes w.out-is ∙ w.in_ok-push_alone-in-Line.ensures
           ∙ ap (λ t. t ++ line_text true c.args.table.now c.args.rows.now w.in-Line.line) front ∙ ap after (sym w.in-Line.is)
     ]
