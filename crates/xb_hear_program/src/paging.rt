@@ -25,7 +25,8 @@ fn push_drawn(
     attempts: &[HeardAttempt],
     outcomes: &[On<Dialled>],
 ) -> Result<(), AllocError>
-    ensures { OnOk result (Adds (IsSection limits line (map attempt_in attempts.now) (outcomes_in outcomes.now))
+    ensures { OnOk result (Adds
+        (IsSection limits line (map attempt_in attempts.now) (outcomes_in outcomes.now))
         (string_bytes out.old) (string_bytes out.new)) }
 {
     let picture = picture_of_attempts(alloc, limits, line, None, attempts, outcomes)?;
