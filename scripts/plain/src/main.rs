@@ -1,5 +1,5 @@
 //! The page of a deck that has no fault, on one thread, as a Rust program would have it without a proof:
-//! records are read by the crate `csv`, the runs of each line are gathered, and its attempts cut and keyed.
+//! records are read by the crate `csv`, and each goes through the state of its line.
 use std::error::Error;
 use std::fmt::Write as _;
 use std::io::{self, Read, Write as _};
@@ -31,16 +31,27 @@ struct Table {
     routes: Vec<Route>,
 }
 
-/// How long a loop was closed, or open.
-struct Run {
-    make: bool,
-    ms: u64,
+/// Why an attempt is refused, and how many digits were good.
+type Refusal = (&'static str, usize);
+
+/// What a register has heard of an attempt.
+#[derive(Default)]
+struct Attempt {
+    number: Vec<u8>,
+    pulses: u8,
+    bad: bool,
+    outcome: Option<Result<(), Refusal>>,
 }
 
+/// A line: how long its loop has been closed, or open, its attempt, and what the page has of it.
 #[derive(Default)]
 struct Line {
-    runs: Vec<Run>,
+    make: bool,
+    ms: u64,
     closed: bool,
+    attempt: Option<Attempt>,
+    entries: usize,
+    page: String,
 }
 
 fn digits(text: &str) -> Vec<u8> {
@@ -88,30 +99,10 @@ fn table_of(text: &str) -> Result<Table, Fault> {
     })
 }
 
-fn number(field: &[u8]) -> Result<u64, Fault> {
-    Ok(std::str::from_utf8(field)?.parse()?)
-}
-
-fn lines_of(rows: &[u8]) -> Result<Vec<Line>, Fault> {
-    let mut lines = Vec::new();
-    lines.resize_with(LINES, Line::default);
-    let mut reader = csv::Reader::from_reader(rows);
-    let mut record = csv::ByteRecord::new();
-    while reader.read_byte_record(&mut record)? {
-        let line: &mut Line = lines
-            .get_mut(number(&record[0])? as usize)
-            .ok_or("a wrong line")?;
-        let (make, ms) = (&record[1] == b"M", number(&record[2])?);
-        line.closed |= &record[1] == b"C";
-        if ms == 0 || line.closed {
-            continue;
-        }
-        match line.runs.last_mut() {
-            Some(run) if run.make == make => run.ms += ms,
-            _ => line.runs.push(Run { make, ms }),
-        }
-    }
-    Ok(lines)
+fn number(field: &[u8]) -> usize {
+    field
+        .iter()
+        .fold(0, |number, byte| number * 10 + usize::from(byte - b'0'))
 }
 
 /// How many digits a number has that begins so, once that is known.
@@ -125,33 +116,34 @@ fn length(ten: bool, number: &[u8]) -> Option<usize> {
     }
 }
 
-/// A number, or why there is none and how many digits were good.
-fn dialled(table: &Table, runs: &[Run]) -> Result<Vec<u8>, (&'static str, usize)> {
-    let limits = &table.limits;
-    let (mut number, mut pulses, mut bad) = (Vec::new(), 0, false);
-    for (k, run) in runs.iter().enumerate() {
-        let ends = run.make && k > 0 && run.ms >= limits.pause;
-        if ends && (bad || !(1..=10).contains(&pulses)) {
-            return Err(("MUTILATED", number.len()));
+impl Attempt {
+    /// Hears a make, which is the first of the attempt where it has no pulses and no digits yet.
+    fn hear_make(&mut self, table: &Table, ms: u64, first: bool) {
+        let limits = &table.limits;
+        if !first && ms < limits.make_min {
+            self.bad = true;
         }
-        if ends {
-            number.push(pulses % 10);
-            pulses = 0;
-            if length(table.ten, &number) == Some(number.len()) {
-                return Ok(number);
+        if !first && ms >= limits.pause {
+            if self.bad || self.pulses > 10 {
+                self.outcome = Some(Err(("MUTILATED", self.number.len())));
+                return;
+            }
+            self.number.push(self.pulses % 10);
+            self.pulses = 0;
+            if length(table.ten, &self.number) == Some(self.number.len()) {
+                self.outcome = Some(Ok(()));
+                return;
             }
         }
-        if run.make && run.ms >= limits.timeout {
-            return Err(("TIMEDOUT", number.len()));
-        }
-        if run.make {
-            bad |= k > 0 && run.ms < limits.make_min;
-        } else {
-            bad |= run.ms < limits.pulse_min || run.ms > limits.pulse_max;
-            pulses = (pulses + 1).min(11);
+        if ms >= limits.timeout {
+            self.outcome = Some(Err(("TIMEDOUT", self.number.len())));
         }
     }
-    Err(("ABANDONED", number.len()))
+
+    fn hear_break(&mut self, limits: &Limits, ms: u64) {
+        self.bad |= ms < limits.pulse_min || ms > limits.pulse_max;
+        self.pulses = (self.pulses + 1).min(11);
+    }
 }
 
 fn route<'a>(table: &'a Table, number: &[u8]) -> Option<&'a Route> {
@@ -184,41 +176,95 @@ const TONES: [&str; 10] = [
     "1100+1500",
 ];
 
-/// The route of a number and the number, or why the attempt is refused.
-fn ordered<'a>(
-    table: &'a Table,
-    runs: &[Run],
-) -> Result<(&'a Route, Vec<u8>), (&'static str, usize)> {
-    let number = dialled(table, runs)?;
-    match route(table, &number) {
-        Some(route) => Ok((route, number)),
-        None => Err(("UNKNOWN", number.len())),
+impl Line {
+    /// Puts what came of the attempt on the page, if there is one.
+    fn end_attempt(
+        &mut self,
+        table: &Table,
+        totals: &mut [usize; 2],
+        line: usize,
+    ) -> Result<(), Fault> {
+        let Some(Attempt {
+            number, outcome, ..
+        }) = self.attempt.take()
+        else {
+            return Ok(());
+        };
+        self.entries += 1;
+        write!(self.page, "{line:04} {} ", self.entries)?;
+        let outcome = outcome.unwrap_or(Err(("ABANDONED", number.len())));
+        match outcome.and_then(|()| route(table, &number).ok_or(("UNKNOWN", number.len()))) {
+            Ok(route) => {
+                totals[0] += 1;
+                write!(self.page, "KEYED {:04} KP:1100+1700", route.trunk)?;
+                for digit in route.prefix.iter().chain(number.iter().skip(route.delete)) {
+                    write!(self.page, " {digit}:{}", TONES[usize::from(*digit)])?;
+                }
+                self.page.push_str(" ST:1500+1700\n");
+            }
+            Err((reason, count)) => {
+                totals[1] += 1;
+                writeln!(self.page, "REFUSED {reason} {count}")?;
+            }
+        }
+        Ok(())
+    }
+
+    /// Hears the run that has ended.
+    fn end_run(
+        &mut self,
+        table: &Table,
+        totals: &mut [usize; 2],
+        line: usize,
+    ) -> Result<(), Fault> {
+        if self.ms == 0 {
+            return Ok(());
+        }
+        if !self.make && self.ms >= table.limits.release {
+            return self.end_attempt(table, totals, line);
+        }
+        let first = self.attempt.is_none();
+        if first && !self.make {
+            return Ok(());
+        }
+        let attempt = self.attempt.get_or_insert_with(Attempt::default);
+        match attempt.outcome {
+            Some(_) => {}
+            None if self.make => attempt.hear_make(table, self.ms, first),
+            None => attempt.hear_break(&table.limits, self.ms),
+        }
+        Ok(())
     }
 }
 
-fn page_of(table: &Table, lines: &[Line]) -> Result<String, Fault> {
-    let (mut page, mut keyed, mut refused) = (String::new(), 0, 0);
-    for (line, Line { runs, .. }) in lines.iter().enumerate() {
-        let idle = usize::from(runs.first().is_some_and(|run| !run.make));
-        let attempts = runs[idle..].split(|run| !run.make && run.ms >= table.limits.release);
-        for (k, attempt) in attempts.filter(|attempt| !attempt.is_empty()).enumerate() {
-            write!(page, "{line:04} {} ", k + 1)?;
-            match ordered(table, attempt) {
-                Ok((route, number)) => {
-                    keyed += 1;
-                    write!(page, "KEYED {:04} KP:1100+1700", route.trunk)?;
-                    for digit in route.prefix.iter().chain(number.iter().skip(route.delete)) {
-                        write!(page, " {digit}:{}", TONES[usize::from(*digit)])?;
-                    }
-                    page.push_str(" ST:1500+1700\n");
-                }
-                Err((reason, count)) => {
-                    refused += 1;
-                    writeln!(page, "REFUSED {reason} {count}")?;
-                }
-            }
+fn page_of(table: &Table, rows: &[u8]) -> Result<String, Fault> {
+    let mut lines = Vec::new();
+    lines.resize_with(LINES, Line::default);
+    let mut totals = [0, 0];
+    let mut reader = csv::Reader::from_reader(rows);
+    let mut record = csv::ByteRecord::new();
+    while reader.read_byte_record(&mut record)? {
+        let name = number(&record[0]);
+        let line: &mut Line = lines.get_mut(name).ok_or("a wrong line")?;
+        let (make, ms) = (&record[1] == b"M", number(&record[2]) as u64);
+        line.closed |= &record[1] == b"C";
+        if ms == 0 || line.closed {
+            continue;
         }
+        if line.make != make {
+            line.end_run(table, &mut totals, name)?;
+            line.make = make;
+            line.ms = 0;
+        }
+        line.ms += ms;
     }
+    let mut page = String::new();
+    for (name, line) in lines.iter_mut().enumerate() {
+        line.end_run(table, &mut totals, name)?;
+        line.end_attempt(table, &mut totals, name)?;
+        page.push_str(&line.page);
+    }
+    let [keyed, refused] = totals;
     writeln!(page, "KEYED {keyed} REFUSED {refused}")?;
     Ok(page)
 }
@@ -231,7 +277,7 @@ fn main() -> Result<(), Fault> {
         .position(|bytes| bytes == MARK)
         .ok_or("a deck without a cut")?;
     let table = table_of(std::str::from_utf8(&deck[..cut + 1])?)?;
-    let lines = lines_of(&deck[cut + MARK.len()..])?;
-    io::stdout().write_all(page_of(&table, &lines)?.as_bytes())?;
+    let page = page_of(&table, &deck[cut + MARK.len()..])?;
+    io::stdout().write_all(page.as_bytes())?;
     Ok(())
 }
