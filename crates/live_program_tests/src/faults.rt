@@ -5,8 +5,8 @@ use std::test::Fail;
 use test_fakes::{Halting, Short, words_of};
 use xb_live_program::attend;
 
-// After how many bytes of the deck reading fails, and what is printed then. Record 23, which completes the second
-// entry, is the last of the beginning.
+// After how many bytes of the deck reading fails, and what is printed then. Record 23, which completes the
+// second entry, is the last of the beginning.
 const READS: &[(usize, &[&[u8]])] = &[
     (0, &[]),
     (BEGINNING.len() - 10, &[]),

@@ -8,8 +8,8 @@ use xb_model::RowFault;
 
 const USAGE: &[u8] = b"mflive: usage: mflive [--marks]\n";
 
-// The words after the program's name, the parts of the deck, the status, the parts of what is printed, and what
-// stands on standard error.
+// The words after the program's name, the parts of the deck, the status, the parts of what is printed, and
+// what stands on standard error.
 type Case = (
     &'static [&'static str],
     &'static [&'static [u8]],

@@ -10,8 +10,8 @@ fn words(rt: &HostRuntime) -> io::Result<Vec<String>> {
     Ok(env::args(rt)?.collect(rt.alloc())?)
 }
 
-/// Reads the deck on standard input as it comes, and writes its entries on standard output, or one line on standard
-/// error, as `attend` does.
+/// Reads the deck on standard input as it comes, and writes its entries on standard output, or one line on
+/// standard error, as `attend` does.
 fn main(rt: HostRuntime) -> ExitCode {
     let (mut deck, mut entries, errors) = (rt.stdin(), io::writer(&rt), rt.stderr());
     let mut err = io::writer(&errors);

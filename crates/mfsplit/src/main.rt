@@ -1,4 +1,5 @@
-//! The program: words, and a deck of any length in a file; a status, and the decks of its parts in a folder out.
+//! The program: words, and a deck of any length in a file; a status, and the decks of its parts in a folder
+//! out.
 #![tactic(auto)]
 
 mod disk;

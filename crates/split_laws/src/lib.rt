@@ -1,13 +1,14 @@
-//! From a large deck to its page: the decks of its parts, the pages that an office gives for them, and the page
-//! that they make. Each law is the contract of a function that does nothing but cite the law that it stands on.
+//! From a large deck to its page: the decks of its parts, the pages that an office gives for them, and the
+//! page that they make. Each law is the contract of a function that does nothing but cite the law that it
+//! stands on.
 #![tactic(auto)]
 
 ghost use Rattle.split_laws.specs.SplitDecks.{PlannedDecksMakeThePage, SplitDecksMakeThePage};
 
 use xb_office::laws::made_decks_say_their_page;
 
-/// The pages that the decks of ranges of lines say, joined, are the page of all rows, where the ranges take all
-/// lines and each deck is small enough.
+/// The pages that the decks of ranges of lines say, joined, are the page of all rows, where the ranges take
+/// all lines and each deck is small enough.
 pub fn split_decks_make_the_page()
     ensures { SplitDecksMakeThePage }
 {

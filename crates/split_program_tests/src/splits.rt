@@ -1,5 +1,5 @@
-// A deck that is counted, planned, and written as the decks of its parts, from a stream that gives few bytes at a
-// time.
+// A deck that is counted, planned, and written as the decks of its parts, from a stream that gives few bytes
+// at a time.
 use std::alloc::Global;
 use std::io::{self, ErrorKind};
 use std::test::Fail;

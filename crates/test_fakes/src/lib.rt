@@ -1,5 +1,5 @@
-//! Fakes for tests: a reader and a writer that fail or that give and take little at a time, random numbers that
-//! are the same in each run, the words of a command line, and what a program gives on such streams.
+//! Fakes for tests: a reader and a writer that fail or that give and take little at a time, random numbers
+//! that are the same in each run, the words of a command line, and what a program gives on such streams.
 #![tactic(auto)]
 
 mod dice;

@@ -69,8 +69,8 @@ pub fn check_status<P: Program>(
     check(alloc, program, words, &mut reader, &mut out, wanted)
 }
 
-/// Checks that a program writes nothing, with this line on standard error and status 1, where its reader fails
-/// after any of these counts of bytes.
+/// Checks that a program writes nothing, with this line on standard error and status 1, where its reader
+/// fails after any of these counts of bytes.
 pub fn check_reads<P: Program>(
     alloc: Global,
     program: &P,
@@ -108,8 +108,8 @@ fn whole_of<P: Program>(
     }
 }
 
-/// Checks that a program writes the beginning of what it else writes, with this line on standard error and status
-/// 1, where its writer fails after any of these counts of bytes.
+/// Checks that a program writes the beginning of what it else writes, with this line on standard error and
+/// status 1, where its writer fails after any of these counts of bytes.
 pub fn check_writes<P: Program>(
     alloc: Global,
     program: &P,

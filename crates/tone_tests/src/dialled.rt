@@ -7,8 +7,8 @@ use xb_model::LineNo;
 use xb_routes::RouteTable;
 use xb_tones::Cadence;
 
-// Line 7 dials 0, and KP, 0 and ST are keyed: 500 ms of silence, then tones of 100, 68 and 68 ms with 68 ms of
-// silence after each, at 8 samples a ms.
+// Line 7 dials 0, and KP, 0 and ST are keyed: 500 ms of silence, then tones of 100, 68 and 68 ms with 68 ms
+// of silence after each, at 8 samples a ms.
 const SAMPLES: usize = 8 * (500 + 100 + 68 + 2 * (68 + 68));
 
 // Where KP begins, and its second and third samples, of 1,100 and 1,700 Hz.

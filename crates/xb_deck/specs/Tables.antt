@@ -17,8 +17,8 @@ IsCutAfter table None left = Unit {0}
 IsCutAfter table (Some deck) None = ⊥
 IsCutAfter table (Some deck) (Some rows) = deck_parts deck ≡ Some (record { table = table; rows = rows })
 
--- why a deck gave no table: it has no cut; or the table is longer than this, or the deck is and has no cut; or
--- a read failed, or memory ran out
+-- why a deck gave no table: it has no cut; or the table is longer than this, or the deck is and has no cut;
+-- or a read failed, or memory ran out
 abbrev pub IsTableFault : ℕ → Option (List ℕ) → TableFault → Type 0
 IsTableFault most old fault.NoCut = IfSome old (λ deck. deck_parts deck ≡ None)
 IsTableFault most old fault.TooLong = IfSome old (λ deck.

@@ -20,6 +20,7 @@ options =
     ∷ (codes "any", takes.Nothing)
     ∷ []
 
--- `mfdial [--speed N] [--break N] [--make N] [--pause N] [--seize N] [--hang-up N] [--plan N] [--in-turn] [--any]`
+-- `mfdial [--speed N] [--break N] [--make N] [--pause N] [--seize N] [--hang-up N] [--plan N] [--in-turn]
+-- [--any]`
 abbrev pub command_of_words : App
 command_of_words = command_of (codes "mfdial") options

@@ -19,8 +19,8 @@ abbrev pub many : Option ℕ → ℕ
 many None = MOST_ATTEMPTS
 many (Some attempt) = 1
 
--- a picture of a line, of one of its attempts or of the first ones: it has shapes alone, and what these say is
--- what was heard
+-- a picture of a line, of one of its attempts or of the first ones: it has shapes alone, and what these say
+-- is what was heard
 pub record IsPicture (limits : Limits) (line : ℕ) (attempt : Option ℕ) (attempts : List AttemptOfRuns)
     (outcomes : List Dialled) (text : List ℕ) : Type 0 where
   pub height : ℕ

@@ -65,10 +65,10 @@ fn text_of_deck(alloc: Global, request: Request, bytes: &[u8]) -> Result<String,
     text_of_rows(alloc, request, &table, deck.rows)
 }
 
-/// Reads a deck, and writes what is asked for: of the report the limits of the deck, and each attempt with its
-/// digits, their figures, what spoiled them and where, and what came of it, as a text or as a page of HTML; or
-/// the picture of a line. Nothing is written before the whole deck is read: a page is held in memory, and then
-/// written.
+/// Reads a deck, and writes what is asked for: of the report the limits of the deck, and each attempt with
+/// its digits, their figures, what spoiled them and where, and what came of it, as a text or as a page of
+/// HTML; or the picture of a line. Nothing is written before the whole deck is read: a page is held in
+/// memory, and then written.
 ///
 /// On an `Err` nothing was written, except on `Write`, where the beginning was.
 ///

@@ -1,5 +1,6 @@
 //! The program `mfhear` but for the process: a deck from a reader, and what was heard of its lines, as a text
-//! or as a page, or the picture of one, to a writer, by the words of the command line. The module `laws` says what the definitions in `specs/` give.
+//! or as a page, or the picture of one, to a writer, by the words of the command line. The module `laws` says
+//! what the definitions in `specs/` give.
 #![tactic(auto)]
 
 mod drawing;

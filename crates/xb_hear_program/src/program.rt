@@ -16,7 +16,8 @@ pub(crate) const PROGRAM: &str = "mfhear";
 const USAGE: &[u8] = b"mfhear: usage: mfhear [--line N] [--html] [--svg [--attempt K]]\n";
 
 /// Reads the words of the command line, the program's name first, and by them writes what was heard of a
-/// deck's lines, as a text or as a page, or draws a line, as `hear` does. It returns the status of the process:
+/// deck's lines, as a text or as a page, or draws a line, as `hear` does. It returns the status of the
+/// process:
 ///
 /// - `DONE`: the words ask for something, `out` got exactly its report, page or picture, and `err` nothing;
 /// - `FAULT`: `hear` has a fault, or memory ran out while the words were read; `err` gets the fault as

@@ -53,7 +53,8 @@ fn choice_of(line: Option<u32>) -> Option<Choice>
     }
 }
 
-// The picture of one line, of one of its attempts or of the first ones; `None` of all lines, and of an attempt 0.
+// The picture of one line, of one of its attempts or of the first ones; `None` of all lines, and of an
+// attempt 0.
 fn picture_of(choice: Choice, attempt: Option<u32>) -> Option<Request>
     ensures { result ≡ picture_of choice attempt }
 {

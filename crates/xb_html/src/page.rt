@@ -68,8 +68,8 @@ fn push_columns(out: &mut String) -> Result<(), AllocError>
     )
 }
 
-/// Puts the section of a line after the text: its heading, a table of its attempts, each with what came of it,
-/// and its picture. `Err` says that memory ran out.
+/// Puts the section of a line after the text: its heading, a table of its attempts, each with what came of
+/// it, and its picture. `Err` says that memory ran out.
 pub fn push_section(
     alloc: Global,
     out: &mut String,

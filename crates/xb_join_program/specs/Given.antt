@@ -10,8 +10,8 @@ given_by_list ranges [] = []
 given_by_list [] (page ∷ pages) = []
 given_by_list (range ∷ ranges) (page ∷ pages) = given_with range page ∷ given_by_list ranges pages
 
--- without a list a page takes the lines from this one up to that of its last entry, and the last page takes all
--- that are left
+-- without a list a page takes the lines from this one up to that of its last entry, and the last page takes
+-- all that are left
 abbrev pub given_from : ℕ → List (List ℕ) → List Given
 given_from first [] = []
 given_from first (page ∷ []) = given_with (record { first = first; end = LINES }) page ∷ []

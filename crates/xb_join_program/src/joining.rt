@@ -109,8 +109,8 @@ fn page_of<'a>(
     }
 }
 
-/// Reads the list and the pages that a request names, and writes the page of the whole. All files are read and
-/// all pages are checked before anything is written.
+/// Reads the list and the pages that a request names, and writes the page of the whole. All files are read
+/// and all pages are checked before anything is written.
 ///
 /// On an `Err` nothing was written, except on `Write`, where the beginning of the page was.
 ///

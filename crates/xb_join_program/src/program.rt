@@ -17,8 +17,8 @@ pub(crate) const PROGRAM: &str = "mfjoin";
 // The line of refused words.
 const USAGE: &[u8] = b"mfjoin: usage: mfjoin [--list FILE] PAGE...\n";
 
-/// Reads the words of the command line, the program's name first, and by them writes the page of the whole, as
-/// `join` does. It returns the status of the process:
+/// Reads the words of the command line, the program's name first, and by them writes the page of the whole,
+/// as `join` does. It returns the status of the process:
 ///
 /// - `DONE`: the words name pages, `out` got exactly the page that they make, and `err` nothing;
 /// - `FAULT`: `join` has a fault, or memory ran out while the words were read; `err` gets the fault as one

@@ -13,8 +13,8 @@ pub record Has (deck : List ℕ) (table : Table) (rest : Rest) : Type 0 where
   pub reads : table_of_text parts.table ≡ Ok table
   pub is : rest ≡ rest_within (2 ^ 64 - 1) parts.rows
 
--- the rows of a text that has no fault and no more than the 1,000,000 records of `mfbank` are all its rows, however
--- many there may be
+-- the rows of a text that has no fault and no more than the 1,000,000 records of `mfbank` are all its rows,
+-- however many there may be
 abbrev pub AcceptedRowsAreAll : Type 0
 AcceptedRowsAreAll =
     (text : List ℕ) → fault_of_text text ≡ None → rest_within (2 ^ 64 - 1) text ≡ rest_of_text text

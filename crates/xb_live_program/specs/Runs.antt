@@ -23,9 +23,9 @@ abbrev pub rows_taken : List LoopRow → Option RowFault → List LoopRow
 rows_taken rows None = with_closes rows
 rows_taken rows (Some f) = rows
 
--- what was written of rows and the stop after them: all that is to be printed where they end, which sorted is their
--- page; where a fault stops them, exactly the entries that they complete; where a write failed, the beginning of what
--- is to be printed; else the entries of the first of them
+-- what was written of rows and the stop after them: all that is to be printed where they end, which sorted is
+-- their page; where a fault stops them, exactly the entries that they complete; where a write failed, the
+-- beginning of what is to be printed; else the entries of the first of them
 abbrev pub Prints :
     Form → Table → Rest → Result (Unit {0}) LiveFault → Option (List ℕ) → Option (List ℕ) → Type 0
 Prints form table rest (Ok u) old new = (rest.stop ≡ None) × GotAll form table rest.rows old new

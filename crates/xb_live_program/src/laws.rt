@@ -8,8 +8,8 @@ pub fn usage_names_each_option()
     ensures { UsageNamesEachOption }
 {}
 
-/// The rows of a deck that `mfbank` accepts are those that `mflive` takes: what it prints of them, sorted by line
-/// and number, is the page of the deck.
+/// The rows of a deck that `mfbank` accepts are those that `mflive` takes: what it prints of them, sorted by
+/// line and number, is the page of the deck.
 #[tactic(auto, using(crate::proofs::Accepted::accepted_rows_are_all))]
 pub fn accepted_rows_are_all()
     ensures { AcceptedRowsAreAll }

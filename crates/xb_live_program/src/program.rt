@@ -20,8 +20,8 @@ const USAGE: &[u8] = b"mflive: usage: mflive [--marks]\n";
 ///
 /// - `DONE`: the deck was read to its end, `out` got exactly the entries of its rows and the totals, and
 ///   `err` nothing;
-/// - `FAULT`: `run_deck` has a fault, or memory ran out while the words were read; `err` gets the fault as one
-///   line, and `out` got the entries before it;
+/// - `FAULT`: `run_deck` has a fault, or memory ran out while the words were read; `err` gets the fault as
+///   one line, and `out` got the entries before it;
 /// - `WORDS_REFUSED`: the words are refused, or ask for help; `err` gets the usage as one line, the deck is
 ///   not read and `out` got nothing.
 ///

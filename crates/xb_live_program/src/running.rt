@@ -41,8 +41,8 @@ fn print_rows<R: Read, W: Write>(
 }
 
 /// Reads a deck as it comes, and writes each entry of its rows in the row that completes it; `out` is flushed
-/// after each. At the end the lines are closed, ascending, and the totals come last. Memory does not grow with
-/// the rows.
+/// after each. At the end the lines are closed, ascending, and the totals come last. Memory does not grow
+/// with the rows.
 ///
 /// On an `Err` what was written before stands.
 ///

@@ -1,5 +1,5 @@
-//! The picture of a line: its loop over time, attempt by attempt, with what the register heard of it. One unit
-//! of a picture is one ms, so no time is rounded.
+//! The picture of a line: its loop over time, attempt by attempt, with what the register heard of it. One
+//! unit of a picture is one ms, so no time is rounded.
 #![tactic(auto)]
 
 mod attempt;

@@ -70,7 +70,8 @@ pub fn push_unfinished(out: &mut String, pulses: &[PlacedRun]) -> Result<(), All
     Ok(())
 }
 
-/// Puts the make after which nothing is heard after the text, if there is one. `Err` says that memory ran out.
+/// Puts the make after which nothing is heard after the text, if there is one. `Err` says that memory ran
+/// out.
 pub fn push_timeout(
     out: &mut String,
     outcome: &Dialled,

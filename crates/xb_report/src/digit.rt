@@ -12,8 +12,8 @@ use xb_hear::{
 };
 use xb_model::{Dialled, Limits, MOST_PULSES};
 
-/// Puts the digit of so many pulses at the right of its cell, or x where it is spoiled. `Err` says that memory
-/// ran out.
+/// Puts the digit of so many pulses at the right of its cell, or x where it is spoiled. `Err` says that
+/// memory ran out.
 pub fn push_name(
     alloc: Global,
     out: &mut String,

@@ -11,7 +11,8 @@ use Rattle.xb_model.specs.declared.fault.RowFault.TheVariants as fault
 use Rattle.xb_rows.specs.declared.scan.TheConstants.{MOST_RECORDS}
 use Rattle.xb_rows.specs.RowTexts.{Fields, contact_of, field_number, rest_from, row_of_fields, three_fields}
 
--- a text begins with no byte order mark, and with a record of these fields, after which `csv` stops at this rest
+-- a text begins with no byte order mark, and with a record of these fields, after which `csv` stops at this
+-- rest
 abbrev pub BeginsWith : List ℕ → Fields → List ℕ → Type 0
 BeginsWith text fields rest =
     (strip_bom text ≡ text)

@@ -54,7 +54,8 @@ impl<'a> CsvScan<'a> {
     }
 
     // A scan of what follows the first record of a text, after the header and so many records. The first
-    // record, which was read before, is read once more, since a reader drops a byte order mark where it begins.
+    // record, which was read before, is read once more, since a reader drops a byte order mark where it
+    // begins.
     pub(crate) fn after(alloc: Global, text: &'a [u8], taken: u64) -> CsvScan<'a>
         ensures { (fields : Fields) → (rest : List ℕ) → BeginsWith text.now fields rest
             → IsScanAfter taken rest result }

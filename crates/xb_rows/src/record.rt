@@ -16,7 +16,8 @@ pub(crate) const LINE_DIGITS: usize = 4;
 // The most digits of a time in ms.
 pub(crate) const MS_DIGITS: usize = 8;
 
-/// The number that a field of 1 to `most` ASCII digits writes, `most` being up to 8; `None` for any other field.
+/// The number that a field of 1 to `most` ASCII digits writes, `most` being up to 8; `None` for any other
+/// field.
 pub fn field_number(most: usize, field: &[u8]) -> Option<u32>
     requires { most ≤ MS_DIGITS }
     ensures value { result ≡ field_number most field.now }

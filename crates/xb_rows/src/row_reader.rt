@@ -11,8 +11,8 @@ use std::io::Read;
 use std::marker::Model;
 use xb_model::{Row, RowFault};
 
-/// The rows of a stream of CSV text, one at a time, of which it holds a record and a buffer of bytes. A row is
-/// returned as soon as the byte that ends its record was read, and what one read gives is enough.
+/// The rows of a stream of CSV text, one at a time, of which it holds a record and a buffer of bytes. A row
+/// is returned as soon as the byte that ends its record was read, and what one read gives is enough.
 ///
 /// What the contracts say of rows holds for readers whose bytes contracts know (byte slices); those of a
 /// process's standard input are not known.

@@ -5,7 +5,8 @@ ghost use Rattle.xb_serial.specs.Serial.{all_closes};
 use std::alloc::{AllocError, Global};
 use xb_model::{LINES, LineNo, Row};
 
-// A close of each line of the office, ascending: of a line that is closed, or has no rows, nothing comes by it.
+// A close of each line of the office, ascending: of a line that is closed, or has no rows, nothing comes by
+// it.
 pub(crate) fn close_rows(alloc: Global) -> Result<Vec<Row>, AllocError>
     ensures { IfOk result (λ rows. rows.items ≡ all_closes) }
 {

@@ -1,5 +1,5 @@
--- The list of parts (own format): a text line for each, with the name of its deck, its first and its last line,
--- and how many records it has.
+-- The list of parts (own format): a text line for each, with the name of its deck, its first and its last
+-- line, and how many records it has.
 use Rattle.std.specs.Prelude.{ℕ, ◌≡◌, ◌+◌, ◌-◌, ◌++◌, List, [], ◌∷◌, codes, decimal, slice_index_or, Option, Some, None, option_and_then, option_map}
 use Rattle.std.specs.List.{flat_map}
 use Rattle.xb_model.specs.Page.{four_digits}

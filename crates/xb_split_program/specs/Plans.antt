@@ -34,15 +34,15 @@ abbrev pub AreFewest : ℕ → List Load → List LineRange → Type 0
 AreFewest table loads ranges =
     (others : List LineRange) → CoverAll others → FitDecks table loads others → length ranges ≤ length others
 
--- as even as the lines allow: wherever n ranges or fewer fit into decks, and have no more than m records each, these
--- are n or fewer, and have no more either
+-- as even as the lines allow: wherever n ranges or fewer fit into decks, and have no more than m records
+-- each, these are n or fewer, and have no more either
 abbrev pub AreEven : ℕ → ℕ → List Load → List LineRange → Type 0
 AreEven n table loads ranges =
     (m : ℕ) (others : List LineRange) → CoverAll others → FitDecks table loads others → length others ≤ n
     → HaveAtMost m loads others → (length ranges ≤ n) × HaveAtMost m loads ranges
 
--- the ranges that are asked for: as few as may be; or at most n, as even as the lines allow, and more than n only
--- where no fewer fit
+-- the ranges that are asked for: as few as may be; or at most n, as even as the lines allow, and more than n
+-- only where no fewer fit
 abbrev pub AreAsked : Option ℕ → ℕ → List Load → List LineRange → Type 0
 AreAsked None table loads ranges = AreFewest table loads ranges
 AreAsked (Some n) table loads ranges =
@@ -58,7 +58,8 @@ abbrev pub AreEnough : ℕ → List Load → Load → Type 0
 AreEnough n loads most =
     (ranges : List LineRange) × CoverAll ranges × All (Fits loads most) ranges × (length ranges ≤ n)
 
--- the fewest records for which n ranges are enough, or all that there may be, where they are not enough for fewer
+-- the fewest records for which n ranges are enough, or all that there may be, where they are not enough for
+-- fewer
 pub record IsLeast (n : ℕ) (loads : List Load) (most least : Load) : Type 0 where
   pub bytes : least.bytes ≡ most.bytes
   pub within : least.records ≤ most.records

@@ -18,7 +18,8 @@ program = codes "mfsplit"
 abbrev pub usage_line : List ℕ
 usage_line = codes "mfsplit: usage: mfsplit BIG FOLDER [--parts N]\n"
 
--- the words name a deck, and the decks of all its parts and their list have their names; the output is the list
+-- the words name a deck, and the decks of all its parts and their list have their names; the output is the
+-- list
 pub record SplitsDeck (bytes : List ℕ → Option (List ℕ)) (fresh : Option (List ℕ)) (decks : Decks)
     (words : List Text) (old new : Streams) : Type 0 where
   pub request : Request

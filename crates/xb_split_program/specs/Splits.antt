@@ -40,8 +40,8 @@ IsCounted deck table loads =
 abbrev pub listed : List Load → LineRange → ListedPart
 listed loads range = record { lines = range; records = counted (records_of loads range.first range.end) }
 
--- the ranges of the parts of a deck: they take all lines, the deck of each is one that an office takes, they are those
--- that are asked for, there are no more than may be, and the list names them
+-- the ranges of the parts of a deck: they take all lines, the deck of each is one that an office takes, they
+-- are those that are asked for, there are no more than may be, and the list names them
 pub record IsPlan (deck : Option (List ℕ)) (wanted : Option ℕ) (table : List ℕ) (ranges : List LineRange)
     (list : List ℕ) : Type 0 where
   pub loads : List Load

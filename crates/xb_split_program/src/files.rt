@@ -9,7 +9,8 @@ use xb_split::LineRange;
 
 /// A deck that is split, and the folder of its parts.
 ///
-/// What the contracts say of bytes holds for files whose bytes contracts know, which those of a system are not.
+/// What the contracts say of bytes holds for files whose bytes contracts know, which those of a system are
+/// not.
 pub trait SplitFiles {
     ghost use Rattle.xb_split_program.specs.PartDecks.{Decks};
     ghost use Rattle.xb_split_program.specs.Splits.{AreWhole, IsNamed};
@@ -26,7 +27,8 @@ pub trait SplitFiles {
     // What a deck has that was just made, where it is known.
     ghost fresh: { Self → Option (List ℕ) } = { λ _. None };
 
-    // What the decks in the folder have, and the list of parts, once they have their names, where it is known.
+    // What the decks in the folder have, and the list of parts, once they have their names, where it is
+    // known.
     ghost named: { Self → Decks } = { λ _ _. None };
 
     ghost listed: { Self → Option (List ℕ) } = { λ _. None };
@@ -59,7 +61,8 @@ pub trait SplitFiles {
         ensures named { OnOk result (IsNamed (Self.Parts.contents parts) list.now
             (named self.new) (listed self.old) (listed self.new)) }
         ensures maybe { OnErr result (Keeps (listed self.old) (listed self.new)
-            ⊎ IsNamed (Self.Parts.contents parts) list.now (named self.new) (listed self.old) (listed self.new)) };
+            ⊎ IsNamed (Self.Parts.contents parts) list.now
+            (named self.new) (listed self.old) (listed self.new)) };
 
     /// Takes away decks that are not whole, as far as that can be done.
     fn give_up(&mut self, alloc: Global, folder: &str, parts: Self::Parts)

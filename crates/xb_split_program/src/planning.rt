@@ -59,8 +59,8 @@ fn are_enough(
     }
 }
 
-// The fewest records for which so many ranges are enough, found by halving; or `most`, where they are not enough
-// for fewer.
+// The fewest records for which so many ranges are enough, found by halving; or `most`, where they are not
+// enough for fewer.
 fn least_most(
     alloc: Global,
     loads: &PerLine<Load>,
@@ -126,10 +126,10 @@ fn ranges_within(
     plan_ranges(alloc, loads, wanted)
 }
 
-/// The ranges of the parts of a deck, by what each line has: the fewest, or, where so many are asked for, at most so
-/// many, whose greatest has as few records as that many parts allow; there are more only where no fewer fit. The deck
-/// of each, with a table of so many bytes, is one that an office takes. `Err` says that the table leaves no room, names
-/// a line that has more than a part may have, or says that memory ran out.
+/// The ranges of the parts of a deck, by what each line has: the fewest, or, where so many are asked for, at
+/// most so many, whose greatest has as few records as that many parts allow; there are more only where no
+/// fewer fit. The deck of each, with a table of so many bytes, is one that an office takes. `Err` says that
+/// the table leaves no room, names a line that has more than a part may have, or says that memory ran out.
 pub fn plan_parts(
     alloc: Global,
     table: usize,

@@ -17,15 +17,15 @@ pub(crate) const PROGRAM: &str = "mfsplit";
 // The line of refused words.
 const USAGE: &[u8] = b"mfsplit: usage: mfsplit BIG FOLDER [--parts N]\n";
 
-/// Reads the words of the command line, the program's name first, and by them splits a deck, as `split` does. It
-/// returns the status of the process:
+/// Reads the words of the command line, the program's name first, and by them splits a deck, as `split` does.
+/// It returns the status of the process:
 ///
 /// - `DONE`: the words name a deck and a folder, which got the decks of all parts, and after them their list;
 ///   `err` got nothing;
-/// - `FAULT`: `split` has a fault, or memory ran out while the words were read; `err` gets the fault as one line,
-///   and there is no list, unless all decks are whole;
-/// - `WORDS_REFUSED`: the words are refused, or ask for help; `err` gets the usage as one line, no file is read
-///   and none is made.
+/// - `FAULT`: `split` has a fault, or memory ran out while the words were read; `err` gets the fault as one
+///   line, and there is no list, unless all decks are whole;
+/// - `WORDS_REFUSED`: the words are refused, or ask for help; `err` gets the usage as one line, no file is
+///   read and none is made.
 ///
 /// A fault in writing to `err` changes no status.
 pub fn attend<F: SplitFiles, E: Write>(

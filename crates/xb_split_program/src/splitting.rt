@@ -218,10 +218,13 @@ fn make_and_name<F: SplitFiles>(
     rows: &mut RowReader<F::Deck>,
 ) -> Result<(), SplitFault>
     requires ready { (deck : Option (List ℕ)) × (parts : Option ℕ)
-        × IsReady deck parts plan.now.table.items plan.now.ranges.items (string_bytes plan.now.list) rows.old }
+        × IsReady deck parts plan.now.table.items plan.now.ranges.items
+        (string_bytes plan.now.list) rows.old }
     ensures { (deck : Option (List ℕ)) (parts : Option ℕ)
-        → IsReady deck parts plan.now.table.items plan.now.ranges.items (string_bytes plan.now.list) rows.old
-        → Delivers deck (F.fresh files.old) parts result (F.named files.new) (F.listed files.old) (F.listed files.new) }
+        → IsReady deck parts plan.now.table.items plan.now.ranges.items
+        (string_bytes plan.now.list) rows.old
+        → Delivers deck (F.fresh files.old) parts result
+        (F.named files.new) (F.listed files.old) (F.listed files.new) }
 {
     let parts = match make_parts(alloc, files, folder, plan, rows) {
         Ok(parts) => parts,
@@ -233,10 +236,10 @@ fn make_and_name<F: SplitFiles>(
     }
 }
 
-/// Splits the deck in a file by lines: the folder gets the deck of each part, with exactly the rows of its lines,
-/// and their list; as few parts as may be, or at most as many as are asked for, as even as the lines allow (more only
-/// where no fewer fit). The decks are made under another name, which they lose once all of them are whole, and the
-/// list gets its name after that.
+/// Splits the deck in a file by lines: the folder gets the deck of each part, with exactly the rows of its
+/// lines, and their list; as few parts as may be, or at most as many as are asked for, as even as the lines
+/// allow (more only where no fewer fit). The decks are made under another name, which they lose once all of
+/// them are whole, and the list gets its name after that.
 ///
 /// On an `Err` there is no list, unless all decks are whole.
 pub fn split<F: SplitFiles>(

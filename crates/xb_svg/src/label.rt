@@ -122,8 +122,8 @@ fn push_tenths(out: &mut String, tenths: u128, unit: &str) -> Result<(), AllocEr
     write!(out, "{whole}.{tenth}{unit}")
 }
 
-/// Puts what is wrong with a run of so many ms after the text, in the words of the report, its signs marked as
-/// XML and HTML want them. `Err` says that memory ran out.
+/// Puts what is wrong with a run of so many ms after the text, in the words of the report, its signs marked
+/// as XML and HTML want them. `Err` says that memory ran out.
 pub fn push_fault(
     out: &mut String,
     limits: Limits,

@@ -1,5 +1,6 @@
 //! Pictures as SVG: bands, lines and texts, each with its place and look, and the text of a picture that has
-//! them. What a text says is a value, and not a string, so nothing has to be escaped but the signs of a fault.
+//! them. What a text says is a value, and not a string, so nothing has to be escaped but the signs of a
+//! fault.
 #![tactic(auto)]
 
 mod label;
