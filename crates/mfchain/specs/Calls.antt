@@ -4,13 +4,13 @@ use Rattle.xb_routes.specs.declared.fault.RouteFault.{RouteFault}
 use Rattle.xb_routes.specs.declared.fault.RouteFault.TheVariants.{NoMemory}
 use Rattle.xb_routes.specs.Table.{Table}
 use Rattle.xb_routes.specs.Text.{table_of_text}
-use Rattle.xb_plain.specs.declared.line.PlainLine.{PlainLine}
-use Rattle.xb_plain.specs.declared.mark.PlainMark.{PlainMark}
-use Rattle.xb_plain.specs.declared.refusal.Refusal.{Refusal}
-use Rattle.xb_plain.specs.declared.row.PlainRow.{PlainRow}
-use Rattle.xb_plain.specs.declared.table.PlainTable.{PlainTable}
-use Rattle.xb_plain.specs.Tables.{Holds}
-use Rattle.xb_plain.specs.Taking.{IsRefused, Takes}
+use Rattle.xb_structs.specs.declared.line.PlainLine.{PlainLine}
+use Rattle.xb_structs.specs.declared.mark.PlainMark.{PlainMark}
+use Rattle.xb_structs.specs.declared.refusal.Refusal.{Refusal}
+use Rattle.xb_structs.specs.declared.row.PlainRow.{PlainRow}
+use Rattle.xb_structs.specs.declared.table.PlainTable.{PlainTable}
+use Rattle.xb_structs.specs.Tables.{Holds}
+use Rattle.xb_structs.specs.Taking.{IsRefused, Takes}
 use Rattle.mfchain.specs.Status.{fault_status, refusal_status}
 
 -- the table holds what the text writes

@@ -1,7 +1,7 @@
 -- The numbers that the library returns.
 use Rattle.std.specs.Prelude.{ℕ}
-use Rattle.xb_plain.specs.declared.refusal.Refusal.{Refusal}
-use Rattle.xb_plain.specs.declared.refusal.Refusal.TheVariants as refusal
+use Rattle.xb_structs.specs.declared.refusal.Refusal.{Refusal}
+use Rattle.xb_structs.specs.declared.refusal.Refusal.TheVariants as refusal
 use Rattle.xb_routes.specs.declared.fault.RouteFault.{RouteFault}
 use Rattle.xb_routes.specs.declared.fault.RouteFault.TheVariants as fault
 

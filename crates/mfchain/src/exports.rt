@@ -1,13 +1,13 @@
 // What C calls.
 ghost use Rattle.std.specs.Prelude.{◌≡◌, ◌≢◌, []};
 ghost use Rattle.xb_routes.specs.Table.{Table};
-ghost use Rattle.xb_plain.specs.Taking.{HasTaken};
+ghost use Rattle.xb_structs.specs.Taking.{HasTaken};
 ghost use Rattle.mfchain.specs.Calls.{DoesNotOpen, DoesNotTake, Opens, TakesRow, close_of};
 
 use crate::faults::{put_fault, put_text};
 use crate::status::{DONE, fault_status, refusal_status};
 use std::alloc::Global;
-use xb_plain::{PlainLine, PlainMark, PlainRow, PlainTable, open, take};
+use xb_structs::{PlainLine, PlainMark, PlainRow, PlainTable, open, take};
 
 /// Reads the route table that a TOML text writes. Where it is refused, the status says why, `fault` gets the
 /// same as a text, and the table is as it was.

@@ -2,8 +2,8 @@
 ghost use Rattle.std.specs.Prelude.{◌≡◌, ◌≢◌};
 ghost use Rattle.mfchain.specs.Status.{fault_status, refusal_status};
 
-use xb_plain::Refusal;
 use xb_routes::RouteFault;
+use xb_structs::Refusal;
 
 /// All was done.
 pub(crate) const DONE: u32 = 0;

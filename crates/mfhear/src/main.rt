@@ -3,7 +3,7 @@
 
 use std::process::ExitCode;
 use std::{env, io};
-use xb_hear_program::attend;
+use xb_hear::attend;
 
 // The words of the command line, the program's name first.
 fn words(rt: &HostRuntime) -> io::Result<Vec<String>> {

@@ -4,7 +4,7 @@
 use std::alloc::Global;
 use std::process::ExitCode;
 use std::{env, fs, io};
-use xb_join_program::{PageFiles, attend};
+use xb_join::{PageFiles, attend};
 
 // The files of the system.
 #[derive(Drop)]

@@ -3,7 +3,7 @@
 
 use std::process::ExitCode;
 use std::{env, io};
-use xb_live_program::attend;
+use xb_live::attend;
 
 // The words of the command line, the program's name first.
 fn words(rt: &HostRuntime) -> io::Result<Vec<String>> {

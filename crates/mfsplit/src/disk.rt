@@ -2,8 +2,8 @@
 use std::alloc::Global;
 use std::fs::{self, File};
 use std::io::{self, BufReader, BufWriter, ErrorKind, Write};
-use xb_split::{LineRange, deck_name};
-use xb_split_program::{PartDecks, SplitFiles};
+use xb_parts::{LineRange, deck_name};
+use xb_split::{PartDecks, SplitFiles};
 
 // How many bytes are read or written at once.
 const BUFFER_BYTES: usize = 65_536;

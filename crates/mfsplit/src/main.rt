@@ -7,7 +7,7 @@ mod disk;
 use crate::disk::SystemFiles;
 use std::process::ExitCode;
 use std::{env, io};
-use xb_split_program::attend;
+use xb_split::attend;
 
 // The words of the command line, the program's name first.
 fn words(rt: &HostRuntime) -> io::Result<Vec<String>> {

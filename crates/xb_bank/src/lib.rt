@@ -2,7 +2,7 @@
 //! passes on, under one name, what its callers use of the chain and of the replay.
 #![tactic(auto)]
 
-pub use xb_fed::fed_rows;
+pub use xb_closes::fed_rows;
 pub use xb_model::{Listed, RowSource};
 pub use xb_posts::{Feed, TapeStation};
 pub use xb_replay::Replay;

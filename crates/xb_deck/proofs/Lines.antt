@@ -5,7 +5,7 @@ use Rattle.std.specs.List.{position}
 use Rattle.std.proofs.lemmas.List.{append-nil, length-drop, take_rest}
 use Rattle.std.proofs.lemmas.List.Quantifiers.{position-Some}
 use Rattle.std.proofs.lemmas.List.Splits.{join_with_byte-slice_split}
-use Rattle.xb_pieces.proofs.PlacedPieces.{drop-piece, first_piece, one_piece, piece_length, take-piece, with_byte}
+use Rattle.xb_text.proofs.PlacedPieces.{drop-piece, first_piece, one_piece, piece_length, take-piece, with_byte}
 use Rattle.xb_deck.specs.Deck.{Parts, with_earlier, deck_parts, ends_line, is_cut, line_feed}
 
 -- bytes before bytes before the table

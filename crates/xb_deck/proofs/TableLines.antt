@@ -9,7 +9,7 @@ use Rattle.std.proofs.lemmas.Slice.Eq.{bytes_eq-Decides}
 use Rattle.std.proofs.lemmas.List.Elements.{All-get_or}
 use Rattle.std.proofs.lemmas.List.Quantifiers.{position-Some}
 use Rattle.std.proofs.lemmas.List.Splits.{slice_split_at, slice_split_none, join_with_byte-slice_split}
-use Rattle.xb_pieces.proofs.PlacedPieces.{first_piece, one_piece}
+use Rattle.xb_text.proofs.PlacedPieces.{first_piece, one_piece}
 use Rattle.xb_deck.specs.Deck.{Parts, with_earlier, deck_parts, ends_line, is_cut, line_feed}
 use Rattle.xb_deck.specs.Tables.{IsCutAfter, IsReadSoFar, IsTableFault, ReadsByte}
 use Rattle.xb_deck.specs.declared.table.TableFault.TheVariants as fault

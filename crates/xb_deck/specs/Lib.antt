@@ -3,3 +3,5 @@ pub mod Deck
 pub mod MadeDecks
 pub mod Tables
 pub mod WorkedDecks
+pub mod Contents
+pub mod Faults

@@ -1,11 +1,26 @@
-//! A deck, and where it is cut: a route table, a line `---`, and loop rows; a deck as bytes or as a stream.
-//! The module `laws` says what the definitions in `specs/` give, on worked examples and on decks as they are
-//! made.
+//! A deck: a route table, a line `---`, and loop rows. Where it is cut, what stands in it, or its first
+//! fault; a deck as bytes or as a stream.
+//!
+//! What is said of bytes is said of streams whose bytes a contract can name.
+//!
+//! - `Deck::cut`: the parts of a deck at its first line `---`, and `None` exactly where there is no such
+//!   line.
+//! - What a deck has in it is said once, by `contents_of` (`specs/Contents.antt`): a table and rows, or the
+//!   first fault of its length, its cut, its table and its rows. By it go `read_deck`, the bytes of a
+//!   stream to its end, and of these `Deck::open`, `Deck::route_table` and `Deck::loop_rows`. `DeckFault`
+//!   is the fault of all four.
+//! - `read_table`, of a stream: the table, and what the stream has left, are those of `Deck::cut`. `NoCut`
+//!   comes exactly as there, and `TooLong` only where the stream has more bytes than the limit and no table
+//!   within it. Of any stream, the table is within the limit.
+//! - `laws`: a table's lines, the line that cuts, and any rows are cut into the table and the rows; where
+//!   worked decks are cut, and which of them are not.
 #![tactic(auto)]
 
 mod deck;
+mod fault;
 pub mod laws;
 mod table;
 
-pub use deck::{Deck, MOST_DECK_BYTES};
+pub use deck::{Deck, MOST_DECK_BYTES, read_deck};
+pub use fault::DeckFault;
 pub use table::{TableFault, read_table};

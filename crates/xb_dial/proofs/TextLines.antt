@@ -8,8 +8,8 @@ use Rattle.std.proofs.lemmas.List.Splits.{length-slice_split}
 use Rattle.xb_model.specs.declared.plan.Plan.{Plan}
 use Rattle.xb_model.specs.Numbers.{has_length, is_complete}
 use Rattle.xb_model.specs.Plans.{plan_len}
-use Rattle.xb_pieces.specs.Pieces.{pieces}
-use Rattle.xb_rows.specs.RowTexts.{line_of}
+use Rattle.xb_text.specs.Pieces.{pieces}
+use Rattle.xb_model.specs.Fields.{line_of}
 use Rattle.xb_dial.specs.declared.fault.CallFault.{CallFault}
 use Rattle.xb_dial.specs.declared.fault.CallFault.TheVariants as fault
 use Rattle.xb_dial.specs.Calls.{DialledCall, call_of}

@@ -7,8 +7,8 @@ use Rattle.std.specs.Str.Lines.{strip_carriage_return}
 use Rattle.xb_model.specs.declared.plan.Plan.{Plan}
 use Rattle.xb_model.specs.Page.{zero_byte}
 use Rattle.xb_model.specs.Plans.{plan_len}
-use Rattle.xb_pieces.specs.Pieces.{cut_at, pieces}
-use Rattle.xb_rows.specs.RowTexts.{line_of}
+use Rattle.xb_text.specs.Pieces.{cut_at, pieces}
+use Rattle.xb_model.specs.Fields.{line_of}
 use Rattle.xb_dial.specs.declared.fault.CallFault.{CallFault}
 use Rattle.xb_dial.specs.declared.fault.CallFault.TheVariants as fault
 use Rattle.xb_dial.specs.Calls.{DialledCall, call_of}

@@ -6,3 +6,8 @@ pub mod LineRows
 pub mod CallTexts
 pub mod TextLines
 pub mod WorkedCalls
+pub mod Faults
+pub mod Options
+pub mod Printed
+pub mod Program
+pub mod Rules

@@ -6,9 +6,8 @@ ghost use Rattle.xb_dial.specs.CallTexts.{IsFaultOf, IsWrongDigit, call_of_line,
 use crate::call::Call;
 use crate::fault::CallFault;
 use std::alloc::Global;
-use xb_model::{Digit, Plan, plan_len};
-use xb_pieces::cut_at;
-use xb_rows::line_of;
+use xb_model::{Digit, Plan, line_of, plan_len};
+use xb_text::cut_at;
 
 // A text line without one CR at its end.
 pub(crate) fn strip_carriage_return(line: &[u8]) -> &[u8]

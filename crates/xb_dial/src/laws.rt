@@ -1,5 +1,6 @@
 //! What the definitions give: each law is the contract of a function that does nothing.
 ghost use Rattle.xb_dial.specs.Heard.{DialledIsHeard, OrdersAreDialled};
+ghost use Rattle.xb_dial.specs.Program.{UsageNamesEachOption};
 ghost use Rattle.xb_dial.specs.WorkedCalls.{BothOrders, CallsOfTexts, NumbersOfCalls, RowsOfCalls};
 
 /// The rows of some calls, and the numbers that are heard of them.
@@ -32,4 +33,10 @@ pub fn dialled_is_heard()
 #[tactic(auto, using(crate::proofs::RowsOfLines::orders_are_dialled))]
 pub fn orders_are_dialled()
     ensures { OrdersAreDialled }
+{}
+
+/// The line of refused words names each option of the command.
+#[tactic(auto, unfolding(clap::proofs::OnLiterals::clap_on_literals, xb_command::specs::Usages::has_part))]
+pub fn usage_names_each_option()
+    ensures { UsageNamesEachOption }
 {}

@@ -1,19 +1,43 @@
-//! Decks from numbers: calls in, the loop rows that dial them out.
+//! `mfdial` but for its process: calls in, the loop rows that dial them out.
+//!
+//! - `rows_of_calls`, of a speed that fits some lawful limits: exactly the rows that dial the calls, in
+//!   either order; and by every plan by which all numbers are complete and all lawful limits that the speed
+//!   fits, exactly each line's numbers are heard on it, in the order dialled, and its tape is exactly their
+//!   entries (`heard`). `laws::dialled_is_heard`: the same of every list of rows of which each line's are
+//!   those that it dials.
+//! - `Speed::fits`: `Ok` exactly where the five times fit the limits; else the first that does not.
+//!   `Speed::ten` and `twenty` fit the standard limits.
+//! - `calls_of_text`: the calls of the text, or, unless memory ran out, its first fault with its text line;
+//!   with a plan, each number is complete by it.
+//! - `dial`, of readers and writers whose bytes a contract can name: on `Ok` the writer got exactly the
+//!   text of the rows that dial the calls of the text; by the plan, if one is asked for, exactly the
+//!   numbers of each line are heard by the standard limits, and keyed. On `Write` it got the beginning, on
+//!   any other fault nothing.
+//! - `attend`: `Attends` of this. `laws::usage_names_each_option`.
+//!
+//! Not said: that a fault of the speed is told before one of the calls.
 #![tactic(auto)]
 
 mod call;
+mod dialling;
 mod fault;
 mod fields;
 pub mod laws;
 mod lines;
 mod order;
+mod program;
 mod reading;
+mod request;
 mod runs;
 mod speed;
+mod words;
 
 pub use call::Call;
-pub use fault::CallFault;
+pub use dialling::dial;
+pub use fault::{CallFault, DialFault};
 pub use lines::rows_of_calls;
 pub use order::RowOrder;
+pub use program::attend;
 pub use reading::{MOST_TEXT_BYTES, calls_of_text};
+pub use request::Request;
 pub use speed::{Speed, SpeedFault};

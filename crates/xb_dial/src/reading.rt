@@ -9,7 +9,7 @@ use crate::fault::CallFault;
 use crate::fields::{call_of_line, is_passed_over, strip_carriage_return};
 use std::alloc::Global;
 use xb_model::Plan;
-use xb_pieces::first_piece;
+use xb_text::first_piece;
 
 /// The most bytes of a text of calls (own limit).
 pub const MOST_TEXT_BYTES: usize = 16_777_216;

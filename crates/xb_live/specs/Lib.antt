@@ -1,5 +1,10 @@
-pub mod Chain
-pub mod Without
-pub mod Office
-pub mod Promises
-pub mod WorkedRows
+pub mod Entries
+pub mod Texts
+pub mod Counting
+pub mod Writing
+pub mod Pages
+pub mod Decks
+pub mod Faults
+pub mod Runs
+pub mod Options
+pub mod Program

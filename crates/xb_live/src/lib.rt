@@ -1,15 +1,27 @@
-//! The chain for a live office: one row at a time in, the marks that it makes certain out.
+//! The program `mflive` but for the process: a deck from a reader as it comes, and the entries of its rows to
+//! a writer, each in the row that completes it, with its number.
+//!
+//! - `Counting` is a live office that numbers the entries of each line and counts those of all: what it has
+//!   counted are the entries that the rows so far complete.
+//! - `take_row` and `end` write these entries: exactly them, and on a fault those of the first rows.
+//!   `SortsIntoPage` (`specs/Pages.antt`): sorted by line and number, what is printed of rows that end is
+//!   their page.
+//! - `run_deck` (`Runs`, `specs/Runs.antt`): what was written of a deck is what its table and its rows say,
+//!   also where a fault stops them; `attend` says the same of the program, by its status.
 #![tactic(auto)]
 
-mod hearing;
-mod keying;
+mod counting;
+mod fault;
 pub mod laws;
-mod line_state;
-mod live;
-mod so_far;
+mod printing;
+mod program;
+mod running;
+mod words;
+mod writing;
 
-pub use hearing::{fresh, hear};
-pub use keying::{MOST_MARKS, key};
-pub use line_state::LineState;
-pub use live::Live;
-pub use so_far::marks_so_far;
+pub use counting::Counting;
+pub use fault::{EntriesFault, LiveFault};
+pub use printing::{Form, text_of_entry};
+pub use program::attend;
+pub use running::run_deck;
+pub use writing::{end, take_row};

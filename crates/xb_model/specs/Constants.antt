@@ -2,6 +2,7 @@
 use Rattle.std.specs.Prelude.{◌≡◌}
 use Rattle.xb_model.specs.declared.digit.TheConstants.{DIGITS}
 use Rattle.xb_model.specs.declared.digits.TheConstants.{NUMBER_DIGITS, PREFIX_DIGITS, KEY_DIGITS}
+use Rattle.xb_model.specs.declared.field.TheConstants.{FIELD_DIGITS, LINE_DIGITS}
 use Rattle.xb_model.specs.declared.limits.TheConstants.{GREATEST_LIMIT}
 use Rattle.xb_model.specs.declared.line.TheConstants.{LINES}
 use Rattle.xb_model.specs.declared.mark.TheConstants.{KEYING_MARKS}
@@ -22,3 +23,5 @@ pub record AreConstants : Type 0 where
   pub prefix_digits : PREFIX_DIGITS ≡ 8
   pub key_digits : KEY_DIGITS ≡ 18
   pub keying_marks : KEYING_MARKS ≡ 21
+  pub line_digits : LINE_DIGITS ≡ 4
+  pub field_digits : FIELD_DIGITS ≡ 8

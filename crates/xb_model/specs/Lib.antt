@@ -16,6 +16,7 @@ pub mod Routing
 pub mod Tapes
 pub mod Page
 pub mod Digits
+pub mod Fields
 pub mod WorkedRows
 pub mod WorkedTables
 pub mod WorkedSignals

@@ -3,6 +3,10 @@ use Rattle.std.specs.Prelude.{ℕ, List, [], ◌∷◌, Bool, not, ◌&&◌, if�
 use Rattle.xb_model.specs.declared.plan.Plan.{Plan}
 use Rattle.xb_model.specs.declared.plan.Plan.TheVariants.{Seven, Ten}
 
+-- the plan whose longest numbers have so many digits
+abbrev pub plan_of_digits : ℕ → Option Plan
+plan_of_digits digits = if digits == 7 then Some Seven else (if digits == 10 then Some Ten else None)
+
 -- N11
 abbrev pub is_service_code : ℕ → ℕ → ℕ → Bool
 is_service_code a b c = nat_le 2 a && (b == 1 && c == 1)

@@ -1,12 +1,27 @@
-//! The plain types of the office, the calls that make and read them, and, in `specs/`, the
-//! definitions of the dialling chain: what a line's pulses spell, where a number is routed, and
-//! what is keyed. The module `laws` computes them on worked examples.
+//! The plain types of the office, the calls that make and read them, and, in `specs/`, the definitions of
+//! the dialling chain: what a line's pulses spell, where a number is routed, and what is keyed.
+//!
+//! - The definitions give what the tables and the worked examples say (`laws`). However a line's rows are
+//!   cut, its runs are the same, whatever rows of other lines come between (`laws::rows_may_be_cut`).
+//! - `LineNo`, `Trunk`, `Digit`, `Row` and the digit lists are made exactly in range, and their readers
+//!   give what was put in. `Digit::from_ascii` gives a digit exactly of the characters 0 to 9.
+//! - `Relays::check` holds exactly where two elements operate, and `Relays::digit` is then their digit.
+//!   `Relays::of_count` gives the pattern of 1 to 10 good pulses, 10 being 0, and else no element.
+//! - `mf` is the pair of each key, `plan_len` the length of a number by its first digits.
+//!   `Limits::standard` are lawful limits, `Mark::ends` says where an entry ends, `Reason::word` is the
+//!   page's word.
+//! - `field_number` and `line_of` are the number and the line that a field of a text writes, and `None` for
+//!   any other field.
+//! - `PerLine` keeps one value for each line, and gives them with the lines ascending.
+//! - `RowSource`: each call gives what a source of rows has still to give; once it has told its stop, no
+//!   memory runs out. `Listed` is the source of a list, and takes no memory.
 #![tactic(auto)]
 
 mod dialled;
 mod digit;
 mod digits;
 mod fault;
+mod field;
 mod key;
 pub mod laws;
 mod limits;
@@ -30,6 +45,7 @@ pub use digits::{
     DigitList, KEY_DIGITS, KeyDigits, NUMBER_DIGITS, NumberDigits, PREFIX_DIGITS, PrefixDigits,
 };
 pub use fault::RowFault;
+pub use field::{FIELD_DIGITS, LINE_DIGITS, field_number, line_of};
 pub use key::{Key, Tone, mf};
 pub use limits::{GREATEST_LIMIT, Limits};
 pub use line::{LINES, LineNo};

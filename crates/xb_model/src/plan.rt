@@ -1,6 +1,6 @@
 // The length of a number.
 ghost use Rattle.std.specs.Prelude.{◌≡◌};
-ghost use Rattle.xb_model.specs.Plans.{plan_len, length_after_three, is_service_code, is_area_code};
+ghost use Rattle.xb_model.specs.Plans.{plan_len, plan_of_digits, length_after_three, is_service_code, is_area_code};
 
 use crate::digit::Digit;
 
@@ -11,6 +11,19 @@ pub enum Plan {
     Seven,
     /// Ten digits for N0X, and for N1X other than N11; the rest is as in plan Seven.
     Ten,
+}
+
+impl Plan {
+    /// The plan whose longest numbers have so many digits, 7 or 10; `None` for any other.
+    pub fn of_digits(digits: u32) -> Option<Plan>
+        ensures { result ≡ plan_of_digits digits }
+    {
+        match digits {
+            7 => Some(Plan::Seven),
+            10 => Some(Plan::Ten),
+            _ => None,
+        }
+    }
 }
 
 /// Whether three digits are N11, as 411.

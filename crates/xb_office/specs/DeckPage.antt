@@ -1,46 +1,36 @@
 -- What a deck says: its page, or its first fault.
-use Rattle.std.specs.Prelude.{ℕ, ◌≡◌, ◌+◌, List, length, nat_lt, if◌then◌else◌, Option, Some, None, IfSome, IsOk, Result, Ok, Err}
+use Rattle.std.specs.Prelude.{ℕ, ◌≡◌, ◌+◌, List, Option, IfSome, IsOk, Result, Ok, Err}
 use Rattle.std.specs.Io.KnownBytes.{Appends, IsAtEnd, Keeps}
-use Rattle.xb_model.specs.declared.fault.RowFault.{RowFault}
 use Rattle.xb_model.specs.Tapes.{tapes_of}
 use Rattle.xb_model.specs.Page.{page_text}
 use Rattle.xb_model.specs.Rows.{LoopRow}
-use Rattle.xb_routes.specs.declared.fault.RouteFault.{RouteFault}
 use Rattle.xb_routes.specs.Table.{Table}
-use Rattle.xb_routes.specs.Text.{table_of_text}
+use Rattle.xb_text.specs.Reading.{TakesUpTo}
+use Rattle.xb_text.specs.Writing.{AppendsBeginning}
+use Rattle.xb_deck.specs.Contents.{Contents, contents_of}
 use Rattle.xb_deck.specs.declared.deck.TheConstants.{MOST_DECK_BYTES}
+use Rattle.xb_deck.specs.declared.fault.DeckFault.{DeckFault}
 use Rattle.xb_office.specs.declared.fault.OfficeFault.{OfficeFault}
 use Rattle.xb_office.specs.declared.fault.OfficeFault.TheVariants as fault
-use Rattle.xb_deck.specs.Deck.{Parts, deck_parts}
-use Rattle.xb_streams.specs.Reading.{TakesUpTo}
-use Rattle.xb_rows.specs.RowTexts.{fault_of_text, rows_of_text}
-use Rattle.xb_streams.specs.Writing.{AppendsBeginning}
+use Rattle.xb_office.specs.Faults.{of_deck}
 
 -- the page of a table and of rows
 unfoldable pub page_of : Table → List LoopRow → List ℕ
 page_of table rows = page_text (tapes_of table.plan table.limits table.routes rows)
 
--- rows and the stop after them: the page of the rows, or the fault that stops them
-abbrev pub says_rows : Table → List LoopRow → Option RowFault → Result (List ℕ) OfficeFault
-says_rows table rows None = Ok (page_of table rows)
-says_rows table rows (Some f) = Err (fault.Rows f)
-
--- a table, and the text of the rows
-abbrev pub says_table : List ℕ → Result Table RouteFault → Result (List ℕ) OfficeFault
-says_table text (Err f) = Err (fault.Routes f)
-says_table text (Ok table) = says_rows table (rows_of_text text) (fault_of_text text)
-
-abbrev pub says_parts : Option Parts → Result (List ℕ) OfficeFault
-says_parts None = Err fault.NoCut
-says_parts (Some parts) = says_table parts.rows (table_of_text parts.table)
+-- the page of what a deck has in it, or its fault
+abbrev pub page_of_contents : Result Contents DeckFault → Result (List ℕ) OfficeFault
+page_of_contents (Ok contents) = Ok (page_of contents.table contents.rows)
+page_of_contents (Err f) = Err (of_deck f)
 
 -- the page of a deck, or its first fault
 abbrev pub says : List ℕ → Result (List ℕ) OfficeFault
-says deck = if nat_lt MOST_DECK_BYTES (length deck) then Err fault.DeckTooLong
-    else says_parts (deck_parts deck)
+says deck = page_of_contents (contents_of deck)
 
--- out of memory, a post that could not be started for a deck that has a page, or what a deck says
+-- a read that failed, out of memory, a post that could not be started for a deck that has a page, or what
+-- a deck says
 abbrev pub IsFaultOfDeck : Result (List ℕ) OfficeFault → OfficeFault → Type 0
+IsFaultOfDeck said fault.Read = Unit {0}
 IsFaultOfDeck said fault.NoMemory = Unit {0}
 IsFaultOfDeck said (fault.Bank post) = IsOk said
 IsFaultOfDeck said f = said ≡ Err f

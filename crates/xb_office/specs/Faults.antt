@@ -1,24 +1,13 @@
--- What an office returns where one of its parts is refused.
-use Rattle.std.specs.Prelude.{◌≡◌, ◌≢◌, ◌⊎◌}
-use Rattle.xb_model.specs.declared.fault.RowFault.{RowFault}
-use Rattle.xb_model.specs.declared.fault.RowFault.TheVariants as row_fault
-use Rattle.xb_routes.specs.declared.fault.RouteFault.{RouteFault}
-use Rattle.xb_routes.specs.declared.fault.RouteFault.TheVariants as route_fault
+-- What an office returns for the fault of a deck.
+use Rattle.xb_deck.specs.declared.fault.DeckFault.{DeckFault}
+use Rattle.xb_deck.specs.declared.fault.DeckFault.TheVariants as deck_fault
 use Rattle.xb_office.specs.declared.fault.OfficeFault.{OfficeFault}
 use Rattle.xb_office.specs.declared.fault.OfficeFault.TheVariants as fault
-use Rattle.xb_streams.specs.declared.reading.ReadFault.{ReadFault}
-use Rattle.xb_streams.specs.declared.reading.ReadFault.TheVariants as read_fault
 
-abbrev pub of_read : ReadFault → OfficeFault
-of_read read_fault.Failed = fault.Read
-of_read read_fault.TooLong = fault.DeckTooLong
-of_read read_fault.NoMemory = fault.NoMemory
-
--- running out of memory is one fault, in whatever part
-abbrev pub IsOfRoutes : RouteFault → OfficeFault → Type 0
-IsOfRoutes f e = ((f ≡ route_fault.NoMemory) × (e ≡ fault.NoMemory))
-    ⊎ ((f ≢ route_fault.NoMemory) × (e ≡ fault.Routes f))
-
-abbrev pub IsOfRows : RowFault → OfficeFault → Type 0
-IsOfRows f e = ((f ≡ row_fault.NoMemory) × (e ≡ fault.NoMemory))
-    ⊎ ((f ≢ row_fault.NoMemory) × (e ≡ fault.Rows f))
+abbrev pub of_deck : DeckFault → OfficeFault
+of_deck deck_fault.Read = fault.Read
+of_deck deck_fault.TooLong = fault.DeckTooLong
+of_deck deck_fault.NoCut = fault.NoCut
+of_deck (deck_fault.Routes f) = fault.Routes f
+of_deck (deck_fault.Rows f) = fault.Rows f
+of_deck deck_fault.NoMemory = fault.NoMemory

@@ -2,10 +2,11 @@
 ghost use Rattle.std.specs.Prelude.{◌≡◌};
 
 use thiserror::Error;
+use xb_deck::DeckFault;
 use xb_model::RowFault;
 use xb_ring::Post;
 use xb_routes::RouteFault;
-use xb_streams::{ReadFault, WriteFault};
+use xb_text::WriteFault;
 
 /// Why a deck gives no page.
 ///
@@ -40,42 +41,19 @@ pub enum OfficeFault {
     Write,
 }
 
-impl From<ReadFault> for OfficeFault {
-    ghost use Rattle.xb_office.specs.Faults.{of_read};
+impl From<DeckFault> for OfficeFault {
+    ghost use Rattle.xb_office.specs.Faults.{of_deck};
 
-    ghost from_gives = { λ fault e. e ≡ of_read fault };
+    ghost from_gives = { λ fault e. e ≡ of_deck fault };
 
-    fn from(fault: ReadFault) -> OfficeFault {
+    fn from(fault: DeckFault) -> OfficeFault {
         match fault {
-            ReadFault::Failed => OfficeFault::Read,
-            ReadFault::TooLong => OfficeFault::DeckTooLong,
-            ReadFault::NoMemory => OfficeFault::NoMemory,
-        }
-    }
-}
-
-impl From<RouteFault> for OfficeFault {
-    ghost use Rattle.xb_office.specs.Faults.{IsOfRoutes};
-
-    ghost from_gives = { IsOfRoutes };
-
-    fn from(fault: RouteFault) -> OfficeFault {
-        match fault {
-            RouteFault::NoMemory => OfficeFault::NoMemory,
-            fault => OfficeFault::Routes(fault),
-        }
-    }
-}
-
-impl From<RowFault> for OfficeFault {
-    ghost use Rattle.xb_office.specs.Faults.{IsOfRows};
-
-    ghost from_gives = { IsOfRows };
-
-    fn from(fault: RowFault) -> OfficeFault {
-        match fault {
-            RowFault::NoMemory => OfficeFault::NoMemory,
-            fault => OfficeFault::Rows(fault),
+            DeckFault::Read => OfficeFault::Read,
+            DeckFault::TooLong => OfficeFault::DeckTooLong,
+            DeckFault::NoCut => OfficeFault::NoCut,
+            DeckFault::Routes(fault) => OfficeFault::Routes(fault),
+            DeckFault::Rows(fault) => OfficeFault::Rows(fault),
+            DeckFault::NoMemory => OfficeFault::NoMemory,
         }
     }
 }

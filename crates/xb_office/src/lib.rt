@@ -1,17 +1,33 @@
-//! The program but for the process: a deck from a reader, and its page to a writer, by the words of the
-//! command line. The module `laws` says what the definitions in `specs/` give of decks as they are made.
+//! `mfbank` but for its process: a deck in, a page out.
+//!
+//! What is said of bytes is said of readers and writers whose bytes a contract can name.
+//!
+//! - `operate`: on `Ok` the writer got exactly the page of the deck's tapes, and nothing else; on `Write`
+//!   the beginning of it; on any other fault nothing. A fault of the deck is the first that holds; on `Ok`,
+//!   on `Write` and where a post could not be started none of them holds. The reader is read to its end,
+//!   but where reading failed, the deck is too long, or memory ran out. `operate_by` is the same past any
+//!   gate.
+//! - `attend`: the status 0, 1 or 2, with what was written (`Attends` of `xb_command`). So words that are
+//!   refused never give a page. `attend_by` is the same past any gate.
+//! - `laws::made_decks_say_their_page`: a deck that is made of a table and rows, and is not too long, says
+//!   their page.
+//!
+//! Not said: that the posts are as many, and the rings as large, as the words say. `test_office` counts
+//! both by a gate.
 #![tactic(auto)]
 
 mod fault;
 pub mod laws;
 mod office;
+mod options;
 mod program;
+mod words;
 
 pub use fault::OfficeFault;
 pub use office::{operate, operate_by};
+pub use options::{DEFAULT_RING, DEFAULT_SENDERS, Options};
 pub use program::{attend, attend_by};
+pub use xb_command::{DONE, FAULT, WORDS_REFUSED};
 pub use xb_deck::MOST_DECK_BYTES;
-pub use xb_options::{DEFAULT_RING, DEFAULT_SENDERS, Options};
 pub use xb_rows::{MOST_RECORDS, Scan, read_rows};
-pub use xb_streams::{DONE, FAULT, WORDS_REFUSED};
 pub use xb_tape::page;

@@ -1,33 +1,33 @@
 // From a deck on a reader to its page on a writer.
 ghost use Rattle.std.specs.Prelude.{◌≡◌, ◌≤◌, IfErr, IfOk, None, OnOk, length};
-ghost use Rattle.xb_deck.specs.declared.deck.TheConstants.{MOST_DECK_BYTES};
+ghost use Rattle.xb_model.specs.Tapes.{tapes_of};
 ghost use Rattle.xb_ring.specs.declared.branches.TheConstants.{MOST_BRANCHES};
 ghost use Rattle.xb_ring.specs.declared.ends.TheConstants.{GREATEST_CAPACITY};
-ghost use Rattle.xb_model.specs.Tapes.{tapes_of};
-ghost use Rattle.xb_rows.specs.RowResults.{IsFaultOf};
 ghost use Rattle.xb_rows.specs.RowTexts.{fault_of_text, rows_of_text};
-ghost use Rattle.xb_office.specs.DeckPage.{Delivers, IsFaultOfDeck, Reads, says, says_rows};
+ghost use Rattle.xb_deck.specs.declared.deck.TheConstants.{MOST_DECK_BYTES};
+ghost use Rattle.xb_deck.specs.Contents.{IsRowsFault, with_rows};
+ghost use Rattle.xb_office.specs.DeckPage.{Delivers, IsFaultOfDeck, Reads, page_of_contents, says};
 
 use crate::fault::OfficeFault;
+use crate::options::Options;
 use std::alloc::Global;
 use std::io::{Read, Write};
 use std::sync::Wait;
 use std::thread::Threads;
 use std::time::Clock;
-use xb_deck::{Deck, MOST_DECK_BYTES};
-use xb_model::{RowFault, RowSource};
-use xb_options::Options;
+use xb_deck::{Deck, DeckFault, read_deck};
+use xb_model::RowSource;
 use xb_ring::{GREATEST_CAPACITY, Gate, MOST_BRANCHES, NoGate};
 use xb_routes::RouteTable;
 use xb_rows::Scan;
 use xb_run::{BankFault, run};
-use xb_streams::{read_whole, write_whole};
 use xb_tape::{Tapes, page};
+use xb_text::write_whole;
 
 // Reads the rows of a text to their stop, and keeps none.
-fn read_to_stop(alloc: Global, text: &[u8]) -> Result<(), RowFault>
+fn read_to_stop(alloc: Global, text: &[u8]) -> Result<(), DeckFault>
     ensures end { OnOk result (fault_of_text text.now ≡ None) }
-    ensures fault { IfErr result (IsFaultOf text.now) }
+    ensures fault { IfErr result (IsRowsFault text.now) }
 {
     let mut scan = Scan::new(alloc, text);
     while scan.next_row()?.is_some() {}
@@ -48,7 +48,7 @@ fn tapes_of_text<H: Threads + Wait + Clock + Sync, G: Gate + Sync>(
         IfOk result (λ tapes. tapes ≡ tapes_of t.plan t.limits t.routes (rows_of_text text.now)) }
     ensures end { OnOk result (fault_of_text text.now ≡ None) }
     ensures fault { IfErr result (IsFaultOfDeck
-        (says_rows table.now (rows_of_text text.now) (fault_of_text text.now))) }
+        (page_of_contents (with_rows table.now (rows_of_text text.now) (fault_of_text text.now)))) }
 {
     let scan = Scan::new(alloc, text);
     match run(rt, alloc, scan, table, options.senders, options.ring, gate) {
@@ -75,8 +75,8 @@ fn page_of_deck<H: Threads + Wait + Clock + Sync, G: Gate + Sync>(
     ensures page { IfOk result (λ page. says bytes.now ≡ Ok page.items) }
     ensures fault { IfErr result (IsFaultOfDeck (says bytes.now)) }
 {
-    let deck = Deck::cut(bytes).ok_or(OfficeFault::NoCut)?;
-    let table = RouteTable::read(alloc, deck.table)?;
+    let deck = Deck::open(bytes)?;
+    let table = deck.route_table(alloc)?;
     let tapes = tapes_of_text(rt, alloc, deck.rows, &table, options, gate)?;
     page(alloc, &tapes).map_err(|_| OfficeFault::NoMemory)
 }
@@ -93,7 +93,7 @@ pub fn operate_by<R: Read, W: Write, H: Threads + Wait + Clock + Sync, G: Gate +
     ensures delivers { Delivers (R.remaining deck.old) result (W.contents out.old) (W.contents out.new) }
     ensures reads { Reads result (R.remaining deck.old) (R.remaining deck.new) }
 {
-    let bytes = read_whole(alloc, deck, MOST_DECK_BYTES)?;
+    let bytes = read_deck(alloc, deck)?;
     let page = page_of_deck(rt, alloc, &bytes, options, gate)?;
     write_whole(out, &page)?;
     Ok(())

@@ -1,20 +1,20 @@
 // The program: its words and a deck in, a status and a page out.
-ghost use Rattle.xb_options.specs.Options.{texts_of};
-ghost use Rattle.xb_streams.specs.Programs.{streams};
+ghost use Rattle.xb_command.specs.Programs.{streams};
+ghost use Rattle.xb_command.specs.Commands.{texts_of};
 ghost use Rattle.xb_office.specs.Program.{AttendsBank};
 
 use crate::office::operate_by;
+use crate::words::options_of_words;
 use std::alloc::Global;
 use std::io::{Read, Write};
 use std::sync::Wait;
 use std::thread::Threads;
 use std::time::Clock;
-use xb_options::options_of;
+use xb_command::{DONE, tell_fault, tell_words};
 use xb_ring::{Gate, NoGate};
-use xb_streams::{DONE, report, tell_words};
 
 // The program's name.
-const PROGRAM: &str = "mfbank";
+pub(crate) const PROGRAM: &str = "mfbank";
 
 // The line for words that are refused.
 const USAGE: &[u8] = b"mfbank: usage: mfbank [--senders N] [--ring N]\n";
@@ -33,10 +33,10 @@ pub fn attend_by<R: Read, W: Write, E: Write, H: Threads + Wait + Clock + Sync, 
         (streams (R.remaining deck.old) (W.contents out.old) (E.contents err.old))
         (streams (R.remaining deck.new) (W.contents out.new) (E.contents err.new)) result }
 {
-    match options_of(alloc, &words) {
+    match options_of_words(alloc, &words) {
         Ok(options) => match operate_by(rt, alloc, deck, out, options, gate) {
             Ok(()) => DONE,
-            Err(fault) => report(alloc, err, PROGRAM, fault),
+            Err(fault) => tell_fault(alloc, err, PROGRAM, fault),
         },
         Err(fault) => tell_words(err, PROGRAM, USAGE, fault),
     }
@@ -49,8 +49,8 @@ pub fn attend_by<R: Read, W: Write, E: Write, H: Threads + Wait + Clock + Sync, 
 /// - `FAULT`: the words are accepted and `operate` has a fault, and `out` got nothing, or the beginning
 ///   of the page where that could not be written; or memory ran out while the words were read. `err`
 ///   gets the fault as one line;
-/// - `WORDS_REFUSED`: `clap` refuses the words, or they ask for help; `err` gets the usage as one line,
-///   the deck is not read and `out` got nothing.
+/// - `WORDS_REFUSED`: `clap` refuses the words, a number is out of its range, or they ask for help; `err`
+///   gets the usage as one line, the deck is not read and `out` got nothing.
 ///
 /// A fault in writing to `err` changes no status. It waits where `operate` does.
 pub fn attend<R: Read, W: Write, E: Write, H: Threads + Wait + Clock + Sync>(

@@ -1,6 +1,6 @@
 -- Entries that are printed are read.
-use Rattle.std.proofs.Common.{◌≡◌, ◌≢◌, ◌∙◌, ℕ, ◌≤◌, ◌<◌, ◌^◌, true, false, cond, List, [], ◌∷◌, ◌++◌, map, leb, Option, Some, None, Ok, ap, arith, refl, codes}
-use Rattle.std.specs.Prelude.{decimal, bytes_eq, nat_lt, option_and_then}
+use Rattle.std.proofs.Common.{◌≡◌, ◌≢◌, ◌∙◌, ℕ, ◌≤◌, ◌<◌, ◌^◌, true, false, cond, List, [], ◌∷◌, ◌++◌, map, leb, Bool, Option, Some, None, Ok, Err, Result, ap, arith, refl, codes}
+use Rattle.std.specs.Prelude.{decimal, bytes_eq, nat_lt}
 use Rattle.std.specs.List.{AllByRecursion, list_all}
 use Rattle.std.proofs.lemmas.Bool.{cond-false, cond-true, le-ltb, leb-true, lt-ltb}
 use Rattle.xb_model.specs.declared.mark.Mark.{Mark}
@@ -8,14 +8,15 @@ use Rattle.xb_model.specs.declared.mark.Mark.TheVariants.{Refused}
 use Rattle.xb_model.specs.declared.reason.Reason.{Reason}
 use Rattle.xb_model.specs.declared.reason.Reason.TheVariants.{Mutilated, Unknown, Abandoned, TimedOut}
 use Rattle.xb_model.specs.Page.{four_digits, marks_text, reason_text}
-use Rattle.xb_rows.specs.RowTexts.{field_number}
-use Rattle.xb_rows.proofs.WrittenFields.{field_number-decimal}
+use Rattle.xb_model.specs.Fields.{field_number}
+use Rattle.xb_model.proofs.WrittenFields.{field_number-decimal}
+use Rattle.xb_page.specs.declared.fault.PageFault.{PageFault}
 use Rattle.xb_page.specs.declared.fault.PageFault.TheVariants as fault
 use Rattle.xb_page.specs.declared.place.Place.{Place}
 use Rattle.xb_page.specs.Entries.{Entry, entry_with}
-use Rattle.xb_page.specs.Places.{line_at, next_number, number_at, text_line}
-use Rattle.xb_page.specs.ReadPages.{entry_of_fields, entry_of_kind, heard_of, is_totals, or_fault, refusal_of_fields, refusal_of_two}
-use Rattle.xb_pieces.specs.Pieces.{pieces}
+use Rattle.xb_page.specs.Places.{Head, head_and, head_of_fields, head_with, is_refusal, next_number, number_at, or_fault, text_line}
+use Rattle.xb_page.specs.ReadPages.{entry_of_fields, entry_of_head, heard_of, is_totals, refusal_of_fields, refusal_of_two}
+use Rattle.xb_text.specs.Pieces.{pieces}
 use Rattle.xb_page.proofs.MarksBack.{IsKeyMark, mark_field, marks-back, marks-no_line_feed, marks-pieces}
 use Rattle.xb_page.proofs.NumbersBack.{and-both, avoids-line_feed, avoids-space, bytes_eq-same, decimal-bytes, four_digits-back, four_digits-bytes, four_digits-no_word}
 use Rattle.xb_page.proofs.Avoiding.{Avoids, both, pieces-cut, pieces-whole, weaker}
@@ -48,25 +49,33 @@ pub record At (place : Place) (line n : ℕ) : Type 0 where
   pub low : place.line ≤ line
   pub next : number_at place line ≡ n
 
-line-back : (place : Place) (line : ℕ) → line < 10000 → place.line ≤ line → line_at place (four_digits line) ≡ Some line
-line-back place line below low =
-    ap (λ (o : Option ℕ). option_and_then (λ l. cond (nat_lt l place.line) None (Some l)) o) (four_digits-back line below)
-    ∙ cond-false _ _ _ (le-ltb line place.line low)
-
 number-back : (place : Place) (line n : ℕ) → number_at place line ≡ n → next_number place line (decimal n) ≡ Some n
 number-back place line n is =
     ap (λ (k : ℕ). cond (bytes_eq (decimal n) (decimal k)) (Some k) None) is
     ∙ cond-true _ _ _ (bytes_eq-same (decimal n))
 
--- what a text line of an entry says depends on the word and what follows
-pub entry_of_head : (place : Place) (line n : ℕ) (kind : List ℕ) (fields : List (List ℕ)) → line < 10000 → At place line n
-    → entry_of_fields place (four_digits line ∷ decimal n ∷ kind ∷ fields) ≡ entry_of_kind (text_line place) line n kind fields
-entry_of_head place line n kind fields below at =
+-- the head of an entry is read
+pub head-back : (place : Place) (line n : ℕ) (kind : List ℕ) (refused : Bool) (fields : List (List ℕ)) → line < 10000
+    → At place line n → is_refusal kind ≡ Some refused
+    → head_of_fields place (four_digits line ∷ decimal n ∷ kind ∷ fields) ≡ Ok (head_with line n refused fields)
+head-back place line n kind refused fields below at is =
     let k = text_line place in
-    ap (λ (l : Option ℕ). or_fault (fault.Line k) l (λ l. or_fault (fault.Number k) (next_number place l (decimal n))
-    (λ number. entry_of_kind k l number kind fields))) (line-back place line below at.low)
-    ∙ ap (λ (m : Option ℕ). or_fault (fault.Number k) m (λ number. entry_of_kind k line number kind fields))
-    (number-back place line n at.next)
+    ap (λ (l : Option ℕ). or_fault {B = Head} (fault.Line k) l (λ l. cond (nat_lt l place.line) (Err (fault.Early k))
+    (or_fault (fault.Number k) (next_number place l (decimal n)) (λ m.
+    or_fault (fault.Kind k) (is_refusal kind) (λ r. Ok (head_with l m r fields)))))) (four_digits-back line below)
+    ∙ cond-false _ _ _ (le-ltb line place.line at.low)
+    ∙ ap (λ (m : Option ℕ). or_fault {B = Head} (fault.Number k) m (λ m.
+    or_fault (fault.Kind k) (is_refusal kind) (λ r. Ok (head_with line m r fields)))) (number-back place line n at.next)
+    ∙ ap (λ (r : Option Bool). or_fault {B = Head} (fault.Kind k) r (λ r. Ok (head_with line n r fields))) is
+
+-- what a text line of an entry says depends on the word and what follows
+pub entry-by_head : (place : Place) (line n : ℕ) (kind : List ℕ) (refused : Bool) (fields : List (List ℕ)) → line < 10000
+    → At place line n → is_refusal kind ≡ Some refused
+    → entry_of_fields place (four_digits line ∷ decimal n ∷ kind ∷ fields)
+    ≡ entry_of_head (text_line place) (head_with line n refused fields)
+entry-by_head place line n kind refused fields below at is =
+    ap (λ (r : Result Head PageFault). head_and r (λ head. entry_of_head (text_line place) head))
+    (head-back place line n kind refused fields below at is)
 
 abbrev pub keyed_rest : List Mark → List ℕ
 keyed_rest entry = codes "KEYED" ++ marks_text entry
@@ -96,7 +105,7 @@ pub keyed-back : (place : Place) (line n : ℕ) (entry : List Mark) → line < 1
     → entry_of_fields place (pieces 32 (entry_line line n (keyed_rest entry))) ≡ Ok (entry_with line n entry)
 keyed-back place line n entry below small at are =
     ap (λ (fields : List (List ℕ)). entry_of_fields place fields) (keyed-pieces line n entry below small are)
-    ∙ entry_of_head place line n (codes "KEYED") (map mark_field entry) below at
+    ∙ entry-by_head place line n (codes "KEYED") false (map mark_field entry) below at refl
     ∙ ap (λ (marks : Option (List Mark)). or_fault {B = Entry} (fault.Key (text_line place)) marks
     (λ marks. Ok (entry_with line n marks))) (marks-back entry are)
 
@@ -179,7 +188,7 @@ pub refused-back : (place : Place) (line n : ℕ) (reason : Reason) (heard : ℕ
     ≡ Ok (entry_with line n (Refused reason heard ∷ []))
 refused-back place line n reason heard below small at few =
     ap (λ (fields : List (List ℕ)). entry_of_fields place fields) (refused-pieces line n reason heard below small few)
-    ∙ entry_of_head place line n (codes "REFUSED") (reason_text reason ∷ decimal heard ∷ []) below at
+    ∙ entry-by_head place line n (codes "REFUSED") true (reason_text reason ∷ decimal heard ∷ []) below at refl
     ∙ ap (λ (mark : Option Mark). or_fault {B = Entry} (fault.Refusal (text_line place)) mark
     (λ mark. Ok (entry_with line n (mark ∷ [])))) (refusal-back reason heard few)
 

@@ -8,14 +8,14 @@ use Rattle.xb_model.specs.declared.key.Tone.{Tone as Pair}
 use Rattle.xb_model.specs.declared.mark.Mark.{Mark}
 use Rattle.xb_model.specs.declared.mark.Mark.TheVariants.{Trunk, Tone, Refused}
 use Rattle.xb_model.specs.Page.{four_digits, key_text, mark_text, marks_text, pair_text}
-use Rattle.xb_rows.specs.RowTexts.{field_number}
-use Rattle.xb_rows.proofs.WrittenFields.{field_number-decimal}
+use Rattle.xb_model.specs.Fields.{field_number}
+use Rattle.xb_model.proofs.WrittenFields.{field_number-decimal}
 use Rattle.std.proofs.Math.Bool.{and-false}
 use Rattle.std.proofs.lemmas.Bool.{lt-ltb}
 use Rattle.std.proofs.lemmas.Fmt.{decimal_digit}
 use Rattle.xb_page.specs.ReadBack.{IsKey, IsMark}
 use Rattle.xb_page.specs.ReadPages.{before, hz_of, key_of, mark_of, mark_of_two, marks_of, pair_of, pair_of_two, tone_of_two, two_of}
-use Rattle.xb_pieces.specs.Pieces.{pieces}
+use Rattle.xb_text.specs.Pieces.{pieces}
 use Rattle.xb_page.proofs.Avoiding.{Avoids, both, pieces-cut, pieces-whole, weaker}
 use Rattle.xb_page.proofs.NumbersBack.{IsDigitByte, avoids-colon, avoids-plus, decimal-bytes, four_digits-back, four_digits-bytes}
 

@@ -8,7 +8,7 @@ use Rattle.std.proofs.lemmas.Fmt.{decimal_by_steps, length-decimal-le}
 use Rattle.std.proofs.lemmas.List.{length-replicate}
 use Rattle.std.proofs.lemmas.Slice.Eq.{bytes_eq-Decides}
 use Rattle.xb_model.specs.Page.{four_digits}
-use Rattle.xb_rows.specs.RowTexts.{field_number}
+use Rattle.xb_model.specs.Fields.{field_number}
 use Rattle.xb_page.specs.Places.{four_digits_of}
 use Rattle.xb_page.proofs.Avoiding.{Avoids, both, weaker}
 

@@ -18,11 +18,12 @@ use Rattle.xb_page.specs.Entries.{Entry, entry_with}
 use Rattle.xb_page.specs.Places.{place_after, place_with}
 use Rattle.xb_page.specs.ReadBack.{AreMarks, IsMark, PagesAreReadBack, entries_of_line, entries_of_tapes, said_by, said_of}
 use Rattle.xb_page.specs.ReadPages.{are_four, before_entries, end_of, entries_from, entry_and_rest, entry_of_fields, first_place, is_end, is_totals, says_totals}
-use Rattle.xb_pieces.specs.Pieces.{pieces}
-use Rattle.xb_page.proofs.EntriesBack.{At, entry_line, entry_line-no_line_feed, keyed-back, keyed-no_line_feed, keyed-not_totals, keyed_rest, refused-back, refused-no_line_feed, refused-not_totals, refused_rest, keyed-word, refused-word}
+use Rattle.xb_text.specs.Pieces.{pieces}
+use Rattle.xb_page.proofs.EntriesBack.{At, entry_line, entry_line-no_line_feed, keyed-back, keyed-no_line_feed, keyed-not_totals, keyed_rest, refused-back, refused-no_line_feed, refused-not_totals, refused_rest}
 use Rattle.xb_page.proofs.MarksBack.{IsKeyMark}
-use Rattle.xb_page.proofs.NumbersBack.{avoids-line_feed, avoids-space, bytes_eq-same, decimal-bytes}
-use Rattle.xb_page.proofs.Avoiding.{Avoids, both, pieces-cut, pieces-whole}
+use Rattle.xb_page.proofs.EntryHeads.{IsLine-totals, are-totals, is_totals-totals, totals_text-words, totals_words, words-totals}
+use Rattle.xb_page.proofs.PlainBytes.{no_feed}
+use Rattle.xb_page.proofs.Avoiding.{Avoids, pieces-cut}
 
 -- an entry: its last mark, and no other, ends it
 abbrev IsEntry : List Mark → Type 0
@@ -261,45 +262,6 @@ tapes-back (marks ∷ tapes) place line all few at rest later next =
     ∙ ap (λ (all : List Entry). Ok all)
     (sym (append_assoc (entries_of_line line 1 entries) (entries_of_tapes (line + 1) tapes) later))
 
--- the last text line
-abbrev totals_line : ℕ → ℕ → List ℕ
-totals_line k r = codes "KEYED" ++ (32 ∷ (decimal k ++ (32 ∷ (codes "REFUSED" ++ (32 ∷ decimal r)))))
-
-totals_text-line : (k r : ℕ) → totals_text k r ≡ totals_line k r ++ 10 ∷ []
-totals_text-line k r = simp append_assoc
-
-totals-pieces : (k r : ℕ) → k < 2 ^ 64 → r < 2 ^ 64
-    → pieces 32 (totals_line k r) ≡ codes "KEYED" ∷ decimal k ∷ codes "REFUSED" ∷ decimal r ∷ []
-totals-pieces k r small_k small_r =
-    pieces-cut 32 (codes "KEYED") (decimal k ++ (32 ∷ (codes "REFUSED" ++ (32 ∷ decimal r)))) (keyed-word 32 (omega arith))
-    ∙ ap (λ (more : List (List ℕ)). codes "KEYED" ∷ more)
-    (pieces-cut 32 (decimal k) (codes "REFUSED" ++ (32 ∷ decimal r)) (avoids-space (decimal k) (decimal-bytes k small_k)))
-    ∙ ap (λ (more : List (List ℕ)). codes "KEYED" ∷ decimal k ∷ more)
-    (pieces-cut 32 (codes "REFUSED") (decimal r) (refused-word 32 (omega arith)))
-    ∙ ap (λ (more : List (List ℕ)). codes "KEYED" ∷ decimal k ∷ codes "REFUSED" ∷ more)
-    (pieces-whole 32 (decimal r) (avoids-space (decimal r) (decimal-bytes r small_r)))
-
-are-totals : (k r : ℕ) (place : Place) → place.keyed ≡ k → place.refused ≡ r
-    → says_totals place (codes "KEYED" ∷ decimal k ∷ codes "REFUSED" ∷ decimal r ∷ []) ≡ true
-are-totals k r place keyed refused =
-    ap (λ (n : ℕ). are_four n place.refused (Some (codes "KEYED", decimal k, codes "REFUSED", decimal r))) keyed
-    ∙ ap (λ (n : ℕ). are_four k n (Some (codes "KEYED", decimal k, codes "REFUSED", decimal r))) refused
-    ∙ ap (λ (b : Bool). b && true && bytes_eq (decimal r) (decimal r)) (bytes_eq-same (decimal k))
-    ∙ bytes_eq-same (decimal r)
-
-totals-no_line_feed : (k r : ℕ) → k < 2 ^ 64 → r < 2 ^ 64 → Avoids 10 (totals_line k r)
-totals-no_line_feed k r small_k small_r =
-    let P : ℕ → Type 0 = λ x. x ≢ 10 in
-    both P (codes "KEYED") (32 ∷ (decimal k ++ (32 ∷ (codes "REFUSED" ++ (32 ∷ decimal r))))) (keyed-word 10 (omega arith)) (
-      (λ e. absurd (omega arith)),
-      both P (decimal k) (32 ∷ (codes "REFUSED" ++ (32 ∷ decimal r)))
-          (avoids-line_feed (decimal k) (decimal-bytes k small_k)) (
-            (λ e. absurd (omega arith)),
-            both P (codes "REFUSED") (32 ∷ decimal r) (refused-word 10 (omega arith))
-                ((λ e. absurd (omega arith)), avoids-line_feed (decimal r) (decimal-bytes r small_r)),
-          ),
-    )
-
 -- the text line of totals
 end-step : (place : Place) (line rest : List ℕ) → Avoids 10 line → is_end (line ∷ pieces 10 rest) ≡ false
     → is_totals (pieces 32 line) ≡ true
@@ -313,40 +275,21 @@ end-last : (place : Place) (fields lines : List (List ℕ)) → says_totals plac
     → end_of place fields lines ≡ Ok []
 end-last place fields lines says end = cond-true _ _ _ says ∙ cond-true _ _ _ end
 
-totals-back : (k r : ℕ) → k < 2 ^ 64 → r < 2 ^ 64 → (place : Place) → place.keyed ≡ k → place.refused ≡ r
+totals-back : (k r : ℕ) (place : Place) → place.keyed ≡ k → place.refused ≡ r
     → entries_from place (pieces 10 (totals_text k r)) ≡ Ok []
-totals-back k r small_k small_r place keyed refused =
-    let fields = totals-pieces k r small_k small_r in
-    let begins : is_totals (pieces 32 (totals_line k r)) ≡ true =
-    ap (λ (fields : List (List ℕ)). is_totals fields) fields in
-    let says : says_totals place (pieces 32 (totals_line k r)) ≡ true =
-    ap (λ (fields : List (List ℕ)). says_totals place fields) fields ∙ are-totals k r place keyed refused in
-    ap (λ (t : List ℕ). entries_from place (pieces 10 t)) (totals_text-line k r)
-    ∙ end-step place (totals_line k r) [] (totals-no_line_feed k r small_k small_r)
-    (not_end (codes "KEYED") 32 (decimal k ++ (32 ∷ (codes "REFUSED" ++ (32 ∷ decimal r)))) (pieces 10 [])) begins
-    ∙ end-last place (pieces 32 (totals_line k r)) (pieces 10 []) says refl
-
--- there are not too many entries
-few-entries : (test : List Mark → Bool) (tapes : List (List Mark)) → AllByRecursion AreMarks tapes
-    → count_entries test tapes ≤ length tapes * 10 ^ 7
-few-entries test [] all = omega arith
-few-entries test (marks ∷ tapes) all =
-    omega (
-      arith,
-      sum_by-cons (λ marks. count_by test (entries_of marks)) marks tapes,
-      count_by-le-length test (entries_of marks),
-      length-entries_of marks,
-      all.0.1,
-      few-entries test tapes all.1,
-    )
+totals-back k r place keyed refused =
+    let says : says_totals place (pieces 32 (totals_words k r)) ≡ true =
+    ap (λ (fields : List (List ℕ)). says_totals place fields) (words-totals k r) ∙ are-totals k r place keyed refused in
+    ap (λ (t : List ℕ). entries_from place (pieces 10 t)) (totals_text-words k r)
+    ∙ end-step place (totals_words k r) [] (no_feed (totals_words k r) (IsLine-totals k r))
+    (not_end (codes "KEYED") 32 (decimal k ++ (32 ∷ (codes "REFUSED" ++ (32 ∷ decimal r)))) (pieces 10 [])) (is_totals-totals k r)
+    ∙ end-last place (pieces 32 (totals_words k r)) (pieces 10 []) says refl
 
 pub pages_are_read_back : PagesAreReadBack
 pages_are_read_back tapes few all =
     let k : ℕ = count_entries is_keyed tapes in
     let r : ℕ = count_entries is_refused tapes in
-    let small_k : k < 2 ^ 64 = omega (arith, few-entries is_keyed tapes all, few) in
-    let small_r : r < 2 ^ 64 = omega (arith, few-entries is_refused tapes all, few) in
     let first : At first_place 0 1 = record { low = omega arith; next = refl } in
     tapes-back tapes first_place 0 all (omega (arith, few)) first (totals_text k r) []
-    (λ place keyed refused. totals-back k r small_k small_r place (omega (arith, keyed)) (omega (arith, refused)))
+    (λ place keyed refused. totals-back k r place (omega (arith, keyed)) (omega (arith, refused)))
     ∙ ap (λ (entries : List Entry). Ok entries) (append-nil (entries_of_tapes 0 tapes))

@@ -7,12 +7,13 @@ use Rattle.std.proofs.lemmas.List.Sums.{count_by-le-length}
 use Rattle.xb_model.specs.declared.mark.Mark.{Mark}
 use Rattle.xb_page.proofs.Counts.{some-piece}
 use Rattle.xb_page.specs.Entries.{Entry}
-use Rattle.xb_page.specs.Places.{line_at, next_number, place_after, text_line}
+use Rattle.xb_page.specs.Places.{Head, field_at, head_and, head_of_fields, head_of_words, place_after, text_line, written}
 use Rattle.xb_page.specs.declared.fault.PageFault.{PageFault}
 use Rattle.xb_page.specs.declared.fault.PageFault.TheVariants as fault
+use Rattle.xb_page.specs.declared.place.Head.{Head as WrittenHead}
 use Rattle.xb_page.specs.declared.place.Place.{Place}
-use Rattle.xb_page.specs.ReadPages.{IsFaultOf, TakesLine, after, before, before_entries, end_of, entries_from, entry_and_rest, entry_of_fields, entry_of_kind, field_at, is_cut, is_end, is_totals, mark_of, marks_of, or_fault, says_totals, with_earlier}
-use Rattle.xb_pieces.specs.Pieces.{pieces}
+use Rattle.xb_page.specs.ReadPages.{IsFaultOf, TakesLine, after, before, before_entries, end_of, entries_from, entry_and_rest, entry_of_fields, entry_of_head, is_cut, is_end, is_totals, mark_of, marks_of, says_totals, with_earlier}
+use Rattle.xb_text.specs.Pieces.{pieces}
 
 pub earlier-none : (marks : Option (List Mark)) → marks ≡ with_earlier [] marks
 earlier-none None = refl
@@ -164,33 +165,38 @@ fields-3 (a ∷ []) = refl
 fields-3 (a ∷ b ∷ []) = refl
 fields-3 (a ∷ b ∷ c ∷ fields) = refl
 
-abbrev says_of : Place → List ℕ → List ℕ → List ℕ → List (List ℕ) → Result Entry PageFault
-says_of place line number kind rest =
-    or_fault (fault.Line (text_line place)) (line_at place line) (λ line.
-    or_fault (fault.Number (text_line place)) (next_number place line number)
-    (λ number. entry_of_kind (text_line place) line number kind rest))
-
-pub fields-in_turn : (place : Place) (n : ℕ) → n ≡ text_line place → (fields one two three : List (List ℕ)) (a b kind : List ℕ) (line number : ℕ)
+pub fields-in_turn : (place : Place) (fields one two three : List (List ℕ)) (a b kind : List ℕ)
     → a ≡ field_at fields 0 → one ≡ drop 1 fields → b ≡ field_at one 0 → two ≡ drop 1 one
     → kind ≡ field_at two 0 → three ≡ drop 1 two
-    → line_at place a ≡ Some line → next_number place line b ≡ Some number
-    → entry_of_fields place fields ≡ entry_of_kind n line number kind three
-fields-in_turn place n n_is fields one two three a b kind line number a_is one_is b_is two_is kind_is three_is line_is number_is =
-    let at = text_line place in
+    → head_of_fields place fields ≡ head_of_words place a b kind three
+fields-in_turn place fields one two three a b kind a_is one_is b_is two_is kind_is three_is =
     let two_all : two ≡ drop 1 (drop 1 fields) = two_is ∙ ap (λ (fs : List (List ℕ)). drop 1 fs) one_is in
     let b_all : b ≡ field_at fields 1 = b_is ∙ ap (λ (fs : List (List ℕ)). field_at fs 0) one_is ∙ field-1 fields in
     let kind_all : kind ≡ field_at fields 2 =
     kind_is ∙ ap (λ (fs : List (List ℕ)). field_at fs 0) two_all ∙ field-2 fields in
     let three_all : three ≡ drop 3 fields =
     three_is ∙ ap (λ (fs : List (List ℕ)). drop 1 fs) two_all ∙ fields-3 fields in
-    ap (λ (x : List ℕ). says_of place x (field_at fields 1) (field_at fields 2) (drop 3 fields)) (sym a_is)
-    ∙ ap (λ (x : List ℕ). says_of place a x (field_at fields 2) (drop 3 fields)) (sym b_all)
-    ∙ ap (λ (x : List ℕ). says_of place a b x (drop 3 fields)) (sym kind_all)
-    ∙ ap (λ (x : List (List ℕ)). says_of place a b kind x) (sym three_all)
-    ∙ ap (λ (x : Option ℕ). or_fault (fault.Line at) x (λ line. or_fault (fault.Number at) (next_number place line b)
-    (λ number. entry_of_kind at line number kind three))) line_is
-    ∙ ap (λ (x : Option ℕ). or_fault (fault.Number at) x (λ number. entry_of_kind at line number kind three)) number_is
-    ∙ ap (λ (k : ℕ). entry_of_kind k line number kind three) (sym n_is)
+    ap (λ (x : List ℕ). head_of_words place x (field_at fields 1) (field_at fields 2) (drop 3 fields)) (sym a_is)
+    ∙ ap (λ (x : List ℕ). head_of_words place a x (field_at fields 2) (drop 3 fields)) (sym b_all)
+    ∙ ap (λ (x : List ℕ). head_of_words place a b x (drop 3 fields)) (sym kind_all)
+    ∙ ap (λ (x : List (List ℕ)). head_of_words place a b kind x) (sym three_all)
+
+pub same-head : (r : Result WrittenHead PageFault) (says now : Result Head PageFault) → says ≡ now
+    → IfOk r (λ x. now ≡ Ok (written x)) → IfOk r (λ x. says ≡ Ok (written x))
+same-head (Ok x) says now is h = is ∙ h
+same-head (Err f) says now is h = tt
+
+pub same-head_fault : (r : Result WrittenHead PageFault) (says now : Result Head PageFault) → says ≡ now
+    → IfErr r (λ f. now ≡ Err f) → IfErr r (λ f. says ≡ Err f)
+same-head_fault (Ok x) says now is h = tt
+same-head_fault (Err f) says now is h = is ∙ h
+
+-- the entry of a head that was read
+pub entry-of_read : (place : Place) (n : ℕ) (fields : List (List ℕ)) (head : Head) → n ≡ text_line place
+    → head_of_fields place fields ≡ Ok head → entry_of_fields place fields ≡ entry_of_head n head
+entry-of_read place n fields head n_is is =
+    ap (λ (r : Result Head PageFault). head_and r (λ head. entry_of_head (text_line place) head)) is
+    ∙ ap (λ (k : ℕ). entry_of_head k head) (sym n_is)
 
 pub same-ok : {T : Type 0} (r : Result T PageFault) (says now : Result T PageFault) → says ≡ now
     → IfOk r (λ x. now ≡ Ok x) → IfOk r (λ x. says ≡ Ok x)

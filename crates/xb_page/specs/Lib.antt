@@ -1,4 +1,6 @@
 pub mod Entries
 pub mod Places
 pub mod ReadPages
+pub mod Sheets
+pub mod PageLines
 pub mod ReadBack

@@ -1,5 +1,5 @@
 -- How a page is read back (own format).
-use Rattle.std.specs.Prelude.{◌≡◌, ◌⊎◌, ℕ, ◌&&◌, if◌then◌else◌, nat_lt, List, [], ◌∷◌, ◌++◌, codes, decimal, drop, slice_index_or, Bool, true, false, Option, Some, None, option_and_then, option_map, Result, Ok, Err, bytes_eq}
+use Rattle.std.specs.Prelude.{◌≡◌, ◌⊎◌, ℕ, ◌&&◌, if◌then◌else◌, nat_lt, List, [], ◌∷◌, ◌++◌, codes, decimal, Bool, true, false, Option, Some, None, option_and_then, option_map, Result, Ok, Err, bytes_eq}
 use Rattle.xb_model.specs.declared.key.Key.{Key}
 use Rattle.xb_model.specs.declared.key.Key.TheVariants.{Digit, Kp, St}
 use Rattle.xb_model.specs.declared.key.Tone.{Tone as Pair}
@@ -8,21 +8,15 @@ use Rattle.xb_model.specs.declared.mark.Mark.TheVariants.{Trunk, Tone, Refused}
 use Rattle.xb_model.specs.declared.reason.Reason.{Reason}
 use Rattle.xb_model.specs.declared.reason.Reason.TheVariants.{Mutilated, Unknown, Abandoned, TimedOut}
 use Rattle.xb_model.specs.MfPairs.{pair}
-use Rattle.xb_pieces.specs.Pieces.{pieces}
-use Rattle.xb_rows.specs.RowTexts.{field_number}
+use Rattle.xb_text.specs.Pieces.{pieces}
+use Rattle.xb_model.specs.Fields.{field_number}
 use Rattle.xb_page.specs.Entries.{Entry, entry_with}
-use Rattle.xb_page.specs.Places.{four_digits_of, line_at, next_number, place_after, place_with, text_line}
+use Rattle.xb_page.specs.Places.{Head, field_at, four_digits_of, head_and, head_of_fields, line_feed, or_fault, place_after, place_with, space, text_line}
 use Rattle.xb_page.specs.declared.fault.PageFault.{PageFault}
 use Rattle.xb_page.specs.declared.fault.PageFault.TheVariants as fault
 use Rattle.xb_page.specs.declared.place.Place.{Place}
 
--- LF, space, plus, colon
-abbrev pub line_feed : ℕ
-line_feed = 10
-
-abbrev pub space : ℕ
-space = 32
-
+-- plus, colon
 abbrev pub plus : ℕ
 plus = 43
 
@@ -93,29 +87,18 @@ refusal_of_two reason heard = option_and_then (λ r. option_map (λ h. Refused r
 abbrev pub refusal_of_fields : List (List ℕ) → Option Mark
 refusal_of_fields fields = option_and_then (λ two. refusal_of_two (reason_of two.0) (heard_of two.1)) (two_of fields)
 
--- what is there, or else a fault
-abbrev pub or_fault : {A B : Type 0} → PageFault → Option A → (A → Result B PageFault) → Result B PageFault
-or_fault f None next = Err f
-or_fault f (Some x) next = next x
-
--- field k of a text line; one that is missing is empty
-abbrev pub field_at : List (List ℕ) → ℕ → List ℕ
-field_at fields k = slice_index_or fields k []
-
-abbrev pub entry_of_kind : ℕ → ℕ → ℕ → List ℕ → List (List ℕ) → Result Entry PageFault
-entry_of_kind n line number kind rest =
-    if bytes_eq kind (codes "KEYED")
-    then or_fault (fault.Key n) (marks_of rest) (λ marks. Ok (entry_with line number marks))
-    else (if bytes_eq kind (codes "REFUSED")
-    then or_fault (fault.Refusal n) (refusal_of_fields rest) (λ mark. Ok (entry_with line number (mark ∷ [])))
-    else Err (fault.Kind n))
+-- the entry of a head in text line n
+abbrev pub entry_of_head : ℕ → Head → Result Entry PageFault
+entry_of_head n head =
+    if head.refused
+    then or_fault (fault.Refusal n) (refusal_of_fields head.rest)
+    (λ mark. Ok (entry_with head.line head.number (mark ∷ [])))
+    else or_fault (fault.Key n) (marks_of head.rest) (λ marks. Ok (entry_with head.line head.number marks))
 
 -- the entry that the text line at a place writes, or its first fault
 abbrev pub entry_of_fields : Place → List (List ℕ) → Result Entry PageFault
 entry_of_fields place fields =
-    or_fault (fault.Line (text_line place)) (line_at place (field_at fields 0)) (λ line.
-    or_fault (fault.Number (text_line place)) (next_number place line (field_at fields 1)) (λ number.
-    entry_of_kind (text_line place) line number (field_at fields 2) (drop 3 fields)))
+    head_and (head_of_fields place fields) (λ head. entry_of_head (text_line place) head)
 
 -- four pieces
 abbrev pub four_of : List (List ℕ) → Option (List ℕ × List ℕ × List ℕ × List ℕ)

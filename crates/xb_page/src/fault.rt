@@ -7,9 +7,12 @@ use thiserror::Error;
 /// Why a text is no page: the first fault, with its text line, counted from 1.
 #[derive(Clone, Copy, Debug, PartialEq, Eq, Error)]
 pub enum PageFault {
-    /// The first field is no line of four digits, or a line before that of the entry above.
+    /// The first field is no line of four digits.
     #[error("text line {0} has a wrong line")]
     Line(usize),
+    /// The line is before that of the entry above, or before the first that the page may have.
+    #[error("text line {0} has a wrong line")]
+    Early(usize),
     /// The second field does not count the entries of the line, from 1.
     #[error("text line {0} has a wrong entry number")]
     Number(usize),

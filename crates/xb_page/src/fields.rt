@@ -1,13 +1,12 @@
 // What the fields of a text line write.
 ghost use Rattle.std.specs.Prelude.{◌≡◌, ◌<◌, ◌^◌, IfSome, option_copied, bytes_eq, decimal};
-ghost use Rattle.xb_page.specs.Places.{four_digits_of};
-ghost use Rattle.xb_page.specs.ReadPages.{heard_of, hz_of, key_of, mark_of, pair_of, reason_of, refusal_of_fields, space, trunk_of};
-ghost use Rattle.xb_pieces.specs.Pieces.{pieces_left};
+ghost use Rattle.xb_page.specs.Places.{four_digits_of, is_refusal, space};
+ghost use Rattle.xb_page.specs.ReadPages.{heard_of, hz_of, key_of, mark_of, pair_of, reason_of, refusal_of_fields, trunk_of};
+ghost use Rattle.xb_text.specs.Pieces.{pieces_left};
 
 use crate::pieces::two_pieces;
 use itoa::Buffer;
-use xb_model::{Digit, Key, Mark, Reason, Tone, Trunk};
-use xb_rows::field_number;
+use xb_model::{Digit, Key, Mark, Reason, Tone, Trunk, field_number};
 
 // Frequencies lie below half of 8,000 samples a second.
 const TOO_HIGH_HZ: u32 = 4_000;
@@ -32,6 +31,19 @@ pub(crate) fn is_decimal(text: &[u8], number: usize) -> bool
 {
     let mut buffer = Buffer::new();
     text == buffer.format(number).as_bytes()
+}
+
+// Whether a field says that an entry is refused, or that it is keyed.
+pub(crate) fn is_refusal(field: &[u8]) -> Option<bool>
+    ensures { result ≡ is_refusal field.now }
+{
+    if field == b"KEYED".as_slice() {
+        Some(false)
+    } else if field == b"REFUSED".as_slice() {
+        Some(true)
+    } else {
+        None
+    }
 }
 
 // The key that a text names.

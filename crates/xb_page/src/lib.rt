@@ -1,15 +1,30 @@
-//! A page that was printed, read back: its text in, its entries out, or the first text line that is
-//! damaged.
+//! Pages read back: their entries, or the first fault with its text line.
+//!
+//! - `page_entries`: exactly what `entries_of_page` says of the text, the entries in their order, or its
+//!   first fault, unless memory ran out: a line that is no four digits or comes before that of the entry
+//!   above, a number that is not the next of its line, neither KEYED nor REFUSED, a wrong trunk group or
+//!   key, a wrong refusal, totals that are not those of the entries, no totals, text after them.
+//! - `PageEntry`: its line, its number, its marks, and by its last mark whether and why it is refused.
+//! - `read_page`: exactly the heads and the totals of a page, of lines from a first one on, or the first
+//!   fault of these; what stands after the head of an entry stays text. It takes no memory.
+//! - `laws::pages_are_read_back`: what is read of the page of tapes, of at most 10,000 lines and fewer than
+//!   10^7 marks a line, are exactly the entries that it was printed from.
+//!
+//! Not said: that a text that is read is a page, byte for byte. Frequencies (below 4,000 Hz) and counts may
+//! have leading zeros, and the marks of a keyed entry stand in any order.
 #![tactic(auto)]
 
 mod entry;
 mod fault;
 mod fields;
+mod heads;
 pub mod laws;
 mod pieces;
 mod place;
 mod reading;
+mod totals;
 
 pub use entry::PageEntry;
 pub use fault::PageFault;
+pub use heads::{ReadPage, read_page};
 pub use reading::{MOST_PAGE_BYTES, page_entries};

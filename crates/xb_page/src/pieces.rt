@@ -1,9 +1,22 @@
 // The pieces of a text between bytes.
-ghost use Rattle.std.specs.Prelude.{◌≡◌, option_map};
-ghost use Rattle.xb_page.specs.ReadPages.{four_of, space, two_of};
-ghost use Rattle.xb_pieces.specs.Pieces.{pieces};
+ghost use Rattle.std.specs.Prelude.{◌≡◌, drop, option_copied, option_map};
+ghost use Rattle.xb_page.specs.Places.{field_at, space};
+ghost use Rattle.xb_page.specs.ReadPages.{four_of, two_of};
+ghost use Rattle.xb_text.specs.Pieces.{pieces, pieces_left};
 
-use xb_pieces::first_piece;
+use xb_text::first_piece;
+
+// The next field of a text line, empty where there is none, and what is left after it.
+pub(crate) fn next_field(left: Option<&[u8]>) -> (&[u8], Option<&[u8]>)
+    ensures field { result.0.now ≡ field_at (pieces_left space (option_copied left.entry)) 0 }
+    ensures rest { pieces_left space (option_copied result.1)
+        ≡ drop 1 (pieces_left space (option_copied left.entry)) }
+{
+    match left {
+        Some(text) => first_piece(b' ', text),
+        None => (&[], None),
+    }
+}
 
 // The pieces of a text that has two.
 pub(crate) fn two_pieces(byte: u8, text: &[u8]) -> Option<(&[u8], &[u8])>

@@ -1,32 +1,20 @@
 // The entries of a page.
-ghost use Rattle.std.specs.Prelude.{◌≡◌, ◌≤◌, ◌<◌, ◌+◌, ◌^◌, Ok, IfOk, IfErr, OnOk, ◌∷◌, option_map, Some, [], length, drop, option_copied};
-ghost use Rattle.xb_page.specs.Places.{text_line};
-ghost use Rattle.xb_page.specs.ReadPages.{IsFaultOf, IsWrongKey, IsWrongRefusal, TakesLine, end_of, entries_of_page, entry_of_fields, entry_of_kind, field_at, is_end, is_totals, line_feed, marks_of, refusal_of_fields, says_totals, space};
-ghost use Rattle.xb_pieces.specs.Pieces.{pieces, pieces_left};
+ghost use Rattle.std.specs.Prelude.{◌≡◌, ◌≤◌, ◌<◌, ◌+◌, ◌^◌, Ok, IfOk, IfErr, OnOk, ◌∷◌, option_map, Some, [], length, option_copied};
+ghost use Rattle.xb_page.specs.Places.{line_feed, space, text_line, written};
+ghost use Rattle.xb_page.specs.ReadPages.{IsFaultOf, IsWrongKey, IsWrongRefusal, TakesLine, end_of, entries_of_page, entry_of_fields, entry_of_head, is_end, marks_of, refusal_of_fields};
+ghost use Rattle.xb_text.specs.Pieces.{pieces, pieces_left};
 
 use crate::entry::PageEntry;
 use crate::fault::PageFault;
-use crate::fields::{is_decimal, mark_of, refusal_of};
-use crate::pieces::four_pieces;
-use crate::place::Place;
+use crate::fields::{mark_of, refusal_of};
+use crate::place::{Head, Place};
+use crate::totals::{is_totals, says_totals};
 use std::alloc::Global;
-use xb_model::{Key, LineNo, Mark};
-use xb_pieces::first_piece;
+use xb_model::{Key, Mark};
+use xb_text::first_piece;
 
 /// The most bytes of a page (own limit).
 pub const MOST_PAGE_BYTES: usize = 67_108_864;
-
-// The next field of a text line, empty where there is none, and what is left after it.
-fn next_field(left: Option<&[u8]>) -> (&[u8], Option<&[u8]>)
-    ensures field { result.0.now ≡ field_at (pieces_left space (option_copied left.entry)) 0 }
-    ensures rest { pieces_left space (option_copied result.1)
-        ≡ drop 1 (pieces_left space (option_copied left.entry)) }
-{
-    match left {
-        Some(text) => first_piece(b' ', text),
-        None => (&[], None),
-    }
-}
 
 // The marks that the fields of text line `n` write.
 fn marks_of(alloc: Global, n: usize, fields: Option<&[u8]>) -> Result<Vec<Mark>, PageFault>
@@ -67,31 +55,18 @@ fn refused_marks(alloc: Global, n: usize, rest: Option<&[u8]>) -> Result<Vec<Mar
     Ok(marks)
 }
 
-// The entry that text line `n` of a kind writes.
-fn entry_of_kind(
-    alloc: Global,
-    n: usize,
-    line: LineNo,
-    number: usize,
-    kind: &[u8],
-    rest: Option<&[u8]>,
-) -> Result<PageEntry, PageFault>
-    ensures entry { let fields = pieces_left space (option_copied rest.entry) in
-        let says = entry_of_kind n line number kind.now fields in
-        IfOk result (λ entry. says ≡ Ok entry) }
-    ensures fault { let fields = pieces_left space (option_copied rest.entry) in
-        let says = entry_of_kind n line number kind.now fields in
-        IfErr result (λ f. IsFaultOf says f) }
-    ensures number { IfOk result (λ entry. entry.number ≡ number) }
+// The entry of a head in text line `n`.
+fn entry_of_head(alloc: Global, n: usize, head: Head<'_>) -> Result<PageEntry, PageFault>
+    ensures entry { IfOk result (λ entry. entry_of_head n (written head.entry) ≡ Ok entry) }
+    ensures fault { IfErr result (λ f. IsFaultOf (entry_of_head n (written head.entry)) f) }
+    ensures number { IfOk result (λ entry. entry.number ≡ head.entry.number) }
 {
-    if kind == b"KEYED".as_slice() {
-        let marks = marks_of(alloc, n, rest)?;
-        Ok(PageEntry::new(line, number, marks))
-    } else if kind == b"REFUSED".as_slice() {
-        let marks = refused_marks(alloc, n, rest)?;
-        Ok(PageEntry::new(line, number, marks))
+    if head.refused {
+        let marks = refused_marks(alloc, n, head.rest)?;
+        Ok(PageEntry::new(head.line, head.number, marks))
     } else {
-        Err(PageFault::Kind(n))
+        let marks = marks_of(alloc, n, head.rest)?;
+        Ok(PageEntry::new(head.line, head.number, marks))
     }
 }
 
@@ -103,13 +78,11 @@ fn entry_of_line(alloc: Global, place: &Place, text: &[u8]) -> Result<PageEntry,
     ensures fault { IfErr result (λ f. IsFaultOf (entry_of_fields place.now (pieces space text.now)) f) }
     ensures number { IfOk result (λ entry. entry.number ≤ place.now.entries + 1) }
 {
-    let n = place.text_line();
-    let (line, left) = next_field(Some(text));
-    let (number, left) = next_field(left);
-    let (kind, left) = next_field(left);
-    let line = place.line_at(line).ok_or(PageFault::Line(n))?;
-    let number = place.next_number(line, number).ok_or(PageFault::Number(n))?;
-    entry_of_kind(alloc, n, line, number, kind, left)
+    // as in `Place::after_head`
+    match place.head_of(text) {
+        Ok(head) => entry_of_head(alloc, place.text_line(), head),
+        Err(fault) => Err(fault),
+    }
 }
 
 // Puts the entry of a text line after the earlier ones, and returns the place after it.
@@ -128,34 +101,11 @@ fn take_line(
     ensures fault { IfErr result (λ f. IsFaultOf (entry_of_fields place.now (pieces space line.now)) f) }
 {
     let entry = entry_of_line(alloc, place, line)?;
-    let next = place.after(&entry);
+    let next = place.after(entry.line(), entry.number(), entry.is_refused());
     if entries.push(entry).is_err() {
         return Err(PageFault::NoMemory);
     }
     Ok(next)
-}
-
-// Whether a text line is one of totals.
-fn is_totals(text: &[u8]) -> bool
-    ensures { result ≡ is_totals (pieces space text.now) }
-{
-    let (first, _) = next_field(Some(text));
-    first == b"KEYED".as_slice()
-}
-
-// Whether a text line is the totals at a place.
-fn says_totals(place: &Place, text: &[u8]) -> bool
-    ensures { result ≡ says_totals place.now (pieces space text.now) }
-{
-    match four_pieces(text) {
-        Some((keyed, k, refused, r)) => {
-            keyed == b"KEYED".as_slice()
-                && is_decimal(k, place.keyed)
-                && refused == b"REFUSED".as_slice()
-                && is_decimal(r, place.refused)
-        }
-        None => false,
-    }
 }
 
 // Whether nothing is left of a page but its last LF.
@@ -199,7 +149,7 @@ pub fn page_entries(alloc: Global, page: &[u8]) -> Result<Vec<PageEntry>, PageFa
     ensures fault { IfErr result (λ f. IsFaultOf (entries_of_page page.now) f) }
 {
     let mut entries = Vec::new(alloc);
-    let mut place = Place::start(LineNo::default());
+    let mut place = Place::start(0);
     let mut left = Some(page);
     while let Some(text) = left {
         if is_end(left) {

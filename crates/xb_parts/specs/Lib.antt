@@ -1,6 +1,3 @@
-pub mod Sheets
-pub mod PartPages
-pub mod PageLines
-pub mod ReadPages
-pub mod Joining
-pub mod Joiners
+pub mod Parts
+pub mod Ranges
+pub mod Lists

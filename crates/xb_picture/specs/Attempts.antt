@@ -2,10 +2,10 @@
 use Rattle.std.specs.Prelude.{ℕ, ◌-◌, List, [], ◌∷◌, ◌++◌, codes, decimal, length, nat_lt, take, if◌then◌else◌, Option, Some, None}
 use Rattle.xb_model.specs.declared.dialled.Dialled.{Dialled}
 use Rattle.xb_model.specs.declared.limits.Limits.{Limits}
-use Rattle.xb_hear.specs.declared.run.PlacedRun.{PlacedRun}
-use Rattle.xb_hear.specs.Attempts.{AttemptOfRuns}
-use Rattle.xb_hear.specs.Digits.{DigitOfRuns}
-use Rattle.xb_hear.specs.Figures.{times_of}
+use Rattle.xb_heard.specs.declared.run.PlacedRun.{PlacedRun}
+use Rattle.xb_heard.specs.Attempts.{AttemptOfRuns}
+use Rattle.xb_heard.specs.Digits.{DigitOfRuns}
+use Rattle.xb_heard.specs.Figures.{times_of}
 use Rattle.xb_report.specs.Cells.{place_text}
 use Rattle.xb_report.specs.Words.{outcome_text}
 use Rattle.xb_picture.specs.declared.attempt.TheConstants.{MOST_DIGITS}
@@ -35,8 +35,8 @@ release_words None = []
 release_words (Some run) = time_text run.ms ∷ []
 
 -- attempt n of a line, and what came of it
-abbrev pub attempt_words : Limits → ℕ → AttemptOfRuns → Dialled → List (List ℕ)
-attempt_words limits n attempt outcome =
-    (codes "attempt " ++ decimal n) ∷ outcome_text outcome ∷ [] ++ front_words attempt.runs
-    ++ table_words limits outcome attempt.digits ++ unended_words attempt.unfinished
+abbrev pub attempt_words : Limits → ℕ → AttemptOfRuns → List (List ℕ)
+attempt_words limits n attempt =
+    (codes "attempt " ++ decimal n) ∷ outcome_text attempt.outcome ∷ [] ++ front_words attempt.runs
+    ++ table_words limits attempt.outcome attempt.digits ++ unended_words attempt.unfinished
     ++ release_words attempt.release

@@ -1,6 +1,6 @@
 -- How long runs are drawn.
 use Rattle.std.specs.Prelude.{ℕ, ◌-◌, min, nat_lt, if◌then◌else◌, List, [], ◌∷◌}
-use Rattle.xb_hear.specs.declared.run.PlacedRun.{PlacedRun}
+use Rattle.xb_heard.specs.declared.run.PlacedRun.{PlacedRun}
 use Rattle.xb_picture.specs.declared.course.TheConstants.{SHOWN}
 
 -- a longer run is drawn with a tear

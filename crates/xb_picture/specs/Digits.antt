@@ -1,15 +1,18 @@
 -- What a picture says of a digit.
-use Rattle.std.specs.Prelude.{ℕ, ◌+◌, ◌%◌, List, [], ◌∷◌, ◌++◌, codes, decimal, Bool, true, false, is_some, if◌then◌else◌, nat_le, Option, Some, None}
+use Rattle.std.specs.Prelude.{ℕ, ◌+◌, List, [], ◌∷◌, ◌++◌, codes, decimal, is_some, if◌then◌else◌, nat_le, Option, Some, None}
 use Rattle.xb_model.specs.declared.dialled.Dialled.{Dialled}
 use Rattle.xb_model.specs.declared.limits.Limits.{Limits}
-use Rattle.xb_model.specs.declared.signal.TheConstants.{MOST_PULSES}
-use Rattle.xb_hear.specs.declared.fault.Spoiler.{Spoiler}
-use Rattle.xb_hear.specs.declared.run.PlacedRun.{PlacedRun}
-use Rattle.xb_hear.specs.Digits.{DigitOfRuns}
-use Rattle.xb_hear.specs.Faults.{fault_at, one_if_break}
-use Rattle.xb_hear.specs.Figures.{percent_of, speed_of, times_of}
+use Rattle.xb_heard.specs.declared.fault.Spoiler.{Spoiler}
+use Rattle.xb_heard.specs.declared.run.PlacedRun.{PlacedRun}
+use Rattle.xb_heard.specs.Digits.{DigitOfRuns}
+use Rattle.xb_heard.specs.Faults.{fault_at, one_if_break}
+use Rattle.xb_heard.specs.declared.row.DigitRow.{DigitRow}
+use Rattle.xb_heard.specs.declared.row.Remark.{Remark}
+use Rattle.xb_heard.specs.declared.row.Remark.TheVariants as remark
+use Rattle.xb_heard.specs.DigitRows.{row_of}
 use Rattle.xb_report.specs.Words.{is_taken}
-use Rattle.xb_svg.specs.Labels.{fault_marked, tenths_with}
+use Rattle.xb_report.specs.Marked.{fault_marked}
+use Rattle.xb_picture.specs.Labels.{tenths_with}
 use Rattle.xb_picture.specs.declared.course.TheConstants.{TRAIN}
 use Rattle.xb_picture.specs.declared.figures.TheConstants.{TOLD}
 use Rattle.xb_picture.specs.Courses.{fitting}
@@ -23,9 +26,9 @@ abbrev pub make_words : ℕ → List (List ℕ)
 make_words ms = if nat_le TOLD ms then time_text ms ∷ [] else []
 
 -- over a digit: its value, unless it is spoiled
-abbrev pub value_words : List PlacedRun → Option Spoiler → List (List ℕ)
-value_words pulses None = decimal ((times_of pulses).breaks % MOST_PULSES) ∷ []
-value_words pulses (Some spoiler) = []
+abbrev pub value_words : Option ℕ → List (List ℕ)
+value_words None = []
+value_words (Some digit) = decimal digit ∷ []
 
 -- a figure in tenths, and its unit, where there is one
 abbrev pub tenths_words : Option ℕ → List ℕ → List (List ℕ)
@@ -33,8 +36,8 @@ tenths_words None unit = []
 tenths_words (Some tenths) unit = tenths_with tenths unit ∷ []
 
 -- under a good digit: its figures
-abbrev pub figure_words : List PlacedRun → List (List ℕ)
-figure_words pulses = tenths_words (speed_of pulses) (codes "/s") ++ tenths_words (percent_of pulses) (codes " %")
+abbrev pub figure_words : DigitRow → List (List ℕ)
+figure_words row = tenths_words row.speed (codes "/s") ++ tenths_words row.share (codes " %")
 
 -- the runs that are wrong, where n breaks of the train stand before these
 abbrev pub wrong_words : Limits → ℕ → List PlacedRun → List (List ℕ)
@@ -49,19 +52,19 @@ spoiler_words limits pulses spoiler =
     fault_marked limits spoiler.fault spoiler.run.ms ∷ (codes "at record " ++ decimal spoiler.run.first_record) ∷ []
     ++ wrong_words limits 0 (fitting TRAIN pulses)
 
-abbrev pub remark_words : Limits → List PlacedRun → Option Spoiler → List (List ℕ)
-remark_words limits pulses None = figure_words pulses
-remark_words limits pulses (Some spoiler) = spoiler_words limits pulses spoiler
+-- under a digit; one that the register did not take has no figures
+abbrev pub remark_words : Limits → List PlacedRun → DigitRow → Remark → List (List ℕ)
+remark_words limits pulses row remark.Good = figure_words row
+remark_words limits pulses row (remark.Spoiled spoiler) = spoiler_words limits pulses spoiler
+remark_words limits pulses row remark.Ignored = []
 
--- a digit and its pause; one that the register did not take has no figures
-abbrev pub digit_words : Limits → Bool → DigitOfRuns → List (List ℕ)
-digit_words limits taken digit =
-    value_words digit.pulses digit.spoiler
-    ++ (if taken then remark_words limits digit.pulses digit.spoiler else [])
-    ++ make_words digit.pause.ms
+-- a digit, its row, and its pause
+abbrev pub digit_words : Limits → DigitOfRuns → DigitRow → List (List ℕ)
+digit_words limits digit row =
+    value_words row.name ++ remark_words limits digit.pulses row row.remark ++ make_words digit.pause.ms
 
 -- digits, from digit k on
 abbrev pub digits_words : Limits → Dialled → ℕ → List DigitOfRuns → List (List ℕ)
 digits_words limits outcome k [] = []
 digits_words limits outcome k (digit ∷ digits) =
-    digit_words limits (is_taken outcome k) digit ++ digits_words limits outcome (k + 1) digits
+    digit_words limits digit (row_of (is_taken outcome k) digit) ++ digits_words limits outcome (k + 1) digits

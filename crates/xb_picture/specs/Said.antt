@@ -1,11 +1,11 @@
 -- What a picture says of the recording: its texts but for words of its own, and for the seconds of its axis.
 use Rattle.std.specs.Prelude.{ℕ, List, [], ◌∷◌}
 use Rattle.std.specs.List.{flat_map}
-use Rattle.xb_svg.specs.declared.label.Label.{Label}
-use Rattle.xb_svg.specs.declared.label.Label.TheVariants.{Caption, Second}
-use Rattle.xb_svg.specs.declared.shape.Shape.{Shape}
-use Rattle.xb_svg.specs.declared.shape.Shape.TheVariants.{Band, Line, Text}
-use Rattle.xb_svg.specs.Labels.{label_text}
+use Rattle.xb_picture.specs.declared.label.Label.{Label}
+use Rattle.xb_picture.specs.declared.label.Label.TheVariants.{Caption, Second}
+use Rattle.xb_picture.specs.declared.shape.Shape.{Shape}
+use Rattle.xb_picture.specs.declared.shape.Shape.TheVariants.{Band, Line, Text}
+use Rattle.xb_picture.specs.Labels.{label_text}
 use Rattle.xb_picture.specs.declared.sheet.Sheet.{Sheet}
 
 abbrev pub said_by_label : Label → List (List ℕ)

@@ -1,7 +1,7 @@
 // An attempt.
 ghost use Rattle.std.specs.Prelude.{◌≡◌, ◌++◌, ◌∷◌, ◌<◌, ◌^◌, [], OnOk, codes, decimal, map};
-ghost use Rattle.xb_hear.specs.Attempts.{attempt_in};
-ghost use Rattle.xb_hear.specs.Digits.{digit_in};
+ghost use Rattle.xb_heard.specs.Attempts.{attempt_in};
+ghost use Rattle.xb_heard.specs.Digits.{digit_in};
 ghost use Rattle.xb_report.specs.Words.{outcome_text};
 ghost use Rattle.xb_picture.specs.Attempts.{attempt_words, front_words, more_words, release_words, table_words, unended_words};
 ghost use Rattle.xb_picture.specs.Said.{says};
@@ -9,15 +9,17 @@ ghost use Rattle.xb_picture.specs.Said.{says};
 use crate::course::{TRAIN, drawn, fitting, put_runs, width_of};
 use crate::digit::put_digits;
 use crate::figures::put_make;
+use crate::label::{Caption, Label};
+use crate::look::{Anchor, Ink, Look};
+use crate::shape::{Shape, Step};
 use crate::sheet::{
     HEAD, HIGH, LEFT, LOW, RIGHT, SMALL, Sheet, begin_row, begin_words, below, make_room, put,
     put_band, put_caption, put_line,
 };
 use std::alloc::{AllocError, Global};
-use xb_hear::{HeardAttempt, HeardDigit, PlacedRun, times_of};
+use xb_heard::{HeardAttempt, HeardDigit, PlacedRun, times_of};
 use xb_model::{Dialled, Limits};
 use xb_report::is_timed_out;
-use xb_svg::{Anchor, Caption, Ink, Label, Look, Shape, Step};
 
 /// How many digits of an attempt are drawn at most.
 pub const MOST_DIGITS: usize = 24;
@@ -212,12 +214,12 @@ pub(crate) fn put_attempt<'a>(
     sheet: &mut Sheet<'a>,
     limits: Limits,
     number: usize,
-    attempt: &HeardAttempt,
-    outcome: &'a Dialled,
+    attempt: &'a HeardAttempt,
 ) -> Result<(), AllocError>
     ensures { OnOk result (says sheet.new
-        ≡ says sheet.old ++ attempt_words limits number (attempt_in attempt.now) outcome.now) }
+        ≡ says sheet.old ++ attempt_words limits number (attempt_in attempt.now)) }
 {
+    let outcome = &attempt.outcome;
     put_heading(sheet, number, outcome)?;
     let at_once = is_timed_out(outcome)
         && attempt.digits.is_empty()

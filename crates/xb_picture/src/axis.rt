@@ -3,10 +3,12 @@ ghost use Rattle.std.specs.Prelude.{◌≡◌, ◌<◌, ◌^◌, OnOk};
 ghost use Rattle.xb_picture.specs.Said.{says};
 
 use crate::course::{SHOWN, drawn};
+use crate::label::Label;
+use crate::look::Ink;
+use crate::shape::{Shape, Step};
 use crate::sheet::{AXIS, SMALL, Sheet, below, put, put_line};
 use std::alloc::{AllocError, Global};
-use xb_hear::PlacedRun;
-use xb_svg::{Ink, Label, Shape, Step};
+use xb_heard::PlacedRun;
 
 // How many ms stand between a tear and the ends of what is drawn of a run.
 const BESIDE_TEAR: u32 = 680;

@@ -1,25 +1,26 @@
 // A digit.
 ghost use Rattle.std.specs.Prelude.{◌≡◌, ◌++◌, OnOk, map};
-ghost use Rattle.xb_hear.specs.Digits.{digit_in};
+ghost use Rattle.xb_heard.specs.Digits.{digit_in};
 ghost use Rattle.xb_picture.specs.Digits.{digit_words, digits_words, remark_words};
 ghost use Rattle.xb_picture.specs.Said.{says};
 
 use crate::course::{TRAIN, drawn, fitting, put_runs, width_of};
 use crate::figures::{put_figures, put_make, put_value};
+use crate::label::Caption;
+use crate::look::Ink;
 use crate::sheet::{LOW, SMALL, Sheet, make_room, put_band, put_caption};
 use crate::wrong::put_spoiler;
 use std::alloc::{AllocError, Global};
-use xb_hear::{HeardDigit, PlacedRun, Spoiler};
+use xb_heard::{DigitRow, HeardDigit, PlacedRun, Remark, row_of};
 use xb_model::{Dialled, Limits};
 use xb_report::{is_taken, is_timed_out};
-use xb_svg::{Caption, Ink};
 
 // The colours of a digit: of its ground, and of its value.
-fn inks_of(taken: bool, spoiler: Option<Spoiler>) -> (Ink, Ink) {
-    match spoiler {
-        _ if !taken => (Ink::PaleGrey, Ink::Faint),
-        None => (Ink::PaleBlue, Ink::Dark),
-        Some(_) => (Ink::PaleRed, Ink::Red),
+fn inks_of(remark: Remark) -> (Ink, Ink) {
+    match remark {
+        Remark::Good => (Ink::PaleBlue, Ink::Dark),
+        Remark::Spoiled(_) => (Ink::PaleRed, Ink::Red),
+        Remark::Ignored => (Ink::PaleGrey, Ink::Faint),
     }
 }
 
@@ -31,13 +32,17 @@ fn put_remark(
     from: u32,
     middle: u64,
     pulses: &[PlacedRun],
-    spoiler: Option<Spoiler>,
+    row: DigitRow,
 ) -> Result<(), AllocError>
-    ensures { OnOk result (says sheet.new ≡ says sheet.old ++ remark_words limits pulses.now spoiler) }
+    ensures { OnOk result (says sheet.new
+        ≡ says sheet.old ++ remark_words limits pulses.now row row.remark) }
 {
-    match spoiler {
-        None => put_figures(sheet, middle, pulses),
-        Some(spoiler) => put_spoiler(alloc, sheet, limits, from, middle, pulses, spoiler),
+    match row.remark {
+        Remark::Good => put_figures(sheet, middle, row),
+        Remark::Spoiled(spoiler) => {
+            put_spoiler(alloc, sheet, limits, from, middle, pulses, spoiler)
+        }
+        Remark::Ignored => put_caption(sheet, middle, LOW + 140, SMALL, Caption::Ignored),
     }
 }
 
@@ -46,34 +51,22 @@ fn put_digit(
     alloc: Global,
     sheet: &mut Sheet,
     limits: Limits,
-    taken: bool,
-    timed_out: bool,
     digit: &HeardDigit,
+    row: DigitRow,
+    timed_out: bool,
 ) -> Result<(), AllocError>
-    ensures { OnOk result (says sheet.new ≡ says sheet.old ++ digit_words limits taken (digit_in digit.now)) }
+    ensures { OnOk result (says sheet.new ≡ says sheet.old ++ digit_words limits (digit_in digit.now) row) }
 {
     let shown = fitting(TRAIN, digit.pulses);
     let width = width_of(shown);
     make_room(alloc, sheet, width.saturating_add(drawn(&digit.pause)))?;
     let from = sheet.x;
     let middle = u64::from(from) + u64::from(width / 2);
-    let (ground, ink) = inks_of(taken, digit.spoiler);
+    let (ground, ink) = inks_of(row.remark);
     put_band(sheet, from, width, ground)?;
     put_runs(alloc, sheet, shown)?;
-    put_value(sheet, middle, ink, digit.pulses, digit.spoiler)?;
-    if taken {
-        put_remark(
-            alloc,
-            sheet,
-            limits,
-            from,
-            middle,
-            digit.pulses,
-            digit.spoiler,
-        )?;
-    } else {
-        put_caption(sheet, middle, LOW + 140, SMALL, Caption::Ignored)?;
-    }
+    put_value(sheet, middle, ink, row.name)?;
+    put_remark(alloc, sheet, limits, from, middle, digit.pulses, row)?;
     put_make(sheet, &digit.pause, timed_out)?;
     put_runs(alloc, sheet, &[digit.pause])
 }
@@ -91,14 +84,8 @@ pub(crate) fn put_digits(
 {
     for (index, digit) in digits.iter().enumerate() {
         let timed_out = is_timed_out(outcome) && digit.pause.ms >= u64::from(limits.timeout);
-        put_digit(
-            alloc,
-            sheet,
-            limits,
-            is_taken(outcome, index),
-            timed_out,
-            digit,
-        )?;
+        let row = row_of(digit, is_taken(outcome, index));
+        put_digit(alloc, sheet, limits, digit, row, timed_out)?;
     }
     Ok(())
 }

@@ -1,15 +1,15 @@
 // The figures of a digit, and the times of makes.
 ghost use Rattle.std.specs.Prelude.{◌≡◌, ◌++◌, OnOk, codes};
-ghost use Rattle.xb_hear.specs.Figures.{percent_of, speed_of};
 ghost use Rattle.xb_picture.specs.Digits.{figure_words, make_words, tenths_words, value_words};
 ghost use Rattle.xb_picture.specs.Said.{says};
 
 use crate::course::drawn;
+use crate::label::{Caption, Label};
+use crate::look::{Anchor, Ink, Look};
+use crate::shape::Shape;
 use crate::sheet::{HIGH, LOW, SMALL, Sheet, below, put, put_caption};
 use std::alloc::AllocError;
-use xb_hear::{PlacedRun, Spoiler, percent_of, speed_of, times_of};
-use xb_model::MOST_PULSES;
-use xb_svg::{Anchor, Caption, Ink, Label, Look, Shape};
+use xb_heard::{DigitRow, PlacedRun};
 
 // A make of so many ms has its time over it.
 pub(crate) const TOLD: u64 = 300;
@@ -47,10 +47,9 @@ pub(crate) fn put_value(
     sheet: &mut Sheet,
     middle: u64,
     ink: Ink,
-    pulses: &[PlacedRun],
-    spoiler: Option<Spoiler>,
+    name: Option<u64>,
 ) -> Result<(), AllocError>
-    ensures { OnOk result (says sheet.new ≡ says sheet.old ++ value_words pulses.now spoiler) }
+    ensures { OnOk result (says sheet.new ≡ says sheet.old ++ value_words name) }
 {
     let big = Look {
         size: 150,
@@ -58,13 +57,12 @@ pub(crate) fn put_value(
         anchor: Anchor::Middle,
         bold: true,
     };
-    match spoiler {
-        None => {
-            let value = times_of(pulses).breaks % u64::from(MOST_PULSES);
+    match name {
+        Some(digit) => {
             let y = below(sheet, 180);
-            put(sheet, Shape::Text(middle, y, big, Label::Value(value)))
+            put(sheet, Shape::Text(middle, y, big, Label::Value(digit)))
         }
-        Some(_) => put_caption(sheet, middle, 180, big, Caption::Cross),
+        None => put_caption(sheet, middle, 180, big, Caption::Cross),
     }
 }
 
@@ -95,13 +93,9 @@ fn put_share(sheet: &mut Sheet, middle: u64, share: Option<u128>) -> Result<(), 
 }
 
 // Writes the figures of a good digit under it.
-pub(crate) fn put_figures(
-    sheet: &mut Sheet,
-    middle: u64,
-    pulses: &[PlacedRun],
-) -> Result<(), AllocError>
-    ensures { OnOk result (says sheet.new ≡ says sheet.old ++ figure_words pulses.now) }
+pub(crate) fn put_figures(sheet: &mut Sheet, middle: u64, row: DigitRow) -> Result<(), AllocError>
+    ensures { OnOk result (says sheet.new ≡ says sheet.old ++ figure_words row) }
 {
-    put_speed(sheet, middle, speed_of(pulses))?;
-    put_share(sheet, middle, percent_of(pulses))
+    put_speed(sheet, middle, row.speed)?;
+    put_share(sheet, middle, row.share)
 }

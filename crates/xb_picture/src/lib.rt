@@ -1,15 +1,33 @@
-//! The picture of a line: its loop over time, attempt by attempt, with what the register heard of it. One
-//! unit of a picture is one ms, so no time is rounded.
+//! What was heard, as a picture: the loop of a line over time, in SVG.
+//!
+//! - `picture_of`: the texts of the picture, but for words of its own and the seconds of its axis, are in
+//!   their order exactly `picture_words` of the attempts: headings, values, figures and faults of digits,
+//!   the ms of each wrong run that is drawn, and how many attempts and digits are not drawn.
+//! - `push_picture`: exactly the text of the shapes, one element a shape; of a fault the signs are written
+//!   as XML wants them.
+//!
+//! Not said: where a shape stands, its colours, and that such a text is XML.
 #![tactic(auto)]
 
 mod attempt;
 mod axis;
 mod course;
 mod digit;
+mod drawing;
 mod figures;
+mod label;
+mod look;
 mod picture;
+mod shape;
 mod sheet;
+mod svg;
+mod writing;
 mod wrong;
 
 pub use attempt::MOST_DIGITS;
+pub use drawing::draw_attempts;
+pub use label::{Caption, Label};
+pub use look::{Anchor, Ink, Look};
 pub use picture::{MOST_ATTEMPTS, Picture, WIDTH, picture_of};
+pub use shape::{Shape, Step};
+pub use svg::push_picture;

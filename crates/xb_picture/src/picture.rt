@@ -1,18 +1,19 @@
 // The picture of a line.
 ghost use Rattle.std.specs.Prelude.{◌≡◌, ◌++◌, ◌+◌, ◌<◌, ◌≤◌, ◌^◌, IfOk, OnOk, drop, length, map, min, take};
-ghost use Rattle.xb_hear.specs.Attempts.{attempt_in};
-ghost use Rattle.xb_report.specs.ReportTexts.{outcomes_in};
+ghost use Rattle.xb_heard.specs.Attempts.{attempt_in};
 ghost use Rattle.xb_picture.specs.Pictures.{attempts_words, others_words, picture_words, title_words};
 ghost use Rattle.xb_picture.specs.Said.{said, says};
 
 use crate::attempt::put_attempt;
+use crate::label::{Caption, Label};
+use crate::look::{Anchor, Look};
+use crate::shape::Shape;
 use crate::sheet::{
     HEAD, LEFT, SMALL, Sheet, begin_words, below, height_of, new_sheet, put, put_caption,
 };
 use std::alloc::{AllocError, Global};
-use xb_hear::HeardAttempt;
-use xb_model::{Dialled, Limits, LineNo, On};
-use xb_svg::{Anchor, Caption, Label, Look, Shape};
+use xb_heard::HeardAttempt;
+use xb_model::{Limits, LineNo};
 
 /// How many attempts of a line are drawn at most.
 pub const MOST_ATTEMPTS: usize = 20;
@@ -76,23 +77,14 @@ fn put_attempts<'a>(
     sheet: &mut Sheet<'a>,
     limits: Limits,
     before: usize,
-    attempts: &[HeardAttempt],
-    outcomes: &'a [On<Dialled>],
+    attempts: &'a [HeardAttempt],
 ) -> Result<(), AllocError>
     requires { before + length attempts.now < 2 ^ 63 }
     ensures { OnOk result (says sheet.new ≡ says sheet.old
-        ++ attempts_words limits (before + 1) (map attempt_in attempts.now) (outcomes_in outcomes.now)) }
+        ++ attempts_words limits (before + 1) (map attempt_in attempts.now)) }
 {
-    for index in 0..attempts.len().min(outcomes.len()) {
-        let outcome = &outcomes[index].what;
-        put_attempt(
-            alloc,
-            sheet,
-            limits,
-            before + index + 1,
-            &attempts[index],
-            outcome,
-        )?;
+    for (index, attempt) in attempts.iter().enumerate() {
+        put_attempt(alloc, sheet, limits, before + index + 1, attempt)?;
     }
     Ok(())
 }
@@ -121,14 +113,6 @@ fn shown_attempts<'a, 'b>(
     &rest[..count.min(rest.len())]
 }
 
-// So many outcomes after the first so many.
-fn shown_outcomes(outcomes: &[On<Dialled>], before: usize, count: usize) -> &[On<Dialled>]
-    ensures { result.now ≡ take count (drop before outcomes.entry.now) }
-{
-    let rest = &outcomes[before.min(outcomes.len())..];
-    &rest[..count.min(rest.len())]
-}
-
 /// The picture of a line by these limits: of its attempts, each with what came of it, so many after the first
 /// so many. `Err` says that memory ran out.
 pub fn picture_of<'a>(
@@ -137,11 +121,10 @@ pub fn picture_of<'a>(
     line: LineNo,
     before: usize,
     count: usize,
-    attempts: &[HeardAttempt],
-    outcomes: &'a [On<Dialled>],
+    attempts: &'a [HeardAttempt],
 ) -> Result<Picture<'a>, AllocError>
     ensures { IfOk result (λ picture. said picture.shapes.items ≡ picture_words limits line before count
-        (map attempt_in attempts.now) (outcomes_in outcomes.now)) }
+        (map attempt_in attempts.now)) }
 {
     let mut sheet = new_sheet(alloc);
     put_title(&mut sheet, limits, line)?;
@@ -149,8 +132,7 @@ pub fn picture_of<'a>(
     let after = attempts.len().saturating_sub(before).saturating_sub(count);
     put_others(&mut sheet, from, after)?;
     let shown = shown_attempts(attempts, before, count);
-    let came = shown_outcomes(outcomes, before, count);
-    put_attempts(alloc, &mut sheet, limits, from, shown, came)?;
+    put_attempts(alloc, &mut sheet, limits, from, shown)?;
     put_none(&mut sheet, attempts.len())?;
     let height = height_of(&sheet);
     let Sheet { shapes, .. } = sheet;

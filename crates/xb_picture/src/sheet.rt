@@ -2,8 +2,10 @@
 ghost use Rattle.std.specs.Prelude.{◌≡◌, ◌++◌, [], OnOk};
 ghost use Rattle.xb_picture.specs.Said.{said_by, says};
 
+use crate::label::{Caption, Label};
+use crate::look::{Anchor, Ink, Look};
+use crate::shape::{Shape, Step};
 use std::alloc::{AllocError, Global};
-use xb_svg::{Anchor, Caption, Ink, Label, Look, Shape, Step};
 
 // Where rows begin, from the left.
 pub(crate) const LEFT: u32 = 260;

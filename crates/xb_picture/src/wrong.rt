@@ -1,15 +1,17 @@
 // What is wrong with a digit.
 ghost use Rattle.std.specs.Prelude.{◌≡◌, ◌++◌, ◌+◌, ◌<◌, ◌^◌, [], ◌∷◌, OnOk, decimal, is_some, if◌then◌else◌};
-ghost use Rattle.xb_hear.specs.Faults.{fault_at, one_if_break};
+ghost use Rattle.xb_heard.specs.Faults.{fault_at, one_if_break};
 ghost use Rattle.xb_picture.specs.Digits.{spoiler_words, wrong_words};
 ghost use Rattle.xb_picture.specs.Said.{says};
 
 use crate::course::{TRAIN, drawn, fitting};
+use crate::label::Label;
+use crate::look::{Ink, Look};
+use crate::shape::{Shape, Step};
 use crate::sheet::{HIGH, LEFT, LOW, SMALL, Sheet, below, put, put_line};
 use std::alloc::{AllocError, Global};
-use xb_hear::{PlacedRun, Spoiler, fault_at};
+use xb_heard::{PlacedRun, Spoiler, fault_at};
 use xb_model::{Contact, Limits};
-use xb_svg::{Ink, Label, Look, Shape, Step};
 
 // How red words look.
 const RED: Look = Look {

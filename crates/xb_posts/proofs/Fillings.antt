@@ -10,8 +10,8 @@ use Rattle.xb_ring.specs.declared.flow.Flow.{Flow}
 use Rattle.xb_ring.specs.declared.flow.Flow.TheVariants.{Item, End}
 use Rattle.xb_ring.specs.Flows.{flow_of}
 use Rattle.xb_ring.proofs.Prefixes.{prefix_within}
-use Rattle.xb_fed.specs.declared.line_use.LineUse.{LineUse}
-use Rattle.xb_fed.specs.Left.{kept_in, left}
+use Rattle.xb_closes.specs.declared.line_use.LineUse.{LineUse}
+use Rattle.xb_closes.specs.Left.{kept_in, left}
 use Rattle.xb_posts.specs.Fillings.{MayGive, GaveAll, Gave, held_and_left, Fills}
 
 -- a stop that was told is all that may be given

@@ -15,7 +15,7 @@ use Rattle.xb_posts.specs.Fillings.{MayGive, GaveAll, GaveRows, held_and_left, h
 use Rattle.xb_posts.specs.declared.course.Course.{Course}
 use Rattle.xb_posts.specs.declared.course.Course.TheVariants.{Going, Stopped, Over}
 use Rattle.xb_posts.specs.declared.filling.TheConstants.{AHEAD}
-use Rattle.xb_fed.specs.declared.line_use.LineUse.{LineUse}
+use Rattle.xb_closes.specs.declared.line_use.LineUse.{LineUse}
 
 -- what clauses see of a feed: what its source has still to give, its end, the rows that it holds, what
 -- the rows so far leave of the lines, and whether it has met the source's stop

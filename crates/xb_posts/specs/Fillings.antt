@@ -8,8 +8,8 @@ use Rattle.xb_model.specs.Sources.{Rest, told}
 use Rattle.xb_ring.specs.declared.flow.Flow.{Flow}
 use Rattle.xb_ring.specs.declared.flow.Flow.TheVariants.{Item}
 use Rattle.xb_ring.specs.Flows.{flow_of}
-use Rattle.xb_fed.specs.Left.{kept_in, left}
-use Rattle.xb_fed.specs.declared.line_use.LineUse.{LineUse}
+use Rattle.xb_closes.specs.Left.{kept_in, left}
+use Rattle.xb_closes.specs.declared.line_use.LineUse.{LineUse}
 
 -- the rows that a source may give, and the stop after them: all that is left, or where memory runs out
 -- the first of its rows

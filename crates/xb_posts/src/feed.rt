@@ -6,7 +6,7 @@ use std::alloc::{AllocError, Global};
 use std::marker::Model;
 use std::sync::Wait;
 use std::time::Clock;
-use xb_fed::LineUses;
+use xb_closes::LineUses;
 use xb_model::{Row, RowFault, RowSource};
 use xb_ring::{Flow, Gate, Pause, Post, Sends, Turn, look_at_both};
 
@@ -57,7 +57,7 @@ impl<S: RowSource> Feed<S> {
     ghost use Rattle.xb_model.specs.declared.fault.RowFault.{RowFault as Fault};
     ghost use Rattle.xb_ring.specs.Flows.{flow_of};
     ghost use Rattle.xb_ring.specs.declared.turn.Turn.TheVariants.{Ended};
-    ghost use Rattle.xb_fed.specs.Fed.{fed};
+    ghost use Rattle.xb_closes.specs.Fed.{fed};
     ghost use Rattle.xb_posts.specs.Fillings.{held_with};
     ghost use Rattle.xb_posts.specs.Feeds.{FeedsOn, TakesAhead, MeetsStop, SendsOne, IsFeedTurn, HasFed, has_fed, to_come, result_of};
 

@@ -3,7 +3,7 @@ ghost use Rattle.std.specs.Prelude.{◌≡◌, ◌≤◌, Ok, false, vec_len, ve
 ghost use Rattle.xb_posts.specs.Feeds.{AreRows};
 ghost use Rattle.xb_posts.specs.Fillings.{Fills};
 
-use xb_fed::LineUses;
+use xb_closes::LineUses;
 use xb_model::{Row, RowFault, RowSource};
 use xb_ring::Flow;
 

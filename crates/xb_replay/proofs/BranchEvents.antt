@@ -22,8 +22,8 @@ use Rattle.xb_ring.specs.Rings.{IsRing, ProducersLooked}
 use Rattle.xb_ring.proofs.Rings.{map_same}
 use Rattle.xb_replay.specs.Looks.{ConsumersLooked}
 use Rattle.xb_replay.specs.Turns.{OutputsStay, DealStays, DealWaits, DealMoves, GatherStays, GatherWaits, GatherMoves, IsNext}
-use Rattle.xb_chain.specs.Posts.{Output, SenderPost, DealPost, GatherPost}
-use Rattle.xb_chain.specs.Rings.{AreGathered}
+use Rattle.xb_posts.specs.Posts.{Output, SenderPost, DealPost, GatherPost}
+use Rattle.xb_posts.specs.Rings.{AreGathered}
 use Rattle.xb_replay.proofs.Events.{Turned, takes, empty, no_room}
 
 -- ---- the deal

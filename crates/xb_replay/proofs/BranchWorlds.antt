@@ -15,9 +15,9 @@ use Rattle.xb_routes.specs.Machine.{machine as translate_machine}
 use Rattle.xb_sender.specs.Machine.{machine as sender_machine}
 use Rattle.xb_posts.specs.TapeStations.{TapeLaw}
 use Rattle.xb_replay.specs.Looks.{OutputLooked, AllInputsLooked, AllOutputsLooked}
-use Rattle.xb_chain.specs.Laws.{SenderLaw}
-use Rattle.xb_chain.specs.Posts.{Input, Output, StationPost, SenderPost, DealPost, GatherPost, TapePost}
-use Rattle.xb_chain.specs.Rings.{AreDealt, AreGathered}
+use Rattle.xb_posts.specs.Laws.{SenderLaw}
+use Rattle.xb_posts.specs.Posts.{Input, Output, StationPost, SenderPost, DealPost, GatherPost, TapePost}
+use Rattle.xb_posts.specs.Rings.{AreDealt, AreGathered}
 use Rattle.xb_replay.specs.World.{World, WorldLaw}
 use Rattle.xb_replay.proofs.LookSteps.{ring_kept, input-law, output-law, input-ring, output-ring, output-stage, each-set}
 

@@ -17,7 +17,7 @@ use Rattle.xb_posts.specs.Fillings.{held_with}
 use Rattle.xb_posts.specs.TapeStations.{IsTapeTurn}
 use Rattle.xb_replay.specs.Looks.{InputLooked, OutputLooked}
 use Rattle.xb_replay.specs.Turns.{FeedStays, StationWaits, StationHasNoRoom, StationMoves, TapeStays, Takes, Waits, HasNoRoom, Moves, HasEnded, Stays, IsTurn}
-use Rattle.xb_chain.specs.Posts.{Input, Output, FeedPost, StationPost, SenderPost, TapePost, Posts}
+use Rattle.xb_posts.specs.Posts.{Input, Output, FeedPost, StationPost, SenderPost, TapePost, Posts}
 use Rattle.xb_replay.proofs.LookSteps.{feed-on}
 
 -- ---- one turn of any post

@@ -12,8 +12,8 @@ use Rattle.xb_ring.specs.Rings.{IsRing, IsRingAt, ProducersLooked}
 use Rattle.xb_ring.specs.Stations.{StationLaw}
 use Rattle.xb_ring.proofs.Rings.{only_one, pair_kept, producer_on, map_same}
 use Rattle.xb_replay.specs.Looks.{InputLooked, OutputLooked, AllInputsLooked, AllOutputsLooked, ConsumersLooked}
-use Rattle.xb_chain.specs.Laws.{KeepsImage}
-use Rattle.xb_chain.specs.Posts.{Input, Output, FeedPost, StationPost, SenderPost, DealPost, GatherPost}
+use Rattle.xb_posts.specs.Laws.{KeepsImage}
+use Rattle.xb_posts.specs.Posts.{Input, Output, FeedPost, StationPost, SenderPost, DealPost, GatherPost}
 
 -- a look at the producer leaves what the consumer knows
 pub ring_kept : {T : Type 0} (p q : Output T) (c : Input T) → SameProducer p q → sent q ≡ sent p → IsRing p c → IsRing q c

@@ -4,7 +4,7 @@ use Rattle.xb_ring.specs.declared.post.Post.{Post}
 use Rattle.xb_ring.specs.declared.post.Post.TheVariants as posts
 use Rattle.xb_ring.specs.Stations.{Stays as StationStays}
 use Rattle.xb_replay.specs.Turns.{FeedStays, DealStays, GatherStays, TapeStays, OthersStay}
-use Rattle.xb_chain.specs.Posts.{SenderPost, GatherPost, TapePost, Posts}
+use Rattle.xb_posts.specs.Posts.{SenderPost, GatherPost, TapePost, Posts}
 
 -- no post but this one makes an event, post by post
 pub record EachOther (post : Post) (old new : Posts) : Type 0 where

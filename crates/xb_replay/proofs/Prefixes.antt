@@ -36,16 +36,16 @@ use Rattle.xb_ring.proofs.Prefixes.{prefix_on}
 use Rattle.xb_routes.specs.Machine.{machine as translate_machine}
 use Rattle.xb_sender.specs.Machine.{machine as sender_machine}
 use Rattle.xb_tape.specs.GatheredMarks.{whats_of}
-use Rattle.xb_fed.specs.Fed.{fed}
+use Rattle.xb_closes.specs.Fed.{fed}
 use Rattle.xb_posts.specs.Feeds.{to_come}
 use Rattle.xb_serial.specs.Serial.{serial_image}
 use Rattle.xb_serial.proofs.Chain.{chain-fed}
 use Rattle.xb_serial.proofs.LineTapes.{serial_image-line, whats_of-on_line}
 use Rattle.xb_replay.specs.Marks.{marks_of as marks_on, whole_tape, ArePrefixes, AreWhole}
 use Rattle.xb_replay.specs.Turns.{IsThere, HasEnded}
-use Rattle.xb_chain.specs.Laws.{StageLaws}
-use Rattle.xb_chain.specs.Posts.{Input, Output, SenderPost, Posts}
-use Rattle.xb_chain.specs.Rings.{AreLinked}
+use Rattle.xb_posts.specs.Laws.{StageLaws}
+use Rattle.xb_posts.specs.Posts.{Input, Output, SenderPost, Posts}
+use Rattle.xb_posts.specs.Rings.{AreLinked}
 use Rattle.xb_replay.specs.World.{World, FeedLaw}
 use Rattle.xb_replay.proofs.Sent.{ring-prefix, ring-whole, station-prefix, station-whole, deal-prefix, deal-whole, gather-prefix, gather-whole, gather-ended}
 

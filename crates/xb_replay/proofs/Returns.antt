@@ -8,7 +8,7 @@ use Rattle.xb_ring.specs.declared.post.Post.TheVariants.{Send, Tape}
 use Rattle.xb_ring.specs.declared.turn.Turn.{Turn}
 use Rattle.xb_ring.specs.declared.turn.Turn.TheVariants.{Ended}
 use Rattle.xb_replay.specs.Turns.{SameRecords, Waits, HasNoRoom, Moves, HasEnded, Stays, OthersStay, IsTurn, HasTurned, HasRefused}
-use Rattle.xb_chain.specs.Posts.{Output, SenderPost}
+use Rattle.xb_posts.specs.Posts.{Output, SenderPost}
 use Rattle.xb_replay.specs.World.{World}
 use Rattle.xb_replay.proofs.Events.{Turned, is-turn, ok_same, StationTurned, sender-turned}
 use Rattle.xb_replay.proofs.Others.{EachOther, others-stay}

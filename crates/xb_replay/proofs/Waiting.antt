@@ -11,7 +11,7 @@ use Rattle.xb_ring.specs.declared.turn.Turn.TheVariants.{Idle, Blocked, Moved, E
 use Rattle.xb_ring.specs.DealSteps.{CanSend}
 use Rattle.xb_ring.specs.GatherSteps.{Awaits, CanGather}
 use Rattle.xb_replay.specs.Turns.{Takes, StationWaits, StationMoves, Waits, HasNoRoom, Moves, HasEnded, IsTurn, HasTurned}
-use Rattle.xb_chain.specs.Posts.{Input, StationPost, Posts}
+use Rattle.xb_posts.specs.Posts.{Input, StationPost, Posts}
 use Rattle.xb_replay.specs.World.{World}
 use Rattle.xb_replay.proofs.Prefixes.{no_sender}
 

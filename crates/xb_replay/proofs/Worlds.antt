@@ -16,8 +16,8 @@ use Rattle.xb_ring.specs.Rings.{IsRing}
 use Rattle.xb_routes.specs.Table.{Table}
 use Rattle.xb_routes.specs.Machine.{machine as translate_machine}
 use Rattle.xb_replay.specs.Looks.{InputLooked, OutputLooked}
-use Rattle.xb_chain.specs.Laws.{KeepsImage}
-use Rattle.xb_chain.specs.Posts.{FeedPost, StationPost, DealPost}
+use Rattle.xb_posts.specs.Laws.{KeepsImage}
+use Rattle.xb_posts.specs.Posts.{FeedPost, StationPost, DealPost}
 use Rattle.xb_replay.specs.World.{World, FeedLaw, WorldLaw}
 use Rattle.xb_replay.proofs.Feeds.{feed_law-looked}
 use Rattle.xb_replay.proofs.LookSteps.{input-law, output-law, input-ring, output-ring, input-stage, output-stage}

@@ -18,7 +18,7 @@ use Rattle.xb_ring.specs.GatherSteps.{Awaits, CanGather}
 use Rattle.xb_ring.specs.Gathers.{TakesAt}
 use Rattle.xb_ring.specs.Stations.{Stays as StationStays}
 use Rattle.xb_posts.specs.Feeds.{HasMoved}
-use Rattle.xb_chain.specs.Posts.{Input, Output, FeedPost, StationPost, SenderPost, DealPost, GatherPost, TapePost, Posts}
+use Rattle.xb_posts.specs.Posts.{Input, Output, FeedPost, StationPost, SenderPost, DealPost, GatherPost, TapePost, Posts}
 use Rattle.xb_replay.specs.World.{World}
 
 -- the rows, the route table and the number of senders are the same

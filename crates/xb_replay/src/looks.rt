@@ -2,7 +2,7 @@
 ghost use Rattle.std.specs.Prelude.{◌≡◌, length, vec_len};
 ghost use Rattle.xb_ring.specs.Rings.{ProducersLooked};
 ghost use Rattle.xb_replay.specs.Looks.{ArePairedOutputs, ArePairedInputs, AllInputsLooked, AllOutputsLooked, ConsumersLooked};
-ghost use Rattle.xb_chain.specs.Rings.{AreDealt, AreGathered};
+ghost use Rattle.xb_posts.specs.Rings.{AreDealt, AreGathered};
 
 use xb_model::{Mark, On, Order};
 use xb_ring::{Deal, Gather, Station};

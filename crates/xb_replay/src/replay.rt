@@ -2,8 +2,8 @@
 use crate::looks::{look_at_inputs, look_at_outputs};
 use std::alloc::{AllocError, Global};
 use std::marker::Model;
-use xb_chain::Chain;
 use xb_model::{LineNo, Listed, Mark, Row};
+use xb_posts::Chain;
 use xb_ring::{Post, Turn};
 use xb_routes::RouteTable;
 
@@ -18,7 +18,7 @@ pub struct Replay<'a> {
 }
 
 impl<'a> Model for Replay<'a> {
-    ghost use Rattle.xb_chain.specs.Chains.{posts_of};
+    ghost use Rattle.xb_posts.specs.Chains.{posts_of};
     ghost use Rattle.xb_replay.specs.World.{World, WorldLaw};
 
     ghost Value = { World };
@@ -43,8 +43,8 @@ impl<'a> Replay<'a> {
     ghost use Rattle.xb_ring.specs.declared.ends.TheConstants.{GREATEST_CAPACITY};
     ghost use Rattle.xb_ring.specs.declared.post.Post.TheVariants as posts;
     ghost use Rattle.xb_ring.specs.declared.turn.Turn.TheVariants.{Idle, Ended};
-    ghost use Rattle.xb_chain.specs.Blank.{IsBlank};
-    ghost use Rattle.xb_chain.specs.Rings.{HaveRoom};
+    ghost use Rattle.xb_posts.specs.Blank.{IsBlank};
+    ghost use Rattle.xb_posts.specs.Rings.{HaveRoom};
     ghost use Rattle.xb_replay.specs.Marks.{marks_of, whole_tape, ArePrefixes, AreWhole};
     ghost use Rattle.xb_replay.specs.Turns.{SameRecords, Waits, HasEnded, AllEnded, NoneEnded, Stays, OthersStay, IsTurn, HasTurned, HasRefused};
     ghost use Rattle.xb_replay.specs.World.{WorldLaw};

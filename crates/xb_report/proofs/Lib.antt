@@ -1,2 +1,3 @@
 pub mod Pushed
-pub mod Attempts
+pub mod Marks
+pub mod Joined

@@ -4,7 +4,7 @@ use Rattle.std.proofs.lemmas.List.{append-nil}
 use Rattle.std.proofs.lemmas.Result.{on_ok_weaker}
 use Rattle.std.specs.Fmt.{char_count, format_spec, padded_integral, styled_decimal}
 use Rattle.xb_model.specs.Page.{four_digits}
-use Rattle.xb_hear.specs.declared.run.PlacedRun.{PlacedRun}
+use Rattle.xb_heard.specs.declared.run.PlacedRun.{PlacedRun}
 use Rattle.xb_report.specs.Cells.{place_text, three_digits}
 
 -- one text after another
@@ -20,6 +20,10 @@ pub last : {T E : Type 0} (r : Result T E) (o o1 n a b whole : List ℕ) → o1 
     → a ++ b ≡ whole → OnOk r (n ≡ o ++ whole)
 last r o o1 n a b whole first end is =
     on_ok_weaker r (λ (e : n ≡ o1 ++ b). both o o1 n a b first e ∙ ap (λ t. o ++ t) is) end
+
+-- a text that is put, in the words of its definition
+pub as_defined : {T E : Type 0} (r : Result T E) (o n b whole : List ℕ) → OnOk r (n ≡ o ++ b) → b ≡ whole → OnOk r (n ≡ o ++ whole)
+as_defined r o n b whole put is = on_ok_weaker r (λ (e : n ≡ o ++ b). e ∙ ap (λ t. o ++ t) is) put
 
 -- a text that is put by std
 pub str : {T E : Type 0} (r : Result T E) (o n s : List ℕ) → n ≡ (if is_ok r then o ++ s else o) → OnOk r (n ≡ o ++ s)

@@ -1,7 +1,7 @@
 -- The cells of a table, and numbers as they are printed.
 use Rattle.std.specs.Prelude.{ℕ, ◌-◌, ◌/◌, ◌%◌, ◌==◌, replicate, length, List, ◌++◌, codes, decimal, if◌then◌else◌, Option, Some, None}
-use Rattle.xb_hear.specs.declared.run.PlacedRun.{PlacedRun}
-use Rattle.xb_hear.specs.declared.figures.Extent.{Extent}
+use Rattle.xb_heard.specs.declared.run.PlacedRun.{PlacedRun}
+use Rattle.xb_heard.specs.declared.figures.Extent.{Extent}
 use Rattle.xb_model.specs.Page.{zero_byte}
 
 -- the byte of a blank

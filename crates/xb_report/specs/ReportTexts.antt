@@ -1,17 +1,16 @@
 -- The text of a report: ASCII, each line ended by one LF.
-use Rattle.std.specs.Prelude.{ℕ, ◌+◌, ◌%◌, ◌==◌, List, [], ◌∷◌, ◌++◌, codes, decimal, length, map, Bool, if◌then◌else◌, Option, Some, None}
+use Rattle.std.specs.Prelude.{ℕ, ◌+◌, ◌==◌, List, [], ◌∷◌, ◌++◌, codes, decimal, length, if◌then◌else◌, Option, Some, None}
 use Rattle.xb_model.specs.declared.dialled.Dialled.{Dialled}
 use Rattle.xb_model.specs.declared.limits.Limits.{Limits}
-use Rattle.xb_model.specs.declared.on.On.{On}
-use Rattle.xb_model.specs.declared.signal.TheConstants.{MOST_PULSES}
 use Rattle.xb_model.specs.Page.{four_digits}
-use Rattle.xb_model.specs.Records.{is_break, is_make}
-use Rattle.xb_hear.specs.declared.run.PlacedRun.{PlacedRun}
-use Rattle.xb_hear.specs.declared.fault.Spoiler.{Spoiler}
-use Rattle.xb_hear.specs.Attempts.{AttemptOfRuns}
-use Rattle.xb_hear.specs.Digits.{DigitOfRuns}
-use Rattle.xb_hear.specs.Figures.{extent_from, percent_of, speed_of, times_of}
-use Rattle.xb_hear.specs.PlacedRuns.{run_in}
+use Rattle.xb_heard.specs.declared.run.PlacedRun.{PlacedRun}
+use Rattle.xb_heard.specs.declared.row.DigitRow.{DigitRow}
+use Rattle.xb_heard.specs.declared.row.Remark.{Remark}
+use Rattle.xb_heard.specs.declared.row.Remark.TheVariants as remark
+use Rattle.xb_heard.specs.Attempts.{AttemptOfRuns}
+use Rattle.xb_heard.specs.Digits.{DigitOfRuns}
+use Rattle.xb_heard.specs.DigitRows.{row_of}
+use Rattle.xb_heard.specs.Figures.{times_of}
 use Rattle.xb_report.specs.Cells.{at_right, extent_text, place_text, tenths_or_dash}
 use Rattle.xb_report.specs.Words.{fault_text, is_taken, is_timed_out, outcome_text}
 
@@ -23,44 +22,31 @@ limits_text limits =
     ++ codes ", release from " ++ decimal limits.release
     ++ codes ", time-out from " ++ decimal limits.timeout ++ codes "\n"
 
--- how many pulses a train has
-abbrev pub pulses_in : DigitOfRuns → ℕ
-pulses_in digit = (times_of digit.pulses).breaks
-
 -- the digit that is heard, or x where it is spoiled
-abbrev pub name_by : ℕ → Option Spoiler → List ℕ
-name_by pulses None = decimal (pulses % MOST_PULSES)
-name_by pulses (Some spoiler) = codes "x"
-
--- what spoils a digit, and where
-abbrev pub spoiler_text : Limits → Option Spoiler → List ℕ
-spoiler_text limits None = []
-spoiler_text limits (Some spoiler) =
-    codes "  " ++ fault_text limits spoiler.fault spoiler.run.ms ++ codes " at " ++ place_text spoiler.run
+abbrev pub name_text : Option ℕ → List ℕ
+name_text None = codes "x"
+name_text (Some digit) = decimal digit
 
 -- what is said of a digit after its figures
-abbrev pub remark_text : Limits → Bool → Option Spoiler → List ℕ
-remark_text limits taken spoiler = if taken then spoiler_text limits spoiler else codes "  ignored"
+abbrev pub remark_text : Limits → Remark → List ℕ
+remark_text limits remark.Good = []
+remark_text limits (remark.Spoiled spoiler) =
+    codes "  " ++ fault_text limits spoiler.fault spoiler.run.ms ++ codes " at " ++ place_text spoiler.run
+remark_text limits remark.Ignored = codes "  ignored"
 
--- the figures of a train: pulses a second, how much of the time is break, the breaks and the makes in ms
-abbrev pub figures_text : List PlacedRun → List ℕ
-figures_text pulses =
-    at_right 7 (tenths_or_dash (speed_of pulses)) ++ at_right 9 (tenths_or_dash (percent_of pulses))
-    ++ at_right 10 (extent_text (extent_from (λ run. is_break (run_in run)) None pulses))
-    ++ at_right 10 (extent_text (extent_from (λ run. is_make (run_in run)) None pulses))
-
--- the line of a digit
-abbrev pub digit_text : Limits → Bool → DigitOfRuns → List ℕ
-digit_text limits taken digit =
-    at_right 7 (name_by (pulses_in digit) digit.spoiler) ++ at_right 8 (decimal (pulses_in digit))
-    ++ figures_text digit.pulses ++ at_right 10 (decimal digit.pause.ms)
-    ++ remark_text limits taken digit.spoiler ++ codes "\n"
+-- the line of a digit: its figures, each in its cell
+abbrev pub digit_text : Limits → DigitRow → List ℕ
+digit_text limits row =
+    at_right 7 (name_text row.name) ++ at_right 8 (decimal row.pulses) ++ at_right 7 (tenths_or_dash row.speed)
+    ++ at_right 9 (tenths_or_dash row.share) ++ at_right 10 (extent_text row.breaks)
+    ++ at_right 10 (extent_text row.makes) ++ at_right 10 (decimal row.pause) ++ remark_text limits row.remark
+    ++ codes "\n"
 
 -- the lines of the digits of an attempt, from digit k on
 abbrev pub digits_from : Limits → Dialled → ℕ → List DigitOfRuns → List ℕ
 digits_from limits outcome k [] = []
 digits_from limits outcome k (digit ∷ digits) =
-    digit_text limits (is_taken outcome k) digit ++ digits_from limits outcome (k + 1) digits
+    digit_text limits (row_of (is_taken outcome k) digit) ++ digits_from limits outcome (k + 1) digits
 
 abbrev pub columns_text : List ℕ
 columns_text = codes "  digit  pulses    p/s  % break  break ms   make ms  pause ms\n"
@@ -106,19 +92,14 @@ heading_text line n runs outcome =
     ++ outcome_text outcome ++ codes "\n"
 
 -- attempt n of a line, and what came of it
-abbrev pub attempt_text : Limits → ℕ → ℕ → AttemptOfRuns → Dialled → List ℕ
-attempt_text limits line n attempt outcome =
-    heading_text line n attempt.runs outcome ++ table_text limits outcome attempt.digits
-    ++ unfinished_text attempt.unfinished ++ timeout_text outcome attempt.timeout
+abbrev pub attempt_text : Limits → ℕ → ℕ → AttemptOfRuns → List ℕ
+attempt_text limits line n attempt =
+    heading_text line n attempt.runs attempt.outcome ++ table_text limits attempt.outcome attempt.digits
+    ++ unfinished_text attempt.unfinished ++ timeout_text attempt.outcome attempt.timeout
     ++ release_text attempt.release
 
--- the attempts of a line, each with its outcome, from attempt n on
-abbrev pub attempts_from : Limits → ℕ → ℕ → List AttemptOfRuns → List Dialled → List ℕ
-attempts_from limits line n [] outcomes = []
-attempts_from limits line n (attempt ∷ attempts) [] = []
-attempts_from limits line n (attempt ∷ attempts) (outcome ∷ outcomes) =
-    attempt_text limits line n attempt outcome ++ attempts_from limits line (n + 1) attempts outcomes
-
--- what the outcomes of a line are
-abbrev pub outcomes_in : List (On Dialled) → List Dialled
-outcomes_in outcomes = map (λ (outcome : On Dialled). outcome.what) outcomes
+-- the attempts of a line, from attempt n on
+abbrev pub attempts_from : Limits → ℕ → ℕ → List AttemptOfRuns → List ℕ
+attempts_from limits line n [] = []
+attempts_from limits line n (attempt ∷ attempts) =
+    attempt_text limits line n attempt ++ attempts_from limits line (n + 1) attempts

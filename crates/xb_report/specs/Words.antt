@@ -5,8 +5,8 @@ use Rattle.xb_model.specs.declared.dialled.Dialled.TheVariants as dialled
 use Rattle.xb_model.specs.declared.limits.Limits.{Limits}
 use Rattle.xb_model.specs.declared.reason.Reason.TheVariants as reason
 use Rattle.xb_model.specs.Page.{reason_text}
-use Rattle.xb_hear.specs.declared.fault.PulseFault.{PulseFault}
-use Rattle.xb_hear.specs.declared.fault.PulseFault.TheVariants as fault
+use Rattle.xb_heard.specs.declared.fault.PulseFault.{PulseFault}
+use Rattle.xb_heard.specs.declared.fault.PulseFault.TheVariants as fault
 
 -- digits, one after the other
 abbrev pub digits_text : List ℕ → List ℕ

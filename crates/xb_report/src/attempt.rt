@@ -1,13 +1,13 @@
 // The text of an attempt.
 ghost use Rattle.std.specs.Prelude.{◌≡◌, ◌++◌, OnOk, string_bytes};
 ghost use Rattle.xb_model.specs.Page.{four_digits};
-ghost use Rattle.xb_hear.specs.Attempts.{attempt_in};
+ghost use Rattle.xb_heard.specs.Attempts.{attempt_in};
 ghost use Rattle.xb_report.specs.ReportTexts.{attempt_text, front_text, heading_text, pulses_text, release_text, timeout_text, unfinished_text};
 
 use crate::digit::push_table;
 use crate::words::{is_timed_out, push_outcome, push_place};
 use std::alloc::{AllocError, Global};
-use xb_hear::{HeardAttempt, PlacedRun, times_of};
+use xb_heard::{HeardAttempt, PlacedRun, times_of};
 use xb_model::{Dialled, Limits, LineNo};
 
 // Puts where an attempt begins after the text.
@@ -31,7 +31,7 @@ pub fn push_line(out: &mut String, line: LineNo) -> Result<(), AllocError>
 
 /// Puts the first line of attempt `number` of a line after the text: where it begins, and what came of it.
 /// `Err` says that memory ran out.
-pub fn push_heading(
+pub(crate) fn push_heading(
     out: &mut String,
     line: LineNo,
     number: usize,
@@ -61,7 +61,7 @@ fn push_pulses(out: &mut String, count: u64, run: &PlacedRun) -> Result<(), Allo
 }
 
 /// Puts the pulses that no pause ended after the text, if there are any. `Err` says that memory ran out.
-pub fn push_unfinished(out: &mut String, pulses: &[PlacedRun]) -> Result<(), AllocError>
+pub(crate) fn push_unfinished(out: &mut String, pulses: &[PlacedRun]) -> Result<(), AllocError>
     ensures { OnOk result (string_bytes out.new ≡ string_bytes out.old ++ unfinished_text pulses.now) }
 {
     if let Some(run) = pulses.first() {
@@ -72,7 +72,7 @@ pub fn push_unfinished(out: &mut String, pulses: &[PlacedRun]) -> Result<(), All
 
 /// Puts the make after which nothing is heard after the text, if there is one. `Err` says that memory ran
 /// out.
-pub fn push_timeout(
+pub(crate) fn push_timeout(
     out: &mut String,
     outcome: &Dialled,
     timeout: Option<PlacedRun>,
@@ -94,7 +94,7 @@ pub fn push_timeout(
 }
 
 /// Puts how an attempt ended after the text. `Err` says that memory ran out.
-pub fn push_release(out: &mut String, release: Option<PlacedRun>) -> Result<(), AllocError>
+pub(crate) fn push_release(out: &mut String, release: Option<PlacedRun>) -> Result<(), AllocError>
     ensures { OnOk result (string_bytes out.new ≡ string_bytes out.old ++ release_text release) }
 {
     match release {
@@ -117,14 +117,13 @@ pub(crate) fn push_attempt(
     line: LineNo,
     number: usize,
     attempt: &HeardAttempt,
-    outcome: &Dialled,
 ) -> Result<(), AllocError>
     ensures { OnOk result (string_bytes out.new
-        ≡ string_bytes out.old ++ attempt_text limits line number (attempt_in attempt.now) outcome.now) }
+        ≡ string_bytes out.old ++ attempt_text limits line number (attempt_in attempt.now)) }
 {
-    push_heading(out, line, number, attempt.runs, outcome)?;
-    push_table(alloc, out, limits, outcome, &attempt.digits)?;
+    push_heading(out, line, number, attempt.runs, &attempt.outcome)?;
+    push_table(alloc, out, limits, &attempt.outcome, &attempt.digits)?;
     push_unfinished(out, attempt.unfinished)?;
-    push_timeout(out, outcome, attempt.timeout)?;
+    push_timeout(out, &attempt.outcome, attempt.timeout)?;
     push_release(out, attempt.release)
 }

@@ -3,7 +3,7 @@ ghost use Rattle.std.specs.Prelude.{◌≡◌, ◌++◌, OnOk, decimal, string_b
 ghost use Rattle.xb_report.specs.Cells.{at_right, extent_text, tenths_or_dash, tenths_text};
 
 use std::alloc::{AllocError, Global};
-use xb_hear::Extent;
+use xb_heard::Extent;
 
 // Puts a text at the right of a cell, after blanks.
 pub(crate) fn push_right(out: &mut String, width: usize, text: &str) -> Result<(), AllocError>

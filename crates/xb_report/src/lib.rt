@@ -1,15 +1,28 @@
-//! The text of a report: what a register heard of each attempt of a line, with its figures, what spoiled a
-//! digit, and where.
+//! What was heard, as text and as HTML.
+//!
+//! - `push_attempts`, `push_limits`: exactly the texts of the definitions in `specs/`: each heading, a line
+//!   for each digit with its figures, what spoiled it and where, and how the attempt ended.
+//! - A digit is told as ignored exactly where the outcome says that it was not taken: after as many digits
+//!   as the number has, or after the one that spoiled it. A make that nothing was heard after is called a
+//!   time-out exactly where the attempt was refused for it.
+//! - `push_head`, `push_section`, `push_tail`: exactly these parts of a page of HTML. A section has one
+//!   table, with the report's words, and below it the picture that was handed in.
+//!
+//! Not said: that such a text is HTML, and what a browser makes of it.
 #![tactic(auto)]
 
 mod attempt;
 mod cells;
 mod digit;
+mod html_attempt;
+mod html_digit;
+mod page;
 mod report;
+mod signs;
 mod words;
 
-pub use attempt::{push_heading, push_line, push_release, push_timeout, push_unfinished};
-pub use cells::{push_extent, push_number, push_tenths};
-pub use digit::push_name;
+pub use attempt::push_line;
+pub use page::{push_head, push_section, push_tail};
 pub use report::{push_attempts, push_limits};
+pub use signs::push_marked_fault;
 pub use words::{is_taken, is_timed_out, push_outcome, push_place};

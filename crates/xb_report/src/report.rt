@@ -1,12 +1,12 @@
 // The text of a report.
 ghost use Rattle.std.specs.Prelude.{◌≡◌, ◌++◌, OnOk, map, string_bytes};
-ghost use Rattle.xb_hear.specs.Attempts.{attempt_in};
-ghost use Rattle.xb_report.specs.ReportTexts.{attempts_from, limits_text, outcomes_in};
+ghost use Rattle.xb_heard.specs.Attempts.{attempt_in};
+ghost use Rattle.xb_report.specs.ReportTexts.{attempts_from, limits_text};
 
 use crate::attempt::push_attempt;
 use std::alloc::{AllocError, Global};
-use xb_hear::HeardAttempt;
-use xb_model::{Dialled, Limits, LineNo, On};
+use xb_heard::HeardAttempt;
+use xb_model::{Limits, LineNo};
 
 /// Puts the first line of a report after the text: the limits. `Err` says that memory ran out.
 pub fn push_limits(out: &mut String, limits: Limits) -> Result<(), AllocError>
@@ -38,22 +38,12 @@ pub fn push_attempts(
     limits: Limits,
     line: LineNo,
     attempts: &[HeardAttempt],
-    outcomes: &[On<Dialled>],
 ) -> Result<(), AllocError>
     ensures { OnOk result (string_bytes out.new ≡ string_bytes out.old
-        ++ attempts_from limits line 1 (map attempt_in attempts.now) (outcomes_in outcomes.now)) }
+        ++ attempts_from limits line 1 (map attempt_in attempts.now)) }
 {
-    for index in 0..attempts.len().min(outcomes.len()) {
-        let outcome = &outcomes[index].what;
-        push_attempt(
-            alloc,
-            out,
-            limits,
-            line,
-            index + 1,
-            &attempts[index],
-            outcome,
-        )?;
+    for (index, attempt) in attempts.iter().enumerate() {
+        push_attempt(alloc, out, limits, line, index + 1, attempt)?;
     }
     Ok(())
 }

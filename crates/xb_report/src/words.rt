@@ -4,7 +4,7 @@ ghost use Rattle.xb_report.specs.Cells.{place_text};
 ghost use Rattle.xb_report.specs.Words.{digits_text, fault_text, is_taken, is_timed_out, outcome_text};
 
 use std::alloc::AllocError;
-use xb_hear::{PlacedRun, PulseFault};
+use xb_heard::{PlacedRun, PulseFault};
 use xb_model::{Dialled, Digit, Limits, Reason};
 
 // Puts digits after the text, one after the other.

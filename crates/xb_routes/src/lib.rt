@@ -1,7 +1,6 @@
 //! The route table of an office, and the stage that gives each dialled number its order by it.
 //!
-//! `RouteTable::read` reads a table from TOML text, which has up to 1,000 routes like
-//! this one:
+//! `RouteTable::read` reads a table from TOML text, which has up to 1,000 routes like this one:
 //!
 //! ```toml
 //! [[route]]
@@ -11,12 +10,13 @@
 //! prefix = "56"    # up to 8 digits that are keyed before the others; none without the key
 //! ```
 //!
-//! N is 2 to 9, and X is 0 to 9. Where the text is not such a table, `RouteFault` says what its first
-//! fault is, and in which route. `RouteTable::look` gives the route of a number: that of the longest
-//! code that the number begins with.
-//!
-//! `Translate` is the stage: for each number that was dialled on a line it sends what to key on which
-//! trunk group, or that no route has the number. What was refused before stays refused.
+//! - `RouteTable::read`: an accepted table holds exactly what the text says; a refusal, unless memory ran
+//!   out, is the first fault in the text. `laws::tables_by_text`, `limits_by_key` and `routes_by_item` say
+//!   the same of all keys and routes at once, without an order of reading.
+//! - `RouteTable::look`: the route of the longest code that the digits begin with, `None` exactly where no
+//!   code is one. `limits` are lawful.
+//! - `Translate::new`: a number gives the order of its route, or is refused as Unknown with its length; a
+//!   refusal stays as it is; one order each, in order.
 #![tactic(auto)]
 
 mod code;
@@ -34,4 +34,4 @@ pub use fault::RouteFault;
 pub use route::{Entry, Route};
 pub use routes::code_number;
 pub use table::{MOST_ROUTES, RouteTable};
-pub use translate::{Translate, keyed};
+pub use translate::{Translate, keyed, order_by};

@@ -1,10 +1,12 @@
 // The translation stage.
-ghost use Rattle.std.specs.Prelude.{◌≡◌, ◌+◌, ◌≤◌, [], ◌∷◌, ◌++◌, drop, length};
-ghost use Rattle.xb_model.specs.Routing.{order_of, routed};
+ghost use Rattle.std.specs.Prelude.{◌≡◌, ◌+◌, ◌≤◌, [], ◌∷◌, ◌++◌, drop, length, Option, option_copied, option_map};
+ghost use Rattle.xb_model.specs.Routing.{CodedRoute, order_by, order_of};
 ghost use Rattle.xb_stage.specs.OnLines.{all_on};
+ghost use Rattle.xb_routes.specs.Coded.{uncoded};
 ghost use Rattle.xb_routes.specs.Machine.{GivesOrders};
 ghost use Rattle.xb_model.specs.declared.digits.TheConstants.{KEY_DIGITS, NUMBER_DIGITS};
 
+use crate::route::Route;
 use crate::table::RouteTable;
 use std::marker::Model;
 use xb_model::{Dialled, Digit, KeyDigits, NumberDigits, On, Order, PrefixDigits, Reason};
@@ -33,17 +35,6 @@ impl<'t> Translate<'t> {
     {
         Translate { table }
     }
-
-    // The order of a number.
-    fn order(&self, number: &NumberDigits) -> Order
-        ensures { result ≡ routed self.now.routes number.now }
-    {
-        let digits = number.digits();
-        match self.table.look(digits) {
-            None => Order::Refused(Reason::Unknown, digits.len() as u8),
-            Some(route) => Order::Key(route.trunk, keyed(&route.prefixed, route.deleted, digits)),
-        }
-    }
 }
 
 // The digits after those that are there.
@@ -70,6 +61,30 @@ pub fn keyed(prefixed: &PrefixDigits, deleted: u8, digits: &[Digit]) -> KeyDigit
     keyed
 }
 
+/// The order of a number, by its route; without one a refusal.
+pub fn order_by(route: Option<&Route>, number: &NumberDigits) -> Order
+    ensures { (found : Option CodedRoute) → option_copied route.entry ≡ option_map uncoded found →
+        result ≡ order_by found number.now }
+{
+    let digits = number.digits();
+    match route {
+        None => Order::Refused(Reason::Unknown, digits.len() as u8),
+        Some(route) => Order::Key(route.trunk, keyed(&route.prefixed, route.deleted, digits)),
+    }
+}
+
+impl RouteTable {
+    /// The order of what was dialled: that of the number, by its route. A refusal stays as it is.
+    pub fn order_of(&self, dialled: &Dialled) -> Order
+        ensures { result ≡ order_of self.now.routes dialled.now }
+    {
+        match dialled {
+            Dialled::Number(number) => order_by(self.look(number.digits()), number),
+            Dialled::Refused(reason, heard) => Order::Refused(*reason, *heard),
+        }
+    }
+}
+
 impl<'t> LineStage for Translate<'t> {
     ghost use Rattle.std.specs.Prelude.{[], ◌∷◌};
     ghost use Rattle.xb_model.specs.Routing.{order_of};
@@ -89,11 +104,6 @@ impl<'t> LineStage for Translate<'t> {
     fn fresh(&self) {}
 
     fn step(&self, _state: &mut (), item: On<Dialled>, out: &mut Vec<On<Order>>) {
-        let On { line, what } = item;
-        let what = match what {
-            Dialled::Number(number) => self.order(&number),
-            Dialled::Refused(reason, heard) => Order::Refused(reason, heard),
-        };
-        send(line, out, what);
+        send(item.line, out, self.table.order_of(&item.what));
     }
 }

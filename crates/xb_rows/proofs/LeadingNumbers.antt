@@ -11,7 +11,7 @@ use Rattle.std.specs.Str.{all_ascii_digits}
 use Rattle.std.specs.Str.Parse.{digits_value}
 use Rattle.xb_model.specs.Digits.{digit_of_ascii}
 use Rattle.xb_rows.specs.Plain.{BeginsWithNumber}
-use Rattle.xb_rows.specs.RowTexts.{field_number}
+use Rattle.xb_model.specs.Fields.{field_number}
 use Rattle.xb_rows.proofs.PlainRecords.{digit_is}
 
 -- the first bytes of a text are digits

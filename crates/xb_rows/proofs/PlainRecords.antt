@@ -17,9 +17,11 @@ use Rattle.xb_model.specs.declared.row.Contact.TheVariants.{Make, Brk, Close}
 use Rattle.xb_model.specs.declared.fault.RowFault.{RowFault}
 use Rattle.xb_model.specs.declared.fault.RowFault.TheVariants as fault
 use Rattle.xb_rows.specs.Plain.{BeginsWith, BeginsWithContact, BeginsWithNumber, IsPlainRow}
-use Rattle.xb_rows.specs.RowTexts.{contact_of, field_number, line_of, ms_of, or_fault, row_of_fields}
+use Rattle.xb_model.specs.Fields.{field_number, line_of}
+use Rattle.xb_rows.specs.RowTexts.{contact_of, ms_of, or_fault, row_of_fields}
 use Rattle.xb_rows.specs.WrittenRows.{header}
-use Rattle.xb_rows.specs.declared.record.TheConstants.{LINE_DIGITS, MS_DIGITS}
+use Rattle.xb_model.specs.declared.field.TheConstants.{LINE_DIGITS}
+use Rattle.xb_rows.specs.declared.record.TheConstants.{MS_DIGITS}
 use Rattle.xb_rows.proofs.CsvTexts.{plain_digit}
 
 and-both : (a b : Bool) → (a && b) ≡ true → (a ≡ true) × (b ≡ true)

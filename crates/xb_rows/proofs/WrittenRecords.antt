@@ -12,13 +12,14 @@ use Rattle.xb_model.specs.declared.row.Contact.TheVariants.{Make, Brk, Close}
 use Rattle.xb_model.specs.Rows.{LoopRow}
 use Rattle.xb_model.proofs.RowTimes.{at_most_a_day}
 use Rattle.xb_rows.specs.declared.scan.TheConstants.{MOST_RECORDS}
-use Rattle.xb_rows.specs.declared.record.TheConstants.{LINE_DIGITS, MS_DIGITS}
+use Rattle.xb_model.specs.declared.field.TheConstants.{LINE_DIGITS}
+use Rattle.xb_rows.specs.declared.record.TheConstants.{MS_DIGITS}
 use Rattle.xb_rows.specs.RowTexts.{Fields, contact_of, rest_of_records, row_of_fields, row_and_rest, rest_from, rows_and_stop, three_fields}
 use Rattle.xb_rows.specs.WrittenRows.{AreRows, IsLawfulRow, WrittenRowsAreRead, contact_text, csv_text, fields_of_row, header, text_of_rows}
 use Rattle.xb_rows.proofs.CsvTexts.{written_rows_are_csv}
 use Rattle.xb_rows.proofs.RecordCounts.{records-end, records-more}
 use Rattle.xb_rows.proofs.RestOfRecords.{rest_from-more, rest_from-none}
-use Rattle.xb_rows.proofs.WrittenFields.{field_number-decimal}
+use Rattle.xb_model.proofs.WrittenFields.{field_number-decimal}
 
 -- the records of a text of records
 records_of_text : (rs : List Fields) → records default_config (csv_text rs) ≡ map read_back rs

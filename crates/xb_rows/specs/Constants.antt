@@ -1,10 +1,9 @@
 -- The numbers of the format, each as it is.
 use Rattle.std.specs.Prelude.{◌≡◌}
-use Rattle.xb_rows.specs.declared.record.TheConstants.{LINE_DIGITS, MS_DIGITS}
+use Rattle.xb_rows.specs.declared.record.TheConstants.{MS_DIGITS}
 use Rattle.xb_rows.specs.declared.scan.TheConstants.{MOST_RECORDS}
 
 -- a definition that cites a constant means this number
 pub record AreConstants : Type 0 where
-  pub line_digits : LINE_DIGITS ≡ 4
   pub ms_digits : MS_DIGITS ≡ 8
   pub most_records : MOST_RECORDS ≡ 1000000

@@ -4,8 +4,8 @@ use Rattle.std.specs.Io.KnownBytes.{IsAtEnd}
 use Rattle.xb_model.specs.declared.fault.RowFault.{RowFault}
 use Rattle.xb_model.specs.declared.fault.RowFault.TheVariants as fault
 use Rattle.xb_model.specs.Rows.{LoopRow}
-use Rattle.xb_streams.specs.declared.reading.ReadFault.{ReadFault}
-use Rattle.xb_streams.specs.declared.reading.ReadFault.TheVariants as read_fault
+use Rattle.xb_text.specs.declared.reading.ReadFault.{ReadFault}
+use Rattle.xb_text.specs.declared.reading.ReadFault.TheVariants as read_fault
 use Rattle.xb_rows.specs.RowTexts.{fault_of_text, rows_of_text}
 
 -- the rows of a text that has no fault

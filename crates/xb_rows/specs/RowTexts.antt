@@ -1,9 +1,7 @@
 -- What the text of the loop rows says: its rows before the first fault, and that fault,
 -- read as `csv` reads it. A text, its records, and the records from the n-th on are each a `Rest`:
 -- what a source of their rows has to give.
-use Rattle.std.specs.Prelude.{ℕ, ◌+◌, ◌&&◌, nat_lt, nat_le, if◌then◌else◌, List, [], ◌∷◌, length, codes, Bool, false, true, Option, Some, None, Result, Ok, Err, bytes_eq, option_and_then}
-use Rattle.std.specs.Str.{all_ascii_digits}
-use Rattle.std.specs.Str.Parse.{digits_value}
+use Rattle.std.specs.Prelude.{ℕ, ◌+◌, ◌&&◌, nat_lt, if◌then◌else◌, List, [], ◌∷◌, codes, Bool, false, true, Option, Some, None, Result, Ok, Err, bytes_eq, option_and_then}
 use Rattle.csv.specs.Reading.{default_config, records, strip_bom}
 use Rattle.xb_model.specs.Sources.{Rest}
 use Rattle.xb_model.specs.declared.row.Contact.{Contact}
@@ -11,19 +9,9 @@ use Rattle.xb_model.specs.declared.row.Contact.TheVariants.{Make, Brk, Close}
 use Rattle.xb_model.specs.declared.fault.RowFault.{RowFault}
 use Rattle.xb_model.specs.declared.fault.RowFault.TheVariants as fault
 use Rattle.xb_model.specs.Rows.{LoopRow, may_last, row_of}
-use Rattle.xb_rows.specs.declared.record.TheConstants.{LINE_DIGITS, MS_DIGITS}
+use Rattle.xb_model.specs.Fields.{field_number, line_of}
+use Rattle.xb_rows.specs.declared.record.TheConstants.{MS_DIGITS}
 use Rattle.xb_rows.specs.declared.scan.TheConstants.{MOST_RECORDS}
-
--- the number that a field of 1 to `most` ASCII digits writes
-abbrev pub field_number : ℕ → List ℕ → Option ℕ
-field_number most field =
-    if nat_le 1 (length field) && nat_le (length field) most && all_ascii_digits field
-    then Some (digits_value 10 field)
-    else None
-
--- the line that a field writes
-abbrev pub line_of : List ℕ → Option ℕ
-line_of field = field_number LINE_DIGITS field
 
 -- what the loop does, as a field names it
 abbrev pub contact_of : List ℕ → Option Contact

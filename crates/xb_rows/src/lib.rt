@@ -1,5 +1,17 @@
 //! The loop records: a CSV text in, its rows out, whole or one at a time; and rows in, their text out. The
-//! module `laws` says what the definitions in `specs/` give, on worked texts and on rows as they are written.
+//! module `laws` says what the definitions in `specs/` give, on worked texts and on rows as they are
+//! written.
+//!
+//! - `rows_of_text`: exactly the rows of a text in memory, at most 1,000,000, or its first fault, or that
+//!   memory ran out.
+//! - `Scan` is a source of the same rows, and stops with the same fault, for good. It reads plain records
+//!   without `csv`, which no clause tells: what a text means is what `csv` reads.
+//! - `read_rows`, of a reader whose bytes a contract can name: the rows of the text, which then has no
+//!   fault, or the text's first fault; a failed read may be returned in place of any other fault.
+//! - `RowReader`, of a stream whose bytes a contract can name: the rows of the stream's text, as many as
+//!   may follow the header, and then the stop of a `Scan` or a failed read, for good.
+//! - `text_of_rows`: exactly the text of the rows. Rows that are no more than 1,000,000 are read back of it
+//!   (`laws::written_rows_are_read`), and it is what a `csv` writer writes (`written_rows_are_csv`).
 #![tactic(auto)]
 
 mod csv_scan;
@@ -13,7 +25,6 @@ mod scan;
 mod steps;
 mod writing;
 
-pub use record::{field_number, line_of};
 pub use row_reader::RowReader;
 pub use rows::{read_rows, rows_of_text};
 pub use scan::{MOST_RECORDS, Scan};

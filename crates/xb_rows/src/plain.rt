@@ -4,8 +4,8 @@ ghost use Rattle.xb_rows.specs.declared.record.TheConstants.{MS_DIGITS};
 ghost use Rattle.xb_rows.specs.Plain.{BeginsWith, BeginsWithContact, BeginsWithNumber, IsPlainRow};
 ghost use Rattle.xb_rows.specs.WrittenRows.{header};
 
-use crate::record::{LINE_DIGITS, MS_DIGITS, contact_of};
-use xb_model::{Contact, Digit, LineNo, Row};
+use crate::record::{MS_DIGITS, contact_of};
+use xb_model::{Contact, Digit, LINE_DIGITS, LineNo, Row};
 
 // The text after a header of the plain form.
 pub(crate) fn after_header(text: &[u8]) -> Option<&[u8]>

@@ -1,45 +1,16 @@
 // What one record of the rows' text writes.
-ghost use Rattle.std.specs.Prelude.{◌≡◌, ◌≤◌, ◌<◌, ◌^◌, IfSome, Some, option_map};
+ghost use Rattle.std.specs.Prelude.{◌≡◌, Some, option_map};
 ghost use Rattle.csv.specs.Records.{fields_of};
-ghost use Rattle.xb_rows.specs.declared.record.TheConstants.{MS_DIGITS};
-ghost use Rattle.xb_rows.specs.RowTexts.{contact_of, field_number, is_header, line_of, row_of_fields, three_fields};
+ghost use Rattle.xb_rows.specs.RowTexts.{contact_of, is_header, row_of_fields, three_fields};
 
 use csv::ByteRecord;
-use xb_model::{Contact, Digit, LineNo, Row, RowFault};
+use xb_model::{Contact, Row, RowFault, field_number, line_of};
 
 // How many fields a row has.
 const ROW_FIELDS: usize = 3;
 
-// The most digits of a line.
-pub(crate) const LINE_DIGITS: usize = 4;
-
 // The most digits of a time in ms.
 pub(crate) const MS_DIGITS: usize = 8;
-
-/// The number that a field of 1 to `most` ASCII digits writes, `most` being up to 8; `None` for any other
-/// field.
-pub fn field_number(most: usize, field: &[u8]) -> Option<u32>
-    requires { most ≤ MS_DIGITS }
-    ensures value { result ≡ field_number most field.now }
-    ensures bound { IfSome result (λ n. n < 10 ^ most) }
-{
-    if field.is_empty() || field.len() > most {
-        return None;
-    }
-    let mut number: u32 = 0;
-    for byte in field {
-        let digit = Digit::from_ascii(*byte)?;
-        number = number * 10 + u32::from(digit.get());
-    }
-    Some(number)
-}
-
-/// The line that a field of 1 to 4 ASCII digits writes; `None` for any other field.
-pub fn line_of(field: &[u8]) -> Option<LineNo>
-    ensures { result ≡ line_of field.now }
-{
-    LineNo::new(field_number(LINE_DIGITS, field)? as u16)
-}
 
 // What the loop does, as a field names it.
 pub(crate) fn contact_of(field: &[u8]) -> Option<Contact>

@@ -7,7 +7,7 @@ use crate::scan::Scan;
 use std::alloc::Global;
 use std::io::Read;
 use xb_model::{Row, RowFault, RowSource};
-use xb_streams::{ReadFault, read_whole};
+use xb_text::{ReadFault, read_whole};
 
 /// The rows of a CSV text, or its first fault: the faults of `Scan`, and `NoMemory` where memory
 /// ran out. A text that is in memory already is not copied, as it is by `read_rows`.

@@ -23,10 +23,10 @@ use Rattle.xb_ring.specs.declared.post.Post.{Post}
 use Rattle.xb_ring.specs.declared.post.Post.TheVariants as post
 use Rattle.xb_ring.proofs.Flows.{items_of-flow}
 use Rattle.xb_ring.proofs.Rings.{pair_kept}
-use Rattle.xb_fed.specs.Fed.{fed}
+use Rattle.xb_closes.specs.Fed.{fed}
 use Rattle.xb_posts.specs.Feeds.{to_come}
-use Rattle.xb_chain.specs.Chains.{IsChain}
-use Rattle.xb_chain.specs.Posts.{Output, Input, StationPost, SenderPost, Posts}
+use Rattle.xb_posts.specs.Chains.{IsChain}
+use Rattle.xb_posts.specs.Posts.{Output, Input, StationPost, SenderPost, Posts}
 use Rattle.xb_run.specs.Pairs.{Pairs}
 use Rattle.xb_run.specs.Faults.{IsPostOf, IsBankFault}
 use Rattle.xb_run.specs.Promises.{StationPromised, PostsPromised}

@@ -32,7 +32,7 @@ use Rattle.xb_ring.proofs.Merged.{merged_same}
 use Rattle.xb_ring.proofs.MergedImages.{merged-stateless}
 use Rattle.xb_serial.specs.Serial.{serial_image}
 use Rattle.xb_tape.specs.GatheredMarks.{AreTapes}
-use Rattle.xb_chain.specs.Posts.{Output, Input}
+use Rattle.xb_posts.specs.Posts.{Output, Input}
 use Rattle.xb_run.specs.Promises.{TapeServed, ends_entry}
 use Rattle.xb_run.specs.Returned.{IsSettled, AreSettled}
 use Rattle.xb_run.specs.Served.{AllServed, HaveServed}

@@ -6,7 +6,7 @@ use Rattle.xb_ring.specs.Deals.{DealOf, HasDealt, SameDeal}
 use Rattle.xb_ring.specs.Gathers.{GatherOf, GatherLaw, HasMerged, SameGather}
 use Rattle.std.specs.declared.alloc.Global.{Global}
 use Rattle.rtrb.specs.declared.AnyItems.{AnyItems}
-use Rattle.xb_chain.specs.Posts.{Output, Input}
+use Rattle.xb_posts.specs.Posts.{Output, Input}
 use Rattle.xb_run.specs.Promises.{DealServed, GatherServed, DealPromised, GatherPromised}
 use Rattle.xb_run.specs.declared.done.DealDone.{DealDone}
 use Rattle.xb_run.specs.declared.done.GatherDone.{GatherDone}

@@ -25,7 +25,7 @@ use Rattle.xb_ring.specs.Gathers.{GatherOf}
 use Rattle.xb_tape.specs.GatheredMarks.{AreTapes}
 use Rattle.xb_posts.specs.Feeds.{to_come}
 use Rattle.xb_posts.specs.Fillings.{MayGive}
-use Rattle.xb_chain.specs.Posts.{Output, FeedPost, StationPost, TapePost, Posts}
+use Rattle.xb_posts.specs.Posts.{Output, FeedPost, StationPost, TapePost, Posts}
 use Rattle.xb_run.specs.Pairs.{Pairs}
 use Rattle.xb_run.specs.declared.done.FeedDone.{FeedDone}
 use Rattle.xb_run.specs.declared.done.StationDone.{StationDone}

@@ -2,7 +2,7 @@
 use Rattle.std.specs.Prelude.{◌≡◌}
 use Rattle.rtrb.specs.Ring.{sent, received, IsPair}
 use Rattle.xb_ring.specs.Flows.{IsEnded}
-use Rattle.xb_chain.specs.Posts.{Output, Input}
+use Rattle.xb_posts.specs.Posts.{Output, Input}
 use Rattle.xb_run.specs.Pairs.{Pairs}
 use Rattle.xb_run.specs.declared.posts.AllDone.{AllDone}
 

@@ -1,5 +1,15 @@
-//! The chain on threads: rows of many lines in, a tape for each line out, each post on a thread of its
-//! own.
+//! The chain on threads: each post on a thread of its own.
+//!
+//! - `run`: for any source, table, 1 to 8 senders and rings of 1 to 1,024: where it returns tapes, the
+//!   source stops with an end, and each of the 10,000 lines' marks are exactly the tape of that line's
+//!   record, of the rows that the source still had. `Rows` comes only with the fault that the source stops
+//!   with, and `NoThread` only with a post of the chain.
+//! - Nothing is assumed of a thread but its promise, which `start` makes and the join hands on: the ends
+//!   are those of the post, and where it served, what its `serve` ensures. `finish` gives tapes only where
+//!   every post was served and the feed met no fault.
+//!
+//! Not said: that a thread starts or makes progress, that `run` ends, and which of several refused posts is
+//! named; `test_bank` tries these.
 #![tactic(auto)]
 
 mod done;

@@ -1,8 +1,8 @@
 // The posts, the handles of their threads, and what they give back.
 ghost use Rattle.std.specs.Prelude.{◌≡◌, ◌≤◌, [], ℕ, IfOk, IfErr, reverse, vec_len, vec_capacity};
 ghost use Rattle.xb_ring.specs.declared.branches.TheConstants.{MOST_BRANCHES};
-ghost use Rattle.xb_chain.specs.Chains.{posts_of};
-ghost use Rattle.xb_chain.specs.Posts.{Posts};
+ghost use Rattle.xb_posts.specs.Chains.{posts_of};
+ghost use Rattle.xb_posts.specs.Posts.{Posts};
 ghost use Rattle.xb_run.specs.Faults.{IsPostOf};
 ghost use Rattle.xb_run.specs.Pairs.{Pairs};
 ghost use Rattle.xb_run.specs.Promises.{PostsPromised};
@@ -16,9 +16,8 @@ use std::sync::Wait;
 use std::sync::atomic::AtomicU64;
 use std::thread::{PromisedHandle, Scope, Threads};
 use std::time::Clock;
-use xb_chain::Chain;
 use xb_model::{Dialled, Mark, On, Order, Row, RowSource, Signal};
-use xb_posts::{Feed, TapeStation};
+use xb_posts::{Chain, Feed, TapeStation};
 use xb_pulse::Pulse;
 use xb_register::Register;
 use xb_ring::{Deal, Gate, Gather, Post, Station};
@@ -140,44 +139,43 @@ fn start_outgoing<'s, E, R: Wait + Clock + Sync, G: Gate + Sync>(
     })
 }
 
-// Starts the posts from rows to orders, from translation up.
+// Starts the posts from rows to orders, from translation up. Their types are parameters: what drops
+// the others where a start is refused is then short.
 fn start_originating<
     's,
-    't: 's,
     E,
-    S: RowSource + Drop + Send + 's,
+    F: Threaded + Drop + Send + 's,
+    P: Threaded + Drop + Send + 's,
+    Q: Threaded + Drop + Send + 's,
+    T: Threaded + Drop + Send + 's,
     R: Wait + Clock + Sync,
     G: Gate + Sync,
 >(
     scope: &'s Scope<'s, E>,
     rt: &'s R,
     word: &'s AtomicU64,
-    posts: Originating<'t, S>,
+    feed: F,
+    pulse: P,
+    register: Q,
+    translate: T,
     gate: &'s G,
-) -> Result<OriginatingHandles<'t, S>, Post>
-    ensures feed { IfOk result (λ handles. handles.feed.promise.made.value ≡ posts.entry.feed) }
-    ensures pulse { IfOk result (λ handles. handles.pulse.promise.made.value ≡ posts.entry.pulse) }
-    ensures register { IfOk result (λ handles. handles.register.promise.made.value ≡ posts.entry.register) }
-    ensures translate { IfOk result (λ handles.
-        handles.translate.promise.made.value ≡ posts.entry.translate) }
+) -> Result<(Handle<F>, Handle<P>, Handle<Q>, Handle<T>), Post>
+where
+    F::Done: Send + 's,
+    P::Done: Send + 's,
+    Q::Done: Send + 's,
+    T::Done: Send + 's,
+    ensures feed { IfOk result (λ handles. handles.0.promise.made.value ≡ feed) }
+    ensures pulse { IfOk result (λ handles. handles.1.promise.made.value ≡ pulse) }
+    ensures register { IfOk result (λ handles. handles.2.promise.made.value ≡ register) }
+    ensures translate { IfOk result (λ handles. handles.3.promise.made.value ≡ translate) }
     ensures refused { IfErr result (λ post. (senders : ℕ) → IsPostOf senders post) }
 {
-    let Originating {
-        feed,
-        pulse,
-        register,
-        translate,
-    } = posts;
     let translate = start(scope, rt, word, Post::Translate, translate, gate)?;
     let register = start(scope, rt, word, Post::Register, register, gate)?;
     let pulse = start(scope, rt, word, Post::Pulse, pulse, gate)?;
     let feed = start(scope, rt, word, Post::Feed, feed, gate)?;
-    Ok(OriginatingHandles {
-        feed,
-        pulse,
-        register,
-        translate,
-    })
+    Ok((feed, pulse, register, translate))
 }
 
 /// Starts all posts on threads of the scope, from the tape up to the feed, where they wait for the
@@ -226,9 +224,21 @@ pub(crate) fn start_posts<
         translate,
     };
     let outgoing = start_outgoing(scope, rt, word, outgoing, sender_handles, gate)?;
-    let originating = start_originating(scope, rt, word, originating, gate)?;
+    let Originating {
+        feed,
+        pulse,
+        register,
+        translate,
+    } = originating;
+    let originating = start_originating(scope, rt, word, feed, pulse, register, translate, gate)?;
+    let (feed, pulse, register, translate) = originating;
     Ok(Handles {
-        originating,
+        originating: OriginatingHandles {
+            feed,
+            pulse,
+            register,
+            translate,
+        },
         outgoing,
     })
 }

@@ -1,40 +1,58 @@
 // The sender, and the marks that it sends.
-ghost use Rattle.std.specs.Prelude.{◌≡◌, ◌+◌, ◌<◌, ◌≤◌, [], ◌∷◌, ◌++◌, map, length, vec_len, vec_capacity};
+ghost use Rattle.std.specs.Prelude.{◌≡◌, ◌+◌, ◌<◌, ◌≤◌, [], ◌∷◌, ◌++◌, map, length};
+ghost use Rattle.arrayvec.specs.ArrayVec.{array_vec_len};
 ghost use Rattle.xb_model.specs.declared.key.Key.TheVariants.{Digit as DigitKey};
 ghost use Rattle.xb_model.specs.Keyings.{tone, marks_of};
-ghost use Rattle.xb_stage.specs.OnLines.{on_line, all_on};
+ghost use Rattle.xb_stage.specs.OnLines.{all_on};
+ghost use Rattle.xb_stage.specs.declared.stage.TheConstants.{MOST_OUTPUTS};
 ghost use Rattle.xb_sender.specs.Laws.{GivesMarks, GivesOneEntryEach};
 ghost use Rattle.xb_sender.specs.Machine.{machine};
 
-use xb_model::{Digit, Key, LineNo, Mark, On, Order, mf};
-use xb_stage::{LineStage, send};
+use arrayvec::ArrayVec;
+use xb_model::{Digit, Key, Mark, On, Order, mf};
+use xb_stage::{LineStage, MOST_OUTPUTS, send};
 
-// Pushes a key with its pair of tones.
-fn push_key(line: LineNo, out: &mut Vec<On<Mark>>, key: &Key)
-    requires { vec_len out.old < vec_capacity out.old }
-    ensures items { out.new.items ≡ out.old.items ++ on_line line (tone key.now ∷ []) }
-    ensures len { vec_len out.new ≡ vec_len out.old + 1 }
-    ensures capacity { vec_capacity out.new ≡ vec_capacity out.old }
+// Appends a key with its pair of tones.
+fn push_key(marks: &mut ArrayVec<Mark, MOST_OUTPUTS>, key: &Key)
+    requires { array_vec_len marks.old < MOST_OUTPUTS }
+    ensures items { marks.new.items ≡ marks.old.items ++ tone key.now ∷ [] }
+    ensures len { array_vec_len marks.new ≡ array_vec_len marks.old + 1 }
 {
     let pair = mf(*key);
-    send(line, out, Mark::Tone(*key, pair));
+    marks.push(Mark::Tone(*key, pair));
 }
 
-// Pushes each digit with its pair of tones.
-fn push_digits(line: LineNo, out: &mut Vec<On<Mark>>, digits: &[Digit])
-    requires { vec_len out.old + length digits.now ≤ vec_capacity out.old }
-    ensures items { out.new.items ≡ out.old.items ++ on_line line (map (λ d. tone (DigitKey d)) digits.now) }
-    ensures len { vec_len out.new ≡ vec_len out.old + length digits.now }
-    ensures capacity { vec_capacity out.new ≡ vec_capacity out.old }
+// Appends each digit with its pair of tones.
+fn push_digits(marks: &mut ArrayVec<Mark, MOST_OUTPUTS>, digits: &[Digit])
+    requires { array_vec_len marks.old + length digits.now ≤ MOST_OUTPUTS }
+    ensures items { marks.new.items ≡ marks.old.items ++ map (λ d. tone (DigitKey d)) digits.now }
+    ensures len { array_vec_len marks.new ≡ array_vec_len marks.old + length digits.now }
 {
     for digit in digits {
-        push_key(line, out, &Key::Digit(*digit));
+        push_key(marks, &Key::Digit(*digit));
     }
 }
 
-/// The stage that keys orders ("Notes on Distance Dialing"): for an order to key, the trunk group,
-/// KP, the digits and ST, each key with its pair of tones; for a refused attempt, one mark with the
-/// reason and the count. It keeps no state.
+/// The marks of an order: to key, the trunk group, KP, the digits and ST, each key with its pair of
+/// tones; of a refused attempt, one mark with the reason and the count.
+pub fn marks_of(order: &Order) -> ArrayVec<Mark, MOST_OUTPUTS>
+    ensures { result.items ≡ marks_of order.now }
+{
+    let mut marks = ArrayVec::new();
+    match order {
+        Order::Key(trunk, digits) => {
+            marks.push(Mark::Trunk(*trunk));
+            push_key(&mut marks, &Key::Kp);
+            push_digits(&mut marks, digits.digits());
+            push_key(&mut marks, &Key::St);
+        }
+        Order::Refused(reason, heard) => marks.push(Mark::Refused(*reason, *heard)),
+    }
+    marks
+}
+
+/// The stage that keys orders ("Notes on Distance Dialing"): for each it sends its marks. It keeps no
+/// state.
 #[derive(Clone, Copy, Debug, Default, PartialEq, Eq)]
 pub struct Sender;
 
@@ -64,14 +82,8 @@ impl LineStage for Sender {
 
     fn step(&self, _state: &mut (), item: On<Order>, out: &mut Vec<On<Mark>>) {
         let On { line, what } = item;
-        match what {
-            Order::Key(trunk, digits) => {
-                send(line, out, Mark::Trunk(trunk));
-                push_key(line, out, &Key::Kp);
-                push_digits(line, out, digits.digits());
-                push_key(line, out, &Key::St);
-            }
-            Order::Refused(reason, heard) => send(line, out, Mark::Refused(reason, heard)),
+        for mark in marks_of(&what).as_slice() {
+            send(line, out, *mark);
         }
     }
 }

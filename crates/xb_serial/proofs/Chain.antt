@@ -26,11 +26,11 @@ use Rattle.xb_register.proofs.Attempts.{gives_outcomes}
 use Rattle.xb_routes.specs.Machine.{machine as translate_machine}
 use Rattle.xb_routes.proofs.Translating.{image-machine}
 use Rattle.xb_sender.specs.Machine.{machine as sender_machine}
-use Rattle.xb_fed.specs.Closed.{closed_once}
-use Rattle.xb_fed.specs.Fed.{fed}
+use Rattle.xb_closes.specs.Closed.{closed_once}
+use Rattle.xb_closes.specs.Fed.{fed}
 use Rattle.xb_model.specs.Lines.{row_line}
 use Rattle.xb_serial.proofs.ClosedOnce.{closes-once, record-once, is_on-once}
-use Rattle.xb_fed.proofs.FedRows.{rows_of-fed}
+use Rattle.xb_closes.proofs.FedRows.{rows_of-fed}
 use Rattle.xb_serial.specs.Serial.{closed_rows}
 use Rattle.xb_serial.proofs.ClosedAll.{closes-closed, record-closed, is_on-closed, rows_of-closed}
 

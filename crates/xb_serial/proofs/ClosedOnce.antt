@@ -3,7 +3,7 @@ use Rattle.std.proofs.Common.{◌≡◌, ℕ, eqb, true, false, cond, Bool, ◌|
 use Rattle.std.specs.List.{AllByRecursion}
 use Rattle.xb_model.specs.Rows.{LoopRow, close_row}
 use Rattle.xb_model.specs.Records.{Run, is_close, closes, record_up_to_close}
-use Rattle.xb_fed.specs.Closed.{until_close, missing_close, closed_once}
+use Rattle.xb_closes.specs.Closed.{until_close, missing_close, closed_once}
 
 abbrev IsOn : ℕ → List LoopRow → Type 0
 IsOn l rows = AllByRecursion (λ row. row.line ≡ l) rows

@@ -3,3 +3,13 @@ pub mod ClosedAll
 pub mod ClosedOnce
 pub mod LineTapes
 pub mod Taking
+pub mod OneLine
+pub mod Fusion
+pub mod OneOutcome
+pub mod Without
+pub mod Settled
+pub mod OneRow
+pub mod Ends
+pub mod Lacking
+pub mod Promises
+pub mod WorkedRows

@@ -29,7 +29,7 @@ use Rattle.xb_register.specs.Machine.{machine as register_machine}
 use Rattle.xb_routes.specs.Machine.{machine as translate_machine}
 use Rattle.xb_sender.specs.Machine.{machine as sender_machine}
 use Rattle.xb_model.proofs.Entries.{entries_of-flat_map}
-use Rattle.xb_fed.specs.Fed.{fed}
+use Rattle.xb_closes.specs.Fed.{fed}
 use Rattle.xb_model.specs.Lines.{lines_below}
 use Rattle.xb_serial.specs.Serial.{serial_image}
 use Rattle.xb_model.specs.Tapes.{marks_at, tapes_of}

@@ -6,9 +6,9 @@ use Rattle.std.proofs.lemmas.Bool.{cases_lt}
 use Rattle.std.proofs.lemmas.List.Elements.{recursion_from_All}
 use Rattle.xb_model.specs.declared.line.TheConstants.{LINES}
 use Rattle.xb_split.specs.declared.load.Load.{Load}
-use Rattle.xb_split.specs.declared.range.LineRange.{LineRange}
-use Rattle.xb_split.specs.Loads.{IsWithin}
-use Rattle.xb_split.specs.Ranges.{Cover, Fits, FullRangesAreFewest, IsFull}
+use Rattle.xb_parts.specs.declared.range.LineRange.{LineRange}
+use Rattle.xb_split.specs.Loads.{IsWithin, Fits, FullRangesAreFewest, IsFull}
+use Rattle.xb_parts.specs.Ranges.{Cover}
 use Rattle.xb_split.proofs.PlannedRanges.{sum-more, sum-none}
 
 module _ (f : Load → ℕ) (loads : List Load) (d : Load) where

@@ -5,8 +5,9 @@ use Rattle.xb_model.specs.Records.{rows_of}
 use Rattle.xb_model.specs.Rows.{LoopRow}
 use Rattle.xb_rows.specs.WrittenRows.{record_text}
 use Rattle.xb_split.specs.declared.load.Load.{Load}
-use Rattle.xb_split.specs.declared.range.LineRange.{LineRange}
-use Rattle.xb_split.specs.Ranges.{Fits, rows_in}
+use Rattle.xb_parts.specs.declared.range.LineRange.{LineRange}
+use Rattle.xb_parts.specs.Ranges.{rows_in}
+use Rattle.xb_split.specs.Loads.{Fits}
 
 -- the bytes of a row's record
 abbrev pub row_bytes : LoopRow → ℕ

@@ -1,6 +1,11 @@
-pub mod Parts
 pub mod Loads
 pub mod PlanFaults
-pub mod Ranges
 pub mod Counts
-pub mod Lists
+pub mod RowStreams
+pub mod PartDecks
+pub mod Plans
+pub mod Rules
+pub mod Options
+pub mod Splits
+pub mod SplitFaults
+pub mod Program

@@ -1,8 +1,9 @@
 use Rattle.std.proofs.Common.{◌≡◌, ◌∙◌, ap, sym, Err, false}
 use Rattle.std.specs.Prelude.{option_copied}
 use Rattle.xb_page.specs.declared.fault.PageFault.TheVariants as fault
-use Rattle.xb_page.specs.ReadPages.{is_cut, line_feed, space}
-use Rattle.xb_pieces.specs.Pieces.{pieces, pieces_left}
+use Rattle.xb_page.specs.ReadPages.{is_cut}
+use Rattle.xb_page.specs.Places.{line_feed, space}
+use Rattle.xb_text.specs.Pieces.{pieces, pieces_left}
 use Rattle.xb_page.proofs.ReadSteps.{end-goes_on, is_cut-pieces}
 use Rattle.xb_page.proofs.reading.end.Goals as goal
 

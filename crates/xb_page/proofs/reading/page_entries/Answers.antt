@@ -1,9 +1,9 @@
 use Rattle.std.proofs.Common.{◌≡◌, ◌∙◌, ℕ, List, [], ◌∷◌, length, ap, sym, inr, arith, rules, Err, false}
 use Rattle.std.specs.Prelude.{option_copied}
 use Rattle.xb_page.specs.declared.fault.PageFault.TheVariants as fault
-use Rattle.xb_page.specs.ReadPages.{IsFaultOf, after, entries_from, entries_of_page, first_place, is_end, line_feed}
-use Rattle.xb_pieces.specs.Pieces.{pieces, pieces_left}
-use Rattle.xb_page.specs.Places.{place_with, text_line}
+use Rattle.xb_page.specs.ReadPages.{IsFaultOf, after, entries_from, entries_of_page, first_place, is_end}
+use Rattle.xb_page.specs.Places.{line_feed, text_line}
+use Rattle.xb_text.specs.Pieces.{pieces, pieces_left}
 use Rattle.xb_page.specs.declared.place.Place.{Place}
 use Rattle.xb_page.proofs.ReadSteps.{after-none, few-lines, line-early, line-fault, line-last, line-more, line-none, lines-end}
 use Rattle.xb_page.proofs.reading.page_entries.Goals as goal
@@ -12,8 +12,7 @@ pub loop-left-init : goal.loop-left-init
 loop-left-init c =
     let all = entries_of_page c.args.page.now in
     let few = few-lines c.args.page.now in
-    let first : c.start-place.result ≡ first_place =
-    c.start-place.ensures ∙ ap (λ line. place_with line 0 0 0) c.default.ensures in
+    let first : c.start-place.result ≡ first_place = c.start-place.ensures in
     record {
       entries = after-none all ∙ ap (λ place. after [] (entries_from place (pieces line_feed c.args.page.now))) (sym first)
           ∙ sym (ap (λ entries. after entries (entries_from c.start-place.result (pieces line_feed c.args.page.now))) c.new-entries.ensures.items);

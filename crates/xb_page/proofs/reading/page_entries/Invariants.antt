@@ -1,8 +1,8 @@
 use Rattle.std.proofs.Common.{◌≡◌, ◌+◌, ◌≤◌, ◌<◌, length}
 use Rattle.std.specs.Prelude.{option_copied}
-use Rattle.xb_page.specs.Places.{text_line}
-use Rattle.xb_page.specs.ReadPages.{after, entries_from, entries_of_page, line_feed}
-use Rattle.xb_pieces.specs.Pieces.{pieces_left}
+use Rattle.xb_page.specs.Places.{text_line, line_feed}
+use Rattle.xb_page.specs.ReadPages.{after, entries_from, entries_of_page}
+use Rattle.xb_text.specs.Pieces.{pieces_left}
 use Rattle.xb_page.proofs.reading.page_entries.Given as goal
 
 abbrev pub invariant-loop-left : goal.invariant-loop-left

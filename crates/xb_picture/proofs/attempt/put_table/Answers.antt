@@ -1,7 +1,7 @@
 use Rattle.std.proofs.Common.{◌≡◌, ◌-◌, ◌++◌, ◌∙◌, ap, ap₂, length, map, min, sym, take}
 use Rattle.std.proofs.lemmas.List.{length-map, take-map, take_min}
 use Rattle.std.proofs.Math.Nat.{min_comm}
-use Rattle.xb_hear.specs.Digits.{digit_in}
+use Rattle.xb_heard.specs.Digits.{digit_in}
 use Rattle.xb_picture.specs.Attempts.{more_words, table_words}
 use Rattle.xb_picture.specs.Digits.{digits_words}
 use Rattle.xb_picture.specs.Said.{says}

@@ -1,5 +1,5 @@
 use Rattle.std.proofs.Common.{◌≡◌, ◌++◌, drop, map}
-use Rattle.xb_hear.specs.Digits.{digit_in}
+use Rattle.xb_heard.specs.Digits.{digit_in}
 use Rattle.xb_picture.specs.Digits.{digits_words}
 use Rattle.xb_picture.specs.Said.{says}
 use Rattle.xb_picture.proofs.digit.put_digits.Given as goal

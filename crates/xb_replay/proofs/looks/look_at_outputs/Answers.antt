@@ -5,7 +5,7 @@ use Rattle.xb_model.specs.declared.order.Order.{Order}
 use Rattle.xb_ring.specs.Rings.{IsRing, ProducersLooked}
 use Rattle.xb_ring.proofs.Rings.{pair_kept}
 use Rattle.xb_replay.specs.Looks.{InputLooked}
-use Rattle.xb_chain.specs.Posts.{SenderPost, Output}
+use Rattle.xb_posts.specs.Posts.{SenderPost, Output}
 use Rattle.xb_replay.proofs.Sets.{related-set, same-set, upto-set}
 use Rattle.xb_replay.proofs.LookSteps.{ring_kept, outputs-on, outputs-kept, input-on}
 use Rattle.xb_replay.proofs.looks.look_at_outputs.Goals as goal

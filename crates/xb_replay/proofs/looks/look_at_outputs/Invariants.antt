@@ -3,7 +3,7 @@ use Rattle.xb_model.specs.declared.on.On.{On}
 use Rattle.xb_model.specs.declared.order.Order.{Order}
 use Rattle.xb_ring.specs.Rings.{IsRing, ProducersLooked}
 use Rattle.xb_replay.specs.Looks.{AllInputsLooked}
-use Rattle.xb_chain.specs.Posts.{SenderPost, Output}
+use Rattle.xb_posts.specs.Posts.{SenderPost, Output}
 use Rattle.xb_replay.proofs.looks.look_at_outputs.Given as goal
 
 abbrev pub invariant-loop-j : goal.invariant-loop-j

@@ -1,5 +1,5 @@
 use Rattle.std.proofs.Common.{◌≡◌, ◌++◌, drop, map, string_bytes}
-use Rattle.xb_hear.specs.Digits.{digit_in}
+use Rattle.xb_heard.specs.Digits.{digit_in}
 use Rattle.xb_report.specs.ReportTexts.{digits_from}
 use Rattle.xb_report.proofs.digit.push_digits.Given as goal
 

@@ -1,6 +1,6 @@
 use Rattle.std.proofs.Common.{◌≡◌, ◌==◌, false, length, map, refl, sym}
 use Rattle.std.proofs.lemmas.List.{length-map}
-use Rattle.xb_hear.specs.Digits.{digit_in}
+use Rattle.xb_heard.specs.Digits.{digit_in}
 use Rattle.xb_report.specs.ReportTexts.{table_text}
 use Rattle.xb_report.proofs.Pushed.{last}
 use Rattle.xb_report.proofs.digit.push_table.Goals as goal

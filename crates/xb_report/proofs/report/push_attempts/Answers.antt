@@ -1,30 +1,20 @@
-use Rattle.std.proofs.Common.{◌≡◌, ◌++◌, ◌+◌, ◌∙◌, arith, ap, drop, get_or, length, map, min, string_bytes, sym}
-use Rattle.std.proofs.lemmas.List.{append-nil, length-drop, length-map}
-use Rattle.xb_hear.specs.Attempts.{attempt_in}
-use Rattle.xb_report.specs.ReportTexts.{attempt_text, attempts_from, outcomes_in}
-use Rattle.xb_report.proofs.Attempts.{attempts-end, attempts-more}
+use Rattle.std.proofs.Common.{◌≡◌, ◌++◌, ◌+◌, ◌∷◌, ◌∙◌, arith, ap, drop, map, string_bytes, sym}
+use Rattle.std.proofs.lemmas.List.{drop_more}
+use Rattle.xb_heard.specs.Attempts.{attempt_in}
+use Rattle.xb_report.specs.ReportTexts.{attempt_text, attempts_from}
 use Rattle.xb_report.proofs.Pushed.{both-rest}
 use Rattle.xb_report.proofs.report.push_attempts.Goals as goal
-
-pub returns : goal.returns
-returns c =
-    let i = c.loop-index.index in
-    let attempts = map attempt_in (drop i c.args.attempts.now) in
-    let outcomes = outcomes_in (drop i c.args.outcomes.now) in
-    let none : min (length attempts) (length outcomes) ≡ 0 = simp (length-map, length-drop) (omega arith) in
-    sym (append-nil (string_bytes c.loop-index.out))
-    ∙ ap (λ t. string_bytes c.loop-index.out ++ t)
-    (sym (attempts-end c.args.limits c.args.line (i + 1) attempts outcomes none))
-    ∙ c.loop-index.invariant
 
 pub loop-index-preserved : goal.loop-index-preserved
 loop-index-preserved c =
     let i = c.loop-index.index in
+    let limits = c.args.limits in
+    let line = c.args.line in
+    let attempts = c.args.attempts.now in
     let attempt = c.index-attempts-index.result in
-    let outcome = c.index-outcomes-index.result in
-    let more = attempts-more c.args.limits c.args.line c.args.attempts.now c.args.outcomes.now i attempt outcome
-    c.index-attempts-index.is (omega arith) (omega arith) in
-    both-rest (string_bytes c.loop-index.out) _
-    (attempt_text c.args.limits c.args.line (i + 1) (attempt_in attempt) (get_or c.args.outcomes.now i outcome).what)
-    (attempts_from c.args.limits c.args.line (i + 1 + 1) (map attempt_in (drop (i + 1) c.args.attempts.now)) (outcomes_in (drop (i + 1) c.args.outcomes.now)))
+    let later = drop (i + 1) attempts in
+    let more = ap (λ all. attempts_from limits line (i + 1) (map attempt_in all))
+    (drop_more attempts i attempt (omega arith) ∙ ap (λ a. a ∷ later) (sym c.index-attempts-index.is)) in
+    both-rest (string_bytes c.loop-index.out) _ (attempt_text limits line (i + 1) (attempt_in attempt))
+    (attempts_from limits line (i + 1 + 1) (map attempt_in later))
     c.in_ok-push_attempt.ensures more ∙ c.loop-index.invariant

@@ -1,6 +1,6 @@
 use Rattle.std.proofs.Common.{[], ◌∷◌, sym, ap, subst, eqb, ◌∙◌, inr, refl}
 use Rattle.xb_ring.specs.DealSteps.{CanSend, released, left_of, next_place}
-use Rattle.xb_ring.specs.Deals.{SendsAt, IsDealTurn}
+use Rattle.xb_ring.specs.Deals.{SendsAt, SameDeal, IsDealTurn}
 use Rattle.xb_ring.specs.declared.turn.Turn.TheVariants.{Moved}
 use Rattle.xb_ring.proofs.Deals.{deals_sent, looked_and_sent}
 use Rattle.xb_ring.proofs.deal.Deal.send.Goals as goal
@@ -27,3 +27,8 @@ returns-clause-event g c =
 
 pub returns-clause-lawful : goal.returns-clause-lawful
 returns-clause-lawful g c = (invariant_of-self-2 g c).0
+
+pub returns-clause-ends : goal.returns-clause-ends
+returns-clause-ends g c =
+    let s = looked_and_sent c.self.inside.producers c.is_full_at.new.producers c.push_at.new.producers c.self.inside.place _ c.is_full_at.ensures.len c.is_full_at.ensures.looked c.push_at.ensures.len c.push_at.ensures.same c.push_at.ensures.sent in
+    subst (λ v. SameDeal v (record { consumer = c.self.inside.consumer; producers = c.push_at.new.producers.items; held = c.release-item.result.1; place = c.after-next.result })) c.self.view_is (((refl, refl, refl, refl), refl), s.0, λ j p h. (s.1 j p h).0)

@@ -1,7 +1,8 @@
-use Rattle.std.proofs.Common.{◌+◌, ◌-◌, ◌^◌, min, map, sym, ap, subst, ◌∙◌}
+use Rattle.std.proofs.Common.{refl, ◌+◌, ◌-◌, ◌^◌, min, map, sym, ap, subst, ◌∙◌}
 use Rattle.std.proofs.lemmas.List.{length-map}
 use Rattle.rtrb.specs.Ring.{received, sent}
 use Rattle.xb_ring.specs.GatherSteps.{Awaits}
+use Rattle.xb_ring.specs.Gathers.{SameGather}
 use Rattle.xb_ring.proofs.Gathers.{gathers_wanted, counts_wanted, gather_law}
 use Rattle.xb_ring.proofs.gather.Gather.take.Goals as goal
 
@@ -25,3 +26,11 @@ pub returns-in-Err-clause-lawful : goal.returns-in-Err-clause-lawful
 returns-in-Err-clause-lawful g c =
     let i = c.self.inside in
     gather_law g.T.Ending.ending _ (sent i.producer) i.held i.place (rw c.in-Err.ensures.empty c.self.invariant.0)
+
+pub returns-clause-ends : goal.returns-clause-ends
+returns-clause-ends g c =
+    subst (λ v. SameGather v (record { consumers = c.pop_at.new.consumers.items; producer = c.self.inside.producer; held = c.held_after-held.result.0; place = c.held_after-held.result.1 })) c.self.view_is (
+      sym c.pop_at.new.consumers.ok.0 ∙ (c.pop_at.ensures.len ∙ c.self.inside.consumers.ok.0),
+      (λ j d h. c.pop_at.ensures.same j d (rw c.self.inside.consumers.ok.0 h)),
+      ((refl, refl, refl, refl), refl),
+    )

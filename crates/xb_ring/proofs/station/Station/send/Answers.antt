@@ -1,5 +1,6 @@
-use Rattle.std.proofs.Common.{sym, ap, ◌∙◌}
+use Rattle.std.proofs.Common.{refl, sym, ap, ◌∙◌}
 use Rattle.xb_ring.proofs.Stations.{ends_next, items_none, keeps_sent_end, keeps_sent_item, lawful}
+use Rattle.xb_ring.proofs.Sames.{same_producer, station_ends}
 use Rattle.xb_ring.proofs.station.Station.send.Goals as goal
 
 pub invariant_of-self-in-Some : goal.invariant_of-self-in-Some
@@ -16,3 +17,12 @@ invariant_of-self-in-None g c =
 
 pub returns-in-Some-clause-lawful : goal.returns-in-Some-clause-lawful
 returns-in-Some-clause-lawful g c = lawful _ _ _ _ _ _ _ _ (invariant_of-self-in-Some g c)
+
+pub returns-in-Some-clause-ends : goal.returns-in-Some-clause-ends
+returns-in-Some-clause-ends g c = station_ends _ c.args.self.now c.self.view_is c.self.inside.consumer c.push_reserved.new.self c.self.inside.stage refl ((refl, refl, refl, refl), refl) (same_producer c.self.inside.producer c.is_full.new.self c.push_reserved.new.self c.is_full.ensures.looked.0 c.push_reserved.ensures.ring)
+
+pub returns-in-None-clause-ends : goal.returns-in-None-clause-ends
+returns-in-None-clause-ends g c = station_ends _ c.args.self.now c.self.view_is c.self.inside.consumer c.push_reserved-in-None.new.self c.self.inside.stage refl ((refl, refl, refl, refl), refl) (same_producer c.self.inside.producer c.is_full.new.self c.push_reserved-in-None.new.self c.is_full.ensures.looked.0 c.push_reserved-in-None.ensures.ring)
+
+pub returns-then-is_full-clause-ends : goal.returns-then-is_full-clause-ends
+returns-then-is_full-clause-ends g c = station_ends _ c.args.self.now c.self.view_is c.self.inside.consumer c.is_full.new.self c.self.inside.stage refl ((refl, refl, refl, refl), refl) c.is_full.ensures.looked.0

@@ -1,8 +1,9 @@
-use Rattle.std.proofs.Common.{◌≡◌, [], ◌∷◌, ◌++◌, ap, ◌∙◌}
+use Rattle.std.proofs.Common.{refl, ◌≡◌, [], ◌∷◌, ◌++◌, ap, ◌∙◌}
 use Rattle.rtrb.specs.Ring.{received, sent}
 use Rattle.xb_ring.specs.Flows.{has_end}
 use Rattle.xb_ring.specs.declared.flow.Flow.TheVariants.{Item, End}
 use Rattle.xb_ring.proofs.Stations.{opens, keeps_item, keeps_end, lawful}
+use Rattle.xb_ring.proofs.Sames.{station_ends}
 use Rattle.xb_ring.proofs.station.Station.take.Goals as goal
 
 pub invariant_of-self : goal.invariant_of-self
@@ -25,3 +26,12 @@ returns-in-Ok-Item-clause-lawful g c = lawful _ _ _ _ _ _ _ _ (invariant_of-self
 
 pub returns-in-Ok-End-clause-lawful : goal.returns-in-Ok-End-clause-lawful
 returns-in-Ok-End-clause-lawful g c = lawful _ _ _ _ _ _ _ _ (invariant_of-self-in-Ok-End g c)
+
+pub returns-in-Ok-Item-clause-ends : goal.returns-in-Ok-Item-clause-ends
+returns-in-Ok-Item-clause-ends g c = station_ends _ c.args.self.now c.self.view_is c.pop.new.self c.self.inside.producer c.self.inside.stage refl c.pop.ensures.ring ((refl, refl, refl, refl), refl)
+
+pub returns-in-Ok-End-clause-ends : goal.returns-in-Ok-End-clause-ends
+returns-in-Ok-End-clause-ends g c = station_ends _ c.args.self.now c.self.view_is c.pop.new.self c.self.inside.producer c.self.inside.stage refl c.pop.ensures.ring ((refl, refl, refl, refl), refl)
+
+pub returns-in-Err-clause-ends : goal.returns-in-Err-clause-ends
+returns-in-Err-clause-ends g c = station_ends _ c.args.self.now c.self.view_is c.pop.new.self c.self.inside.producer c.self.inside.stage refl c.pop.ensures.ring ((refl, refl, refl, refl), refl)

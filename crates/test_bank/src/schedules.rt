@@ -1,0 +1,48 @@
+// Both calls by schedules: the second sender would send the refusal.
+use crate::two_calls::{are_both, line, rows, table};
+use std::alloc::{AllocError, Global};
+use std::test::Fail;
+use test_kit::marks::operator_marks;
+use xb_ring::Post;
+use xb_together::{SoFar, marks_by_schedule};
+
+// Each post but the second sender.
+const ROUND: [Post; 8] = [
+    Post::Feed,
+    Post::Pulse,
+    Post::Register,
+    Post::Translate,
+    Post::Deal,
+    Post::Send(0),
+    Post::Gather,
+    Post::Tape,
+];
+
+// So many rounds, and then as many in which the second sender has its turn too, if it may have one.
+fn rounds(alloc: Global, may_send: bool) -> Result<Vec<Post>, AllocError> {
+    let mut schedule = Vec::new(alloc);
+    for round in 0..400 {
+        if may_send && round >= 200 {
+            schedule.push(Post::Send(1))?;
+        }
+        schedule.extend_from_slice(&ROUND)?;
+    }
+    Ok(schedule)
+}
+
+fn played(alloc: Global, may_send: bool) -> Result<SoFar, Fail> {
+    let schedule = rounds(alloc, may_send)?;
+    Ok(marks_by_schedule(alloc, &table(alloc)?, &rows(alloc)?, line()?, &schedule)?)
+}
+
+#[test]
+fn second_call_waits_for_its_sender(rt: HostRuntime) -> Result<(), Fail> {
+    let keyed = operator_marks()?;
+    let held = played(rt.alloc(), false)?;
+    assert!(rt; held.marks.as_slice() == keyed.as_slice());
+    assert!(rt; !held.ended);
+    let whole = played(rt.alloc(), true)?;
+    assert!(rt; are_both(&whole.marks)?);
+    assert!(rt; whole.ended);
+    Ok(())
+}

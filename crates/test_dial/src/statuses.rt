@@ -1,0 +1,196 @@
+// Words, calls and streams in; a status, rows and lines of faults out.
+use std::io::ErrorKind;
+use std::test::Fail;
+use test_kit::{Halting, Short, words_of};
+use xb_dial::attend;
+
+// The words after the program's name, the calls, the status, and what stands on standard output and on
+// standard error.
+type Case = (
+    &'static [&'static str],
+    &'static [u8],
+    u8,
+    &'static [u8],
+    &'static [u8],
+);
+
+const USAGE: &[u8] = b"mfdial: usage: mfdial [--speed 10|20] [--break N] [--make N] [--pause N] \
+[--seize N] [--hang-up N] [--plan 7|10] [--in-turn] [--any]\n";
+
+const CASES: &[Case] = &[
+    (&[], b"", 0, b"line,state,ms\n", b""),
+    (
+        &["--any"],
+        b"# a call\n7 2-1\n",
+        0,
+        b"line,state,ms\n7,M,500\n7,B,60\n7,M,40\n7,B,60\n7,M,600\n7,B,60\n7,M,600\n",
+        b"",
+    ),
+    (
+        &["--any", "--speed", "20", "--in-turn"],
+        b"7 2\n5 1\n7 1\n",
+        0,
+        b"line,state,ms\n5,M,500\n7,M,500\n5,B,30\n7,B,30\n5,M,600\n7,M,20\n7,B,30\n7,M,600
+7,B,400\n7,M,500\n7,B,30\n7,M,600\n",
+        b"",
+    ),
+    (
+        &[
+            "--any",
+            "--break=20",
+            "--make",
+            "15",
+            "--pause",
+            "180",
+            "--seize",
+            "1",
+            "--hang-up",
+            "300",
+        ],
+        b"7 2\n7 1\n",
+        0,
+        b"line,state,ms\n7,M,1\n7,B,20\n7,M,15\n7,B,20\n7,M,180\n7,B,300\n7,M,1\n7,B,20\n7,M,180\n",
+        b"",
+    ),
+    // faults of the speed come before those of the calls
+    (
+        &["--break", "120"],
+        b"x",
+        1,
+        b"",
+        b"mfdial: speed: the break is no pulse\n",
+    ),
+    (
+        &["--make", "14"],
+        b"7 0",
+        1,
+        b"",
+        b"mfdial: speed: the make is too short, or a pause\n",
+    ),
+    (
+        &["--pause", "20000"],
+        b"7 0",
+        1,
+        b"",
+        b"mfdial: speed: the pause is too short, or a time-out\n",
+    ),
+    (
+        &["--seize", "0"],
+        b"7 0",
+        1,
+        b"",
+        b"mfdial: speed: the seizing make is 0, or a time-out\n",
+    ),
+    (
+        &["--hang-up", "299"],
+        b"7 0",
+        1,
+        b"",
+        b"mfdial: speed: the hang-up is no release, or longer than a day\n",
+    ),
+    (
+        &[],
+        b"7 0\n10000 0",
+        1,
+        b"",
+        b"mfdial: text line 2 has a wrong line\n",
+    ),
+    (
+        &[],
+        b"7 2x",
+        1,
+        b"",
+        b"mfdial: text line 1 has a wrong digit\n",
+    ),
+    (&[], b"\n7", 1, b"", b"mfdial: text line 2 has no digits\n"),
+    (&[], b"7 2125551", 0, SEVEN_DIGITS, b""),
+    (
+        &["--plan", "10"],
+        b"7 2125551",
+        1,
+        b"",
+        b"mfdial: text line 1 has a number that is not complete\n",
+    ),
+    (
+        &["--plan", "7"],
+        b"7 00",
+        1,
+        b"",
+        b"mfdial: text line 1 has a number that goes on after it is complete\n",
+    ),
+    // refused words
+    (&["--speed", "15"], b"7 0", 2, b"", USAGE),
+    (&["--plan", "8"], b"7 0", 2, b"", USAGE),
+    (&["--break", "x"], b"7 0", 2, b"", USAGE),
+    (&["--help"], b"7 0", 2, b"", USAGE),
+    (&["calls.txt"], b"7 0", 2, b"", USAGE),
+    (&["--break", "4294967296"], b"7 0", 2, b"", USAGE),
+];
+
+// 212 5551 on line 7.
+const SEVEN_DIGITS: &[u8] = b"line,state,ms
+7,M,500
+7,B,60\n7,M,40\n7,B,60\n7,M,600
+7,B,60\n7,M,600
+7,B,60\n7,M,40\n7,B,60\n7,M,600
+7,B,60\n7,M,40\n7,B,60\n7,M,40\n7,B,60\n7,M,40\n7,B,60\n7,M,40\n7,B,60\n7,M,600
+7,B,60\n7,M,40\n7,B,60\n7,M,40\n7,B,60\n7,M,40\n7,B,60\n7,M,40\n7,B,60\n7,M,600
+7,B,60\n7,M,40\n7,B,60\n7,M,40\n7,B,60\n7,M,40\n7,B,60\n7,M,40\n7,B,60\n7,M,600
+7,B,60\n7,M,600\n";
+
+#[test]
+fn gives_each_status(rt: HostRuntime) -> Result<(), Fail> {
+    for (words, calls, status, rows, line) in CASES {
+        let words = words_of(rt.alloc(), "mfdial", words)?;
+        let mut reader = *calls;
+        let mut out = Vec::new(rt.alloc());
+        let mut err = Vec::new(rt.alloc());
+        let got = attend(rt.alloc(), &words, &mut reader, &mut out, &mut err);
+        assert_eq!(rt; got, *status, "{words:?}, {}", calls.escape_ascii());
+        assert!(rt;
+            out.as_slice() == *rows,
+            "{words:?}, {}",
+            calls.escape_ascii()
+        );
+        assert!(rt;
+            err.as_slice() == *line,
+            "{words:?}, {}",
+            calls.escape_ascii()
+        );
+    }
+    Ok(())
+}
+
+#[test]
+fn fails_where_the_calls_fail(rt: HostRuntime) -> Result<(), Fail> {
+    let words = words_of(rt.alloc(), "mfdial", &[])?;
+    let calls = b"7 234-5678\n9 0\n";
+    for place in 0..=calls.len() {
+        let mut reader = Halting::failing(calls, 4, place, ErrorKind::Interrupted);
+        let mut out = Vec::new(rt.alloc());
+        let mut err = Vec::new(rt.alloc());
+        let got = attend(rt.alloc(), &words, &mut reader, &mut out, &mut err);
+        assert_eq!(rt; got, 1, "{place}");
+        assert!(rt; out.is_empty(), "{place}");
+        let line = b"mfdial: the calls could not be read\n".as_slice();
+        assert!(rt; err.as_slice() == line, "{place}");
+    }
+    Ok(())
+}
+
+#[test]
+fn writes_the_beginning_where_the_rows_fail(rt: HostRuntime) -> Result<(), Fail> {
+    let words = words_of(rt.alloc(), "mfdial", &[])?;
+    for room in 0..=SEVEN_DIGITS.len() {
+        let mut calls = b"7 212-5551".as_slice();
+        let mut out = Short::new(rt.alloc(), room, Some(ErrorKind::Other));
+        out.flush = Some(ErrorKind::Other);
+        let mut err = Vec::new(rt.alloc());
+        let got = attend(rt.alloc(), &words, &mut calls, &mut out, &mut err);
+        assert_eq!(rt; got, 1, "{room}");
+        assert!(rt; out.taken.as_slice() == &SEVEN_DIGITS[..room], "{room}");
+        let line = b"mfdial: the rows could not be written\n".as_slice();
+        assert!(rt; err.as_slice() == line, "{room}");
+    }
+    Ok(())
+}

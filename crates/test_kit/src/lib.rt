@@ -1,0 +1,19 @@
+//! What tests share. Worked examples: what lines do, in a short form, beside the page of it, worked out by
+//! hand. And fakes: a reader and a writer that fail or that give and take little at a time, random numbers that
+//! are the same in each run, the words of a command line, and what a program gives on such streams.
+#![tactic(auto)]
+
+pub mod attempts;
+pub mod decks;
+mod dice;
+pub mod marks;
+mod programs;
+pub mod pulses;
+pub mod sources;
+mod streams;
+mod words;
+
+pub use dice::Dice;
+pub use programs::{Gives, Program, check_reads, check_status, check_writes};
+pub use streams::{Halting, Short};
+pub use words::words_of;

@@ -1,0 +1,37 @@
+// Rings, and the words of posts.
+use std::alloc::AllocError;
+use std::test::Fail;
+use xb_ring::{Flow, Post, drained, link};
+
+#[test]
+fn drained_once_all_was_received(rt: HostRuntime) -> Result<(), AllocError> {
+    let (mut producer, mut consumer) = link(rt.alloc(), 2)?;
+    assert!(rt; drained(&mut producer, &mut consumer), "nothing was sent");
+    producer.push_reserved(Flow::Item(7u8));
+    assert!(rt;
+        !drained(&mut producer, &mut consumer),
+        "one item was not received"
+    );
+    assert_eq!(rt; consumer.pop().ok(), Some(Flow::Item(7)));
+    assert!(rt; drained(&mut producer, &mut consumer), "all was received");
+    Ok(())
+}
+
+#[test]
+fn words_of_posts(rt: HostRuntime) -> Result<(), Fail> {
+    for (post, word) in [
+        (Post::Feed, "feed"),
+        (Post::Pulse, "pulse"),
+        (Post::Register, "register"),
+        (Post::Translate, "translate"),
+        (Post::Deal, "deal"),
+        (Post::Send(7), "send 7"),
+        (Post::Gather, "gather"),
+        (Post::Tape, "tape"),
+    ] {
+        let mut written = String::new(rt.alloc());
+        write!(&mut written, "{post}")?;
+        assert_eq!(rt; written.as_str(), word);
+    }
+    Ok(())
+}

@@ -1,0 +1,127 @@
+// Words and files of pages in; a status, a page and lines of faults out.
+use std::alloc::Global;
+use std::io::{self, ErrorKind};
+use std::test::Fail;
+use test_kit::words_of;
+use xb_join::{PageFiles, attend};
+
+const FIRST: &[u8] = b"0000 1 REFUSED UNKNOWN 3\n\
+0007 1 KEYED 0001 KP:1100+1700 0:1300+1500 ST:1500+1700\n\
+0007 2 REFUSED ABANDONED 0\n\
+KEYED 1 REFUSED 2\n";
+
+const LAST: &[u8] = b"9999 1 KEYED 0003 KP:1100+1700 4:700+1300 1:700+900 1:700+900 ST:1500+1700\n\
+KEYED 1 REFUSED 0\n";
+
+const WHOLE: &[u8] = b"0000 1 REFUSED UNKNOWN 3\n\
+0007 1 KEYED 0001 KP:1100+1700 0:1300+1500 ST:1500+1700\n\
+0007 2 REFUSED ABANDONED 0\n\
+9999 1 KEYED 0003 KP:1100+1700 4:700+1300 1:700+900 1:700+900 ST:1500+1700\n\
+KEYED 2 REFUSED 2\n";
+
+const LIST: &[u8] = b"0000-4999.deck 0 4999 30\n5000-9999.deck 5000 9999 20\n";
+
+const USAGE: &[u8] = b"mfjoin: usage: mfjoin [--list FILE] PAGE...\n";
+
+// The files that there are.
+struct Folder;
+
+const FILES: &[(&str, &[u8])] = &[
+    ("first", FIRST),
+    ("last", LAST),
+    ("cut", b"0000 1 REFUSED UNKNOWN 3\n0007 1 KE"),
+    ("empty", b""),
+    ("list", LIST),
+    ("no list", b"0000-4999.deck 0 4999 30\n5000-9999.deck 5000"),
+];
+
+impl PageFiles for Folder {
+    fn read(&self, alloc: Global, name: &str) -> io::Result<Vec<u8>> {
+        for (other, bytes) in FILES {
+            if *other == name {
+                let mut file = Vec::new(alloc);
+                file.extend_from_slice(bytes)?;
+                return Ok(file);
+            }
+        }
+        Err(io::Error::from(ErrorKind::NotFound))
+    }
+}
+
+// The words, the status, the page, and what stands on standard error.
+const CASES: &[(&[&str], u8, &[u8], &[u8])] = &[
+    (&["first", "last"], 0, WHOLE, b""),
+    (&["--list", "list", "first", "last"], 0, WHOLE, b""),
+    (&["first"], 0, FIRST, b""),
+    (
+        &["last", "first"],
+        1,
+        b"",
+        b"mfjoin: first: part 2: the first line belongs to an earlier part\n",
+    ),
+    (
+        &["cut", "last"],
+        1,
+        b"",
+        b"mfjoin: cut: part 1: the page ends without its totals\n",
+    ),
+    (
+        &["first", "empty"],
+        1,
+        b"",
+        b"mfjoin: empty: part 2: the page ends without its totals\n",
+    ),
+    (
+        &["--list", "list", "first"],
+        1,
+        b"",
+        b"mfjoin: no part has line 5000\n",
+    ),
+    (
+        &["--list", "list", "last"],
+        1,
+        b"",
+        b"mfjoin: last: part 1: the page has a line of a later part\n",
+    ),
+    (
+        &["--list", "list", "first", "last", "last"],
+        1,
+        b"",
+        b"mfjoin: there are more pages than the 2 parts of the list\n",
+    ),
+    (
+        &["--list", "no list", "first", "last"],
+        1,
+        b"",
+        b"mfjoin: no list: it is no list of parts\n",
+    ),
+    (
+        &["--list", "first", "first", "last"],
+        1,
+        b"",
+        b"mfjoin: first: it is no list of parts\n",
+    ),
+    (
+        &["first", "none"],
+        1,
+        b"",
+        b"mfjoin: none: entity not found\n",
+    ),
+    (&[], 2, b"", USAGE),
+    (&["--list", "list"], 2, b"", USAGE),
+    (&["--lists", "list", "first"], 2, b"", USAGE),
+    (&["--help"], 2, b"", USAGE),
+];
+
+#[test]
+fn each_status(rt: HostRuntime) -> Result<(), Fail> {
+    let alloc = rt.alloc();
+    for (words, status, page, line) in CASES {
+        let words = words_of(alloc, "mfjoin", words)?;
+        let (mut out, mut err) = (Vec::new(alloc), Vec::new(alloc));
+        assert_eq!(rt; attend(alloc, &words, &Folder, &mut out, &mut err), *status);
+        assert_eq!(rt; out.as_slice(), *page);
+        assert_eq!(rt; err.as_slice(), *line);
+    }
+    Ok(())
+}

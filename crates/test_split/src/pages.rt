@@ -1,0 +1,211 @@
+// Pages that are joined, and pages that are damaged or out of their place, written by hand.
+use std::alloc::Global;
+use std::test::Fail;
+use xb_join::{Damage, JoinFault, Joiner, PartPage, join_pages};
+use xb_model::LINES;
+use xb_parts::LineRange;
+
+const FIRST: &[u8] = b"0000 1 REFUSED UNKNOWN 3\n\
+0007 1 KEYED 0001 KP:1100+1700 0:1300+1500 ST:1500+1700\n\
+0007 2 REFUSED ABANDONED 0\n\
+KEYED 1 REFUSED 2\n";
+
+const NONE: &[u8] = b"KEYED 0 REFUSED 0\n";
+
+const LAST: &[u8] = b"9999 1 KEYED 0003 KP:1100+1700 4:700+1300 1:700+900 1:700+900 ST:1500+1700\n\
+KEYED 1 REFUSED 0\n";
+
+const WHOLE: &[u8] = b"0000 1 REFUSED UNKNOWN 3\n\
+0007 1 KEYED 0001 KP:1100+1700 0:1300+1500 ST:1500+1700\n\
+0007 2 REFUSED ABANDONED 0\n\
+9999 1 KEYED 0003 KP:1100+1700 4:700+1300 1:700+900 1:700+900 ST:1500+1700\n\
+KEYED 2 REFUSED 2\n";
+
+// Parts as they are named: the first line, the line after the last, and the page.
+type Named = (u16, u16, &'static [u8]);
+
+// What pages make.
+fn join(alloc: Global, named: &[Named]) -> Result<Vec<u8>, JoinFault> {
+    let mut parts = Vec::new(alloc);
+    for (first, end, page) in named {
+        let lines = LineRange {
+            first: *first,
+            end: *end,
+        };
+        parts
+            .push(PartPage { lines, page })
+            .map_err(|_| JoinFault::NoMemory)?;
+    }
+    join_pages(alloc, &parts)
+}
+
+// Parts, and the page that they make.
+const JOINED: &[(&[Named], &[u8])] = &[
+    (
+        &[(0, 8, FIRST), (8, 9_999, NONE), (9_999, LINES, LAST)],
+        WHOLE,
+    ),
+    (&[(0, LINES, WHOLE)], WHOLE),
+    (
+        &[(0, 0, NONE), (0, LINES, WHOLE), (LINES, LINES, NONE)],
+        WHOLE,
+    ),
+    (&[(0, LINES, NONE)], NONE),
+];
+
+#[test]
+fn parts_are_joined(rt: HostRuntime) -> Result<(), Fail> {
+    for (parts, whole) in JOINED {
+        let page = join(rt.alloc(), parts)?;
+        assert_eq!(rt; page.as_slice(), *whole);
+    }
+    Ok(())
+}
+
+// Parts that are missing or out of their place, and pages of other lines.
+const APART: &[(&[Named], JoinFault)] = &[
+    (&[], JoinFault::Missing(0)),
+    (&[(0, 8, FIRST)], JoinFault::Missing(8)),
+    (&[(0, 9_999, FIRST)], JoinFault::Missing(9_999)),
+    (&[(0, 8, FIRST), (9_999, LINES, LAST)], JoinFault::Lines(2)),
+    (&[(8, LINES, LAST)], JoinFault::Lines(1)),
+    (&[(8, LINES, LAST), (0, 8, FIRST)], JoinFault::Lines(1)),
+    (
+        &[(0, 8, FIRST), (0, 8, FIRST), (8, LINES, LAST)],
+        JoinFault::Lines(2),
+    ),
+    (&[(0, 9, FIRST), (8, LINES, LAST)], JoinFault::Lines(2)),
+    (&[(0, LINES + 1, WHOLE)], JoinFault::Lines(1)),
+    (&[(0, 8, FIRST), (8, 7, NONE)], JoinFault::Lines(2)),
+    (&[(0, 8, LAST), (8, LINES, FIRST)], JoinFault::PastEnd(1)),
+    (&[(0, 7, FIRST), (7, LINES, NONE)], JoinFault::PastEnd(1)),
+];
+
+#[test]
+fn parts_that_do_not_join(rt: HostRuntime) {
+    for (parts, fault) in APART {
+        assert_eq!(rt; join(rt.alloc(), parts).err(), Some(*fault));
+    }
+}
+
+// Nothing of a part that has a fault is counted.
+#[test]
+fn joiner_goes_on_after_a_fault(rt: HostRuntime) {
+    let alloc = rt.alloc();
+    let all = LineRange {
+        first: 0,
+        end: LINES,
+    };
+    let mut joiner = Joiner::new();
+    let cut = joiner.take(all, &WHOLE[..40]).err();
+    assert_eq!(rt; cut, Some(JoinFault::Part(1, Damage::NoTotals)));
+    assert_eq!(rt; joiner.totals(alloc).err(), Some(JoinFault::Missing(0)));
+    let entries = joiner.take(all, WHOLE).expect(&rt, "a sound page");
+    assert_eq!(rt; entries.len() + "KEYED 2 REFUSED 2\n".len(), WHOLE.len());
+    let totals = joiner.totals(alloc).expect(&rt, "all lines");
+    assert_eq!(rt; totals.as_str(), "KEYED 2 REFUSED 2\n");
+}
+
+// A page that is cut after any of its bytes is no page.
+#[test]
+fn cut_pages(rt: HostRuntime) {
+    let alloc = rt.alloc();
+    for length in 0..WHOLE.len() {
+        let cut = join(alloc, &[(0, LINES, &WHOLE[..length])]).err();
+        assert_eq!(rt; cut, Some(JoinFault::Part(1, Damage::NoTotals)));
+    }
+}
+
+// What is wrong with the page of the lines from 8 on.
+const DAMAGED: &[(&[u8], Damage)] = &[
+    (b"", Damage::NoTotals),
+    (b"0008 1 REFUSED UNKNOWN 3\n", Damage::NoTotals),
+    (b"KEYED 0 REFUSED 0", Damage::NoTotals),
+    (b"0008 1 REFUSED UNKNO", Damage::NoTotals),
+    (b"KEYED 0 REFUSED 1\n", Damage::WrongTotals),
+    (b"KEYED 00 REFUSED 0\n", Damage::WrongTotals),
+    (b"KEYED 0 REFUSED 0 \n", Damage::WrongTotals),
+    (b"KEYED\n", Damage::WrongTotals),
+    (
+        b"0008 1 KEYED 0001\nKEYED 0 REFUSED 1\n",
+        Damage::WrongTotals,
+    ),
+    (b"KEYED 0 REFUSED 0\n\n", Damage::GoesOn),
+    (b"KEYED 0 REFUSED 0\nKEYED 0 REFUSED 0\n", Damage::GoesOn),
+    (b"\nKEYED 0 REFUSED 0\n", Damage::NoEntry(1)),
+    (b"0008 1 KEYED 0001\n9 1 KEYED 0001\n", Damage::NoEntry(2)),
+    (b"000a 1 KEYED 0001\n", Damage::NoEntry(1)),
+    (b"0008 1 KEPT 0001\n", Damage::NoEntry(1)),
+    (b"0008 2 KEYED 0001\n", Damage::OutOfOrder(1)),
+    (
+        b"0008 1 KEYED 0001\n0008 3 KEYED 0001\n",
+        Damage::OutOfOrder(2),
+    ),
+    (
+        b"0009 1 KEYED 0001\n0008 1 KEYED 0001\n",
+        Damage::OutOfOrder(2),
+    ),
+    (
+        b"0008 1 KEYED 0001\n0009 2 KEYED 0001\n",
+        Damage::OutOfOrder(2),
+    ),
+    (b"0008 01 KEYED 0001\n", Damage::OutOfOrder(1)),
+    (FIRST, Damage::Overlaps),
+    (b"0007 1 KEYED 0001\n", Damage::Overlaps),
+];
+
+#[test]
+fn names_each_damage(rt: HostRuntime) {
+    for (page, damage) in DAMAGED {
+        let parts = [(0, 8, FIRST), (8, LINES, *page)];
+        let wanted = JoinFault::Part(2, *damage);
+        let got = join(rt.alloc(), &parts).err();
+        assert_eq!(rt; got, Some(wanted), "{}", page.escape_ascii());
+    }
+}
+
+// Faults, and their words.
+const WORDS: &[(JoinFault, &str)] = &[
+    (
+        JoinFault::Lines(2),
+        "part 2: its lines do not follow those of the part before",
+    ),
+    (
+        JoinFault::Part(2, Damage::NoTotals),
+        "part 2: the page ends without its totals",
+    ),
+    (
+        JoinFault::Part(2, Damage::WrongTotals),
+        "part 2: the totals are not those of the entries",
+    ),
+    (
+        JoinFault::Part(2, Damage::GoesOn),
+        "part 2: the page goes on after its totals",
+    ),
+    (
+        JoinFault::Part(2, Damage::NoEntry(7)),
+        "part 2: line 7 is no entry",
+    ),
+    (
+        JoinFault::Part(2, Damage::OutOfOrder(7)),
+        "part 2: line 7 is out of its order",
+    ),
+    (
+        JoinFault::Part(2, Damage::Overlaps),
+        "part 2: the first line belongs to an earlier part",
+    ),
+    (
+        JoinFault::PastEnd(2),
+        "part 2: the page has a line of a later part",
+    ),
+    (JoinFault::Missing(250), "no part has line 250"),
+];
+
+#[test]
+fn words_of_faults(rt: HostRuntime) {
+    for (fault, words) in WORDS {
+        let alloc = rt.alloc();
+        let written = format!(in alloc; "{fault}").expect(&rt, "memory");
+        assert_eq!(rt; written.as_str(), *words);
+    }
+}

@@ -1,0 +1,198 @@
+// Words and the file of a deck in; a status, the decks of its parts, their list and lines of faults out.
+use crate::splits::TwoDecks;
+use std::alloc::Global;
+use std::io::{self, ErrorKind};
+use std::test::Fail;
+use test_kit::words_of;
+use xb_parts::LineRange;
+use xb_split::{SplitFiles, attend};
+
+const DECK: &[u8] =
+    b"[[route]]\ncode = \"0\"\ntrunk = 1\n---\nline,state,ms\n7,M,500\n9999,M,500\n7,B,60\n\
+5000,B,400\n";
+
+const NO_CUT: &[u8] = b"[[route]]\ncode = \"0\"\ntrunk = 1\nline,state,ms\n7,M,500\n";
+
+const WRONG: &[u8] = b"---\nline,state,ms\n7,M,500\n7,X,500\n";
+
+// A record on each of three lines.
+const THREE: &[u8] = b"---\nline,state,ms\n1,M,500\n2,M,500\n3,M,500\n";
+
+const LIST: &str = "0000-9999.deck 0 9999 4\n";
+
+const USAGE: &[u8] = b"mfsplit: usage: mfsplit BIG FOLDER [--parts N]\n";
+
+// A folder, and which of its calls fails.
+#[derive(Drop)]
+struct Folder {
+    has_any: bool,
+    makes: bool,
+    names: bool,
+    decks: Option<TwoDecks>,
+    list: String,
+    given_up: bool,
+}
+
+impl Folder {
+    fn new(alloc: Global) -> Folder {
+        Folder {
+            has_any: false,
+            makes: true,
+            names: true,
+            decks: None,
+            list: String::new(alloc),
+            given_up: false,
+        }
+    }
+}
+
+fn missing() -> io::Error {
+    io::Error::from(ErrorKind::NotFound)
+}
+
+impl SplitFiles for Folder {
+    type Deck = &'static [u8];
+
+    type Parts = TwoDecks;
+
+    fn open(&self, _alloc: Global, big: &str) -> io::Result<&'static [u8]> {
+        match big {
+            "deck" => Ok(DECK),
+            "no cut" => Ok(NO_CUT),
+            "wrong" => Ok(WRONG),
+            "three" => Ok(THREE),
+            _ => Err(missing()),
+        }
+    }
+
+    fn has_any(&self, _alloc: Global, _folder: &str) -> io::Result<bool> {
+        Ok(self.has_any)
+    }
+
+    fn make(
+        &mut self,
+        alloc: Global,
+        _folder: &str,
+        _ranges: &[LineRange],
+    ) -> io::Result<TwoDecks> {
+        if self.makes {
+            Ok(TwoDecks::new(alloc))
+        } else {
+            Err(missing())
+        }
+    }
+
+    fn name(
+        &mut self,
+        _alloc: Global,
+        _folder: &str,
+        parts: TwoDecks,
+        list: &str,
+    ) -> io::Result<()> {
+        if !self.names {
+            return Err(missing());
+        }
+        self.decks = Some(parts);
+        self.list.push_str(list)?;
+        Ok(())
+    }
+
+    fn give_up(&mut self, _alloc: Global, _folder: &str, _parts: TwoDecks) {
+        self.given_up = true;
+    }
+}
+
+// Whether these words have this status in a folder, and this is what stands on standard error.
+fn ends_so(
+    folder: &mut Folder,
+    alloc: Global,
+    words: &[&str],
+    status: u8,
+    line: &[u8],
+) -> Result<bool, Fail> {
+    let words = words_of(alloc, "mfsplit", words)?;
+    let mut err = Vec::new(alloc);
+    Ok(attend(alloc, &words, folder, &mut err) == status && err.as_slice() == line)
+}
+
+#[test]
+fn parts_and_their_list(rt: HostRuntime) -> Result<(), Fail> {
+    let alloc = rt.alloc();
+    let mut folder = Folder::new(alloc);
+    assert!(rt; ends_so(&mut folder, alloc, &["deck", "parts"], 0, b"")?);
+    assert_eq!(rt; folder.list.as_str(), LIST);
+    match &folder.decks {
+        Some(decks) => assert_eq!(rt; decks.low.as_slice(), DECK),
+        None => assert!(rt; false),
+    }
+    Ok(())
+}
+
+// The words, the status, and what stands on standard error.
+const FAULTS: &[(&[&str], u8, &[u8])] = &[
+    (
+        &["none", "parts"],
+        1,
+        b"mfsplit: the deck could not be opened: entity not found\n",
+    ),
+    (
+        &["no cut", "parts"],
+        1,
+        b"mfsplit: the deck has no line ---\n",
+    ),
+    (
+        &["wrong", "parts"],
+        1,
+        b"mfsplit: loop rows: record 2 has a wrong state\n",
+    ),
+    (
+        &["deck", "parts", "--parts", "0"],
+        1,
+        b"mfsplit: a deck has at least one part\n",
+    ),
+    (
+        &["deck", "parts", "--parts", "501"],
+        1,
+        b"mfsplit: there would be 501 parts, and the most is 500\n",
+    ),
+    (
+        &["three", "parts", "--parts", "4"],
+        1,
+        b"mfsplit: a part could not be written: entity not found\n",
+    ),
+    (&["deck"], 2, USAGE),
+    (&["deck", "parts", "more"], 2, USAGE),
+    (&["deck", "parts", "--parts", "few"], 2, USAGE),
+    (&["--help"], 2, USAGE),
+];
+
+#[test]
+fn faults_leave_no_list(rt: HostRuntime) -> Result<(), Fail> {
+    let alloc = rt.alloc();
+    let mut folder = Folder::new(alloc);
+    for (words, status, line) in FAULTS {
+        assert!(rt; ends_so(&mut folder, alloc, words, *status, line)?);
+        assert_eq!(rt; folder.list.as_str(), "");
+    }
+    // the deck of the third part could not be written
+    assert!(rt; folder.given_up);
+    folder.has_any = true;
+    let not_empty = b"mfsplit: the folder is not empty\n";
+    assert!(rt; ends_so(&mut folder, alloc, &["deck", "parts"], 1, not_empty)?);
+    Ok(())
+}
+
+#[test]
+fn folders_that_fail(rt: HostRuntime) -> Result<(), Fail> {
+    let alloc = rt.alloc();
+    let mut folder = Folder::new(alloc);
+    folder.names = false;
+    let no_name = b"mfsplit: the folder could not be used: entity not found\n";
+    assert!(rt; ends_so(&mut folder, alloc, &["deck", "parts"], 1, no_name)?);
+    folder.makes = false;
+    let none =
+        b"mfsplit: the folder with .incomplete after its name could not be made: entity not found\n";
+    assert!(rt; ends_so(&mut folder, alloc, &["deck", "parts"], 1, none)?);
+    assert_eq!(rt; folder.list.as_str(), "");
+    Ok(())
+}

@@ -1,0 +1,16 @@
+//! Pages read back, the program that lets them sound, and calls from the dial to the ear: each fault of a
+//! page, and sounds whose bytes another program computed.
+//!
+//! Tests alone.
+#![tactic(auto)]
+
+#[cfg(test)]
+mod dialled;
+#[cfg(test)]
+mod keyings;
+#[cfg(test)]
+mod pages;
+#[cfg(test)]
+mod sounds;
+#[cfg(test)]
+mod statuses;

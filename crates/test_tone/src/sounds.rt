@@ -1,0 +1,57 @@
+// Sounds, byte for byte as another program computed them from sines of its own.
+use std::test::Fail;
+use test_kit::words_of;
+use xb_tone::attend;
+
+pub const PAGE: &[u8] = b"0007 1 REFUSED UNKNOWN 3\n\
+0007 2 KEYED 0017 KP:1100+1700 0:1300+1500 ST:1500+1700\n\
+0042 1 KEYED 0001 KP:1100+1700 ST:1500+1700\n\
+KEYED 2 REFUSED 1\n";
+
+// Each key once.
+const KEYS: &[u8] = b"9999 1 KEYED 9999 KP:1100+1700 1:700+900 2:700+1100 3:900+1100 4:700+1300 \
+5:900+1300 6:1100+1300 7:700+1500 8:900+1500 9:1100+1500 0:1300+1500 ST:1500+1700\n\
+KEYED 1 REFUSED 0\n";
+
+// The words after the program's name, the page, and how many bytes sound and their Adler-32.
+const SOUNDS: &[(&[&str], &[u8], usize, u64)] = &[
+    (&[], PAGE, 27_948, 1_029_790_321),
+    (&["--line", "7"], PAGE, 15_084, 3_826_889_742),
+    (&["--line", "7", "--entry=2"], PAGE, 15_084, 3_826_889_742),
+    (&["--line", "42", "--raw"], PAGE, 12_864, 3_948_783_471),
+    (
+        &[
+            "--line", "42", "--lead", "0", "--kp", "58", "--key", "46", "--gap", "38", "--raw",
+        ],
+        PAGE,
+        2_880,
+        474_995_917,
+    ),
+    (&[], KEYS, 34_668, 2_547_131_247),
+];
+
+// The Adler-32 of bytes.
+fn adler(bytes: &[u8]) -> u64 {
+    let (mut a, mut b) = (1u64, 0u64);
+    for byte in bytes {
+        a = a.saturating_add(u64::from(*byte)) % 65_521;
+        b = b.saturating_add(a) % 65_521;
+    }
+    b.saturating_mul(65_536).saturating_add(a)
+}
+
+#[test]
+fn sounds_as_computed(rt: HostRuntime) -> Result<(), Fail> {
+    for (words, page, length, sum) in SOUNDS {
+        let line = words_of(rt.alloc(), "mftone", words)?;
+        let mut reader = *page;
+        let mut out = Vec::new(rt.alloc());
+        let mut err = Vec::new(rt.alloc());
+        let got = attend(rt.alloc(), &line, &mut reader, &mut out, &mut err);
+        assert_eq!(rt; got, 0, "{words:?}");
+        assert!(rt; err.is_empty(), "{words:?}");
+        assert_eq!(rt; out.len(), *length, "{words:?}");
+        assert_eq!(rt; adler(&out), *sum, "{words:?}");
+    }
+    Ok(())
+}

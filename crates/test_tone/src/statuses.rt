@@ -1,0 +1,128 @@
+// Words, pages and streams in; a status and lines of faults out.
+use crate::sounds::PAGE;
+use std::alloc::Global;
+use std::test::Fail;
+use test_kit::{Gives, Halting, Program, Short, check_reads, check_status, check_writes};
+use xb_tone::attend;
+
+// The program `mftone`.
+#[derive(Clone, Copy)]
+struct Mftone;
+
+impl Program for Mftone {
+    fn name(&self) -> &'static str {
+        "mftone"
+    }
+
+    fn attend(
+        &self,
+        alloc: Global,
+        words: &[String],
+        reader: &mut Halting<'_>,
+        out: &mut Short,
+        err: &mut Vec<u8>,
+    ) -> u8 {
+        attend(alloc, words, reader, out, err)
+    }
+}
+
+const USAGE: &[u8] = b"mftone: usage: mftone [--line N] [--entry N] [--lead N] [--kp N] [--key N] \
+[--gap N] [--raw]\n";
+
+// The words after the program's name, the page, the status, and what stands on standard error; nothing is
+// written.
+const CASES: &[(&[&str], &[u8], u8, &[u8])] = &[
+    (
+        &["--line", "7", "--entry", "1"],
+        PAGE,
+        1,
+        b"mftone: none of the calls asked for is keyed\n",
+    ),
+    (
+        &["--line", "7", "--entry", "3"],
+        PAGE,
+        1,
+        b"mftone: the page has no such entry\n",
+    ),
+    (
+        &["--line", "8"],
+        PAGE,
+        1,
+        b"mftone: the page has no such entry\n",
+    ),
+    (
+        &[],
+        b"KEYED 0 REFUSED 0\n",
+        1,
+        b"mftone: the page has no such entry\n",
+    ),
+    (
+        &[],
+        b"0007 1 REFUSED UNKNOWN 3\nKEYED 0 REFUSED 1\n",
+        1,
+        b"mftone: none of the calls asked for is keyed\n",
+    ),
+    (
+        &[],
+        b"0007 1 REFUSED UNKNOWN 3\nKEYED 0 REFUSED 0\n",
+        1,
+        b"mftone: text line 2 has wrong totals\n",
+    ),
+    // a cadence is told before the page is read
+    (
+        &["--lead", "60001"],
+        b"x",
+        1,
+        b"mftone: cadence: the silence before KP is too long\n",
+    ),
+    (
+        &["--kp", "57"],
+        b"x",
+        1,
+        b"mftone: cadence: the tone of KP is too short or too long\n",
+    ),
+    (
+        &["--key", "45"],
+        b"x",
+        1,
+        b"mftone: cadence: the tone of a digit is too short or too long\n",
+    ),
+    (
+        &["--gap", "70000"],
+        b"x",
+        1,
+        b"mftone: cadence: the silence after a tone is too short or too long\n",
+    ),
+    (&["--entry", "1"], PAGE, 2, USAGE),
+    (&["--line", "x"], PAGE, 2, USAGE),
+    (&["--speed", "10"], PAGE, 2, USAGE),
+    (&["--help"], PAGE, 2, USAGE),
+    (&["page.txt"], PAGE, 2, USAGE),
+];
+
+#[test]
+fn gives_each_fault(rt: HostRuntime) -> Result<(), Fail> {
+    for (words, page, status, line) in CASES {
+        let wanted = Gives {
+            status: *status,
+            written: b"",
+            line,
+        };
+        check_status(rt.alloc(), &Mftone, words, page, wanted)?;
+    }
+    Ok(())
+}
+
+#[test]
+fn fails_where_the_page_fails(rt: HostRuntime) -> Result<(), Fail> {
+    let places = [0, 1, 99, PAGE.len()];
+    let line = b"mftone: the page could not be read\n";
+    check_reads(rt.alloc(), &Mftone, PAGE, &places, line)
+}
+
+#[test]
+fn writes_the_beginning_where_the_sound_fails(rt: HostRuntime) -> Result<(), Fail> {
+    let rooms = [0, 1, 44, 45, 8_044, 12_907];
+    let line = b"mftone: the sound could not be written\n";
+    check_writes(rt.alloc(), &Mftone, &["--line", "42"], PAGE, &rooms, line)
+}

@@ -1,2 +1,0 @@
-pub mod BranchLists
-pub mod Pushes

@@ -1,0 +1,33 @@
+-- What a program tells on its stream of errors.
+use Rattle.std.specs.Prelude.{ℕ, ◌≡◌, ◌⊎◌, ◌++◌, List, codes, Option, Some, IfSome}
+use Rattle.xb_text.specs.Writing.{AppendsBeginning}
+use Rattle.xb_command.specs.declared.telling.TheConstants.{FAULT, WORDS_REFUSED}
+use Rattle.xb_command.specs.declared.telling.WordsFault.{WordsFault}
+use Rattle.xb_command.specs.declared.telling.WordsFault.TheVariants.{NoMemory, Refused}
+
+-- a text as a line, after the program's name
+abbrev pub line_of : List ℕ → List ℕ → List ℕ
+line_of program text = program ++ (codes ": " ++ (text ++ codes "\n"))
+
+-- the line that tells that memory ran out
+abbrev pub no_memory_line : List ℕ → List ℕ
+no_memory_line program = line_of program (codes "out of memory")
+
+-- the line of a value, whose text is this, where it is known
+abbrev pub IsLineOf : List ℕ → Option (List ℕ) → List ℕ → Type 0
+IsLineOf program shown line =
+    (text : List ℕ) × IfSome shown (λ known. text ≡ known) × (line ≡ line_of program text)
+
+-- a stream got the line of a value, or that memory ran out, or the beginning of one of these
+abbrev pub Tells : List ℕ → Option (List ℕ) → Option (List ℕ) → Option (List ℕ) → Type 0
+Tells program shown old new = (line : List ℕ)
+    × (IsLineOf program shown line ⊎ IsLineOf program (Some (codes "out of memory")) line)
+    × AppendsBeginning old new line
+
+-- what is told of words that choose nothing, and the status
+abbrev pub TellsOfWords :
+    List ℕ → List ℕ → WordsFault → Option (List ℕ) → Option (List ℕ) → ℕ → Type 0
+TellsOfWords program usage Refused old new status =
+    (status ≡ WORDS_REFUSED) × AppendsBeginning old new usage
+TellsOfWords program usage NoMemory old new status =
+    (status ≡ FAULT) × AppendsBeginning old new (no_memory_line program)

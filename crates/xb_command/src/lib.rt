@@ -1,0 +1,26 @@
+//! What a program does with its words and its stream of errors: the words of a command line as `clap` takes
+//! them (options with numbers or texts, flags, and words that stand alone), the line of a fault or of
+//! refused words, and the status of the process.
+//!
+//! - `read_words`: what is returned is what `clap` matches by the command that the list of options makes.
+//!   The words are refused only where `clap` refuses them.
+//! - `Words::number`, `flag`, `text` and `texts`: what was matched under a name, as a number below 2^32, as
+//!   a flag, as it was written, or all that was written.
+//! - `tell_fault`: the status is 1, and the stream got one line or its beginning: the program's name, a
+//!   colon, and the text of the fault where its type states it, or that memory ran out while the line was
+//!   made.
+//! - `tell_words`: of refused words the status is 2 and the line is the usage, exactly; where memory ran
+//!   out while they were read, the status is 1 and the line says so.
+//! - `Attends` (`specs/Programs.antt`) is the form of every program's contract, by its status: 0 where what
+//!   was asked for was done; 1 on a fault, or where memory ran out and nothing was read or written but the
+//!   line that says so; 2 where the words are refused, and nothing was read or written but the usage.
+#![tactic(auto)]
+
+mod command;
+pub mod laws;
+mod reading;
+mod telling;
+
+pub use command::Takes;
+pub use reading::{Words, read_words};
+pub use telling::{DONE, FAULT, WORDS_REFUSED, WordsFault, tell_fault, tell_words};

@@ -1,0 +1,18 @@
+-- What is returned where a part is refused.
+use Rattle.std.specs.Prelude.{◌≡◌, ◌≢◌, ◌⊎◌}
+use Rattle.xb_text.specs.declared.reading.ReadFault.{ReadFault}
+use Rattle.xb_text.specs.declared.reading.ReadFault.TheVariants as read_fault
+use Rattle.xb_dial.specs.declared.fault.CallFault.{CallFault}
+use Rattle.xb_dial.specs.declared.fault.CallFault.TheVariants as call_fault
+use Rattle.xb_dial.specs.declared.fault.DialFault.{DialFault}
+use Rattle.xb_dial.specs.declared.fault.DialFault.TheVariants as fault
+
+abbrev pub of_read : ReadFault → DialFault
+of_read read_fault.Failed = fault.Read
+of_read read_fault.TooLong = fault.TooLong
+of_read read_fault.NoMemory = fault.NoMemory
+
+-- running out of memory is one fault, in whatever part
+abbrev pub IsOfCalls : CallFault → DialFault → Type 0
+IsOfCalls f e = ((f ≡ call_fault.NoMemory) × (e ≡ fault.NoMemory))
+    ⊎ ((f ≢ call_fault.NoMemory) × (e ≡ fault.Calls f))

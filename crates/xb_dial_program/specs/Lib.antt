@@ -1,5 +1,0 @@
-pub mod Faults
-pub mod Options
-pub mod Printed
-pub mod Program
-pub mod Rules

@@ -1,0 +1,89 @@
+-- What is told of lines, one after the other.
+use Rattle.std.proofs.Common.{◌≡◌, ◌||◌, ℕ, zero, suc, ◌+◌, List, [], ◌++◌, ◌∙◌, Bool, true, false, add-one, ap, ap₂, append_assoc, append-nil, length, nat_lt, refl, subst, sym}
+use Rattle.xb_model.specs.declared.line.TheConstants.{LINES}
+use Rattle.xb_model.specs.declared.limits.Limits.{Limits}
+use Rattle.xb_model.specs.Rows.{LoopRow}
+use Rattle.xb_routes.specs.Table.{Table}
+use Rattle.xb_heard.specs.Attempts.{AttemptOfRuns}
+use Rattle.xb_report.specs.Pages.{head_text, tail_text}
+use Rattle.xb_report.specs.ReportTexts.{limits_text}
+use Rattle.xb_hear.specs.declared.request.Choice.{Choice}
+use Rattle.xb_hear.specs.declared.request.Choice.TheVariants as choice
+use Rattle.xb_hear.specs.declared.request.Form.{Form}
+use Rattle.xb_hear.specs.declared.request.Form.TheVariants as form
+use Rattle.xb_hear.specs.Hearing.{attempts_of_line, line_text, lines_below, report_text, reports_text, told_text}
+use Rattle.xb_hear.specs.Telling.{Adds, AreOfLines, IsOfLine, IsOfLinesBelow, IsPage, IsSection, IsSectionIf, IsTold}
+
+-- a section that is shown
+pub if-shown : (b : Bool) (L : Limits) (l : ℕ) (A : List AttemptOfRuns) (o n : List ℕ) → b ≡ true
+    → Adds (IsSection L l A) o n → Adds (IsSectionIf b L l A) o n
+if-shown b L l A o n shown put = subst (λ x. Adds (IsSectionIf x L l A) o n) (sym shown) put
+
+-- nothing is put
+pub if-hidden : (b : Bool) (L : Limits) (l : ℕ) (A : List AttemptOfRuns) (o : List ℕ) → b ≡ false
+    → Adds (IsSectionIf b L l A) o o
+if-hidden b L l A o hidden =
+    let nothing : Adds (IsSectionIf false L l A) o o = record { text = []; is = refl; put = sym (append-nil o) } in
+    subst (λ x. Adds (IsSectionIf x L l A) o o) (sym hidden) nothing
+
+-- what is told of the attempts of a line is told of the line
+pub of-line : (asked : Form) (alone : Bool) (T : Table) (R : List LoopRow) (l : ℕ) (L : Limits) (A : List AttemptOfRuns) (o n : List ℕ)
+    → L ≡ T.limits → A ≡ attempts_of_line T R l
+    → Adds (IsTold asked alone L l A) o n → Adds (IsOfLine asked alone T R l) o n
+of-line asked alone T R l L A o n limits attempts put =
+    let here = subst (λ X. Adds (IsTold asked alone L l X) o n) attempts put in
+    subst (λ X. Adds (IsTold asked alone X l (attempts_of_line T R l)) o n) limits here
+
+-- before the first line
+pub lines-start : (asked : Form) (o : List ℕ) (T : Table) (R : List LoopRow) → Adds (IsOfLinesBelow asked T R 0) o o
+unfolding IsOfLinesBelow
+lines-start asked o T R = record { text = []; is = refl; put = sym (append-nil o) }
+
+-- one line more
+pub lines-more : (asked : Form) (o p q : List ℕ) (T : Table) (R : List LoopRow) (n l : ℕ) → Adds (IsOfLinesBelow asked T R n) o p
+    → Adds (IsOfLine asked false T R l) p q → l ≡ n → Adds (IsOfLinesBelow asked T R (n + 1)) o q
+unfolding IsOfLinesBelow
+lines-more asked o p q T R n l so_far put is =
+    let front = so_far.text in
+    let last = put.text in
+    subst (λ k. Adds (IsOfLinesBelow asked T R k) o q) (sym (add-one n))
+    (record {
+      text = front ++ last;
+      is = (front, last, so_far.is, subst (λ k. IsOfLine asked false T R k last) is put.is, refl);
+      put = put.put ∙ ap (λ t. t ++ last) so_far.put ∙ append_assoc o front last;
+    })
+
+-- told as a text, the lines below n are those of the report
+text-below : (T : Table) (R : List LoopRow) (n : ℕ) (text : List ℕ) → IsOfLinesBelow form.Text T R n text
+    → text ≡ lines_below T R n
+unfolding IsOfLinesBelow lines_below
+text-below T R zero text is = is
+text-below T R (suc n) text is =
+    is.4 ∙ ap₂ (λ front last. front ++ last) (text-below T R n is.0 is.2) is.3
+
+text-is : (asked : Choice) (T : Table) (R : List LoopRow) (text : List ℕ) → AreOfLines form.Text asked T R text
+    → text ≡ reports_text asked T R
+text-is choice.All T R text is = text-below T R LINES text is
+text-is (choice.Line line) T R text is = is
+
+-- the limits, and what is told of the lines
+pub report-is : (asked : Choice) (T : Table) (R : List LoopRow) (o p : List ℕ) → o ≡ limits_text T.limits
+    → Adds (AreOfLines form.Text asked T R) o p → p ≡ report_text asked T R
+unfolding report_text
+report-is asked T R o p limits put =
+    put.put ∙ ap₂ (λ front lines. front ++ lines) limits (text-is asked T R put.text put.is)
+
+-- three texts, one after the other
+parts : (h s t o p q : List ℕ) → o ≡ h → p ≡ o ++ s → q ≡ p ++ t → q ≡ h ++ s ++ t
+parts h s t o p q head sections tail =
+    tail ∙ ap (λ x. x ++ t) (sections ∙ ap (λ x. x ++ s) head) ∙ simp append_assoc
+
+-- the head, the sections, and the end
+pub page-is : (asked : Choice) (T : Table) (R : List LoopRow) (o p q : List ℕ) → o ≡ head_text T.limits
+    → Adds (AreOfLines form.Html asked T R) o p → q ≡ p ++ tail_text → IsPage asked T R q
+page-is asked T R o p q head put tail =
+    record {
+      sections = put.text;
+      of_lines = put.is;
+      is = parts (head_text T.limits) put.text tail_text o p q head put.put tail;
+    }

@@ -1,0 +1,73 @@
+-- What the words of the command line ask for, as clap reads them.
+use Rattle.std.specs.Prelude.{ℕ, zero, suc, List, [], ◌∷◌, Bool, true, false, Option, Some, None, codes, nat_lt, if◌then◌else◌, option_and_then}
+use Rattle.clap.specs.Simple.{App}
+use Rattle.clap.specs.Walk.{Row, Text}
+use Rattle.xb_command.specs.Commands.{command_of}
+use Rattle.xb_command.specs.Given.{AskForNothing, AsksFor, ReadsFlag, ReadsNumber, given_by}
+use Rattle.xb_command.specs.declared.command.Takes.TheVariants as takes
+use Rattle.xb_model.specs.declared.line.TheConstants.{LINES}
+use Rattle.xb_hear.specs.declared.request.Choice.{Choice}
+use Rattle.xb_hear.specs.declared.request.Choice.TheVariants as choice
+use Rattle.xb_hear.specs.declared.request.Request.{Request}
+use Rattle.xb_hear.specs.declared.request.Request.TheVariants as request
+use Rattle.xb_hear.specs.declared.words.Options.{Options}
+
+-- `mfhear [--line N] [--html] [--svg [--attempt K]]`
+abbrev pub command_of_words : App
+command_of_words = command_of (codes "mfhear")
+    ((codes "line", takes.Number) ∷ (codes "attempt", takes.Number) ∷ (codes "svg", takes.Nothing)
+    ∷ (codes "html", takes.Nothing) ∷ [])
+
+-- what clap matched says these options
+pub record Say (rows : List Row) (options : Options) : Type 0 where
+  pub line : ReadsNumber (given_by rows (codes "line")) options.line
+  pub attempt : ReadsNumber (given_by rows (codes "attempt")) options.attempt
+  pub svg : ReadsFlag (given_by rows (codes "svg")) options.svg
+  pub html : ReadsFlag (given_by rows (codes "html")) options.html
+
+-- all lines, or the one that is named, if there is such a line
+abbrev pub choice_of : Option ℕ → Option Choice
+choice_of None = Some choice.All
+choice_of (Some line) = if nat_lt line LINES then Some (choice.Line line) else None
+
+-- the picture of one line, of an attempt from 1 on or of the first ones
+abbrev pub picture_of : Choice → Option ℕ → Option Request
+picture_of choice.All attempt = None
+picture_of (choice.Line line) None = Some (request.Picture line None)
+picture_of (choice.Line line) (Some zero) = None
+picture_of (choice.Line line) (Some (suc k)) = Some (request.Picture line (Some (suc k)))
+
+-- the report of lines
+abbrev pub text_of : Choice → Request
+text_of choice.All = request.All
+text_of (choice.Line line) = request.Line line
+
+-- the page of lines
+abbrev pub page_of : Choice → Request
+page_of choice.All = request.Page
+page_of (choice.Line line) = request.PageOf line
+
+-- the report or the page of lines
+abbrev pub written_of : Choice → Bool → Request
+written_of choice html = if html then page_of choice else text_of choice
+
+-- of lines: a picture, or a report, or a page; an attempt is of a picture
+abbrev pub asked_of : Choice → Bool → Bool → Option ℕ → Option Request
+asked_of choice true true attempt = None
+asked_of choice true false attempt = picture_of choice attempt
+asked_of choice false html None = Some (written_of choice html)
+asked_of choice false html (Some attempt) = None
+
+-- what the options ask for
+abbrev pub request_of : Options → Option Request
+request_of options =
+    option_and_then (λ choice. asked_of choice options.svg options.html options.attempt)
+    (choice_of options.line)
+
+-- clap takes the words, and they ask for this
+abbrev pub Asks : List Text → Request → Type 0
+Asks words request = AsksFor command_of_words Say request_of words request
+
+-- clap refuses the words, or they ask for nothing that there is
+abbrev pub AreRefused : List Text → Type 0
+AreRefused words = AskForNothing command_of_words Say request_of words

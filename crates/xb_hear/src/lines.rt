@@ -1,0 +1,123 @@
+// The lines of a deck, one after the other.
+ghost use Rattle.std.specs.Prelude.{◌≡◌, ◌<◌, ◌^◌, IfOk, List, OnOk, length, string_bytes, true};
+ghost use Rattle.xb_heard.specs.PlacedRuns.{placed_runs};
+ghost use Rattle.xb_model.specs.Rows.{LoopRow};
+ghost use Rattle.xb_model.specs.declared.line.TheConstants.{LINES};
+ghost use Rattle.xb_hear.specs.Hearing.{report_text};
+ghost use Rattle.xb_hear.specs.Telling.{Adds, AreOfLines, IsOfLine, IsOfLinesBelow, IsPage};
+
+use crate::request::{Choice, Form};
+use crate::telling::push_told;
+use std::alloc::{AllocError, Global};
+use xb_heard::{PlacedRun, heard_of, runs_by_line, runs_of_line};
+use xb_model::{LINES, LineNo, Row};
+use xb_report::{push_head, push_limits, push_tail};
+use xb_routes::RouteTable;
+
+// Puts what is told of the runs of a line after the text.
+fn push_line(
+    alloc: Global,
+    out: &mut String,
+    form: Form,
+    table: &RouteTable,
+    runs: &[PlacedRun],
+    line: LineNo,
+    alone: bool,
+) -> Result<(), AllocError>
+    ensures { OnOk result ((rows : List LoopRow) → runs.now ≡ placed_runs line rows →
+        Adds (IsOfLine form alone table.now rows line) (string_bytes out.old) (string_bytes out.new)) }
+{
+    let limits = table.limits();
+    let attempts = heard_of(alloc, runs, table.plan(), limits)?;
+    push_told(alloc, out, form, limits, line, &attempts, alone)
+}
+
+// Puts what is told of a line that is alone after the text.
+fn push_alone(
+    alloc: Global,
+    out: &mut String,
+    form: Form,
+    table: &RouteTable,
+    rows: &[Row],
+    line: LineNo,
+) -> Result<(), AllocError>
+    requires { length rows.now < 2 ^ 32 }
+    ensures { OnOk result (Adds (IsOfLine form true table.now rows.now line)
+        (string_bytes out.old) (string_bytes out.new)) }
+{
+    let runs = runs_of_line(alloc, rows, line)?;
+    push_line(alloc, out, form, table, &runs, line, true)
+}
+
+// Puts what is told of each line after the text, the lines ascending; of one without attempts nothing is.
+fn push_all(
+    alloc: Global,
+    out: &mut String,
+    form: Form,
+    table: &RouteTable,
+    rows: &[Row],
+) -> Result<(), AllocError>
+    requires { length rows.now < 2 ^ 32 }
+    ensures { OnOk result (Adds (IsOfLinesBelow form table.now rows.now LINES)
+        (string_bytes out.old) (string_bytes out.new)) }
+{
+    let lines = runs_by_line(alloc, rows)?;
+    for number in 0..LINES {
+        if let Some(line) = LineNo::new(number) {
+            push_line(alloc, out, form, table, lines.get(line), line, false)?;
+        }
+    }
+    Ok(())
+}
+
+// Puts what is told of the lines that are asked for after the text.
+fn push_lines(
+    alloc: Global,
+    out: &mut String,
+    form: Form,
+    table: &RouteTable,
+    rows: &[Row],
+    choice: Choice,
+) -> Result<(), AllocError>
+    requires { length rows.now < 2 ^ 32 }
+    ensures { OnOk result (Adds (AreOfLines form choice table.now rows.now)
+        (string_bytes out.old) (string_bytes out.new)) }
+{
+    match choice {
+        Choice::All => push_all(alloc, out, form, table, rows),
+        Choice::Line(line) => push_alone(alloc, out, form, table, rows, line),
+    }
+}
+
+// The report of the lines that are asked for.
+pub(crate) fn report(
+    alloc: Global,
+    table: &RouteTable,
+    rows: &[Row],
+    choice: Choice,
+) -> Result<String, AllocError>
+    requires { length rows.now < 2 ^ 32 }
+    ensures { IfOk result (λ text. string_bytes text ≡ report_text choice table.now rows.now) }
+{
+    let mut out = String::new(alloc);
+    push_limits(&mut out, table.limits())?;
+    push_lines(alloc, &mut out, Form::Text, table, rows, choice)?;
+    Ok(out)
+}
+
+// The page of the lines that are asked for.
+pub(crate) fn page(
+    alloc: Global,
+    table: &RouteTable,
+    rows: &[Row],
+    choice: Choice,
+) -> Result<String, AllocError>
+    requires { length rows.now < 2 ^ 32 }
+    ensures { IfOk result (λ text. IsPage choice table.now rows.now (string_bytes text)) }
+{
+    let mut out = String::new(alloc);
+    push_head(&mut out, table.limits())?;
+    push_lines(alloc, &mut out, Form::Html, table, rows, choice)?;
+    push_tail(&mut out)?;
+    Ok(out)
+}

@@ -1,0 +1,36 @@
+// What the words of the command line ask for.
+
+use xb_model::LineNo;
+
+/// Of which lines a deck is to be reported.
+#[derive(Clone, Copy, Debug, PartialEq, Eq)]
+pub enum Choice {
+    /// Of all that have attempts.
+    All,
+    /// Of this one.
+    Line(LineNo),
+}
+
+// How what was heard is told.
+#[derive(Clone, Copy)]
+pub(crate) enum Form {
+    // As a text.
+    Text,
+    // As a page of HTML.
+    Html,
+}
+
+/// What is to be written of a deck.
+#[derive(Clone, Copy, Debug, PartialEq, Eq)]
+pub enum Request {
+    /// The report of all lines that have attempts, as a text.
+    All,
+    /// The report of this line, as a text.
+    Line(LineNo),
+    /// The picture of a line: of its attempt of this number, from 1, or of the first ones.
+    Picture(LineNo, Option<u32>),
+    /// The page of all lines that have attempts, as HTML.
+    Page,
+    /// The page of this line, as HTML.
+    PageOf(LineNo),
+}

@@ -1,0 +1,120 @@
+// What the words of the command line ask for.
+ghost use Rattle.std.specs.Prelude.{◌≡◌, IfErr, IfOk};
+ghost use Rattle.xb_command.specs.Commands.{texts_of};
+ghost use Rattle.xb_hear.specs.Options.{AreRefused, Asks, Say, choice_of, page_of, picture_of, request_of, text_of, written_of};
+
+use crate::program::PROGRAM;
+use crate::request::{Choice, Request};
+use std::alloc::Global;
+use xb_command::{Takes, Words, WordsFault, read_words};
+use xb_model::{LINES, LineNo};
+
+// What the options of the command line say.
+#[derive(Clone, Copy)]
+pub(crate) struct Options {
+    pub(crate) line: Option<u32>,
+    pub(crate) attempt: Option<u32>,
+    pub(crate) svg: bool,
+    pub(crate) html: bool,
+}
+
+// The options of the program, each under its name.
+const OPTIONS: [(&str, Takes); 4] = [
+    ("line", Takes::Number),
+    ("attempt", Takes::Number),
+    ("svg", Takes::Nothing),
+    ("html", Takes::Nothing),
+];
+
+// What the words say.
+fn options_of(words: &Words) -> Options
+    ensures { Say words.now result }
+{
+    Options {
+        line: words.number("line"),
+        attempt: words.number("attempt"),
+        svg: words.flag("svg"),
+        html: words.flag("html"),
+    }
+}
+
+// The lines that a number asks for; `None` where there is no such line.
+fn choice_of(line: Option<u32>) -> Option<Choice>
+    ensures { result ≡ choice_of line }
+{
+    match line {
+        None => Some(Choice::All),
+        Some(number) if number < u32::from(LINES) => {
+            let line = LineNo::new(number as u16)?;
+            Some(Choice::Line(line))
+        }
+        Some(_) => None,
+    }
+}
+
+// The picture of one line, of one of its attempts or of the first ones; `None` of all lines, and of an
+// attempt 0.
+fn picture_of(choice: Choice, attempt: Option<u32>) -> Option<Request>
+    ensures { result ≡ picture_of choice attempt }
+{
+    match choice {
+        Choice::All => None,
+        Choice::Line(line) => match attempt {
+            Some(0) => None,
+            attempt => Some(Request::Picture(line, attempt)),
+        },
+    }
+}
+
+// The report of lines.
+fn text_of(choice: Choice) -> Request
+    ensures { result ≡ text_of choice }
+{
+    match choice {
+        Choice::All => Request::All,
+        Choice::Line(line) => Request::Line(line),
+    }
+}
+
+// The page of lines.
+fn page_of(choice: Choice) -> Request
+    ensures { result ≡ page_of choice }
+{
+    match choice {
+        Choice::All => Request::Page,
+        Choice::Line(line) => Request::PageOf(line),
+    }
+}
+
+// The report or the page of lines.
+fn written_of(choice: Choice, html: bool) -> Request
+    ensures { result ≡ written_of choice html }
+{
+    if html {
+        page_of(choice)
+    } else {
+        text_of(choice)
+    }
+}
+
+// What the options ask for; `None` where they name no line of the office, a picture without its line, an
+// attempt without a picture, or both a picture and a page.
+fn request_of(options: Options) -> Option<Request>
+    ensures { result ≡ request_of options }
+{
+    let choice = choice_of(options.line)?;
+    match (options.svg, options.html, options.attempt) {
+        (true, false, attempt) => picture_of(choice, attempt),
+        (false, html, None) => Some(written_of(choice, html)),
+        (true, true, _) | (false, _, Some(_)) => None,
+    }
+}
+
+/// What the words ask for: the report or the page of a line, or of all, or the picture of a line.
+pub fn request_of_words(alloc: Global, words: &[String]) -> Result<Request, WordsFault>
+    ensures asks { IfOk result (λ request. Asks (texts_of words.now) request) }
+    ensures refused { IfErr result (λ f. f ≡ WordsFault.Refused → AreRefused (texts_of words.now)) }
+{
+    let words = read_words(alloc, PROGRAM, &OPTIONS, words)?;
+    request_of(options_of(&words)).ok_or(WordsFault::Refused)
+}

@@ -1,0 +1,11 @@
+pub mod PlacedRuns
+pub mod CutParts
+pub mod Faults
+pub mod Stories
+pub mod Places
+pub mod Outcomes
+pub mod Pending
+pub mod Numbers
+pub mod Alternation
+pub mod JoinedAfter
+pub mod TakenRows

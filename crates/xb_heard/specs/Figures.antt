@@ -1,0 +1,54 @@
+-- The figures of a train, as a dial test set gives them.
+use Rattle.std.specs.Prelude.{ℕ, ◌+◌, ◌*◌, ◌/◌, ◌-◌, ◌==◌, Bool, min, max, List, [], ◌∷◌, length, take, nat_le, if◌then◌else◌, Option, Some, None}
+use Rattle.xb_model.specs.Records.{is_break}
+use Rattle.xb_heard.specs.declared.run.PlacedRun.{PlacedRun}
+use Rattle.xb_heard.specs.declared.figures.Extent.{Extent}
+use Rattle.xb_heard.specs.declared.figures.Times.{Times}
+use Rattle.xb_heard.specs.declared.figures.TheConstants.{MANY_RUNS}
+use Rattle.xb_heard.specs.PlacedRuns.{run_in}
+
+-- how many breaks, how long they are, and how long all runs are
+abbrev pub times : ℕ → ℕ → ℕ → Times
+times breaks open_ms all_ms = record { breaks = breaks; open_ms = open_ms; all_ms = all_ms }
+
+abbrev pub with_run : PlacedRun → Times → Times
+with_run run rest =
+    if is_break (run_in run) then times (rest.breaks + 1) (rest.open_ms + run.ms) (rest.all_ms + run.ms)
+    else times rest.breaks rest.open_ms (rest.all_ms + run.ms)
+
+abbrev pub times_from : Times → List PlacedRun → Times
+times_from so_far [] = so_far
+times_from so_far (run ∷ rest) = times_from (with_run run so_far) rest
+
+abbrev pub times_of : List PlacedRun → Times
+times_of runs = times_from (times 0 0 0) runs
+
+-- the runs of a train before its last break: as many breaks as makes
+abbrev pub whole_periods : List PlacedRun → List PlacedRun
+whole_periods train = take (length train - 1) train
+
+-- a quotient in tenths, a half rounded up; none by 0
+abbrev pub quotient_of : ℕ → ℕ → Option ℕ
+quotient_of number divisor =
+    if divisor == 0 then None else Some ((20 * number + divisor) / (2 * divisor))
+
+-- pulses a second, in tenths; none of a single pulse
+abbrev pub speed_of : List PlacedRun → Option ℕ
+speed_of train =
+    let whole = times_of (whole_periods train) in quotient_of (1000 * whole.breaks) whole.all_ms
+
+-- how much of the time is break, in tenths of a percent; none of a single pulse, or of too many runs
+abbrev pub percent_of : List PlacedRun → Option ℕ
+percent_of train =
+    if nat_le MANY_RUNS (length train) then None
+    else (let whole = times_of (whole_periods train) in quotient_of (100 * whole.open_ms) whole.all_ms)
+
+abbrev pub wider : Option Extent → ℕ → Option Extent
+wider None ms = Some (record { least = ms; most = ms })
+wider (Some others) ms = Some (record { least = min others.least ms; most = max others.most ms })
+
+-- the shortest and the longest of the breaks, or of the makes
+abbrev pub extent_from : (PlacedRun → Bool) → Option Extent → List PlacedRun → Option Extent
+extent_from test so_far [] = so_far
+extent_from test so_far (run ∷ rest) =
+    extent_from test (if test run then wider so_far run.ms else so_far) rest

@@ -1,0 +1,12 @@
+pub mod PlacedRuns
+pub mod Parts
+pub mod Faults
+pub mod Figures
+pub mod Digits
+pub mod DigitRows
+pub mod Outcomes
+pub mod Attempts
+pub mod Places
+pub mod Report
+pub mod Mutilated
+pub mod WorkedReports

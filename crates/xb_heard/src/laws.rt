@@ -1,0 +1,18 @@
+//! What the definitions give: each law is the contract of a function that does nothing.
+ghost use Rattle.xb_heard.specs.Mutilated.{MutilatedIsNamed};
+ghost use Rattle.xb_heard.specs.WorkedReports.{WorkedFigures, WorkedReports};
+
+/// What is heard in some worked rows, at each limit.
+pub fn worked_reports()
+    ensures { WorkedReports }
+{}
+
+/// The figures of some trains.
+pub fn worked_figures()
+    ensures { WorkedFigures }
+{}
+
+/// The chain takes a digit for mutilated exactly where the report of its line names what spoils it.
+pub fn mutilated_is_named()
+    ensures { MutilatedIsNamed }
+{}

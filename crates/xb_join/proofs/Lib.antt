@@ -1,0 +1,4 @@
+pub mod JoinedParts
+pub mod JoinedPages
+pub mod AcceptedPages
+mod ReadTexts

@@ -1,0 +1,86 @@
+-- What is written of the files of pages.
+use Rattle.std.specs.Prelude.{ℕ, ◌≡◌, ◌≤◌, ◌<◌, List, length, Option, Some, None, IfSome, IsSomeAnd, Result, Ok, Err}
+use Rattle.std.specs.Io.KnownBytes.{Appends, Keeps}
+use Rattle.xb_join.specs.Joining.{IsFaultOf, MakesTheWhole, join_of}
+use Rattle.xb_join.specs.declared.join_fault.JoinFault.{JoinFault}
+use Rattle.xb_parts.specs.Lists.{ranges_of_list}
+use Rattle.xb_parts.specs.declared.range.LineRange.{LineRange}
+use Rattle.xb_text.specs.Writing.{AppendsBeginning}
+use Rattle.xb_join.specs.Files.{Bytes, HasBytes, HaveTexts}
+use Rattle.xb_join.specs.Given.{given_by}
+use Rattle.xb_join.specs.Options.{list_of, pages_of}
+use Rattle.xb_join.specs.declared.fault.JoinProgramFault.{JoinProgramFault}
+use Rattle.xb_join.specs.declared.fault.JoinProgramFault.TheVariants as fault
+use Rattle.xb_join.specs.declared.words.Request.{Request}
+
+-- the ranges that the file of a list names, if there is a list
+abbrev pub IsListed : Bytes → Option (List ℕ) → Option (List LineRange) → Type 0
+IsListed bytes None ranges = ranges ≡ None
+IsListed bytes (Some name) None = ⊥
+IsListed bytes (Some name) (Some ranges) =
+    (text : List ℕ) × HasBytes bytes name text × (ranges_of_list text ≡ Some ranges)
+
+-- what was read of the files that a request names
+pub record Reads (bytes : Bytes) (request : Request) (ranges : Option (List LineRange)) (pages : List (List ℕ))
+    : Type 0 where
+  pub listed : IsListed bytes (list_of request) ranges
+  pub texts : HaveTexts bytes (pages_of request) pages
+
+-- the files make this page: it is that of the lines that their pages are given, and that of the whole
+-- where they are the pages of parts; a list has a part for each page
+pub record Join (bytes : Bytes) (request : Request) (page : List ℕ) : Type 0 where
+  pub ranges : Option (List LineRange)
+  pub pages : List (List ℕ)
+  pub reads : Reads bytes request ranges pages
+  pub few : IfSome ranges (λ rs. length pages ≤ length rs)
+  pub joined : join_of (given_by ranges pages) ≡ Ok page
+  pub whole : MakesTheWhole (given_by ranges pages) page
+
+-- the pages of the files have a fault
+pub record Blame (bytes : Bytes) (request : Request) (f : JoinFault) : Type 0 where
+  pub ranges : Option (List LineRange)
+  pub pages : List (List ℕ)
+  pub reads : Reads bytes request ranges pages
+  pub joined : IsFaultOf (join_of (given_by ranges pages)) f
+
+-- there are more pages than this many parts of the list
+pub record HasTooMany (bytes : Bytes) (request : Request) (parts : ℕ) : Type 0 where
+  pub ranges : Option (List LineRange)
+  pub pages : List (List ℕ)
+  pub reads : Reads bytes request ranges pages
+  pub more : parts < length pages
+  pub count : IsSomeAnd ranges (λ rs. length rs ≡ parts)
+
+-- a file is not read, or is no list, or memory ran out
+abbrev pub IsFileFault : JoinProgramFault → Type 0
+IsFileFault (fault.File name error) = Unit {0}
+IsFileFault (fault.List name f) = Unit {0}
+IsFileFault fault.NoMemory = Unit {0}
+IsFileFault f = ⊥
+
+-- a fault of pages, which is told with the name of a file or without
+abbrev pub IsNamedFault : JoinFault → JoinProgramFault → Type 0
+IsNamedFault f (fault.Page name told) = told ≡ f
+IsNamedFault f (fault.Parts told) = told ≡ f
+IsNamedFault f told = ⊥
+
+-- why pages are not joined: there are more than parts of the list, or they have this fault, or memory ran out
+abbrev pub IsFaultOfPages : Option (List LineRange) → List (List ℕ) → JoinProgramFault → Type 0
+IsFaultOfPages ranges pages (fault.TooMany parts) =
+    (parts < length pages) × IsSomeAnd ranges (λ rs. length rs ≡ parts)
+IsFaultOfPages ranges pages (fault.Page name f) = IsFaultOf (join_of (given_by ranges pages)) f
+IsFaultOfPages ranges pages (fault.Parts f) = IsFaultOf (join_of (given_by ranges pages)) f
+IsFaultOfPages ranges pages fault.NoMemory = Unit {0}
+IsFaultOfPages ranges pages f = ⊥
+
+-- what is returned for the files of a request, and what the writer got: the page on Ok, its beginning where a
+-- write failed, and nothing on any other fault
+abbrev pub Delivers :
+    Bytes → Request → Result (Unit {0}) JoinProgramFault → Option (List ℕ) → Option (List ℕ) → Type 0
+Delivers bytes request (Ok u) old new = (page : List ℕ) × Join bytes request page × Appends old new page
+Delivers bytes request (Err fault.Write) old new =
+    (page : List ℕ) × Join bytes request page × AppendsBeginning old new page
+Delivers bytes request (Err (fault.Page name f)) old new = Keeps old new × Blame bytes request f
+Delivers bytes request (Err (fault.Parts f)) old new = Keeps old new × Blame bytes request f
+Delivers bytes request (Err (fault.TooMany parts)) old new = Keeps old new × HasTooMany bytes request parts
+Delivers bytes request (Err f) old new = Keeps old new

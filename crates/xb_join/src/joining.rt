@@ -1,0 +1,135 @@
+// From the files of pages to the page of the whole.
+ghost use Rattle.std.specs.Prelude.{◌≡◌, ◌≤◌, IfErr, IfOk, IfSome, Ok, OnOk, length, map, option_copied, option_map};
+ghost use Rattle.xb_join.specs.Files.{HaveTexts};
+ghost use Rattle.xb_join.specs.Given.{given_by};
+ghost use Rattle.xb_join.specs.JoinedFiles.{Delivers, IsFaultOfPages, IsFileFault, IsListed, IsNamedFault};
+ghost use Rattle.xb_join.specs.Joining.{MakesTheWhole, join_of};
+
+use crate::fault::JoinProgramFault;
+use crate::files::PageFiles;
+use crate::given::given_by;
+use crate::join_fault::JoinFault;
+use crate::pages::join_pages;
+use crate::words::Request;
+use std::alloc::Global;
+use std::io::Write;
+use xb_parts::{LineRange, ranges_of_list};
+use xb_text::write_whole;
+
+// The ranges of a list, if one is named.
+fn read_list<'a, F: PageFiles>(
+    alloc: Global,
+    files: &F,
+    name: Option<&'a str>,
+) -> Result<Option<Vec<LineRange>>, JoinProgramFault<'a>>
+    ensures listed { IfOk result (λ ranges. IsListed (F.bytes files.now) (option_copied name.entry)
+        (option_map (λ r. r.items) ranges)) }
+    ensures fault { IfErr result IsFileFault }
+{
+    let name = match name {
+        Some(name) => name,
+        None => return Ok(None),
+    };
+    let text = match files.read(alloc, name) {
+        Ok(text) => text,
+        Err(error) => return Err(JoinProgramFault::File(name, error)),
+    };
+    match ranges_of_list(alloc, &text) {
+        Ok(ranges) => Ok(Some(ranges)),
+        Err(fault) => Err(JoinProgramFault::List(name, fault)),
+    }
+}
+
+// The texts of files.
+fn read_pages<'a, F: PageFiles>(
+    alloc: Global,
+    files: &F,
+    names: &[&'a str],
+) -> Result<Vec<Vec<u8>>, JoinProgramFault<'a>>
+    ensures texts { IfOk result (λ pages. HaveTexts (F.bytes files.now) (map (λ name. name.now) names.now)
+        (map (λ page. page.items) pages.items)) }
+    ensures fault { IfErr result IsFileFault }
+{
+    let mut pages = Vec::new(alloc);
+    for name in names {
+        let page = match files.read(alloc, name) {
+            Ok(page) => page,
+            Err(error) => return Err(JoinProgramFault::File(name, error)),
+        };
+        if pages.push(page).is_err() {
+            return Err(JoinProgramFault::NoMemory);
+        }
+    }
+    Ok(pages)
+}
+
+// The name of the page of a part, from 1.
+fn name_of<'a>(names: &[&'a str], part: usize) -> Option<&'a str> {
+    names.get(part.checked_sub(1)?).copied()
+}
+
+// Why the pages of these files can't be joined, with the file where there is one.
+fn fault_of<'a>(names: &[&'a str], fault: JoinFault) -> JoinProgramFault<'a>
+    ensures { IsNamedFault fault result }
+{
+    let part = match fault {
+        JoinFault::Lines(part) | JoinFault::Part(part, _) | JoinFault::PastEnd(part) => part,
+        JoinFault::Missing(_) | JoinFault::NoMemory => return JoinProgramFault::Parts(fault),
+    };
+    match name_of(names, part) {
+        Some(name) => JoinProgramFault::Page(name, fault),
+        None => JoinProgramFault::Parts(fault),
+    }
+}
+
+// The page that pages make, by a list if there is one.
+fn page_of<'a>(
+    alloc: Global,
+    names: &[&'a str],
+    ranges: Option<&[LineRange]>,
+    pages: &[Vec<u8>],
+) -> Result<Vec<u8>, JoinProgramFault<'a>>
+    ensures page { let given = given_by (option_copied ranges.entry) (map (λ p. p.items) pages.now) in
+        IfOk result (λ page. (join_of given ≡ Ok page.items) × MakesTheWhole given page.items) }
+    ensures few { OnOk result (IfSome (option_copied ranges.entry) (λ r. length pages.now ≤ length r)) }
+    ensures fault { let r = option_copied ranges.entry in
+        IfErr result (IsFaultOfPages r (map (λ p. p.items) pages.now)) }
+{
+    if let Some(ranges) = ranges {
+        if ranges.len() < pages.len() {
+            return Err(JoinProgramFault::TooMany(ranges.len()));
+        }
+    }
+    let parts = match given_by(alloc, ranges, pages) {
+        Ok(parts) => parts,
+        Err(_) => return Err(JoinProgramFault::NoMemory),
+    };
+    match join_pages(alloc, &parts) {
+        Ok(page) => Ok(page),
+        Err(fault) => Err(fault_of(names, fault)),
+    }
+}
+
+/// Reads the list and the pages that a request names, and writes the page of the whole. All files are read
+/// and all pages are checked before anything is written.
+///
+/// On an `Err` nothing was written, except on `Write`, where the beginning of the page was.
+///
+/// What the contract says of bytes it says of files and of writers whose bytes are known to contracts, which
+/// those of a system are not.
+pub fn join<'a, F: PageFiles, W: Write>(
+    alloc: Global,
+    files: &F,
+    request: &Request<'a>,
+    out: &mut W,
+) -> Result<(), JoinProgramFault<'a>>
+    ensures { Delivers (F.bytes files.now) request.now result (W.contents out.old) (W.contents out.new) }
+{
+    let ranges = read_list(alloc, files, request.list)?;
+    let pages = read_pages(alloc, files, &request.pages)?;
+    let page = page_of(alloc, &request.pages, ranges.as_deref(), &pages)?;
+    match write_whole(out, &page) {
+        Ok(()) => Ok(()),
+        Err(_) => Err(JoinProgramFault::Write),
+    }
+}

@@ -1,0 +1,39 @@
+//! `mfjoin` but for its files: the pages of parts in, the page of the whole out.
+//!
+//! - `laws::pages_join`: for every plan, limits, routes and rows whose parts take all lines, one after the
+//!   other, the page of all rows is the entries of the parts' pages, part by part, and a line with the sums
+//!   of their totals. `laws::parts_make_the_whole`: such pages have no fault, and are joined to it.
+//!   `laws::joined_parts_are_whole`: whatever is joined takes all lines, and nothing is lost or added.
+//! - `join_pages`: the joined page, or the first fault: a part whose lines do not begin where those before
+//!   it end, a page that is damaged, a page with a line of a later part, or the first line that no part
+//!   has. `Joiner`: the same, one page at a time.
+//! - `join` and `attend`: with status 0 exactly the page was written that the files make, by the ranges of
+//!   the list, or without one by the lines that the pages take; with status 1 one line was told, and
+//!   nothing was written but the beginning of the page where a write failed.
+//!
+//! What is said of a file is said of the bytes that the caller's `PageFiles` says to be known. Not said:
+//! that the tones of an entry are unharmed, since a page is read no further than the heads; and which file
+//! is named with a fault.
+#![tactic(auto)]
+
+mod damage;
+mod fault;
+mod files;
+mod given;
+mod join_fault;
+mod joiner;
+mod joining;
+pub mod laws;
+mod pages;
+mod program;
+mod words;
+
+pub use damage::Damage;
+pub use fault::JoinProgramFault;
+pub use files::PageFiles;
+pub use join_fault::JoinFault;
+pub use joiner::Joiner;
+pub use joining::join;
+pub use pages::{PartPage, join_pages, lines_taken};
+pub use program::attend;
+pub use words::Request;

@@ -1,0 +1,191 @@
+-- What is written, row by row, of rows that are read.
+use Rattle.std.proofs.Common.{◌≡◌, ◌≤◌, ◌^◌, ◌+◌, ℕ, List, length, length-append, [], ◌∷◌, ◌++◌, Option, Some, None, IfSome, Result, Err, Ok, inl, inr, refl, sym, ap, ◌∙◌, subst, ⊎_elim, append_assoc, append-nil, arith}
+use Rattle.std.specs.Io.KnownBytes.{Appends}
+use Rattle.std.proofs.KnownBytes.{Appends-nil}
+use mathlib.Core.List.{IsPrefix}
+use Rattle.std.specs.List.{flat_map}
+use Rattle.xb_model.specs.declared.fault.RowFault.{RowFault}
+use Rattle.xb_model.specs.declared.fault.RowFault.TheVariants as row_fault
+use Rattle.xb_model.specs.Rows.{LoopRow}
+use Rattle.xb_model.specs.Sources.{Rest}
+use Rattle.xb_stage.specs.Image.{image_after}
+use Rattle.xb_routes.specs.Table.{Table}
+use Rattle.xb_rows.specs.Scanning.{GivesRead}
+use Rattle.xb_serial.specs.Office.{marks_of_rows}
+use Rattle.xb_live.specs.declared.fault.EntriesFault.{EntriesFault}
+use Rattle.xb_live.specs.declared.fault.EntriesFault.TheVariants as entries_fault
+use Rattle.xb_live.specs.declared.printing.Form.{Form}
+use Rattle.xb_live.specs.Counting.{Counted, HasCounted}
+use Rattle.xb_live.specs.Entries.{entries_given}
+use Rattle.xb_live.specs.Texts.{entries_text, text_after, text_of}
+use Rattle.xb_live.specs.Writing.{Ends, GotBeginning, GotFirst, HasWritten, Writes}
+use Rattle.xb_live.proofs.Numbers.{numbered_after-none}
+use Rattle.xb_live.proofs.Written.{first_of, first_of_first}
+use Rattle.xb_live.specs.declared.fault.LiveFault.{LiveFault}
+use Rattle.xb_live.specs.declared.fault.LiveFault.TheVariants as fault
+use Rattle.xb_live.specs.Faults.{IsOfRows, of_entries}
+use Rattle.xb_live.specs.Runs.{EndsRows, Prints, PrintsRows, rows_taken}
+
+-- of these rows some were taken, and what is left of them is still to come
+abbrev pub IsLeft : Rest → List LoopRow → Option Rest → Type 0
+IsLeft all taken None = ⊥
+IsLeft all taken (Some left) = (all.rows ≡ taken ++ left.rows) × (all.stop ≡ left.stop)
+
+-- the entries of the rows that were taken, so many, were written
+abbrev pub IsSoFar :
+    ℕ → Form → Counted → Option Rest → Option Rest → Option (List ℕ) → Option (List ℕ) → Type 0
+IsSoFar count form office all now start out = IfSome all (λ rest.
+    (taken : List LoopRow) × IsLeft rest taken now × HasWritten form office taken start out
+    × (length taken ≡ count))
+
+-- rows that stop are among those that are taken
+first_of_taken : (rows : List LoopRow) (stop : Option RowFault) → IsPrefix rows (rows_taken rows stop)
+first_of_taken rows None = first_of rows _
+first_of_taken rows (Some f) = ([], append-nil rows)
+
+-- the first of the first of some rows
+first_along : (first some all : List LoopRow) → IsPrefix first some → IsPrefix some all → IsPrefix first all
+first_along first some all p q = subst (IsPrefix first) q.1 (first_of_first first some q.0 p)
+
+-- no row gives no mark
+marks-none : (table : Table) → marks_of_rows table [] ≡ []
+unfolding image_after
+marks-none table = refl
+
+text-none : (form : Form) (table : Table) → entries_text form table [] ≡ []
+text-none form table =
+    ap (λ marks. text_after form [] (entries_given marks)) (marks-none table)
+    ∙ ap (flat_map (text_of form)) (numbered_after-none [])
+
+pub so_far-start : (form : Form) (office : Counted) (all : Option Rest) (out : Option (List ℕ)) → HasCounted office [] → IsSoFar 0 form office all all out out
+so_far-start form office None out counted = tt
+so_far-start form office (Some rest) out counted =
+    ([], (refl, refl), record { counted = counted; text = subst (Appends out out) (sym (text-none form office.live.table)) (Appends-nil out) }, refl)
+
+module _ (count : ℕ) (form : Form) (office : Counted) (start out : Option (List ℕ)) where
+  -- a row more
+  pub so_far-more : (after : Counted) (row : LoopRow) (new : Option (List ℕ)) (all now left : Option Rest)
+      → IsSoFar count form office all now start out → GivesRead now (Ok (Some row)) left
+      → ((rows : List LoopRow) → HasWritten form office rows start out → HasWritten form after (rows ++ row ∷ []) start new)
+      → IsSoFar (count + 1) form after all left start new
+  so_far-more after row new None now left so gives more = tt
+  so_far-more after row new (Some rest) None left so gives more = absurd so.1
+  so_far-more after row new (Some rest) (Some here) None so gives more = absurd gives
+  so_far-more after row new (Some rest) (Some here) (Some left) (taken, are, wrote, many) gives more =
+      ⊎_elim
+      (λ g. (
+        taken ++ row ∷ [],
+        (are.0 ∙ ap (λ rows. taken ++ rows) g.0 ∙ sym (append_assoc taken (row ∷ []) left.rows), are.1 ∙ sym g.1),
+        more taken wrote,
+        length-append taken (row ∷ []) ∙ ap (λ n. n + 1) many,
+      ))
+      (λ g. absurd (cc (g.1)))
+      gives
+
+  -- a row more, which was not written
+  pub so_far-fault : (after : Counted) (table : Table) (row : LoopRow) (new : Option (List ℕ)) (f : EntriesFault) (all now left : Option Rest)
+      → after.live.table ≡ table → IsSoFar count form office all now start out → GivesRead now (Ok (Some row)) left
+      → ((rows : List LoopRow) → HasWritten form office rows start out → Writes form after (rows ++ row ∷ []) (Err f) start new)
+      → IfSome all (λ rest. Prints form table rest (Err (of_entries f)) start new)
+  so_far-fault after table row new f None now left same so gives more = tt
+  so_far-fault after table row new f (Some rest) None left same so gives more = absurd so.1
+  so_far-fault after table row new f (Some rest) (Some here) None same so gives more = absurd gives
+  so_far-fault after table row new f (Some rest) (Some here) (Some left) same (taken, are, wrote, many) gives more =
+      ⊎_elim
+      (λ g.
+      let first : IsPrefix (taken ++ row ∷ []) rest.rows = (left.rows, append_assoc taken (row ∷ []) left.rows ∙ ap (λ rows. taken ++ rows) (sym g.0) ∙ sym are.0) in
+      at f (first_along (taken ++ row ∷ []) rest.rows (rows_taken rest.rows rest.stop) first (first_of_taken rest.rows rest.stop)) (more taken wrote))
+      (λ g. absurd (cc (g.1)))
+      gives
+    where
+      at : (f : EntriesFault) → IsPrefix (taken ++ row ∷ []) (rows_taken rest.rows rest.stop) → Writes form after (taken ++ row ∷ []) (Err f) start new → Prints form table rest (Err (of_entries f)) start new
+      at entries_fault.NoMemory p got = subst (λ t. GotFirst form t (rows_taken rest.rows rest.stop) start new) same (got.0, first_along got.0 _ _ got.1 p, got.2)
+      at entries_fault.Write p got = inr (subst (λ t. GotBeginning form t (rows_taken rest.rows rest.stop) start new) same (got.0, first_along got.0 _ _ got.1 p, got.2))
+
+  -- the entries of the first rows stand
+  so_far-first : (rest : Rest) (table : Table) (now : Option Rest) → office.live.table ≡ table → IsSoFar count form office (Some rest) now start out → GotFirst form table rest.rows start out
+  so_far-first rest table None same so = absurd so.1
+  so_far-first rest table (Some left) same (taken, are, wrote, many) =
+      (taken, (left.rows, sym are.0), subst (λ t. Appends start out (entries_text form t taken)) same wrote.text)
+
+  -- and they are the first of those that are taken
+  so_far-some : (rest : Rest) (table : Table) (now : Option Rest) → office.live.table ≡ table → IsSoFar count form office (Some rest) now start out → GotFirst form table (rows_taken rest.rows rest.stop) start out
+  so_far-some rest table now same so =
+      let first = so_far-first rest table now same so in
+      (first.0, first_along first.0 rest.rows (rows_taken rest.rows rest.stop) first.1 (first_of_taken rest.rows rest.stop), first.2)
+
+  -- there are as many rows as were taken, and maybe more
+  pub so_far-many : (table : Table) (all now : Option Rest) → office.live.table ≡ table → 2 ^ 63 ≤ count → IsSoFar count form office all now start out → IfSome all (λ rest. Prints form table rest (Err fault.TooMany) start out)
+  so_far-many table None now same most so = tt
+  so_far-many table (Some rest) None same most so = absurd so.1
+  so_far-many table (Some rest) (Some left) same most (taken, are, wrote, many) =
+      (omega (arith, most, many, ap length are.0, length-append taken left.rows), so_far-first rest table (Some left) same (taken, are, wrote, many))
+
+  -- the rows end
+  pub so_far-end : (table : Table) (new : Option (List ℕ)) (result : Result (Unit {0}) EntriesFault) (all now left : Option Rest)
+      → IsSoFar count form office all now start out → GivesRead now (Ok None) left
+      → ((rows : List LoopRow) → HasWritten form office rows start out → Ends form table rows result start new)
+      → IfSome all (λ rest. (rest.stop ≡ None) × Ends form table rest.rows result start new)
+  so_far-end table new result None now left so gives ends = tt
+  so_far-end table new result (Some rest) None left so gives ends = absurd so.1
+  so_far-end table new result (Some rest) (Some here) None so gives ends = absurd gives
+  so_far-end table new result (Some rest) (Some here) (Some left) (taken, are, wrote, many) gives ends =
+      ⊎_elim
+      (λ g.
+      let whole : taken ≡ rest.rows = sym (are.0 ∙ ap (λ rows. taken ++ rows) g.0 ∙ append-nil taken) in
+      (are.1 ∙ g.1, subst (λ rows. Ends form table rows result start new) whole (ends taken wrote)))
+      (λ g. absurd (cc (g.1)))
+      gives
+
+  -- a fault stops the rows
+  pub so_far-stop : (table : Table) (f : RowFault) (e : LiveFault) (all now left : Option Rest) → office.live.table ≡ table
+      → IsSoFar count form office all now start out → GivesRead now (Err f) left → IsOfRows f e
+      → IfSome all (λ rest. Prints form table rest (Err e) start out)
+  so_far-stop table f e None now left same so gives of = tt
+  so_far-stop table f e (Some rest) None left same so gives of = absurd so.1
+  so_far-stop table f e (Some rest) (Some here) None same so gives of = absurd gives
+  so_far-stop table f e (Some rest) (Some here) (Some left) same (taken, are, wrote, many) gives of =
+      ⊎_elim
+      (λ m. rw (m.1) (so_far-some rest table (Some here) same (taken, are, wrote, many)))
+      (λ other. ⊎_elim
+      (λ r. rw (r.1) (so_far-first rest table (Some here) same (taken, are, wrote, many)))
+      (λ o. rw (o.2) (stopped o.0 o.1 gives)) other)
+      of
+    where
+      stopped : (f ≡ row_fault.NoMemory → ⊥) → (f ≡ row_fault.Read → ⊥) → GivesRead (Some here) (Err f) (Some left)
+          → (rest.stop ≡ Some f) × Appends start out (entries_text form table rest.rows)
+      stopped memory read g =
+          ⊎_elim
+          (λ h. ⊎_elim
+          (λ s.
+          let whole : taken ≡ rest.rows = sym (are.0 ∙ ap (λ rows. taken ++ rows) s.0 ∙ append-nil taken) in
+          (are.1 ∙ s.1, subst (λ t. Appends start out (entries_text form t rest.rows)) same (subst (λ rows. Appends start out (entries_text form office.live.table rows)) whole wrote.text)))
+          (λ m. absurd (memory m.1)) h.0)
+          (λ failed. absurd (read (cc (failed.1))))
+          g
+
+-- what the end gives is what is printed
+pub ends-printed : (form : Form) (table : Table) (start new : Option (List ℕ)) (f : EntriesFault) (all : Option Rest)
+    → IfSome all (λ rest. (rest.stop ≡ None) × Ends form table rest.rows (Err f) start new) → IfSome all (λ rest. Prints form table rest (Err (of_entries f)) start new)
+ends-printed form table start new f None h = tt
+ends-printed form table start new entries_fault.NoMemory (Some rest) h =
+    subst (λ stop. GotFirst form table (rows_taken rest.rows stop) start new) (sym h.0) h.1
+ends-printed form table start new entries_fault.Write (Some rest) h =
+    ⊎_elim
+    (λ beginning. inl (h.0, beginning))
+    (λ got. inr (subst (λ stop. GotBeginning form table (rows_taken rest.rows stop) start new) (sym h.0) got))
+    h.1
+
+-- what is printed of rows that are known is all that is said of them
+pub known : (form : Form) (table : Table) (all : Option Rest) (result : Result (Unit {0}) LiveFault) (start out : Option (List ℕ))
+    → EndsRows result → IfSome all (λ rest. Prints form table rest result start out) → PrintsRows form table all result start out
+known form table None result start out ends h = ends
+known form table (Some rest) result start out ends h = h
+
+-- the faults of entries, and of rows, are such as end rows
+pub entries-end : (f : EntriesFault) → EndsRows (Err (of_entries f))
+entries-end entries_fault.NoMemory = tt
+entries-end entries_fault.Write = tt
+
+pub rows-end : (f : RowFault) (e : LiveFault) → IsOfRows f e → EndsRows (Err e)
+rows-end f e of = ⊎_elim (λ m. rw (m.1) tt) (λ other. ⊎_elim (λ r. rw (r.1) tt) (λ o. rw (o.2) tt) other) of

@@ -1,0 +1,159 @@
+-- What is written, one row after another.
+use Rattle.std.proofs.Common.{◌≡◌, ℕ, zero, suc, ◌+◌, ◌-◌, ◌≤◌, ◌<◌, true, false, None, IsSome, ◌↔◌, Err, inr, add-zero, arith, List, [], ◌∷◌, ◌++◌, map, Option, refl, sym, ap, ◌∙◌, subst, append_assoc, append-nil}
+use Rattle.std.specs.List.{flat_map}
+use Rattle.std.specs.Io.KnownBytes.{Appends}
+use Rattle.std.proofs.KnownBytes.{Appends-trans}
+use mathlib.Core.List.{IsPrefix}
+use Rattle.std.proofs.lemmas.List.{map-append}
+use Rattle.xb_model.specs.declared.line.TheConstants.{LINES}
+use Rattle.xb_model.specs.Lines.{lines_below}
+use Rattle.xb_model.specs.Page.{totals_text}
+use Rattle.xb_model.specs.Rows.{LoopRow, close_row}
+use Rattle.xb_model.proofs.LinesBelow.{lines_below-none, lines_below-more}
+use Rattle.xb_routes.specs.Table.{Table}
+use Rattle.xb_text.specs.Writing.{AppendsBeginning}
+use Rattle.xb_text.proofs.Beginnings.{AppendsBeginning-second}
+use Rattle.xb_live.specs.declared.fault.EntriesFault.{EntriesFault}
+use Rattle.xb_live.specs.declared.fault.EntriesFault.TheVariants.{NoMemory, Write}
+use Rattle.xb_live.specs.declared.printing.Form.{Form}
+use Rattle.xb_live.specs.Entries.{Entry, Numbered, count_keyed, count_refused, entries_of_rows, numbered_after}
+use Rattle.xb_live.specs.Counting.{Counted, HasCounted}
+use Rattle.xb_live.specs.Texts.{entries_text, text_after, text_of, whole_text, with_closes}
+use Rattle.xb_live.specs.Writing.{Ends, GotBeginning, GotFirst, HasWritten, Writes}
+use Rattle.xb_live.proofs.Numbers.{text_after-append}
+
+-- some rows are the first of themselves and more
+pub first_of : (rows more : List LoopRow) → IsPrefix rows (rows ++ more)
+first_of rows more = (more, refl)
+
+-- the first of the first rows
+pub first_of_first : (first rows more : List LoopRow) → IsPrefix first rows → IsPrefix first (rows ++ more)
+first_of_first first rows more p = (p.0 ++ more, sym (append_assoc first p.0 more) ∙ ap (λ xs. xs ++ more) p.1)
+
+-- the text of a row more
+pub text-more : (form : Form) (table : Table) (rows : List LoopRow) (row : LoopRow) (more : List Entry) (numbered : List Numbered)
+    → entries_of_rows table (rows ++ row ∷ []) ≡ entries_of_rows table rows ++ more
+    → numbered_after (entries_of_rows table rows) more ≡ numbered
+    → entries_text form table (rows ++ row ∷ []) ≡ entries_text form table rows ++ flat_map (text_of form) numbered
+text-more form table rows row more numbered completed is =
+    ap (text_after form []) completed
+    ∙ text_after-append form [] (entries_of_rows table rows) more
+    ∙ ap (λ ns. entries_text form table rows ++ flat_map (text_of form) ns) is
+
+-- one row more of an office, whose table is the same
+module _ (form : Form) (office after : Counted) (row : LoopRow) (more : List Entry) (table : after.live.table ≡ office.live.table)
+    (rows : List LoopRow) (start out : Option (List ℕ)) (before : HasWritten form office rows start out)
+    (counted : HasCounted after (rows ++ row ∷ []))
+    (completed : entries_of_rows office.live.table (rows ++ row ∷ []) ≡ entries_of_rows office.live.table rows ++ more) where
+  -- no entry
+  pub written-none : numbered_after (entries_of_rows office.live.table rows) more ≡ [] → HasWritten form after (rows ++ row ∷ []) start out
+  written-none none = record {
+    counted = counted;
+    text = subst (Appends start out)
+        (sym (ap (λ t. entries_text form t (rows ++ row ∷ [])) table ∙ text-more form office.live.table rows row more [] completed none ∙ append-nil _))
+        before.text;
+  }
+
+  module _ (it : Numbered) (one : numbered_after (entries_of_rows office.live.table rows) more ≡ it ∷ []) where
+    all : entries_text form after.live.table (rows ++ row ∷ []) ≡ entries_text form office.live.table rows ++ text_of form it
+    all =
+        ap (λ t. entries_text form t (rows ++ row ∷ [])) table
+        ∙ text-more form office.live.table rows row more (it ∷ []) completed one
+        ∙ ap (λ text. entries_text form office.live.table rows ++ text) (append-nil (text_of form it))
+
+    -- an entry, whose text was written
+    pub written-one : (new : Option (List ℕ)) → Appends out new (text_of form it) → HasWritten form after (rows ++ row ∷ []) start new
+    written-one new wrote = record {
+      counted = counted;
+      text = subst (Appends start new) (sym all) (Appends-trans start out new (entries_text form office.live.table rows) (text_of form it) before.text wrote);
+    }
+
+    -- or the beginning of its text
+    pub written-beginning : (new : Option (List ℕ)) → AppendsBeginning out new (text_of form it) → GotBeginning form after.live.table (rows ++ row ∷ []) start new
+    written-beginning new wrote = (
+      rows ++ row ∷ [],
+      ([], append-nil _),
+      subst (AppendsBeginning start new) (sym all) (AppendsBeginning-second start out new (entries_text form office.live.table rows) (text_of form it) before.text wrote),
+    )
+
+-- where nothing was written, the entries of the earlier rows stand
+pub written-first : (form : Form) (office after : Counted) (table : after.live.table ≡ office.live.table) (rows more : List LoopRow) (start out : Option (List ℕ))
+    → HasWritten form office rows start out → GotFirst form after.live.table (rows ++ more) start out
+written-first form office after table rows more start out before =
+    (rows, first_of rows more, subst (λ t. Appends start out (entries_text form t rows)) (sym table) before.text)
+
+-- the lines below a number are the first of those below a greater one
+first_below : (n k : ℕ) → IsPrefix (lines_below n) (lines_below (n + k))
+first_below n zero = ([], append-nil _ ∙ ap lines_below (sym (add-zero n)))
+first_below n (suc k) =
+    let p = first_below n k in (
+      p.0 ++ (n + k) ∷ [],
+      sym (append_assoc (lines_below n) p.0 ((n + k) ∷ []))
+          ∙ ap (λ ls. ls ++ (n + k) ∷ []) p.1
+          ∙ sym (lines_below-more (n + k))
+          ∙ ap lines_below (omega arith),
+    )
+
+-- rows, and a close of each line below a number
+abbrev pub with_closes_below : ℕ → List LoopRow → List LoopRow
+with_closes_below n rows = rows ++ map close_row (lines_below n)
+
+pub closes-none : (rows : List LoopRow) → with_closes_below 0 rows ≡ rows
+closes-none rows = ap (λ ls. rows ++ map close_row ls) lines_below-none ∙ append-nil rows
+
+pub closes-more : (n : ℕ) (rows : List LoopRow) → with_closes_below n rows ++ close_row n ∷ [] ≡ with_closes_below (n + 1) rows
+closes-more n rows =
+    append_assoc rows (map close_row (lines_below n)) (close_row n ∷ [])
+    ∙ ap (λ cs. rows ++ cs) (sym (map-append close_row (lines_below n) (n ∷ [])) ∙ ap (map close_row) (sym (lines_below-more n)))
+
+pub first_closes : (n : ℕ) (rows : List LoopRow) → n ≤ LINES → IsPrefix (with_closes_below n rows) (with_closes rows)
+first_closes n rows h =
+    let p = first_below n (LINES - n) in
+    let all : n + (LINES - n) ≡ LINES = omega (arith, h) in (
+      map close_row p.0,
+      append_assoc rows (map close_row (lines_below n)) (map close_row p.0)
+          ∙ ap (λ cs. rows ++ cs) (sym (map-append close_row (lines_below n) p.0) ∙ ap (map close_row) (p.1 ∙ ap lines_below all)),
+    )
+
+-- the first of the first of some rows
+first_along : (first some all : List LoopRow) → IsPrefix first some → IsPrefix some all → IsPrefix first all
+first_along first some all p q = subst (IsPrefix first) q.1 (first_of_first first some q.0 p)
+
+-- a fault at the first of some rows
+pub faults-more : (form : Form) (office : Counted) (some all : List LoopRow) (fault : EntriesFault) (start out : Option (List ℕ))
+    → IsPrefix some all → Writes form office some (Err fault) start out → Writes form office all (Err fault) start out
+faults-more form office some all NoMemory start out q (first, p, text) = (first, first_along first some all p q, text)
+faults-more form office some all Write start out q (first, p, text) = (first, first_along first some all p q, text)
+
+-- a fault at the closes ends the rows
+pub faults-end : (form : Form) (office : Counted) (table : Table) (rows : List LoopRow) (fault : EntriesFault) (start out : Option (List ℕ))
+    → office.live.table ≡ table → Writes form office (with_closes rows) (Err fault) start out → Ends form table rows (Err fault) start out
+faults-end form office table rows NoMemory start out e got = subst (λ t. GotFirst form t (with_closes rows) start out) e got
+faults-end form office table rows Write start out e got = inr (subst (λ t. GotBeginning form t (with_closes rows) start out) e got)
+
+-- after the closes, the totals
+module _ (form : Form) (office : Counted) (table : Table) (rows : List LoopRow) (start out : Option (List ℕ))
+    (same : office.live.table ≡ table) (written : HasWritten form office (with_closes rows) start out) where
+  -- are not told where memory ran out
+  pub totals-missing : GotFirst form table (with_closes rows) start out
+  totals-missing = (with_closes rows, ([], append-nil _), subst (λ t. Appends start out (entries_text form t (with_closes rows))) same written.text)
+
+  totals : totals_text office.keyed office.refused ≡ totals_text (count_keyed (entries_of_rows table (with_closes rows))) (count_refused (entries_of_rows table (with_closes rows)))
+  totals =
+      ap (λ k. totals_text k office.refused) (written.counted.keyed ∙ ap (λ t. count_keyed (entries_of_rows t (with_closes rows))) same)
+      ∙ ap (totals_text (count_keyed (entries_of_rows table (with_closes rows)))) (written.counted.refused ∙ ap (λ t. count_refused (entries_of_rows t (with_closes rows))) same)
+
+  text : Appends start out (entries_text form table (with_closes rows))
+  text = subst (λ t. Appends start out (entries_text form t (with_closes rows))) same written.text
+
+  -- are told whole
+  pub totals-whole : (new : Option (List ℕ)) → Appends out new (totals_text office.keyed office.refused) → Appends start new (whole_text form table rows)
+  totals-whole new more = Appends-trans start out new _ _ text (subst (Appends out new) totals more)
+
+  -- or their beginning is
+  pub totals-begun : (new : Option (List ℕ)) → AppendsBeginning out new (totals_text office.keyed office.refused) → AppendsBeginning start new (whole_text form table rows)
+  totals-begun new more = AppendsBeginning-second start out new _ _ text (subst (AppendsBeginning out new) totals more)
+
+-- a number of a line is one
+pub none_below : (line : Option ℕ) (n : ℕ) → (IsSome line ↔ (n < LINES)) → n < LINES → line ≡ None → ⊥
+none_below line n is below none = let h : false ≡ true = subst IsSome none (is.1 below) in cc

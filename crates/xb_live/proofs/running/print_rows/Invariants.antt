@@ -1,0 +1,10 @@
+use Rattle.std.proofs.Common.{◌≡◌, ◌≤◌, ◌+◌}
+use Rattle.xb_live.proofs.Runs.{IsSoFar}
+use Rattle.xb_live.proofs.running.print_rows.Given as goal
+
+abbrev pub invariant-loop : goal.invariant-loop
+invariant-loop g l = record {
+  few : l.office.keyed + l.office.refused ≤ l.counter;
+  table : l.office.live.table ≡ l.initial.office.live.table;
+  so_far : IsSoFar l.counter l.form l.office l.initial.rows l.rows (g.W.Write.contents l.initial.out) (g.W.Write.contents l.out);
+}

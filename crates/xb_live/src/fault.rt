@@ -1,0 +1,134 @@
+// Why entries are not printed, and why a run ends before its deck.
+ghost use Rattle.std.specs.Prelude.{◌≡◌};
+
+use std::alloc::AllocError;
+use thiserror::Error;
+use xb_deck::TableFault;
+use xb_model::RowFault;
+use xb_routes::RouteFault;
+use xb_text::WriteFault;
+
+/// Why entries are not printed.
+#[derive(Clone, Copy, Debug, PartialEq, Eq, Error)]
+pub enum EntriesFault {
+    /// Memory ran out. Nothing was written of the entry.
+    #[error("out of memory")]
+    NoMemory,
+    /// A write or the flush failed, or a write took no byte. The beginning of the entry was written.
+    #[error("the entries could not be written")]
+    Write,
+}
+
+impl From<AllocError> for EntriesFault {
+    ghost use Rattle.xb_live.specs.declared.fault.EntriesFault.TheVariants.{NoMemory};
+
+    ghost from_gives = { λ _ e. e ≡ NoMemory };
+
+    fn from(_error: AllocError) -> EntriesFault {
+        EntriesFault::NoMemory
+    }
+}
+
+impl From<WriteFault> for EntriesFault {
+    ghost use Rattle.xb_live.specs.declared.fault.EntriesFault.TheVariants.{Write};
+
+    ghost from_gives = { λ _ e. e ≡ Write };
+
+    fn from(_fault: WriteFault) -> EntriesFault {
+        EntriesFault::Write
+    }
+}
+
+/// Why a run ends before its deck. What was written before stands.
+#[derive(Clone, Copy, Debug, PartialEq, Eq, Error)]
+pub enum LiveFault {
+    /// A read failed, an interrupted one too.
+    #[error("the deck could not be read")]
+    Read,
+    /// The deck ends, and no line of it is exactly `---`.
+    #[error("the deck has no line ---")]
+    NoCut,
+    /// The route table has more than 16,777,216 bytes, or the deck has and no line of it is exactly `---`.
+    #[error("the route table is longer than 16777216 bytes")]
+    TooLong,
+    /// The route table is refused.
+    #[error("route table: {0}")]
+    Routes(RouteFault),
+    /// The loop rows are refused.
+    #[error("loop rows: {0}")]
+    Rows(RowFault),
+    /// There are more rows than can be counted: more than 2^63.
+    #[error("more than 9223372036854775808 records")]
+    TooMany,
+    /// Memory ran out.
+    #[error("out of memory")]
+    NoMemory,
+    /// A write or the flush failed, or a write took no byte.
+    #[error("the entries could not be written")]
+    Write,
+}
+
+impl From<TableFault> for LiveFault {
+    ghost use Rattle.xb_live.specs.Faults.{of_table};
+
+    ghost from_gives = { λ fault e. e ≡ of_table fault };
+
+    fn from(fault: TableFault) -> LiveFault {
+        match fault {
+            TableFault::Read => LiveFault::Read,
+            TableFault::TooLong => LiveFault::TooLong,
+            TableFault::NoCut => LiveFault::NoCut,
+            TableFault::NoMemory => LiveFault::NoMemory,
+        }
+    }
+}
+
+impl From<RouteFault> for LiveFault {
+    ghost use Rattle.xb_live.specs.Faults.{IsOfRoutes};
+
+    ghost from_gives = { IsOfRoutes };
+
+    fn from(fault: RouteFault) -> LiveFault {
+        match fault {
+            RouteFault::NoMemory => LiveFault::NoMemory,
+            fault => LiveFault::Routes(fault),
+        }
+    }
+}
+
+impl From<RowFault> for LiveFault {
+    ghost use Rattle.xb_live.specs.Faults.{IsOfRows};
+
+    ghost from_gives = { IsOfRows };
+
+    fn from(fault: RowFault) -> LiveFault {
+        match fault {
+            RowFault::NoMemory => LiveFault::NoMemory,
+            RowFault::Read => LiveFault::Read,
+            fault => LiveFault::Rows(fault),
+        }
+    }
+}
+
+impl From<EntriesFault> for LiveFault {
+    ghost use Rattle.xb_live.specs.Faults.{of_entries};
+
+    ghost from_gives = { λ fault e. e ≡ of_entries fault };
+
+    fn from(fault: EntriesFault) -> LiveFault {
+        match fault {
+            EntriesFault::NoMemory => LiveFault::NoMemory,
+            EntriesFault::Write => LiveFault::Write,
+        }
+    }
+}
+
+impl From<AllocError> for LiveFault {
+    ghost use Rattle.xb_live.specs.declared.fault.LiveFault.TheVariants.{NoMemory};
+
+    ghost from_gives = { λ _ e. e ≡ NoMemory };
+
+    fn from(_error: AllocError) -> LiveFault {
+        LiveFault::NoMemory
+    }
+}

@@ -1,3 +1,0 @@
-pub mod Runs
-pub mod Decks
-pub mod Accepted

@@ -1,2 +1,0 @@
-mod OptionNumbers
-mod OptionalArguments

@@ -1,0 +1,11 @@
+use Rattle.std.proofs.Common.{append_assoc, codes, string_bytes}
+use Rattle.xb_report.proofs.Pushed.{both, last}
+use Rattle.xb_picture.specs.Shapes.{line_text}
+use Rattle.xb_picture.proofs.writing.push_line.Goals as goal
+
+pub returns : goal.returns
+returns c =
+    let o = string_bytes c.args.out.now in
+    let steps = both o _ _ _ _ c.in_ok-push_str.ensures.bytes c.in_ok-push_steps.ensures in
+    last c.write.result o _ _ _ _ (line_text c.args.steps.now c.args.ink c.args.width) steps c.write.ensures.bytes
+    (simp (c.ink_text-stroke.ensures, append_assoc))

@@ -1,2 +1,0 @@
-mod CutPieces
-pub mod PlacedPieces

@@ -1,0 +1,15 @@
+use Rattle.std.proofs.Common.{◌++◌, ◌∷◌, [], subst}
+use Rattle.std.specs.Prelude.{Ok}
+use Rattle.xb_rows.specs.Scanning.{GivesRead}
+use Rattle.xb_split.proofs.StreamedRows.{HasGiven-more}
+use Rattle.xb_split.proofs.counting.count_rows.Goals as goal
+
+pub loop-preserved : goal.loop-preserved
+loop-preserved g c =
+    let inv = c.loop.invariant in
+    let start = c.args.rows.now in
+    let old = c.loop.rows in
+    let new = c.next_row.new.self in
+    let row = c.in-Some.row in
+    let gives = subst (λ r. GivesRead old (Ok r) new) c.in-Some.is c.in_ok-row.ensures in
+    (inv.0 ++ row ∷ [], HasGiven-more inv.0 start old new row inv.1 gives, c.count_row.ensures inv.0 inv.2)

@@ -1,0 +1,39 @@
+use Rattle.std.proofs.Common.{None, arith, inl}
+use Rattle.std.proofs.KnownBytes.{Keeps-refl}
+use Rattle.xb_command.proofs.WordsTold.{TellsOfWords-attends}
+use Rattle.xb_split.specs.Program.{program, usage_line}
+use Rattle.xb_split.proofs.program.attend.Goals as goal
+
+pub returns-in-Ok-split : goal.returns-in-Ok-split
+returns-in-Ok-split g c = record {
+  statuses = omega arith;
+  done = λ e. record {
+    request = c.in-Ok.request;
+    asks = c.in-Ok.ensures.asks;
+    split = c.in-Ok-split.ensures;
+    quiet = Keeps-refl _;
+  };
+  fault = λ e. absurd (omega (arith, e));
+  refused = λ e. absurd (omega (arith, e));
+}
+
+pub returns-in-Err-split : goal.returns-in-Err-split
+returns-in-Err-split g c =
+    let status = c.tell_fault.ensures.status in
+    record {
+      statuses = omega (arith, status);
+      done = λ e. absurd (omega (arith, e, status));
+      fault = λ e. inl (record {
+        request = c.in-Ok.request;
+        fault = c.in-Err-split.fault;
+        asks = c.in-Ok.ensures.asks;
+        split = c.in-Err-split.ensures;
+        line = c.tell_fault.ensures.line;
+      });
+      refused = λ e. absurd (omega (arith, e, status));
+    }
+
+pub returns-in-Err : goal.returns-in-Err
+returns-in-Err g c =
+    TellsOfWords-attends program usage_line c.in-Err.fault _ _ _ (Keeps-refl None) (Keeps-refl _)
+    c.in-Err.ensures.refused c.tell_words.ensures

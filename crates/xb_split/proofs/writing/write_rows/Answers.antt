@@ -1,0 +1,24 @@
+use Rattle.std.proofs.Common.{◌++◌, ◌∷◌, [], sym, subst}
+use Rattle.std.specs.Prelude.{Ok}
+use Rattle.xb_split.specs.PartDecks.{records_of_part}
+use Rattle.xb_rows.specs.Scanning.{GivesRead}
+use Rattle.xb_split.proofs.StreamedRows.{HasGiven-more}
+use Rattle.xb_split.proofs.WrittenParts.{Gets-as, Gets-trans, records_of_part-append}
+use Rattle.xb_split.proofs.writing.write_rows.Goals as goal
+
+pub loop-preserved : goal.loop-preserved
+loop-preserved g c =
+    let inv = c.loop.invariant in
+    let start = c.args.rows.now in
+    let old = c.loop.rows in
+    let new = c.next_row.new.self in
+    let row = c.in-Some.row in
+    let ranges = c.args.ranges.now in
+    let gives = subst (λ r. GivesRead old (Ok r) new) c.in-Some.is c.in_ok-row.ensures in
+    let gets = Gets-trans (records_of_part ranges inv.0) (records_of_part ranges (row ∷ [])) (g.D.PartDecks.contents c.args.decks.now)
+    (g.D.PartDecks.contents c.loop.decks) (g.D.PartDecks.contents c.write_to_parts.new.decks) inv.2 c.in_default.ensures in (
+      inv.0 ++ row ∷ [],
+      HasGiven-more inv.0 start old new row inv.1 gives,
+      Gets-as _ _ (g.D.PartDecks.contents c.args.decks.now) (g.D.PartDecks.contents c.write_to_parts.new.decks)
+          (λ i. sym (records_of_part-append ranges inv.0 (row ∷ []) i)) gets,
+    )

@@ -1,0 +1,10 @@
+use Rattle.std.proofs.Common.{List}
+use Rattle.xb_model.specs.Rows.{LoopRow}
+use Rattle.xb_split.specs.PartDecks.{Gets, records_of_part}
+use Rattle.xb_split.specs.RowStreams.{HasGiven}
+use Rattle.xb_split.proofs.writing.write_rows.Given as goal
+
+abbrev pub invariant-loop : goal.invariant-loop
+invariant-loop g l =
+    (rows : List LoopRow) × HasGiven rows l.initial.rows l.rows
+    × Gets (records_of_part l.ranges rows) (g.D.PartDecks.contents l.initial.decks) (g.D.PartDecks.contents l.decks)

@@ -1,0 +1,44 @@
+-- What the program did, by its status.
+use Rattle.std.specs.Prelude.{ℕ, List, codes, None, Option, Err, Ok}
+use Rattle.std.specs.Io.KnownBytes.{Keeps}
+use Rattle.clap.specs.Walk.{Text}
+use Rattle.xb_command.specs.Programs.{Attends, Streams}
+use Rattle.xb_command.specs.Telling.{Tells}
+use Rattle.xb_split.specs.Options.{AreRefused, Asks}
+use Rattle.xb_split.specs.PartDecks.{Decks}
+use Rattle.xb_split.specs.SplitFaults.{Delivers}
+use Rattle.xb_split.specs.declared.fault.SplitFault.{SplitFault}
+use Rattle.xb_split.specs.declared.words.Request.{Request}
+
+-- the program's name
+abbrev pub program : List ℕ
+program = codes "mfsplit"
+
+-- the line for words that are refused
+abbrev pub usage_line : List ℕ
+usage_line = codes "mfsplit: usage: mfsplit BIG FOLDER [--parts N]\n"
+
+-- the words name a deck, and the decks of all its parts and their list have their names; the output is the
+-- list
+pub record SplitsDeck (bytes : List ℕ → Option (List ℕ)) (fresh : Option (List ℕ)) (decks : Decks)
+    (words : List Text) (old new : Streams) : Type 0 where
+  pub request : Request
+  pub asks : Asks words request
+  pub split : Delivers (bytes request.big.now) fresh request.parts (Ok tt) decks old.output new.output
+  pub quiet : Keeps old.errors new.errors
+
+-- they name a deck that gave a fault, of which a line was told
+pub record HasFault (bytes : List ℕ → Option (List ℕ)) (fresh : Option (List ℕ)) (decks : Decks)
+    (words : List Text) (old new : Streams) : Type 0 where
+  pub request : Request
+  pub fault : SplitFault
+  pub asks : Asks words request
+  pub split : Delivers (bytes request.big.now) fresh request.parts (Err fault) decks old.output new.output
+  pub line : Tells program None old.errors new.errors
+
+-- what the program did with its words, the files and its streams
+abbrev pub AttendsSplit : (List ℕ → Option (List ℕ)) → Option (List ℕ) → Decks → List Text → Streams → Streams → ℕ
+    → Type 0
+AttendsSplit bytes fresh decks words old new status =
+    Attends program usage_line (SplitsDeck bytes fresh decks words old new)
+    (HasFault bytes fresh decks words old new) (AreRefused words) old new status

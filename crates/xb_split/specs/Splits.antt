@@ -1,0 +1,83 @@
+-- A deck that is split, where its bytes are known.
+use Rattle.std.specs.Prelude.{ℕ, ◌≡◌, ◌≤◌, ◌<◌, ◌-◌, ◌^◌, List, length, map, Option, Some, None, IfSome}
+use Rattle.std.specs.Io.KnownBytes.{Appends}
+use Rattle.xb_deck.specs.Deck.{deck_parts}
+use Rattle.xb_model.specs.Rows.{LoopRow}
+use Rattle.xb_model.specs.Sources.{Rest}
+use Rattle.xb_rows.specs.RowTexts.{rest_within}
+use Rattle.xb_split.specs.Counts.{AreLoadsOf, counted}
+use Rattle.xb_parts.specs.Lists.{list_of}
+use Rattle.xb_split.specs.Loads.{records_of}
+use Rattle.xb_parts.specs.Ranges.{CoverAll}
+use Rattle.xb_parts.specs.declared.list.ListedPart.{ListedPart}
+use Rattle.xb_split.specs.declared.load.Load.{Load}
+use Rattle.xb_parts.specs.declared.range.LineRange.{LineRange}
+use Rattle.xb_split.specs.PartDecks.{Decks, deck_of_part}
+use Rattle.xb_split.specs.Plans.{AreAsked, FitDecks}
+use Rattle.xb_split.specs.RowStreams.{HasGivenAll}
+use Rattle.xb_split.specs.declared.splitting.TheConstants.{MOST_PARTS}
+
+-- the rows of a text of any length, and the fault that stops them
+abbrev pub rest_of_rows : List ℕ → Rest
+rest_of_rows text = rest_within (2 ^ 64 - 1) text
+
+-- a deck that was opened: its table was read, and its rows are left
+abbrev pub IsOpened : Option (List ℕ) → List ℕ → Option Rest → Type 0
+IsOpened deck table left = IfSome deck (λ text. (rows : List ℕ)
+    × (deck_parts text ≡ Some (record { table = table; rows = rows })) × (left ≡ Some (rest_of_rows rows)))
+
+-- a deck is this table, the cut, and records of these rows, without a fault
+abbrev pub HasRows : List ℕ → List ℕ → List LoopRow → Type 0
+HasRows deck table rows = (text : List ℕ) × (deck_parts deck ≡ Some (record { table = table; rows = text }))
+    × ((rest_of_rows text).rows ≡ rows) × ((rest_of_rows text).stop ≡ None)
+
+-- the table of a deck, and what each line has of it
+abbrev pub IsCounted : Option (List ℕ) → List ℕ → List Load → Type 0
+IsCounted deck table loads =
+    IfSome deck (λ text. (rows : List LoopRow) × HasRows text table rows × AreLoadsOf rows loads)
+
+-- a part as the list has it: its lines, and how many records they have
+abbrev pub listed : List Load → LineRange → ListedPart
+listed loads range = record { lines = range; records = counted (records_of loads range.first range.end) }
+
+-- the ranges of the parts of a deck: they take all lines, the deck of each is one that an office takes, they
+-- are those that are asked for, there are no more than may be, and the list names them
+pub record IsPlan (deck : Option (List ℕ)) (wanted : Option ℕ) (table : List ℕ) (ranges : List LineRange)
+    (list : List ℕ) : Type 0 where
+  pub loads : List Load
+  pub counted : IsCounted deck table loads
+  pub cover : CoverAll ranges
+  pub fit : FitDecks (length table) loads ranges
+  pub asked : AreAsked wanted (length table) loads ranges
+  pub few : length ranges ≤ MOST_PARTS
+  pub list_is : list ≡ list_of (map (listed loads) ranges)
+
+-- the parts of a deck are planned, and it was opened again
+pub record IsReady (deck : Option (List ℕ)) (wanted : Option ℕ) (table : List ℕ) (ranges : List LineRange)
+    (list : List ℕ) (left : Option Rest) : Type 0 where
+  pub plan : IsPlan deck wanted table ranges list
+  pub opened : IsOpened deck table left
+
+-- decks that have exactly the rows of their parts, of all that were left
+abbrev pub AreMade : Option (List ℕ) → Decks → List ℕ → List LineRange → Option Rest → Type 0
+AreMade fresh made table ranges left = (rows : List LoopRow) × HasGivenAll rows left
+    × ((i : ℕ) → i < length ranges → Appends fresh (made i) (deck_of_part table ranges rows i))
+
+-- the decks of all parts of a deck, each with exactly its rows, and their list
+pub record IsSplit (deck : Option (List ℕ)) (wanted : Option ℕ) (fresh : Option (List ℕ)) (decks : Decks)
+    (list : List ℕ) : Type 0 where
+  pub table : List ℕ
+  pub ranges : List LineRange
+  pub rows : List LoopRow
+  pub plan : IsPlan deck wanted table ranges list
+  pub read : IfSome deck (λ text. HasRows text table rows)
+  pub written : (i : ℕ) → i < length ranges → Appends fresh (decks i) (deck_of_part table ranges rows i)
+
+-- these are the decks of all parts of some deck
+abbrev pub AreWhole : Option (List ℕ) → Decks → List ℕ → Type 0
+AreWhole fresh decks list = (deck : Option (List ℕ)) × (wanted : Option ℕ) × IsSplit deck wanted fresh decks list
+
+-- decks that have their names, and their list, which has its own
+pub record IsNamed (made : Decks) (list : List ℕ) (named : Decks) (old new : Option (List ℕ)) : Type 0 where
+  pub decks : (i : ℕ) → named i ≡ made i
+  pub listed : Appends old new list

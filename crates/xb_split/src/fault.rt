@@ -1,0 +1,72 @@
+// Why a deck is not split.
+ghost use Rattle.std.specs.Prelude.{List, Option, ℕ};
+ghost use Rattle.xb_deck.specs.declared.deck.TheConstants.{MOST_DECK_BYTES};
+ghost use Rattle.xb_deck.specs.Tables.{IsTableFault};
+ghost use Rattle.xb_split.specs.SplitFaults.{IsFaultOf};
+
+use crate::planning::PlanPartsFault;
+use crate::writing::WriteRowsFault;
+use std::io;
+use thiserror::Error;
+use xb_deck::TableFault;
+use xb_model::RowFault;
+
+/// Why a deck is not split.
+#[derive(Debug, Drop, Error)]
+pub enum SplitFault {
+    /// The deck could not be opened.
+    #[error("the deck could not be opened: {0}")]
+    Deck(io::Error),
+    /// The folder could not be looked at, or the parts could not get its name.
+    #[error("the folder could not be used: {0}")]
+    Folder(io::Error),
+    /// The parts could not be made under another name.
+    #[error("the folder with .incomplete after its name could not be made: {0}")]
+    Unfinished(io::Error),
+    /// The folder has something in it.
+    #[error("the folder is not empty")]
+    NotEmpty,
+    /// A read of the deck failed before its records.
+    #[error("the deck could not be read")]
+    Read,
+    /// The deck has no line `---`.
+    #[error("the deck has no line ---")]
+    NoCut,
+    /// The table is too long for any deck.
+    #[error("the route table is longer than 16777216 bytes")]
+    LongTable,
+    /// The records have a fault.
+    #[error("loop rows: {0}")]
+    Rows(RowFault),
+    /// There is no plan.
+    #[error("{0}")]
+    Plan(PlanPartsFault),
+    /// No parts were asked for.
+    #[error("a deck has at least one part")]
+    NoParts,
+    /// There would be so many parts, which is more than files may be held open.
+    #[error("there would be {0} parts, and the most is 500")]
+    TooMany(usize),
+    /// The parts could not be written.
+    #[error("{0}")]
+    Write(WriteRowsFault),
+    /// The deck was another when it was read again.
+    #[error("the deck has changed while it was split")]
+    Changed,
+    /// Memory ran out.
+    #[error("out of memory")]
+    NoMemory,
+}
+
+// Why a deck gives no table.
+pub(crate) fn fault_of_table(fault: TableFault) -> SplitFault
+    ensures { (deck : Option (List ℕ)) (parts : Option ℕ) → IsTableFault MOST_DECK_BYTES deck fault
+        → IsFaultOf deck parts result }
+{
+    match fault {
+        TableFault::Read => SplitFault::Read,
+        TableFault::TooLong => SplitFault::LongTable,
+        TableFault::NoCut => SplitFault::NoCut,
+        TableFault::NoMemory => SplitFault::NoMemory,
+    }
+}

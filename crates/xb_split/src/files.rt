@@ -1,0 +1,70 @@
+// The files of a split.
+ghost use Rattle.std.specs.Prelude.{◌≡◌, ◌<◌, ◌⊎◌, ℕ, List, Option, None, Some, IfOk, IfSome, OnErr, OnOk, length};
+ghost use Rattle.std.specs.Io.KnownBytes.{Keeps};
+
+use crate::decks::PartDecks;
+use std::alloc::Global;
+use std::io::{self, Read};
+use xb_parts::LineRange;
+
+/// A deck that is split, and the folder of its parts.
+///
+/// What the contracts say of bytes holds for files whose bytes contracts know, which those of a system are
+/// not.
+pub trait SplitFiles {
+    ghost use Rattle.xb_split.specs.PartDecks.{Decks};
+    ghost use Rattle.xb_split.specs.Splits.{AreWhole, IsNamed};
+
+    /// A deck that is read from its beginning.
+    type Deck: Read + Drop;
+
+    /// The decks of parts that are made.
+    type Parts: PartDecks + Drop;
+
+    // The bytes of the file of a name, where they are known.
+    ghost bytes: { Self → List ℕ → Option (List ℕ) } = { λ _ _. None };
+
+    // What a deck has that was just made, where it is known.
+    ghost fresh: { Self → Option (List ℕ) } = { λ _. None };
+
+    // What the decks in the folder have, and the list of parts, once they have their names, where it is
+    // known.
+    ghost named: { Self → Decks } = { λ _ _. None };
+
+    ghost listed: { Self → Option (List ℕ) } = { λ _. None };
+
+    /// Opens the file of a deck.
+    fn open(&self, alloc: Global, big: &str) -> io::Result<Self::Deck>
+        ensures { IfOk result (λ deck.
+            IfSome (bytes self.now big.now) (λ known. Self.Deck.remaining deck ≡ Some known)) };
+
+    /// Whether a folder has anything in it; one that is not there has nothing.
+    fn has_any(&self, alloc: Global, folder: &str) -> io::Result<bool>;
+
+    /// Makes an empty deck for each range, under another name than the folder's. On an `Err` none is left.
+    fn make(&mut self, alloc: Global, folder: &str, ranges: &[LineRange]) -> io::Result<Self::Parts>
+        ensures empty { IfOk result (λ parts. (i : ℕ) → i < length ranges.now
+            → Self.Parts.contents parts i ≡ fresh self.old) }
+        ensures fresh { fresh self.new ≡ fresh self.old }
+        ensures list { Keeps (listed self.old) (listed self.new) };
+
+    /// Gives whole decks the name of their folder, and after that the list its own. On an `Err` they may have
+    /// their names or not.
+    fn name(
+        &mut self,
+        alloc: Global,
+        folder: &str,
+        parts: Self::Parts,
+        list: &str,
+    ) -> io::Result<()>
+        requires whole { AreWhole (fresh self.old) (Self.Parts.contents parts) list.now }
+        ensures named { OnOk result (IsNamed (Self.Parts.contents parts) list.now
+            (named self.new) (listed self.old) (listed self.new)) }
+        ensures maybe { OnErr result (Keeps (listed self.old) (listed self.new)
+            ⊎ IsNamed (Self.Parts.contents parts) list.now
+            (named self.new) (listed self.old) (listed self.new)) };
+
+    /// Takes away decks that are not whole, as far as that can be done.
+    fn give_up(&mut self, alloc: Global, folder: &str, parts: Self::Parts)
+        ensures { Keeps (listed self.old) (listed self.new) };
+}

@@ -1,0 +1,265 @@
+// From the file of a deck to the decks of its parts.
+ghost use Rattle.std.specs.Prelude.{◌≡◌, IfErr, IfOk, List, OnOk, Option, map, string_bytes, ℕ};
+ghost use Rattle.std.specs.Io.KnownBytes.{Keeps};
+ghost use Rattle.xb_split.specs.Counts.{counted};
+ghost use Rattle.xb_split.specs.Loads.{records_of};
+ghost use Rattle.xb_split.specs.SplitFaults.{Delivers, IsFaultOf};
+ghost use Rattle.xb_split.specs.Splits.{AreMade, IsCounted, IsOpened, IsPlan, IsReady, listed};
+
+use crate::counting::count_rows;
+use crate::fault::{SplitFault, fault_of_table};
+use crate::files::SplitFiles;
+use crate::load::Load;
+use crate::planning::plan_parts;
+use crate::words::Request;
+use crate::writing::write_parts;
+use std::alloc::{AllocError, Global};
+use xb_deck::{MOST_DECK_BYTES, read_table};
+use xb_model::PerLine;
+use xb_parts::{LineRange, ListedPart, list_of};
+use xb_rows::RowReader;
+
+/// The most parts, each of which may hold a file open.
+pub const MOST_PARTS: usize = 500;
+
+// The parts of a deck: its table, their ranges, and their list.
+#[derive(Drop)]
+struct Plan {
+    table: Vec<u8>,
+    ranges: Vec<LineRange>,
+    list: String,
+}
+
+// The table of a deck, and a reader of its rows.
+fn open_deck<F: SplitFiles>(
+    alloc: Global,
+    files: &F,
+    big: &str,
+) -> Result<(Vec<u8>, RowReader<F::Deck>), SplitFault>
+    ensures deck { IfOk result (λ d. IsOpened (F.bytes files.now big.now) d.0.items d.1) }
+    ensures fault { (parts : Option ℕ) → IfErr result (IsFaultOf (F.bytes files.now big.now) parts) }
+{
+    let mut deck = match files.open(alloc, big) {
+        Ok(deck) => deck,
+        Err(error) => return Err(SplitFault::Deck(error)),
+    };
+    match read_table(alloc, &mut deck, MOST_DECK_BYTES) {
+        Ok(table) => Ok((table, RowReader::new(alloc, deck, u64::MAX))),
+        Err(fault) => Err(fault_of_table(fault)),
+    }
+}
+
+// The table of a deck, and what each line has.
+fn count<F: SplitFiles>(
+    alloc: Global,
+    files: &F,
+    big: &str,
+) -> Result<(Vec<u8>, PerLine<Load>), SplitFault>
+    ensures counted { IfOk result (λ c. IsCounted (F.bytes files.now big.now) c.0.items c.1) }
+    ensures fault { (parts : Option ℕ) → IfErr result (IsFaultOf (F.bytes files.now big.now) parts) }
+{
+    let (table, mut rows) = match open_deck(alloc, files, big) {
+        Ok(deck) => deck,
+        Err(fault) => return Err(fault),
+    };
+    match count_rows(alloc, &mut rows) {
+        Ok(loads) => Ok((table, loads)),
+        Err(fault) => Err(SplitFault::Rows(fault)),
+    }
+}
+
+// How many records the lines of a range have.
+fn records_in(loads: &PerLine<Load>, lines: LineRange) -> u64
+    ensures { result ≡ counted (records_of loads.now lines.first lines.end) }
+{
+    let mut records = 0u64;
+    for (line, load) in loads.iter() {
+        if lines.has(line) {
+            records = records.saturating_add(load.records);
+        }
+    }
+    records
+}
+
+// The parts of ranges, by what each line has.
+fn listed_parts(
+    alloc: Global,
+    loads: &PerLine<Load>,
+    ranges: &[LineRange],
+) -> Result<Vec<ListedPart>, AllocError>
+    ensures { IfOk result (λ parts. parts.items ≡ map (listed loads.now) ranges.now) }
+{
+    let mut parts = Vec::new(alloc);
+    for range in ranges {
+        parts.push(ListedPart {
+            lines: *range,
+            records: records_in(loads, *range),
+        })?;
+    }
+    Ok(parts)
+}
+
+// Refuses no parts, and more than there may be.
+fn check_parts(parts: Option<u32>) -> Result<(), SplitFault>
+    ensures { (deck : Option (List ℕ)) → IfErr result (IsFaultOf deck parts) }
+{
+    match parts {
+        Some(0) => Err(SplitFault::NoParts),
+        Some(parts) if parts as usize > MOST_PARTS => Err(SplitFault::TooMany(parts as usize)),
+        _ => Ok(()),
+    }
+}
+
+// Refuses a folder that has anything in it.
+fn check_folder<F: SplitFiles>(alloc: Global, files: &F, folder: &str) -> Result<(), SplitFault>
+    ensures { (deck : Option (List ℕ)) (parts : Option ℕ) → IfErr result (IsFaultOf deck parts) }
+{
+    match files.has_any(alloc, folder) {
+        Ok(false) => Ok(()),
+        Ok(true) => Err(SplitFault::NotEmpty),
+        Err(error) => Err(SplitFault::Folder(error)),
+    }
+}
+
+// The parts of a deck.
+fn plan_deck<F: SplitFiles>(
+    alloc: Global,
+    files: &F,
+    big: &str,
+    parts: Option<u32>,
+) -> Result<Plan, SplitFault>
+    ensures plan { let deck = F.bytes files.now big.now in
+        IfOk result (λ p. IsPlan deck parts p.table.items p.ranges.items (string_bytes p.list)) }
+    ensures fault { IfErr result (IsFaultOf (F.bytes files.now big.now) parts) }
+{
+    let (table, loads) = match count(alloc, files, big) {
+        Ok(counted) => counted,
+        Err(fault) => return Err(fault),
+    };
+    let ranges = match plan_parts(alloc, table.len(), &loads, parts) {
+        Ok(ranges) => ranges,
+        Err(fault) => return Err(SplitFault::Plan(fault)),
+    };
+    if ranges.len() > MOST_PARTS {
+        return Err(SplitFault::TooMany(ranges.len()));
+    }
+    let listed = match listed_parts(alloc, &loads, &ranges) {
+        Ok(listed) => listed,
+        Err(_) => return Err(SplitFault::NoMemory),
+    };
+    match list_of(alloc, &listed) {
+        Ok(list) => Ok(Plan {
+            table,
+            ranges,
+            list,
+        }),
+        Err(_) => Err(SplitFault::NoMemory),
+    }
+}
+
+// The parts of a deck, and a reader of its rows, which stands at the first again.
+fn prepare<F: SplitFiles>(
+    alloc: Global,
+    files: &F,
+    big: &str,
+    parts: Option<u32>,
+) -> Result<(Plan, RowReader<F::Deck>), SplitFault>
+    ensures ready { let deck = F.bytes files.now big.now in
+        IfOk result (λ r. IsReady deck parts r.0.table.items r.0.ranges.items (string_bytes r.0.list) r.1) }
+    ensures fault { IfErr result (IsFaultOf (F.bytes files.now big.now) parts) }
+{
+    let plan = match plan_deck(alloc, files, big, parts) {
+        Ok(plan) => plan,
+        Err(fault) => return Err(fault),
+    };
+    let (table, rows) = match open_deck(alloc, files, big) {
+        Ok(deck) => deck,
+        Err(fault) => return Err(fault),
+    };
+    if table.as_slice() == plan.table.as_slice() {
+        Ok((plan, rows))
+    } else {
+        Err(SplitFault::Changed)
+    }
+}
+
+// Makes the decks of all parts. On an `Err` none is left, as far as they can be taken away.
+fn make_parts<F: SplitFiles>(
+    alloc: Global,
+    files: &mut F,
+    folder: &str,
+    plan: &Plan,
+    rows: &mut RowReader<F::Deck>,
+) -> Result<F::Parts, SplitFault>
+    ensures made { IfOk result (λ parts. AreMade (F.fresh files.old) (F.Parts.contents parts)
+        plan.now.table.items plan.now.ranges.items rows.old) }
+    ensures fresh { OnOk result (F.fresh files.new ≡ F.fresh files.old) }
+    ensures list { Keeps (F.listed files.old) (F.listed files.new) }
+    ensures fault { (deck : Option (List ℕ)) (parts : Option ℕ) → IfErr result (IsFaultOf deck parts) }
+{
+    let mut parts = match files.make(alloc, folder, &plan.ranges) {
+        Ok(parts) => parts,
+        Err(error) => return Err(SplitFault::Unfinished(error)),
+    };
+    match write_parts(&plan.table, rows, &plan.ranges, &mut parts) {
+        Ok(()) => Ok(parts),
+        Err(fault) => {
+            files.give_up(alloc, folder, parts);
+            Err(SplitFault::Write(fault))
+        }
+    }
+}
+
+// Makes the decks of all parts, and gives them and their list their names.
+fn make_and_name<F: SplitFiles>(
+    alloc: Global,
+    files: &mut F,
+    folder: &str,
+    plan: &Plan,
+    rows: &mut RowReader<F::Deck>,
+) -> Result<(), SplitFault>
+    requires ready { (deck : Option (List ℕ)) × (parts : Option ℕ)
+        × IsReady deck parts plan.now.table.items plan.now.ranges.items
+        (string_bytes plan.now.list) rows.old }
+    ensures { (deck : Option (List ℕ)) (parts : Option ℕ)
+        → IsReady deck parts plan.now.table.items plan.now.ranges.items
+        (string_bytes plan.now.list) rows.old
+        → Delivers deck (F.fresh files.old) parts result
+        (F.named files.new) (F.listed files.old) (F.listed files.new) }
+{
+    let parts = match make_parts(alloc, files, folder, plan, rows) {
+        Ok(parts) => parts,
+        Err(fault) => return Err(fault),
+    };
+    match files.name(alloc, folder, parts, &plan.list) {
+        Ok(()) => Ok(()),
+        Err(error) => Err(SplitFault::Folder(error)),
+    }
+}
+
+/// Splits the deck in a file by lines: the folder gets the deck of each part, with exactly the rows of its
+/// lines, and their list; as few parts as may be, or at most as many as are asked for, as even as the lines
+/// allow (more only where no fewer fit). The decks are made under another name, which they lose once all of
+/// them are whole, and the list gets its name after that.
+///
+/// On an `Err` there is no list, unless all decks are whole.
+pub fn split<F: SplitFiles>(
+    alloc: Global,
+    files: &mut F,
+    request: &Request,
+) -> Result<(), SplitFault>
+    ensures { let deck = F.bytes files.old request.now.big.now in
+        Delivers deck (F.fresh files.old) request.now.parts result
+        (F.named files.new) (F.listed files.old) (F.listed files.new) }
+{
+    if let Err(fault) = check_parts(request.parts) {
+        return Err(fault);
+    }
+    if let Err(fault) = check_folder(alloc, files, request.folder) {
+        return Err(fault);
+    }
+    match prepare(alloc, files, request.big, request.parts) {
+        Ok((plan, mut rows)) => make_and_name(alloc, files, request.folder, &plan, &mut rows),
+        Err(fault) => Err(fault),
+    }
+}

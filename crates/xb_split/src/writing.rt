@@ -1,0 +1,139 @@
+// Rows into the decks of their parts.
+ghost use Rattle.std.specs.Prelude.{◌≡◌, ◌++◌, ◌∷◌, [], OnOk, codes};
+ghost use Rattle.xb_rows.specs.WrittenRows.{contact_text, record_text};
+ghost use Rattle.xb_split.specs.PartDecks.{Gets, GetsDecks, GetsRecords, head_of, only_below, only_for, records_of_part};
+
+use crate::decks::PartDecks;
+use crate::planning::HEAD;
+use itoa::Buffer;
+use std::io::{self, Read};
+use thiserror::Error;
+use xb_model::{Contact, Row, RowFault};
+use xb_parts::LineRange;
+use xb_rows::RowReader;
+
+/// Why not all rows were written.
+#[derive(Debug, Drop, Error)]
+pub enum WriteRowsFault {
+    /// The rows have a fault, or could not be read.
+    #[error("{0}")]
+    Rows(RowFault),
+    /// A deck could not be written.
+    #[error("a part could not be written: {0}")]
+    Write(io::Error),
+}
+
+impl From<RowFault> for WriteRowsFault {
+    ghost use Rattle.xb_split.specs.declared.writing.WriteRowsFault.TheVariants.{Rows};
+
+    ghost from_gives = { λ fault e. e ≡ Rows fault };
+
+    fn from(fault: RowFault) -> WriteRowsFault {
+        WriteRowsFault::Rows(fault)
+    }
+}
+
+// The letter of a contact, between commas.
+fn contact_between(contact: Contact) -> &'static [u8]
+    ensures { result.now ≡ codes "," ++ contact_text contact ++ codes "," }
+{
+    match contact {
+        Contact::Make => b",M,",
+        Contact::Brk => b",B,",
+        Contact::Close => b",C,",
+    }
+}
+
+// Writes the record of a row to the deck of a part.
+fn write_row<D: PartDecks>(decks: &mut D, part: usize, row: Row) -> io::Result<()>
+    ensures { OnOk result (Gets (only_for part (record_text row))
+        (D.contents decks.old) (D.contents decks.new)) }
+{
+    let mut buffer = Buffer::new();
+    decks.write(part, buffer.format(row.line().get()).as_bytes())?;
+    decks.write(part, contact_between(row.contact()))?;
+    decks.write(part, buffer.format(row.ms()).as_bytes())?;
+    decks.write(part, b"\n")
+}
+
+// Writes a row to the deck of each part that has its line.
+fn write_to_parts<D: PartDecks>(decks: &mut D, ranges: &[LineRange], row: Row) -> io::Result<()>
+    ensures { OnOk result (Gets (records_of_part ranges.now (row ∷ []))
+        (D.contents decks.old) (D.contents decks.new)) }
+{
+    for part in 0..ranges.len() {
+        if ranges[part].has(row.line()) {
+            write_row(decks, part, row)?;
+        }
+    }
+    Ok(())
+}
+
+// Writes the records of all rows, each to the deck of the part that has its line. On an `Err` the decks are
+// not whole.
+fn write_rows<R: Read, D: PartDecks>(
+    rows: &mut RowReader<R>,
+    ranges: &[LineRange],
+    decks: &mut D,
+) -> Result<(), WriteRowsFault>
+    ensures decks { OnOk result (GetsRecords rows.old ranges.now
+        (D.contents decks.old) (D.contents decks.new)) }
+{
+    for _ in 0..u64::MAX {
+        match rows.next_row()? {
+            Some(row) => {
+                if let Err(fault) = write_to_parts(decks, ranges, row) {
+                    return Err(WriteRowsFault::Write(fault));
+                }
+            }
+            None => return Ok(()),
+        }
+    }
+    Err(WriteRowsFault::Rows(RowFault::Read))
+}
+
+// Writes a table, the cut and the header to the deck of each part.
+fn write_heads<D: PartDecks>(decks: &mut D, parts: usize, table: &[u8]) -> io::Result<()>
+    ensures { OnOk result (Gets (only_below parts (head_of table.now))
+        (D.contents decks.old) (D.contents decks.new)) }
+{
+    for part in 0..parts {
+        decks.write(part, table)?;
+        decks.write(part, HEAD)?;
+    }
+    Ok(())
+}
+
+// Writes the deck of each part. On an `Err` the decks are not whole.
+fn write_decks<R: Read, D: PartDecks>(
+    table: &[u8],
+    rows: &mut RowReader<R>,
+    ranges: &[LineRange],
+    decks: &mut D,
+) -> Result<(), WriteRowsFault>
+    ensures decks { OnOk result (GetsDecks table.now rows.old ranges.now
+        (D.contents decks.old) (D.contents decks.new)) }
+{
+    if let Err(fault) = write_heads(decks, ranges.len(), table) {
+        return Err(WriteRowsFault::Write(fault));
+    }
+    write_rows(rows, ranges, decks)
+}
+
+/// Writes the deck of each part: the table, the cut, the header, and exactly the rows of its lines, in their
+/// order; and makes sure that they stay. On an `Err` the decks are not whole.
+pub fn write_parts<R: Read, D: PartDecks>(
+    table: &[u8],
+    rows: &mut RowReader<R>,
+    ranges: &[LineRange],
+    decks: &mut D,
+) -> Result<(), WriteRowsFault>
+    ensures decks { OnOk result (GetsDecks table.now rows.old ranges.now
+        (D.contents decks.old) (D.contents decks.new)) }
+{
+    write_decks(table, rows, ranges, decks)?;
+    match decks.keep() {
+        Ok(()) => Ok(()),
+        Err(fault) => Err(WriteRowsFault::Write(fault)),
+    }
+}

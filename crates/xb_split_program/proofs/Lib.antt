@@ -1,5 +1,0 @@
-mod StreamedRows
-mod WrittenParts
-mod SplitDecks
-mod EvenRanges
-mod RangeRecords

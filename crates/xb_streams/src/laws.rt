@@ -1,7 +1,0 @@
-//! What the definitions give: each law is the contract of a function that does nothing.
-ghost use Rattle.xb_streams.specs.Constants.{AreConstants};
-
-/// The statuses, each as it is.
-pub fn constants()
-    ensures { AreConstants }
-{}

@@ -1,0 +1,103 @@
+-- A row that is taken by the parts of an open table.
+use Rattle.std.proofs.Common.{◌≡◌, ℕ, ◌<◌, List, [], ◌∷◌, length, map, take, Some, Result, Ok, Err, IfOk, IfErr, refl, sym, ap, ◌∙◌, subst, append-nil}
+use Rattle.std.specs.List.{AllByRecursion, flat_map}
+use Rattle.xb_model.specs.declared.dialled.Dialled.{Dialled}
+use Rattle.xb_model.specs.declared.key.Key.TheVariants.{Digit, Kp, St}
+use Rattle.xb_model.specs.declared.limits.Limits.{Limits}
+use Rattle.xb_model.specs.declared.mark.Mark.{Mark}
+use Rattle.xb_model.specs.declared.mark.Mark.TheVariants.{Trunk, Tone as Sounds, Refused}
+use Rattle.xb_model.specs.declared.on.On.{On}
+use Rattle.xb_model.specs.declared.plan.Plan.{Plan}
+use Rattle.xb_model.specs.declared.reason.Reason.TheVariants.{Mutilated, Unknown, Abandoned, TimedOut}
+use Rattle.xb_model.specs.Keyings.{marks_of}
+use Rattle.xb_model.specs.Lines.{on_line_of}
+use Rattle.xb_model.specs.Routing.{CodedRoute, order_of}
+use Rattle.xb_model.specs.Rows.{LoopRow}
+use Rattle.xb_stage.specs.OnLines.{on_line}
+use Rattle.xb_routes.specs.Table.{Table}
+use Rattle.xb_routes.specs.Text.{table_by}
+use Rattle.xb_serial.specs.declared.line_state.LineState.{LineState}
+use Rattle.xb_serial.specs.Chain.{keyed, marks_of_row, outcomes_of_row}
+use Rattle.xb_serial.proofs.Fusion.{row_marks-on}
+use Rattle.xb_structs.specs.declared.line.PlainLine.{PlainLine}
+use Rattle.xb_structs.specs.declared.mark.PlainMark.{PlainMark}
+use Rattle.xb_structs.specs.declared.refusal.Refusal.{Refusal}
+use Rattle.xb_structs.specs.declared.refusal.Refusal.TheVariants as refusal
+use Rattle.xb_structs.specs.declared.route.PlainRoute.{PlainRoute}
+use Rattle.xb_structs.specs.declared.row.PlainRow.{PlainRow}
+use Rattle.xb_structs.specs.declared.table.PlainTable.{PlainTable}
+use Rattle.xb_structs.specs.Lines.{state_in}
+use Rattle.xb_structs.specs.Marks.{mark_on, plain_mark}
+use Rattle.xb_structs.specs.Routes.{AreRoutes}
+use Rattle.xb_structs.specs.Rows.{row_in}
+use Rattle.xb_structs.specs.Tables.{Holds, IsOpen, limits_in, plan_in}
+use Rattle.xb_structs.specs.Taking.{HasNoRoom, IsRefused, Takes, TakesRow}
+use Rattle.xb_structs.proofs.Counting.{taken-more}
+
+-- the marks of the one outcome of a row
+pub one-outcome : (table : Table) (state : LineState) (row : LoopRow) (dialled : Dialled)
+    → on_line row.line (dialled ∷ []) ≡ outcomes_of_row table state row
+    → marks_of_row table state row ≡ on_line row.line (marks_of (order_of table.routes dialled))
+one-outcome table state row dialled e = ap (flat_map (keyed table)) (sym e) ∙ append-nil _
+
+line-of : (l : ℕ) (mark : Mark) → (mark_on l mark).line ≡ l
+line-of l (Trunk trunk) = refl
+line-of l (Sounds (Digit d) pair) = refl
+line-of l (Sounds Kp pair) = refl
+line-of l (Sounds St pair) = refl
+line-of l (Refused Mutilated heard) = refl
+line-of l (Refused Unknown heard) = refl
+line-of l (Refused Abandoned heard) = refl
+line-of l (Refused TimedOut heard) = refl
+
+lines-of : (l : ℕ) (marks : List (On Mark)) → AllByRecursion (λ (mark : On Mark). on_line_of mark ≡ l) marks
+    → AllByRecursion (λ (mark : PlainMark). mark.line ≡ l) (map plain_mark marks)
+lines-of l [] on = tt
+lines-of l (mark ∷ marks) on = (line-of mark.line mark.what ∙ on.0, lines-of l marks on.1)
+
+module _ (plain : PlainTable) (plan : Plan) (limits : Limits) (routes : List PlainRoute)
+    (is-plan : plan_in plain.plan ≡ Some plan) (is-limits : limits ≡ limits_in plain) (is-routes : routes ≡ take plain.count plain.routes) where
+  -- the table that is held has these parts
+  held : (table : Table) → Holds plain table → table_by table.routes plan limits ≡ table
+  held table holds =
+      let same : plan ≡ table.plan = cc (sym is-plan ∙ holds.plan) in
+      ap (λ p. table_by table.routes p limits) same ∙ ap (table_by table.routes table.plan) (is-limits ∙ holds.limits)
+
+  are : (table : Table) → Holds plain table → AreRoutes routes table.routes
+  are table holds = rw is-routes holds.routes
+
+  pub opened-takes : (row : PlainRow) (taken : LoopRow) (old new : PlainLine) (room : List PlainMark) (n : ℕ)
+      → IsOpen plain → row_in row ≡ Ok taken
+      → ((all : List CodedRoute) → AreRoutes routes all → TakesRow (table_by all plan limits) old new taken room n)
+      → Takes plain old new row room n
+  opened-takes row taken old new room n open_ says by =
+      let takes : (table : Table) → Holds plain table → TakesRow table old new taken room n =
+      λ table holds. subst (λ t. TakesRow t old new taken room n) (held table holds) (by table.routes (are table holds)) in
+      record {
+        is_open = open_;
+        taken = taken;
+        says = says;
+        takes = takes;
+        goes_on = λ table holds. taken-more table old new taken room n (takes table holds);
+        on_line = λ table holds. subst (λ marks. AllByRecursion (λ (mark : PlainMark). mark.line ≡ taken.line) marks) (sym (takes table holds).marks)
+            (lines-of taken.line (marks_of_row table (state_in old) taken) (row_marks-on table (state_in old) taken));
+      }
+
+  pub opened-refused : (row : PlainRow) (taken : LoopRow) (line : PlainLine) (room : ℕ) (f : Refusal)
+      → row_in row ≡ Ok taken
+      → (f ≡ refusal.Room) × ((all : List CodedRoute) → AreRoutes routes all → room < length (marks_of_row (table_by all plan limits) (state_in line) taken))
+      → IsRefused f plain row line room
+  opened-refused row taken line room f says why =
+      let none : HasNoRoom plain row line room = λ table other holds said.
+      let same : taken ≡ other = cc (sym says ∙ said) in
+      rw (← same) (subst (λ t. room < length (marks_of_row t (state_in line) taken)) (held table holds) (why.1 table.routes (are table holds))) in
+      subst (λ g. IsRefused g plain row line room) (sym why.0) none
+
+-- what holds of every result of one kind
+pub if-ok : {X E : Type 0} (P Q : X → Type 0) → ((x : X) → P x → Q x) → (r : Result X E) → IfOk r P → IfOk r Q
+if-ok P Q f (Ok x) p = f x p
+if-ok P Q f (Err e) p = tt
+
+pub if-err : {X E : Type 0} (P Q : E → Type 0) → ((e : E) → P e → Q e) → (r : Result X E) → IfErr r P → IfErr r Q
+if-err P Q f (Ok x) p = tt
+if-err P Q f (Err e) p = f e p

@@ -1,0 +1,100 @@
+// One row of one line.
+ghost use Rattle.std.specs.Prelude.{◌≡◌, ◌<◌, ◌≤◌, List, [], IfOk, IfErr, OnErr, length};
+ghost use Rattle.std.specs.Option.{option_to_list};
+ghost use Rattle.xb_model.specs.Routing.{CodedRoute};
+ghost use Rattle.xb_stage.specs.OnLines.{on_line};
+ghost use Rattle.xb_routes.specs.Text.{table_by};
+ghost use Rattle.xb_serial.specs.Chain.{marks_of_row, outcomes_of_row, state_after_row};
+ghost use Rattle.xb_structs.specs.declared.refusal.Refusal.TheVariants.{Room};
+ghost use Rattle.xb_structs.specs.Lines.{state_in};
+ghost use Rattle.xb_structs.specs.Routes.{AreRoutes};
+ghost use Rattle.xb_structs.specs.Taking.{IsRefused, Takes, TakesRow};
+
+use crate::keying::{marks_of, order_of, outcome_of};
+use crate::line::{PlainLine, pulse_of, pulse_part, register_of, register_part};
+use crate::mark::{PlainMark, put_marks};
+use crate::refusal::Refusal;
+use crate::route::PlainRoute;
+use crate::row::{PlainRow, row_of};
+use crate::table::{PlainTable, limits_of, plan_of, routes_of};
+use xb_model::{Dialled, Limits, Plan, Row};
+use xb_pulse::Pulse;
+use xb_register::Register;
+
+// What comes of an attempt by a row, if it does, and what is known of the line after it.
+fn hear(plan: Plan, limits: Limits, line: &PlainLine, row: Row) -> (Option<Dialled>, PlainLine)
+    ensures outcome { on_line row.line (option_to_list result.0)
+        ≡ outcomes_of_row (table_by [] plan limits) (state_in line.now) row }
+    ensures state { state_in result.1 ≡ state_after_row (table_by [] plan limits) (state_in line.now) row }
+    ensures entries { result.1.entries ≡ line.now.entries }
+{
+    let mut heard = *line;
+    let mut pulse = pulse_of(&line.pulse);
+    let signals = Pulse::new(limits).take(&mut pulse, row);
+    heard.pulse = pulse_part(pulse);
+    if signals.is_empty() {
+        return (None, heard);
+    }
+    let mut register = register_of(&line.register);
+    let outcome = outcome_of(&Register::new(plan), &mut register, &signals);
+    heard.register = register_part(&register);
+    (outcome, heard)
+}
+
+// Takes a row by the parts of a table.
+fn take_row(
+    plan: Plan,
+    limits: Limits,
+    routes: &[PlainRoute],
+    line: &mut PlainLine,
+    row: Row,
+    room: &mut [PlainMark],
+) -> Result<usize, Refusal>
+    ensures takes { IfOk result (λ count. (all : List CodedRoute) → AreRoutes routes.now all →
+        TakesRow (table_by all plan limits) line.old line.new row room.new count) }
+    ensures few { IfOk result (λ count. count ≤ length room.new) }
+    ensures refused { IfErr result (λ f. (f ≡ Room) × ((all : List CodedRoute) → AreRoutes routes.now all →
+        length room.old < length (marks_of_row (table_by all plan limits) (state_in line.old) row))) }
+    ensures kept { OnErr result ((line.new ≡ line.old) × (room.new ≡ room.old)) }
+{
+    let (outcome, mut heard) = hear(plan, limits, line, row);
+    let mut count = 0;
+    if let Some(dialled) = outcome {
+        let marks = marks_of(row.line(), &order_of(routes, &dialled));
+        if marks.len() > room.len() {
+            return Err(Refusal::Room);
+        }
+        put_marks(&marks, room);
+        count = marks.len();
+        heard.entries = heard.entries.saturating_add(1);
+    }
+    *line = heard;
+    Ok(count)
+}
+
+/// Takes one row of a line, by a table: the first marks of the room, as many as the result says, are those
+/// that the row gives, one whole entry or none. It takes no memory. On an `Err` the line and the room are as
+/// they were.
+pub fn take(
+    table: &PlainTable,
+    line: &mut PlainLine,
+    row: &PlainRow,
+    room: &mut [PlainMark],
+) -> Result<usize, Refusal>
+    ensures takes { IfOk result (Takes table.now line.old line.new row.now room.new) }
+    ensures few { IfOk result (λ count. count ≤ length room.new) }
+    ensures refused { IfErr result (λ refusal.
+        IsRefused refusal table.now row.now line.old (length room.old)) }
+    ensures kept { OnErr result ((line.new ≡ line.old) × (room.new ≡ room.old)) }
+{
+    let Some(plan) = plan_of(table.plan) else {
+        return Err(Refusal::NotOpened);
+    };
+    let Some(limits) = limits_of(table) else {
+        return Err(Refusal::NotOpened);
+    };
+    let Some(routes) = routes_of(table) else {
+        return Err(Refusal::NotOpened);
+    };
+    take_row(plan, limits, routes, line, row_of(row)?, room)
+}

@@ -1,0 +1,3 @@
+pub mod Beginnings
+mod CutPieces
+pub mod PlacedPieces

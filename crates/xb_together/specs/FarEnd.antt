@@ -1,0 +1,30 @@
+-- What the far end of a trunk hears of the numbers that a line dials.
+use Rattle.std.specs.Prelude.{◌≡◌, ℕ, List, [], ◌∷◌, ◌++◌, map, ℤ}
+use Rattle.std.specs.List.{AllByRecursion, flat_map}
+use Rattle.xb_model.specs.declared.key.Key.{Key}
+use Rattle.xb_model.specs.declared.key.Key.TheVariants.{Digit, Kp, St}
+use Rattle.xb_model.specs.declared.mark.Mark.{Mark}
+use Rattle.xb_model.specs.declared.mark.Mark.TheVariants.{Trunk, Tone, Refused}
+use Rattle.xb_model.specs.declared.order.Order.{Order}
+use Rattle.xb_model.specs.declared.order.Order.TheVariants as orders
+use Rattle.xb_model.specs.Routing.{CodedRoute, routed}
+use Rattle.xb_tone.specs.HeardKeys.{IsKey, keys_heard}
+
+-- the keys of an order: KP, its digits, ST; of a refusal none
+abbrev pub keys_of_order : Order → List Key
+keys_of_order (orders.Key trunk digits) = Kp ∷ (map (λ d. Digit d) digits ++ St ∷ [])
+keys_of_order (orders.Refused reason heard) = []
+
+-- of numbers the far end hears just the digits that the route of each one sends, between KP and ST
+abbrev pub FarEndHears : List CodedRoute → List (List ℕ) → List ℤ → Type 0
+FarEndHears routes numbers sound =
+    keys_heard sound ≡ flat_map (λ number. keys_of_order (routed routes number)) numbers
+
+-- the digit of a key is a digit
+abbrev pub HasDigit : Mark → Type 0
+HasDigit (Trunk t) = Unit {0}
+HasDigit (Tone key pair) = IsKey key
+HasDigit (Refused reason heard) = Unit {0}
+
+abbrev pub HaveDigits : List Mark → Type 0
+HaveDigits marks = AllByRecursion HasDigit marks

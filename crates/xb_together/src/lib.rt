@@ -1,0 +1,20 @@
+//! How to use the chain from a program of your own: a whole list of rows on one thread (`calls`), on
+//! several (`threads`) or by a schedule of turns (`schedules`), one row at a time (`hearing`), or from the dial to
+//! the sound that the far end hears (`far_end`). Each function is proved; `docs/EMBEDDING.md` goes through them.
+//!
+//! `sound_of_calls` promises of the calls of a line that, number by number, the keys that are heard in its sound are
+//! KP, the digits that the number's route sends, and ST, and nothing of a number without a route. What is heard are
+//! the tone patterns that are keys (`keys_heard` of `xb_tone`).
+#![tactic(auto)]
+
+mod calls;
+mod far_end;
+mod hearing;
+mod schedules;
+mod threads;
+
+pub use calls::marks_of_call;
+pub use far_end::sound_of_calls;
+pub use hearing::hear;
+pub use schedules::{SoFar, marks_by_schedule};
+pub use threads::marks_on_threads;

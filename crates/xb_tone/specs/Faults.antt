@@ -1,0 +1,25 @@
+-- What is returned where a part is refused.
+use Rattle.std.specs.Prelude.{◌≡◌, ◌≢◌, ◌⊎◌}
+use Rattle.xb_text.specs.declared.reading.ReadFault.{ReadFault}
+use Rattle.xb_text.specs.declared.reading.ReadFault.TheVariants as read_fault
+use Rattle.xb_page.specs.declared.fault.PageFault.{PageFault}
+use Rattle.xb_page.specs.declared.fault.PageFault.TheVariants as page_fault
+use Rattle.xb_tone.specs.declared.sounding.SoundFault.{SoundFault}
+use Rattle.xb_tone.specs.declared.sounding.SoundFault.TheVariants as sound_fault
+use Rattle.xb_tone.specs.declared.fault.ToneFault.{ToneFault}
+use Rattle.xb_tone.specs.declared.fault.ToneFault.TheVariants as fault
+
+abbrev pub of_read : ReadFault → ToneFault
+of_read read_fault.Failed = fault.Read
+of_read read_fault.TooLong = fault.TooLong
+of_read read_fault.NoMemory = fault.NoMemory
+
+abbrev pub of_sound : SoundFault → ToneFault
+of_sound sound_fault.TooLong = fault.TooLongSound
+of_sound sound_fault.NoMemory = fault.CutShort
+of_sound sound_fault.Write = fault.Write
+
+-- running out of memory is one fault of a page, in whatever part
+abbrev pub IsOfPage : PageFault → ToneFault → Type 0
+IsOfPage f e = ((f ≡ page_fault.NoMemory) × (e ≡ fault.NoMemory))
+    ⊎ ((f ≢ page_fault.NoMemory) × (e ≡ fault.Page f))

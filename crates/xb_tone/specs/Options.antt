@@ -1,0 +1,58 @@
+-- What the words of the command line ask for, as clap reads them.
+use Rattle.std.specs.Prelude.{ℕ, List, Option, Some, None, codes, min, option_map}
+use Rattle.clap.specs.Walk.{Row, Text}
+use Rattle.xb_command.specs.Given.{AskForNothing, AsksFor, ReadsFlag, ReadsNumber, given_by}
+use Rattle.xb_tone.specs.Cadences.{standard_cadence}
+use Rattle.xb_tone.specs.declared.cadence.Cadence.{Cadence}
+use Rattle.xb_tone.specs.declared.request.Choice.{Choice}
+use Rattle.xb_tone.specs.declared.request.Choice.TheVariants as choice
+use Rattle.xb_tone.specs.declared.request.Request.{Request}
+use Rattle.xb_tone.specs.declared.words.Options.{Options}
+use Rattle.xb_tone.specs.Rules.{command_of_words}
+
+-- what clap matched says these options
+pub record Say (rows : List Row) (options : Options) : Type 0 where
+  pub line : ReadsNumber (given_by rows (codes "line")) options.line
+  pub entry : ReadsNumber (given_by rows (codes "entry")) options.entry
+  pub lead_ms : ReadsNumber (given_by rows (codes "lead")) options.lead_ms
+  pub kp_ms : ReadsNumber (given_by rows (codes "kp")) options.kp_ms
+  pub key_ms : ReadsNumber (given_by rows (codes "key")) options.key_ms
+  pub gap_ms : ReadsNumber (given_by rows (codes "gap")) options.gap_ms
+  pub raw : ReadsFlag (given_by rows (codes "raw")) options.raw
+
+-- all entries, or those of a line, or one of a line; an entry without its line is none
+abbrev pub choice_of : Option ℕ → Option ℕ → Option Choice
+choice_of None None = Some choice.All
+choice_of None (Some number) = None
+choice_of (Some line) None = Some (choice.Line line)
+choice_of (Some line) (Some number) = Some (choice.Entry line number)
+
+-- a time that is given, up to the longest that is told apart, or else that of the standard
+abbrev pub time_of : Option ℕ → ℕ → ℕ
+time_of None standard = standard
+time_of (Some ms) standard = min ms 65535
+
+-- the standard cadence, with each time that is given in place of its own
+abbrev pub cadence_of : Options → Cadence
+cadence_of options = record {
+  lead_ms = time_of options.lead_ms standard_cadence.lead_ms;
+  kp_ms = time_of options.kp_ms standard_cadence.kp_ms;
+  key_ms = time_of options.key_ms standard_cadence.key_ms;
+  gap_ms = time_of options.gap_ms standard_cadence.gap_ms;
+}
+
+-- what the options ask for
+abbrev pub request_of : Options → Option Request
+request_of options = option_map (λ entries. record {
+  choice = entries;
+  cadence = cadence_of options;
+  raw = options.raw;
+}) (choice_of options.line options.entry)
+
+-- clap takes the words, and they ask for this
+abbrev pub Asks : List Text → Request → Type 0
+Asks words request = AsksFor command_of_words Say request_of words request
+
+-- clap refuses the words, or they ask for an entry without its line
+abbrev pub AreRefused : List Text → Type 0
+AreRefused words = AskForNothing command_of_words Say request_of words

@@ -1,0 +1,23 @@
+-- The options of the command line, as clap is given them.
+use Rattle.std.specs.Prelude.{List, [], ◌∷◌, codes}
+use Rattle.clap.specs.Simple.{App}
+use Rattle.clap.specs.Walk.{Text}
+use Rattle.xb_command.specs.Commands.{command_of}
+use Rattle.xb_command.specs.declared.command.Takes.{Takes}
+use Rattle.xb_command.specs.declared.command.Takes.TheVariants as takes
+
+-- each option, and what it takes
+abbrev options : List (Text × Takes)
+options =
+    (codes "line", takes.Number)
+    ∷ (codes "entry", takes.Number)
+    ∷ (codes "lead", takes.Number)
+    ∷ (codes "kp", takes.Number)
+    ∷ (codes "key", takes.Number)
+    ∷ (codes "gap", takes.Number)
+    ∷ (codes "raw", takes.Nothing)
+    ∷ []
+
+-- `mftone [--line N] [--entry N] [--lead N] [--kp N] [--key N] [--gap N] [--raw]`
+abbrev pub command_of_words : App
+command_of_words = command_of (codes "mftone") options

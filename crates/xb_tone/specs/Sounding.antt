@@ -1,0 +1,88 @@
+-- What is written of a page.
+use Rattle.std.specs.Prelude.{◌≡◌, ℕ, ◌^◌, ◌<◌, ◌≤◌, ◌==◌, ◌&&◌, if◌then◌else◌, List, [], Bool, true, false, length, Option, Result, Ok, Err, IfSome}
+use Rattle.std.specs.Io.KnownBytes.{Appends, Keeps}
+use Rattle.std.specs.List.{filter, flat_map, list_any}
+use Rattle.xb_model.specs.declared.mark.Mark.{Mark}
+use Rattle.xb_model.specs.Page.{is_keyed}
+use Rattle.xb_page.specs.declared.reading.TheConstants.{MOST_PAGE_BYTES}
+use Rattle.xb_page.specs.Entries.{Entry}
+use Rattle.xb_page.specs.ReadPages.{entries_of_page}
+use Rattle.xb_text.specs.Writing.{AppendsBeginning}
+use Rattle.xb_tone.specs.Sounds.{sound_of}
+use Rattle.xb_tone.specs.Cadences.{IsFirstMisfit, IsLawful}
+use Rattle.xb_tone.specs.Wavs.{pcm_of, wav_length, wav_of}
+use Rattle.xb_tone.specs.declared.fault.ToneFault.{ToneFault}
+use Rattle.xb_tone.specs.declared.fault.ToneFault.TheVariants as fault
+use Rattle.xb_tone.specs.declared.request.Choice.{Choice}
+use Rattle.xb_tone.specs.declared.request.Choice.TheVariants as choice
+use Rattle.xb_tone.specs.declared.request.Request.{Request}
+
+-- whether an entry is asked for
+abbrev pub is_chosen : Choice → Entry → Bool
+is_chosen choice.All entry = true
+is_chosen (choice.Line line) entry = entry.line == line
+is_chosen (choice.Entry line number) entry = entry.line == line && entry.number == number
+
+-- whether it is asked for and keyed
+abbrev pub sounds : Choice → Entry → Bool
+sounds choice entry = is_chosen choice entry && is_keyed entry.marks
+
+-- the marks of the keyed entries that are asked for, one entry after the other
+abbrev pub marks_chosen : Choice → List Entry → List Mark
+marks_chosen choice entries = flat_map (λ (entry : Entry). entry.marks) (filter (λ entry. sounds choice entry) entries)
+
+-- the marks that a page has of what is asked for
+pub record Names (choice : Choice) (page : List ℕ) (marks : List Mark) : Type 0 where
+  pub entries : List Entry
+  pub are_read : entries_of_page page ≡ Ok entries
+  pub are_chosen : marks ≡ marks_chosen choice entries
+
+-- none of its entries is asked for
+pub record NamesNone (choice : Choice) (page : List ℕ) : Type 0 where
+  pub entries : List Entry
+  pub are_read : entries_of_page page ≡ Ok entries
+  pub none : list_any (λ entry. is_chosen choice entry) entries ≡ false
+
+-- the bytes of the sound of marks
+abbrev pub bytes_of : Request → List Mark → List ℕ
+bytes_of request marks =
+    if request.raw then pcm_of (sound_of request.cadence marks) else wav_of (sound_of request.cadence marks)
+
+-- the sound of what a page has of what is asked for, which is some
+pub record Sounds (request : Request) (page bytes : List ℕ) : Type 0 where
+  pub marks : List Mark
+  pub named : Names request.choice page marks
+  pub some : 0 < length marks
+  pub are_bytes : bytes ≡ bytes_of request marks
+  pub lawful : IsLawful request.cadence
+
+-- memory ran out, or this is the fault of the page
+abbrev pub IsFaultOfPage : Choice → List ℕ → ToneFault → Type 0
+IsFaultOfPage choice page (fault.Page f) = entries_of_page page ≡ Err f
+IsFaultOfPage choice page fault.NoEntry = NamesNone choice page
+IsFaultOfPage choice page fault.Refused = Names choice page []
+IsFaultOfPage choice page f = f ≡ fault.NoMemory
+
+-- what is returned for a page, and what the writer got of it: the sound on Ok, its beginning where a write
+-- failed or memory ran out in it, and nothing on any other fault
+abbrev pub Delivers :
+    Request → Option (List ℕ) → Result (Unit {0}) ToneFault → Option (List ℕ) → Option (List ℕ) → Type 0
+Delivers request page (Ok u) old new =
+    IfSome page (λ text. (bytes : List ℕ) × Sounds request text bytes × Appends old new bytes)
+Delivers request page (Err fault.Write) old new =
+    IfSome page (λ text. (bytes : List ℕ) × Sounds request text bytes × AppendsBeginning old new bytes)
+Delivers request page (Err fault.CutShort) old new =
+    IfSome page (λ text. (bytes : List ℕ) × Sounds request text bytes × AppendsBeginning old new bytes)
+Delivers request page (Err (fault.Cadence f)) old new = Keeps old new × IsFirstMisfit request.cadence f
+Delivers request page (Err fault.TooLong) old new =
+    Keeps old new × IfSome page (λ text. MOST_PAGE_BYTES < length text)
+Delivers request page (Err (fault.Page f)) old new =
+    Keeps old new × IfSome page (λ text. entries_of_page text ≡ Err f)
+Delivers request page (Err fault.NoEntry) old new =
+    Keeps old new × IfSome page (λ text. NamesNone request.choice text)
+Delivers request page (Err fault.Refused) old new =
+    Keeps old new × IfSome page (λ text. Names request.choice text [])
+Delivers request page (Err fault.TooLongSound) old new =
+    Keeps old new × IfSome page (λ text. (marks : List Mark) × Names request.choice text marks
+    × (2 ^ 32 ≤ wav_length (sound_of request.cadence marks)))
+Delivers request page (Err f) old new = Keeps old new

@@ -1,0 +1,25 @@
+// What the words of the command line ask for.
+
+use crate::cadence::Cadence;
+
+/// Which entries of a page are to sound.
+#[derive(Clone, Copy, Debug, PartialEq, Eq)]
+pub enum Choice {
+    /// All.
+    All,
+    /// Those of this line.
+    Line(u32),
+    /// The one of this line and this number.
+    Entry(u32, u32),
+}
+
+/// Which calls sound, and how.
+#[derive(Clone, Copy, Debug, PartialEq, Eq)]
+pub struct Request {
+    /// The entries. Of them the keyed ones sound.
+    pub choice: Choice,
+    /// How long tones and silences last.
+    pub cadence: Cadence,
+    /// The samples alone, in place of a WAV file.
+    pub raw: bool,
+}
