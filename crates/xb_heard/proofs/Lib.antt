@@ -4,7 +4,6 @@ pub mod Faults
 pub mod Stories
 pub mod Places
 pub mod Outcomes
-pub mod Pending
 pub mod Numbers
 pub mod Alternation
 pub mod JoinedAfter

@@ -3,8 +3,6 @@ use Rattle.std.proofs.Common.{◌≡◌, ℕ, ◌<◌, List, [], ◌∷◌, ◌+
 use Rattle.std.specs.Prelude.{is_none}
 use Rattle.std.specs.List.{find, list_any, AllByRecursion}
 use Rattle.std.proofs.lemmas.Bool.{ltb-true, le-leb, lt-leb}
-use Rattle.std.proofs.lemmas.List.{map-id}
-use Rattle.std.proofs.lemmas.Simd.{map-map}
 use Rattle.xb_model.specs.declared.plan.Plan.{Plan}
 use Rattle.xb_model.specs.declared.limits.Limits.{Limits}
 use Rattle.xb_model.specs.declared.reason.Reason.TheVariants.{Mutilated}
@@ -13,44 +11,18 @@ use Rattle.xb_model.specs.declared.dialled.Dialled.TheVariants.{Number}
 use Rattle.xb_model.specs.Plans.{plan_len}
 use Rattle.xb_model.specs.Signals.{breaks_in, is_bad_train}
 use Rattle.xb_model.specs.declared.signal.TheConstants.{MOST_PULSES}
-use Rattle.xb_model.specs.Numbers.{before_mutilated, digit_of_count, digit_of_train, fronts, is_complete, or_refused, outcome_of, shortest_complete, without_number}
+use Rattle.xb_model.specs.Numbers.{before_mutilated, digit_of_count, digit_of_train, is_complete, or_refused, outcome_of, reaches, without_number}
+use Rattle.xb_model.proofs.Completed.{completed_number, shortest_complete-completed}
+use Rattle.xb_model.proofs.Pending.{IsPending, one, reaches-pending}
 use Rattle.xb_heard.specs.declared.run.PlacedRun.{PlacedRun}
 use Rattle.xb_heard.specs.PlacedRuns.{run_in}
 use Rattle.xb_heard.specs.Parts.{heard_placed, parts_of, times_out, without_front}
 use Rattle.xb_heard.specs.declared.parts.Cut.TheVariants.{AtPauses}
 use Rattle.xb_heard.specs.Digits.{DigitOfRuns, digits_of, train_in}
-use Rattle.xb_heard.specs.Outcomes.{outcome_by, reaches, refused, value_of, values_of}
+use Rattle.xb_heard.specs.Outcomes.{outcome_by, refused, value_of, values_of}
 use Rattle.xb_heard.specs.Report.{NamesItsFault}
 use Rattle.xb_heard.proofs.CutParts.{timed-alone}
-use Rattle.xb_heard.proofs.Pending.{IsPending, one, reaches-pending}
 use Rattle.xb_heard.proofs.Stories.{breaks-alone, names_faults, trains_of_runs}
-
--- the number that more digits complete, after digits that are there already
-abbrev completed_number : Plan → List ℕ → List ℕ → Option (List ℕ)
-completed_number plan digits [] = None
-completed_number plan digits (d ∷ more) =
-    cond (is_complete plan (digits ++ one d)) (Some (digits ++ one d))
-    (completed_number plan (digits ++ one d) more)
-
--- the lists that begin with some digits and one more
-map-fronts : (digits : List ℕ) (d : ℕ) (more : List ℕ)
-    → map (λ front. digits ++ d ∷ front) (fronts more)
-    ≡ map (λ front. (digits ++ one d) ++ front) (fronts more)
-map-fronts digits d more = simp append_assoc
-
--- of the lists that begin with some digits, the first complete one is what more digits complete
-find-fronts : (plan : Plan) (digits more : List ℕ)
-    → find (is_complete plan) (map (λ front. digits ++ front) (fronts more))
-    ≡ cond (is_complete plan digits) (Some digits) (completed_number plan digits more)
-find-fronts plan digits [] = rw append-nil
-find-fronts plan digits (d ∷ more) =
-    let joined = map-map (λ front. digits ++ front) (λ front. d ∷ front) (fronts more) in
-    rw (append-nil digits, joined, map-fronts digits d more, find-fronts plan (digits ++ one d) more)
-
--- the shortest complete number is what the digits complete
-shortest_complete-completed : (plan : Plan) (digits : List ℕ)
-    → shortest_complete plan digits ≡ completed_number plan [] digits
-shortest_complete-completed plan digits = rw (map-id (fronts digits)) at (find-fronts plan [] digits)
 
 -- what comes of an attempt of which these are the values still to come, after good digits
 abbrev pub outcome_after : Plan → Bool → List ℕ → List (Option ℕ) → Dialled

@@ -1,5 +1,5 @@
 -- What comes of an attempt, by its digits.
-use Rattle.std.specs.Prelude.{ℕ, List, map, length, Bool, false, nat_le, Option, Some, None, is_none, is_some}
+use Rattle.std.specs.Prelude.{ℕ, List, map, length, Bool, Option, is_none, is_some}
 use Rattle.std.specs.List.{list_any}
 use Rattle.xb_model.specs.declared.dialled.Dialled.{Dialled}
 use Rattle.xb_model.specs.declared.dialled.Dialled.TheVariants.{Refused}
@@ -19,11 +19,6 @@ values_of digits = map value_of digits
 -- a refusal, with the count of good digits
 abbrev pub refused : Reason → List ℕ → Dialled
 refused reason good = Refused reason (length good)
-
--- n digits are as many as the number has
-abbrev pub reaches : Option ℕ → ℕ → Bool
-reaches None n = false
-reaches (Some len) n = nat_le len n
 
 -- the first digits that are a complete number, or why there is none
 abbrev pub outcome_by : Plan → Bool → List (Option ℕ) → Dialled

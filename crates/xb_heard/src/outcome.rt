@@ -1,11 +1,12 @@
 // What came of an attempt.
 ghost use Rattle.std.specs.Prelude.{◌≡◌, ◌<◌, ◌≤◌, length, map};
+ghost use Rattle.xb_model.specs.Numbers.{reaches};
 ghost use Rattle.xb_model.specs.Plans.{plan_len};
 ghost use Rattle.xb_model.specs.Records.{is_break};
 ghost use Rattle.xb_heard.specs.PlacedRuns.{run_in};
 ghost use Rattle.xb_heard.specs.Digits.{digit_in};
 ghost use Rattle.xb_heard.specs.Faults.{breaks_among};
-ghost use Rattle.xb_heard.specs.Outcomes.{outcome_by, reaches, refused, value_of, values_of};
+ghost use Rattle.xb_heard.specs.Outcomes.{outcome_by, refused, value_of, values_of};
 
 use crate::digit::HeardDigit;
 use crate::run::PlacedRun;

@@ -1,5 +1,5 @@
 -- Laws of lists with a value for each line.
-use Rattle.std.proofs.Common.{◌≡◌, ℕ, ◌+◌, ◌<◌, ◌≤◌, true, false, eqb, List, [], ◌∷◌, map, get_or, set, length, drop, sym, ap, ◌∙◌, subst, ⊎_elim, eqb-true, get_or-set_same, get_or-set_other, arith}
+use Rattle.std.proofs.Common.{◌≡◌, ℕ, ◌+◌, ◌<◌, ◌≤◌, false, eqb, List, [], ◌∷◌, map, get_or, set, length, drop, sym, ap, ◌∙◌, subst, ⊎_elim, eqb-true, get_or-set_same, get_or-set_other, arith}
 use Rattle.std.specs.List.{All, enumerate_from}
 use Rattle.std.proofs.lemmas.Bool.{cases_Bool, eqb-false}
 use Rattle.std.proofs.lemmas.List.{drop_more, length-drop}

@@ -39,6 +39,11 @@ abbrev pub has_length : Option ℕ → ℕ → Bool
 has_length None n = false
 has_length (Some len) n = len == n
 
+-- n digits are as many as the number has
+abbrev pub reaches : Option ℕ → ℕ → Bool
+reaches None n = false
+reaches (Some len) n = nat_le len n
+
 -- the digits are a complete number
 abbrev pub is_complete : Plan → List ℕ → Bool
 is_complete plan digits = has_length (plan_len plan digits) (length digits)

@@ -2,9 +2,7 @@
 use Rattle.std.proofs.Common.{◌≡◌, ℕ, List, [], ◌∷◌, ◌++◌, length, map, Bool, true, false, cond, Option, Some, None, refl, ap, ◌∙◌, inl, inr, append_assoc, append-nil}
 use Rattle.std.specs.Prelude.{◌⊎◌, is_none}
 use Rattle.std.specs.Option.{option_to_list}
-use Rattle.std.specs.List.{find, filter, list_any, flat_map}
-use Rattle.std.proofs.lemmas.List.{map-id}
-use Rattle.std.proofs.lemmas.Simd.{map-map}
+use Rattle.std.specs.List.{filter, list_any, flat_map}
 use Rattle.xb_model.specs.declared.plan.Plan.{Plan}
 use Rattle.xb_model.specs.declared.limits.Limits.{Limits}
 use Rattle.xb_model.specs.declared.signal.Signal.{Signal}
@@ -14,21 +12,15 @@ use Rattle.xb_model.specs.declared.dialled.Dialled.{Dialled}
 use Rattle.xb_model.specs.declared.dialled.Dialled.TheVariants.{Number, Refused}
 use Rattle.xb_model.specs.Records.{Run, Attempt, Train, is_release, into_first, pieces_of, has_runs, attempts_of, trains_of, is_timed, runs_of}
 use Rattle.xb_model.specs.Signals.{breaks_in, is_bad_train, digit_signal, when, attempt_signals, signals_of}
-use Rattle.xb_model.specs.Numbers.{digit_of_train, train_digits, before_mutilated, good_digits, is_complete, fronts, shortest_complete, without_number, or_refused, outcome_of, outcomes_of}
+use Rattle.xb_model.specs.Numbers.{digit_of_train, train_digits, before_mutilated, good_digits, is_complete, without_number, or_refused, outcome_of, outcomes_of}
+use Rattle.xb_model.proofs.Completed.{completed_number, shortest_complete-completed}
+use Rattle.xb_model.proofs.Pending.{IsPending, one, reaches-pending}
 use Rattle.xb_model.proofs.Spelled.{spelled}
 use Rattle.xb_stage.specs.OnLines.{on_line}
 use Rattle.xb_register.specs.declared.state.Phase.TheVariants.{OnHook, Listening, Done}
 use Rattle.xb_register.specs.Laws.{GivesOutcomes}
 use Rattle.xb_register.specs.Machine.{store, phase_after, machine}
 use Rattle.xb_register.proofs.Outcomes.{outcomes_from, outcomes_given-machine}
-use Rattle.xb_register.proofs.Pending.{IsPending, one, reaches-pending}
-
--- the number that more digits complete, after digits that are there already
-abbrev completed_number : Plan → List ℕ → List ℕ → Option (List ℕ)
-completed_number plan digits [] = None
-completed_number plan digits (d ∷ more) =
-    cond (is_complete plan (digits ++ one d)) (Some (digits ++ one d))
-    (completed_number plan (digits ++ one d) more)
 
 -- what the digits of trains give, and then the signals after them
 abbrev outcomes_of_digits : Plan → List ℕ → List (Option ℕ) → List Signal → List Dialled
@@ -112,26 +104,6 @@ outcomes_of_digits-end plan digits (Some d ∷ os) after timed rest ends =
         (without_number (list_any is_none os) timed (length (digits ++ d ∷ before_mutilated os))) ∷ rest
     at true h = rw ends.finished
     at false h = rw append_assoc at h
-
--- the lists that begin with some digits and one more
-map-fronts : (digits : List ℕ) (d : ℕ) (more : List ℕ)
-    → map (λ front. digits ++ d ∷ front) (fronts more)
-    ≡ map (λ front. (digits ++ one d) ++ front) (fronts more)
-map-fronts digits d more = simp append_assoc
-
--- of the lists that begin with some digits, the first complete one is what more digits complete
-find-fronts : (plan : Plan) (digits more : List ℕ)
-    → find (is_complete plan) (map (λ front. digits ++ front) (fronts more))
-    ≡ cond (is_complete plan digits) (Some digits) (completed_number plan digits more)
-find-fronts plan digits [] = rw append-nil
-find-fronts plan digits (d ∷ more) =
-    let joined = map-map (λ front. digits ++ front) (λ front. d ∷ front) (fronts more) in
-    rw (append-nil digits, joined, map-fronts digits d more, find-fronts plan (digits ++ one d) more)
-
--- the shortest complete number is what the digits complete
-shortest_complete-completed : (plan : Plan) (digits : List ℕ)
-    → shortest_complete plan digits ≡ completed_number plan [] digits
-shortest_complete-completed plan digits = rw (map-id (fronts digits)) at (find-fronts plan [] digits)
 
 -- each attempt but the last was released
 abbrev pub AllButLastReleased : List Attempt → Type 0

@@ -1,6 +1,5 @@
 pub mod Patterns
 pub mod Outcomes
-pub mod Pending
 pub mod Attempts
 pub mod AtMost
 pub mod PlainStates

@@ -1,5 +1,5 @@
 -- The register, signal by signal.
-use Rattle.std.specs.Prelude.{ℕ, List, [], ◌∷◌, ◌++◌, length, Bool, false, if◌then◌else◌, nat_le, Option, Some, None}
+use Rattle.std.specs.Prelude.{ℕ, List, [], ◌∷◌, ◌++◌, length, if◌then◌else◌, Option, Some, None}
 use Rattle.std.specs.Option.{option_to_list}
 use Rattle.xb_stage.specs.Image.{Machine}
 use Rattle.xb_stage.specs.OnLines.{whats_on_lines}
@@ -12,6 +12,7 @@ use Rattle.xb_model.specs.declared.reason.Reason.TheVariants.{Mutilated, Abandon
 use Rattle.xb_model.specs.declared.dialled.Dialled.{Dialled}
 use Rattle.xb_model.specs.declared.dialled.Dialled.TheVariants.{Number, Refused}
 use Rattle.xb_model.specs.Plans.{plan_len}
+pub use Rattle.xb_model.specs.Numbers.{reaches}
 use Rattle.xb_model.specs.TwoOfFive.{digit_of_pattern, pattern_of_count}
 use Rattle.xb_register.specs.declared.step.Step.{Step}
 use Rattle.xb_register.specs.declared.state.Phase.{Phase}
@@ -28,11 +29,6 @@ give outcome phase = record { outcome = Some outcome; phase = phase }
 -- a refusal, with the count of good digits
 abbrev pub refuse : Reason → List ℕ → Phase → Step
 refuse reason digits phase = give (Refused reason (length digits)) phase
-
--- n digits are as many as the number has
-abbrev pub reaches : Option ℕ → ℕ → Bool
-reaches None n = false
-reaches (Some len) n = nat_le len n
 
 -- after one digit more
 abbrev pub with_digits : Plan → List ℕ → Step

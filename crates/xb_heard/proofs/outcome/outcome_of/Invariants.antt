@@ -2,7 +2,7 @@ use Rattle.std.proofs.Common.{◌≡◌, drop, map}
 use Rattle.xb_heard.specs.Digits.{digit_in}
 use Rattle.xb_heard.specs.Outcomes.{outcome_by, values_of}
 use Rattle.xb_heard.proofs.Numbers.{outcome_after}
-use Rattle.xb_heard.proofs.Pending.{IsPending}
+use Rattle.xb_model.proofs.Pending.{IsPending}
 use Rattle.xb_heard.proofs.outcome.outcome_of.Given as goal
 
 abbrev pub invariant-loop-digit : goal.invariant-loop-digit

@@ -3,10 +3,9 @@ use Rattle.std.proofs.Common.{◌≡◌, ℕ, suc, ◌<◌, ◌≤◌, List, [],
 use Rattle.std.specs.Prelude.{◌==◌}
 use Rattle.std.proofs.lemmas.Bool.Decides.{nat_tests}
 use Rattle.xb_model.specs.Plans.{plan_len, length_after_three}
-use Rattle.xb_model.specs.Numbers.{is_complete, has_length}
+use Rattle.xb_model.specs.Numbers.{has_length, is_complete, reaches}
 use Rattle.xb_model.specs.declared.plan.Plan.{Plan}
 use Rattle.xb_model.specs.declared.plan.Plan.TheVariants.{Seven, Ten}
-use Rattle.xb_heard.specs.Outcomes.{reaches}
 
 -- one digit alone
 abbrev pub one : ℕ → List ℕ
