@@ -1,18 +1,19 @@
 -- The plan and the limits of a table, by the keys `plan` and `limits` of its text.
-use Rattle.std.specs.Prelude.{ℕ, ℤ, pos, negsuc, ◌==◌, ◌&&◌, nat_le, nat_lt, if◌then◌else◌, codes, Option, Some, None, option_and_then, Result, Ok, Err}
+use Rattle.std.specs.Prelude.{ℕ, ℤ, pos, negsuc, ◌&&◌, nat_le, nat_lt, if◌then◌else◌, codes, Option, Some, None, option_and_then, Result, Ok, Err}
 use Rattle.toml.specs.Data.{Data, Members, as_integer, as_table, get_member}
 use Rattle.xb_model.specs.declared.limits.Limits.{Limits}
 use Rattle.xb_model.specs.declared.limits.TheConstants.{GREATEST_LIMIT}
 use Rattle.xb_model.specs.declared.plan.Plan.{Plan}
-use Rattle.xb_model.specs.declared.plan.Plan.TheVariants.{Seven, Ten}
+use Rattle.xb_model.specs.declared.plan.Plan.TheVariants.{Seven}
 use Rattle.xb_model.specs.LawfulLimits.{standard_limits}
+use Rattle.xb_model.specs.Plans.{plan_of_digits}
 use Rattle.xb_routes.specs.declared.fault.RouteFault.{RouteFault}
 use Rattle.xb_routes.specs.declared.fault.RouteFault.TheVariants as fault
 use Rattle.xb_routes.specs.Steps.{or_fault}
 
 -- the plan of a number
 abbrev pub plan_of_number : ℤ → Option Plan
-plan_of_number (pos n) = if n == 7 then Some Seven else (if n == 10 then Some Ten else None)
+plan_of_number (pos n) = plan_of_digits n
 plan_of_number (negsuc n) = None
 
 -- the plan at the key `plan`: Seven where it is missing

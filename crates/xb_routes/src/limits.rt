@@ -17,11 +17,7 @@ pub(crate) fn plan_of(tree: &Table) -> Option<Plan>
     let Some(value) = value_at(tree, "plan") else {
         return Some(Plan::Seven);
     };
-    match value.as_integer()? {
-        7 => Some(Plan::Seven),
-        10 => Some(Plan::Ten),
-        _ => None,
-    }
+    Plan::of_digits(u32::try_from(value.as_integer()?).ok()?)
 }
 
 // The limit at a key, 1 to `GREATEST_LIMIT` ms, or its default where the key is missing.
