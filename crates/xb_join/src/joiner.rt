@@ -5,10 +5,11 @@ ghost use Rattle.xb_model.specs.Page.{totals_text};
 ghost use Rattle.xb_join.specs.Joining.{goes_on_from};
 
 use crate::join_fault::{JoinFault, fault_of_page};
-use std::alloc::{AllocError, Global};
+use std::alloc::Global;
 use xb_model::LINES;
 use xb_page::read_page;
 use xb_parts::LineRange;
+use xb_tape::write_totals;
 
 /// The pages of parts, joined one after the other: what is known of those before the next. It takes no
 /// memory but for the totals, so a caller that writes the entries of each page at once needs no more than
@@ -26,13 +27,6 @@ pub struct Joiner {
     ghost in_office: { line ≤ LINES },
     ghost keyed_fits: { keyed ≤ parts * 2 ^ 64 },
     ghost refused_fits: { refused ≤ parts * 2 ^ 64 },
-}
-
-// The line of the totals.
-fn totals_line(alloc: Global, keyed: u128, refused: u128) -> Result<String, AllocError>
-    ensures { IfOk result (λ text. string_bytes text ≡ totals_text keyed refused) }
-{
-    format!(in alloc; "KEYED {keyed} REFUSED {refused}\n")
 }
 
 // Whether the lines of a part begin with this one, and are lines of the office.
@@ -100,6 +94,8 @@ impl Joiner {
         if self.line != LINES {
             return Err(JoinFault::Missing(self.line));
         }
-        Ok(totals_line(alloc, self.keyed, self.refused)?)
+        let mut text = String::new(alloc);
+        write_totals(&mut text, self.keyed, self.refused)?;
+        Ok(text)
     }
 }
