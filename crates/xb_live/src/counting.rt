@@ -27,7 +27,7 @@ pub struct Counting {
 // Clauses see the office, the counts, and the marks of the entry that the last row completed.
 impl Model for Counting {
     ghost use Rattle.std.specs.Prelude.{◌≡◌, ◌≤◌, ◌+◌, ℕ, slice_index_or, vec_capacity};
-    ghost use Rattle.xb_serial.specs.declared.keying.TheConstants.{MOST_MARKS};
+    ghost use Rattle.xb_serial.specs.declared.line.TheConstants.{MOST_MARKS};
     ghost use Rattle.xb_live.specs.Counting.{Counted};
 
     ghost Value = { Counted };

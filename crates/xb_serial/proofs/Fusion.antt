@@ -25,7 +25,7 @@ use Rattle.xb_register.specs.Machine.{machine as register_machine}
 use Rattle.xb_routes.specs.Table.{Table}
 use Rattle.xb_routes.specs.Machine.{machine as translate_machine}
 use Rattle.xb_sender.specs.Machine.{machine as sender_machine}
-use Rattle.xb_serial.specs.declared.line_state.LineState.{LineState}
+use Rattle.xb_serial.specs.declared.line.Line.{Line}
 use Rattle.xb_serial.specs.Chain.{line_state, keyed, outcomes_of_row, marks_of_row, live_machine}
 use Rattle.xb_serial.specs.Office.{marks_of_rows}
 use Rattle.xb_serial.proofs.OneLine.{flat_all, image_from-on}
@@ -37,11 +37,11 @@ module _ (table : Table) where
   abbrev r : Machine (On Signal) (On Dialled) RegisterState
   r = register_machine table.plan
 
-  abbrev m : Machine LoopRow (On Mark) LineState
+  abbrev m : Machine LoopRow (On Mark) Line
   m = live_machine table
 
   -- rows of one line leave the pulse stage and the register what each leaves
-  states-from : (s : LineState) (rows : List LoopRow) → fold m.next s rows ≡ line_state (fold p.next s.pulse rows) (fold r.next s.register (image_from p s.pulse rows))
+  states-from : (s : Line) (rows : List LoopRow) → fold m.next s rows ≡ line_state (fold p.next s.pulse rows) (fold r.next s.register (image_from p s.pulse rows))
   states-from s [] = refl
   states-from s (row ∷ rows) =
       states-from (m.next s row) rows
@@ -100,7 +100,7 @@ module _ (table : Table) where
       ∙ sym (keyed-in_turn (image on_line_of r (image row_line p rows)))
 
   -- what a row gives is on its line
-  pub row_marks-on : (s : LineState) (row : LoopRow) → AllByRecursion (λ (mark : On Mark). on_line_of mark ≡ row_line row) (marks_of_row table s row)
+  pub row_marks-on : (s : Line) (row : LoopRow) → AllByRecursion (λ (mark : On Mark). on_line_of mark ≡ row_line row) (marks_of_row table s row)
   row_marks-on s row =
       flat_all (λ (mark : On Mark). on_line_of mark ≡ row_line row) (λ (item : On Dialled). on_line_of item ≡ row_line row) (keyed table) each
       (outcomes_of_row table s row)

@@ -1,8 +1,8 @@
--- A row brings one outcome at most.
-use Rattle.std.proofs.Common.{ℕ, ◌≤◌, ◌==◌, Bool, List, [], ◌∷◌, ◌++◌, length, Option, Some, None, nat_le, arith}
+-- A row brings one outcome at most, and its marks are those of the outcome.
+use Rattle.std.proofs.Common.{◌≡◌, ℕ, ◌≤◌, ◌==◌, Bool, List, [], ◌∷◌, ◌++◌, fold, length, Option, Some, None, nat_le, refl, sym, ap, ◌∙◌, append-nil, arith}
+use Rattle.std.specs.List.{flat_map}
 use Rattle.std.specs.Option.{option_to_list}
 use Rattle.std.proofs.lemmas.Bool.{cond_both}
-use Rattle.std.proofs.lemmas.List.{length-map}
 use Rattle.xb_model.specs.declared.limits.Limits.{Limits}
 use Rattle.xb_model.specs.declared.plan.Plan.{Plan}
 use Rattle.xb_model.specs.declared.row.Contact.{Contact}
@@ -12,9 +12,12 @@ use Rattle.xb_model.specs.declared.signal.Signal.{Signal}
 use Rattle.xb_model.specs.declared.signal.Signal.TheVariants.{Seize, Digit, TimeOut, Release, Close}
 use Rattle.xb_model.specs.declared.dialled.Dialled.{Dialled}
 use Rattle.xb_model.specs.declared.dialled.Dialled.TheVariants.{Number}
+use Rattle.xb_model.specs.Keyings.{marks_of}
 use Rattle.xb_model.specs.Plans.{plan_len}
+use Rattle.xb_model.specs.Routing.{order_of}
 use Rattle.xb_model.specs.Rows.{LoopRow}
 use Rattle.xb_model.specs.TwoOfFive.{digit_of_pattern, pattern_of_count}
+use Rattle.xb_stage.specs.OnLines.{on_line}
 use Rattle.xb_stage.proofs.OnLines.{image_from-whats}
 use Rattle.xb_pulse.specs.declared.state.Phase.{Phase as PulsePhase}
 use Rattle.xb_pulse.specs.declared.state.Phase.TheVariants as pulse
@@ -22,11 +25,11 @@ use Rattle.xb_pulse.specs.declared.state.Tally.{Tally}
 use Rattle.xb_pulse.specs.Machine.{enter as enter_phase, with_first, longer, with_break, judge_timeout, judge_pause, take_make, lengthen_break, release_at, judge_release, take_close, take_row, signals_by}
 use Rattle.xb_register.specs.declared.state.Phase.{Phase}
 use Rattle.xb_register.specs.declared.state.Phase.TheVariants.{OnHook, Listening, Done}
-use Rattle.xb_register.specs.Machine.{reaches, enter, give, store, advance, phase_after, outcomes_by}
+use Rattle.xb_register.specs.Machine.{machine, reaches, enter, give, store, advance, phase_after, outcomes_by}
 use Rattle.xb_register.proofs.Outcomes.{outcomes_from}
 use Rattle.xb_routes.specs.Table.{Table}
-use Rattle.xb_serial.specs.declared.line_state.LineState.{LineState}
-use Rattle.xb_serial.specs.Chain.{outcomes_of_row}
+use Rattle.xb_serial.specs.declared.line.Line.{Line}
+use Rattle.xb_serial.specs.Chain.{keyed, marks_of_row, outcomes_of_row}
 
 module _ (plan : Plan) where
   -- these signals bring one outcome at most, in whatever phase they come
@@ -111,8 +114,30 @@ module _ (plan : Plan) where
     row_brings phase Brk ms = cond_both (ms == 0) (enter_phase phase) (judge_release limits (lengthen_break limits phase ms)) (λ step. BringOneAtMost step.sent.items) (λ _. none) (λ _. judge_brings (lengthen_break limits phase ms))
     row_brings phase contacts.Close ms = close_brings phase
 
--- whatever is known of the line, a row brings one outcome at most
-pub one_outcome : (table : Table) (state : LineState) (row : LoopRow) → length (outcomes_of_row table state row) ≤ 1
-one_outcome table state row =
-    rw (image_from-whats OnHook (phase_after table.plan) (outcomes_by table.plan) row.line state.register (signals_by table.limits state.pulse row), length-map)
-    (row_brings table.plan table.limits state.pulse row.contact row.ms state.register)
+module _ (table : Table) where
+  -- what comes of attempts by a row are, on its line, the outcomes that its signals bring
+  pub row_outcomes : (state : Line) (row : LoopRow)
+      → outcomes_of_row table state row ≡ on_line row.line (outcomes_from table.plan state.register (signals_by table.limits state.pulse row))
+  row_outcomes state row =
+      image_from-whats OnHook (phase_after table.plan) (outcomes_by table.plan) row.line state.register (signals_by table.limits state.pulse row)
+
+  -- whatever is known of the line, they are one at most
+  pub one_at_most : (state : Line) (row : LoopRow)
+      → length (outcomes_from table.plan state.register (signals_by table.limits state.pulse row)) ≤ 1
+  one_at_most state row = row_brings table.plan table.limits state.pulse row.contact row.ms state.register
+
+  -- the register's phase after signals of one line
+  pub fold-on_line : (l : ℕ) (phase : Phase) (signals : List Signal)
+      → fold (machine table.plan).next phase (on_line l signals) ≡ fold (phase_after table.plan) phase signals
+  fold-on_line l phase [] = refl
+  fold-on_line l phase (signal ∷ signals) = fold-on_line l (phase_after table.plan phase signal) signals
+
+  -- the marks of a row that brings this outcome
+  pub one_entry : (state : Line) (row : LoopRow) (dialled : Dialled)
+      → on_line row.line (dialled ∷ []) ≡ outcomes_of_row table state row
+      → on_line row.line (marks_of (order_of table.routes dialled)) ≡ marks_of_row table state row
+  one_entry state row dialled e = sym (append-nil _) ∙ ap (flat_map (keyed table)) e
+
+  -- a row that brings no outcome gives no mark
+  pub no_entry : (state : Line) (row : LoopRow) → [] ≡ outcomes_of_row table state row → marks_of_row table state row ≡ []
+  no_entry state row e = ap (flat_map (keyed table)) (sym e)

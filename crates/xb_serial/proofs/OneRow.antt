@@ -1,41 +1,22 @@
 -- One row more.
-use Rattle.std.proofs.Common.{◌≡◌, ℕ, ◌<◌, ◌≤◌, List, [], ◌∷◌, ◌++◌, Option, Some, None, length, get_or, set, refl, sym, ap, ◌∙◌, arith, length-append}
-use Rattle.std.specs.Option.{option_to_list}
+use Rattle.std.proofs.Common.{◌≡◌, ℕ, ◌<◌, List, [], ◌∷◌, ◌++◌, length, get_or, set, refl, sym, ap, ◌∙◌}
 use Rattle.xb_model.specs.declared.line.TheConstants.{LINES}
 use Rattle.xb_model.specs.declared.mark.Mark.{Mark}
 use Rattle.xb_model.specs.declared.on.On.{On}
-use Rattle.xb_model.specs.declared.dialled.Dialled.{Dialled}
-use Rattle.xb_model.specs.Keyings.{marks_of}
 use Rattle.xb_model.specs.LawfulLimits.{IsLawful}
 use Rattle.xb_model.specs.Lines.{row_line, on_line_of}
-use Rattle.xb_model.specs.Routing.{order_of}
 use Rattle.xb_model.specs.Rows.{LoopRow}
 use Rattle.std.specs.List.{All}
 use Rattle.xb_stage.proofs.Images.{image_after-none}
 use Rattle.xb_stage.proofs.States.{states_fresh, state_held, states_more, image_more}
 use Rattle.xb_model.proofs.LineValues.{AreValues-set}
 use Rattle.xb_stage.specs.Image.{state_after}
-use Rattle.xb_tape.specs.GatheredMarks.{whats_of}
-use Rattle.xb_serial.proofs.LineTapes.{whats_of-on_line}
-use Rattle.xb_routes.specs.Table.{Table}
-use Rattle.xb_serial.specs.declared.line_state.LineState.{LineState}
-use Rattle.xb_serial.specs.Chain.{fresh_line, keyed, live_machine, marks_of_row, state_after_row}
+use Rattle.xb_serial.specs.declared.line.Line.{Line}
+use Rattle.xb_serial.specs.Chain.{fresh_line, live_machine, marks_of_row, state_after_row}
 use Rattle.xb_serial.specs.Without.{without}
 use Rattle.xb_serial.specs.Office.{Office, HasTaken}
 use Rattle.xb_serial.proofs.Fusion.{fusion, row_marks-on}
 use Rattle.xb_serial.proofs.Without.{state_after-without_same, state_after-without_other, image-without}
-
--- what a list of one outcome at most gives last is that one
-pub popped-some : {X : Type 0} (outcome : Option X) (given new rest whole : List X) (x : X) → given ≡ new ++ x ∷ [] → option_to_list outcome ++ (given ++ rest) ≡ whole → length whole ≤ 1 → (new ≡ []) × (x ∷ rest ≡ whole)
-popped-some {X} (Some y) given new rest whole x e all few =
-    absurd (omega (arith, ap length e, ap length all, length-append {A = X} given rest, length-append {A = X} new (x ∷ [])))
-popped-some {X} None given (n ∷ new) rest whole x e all few =
-    absurd (omega (arith, ap length e, ap length all, length-append {A = X} given rest, length-append {A = X} new (x ∷ [])))
-popped-some None given [] rest whole x e all few = (refl, ap (λ zs. zs ++ rest) (sym e) ∙ all)
-
--- the marks of an outcome, without their line
-pub whats-keyed : (table : Table) (outcome : On Dialled) → whats_of (keyed table outcome) ≡ marks_of (order_of table.routes outcome.what)
-whats-keyed table outcome = whats_of-on_line outcome.line (marks_of (order_of table.routes outcome.what))
 
 -- where every line is as before its first row, no row is taken
 pub taken-none : (office : Office) → IsLawful office.table.limits → length office.lines ≡ LINES → All (λ state. state ≡ fresh_line office.table) office.lines → HasTaken office [] []
@@ -49,7 +30,7 @@ taken-none office lawful count fresh =
 
 -- where a line is given its state after a row, and the row's marks are given, the row is taken
 pub taken-more :
-    (office after : Office) (rows : List LoopRow) (marks : List (On Mark)) (row : LoopRow) (k : ℕ) (before state : LineState)
+    (office after : Office) (rows : List LoopRow) (marks : List (On Mark)) (row : LoopRow) (k : ℕ) (before state : Line)
     → HasTaken office rows marks → after.table ≡ office.table → after.lines ≡ set office.lines k state
     → length office.lines ≡ LINES → k < LINES → k ≡ row_line row → before ≡ get_or office.lines k before
     → state ≡ state_after_row office.table before row → after.given ≡ marks_of_row office.table before row
@@ -65,7 +46,7 @@ taken-more office after rows marks row k before state taken table lines count be
 
 -- where a line is as before its first row, its record is forgotten, and no other
 pub taken-without :
-    (office after : Office) (rows : List LoopRow) (marks : List (On Mark)) (l : ℕ) (state : LineState)
+    (office after : Office) (rows : List LoopRow) (marks : List (On Mark)) (l : ℕ) (state : Line)
     → HasTaken office rows marks → after.table ≡ office.table → after.lines ≡ set office.lines l state
     → length office.lines ≡ LINES → l < LINES → state ≡ fresh_line office.table
     → HasTaken after (without row_line l rows) (without on_line_of l marks)

@@ -16,21 +16,21 @@ use Rattle.xb_pulse.specs.Machine.{machine as pulse_machine}
 use Rattle.xb_register.specs.declared.state.RegisterState.{RegisterState}
 use Rattle.xb_register.specs.Machine.{machine as register_machine}
 use Rattle.xb_routes.specs.Table.{Table}
-use Rattle.xb_serial.specs.declared.line_state.LineState.{LineState}
+use Rattle.xb_serial.specs.declared.line.Line.{Line}
 
-abbrev pub line_state : PulseState → RegisterState → LineState
+abbrev pub line_state : PulseState → RegisterState → Line
 line_state pulse register = record { pulse = pulse; register = register }
 
 -- a line before its first row
-abbrev pub fresh_line : Table → LineState
+abbrev pub fresh_line : Table → Line
 fresh_line table = line_state (pulse_machine table.limits).start (register_machine table.plan).start
 
 -- the signals that a row sends
-abbrev pub signals_of_row : Table → LineState → LoopRow → List (On Signal)
+abbrev pub signals_of_row : Table → Line → LoopRow → List (On Signal)
 signals_of_row table state row = (pulse_machine table.limits).outs state.pulse row
 
 -- what comes of attempts by them
-abbrev pub outcomes_of_row : Table → LineState → LoopRow → List (On Dialled)
+abbrev pub outcomes_of_row : Table → Line → LoopRow → List (On Dialled)
 outcomes_of_row table state row =
     image_from (register_machine table.plan) state.register (signals_of_row table state row)
 
@@ -39,17 +39,17 @@ abbrev pub keyed : Table → On Dialled → List (On Mark)
 keyed table outcome = on_line outcome.line (marks_of (order_of table.routes outcome.what))
 
 -- the marks that a row gives
-abbrev pub marks_of_row : Table → LineState → LoopRow → List (On Mark)
+abbrev pub marks_of_row : Table → Line → LoopRow → List (On Mark)
 marks_of_row table state row = flat_map (keyed table) (outcomes_of_row table state row)
 
 -- the state after a row
-abbrev pub state_after_row : Table → LineState → LoopRow → LineState
+abbrev pub state_after_row : Table → Line → LoopRow → Line
 state_after_row table state row =
     line_state ((pulse_machine table.limits).next state.pulse row)
     (fold (register_machine table.plan).next state.register (signals_of_row table state row))
 
 -- what an office does on one line
-abbrev pub live_machine : Table → Machine LoopRow (On Mark) LineState
+abbrev pub live_machine : Table → Machine LoopRow (On Mark) Line
 live_machine table = record {
   start = fresh_line table;
   next = state_after_row table;

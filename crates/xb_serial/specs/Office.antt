@@ -10,13 +10,13 @@ use Rattle.xb_stage.specs.States.{AreStates}
 use Rattle.xb_routes.specs.Table.{Table}
 use Rattle.xb_tape.specs.GatheredMarks.{whats_of}
 use Rattle.xb_serial.specs.Serial.{serial_image}
-use Rattle.xb_serial.specs.declared.line_state.LineState.{LineState}
+use Rattle.xb_serial.specs.declared.line.Line.{Line}
 use Rattle.xb_serial.specs.Chain.{live_machine}
 
 -- its table, the state of each line, and the marks of the last row
 pub record Office : Type 0 where
   pub table : Table
-  pub lines : List LineState
+  pub lines : List Line
   pub given : List (On Mark)
 
 -- the marks that the chain gives of these rows, and nothing more

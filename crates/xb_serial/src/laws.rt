@@ -11,7 +11,7 @@ ghost use Rattle.xb_serial.specs.Chain.{live_machine};
 ghost use Rattle.xb_serial.specs.Office.{Office, HasTaken, marks_of_rows};
 ghost use Rattle.xb_serial.specs.Promises.{KeepsPromises};
 ghost use Rattle.xb_serial.specs.WorkedRows.{KeyedInTheRowOfItsPause, RefusedInTheRowOfTheTimeOut};
-ghost use Rattle.xb_serial.specs.declared.keying.TheConstants.{MOST_MARKS};
+ghost use Rattle.xb_serial.specs.declared.line.TheConstants.{MOST_MARKS};
 
 /// How many marks one row gives at the most.
 pub fn constants()

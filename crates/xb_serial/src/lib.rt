@@ -17,18 +17,16 @@
 
 mod closes;
 mod hearing;
-mod keying;
 pub mod laws;
-mod line_state;
+mod line;
 mod live;
 mod loops;
 mod registers;
 mod serial;
 mod so_far;
 
-pub use hearing::{fresh, hear};
-pub use keying::{MOST_MARKS, key};
-pub use line_state::LineState;
+pub use hearing::outcome_of;
+pub use line::{Line, MOST_MARKS};
 pub use live::Live;
 pub use serial::key_serial;
 pub use so_far::marks_so_far;

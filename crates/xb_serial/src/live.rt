@@ -1,12 +1,14 @@
 // The chain, one row at a time.
-use crate::hearing::{fresh, hear};
-use crate::keying::{MOST_MARKS, key};
-use crate::line_state::LineState;
+ghost use Rattle.std.specs.Prelude.{◌≡◌, ◌≤◌, [], length};
+ghost use Rattle.xb_stage.specs.OnLines.{on_line};
+ghost use Rattle.xb_serial.specs.declared.line.TheConstants.{MOST_MARKS};
+
+use crate::line::{Line, MOST_MARKS};
+use arrayvec::ArrayVec;
 use std::alloc::{AllocError, Global};
 use std::marker::Model;
-use xb_model::{Dialled, LineNo, Mark, On, Order, PerLine, Row, Signal};
+use xb_model::{LineNo, Mark, On, PerLine, Row};
 use xb_routes::RouteTable;
-use xb_stage::OUTPUT_ROOM;
 
 /// An office whose lines make and break now: each row is taken through all stages at once, and gives
 /// the marks that it makes certain.
@@ -15,29 +17,28 @@ use xb_stage::OUTPUT_ROOM;
 #[derive(Drop)]
 pub struct Live {
     table: RouteTable,
-    lines: PerLine<LineState>,
-    signals: Vec<On<Signal>>,
-    dialled: Vec<On<Dialled>>,
-    orders: Vec<On<Order>>,
-    given: Vec<On<Mark>>,
+    lines: PerLine<Line>,
+    given: ArrayVec<On<Mark>, MOST_MARKS>,
 }
 
 // Clauses see the table, the state of each line, and the marks of the last row.
 impl Model for Live {
-    ghost use Rattle.std.specs.Prelude.{◌≡◌, ◌≤◌, [], length, vec_capacity};
-    ghost use Rattle.xb_stage.specs.declared.stage.TheConstants.{OUTPUT_ROOM};
-    ghost use Rattle.xb_serial.specs.declared.keying.TheConstants.{MOST_MARKS};
     ghost use Rattle.xb_serial.specs.Office.{Office};
 
     ghost Value = { Office };
 
     ghost view = { λ live. record { table = live.table; lines = live.lines; given = live.given.items } };
+}
 
-    ghost invariant = { λ live.
-        (live.signals.items ≡ []) × (OUTPUT_ROOM ≤ vec_capacity live.signals)
-        × (live.dialled.items ≡ []) × (OUTPUT_ROOM ≤ vec_capacity live.dialled)
-        × (live.orders.items ≡ []) × (OUTPUT_ROOM ≤ vec_capacity live.orders)
-        × (length live.given.items ≤ MOST_MARKS) × (OUTPUT_ROOM ≤ vec_capacity live.given) };
+// Puts marks on their line.
+fn put_on(line: LineNo, marks: &[Mark], given: &mut ArrayVec<On<Mark>, MOST_MARKS>)
+    requires none { given.old.items ≡ [] }
+    requires few { length marks.now ≤ MOST_MARKS }
+    ensures { given.new.items ≡ on_line line marks.now }
+{
+    for what in marks {
+        given.push(On { line, what: *what });
+    }
 }
 
 impl Live {
@@ -47,7 +48,7 @@ impl Live {
     ghost use Rattle.xb_model.specs.declared.on.On.{On as OnTape};
     ghost use Rattle.xb_model.specs.Lines.{row_line, on_line_of};
     ghost use Rattle.xb_model.specs.Rows.{LoopRow};
-    ghost use Rattle.xb_serial.specs.declared.keying.TheConstants.{MOST_MARKS};
+    ghost use Rattle.xb_serial.specs.declared.line.TheConstants.{MOST_MARKS};
     ghost use Rattle.xb_serial.specs.Office.{HasTaken, IsEntryOrNone};
     ghost use Rattle.xb_serial.specs.Without.{without};
 
@@ -56,18 +57,11 @@ impl Live {
         ensures taken { IfOk result (λ live. HasTaken live [] []) }
         ensures table { IfOk result (λ live. live.table ≡ table) }
     {
-        let lines = PerLine::from_fn(alloc, || fresh(&table))?;
-        let signals = Vec::with_capacity(alloc, OUTPUT_ROOM)?;
-        let dialled = Vec::with_capacity(alloc, OUTPUT_ROOM)?;
-        let orders = Vec::with_capacity(alloc, OUTPUT_ROOM)?;
-        let given = Vec::with_capacity(alloc, OUTPUT_ROOM)?;
+        let lines = PerLine::from_fn(alloc, || Line::fresh(&table))?;
         Ok(Live {
             table,
             lines,
-            signals,
-            dialled,
-            orders,
-            given,
+            given: ArrayVec::new(),
         })
     }
 
@@ -82,16 +76,10 @@ impl Live {
         ensures few { length self.new.given ≤ MOST_MARKS }
         ensures table { self.new.table ≡ self.old.table }
     {
+        let line = row.line();
         self.given.clear();
-        let outcome = hear(
-            &self.table,
-            self.lines.get_mut(row.line()),
-            row,
-            &mut self.signals,
-            &mut self.dialled,
-        );
-        if let Some(outcome) = outcome {
-            key(&self.table, outcome, &mut self.orders, &mut self.given);
+        if let Some(marks) = self.lines.get_mut(line).take(&self.table, row) {
+            put_on(line, &marks, &mut self.given);
         }
     }
 
@@ -104,7 +92,7 @@ impl Live {
         ensures given { self.new.given ≡ self.old.given }
         ensures table { self.new.table ≡ self.old.table }
     {
-        *self.lines.get_mut(line) = fresh(&self.table);
+        *self.lines.get_mut(line) = Line::fresh(&self.table);
     }
 
     /// The marks that the last row gave, in order.

@@ -1,23 +1,22 @@
 -- A row that is taken by the parts of an open table.
-use Rattle.std.proofs.Common.{◌≡◌, ℕ, ◌<◌, List, [], ◌∷◌, length, map, take, Some, Result, Ok, Err, IfOk, IfErr, refl, sym, ap, ◌∙◌, subst, append-nil}
-use Rattle.std.specs.List.{AllByRecursion, flat_map}
-use Rattle.xb_model.specs.declared.dialled.Dialled.{Dialled}
+use Rattle.std.proofs.Common.{◌≡◌, ℕ, ◌<◌, List, [], ◌∷◌, length, map, take, Some, Result, Ok, Err, IfOk, IfErr, refl, sym, ap, ◌∙◌, subst}
+use Rattle.std.specs.List.{AllByRecursion}
 use Rattle.xb_model.specs.declared.key.Key.TheVariants.{Digit, Kp, St}
 use Rattle.xb_model.specs.declared.limits.Limits.{Limits}
+use Rattle.xb_model.specs.declared.line.LineNo.{LineNo}
 use Rattle.xb_model.specs.declared.mark.Mark.{Mark}
 use Rattle.xb_model.specs.declared.mark.Mark.TheVariants.{Trunk, Tone as Sounds, Refused}
 use Rattle.xb_model.specs.declared.on.On.{On}
 use Rattle.xb_model.specs.declared.plan.Plan.{Plan}
 use Rattle.xb_model.specs.declared.reason.Reason.TheVariants.{Mutilated, Unknown, Abandoned, TimedOut}
-use Rattle.xb_model.specs.Keyings.{marks_of}
 use Rattle.xb_model.specs.Lines.{on_line_of}
-use Rattle.xb_model.specs.Routing.{CodedRoute, order_of}
+use Rattle.xb_model.specs.Plans.{plan_of_digits}
+use Rattle.xb_model.specs.Routing.{CodedRoute}
 use Rattle.xb_model.specs.Rows.{LoopRow}
 use Rattle.xb_stage.specs.OnLines.{on_line}
 use Rattle.xb_routes.specs.Table.{Table}
 use Rattle.xb_routes.specs.Text.{table_by}
-use Rattle.xb_serial.specs.declared.line_state.LineState.{LineState}
-use Rattle.xb_serial.specs.Chain.{keyed, marks_of_row, outcomes_of_row}
+use Rattle.xb_serial.specs.Chain.{marks_of_row}
 use Rattle.xb_serial.proofs.Fusion.{row_marks-on}
 use Rattle.xb_structs.specs.declared.line.PlainLine.{PlainLine}
 use Rattle.xb_structs.specs.declared.mark.PlainMark.{PlainMark}
@@ -30,15 +29,14 @@ use Rattle.xb_structs.specs.Lines.{state_in}
 use Rattle.xb_structs.specs.Marks.{mark_on, plain_mark}
 use Rattle.xb_structs.specs.Routes.{AreRoutes}
 use Rattle.xb_structs.specs.Rows.{row_in}
-use Rattle.xb_structs.specs.Tables.{Holds, IsOpen, limits_in, plan_in}
+use Rattle.xb_structs.specs.Tables.{Holds, IsOpen, limits_in}
 use Rattle.xb_structs.specs.Taking.{HasNoRoom, IsRefused, Takes, TakesRow}
 use Rattle.xb_structs.proofs.Counting.{taken-more}
 
--- the marks of the one outcome of a row
-pub one-outcome : (table : Table) (state : LineState) (row : LoopRow) (dialled : Dialled)
-    → on_line row.line (dialled ∷ []) ≡ outcomes_of_row table state row
-    → marks_of_row table state row ≡ on_line row.line (marks_of (order_of table.routes dialled))
-one-outcome table state row dialled e = ap (flat_map (keyed table)) (sym e) ∙ append-nil _
+-- marks on a line, as plain numbers
+pub plain-on : (line : LineNo) (marks : List Mark) → map plain_mark (on_line line marks) ≡ map (mark_on line) marks
+plain-on line [] = refl
+plain-on line (mark ∷ marks) = ap (λ rest. mark_on line mark ∷ rest) (plain-on line marks)
 
 line-of : (l : ℕ) (mark : Mark) → (mark_on l mark).line ≡ l
 line-of l (Trunk trunk) = refl
@@ -56,7 +54,7 @@ lines-of l [] on = tt
 lines-of l (mark ∷ marks) on = (line-of mark.line mark.what ∙ on.0, lines-of l marks on.1)
 
 module _ (plain : PlainTable) (plan : Plan) (limits : Limits) (routes : List PlainRoute)
-    (is-plan : plan_in plain.plan ≡ Some plan) (is-limits : limits ≡ limits_in plain) (is-routes : routes ≡ take plain.count plain.routes) where
+    (is-plan : plan_of_digits plain.plan ≡ Some plan) (is-limits : limits ≡ limits_in plain) (is-routes : routes ≡ take plain.count plain.routes) where
   -- the table that is held has these parts
   held : (table : Table) → Holds plain table → table_by table.routes plan limits ≡ table
   held table holds =

@@ -8,6 +8,7 @@ use Rattle.std.proofs.lemmas.List.FromFn.{length-enumerate_from}
 use Rattle.toml.specs.Data.{Items, no_items, item}
 use Rattle.xb_model.specs.declared.plan.Plan.{Plan}
 use Rattle.xb_model.specs.declared.plan.Plan.TheVariants.{Seven, Ten}
+use Rattle.xb_model.specs.Plans.{plan_of_digits}
 use Rattle.xb_model.specs.Routing.{CodedRoute}
 use Rattle.xb_routes.specs.declared.fault.RouteFault.{RouteFault}
 use Rattle.xb_routes.specs.declared.table.TheConstants.{MOST_ROUTES}
@@ -24,7 +25,7 @@ use Rattle.xb_routes.proofs.Places.{has-code, has-code-is}
 use Rattle.xb_structs.specs.declared.route.PlainRoute.{PlainRoute}
 use Rattle.xb_structs.specs.Opening.{or_else, numbered_with}
 use Rattle.xb_structs.specs.Routes.{HaveSameRoutes, numbered, of_code, route_in}
-use Rattle.xb_structs.specs.Tables.{plan_in, plan_number}
+use Rattle.xb_structs.specs.Tables.{plan_number}
 
 or_else-map : {X Y : Type 0} (f : X → Y) (a b : Option X) → option_map f (or_else a b) ≡ or_else (option_map f a) (option_map f b)
 or_else-map f None b = refl
@@ -86,6 +87,6 @@ few-routes text table e =
     length-map {B = Result CodedRoute RouteFault} (enumerate_from 1 (items_list writes.items)) (λ p. route_of table.plan p.0 (keys_of p.1)) in
     omega (arith, alone, each, length-map {B = Result CodedRoute RouteFault} table.routes Ok, length-enumerate_from 1 (items_list writes.items), length-items writes.items, writes.routes.few)
 
-pub plan-back : (plan : Plan) → plan_in (plan_number plan) ≡ Some plan
+pub plan-back : (plan : Plan) → plan_of_digits (plan_number plan) ≡ Some plan
 plan-back Seven = refl
 plan-back Ten = refl

@@ -5,7 +5,7 @@ use Rattle.xb_pulse.specs.declared.state.Phase.{Phase as PulsePhase}
 use Rattle.xb_pulse.specs.Plain.{phase_of as pulse_of}
 use Rattle.xb_register.specs.declared.state.Phase.{Phase as RegisterPhase}
 use Rattle.xb_register.specs.Plain.{phase_of as register_of}
-use Rattle.xb_serial.specs.declared.line_state.LineState.{LineState}
+use Rattle.xb_serial.specs.declared.line.Line.{Line}
 use Rattle.xb_serial.specs.Chain.{line_state}
 use Rattle.xb_structs.specs.declared.line.PlainLine.{PlainLine}
 use Rattle.xb_structs.specs.declared.line.PulsePart.{PulsePart}
@@ -20,5 +20,5 @@ abbrev pub register_in : RegisterPart → RegisterPhase
 register_in part =
     register_of (record { phase = part.phase; digits = digits_in NUMBER_DIGITS part.count part.digits })
 
-abbrev pub state_in : PlainLine → LineState
+abbrev pub state_in : PlainLine → Line
 state_in line = line_state (pulse_in line.pulse) (register_in line.register)

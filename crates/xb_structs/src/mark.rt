@@ -1,8 +1,8 @@
 // Marks as plain numbers.
 ghost use Rattle.std.specs.Prelude.{◌≡◌, ◌≤◌, length, map, take};
-ghost use Rattle.xb_structs.specs.Marks.{plain_mark};
+ghost use Rattle.xb_structs.specs.Marks.{mark_on};
 
-use xb_model::{Key, Mark, On, Reason, Tone};
+use xb_model::{Key, LineNo, Mark, Reason, Tone};
 
 /// A mark on a line.
 #[repr(C)]
@@ -21,12 +21,12 @@ pub struct PlainMark {
     pub high: u32,
 }
 
-// A mark as plain numbers.
-fn plain(mark: &On<Mark>) -> PlainMark
-    ensures { result ≡ plain_mark mark.now }
+// A mark on a line as plain numbers.
+fn plain(line: LineNo, mark: &Mark) -> PlainMark
+    ensures { result ≡ mark_on line mark.now }
 {
-    let line = u32::from(mark.line.get());
-    let (kind, value, low, high) = match &mark.what {
+    let line = u32::from(line.get());
+    let (kind, value, low, high) = match mark {
         Mark::Trunk(trunk) => (0, u32::from(trunk.get()), 0, 0),
         Mark::Tone(Key::Digit(digit), Tone { low, high }) => {
             (1, u32::from(digit.get()), u32::from(*low), u32::from(*high))
@@ -47,13 +47,13 @@ fn plain(mark: &On<Mark>) -> PlainMark
     }
 }
 
-/// Writes marks to the front of the room.
-pub(crate) fn put_marks(marks: &[On<Mark>], room: &mut [PlainMark])
+/// Writes marks of a line to the front of the room.
+pub(crate) fn put_marks(line: LineNo, marks: &[Mark], room: &mut [PlainMark])
     requires { length marks.now ≤ length room.old }
-    ensures written { take (length marks.now) room.new ≡ map plain_mark marks.now }
+    ensures written { take (length marks.now) room.new ≡ map (mark_on line) marks.now }
     ensures length { length room.new ≡ length room.old }
 {
     for (i, mark) in marks.iter().enumerate() {
-        room[i] = plain(mark);
+        room[i] = plain(line, mark);
     }
 }

@@ -2,7 +2,7 @@
 ghost use Rattle.std.specs.Prelude.{◌≡◌, ◌≤◌, ◌↔◌, IsSome, IsTrue, IfSome, take};
 ghost use Rattle.xb_model.specs.LawfulLimits.{IsLawful, IsLimit, AreLimits};
 ghost use Rattle.xb_routes.specs.declared.table.TheConstants.{MOST_ROUTES};
-ghost use Rattle.xb_structs.specs.Tables.{limits_in, plan_in, plan_number};
+ghost use Rattle.xb_structs.specs.Tables.{limits_in, plan_number};
 
 use crate::route::PlainRoute;
 use xb_model::{GREATEST_LIMIT, Limits, Plan};
@@ -29,17 +29,6 @@ pub struct PlainTable {
     pub count: u32,
     /// The routes in the order of their codes' numbers, and room for more.
     pub routes: [PlainRoute; 1000],
-}
-
-/// The plan of a number.
-pub(crate) fn plan_of(number: u32) -> Option<Plan>
-    ensures { result ≡ plan_in number }
-{
-    match number {
-        7 => Some(Plan::Seven),
-        10 => Some(Plan::Ten),
-        _ => None,
-    }
 }
 
 /// The number of a plan.

@@ -10,16 +10,18 @@ ghost use Rattle.xb_structs.specs.Lines.{state_in};
 ghost use Rattle.xb_structs.specs.Routes.{AreRoutes};
 ghost use Rattle.xb_structs.specs.Taking.{IsRefused, Takes, TakesRow};
 
-use crate::keying::{marks_of, order_of, outcome_of};
+use crate::keying::order_of;
 use crate::line::{PlainLine, pulse_of, pulse_part, register_of, register_part};
 use crate::mark::{PlainMark, put_marks};
 use crate::refusal::Refusal;
 use crate::route::PlainRoute;
 use crate::row::{PlainRow, row_of};
-use crate::table::{PlainTable, limits_of, plan_of, routes_of};
+use crate::table::{PlainTable, limits_of, routes_of};
 use xb_model::{Dialled, Limits, Plan, Row};
 use xb_pulse::Pulse;
 use xb_register::Register;
+use xb_sender::marks_of;
+use xb_serial::outcome_of;
 
 // What comes of an attempt by a row, if it does, and what is known of the line after it.
 fn hear(plan: Plan, limits: Limits, line: &PlainLine, row: Row) -> (Option<Dialled>, PlainLine)
@@ -60,11 +62,11 @@ fn take_row(
     let (outcome, mut heard) = hear(plan, limits, line, row);
     let mut count = 0;
     if let Some(dialled) = outcome {
-        let marks = marks_of(row.line(), &order_of(routes, &dialled));
+        let marks = marks_of(&order_of(routes, &dialled));
         if marks.len() > room.len() {
             return Err(Refusal::Room);
         }
-        put_marks(&marks, room);
+        put_marks(row.line(), &marks, room);
         count = marks.len();
         heard.entries = heard.entries.saturating_add(1);
     }
@@ -87,7 +89,7 @@ pub fn take(
         IsRefused refusal table.now row.now line.old (length room.old)) }
     ensures kept { OnErr result ((line.new ≡ line.old) × (room.new ≡ room.old)) }
 {
-    let Some(plan) = plan_of(table.plan) else {
+    let Some(plan) = Plan::of_digits(table.plan) else {
         return Err(Refusal::NotOpened);
     };
     let Some(limits) = limits_of(table) else {

@@ -4,9 +4,10 @@ use Rattle.xb_stage.specs.OnLines.{on_line}
 use Rattle.xb_pulse.specs.Machine.{signals_by, phase_after as pulse_after}
 use Rattle.xb_register.specs.Machine.{phase_after}
 use Rattle.xb_routes.specs.Text.{table_by}
+use Rattle.xb_register.proofs.Outcomes.{outcomes_from}
 use Rattle.xb_serial.specs.Chain.{line_state}
+use Rattle.xb_serial.proofs.OneOutcome.{fold-on_line, one_at_most, row_outcomes}
 use Rattle.xb_structs.specs.Lines.{pulse_in, register_in, state_in}
-use Rattle.xb_structs.proofs.Hearing.{fold-on_line, one-at-most, outcomes_from, row-outcomes}
 use Rattle.xb_structs.proofs.taking.hear.Goals as goal
 
 -- the signals that the register hears, before it does and after
@@ -25,7 +26,7 @@ heard c =
 pub outcome_of-outcome-requires : goal.outcome_of-outcome-requires
 outcome_of-outcome-requires c =
     rw (c.new-2.ensures.plan, c.register_of-register.ensures, signals c)
-    (one-at-most (table_by [] c.args.plan c.args.limits) (state_in c.args.line.now) c.args.row)
+    (one_at_most (table_by [] c.args.plan c.args.limits) (state_in c.args.line.now) c.args.row)
 
 pub returns-clause-outcome : goal.returns-clause-outcome
 returns-clause-outcome c =
@@ -34,7 +35,7 @@ returns-clause-outcome c =
     ∙ ap (λ plan. outcomes_from plan c.register_of-register.result c.deref.result.now) c.new-2.ensures.plan
     ∙ ap (λ phase. outcomes_from c.args.plan phase c.deref.result.now) c.register_of-register.ensures
     ∙ ap (outcomes_from c.args.plan (register_in c.args.line.now.register)) (heard c) in
-    ap (on_line c.args.row.line) given ∙ sym (row-outcomes (table_by [] c.args.plan c.args.limits) (state_in c.args.line.now) c.args.row)
+    ap (on_line c.args.row.line) given ∙ sym (row_outcomes (table_by [] c.args.plan c.args.limits) (state_in c.args.line.now) c.args.row)
 
 pub returns-clause-state : goal.returns-clause-state
 returns-clause-state c =
@@ -49,4 +50,4 @@ returns-clause-state c =
     ∙ ap (fold (phase_after c.args.plan) (register_in c.args.line.now.register)) (heard c) in
     ap (λ phase. line_state phase (register_in c.register_part-heard.result)) pulse
     ∙ ap (line_state (pulse_after c.args.limits (pulse_in c.args.line.now.pulse) c.args.row))
-    (register ∙ sym (fold-on_line c.args.plan c.args.row.line (register_in c.args.line.now.register) (signals_by c.args.limits (pulse_in c.args.line.now.pulse) c.args.row)))
+    (register ∙ sym (fold-on_line (table_by [] c.args.plan c.args.limits) c.args.row.line (register_in c.args.line.now.register) (signals_by c.args.limits (pulse_in c.args.line.now.pulse) c.args.row)))

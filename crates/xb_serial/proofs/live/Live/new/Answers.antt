@@ -7,7 +7,7 @@ use Rattle.xb_serial.proofs.live.Live.new.Goals as goal
 
 pub returns-clause-taken : goal.returns-clause-taken
 returns-clause-taken c =
-    let office : Office = record { table = c.args.table; lines = c.in_ok-lines.lines; given = c.in_ok-given.given.items } in
+    let office : Office = record { table = c.args.table; lines = c.in_ok-lines.lines; given = c.new.result.items } in
     taken-none office
     (subst (λ (table : Table). IsLawful table.limits) c.table.view_is c.table.invariant)
     c.in_ok-lines.ensures.lines
