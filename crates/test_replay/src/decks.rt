@@ -1,7 +1,7 @@
 // Decks, each with the tapes that the chain on one thread makes of it.
 ghost use Rattle.std.specs.Prelude.{◌≤◌};
-ghost use Rattle.xb_ring.specs.declared.branches.TheConstants.{MOST_BRANCHES};
-ghost use Rattle.xb_ring.specs.declared.ends.TheConstants.{GREATEST_CAPACITY};
+ghost use Rattle.xb_branches.specs.declared.branches.TheConstants.{MOST_BRANCHES};
+ghost use Rattle.xb_flow.specs.declared.ends.TheConstants.{GREATEST_CAPACITY};
 
 use crate::schedule::Schedule;
 use crate::wanted::Wanted;

@@ -9,8 +9,8 @@ use rtrb::{Consumer, Producer};
 use std::alloc::{AllocError, Global};
 use std::process::Abort;
 use test_kit::Dice;
+use xb_model::image_of;
 use xb_ring::{Deal, Flow, Gather, Station, Turn, link};
-use xb_stage::image_of;
 
 // How many schedules are tried.
 const SCHEDULES: u64 = 2_000;

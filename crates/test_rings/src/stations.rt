@@ -1,6 +1,6 @@
 // Turns of a station on one thread, and one that waits for another thread.
 ghost use Rattle.std.specs.Prelude.{◌≤◌};
-ghost use Rattle.xb_ring.specs.declared.ends.TheConstants.{GREATEST_CAPACITY};
+ghost use Rattle.xb_flow.specs.declared.ends.TheConstants.{GREATEST_CAPACITY};
 
 use crate::gates::{assert_passes, passes_of};
 use crate::numbered::{Numbered, pop, pop_end, push, push_end};

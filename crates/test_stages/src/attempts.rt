@@ -2,9 +2,8 @@
 use std::alloc::{AllocError, Global};
 use std::process::Abort;
 use std::test::Fail;
-use xb_model::{Dialled, Digit, LineNo, On, Plan, Reason, Signal};
+use xb_model::{Dialled, Digit, LineNo, On, Plan, Reason, Signal, image_of};
 use xb_register::Register;
-use xb_stage::image_of;
 
 // The line of the attempts that have it to themselves.
 const LINE: u16 = 5;

@@ -3,9 +3,10 @@ use std::alloc::{AllocError, Global};
 use std::process::Abort;
 use std::test::Fail;
 use test_kit::marks::keying;
-use xb_model::{Digit, KEY_DIGITS, KeyDigits, LineNo, Mark, On, Order, Reason, Trunk};
+use xb_model::{
+    Digit, KEY_DIGITS, KeyDigits, LineNo, LineStage, Mark, OUTPUT_ROOM, On, Order, Reason, Trunk,
+};
 use xb_sender::Sender;
-use xb_stage::{LineStage, OUTPUT_ROOM};
 
 // The line of every order.
 const LINE: u16 = 20;

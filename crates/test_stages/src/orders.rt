@@ -4,9 +4,8 @@ use std::alloc::{AllocError, Global};
 use std::process::Abort;
 use std::test::Fail;
 use test_kit::decks::TABLE;
-use xb_model::{Dialled, LineNo, NumberDigits, On, Order, Reason};
+use xb_model::{Dialled, LineNo, LineStage, NumberDigits, OUTPUT_ROOM, On, Order, Reason};
 use xb_routes::{RouteTable, Translate};
-use xb_stage::{LineStage, OUTPUT_ROOM};
 
 // What the stage orders for an outcome on line 20.
 fn ordered(

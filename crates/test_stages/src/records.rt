@@ -4,9 +4,8 @@ use std::process::Abort;
 use std::test::Fail;
 use test_kit::pulses::{in_turn, rows_of};
 use xb_model::Signal::{Close, Digit, Release, Seize, TimeOut};
-use xb_model::{GREATEST_LIMIT, Limits, On, Row, Signal};
+use xb_model::{GREATEST_LIMIT, Limits, On, Row, Signal, image_of};
 use xb_pulse::Pulse;
-use xb_stage::image_of;
 
 // The line of the records that have it to themselves.
 const LINE: u16 = 5;

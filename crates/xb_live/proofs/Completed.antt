@@ -11,8 +11,8 @@ use Rattle.xb_model.specs.Routing.{order_of}
 use Rattle.xb_model.specs.Rows.{LoopRow}
 use Rattle.xb_model.specs.Tapes.{EndsAtLast, IsUnended}
 use Rattle.xb_model.proofs.Entries.{marks_of-last}
-use Rattle.xb_stage.specs.Image.{image}
-use Rattle.xb_stage.specs.OnLines.{on_line}
+use Rattle.xb_model.specs.Image.{image}
+use Rattle.xb_model.specs.OnLines.{on_line}
 use Rattle.xb_pulse.specs.Machine.{machine as pulse_machine}
 use Rattle.xb_register.specs.Machine.{machine as register_machine}
 use Rattle.xb_routes.specs.Table.{Table}

@@ -18,8 +18,8 @@ use Rattle.xb_model.specs.Tapes.{entries_of, joined_tape}
 use Rattle.xb_model.proofs.Entries.{entries_of-flat_map}
 use Rattle.xb_model.proofs.Lines.{of_line-append, of_line-here, of_line-other, of_line-all, of_line-none}
 use Rattle.xb_model.proofs.LinesBelow.{lines_below-none, lines_below-more}
-use Rattle.xb_stage.specs.OnLines.{all_on}
-use Rattle.xb_stage.proofs.Images.{image_after-none}
+use Rattle.xb_model.specs.OnLines.{all_on}
+use Rattle.xb_model.proofs.Images.{image_after-none}
 use Rattle.xb_routes.specs.Table.{Table}
 use Rattle.xb_tape.specs.GatheredMarks.{whats_of}
 use Rattle.xb_serial.proofs.LineTapes.{whats_of-on_line}

@@ -8,7 +8,7 @@ use Rattle.xb_model.specs.declared.fault.RowFault.{RowFault}
 use Rattle.xb_model.specs.declared.fault.RowFault.TheVariants as row_fault
 use Rattle.xb_model.specs.Rows.{LoopRow}
 use Rattle.xb_model.specs.Sources.{Rest}
-use Rattle.xb_stage.specs.Image.{image_after}
+use Rattle.xb_model.specs.Image.{image_after}
 use Rattle.xb_routes.specs.Table.{Table}
 use Rattle.xb_rows.specs.Scanning.{GivesRead}
 use Rattle.xb_serial.specs.Office.{marks_of_rows}

@@ -1,5 +1,6 @@
-//! The plain types of the office, the calls that make and read them, and, in `specs/`, the definitions of
-//! the dialling chain: what a line's pulses spell, where a number is routed, and what is keyed.
+//! The plain types of the office, the calls that make and read them, the form of a stage that treats each
+//! line by itself, and, in `specs/`, the definitions of the dialling chain: what a line's pulses spell, where
+//! a number is routed, and what is keyed.
 //!
 //! - The definitions give what the tables and the worked examples say (`laws`). However a line's rows are
 //!   cut, its runs are the same, whatever rows of other lines come between (`laws::rows_may_be_cut`).
@@ -13,6 +14,12 @@
 //! - `field_number` and `line_of` are the number and the line that a field of a text writes, and `None` for
 //!   any other field.
 //! - `PerLine` keeps one value for each line, and gives them with the lines ascending.
+//! - `LineStage`: what a stage sends for an item is on the item's line, and is at most 24 items. Its calls
+//!   take no memory, and cannot fail. `image_of`, what a stage makes of a whole list: each item is taken with
+//!   the state that the earlier items of its line have left.
+//! - `stage_laws::lines_are_apart`: the items of a line in an image are the image of that line's items, for
+//!   every stage and list. `one_state_each` says the same by one state that is handed on, `stateless_lines`
+//!   of stages that keep none.
 //! - `RowSource`: each call gives what a source of rows has still to give; once it has told its stop, no
 //!   memory runs out. `Listed` is the source of a list, and takes no memory.
 #![tactic(auto)]
@@ -22,6 +29,7 @@ mod digit;
 mod digits;
 mod fault;
 mod field;
+mod image;
 mod key;
 pub mod laws;
 mod limits;
@@ -37,6 +45,8 @@ mod relays;
 mod row;
 mod signal;
 mod source;
+mod stage;
+pub mod stage_laws;
 mod trunk;
 
 pub use dialled::Dialled;
@@ -46,6 +56,7 @@ pub use digits::{
 };
 pub use fault::RowFault;
 pub use field::{FIELD_DIGITS, LINE_DIGITS, field_number, line_of};
+pub use image::image_of;
 pub use key::{Key, Tone, mf};
 pub use limits::{GREATEST_LIMIT, Limits};
 pub use line::{LINES, LineNo};
@@ -60,4 +71,5 @@ pub use relays::Relays;
 pub use row::{Contact, GREATEST_MS, Row};
 pub use signal::{MANY_BREAKS, MOST_PULSES, Signal};
 pub use source::{Listed, RowSource};
+pub use stage::{LineStage, MOST_OUTPUTS, OUTPUT_ROOM, send};
 pub use trunk::{TRUNKS, Trunk};

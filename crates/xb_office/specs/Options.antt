@@ -3,8 +3,8 @@ use Rattle.std.specs.Prelude.{ℕ, List, [], ◌∷◌, codes, ◌==◌, ◌||�
 use Rattle.std.specs.Option.{unwrap_or}
 use Rattle.clap.specs.Simple.{App}
 use Rattle.clap.specs.Walk.{Row, Text}
-use Rattle.xb_ring.specs.declared.branches.TheConstants.{MOST_BRANCHES}
-use Rattle.xb_ring.specs.declared.ends.TheConstants.{GREATEST_CAPACITY}
+use Rattle.xb_branches.specs.declared.branches.TheConstants.{MOST_BRANCHES}
+use Rattle.xb_flow.specs.declared.ends.TheConstants.{GREATEST_CAPACITY}
 use Rattle.xb_command.specs.Commands.{command_of}
 use Rattle.xb_command.specs.Given.{AskForNothing, AsksFor, ReadsNumber, given_by}
 use Rattle.xb_command.specs.declared.command.Takes.TheVariants as takes

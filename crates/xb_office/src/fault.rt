@@ -3,8 +3,8 @@ ghost use Rattle.std.specs.Prelude.{◌≡◌};
 
 use thiserror::Error;
 use xb_deck::DeckFault;
+use xb_flow::Post;
 use xb_model::RowFault;
-use xb_ring::Post;
 use xb_routes::RouteFault;
 use xb_text::WriteFault;
 

@@ -1,8 +1,8 @@
 // From a deck on a reader to its page on a writer.
 ghost use Rattle.std.specs.Prelude.{◌≡◌, ◌≤◌, IfErr, IfOk, None, OnOk, length};
 ghost use Rattle.xb_model.specs.Tapes.{tapes_of};
-ghost use Rattle.xb_ring.specs.declared.branches.TheConstants.{MOST_BRANCHES};
-ghost use Rattle.xb_ring.specs.declared.ends.TheConstants.{GREATEST_CAPACITY};
+ghost use Rattle.xb_branches.specs.declared.branches.TheConstants.{MOST_BRANCHES};
+ghost use Rattle.xb_flow.specs.declared.ends.TheConstants.{GREATEST_CAPACITY};
 ghost use Rattle.xb_rows.specs.RowTexts.{fault_of_text, rows_of_text};
 ghost use Rattle.xb_deck.specs.declared.deck.TheConstants.{MOST_DECK_BYTES};
 ghost use Rattle.xb_deck.specs.Contents.{IsRowsFault, with_rows};
@@ -15,9 +15,10 @@ use std::io::{Read, Write};
 use std::sync::Wait;
 use std::thread::Threads;
 use std::time::Clock;
+use xb_branches::MOST_BRANCHES;
 use xb_deck::{Deck, DeckFault, read_deck};
+use xb_flow::{GREATEST_CAPACITY, Gate, NoGate};
 use xb_model::RowSource;
-use xb_ring::{GREATEST_CAPACITY, Gate, MOST_BRANCHES, NoGate};
 use xb_routes::RouteTable;
 use xb_rows::Scan;
 use xb_run::{BankFault, run};

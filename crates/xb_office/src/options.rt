@@ -1,7 +1,7 @@
 // What the words of the command line choose.
 ghost use Rattle.std.specs.Prelude.{◌≤◌};
-ghost use Rattle.xb_ring.specs.declared.branches.TheConstants.{MOST_BRANCHES};
-ghost use Rattle.xb_ring.specs.declared.ends.TheConstants.{GREATEST_CAPACITY};
+ghost use Rattle.xb_branches.specs.declared.branches.TheConstants.{MOST_BRANCHES};
+ghost use Rattle.xb_flow.specs.declared.ends.TheConstants.{GREATEST_CAPACITY};
 
 /// How many senders there are unless the words say otherwise.
 pub const DEFAULT_SENDERS: u16 = 4;

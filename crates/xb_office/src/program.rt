@@ -11,7 +11,7 @@ use std::sync::Wait;
 use std::thread::Threads;
 use std::time::Clock;
 use xb_command::{DONE, tell_fault, tell_words};
-use xb_ring::{Gate, NoGate};
+use xb_flow::{Gate, NoGate};
 
 // The program's name.
 pub(crate) const PROGRAM: &str = "mfbank";

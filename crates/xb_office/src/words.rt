@@ -1,15 +1,16 @@
 // The options that the words of the command line choose.
 ghost use Rattle.std.specs.Prelude.{◌≡◌, ◌≤◌, IfErr, IfOk, IfSome};
-ghost use Rattle.xb_ring.specs.declared.branches.TheConstants.{MOST_BRANCHES};
-ghost use Rattle.xb_ring.specs.declared.ends.TheConstants.{GREATEST_CAPACITY};
+ghost use Rattle.xb_branches.specs.declared.branches.TheConstants.{MOST_BRANCHES};
+ghost use Rattle.xb_flow.specs.declared.ends.TheConstants.{GREATEST_CAPACITY};
 ghost use Rattle.xb_command.specs.Commands.{texts_of};
 ghost use Rattle.xb_office.specs.Options.{AreRefused, AskForSizes, Asks, Say, size_of, sizes_of};
 
 use crate::options::{DEFAULT_RING, DEFAULT_SENDERS, Options};
 use crate::program::PROGRAM;
 use std::alloc::Global;
+use xb_branches::MOST_BRANCHES;
 use xb_command::{Takes, Words, WordsFault, read_words};
-use xb_ring::{GREATEST_CAPACITY, MOST_BRANCHES};
+use xb_flow::GREATEST_CAPACITY;
 
 // The numbers that the words of the command line give.
 #[derive(Clone, Copy)]

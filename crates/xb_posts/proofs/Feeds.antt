@@ -4,10 +4,10 @@ use Rattle.rtrb.specs.Ring.{sent}
 use Rattle.xb_model.specs.declared.fault.RowFault.{RowFault}
 use Rattle.xb_model.specs.Rows.{LoopRow}
 use Rattle.xb_model.specs.Sources.{told}
-use Rattle.xb_ring.specs.declared.flow.Flow.{Flow}
-use Rattle.xb_ring.specs.declared.flow.Flow.TheVariants.{Item, End}
-use Rattle.xb_ring.specs.declared.turn.Turn.TheVariants.{Moved}
-use Rattle.xb_ring.specs.Flows.{has_end, flow_of}
+use Rattle.xb_flow.specs.declared.flow.Flow.{Flow}
+use Rattle.xb_flow.specs.declared.flow.Flow.TheVariants.{Item, End}
+use Rattle.xb_flow.specs.declared.turn.Turn.TheVariants.{Moved}
+use Rattle.xb_flow.specs.Flows.{has_end, flow_of}
 use Rattle.xb_closes.specs.Left.{left}
 use Rattle.xb_posts.specs.Fillings.{MayGive, held_and_left, held_with, Fills}
 use Rattle.xb_posts.specs.Feeds.{FeedOf, AreRows, has_fed, to_come, FeedsOn, TakesAhead, SendsHeld, SendsOne, IsFeedTurn, HasFed, result_of}

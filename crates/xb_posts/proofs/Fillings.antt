@@ -6,10 +6,10 @@ use Rattle.xb_model.specs.declared.fault.RowFault.{RowFault}
 use Rattle.xb_model.specs.declared.fault.RowFault.TheVariants.{NoMemory}
 use Rattle.xb_model.specs.Rows.{LoopRow}
 use Rattle.xb_model.specs.Sources.{Rest, told, Gives}
-use Rattle.xb_ring.specs.declared.flow.Flow.{Flow}
-use Rattle.xb_ring.specs.declared.flow.Flow.TheVariants.{Item, End}
-use Rattle.xb_ring.specs.Flows.{flow_of}
-use Rattle.xb_ring.proofs.Prefixes.{prefix_within}
+use Rattle.xb_flow.specs.declared.flow.Flow.{Flow}
+use Rattle.xb_flow.specs.declared.flow.Flow.TheVariants.{Item, End}
+use Rattle.xb_flow.specs.Flows.{flow_of}
+use Rattle.xb_flow.proofs.Prefixes.{prefix_within}
 use Rattle.xb_closes.specs.declared.line_use.LineUse.{LineUse}
 use Rattle.xb_closes.specs.Left.{kept_in, left}
 use Rattle.xb_posts.specs.Fillings.{MayGive, GaveAll, Gave, held_and_left, Fills}

@@ -2,10 +2,10 @@
 use Rattle.std.proofs.Common.{◌≡◌, ◌≢◌, ◌≤◌, ◌+◌, ◌-◌, ◌^◌, min, ℕ, false, List, [], ◌∷◌, ◌++◌, map, length, length-append, refl, sym, ap, ◌∙◌, append-nil, append_assoc, drop, get_or, inl, inr, arith}
 use Rattle.std.proofs.lemmas.List.{map-append, length-map}
 use Rattle.xb_model.specs.Rows.{LoopRow}
-use Rattle.xb_ring.specs.declared.flow.Flow.{Flow}
-use Rattle.xb_ring.specs.declared.flow.Flow.TheVariants.{Item, End}
-use Rattle.xb_ring.specs.Flows.{items_of, has_end, IsFlow, counted}
-use Rattle.xb_ring.proofs.Flows.{count_on, has_end-flow}
+use Rattle.xb_flow.specs.declared.flow.Flow.{Flow}
+use Rattle.xb_flow.specs.declared.flow.Flow.TheVariants.{Item, End}
+use Rattle.xb_flow.specs.Flows.{items_of, has_end, IsFlow, counted}
+use Rattle.xb_flow.proofs.Flows.{count_on, has_end-flow}
 use Rattle.xb_posts.specs.declared.filling.TheConstants.{AHEAD}
 use Rattle.xb_posts.specs.Feeds.{AreRows, IsOnePush}
 

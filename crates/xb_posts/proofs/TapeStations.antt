@@ -6,10 +6,10 @@ use Rattle.xb_model.specs.declared.line.TheConstants.{LINES}
 use Rattle.xb_model.specs.declared.on.On.{On}
 use Rattle.xb_model.specs.declared.mark.Mark.{Mark}
 use Rattle.xb_model.specs.Tapes.{marks_at}
-use Rattle.xb_ring.specs.declared.flow.Flow.{Flow}
-use Rattle.xb_ring.specs.declared.flow.Flow.TheVariants.{Item, End}
-use Rattle.xb_ring.specs.Flows.{items_of, has_end, IsFlow}
-use Rattle.xb_ring.proofs.Flows.{items_of-item, items_of-end, IsFlow-more}
+use Rattle.xb_flow.specs.declared.flow.Flow.{Flow}
+use Rattle.xb_flow.specs.declared.flow.Flow.TheVariants.{Item, End}
+use Rattle.xb_flow.specs.Flows.{items_of, has_end, IsFlow}
+use Rattle.xb_flow.proofs.Flows.{items_of-item, items_of-end, IsFlow-more}
 use Rattle.xb_tape.specs.GatheredMarks.{AreTapes}
 use Rattle.xb_tape.proofs.MarksInOrder.{are_tapes-more}
 use Rattle.xb_posts.specs.TapeStations.{TapeOf, TapeLaw}

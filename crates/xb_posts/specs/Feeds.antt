@@ -6,11 +6,11 @@ use Rattle.rtrb.specs.Ring.{sent, known_free, ProducerLooked}
 use Rattle.xb_model.specs.declared.fault.RowFault.{RowFault}
 use Rattle.xb_model.specs.Rows.{LoopRow}
 use Rattle.xb_model.specs.Sources.{Rest, told}
-use Rattle.xb_ring.specs.declared.flow.Flow.{Flow}
-use Rattle.xb_ring.specs.declared.flow.Flow.TheVariants.{Item}
-use Rattle.xb_ring.specs.declared.turn.Turn.{Turn}
-use Rattle.xb_ring.specs.declared.turn.Turn.TheVariants.{Idle, Blocked, Moved, Ended}
-use Rattle.xb_ring.specs.Flows.{items_of, has_end, IsFlow, counted}
+use Rattle.xb_flow.specs.declared.flow.Flow.{Flow}
+use Rattle.xb_flow.specs.declared.flow.Flow.TheVariants.{Item}
+use Rattle.xb_flow.specs.declared.turn.Turn.{Turn}
+use Rattle.xb_flow.specs.declared.turn.Turn.TheVariants.{Idle, Blocked, Moved, Ended}
+use Rattle.xb_flow.specs.Flows.{items_of, has_end, IsFlow, counted}
 use Rattle.xb_posts.specs.Fillings.{MayGive, GaveAll, GaveRows, held_and_left, held_with}
 use Rattle.xb_posts.specs.declared.course.Course.{Course}
 use Rattle.xb_posts.specs.declared.course.Course.TheVariants.{Going, Stopped, Over}

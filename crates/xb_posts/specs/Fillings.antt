@@ -5,9 +5,9 @@ use Rattle.xb_model.specs.declared.fault.RowFault.{RowFault}
 use Rattle.xb_model.specs.declared.fault.RowFault.TheVariants.{NoMemory}
 use Rattle.xb_model.specs.Rows.{LoopRow}
 use Rattle.xb_model.specs.Sources.{Rest, told}
-use Rattle.xb_ring.specs.declared.flow.Flow.{Flow}
-use Rattle.xb_ring.specs.declared.flow.Flow.TheVariants.{Item}
-use Rattle.xb_ring.specs.Flows.{flow_of}
+use Rattle.xb_flow.specs.declared.flow.Flow.{Flow}
+use Rattle.xb_flow.specs.declared.flow.Flow.TheVariants.{Item}
+use Rattle.xb_flow.specs.Flows.{flow_of}
 use Rattle.xb_closes.specs.Left.{kept_in, left}
 use Rattle.xb_closes.specs.declared.line_use.LineUse.{LineUse}
 

@@ -1,9 +1,3 @@
-pub mod Blank
-pub mod Chains
 pub mod Feeds
 pub mod Fillings
-pub mod Laws
-pub mod Made
-pub mod Posts
-pub mod Rings
 pub mod TapeStations

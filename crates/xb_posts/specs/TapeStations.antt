@@ -4,10 +4,10 @@ use Rattle.rtrb.specs.declared.consumer.Consumer.{Consumer}
 use Rattle.rtrb.specs.Ring.{received, known_items, ConsumerLooked}
 use Rattle.xb_model.specs.declared.on.On.{On}
 use Rattle.xb_model.specs.declared.mark.Mark.{Mark}
-use Rattle.xb_ring.specs.declared.flow.Flow.{Flow}
-use Rattle.xb_ring.specs.declared.turn.Turn.{Turn}
-use Rattle.xb_ring.specs.declared.turn.Turn.TheVariants.{Idle, Blocked, Moved, Ended}
-use Rattle.xb_ring.specs.Flows.{items_of, has_end, IsFlow}
+use Rattle.xb_flow.specs.declared.flow.Flow.{Flow}
+use Rattle.xb_flow.specs.declared.turn.Turn.{Turn}
+use Rattle.xb_flow.specs.declared.turn.Turn.TheVariants.{Idle, Blocked, Moved, Ended}
+use Rattle.xb_flow.specs.Flows.{items_of, has_end, IsFlow}
 use Rattle.xb_tape.specs.GatheredMarks.{AreTapes}
 
 -- what clauses see of a tape station: its end, the tapes of the lines, and whether marks were dropped

@@ -7,8 +7,8 @@ use std::marker::Model;
 use std::sync::Wait;
 use std::time::Clock;
 use xb_closes::LineUses;
+use xb_flow::{Flow, Gate, Pause, Post, Sends, Turn, look_at_both};
 use xb_model::{Row, RowFault, RowSource};
-use xb_ring::{Flow, Gate, Pause, Post, Sends, Turn, look_at_both};
 
 /// A post that sends the fed rows of its source: the rows without those of a line after its close,
 /// then, where the source ends, a close for each line that lacks one, lines ascending, and the End.
@@ -31,7 +31,7 @@ impl<S: RowSource> Model for Feed<S> {
     ghost use Rattle.rtrb.specs.declared.producer.Producer.{Producer};
     ghost use Rattle.rtrb.specs.declared.AnyItems.{AnyItems};
     ghost use Rattle.rtrb.specs.Ring.{sent};
-    ghost use Rattle.xb_ring.specs.declared.flow.Flow.{Flow};
+    ghost use Rattle.xb_flow.specs.declared.flow.Flow.{Flow};
     ghost use Rattle.xb_model.specs.Rows.{LoopRow};
     ghost use Rattle.xb_posts.specs.Feeds.{FeedView, FeedAgrees, has_met};
 
@@ -55,8 +55,8 @@ impl<S: RowSource> Feed<S> {
     ghost use Rattle.xb_model.specs.Rows.{LoopRow};
     ghost use Rattle.xb_model.specs.Sources.{told};
     ghost use Rattle.xb_model.specs.declared.fault.RowFault.{RowFault as Fault};
-    ghost use Rattle.xb_ring.specs.Flows.{flow_of};
-    ghost use Rattle.xb_ring.specs.declared.turn.Turn.TheVariants.{Ended};
+    ghost use Rattle.xb_flow.specs.Flows.{flow_of};
+    ghost use Rattle.xb_flow.specs.declared.turn.Turn.TheVariants.{Ended};
     ghost use Rattle.xb_closes.specs.Fed.{fed};
     ghost use Rattle.xb_posts.specs.Fillings.{held_with};
     ghost use Rattle.xb_posts.specs.Feeds.{FeedsOn, TakesAhead, MeetsStop, SendsOne, IsFeedTurn, HasFed, has_fed, to_come, result_of};

@@ -4,8 +4,8 @@ ghost use Rattle.xb_posts.specs.Feeds.{AreRows};
 ghost use Rattle.xb_posts.specs.Fillings.{Fills};
 
 use xb_closes::LineUses;
+use xb_flow::Flow;
 use xb_model::{Row, RowFault, RowSource};
-use xb_ring::Flow;
 
 /// The most rows that a feed holds, and sends by one push.
 pub const AHEAD: usize = 16;

@@ -1,5 +1,4 @@
-//! The posts at the two ends of the chain, the feed and the tape station, and all posts and rings of the
-//! chain, made once.
+//! The posts at the two ends of the chain: the feed and the tape station.
 //!
 //! - `Feed::new`: what it has to send are the fed rows of its source, whatever rows and stop that gives,
 //!   and then the End. `Feed::turn`: what was sent, followed by what is still to be sent, stays as it was.
@@ -9,25 +8,16 @@
 //! - `TapeStation::turn`: each line has its marks of those that were received, in order. Where memory runs
 //!   out nothing was received and the tapes are unchanged. `TapeStation::serve`: everything up to the End
 //!   was received; after `Err` marks were dropped.
-//! - `Chain::link`: for any source, table, 1 to 8 senders and rings of 1 to 1,024, both ends of each ring
-//!   are those of one ring with room for exactly the number asked for; nothing was sent, received or held,
-//!   and no line has a mark; the stages are made of the table's limits, plan and routes; and each post
-//!   keeps its law. `run` and a replay take their posts from it.
 //!
 //! Not said: whether a slice was sent by one push or item by item.
 #![tactic(auto)]
 
-mod branches;
-mod chain;
 mod course;
 mod feed;
 mod filling;
 pub mod laws;
-mod originating;
-mod outgoing;
 mod tape_station;
 
-pub use chain::Chain;
 pub use feed::Feed;
 pub use filling::AHEAD;
 pub use tape_station::TapeStation;

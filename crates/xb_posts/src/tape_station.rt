@@ -4,8 +4,8 @@ use std::alloc::{AllocError, Global};
 use std::marker::Model;
 use std::sync::Wait;
 use std::time::Clock;
+use xb_flow::{Flow, Gate, Pause, Post, Sends, Turn};
 use xb_model::{LineNo, Mark, On};
-use xb_ring::{Flow, Gate, Pause, Post, Sends, Turn};
 use xb_tape::Tapes;
 
 /// A post that puts each mark that it receives on its line's tape. Clauses see its end,
@@ -26,8 +26,8 @@ impl Model for TapeStation {
     ghost use Rattle.rtrb.specs.declared.consumer.Consumer.{Consumer};
     ghost use Rattle.rtrb.specs.declared.AnyItems.{AnyItems};
     ghost use Rattle.rtrb.specs.Ring.{received};
-    ghost use Rattle.xb_ring.specs.declared.flow.Flow.{Flow};
-    ghost use Rattle.xb_ring.specs.Flows.{items_of, has_end, counted};
+    ghost use Rattle.xb_flow.specs.declared.flow.Flow.{Flow};
+    ghost use Rattle.xb_flow.specs.Flows.{items_of, has_end, counted};
     ghost use Rattle.xb_model.specs.declared.on.On.{On};
     ghost use Rattle.xb_model.specs.declared.mark.Mark.{Mark as TapeMark};
     ghost use Rattle.xb_posts.specs.TapeStations.{TapeView, TapeLaw};
@@ -47,8 +47,8 @@ impl TapeStation {
     ghost use Rattle.xb_model.specs.declared.line.TheConstants.{LINES};
     ghost use Rattle.xb_model.specs.Tapes.{marks_at};
     ghost use Rattle.rtrb.specs.Ring.{received, SameConsumer, ConsumerLooked};
-    ghost use Rattle.xb_ring.specs.Rings.{IsPairAt, IsRingAt};
-    ghost use Rattle.xb_ring.specs.declared.turn.Turn.TheVariants.{Ended};
+    ghost use Rattle.xb_flow.specs.Rings.{IsPairAt, IsRingAt};
+    ghost use Rattle.xb_flow.specs.declared.turn.Turn.TheVariants.{Ended};
     ghost use Rattle.xb_posts.specs.TapeStations.{TapeLaw, IsTapeTurn, has_ended, is_ended};
 
     /// A station whose tapes have no marks, on an end that has received nothing; `Err` where memory

@@ -13,12 +13,12 @@ use Rattle.xb_model.specs.Rows.{LoopRow}
 use Rattle.xb_model.specs.Records.{closes, record_up_to_close, rows_of, joined, make, break}
 use Rattle.xb_model.specs.Signals.{signals_of}
 use Rattle.xb_model.specs.LawfulLimits.{IsLawful}
-use Rattle.xb_stage.specs.Image.{image_on}
+use Rattle.xb_model.specs.Image.{image_on}
 use Rattle.xb_model.specs.Lines.{row_line, on_line_of}
-use Rattle.xb_stage.specs.OnLines.{on_line, whats_from}
+use Rattle.xb_model.specs.OnLines.{on_line, whats_from}
 use Rattle.xb_model.proofs.Lines.{of_line-on}
-use Rattle.xb_stage.proofs.Images.{image-of_line}
-use Rattle.xb_stage.proofs.OnLines.{on_line-append, image_from-on_lines}
+use Rattle.xb_model.proofs.Images.{image-of_line}
+use Rattle.xb_model.proofs.OnLines.{on_line-append, image_from-on_lines}
 use Rattle.xb_pulse.specs.Laws.{HearsTheRecord, HearsTheRecordOfEach, HearsSoFar, HearsSoFarOfEach, heard_on}
 use Rattle.xb_pulse.specs.declared.state.Phase.{Phase}
 use Rattle.xb_pulse.specs.declared.state.Phase.TheVariants.{OnHook, BetweenTrains, InBreak, InMake, TimedOut, Closed}

@@ -12,8 +12,8 @@ use Rattle.xb_model.specs.Lines.{row_line, on_line_of, of_line}
 use Rattle.xb_model.specs.Records.{closes, rows_of, record_up_to_close, record_of}
 use Rattle.xb_model.specs.Rows.{LoopRow}
 use Rattle.xb_model.specs.Signals.{signals_of}
-use Rattle.xb_stage.specs.Image.{Machine, image, image_on}
-use Rattle.xb_stage.specs.OnLines.{on_line}
+use Rattle.xb_model.specs.Image.{Machine, image, image_on}
+use Rattle.xb_model.specs.OnLines.{on_line}
 
 -- what rows of all lines give on one of them
 abbrev pub heard_on : {S : Type 0} → Machine LoopRow (On Signal) S → LineNo → List LoopRow → List (On Signal)

@@ -12,8 +12,8 @@ use Rattle.xb_model.specs.declared.signal.TheConstants.{MANY_BREAKS}
 use Rattle.xb_model.specs.Lines.{row_line}
 use Rattle.xb_model.specs.Rows.{LoopRow}
 use Rattle.xb_model.specs.Signals.{is_bad_run}
-use Rattle.xb_stage.specs.Image.{Machine}
-use Rattle.xb_stage.specs.OnLines.{on_lines}
+use Rattle.xb_model.specs.Image.{Machine}
+use Rattle.xb_model.specs.OnLines.{on_lines}
 use Rattle.xb_pulse.specs.declared.state.Tally.{Tally}
 use Rattle.xb_pulse.specs.declared.state.Phase.{Phase}
 use Rattle.xb_pulse.specs.declared.state.Phase.TheVariants.{OnHook, BetweenTrains, InBreak, InMake, TimedOut, Closed}

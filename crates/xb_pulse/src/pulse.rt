@@ -12,8 +12,7 @@ use crate::state::{Phase, PulseState, Tally};
 use crate::step::{MOST_SIGNALS, Step};
 use arrayvec::ArrayVec;
 use std::marker::Model;
-use xb_model::{Contact, GREATEST_LIMIT, Limits, MANY_BREAKS, On, Row, Signal};
-use xb_stage::{LineStage, send};
+use xb_model::{Contact, GREATEST_LIMIT, Limits, LineStage, MANY_BREAKS, On, Row, Signal, send};
 
 /// The stage that turns the rows of each line's loop into signals, by its limits.
 ///

@@ -16,7 +16,7 @@ use Rattle.xb_model.specs.Numbers.{digit_of_train, train_digits, before_mutilate
 use Rattle.xb_model.proofs.Completed.{completed_number, shortest_complete-completed}
 use Rattle.xb_model.proofs.Pending.{IsPending, one, reaches-pending}
 use Rattle.xb_model.proofs.Spelled.{spelled}
-use Rattle.xb_stage.specs.OnLines.{on_line}
+use Rattle.xb_model.specs.OnLines.{on_line}
 use Rattle.xb_register.specs.declared.state.Phase.TheVariants.{OnHook, Listening, Done}
 use Rattle.xb_register.specs.Laws.{GivesOutcomes}
 use Rattle.xb_register.specs.Machine.{store, phase_after, machine}

@@ -4,8 +4,8 @@ use Rattle.xb_model.specs.declared.line.LineNo.{LineNo}
 use Rattle.xb_model.specs.declared.plan.Plan.{Plan}
 use Rattle.xb_model.specs.declared.signal.Signal.{Signal}
 use Rattle.xb_model.specs.declared.dialled.Dialled.{Dialled}
-use Rattle.xb_stage.specs.OnLines.{on_line, whats_from}
-use Rattle.xb_stage.proofs.OnLines.{image_from-whats}
+use Rattle.xb_model.specs.OnLines.{on_line, whats_from}
+use Rattle.xb_model.proofs.OnLines.{image_from-whats}
 use Rattle.xb_register.specs.declared.state.Phase.{Phase}
 use Rattle.xb_register.specs.declared.state.Phase.TheVariants.{OnHook}
 use Rattle.xb_register.specs.Machine.{phase_after, outcomes_by, machine}

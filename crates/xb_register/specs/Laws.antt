@@ -11,8 +11,8 @@ use Rattle.xb_model.specs.declared.signal.Signal.TheVariants.{Seize, Digit, Time
 use Rattle.xb_model.specs.Records.{Run}
 use Rattle.xb_model.specs.Numbers.{outcomes_of}
 use Rattle.xb_model.specs.Signals.{signals_of}
-use Rattle.xb_stage.specs.Image.{Machine, image_on}
-use Rattle.xb_stage.specs.OnLines.{on_line}
+use Rattle.xb_model.specs.Image.{Machine, image_on}
+use Rattle.xb_model.specs.OnLines.{on_line}
 
 -- a signal that seizes a register
 abbrev pub is_seizure : Signal → Bool

@@ -1,8 +1,8 @@
 -- The register, signal by signal.
 use Rattle.std.specs.Prelude.{ℕ, List, [], ◌∷◌, ◌++◌, length, if◌then◌else◌, Option, Some, None}
 use Rattle.std.specs.Option.{option_to_list}
-use Rattle.xb_stage.specs.Image.{Machine}
-use Rattle.xb_stage.specs.OnLines.{whats_on_lines}
+use Rattle.xb_model.specs.Image.{Machine}
+use Rattle.xb_model.specs.OnLines.{whats_on_lines}
 use Rattle.xb_model.specs.declared.on.On.{On}
 use Rattle.xb_model.specs.declared.plan.Plan.{Plan}
 use Rattle.xb_model.specs.declared.signal.Signal.{Signal}

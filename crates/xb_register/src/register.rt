@@ -3,7 +3,7 @@ ghost use Rattle.std.specs.Prelude.{◌≡◌, ◌<◌, length};
 ghost use Rattle.xb_model.specs.Plans.{plan_len};
 ghost use Rattle.xb_model.specs.TwoOfFive.{digit_of_pattern};
 ghost use Rattle.std.specs.Option.{option_to_list};
-ghost use Rattle.xb_stage.specs.OnLines.{all_on};
+ghost use Rattle.xb_model.specs.OnLines.{all_on};
 ghost use Rattle.xb_register.specs.Laws.{GivesOutcomes, EachSeizureGivesAtMostOne, GivesNoMoreThanSeizures, GivesNoneBeforeASeizure};
 ghost use Rattle.xb_register.specs.Phases.{HasRoom};
 ghost use Rattle.xb_register.specs.Machine.{advance, listen, store, reaches, outcomes_by, phase_after, machine};
@@ -12,8 +12,9 @@ use crate::state::{Phase, RegisterState};
 use crate::step::Step;
 use crate::stored::StoredDigits;
 use std::marker::Model;
-use xb_model::{Dialled, NUMBER_DIGITS, On, Plan, Reason, Relays, Signal, plan_len};
-use xb_stage::{LineStage, send};
+use xb_model::{
+    Dialled, LineStage, NUMBER_DIGITS, On, Plan, Reason, Relays, Signal, plan_len, send,
+};
 
 /// The register stage: signals of each line in, what comes of each attempt out.
 ///

@@ -4,15 +4,15 @@ use Rattle.std.proofs.lemmas.Bool.{false≢true}
 use Rattle.rtrb.specs.Ring.{sent}
 use Rattle.xb_model.specs.Rows.{LoopRow}
 use Rattle.xb_model.specs.Sources.{Rest, ended_by}
-use Rattle.xb_ring.specs.declared.flow.Flow.{Flow}
-use Rattle.xb_ring.specs.declared.post.Post.TheVariants as posts
-use Rattle.xb_ring.specs.Flows.{flow_of, has_end}
+use Rattle.xb_flow.specs.declared.flow.Flow.{Flow}
+use Rattle.xb_flow.specs.declared.post.Post.TheVariants as posts
+use Rattle.xb_flow.specs.Flows.{flow_of, has_end}
 use Rattle.xb_routes.specs.Table.{Table}
 use Rattle.xb_closes.specs.Fed.{fed}
 use Rattle.xb_posts.specs.Feeds.{to_come}
-use Rattle.xb_posts.specs.Blank.{IsBlank}
-use Rattle.xb_posts.specs.Chains.{IsChain}
-use Rattle.xb_posts.specs.Posts.{Posts}
+use Rattle.xb_run.specs.Blank.{IsBlank}
+use Rattle.xb_run.specs.Chains.{IsChain}
+use Rattle.xb_run.specs.Posts.{Posts}
 use Rattle.xb_replay.specs.Turns.{NoneEnded}
 use Rattle.xb_replay.specs.World.{WorldLaw}
 use Rattle.xb_replay.proofs.Prefixes.{no_sender}

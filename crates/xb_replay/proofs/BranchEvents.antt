@@ -8,22 +8,22 @@ use Rattle.xb_model.specs.declared.mark.Mark.{Mark}
 use Rattle.xb_model.specs.declared.on.On.{On}
 use Rattle.xb_model.specs.declared.order.Order.{Order}
 use Rattle.xb_model.specs.Keyings.{is_ending}
-use Rattle.xb_ring.specs.declared.flow.Flow.{Flow}
-use Rattle.xb_ring.specs.declared.held.Held.{Held}
-use Rattle.xb_ring.specs.declared.held.Held.TheVariants.{Nothing, One, Ends, Over}
-use Rattle.xb_ring.specs.declared.turn.Turn.{Turn}
-use Rattle.xb_ring.specs.declared.turn.Turn.TheVariants.{Idle, Blocked, Moved, Ended}
-use Rattle.xb_ring.specs.DealSteps.{CanSend}
-use Rattle.xb_ring.specs.Deals.{DealLaw, IsDealTurn, IsPlace}
-use Rattle.xb_ring.specs.Flows.{items_of, has_end}
-use Rattle.xb_ring.specs.GatherSteps.{Awaits, CanGather}
-use Rattle.xb_ring.specs.Gathers.{GatherLaw, IsGatherTurn, TakesAt}
-use Rattle.xb_ring.specs.Rings.{IsRing, ProducersLooked}
-use Rattle.xb_ring.proofs.Rings.{map_same}
+use Rattle.xb_flow.specs.declared.flow.Flow.{Flow}
+use Rattle.xb_branches.specs.declared.held.Held.{Held}
+use Rattle.xb_branches.specs.declared.held.Held.TheVariants.{Nothing, One, Ends, Over}
+use Rattle.xb_flow.specs.declared.turn.Turn.{Turn}
+use Rattle.xb_flow.specs.declared.turn.Turn.TheVariants.{Idle, Blocked, Moved, Ended}
+use Rattle.xb_branches.specs.DealSteps.{CanSend}
+use Rattle.xb_branches.specs.Deals.{DealLaw, IsDealTurn, IsPlace}
+use Rattle.xb_flow.specs.Flows.{items_of, has_end}
+use Rattle.xb_branches.specs.GatherSteps.{Awaits, CanGather}
+use Rattle.xb_branches.specs.Gathers.{GatherLaw, IsGatherTurn, TakesAt}
+use Rattle.xb_flow.specs.Rings.{IsRing, ProducersLooked}
+use Rattle.xb_flow.proofs.Rings.{map_same}
 use Rattle.xb_replay.specs.Looks.{ConsumersLooked}
 use Rattle.xb_replay.specs.Turns.{OutputsStay, DealStays, DealWaits, DealMoves, GatherStays, GatherWaits, GatherMoves, IsNext}
-use Rattle.xb_posts.specs.Posts.{Output, SenderPost, DealPost, GatherPost}
-use Rattle.xb_posts.specs.Rings.{AreGathered}
+use Rattle.xb_run.specs.Posts.{Output, SenderPost, DealPost, GatherPost}
+use Rattle.xb_run.specs.Rings.{AreGathered}
 use Rattle.xb_replay.proofs.Events.{Turned, takes, empty, no_room}
 
 -- ---- the deal

@@ -7,17 +7,17 @@ use Rattle.xb_model.specs.declared.on.On.{On}
 use Rattle.xb_model.specs.declared.order.Order.{Order}
 use Rattle.xb_model.specs.Keyings.{is_ending}
 use Rattle.xb_model.specs.Lines.{on_line_of}
-use Rattle.xb_ring.specs.Deals.{DealLaw}
-use Rattle.xb_ring.specs.Gathers.{GatherLaw}
-use Rattle.xb_ring.specs.Rings.{IsRing, ProducersLooked}
+use Rattle.xb_branches.specs.Deals.{DealLaw}
+use Rattle.xb_branches.specs.Gathers.{GatherLaw}
+use Rattle.xb_flow.specs.Rings.{IsRing, ProducersLooked}
 use Rattle.xb_routes.specs.Table.{Table}
 use Rattle.xb_routes.specs.Machine.{machine as translate_machine}
 use Rattle.xb_sender.specs.Machine.{machine as sender_machine}
 use Rattle.xb_posts.specs.TapeStations.{TapeLaw}
 use Rattle.xb_replay.specs.Looks.{OutputLooked, AllInputsLooked, AllOutputsLooked}
-use Rattle.xb_posts.specs.Laws.{SenderLaw}
-use Rattle.xb_posts.specs.Posts.{Input, Output, StationPost, SenderPost, DealPost, GatherPost, TapePost}
-use Rattle.xb_posts.specs.Rings.{AreDealt, AreGathered}
+use Rattle.xb_run.specs.Laws.{SenderLaw}
+use Rattle.xb_run.specs.Posts.{Input, Output, StationPost, SenderPost, DealPost, GatherPost, TapePost}
+use Rattle.xb_run.specs.Rings.{AreDealt, AreGathered}
 use Rattle.xb_replay.specs.World.{World, WorldLaw}
 use Rattle.xb_replay.proofs.LookSteps.{ring_kept, input-law, output-law, input-ring, output-ring, output-stage, each-set}
 

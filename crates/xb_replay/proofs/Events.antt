@@ -4,20 +4,20 @@ use Rattle.rtrb.specs.Ring.{sent, received, known_free, known_items, ProducerLoo
 use Rattle.xb_model.specs.declared.mark.Mark.{Mark}
 use Rattle.xb_model.specs.declared.on.On.{On}
 use Rattle.xb_model.specs.declared.order.Order.{Order}
-use Rattle.xb_ring.specs.declared.flow.Flow.{Flow}
-use Rattle.xb_ring.specs.declared.post.Post.{Post}
-use Rattle.xb_ring.specs.declared.post.Post.TheVariants.{Send}
-use Rattle.xb_ring.specs.declared.turn.Turn.{Turn}
-use Rattle.xb_ring.specs.declared.turn.Turn.TheVariants.{Idle, Blocked, Moved, Ended}
-use Rattle.xb_ring.specs.Flows.{has_end}
-use Rattle.xb_ring.specs.Rings.{IsRing}
-use Rattle.xb_ring.specs.Stations.{IsStationTurn, Stays as StationStays}
+use Rattle.xb_flow.specs.declared.flow.Flow.{Flow}
+use Rattle.xb_flow.specs.declared.post.Post.{Post}
+use Rattle.xb_flow.specs.declared.post.Post.TheVariants.{Send}
+use Rattle.xb_flow.specs.declared.turn.Turn.{Turn}
+use Rattle.xb_flow.specs.declared.turn.Turn.TheVariants.{Idle, Blocked, Moved, Ended}
+use Rattle.xb_flow.specs.Flows.{has_end}
+use Rattle.xb_flow.specs.Rings.{IsRing}
+use Rattle.xb_station.specs.Stations.{IsStationTurn, Stays as StationStays}
 use Rattle.xb_posts.specs.Feeds.{IsFeedTurn, HasMoved, SendsHeld, TakesAhead}
 use Rattle.xb_posts.specs.Fillings.{held_with}
 use Rattle.xb_posts.specs.TapeStations.{IsTapeTurn}
 use Rattle.xb_replay.specs.Looks.{InputLooked, OutputLooked}
 use Rattle.xb_replay.specs.Turns.{FeedStays, StationWaits, StationHasNoRoom, StationMoves, TapeStays, Takes, Waits, HasNoRoom, Moves, HasEnded, Stays, IsTurn}
-use Rattle.xb_posts.specs.Posts.{Input, Output, FeedPost, StationPost, SenderPost, TapePost, Posts}
+use Rattle.xb_run.specs.Posts.{Input, Output, FeedPost, StationPost, SenderPost, TapePost, Posts}
 use Rattle.xb_replay.proofs.LookSteps.{feed-on}
 
 -- ---- one turn of any post

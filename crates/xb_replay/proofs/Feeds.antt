@@ -9,7 +9,7 @@ use Rattle.xb_model.specs.Sources.{Rest, told}
 use Rattle.xb_posts.specs.Feeds.{FeedsOn, to_come}
 use Rattle.xb_posts.specs.Fillings.{MayGive}
 use Rattle.xb_posts.proofs.Feeds.{feeds_on-looked}
-use Rattle.xb_posts.specs.Posts.{FeedPost}
+use Rattle.xb_run.specs.Posts.{FeedPost}
 use Rattle.xb_replay.specs.World.{FeedLaw}
 
 -- of a source that can't run out of memory, all that is left is given

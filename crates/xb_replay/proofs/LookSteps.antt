@@ -5,15 +5,15 @@ use Rattle.rtrb.specs.Ring.{sent, received, SameProducer}
 use Rattle.xb_model.specs.declared.on.On.{On}
 use Rattle.xb_model.specs.declared.order.Order.{Order}
 use Rattle.xb_model.specs.Keyings.{is_ending}
-use Rattle.xb_stage.specs.Image.{Machine}
-use Rattle.xb_ring.specs.declared.flow.Flow.{Flow}
-use Rattle.xb_ring.specs.Gathers.{GatherLaw, GatherLawOf}
-use Rattle.xb_ring.specs.Rings.{IsRing, IsRingAt, ProducersLooked}
-use Rattle.xb_ring.specs.Stations.{StationLaw}
-use Rattle.xb_ring.proofs.Rings.{only_one, pair_kept, producer_on, map_same}
+use Rattle.xb_model.specs.Image.{Machine}
+use Rattle.xb_flow.specs.declared.flow.Flow.{Flow}
+use Rattle.xb_branches.specs.Gathers.{GatherLaw, GatherLawOf}
+use Rattle.xb_flow.specs.Rings.{IsRing, IsRingAt, ProducersLooked}
+use Rattle.xb_station.specs.Stations.{StationLaw}
+use Rattle.xb_flow.proofs.Rings.{only_one, pair_kept, producer_on, map_same}
 use Rattle.xb_replay.specs.Looks.{InputLooked, OutputLooked, AllInputsLooked, AllOutputsLooked, ConsumersLooked}
-use Rattle.xb_posts.specs.Laws.{KeepsImage}
-use Rattle.xb_posts.specs.Posts.{Input, Output, FeedPost, StationPost, SenderPost, DealPost, GatherPost}
+use Rattle.xb_run.specs.Laws.{KeepsImage}
+use Rattle.xb_run.specs.Posts.{Input, Output, FeedPost, StationPost, SenderPost, DealPost, GatherPost}
 
 -- a look at the producer leaves what the consumer knows
 pub ring_kept : {T : Type 0} (p q : Output T) (c : Input T) → SameProducer p q → sent q ≡ sent p → IsRing p c → IsRing q c

@@ -1,10 +1,10 @@
 -- The posts that make no event in a turn of another.
 use Rattle.std.proofs.Common.{◌≢◌, ℕ, ◌<◌, length, get_or, refl}
-use Rattle.xb_ring.specs.declared.post.Post.{Post}
-use Rattle.xb_ring.specs.declared.post.Post.TheVariants as posts
-use Rattle.xb_ring.specs.Stations.{Stays as StationStays}
+use Rattle.xb_flow.specs.declared.post.Post.{Post}
+use Rattle.xb_flow.specs.declared.post.Post.TheVariants as posts
+use Rattle.xb_station.specs.Stations.{Stays as StationStays}
 use Rattle.xb_replay.specs.Turns.{FeedStays, DealStays, GatherStays, TapeStays, OthersStay}
-use Rattle.xb_posts.specs.Posts.{SenderPost, GatherPost, TapePost, Posts}
+use Rattle.xb_run.specs.Posts.{SenderPost, GatherPost, TapePost, Posts}
 
 -- no post but this one makes an event, post by post
 pub record EachOther (post : Post) (old new : Posts) : Type 0 where

@@ -17,22 +17,22 @@ use Rattle.xb_model.specs.Rows.{LoopRow}
 use Rattle.xb_model.specs.Tapes.{EndsAtLast}
 use Rattle.xb_model.proofs.Entries.{marks_of-last}
 use Rattle.xb_model.proofs.Lines.{of_line-append}
-use Rattle.xb_stage.specs.Image.{image}
-use Rattle.xb_stage.specs.OnLines.{on_line}
-use Rattle.xb_stage.proofs.Stateless.{image_all-stateless}
+use Rattle.xb_model.specs.Image.{image}
+use Rattle.xb_model.specs.OnLines.{on_line}
+use Rattle.xb_model.proofs.Stateless.{image_all-stateless}
 use Rattle.xb_pulse.specs.Machine.{machine as pulse_machine}
 use Rattle.xb_register.specs.Machine.{machine as register_machine}
-use Rattle.xb_ring.specs.declared.flow.Flow.{Flow}
-use Rattle.xb_ring.specs.declared.post.Post.{Post}
-use Rattle.xb_ring.specs.declared.post.Post.TheVariants as posts
-use Rattle.xb_ring.specs.Dealt.{dealt}
-use Rattle.xb_ring.specs.Flows.{items_of, has_end}
-use Rattle.xb_ring.specs.GatherSteps.{items_at}
-use Rattle.xb_ring.specs.Merged.{IsPiece}
-use Rattle.xb_ring.specs.Rings.{IsRing}
-use Rattle.xb_ring.proofs.Flows.{flow-front, flow-whole}
-use Rattle.xb_ring.proofs.ImagePrefixes.{image-prefix}
-use Rattle.xb_ring.proofs.Prefixes.{prefix_on}
+use Rattle.xb_flow.specs.declared.flow.Flow.{Flow}
+use Rattle.xb_flow.specs.declared.post.Post.{Post}
+use Rattle.xb_flow.specs.declared.post.Post.TheVariants as posts
+use Rattle.xb_branches.specs.Dealt.{dealt}
+use Rattle.xb_flow.specs.Flows.{items_of, has_end}
+use Rattle.xb_branches.specs.GatherSteps.{items_at}
+use Rattle.xb_branches.specs.Merged.{IsPiece}
+use Rattle.xb_flow.specs.Rings.{IsRing}
+use Rattle.xb_flow.proofs.Flows.{flow-front, flow-whole}
+use Rattle.xb_station.proofs.ImagePrefixes.{image-prefix}
+use Rattle.xb_flow.proofs.Prefixes.{prefix_on}
 use Rattle.xb_routes.specs.Machine.{machine as translate_machine}
 use Rattle.xb_sender.specs.Machine.{machine as sender_machine}
 use Rattle.xb_tape.specs.GatheredMarks.{whats_of}
@@ -43,9 +43,9 @@ use Rattle.xb_serial.proofs.Chain.{chain-fed}
 use Rattle.xb_serial.proofs.LineTapes.{serial_image-line, whats_of-on_line}
 use Rattle.xb_replay.specs.Marks.{marks_of as marks_on, whole_tape, ArePrefixes, AreWhole}
 use Rattle.xb_replay.specs.Turns.{IsThere, HasEnded}
-use Rattle.xb_posts.specs.Laws.{StageLaws}
-use Rattle.xb_posts.specs.Posts.{Input, Output, SenderPost, Posts}
-use Rattle.xb_posts.specs.Rings.{AreLinked}
+use Rattle.xb_run.specs.Laws.{StageLaws}
+use Rattle.xb_run.specs.Posts.{Input, Output, SenderPost, Posts}
+use Rattle.xb_run.specs.Rings.{AreLinked}
 use Rattle.xb_replay.specs.World.{World, FeedLaw}
 use Rattle.xb_replay.proofs.Sent.{ring-prefix, ring-whole, station-prefix, station-whole, deal-prefix, deal-whole, gather-prefix, gather-whole, gather-ended}
 

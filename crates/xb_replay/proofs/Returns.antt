@@ -3,12 +3,12 @@ use Rattle.std.proofs.Common.{◌≡◌, ◌↔◌, ℕ, ◌<◌, length, get_or
 use Rattle.rtrb.specs.Ring.{sent}
 use Rattle.xb_model.specs.declared.on.On.{On}
 use Rattle.xb_model.specs.declared.order.Order.{Order}
-use Rattle.xb_ring.specs.declared.post.Post.{Post}
-use Rattle.xb_ring.specs.declared.post.Post.TheVariants.{Send, Tape}
-use Rattle.xb_ring.specs.declared.turn.Turn.{Turn}
-use Rattle.xb_ring.specs.declared.turn.Turn.TheVariants.{Ended}
+use Rattle.xb_flow.specs.declared.post.Post.{Post}
+use Rattle.xb_flow.specs.declared.post.Post.TheVariants.{Send, Tape}
+use Rattle.xb_flow.specs.declared.turn.Turn.{Turn}
+use Rattle.xb_flow.specs.declared.turn.Turn.TheVariants.{Ended}
 use Rattle.xb_replay.specs.Turns.{SameRecords, Waits, HasNoRoom, Moves, HasEnded, Stays, OthersStay, IsTurn, HasTurned, HasRefused}
-use Rattle.xb_posts.specs.Posts.{Output, SenderPost}
+use Rattle.xb_run.specs.Posts.{Output, SenderPost}
 use Rattle.xb_replay.specs.World.{World}
 use Rattle.xb_replay.proofs.Events.{Turned, is-turn, ok_same, StationTurned, sender-turned}
 use Rattle.xb_replay.proofs.Others.{EachOther, others-stay}

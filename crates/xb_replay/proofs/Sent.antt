@@ -6,21 +6,21 @@ use Rattle.std.proofs.lemmas.List.Sums.{AllPass-from_list_all}
 use Rattle.rtrb.specs.declared.producer.Producer.{Producer}
 use Rattle.rtrb.specs.declared.consumer.Consumer.{Consumer}
 use Rattle.rtrb.specs.Ring.{sent, received, known_items}
-use Rattle.xb_stage.specs.Image.{Machine, image}
-use Rattle.xb_ring.specs.declared.flow.Flow.{Flow}
-use Rattle.xb_ring.specs.declared.gathered.Gathered.{Gathered}
-use Rattle.xb_ring.specs.Dealt.{dealt}
-use Rattle.xb_ring.specs.Deals.{DealOf, DealLaw, held_for}
-use Rattle.xb_ring.specs.Flows.{items_of, has_end}
-use Rattle.xb_ring.specs.Gathers.{GatherLawOf}
-use Rattle.xb_ring.specs.GatherSteps.{items_at, ended_in, to_send}
-use Rattle.xb_ring.specs.Merged.{merged, IsPiece}
-use Rattle.xb_ring.specs.Rings.{IsRing}
-use Rattle.xb_ring.specs.Stations.{StationLaw}
-use Rattle.xb_ring.proofs.Flows.{items_of-prefix, items_of-ended, has_end-ended, flow-front, flow-whole}
-use Rattle.xb_ring.proofs.ImagePrefixes.{image-prefix}
-use Rattle.xb_ring.proofs.Merged.{merged_prefix, merged_same, merged_whole}
-use Rattle.xb_ring.proofs.Prefixes.{prefix_on}
+use Rattle.xb_model.specs.Image.{Machine, image}
+use Rattle.xb_flow.specs.declared.flow.Flow.{Flow}
+use Rattle.xb_branches.specs.declared.gathered.Gathered.{Gathered}
+use Rattle.xb_branches.specs.Dealt.{dealt}
+use Rattle.xb_branches.specs.Deals.{DealOf, DealLaw, held_for}
+use Rattle.xb_flow.specs.Flows.{items_of, has_end}
+use Rattle.xb_branches.specs.Gathers.{GatherLawOf}
+use Rattle.xb_branches.specs.GatherSteps.{items_at, ended_in, to_send}
+use Rattle.xb_branches.specs.Merged.{merged, IsPiece}
+use Rattle.xb_flow.specs.Rings.{IsRing}
+use Rattle.xb_station.specs.Stations.{StationLaw}
+use Rattle.xb_flow.proofs.Flows.{items_of-prefix, items_of-ended, has_end-ended, flow-front, flow-whole}
+use Rattle.xb_station.proofs.ImagePrefixes.{image-prefix}
+use Rattle.xb_branches.proofs.Merged.{merged_prefix, merged_same, merged_whole}
+use Rattle.xb_flow.proofs.Prefixes.{prefix_on}
 
 module _ {X A P : Type 0} (p : Producer (Flow X) A P) (c : Consumer (Flow X) A P) (r : IsRing p c) where
   -- the items received are the first of those sent

@@ -1,17 +1,17 @@
 -- A post that wants an item of an empty ring is idle.
 use Rattle.std.proofs.Common.{◌≡◌, Result, Ok, Err, IfOk, List, [], ◌∷◌, ◌++◌, length, get_or, length-append, refl, sym, ap, ◌∙◌, subst, ⊎_elim, append_assoc, arith}
 use Rattle.rtrb.specs.Ring.{sent, received}
-use Rattle.xb_ring.specs.declared.flow.Flow.{Flow}
-use Rattle.xb_ring.specs.declared.gathered.Gathered.{Gathered}
-use Rattle.xb_ring.specs.declared.gathered.Gathered.TheVariants.{Wants, One, Closing, Ends, Over}
-use Rattle.xb_ring.specs.declared.post.Post.{Post}
-use Rattle.xb_ring.specs.declared.post.Post.TheVariants as posts
-use Rattle.xb_ring.specs.declared.turn.Turn.{Turn}
-use Rattle.xb_ring.specs.declared.turn.Turn.TheVariants.{Idle, Blocked, Moved, Ended}
-use Rattle.xb_ring.specs.DealSteps.{CanSend}
-use Rattle.xb_ring.specs.GatherSteps.{Awaits, CanGather}
+use Rattle.xb_flow.specs.declared.flow.Flow.{Flow}
+use Rattle.xb_branches.specs.declared.gathered.Gathered.{Gathered}
+use Rattle.xb_branches.specs.declared.gathered.Gathered.TheVariants.{Wants, One, Closing, Ends, Over}
+use Rattle.xb_flow.specs.declared.post.Post.{Post}
+use Rattle.xb_flow.specs.declared.post.Post.TheVariants as posts
+use Rattle.xb_flow.specs.declared.turn.Turn.{Turn}
+use Rattle.xb_flow.specs.declared.turn.Turn.TheVariants.{Idle, Blocked, Moved, Ended}
+use Rattle.xb_branches.specs.DealSteps.{CanSend}
+use Rattle.xb_branches.specs.GatherSteps.{Awaits, CanGather}
 use Rattle.xb_replay.specs.Turns.{Takes, StationWaits, StationMoves, Waits, HasNoRoom, Moves, HasEnded, IsTurn, HasTurned}
-use Rattle.xb_posts.specs.Posts.{Input, StationPost, Posts}
+use Rattle.xb_run.specs.Posts.{Input, StationPost, Posts}
 use Rattle.xb_replay.specs.World.{World}
 use Rattle.xb_replay.proofs.Prefixes.{no_sender}
 

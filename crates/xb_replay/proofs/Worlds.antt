@@ -11,13 +11,13 @@ use Rattle.xb_model.specs.Lines.{row_line, on_line_of}
 use Rattle.xb_model.specs.Rows.{LoopRow}
 use Rattle.xb_pulse.specs.Machine.{machine as pulse_machine}
 use Rattle.xb_register.specs.Machine.{machine as register_machine}
-use Rattle.xb_ring.specs.Deals.{DealLaw}
-use Rattle.xb_ring.specs.Rings.{IsRing}
+use Rattle.xb_branches.specs.Deals.{DealLaw}
+use Rattle.xb_flow.specs.Rings.{IsRing}
 use Rattle.xb_routes.specs.Table.{Table}
 use Rattle.xb_routes.specs.Machine.{machine as translate_machine}
 use Rattle.xb_replay.specs.Looks.{InputLooked, OutputLooked}
-use Rattle.xb_posts.specs.Laws.{KeepsImage}
-use Rattle.xb_posts.specs.Posts.{FeedPost, StationPost, DealPost}
+use Rattle.xb_run.specs.Laws.{KeepsImage}
+use Rattle.xb_run.specs.Posts.{FeedPost, StationPost, DealPost}
 use Rattle.xb_replay.specs.World.{World, FeedLaw, WorldLaw}
 use Rattle.xb_replay.proofs.Feeds.{feed_law-looked}
 use Rattle.xb_replay.proofs.LookSteps.{input-law, output-law, input-ring, output-ring, input-stage, output-stage}

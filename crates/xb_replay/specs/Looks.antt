@@ -4,7 +4,7 @@ use Rattle.rtrb.specs.Ring.{sent, received, IsPair}
 use Rattle.xb_model.specs.declared.mark.Mark.{Mark}
 use Rattle.xb_model.specs.declared.on.On.{On}
 use Rattle.xb_model.specs.declared.order.Order.{Order}
-use Rattle.xb_posts.specs.Posts.{Input, Output, StationPost, SenderPost}
+use Rattle.xb_run.specs.Posts.{Input, Output, StationPost, SenderPost}
 
 -- sender j takes from output j
 abbrev pub ArePairedOutputs : List (Output (On Order)) → List SenderPost → Type 0

@@ -6,19 +6,19 @@ use Rattle.rtrb.specs.Ring.{sent, received, known_free}
 use Rattle.xb_model.specs.declared.mark.Mark.{Mark}
 use Rattle.xb_model.specs.declared.on.On.{On}
 use Rattle.xb_model.specs.declared.order.Order.{Order}
-use Rattle.xb_ring.specs.declared.flow.Flow.{Flow}
-use Rattle.xb_ring.specs.declared.held.Held.TheVariants.{Nothing}
-use Rattle.xb_ring.specs.declared.post.Post.{Post}
-use Rattle.xb_ring.specs.declared.post.Post.TheVariants.{Feed, Pulse, Register, Translate, Deal, Send, Gather, Tape}
-use Rattle.xb_ring.specs.declared.turn.Turn.{Turn}
-use Rattle.xb_ring.specs.declared.turn.Turn.TheVariants.{Idle, Blocked, Moved, Ended}
-use Rattle.xb_ring.specs.DealSteps.{CanSend}
-use Rattle.xb_ring.specs.Flows.{has_end}
-use Rattle.xb_ring.specs.GatherSteps.{Awaits, CanGather}
-use Rattle.xb_ring.specs.Gathers.{TakesAt}
-use Rattle.xb_ring.specs.Stations.{Stays as StationStays}
+use Rattle.xb_flow.specs.declared.flow.Flow.{Flow}
+use Rattle.xb_branches.specs.declared.held.Held.TheVariants.{Nothing}
+use Rattle.xb_flow.specs.declared.post.Post.{Post}
+use Rattle.xb_flow.specs.declared.post.Post.TheVariants.{Feed, Pulse, Register, Translate, Deal, Send, Gather, Tape}
+use Rattle.xb_flow.specs.declared.turn.Turn.{Turn}
+use Rattle.xb_flow.specs.declared.turn.Turn.TheVariants.{Idle, Blocked, Moved, Ended}
+use Rattle.xb_branches.specs.DealSteps.{CanSend}
+use Rattle.xb_flow.specs.Flows.{has_end}
+use Rattle.xb_branches.specs.GatherSteps.{Awaits, CanGather}
+use Rattle.xb_branches.specs.Gathers.{TakesAt}
+use Rattle.xb_station.specs.Stations.{Stays as StationStays}
 use Rattle.xb_posts.specs.Feeds.{HasMoved}
-use Rattle.xb_posts.specs.Posts.{Input, Output, FeedPost, StationPost, SenderPost, DealPost, GatherPost, TapePost, Posts}
+use Rattle.xb_run.specs.Posts.{Input, Output, FeedPost, StationPost, SenderPost, DealPost, GatherPost, TapePost, Posts}
 use Rattle.xb_replay.specs.World.{World}
 
 -- the rows, the route table and the number of senders are the same

@@ -2,13 +2,13 @@
 use Rattle.std.specs.Prelude.{◌≡◌, true, false, None, List, ◌++◌}
 use Rattle.rtrb.specs.Ring.{sent}
 use Rattle.xb_model.specs.Rows.{LoopRow}
-use Rattle.xb_ring.specs.Flows.{flow_of}
+use Rattle.xb_flow.specs.Flows.{flow_of}
 use Rattle.xb_routes.specs.Table.{Table}
 use Rattle.xb_closes.specs.Fed.{fed}
 use Rattle.xb_posts.specs.Feeds.{to_come}
-use Rattle.xb_posts.specs.Laws.{StageLaws}
-use Rattle.xb_posts.specs.Posts.{FeedPost, Posts}
-use Rattle.xb_posts.specs.Rings.{AreLinked}
+use Rattle.xb_run.specs.Laws.{StageLaws}
+use Rattle.xb_run.specs.Posts.{FeedPost, Posts}
+use Rattle.xb_run.specs.Rings.{AreLinked}
 
 -- the rows, the route table, and all posts
 pub record World : Type 0 where

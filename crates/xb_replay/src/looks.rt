@@ -1,12 +1,13 @@
 // Looks at the rings between a deal, the senders and a gather.
 ghost use Rattle.std.specs.Prelude.{◌≡◌, length, vec_len};
-ghost use Rattle.xb_ring.specs.Rings.{ProducersLooked};
+ghost use Rattle.xb_flow.specs.Rings.{ProducersLooked};
 ghost use Rattle.xb_replay.specs.Looks.{ArePairedOutputs, ArePairedInputs, AllInputsLooked, AllOutputsLooked, ConsumersLooked};
-ghost use Rattle.xb_posts.specs.Rings.{AreDealt, AreGathered};
+ghost use Rattle.xb_run.specs.Rings.{AreDealt, AreGathered};
 
+use xb_branches::{Deal, Gather};
 use xb_model::{Mark, On, Order};
-use xb_ring::{Deal, Gather, Station};
 use xb_sender::Sender;
+use xb_station::Station;
 
 // Looks at both ends of each output of a deal.
 pub(crate) fn look_at_outputs(deal: &mut Deal<On<Order>>, senders: &mut Vec<Station<Sender>>)

@@ -2,10 +2,10 @@
 use crate::looks::{look_at_inputs, look_at_outputs};
 use std::alloc::{AllocError, Global};
 use std::marker::Model;
+use xb_flow::{Post, Turn};
 use xb_model::{LineNo, Listed, Mark, Row};
-use xb_posts::Chain;
-use xb_ring::{Post, Turn};
 use xb_routes::RouteTable;
+use xb_run::Chain;
 
 /// The posts and rings of the chain, held by one owner who says which post makes the next turn (own
 /// profile). Clauses see the rows and the route table, which it keeps by reference, and each post: what
@@ -18,7 +18,7 @@ pub struct Replay<'a> {
 }
 
 impl<'a> Model for Replay<'a> {
-    ghost use Rattle.xb_posts.specs.Chains.{posts_of};
+    ghost use Rattle.xb_run.specs.Chains.{posts_of};
     ghost use Rattle.xb_replay.specs.World.{World, WorldLaw};
 
     ghost Value = { World };
@@ -39,12 +39,12 @@ impl<'a> Model for Replay<'a> {
 impl<'a> Replay<'a> {
     ghost use Rattle.std.specs.Prelude.{◌≡◌, ◌≤◌, ◌↔◌, length, IfOk, OnErr, IsTrue, Ok};
     ghost use mathlib.Core.List.{IsPrefix};
-    ghost use Rattle.xb_ring.specs.declared.branches.TheConstants.{MOST_BRANCHES};
-    ghost use Rattle.xb_ring.specs.declared.ends.TheConstants.{GREATEST_CAPACITY};
-    ghost use Rattle.xb_ring.specs.declared.post.Post.TheVariants as posts;
-    ghost use Rattle.xb_ring.specs.declared.turn.Turn.TheVariants.{Idle, Ended};
-    ghost use Rattle.xb_posts.specs.Blank.{IsBlank};
-    ghost use Rattle.xb_posts.specs.Rings.{HaveRoom};
+    ghost use Rattle.xb_branches.specs.declared.branches.TheConstants.{MOST_BRANCHES};
+    ghost use Rattle.xb_flow.specs.declared.ends.TheConstants.{GREATEST_CAPACITY};
+    ghost use Rattle.xb_flow.specs.declared.post.Post.TheVariants as posts;
+    ghost use Rattle.xb_flow.specs.declared.turn.Turn.TheVariants.{Idle, Ended};
+    ghost use Rattle.xb_run.specs.Blank.{IsBlank};
+    ghost use Rattle.xb_run.specs.Rings.{HaveRoom};
     ghost use Rattle.xb_replay.specs.Marks.{marks_of, whole_tape, ArePrefixes, AreWhole};
     ghost use Rattle.xb_replay.specs.Turns.{SameRecords, Waits, HasEnded, AllEnded, NoneEnded, Stays, OthersStay, IsTurn, HasTurned, HasRefused};
     ghost use Rattle.xb_replay.specs.World.{WorldLaw};

@@ -10,19 +10,20 @@ ghost use Rattle.rtrb.specs.Ring.{IsPair, SameProducer, SameConsumer};
 ghost use Rattle.xb_model.specs.declared.line.LineNo.{LineNo};
 ghost use Rattle.xb_model.specs.declared.on.On.{On};
 ghost use Rattle.xb_model.specs.Lines.{on_line_of};
-ghost use Rattle.xb_stage.specs.Image.{image};
-ghost use Rattle.xb_stage.specs.OnLines.{on_line};
-ghost use Rattle.xb_stage.specs.Stateless.{stateless};
-ghost use Rattle.xb_ring.specs.declared.branches.TheConstants.{MOST_BRANCHES};
-ghost use Rattle.xb_ring.specs.declared.ends.TheConstants.{GREATEST_CAPACITY};
-ghost use Rattle.xb_ring.specs.declared.flow.Flow.{Flow};
-ghost use Rattle.xb_ring.specs.declared.flow.Flow.TheVariants.{Item, End};
-ghost use Rattle.xb_ring.specs.Flows.{items_of, has_end, flow_of, flow_image};
-ghost use Rattle.xb_ring.specs.Dealt.{dealt};
-ghost use Rattle.xb_ring.specs.Merged.{merged, IsPiece};
+ghost use Rattle.xb_model.specs.Image.{image};
+ghost use Rattle.xb_model.specs.OnLines.{on_line};
+ghost use Rattle.xb_model.specs.Stateless.{stateless};
+ghost use Rattle.xb_branches.specs.declared.branches.TheConstants.{MOST_BRANCHES};
+ghost use Rattle.xb_flow.specs.declared.ends.TheConstants.{GREATEST_CAPACITY};
+ghost use Rattle.xb_flow.specs.declared.flow.Flow.{Flow};
+ghost use Rattle.xb_flow.specs.declared.flow.Flow.TheVariants.{Item, End};
+ghost use Rattle.xb_flow.specs.Flows.{items_of, has_end, flow_of};
+ghost use Rattle.xb_station.specs.FlowImages.{flow_image};
+ghost use Rattle.xb_branches.specs.Dealt.{dealt};
+ghost use Rattle.xb_branches.specs.Merged.{merged, IsPiece};
 
-use crate::ending::Ending;
-use xb_stage::LineStage;
+use xb_flow::Ending;
+use xb_model::LineStage;
 
 /// How many branches there may be, and how much room a ring may have.
 pub fn constants()

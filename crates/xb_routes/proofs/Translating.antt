@@ -4,9 +4,9 @@ use Rattle.std.proofs.lemmas.List.Concat.{flat_map_single}
 use Rattle.xb_model.specs.declared.dialled.Dialled.{Dialled}
 use Rattle.xb_model.specs.declared.line.LineNo.{LineNo}
 use Rattle.xb_model.specs.Routing.{CodedRoute, order_of}
-use Rattle.xb_stage.specs.Image.{image_on}
-use Rattle.xb_stage.specs.OnLines.{on_line}
-use Rattle.xb_stage.proofs.Stateless.{image-stateless}
+use Rattle.xb_model.specs.Image.{image_on}
+use Rattle.xb_model.specs.OnLines.{on_line}
+use Rattle.xb_model.proofs.Stateless.{image-stateless}
 use Rattle.xb_routes.specs.Machine.{machine}
 
 -- what is dialled on a line gives its orders, one each, in order

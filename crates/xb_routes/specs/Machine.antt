@@ -1,8 +1,8 @@
 -- What the translation does.
 use Rattle.std.specs.Prelude.{◌≡◌, List, [], ◌∷◌, map}
-use Rattle.xb_stage.specs.Image.{Machine, image_on}
-use Rattle.xb_stage.specs.OnLines.{on_line}
-use Rattle.xb_stage.specs.Stateless.{stateless}
+use Rattle.xb_model.specs.Image.{Machine, image_on}
+use Rattle.xb_model.specs.OnLines.{on_line}
+use Rattle.xb_model.specs.Stateless.{stateless}
 use Rattle.xb_model.specs.declared.on.On.{On}
 use Rattle.xb_model.specs.declared.dialled.Dialled.{Dialled}
 use Rattle.xb_model.specs.declared.order.Order.{Order}

@@ -1,7 +1,7 @@
 // The translation stage.
 ghost use Rattle.std.specs.Prelude.{◌≡◌, ◌+◌, ◌≤◌, [], ◌∷◌, ◌++◌, drop, length, Option, option_copied, option_map};
 ghost use Rattle.xb_model.specs.Routing.{CodedRoute, order_by, order_of};
-ghost use Rattle.xb_stage.specs.OnLines.{all_on};
+ghost use Rattle.xb_model.specs.OnLines.{all_on};
 ghost use Rattle.xb_routes.specs.Coded.{uncoded};
 ghost use Rattle.xb_routes.specs.Machine.{GivesOrders};
 ghost use Rattle.xb_model.specs.declared.digits.TheConstants.{KEY_DIGITS, NUMBER_DIGITS};
@@ -9,8 +9,9 @@ ghost use Rattle.xb_model.specs.declared.digits.TheConstants.{KEY_DIGITS, NUMBER
 use crate::route::Route;
 use crate::table::RouteTable;
 use std::marker::Model;
-use xb_model::{Dialled, Digit, KeyDigits, NumberDigits, On, Order, PrefixDigits, Reason};
-use xb_stage::{LineStage, send};
+use xb_model::{
+    Dialled, Digit, KeyDigits, LineStage, NumberDigits, On, Order, PrefixDigits, Reason, send,
+};
 
 /// Gives each number its order, by a table; a refusal stays as it is.
 #[derive(Drop)]
@@ -88,7 +89,7 @@ impl RouteTable {
 impl<'t> LineStage for Translate<'t> {
     ghost use Rattle.std.specs.Prelude.{[], ◌∷◌};
     ghost use Rattle.xb_model.specs.Routing.{order_of};
-    ghost use Rattle.xb_stage.specs.OnLines.{all_on};
+    ghost use Rattle.xb_model.specs.OnLines.{all_on};
     ghost use Rattle.xb_routes.specs.Machine.{machine};
 
     type In = On<Dialled>;

@@ -9,24 +9,24 @@ use Rattle.xb_model.specs.declared.on.On.{On}
 use Rattle.xb_model.specs.declared.order.Order.{Order}
 use Rattle.xb_model.specs.Lines.{row_line, on_line_of}
 use Rattle.xb_model.specs.Sources.{Rest}
-use Rattle.xb_stage.specs.Image.{Machine}
+use Rattle.xb_model.specs.Image.{Machine}
 use Rattle.xb_pulse.specs.Machine.{machine as pulse_machine}
 use Rattle.xb_register.specs.Machine.{machine as register_machine}
 use Rattle.xb_routes.specs.Table.{Table}
 use Rattle.xb_routes.specs.Machine.{machine as translate_machine}
 use Rattle.xb_sender.specs.declared.sender.Sender.{Sender}
 use Rattle.xb_sender.specs.Machine.{machine as sender_machine}
-use Rattle.xb_ring.specs.declared.flow.Flow.{Flow}
-use Rattle.xb_ring.specs.Flows.{items_of, flow_of, IsEnded}
-use Rattle.xb_ring.specs.Stations.{HasPassed}
-use Rattle.xb_ring.specs.declared.post.Post.{Post}
-use Rattle.xb_ring.specs.declared.post.Post.TheVariants as post
-use Rattle.xb_ring.proofs.Flows.{items_of-flow}
-use Rattle.xb_ring.proofs.Rings.{pair_kept}
+use Rattle.xb_flow.specs.declared.flow.Flow.{Flow}
+use Rattle.xb_flow.specs.Flows.{items_of, flow_of, IsEnded}
+use Rattle.xb_station.specs.Stations.{HasPassed}
+use Rattle.xb_flow.specs.declared.post.Post.{Post}
+use Rattle.xb_flow.specs.declared.post.Post.TheVariants as post
+use Rattle.xb_flow.proofs.Flows.{items_of-flow}
+use Rattle.xb_flow.proofs.Rings.{pair_kept}
 use Rattle.xb_closes.specs.Fed.{fed}
 use Rattle.xb_posts.specs.Feeds.{to_come}
-use Rattle.xb_posts.specs.Chains.{IsChain}
-use Rattle.xb_posts.specs.Posts.{Output, Input, StationPost, SenderPost, Posts}
+use Rattle.xb_run.specs.Chains.{IsChain}
+use Rattle.xb_run.specs.Posts.{Output, Input, StationPost, SenderPost, Posts}
 use Rattle.xb_run.specs.Pairs.{Pairs}
 use Rattle.xb_run.specs.Faults.{IsPostOf, IsBankFault}
 use Rattle.xb_run.specs.Promises.{StationPromised, PostsPromised}

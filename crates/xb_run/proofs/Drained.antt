@@ -16,23 +16,23 @@ use Rattle.xb_model.specs.Lines.{row_line, on_line_of}
 use Rattle.xb_model.specs.Routing.{CodedRoute}
 use Rattle.xb_model.specs.Rows.{LoopRow}
 use Rattle.xb_model.proofs.Entries.{marks_of-last}
-use Rattle.xb_stage.specs.Image.{image}
-use Rattle.xb_stage.specs.OnLines.{on_line}
+use Rattle.xb_model.specs.Image.{image}
+use Rattle.xb_model.specs.OnLines.{on_line}
 use Rattle.xb_pulse.specs.Machine.{machine as pulse_machine}
 use Rattle.xb_register.specs.Machine.{machine as register_machine}
 use Rattle.xb_routes.specs.Machine.{machine as translate_machine}
 use Rattle.xb_sender.specs.Machine.{machine as sender_machine}
-use Rattle.xb_ring.specs.declared.flow.Flow.{Flow}
-use Rattle.xb_ring.specs.Flows.{items_of, flow_of, IsEnded}
-use Rattle.xb_ring.specs.Dealt.{dealt}
-use Rattle.xb_ring.specs.GatherSteps.{items_at}
-use Rattle.xb_ring.specs.Merged.{merged, IsPiece}
-use Rattle.xb_ring.specs.Stations.{HasPassed}
-use Rattle.xb_ring.proofs.Merged.{merged_same}
-use Rattle.xb_ring.proofs.MergedImages.{merged-stateless}
+use Rattle.xb_flow.specs.declared.flow.Flow.{Flow}
+use Rattle.xb_flow.specs.Flows.{items_of, flow_of, IsEnded}
+use Rattle.xb_branches.specs.Dealt.{dealt}
+use Rattle.xb_branches.specs.GatherSteps.{items_at}
+use Rattle.xb_branches.specs.Merged.{merged, IsPiece}
+use Rattle.xb_station.specs.Stations.{HasPassed}
+use Rattle.xb_branches.proofs.Merged.{merged_same}
+use Rattle.xb_branches.proofs.MergedImages.{merged-stateless}
 use Rattle.xb_serial.specs.Serial.{serial_image}
 use Rattle.xb_tape.specs.GatheredMarks.{AreTapes}
-use Rattle.xb_posts.specs.Posts.{Output, Input}
+use Rattle.xb_run.specs.Posts.{Output, Input}
 use Rattle.xb_run.specs.Promises.{TapeServed, ends_entry}
 use Rattle.xb_run.specs.Returned.{IsSettled, AreSettled}
 use Rattle.xb_run.specs.Served.{AllServed, HaveServed}

@@ -2,11 +2,11 @@
 use Rattle.std.proofs.Common.{◌≡◌, Bool, true, false, map, get_or, refl, sym, ◌∙◌, subst, arith}
 use Rattle.std.proofs.lemmas.Bool.{false≢true}
 use Rattle.rtrb.specs.Ring.{sent, received, SameProducer, SameConsumer}
-use Rattle.xb_ring.specs.Deals.{DealOf, HasDealt, SameDeal}
-use Rattle.xb_ring.specs.Gathers.{GatherOf, GatherLaw, HasMerged, SameGather}
+use Rattle.xb_branches.specs.Deals.{DealOf, HasDealt, SameDeal}
+use Rattle.xb_branches.specs.Gathers.{GatherOf, GatherLaw, HasMerged, SameGather}
 use Rattle.std.specs.declared.alloc.Global.{Global}
 use Rattle.rtrb.specs.declared.AnyItems.{AnyItems}
-use Rattle.xb_posts.specs.Posts.{Output, Input}
+use Rattle.xb_run.specs.Posts.{Output, Input}
 use Rattle.xb_run.specs.Promises.{DealServed, GatherServed, DealPromised, GatherPromised}
 use Rattle.xb_run.specs.declared.done.DealDone.{DealDone}
 use Rattle.xb_run.specs.declared.done.GatherDone.{GatherDone}

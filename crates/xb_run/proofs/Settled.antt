@@ -1,8 +1,8 @@
 -- The two ends of a ring in one thread.
 use Rattle.std.proofs.Common.{◌≡◌, true, List, ◌++◌, sym, ap, ◌∙◌}
-use Rattle.xb_ring.specs.declared.flow.Flow.{Flow}
-use Rattle.xb_ring.specs.Flows.{items_of, has_end, flow_of, IsEnded}
-use Rattle.xb_ring.proofs.Flows.{flow-whole, has_end-flow}
+use Rattle.xb_flow.specs.declared.flow.Flow.{Flow}
+use Rattle.xb_flow.specs.Flows.{items_of, has_end, flow_of, IsEnded}
+use Rattle.xb_flow.proofs.Flows.{flow-whole, has_end-flow}
 
 -- what was received, where it ends with an End, is all of what was sent, where that does
 pub whole : {T : Type 0} (ins known outs : List (Flow T)) → ins ++ known ≡ outs → IsEnded ins → IsEnded outs → ins ≡ outs

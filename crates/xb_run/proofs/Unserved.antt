@@ -2,8 +2,8 @@
 use Rattle.std.proofs.Common.{◌≡◌, ℕ, ◌<◌, true, false, List, [], ◌∷◌, length, get_or, sym, ◌∙◌, arith}
 use Rattle.std.specs.List.{All}
 use Rattle.std.proofs.lemmas.Bool.{false≢true}
-use Rattle.xb_ring.specs.declared.post.Post.{Post}
-use Rattle.xb_ring.specs.declared.post.Post.TheVariants.{Feed, Pulse, Register, Translate, Deal, Send, Gather, Tape}
+use Rattle.xb_flow.specs.declared.post.Post.{Post}
+use Rattle.xb_flow.specs.declared.post.Post.TheVariants.{Feed, Pulse, Register, Translate, Deal, Send, Gather, Tape}
 use Rattle.xb_run.specs.Served.{AllServed, IsUnserved}
 use Rattle.xb_run.specs.declared.done.StationDone.{StationDone}
 use Rattle.xb_run.specs.declared.posts.AllDone.{AllDone}

@@ -1,6 +1,12 @@
+pub mod Blank
+pub mod Chains
 pub mod Faults
+pub mod Laws
+pub mod Made
 pub mod Pairs
+pub mod Posts
 pub mod Promises
 pub mod Returned
+pub mod Rings
 pub mod Served
 pub mod Started

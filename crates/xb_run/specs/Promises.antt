@@ -13,19 +13,19 @@ use Rattle.xb_pulse.specs.Machine.{machine as pulse_machine}
 use Rattle.xb_register.specs.Machine.{machine as register_machine}
 use Rattle.xb_routes.specs.Machine.{machine as translate_machine}
 use Rattle.xb_sender.specs.Machine.{machine as sender_machine}
-use Rattle.xb_stage.specs.Image.{Machine}
-use Rattle.xb_ring.specs.declared.flow.Flow.{Flow}
-use Rattle.xb_ring.specs.Flows.{items_of, flow_of, IsEnded}
-use Rattle.xb_ring.specs.Dealt.{dealt}
-use Rattle.xb_ring.specs.Merged.{merged}
-use Rattle.xb_ring.specs.GatherSteps.{items_at}
-use Rattle.xb_ring.specs.Stations.{HasPassed}
-use Rattle.xb_ring.specs.Deals.{DealOf}
-use Rattle.xb_ring.specs.Gathers.{GatherOf}
+use Rattle.xb_model.specs.Image.{Machine}
+use Rattle.xb_flow.specs.declared.flow.Flow.{Flow}
+use Rattle.xb_flow.specs.Flows.{items_of, flow_of, IsEnded}
+use Rattle.xb_branches.specs.Dealt.{dealt}
+use Rattle.xb_branches.specs.Merged.{merged}
+use Rattle.xb_branches.specs.GatherSteps.{items_at}
+use Rattle.xb_station.specs.Stations.{HasPassed}
+use Rattle.xb_branches.specs.Deals.{DealOf}
+use Rattle.xb_branches.specs.Gathers.{GatherOf}
 use Rattle.xb_tape.specs.GatheredMarks.{AreTapes}
 use Rattle.xb_posts.specs.Feeds.{to_come}
 use Rattle.xb_posts.specs.Fillings.{MayGive}
-use Rattle.xb_posts.specs.Posts.{Output, FeedPost, StationPost, TapePost, Posts}
+use Rattle.xb_run.specs.Posts.{Output, FeedPost, StationPost, TapePost, Posts}
 use Rattle.xb_run.specs.Pairs.{Pairs}
 use Rattle.xb_run.specs.declared.done.FeedDone.{FeedDone}
 use Rattle.xb_run.specs.declared.done.StationDone.{StationDone}

@@ -1,8 +1,8 @@
 -- The rings between the posts, once their ends are in one thread again.
 use Rattle.std.specs.Prelude.{◌≡◌}
 use Rattle.rtrb.specs.Ring.{sent, received, IsPair}
-use Rattle.xb_ring.specs.Flows.{IsEnded}
-use Rattle.xb_posts.specs.Posts.{Output, Input}
+use Rattle.xb_flow.specs.Flows.{IsEnded}
+use Rattle.xb_run.specs.Posts.{Output, Input}
 use Rattle.xb_run.specs.Pairs.{Pairs}
 use Rattle.xb_run.specs.declared.posts.AllDone.{AllDone}
 

@@ -15,10 +15,10 @@ use Rattle.xb_pulse.specs.Machine.{machine as pulse_machine}
 use Rattle.xb_register.specs.Machine.{machine as register_machine}
 use Rattle.xb_routes.specs.Machine.{machine as translate_machine}
 use Rattle.xb_sender.specs.Machine.{machine as sender_machine}
-use Rattle.xb_ring.specs.declared.post.Post.{Post}
-use Rattle.xb_ring.specs.declared.post.Post.TheVariants as post
-use Rattle.xb_ring.specs.Flows.{flow_of}
-use Rattle.xb_ring.specs.Stations.{HasPassed}
+use Rattle.xb_flow.specs.declared.post.Post.{Post}
+use Rattle.xb_flow.specs.declared.post.Post.TheVariants as post
+use Rattle.xb_flow.specs.Flows.{flow_of}
+use Rattle.xb_station.specs.Stations.{HasPassed}
 use Rattle.xb_run.specs.Promises.{DealServed, GatherServed, TapeServed, ends_entry}
 use Rattle.xb_run.specs.declared.done.StationDone.{StationDone}
 use Rattle.xb_run.specs.declared.done.Taped.{Taped}

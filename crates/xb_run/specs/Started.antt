@@ -1,6 +1,6 @@
 -- The threads of the posts, before and after they are started.
 use Rattle.std.specs.Prelude.{◌≡◌, ◌≤◌, ℕ, [], length, reverse, vec_len, vec_capacity}
-use Rattle.xb_posts.specs.Posts.{Posts}
+use Rattle.xb_run.specs.Posts.{Posts}
 use Rattle.xb_run.specs.Pairs.{Pairs}
 use Rattle.xb_run.specs.declared.posts.Handles.{Handles}
 use Rattle.xb_run.specs.declared.posts.Room.{Room}

@@ -3,9 +3,11 @@ use crate::start::Threaded;
 use rtrb::{Consumer, Producer};
 use std::sync::Wait;
 use std::time::Clock;
-use xb_model::{Mark, On, Row, RowFault, RowSource};
+use xb_branches::{Deal, Gather};
+use xb_flow::{Ending, Flow, Gate, Post};
+use xb_model::{LineStage, Mark, On, Row, RowFault, RowSource};
 use xb_posts::{Feed, TapeStation};
-use xb_ring::{Deal, Ending, Flow, Gate, Gather, LineStage, Post, Station};
+use xb_station::Station;
 use xb_tape::Tapes;
 
 /// What the feed gives back.

@@ -1,7 +1,7 @@
 // Why there are no tapes.
 use std::alloc::AllocError;
+use xb_flow::Post;
 use xb_model::RowFault;
-use xb_ring::Post;
 
 /// Why there are no tapes.
 #[derive(Clone, Copy, Debug, PartialEq, Eq)]

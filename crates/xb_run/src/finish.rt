@@ -6,7 +6,7 @@ ghost use Rattle.xb_model.specs.declared.plan.Plan.{Plan};
 ghost use Rattle.xb_model.specs.Routing.{CodedRoute};
 ghost use Rattle.xb_model.specs.Rows.{LoopRow};
 ghost use Rattle.xb_serial.specs.Serial.{serial_image};
-ghost use Rattle.xb_ring.specs.declared.branches.TheConstants.{MOST_BRANCHES};
+ghost use Rattle.xb_branches.specs.declared.branches.TheConstants.{MOST_BRANCHES};
 ghost use Rattle.xb_tape.specs.GatheredMarks.{AreTapes};
 ghost use Rattle.xb_run.specs.Faults.{bank_fault_of};
 ghost use Rattle.xb_run.specs.Returned.{AreRejoined, AreSettled};
@@ -16,7 +16,7 @@ use crate::done::Taped;
 use crate::fault::BankFault;
 use crate::posts::AllDone;
 use crate::senders::{settle, settle_senders, unserved_sender};
-use xb_ring::Post;
+use xb_flow::Post;
 use xb_tape::Tapes;
 
 // The first post, from the feed on, that was not served.

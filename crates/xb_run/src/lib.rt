@@ -1,5 +1,9 @@
-//! The chain on threads: each post on a thread of its own.
+//! All posts and rings of the chain, made once, and the chain on threads: each post on a thread of its own.
 //!
+//! - `Chain::link`: for any source, table, 1 to 8 senders and rings of 1 to 1,024, both ends of each ring
+//!   are those of one ring with room for exactly the number asked for; nothing was sent, received or held,
+//!   and no line has a mark; the stages are made of the table's limits, plan and routes; and each post
+//!   keeps its law. `run` and a replay take their posts from it.
 //! - `run`: for any source, table, 1 to 8 senders and rings of 1 to 1,024: where it returns tapes, the
 //!   source stops with an end, and each of the 10,000 lines' marks are exactly the tape of that line's
 //!   record, of the rows that the source still had. `Rows` comes only with the fault that the source stops
@@ -12,13 +16,18 @@
 //! named; `test_bank` tries these.
 #![tactic(auto)]
 
+mod branches;
+mod chain;
 mod done;
 mod fault;
 mod finish;
+mod originating;
+mod outgoing;
 mod posts;
 mod running;
 mod senders;
 mod start;
 
+pub use chain::Chain;
 pub use fault::BankFault;
 pub use running::run;

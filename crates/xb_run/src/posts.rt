@@ -1,13 +1,14 @@
 // The posts, the handles of their threads, and what they give back.
 ghost use Rattle.std.specs.Prelude.{◌≡◌, ◌≤◌, [], ℕ, IfOk, IfErr, reverse, vec_len, vec_capacity};
-ghost use Rattle.xb_ring.specs.declared.branches.TheConstants.{MOST_BRANCHES};
-ghost use Rattle.xb_posts.specs.Chains.{posts_of};
-ghost use Rattle.xb_posts.specs.Posts.{Posts};
+ghost use Rattle.xb_branches.specs.declared.branches.TheConstants.{MOST_BRANCHES};
+ghost use Rattle.xb_run.specs.Chains.{posts_of};
+ghost use Rattle.xb_run.specs.Posts.{Posts};
 ghost use Rattle.xb_run.specs.Faults.{IsPostOf};
 ghost use Rattle.xb_run.specs.Pairs.{Pairs};
 ghost use Rattle.xb_run.specs.Promises.{PostsPromised};
 ghost use Rattle.xb_run.specs.Started.{HasRoom, AreStarted};
 
+use crate::chain::Chain;
 use crate::done::{DealDone, FeedDone, GatherDone, StationDone, TapeDone};
 use crate::senders::{join_senders, start_senders};
 use crate::start::{Promised, Threaded, start};
@@ -16,13 +17,15 @@ use std::sync::Wait;
 use std::sync::atomic::AtomicU64;
 use std::thread::{PromisedHandle, Scope, Threads};
 use std::time::Clock;
+use xb_branches::{Deal, Gather};
+use xb_flow::{Gate, Post};
 use xb_model::{Dialled, Mark, On, Order, Row, RowSource, Signal};
-use xb_posts::{Chain, Feed, TapeStation};
+use xb_posts::{Feed, TapeStation};
 use xb_pulse::Pulse;
 use xb_register::Register;
-use xb_ring::{Deal, Gate, Gather, Post, Station};
 use xb_routes::Translate;
 use xb_sender::Sender;
+use xb_station::Station;
 
 // The posts from rows to orders, before they are started. The two halves of the chain are started by
 // two functions: one that owned all posts at each of eight early returns takes minutes to check.

@@ -3,13 +3,14 @@ ghost use Rattle.std.specs.Prelude.{◌≡◌, ◌≤◌, ◌<◌, ℕ, IfOk, If
 ghost use Rattle.std.specs.Thread.{IsSend, IsSync};
 ghost use Rattle.xb_model.specs.declared.line.TheConstants.{LINES};
 ghost use Rattle.xb_model.specs.Tapes.{tape_of, joined_tape, entries_of, marks_at, tapes_of};
-ghost use Rattle.xb_ring.specs.declared.branches.TheConstants.{MOST_BRANCHES};
-ghost use Rattle.xb_ring.specs.declared.ends.TheConstants.{GREATEST_CAPACITY};
-ghost use Rattle.xb_posts.specs.Chains.{posts_of};
+ghost use Rattle.xb_branches.specs.declared.branches.TheConstants.{MOST_BRANCHES};
+ghost use Rattle.xb_flow.specs.declared.ends.TheConstants.{GREATEST_CAPACITY};
+ghost use Rattle.xb_run.specs.Chains.{posts_of};
 ghost use Rattle.xb_run.specs.Faults.{IsPostOf, IsBankFault};
 ghost use Rattle.xb_run.specs.Promises.{PostsPromised};
 ghost use Rattle.xb_run.specs.Started.{HasRoom};
 
+use crate::chain::Chain;
 use crate::fault::BankFault;
 use crate::finish::finish;
 use crate::posts::{AllDone, Room, join_posts, make_room, start_posts};
@@ -20,9 +21,8 @@ use std::sync::atomic::{AtomicU64, Ordering};
 use std::thread;
 use std::thread::{Scope, Threads};
 use std::time::Clock;
+use xb_flow::{Gate, Post};
 use xb_model::RowSource;
-use xb_posts::Chain;
-use xb_ring::{Gate, Post};
 use xb_routes::RouteTable;
 use xb_tape::Tapes;
 

@@ -2,7 +2,7 @@
 ghost use Rattle.std.specs.Prelude.{◌≡◌, ◌≤◌, ◌<◌, [], reverse, vec_len, vec_capacity, slice_index_or, OnOk, IfErr, IfSome, true, false, None};
 ghost use Rattle.std.specs.List.{All};
 ghost use Rattle.rtrb.specs.Ring.{IsPair};
-ghost use Rattle.xb_ring.specs.declared.branches.TheConstants.{MOST_BRANCHES};
+ghost use Rattle.xb_branches.specs.declared.branches.TheConstants.{MOST_BRANCHES};
 ghost use Rattle.xb_run.specs.Pairs.{Pairs};
 ghost use Rattle.xb_run.specs.Faults.{IsPostOf};
 ghost use Rattle.xb_run.specs.Returned.{IsSettled};
@@ -14,7 +14,7 @@ use std::sync::Wait;
 use std::sync::atomic::AtomicU64;
 use std::thread::{PromisedHandle, Scope, Threads};
 use std::time::Clock;
-use xb_ring::{Flow, Gate, Post, look_at_both};
+use xb_flow::{Flow, Gate, Post, look_at_both};
 
 /// Starts the senders from the last on, each on a thread of the scope. `Err` names the first whose
 /// start was refused.

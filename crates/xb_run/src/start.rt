@@ -6,7 +6,7 @@ use std::sync::Wait;
 use std::sync::atomic::{AtomicU64, Ordering};
 use std::thread::{Promise, PromisedHandle, Scope};
 use std::time::Clock;
-use xb_ring::{Gate, Pause, Post};
+use xb_flow::{Gate, Pause, Post};
 
 /// A post that can be served on a thread of its own.
 pub(crate) trait Threaded {

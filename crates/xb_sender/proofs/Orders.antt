@@ -7,8 +7,8 @@ use Rattle.xb_model.specs.declared.on.On.{On}
 use Rattle.xb_model.specs.Keyings.{marks_of}
 use Rattle.xb_model.specs.Tapes.{entries_of}
 use Rattle.xb_model.proofs.Entries.{entries_of-flat_map}
-use Rattle.xb_stage.specs.OnLines.{on_line}
-use Rattle.xb_stage.proofs.Stateless.{image-stateless}
+use Rattle.xb_model.specs.OnLines.{on_line}
+use Rattle.xb_model.proofs.Stateless.{image-stateless}
 use Rattle.xb_sender.specs.Laws.{GivesMarks, GivesOneEntryEach}
 use Rattle.xb_sender.specs.Machine.{machine}
 

@@ -8,8 +8,8 @@ use Rattle.xb_model.specs.declared.on.On.{On}
 use Rattle.xb_model.specs.declared.order.Order.{Order}
 use Rattle.xb_model.specs.Keyings.{marks_of}
 use Rattle.xb_model.specs.Tapes.{entries_of}
-use Rattle.xb_stage.specs.Image.{Machine, image_on}
-use Rattle.xb_stage.specs.OnLines.{on_line}
+use Rattle.xb_model.specs.Image.{Machine, image_on}
+use Rattle.xb_model.specs.OnLines.{on_line}
 
 -- the orders of a line give the marks of each, in order, on that line
 abbrev pub GivesMarks : {S : Type 0} → Machine (On Order) (On Mark) S → Type 0

@@ -3,14 +3,13 @@ ghost use Rattle.std.specs.Prelude.{◌≡◌, ◌+◌, ◌<◌, ◌≤◌, [], 
 ghost use Rattle.arrayvec.specs.ArrayVec.{array_vec_len};
 ghost use Rattle.xb_model.specs.declared.key.Key.TheVariants.{Digit as DigitKey};
 ghost use Rattle.xb_model.specs.Keyings.{tone, marks_of};
-ghost use Rattle.xb_stage.specs.OnLines.{all_on};
-ghost use Rattle.xb_stage.specs.declared.stage.TheConstants.{MOST_OUTPUTS};
+ghost use Rattle.xb_model.specs.OnLines.{all_on};
+ghost use Rattle.xb_model.specs.declared.stage.TheConstants.{MOST_OUTPUTS};
 ghost use Rattle.xb_sender.specs.Laws.{GivesMarks, GivesOneEntryEach};
 ghost use Rattle.xb_sender.specs.Machine.{machine};
 
 use arrayvec::ArrayVec;
-use xb_model::{Digit, Key, Mark, On, Order, mf};
-use xb_stage::{LineStage, MOST_OUTPUTS, send};
+use xb_model::{Digit, Key, LineStage, MOST_OUTPUTS, Mark, On, Order, mf, send};
 
 // Appends a key with its pair of tones.
 fn push_key(marks: &mut ArrayVec<Mark, MOST_OUTPUTS>, key: &Key)

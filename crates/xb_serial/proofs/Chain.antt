@@ -15,10 +15,10 @@ use Rattle.xb_model.specs.Signals.{signals_of}
 use Rattle.xb_model.specs.Routing.{CodedRoute, order_of}
 use Rattle.xb_model.specs.Keyings.{marks_of}
 use Rattle.xb_model.specs.Tapes.{joined_tape}
-use Rattle.xb_stage.specs.Image.{image_on}
-use Rattle.xb_stage.specs.OnLines.{on_line}
+use Rattle.xb_model.specs.Image.{image_on}
+use Rattle.xb_model.specs.OnLines.{on_line}
 use Rattle.xb_model.proofs.Lines.{of_line-on}
-use Rattle.xb_stage.proofs.Stateless.{image-stateless}
+use Rattle.xb_model.proofs.Stateless.{image-stateless}
 use Rattle.xb_pulse.specs.Machine.{machine as pulse_machine}
 use Rattle.xb_pulse.proofs.Hearing.{record_heard}
 use Rattle.xb_register.specs.Machine.{machine as register_machine}

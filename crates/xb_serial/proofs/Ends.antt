@@ -17,10 +17,10 @@ use Rattle.xb_model.specs.Records.{Run, Attempt, attempts_of, run_of, is_close, 
 use Rattle.xb_model.specs.Routing.{order_of}
 use Rattle.xb_model.specs.Rows.{LoopRow, close_row}
 use Rattle.xb_model.specs.Signals.{attempt_signals, signals_of}
-use Rattle.xb_stage.specs.Image.{image_on}
-use Rattle.xb_stage.specs.OnLines.{on_line}
-use Rattle.xb_stage.proofs.OnLines.{on_line-append}
-use Rattle.xb_stage.proofs.Stateless.{image-stateless}
+use Rattle.xb_model.specs.Image.{image_on}
+use Rattle.xb_model.specs.OnLines.{on_line}
+use Rattle.xb_model.proofs.OnLines.{on_line-append}
+use Rattle.xb_model.proofs.Stateless.{image-stateless}
 use Rattle.xb_pulse.specs.Machine.{machine as pulse_machine}
 use Rattle.xb_pulse.proofs.Hearing.{record_heard, open_record_heard}
 use Rattle.xb_register.specs.Machine.{machine as register_machine}

@@ -13,10 +13,10 @@ use Rattle.xb_model.specs.Keyings.{marks_of}
 use Rattle.xb_model.specs.Lines.{row_line, on_line_of, of_line}
 use Rattle.xb_model.specs.Routing.{order_of}
 use Rattle.xb_model.specs.Rows.{LoopRow}
-use Rattle.xb_stage.specs.Image.{Machine, state_after, image_after, image, image_from, image_on}
-use Rattle.xb_stage.specs.OnLines.{on_line, all_on}
-use Rattle.xb_stage.proofs.Images.{image_after-none, image_after-append, image_after-one, image-one, image-push, image-of_line, image-line}
-use Rattle.xb_stage.proofs.Stateless.{image_all-stateless}
+use Rattle.xb_model.specs.Image.{Machine, state_after, image_after, image, image_from, image_on}
+use Rattle.xb_model.specs.OnLines.{on_line, all_on}
+use Rattle.xb_model.proofs.Images.{image_after-none, image_after-append, image_after-one, image-one, image-push, image-of_line, image-line}
+use Rattle.xb_model.proofs.Stateless.{image_all-stateless}
 use Rattle.xb_pulse.specs.declared.state.PulseState.{PulseState}
 use Rattle.xb_pulse.specs.Machine.{machine as pulse_machine}
 use Rattle.xb_pulse.specs.Outputs.{outs_on_line}

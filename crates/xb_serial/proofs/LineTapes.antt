@@ -20,9 +20,9 @@ use Rattle.xb_model.specs.Keyings.{marks_of}
 use Rattle.xb_model.specs.Numbers.{outcomes_of}
 use Rattle.xb_model.specs.Tapes.{tape_of, joined_tape, entries_of}
 use Rattle.xb_model.specs.Lines.{row_line, on_line_of, of_line}
-use Rattle.xb_stage.specs.Image.{image, image_on}
-use Rattle.xb_stage.specs.OnLines.{on_line, all_on}
-use Rattle.xb_stage.proofs.Images.{image-of_line}
+use Rattle.xb_model.specs.Image.{image, image_on}
+use Rattle.xb_model.specs.OnLines.{on_line, all_on}
+use Rattle.xb_model.proofs.Images.{image-of_line}
 use Rattle.xb_pulse.specs.Machine.{machine as pulse_machine}
 use Rattle.xb_pulse.specs.Outputs.{outs_on_line}
 use Rattle.xb_register.specs.Machine.{machine as register_machine}

@@ -17,8 +17,8 @@ use Rattle.xb_model.specs.Plans.{plan_len}
 use Rattle.xb_model.specs.Routing.{order_of}
 use Rattle.xb_model.specs.Rows.{LoopRow}
 use Rattle.xb_model.specs.TwoOfFive.{digit_of_pattern, pattern_of_count}
-use Rattle.xb_stage.specs.OnLines.{on_line}
-use Rattle.xb_stage.proofs.OnLines.{image_from-whats}
+use Rattle.xb_model.specs.OnLines.{on_line}
+use Rattle.xb_model.proofs.OnLines.{image_from-whats}
 use Rattle.xb_pulse.specs.declared.state.Phase.{Phase as PulsePhase}
 use Rattle.xb_pulse.specs.declared.state.Phase.TheVariants as pulse
 use Rattle.xb_pulse.specs.declared.state.Tally.{Tally}

@@ -7,10 +7,10 @@ use Rattle.xb_model.specs.LawfulLimits.{IsLawful}
 use Rattle.xb_model.specs.Lines.{row_line, on_line_of}
 use Rattle.xb_model.specs.Rows.{LoopRow}
 use Rattle.std.specs.List.{All}
-use Rattle.xb_stage.proofs.Images.{image_after-none}
-use Rattle.xb_stage.proofs.States.{states_fresh, state_held, states_more, image_more}
+use Rattle.xb_model.proofs.Images.{image_after-none}
+use Rattle.xb_model.proofs.States.{states_fresh, state_held, states_more, image_more}
 use Rattle.xb_model.proofs.LineValues.{AreValues-set}
-use Rattle.xb_stage.specs.Image.{state_after}
+use Rattle.xb_model.specs.Image.{state_after}
 use Rattle.xb_serial.specs.declared.line.Line.{Line}
 use Rattle.xb_serial.specs.Chain.{fresh_line, live_machine, marks_of_row, state_after_row}
 use Rattle.xb_serial.specs.Without.{without}

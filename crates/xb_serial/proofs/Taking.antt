@@ -10,11 +10,11 @@ use Rattle.xb_model.specs.declared.plan.Plan.{Plan}
 use Rattle.xb_model.specs.declared.signal.Signal.{Signal}
 use Rattle.xb_model.specs.Lines.{row_line, on_line_of}
 use Rattle.xb_model.specs.Rows.{LoopRow}
-use Rattle.xb_stage.specs.Image.{Machine, image}
-use Rattle.xb_stage.specs.OnLines.{on_line}
-use Rattle.xb_stage.proofs.Images.{image_after-none}
-use Rattle.xb_stage.proofs.OnLines.{on_line-append}
-use Rattle.xb_stage.proofs.States.{states_fresh, state_held, states_more, image_more}
+use Rattle.xb_model.specs.Image.{Machine, image}
+use Rattle.xb_model.specs.OnLines.{on_line}
+use Rattle.xb_model.proofs.Images.{image_after-none}
+use Rattle.xb_model.proofs.OnLines.{on_line-append}
+use Rattle.xb_model.proofs.States.{states_fresh, state_held, states_more, image_more}
 use Rattle.xb_pulse.specs.declared.state.PulseState.{PulseState}
 use Rattle.xb_pulse.specs.Machine.{machine as pulse_machine}
 use Rattle.xb_register.specs.declared.state.RegisterState.{RegisterState}

@@ -5,8 +5,8 @@ use Rattle.std.proofs.lemmas.Bool.{cases_Bool, cond-true, cond-false, eqb-false}
 use Rattle.std.proofs.lemmas.List.Elements.{filter-append}
 use Rattle.xb_model.specs.Lines.{of_line}
 use Rattle.xb_model.proofs.Lines.{of_line-here, of_line-other}
-use Rattle.xb_stage.specs.Image.{Machine, state_after, image_after, image}
-use Rattle.xb_stage.proofs.Images.{image_after-cons}
+use Rattle.xb_model.specs.Image.{Machine, state_after, image_after, image}
+use Rattle.xb_model.proofs.Images.{image_after-cons}
 use Rattle.xb_serial.specs.Without.{without}
 
 turned : (k l : ℕ) → eqb k l ≡ false → eqb l k ≡ false

@@ -7,7 +7,7 @@ use Rattle.xb_model.specs.Lines.{row_line}
 use Rattle.xb_model.specs.Records.{Run, make}
 use Rattle.xb_model.specs.Rows.{LoopRow}
 use Rattle.xb_model.specs.WorkedRows.{close, pulses, dial, rows_on}
-use Rattle.xb_stage.specs.Image.{image_on}
+use Rattle.xb_model.specs.Image.{image_on}
 use Rattle.xb_serial.specs.Chain.{live_machine}
 use Rattle.xb_serial.specs.Office.{marks_of_rows}
 use Rattle.xb_serial.specs.WorkedRows.{usual, marks_after, nearly_dialled, KeyedInTheRowOfItsPause, RefusedInTheRowOfTheTimeOut}

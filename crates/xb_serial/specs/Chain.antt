@@ -9,8 +9,8 @@ use Rattle.xb_model.specs.declared.signal.Signal.{Signal}
 use Rattle.xb_model.specs.Keyings.{marks_of}
 use Rattle.xb_model.specs.Routing.{order_of}
 use Rattle.xb_model.specs.Rows.{LoopRow}
-use Rattle.xb_stage.specs.Image.{Machine, image_from}
-use Rattle.xb_stage.specs.OnLines.{on_line}
+use Rattle.xb_model.specs.Image.{Machine, image_from}
+use Rattle.xb_model.specs.OnLines.{on_line}
 use Rattle.xb_pulse.specs.declared.state.PulseState.{PulseState}
 use Rattle.xb_pulse.specs.Machine.{machine as pulse_machine}
 use Rattle.xb_register.specs.declared.state.RegisterState.{RegisterState}

@@ -6,7 +6,7 @@ use Rattle.xb_model.specs.LawfulLimits.{IsLawful}
 use Rattle.xb_model.specs.Lines.{row_line}
 use Rattle.xb_model.specs.Rows.{LoopRow}
 use Rattle.xb_model.specs.Tapes.{EndsAtLast}
-use Rattle.xb_stage.specs.States.{AreStates}
+use Rattle.xb_model.specs.States.{AreStates}
 use Rattle.xb_routes.specs.Table.{Table}
 use Rattle.xb_tape.specs.GatheredMarks.{whats_of}
 use Rattle.xb_serial.specs.Serial.{serial_image}

@@ -7,8 +7,8 @@ use Rattle.xb_model.specs.declared.plan.Plan.{Plan}
 use Rattle.xb_model.specs.declared.signal.Signal.{Signal}
 use Rattle.xb_model.specs.Lines.{row_line, on_line_of}
 use Rattle.xb_model.specs.Rows.{LoopRow}
-use Rattle.xb_stage.specs.Image.{image}
-use Rattle.xb_stage.specs.States.{AreStates}
+use Rattle.xb_model.specs.Image.{image}
+use Rattle.xb_model.specs.States.{AreStates}
 use Rattle.xb_pulse.specs.declared.state.PulseState.{PulseState}
 use Rattle.xb_pulse.specs.Machine.{machine as pulse_machine}
 use Rattle.xb_register.specs.declared.state.RegisterState.{RegisterState}

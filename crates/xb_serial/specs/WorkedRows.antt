@@ -7,7 +7,7 @@ use Rattle.xb_model.specs.declared.reason.Reason.TheVariants.{TimedOut}
 use Rattle.xb_model.specs.LawfulLimits.{standard_limits}
 use Rattle.xb_model.specs.Records.{Run, make}
 use Rattle.xb_model.specs.WorkedRows.{close, pulses, dials, rows_on, three_routes, keyed_seven, refused}
-use Rattle.xb_stage.specs.OnLines.{on_line}
+use Rattle.xb_model.specs.OnLines.{on_line}
 use Rattle.xb_routes.specs.Table.{Table}
 use Rattle.xb_serial.specs.Office.{marks_of_rows}
 

@@ -1,7 +1,7 @@
 // What the signals of a row tell of an attempt.
 ghost use Rattle.std.specs.Prelude.{◌≡◌, ◌≤◌, fold, length};
 ghost use Rattle.std.specs.Option.{option_to_list};
-ghost use Rattle.xb_stage.specs.OnLines.{whats_from};
+ghost use Rattle.xb_model.specs.OnLines.{whats_from};
 ghost use Rattle.xb_register.specs.Machine.{outcomes_by, phase_after};
 
 use xb_model::{Dialled, Signal};

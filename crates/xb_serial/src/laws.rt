@@ -6,7 +6,7 @@ ghost use Rattle.xb_model.specs.declared.on.On.{On};
 ghost use Rattle.xb_model.specs.Lines.{row_line};
 ghost use Rattle.xb_model.specs.Rows.{LoopRow};
 ghost use Rattle.xb_routes.specs.Table.{Table};
-ghost use Rattle.xb_stage.specs.Image.{image_on};
+ghost use Rattle.xb_model.specs.Image.{image_on};
 ghost use Rattle.xb_serial.specs.Chain.{live_machine};
 ghost use Rattle.xb_serial.specs.Office.{Office, HasTaken, marks_of_rows};
 ghost use Rattle.xb_serial.specs.Promises.{KeepsPromises};

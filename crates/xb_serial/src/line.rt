@@ -2,17 +2,16 @@
 ghost use Rattle.std.specs.Prelude.{◌≡◌, [], IfNone, IfSome};
 ghost use Rattle.std.specs.Option.{option_to_list};
 ghost use Rattle.xb_model.specs.Tapes.{EndsAtLast};
-ghost use Rattle.xb_stage.specs.OnLines.{on_line};
+ghost use Rattle.xb_model.specs.OnLines.{on_line};
 ghost use Rattle.xb_serial.specs.Chain.{fresh_line, marks_of_row, outcomes_of_row, state_after_row};
 
 use crate::hearing::outcome_of;
 use arrayvec::ArrayVec;
-use xb_model::{Dialled, Mark, Row};
+use xb_model::{Dialled, LineStage, MOST_OUTPUTS, Mark, Row};
 use xb_pulse::{Pulse, PulseState};
 use xb_register::{Register, RegisterState};
 use xb_routes::RouteTable;
 use xb_sender::marks_of;
-use xb_stage::{LineStage, MOST_OUTPUTS};
 
 /// The most marks that one row gives: those of one entry.
 pub const MOST_MARKS: usize = MOST_OUTPUTS;

@@ -1,6 +1,6 @@
 // The chain, one row at a time.
 ghost use Rattle.std.specs.Prelude.{◌≡◌, ◌≤◌, [], length};
-ghost use Rattle.xb_stage.specs.OnLines.{on_line};
+ghost use Rattle.xb_model.specs.OnLines.{on_line};
 ghost use Rattle.xb_serial.specs.declared.line.TheConstants.{MOST_MARKS};
 
 use crate::line::{Line, MOST_MARKS};

@@ -2,10 +2,9 @@
 use crate::registers::Registers;
 use std::alloc::{AllocError, Global};
 use std::marker::Model;
-use xb_model::{Dialled, On, PerLine, Row};
+use xb_model::{Dialled, LineStage, On, PerLine, Row};
 use xb_pulse::{Pulse, PulseState};
 use xb_routes::RouteTable;
-use xb_stage::LineStage;
 
 // The loops of all lines: what is heard on them, and the registers which that goes to.
 #[derive(Drop)]

@@ -1,9 +1,8 @@
 // The registers of all lines, one signal after another.
 use std::alloc::{AllocError, Global};
 use std::marker::Model;
-use xb_model::{Dialled, LineNo, On, PerLine, Plan, Signal};
+use xb_model::{Dialled, LineNo, LineStage, On, PerLine, Plan, Signal};
 use xb_register::{Register, RegisterState};
-use xb_stage::LineStage;
 
 // The registers of all lines, and what came of the attempts so far.
 #[derive(Drop)]
@@ -30,7 +29,7 @@ impl Registers {
     ghost use Rattle.xb_model.specs.declared.on.On.{On as OnSignal};
     ghost use Rattle.xb_model.specs.declared.plan.Plan.{Plan as NumberPlan};
     ghost use Rattle.xb_model.specs.declared.signal.Signal.{Signal as LineSignal};
-    ghost use Rattle.xb_stage.specs.OnLines.{on_line};
+    ghost use Rattle.xb_model.specs.OnLines.{on_line};
     ghost use Rattle.xb_serial.specs.Taken.{HasDialled};
 
     // Registers that have taken no signal.

@@ -4,7 +4,7 @@ ghost use Rattle.xb_model.specs.declared.line.TheConstants.{LINES};
 ghost use Rattle.xb_model.specs.LawfulLimits.{IsLawful};
 ghost use Rattle.xb_model.specs.Tapes.{tape_of, joined_tape, entries_of};
 ghost use Rattle.xb_model.specs.Lines.{on_line_of};
-ghost use Rattle.xb_stage.specs.Image.{image};
+ghost use Rattle.xb_model.specs.Image.{image};
 ghost use Rattle.xb_routes.specs.Machine.{machine as translate_machine};
 ghost use Rattle.xb_sender.specs.Machine.{machine as sender_machine};
 ghost use Rattle.xb_serial.specs.Serial.{closed_rows, dialled_image};
@@ -14,10 +14,9 @@ ghost use Rattle.xb_tape.specs.GatheredMarks.{AreTapes};
 use crate::closes::close_rows;
 use crate::loops::Loops;
 use std::alloc::{AllocError, Global};
-use xb_model::{Dialled, Mark, On, Row};
+use xb_model::{Dialled, Mark, On, Row, image_of};
 use xb_routes::{RouteTable, Translate};
 use xb_sender::Sender;
-use xb_stage::image_of;
 use xb_tape::Tapes;
 
 // What comes of the attempts in rows, each line closed after the last of them.

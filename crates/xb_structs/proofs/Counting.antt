@@ -11,8 +11,8 @@ use Rattle.xb_model.specs.declared.order.Order.{Order}
 use Rattle.xb_model.specs.declared.order.Order.TheVariants.{Key, Refused}
 use Rattle.xb_model.specs.Keyings.{marks_of, tone, is_ending}
 use Rattle.xb_model.specs.Rows.{LoopRow}
-use Rattle.xb_stage.specs.Image.{image_on}
-use Rattle.xb_stage.specs.OnLines.{on_line}
+use Rattle.xb_model.specs.Image.{image_on}
+use Rattle.xb_model.specs.OnLines.{on_line}
 use Rattle.xb_routes.specs.Table.{Table}
 use Rattle.xb_serial.specs.Chain.{live_machine, marks_of_row, state_after_row}
 use Rattle.xb_serial.proofs.OneLine.{image_from-append}

@@ -5,7 +5,7 @@ use Rattle.xb_model.specs.declared.mark.Mark.{Mark}
 use Rattle.xb_model.specs.declared.on.On.{On}
 use Rattle.xb_model.specs.Keyings.{is_ending}
 use Rattle.xb_model.specs.Rows.{LoopRow}
-use Rattle.xb_stage.specs.Image.{image_on}
+use Rattle.xb_model.specs.Image.{image_on}
 use Rattle.xb_routes.specs.Table.{Table}
 use Rattle.xb_serial.specs.Chain.{live_machine, marks_of_row, state_after_row}
 use Rattle.xb_structs.specs.declared.line.PlainLine.{PlainLine}

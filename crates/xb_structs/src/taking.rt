@@ -2,7 +2,7 @@
 ghost use Rattle.std.specs.Prelude.{◌≡◌, ◌<◌, ◌≤◌, List, [], IfOk, IfErr, OnErr, length};
 ghost use Rattle.std.specs.Option.{option_to_list};
 ghost use Rattle.xb_model.specs.Routing.{CodedRoute};
-ghost use Rattle.xb_stage.specs.OnLines.{on_line};
+ghost use Rattle.xb_model.specs.OnLines.{on_line};
 ghost use Rattle.xb_routes.specs.Text.{table_by};
 ghost use Rattle.xb_serial.specs.Chain.{marks_of_row, outcomes_of_row, state_after_row};
 ghost use Rattle.xb_structs.specs.declared.refusal.Refusal.TheVariants.{Room};

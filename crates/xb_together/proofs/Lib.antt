@@ -1,1 +1,3 @@
 mod FarEnds
+pub mod PlannedPages
+pub mod SplitPages

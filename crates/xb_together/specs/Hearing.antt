@@ -10,7 +10,7 @@ use Rattle.xb_model.specs.Lines.{row_line}
 use Rattle.xb_model.specs.Records.{closes, record_up_to_close}
 use Rattle.xb_model.specs.Rows.{LoopRow}
 use Rattle.xb_model.specs.Signals.{signals_of}
-use Rattle.xb_stage.specs.OnLines.{on_line}
+use Rattle.xb_model.specs.OnLines.{on_line}
 
 -- what was heard, and a close, are the signals of the rows
 abbrev pub HearsOpenRecord : Limits → List LoopRow → List (On Signal) → Type 0

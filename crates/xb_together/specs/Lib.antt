@@ -1,2 +1,3 @@
 pub mod FarEnd
 pub mod Hearing
+pub mod SplitDecks

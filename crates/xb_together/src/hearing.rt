@@ -4,9 +4,8 @@ ghost use Rattle.xb_model.specs.LawfulLimits.{IsLawful};
 ghost use Rattle.xb_together.specs.Hearing.{HearsOpenRecord};
 
 use std::alloc::{AllocError, Global};
-use xb_model::{Limits, On, Row, Signal};
+use xb_model::{Limits, LineStage, OUTPUT_ROOM, On, Row, Signal};
 use xb_pulse::Pulse;
-use xb_stage::{LineStage, OUTPUT_ROOM};
 
 /// The signals that rows of one line give, in order. A simulator would keep `state` from row to row, and
 /// act on what each `step` puts into `sent`. `Err` where memory ran out.

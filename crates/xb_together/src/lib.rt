@@ -5,16 +5,21 @@
 //! `sound_of_calls` promises of the calls of a line that, number by number, the keys that are heard in its sound are
 //! KP, the digits that the number's route sends, and ST, and nothing of a number without a route. What is heard are
 //! the tone patterns that are keys (`keys_heard` of `xb_tone`).
+//!
+//! `split_decks_make_the_page`: for all rows, and ranges that take all lines, the pages that the decks of the ranges
+//! say, joined, are the page that all rows make. `planned_decks_make_the_page`: the same for the ranges of a plan.
 #![tactic(auto)]
 
 mod calls;
 mod far_end;
 mod hearing;
+mod large_decks;
 mod schedules;
 mod threads;
 
 pub use calls::marks_of_call;
 pub use far_end::sound_of_calls;
 pub use hearing::hear;
+pub use large_decks::{planned_decks_make_the_page, split_decks_make_the_page};
 pub use schedules::{SoFar, marks_by_schedule};
 pub use threads::marks_on_threads;

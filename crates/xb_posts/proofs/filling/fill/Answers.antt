@@ -1,6 +1,6 @@
 use Rattle.std.proofs.Common.{rules, ◌≤◌, ◌++◌, ◌∷◌, [], cond, map, sym, ap, ◌∙◌, subst, append-nil}
 use Rattle.xb_model.specs.Rows.{LoopRow}
-use Rattle.xb_ring.specs.declared.flow.Flow.TheVariants.{Item}
+use Rattle.xb_flow.specs.declared.flow.Flow.TheVariants.{Item}
 use Rattle.xb_posts.specs.declared.filling.TheConstants.{AHEAD}
 use Rattle.xb_posts.proofs.Fillings.{fills-fault, fills-row}
 use Rattle.xb_posts.proofs.Slices.{rows_push}

@@ -3,9 +3,9 @@ use Rattle.std.proofs.lemmas.Bool.{cases_eq}
 use Rattle.rtrb.specs.Ring.{received, IsPair}
 use Rattle.xb_model.specs.declared.mark.Mark.{Mark}
 use Rattle.xb_model.specs.declared.on.On.{On}
-use Rattle.xb_ring.specs.Rings.{IsRing}
+use Rattle.xb_flow.specs.Rings.{IsRing}
 use Rattle.xb_replay.specs.Looks.{OutputLooked}
-use Rattle.xb_posts.specs.Posts.{SenderPost, Input}
+use Rattle.xb_run.specs.Posts.{SenderPost, Input}
 use Rattle.xb_replay.proofs.Sets.{related-set, same-set, upto-set}
 use Rattle.xb_replay.proofs.LookSteps.{output-on, inputs-kept, one-ring}
 use Rattle.xb_replay.proofs.looks.look_at_inputs.Goals as goal

@@ -1,9 +1,9 @@
 use Rattle.std.proofs.Common.{◌≡◌, ◌<◌, ◌≤◌, ℕ, get_or}
 use Rattle.xb_model.specs.declared.on.On.{On}
 use Rattle.xb_model.specs.declared.mark.Mark.{Mark}
-use Rattle.xb_ring.specs.Rings.{IsRing}
+use Rattle.xb_flow.specs.Rings.{IsRing}
 use Rattle.xb_replay.specs.Looks.{AllOutputsLooked, ConsumersLooked}
-use Rattle.xb_posts.specs.Posts.{SenderPost, Input}
+use Rattle.xb_run.specs.Posts.{SenderPost, Input}
 use Rattle.xb_replay.proofs.looks.look_at_inputs.Given as goal
 
 abbrev pub invariant-loop-k : goal.invariant-loop-k

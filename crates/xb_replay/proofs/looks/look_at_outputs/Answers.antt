@@ -2,10 +2,10 @@ use Rattle.std.proofs.Common.{◌<◌, ◌∙◌, get_or, length, refl, sym, sub
 use Rattle.rtrb.specs.Ring.{IsPair}
 use Rattle.xb_model.specs.declared.on.On.{On}
 use Rattle.xb_model.specs.declared.order.Order.{Order}
-use Rattle.xb_ring.specs.Rings.{IsRing, ProducersLooked}
-use Rattle.xb_ring.proofs.Rings.{pair_kept}
+use Rattle.xb_flow.specs.Rings.{IsRing, ProducersLooked}
+use Rattle.xb_flow.proofs.Rings.{pair_kept}
 use Rattle.xb_replay.specs.Looks.{InputLooked}
-use Rattle.xb_posts.specs.Posts.{SenderPost, Output}
+use Rattle.xb_run.specs.Posts.{SenderPost, Output}
 use Rattle.xb_replay.proofs.Sets.{related-set, same-set, upto-set}
 use Rattle.xb_replay.proofs.LookSteps.{ring_kept, outputs-on, outputs-kept, input-on}
 use Rattle.xb_replay.proofs.looks.look_at_outputs.Goals as goal

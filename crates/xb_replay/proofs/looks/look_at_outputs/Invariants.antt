@@ -1,9 +1,9 @@
 use Rattle.std.proofs.Common.{◌≡◌, ◌<◌, ◌≤◌, ℕ, get_or}
 use Rattle.xb_model.specs.declared.on.On.{On}
 use Rattle.xb_model.specs.declared.order.Order.{Order}
-use Rattle.xb_ring.specs.Rings.{IsRing, ProducersLooked}
+use Rattle.xb_flow.specs.Rings.{IsRing, ProducersLooked}
 use Rattle.xb_replay.specs.Looks.{AllInputsLooked}
-use Rattle.xb_posts.specs.Posts.{SenderPost, Output}
+use Rattle.xb_run.specs.Posts.{SenderPost, Output}
 use Rattle.xb_replay.proofs.looks.look_at_outputs.Given as goal
 
 abbrev pub invariant-loop-j : goal.invariant-loop-j

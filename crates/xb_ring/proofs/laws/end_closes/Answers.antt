@@ -1,4 +1,4 @@
-use Rattle.xb_ring.proofs.ImagePrefixes.{flow_image-closed}
+use Rattle.xb_station.proofs.ImagePrefixes.{flow_image-closed}
 use Rattle.xb_ring.proofs.laws.end_closes.Goals as goal
 
 pub returns : goal.returns

@@ -1,4 +1,4 @@
-use Rattle.xb_ring.proofs.MergedImages.{merged-stateless}
+use Rattle.xb_branches.proofs.MergedImages.{merged-stateless}
 use Rattle.xb_ring.proofs.laws.merged_images.Goals as goal
 
 pub returns : goal.returns

@@ -1,4 +1,4 @@
-use Rattle.xb_ring.proofs.Merged.{merged_whole}
+use Rattle.xb_branches.proofs.Merged.{merged_whole}
 use Rattle.xb_ring.proofs.laws.merged_is_whole.Goals as goal
 
 pub returns : goal.returns

@@ -1,4 +1,4 @@
-use Rattle.xb_ring.proofs.Rings.{pair_kept}
+use Rattle.xb_flow.proofs.Rings.{pair_kept}
 use Rattle.xb_ring.proofs.laws.pair_stays.Goals as goal
 
 pub returns : goal.returns

@@ -1,4 +1,4 @@
-use Rattle.xb_ring.proofs.ImagePrefixes.{image-prefix, flow_image-prefix}
+use Rattle.xb_station.proofs.ImagePrefixes.{image-prefix, flow_image-prefix}
 use Rattle.xb_ring.proofs.laws.prefix_of_image.Goals as goal
 
 pub returns-clause-items : goal.returns-clause-items

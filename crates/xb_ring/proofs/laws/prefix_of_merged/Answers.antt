@@ -1,4 +1,4 @@
-use Rattle.xb_ring.proofs.Merged.{merged_prefix}
+use Rattle.xb_branches.proofs.Merged.{merged_prefix}
 use Rattle.xb_ring.proofs.laws.prefix_of_merged.Goals as goal
 
 pub returns : goal.returns

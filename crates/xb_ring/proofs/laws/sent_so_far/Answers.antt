@@ -1,4 +1,4 @@
-use Rattle.xb_ring.proofs.Flows.{flow-front, flow-whole}
+use Rattle.xb_flow.proofs.Flows.{flow-front, flow-whole}
 use Rattle.xb_ring.proofs.laws.sent_so_far.Goals as goal
 
 pub returns-clause-beginning : goal.returns-clause-beginning

@@ -1,6 +1,6 @@
 use Rattle.std.proofs.Common.{refl}
-use Rattle.xb_ring.specs.Dealt.{dealt_from}
-use Rattle.xb_ring.specs.Merged.{piece}
+use Rattle.xb_branches.specs.Dealt.{dealt_from}
+use Rattle.xb_branches.specs.Merged.{piece}
 use Rattle.xb_ring.proofs.laws.small_lists.Goals as goal
 
 pub returns-clause-dealt_first : goal.returns-clause-dealt_first

@@ -1,4 +1,4 @@
-use Rattle.xb_posts.specs.Chains.{posts_of}
+use Rattle.xb_run.specs.Chains.{posts_of}
 use Rattle.xb_run.proofs.running.serve_all.Goals as goal
 
 pub returns-in-Ok-clause-promised : goal.returns-in-Ok-clause-promised

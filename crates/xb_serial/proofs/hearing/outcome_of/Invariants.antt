@@ -1,6 +1,6 @@
 use Rattle.std.proofs.Common.{◌≡◌, ◌++◌, drop, fold}
 use Rattle.std.specs.Option.{option_to_list}
-use Rattle.xb_stage.specs.OnLines.{whats_from}
+use Rattle.xb_model.specs.OnLines.{whats_from}
 use Rattle.xb_register.specs.Machine.{outcomes_by, phase_after}
 use Rattle.xb_serial.proofs.hearing.outcome_of.Given as goal
 

@@ -6,8 +6,8 @@ use Rattle.xb_model.specs.declared.on.On.{On}
 use Rattle.xb_model.specs.Lines.{on_line_of}
 use Rattle.xb_model.specs.Records.{rows_of}
 use Rattle.xb_model.specs.Tapes.{joined_tape}
-use Rattle.xb_stage.specs.Image.{image}
-use Rattle.xb_stage.specs.OnLines.{on_line}
+use Rattle.xb_model.specs.Image.{image}
+use Rattle.xb_model.specs.OnLines.{on_line}
 use Rattle.xb_routes.specs.Machine.{machine as translate_machine}
 use Rattle.xb_sender.specs.Machine.{machine as sender_machine}
 use Rattle.xb_serial.specs.Serial.{closed_rows, serial_image}

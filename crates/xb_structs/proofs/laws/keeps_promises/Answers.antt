@@ -1,4 +1,4 @@
-use Rattle.xb_stage.specs.Image.{image_on}
+use Rattle.xb_model.specs.Image.{image_on}
 use Rattle.xb_serial.specs.Chain.{live_machine}
 use Rattle.xb_serial.proofs.Fusion.{fusion-one}
 use Rattle.xb_serial.proofs.Promises.{chain_keeps_promises}

@@ -1,6 +1,6 @@
 use Rattle.std.proofs.Common.{◌≡◌, ◌∙◌, [], fold, sym, ap}
 use Rattle.std.specs.Option.{option_to_list}
-use Rattle.xb_stage.specs.OnLines.{on_line}
+use Rattle.xb_model.specs.OnLines.{on_line}
 use Rattle.xb_pulse.specs.Machine.{signals_by, phase_after as pulse_after}
 use Rattle.xb_register.specs.Machine.{phase_after}
 use Rattle.xb_routes.specs.Text.{table_by}

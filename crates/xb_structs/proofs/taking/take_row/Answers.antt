@@ -2,7 +2,7 @@ use Rattle.std.proofs.Common.{◌≡◌, ◌∙◌, ◌∷◌, [], ap, sym, leng
 use Rattle.std.specs.Option.{option_to_list}
 use Rattle.xb_model.specs.Keyings.{marks_of}
 use Rattle.xb_model.specs.Routing.{order_of}
-use Rattle.xb_stage.specs.OnLines.{on_line}
+use Rattle.xb_model.specs.OnLines.{on_line}
 use Rattle.xb_routes.specs.Text.{table_by}
 use Rattle.xb_serial.specs.Chain.{marks_of_row, outcomes_of_row}
 use Rattle.xb_serial.proofs.OneOutcome.{no_entry, one_entry}

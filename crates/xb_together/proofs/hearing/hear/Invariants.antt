@@ -1,6 +1,6 @@
 use Rattle.std.proofs.Common.{◌≡◌, ◌≤◌, [], ◌++◌, drop, vec_capacity}
-use Rattle.xb_stage.specs.Image.{image_from, image_on}
-use Rattle.xb_stage.specs.declared.stage.TheConstants.{OUTPUT_ROOM}
+use Rattle.xb_model.specs.Image.{image_from, image_on}
+use Rattle.xb_model.specs.declared.stage.TheConstants.{OUTPUT_ROOM}
 use Rattle.xb_pulse.specs.Machine.{machine}
 use Rattle.xb_together.proofs.hearing.hear.Given as goal
 

@@ -1,9 +1,9 @@
 use Rattle.std.proofs.Common.{◌≡◌, ◌∷◌, [], false, refl, sym, ap, ◌∙◌, inl, inr, length}
 use Rattle.rtrb.specs.Ring.{sent}
 use Rattle.xb_model.specs.Sources.{told}
-use Rattle.xb_ring.specs.declared.flow.Flow.TheVariants.{Item, End}
-use Rattle.xb_ring.specs.Flows.{has_end, counted}
-use Rattle.xb_ring.proofs.Flows.{has_end-item, has_end-end, items_of-end, IsFlow-more, count_more}
+use Rattle.xb_flow.specs.declared.flow.Flow.TheVariants.{Item, End}
+use Rattle.xb_flow.specs.Flows.{has_end, counted}
+use Rattle.xb_flow.proofs.Flows.{has_end-item, has_end-end, items_of-end, IsFlow-more, count_more}
 use Rattle.xb_posts.specs.Feeds.{has_fed, has_met}
 use Rattle.xb_posts.proofs.Feeds.{feeds_on-close, feeds_on-end}
 use Rattle.xb_posts.proofs.feed.Feed.send_after_rows.Goals as goal

@@ -1,6 +1,6 @@
 use Rattle.std.proofs.Common.{rules, ◌≡◌, ◌≢◌, ◌≤◌, ◌+◌, ◌-◌, ◌^◌, min, ◌++◌, ◌∷◌, [], false, refl, sym, ap, ◌∙◌, inl, subst, length, append-nil, arith}
 use Rattle.rtrb.specs.Ring.{sent}
-use Rattle.xb_ring.specs.Flows.{has_end}
+use Rattle.xb_flow.specs.Flows.{has_end}
 use Rattle.xb_posts.specs.declared.filling.TheConstants.{AHEAD}
 use Rattle.xb_posts.specs.Feeds.{AreRows, has_fed}
 use Rattle.xb_posts.proofs.Feeds.{feeds_on-sent}

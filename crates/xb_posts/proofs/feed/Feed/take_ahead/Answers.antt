@@ -1,6 +1,6 @@
 use Rattle.std.proofs.Common.{◌≡◌, false, refl, ap, ◌∙◌}
 use Rattle.rtrb.specs.Ring.{sent}
-use Rattle.xb_ring.specs.Flows.{has_end}
+use Rattle.xb_flow.specs.Flows.{has_end}
 use Rattle.xb_posts.specs.Feeds.{has_fed}
 use Rattle.xb_posts.proofs.Feeds.{feeds_on-filled}
 use Rattle.xb_posts.proofs.feed.Feed.take_ahead.Goals as goal

@@ -1,6 +1,6 @@
 use Rattle.std.proofs.Common.{◌≡◌, sym, ap, subst}
 use Rattle.rtrb.specs.Ring.{IsPair}
-use Rattle.xb_ring.proofs.Rings.{only_one}
+use Rattle.xb_flow.proofs.Rings.{only_one}
 use Rattle.xb_posts.proofs.feed.FeedSendsRow.look_at.Goals as goal
 
 pub look_at_both-requires : goal.look_at_both-requires

@@ -1,8 +1,8 @@
 use Rattle.std.proofs.Common.{◌≡◌, ◌++◌, ◌∷◌, [], false, refl, sym, ap, ◌∙◌, length}
 use Rattle.rtrb.specs.Ring.{received}
-use Rattle.xb_ring.specs.declared.flow.Flow.TheVariants.{Item, End}
-use Rattle.xb_ring.specs.Flows.{has_end, counted}
-use Rattle.xb_ring.proofs.Flows.{has_end-item, has_end-end, items_of-end, count_more}
+use Rattle.xb_flow.specs.declared.flow.Flow.TheVariants.{Item, End}
+use Rattle.xb_flow.specs.Flows.{has_end, counted}
+use Rattle.xb_flow.proofs.Flows.{has_end-item, has_end-end, items_of-end, count_more}
 use Rattle.xb_posts.proofs.TapeStations.{popped, tape_law-mark, tape_law-end}
 use Rattle.xb_posts.proofs.tape_station.TapeStation.turn.Goals as goal
 

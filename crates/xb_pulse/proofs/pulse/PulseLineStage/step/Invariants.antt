@@ -1,5 +1,5 @@
 use Rattle.std.proofs.Common.{◌≡◌, take, vec_len, vec_capacity}
-use Rattle.xb_stage.specs.OnLines.{on_line}
+use Rattle.xb_model.specs.OnLines.{on_line}
 use Rattle.xb_pulse.proofs.pulse.PulseLineStage.step.Given as goal
 
 abbrev pub invariant-loop-what : goal.invariant-loop-what

@@ -1,7 +1,7 @@
 use Rattle.std.proofs.Common.{◌≡◌, ◌∙◌, ap, subst}
 use Rattle.rtrb.specs.Ring.{received}
-use Rattle.xb_ring.specs.declared.post.Post.TheVariants.{Tape}
-use Rattle.xb_ring.specs.Flows.{has_end}
+use Rattle.xb_flow.specs.declared.post.Post.TheVariants.{Tape}
+use Rattle.xb_flow.specs.Flows.{has_end}
 use Rattle.xb_replay.specs.World.{WorldLaw}
 use Rattle.xb_replay.proofs.Prefixes.{all-ended, tape-whole}
 use Rattle.xb_replay.proofs.replay.Replay.ended.Goals as goal

@@ -1,5 +1,5 @@
 use Rattle.std.proofs.Common.{◌≡◌, ◌∙◌, ap, subst}
-use Rattle.xb_ring.specs.declared.post.Post.TheVariants.{Tape}
+use Rattle.xb_flow.specs.declared.post.Post.TheVariants.{Tape}
 use Rattle.xb_replay.specs.Marks.{marks_of}
 use Rattle.xb_replay.specs.World.{WorldLaw}
 use Rattle.xb_replay.proofs.Prefixes.{tape-prefix, tape-whole}

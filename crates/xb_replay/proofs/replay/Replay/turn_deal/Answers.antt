@@ -1,7 +1,7 @@
 use Rattle.std.proofs.Common.{◌≡◌, ◌∙◌, length, get_or, refl, sym, ap, subst}
-use Rattle.xb_ring.specs.declared.post.Post.TheVariants as posts
+use Rattle.xb_flow.specs.declared.post.Post.TheVariants as posts
 use Rattle.xb_replay.specs.Turns.{OutputsStay}
-use Rattle.xb_posts.specs.Rings.{AreDealt}
+use Rattle.xb_run.specs.Rings.{AreDealt}
 use Rattle.xb_replay.proofs.BranchEvents.{deal-turned, deal-place_below, outputs-on, outputs-same, outputs-looked, outputs-ended}
 use Rattle.xb_replay.proofs.BranchWorlds.{world-deal}
 use Rattle.xb_replay.proofs.Events.{input-stays, output-stays}

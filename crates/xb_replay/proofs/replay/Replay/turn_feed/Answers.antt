@@ -1,5 +1,5 @@
 use Rattle.std.proofs.Common.{refl, subst}
-use Rattle.xb_ring.specs.declared.post.Post.TheVariants as posts
+use Rattle.xb_flow.specs.declared.post.Post.TheVariants as posts
 use Rattle.xb_posts.specs.Feeds.{IsFeedTurn}
 use Rattle.xb_replay.specs.World.{FeedLaw}
 use Rattle.xb_replay.proofs.Events.{feed-ended, feed-turned, input-stays}

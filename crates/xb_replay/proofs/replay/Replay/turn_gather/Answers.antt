@@ -1,8 +1,8 @@
 use Rattle.std.proofs.Common.{◌≡◌, ◌<◌, ◌∙◌, length, get_or, refl, sym, ap, subst}
 use Rattle.rtrb.specs.Ring.{sent}
-use Rattle.xb_ring.specs.declared.post.Post.TheVariants as posts
-use Rattle.xb_ring.specs.declared.turn.Turn.TheVariants.{Ended}
-use Rattle.xb_ring.specs.Rings.{IsRing}
+use Rattle.xb_flow.specs.declared.post.Post.TheVariants as posts
+use Rattle.xb_flow.specs.declared.turn.Turn.TheVariants.{Ended}
+use Rattle.xb_flow.specs.Rings.{IsRing}
 use Rattle.xb_replay.proofs.BranchEvents.{gather-turned, gather-place_below}
 use Rattle.xb_replay.proofs.BranchWorlds.{world-gather}
 use Rattle.xb_replay.proofs.Events.{ended-same, output-stays, tape-on}

@@ -1,7 +1,7 @@
 use Rattle.std.proofs.Common.{◌∙◌, refl, ap}
 use Rattle.rtrb.specs.Ring.{sent}
-use Rattle.xb_ring.specs.declared.post.Post.TheVariants as posts
-use Rattle.xb_ring.specs.declared.turn.Turn.TheVariants.{Ended}
+use Rattle.xb_flow.specs.declared.post.Post.TheVariants as posts
+use Rattle.xb_flow.specs.declared.turn.Turn.TheVariants.{Ended}
 use Rattle.xb_replay.proofs.Events.{ended-same, station-turned, input-stays}
 use Rattle.xb_replay.proofs.LookSteps.{one-ring, mid-ring, mid-stage, input-on, feed-on}
 use Rattle.xb_replay.proofs.Returns.{has-turned}

@@ -1,12 +1,12 @@
 use Rattle.std.proofs.Common.{◌≡◌, ◌<◌, arith, get_or-set_same, get_or-set_other, length-set, ◌↔◌, ◌∙◌, true, length, get_or, refl, sym, ap, subst}
 use Rattle.rtrb.specs.Ring.{sent, received}
-use Rattle.xb_ring.specs.declared.post.Post.TheVariants as posts
-use Rattle.xb_ring.specs.declared.turn.Turn.TheVariants.{Ended}
-use Rattle.xb_ring.specs.Flows.{has_end}
+use Rattle.xb_flow.specs.declared.post.Post.TheVariants as posts
+use Rattle.xb_flow.specs.declared.turn.Turn.TheVariants.{Ended}
+use Rattle.xb_flow.specs.Flows.{has_end}
 use Rattle.std.proofs.lemmas.List.{get_or_read}
-use Rattle.xb_ring.proofs.Rings.{received_looked}
+use Rattle.xb_flow.proofs.Rings.{received_looked}
 use Rattle.xb_replay.specs.Looks.{InputLooked}
-use Rattle.xb_ring.specs.Stations.{Stays as StationStays}
+use Rattle.xb_station.specs.Stations.{Stays as StationStays}
 use Rattle.xb_replay.proofs.BranchWorlds.{world-sender}
 use Rattle.xb_replay.proofs.Events.{StationTurned, ended-same, station-turned}
 use Rattle.xb_replay.proofs.LookSteps.{one-ring, mid-ring, outputs-on, outputs-kept, inputs-kept}

@@ -1,6 +1,6 @@
 use Rattle.std.proofs.Common.{◌∙◌, map, refl, ap}
 use Rattle.rtrb.specs.Ring.{received}
-use Rattle.xb_posts.specs.Chains.{posts_of}
+use Rattle.xb_run.specs.Chains.{posts_of}
 use Rattle.xb_replay.proofs.BranchWorlds.{world-tape}
 use Rattle.xb_replay.proofs.Events.{tape-ended, tape-turned, tape-refused, tape-kept}
 use Rattle.xb_replay.proofs.LookSteps.{one-ring, gather-on}

@@ -1,5 +1,5 @@
 use Rattle.std.proofs.Common.{◌≡◌, take, vec_len, vec_capacity}
-use Rattle.xb_stage.specs.OnLines.{on_line}
+use Rattle.xb_model.specs.OnLines.{on_line}
 use Rattle.xb_sender.proofs.sender.SenderLineStage.step.Given as goal
 
 abbrev pub invariant-loop-mark : goal.invariant-loop-mark

@@ -4,7 +4,7 @@ use Rattle.xb_model.specs.declared.mark.Mark.{Mark}
 use Rattle.xb_model.specs.declared.on.On.{On}
 use Rattle.xb_model.specs.Lines.{row_line, on_line_of}
 use Rattle.xb_model.specs.Tapes.{EndsAtLast}
-use Rattle.xb_stage.specs.OnLines.{on_line}
+use Rattle.xb_model.specs.OnLines.{on_line}
 use Rattle.xb_serial.specs.Chain.{marks_of_row}
 use Rattle.xb_serial.specs.Office.{Office, HasTaken, IsEntryOrNone}
 use Rattle.xb_serial.proofs.Fusion.{row_marks-on}

@@ -1,6 +1,6 @@
 use Rattle.std.proofs.Common.{◌++◌, set, refl, sym, ap, ◌∙◌, subst}
 use Rattle.std.proofs.lemmas.Result.{on_ok_weaker}
-use Rattle.xb_stage.specs.OnLines.{on_line}
+use Rattle.xb_model.specs.OnLines.{on_line}
 use Rattle.xb_serial.specs.Taken.{Hearing, HasDialled, HasHeard}
 use Rattle.xb_serial.proofs.Taking.{heard-more}
 use Rattle.xb_serial.proofs.loops.Loops.take.Goals as goal

@@ -1,6 +1,6 @@
 use Rattle.std.proofs.Common.{◌++◌, append-nil, set, refl, sym, ap, ◌∙◌, subst}
 use Rattle.std.specs.Option.{option_to_list}
-use Rattle.xb_stage.specs.OnLines.{on_line}
+use Rattle.xb_model.specs.OnLines.{on_line}
 use Rattle.xb_serial.specs.Taken.{Dialling, HasDialled}
 use Rattle.xb_serial.proofs.Taking.{dialled-more}
 use Rattle.xb_serial.proofs.registers.Registers.take.Goals as goal

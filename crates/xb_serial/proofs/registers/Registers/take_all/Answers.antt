@@ -1,7 +1,7 @@
 use Rattle.std.proofs.Common.{◌++◌, List, take, sym, ap, ◌∙◌, subst}
 use Rattle.std.proofs.lemmas.List.{take_more, take_all}
 use Rattle.xb_model.specs.declared.signal.Signal.{Signal}
-use Rattle.xb_stage.specs.OnLines.{on_line}
+use Rattle.xb_model.specs.OnLines.{on_line}
 use Rattle.xb_serial.specs.Taken.{HasDialled}
 use Rattle.xb_serial.proofs.Taking.{on_line-more}
 use Rattle.xb_serial.proofs.registers.Registers.take_all.Goals as goal

@@ -2,7 +2,7 @@ use Rattle.std.proofs.Common.{◌++◌, List, take}
 use Rattle.xb_model.specs.declared.on.On.{On}
 use Rattle.xb_model.specs.declared.plan.Plan.{Plan}
 use Rattle.xb_model.specs.declared.signal.Signal.{Signal}
-use Rattle.xb_stage.specs.OnLines.{on_line}
+use Rattle.xb_model.specs.OnLines.{on_line}
 use Rattle.xb_serial.specs.Taken.{HasDialled}
 use Rattle.xb_serial.proofs.registers.Registers.take_all.Given as goal
 

@@ -1,0 +1,6 @@
+pub mod DealSteps
+pub mod Deals
+pub mod Dealt
+pub mod GatherSteps
+pub mod Gathers
+pub mod Merged

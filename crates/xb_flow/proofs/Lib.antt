@@ -1,0 +1,4 @@
+pub mod Flows
+pub mod Prefixes
+pub mod Rings
+pub mod Sames

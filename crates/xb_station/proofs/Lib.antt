@@ -1,0 +1,4 @@
+pub mod FlowImages
+pub mod ImagePrefixes
+pub mod Sames
+pub mod Stations

@@ -1,0 +1,2 @@
+pub mod FlowImages
+pub mod Stations

@@ -1,0 +1,19 @@
+// From a large deck to its page, by the decks of its parts: laws that cite the laws below them.
+ghost use Rattle.xb_together.specs.SplitDecks.{PlannedDecksMakeThePage, SplitDecksMakeThePage};
+
+use xb_office::laws::made_decks_say_their_page;
+
+/// The pages that the decks of ranges of lines say, joined, are the page of all rows, where the ranges take
+/// all lines and each deck is small enough.
+pub fn split_decks_make_the_page()
+    ensures { SplitDecksMakeThePage }
+{
+    made_decks_say_their_page();
+}
+
+/// The same for the ranges of a plan, by the counts of each line: each deck is then small enough.
+pub fn planned_decks_make_the_page()
+    ensures { PlannedDecksMakeThePage }
+{
+    split_decks_make_the_page();
+}
