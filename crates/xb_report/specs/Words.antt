@@ -18,15 +18,18 @@ abbrev pub outcome_text : Dialled → List ℕ
 outcome_text (dialled.Number digits) = codes "NUMBER " ++ digits_text digits
 outcome_text (dialled.Refused r heard) = codes "REFUSED " ++ reason_text r ++ codes " " ++ decimal heard
 
--- what is wrong with a run of so many ms, and the limit
+-- what is wrong with a run of so many ms, and the limit, with these signs for less and for more
+abbrev pub fault_with : List ℕ → List ℕ → Limits → PulseFault → ℕ → List ℕ
+fault_with less more limits fault.ShortBreak ms =
+    codes "break " ++ decimal ms ++ codes " ms " ++ less ++ codes " " ++ decimal limits.pulse_min
+fault_with less more limits fault.LongBreak ms =
+    codes "break " ++ decimal ms ++ codes " ms " ++ more ++ codes " " ++ decimal limits.pulse_max
+fault_with less more limits fault.ShortMake ms =
+    codes "make " ++ decimal ms ++ codes " ms " ++ less ++ codes " " ++ decimal limits.make_min
+fault_with less more limits fault.TooManyPulses ms = codes "pulse 11"
+
 abbrev pub fault_text : Limits → PulseFault → ℕ → List ℕ
-fault_text limits fault.ShortBreak ms =
-    codes "break " ++ decimal ms ++ codes " ms < " ++ decimal limits.pulse_min
-fault_text limits fault.LongBreak ms =
-    codes "break " ++ decimal ms ++ codes " ms > " ++ decimal limits.pulse_max
-fault_text limits fault.ShortMake ms =
-    codes "make " ++ decimal ms ++ codes " ms < " ++ decimal limits.make_min
-fault_text limits fault.TooManyPulses ms = codes "pulse 11"
+fault_text limits fault ms = fault_with (codes "<") (codes ">") limits fault ms
 
 -- whether the register takes digit k of an attempt, from 0: it takes none after a complete number, and
 -- none after a mutilated digit, before which so many good ones were heard

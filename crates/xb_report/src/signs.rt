@@ -2,6 +2,7 @@
 ghost use Rattle.std.specs.Prelude.{◌≡◌, ◌++◌, OnOk, string_bytes};
 ghost use Rattle.xb_report.specs.Marked.{fault_marked};
 
+use crate::words::push_fault_with;
 use std::alloc::AllocError;
 use xb_heard::PulseFault;
 use xb_model::Limits;
@@ -16,19 +17,5 @@ pub fn push_marked_fault(
 ) -> Result<(), AllocError>
     ensures { OnOk result (string_bytes out.new ≡ string_bytes out.old ++ fault_marked limits fault ms) }
 {
-    match fault {
-        PulseFault::ShortBreak => {
-            let least = limits.pulse_min;
-            write!(out, "break {ms} ms &lt; {least}")
-        }
-        PulseFault::LongBreak => {
-            let most = limits.pulse_max;
-            write!(out, "break {ms} ms &gt; {most}")
-        }
-        PulseFault::ShortMake => {
-            let least = limits.make_min;
-            write!(out, "make {ms} ms &lt; {least}")
-        }
-        PulseFault::TooManyPulses => out.push_str("pulse 11"),
-    }
+    push_fault_with(out, "&lt;", "&gt;", limits, fault, ms)
 }

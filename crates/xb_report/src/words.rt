@@ -1,7 +1,7 @@
 // The words of a report.
 ghost use Rattle.std.specs.Prelude.{◌≡◌, ◌++◌, OnOk, string_bytes};
 ghost use Rattle.xb_report.specs.Cells.{place_text};
-ghost use Rattle.xb_report.specs.Words.{digits_text, fault_text, is_taken, is_timed_out, outcome_text};
+ghost use Rattle.xb_report.specs.Words.{digits_text, fault_text, fault_with, is_taken, is_timed_out, outcome_text};
 
 use std::alloc::AllocError;
 use xb_heard::{PlacedRun, PulseFault};
@@ -35,6 +35,36 @@ pub fn push_outcome(out: &mut String, outcome: &Dialled) -> Result<(), AllocErro
     }
 }
 
+// Puts what is wrong with a run of so many ms after the text, and the limit, with these signs for less and for
+// more.
+pub(crate) fn push_fault_with(
+    out: &mut String,
+    less: &str,
+    more: &str,
+    limits: Limits,
+    fault: PulseFault,
+    ms: u64,
+) -> Result<(), AllocError>
+    ensures { OnOk result (string_bytes out.new
+        ≡ string_bytes out.old ++ fault_with less.now more.now limits fault ms) }
+{
+    match fault {
+        PulseFault::ShortBreak => {
+            let least = limits.pulse_min;
+            write!(out, "break {ms} ms {less} {least}")
+        }
+        PulseFault::LongBreak => {
+            let most = limits.pulse_max;
+            write!(out, "break {ms} ms {more} {most}")
+        }
+        PulseFault::ShortMake => {
+            let least = limits.make_min;
+            write!(out, "make {ms} ms {less} {least}")
+        }
+        PulseFault::TooManyPulses => out.push_str("pulse 11"),
+    }
+}
+
 // Puts what is wrong with a run of so many ms after the text, and the limit.
 pub(crate) fn push_fault(
     out: &mut String,
@@ -44,21 +74,7 @@ pub(crate) fn push_fault(
 ) -> Result<(), AllocError>
     ensures { OnOk result (string_bytes out.new ≡ string_bytes out.old ++ fault_text limits fault ms) }
 {
-    match fault {
-        PulseFault::ShortBreak => {
-            let least = limits.pulse_min;
-            write!(out, "break {ms} ms < {least}")
-        }
-        PulseFault::LongBreak => {
-            let most = limits.pulse_max;
-            write!(out, "break {ms} ms > {most}")
-        }
-        PulseFault::ShortMake => {
-            let least = limits.make_min;
-            write!(out, "make {ms} ms < {least}")
-        }
-        PulseFault::TooManyPulses => out.push_str("pulse 11"),
-    }
+    push_fault_with(out, "<", ">", limits, fault, ms)
 }
 
 /// Puts where a run begins after the text: the time from the line's first record, and the number of its
