@@ -10,11 +10,14 @@ use crate::course::{TRAIN, drawn, fitting, put_runs, width_of};
 use crate::digit::put_digits;
 use crate::figures::put_make;
 use crate::label::{Caption, Label};
-use crate::look::{Anchor, Ink, Look};
+use crate::look::{BESIDE, DOTS, FROM, HEAD, Ink, Look, SMALL};
+use crate::places::{
+    AFTER_END, AFTER_NUMBER, END_FOOT, END_TOP, END_WORDS, HEADING, LEFT, MARK_WIDTH, NOT_HEARD,
+    RIGHT, UNDER, UNDER_THAT, VALUE,
+};
 use crate::shape::{Shape, Step};
 use crate::sheet::{
-    HEAD, HIGH, LEFT, LOW, RIGHT, SMALL, Sheet, begin_row, begin_words, below, make_room, put,
-    put_band, put_caption, put_line,
+    Sheet, begin_row, begin_words, below, make_room, put, put_band, put_caption, put_line,
 };
 use std::alloc::{AllocError, Global};
 use xb_heard::{HeardAttempt, HeardDigit, PlacedRun, times_of};
@@ -34,7 +37,7 @@ fn put_heading<'a>(
         ≡ says sheet.old ++ (codes "attempt " ++ decimal number) ∷ outcome_text outcome.now ∷ []) }
 {
     begin_words(sheet);
-    let y = below(sheet, 190);
+    let y = below(sheet, HEADING);
     put(
         sheet,
         Shape::Text(u64::from(LEFT), y, HEAD, Label::Attempt(number)),
@@ -43,11 +46,11 @@ fn put_heading<'a>(
         Dialled::Number(_) => Ink::Dark,
         Dialled::Refused(_, _) => Ink::Red,
     };
-    let y = below(sheet, 190);
+    let y = below(sheet, HEADING);
     put(
         sheet,
         Shape::Text(
-            u64::from(LEFT) + 620,
+            u64::from(LEFT) + AFTER_NUMBER,
             y,
             Look { ink, ..HEAD },
             Label::Outcome(outcome),
@@ -65,15 +68,10 @@ fn put_front(
     ensures { OnOk result (says sheet.new ≡ says sheet.old ++ front_words runs.now) }
 {
     if let Some(run) = runs.first() {
-        let look = Look {
-            size: 60,
-            anchor: Anchor::End,
-            ..SMALL
-        };
-        let y = below(sheet, 190);
+        let y = below(sheet, HEADING);
         put(
             sheet,
-            Shape::Text(u64::from(RIGHT), y, look, Label::From(*run)),
+            Shape::Text(u64::from(RIGHT), y, FROM, Label::From(*run)),
         )?;
         begin_row(sheet)?;
         put_make(sheet, run, timed_out)?;
@@ -88,14 +86,10 @@ fn put_more(sheet: &mut Sheet, digits: usize) -> Result<(), AllocError>
 {
     if digits > 0 {
         begin_words(sheet);
-        let look = Look {
-            anchor: Anchor::Start,
-            ..SMALL
-        };
-        let y = below(sheet, 190);
+        let y = below(sheet, HEADING);
         put(
             sheet,
-            Shape::Text(u64::from(LEFT), y, look, Label::MoreDigits(digits)),
+            Shape::Text(u64::from(LEFT), y, BESIDE, Label::MoreDigits(digits)),
         )?;
         begin_row(sheet)?;
     }
@@ -131,14 +125,8 @@ fn put_unended(alloc: Global, sheet: &mut Sheet, pulses: &[PlacedRun]) -> Result
     let (from, middle) = (sheet.x, u64::from(sheet.x) + u64::from(width / 2));
     put_band(sheet, from, width, Ink::PaleGrey)?;
     put_runs(alloc, sheet, shown)?;
-    put_caption(
-        sheet,
-        middle,
-        180,
-        Look { size: 150, ..SMALL },
-        Caption::Dots,
-    )?;
-    let y = below(sheet, LOW + 140);
+    put_caption(sheet, middle, VALUE, DOTS, Caption::Dots)?;
+    let y = below(sheet, UNDER);
     put(
         sheet,
         Shape::Text(middle, y, SMALL, Label::Unended(times_of(pulses).breaks)),
@@ -168,7 +156,7 @@ fn put_unheard(alloc: Global, sheet: &mut Sheet, runs: &[PlacedRun]) -> Result<(
     let (from, middle) = (sheet.x, u64::from(sheet.x) + u64::from(width / 2));
     put_band(sheet, from, width, Ink::PaleGrey)?;
     put_runs(alloc, sheet, shown)?;
-    put_caption(sheet, middle, 160, SMALL, Caption::NotHeard)
+    put_caption(sheet, middle, NOT_HEARD, SMALL, Caption::NotHeard)
 }
 
 // Draws the break that hangs up, or the end of the record.
@@ -184,8 +172,8 @@ fn put_release(
             let width = drawn(&run);
             make_room(alloc, sheet, width)?;
             let middle = u64::from(sheet.x) + u64::from(width / 2);
-            put_caption(sheet, middle, LOW + 140, SMALL, Caption::HangsUp)?;
-            let y = below(sheet, LOW + 210);
+            put_caption(sheet, middle, UNDER, SMALL, Caption::HangsUp)?;
+            let y = below(sheet, UNDER_THAT);
             put(sheet, Shape::Text(middle, y, SMALL, Label::Time(run.ms)))?;
             put_runs(alloc, sheet, &[run])
         }
@@ -198,14 +186,10 @@ fn put_end(alloc: Global, sheet: &mut Sheet) -> Result<(), AllocError>
     ensures { OnOk result (says sheet.new ≡ says sheet.old) }
 {
     let x = u64::from(sheet.x);
-    let (above, under) = (below(sheet, HIGH - 60), below(sheet, LOW + 60));
+    let (above, under) = (below(sheet, END_TOP), below(sheet, END_FOOT));
     let steps = vec![in alloc; Step::Move(x, above), Step::Upright(under)]?;
-    put_line(sheet, steps, Ink::Faint, 8)?;
-    let look = Look {
-        anchor: Anchor::Start,
-        ..SMALL
-    };
-    put_caption(sheet, x + 30, HIGH + 120, look, Caption::RecordEnds)
+    put_line(sheet, steps, Ink::Faint, MARK_WIDTH)?;
+    put_caption(sheet, x + AFTER_END, END_WORDS, BESIDE, Caption::RecordEnds)
 }
 
 // Draws attempt `number` of a line, and what came of it.

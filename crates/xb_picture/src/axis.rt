@@ -4,26 +4,49 @@ ghost use Rattle.xb_picture.specs.Said.{says};
 
 use crate::course::{SHOWN, drawn};
 use crate::label::Label;
-use crate::look::Ink;
+use crate::look::{Ink, SMALL};
+use crate::places::{AXIS, AXIS_WIDTH, LONG_TICK, MARK_WIDTH, SECONDS, SHORT_TICK};
 use crate::shape::{Shape, Step};
-use crate::sheet::{AXIS, SMALL, Sheet, below, put, put_line};
+use crate::sheet::{Sheet, below, put, put_line};
 use std::alloc::{AllocError, Global};
 use xb_heard::PlacedRun;
 
 // How many ms stand between a tear and the ends of what is drawn of a run.
 const BESIDE_TEAR: u32 = 680;
 
+// How many ms after the beginning of a run its tear stands, and what is drawn of its end.
+const TEAR: u64 = SHOWN / 2;
+
+const AFTER_TEAR: u32 = 920;
+
+// How far a tear goes up and down from its line, how wide it is, how far right of its beginning its first
+// stroke ends and its second begins, and how wide the paper under it is, which hides the line.
+const TEAR_RISE: u64 = 45;
+
+const TEAR_WIDTH: u64 = 92;
+
+const STROKE: u64 = 36;
+
+const SECOND_STROKE: u64 = 56;
+
+const PAPER: u64 = 56;
+
+// How long half a second is, in ms, and the most ticks of a run: 1,600 ms have four at most.
+const HALF_SECOND: u64 = 500;
+
+const MOST_TICKS: u64 = 4;
+
 // Draws a tick at this place, the longer one with its second if it is whole.
 fn put_tick(alloc: Global, sheet: &mut Sheet, x: u64, half_seconds: u64) -> Result<(), AllocError>
     ensures { OnOk result (says sheet.new ≡ says sheet.old) }
 {
     let is_whole = half_seconds % 2 == 0;
-    let depth = if is_whole { 40 } else { 22 };
+    let depth = if is_whole { LONG_TICK } else { SHORT_TICK };
     let (from, to) = (below(sheet, AXIS), below(sheet, AXIS + depth));
     let steps = vec![in alloc; Step::Move(x, from), Step::Upright(to)]?;
-    put_line(sheet, steps, Ink::Faint, 6)?;
+    put_line(sheet, steps, Ink::Faint, AXIS_WIDTH)?;
     if is_whole {
-        let y = below(sheet, AXIS + 100);
+        let y = below(sheet, SECONDS);
         put(
             sheet,
             Shape::Text(x, y, SMALL, Label::Second(half_seconds / 2)),
@@ -42,9 +65,11 @@ fn put_ticks(
 ) -> Result<(), AllocError>
     ensures { OnOk result (says sheet.new ≡ says sheet.old) }
 {
-    let first = moment.saturating_add(499) / 500;
-    for half_seconds in first..first.saturating_add(4) {
-        let after = half_seconds.saturating_mul(500).saturating_sub(moment);
+    let first = moment.saturating_add(HALF_SECOND - 1) / HALF_SECOND;
+    for half_seconds in first..first.saturating_add(MOST_TICKS) {
+        let after = half_seconds
+            .saturating_mul(HALF_SECOND)
+            .saturating_sub(moment);
         if after < u64::from(ms) {
             put_tick(alloc, sheet, u64::from(x) + after, half_seconds)?;
         }
@@ -58,19 +83,20 @@ fn put_tear(alloc: Global, sheet: &mut Sheet, x: u64, depth: u16) -> Result<(), 
     ensures { OnOk result (says sheet.new ≡ says sheet.old) }
 {
     let y = below(sheet, depth);
-    let (above, under) = (y.saturating_sub(45), y.saturating_add(45));
-    let left = x.saturating_sub(46);
+    let (above, under) = (y.saturating_sub(TEAR_RISE), y.saturating_add(TEAR_RISE));
+    let left = x.saturating_sub(TEAR_WIDTH / 2);
+    let paper = x.saturating_sub(PAPER / 2);
     put(
         sheet,
-        Shape::Band(x.saturating_sub(28), above, 56, 90, Ink::White),
+        Shape::Band(paper, above, PAPER, 2 * TEAR_RISE, Ink::White),
     )?;
     let steps = vec![in alloc;
         Step::Move(left, under),
-        Step::Straight(left + 36, above),
-        Step::Move(left + 56, under),
-        Step::Straight(left + 92, above),
+        Step::Straight(left + STROKE, above),
+        Step::Move(left + SECOND_STROKE, under),
+        Step::Straight(left + TEAR_WIDTH, above),
     ]?;
-    put_line(sheet, steps, Ink::Faint, 8)
+    put_line(sheet, steps, Ink::Faint, MARK_WIDTH)
 }
 
 // Draws the ticks of a run that is torn, and its tears in the loop and in the axis.
@@ -83,9 +109,15 @@ fn put_torn(alloc: Global, sheet: &mut Sheet, run: &PlacedRun, depth: u16) -> Re
         .saturating_add(run.ms)
         .saturating_sub(u64::from(BESIDE_TEAR));
     put_ticks(alloc, sheet, x, run.start, BESIDE_TEAR)?;
-    put_ticks(alloc, sheet, x.saturating_add(920), late, BESIDE_TEAR)?;
-    put_tear(alloc, sheet, u64::from(x) + 800, depth)?;
-    put_tear(alloc, sheet, u64::from(x) + 800, AXIS)
+    put_ticks(
+        alloc,
+        sheet,
+        x.saturating_add(AFTER_TEAR),
+        late,
+        BESIDE_TEAR,
+    )?;
+    put_tear(alloc, sheet, u64::from(x) + TEAR, depth)?;
+    put_tear(alloc, sheet, u64::from(x) + TEAR, AXIS)
 }
 
 // Draws the axis below a run, which the loop has at this depth, and ends the row after it.
@@ -101,7 +133,7 @@ pub(crate) fn put_axis(
     let end = x.saturating_add(width);
     let y = below(sheet, AXIS);
     let steps = vec![in alloc; Step::Move(u64::from(x), y), Step::Across(u64::from(end))]?;
-    put_line(sheet, steps, Ink::Faint, 6)?;
+    put_line(sheet, steps, Ink::Faint, AXIS_WIDTH)?;
     if run.ms > SHOWN {
         put_torn(alloc, sheet, run, depth)?;
     } else {

@@ -5,8 +5,9 @@ ghost use Rattle.xb_picture.specs.Said.{says};
 
 use crate::axis::put_axis;
 use crate::look::Ink;
+use crate::places::{HIGH, LOOP_WIDTH, LOW};
 use crate::shape::Step;
-use crate::sheet::{HIGH, LOW, Sheet, below, put_line};
+use crate::sheet::{Sheet, below, put_line};
 use std::alloc::{AllocError, Global};
 use xb_heard::PlacedRun;
 use xb_model::Contact;
@@ -78,7 +79,7 @@ pub(crate) fn put_runs(
     ensures { OnOk result (says sheet.new ≡ says sheet.old) }
 {
     let steps = line_of(alloc, sheet, runs)?;
-    put_line(sheet, steps, Ink::Dark, 11)?;
+    put_line(sheet, steps, Ink::Dark, LOOP_WIDTH)?;
     for run in runs {
         put_axis(alloc, sheet, run, depth_of(run))?;
     }

@@ -7,8 +7,9 @@ ghost use Rattle.xb_picture.specs.Said.{says};
 use crate::course::{TRAIN, drawn, fitting, put_runs, width_of};
 use crate::figures::{put_figures, put_make, put_value};
 use crate::label::Caption;
-use crate::look::Ink;
-use crate::sheet::{LOW, SMALL, Sheet, make_room, put_band, put_caption};
+use crate::look::{Ink, SMALL};
+use crate::places::UNDER;
+use crate::sheet::{Sheet, make_room, put_band, put_caption};
 use crate::wrong::put_spoiler;
 use std::alloc::{AllocError, Global};
 use xb_heard::{DigitRow, HeardDigit, PlacedRun, Remark, row_of};
@@ -42,7 +43,7 @@ fn put_remark(
         Remark::Spoiled(spoiler) => {
             put_spoiler(alloc, sheet, limits, from, middle, pulses, spoiler)
         }
-        Remark::Ignored => put_caption(sheet, middle, LOW + 140, SMALL, Caption::Ignored),
+        Remark::Ignored => put_caption(sheet, middle, UNDER, SMALL, Caption::Ignored),
     }
 }
 

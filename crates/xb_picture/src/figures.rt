@@ -5,9 +5,10 @@ ghost use Rattle.xb_picture.specs.Said.{says};
 
 use crate::course::drawn;
 use crate::label::{Caption, Label};
-use crate::look::{Anchor, Ink, Look};
+use crate::look::{BIG_VALUE, Ink, Look, PLAIN_RED, RED, SMALL};
+use crate::places::{OVER_TIME, TIME, UNDER, UNDER_THAT, VALUE};
 use crate::shape::Shape;
-use crate::sheet::{HIGH, LOW, SMALL, Sheet, below, put, put_caption};
+use crate::sheet::{Sheet, below, put, put_caption};
 use std::alloc::AllocError;
 use xb_heard::{DigitRow, PlacedRun};
 
@@ -26,20 +27,12 @@ pub(crate) fn put_make(
         return Ok(());
     }
     let middle = u64::from(sheet.x) + u64::from(drawn(run) / 2);
-    let ink = if timed_out { Ink::Red } else { Ink::Faint };
     if timed_out {
-        let bold = Look {
-            ink,
-            bold: true,
-            ..SMALL
-        };
-        put_caption(sheet, middle, HIGH - 140, bold, Caption::TimeOut)?;
+        put_caption(sheet, middle, OVER_TIME, RED, Caption::TimeOut)?;
     }
-    let y = below(sheet, HIGH - 70);
-    put(
-        sheet,
-        Shape::Text(middle, y, Look { ink, ..SMALL }, Label::Time(run.ms)),
-    )
+    let look = if timed_out { PLAIN_RED } else { SMALL };
+    let y = below(sheet, TIME);
+    put(sheet, Shape::Text(middle, y, look, Label::Time(run.ms)))
 }
 
 // Writes the value of a digit over it, or a cross where it is spoiled.
@@ -51,18 +44,13 @@ pub(crate) fn put_value(
 ) -> Result<(), AllocError>
     ensures { OnOk result (says sheet.new ≡ says sheet.old ++ value_words name) }
 {
-    let big = Look {
-        size: 150,
-        ink,
-        anchor: Anchor::Middle,
-        bold: true,
-    };
+    let look = Look { ink, ..BIG_VALUE };
     match name {
         Some(digit) => {
-            let y = below(sheet, 180);
-            put(sheet, Shape::Text(middle, y, big, Label::Value(digit)))
+            let y = below(sheet, VALUE);
+            put(sheet, Shape::Text(middle, y, look, Label::Value(digit)))
         }
-        None => put_caption(sheet, middle, 180, big, Caption::Cross),
+        None => put_caption(sheet, middle, VALUE, look, Caption::Cross),
     }
 }
 
@@ -72,10 +60,10 @@ fn put_speed(sheet: &mut Sheet, middle: u64, speed: Option<u128>) -> Result<(), 
 {
     match speed {
         Some(tenths) => {
-            let y = below(sheet, LOW + 140);
+            let y = below(sheet, UNDER);
             put(sheet, Shape::Text(middle, y, SMALL, Label::Speed(tenths)))
         }
-        None => put_caption(sheet, middle, LOW + 140, SMALL, Caption::OnePulse),
+        None => put_caption(sheet, middle, UNDER, SMALL, Caption::OnePulse),
     }
 }
 
@@ -85,7 +73,7 @@ fn put_share(sheet: &mut Sheet, middle: u64, share: Option<u128>) -> Result<(), 
 {
     match share {
         Some(tenths) => {
-            let y = below(sheet, LOW + 210);
+            let y = below(sheet, UNDER_THAT);
             put(sheet, Shape::Text(middle, y, SMALL, Label::Share(tenths)))
         },
         None => Ok(()),

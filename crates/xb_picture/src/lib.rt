@@ -18,6 +18,7 @@ mod figures;
 mod label;
 mod look;
 mod picture;
+mod places;
 mod shape;
 mod sheet;
 mod svg;

@@ -6,11 +6,10 @@ ghost use Rattle.xb_picture.specs.Said.{said, says};
 
 use crate::attempt::put_attempt;
 use crate::label::{Caption, Label};
-use crate::look::{Anchor, Look};
+use crate::look::{BIG, HEAD, NOTE};
+use crate::places::{HEADING, LEFT, OTHERS, TITLE, TITLE_LIMITS};
 use crate::shape::Shape;
-use crate::sheet::{
-    HEAD, LEFT, SMALL, Sheet, begin_words, below, height_of, new_sheet, put, put_caption,
-};
+use crate::sheet::{Sheet, begin_words, below, height_of, new_sheet, put, put_caption};
 use std::alloc::{AllocError, Global};
 use xb_heard::HeardAttempt;
 use xb_model::{Limits, LineNo};
@@ -34,19 +33,13 @@ pub struct Picture<'a> {
 fn put_title(sheet: &mut Sheet, limits: Limits, line: LineNo) -> Result<(), AllocError>
     ensures { OnOk result (says sheet.new ≡ says sheet.old ++ title_words limits line) }
 {
-    let big = Look { size: 150, ..HEAD };
     put(
         sheet,
-        Shape::Text(u64::from(LEFT), 190, big, Label::Line(line)),
+        Shape::Text(u64::from(LEFT), TITLE, BIG, Label::Line(line)),
     )?;
-    let small = Look {
-        size: 62,
-        anchor: Anchor::Start,
-        ..SMALL
-    };
     put(
         sheet,
-        Shape::Text(u64::from(LEFT), 320, small, Label::Limits(limits)),
+        Shape::Text(u64::from(LEFT), TITLE_LIMITS, NOTE, Label::Limits(limits)),
     )
 }
 
@@ -57,15 +50,10 @@ fn put_others(sheet: &mut Sheet, before: usize, after: usize) -> Result<(), Allo
 {
     if before + after > 0 {
         begin_words(sheet);
-        let look = Look {
-            size: 62,
-            anchor: Anchor::Start,
-            ..SMALL
-        };
-        let y = below(sheet, 130);
+        let y = below(sheet, OTHERS);
         put(
             sheet,
-            Shape::Text(u64::from(LEFT), y, look, Label::Others(before, after)),
+            Shape::Text(u64::from(LEFT), y, NOTE, Label::Others(before, after)),
         )?;
     }
     Ok(())
@@ -95,7 +83,7 @@ fn put_none(sheet: &mut Sheet, attempts: usize) -> Result<(), AllocError>
 {
     if attempts == 0 {
         begin_words(sheet);
-        put_caption(sheet, u64::from(LEFT), 190, HEAD, Caption::NoAttempt)?;
+        put_caption(sheet, u64::from(LEFT), HEADING, HEAD, Caption::NoAttempt)?;
     }
     Ok(())
 }

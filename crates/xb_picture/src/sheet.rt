@@ -3,45 +3,13 @@ ghost use Rattle.std.specs.Prelude.{◌≡◌, ◌++◌, [], OnOk};
 ghost use Rattle.xb_picture.specs.Said.{said_by, says};
 
 use crate::label::{Caption, Label};
-use crate::look::{Anchor, Ink, Look};
+use crate::look::{Ink, Look, NAME};
+use crate::places::{
+    BAND, BAND_HEIGHT, FIRST, FOOT, HIGH, LEAD_IN, LEFT, LOOP_WIDTH, LOW, NAME_DROP, NAMES, RIGHT,
+    ROW_SLOTS, SLOT,
+};
 use crate::shape::{Shape, Step};
 use std::alloc::{AllocError, Global};
-
-// Where rows begin, from the left.
-pub(crate) const LEFT: u32 = 260;
-
-// Where they end at most: a row holds 6,000 ms.
-pub(crate) const RIGHT: u32 = 6260;
-
-// Where the first row stands, from the top.
-const FIRST: u64 = 420;
-
-// How high a slot is. A heading has one, and a row four.
-const SLOT: u64 = 260;
-
-// How far below the top of its row the loop is drawn while it is closed, and while it is open, in units.
-pub(crate) const HIGH: u16 = 330;
-
-pub(crate) const LOW: u16 = 530;
-
-// How far below the top of its row the axis stands.
-pub(crate) const AXIS: u16 = 820;
-
-// How a text beside the drawing looks.
-pub(crate) const SMALL: Look = Look {
-    size: 54,
-    ink: Ink::Faint,
-    anchor: Anchor::Middle,
-    bold: false,
-};
-
-// How a big text looks.
-pub(crate) const HEAD: Look = Look {
-    size: 92,
-    ink: Ink::Dark,
-    anchor: Anchor::Start,
-    bold: true,
-};
 
 // Shapes, and where the next one is drawn.
 #[derive(Drop)]
@@ -75,7 +43,7 @@ pub(crate) fn below(sheet: &Sheet, depth: u16) -> u64 {
 
 // How high the sheet is, so far.
 pub(crate) fn height_of(sheet: &Sheet) -> u64 {
-    FIRST + SLOT * u64::from(sheet.free) + 80
+    FIRST + SLOT * u64::from(sheet.free) + FOOT
 }
 
 // Draws a shape.
@@ -116,10 +84,10 @@ pub(crate) fn put_line(
 pub(crate) fn put_band(sheet: &mut Sheet, x: u32, width: u32, ink: Ink) -> Result<(), AllocError>
     ensures { OnOk result (says sheet.new ≡ says sheet.old) }
 {
-    let y = below(sheet, 40);
+    let y = below(sheet, BAND);
     put(
         sheet,
-        Shape::Band(u64::from(x), y, u64::from(width), 560, ink),
+        Shape::Band(u64::from(x), y, u64::from(width), BAND_HEIGHT, ink),
     )
 }
 
@@ -136,16 +104,10 @@ pub(crate) fn begin_row(sheet: &mut Sheet) -> Result<(), AllocError>
     ensures { OnOk result (says sheet.new ≡ says sheet.old) }
 {
     sheet.slot = sheet.free;
-    sheet.free = sheet.free.saturating_add(4);
+    sheet.free = sheet.free.saturating_add(ROW_SLOTS);
     sheet.x = LEFT;
-    let look = Look {
-        size: 50,
-        ink: Ink::Faint,
-        anchor: Anchor::End,
-        bold: false,
-    };
-    put_caption(sheet, 190, HIGH + 20, look, Caption::Closed)?;
-    put_caption(sheet, 190, LOW + 20, look, Caption::Open)
+    put_caption(sheet, NAMES, HIGH + NAME_DROP, NAME, Caption::Closed)?;
+    put_caption(sheet, NAMES, LOW + NAME_DROP, NAME, Caption::Open)
 }
 
 // Goes on in a new row where so many ms do not fit the current one. The new row leads in with the make that
@@ -156,8 +118,8 @@ pub(crate) fn make_room(alloc: Global, sheet: &mut Sheet, ms: u32) -> Result<(),
     if sheet.x.saturating_add(ms) > RIGHT {
         begin_row(sheet)?;
         let y = below(sheet, HIGH);
-        let steps = vec![in alloc; Step::Move(200, y), Step::Across(260)]?;
-        put_line(sheet, steps, Ink::Dark, 11)?;
+        let steps = vec![in alloc; Step::Move(LEAD_IN, y), Step::Across(u64::from(LEFT))]?;
+        put_line(sheet, steps, Ink::Dark, LOOP_WIDTH)?;
     }
     Ok(())
 }

@@ -6,27 +6,23 @@ ghost use Rattle.xb_picture.specs.Said.{says};
 
 use crate::course::{TRAIN, drawn, fitting};
 use crate::label::Label;
-use crate::look::{Ink, Look};
+use crate::look::{Ink, PLAIN_RED, RED, SHORT_RED};
+use crate::places::{
+    FAULT_MIDDLE, HIGH, LEFT, LOW, OVER_WRONG, UNDER, UNDER_THAT, UNDER_WRONG, WRONG_WIDTH,
+};
 use crate::shape::{Shape, Step};
-use crate::sheet::{HIGH, LEFT, LOW, SMALL, Sheet, below, put, put_line};
+use crate::sheet::{Sheet, below, put, put_line};
 use std::alloc::{AllocError, Global};
 use xb_heard::{PlacedRun, Spoiler, fault_at};
 use xb_model::{Contact, Limits};
-
-// How red words look.
-const RED: Look = Look {
-    ink: Ink::Red,
-    bold: true,
-    ..SMALL
-};
 
 // Draws a run in red over the loop, and says how long it is: a break below it, a make above.
 fn put_red(alloc: Global, sheet: &mut Sheet, run: &PlacedRun, x: u32) -> Result<(), AllocError>
     ensures { OnOk result (says sheet.new ≡ says sheet.old ++ decimal run.now.ms ∷ []) }
 {
     let (from, to, depth) = match run.contact {
-        Contact::Make => (LOW, HIGH, HIGH - 30),
-        Contact::Brk | Contact::Close => (HIGH, LOW, LOW + 70),
+        Contact::Make => (LOW, HIGH, OVER_WRONG),
+        Contact::Brk | Contact::Close => (HIGH, LOW, UNDER_WRONG),
     };
     let (from, to) = (below(sheet, from), below(sheet, to));
     let end = x.saturating_add(drawn(run));
@@ -36,12 +32,12 @@ fn put_red(alloc: Global, sheet: &mut Sheet, run: &PlacedRun, x: u32) -> Result<
         Step::Across(u64::from(end)),
         Step::Upright(from),
     ]?;
-    put_line(sheet, steps, Ink::Red, 18)?;
+    put_line(sheet, steps, Ink::Red, WRONG_WIDTH)?;
     let middle = u64::from(x) + u64::from(drawn(run) / 2);
     let y = below(sheet, depth);
     put(
         sheet,
-        Shape::Text(middle, y, Look { size: 50, ..RED }, Label::Wrong(run.ms)),
+        Shape::Text(middle, y, SHORT_RED, Label::Wrong(run.ms)),
     )
 }
 
@@ -90,17 +86,16 @@ pub(crate) fn put_spoiler(
     ensures { OnOk result (says sheet.new ≡ says sheet.old ++ spoiler_words limits pulses.now spoiler) }
 {
     let Spoiler { fault, run } = spoiler;
-    let at = middle.max(u64::from(LEFT) + 300);
-    let y = below(sheet, LOW + 140);
+    let at = middle.max(u64::from(LEFT) + FAULT_MIDDLE);
+    let y = below(sheet, UNDER);
     put(
         sheet,
         Shape::Text(at, y, RED, Label::Fault(limits, fault, run.ms)),
     )?;
-    let plain = Look { bold: false, ..RED };
-    let y = below(sheet, LOW + 210);
+    let y = below(sheet, UNDER_THAT);
     put(
         sheet,
-        Shape::Text(at, y, plain, Label::Record(run.first_record)),
+        Shape::Text(at, y, PLAIN_RED, Label::Record(run.first_record)),
     )?;
     put_wrong(alloc, sheet, limits, from, fitting(TRAIN, pulses))
 }
