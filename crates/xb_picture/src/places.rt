@@ -44,8 +44,8 @@ pub(crate) const NAME_DROP: u16 = 20;
 // Where the make that leads in a row begins, from the left.
 pub(crate) const LEAD_IN: u64 = 200;
 
-// How far below the top of its row the axis stands, and below the axis the ends of its ticks, of whole seconds
-// and of others, and the seconds.
+// How far below the top of its row the axis stands; how far below that its ticks end, at whole seconds and at
+// others; and where the seconds stand.
 pub(crate) const AXIS: u16 = 820;
 
 pub(crate) const LONG_TICK: u16 = 40;
