@@ -73,7 +73,8 @@ impl<'a> Deck<'a> {
     /// The parts of a deck of at most 16,777,216 bytes: `NoCut` where it is not cut.
     pub fn open(bytes: &'a [u8]) -> Result<Deck<'a>, DeckFault>
         requires { length bytes.now ≤ MOST_DECK_BYTES }
-        ensures parts { IfOk result (λ deck. contents_of bytes.now ≡ contents_of_parts (Some (parts_of_deck deck))) }
+        ensures parts { IfOk result (λ deck.
+            contents_of bytes.now ≡ contents_of_parts (Some (parts_of_deck deck))) }
         ensures fault { IfErr result (λ fault. contents_of bytes.now ≡ Err fault) }
     {
         Deck::cut(bytes).ok_or(DeckFault::NoCut)
@@ -81,7 +82,8 @@ impl<'a> Deck<'a> {
 
     /// The route table: `Routes` where it is refused, and `NoMemory` where memory ran out.
     pub fn route_table(&self, alloc: Global) -> Result<RouteTable, DeckFault>
-        ensures table { let deck = self.now in IfOk result (λ table. contents_of_parts (Some (parts_of_deck deck))
+        ensures table { let deck = self.now in IfOk result (λ table.
+            contents_of_parts (Some (parts_of_deck deck))
             ≡ with_rows table (rows_of_text deck.rows.now) (fault_of_text deck.rows.now)) }
         ensures fault { IfErr result (IsDeckFault (contents_of_parts (Some (parts_of_deck self.now)))) }
     {
@@ -97,8 +99,8 @@ impl<'a> Deck<'a> {
     }
 }
 
-/// The bytes of a deck, read of a stream to its end: `TooLong` where there are more than 16,777,216, of which one
-/// more at most is taken; `Read` where a read failed, and `NoMemory` where memory ran out.
+/// The bytes of a deck, read of a stream to its end: `TooLong` where there are more than 16,777,216, of
+/// which one more at most is taken; `Read` where a read failed, and `NoMemory` where memory ran out.
 ///
 /// What the contract says of bytes holds for readers whose bytes contracts know (byte slices); those of a
 /// process's standard input are not known.

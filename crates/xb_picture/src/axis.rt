@@ -20,7 +20,7 @@ const TEAR: u64 = SHOWN / 2;
 const AFTER_TEAR: u32 = 920;
 
 // How far a tear goes up and down from its line, how wide it is, how far right of its beginning its first
-// stroke ends and its second begins, and how wide the paper under it is, which hides the line.
+// stroke ends and its second begins, and how wide the white ground under it is, which hides the line.
 const TEAR_RISE: u64 = 45;
 
 const TEAR_WIDTH: u64 = 92;
@@ -29,7 +29,7 @@ const STROKE: u64 = 36;
 
 const SECOND_STROKE: u64 = 56;
 
-const PAPER: u64 = 56;
+const GROUND: u64 = 56;
 
 // How long half a second is, in ms, and the most ticks of a run: 1,600 ms have four at most.
 const HALF_SECOND: u64 = 500;
@@ -85,10 +85,10 @@ fn put_tear(alloc: Global, sheet: &mut Sheet, x: u64, depth: u16) -> Result<(), 
     let y = below(sheet, depth);
     let (above, under) = (y.saturating_sub(TEAR_RISE), y.saturating_add(TEAR_RISE));
     let left = x.saturating_sub(TEAR_WIDTH / 2);
-    let paper = x.saturating_sub(PAPER / 2);
+    let ground = x.saturating_sub(GROUND / 2);
     put(
         sheet,
-        Shape::Band(paper, above, PAPER, 2 * TEAR_RISE, Ink::White),
+        Shape::Band(ground, above, GROUND, 2 * TEAR_RISE, Ink::White),
     )?;
     let steps = vec![in alloc;
         Step::Move(left, under),

@@ -10,8 +10,9 @@
 //!   fault, or the text's first fault; a failed read may be returned in place of any other fault.
 //! - `RowReader`, of a stream whose bytes a contract can name: the rows of the stream's text, as many as
 //!   may follow the header, and then the stop of a `Scan` or a failed read, for good.
-//! - `text_of_rows`: exactly the text of the rows. Rows that are no more than 1,000,000 are read back of it
-//!   (`laws::written_rows_are_read`), and it is what a `csv` writer writes (`written_rows_are_csv`).
+//! - `record_of`: exactly the record of a row. `text_of_rows`: exactly the text of the rows. Rows that are
+//!   no more than 1,000,000 are read back of it (`laws::written_rows_are_read`), and it is what a `csv`
+//!   writer writes (`written_rows_are_csv`).
 #![tactic(auto)]
 
 mod csv_scan;
@@ -28,4 +29,4 @@ mod writing;
 pub use row_reader::RowReader;
 pub use rows::{read_rows, rows_of_text};
 pub use scan::{MOST_RECORDS, Scan};
-pub use writing::text_of_rows;
+pub use writing::{MOST_ROW_BYTES, record_of, text_of_rows};

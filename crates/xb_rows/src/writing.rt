@@ -1,32 +1,41 @@
 // The text of rows.
-ghost use Rattle.std.specs.Prelude.{◌≡◌, ◌++◌, ◌≤◌, IfOk, None, OnOk, length, string_bytes};
+ghost use Rattle.std.specs.Prelude.{◌≡◌, ◌++◌, ◌≤◌, IfOk, None, codes, length, string_bytes};
 ghost use Rattle.xb_rows.specs.declared.scan.TheConstants.{MOST_RECORDS};
 ghost use Rattle.xb_rows.specs.RowTexts.{rest_of_text, rows_and_stop};
 ghost use Rattle.xb_rows.specs.WrittenRows.{IsLawfulRow, contact_text, record_text, text_of_rows};
 
+use arrayvec::ArrayString;
+use itoa::Buffer;
 use std::alloc::{AllocError, Global};
 use xb_model::{Contact, Row};
 
-// The letter of a contact.
-fn contact_text(contact: Contact) -> &'static str
-    ensures { result.now ≡ contact_text contact }
+/// The most bytes that the record of a row has: five digits of a line and ten of a time at most, a letter,
+/// two commas, and an LF.
+pub const MOST_ROW_BYTES: usize = 19;
+
+// The letter of a contact, between commas.
+fn contact_between(contact: Contact) -> &'static str
+    ensures { result.now ≡ codes "," ++ contact_text contact ++ codes "," }
 {
     match contact {
-        Contact::Make => "M",
-        Contact::Brk => "B",
-        Contact::Close => "C",
+        Contact::Make => ",M,",
+        Contact::Brk => ",B,",
+        Contact::Close => ",C,",
     }
 }
 
-// Writes the record of a row.
-fn write_row(out: &mut String, row: &Row) -> Result<(), AllocError>
-    ensures text { OnOk result (string_bytes out.new ≡ string_bytes out.old ++ record_text row.now) }
-    ensures lawful { IsLawfulRow row.now }
+/// The record of a row, its LF with it.
+pub fn record_of(row: Row) -> ArrayString<MOST_ROW_BYTES>
+    ensures text { result.bytes ≡ record_text row }
+    ensures lawful { IsLawfulRow row }
 {
-    let line = row.line().get();
-    let contact = contact_text(row.contact());
-    let ms = row.ms();
-    write!(out, "{line},{contact},{ms}\n")
+    let mut digits = Buffer::new();
+    let mut record = ArrayString::new();
+    record.push_str(digits.format(row.line().get()));
+    record.push_str(contact_between(row.contact()));
+    record.push_str(digits.format(row.ms()));
+    record.push_str("\n");
+    record
 }
 
 /// The text of rows: the header, and a record for each row. It is read as these rows, where they are
@@ -39,7 +48,7 @@ pub fn text_of_rows(alloc: Global, rows: &[Row]) -> Result<String, AllocError>
     let mut text = String::new(alloc);
     write!(text, "line,state,ms\n")?;
     for row in rows {
-        write_row(&mut text, row)?;
+        text.push_str(record_of(*row).as_str())?;
     }
     Ok(text)
 }

@@ -1,16 +1,14 @@
 // Rows into the decks of their parts.
-ghost use Rattle.std.specs.Prelude.{◌≡◌, ◌++◌, ◌∷◌, [], OnOk, codes};
-ghost use Rattle.xb_rows.specs.WrittenRows.{contact_text, record_text};
-ghost use Rattle.xb_split.specs.PartDecks.{Gets, GetsDecks, GetsRecords, head_of, only_below, only_for, records_of_part};
+ghost use Rattle.std.specs.Prelude.{◌≡◌, ◌++◌, ◌∷◌, [], OnOk};
+ghost use Rattle.xb_split.specs.PartDecks.{Gets, GetsDecks, GetsRecords, head_of, only_below, records_of_part};
 
 use crate::decks::PartDecks;
 use crate::planning::HEAD;
-use itoa::Buffer;
 use std::io::{self, Read};
 use thiserror::Error;
-use xb_model::{Contact, Row, RowFault};
+use xb_model::{Row, RowFault};
 use xb_parts::LineRange;
-use xb_rows::RowReader;
+use xb_rows::{RowReader, record_of};
 
 /// Why not all rows were written.
 #[derive(Debug, Drop, Error)]
@@ -33,27 +31,14 @@ impl From<RowFault> for WriteRowsFault {
     }
 }
 
-// The letter of a contact, between commas.
-fn contact_between(contact: Contact) -> &'static [u8]
-    ensures { result.now ≡ codes "," ++ contact_text contact ++ codes "," }
-{
-    match contact {
-        Contact::Make => b",M,",
-        Contact::Brk => b",B,",
-        Contact::Close => b",C,",
-    }
-}
+impl From<io::Error> for WriteRowsFault {
+    ghost use Rattle.xb_split.specs.declared.writing.WriteRowsFault.TheVariants.{Write};
 
-// Writes the record of a row to the deck of a part.
-fn write_row<D: PartDecks>(decks: &mut D, part: usize, row: Row) -> io::Result<()>
-    ensures { OnOk result (Gets (only_for part (record_text row))
-        (D.contents decks.old) (D.contents decks.new)) }
-{
-    let mut buffer = Buffer::new();
-    decks.write(part, buffer.format(row.line().get()).as_bytes())?;
-    decks.write(part, contact_between(row.contact()))?;
-    decks.write(part, buffer.format(row.ms()).as_bytes())?;
-    decks.write(part, b"\n")
+    ghost from_gives = { λ fault e. e ≡ Write fault };
+
+    fn from(fault: io::Error) -> WriteRowsFault {
+        WriteRowsFault::Write(fault)
+    }
 }
 
 // Writes a row to the deck of each part that has its line.
@@ -61,9 +46,10 @@ fn write_to_parts<D: PartDecks>(decks: &mut D, ranges: &[LineRange], row: Row) -
     ensures { OnOk result (Gets (records_of_part ranges.now (row ∷ []))
         (D.contents decks.old) (D.contents decks.new)) }
 {
+    let record = record_of(row);
     for part in 0..ranges.len() {
         if ranges[part].has(row.line()) {
-            write_row(decks, part, row)?;
+            decks.write(part, record.as_bytes())?;
         }
     }
     Ok(())
@@ -81,11 +67,7 @@ fn write_rows<R: Read, D: PartDecks>(
 {
     for _ in 0..u64::MAX {
         match rows.next_row()? {
-            Some(row) => {
-                if let Err(fault) = write_to_parts(decks, ranges, row) {
-                    return Err(WriteRowsFault::Write(fault));
-                }
-            }
+            Some(row) => write_to_parts(decks, ranges, row)?,
             None => return Ok(()),
         }
     }
@@ -114,9 +96,7 @@ fn write_decks<R: Read, D: PartDecks>(
     ensures decks { OnOk result (GetsDecks table.now rows.old ranges.now
         (D.contents decks.old) (D.contents decks.new)) }
 {
-    if let Err(fault) = write_heads(decks, ranges.len(), table) {
-        return Err(WriteRowsFault::Write(fault));
-    }
+    write_heads(decks, ranges.len(), table)?;
     write_rows(rows, ranges, decks)
 }
 
@@ -132,8 +112,5 @@ pub fn write_parts<R: Read, D: PartDecks>(
         (D.contents decks.old) (D.contents decks.new)) }
 {
     write_decks(table, rows, ranges, decks)?;
-    match decks.keep() {
-        Ok(()) => Ok(()),
-        Err(fault) => Err(WriteRowsFault::Write(fault)),
-    }
+    Ok(decks.keep()?)
 }

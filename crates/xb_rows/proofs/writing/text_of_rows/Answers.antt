@@ -16,12 +16,12 @@ loop-row-preserved c =
     let next : take (i + 1) rows ≡ take i rows ++ row ∷ [] =
     take_more rows i row c.loop-row-test.true ∙ ap (λ one. take i rows ++ one ∷ []) (sym c.row-item.is) in
     record {
-      text = c.in_ok-write_row.ensures.text
+      text = (rw (c.as_str.ensures.value, c.record_of.ensures.text) at c.in_ok-push_str.ensures.bytes)
           ∙ ap (λ text. text ++ record_text row) c.loop-row.invariant.text
           ∙ flat_map_more record_text (codes "line,state,ms\n") (take i rows) row
           ∙ ap text_of_rows (sym next);
       lawful = All-more IsLawfulRow rows i row c.loop-row-test.true c.loop-row.invariant.lawful
-          (subst IsLawfulRow c.row-item.is c.in_ok-write_row.ensures.lawful);
+          (subst IsLawfulRow c.row-item.is c.record_of.ensures.lawful);
     }
 
 pub returns-clause-read : goal.returns-clause-read
