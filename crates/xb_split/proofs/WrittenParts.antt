@@ -1,6 +1,6 @@
 -- What the decks get of rows, one after the other.
 use Rattle.std.proofs.Common.{◌≡◌, ◌∙◌, ◌≤◌, ◌<◌, ◌+◌, ℕ, Bool, true, false, List, [], ◌∷◌, ◌++◌, length, refl, sym, ap, subst, append-nil, append_assoc, arith}
-use Rattle.std.specs.Prelude.{◌==◌, ◌&&◌, codes, decimal, if◌then◌else◌, nat_le, nat_lt}
+use Rattle.std.specs.Prelude.{◌==◌, ◌&&◌, codes, if◌then◌else◌, nat_le, nat_lt}
 use Rattle.std.specs.List.{flat_map}
 use Rattle.std.specs.Io.KnownBytes.{Appends}
 use Rattle.std.proofs.KnownBytes.{Appends-nil, Appends-trans}
@@ -8,7 +8,7 @@ use Rattle.std.proofs.lemmas.Bool.{eq-eqb, eqb-true, le-ltb, lt-ltb, ltb-false, 
 use Rattle.std.proofs.lemmas.Grind.{flat_map-append}
 use Rattle.std.proofs.lemmas.List.Elements.{filter-append}
 use Rattle.xb_model.specs.Rows.{LoopRow}
-use Rattle.xb_rows.specs.WrittenRows.{contact_text, record_text}
+use Rattle.xb_rows.specs.WrittenRows.{record_text}
 use Rattle.xb_parts.specs.declared.range.LineRange.{LineRange}
 use Rattle.xb_parts.specs.Ranges.{rows_in}
 use Rattle.xb_split.specs.PartDecks.{Decks, Gets, deck_of_part, head_of, only_below, only_for, range_at, records_of_part}
@@ -106,12 +106,6 @@ only_for-append part bytes more i = at (i == part)
 pub Gets-more : (part : ℕ) (bytes more : List ℕ) (a b c : Decks) → Gets (only_for part bytes) a b → Gets (only_for part more) b c
     → Gets (only_for part (bytes ++ more)) a c
 Gets-more part bytes more a b c h k = Gets-as _ _ a c (only_for-append part bytes more) (Gets-trans _ _ a b c h k)
-
--- the pieces of a record
-pub record_of_pieces : (row : LoopRow) (line between ms : List ℕ) → line ≡ decimal row.line
-    → between ≡ codes "," ++ contact_text row.contact ++ codes "," → ms ≡ decimal row.ms
-    → ((line ++ between) ++ ms) ++ codes "\n" ≡ record_text row
-record_of_pieces row line between ms l b m = rw (l, b, m) (simp append_assoc)
 
 -- the records that a part gets of one row
 pub records_of_one : (ranges : List LineRange) (row : LoopRow) (part : ℕ) (has : Bool)

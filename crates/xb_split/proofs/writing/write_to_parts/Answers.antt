@@ -1,9 +1,9 @@
 use Rattle.std.proofs.Common.{◌≡◌, ◌∙◌, ◌∷◌, ◌+◌, [], ℕ, Bool, ap, sym, subst}
 use Rattle.std.specs.Prelude.{◌&&◌, if◌then◌else◌, nat_le, nat_lt}
 use Rattle.xb_rows.specs.WrittenRows.{record_text}
-use Rattle.xb_split.specs.PartDecks.{Gets, range_at, records_of_part}
+use Rattle.xb_split.specs.PartDecks.{Gets, only_for, range_at, records_of_part}
 use Rattle.xb_split.proofs.WrittenParts.{Gets-next, Gets-nothing, only_before, records_of_one}
-use Rattle.xb_split.proofs.writing.write_to_parts.Goals.{then-has+in_ok-write_row, else-has}
+use Rattle.xb_split.proofs.writing.write_to_parts.Goals.{then-has+in_ok-write, else-has}
 use Rattle.xb_split.proofs.writing.write_to_parts.Goals as goal
 
 pub loop-part-preserved : goal.loop-part-preserved
@@ -19,11 +19,12 @@ loop-part-preserved g c =
     ∙ ap (λ (l : ℕ). nat_le (range_at ranges part).first l && nat_lt l (range_at ranges part).end) c.line.ensures in
     let one = records_of_one ranges row part c.has.result has in
     elim c.if-has.branch [
-      | then-has+in_ok-write_row w ↦
+      | then-has+in_ok-write w ↦
           let is = sym (one ∙ ap (λ (b : Bool). if b then record_text row else []) w.if-has.true) in
+          let text = c.as_bytes.ensures.value ∙ c.record_of-record.ensures.text in
           subst (λ d. Gets (only_before (part + 1) bytes) old (g.D.PartDecks.contents d)) (sym w.decks-is)
-          (Gets-next bytes (record_text row) part old mid (g.D.PartDecks.contents w.write_row.new.decks) is
-          c.loop-part.invariant w.in_ok-write_row.ensures)
+          (Gets-next bytes (record_text row) part old mid (g.D.PartDecks.contents w.write.new.self) is
+          c.loop-part.invariant (subst (λ b. Gets (only_for part b) mid (g.D.PartDecks.contents w.write.new.self)) text w.in_ok-write.ensures))
       | else-has w ↦
           let is = sym (one ∙ ap (λ (b : Bool). if b then record_text row else []) w.if-has.false) in
           subst (λ d. Gets (only_before (part + 1) bytes) old (g.D.PartDecks.contents d)) (sym w.decks-is)
