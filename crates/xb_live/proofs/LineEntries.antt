@@ -22,7 +22,7 @@ use Rattle.xb_model.specs.OnLines.{all_on}
 use Rattle.xb_model.proofs.Images.{image_after-none}
 use Rattle.xb_routes.specs.Table.{Table}
 use Rattle.xb_tape.specs.GatheredMarks.{whats_of}
-use Rattle.xb_serial.proofs.LineTapes.{whats_of-on_line}
+use Rattle.xb_images.proofs.LineTapes.{whats_of-on_line}
 use Rattle.xb_serial.specs.Chain.{keyed, live_machine}
 use Rattle.xb_serial.specs.Office.{marks_of_rows}
 use Rattle.xb_serial.specs.Promises.{marks_on}

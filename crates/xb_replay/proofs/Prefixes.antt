@@ -38,9 +38,9 @@ use Rattle.xb_sender.specs.Machine.{machine as sender_machine}
 use Rattle.xb_tape.specs.GatheredMarks.{whats_of}
 use Rattle.xb_closes.specs.Fed.{fed}
 use Rattle.xb_posts.specs.Feeds.{to_come}
-use Rattle.xb_serial.specs.Serial.{serial_image}
-use Rattle.xb_serial.proofs.Chain.{chain-fed}
-use Rattle.xb_serial.proofs.LineTapes.{serial_image-line, whats_of-on_line}
+use Rattle.xb_images.specs.Images.{serial_image}
+use Rattle.xb_images.proofs.Chain.{chain-fed}
+use Rattle.xb_images.proofs.LineTapes.{serial_image-line, whats_of-on_line}
 use Rattle.xb_replay.specs.Marks.{marks_of as marks_on, whole_tape, ArePrefixes, AreWhole}
 use Rattle.xb_replay.specs.Turns.{IsThere, HasEnded}
 use Rattle.xb_run.specs.Laws.{StageLaws}

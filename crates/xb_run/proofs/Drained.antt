@@ -30,7 +30,7 @@ use Rattle.xb_branches.specs.Merged.{merged, IsPiece}
 use Rattle.xb_station.specs.Stations.{HasPassed}
 use Rattle.xb_branches.proofs.Merged.{merged_same}
 use Rattle.xb_branches.proofs.MergedImages.{merged-stateless}
-use Rattle.xb_serial.specs.Serial.{serial_image}
+use Rattle.xb_images.specs.Images.{serial_image}
 use Rattle.xb_tape.specs.GatheredMarks.{AreTapes}
 use Rattle.xb_run.specs.Posts.{Output, Input}
 use Rattle.xb_run.specs.Promises.{TapeServed, ends_entry}

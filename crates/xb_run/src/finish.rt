@@ -5,7 +5,7 @@ ghost use Rattle.xb_model.specs.declared.limits.Limits.{Limits};
 ghost use Rattle.xb_model.specs.declared.plan.Plan.{Plan};
 ghost use Rattle.xb_model.specs.Routing.{CodedRoute};
 ghost use Rattle.xb_model.specs.Rows.{LoopRow};
-ghost use Rattle.xb_serial.specs.Serial.{serial_image};
+ghost use Rattle.xb_images.specs.Images.{serial_image};
 ghost use Rattle.xb_branches.specs.declared.branches.TheConstants.{MOST_BRANCHES};
 ghost use Rattle.xb_tape.specs.GatheredMarks.{AreTapes};
 ghost use Rattle.xb_run.specs.Faults.{bank_fault_of};

@@ -1,7 +1,3 @@
-pub mod Chain
-pub mod ClosedAll
-pub mod ClosedOnce
-pub mod LineTapes
 pub mod Taking
 pub mod OneLine
 pub mod Fusion

@@ -11,7 +11,7 @@ use Rattle.xb_model.specs.Rows.{LoopRow, close_row}
 use Rattle.xb_model.proofs.Lines.{of_line-append, of_line-on}
 use Rattle.xb_model.specs.OnLines.{on_line}
 use Rattle.xb_tape.specs.GatheredMarks.{whats_of}
-use Rattle.xb_serial.proofs.LineTapes.{serial_image-line, whats_of-on_line}
+use Rattle.xb_images.proofs.LineTapes.{serial_image-line, whats_of-on_line}
 use Rattle.xb_routes.specs.Table.{Table}
 use Rattle.xb_serial.specs.Office.{Office, HasTaken, marks_of_rows}
 use Rattle.xb_serial.specs.Promises.{marks_on, tape_on, settled_tape, LackARefusalAtMost, KeepsPromises}

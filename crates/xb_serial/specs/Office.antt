@@ -9,7 +9,7 @@ use Rattle.xb_model.specs.Tapes.{EndsAtLast}
 use Rattle.xb_model.specs.States.{AreStates}
 use Rattle.xb_routes.specs.Table.{Table}
 use Rattle.xb_tape.specs.GatheredMarks.{whats_of}
-use Rattle.xb_serial.specs.Serial.{serial_image}
+use Rattle.xb_images.specs.Images.{serial_image}
 use Rattle.xb_serial.specs.declared.line.Line.{Line}
 use Rattle.xb_serial.specs.Chain.{live_machine}
 

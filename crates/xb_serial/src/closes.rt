@@ -1,6 +1,6 @@
 // The closes of all lines.
 ghost use Rattle.std.specs.Prelude.{◌≡◌, IfOk};
-ghost use Rattle.xb_serial.specs.Serial.{all_closes};
+ghost use Rattle.xb_images.specs.Images.{all_closes};
 
 use std::alloc::{AllocError, Global};
 use xb_model::{LINES, LineNo, Row};

@@ -7,7 +7,7 @@ ghost use Rattle.xb_model.specs.Lines.{on_line_of};
 ghost use Rattle.xb_model.specs.Image.{image};
 ghost use Rattle.xb_routes.specs.Machine.{machine as translate_machine};
 ghost use Rattle.xb_sender.specs.Machine.{machine as sender_machine};
-ghost use Rattle.xb_serial.specs.Serial.{closed_rows, dialled_image};
+ghost use Rattle.xb_images.specs.Images.{closed_rows, dialled_image};
 ghost use Rattle.xb_model.specs.Tapes.{marks_at, tapes_of};
 ghost use Rattle.xb_tape.specs.GatheredMarks.{AreTapes};
 

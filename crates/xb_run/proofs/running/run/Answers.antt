@@ -1,7 +1,7 @@
 use Rattle.std.proofs.Common.{◌≡◌, ◌≤◌, None, vec_len, refl, sym, subst, rules, arith}
 use Rattle.std.proofs.lemmas.Result.{IfOk-weaker, IfErr-weaker}
 use Rattle.xb_closes.specs.Fed.{fed}
-use Rattle.xb_serial.proofs.LineTapes.{marks_at-serial, entries-serial, tapes-serial}
+use Rattle.xb_images.proofs.LineTapes.{marks_at-serial, entries-serial, tapes-serial}
 use Rattle.xb_branches.specs.declared.branches.TheConstants.{MOST_BRANCHES}
 use Rattle.xb_run.specs.Faults.{IsPostOf}
 use Rattle.xb_run.specs.Started.{HasRoom}

@@ -3,7 +3,7 @@ use Rattle.xb_model.specs.declared.line.TheConstants.{LINES}
 use Rattle.xb_model.specs.Lines.{lines_below}
 use Rattle.xb_model.specs.Rows.{LoopRow, close_row}
 use Rattle.xb_model.proofs.LinesBelow.{lines_below-none}
-use Rattle.xb_serial.proofs.ClosedAll.{closes_more}
+use Rattle.xb_images.proofs.ClosedAll.{closes_more}
 use Rattle.xb_serial.proofs.closes.close_rows.Goals.{in-Some+in_ok-push, in_default}
 use Rattle.xb_serial.proofs.closes.close_rows.Goals as goal
 

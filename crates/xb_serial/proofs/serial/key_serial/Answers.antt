@@ -10,9 +10,9 @@ use Rattle.xb_model.specs.Image.{image}
 use Rattle.xb_model.specs.OnLines.{on_line}
 use Rattle.xb_routes.specs.Machine.{machine as translate_machine}
 use Rattle.xb_sender.specs.Machine.{machine as sender_machine}
-use Rattle.xb_serial.specs.Serial.{closed_rows, serial_image}
-use Rattle.xb_serial.proofs.Chain.{chain, chain-closed}
-use Rattle.xb_serial.proofs.LineTapes.{marks_at-made, entries-made, tapes-made}
+use Rattle.xb_images.specs.Images.{closed_rows, serial_image}
+use Rattle.xb_images.proofs.Chain.{chain, chain-closed}
+use Rattle.xb_images.proofs.LineTapes.{marks_at-made, entries-made, tapes-made}
 use Rattle.xb_serial.proofs.serial.key_serial.Goals as goal
 
 -- the marks are what the stages make of the rows and a close of each line

@@ -8,7 +8,7 @@ use Rattle.xb_model.specs.OnLines.{on_line}
 use Rattle.xb_serial.specs.Chain.{marks_of_row}
 use Rattle.xb_serial.specs.Office.{Office, HasTaken, IsEntryOrNone}
 use Rattle.xb_serial.proofs.Fusion.{row_marks-on}
-use Rattle.xb_serial.proofs.LineTapes.{whats_of-on_line}
+use Rattle.xb_images.proofs.LineTapes.{whats_of-on_line}
 use Rattle.xb_serial.proofs.OneRow.{taken-more}
 use Rattle.xb_serial.proofs.live.Live.take.Goals as goal
 

@@ -9,7 +9,7 @@ use Rattle.xb_model.specs.Records.{Run, is_close, closes, record_up_to_close, ro
 use Rattle.xb_model.specs.Rows.{LoopRow, close_row}
 use Rattle.xb_model.proofs.Lines.{of_line-append, of_line-here, of_line-other}
 use Rattle.xb_model.proofs.LinesBelow.{lines_below-none, lines_below-more}
-use Rattle.xb_serial.specs.Serial.{closed_rows}
+use Rattle.xb_images.specs.Images.{closed_rows}
 
 -- rows with a close at their end have a close
 pub closes-closed : (l : ℕ) (rows : List LoopRow) → closes (rows ++ close_row l ∷ []) ≡ true

@@ -29,10 +29,10 @@ use Rattle.xb_sender.specs.Machine.{machine as sender_machine}
 use Rattle.xb_closes.specs.Closed.{closed_once}
 use Rattle.xb_closes.specs.Fed.{fed}
 use Rattle.xb_model.specs.Lines.{row_line}
-use Rattle.xb_serial.proofs.ClosedOnce.{closes-once, record-once, is_on-once}
+use Rattle.xb_images.proofs.ClosedOnce.{closes-once, record-once, is_on-once}
 use Rattle.xb_closes.proofs.FedRows.{rows_of-fed}
-use Rattle.xb_serial.specs.Serial.{closed_rows}
-use Rattle.xb_serial.proofs.ClosedAll.{closes-closed, record-closed, is_on-closed, rows_of-closed}
+use Rattle.xb_images.specs.Images.{closed_rows}
+use Rattle.xb_images.proofs.ClosedAll.{closes-closed, record-closed, is_on-closed, rows_of-closed}
 
 module _ (plan : Plan) (limits : Limits) (routes : List CodedRoute) where
   -- what the four stages make of rows of one line

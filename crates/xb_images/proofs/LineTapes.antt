@@ -31,10 +31,10 @@ use Rattle.xb_sender.specs.Machine.{machine as sender_machine}
 use Rattle.xb_model.proofs.Entries.{entries_of-flat_map}
 use Rattle.xb_closes.specs.Fed.{fed}
 use Rattle.xb_model.specs.Lines.{lines_below}
-use Rattle.xb_serial.specs.Serial.{serial_image}
+use Rattle.xb_images.specs.Images.{serial_image}
 use Rattle.xb_model.specs.Tapes.{marks_at, tapes_of}
 use Rattle.xb_tape.specs.GatheredMarks.{whats_of, AreTapes}
-use Rattle.xb_serial.proofs.Chain.{chain, chain-fed}
+use Rattle.xb_images.proofs.Chain.{chain, chain-fed}
 
 pub whats_of-on_line : (l : ℕ) (marks : List Mark) → whats_of (on_line l marks) ≡ marks
 whats_of-on_line l [] = refl

@@ -1,0 +1,4 @@
+pub mod Chain
+pub mod ClosedAll
+pub mod ClosedOnce
+pub mod LineTapes
