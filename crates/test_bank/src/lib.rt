@@ -1,6 +1,7 @@
-//! Trials of `run`: gates that hold posts or refuse their start, sources that stop, and random decks beside
-//! the chain on one thread; and the short callers in `uses`, on whose line 5 the operator is called and a
-//! second call is given up.
+//! Trials of the chain on threads and by schedules: gates that hold posts or refuse their start, sources that
+//! stop, random decks, rounds in which posts have turns in some order or none, and random walks, each beside
+//! the tapes of the chain on one thread; and the short callers of `xb_together`, on whose line 5 the operator
+//! is called and a second call is given up.
 //!
 //! Tests alone, in a crate of their own: in that of `run`, they would have all of it proved once more.
 #![tactic(auto)]
@@ -10,11 +11,19 @@ mod calls;
 #[cfg(test)]
 mod counts;
 #[cfg(test)]
+mod decks;
+#[cfg(test)]
 mod faults;
 #[cfg(test)]
 mod gates;
 #[cfg(test)]
-mod schedules;
+mod played;
+#[cfg(test)]
+mod rounds;
+#[cfg(test)]
+mod schedule;
+#[cfg(test)]
+mod schedules_of_calls;
 #[cfg(test)]
 mod soak;
 #[cfg(test)]
@@ -22,6 +31,12 @@ mod sources;
 #[cfg(test)]
 mod starts;
 #[cfg(test)]
+mod starved;
+#[cfg(test)]
 mod two_calls;
 #[cfg(test)]
 mod uses_of_calls;
+#[cfg(test)]
+mod walks;
+#[cfg(test)]
+mod wanted;
