@@ -6,6 +6,7 @@ use Rattle.std.specs.Io.KnownBytes.{Appends}
 use Rattle.std.proofs.KnownBytes.{Appends-nil, Appends-trans}
 use Rattle.std.proofs.lemmas.Bool.{eq-eqb, eqb-true, le-ltb, lt-ltb, ltb-false, ltb-true, ne_eqb}
 use Rattle.std.proofs.lemmas.Grind.{flat_map-append}
+use Rattle.std.proofs.lemmas.List.{get_or_past}
 use Rattle.std.proofs.lemmas.List.Elements.{filter-append}
 use Rattle.xb_model.specs.Rows.{LoopRow}
 use Rattle.xb_rows.specs.WrittenRows.{record_text}
@@ -117,6 +118,18 @@ records_of_one ranges row part has e =
     at : (b : Bool) → flat_map record_text (if b then row ∷ [] else []) ≡ (if b then record_text row else [])
     at true = append-nil (record_text row)
     at false = refl
+
+and_false : (b : Bool) → false ≡ (b && false)
+and_false true = refl
+and_false false = refl
+
+-- a part that is none gets none
+pub records_past : (ranges : List LineRange) (row : LoopRow) (part : ℕ) → length ranges ≤ part
+    → records_of_part ranges (row ∷ []) part ≡ []
+records_past ranges row part past =
+    let none : range_at ranges part ≡ record { first = 0; end = 0 } = get_or_past ranges part _ past in
+    let below : nat_lt row.line 0 ≡ false = le-ltb row.line 0 (omega arith) in
+    records_of_one ranges row part false (rw (none, below) (and_false (nat_le 0 row.line)))
 
 -- the table, the cut and the header, and then records
 deck_text : (table records : List ℕ)

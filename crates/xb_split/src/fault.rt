@@ -6,7 +6,6 @@ ghost use Rattle.xb_split.specs.SplitFaults.{IsFaultOf};
 
 use crate::planning::PlanPartsFault;
 use crate::writing::WriteRowsFault;
-use std::alloc::AllocError;
 use std::io;
 use thiserror::Error;
 use xb_deck::TableFault;
@@ -57,16 +56,6 @@ pub enum SplitFault {
     /// Memory ran out.
     #[error("out of memory")]
     NoMemory,
-}
-
-impl From<AllocError> for SplitFault {
-    ghost use Rattle.xb_split.specs.declared.fault.SplitFault.TheVariants.{NoMemory};
-
-    ghost from_gives = { λ _ e. e ≡ NoMemory };
-
-    fn from(_: AllocError) -> SplitFault {
-        SplitFault::NoMemory
-    }
 }
 
 // Why a deck gives no table.

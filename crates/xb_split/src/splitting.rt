@@ -58,9 +58,14 @@ fn count<F: SplitFiles>(
     ensures counted { IfOk result (λ c. IsCounted (F.bytes files.now big.now) c.0.items c.1) }
     ensures fault { (parts : Option ℕ) → IfErr result (IsFaultOf (F.bytes files.now big.now) parts) }
 {
-    let (table, mut rows) = open_deck(alloc, files, big)?;
-    let loads = count_rows(alloc, &mut rows).map_err(SplitFault::Rows)?;
-    Ok((table, loads))
+    let (table, mut rows) = match open_deck(alloc, files, big) {
+        Ok(deck) => deck,
+        Err(fault) => return Err(fault),
+    };
+    match count_rows(alloc, &mut rows) {
+        Ok(loads) => Ok((table, loads)),
+        Err(fault) => Err(SplitFault::Rows(fault)),
+    }
 }
 
 // How many records the lines of a range have.
@@ -127,18 +132,29 @@ fn plan_deck<F: SplitFiles>(
         IfOk result (λ p. IsPlan deck parts p.table.items p.ranges.items (string_bytes p.list)) }
     ensures fault { IfErr result (IsFaultOf (F.bytes files.now big.now) parts) }
 {
-    let (table, loads) = count(alloc, files, big)?;
-    let ranges = plan_parts(alloc, table.len(), &loads, parts).map_err(SplitFault::Plan)?;
+    let (table, loads) = match count(alloc, files, big) {
+        Ok(counted) => counted,
+        Err(fault) => return Err(fault),
+    };
+    let ranges = match plan_parts(alloc, table.len(), &loads, parts) {
+        Ok(ranges) => ranges,
+        Err(fault) => return Err(SplitFault::Plan(fault)),
+    };
     if ranges.len() > MOST_PARTS {
         return Err(SplitFault::TooMany(ranges.len()));
     }
-    let listed = listed_parts(alloc, &loads, &ranges)?;
-    let list = list_of(alloc, &listed)?;
-    Ok(Plan {
-        table,
-        ranges,
-        list,
-    })
+    let listed = match listed_parts(alloc, &loads, &ranges) {
+        Ok(listed) => listed,
+        Err(_) => return Err(SplitFault::NoMemory),
+    };
+    match list_of(alloc, &listed) {
+        Ok(list) => Ok(Plan {
+            table,
+            ranges,
+            list,
+        }),
+        Err(_) => Err(SplitFault::NoMemory),
+    }
 }
 
 // The parts of a deck, and a reader of its rows, which stands at the first again.
@@ -152,8 +168,14 @@ fn prepare<F: SplitFiles>(
         IfOk result (λ r. IsReady deck parts r.0.table.items r.0.ranges.items (string_bytes r.0.list) r.1) }
     ensures fault { IfErr result (IsFaultOf (F.bytes files.now big.now) parts) }
 {
-    let plan = plan_deck(alloc, files, big, parts)?;
-    let (table, rows) = open_deck(alloc, files, big)?;
+    let plan = match plan_deck(alloc, files, big, parts) {
+        Ok(plan) => plan,
+        Err(fault) => return Err(fault),
+    };
+    let (table, rows) = match open_deck(alloc, files, big) {
+        Ok(deck) => deck,
+        Err(fault) => return Err(fault),
+    };
     if table.as_slice() == plan.table.as_slice() {
         Ok((plan, rows))
     } else {
@@ -205,7 +227,10 @@ fn make_and_name<F: SplitFiles>(
         → Delivers deck (F.fresh files.old) parts result
         (F.named files.new) (F.listed files.old) (F.listed files.new) }
 {
-    let parts = make_parts(alloc, files, folder, plan, rows)?;
+    let parts = match make_parts(alloc, files, folder, plan, rows) {
+        Ok(parts) => parts,
+        Err(fault) => return Err(fault),
+    };
     match files.name(alloc, folder, parts, &plan.list) {
         Ok(()) => Ok(()),
         Err(error) => Err(SplitFault::Folder(error)),
@@ -227,8 +252,14 @@ pub fn split<F: SplitFiles>(
         Delivers deck (F.fresh files.old) request.now.parts result
         (F.named files.new) (F.listed files.old) (F.listed files.new) }
 {
-    check_parts(request.parts)?;
-    check_folder(alloc, files, request.folder)?;
-    let (plan, mut rows) = prepare(alloc, files, request.big, request.parts)?;
-    make_and_name(alloc, files, request.folder, &plan, &mut rows)
+    if let Err(fault) = check_parts(request.parts) {
+        return Err(fault);
+    }
+    if let Err(fault) = check_folder(alloc, files, request.folder) {
+        return Err(fault);
+    }
+    match prepare(alloc, files, request.big, request.parts) {
+        Ok((plan, mut rows)) => make_and_name(alloc, files, request.folder, &plan, &mut rows),
+        Err(fault) => Err(fault),
+    }
 }

@@ -31,16 +31,6 @@ impl From<RowFault> for WriteRowsFault {
     }
 }
 
-impl From<io::Error> for WriteRowsFault {
-    ghost use Rattle.xb_split.specs.declared.writing.WriteRowsFault.TheVariants.{Write};
-
-    ghost from_gives = { λ fault e. e ≡ Write fault };
-
-    fn from(fault: io::Error) -> WriteRowsFault {
-        WriteRowsFault::Write(fault)
-    }
-}
-
 // Writes a row to the deck of each part that has its line.
 fn write_to_parts<D: PartDecks>(decks: &mut D, ranges: &[LineRange], row: Row) -> io::Result<()>
     ensures { OnOk result (Gets (records_of_part ranges.now (row ∷ []))
@@ -49,7 +39,7 @@ fn write_to_parts<D: PartDecks>(decks: &mut D, ranges: &[LineRange], row: Row) -
     let record = record_of(row);
     for part in 0..ranges.len() {
         if ranges[part].has(row.line()) {
-            decks.write(part, record.as_bytes())?;
+            decks.write(part, record.as_str().as_bytes())?;
         }
     }
     Ok(())
@@ -67,7 +57,11 @@ fn write_rows<R: Read, D: PartDecks>(
 {
     for _ in 0..u64::MAX {
         match rows.next_row()? {
-            Some(row) => write_to_parts(decks, ranges, row)?,
+            Some(row) => {
+                if let Err(fault) = write_to_parts(decks, ranges, row) {
+                    return Err(WriteRowsFault::Write(fault));
+                }
+            }
             None => return Ok(()),
         }
     }
@@ -96,7 +90,9 @@ fn write_decks<R: Read, D: PartDecks>(
     ensures decks { OnOk result (GetsDecks table.now rows.old ranges.now
         (D.contents decks.old) (D.contents decks.new)) }
 {
-    write_heads(decks, ranges.len(), table)?;
+    if let Err(fault) = write_heads(decks, ranges.len(), table) {
+        return Err(WriteRowsFault::Write(fault));
+    }
     write_rows(rows, ranges, decks)
 }
 
@@ -112,5 +108,8 @@ pub fn write_parts<R: Read, D: PartDecks>(
         (D.contents decks.old) (D.contents decks.new)) }
 {
     write_decks(table, rows, ranges, decks)?;
-    Ok(decks.keep()?)
+    match decks.keep() {
+        Ok(()) => Ok(()),
+        Err(fault) => Err(WriteRowsFault::Write(fault)),
+    }
 }
