@@ -13,7 +13,7 @@ use Rattle.xb_rows.specs.RowTexts.{rest_within}
 use Rattle.xb_split.specs.declared.load.Load.{Load}
 use Rattle.xb_parts.specs.declared.range.LineRange.{LineRange}
 use Rattle.xb_split.specs.PartDecks.{Decks, GetsDecks, deck_of_part}
-use Rattle.xb_split.specs.RowStreams.{CountsAll, HasGivenAll, IsStop}
+use Rattle.xb_split.specs.RowStreams.{CountsAll, HasGivenAll, StopsRows}
 use Rattle.xb_split.specs.SplitFaults.{IsFaultOf}
 use Rattle.xb_split.specs.Splits.{AreMade, HasRows, IsCounted, IsOpened, IsReady, IsSplit, rest_of_rows}
 use Rattle.xb_split.specs.declared.fault.SplitFault.TheVariants as fault
@@ -43,34 +43,37 @@ counted (Some text) table left loads opened counts =
 
 -- the fault that stopped the rows is one of the deck
 pub rows_fault : (deck : Option (List ℕ)) (table : List ℕ) (left : Option Rest) (parts : Option ℕ) (f : RowFault)
-    → IsOpened deck table left → IfSome left (λ rest. IsStop rest.stop f) → IsFaultOf deck parts (fault.Rows f)
+    → IsOpened deck table left → IfSome left (λ rest. StopsRows rest f) → IsFaultOf deck parts (fault.Rows f)
 rows_fault None table left parts f opened stops = tt
 rows_fault (Some text) table left parts f opened stops =
-    let stop = subst (λ o. IfSome o (λ rest. IsStop rest.stop f)) opened.2 stops in
-    subst (λ o. IfSome o (λ cut. IsStop (rest_of_rows cut.rows).stop f)) (sym opened.1) stop
+    let stop = subst (λ o. IfSome o (λ rest. StopsRows rest f)) opened.2 stops in
+    subst (λ o. IfSome o (λ cut. StopsRows (rest_of_rows cut.rows) f)) (sym opened.1) stop
 
 -- decks that got all rows after they were made
-pub are_made : (fresh : Option (List ℕ)) (start made : Decks) (table : List ℕ) (ranges : List LineRange)
-    (left : Option Rest) → ((i : ℕ) → i < length ranges → start i ≡ fresh)
-    → GetsDecks table left ranges start made → AreMade fresh made table ranges left
-are_made fresh start made table ranges left empty gets = (
+pub are_made : (fresh : Option (List ℕ)) (start made : Decks) (table : List ℕ) (loads : List Load)
+    (ranges : List LineRange) (left : Option Rest) → ((i : ℕ) → i < length ranges → start i ≡ fresh)
+    → GetsDecks table left ranges loads start made → AreMade fresh made table loads ranges left
+are_made fresh start made table loads ranges left empty gets = (
   gets.0,
   gets.1,
-  λ i below. subst (λ o. Appends o (made i) (deck_of_part table ranges gets.0 i)) (empty i below) (gets.2 i below),
+  gets.2,
+  λ i below. subst (λ o. Appends o (made i) (deck_of_part table ranges gets.0 i)) (empty i below) (gets.3 i below),
 )
 
 -- they are those of all parts of the deck
 pub is_split : (deck : Option (List ℕ)) (wanted : Option ℕ) (fresh : Option (List ℕ)) (made named : Decks)
-    (table : List ℕ) (ranges : List LineRange) (list : List ℕ) (left : Option Rest)
-    → IsReady deck wanted table ranges list left → AreMade fresh made table ranges left
+    (table : List ℕ) (loads : List Load) (ranges : List LineRange) (list : List ℕ) (left : Option Rest)
+    → IsReady deck wanted table loads ranges list left → AreMade fresh made table loads ranges left
     → ((i : ℕ) → named i ≡ made i) → IsSplit deck wanted fresh named list
-is_split deck wanted fresh made named table ranges list left ready are same = record {
+is_split deck wanted fresh made named table loads ranges list left ready are same = record {
   table = table;
   ranges = ranges;
   rows = are.0;
+  loads = loads;
   plan = ready.plan;
+  recounted = are.2;
   read = has_rows deck table left are.0 ready.opened are.1;
-  written = λ i below. subst (λ o. Appends fresh o (deck_of_part table ranges are.0 i)) (sym (same i)) (are.2 i below);
+  written = λ i below. subst (λ o. Appends fresh o (deck_of_part table ranges are.0 i)) (sym (same i)) (are.3 i below);
 }
 
 -- what a fault says of the bytes that are left holds of the deck

@@ -1,11 +1,12 @@
 -- Rows that are given one after the other.
-use Rattle.std.proofs.Common.{◌≡◌, ◌∙◌, List, [], ◌∷◌, ◌++◌, refl, sym, ap, append_assoc, append-nil, subst, inl, inr}
+use Rattle.std.proofs.Common.{◌≡◌, ◌∙◌, ◌≤◌, ◌-◌, ◌^◌, ℕ, List, [], ◌∷◌, ◌++◌, length, refl, sym, ap, append_assoc, append-nil, length-append, subst, inl, inr, arith}
 use Rattle.std.specs.Prelude.{Err, IfSome, None, Ok, Option, Result, Some}
 use Rattle.xb_model.specs.declared.fault.RowFault.{RowFault}
+use Rattle.xb_model.specs.declared.fault.RowFault.TheVariants.{Read, TooMany}
 use Rattle.xb_model.specs.Rows.{LoopRow}
-use Rattle.xb_model.specs.Sources.{Rest}
+use Rattle.xb_model.specs.Sources.{Rest, told}
 use Rattle.xb_rows.specs.Scanning.{GivesRead}
-use Rattle.xb_split.specs.RowStreams.{HasGiven, HasGivenAll, IsStop}
+use Rattle.xb_split.specs.RowStreams.{HasFailed, HasGiven, HasGivenAll, IsStop, StopsRows}
 
 -- what one call gives of rows: the next, or the end, or their fault
 abbrev GivesNext : Option Rest → Result (Option LoopRow) RowFault → Option Rest → Type 0
@@ -67,6 +68,11 @@ GivesNext-read (Some old) (Err f) (Some new) (inl (inl stopped, after)) = inl st
 GivesNext-read (Some old) (Err f) (Some new) (inl (inr runs_out, after)) = inr (inr runs_out.1)
 GivesNext-read (Some old) (Err f) (Some new) (inr fails) = inr (inl (err_is fails.1))
 
+stopped : (start : Option Rest) (f : RowFault) → IfSome start (λ rest. IsStop rest.stop f)
+    → IfSome start (λ rest. StopsRows rest f)
+stopped None f stops = tt
+stopped (Some start) f stops = inl stops
+
 -- the same of a reader of rows
 pub HasGiven-more : (before : List LoopRow) (start old new : Option Rest) (row : LoopRow) → HasGiven before start old
     → GivesRead old (Ok (Some row)) new → HasGiven (before ++ row ∷ []) start new
@@ -78,6 +84,21 @@ pub HasGiven-end : (before : List LoopRow) (start old new : Option Rest) → Has
 HasGiven-end before start old new given gives = at_end before start old new given (GivesNext-read old (Ok None) new gives)
 
 pub HasGiven-stop : (before : List LoopRow) (start old new : Option Rest) (f : RowFault) → HasGiven before start old
-    → GivesRead old (Err f) new → IfSome start (λ rest. IsStop rest.stop f)
+    → GivesRead old (Err f) new → IfSome start (λ rest. StopsRows rest f)
 HasGiven-stop before start old new f given gives =
-    at_stop before start old new f given (GivesNext-read old (Err f) new gives)
+    stopped start f (at_stop before start old new f given (GivesNext-read old (Err f) new gives))
+
+-- so many rows were given, and no stop was told
+pub HasGiven-many : (before : List LoopRow) (start now : Option Rest) → 2 ^ 64 - 1 ≤ length before
+    → HasGiven before start now → IfSome start (λ rest. StopsRows rest TooMany)
+HasGiven-many before None now many given = tt
+HasGiven-many before (Some start) None many given = absurd given
+HasGiven-many before (Some start) (Some now) many given =
+    inr (refl, omega (arith, many, ap length given.0, length-append before now.rows))
+
+-- a fault that was told is told from then on
+pub told-failed : (old new : Option Rest) (f : RowFault) → GivesRead old (Err f) new → f ≡ Read → HasFailed new
+told-failed None new f gives e = gives ∙ ap (λ g. Some (told (Some g))) e
+told-failed (Some old) None f gives e = absurd gives
+told-failed (Some old) (Some new) f (inl gives) e = ap Some (gives.1 ∙ ap (λ g. told (Some g)) e)
+told-failed (Some old) (Some new) f (inr fails) e = ap Some fails.2

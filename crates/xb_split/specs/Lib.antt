@@ -7,5 +7,6 @@ pub mod Plans
 pub mod Rules
 pub mod Options
 pub mod Splits
+pub mod WriteFaults
 pub mod SplitFaults
 pub mod Program

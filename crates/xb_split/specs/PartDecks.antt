@@ -7,6 +7,8 @@ use Rattle.xb_model.specs.Sources.{Rest}
 use Rattle.xb_rows.specs.WrittenRows.{record_text, text_of_rows}
 use Rattle.xb_parts.specs.declared.range.LineRange.{LineRange}
 use Rattle.xb_parts.specs.Ranges.{rows_in}
+use Rattle.xb_split.specs.Counts.{AreLoadsOf}
+use Rattle.xb_split.specs.declared.load.Load.{Load}
 use Rattle.xb_split.specs.RowStreams.{HasGivenAll}
 
 -- what each deck has, by its number, where it is known
@@ -41,13 +43,13 @@ only_below parts bytes i = if nat_lt i parts then bytes else []
 abbrev pub deck_of_part : List ℕ → List LineRange → List LoopRow → ℕ → List ℕ
 deck_of_part table ranges rows i = table ++ codes "---\n" ++ text_of_rows (rows_in (range_at ranges i) rows)
 
--- each deck got the records of its part of all rows
-abbrev pub GetsRecords : Option Rest → List LineRange → Decks → Decks → Type 0
-GetsRecords start ranges old new =
-    (rows : List LoopRow) × HasGivenAll rows start × Gets (records_of_part ranges rows) old new
+-- each deck got the records of its part of all rows, and each line has these loads of them
+abbrev pub GetsRecords : Option Rest → List LineRange → List Load → Decks → Decks → Type 0
+GetsRecords start ranges loads old new = (rows : List LoopRow) × HasGivenAll rows start
+    × AreLoadsOf rows loads × Gets (records_of_part ranges rows) old new
 
--- the deck of each part got the table, the cut, the header and its rows
-abbrev pub GetsDecks : List ℕ → Option Rest → List LineRange → Decks → Decks → Type 0
-GetsDecks table start ranges old new =
-    (rows : List LoopRow) × HasGivenAll rows start
+-- the deck of each part got the table, the cut, the header and its rows, of which each line has these loads
+abbrev pub GetsDecks : List ℕ → Option Rest → List LineRange → List Load → Decks → Decks → Type 0
+GetsDecks table start ranges loads old new =
+    (rows : List LoopRow) × HasGivenAll rows start × AreLoadsOf rows loads
     × ((i : ℕ) → i < length ranges → Appends (old i) (new i) (deck_of_part table ranges rows i))

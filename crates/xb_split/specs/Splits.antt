@@ -1,6 +1,6 @@
 -- A deck that is split, where its bytes are known.
 use Rattle.std.specs.Prelude.{ℕ, ◌≡◌, ◌≤◌, ◌<◌, ◌-◌, ◌^◌, List, length, map, Option, Some, None, IfSome}
-use Rattle.std.specs.Io.KnownBytes.{Appends}
+use Rattle.std.specs.Io.KnownBytes.{Appends, Keeps}
 use Rattle.xb_deck.specs.Deck.{deck_parts}
 use Rattle.xb_model.specs.Rows.{LoopRow}
 use Rattle.xb_model.specs.Sources.{Rest}
@@ -41,10 +41,9 @@ abbrev pub listed : List Load → LineRange → ListedPart
 listed loads range = record { lines = range; records = counted (records_of loads range.first range.end) }
 
 -- the ranges of the parts of a deck: they take all lines, the deck of each is one that an office takes, they
--- are those that are asked for, there are no more than may be, and the list names them
-pub record IsPlan (deck : Option (List ℕ)) (wanted : Option ℕ) (table : List ℕ) (ranges : List LineRange)
-    (list : List ℕ) : Type 0 where
-  pub loads : List Load
+-- are those that are asked for, there are no more than may be, and the list names them with what was counted
+pub record IsPlan (deck : Option (List ℕ)) (wanted : Option ℕ) (table : List ℕ) (loads : List Load)
+    (ranges : List LineRange) (list : List ℕ) : Type 0 where
   pub counted : IsCounted deck table loads
   pub cover : CoverAll ranges
   pub fit : FitDecks (length table) loads ranges
@@ -53,31 +52,38 @@ pub record IsPlan (deck : Option (List ℕ)) (wanted : Option ℕ) (table : List
   pub list_is : list ≡ list_of (map (listed loads) ranges)
 
 -- the parts of a deck are planned, and it was opened again
-pub record IsReady (deck : Option (List ℕ)) (wanted : Option ℕ) (table : List ℕ) (ranges : List LineRange)
-    (list : List ℕ) (left : Option Rest) : Type 0 where
-  pub plan : IsPlan deck wanted table ranges list
+pub record IsReady (deck : Option (List ℕ)) (wanted : Option ℕ) (table : List ℕ) (loads : List Load)
+    (ranges : List LineRange) (list : List ℕ) (left : Option Rest) : Type 0 where
+  pub plan : IsPlan deck wanted table loads ranges list
   pub opened : IsOpened deck table left
 
--- decks that have exactly the rows of their parts, of all that were left
-abbrev pub AreMade : Option (List ℕ) → Decks → List ℕ → List LineRange → Option Rest → Type 0
-AreMade fresh made table ranges left = (rows : List LoopRow) × HasGivenAll rows left
+-- decks that have exactly the rows of their parts, of all that were left, which are as many as were counted
+abbrev pub AreMade : Option (List ℕ) → Decks → List ℕ → List Load → List LineRange → Option Rest → Type 0
+AreMade fresh made table loads ranges left = (rows : List LoopRow) × HasGivenAll rows left × AreLoadsOf rows loads
     × ((i : ℕ) → i < length ranges → Appends fresh (made i) (deck_of_part table ranges rows i))
 
--- the decks of all parts of a deck, each with exactly its rows, and their list
+-- the decks of all parts of a deck, each with exactly its rows, which are as many as its list says
 pub record IsSplit (deck : Option (List ℕ)) (wanted : Option ℕ) (fresh : Option (List ℕ)) (decks : Decks)
     (list : List ℕ) : Type 0 where
   pub table : List ℕ
   pub ranges : List LineRange
   pub rows : List LoopRow
-  pub plan : IsPlan deck wanted table ranges list
+  pub loads : List Load
+  pub plan : IsPlan deck wanted table loads ranges list
+  pub recounted : AreLoadsOf rows loads
   pub read : IfSome deck (λ text. HasRows text table rows)
   pub written : (i : ℕ) → i < length ranges → Appends fresh (decks i) (deck_of_part table ranges rows i)
 
--- these are the decks of all parts of some deck
-abbrev pub AreWhole : Option (List ℕ) → Decks → List ℕ → Type 0
-AreWhole fresh decks list = (deck : Option (List ℕ)) × (wanted : Option ℕ) × IsSplit deck wanted fresh decks list
+-- these are the decks of all parts of the deck
+abbrev pub AreWhole : Option (List ℕ) → Option (List ℕ) → Decks → List ℕ → Type 0
+AreWhole deck fresh decks list = (wanted : Option ℕ) × IsSplit deck wanted fresh decks list
 
--- decks that have their names, and their list, which has its own
-pub record IsNamed (made : Decks) (list : List ℕ) (named : Decks) (old new : Option (List ℕ)) : Type 0 where
-  pub decks : (i : ℕ) → named i ≡ made i
-  pub listed : Appends old new list
+-- the list of each folder stays
+abbrev pub ListsKept : (List ℕ → Option (List ℕ)) → (List ℕ → Option (List ℕ)) → Type 0
+ListsKept old new = (folder : List ℕ) → Keeps (old folder) (new folder)
+
+-- decks that have their names in a folder, and their list, which has its own
+pub record IsNamed (folder : List ℕ) (made : Decks) (list : List ℕ) (named : List ℕ → Decks)
+    (old new : List ℕ → Option (List ℕ)) : Type 0 where
+  pub decks : (i : ℕ) → named folder i ≡ made i
+  pub listed : Appends (old folder) (new folder) list

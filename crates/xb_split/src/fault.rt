@@ -11,6 +11,17 @@ use thiserror::Error;
 use xb_deck::TableFault;
 use xb_model::RowFault;
 
+/// Why the decks of parts are not made.
+#[derive(Debug, Drop)]
+pub enum MakeFault {
+    /// Their folder could not be made, under another name.
+    Folder(io::Error),
+    /// One of them could not be made in it.
+    Part(io::Error),
+    /// Memory ran out.
+    NoMemory,
+}
+
 /// Why a deck is not split.
 #[derive(Debug, Drop, Error)]
 pub enum SplitFault {
@@ -20,9 +31,12 @@ pub enum SplitFault {
     /// The folder could not be looked at, or the parts could not get its name.
     #[error("the folder could not be used: {0}")]
     Folder(io::Error),
-    /// The parts could not be made under another name.
+    /// The folder could not be made, under another name.
     #[error("the folder with .incomplete after its name could not be made: {0}")]
     Unfinished(io::Error),
+    /// A part could not be made in it.
+    #[error("a part could not be made: {0}")]
+    Part(io::Error),
     /// The folder has something in it.
     #[error("the folder is not empty")]
     NotEmpty,
@@ -47,10 +61,10 @@ pub enum SplitFault {
     /// There would be so many parts, which is more than files may be held open.
     #[error("there would be {0} parts, and the most is 500")]
     TooMany(usize),
-    /// The parts could not be written.
-    #[error("{0}")]
-    Write(WriteRowsFault),
-    /// The deck was another when it was read again.
+    /// A part could not be written.
+    #[error("a part could not be written: {0}")]
+    Write(io::Error),
+    /// The deck was another when it was read again: its table, its records, or a line's.
     #[error("the deck has changed while it was split")]
     Changed,
     /// Memory ran out.
@@ -68,5 +82,29 @@ pub(crate) fn fault_of_table(fault: TableFault) -> SplitFault
         TableFault::TooLong => SplitFault::LongTable,
         TableFault::NoCut => SplitFault::NoCut,
         TableFault::NoMemory => SplitFault::NoMemory,
+    }
+}
+
+// Why the decks of parts are not made.
+pub(crate) fn fault_of_making(fault: MakeFault) -> SplitFault
+    ensures { (deck : Option (List ℕ)) (parts : Option ℕ) → IsFaultOf deck parts result }
+{
+    match fault {
+        MakeFault::Folder(error) => SplitFault::Unfinished(error),
+        MakeFault::Part(error) => SplitFault::Part(error),
+        MakeFault::NoMemory => SplitFault::NoMemory,
+    }
+}
+
+// Why they are not written. A fault in records that had none when they were counted says that the deck has
+// changed.
+pub(crate) fn fault_of_writing(fault: WriteRowsFault) -> SplitFault
+    ensures { (deck : Option (List ℕ)) (parts : Option ℕ) → IsFaultOf deck parts result }
+{
+    match fault {
+        WriteRowsFault::Write(error) => SplitFault::Write(error),
+        WriteRowsFault::Rows(RowFault::Read) => SplitFault::Rows(RowFault::Read),
+        WriteRowsFault::Rows(RowFault::NoMemory) => SplitFault::NoMemory,
+        WriteRowsFault::Rows(_) => SplitFault::Changed,
     }
 }

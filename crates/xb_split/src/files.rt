@@ -1,8 +1,9 @@
 // The files of a split.
-ghost use Rattle.std.specs.Prelude.{◌≡◌, ◌<◌, ◌⊎◌, ℕ, List, Option, None, Some, IfOk, IfSome, OnErr, OnOk, length};
-ghost use Rattle.std.specs.Io.KnownBytes.{Keeps};
+ghost use Rattle.std.specs.Prelude.{◌≡◌, ◌<◌, ◌⊎◌, ℕ, List, Option, None, Some, IfOk, IfSome, IsTrue, OnErr, OnOk, length};
 
 use crate::decks::PartDecks;
+use crate::fault::MakeFault;
+use crate::words::Request;
 use std::alloc::Global;
 use std::io::{self, Read};
 use xb_parts::LineRange;
@@ -13,7 +14,7 @@ use xb_parts::LineRange;
 /// not.
 pub trait SplitFiles {
     ghost use Rattle.xb_split.specs.PartDecks.{Decks};
-    ghost use Rattle.xb_split.specs.Splits.{AreWhole, IsNamed};
+    ghost use Rattle.xb_split.specs.Splits.{AreWhole, IsNamed, ListsKept};
 
     /// A deck that is read from its beginning.
     type Deck: Read + Drop;
@@ -27,11 +28,10 @@ pub trait SplitFiles {
     // What a deck has that was just made, where it is known.
     ghost fresh: { Self → Option (List ℕ) } = { λ _. None };
 
-    // What the decks in the folder have, and the list of parts, once they have their names, where it is
-    // known.
-    ghost named: { Self → Decks } = { λ _ _. None };
+    // What the decks in a folder have, and its list of parts, once they have their names, where it is known.
+    ghost named: { Self → List ℕ → Decks } = { λ _ _ _. None };
 
-    ghost listed: { Self → Option (List ℕ) } = { λ _. None };
+    ghost listed: { Self → List ℕ → Option (List ℕ) } = { λ _ _. None };
 
     /// Opens the file of a deck.
     fn open(&self, alloc: Global, big: &str) -> io::Result<Self::Deck>
@@ -42,29 +42,37 @@ pub trait SplitFiles {
     fn has_any(&self, alloc: Global, folder: &str) -> io::Result<bool>;
 
     /// Makes an empty deck for each range, under another name than the folder's. On an `Err` none is left.
-    fn make(&mut self, alloc: Global, folder: &str, ranges: &[LineRange]) -> io::Result<Self::Parts>
+    fn make(
+        &mut self,
+        alloc: Global,
+        request: &Request<'_>,
+        ranges: &[LineRange],
+    ) -> Result<Self::Parts, MakeFault>
         ensures empty { IfOk result (λ parts. (i : ℕ) → i < length ranges.now
             → Self.Parts.contents parts i ≡ fresh self.old) }
         ensures fresh { fresh self.new ≡ fresh self.old }
-        ensures list { Keeps (listed self.old) (listed self.new) };
+        ensures deck { bytes self.new request.now.big.now ≡ bytes self.old request.now.big.now }
+        ensures list { ListsKept (listed self.old) (listed self.new) };
 
     /// Gives whole decks the name of their folder, and after that the list its own. On an `Err` they may have
     /// their names or not.
     fn name(
         &mut self,
         alloc: Global,
-        folder: &str,
+        request: &Request<'_>,
         parts: Self::Parts,
         list: &str,
     ) -> io::Result<()>
-        requires whole { AreWhole (fresh self.old) (Self.Parts.contents parts) list.now }
-        ensures named { OnOk result (IsNamed (Self.Parts.contents parts) list.now
+        requires whole { AreWhole (bytes self.old request.now.big.now) (fresh self.old)
+            (Self.Parts.contents parts) list.now }
+        requires kept { IsTrue (Self.Parts.kept parts) }
+        ensures named { OnOk result (IsNamed request.now.folder.now (Self.Parts.contents parts) list.now
             (named self.new) (listed self.old) (listed self.new)) }
-        ensures maybe { OnErr result (Keeps (listed self.old) (listed self.new)
-            ⊎ IsNamed (Self.Parts.contents parts) list.now
+        ensures maybe { OnErr result (ListsKept (listed self.old) (listed self.new)
+            ⊎ IsNamed request.now.folder.now (Self.Parts.contents parts) list.now
             (named self.new) (listed self.old) (listed self.new)) };
 
     /// Takes away decks that are not whole, as far as that can be done.
-    fn give_up(&mut self, alloc: Global, folder: &str, parts: Self::Parts)
-        ensures { Keeps (listed self.old) (listed self.new) };
+    fn give_up(&mut self, alloc: Global, request: &Request<'_>, parts: Self::Parts)
+        ensures { ListsKept (listed self.old) (listed self.new) };
 }

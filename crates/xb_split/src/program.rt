@@ -1,6 +1,4 @@
 // The program: its words and files in, a status and the decks of parts out.
-ghost use Rattle.std.specs.Prelude.{None};
-ghost use Rattle.xb_command.specs.Programs.{streams};
 ghost use Rattle.xb_command.specs.Commands.{texts_of};
 ghost use Rattle.xb_split.specs.Program.{AttendsSplit};
 
@@ -34,9 +32,9 @@ pub fn attend<F: SplitFiles, E: Write>(
     files: &mut F,
     err: &mut E,
 ) -> u8
-    ensures { AttendsSplit (F.bytes files.old) (F.fresh files.old) (F.named files.new) (texts_of words.now)
-        (streams None (F.listed files.old) (E.contents err.old))
-        (streams None (F.listed files.new) (E.contents err.new)) result }
+    ensures { AttendsSplit (F.bytes files.old) (F.fresh files.old) (F.named files.new)
+        (F.listed files.old) (F.listed files.new) (texts_of words.now)
+        (E.contents err.old) (E.contents err.new) result }
 {
     match request_of_words(alloc, words) {
         Ok(request) => match split(alloc, files, &request) {

@@ -1,19 +1,21 @@
 // From the file of a deck to the decks of its parts.
-ghost use Rattle.std.specs.Prelude.{◌≡◌, IfErr, IfOk, List, OnOk, Option, map, string_bytes, ℕ};
-ghost use Rattle.std.specs.Io.KnownBytes.{Keeps};
+ghost use Rattle.std.specs.Prelude.{◌≡◌, IfErr, IfOk, IsTrue, List, OnOk, Option, map, string_bytes, ℕ};
 ghost use Rattle.xb_split.specs.Counts.{counted};
 ghost use Rattle.xb_split.specs.Loads.{records_of};
+ghost use Rattle.xb_split.specs.PartDecks.{GetsDecks};
 ghost use Rattle.xb_split.specs.SplitFaults.{Delivers, IsFaultOf};
-ghost use Rattle.xb_split.specs.Splits.{AreMade, IsCounted, IsOpened, IsPlan, IsReady, listed};
+ghost use Rattle.xb_split.specs.Splits.{AreMade, IsCounted, IsOpened, IsPlan, IsReady, ListsKept, listed};
 
 use crate::counting::count_rows;
-use crate::fault::{SplitFault, fault_of_table};
+use crate::decks::PartDecks;
+use crate::fault::{SplitFault, fault_of_making, fault_of_table, fault_of_writing};
 use crate::files::SplitFiles;
 use crate::load::Load;
 use crate::planning::plan_parts;
 use crate::words::Request;
 use crate::writing::write_parts;
 use std::alloc::{AllocError, Global};
+use std::io::Read;
 use xb_deck::{MOST_DECK_BYTES, read_table};
 use xb_model::PerLine;
 use xb_parts::{LineRange, ListedPart, list_of};
@@ -22,10 +24,11 @@ use xb_rows::RowReader;
 /// The most parts, each of which may hold a file open.
 pub const MOST_PARTS: usize = 500;
 
-// The parts of a deck: its table, their ranges, and their list.
+// The parts of a deck: its table, what each line has, their ranges, and their list.
 #[derive(Drop)]
 struct Plan {
     table: Vec<u8>,
+    loads: PerLine<Load>,
     ranges: Vec<LineRange>,
     list: String,
 }
@@ -129,7 +132,8 @@ fn plan_deck<F: SplitFiles>(
     parts: Option<u32>,
 ) -> Result<Plan, SplitFault>
     ensures plan { let deck = F.bytes files.now big.now in
-        IfOk result (λ p. IsPlan deck parts p.table.items p.ranges.items (string_bytes p.list)) }
+        IfOk result (λ p.
+        IsPlan deck parts p.table.items p.loads p.ranges.items (string_bytes p.list)) }
     ensures fault { IfErr result (IsFaultOf (F.bytes files.now big.now) parts) }
 {
     let (table, loads) = match count(alloc, files, big) {
@@ -150,6 +154,7 @@ fn plan_deck<F: SplitFiles>(
     match list_of(alloc, &listed) {
         Ok(list) => Ok(Plan {
             table,
+            loads,
             ranges,
             list,
         }),
@@ -165,7 +170,8 @@ fn prepare<F: SplitFiles>(
     parts: Option<u32>,
 ) -> Result<(Plan, RowReader<F::Deck>), SplitFault>
     ensures ready { let deck = F.bytes files.now big.now in
-        IfOk result (λ r. IsReady deck parts r.0.table.items r.0.ranges.items (string_bytes r.0.list) r.1) }
+        IfOk result (λ r. IsReady deck parts r.0.table.items r.0.loads r.0.ranges.items
+        (string_bytes r.0.list) r.1) }
     ensures fault { IfErr result (IsFaultOf (F.bytes files.now big.now) parts) }
 {
     let plan = match plan_deck(alloc, files, big, parts) {
@@ -183,29 +189,62 @@ fn prepare<F: SplitFiles>(
     }
 }
 
+// Refuses rows of which a line has not what was counted before.
+fn check_loads(loads: &PerLine<Load>, counted: &PerLine<Load>) -> Result<(), SplitFault>
+    ensures same { OnOk result (loads.now ≡ counted.now) }
+    ensures fault { (deck : Option (List ℕ)) (parts : Option ℕ) → IfErr result (IsFaultOf deck parts) }
+{
+    for (line, load) in loads.iter() {
+        if *load != *counted.get(line) {
+            return Err(SplitFault::Changed);
+        }
+    }
+    Ok(())
+}
+
+// Writes the decks of all parts, and refuses a deck that is another than the one that was counted.
+fn fill_parts<R: Read, D: PartDecks>(
+    alloc: Global,
+    plan: &Plan,
+    rows: &mut RowReader<R>,
+    parts: &mut D,
+) -> Result<(), SplitFault>
+    ensures decks { OnOk result (GetsDecks plan.now.table.items rows.old plan.now.ranges.items plan.now.loads
+        (D.contents parts.old) (D.contents parts.new)) }
+    ensures kept { OnOk result (IsTrue (D.kept parts.new)) }
+    ensures fault { (deck : Option (List ℕ)) (wanted : Option ℕ) → IfErr result (IsFaultOf deck wanted) }
+{
+    match write_parts(alloc, &plan.table, rows, &plan.ranges, parts) {
+        Ok(loads) => check_loads(&loads, &plan.loads),
+        Err(fault) => Err(fault_of_writing(fault)),
+    }
+}
+
 // Makes the decks of all parts. On an `Err` none is left, as far as they can be taken away.
 fn make_parts<F: SplitFiles>(
     alloc: Global,
     files: &mut F,
-    folder: &str,
+    request: &Request<'_>,
     plan: &Plan,
     rows: &mut RowReader<F::Deck>,
 ) -> Result<F::Parts, SplitFault>
     ensures made { IfOk result (λ parts. AreMade (F.fresh files.old) (F.Parts.contents parts)
-        plan.now.table.items plan.now.ranges.items rows.old) }
+        plan.now.table.items plan.now.loads plan.now.ranges.items rows.old) }
+    ensures kept { IfOk result (λ parts. IsTrue (F.Parts.kept parts)) }
     ensures fresh { OnOk result (F.fresh files.new ≡ F.fresh files.old) }
-    ensures list { Keeps (F.listed files.old) (F.listed files.new) }
+    ensures deck { OnOk result (F.bytes files.new request.now.big.now ≡ F.bytes files.old request.now.big.now) }
+    ensures list { ListsKept (F.listed files.old) (F.listed files.new) }
     ensures fault { (deck : Option (List ℕ)) (parts : Option ℕ) → IfErr result (IsFaultOf deck parts) }
 {
-    let mut parts = match files.make(alloc, folder, &plan.ranges) {
+    let mut parts = match files.make(alloc, request, &plan.ranges) {
         Ok(parts) => parts,
-        Err(error) => return Err(SplitFault::Unfinished(error)),
+        Err(fault) => return Err(fault_of_making(fault)),
     };
-    match write_parts(&plan.table, rows, &plan.ranges, &mut parts) {
+    match fill_parts(alloc, plan, rows, &mut parts) {
         Ok(()) => Ok(parts),
         Err(fault) => {
-            files.give_up(alloc, folder, parts);
-            Err(SplitFault::Write(fault))
+            files.give_up(alloc, request, parts);
+            Err(fault)
         }
     }
 }
@@ -214,24 +253,23 @@ fn make_parts<F: SplitFiles>(
 fn make_and_name<F: SplitFiles>(
     alloc: Global,
     files: &mut F,
-    folder: &str,
+    request: &Request<'_>,
     plan: &Plan,
     rows: &mut RowReader<F::Deck>,
 ) -> Result<(), SplitFault>
-    requires ready { (deck : Option (List ℕ)) × (parts : Option ℕ)
-        × IsReady deck parts plan.now.table.items plan.now.ranges.items
+    requires ready { let deck = F.bytes files.old request.now.big.now in
+        (parts : Option ℕ) × IsReady deck parts plan.now.table.items plan.now.loads plan.now.ranges.items
         (string_bytes plan.now.list) rows.old }
-    ensures { (deck : Option (List ℕ)) (parts : Option ℕ)
-        → IsReady deck parts plan.now.table.items plan.now.ranges.items
-        (string_bytes plan.now.list) rows.old
-        → Delivers deck (F.fresh files.old) parts result
-        (F.named files.new) (F.listed files.old) (F.listed files.new) }
+    ensures { let deck = F.bytes files.old request.now.big.now in let folder = request.now.folder.now in
+        (parts : Option ℕ) → IsReady deck parts plan.now.table.items plan.now.loads plan.now.ranges.items
+        (string_bytes plan.now.list) rows.old → Delivers deck (F.fresh files.old) parts result
+        (F.named files.new folder) (F.listed files.old folder) (F.listed files.new folder) }
 {
-    let parts = match make_parts(alloc, files, folder, plan, rows) {
+    let parts = match make_parts(alloc, files, request, plan, rows) {
         Ok(parts) => parts,
         Err(fault) => return Err(fault),
     };
-    match files.name(alloc, folder, parts, &plan.list) {
+    match files.name(alloc, request, parts, &plan.list) {
         Ok(()) => Ok(()),
         Err(error) => Err(SplitFault::Folder(error)),
     }
@@ -248,9 +286,9 @@ pub fn split<F: SplitFiles>(
     files: &mut F,
     request: &Request,
 ) -> Result<(), SplitFault>
-    ensures { let deck = F.bytes files.old request.now.big.now in
+    ensures { let deck = F.bytes files.old request.now.big.now in let folder = request.now.folder.now in
         Delivers deck (F.fresh files.old) request.now.parts result
-        (F.named files.new) (F.listed files.old) (F.listed files.new) }
+        (F.named files.new folder) (F.listed files.old folder) (F.listed files.new folder) }
 {
     if let Err(fault) = check_parts(request.parts) {
         return Err(fault);
@@ -259,7 +297,7 @@ pub fn split<F: SplitFiles>(
         return Err(fault);
     }
     match prepare(alloc, files, request.big, request.parts) {
-        Ok((plan, mut rows)) => make_and_name(alloc, files, request.folder, &plan, &mut rows),
+        Ok((plan, mut rows)) => make_and_name(alloc, files, request, &plan, &mut rows),
         Err(fault) => Err(fault),
     }
 }

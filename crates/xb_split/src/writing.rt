@@ -1,12 +1,16 @@
 // Rows into the decks of their parts.
-ghost use Rattle.std.specs.Prelude.{◌≡◌, ◌++◌, ◌∷◌, [], OnOk};
+ghost use Rattle.std.specs.Prelude.{◌≡◌, ◌++◌, ◌∷◌, [], IfErr, IfOk, IsTrue, OnOk};
+ghost use Rattle.xb_split.specs.WriteFaults.{IsOfRows};
 ghost use Rattle.xb_split.specs.PartDecks.{Gets, GetsDecks, GetsRecords, head_of, only_below, records_of_part};
 
+use crate::counting::{count_row, no_rows_counted};
 use crate::decks::PartDecks;
+use crate::load::Load;
 use crate::planning::HEAD;
+use std::alloc::Global;
 use std::io::{self, Read};
 use thiserror::Error;
-use xb_model::{Row, RowFault};
+use xb_model::{PerLine, Row, RowFault};
 use xb_parts::LineRange;
 use xb_rows::{RowReader, record_of};
 
@@ -45,27 +49,31 @@ fn write_to_parts<D: PartDecks>(decks: &mut D, ranges: &[LineRange], row: Row) -
     Ok(())
 }
 
-// Writes the records of all rows, each to the deck of the part that has its line. On an `Err` the decks are
-// not whole.
+// Writes the records of all rows, each to the deck of the part that has its line, and counts them. On an
+// `Err` the decks are not whole.
 fn write_rows<R: Read, D: PartDecks>(
+    alloc: Global,
     rows: &mut RowReader<R>,
     ranges: &[LineRange],
     decks: &mut D,
-) -> Result<(), WriteRowsFault>
-    ensures decks { OnOk result (GetsRecords rows.old ranges.now
+) -> Result<PerLine<Load>, WriteRowsFault>
+    ensures decks { IfOk result (λ loads. GetsRecords rows.old ranges.now loads
         (D.contents decks.old) (D.contents decks.new)) }
+    ensures failed { IfErr result (IsOfRows rows.new) }
 {
+    let mut loads = no_rows_counted(alloc)?;
     for _ in 0..u64::MAX {
         match rows.next_row()? {
             Some(row) => {
+                count_row(&mut loads, row);
                 if let Err(fault) = write_to_parts(decks, ranges, row) {
                     return Err(WriteRowsFault::Write(fault));
                 }
             }
-            None => return Ok(()),
+            None => return Ok(loads),
         }
     }
-    Err(WriteRowsFault::Rows(RowFault::Read))
+    Err(WriteRowsFault::Rows(RowFault::TooMany))
 }
 
 // Writes a table, the cut and the header to the deck of each part.
@@ -80,36 +88,42 @@ fn write_heads<D: PartDecks>(decks: &mut D, parts: usize, table: &[u8]) -> io::R
     Ok(())
 }
 
-// Writes the deck of each part. On an `Err` the decks are not whole.
+// Writes the deck of each part, and counts the rows. On an `Err` the decks are not whole.
 fn write_decks<R: Read, D: PartDecks>(
+    alloc: Global,
     table: &[u8],
     rows: &mut RowReader<R>,
     ranges: &[LineRange],
     decks: &mut D,
-) -> Result<(), WriteRowsFault>
-    ensures decks { OnOk result (GetsDecks table.now rows.old ranges.now
+) -> Result<PerLine<Load>, WriteRowsFault>
+    ensures decks { IfOk result (λ loads. GetsDecks table.now rows.old ranges.now loads
         (D.contents decks.old) (D.contents decks.new)) }
+    ensures failed { IfErr result (IsOfRows rows.new) }
 {
     if let Err(fault) = write_heads(decks, ranges.len(), table) {
         return Err(WriteRowsFault::Write(fault));
     }
-    write_rows(rows, ranges, decks)
+    write_rows(alloc, rows, ranges, decks)
 }
 
 /// Writes the deck of each part: the table, the cut, the header, and exactly the rows of its lines, in their
-/// order; and makes sure that they stay. On an `Err` the decks are not whole.
+/// order; and makes sure that they stay. It returns what each line has of the rows that were written, for
+/// a deck may have changed since it was counted. On an `Err` the decks are not whole.
 pub fn write_parts<R: Read, D: PartDecks>(
+    alloc: Global,
     table: &[u8],
     rows: &mut RowReader<R>,
     ranges: &[LineRange],
     decks: &mut D,
-) -> Result<(), WriteRowsFault>
-    ensures decks { OnOk result (GetsDecks table.now rows.old ranges.now
+) -> Result<PerLine<Load>, WriteRowsFault>
+    ensures decks { IfOk result (λ loads. GetsDecks table.now rows.old ranges.now loads
         (D.contents decks.old) (D.contents decks.new)) }
+    ensures kept { OnOk result (IsTrue (D.kept decks.new)) }
+    ensures failed { IfErr result (IsOfRows rows.new) }
 {
-    write_decks(table, rows, ranges, decks)?;
+    let loads = write_decks(alloc, table, rows, ranges, decks)?;
     match decks.keep() {
-        Ok(()) => Ok(()),
+        Ok(()) => Ok(loads),
         Err(fault) => Err(WriteRowsFault::Write(fault)),
     }
 }

@@ -1,7 +1,8 @@
-use Rattle.std.proofs.Common.{◌++◌, ◌∷◌, [], subst}
+use Rattle.std.proofs.Common.{◌≡◌, ◌∙◌, ◌+◌, ◌++◌, ◌∷◌, [], ap, arith, length, subst}
 use Rattle.std.specs.Prelude.{Ok}
+use Rattle.std.proofs.lemmas.List.{length_push}
 use Rattle.xb_rows.specs.Scanning.{GivesRead}
-use Rattle.xb_split.proofs.StreamedRows.{HasGiven-more}
+use Rattle.xb_split.proofs.StreamedRows.{HasGiven-many, HasGiven-more}
 use Rattle.xb_split.proofs.counting.count_rows.Goals as goal
 
 pub loop-preserved : goal.loop-preserved
@@ -12,4 +13,5 @@ loop-preserved g c =
     let new = c.next_row.new.self in
     let row = c.in-Some.row in
     let gives = subst (λ r. GivesRead old (Ok r) new) c.in-Some.is c.in_ok-row.ensures in
-    (inv.0 ++ row ∷ [], HasGiven-more inv.0 start old new row inv.1 gives, c.count_row.ensures inv.0 inv.2)
+    let more : length (inv.0 ++ row ∷ []) ≡ length inv.0 + 1 = length_push inv.0 row in
+    (inv.0 ++ row ∷ [], omega (arith, more, inv.1), HasGiven-more inv.0 start old new row inv.2 gives, c.count_row.ensures inv.0 inv.3)

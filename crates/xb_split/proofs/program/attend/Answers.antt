@@ -5,7 +5,7 @@ use Rattle.xb_split.specs.Program.{program, usage_line}
 use Rattle.xb_split.proofs.program.attend.Goals as goal
 
 pub returns-in-Ok-split : goal.returns-in-Ok-split
-returns-in-Ok-split g c = record {
+returns-in-Ok-split g c = λ folder. record {
   statuses = omega arith;
   done = λ e. record {
     request = c.in-Ok.request;
@@ -18,7 +18,7 @@ returns-in-Ok-split g c = record {
 }
 
 pub returns-in-Err-split : goal.returns-in-Err-split
-returns-in-Err-split g c =
+returns-in-Err-split g c = λ folder.
     let status = c.tell_fault.ensures.status in
     record {
       statuses = omega (arith, status);
@@ -34,6 +34,6 @@ returns-in-Err-split g c =
     }
 
 pub returns-in-Err : goal.returns-in-Err
-returns-in-Err g c =
+returns-in-Err g c = λ folder.
     TellsOfWords-attends program usage_line c.in-Err.fault _ _ _ (Keeps-refl None) (Keeps-refl _)
     c.in-Err.ensures.refused c.tell_words.ensures

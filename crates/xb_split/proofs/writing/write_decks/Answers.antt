@@ -1,7 +1,7 @@
 use Rattle.std.proofs.Common.{length, subst}
 use Rattle.std.specs.Io.KnownBytes.{Appends}
 use Rattle.std.proofs.KnownBytes.{Appends-trans}
-use Rattle.std.proofs.lemmas.Result.{on_ok_weaker}
+use Rattle.std.proofs.lemmas.Result.{IfOk-weaker}
 use Rattle.xb_split.specs.PartDecks.{head_of, only_below, records_of_part}
 use Rattle.xb_split.proofs.WrittenParts.{deck_of_part-is}
 use Rattle.xb_split.proofs.writing.write_decks.Goals as goal
@@ -14,13 +14,15 @@ returns g c =
     let b = g.D.PartDecks.contents c.write_heads.new.decks in
     let d = g.D.PartDecks.contents c.write_rows.new.decks in
     record {
-      decks = on_ok_weaker c.write_rows.result
-          (λ gets. (
+      decks = IfOk-weaker c.write_rows.result _ _
+          (λ loads gets. (
             gets.0,
             gets.1,
+            gets.2,
             λ i h. subst (Appends (a i) (d i)) (deck_of_part-is table ranges gets.0 i h)
                 (Appends-trans (a i) (b i) (d i) (only_below (length ranges) (head_of table) i) (records_of_part ranges gets.0 i)
-                (c.in_default.ensures i) (gets.2 i)),
+                (c.in_default.ensures i) (gets.3 i)),
           ))
           c.write_rows.ensures.decks;
+      failed = c.write_rows.ensures.failed;
     }
