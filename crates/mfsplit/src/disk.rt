@@ -3,7 +3,7 @@ use std::alloc::Global;
 use std::fs::{self, File};
 use std::io::{self, BufReader, BufWriter, ErrorKind, Write};
 use xb_parts::{LineRange, deck_name};
-use xb_split::{PartDecks, SplitFiles};
+use xb_split::{MakeFault, PartDecks, Request, SplitFiles};
 
 // How many bytes are read or written at once.
 const BUFFER_BYTES: usize = 65_536;
@@ -37,9 +37,25 @@ pub struct SystemFiles<'a> {
     pub rt: &'a HostRuntime,
 }
 
+// The name of a folder without the slashes at its end, which a shell puts there; `None` where it is none of its
+// own, as `.` is.
+fn own_name(folder: &str) -> Option<&str> {
+    let name = folder.trim_end_matches('/');
+    match name.rsplit('/').next() {
+        None | Some("" | "." | "..") => None,
+        Some(_) => Some(name),
+    }
+}
+
+// The folder of a request, under its own name.
+fn named_folder(folder: &str) -> io::Result<&str> {
+    own_name(folder).ok_or(io::Error::other("it has no name of its own"))
+}
+
 // The name of a folder until its decks are whole.
 fn unfinished(alloc: Global, folder: &str) -> io::Result<String> {
-    Ok(format!(in alloc; "{folder}.incomplete")?)
+    let name = named_folder(folder)?;
+    Ok(format!(in alloc; "{name}.incomplete")?)
 }
 
 // Makes an empty file in a folder for each range.
@@ -67,31 +83,69 @@ fn sync_folder(rt: &HostRuntime, folder: &str) -> io::Result<()> {
     fs::open(rt, folder)?.sync_all()
 }
 
+// Puts the list into the folder of the decks, and gives that folder its name; the list has another one yet.
+fn name_folder(rt: &HostRuntime, made: &str, folder: &str, list: &str) -> io::Result<()> {
+    let unlisted = format!(in rt.alloc(); "{made}/parts.txt.incomplete")?;
+    write_file(rt, &unlisted, list)?;
+    sync_folder(rt, made)?;
+    fs::rename(rt, made, folder)
+}
+
+// Gives the list in a folder its name.
+fn name_list(rt: &HostRuntime, folder: &str) -> io::Result<()> {
+    let unnamed = format!(in rt.alloc(); "{folder}/parts.txt.incomplete")?;
+    let named = format!(in rt.alloc(); "{folder}/parts.txt")?;
+    fs::rename(rt, &unnamed, &named)?;
+    sync_folder(rt, folder)
+}
+
+// Takes a folder away where a step failed, as far as that can be done.
+fn or_none_left(rt: &HostRuntime, folder: &str, step: io::Result<()>) -> io::Result<()> {
+    if step.is_err() {
+        let _ = fs::remove_dir_all(rt, folder);
+    }
+    step
+}
+
 impl<'a> SplitFiles for SystemFiles<'a> {
     type Deck = BufReader<File>;
 
     type Parts = DeckFiles;
 
     fn open(&self, alloc: Global, big: &str) -> io::Result<BufReader<File>> {
+        // a pipe cannot be read twice, and would be waited for
+        if !fs::metadata(self.rt, big)?.is_file() {
+            return Err(io::Error::other("it is no file"));
+        }
         Ok(BufReader::with_capacity(alloc, BUFFER_BYTES, fs::open(self.rt, big)?)?)
     }
 
     fn has_any(&self, _alloc: Global, folder: &str) -> io::Result<bool> {
-        match fs::read_dir(self.rt, folder) {
+        match fs::read_dir(self.rt, named_folder(folder)?) {
             Ok(mut names) => Ok(names.next().is_some()),
             Err(error) if error.kind() == ErrorKind::NotFound => Ok(false),
             Err(error) => Err(error),
         }
     }
 
-    fn make(&mut self, alloc: Global, folder: &str, ranges: &[LineRange]) -> io::Result<DeckFiles> {
-        let made = unfinished(alloc, folder)?;
-        fs::create_dir(self.rt, &made)?;
+    fn make(
+        &mut self,
+        alloc: Global,
+        request: &Request<'_>,
+        ranges: &[LineRange],
+    ) -> Result<DeckFiles, MakeFault> {
+        let made = match unfinished(alloc, request.folder) {
+            Ok(made) => made,
+            Err(error) => return Err(MakeFault::Folder(error)),
+        };
+        if let Err(error) = fs::create_dir(self.rt, &made) {
+            return Err(MakeFault::Folder(error));
+        }
         match create_decks(self.rt, &made, ranges) {
             Ok(decks) => Ok(decks),
             Err(error) => {
                 let _ = fs::remove_dir_all(self.rt, &made);
-                Err(error)
+                Err(MakeFault::Part(error))
             }
         }
     }
@@ -99,23 +153,18 @@ impl<'a> SplitFiles for SystemFiles<'a> {
     fn name(
         &mut self,
         alloc: Global,
-        folder: &str,
+        request: &Request<'_>,
         _parts: DeckFiles,
         list: &str,
     ) -> io::Result<()> {
-        let made = unfinished(alloc, folder)?;
-        let unlisted = format!(in alloc; "{made}/parts.txt.incomplete")?;
-        write_file(self.rt, &unlisted, list)?;
-        sync_folder(self.rt, &made)?;
-        fs::rename(self.rt, &made, folder)?;
-        let unnamed = format!(in alloc; "{folder}/parts.txt.incomplete")?;
-        let named = format!(in alloc; "{folder}/parts.txt")?;
-        fs::rename(self.rt, &unnamed, &named)?;
-        sync_folder(self.rt, folder)
+        let made = unfinished(alloc, request.folder)?;
+        let folder = named_folder(request.folder)?;
+        or_none_left(self.rt, &made, name_folder(self.rt, &made, folder, list))?;
+        or_none_left(self.rt, folder, name_list(self.rt, folder))
     }
 
-    fn give_up(&mut self, alloc: Global, folder: &str, _parts: DeckFiles) {
-        if let Ok(made) = unfinished(alloc, folder) {
+    fn give_up(&mut self, alloc: Global, request: &Request<'_>, _parts: DeckFiles) {
+        if let Ok(made) = unfinished(alloc, request.folder) {
             let _ = fs::remove_dir_all(self.rt, &made);
         }
     }

@@ -73,7 +73,10 @@ fn decks_of_parts(rt: HostRuntime) -> Result<(), Fail> {
     assert_eq!(rt; one.len(), 1);
     let mut rows = RowReader::new(alloc, ROWS, u64::MAX);
     let mut decks = TwoDecks::new(alloc);
-    write_parts(TABLE, &mut rows, &HALVES, &mut decks)?;
+    let written = write_parts(alloc, TABLE, &mut rows, &HALVES, &mut decks)?;
+    for (line, load) in written.iter() {
+        assert_eq!(rt; load, loads.get(line));
+    }
     assert_eq!(rt; decks.low.as_slice(), LOW);
     assert_eq!(rt; decks.high.as_slice(), HIGH);
     Ok(())

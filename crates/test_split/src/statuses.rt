@@ -2,10 +2,11 @@
 use crate::splits::TwoDecks;
 use std::alloc::Global;
 use std::io::{self, ErrorKind};
+use std::sync::atomic::{AtomicU64, Ordering};
 use std::test::Fail;
 use test_kit::words_of;
 use xb_parts::LineRange;
-use xb_split::{SplitFiles, attend};
+use xb_split::{MakeFault, Request, SplitFiles, attend};
 
 const DECK: &[u8] =
     b"[[route]]\ncode = \"0\"\ntrunk = 1\n---\nline,state,ms\n7,M,500\n9999,M,500\n7,B,60\n\
@@ -22,12 +23,26 @@ const LIST: &str = "0000-9999.deck 0 9999 4\n";
 
 const USAGE: &[u8] = b"mfsplit: usage: mfsplit BIG FOLDER [--parts N]\n";
 
+// A deck as it is when it is counted, and as others that it may be when it is read again: with a row more, with a
+// row less, with a row on another line, and with a row that is none.
+const COUNTED: &[u8] = b"---\nline,state,ms\n1,M,500\n2,M,500\n3,M,500\n";
+
+const CHANGED: [&[u8]; 4] = [
+    b"---\nline,state,ms\n1,M,500\n2,M,500\n3,M,500\n3,B,60\n",
+    b"---\nline,state,ms\n1,M,500\n2,M,500\n",
+    b"---\nline,state,ms\n1,M,500\n1,M,500\n3,M,500\n",
+    b"---\nline,state,ms\n1,M,500\n2,X,500\n3,M,500\n",
+];
+
 // A folder, and which of its calls fails.
 #[derive(Drop)]
 struct Folder {
     has_any: bool,
     makes: bool,
+    makes_parts: bool,
     names: bool,
+    opened: AtomicU64,
+    again: &'static [u8],
     decks: Option<TwoDecks>,
     list: String,
     given_up: bool,
@@ -38,7 +53,10 @@ impl Folder {
         Folder {
             has_any: false,
             makes: true,
+            makes_parts: true,
             names: true,
+            opened: AtomicU64::new(0),
+            again: COUNTED,
             decks: None,
             list: String::new(alloc),
             given_up: false,
@@ -61,6 +79,8 @@ impl SplitFiles for Folder {
             "no cut" => Ok(NO_CUT),
             "wrong" => Ok(WRONG),
             "three" => Ok(THREE),
+            "counted" if self.opened.fetch_add(1, Ordering::SeqCst) == 0 => Ok(COUNTED),
+            "counted" => Ok(self.again),
             _ => Err(missing()),
         }
     }
@@ -72,20 +92,22 @@ impl SplitFiles for Folder {
     fn make(
         &mut self,
         alloc: Global,
-        _folder: &str,
+        _request: &Request<'_>,
         _ranges: &[LineRange],
-    ) -> io::Result<TwoDecks> {
-        if self.makes {
-            Ok(TwoDecks::new(alloc))
-        } else {
-            Err(missing())
+    ) -> Result<TwoDecks, MakeFault> {
+        if !self.makes {
+            return Err(MakeFault::Folder(missing()));
         }
+        if !self.makes_parts {
+            return Err(MakeFault::Part(missing()));
+        }
+        Ok(TwoDecks::new(alloc))
     }
 
     fn name(
         &mut self,
         _alloc: Global,
-        _folder: &str,
+        _request: &Request<'_>,
         parts: TwoDecks,
         list: &str,
     ) -> io::Result<()> {
@@ -97,7 +119,7 @@ impl SplitFiles for Folder {
         Ok(())
     }
 
-    fn give_up(&mut self, _alloc: Global, _folder: &str, _parts: TwoDecks) {
+    fn give_up(&mut self, _alloc: Global, _request: &Request<'_>, _parts: TwoDecks) {
         self.given_up = true;
     }
 }
@@ -189,10 +211,29 @@ fn folders_that_fail(rt: HostRuntime) -> Result<(), Fail> {
     folder.names = false;
     let no_name = b"mfsplit: the folder could not be used: entity not found\n";
     assert!(rt; ends_so(&mut folder, alloc, &["deck", "parts"], 1, no_name)?);
+    folder.makes_parts = false;
+    let no_part = b"mfsplit: a part could not be made: entity not found\n";
+    assert!(rt; ends_so(&mut folder, alloc, &["deck", "parts"], 1, no_part)?);
     folder.makes = false;
     let none =
         b"mfsplit: the folder with .incomplete after its name could not be made: entity not found\n";
     assert!(rt; ends_so(&mut folder, alloc, &["deck", "parts"], 1, none)?);
     assert_eq!(rt; folder.list.as_str(), "");
+    Ok(())
+}
+
+#[test]
+fn changes_between_the_readings_are_told(rt: HostRuntime) -> Result<(), Fail> {
+    let alloc = rt.alloc();
+    let changed = b"mfsplit: the deck has changed while it was split\n";
+    for again in CHANGED {
+        let mut folder = Folder::new(alloc);
+        folder.again = again;
+        assert!(rt; ends_so(&mut folder, alloc, &["counted", "parts"], 1, changed)?);
+        assert_eq!(rt; folder.list.as_str(), "");
+        assert!(rt; folder.given_up);
+    }
+    let mut folder = Folder::new(alloc);
+    assert!(rt; ends_so(&mut folder, alloc, &["counted", "parts"], 0, b"")?);
     Ok(())
 }

@@ -18,8 +18,6 @@ pub enum MakeFault {
     Folder(io::Error),
     /// One of them could not be made in it.
     Part(io::Error),
-    /// Memory ran out.
-    NoMemory,
 }
 
 /// Why a deck is not split.
@@ -92,7 +90,6 @@ pub(crate) fn fault_of_making(fault: MakeFault) -> SplitFault
     match fault {
         MakeFault::Folder(error) => SplitFault::Unfinished(error),
         MakeFault::Part(error) => SplitFault::Part(error),
-        MakeFault::NoMemory => SplitFault::NoMemory,
     }
 }
 
