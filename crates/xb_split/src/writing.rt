@@ -59,7 +59,7 @@ fn write_rows<R: Read, D: PartDecks>(
 ) -> Result<PerLine<Load>, WriteRowsFault>
     ensures decks { IfOk result (λ loads. GetsRecords rows.old ranges.now loads
         (D.contents decks.old) (D.contents decks.new)) }
-    ensures failed { IfErr result (IsOfRows rows.new) }
+    ensures fault { IfErr result (IsOfRows rows.old rows.new) }
 {
     let mut loads = no_rows_counted(alloc)?;
     for _ in 0..u64::MAX {
@@ -98,7 +98,7 @@ fn write_decks<R: Read, D: PartDecks>(
 ) -> Result<PerLine<Load>, WriteRowsFault>
     ensures decks { IfOk result (λ loads. GetsDecks table.now rows.old ranges.now loads
         (D.contents decks.old) (D.contents decks.new)) }
-    ensures failed { IfErr result (IsOfRows rows.new) }
+    ensures fault { IfErr result (IsOfRows rows.old rows.new) }
 {
     if let Err(fault) = write_heads(decks, ranges.len(), table) {
         return Err(WriteRowsFault::Write(fault));
@@ -119,7 +119,7 @@ pub fn write_parts<R: Read, D: PartDecks>(
     ensures decks { IfOk result (λ loads. GetsDecks table.now rows.old ranges.now loads
         (D.contents decks.old) (D.contents decks.new)) }
     ensures kept { OnOk result (IsTrue (D.kept decks.new)) }
-    ensures failed { IfErr result (IsOfRows rows.new) }
+    ensures fault { IfErr result (IsOfRows rows.old rows.new) }
 {
     let loads = write_decks(alloc, table, rows, ranges, decks)?;
     match decks.keep() {

@@ -24,5 +24,5 @@ returns g c =
                 (c.in_default.ensures i) (gets.3 i)),
           ))
           c.write_rows.ensures.decks;
-      failed = c.write_rows.ensures.failed;
+      fault = c.write_rows.ensures.fault;
     }
