@@ -12,3 +12,5 @@ mod dialled;
 mod speeds;
 #[cfg(test)]
 mod statuses;
+#[cfg(test)]
+mod words;

@@ -24,3 +24,5 @@ mod statuses;
 mod structs;
 #[cfg(test)]
 mod watched;
+#[cfg(test)]
+mod words;

@@ -18,3 +18,5 @@ mod splits;
 mod statuses;
 #[cfg(test)]
 mod wholes;
+#[cfg(test)]
+mod words;

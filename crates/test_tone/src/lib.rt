@@ -14,3 +14,5 @@ mod pages;
 mod sounds;
 #[cfg(test)]
 mod statuses;
+#[cfg(test)]
+mod words;

@@ -1,0 +1,43 @@
+// The words of each fault, as the table of faults has them.
+use std::test::Fail;
+use xb_live::{EntriesFault, LiveFault};
+use xb_model::RowFault;
+use xb_routes::RouteFault;
+
+const WORDS: &[(LiveFault, &str)] = &[
+    (LiveFault::Read, "the deck could not be read"),
+    (LiveFault::NoCut, "the deck has no line ---"),
+    (
+        LiveFault::TooLong,
+        "the route table is longer than 16777216 bytes",
+    ),
+    (
+        LiveFault::Routes(RouteFault::Plan),
+        "route table: plan is neither 7 nor 10",
+    ),
+    (
+        LiveFault::Rows(RowFault::Ms(2)),
+        "loop rows: record 2 has a wrong ms",
+    ),
+    (LiveFault::TooMany, "more than 9223372036854775808 records"),
+    (LiveFault::NoMemory, "out of memory"),
+    (LiveFault::Write, "the entries could not be written"),
+];
+
+const OF_ENTRIES: &[(EntriesFault, &str)] = &[
+    (EntriesFault::NoMemory, "out of memory"),
+    (EntriesFault::Write, "the entries could not be written"),
+];
+
+#[test]
+fn words_of_faults(rt: HostRuntime) -> Result<(), Fail> {
+    for (fault, words) in WORDS {
+        let written = format!(in rt.alloc(); "{fault}")?;
+        assert_eq!(rt; written.as_str(), *words, "of {fault:?}");
+    }
+    for (fault, words) in OF_ENTRIES {
+        let written = format!(in rt.alloc(); "{fault}")?;
+        assert_eq!(rt; written.as_str(), *words);
+    }
+    Ok(())
+}

@@ -1,0 +1,83 @@
+// The words of each fault, as the table of faults has them.
+use std::test::Fail;
+use xb_page::PageFault;
+use xb_tone::{CadenceFault, ToneFault};
+
+const WORDS: &[(ToneFault, &str)] = &[
+    (
+        ToneFault::Cadence(CadenceFault::Lead),
+        "cadence: the silence before KP is too long",
+    ),
+    (
+        ToneFault::Cadence(CadenceFault::Kp),
+        "cadence: the tone of KP is too short or too long",
+    ),
+    (
+        ToneFault::Cadence(CadenceFault::Key),
+        "cadence: the tone of a digit is too short or too long",
+    ),
+    (
+        ToneFault::Cadence(CadenceFault::Gap),
+        "cadence: the silence after a tone is too short or too long",
+    ),
+    (ToneFault::Read, "the page could not be read"),
+    (ToneFault::TooLong, "the page is longer than 67108864 bytes"),
+    (
+        ToneFault::Page(PageFault::Line(1)),
+        "text line 1 has a wrong line",
+    ),
+    (
+        ToneFault::Page(PageFault::Early(12)),
+        "text line 12 has a wrong line",
+    ),
+    (
+        ToneFault::Page(PageFault::Number(2)),
+        "text line 2 has a wrong entry number",
+    ),
+    (
+        ToneFault::Page(PageFault::Kind(3)),
+        "text line 3 is neither KEYED nor REFUSED",
+    ),
+    (
+        ToneFault::Page(PageFault::Key(4)),
+        "text line 4 has a wrong trunk group or key",
+    ),
+    (
+        ToneFault::Page(PageFault::Refusal(5)),
+        "text line 5 has a wrong refusal",
+    ),
+    (
+        ToneFault::Page(PageFault::Totals(6)),
+        "text line 6 has wrong totals",
+    ),
+    (
+        ToneFault::Page(PageFault::NoTotals(7)),
+        "the page ends at text line 7 without its totals",
+    ),
+    (
+        ToneFault::Page(PageFault::GoesOn(8)),
+        "text stands after the totals of text line 8",
+    ),
+    (ToneFault::Page(PageFault::NoMemory), "out of memory"),
+    (ToneFault::NoEntry, "the page has no such entry"),
+    (ToneFault::Refused, "none of the calls asked for is keyed"),
+    (
+        ToneFault::TooLongSound,
+        "the sound is too long for a WAV file",
+    ),
+    (ToneFault::NoMemory, "out of memory"),
+    (
+        ToneFault::CutShort,
+        "out of memory, after the beginning of the sound",
+    ),
+    (ToneFault::Write, "the sound could not be written"),
+];
+
+#[test]
+fn words_of_faults(rt: HostRuntime) -> Result<(), Fail> {
+    for (fault, words) in WORDS {
+        let written = format!(in rt.alloc(); "{fault}")?;
+        assert_eq!(rt; written.as_str(), *words, "of {fault:?}");
+    }
+    Ok(())
+}
