@@ -1,12 +1,17 @@
 -- The rings between the posts.
-use Rattle.std.specs.Prelude.{◌≡◌, ℕ, ◌<◌, List, length, slice_index_or}
+use Rattle.std.specs.Prelude.{◌≡◌, ℕ, ◌<◌, List, [], length, slice_index_or}
 use Rattle.std.specs.List.{All}
-use Rattle.rtrb.specs.Ring.{producer_capacity}
+use Rattle.rtrb.specs.Ring.{sent, received, producer_capacity}
 use Rattle.xb_model.specs.declared.mark.Mark.{Mark}
 use Rattle.xb_model.specs.declared.on.On.{On}
 use Rattle.xb_model.specs.declared.order.Order.{Order}
 use Rattle.xb_flow.specs.Rings.{IsRing}
 use Rattle.xb_run.specs.Posts.{Output, Input, SenderPost, Posts}
+
+-- the two ends of a ring with room for so many items, through which nothing went
+abbrev pub IsNewRing : {T : Type 0} → ℕ → Output T → Input T → Type 0
+IsNewRing ring output input =
+    IsRing output input × (producer_capacity output ≡ ring) × (sent output ≡ []) × (received input ≡ [])
 
 -- each sender takes from the output of the deal that has its number
 abbrev pub AreDealt : List (Output (On Order)) → List SenderPost → Type 0

@@ -181,6 +181,76 @@ where
     Ok((feed, pulse, register, translate))
 }
 
+// Starts the posts from rows to orders, from translation up.
+fn start_first<
+    's,
+    't: 's,
+    E,
+    S: RowSource + Drop + Send + 's,
+    R: Wait + Clock + Sync,
+    G: Gate + Sync,
+>(
+    scope: &'s Scope<'s, E>,
+    rt: &'s R,
+    word: &'s AtomicU64,
+    posts: Originating<'t, S>,
+    gate: &'s G,
+) -> Result<OriginatingHandles<'t, S>, Post>
+    ensures feed { IfOk result (λ handles. handles.feed.promise.made.value ≡ posts.entry.feed) }
+    ensures pulse { IfOk result (λ handles. handles.pulse.promise.made.value ≡ posts.entry.pulse) }
+    ensures register { IfOk result (λ handles. handles.register.promise.made.value ≡ posts.entry.register) }
+    ensures translate { IfOk result (λ handles.
+        handles.translate.promise.made.value ≡ posts.entry.translate) }
+    ensures refused { IfErr result (λ post. (senders : ℕ) → IsPostOf senders post) }
+{
+    let Originating {
+        feed,
+        pulse,
+        register,
+        translate,
+    } = posts;
+    let handles = start_originating(scope, rt, word, feed, pulse, register, translate, gate)?;
+    let (feed, pulse, register, translate) = handles;
+    Ok(OriginatingHandles {
+        feed,
+        pulse,
+        register,
+        translate,
+    })
+}
+
+// The two halves of a chain.
+fn halves_of<S: RowSource + Drop>(chain: Chain<'_, S>) -> (Originating<'_, S>, Outgoing)
+    ensures originating { (result.0.feed ≡ chain.entry.feed) × (result.0.pulse ≡ chain.entry.pulse)
+        × (result.0.register ≡ chain.entry.register) × (result.0.translate ≡ chain.entry.translate) }
+    ensures outgoing { (result.1.deal ≡ chain.entry.deal) × (result.1.senders ≡ chain.entry.senders)
+        × (result.1.gather ≡ chain.entry.gather) × (result.1.tape ≡ chain.entry.tape) }
+{
+    let Chain {
+        feed,
+        pulse,
+        register,
+        translate,
+        deal,
+        senders,
+        gather,
+        tape,
+    } = chain;
+    let originating = Originating {
+        feed,
+        pulse,
+        register,
+        translate,
+    };
+    let outgoing = Outgoing {
+        deal,
+        senders,
+        gather,
+        tape,
+    };
+    (originating, outgoing)
+}
+
 /// Starts all posts on threads of the scope, from the tape up to the feed, where they wait for the
 /// start word. `Err` names the first whose start was refused.
 pub(crate) fn start_posts<
@@ -204,44 +274,11 @@ pub(crate) fn start_posts<
     ensures started { IfOk result (AreStarted (posts_of chain.entry)) }
     ensures refused { IfErr result (IsPostOf (vec_len chain.entry.senders)) }
 {
-    let Chain {
-        feed,
-        pulse,
-        register,
-        translate,
-        deal,
-        senders,
-        gather,
-        tape,
-    } = chain;
-    let outgoing = Outgoing {
-        deal,
-        senders,
-        gather,
-        tape,
-    };
-    let originating = Originating {
-        feed,
-        pulse,
-        register,
-        translate,
-    };
+    let (originating, outgoing) = halves_of(chain);
     let outgoing = start_outgoing(scope, rt, word, outgoing, sender_handles, gate)?;
-    let Originating {
-        feed,
-        pulse,
-        register,
-        translate,
-    } = originating;
-    let originating = start_originating(scope, rt, word, feed, pulse, register, translate, gate)?;
-    let (feed, pulse, register, translate) = originating;
+    let originating = start_first(scope, rt, word, originating, gate)?;
     Ok(Handles {
-        originating: OriginatingHandles {
-            feed,
-            pulse,
-            register,
-            translate,
-        },
+        originating,
         outgoing,
     })
 }
