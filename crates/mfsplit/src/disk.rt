@@ -37,19 +37,14 @@ pub struct SystemFiles<'a> {
     pub rt: &'a HostRuntime,
 }
 
-// The name of a folder without the slashes at its end, which a shell puts there; `None` where it is none of its
-// own, as `.` is.
-fn own_name(folder: &str) -> Option<&str> {
+// The name of a folder without the slashes at its end, which a shell puts there. One that has no name of
+// its own is refused, as `.` is.
+fn named_folder(folder: &str) -> io::Result<&str> {
     let name = folder.trim_end_matches('/');
     match name.rsplit('/').next() {
-        None | Some("" | "." | "..") => None,
-        Some(_) => Some(name),
+        None | Some("" | "." | "..") => Err(io::Error::other("it has no name of its own")),
+        Some(_) => Ok(name),
     }
-}
-
-// The folder of a request, under its own name.
-fn named_folder(folder: &str) -> io::Result<&str> {
-    own_name(folder).ok_or(io::Error::other("it has no name of its own"))
 }
 
 // The name of a folder until its decks are whole.

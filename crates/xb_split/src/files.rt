@@ -13,6 +13,7 @@ use xb_parts::LineRange;
 /// What the contracts say of bytes holds for files whose bytes contracts know, which those of a system are
 /// not.
 pub trait SplitFiles {
+    ghost use Rattle.std.specs.Io.KnownBytes.{Keeps};
     ghost use Rattle.xb_split.specs.PartDecks.{Decks};
     ghost use Rattle.xb_split.specs.Splits.{AreWhole, IsNamed, ListsKept};
 
@@ -68,7 +69,8 @@ pub trait SplitFiles {
         requires kept { IsTrue (Self.Parts.kept parts) }
         ensures named { OnOk result (IsNamed request.now.folder.now (Self.Parts.contents parts) list.now
             (named self.new) (listed self.old) (listed self.new)) }
-        ensures maybe { OnErr result (ListsKept (listed self.old) (listed self.new)
+        ensures maybe { (folder : List ℕ) → OnErr result
+            (Keeps (listed self.old folder) (listed self.new folder)
             ⊎ IsNamed request.now.folder.now (Self.Parts.contents parts) list.now
             (named self.new) (listed self.old) (listed self.new)) };
 

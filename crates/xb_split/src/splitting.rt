@@ -232,7 +232,8 @@ fn make_parts<F: SplitFiles>(
         plan.now.table.items plan.now.loads plan.now.ranges.items rows.old) }
     ensures kept { IfOk result (λ parts. IsTrue (F.Parts.kept parts)) }
     ensures fresh { OnOk result (F.fresh files.new ≡ F.fresh files.old) }
-    ensures deck { OnOk result (F.bytes files.new request.now.big.now ≡ F.bytes files.old request.now.big.now) }
+    ensures deck { let big = request.now.big.now in
+        OnOk result (F.bytes files.new big ≡ F.bytes files.old big) }
     ensures list { ListsKept (F.listed files.old) (F.listed files.new) }
     ensures fault { (deck : Option (List ℕ)) (parts : Option ℕ) → IfErr result (IsFaultOf deck parts) }
 {

@@ -34,8 +34,8 @@ returns-in-Err-name g c parts ready =
     let new = g.F.SplitFiles.listed c.name.new.self folder in
     let none = c.in-Ok.ensures.list folder in (
       tt,
-      elim c.in-Err-name.ensures.maybe [
-        | inl kept ↦ inl (Keeps-trans old mid new none (kept folder))
+      elim (c.in-Err-name.ensures.maybe folder) [
+        | inl kept ↦ inl (Keeps-trans old mid new none kept)
         | inr named ↦ inr (
           list,
           rw c.deref.ensures (is_split deck parts (g.F.SplitFiles.fresh c.args.files.now) made
