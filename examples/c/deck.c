@@ -1,11 +1,13 @@
 /* Gives the library a deck, from standard input, row by row, and prints the page: the entries of each line, as
-   ./mfbank does. Reads whole files only because a deck is one; the library has no need of it. */
+   ./mfbank does. It takes plain decks: at most 16,777,216 bytes and 1,000,000 records, no CR, and after the line ---
+   no quotes, no empty lines and no byte order mark. Any other deck is refused by one line and status 1.
+   Reads whole files only because a deck is one; the library has no need of it. */
 #include "mfchain.h"
 #include "show.h"
 #include <stdlib.h>
 #include <string.h>
 
-enum { MOST_BYTES = 16777216 };
+enum { MOST_BYTES = 16777216, MOST_RECORDS = 1000000 };
 
 /* One entry: the marks from `first` on, so many. */
 typedef struct {
@@ -95,7 +97,14 @@ static int row_of(const char *record, size_t len, mf_row *row)
     return 1;
 }
 
-static int fails(const char *what, size_t record)
+/* Tells why there is no page. */
+static int refuses(const char *why)
+{
+    fprintf(stderr, "deck: %s\n", why);
+    return 1;
+}
+
+static int refuses_record(size_t record, const char *what)
 {
     fprintf(stderr, "deck: loop rows: record %zu has %s\n", record, what);
     return 1;
@@ -108,18 +117,28 @@ static int take_records(const char *text, const char *end)
         [MF_WRONG_LINE] = "a wrong line", [MF_WRONG_STATE] = "a wrong state", [MF_WRONG_MS] = "a wrong ms"};
     for (size_t record = 1; text < end; record++) {
         const char *const stop = memchr(text, '\n', (size_t)(end - text));
-        const char *const next = stop ? stop + 1 : end;
         mf_row row;
-        if (!row_of(text, (size_t)((stop ? stop : end) - text), &row))
-            return fails("not three fields", record);
+        if (record > MOST_RECORDS)
+            return refuses("loop rows: more than 1000000 records");
+        if (!row_of(text, (size_t)(stop - text), &row))
+            return refuses_record(record, "not three fields");
         const enum mf_status status = take(&row);
-        if (status == MF_NO_MEMORY) {
-            fprintf(stderr, "deck: out of memory\n");
-            return 1;
-        }
+        if (status == MF_NO_MEMORY)
+            return refuses("out of memory");
         if (status != MF_DONE)
-            return fails(wrong[status], record);
-        text = next;
+            return refuses_record(record, wrong[status]);
+        text = stop + 1;
+    }
+    return 0;
+}
+
+/* Ends the record of each line that has rows. */
+static int close_lines(void)
+{
+    for (uint32_t line = 0; line < MF_LINES; line++) {
+        const mf_row close = {line, MF_CLOSE, 0};
+        if (used[line] && take(&close) != MF_DONE)
+            return refuses("out of memory");
     }
     return 0;
 }
@@ -132,7 +151,8 @@ static int in_order(const void *one, const void *other)
     return a->number < b->number ? -1 : a->number > b->number;
 }
 
-static void show_page(void)
+/* Prints the page: the entries by line and number, and the totals. */
+static int show_page(void)
 {
     unsigned refused = 0;
     if (entry_count > 0)
@@ -142,47 +162,53 @@ static void show_page(void)
         refused += marks[entries[i].first].kind >= MF_MUTILATED;
     }
     printf("KEYED %u REFUSED %u\n", (unsigned)entry_count - refused, refused);
+    if (fflush(stdout) != 0 || ferror(stdout))
+        return refuses("the page could not be written");
+    return 0;
 }
 
-/* The page of a deck of `len` bytes, which a zero follows. */
+/* The first line --- of a deck, or null. */
+static const char *cut_of(const char *deck)
+{
+    const char *const before = strstr(deck, "\n---\n");
+    if (memcmp(deck, "---\n", 4) == 0)
+        return deck;
+    return before ? before + 1 : NULL;
+}
+
+/* The page of a deck of `len` bytes, the last of them LF, which a zero follows. */
 static int page_of(const char *deck, size_t len)
 {
-    static const char cut[] = "\n---\n", header[] = "line,state,ms\n";
+    static const char header[] = "line,state,ms\n";
     char fault[MF_FAULT_ROOM];
-    const char *const before = strncmp(deck, cut + 1, 4) == 0 ? deck - 1 : strstr(deck, cut);
-    if (!before) {
-        fprintf(stderr, "deck: the deck has no line ---\n");
-        return 1;
-    }
-    if (mf_open(deck, (size_t)(before + 1 - deck), &table, fault, sizeof fault) != MF_DONE) {
+    const char *const cut = cut_of(deck);
+    if (memchr(deck, '\r', len))
+        return refuses("the deck has a CR, which is not taken here");
+    if (!cut)
+        return refuses("the deck has no line ---");
+    if (mf_open(deck, (size_t)(cut - deck), &table, fault, sizeof fault) != MF_DONE) {
         fprintf(stderr, "deck: route table: %s\n", fault);
         return 1;
     }
-    const char *const rows = before + strlen(cut);
-    if (strncmp(rows, header, strlen(header)) != 0) {
-        fprintf(stderr, "deck: loop rows: the header is not line,state,ms\n");
-        return 1;
-    }
-    if (take_records(rows + strlen(header), deck + len))
-        return 1;
-    for (uint32_t line = 0; line < MF_LINES; line++) {
-        const mf_row close = {line, MF_CLOSE, 0};
-        if (used[line] && take(&close) != MF_DONE)
-            return 1;
-    }
-    show_page();
-    return 0;
+    const char *const rows = cut + strlen("---\n");
+    if (memcmp(rows, header, strlen(header)) != 0)
+        return refuses("loop rows: the header is not line,state,ms");
+    return take_records(rows + strlen(header), deck + len) || close_lines() || show_page();
 }
 
 int main(void)
 {
-    char *const deck = malloc(MOST_BYTES + 1);
-    if (!deck)
-        return 1;
-    const size_t len = fread(deck, 1, MOST_BYTES, stdin);
+    /* With room for one byte too many, or for the LF that the last line may lack, and for a zero. */
+    static char deck[MOST_BYTES + 2];
+    size_t len = fread(deck, 1, MOST_BYTES + 1, stdin);
+    if (ferror(stdin))
+        return refuses("the deck could not be read");
+    if (len > MOST_BYTES)
+        return refuses("the deck is longer than 16777216 bytes");
+    if (len > 0 && deck[len - 1] != '\n')
+        deck[len++] = '\n';
     deck[len] = 0;
     const int status = page_of(deck, len);
-    free(deck);
     free(marks);
     free(entries);
     return status;

@@ -9,6 +9,7 @@ An `Office` takes what the loops of its lines do, and yields each mark the momen
 Needs Python 3.8 and no package. The shared object is made by `make` in examples/c.
 """
 import ctypes
+import threading
 from typing import Iterator, NamedTuple
 
 LINES = 10000
@@ -97,7 +98,8 @@ def _declare(library: ctypes.CDLL) -> None:
 
 
 class Office:
-    """An office by a route table. It keeps what is known of each line, 24 bytes a line."""
+    """An office by a route table. It keeps what is known of each line, 24 bytes a line. Any threads may call it: it
+    takes one row after the other, since the rows share what is given to C and got from it."""
 
     def __init__(self, table: str, library: str = "libmfchain.so"):
         """Opens an office by the route table of a TOML text. Raises `TableError` where it is refused, and
@@ -109,6 +111,7 @@ class Office:
         self._row = _Row()
         self._room = (_Mark * MOST_MARKS)()
         self._count = ctypes.c_size_t()
+        self._lock = threading.Lock()
         self._places = tuple(map(ctypes.addressof, (self._table, self._row, self._room, self._count)))
         text = table.encode()
         fault = ctypes.create_string_buffer(FAULT_ROOM)
@@ -127,17 +130,19 @@ class Office:
     def marks_of(self, line: int, state: str, ms: int) -> list:
         """The same marks, as a list."""
         table, at, room, count = self._places
+        known = self._known(line)
         row = self._row
-        row.line = line
-        row.state = ord(state) if len(state) == 1 else 0
-        row.ms = ms if 0 <= ms <= 0xFFFFFFFF else 0xFFFFFFFF
-        status = self._library.mfchain_take(table, self._known(line), at, room, MOST_MARKS, count)
-        if status:
-            raise RowError(status)
-        return [
-            Mark(mark.line, KINDS[mark.kind], mark.value, mark.low, mark.high)
-            for mark in self._room[: self._count.value]
-        ]
+        with self._lock:
+            row.line = line
+            row.state = ord(state) if len(state) == 1 else 0
+            row.ms = ms if 0 <= ms <= 0xFFFFFFFF else 0xFFFFFFFF
+            status = self._library.mfchain_take(table, known, at, room, MOST_MARKS, count)
+            if status:
+                raise RowError(status)
+            return [
+                Mark(mark.line, KINDS[mark.kind], mark.value, mark.low, mark.high)
+                for mark in self._room[: self._count.value]
+            ]
 
     def close(self, line: int) -> Iterator[Mark]:
         """Ends the record of a line, which gives no more marks until it is reopened."""
@@ -145,11 +150,15 @@ class Office:
 
     def reopen(self, line: int) -> None:
         """Forgets what is known of a line: its next row begins a new record."""
-        self._library.mfchain_reopen(self._known(line))
+        known = self._known(line)
+        with self._lock:
+            self._library.mfchain_reopen(known)
 
     def entries(self, line: int) -> int:
         """How many entries the rows of a line have given since it was reopened."""
-        return self._library.mfchain_entries(self._known(line))
+        known = self._known(line)
+        with self._lock:
+            return self._library.mfchain_entries(known)
 
     def _known(self, line: int) -> int:
         """Where what is known of a line stands."""
