@@ -11,10 +11,11 @@ use Rattle.xb_dial.specs.CallTexts.{calls_of_text}
 use Rattle.xb_dial.specs.Dialling.{dialled}
 use Rattle.xb_dial.specs.Heard.{AreHeard, AreKeyed}
 use Rattle.xb_rows.specs.WrittenRows.{text_of_rows}
-use Rattle.xb_dial.specs.Speeds.{IsFirstMisfit}
+use Rattle.xb_dial.specs.Speeds.{Fits, IsFirstMisfit}
 use Rattle.xb_dial.specs.declared.fault.DialFault.{DialFault}
 use Rattle.xb_dial.specs.declared.fault.DialFault.TheVariants as fault
 use Rattle.xb_dial.specs.declared.request.Request.{Request}
+use Rattle.xb_dial.specs.declared.speed.Speed.{Speed}
 use Rattle.xb_text.specs.Writing.{AppendsBeginning}
 
 -- the text of the rows that dial the calls of a text: by the plan, if one is asked for, exactly the
@@ -29,6 +30,11 @@ pub record Dials (request : Request) (text printed : List ℕ) : Type 0 where
   pub heard : IfSome request.whole (λ plan. AreHeard plan standard_limits calls rows)
   pub keyed : IfSome request.whole (λ plan. AreKeyed plan standard_limits calls rows)
 
+-- the speed is judged before the calls: it fits the standard limits, unless its own first misfit is told
+abbrev pub JudgesSpeed : Speed → Result (Unit {0}) DialFault → Type 0
+JudgesSpeed speed (Err (fault.Speed f)) = IsFirstMisfit standard_limits speed f
+JudgesSpeed speed result = Fits standard_limits speed
+
 -- memory ran out, or this is the fault of the calls
 abbrev pub IsFaultOfCalls : Request → List ℕ → DialFault → Type 0
 IsFaultOfCalls request text (fault.Calls f) = calls_of_text request.whole text ≡ Err f
@@ -42,8 +48,6 @@ Delivers request text (Ok u) old new =
     IfSome text (λ bytes. (printed : List ℕ) × Dials request bytes printed × Appends old new printed)
 Delivers request text (Err fault.Write) old new =
     IfSome text (λ bytes. (printed : List ℕ) × Dials request bytes printed × AppendsBeginning old new printed)
-Delivers request text (Err (fault.Speed f)) old new =
-    Keeps old new × IsFirstMisfit standard_limits request.speed f
 Delivers request text (Err fault.TooLong) old new =
     Keeps old new × IfSome text (λ bytes. MOST_TEXT_BYTES < length bytes)
 Delivers request text (Err (fault.Calls f)) old new =

@@ -9,7 +9,7 @@ use Rattle.xb_command.specs.Usages.{names_option}
 use Rattle.xb_dial.specs.declared.fault.DialFault.{DialFault}
 use Rattle.xb_dial.specs.declared.request.Request.{Request}
 use Rattle.xb_dial.specs.Options.{AreRefused, Asks}
-use Rattle.xb_dial.specs.Printed.{Delivers}
+use Rattle.xb_dial.specs.Printed.{Delivers, JudgesSpeed}
 use Rattle.xb_dial.specs.Rules.{command_of_words}
 
 -- the program's name
@@ -30,6 +30,7 @@ UsageNamesEachOption = list_all (λ rule. names_option usage_line rule.id) comma
 pub record WritesRows (words : List Text) (old new : Streams) : Type 0 where
   pub request : Request
   pub asks : Asks words request
+  pub judged : JudgesSpeed request.speed (Ok tt)
   pub rows : Delivers request old.input (Ok tt) old.output new.output
   pub quiet : Keeps old.errors new.errors
 
@@ -38,6 +39,7 @@ pub record HasFault (words : List Text) (old new : Streams) : Type 0 where
   pub request : Request
   pub fault : DialFault
   pub asks : Asks words request
+  pub judged : JudgesSpeed request.speed (Err fault)
   pub rows : Delivers request old.input (Err fault) old.output new.output
   pub line : Tells program None old.errors new.errors
 

@@ -3,7 +3,7 @@ ghost use Rattle.std.specs.Prelude.{◌≡◌, ◌≤◌, IfErr, IfOk, length, s
 ghost use Rattle.xb_dial.specs.declared.reading.TheConstants.{MOST_TEXT_BYTES};
 ghost use Rattle.xb_model.specs.LawfulLimits.{standard_limits};
 ghost use Rattle.xb_dial.specs.Speeds.{Fits};
-ghost use Rattle.xb_dial.specs.Printed.{Delivers, Dials, IsFaultOfCalls};
+ghost use Rattle.xb_dial.specs.Printed.{Delivers, Dials, IsFaultOfCalls, JudgesSpeed};
 
 use crate::fault::DialFault;
 use crate::lines::rows_of_calls;
@@ -27,8 +27,9 @@ fn text_of_calls(alloc: Global, request: Request, text: &[u8]) -> Result<String,
     Ok(text_of_rows(alloc, &rows)?)
 }
 
-/// Reads calls, and writes the rows that dial them, which are heard by the standard limits. The speed
-/// is tested before anything is read, and nothing is written before all calls are read.
+/// Reads calls, and writes the rows that dial them, which are heard by the standard limits. The speed is
+/// judged before anything is read, so any other fault comes only of one that fits; and nothing is written
+/// before all calls are read.
 ///
 /// On an `Err` nothing was written, except on `Write`, where the beginning of the rows was.
 ///
@@ -40,7 +41,8 @@ pub fn dial<R: Read, W: Write>(
     calls: &mut R,
     out: &mut W,
 ) -> Result<(), DialFault>
-    ensures { Delivers request (R.remaining calls.old) result (W.contents out.old) (W.contents out.new) }
+    ensures judged { JudgesSpeed request.speed result }
+    ensures rows { Delivers request (R.remaining calls.old) result (W.contents out.old) (W.contents out.new) }
 {
     request.speed.fits(Limits::standard())?;
     let text = read_whole(alloc, calls, MOST_TEXT_BYTES)?;

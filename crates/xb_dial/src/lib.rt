@@ -12,10 +12,9 @@
 //! - `dial`, of readers and writers whose bytes a contract can name: on `Ok` the writer got exactly the
 //!   text of the rows that dial the calls of the text; by the plan, if one is asked for, exactly the
 //!   numbers of each line are heard by the standard limits, and keyed. On `Write` it got the beginning, on
-//!   any other fault nothing.
+//!   any other fault nothing. The speed is judged before the calls: every result but a fault of the speed
+//!   comes only of one that fits the standard limits.
 //! - `attend`: `Attends` of this. `laws::usage_names_each_option`.
-//!
-//! Not said: that a fault of the speed is told before one of the calls.
 #![tactic(auto)]
 
 mod call;

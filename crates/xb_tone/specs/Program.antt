@@ -9,7 +9,7 @@ use Rattle.xb_command.specs.Usages.{names_option}
 use Rattle.xb_tone.specs.declared.fault.ToneFault.{ToneFault}
 use Rattle.xb_tone.specs.declared.request.Request.{Request}
 use Rattle.xb_tone.specs.Options.{AreRefused, Asks}
-use Rattle.xb_tone.specs.Sounding.{Delivers}
+use Rattle.xb_tone.specs.Sounding.{Delivers, JudgesCadence}
 use Rattle.xb_tone.specs.Rules.{command_of_words}
 
 -- the program's name
@@ -30,6 +30,7 @@ UsageNamesEachOption = list_all (λ rule. names_option usage_line rule.id) comma
 pub record WritesSound (words : List Text) (old new : Streams) : Type 0 where
   pub request : Request
   pub asks : Asks words request
+  pub judged : JudgesCadence request.cadence (Ok tt)
   pub sound : Delivers request old.input (Ok tt) old.output new.output
   pub quiet : Keeps old.errors new.errors
 
@@ -38,6 +39,7 @@ pub record HasFault (words : List Text) (old new : Streams) : Type 0 where
   pub request : Request
   pub fault : ToneFault
   pub asks : Asks words request
+  pub judged : JudgesCadence request.cadence (Err fault)
   pub sound : Delivers request old.input (Err fault) old.output new.output
   pub line : Tells program None old.errors new.errors
 

@@ -11,6 +11,7 @@ use Rattle.xb_text.specs.Writing.{AppendsBeginning}
 use Rattle.xb_tone.specs.Sounds.{sound_of}
 use Rattle.xb_tone.specs.Cadences.{IsFirstMisfit, IsLawful}
 use Rattle.xb_tone.specs.Wavs.{pcm_of, wav_length, wav_of}
+use Rattle.xb_tone.specs.declared.cadence.Cadence.{Cadence}
 use Rattle.xb_tone.specs.declared.fault.ToneFault.{ToneFault}
 use Rattle.xb_tone.specs.declared.fault.ToneFault.TheVariants as fault
 use Rattle.xb_tone.specs.declared.request.Choice.{Choice}
@@ -54,7 +55,11 @@ pub record Sounds (request : Request) (page bytes : List ℕ) : Type 0 where
   pub named : Names request.choice page marks
   pub some : 0 < length marks
   pub are_bytes : bytes ≡ bytes_of request marks
-  pub lawful : IsLawful request.cadence
+
+-- the cadence is judged before the page: it is lawful, unless its own first misfit is told
+abbrev pub JudgesCadence : Cadence → Result (Unit {0}) ToneFault → Type 0
+JudgesCadence cadence (Err (fault.Cadence f)) = IsFirstMisfit cadence f
+JudgesCadence cadence result = IsLawful cadence
 
 -- memory ran out, or this is the fault of the page
 abbrev pub IsFaultOfPage : Choice → List ℕ → ToneFault → Type 0
@@ -73,7 +78,6 @@ Delivers request page (Err fault.Write) old new =
     IfSome page (λ text. (bytes : List ℕ) × Sounds request text bytes × AppendsBeginning old new bytes)
 Delivers request page (Err fault.CutShort) old new =
     IfSome page (λ text. (bytes : List ℕ) × Sounds request text bytes × AppendsBeginning old new bytes)
-Delivers request page (Err (fault.Cadence f)) old new = Keeps old new × IsFirstMisfit request.cadence f
 Delivers request page (Err fault.TooLong) old new =
     Keeps old new × IfSome page (λ text. MOST_PAGE_BYTES < length text)
 Delivers request page (Err (fault.Page f)) old new =

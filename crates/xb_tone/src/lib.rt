@@ -11,10 +11,11 @@
 //!   its two frequencies are loud and each other is 80 dB below. `nothing_clips`.
 //! - `play`: on `Ok` the writer got exactly the sound of the keyed entries that are asked for, in order,
 //!   and they have some mark; on `Write` and `CutShort` the beginning of it; on any other fault nothing.
-//!   `NoEntry`, `Refused` and `TooLongSound` come only where they are true of the page.
+//!   `NoEntry`, `Refused` and `TooLongSound` come only where they are true of the page. The cadence is judged
+//!   before the page: every result but a fault of the cadence comes only of a lawful one.
 //! - `attend`: `Attends` of this. `laws::usage_names_each_option`.
 //!
-//! Not said: that a fault of the cadence is told before one of the page, and how much memory a run takes.
+//! Not said: how much memory a run takes.
 #![tactic(auto)]
 
 mod cadence;

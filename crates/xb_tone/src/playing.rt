@@ -6,7 +6,7 @@ ghost use Rattle.xb_page.specs.declared.reading.TheConstants.{MOST_PAGE_BYTES};
 ghost use Rattle.xb_text.specs.Writing.{AppendsBeginning};
 ghost use Rattle.xb_tone.specs.Sounds.{sound_of};
 ghost use Rattle.xb_tone.specs.Wavs.{wav_length};
-ghost use Rattle.xb_tone.specs.Sounding.{Delivers, IsFaultOfPage, Names, bytes_of, is_chosen, marks_chosen, sounds};
+ghost use Rattle.xb_tone.specs.Sounding.{Delivers, IsFaultOfPage, JudgesCadence, Names, bytes_of, is_chosen, marks_chosen, sounds};
 
 use crate::fault::ToneFault;
 use crate::request::{Choice, Request};
@@ -108,8 +108,8 @@ fn write_sound<W: Write>(
 }
 
 /// Reads a page, and writes the sound of the keyed entries that are asked for, one after the other, as it is
-/// made. The cadence is tested before anything is read, and nothing is written before the whole page is
-/// read.
+/// made. The cadence is judged before anything is read, so any other fault comes only of a lawful one; and
+/// nothing is written before the whole page is read.
 ///
 /// On an `Err` nothing was written, except on `CutShort` and `Write`, where the beginning of the sound was.
 ///
@@ -121,7 +121,8 @@ pub fn play<R: Read, W: Write>(
     page: &mut R,
     out: &mut W,
 ) -> Result<(), ToneFault>
-    ensures { Delivers request (R.remaining page.old) result (W.contents out.old) (W.contents out.new) }
+    ensures judged { JudgesCadence request.cadence result }
+    ensures sound { Delivers request (R.remaining page.old) result (W.contents out.old) (W.contents out.new) }
 {
     request.cadence.check()?;
     let text = read_whole(alloc, page, MOST_PAGE_BYTES)?;
