@@ -5,7 +5,7 @@ ghost use Rattle.xb_dial.specs.Heard.{AreComplete};
 ghost use Rattle.xb_dial.specs.Speeds.{Fits};
 ghost use Rattle.xb_model.specs.LawfulLimits as limits;
 ghost use Rattle.xb_tone.specs.Cadences.{IsLawful};
-ghost use Rattle.xb_together.specs.FarEnd.{FarEndHears, HaveDigits};
+ghost use Rattle.xb_together.specs.FarEnd.{FarEndHears, HaveDigits, sound_of_line};
 
 use std::alloc::{AllocError, Global};
 use xb_dial::{Call, RowOrder, Speed, rows_of_calls};
@@ -35,8 +35,9 @@ fn fits(table: &RouteTable, speed: Speed) -> bool
 
 /// The sound of what is keyed for a line, where calls are dialled on all lines at once: of each call the
 /// loop's breaks are heard as digits, these are keyed by their route, and the keys sound by the cadence.
-/// **The digits that are dialled on the line are, by its route, the digits that the far end hears.** `None`
-/// where the speed does not fit the limits of the table, and `Err` where memory ran out.
+/// The samples are exactly those of the line's tape by this cadence. **The digits that are dialled on the
+/// line are, by its route, the digits that the far end hears.** `None` where the speed does not fit the
+/// limits of the table, and `Err` where memory ran out.
 pub fn sound_of_calls(
     alloc: Global,
     table: &RouteTable,
@@ -47,6 +48,8 @@ pub fn sound_of_calls(
 ) -> Result<Option<Vec<i16>>, AllocError>
     requires complete { AreComplete table.now.plan calls.now }
     requires cadence { IsLawful cadence }
+    ensures sound { IfOk result (λ sound. IfSome sound (λ samples.
+        samples.items ≡ sound_of_line table.now speed calls.now line cadence)) }
     ensures heard { IfOk result (λ sound. IfSome sound (λ samples.
         FarEndHears table.now.routes (numbers_on line calls.now) samples.items)) }
     ensures none { IfOk result (λ sound. sound ≡ None → ¬ Fits table.now.limits speed) }

@@ -2,9 +2,9 @@
 //! several (`threads`) or by a schedule of turns (`schedules`), one row at a time (`hearing`), or from the dial to
 //! the sound that the far end hears (`far_end`). Each function is proved; `docs/EMBEDDING.md` goes through them.
 //!
-//! `sound_of_calls` promises of the calls of a line that, number by number, the keys that are heard in its sound are
-//! KP, the digits that the number's route sends, and ST, and nothing of a number without a route. What is heard are
-//! the tone patterns that are keys (`keys_heard` of `xb_tone`).
+//! `sound_of_calls`: the samples are exactly the sound of the line's tape, by the cadence that is asked for; and, number
+//! by number, the keys that are heard in it are KP, the digits that the number's route sends, and ST, and nothing of a
+//! number without a route. What is heard are the tone patterns that are keys (`keys_heard` of `xb_tone`).
 //!
 //! `split_decks_make_the_page`: for all rows, and ranges that take all lines, the pages that the decks of the ranges
 //! say, joined, are the page that all rows make. `planned_decks_make_the_page`: the same for the ranges of a plan.

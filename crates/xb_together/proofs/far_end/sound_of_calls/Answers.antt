@@ -5,6 +5,7 @@ use Rattle.xb_model.specs.Tapes.{joined_tape, tape_of}
 use Rattle.xb_dial.specs.Dialling.{numbers_on}
 use Rattle.xb_dial.specs.Heard.{entry_of}
 use Rattle.xb_tone.specs.HeardKeys.{AreKeyed, keys_heard, keys_of}
+use Rattle.xb_tone.specs.Sounds.{sound_of}
 use Rattle.xb_tone.proofs.HeardMarks.{keys_are_heard}
 use Rattle.xb_together.specs.FarEnd.{HaveDigits}
 use Rattle.xb_together.proofs.FarEnds.{keys-numbers, marks_of_numbers, numbers-keyed}
@@ -14,6 +15,19 @@ pub rows_of_calls-requires : goal.rows_of_calls-requires
 rows_of_calls-requires c = record {
   fits = (c.args.table.now.limits, c.fits.ensures.lawful, c.fits.ensures.yes.0 c.if-not-fits.false);
 }
+
+pub returns-clause-sound : goal.returns-clause-sound
+returns-clause-sound c =
+    let table = c.args.table.now in
+    let line = c.args.line in
+    let below : line < LINES = search rules in
+    let taped : c.marks-marks.result.now
+    ≡ joined_tape table.plan table.limits table.routes line c.in_ok-rows.rows.items =
+    c.marks-marks.ensures.value
+    ∙ rw c.deref.ensures.value at (c.in_ok-tapes.ensures.marks line below) in
+    c.in_ok-samples_of.ensures
+    ∙ ap (sound_of c.args.cadence)
+    (taped ∙ ap (joined_tape table.plan table.limits table.routes line) c.in_ok-rows.ensures.rows)
 
 pub returns-clause-heard : goal.returns-clause-heard
 returns-clause-heard c =
