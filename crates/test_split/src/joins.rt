@@ -31,6 +31,10 @@ const FILES: &[(&str, &[u8])] = &[
     ("last", LAST),
     ("cut", b"0000 1 REFUSED UNKNOWN 3\n0007 1 KE"),
     ("empty", b""),
+    (
+        "damaged",
+        b"0007 1 KEYED 00\xff7 KP:11 rubbish\n0007 2 REFUSED\n0007 3 REFUSED NOTHING -5\nKEYED 1 REFUSED 2\n",
+    ),
     ("list", LIST),
     ("no list", b"0000-4999.deck 0 4999 30\n5000-9999.deck 5000"),
 ];
@@ -64,6 +68,12 @@ const CASES: &[(&[&str], u8, &[u8], &[u8])] = &[
         1,
         b"",
         b"mfjoin: cut: part 1: the page ends without its totals\n",
+    ),
+    (
+        &["damaged", "last"],
+        1,
+        b"",
+        b"mfjoin: damaged: part 1: line 1 has a wrong trunk group or key\n",
     ),
     (
         &["first", "empty"],
@@ -106,6 +116,12 @@ const CASES: &[(&[&str], u8, &[u8], &[u8])] = &[
         1,
         b"",
         b"mfjoin: none: entity not found\n",
+    ),
+    (
+        &["first", "no\nsuch\x1b[7m.page"],
+        1,
+        b"",
+        b"mfjoin: no?such?[7m.page: entity not found\n",
     ),
     (&[], 2, b"", USAGE),
     (&["--list", "list"], 2, b"", USAGE),

@@ -152,6 +152,22 @@ const DAMAGED: &[(&[u8], Damage)] = &[
     (b"0008 01 KEYED 0001\n", Damage::OutOfOrder(1)),
     (FIRST, Damage::Overlaps),
     (b"0007 1 KEYED 0001\n", Damage::Overlaps),
+    (
+        b"0008 1 KEYED 00\xff7 KP:11 rubbish\nKEYED 1 REFUSED 0\n",
+        Damage::WrongKey(1),
+    ),
+    (
+        b"0008 1 KEYED 0001\n0008 2 KEYED 0001 ST:1500+4000\nKEYED 2 REFUSED 0\n",
+        Damage::WrongKey(2),
+    ),
+    (
+        b"0008 1 REFUSED\nKEYED 0 REFUSED 1\n",
+        Damage::WrongRefusal(1),
+    ),
+    (
+        b"0008 1 REFUSED NOTHING -5\nKEYED 0 REFUSED 1\n",
+        Damage::WrongRefusal(1),
+    ),
 ];
 
 #[test]
@@ -185,6 +201,14 @@ const WORDS: &[(JoinFault, &str)] = &[
     (
         JoinFault::Part(2, Damage::NoEntry(7)),
         "part 2: line 7 is no entry",
+    ),
+    (
+        JoinFault::Part(2, Damage::WrongKey(7)),
+        "part 2: line 7 has a wrong trunk group or key",
+    ),
+    (
+        JoinFault::Part(2, Damage::WrongRefusal(7)),
+        "part 2: line 7 has a wrong refusal",
     ),
     (
         JoinFault::Part(2, Damage::OutOfOrder(7)),

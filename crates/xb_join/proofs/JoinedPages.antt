@@ -19,13 +19,14 @@ use Rattle.xb_page.proofs.ReadSheets.{read_sheet}
 use Rattle.xb_join.specs.declared.join_fault.JoinFault.{JoinFault}
 use Rattle.xb_join.specs.declared.join_fault.JoinFault.TheVariants as fault
 use Rattle.xb_join.specs.Joining.{BlamesNoPart, Given, IsFaultOf, MakesTheWhole, PartsMakeTheWhole, given_part, join_from, join_of, or_fault, sheet_given, sheet_within}
-use Rattle.xb_join.specs.PartPages.{part_page, part_sheet}
+use Rattle.xb_join.specs.PartPages.{AreRoutes, part_page, part_sheet}
+use Rattle.xb_join.proofs.TapeMarks.{joined_tape-marks}
 use Rattle.xb_join.proofs.JoinedParts.{AreParts-le, part_sheet-lines, sheet_of-parts, tape_in}
 
 abbrev ok_text : Sheet → Result (List ℕ) JoinFault
 ok_text sheet = Ok (sheet_text sheet)
 
-module _ (plan : Plan) (limits : Limits) (routes : List CodedRoute) where
+module _ (plan : Plan) (limits : Limits) (routes : List CodedRoute) (as_had : AreRoutes routes) where
   -- the page of a part is read
   read_part : (rows : List LoopRow) (part : Part) → part.first ≤ part.end → part.end ≤ LINES → IsPartOf rows part
       → (next : ℕ) × (read_page part.first (part_page plan limits routes part)
@@ -35,7 +36,8 @@ module _ (plan : Plan) (limits : Limits) (routes : List CodedRoute) where
       let e : part.first + n ≡ part.end = omega arith in
       let lines = part_sheet-lines plan limits routes rows part n e within is in
       let ready = Ready-start part.first part.first (omega arith) in
-      let read = Reads-lines (tape_in plan limits routes rows) (start_at part.first) part.first n (omega arith) ready in
+      let read = Reads-lines (tape_in plan limits routes rows) (start_at part.first) part.first n (omega arith) ready
+      (λ l. joined_tape-marks plan limits routes l rows as_had) in
       let reads = subst (λ sheet. Reads (start_at part.first) sheet read.place') (sym lines) read.reads in (
         line_after read.place',
         read_sheet part.first (part_sheet plan limits routes part) read.place' reads,
@@ -74,23 +76,23 @@ module _ (plan : Plan) (limits : Limits) (routes : List CodedRoute) where
 
 -- the pages of all parts make the page of all rows
 pub parts_make_the_whole : PartsMakeTheWhole
-parts_make_the_whole plan limits routes rows parts are =
-    join_from-parts plan limits routes 1 rows 0 no_entries parts are
+parts_make_the_whole plan limits routes rows parts as_had are =
+    join_from-parts plan limits routes as_had 1 rows 0 no_entries parts are
     ∙ ap (λ (s : Sheet). ok_text s) (no_entries-first (joined_sheets (map (part_sheet plan limits routes) parts)))
     ∙ ap (λ (s : Sheet). ok_text s) (sym (sheet_of-parts plan limits routes rows parts are))
 
 -- what pages say is the page of the rows of whose parts they are
 pub makes_the_whole : (given : List Given) (page : List ℕ) → join_of given ≡ Ok page → MakesTheWhole given page
-makes_the_whole given page e = λ plan limits routes rows parts are same.
+makes_the_whole given page e = λ plan limits routes rows parts as_had are same.
     let whole : join_of given ≡ Ok (page_text (tapes_of plan limits routes rows))
-    = ap join_of same ∙ parts_make_the_whole plan limits routes rows parts are in
+    = ap join_of same ∙ parts_make_the_whole plan limits routes rows parts as_had are in
     cc
 
 -- and no fault of theirs
 pub blames_no_part : (given : List Given) (f : JoinFault) → IsFaultOf (join_of given) f → BlamesNoPart given f
-blames_no_part given f is = λ plan limits routes rows parts are same.
+blames_no_part given f is = λ plan limits routes rows parts as_had are same.
     let whole : join_of given ≡ Ok (page_text (tapes_of plan limits routes rows))
-    = ap join_of same ∙ parts_make_the_whole plan limits routes rows parts are in
+    = ap join_of same ∙ parts_make_the_whole plan limits routes rows parts as_had are in
     at f is whole
   where
     at : (f : JoinFault) → IsFaultOf (join_of given) f → {page : List ℕ} → join_of given ≡ Ok page → f ≡ fault.NoMemory

@@ -1,3 +1,4 @@
+pub mod TapeMarks
 pub mod JoinedParts
 pub mod JoinedPages
 pub mod AcceptedPages

@@ -9,7 +9,7 @@ use Rattle.xb_model.specs.Rows.{LoopRow}
 use Rattle.xb_model.specs.Tapes.{tapes_of}
 use Rattle.xb_parts.specs.Parts.{AreAllParts, Part}
 use Rattle.xb_parts.specs.declared.range.LineRange.{LineRange}
-use Rattle.xb_join.specs.PartPages.{part_page}
+use Rattle.xb_join.specs.PartPages.{AreRoutes, part_page}
 use Rattle.xb_page.specs.declared.fault.PageFault.{PageFault}
 use Rattle.xb_page.specs.declared.fault.PageFault.TheVariants as page
 use Rattle.xb_join.specs.declared.damage.Damage.TheVariants as damage
@@ -45,8 +45,8 @@ fault_of_page number (page.Line n) = fault.Part number (damage.NoEntry n)
 fault_of_page number (page.Early n) = fault.Part number (if n == 1 then damage.Overlaps else damage.OutOfOrder n)
 fault_of_page number (page.Number n) = fault.Part number (damage.OutOfOrder n)
 fault_of_page number (page.Kind n) = fault.Part number (damage.NoEntry n)
-fault_of_page number (page.Key n) = fault.Part number (damage.NoEntry n)
-fault_of_page number (page.Refusal n) = fault.Part number (damage.NoEntry n)
+fault_of_page number (page.Key n) = fault.Part number (damage.WrongKey n)
+fault_of_page number (page.Refusal n) = fault.Part number (damage.WrongRefusal n)
 fault_of_page number (page.Totals n) = fault.Part number damage.WrongTotals
 fault_of_page number (page.NoTotals n) = fault.Part number damage.NoTotals
 fault_of_page number (page.GoesOn n) = fault.Part number damage.GoesOn
@@ -92,25 +92,26 @@ abbrev pub given_part : Plan → Limits → List CodedRoute → Part → Given
 given_part plan limits routes part =
     given_with (record { first = part.first; end = part.end }) (part_page plan limits routes part)
 
--- the pages of the parts of rows, joined, are the page of the rows: none of them has a fault
+-- by routes as tables have them, the pages of the parts of rows, joined, are the page of the rows: none of
+-- them has a fault
 abbrev pub PartsMakeTheWhole : Type 0
 PartsMakeTheWhole =
     (plan : Plan) (limits : Limits) (routes : List CodedRoute) (rows : List LoopRow) (parts : List Part)
-    → AreAllParts rows parts
+    → AreRoutes routes → AreAllParts rows parts
     → join_of (map (given_part plan limits routes) parts) ≡ Ok (page_text (tapes_of plan limits routes rows))
 
 -- where pages are those of the parts of rows, this is the page of the rows
 abbrev pub MakesTheWhole : List Given → List ℕ → Type 0
 MakesTheWhole given page =
     (plan : Plan) (limits : Limits) (routes : List CodedRoute) (rows : List LoopRow) (parts : List Part)
-    → AreAllParts rows parts → given ≡ map (given_part plan limits routes) parts
+    → AreRoutes routes → AreAllParts rows parts → given ≡ map (given_part plan limits routes) parts
     → page ≡ page_text (tapes_of plan limits routes rows)
 
 -- where pages are those of the parts of rows, the fault is none of theirs
 abbrev pub BlamesNoPart : List Given → JoinFault → Type 0
 BlamesNoPart given f =
     (plan : Plan) (limits : Limits) (routes : List CodedRoute) (rows : List LoopRow) (parts : List Part)
-    → AreAllParts rows parts → given ≡ map (given_part plan limits routes) parts
+    → AreRoutes routes → AreAllParts rows parts → given ≡ map (given_part plan limits routes) parts
     → f ≡ fault.NoMemory
 
 -- parts that take the lines from a on, up to but without b, one after the other

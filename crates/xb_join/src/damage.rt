@@ -16,6 +16,12 @@ pub enum Damage {
     /// A text line is neither an entry nor the totals.
     #[error("line {0} is no entry")]
     NoEntry(usize),
+    /// What a text line has after KEYED is not a trunk group and its keys.
+    #[error("line {0} has a wrong trunk group or key")]
+    WrongKey(usize),
+    /// What a text line has after REFUSED is not a reason and its count.
+    #[error("line {0} has a wrong refusal")]
+    WrongRefusal(usize),
     /// An entry is not the next one of its line, or its line comes after a later one.
     #[error("line {0} is out of its order")]
     OutOfOrder(usize),

@@ -47,8 +47,9 @@ pub(crate) fn fault_of_page(part: usize, fault: PageFault) -> JoinFault
         PageFault::NoMemory => return JoinFault::NoMemory,
         PageFault::Early(1) => Damage::Overlaps,
         PageFault::Early(n) | PageFault::Number(n) => Damage::OutOfOrder(n),
-        PageFault::Line(n) | PageFault::Kind(n) | PageFault::Key(n) | PageFault::Refusal(n) =>
-            Damage::NoEntry(n),
+        PageFault::Line(n) | PageFault::Kind(n) => Damage::NoEntry(n),
+        PageFault::Key(n) => Damage::WrongKey(n),
+        PageFault::Refusal(n) => Damage::WrongRefusal(n),
         PageFault::Totals(_) => Damage::WrongTotals,
         PageFault::NoTotals(_) => Damage::NoTotals,
         PageFault::GoesOn(_) => Damage::GoesOn,

@@ -1,5 +1,5 @@
 -- Entries that are printed are read.
-use Rattle.std.proofs.Common.{◌≡◌, ◌≢◌, ◌∙◌, ℕ, ◌≤◌, ◌<◌, ◌^◌, true, false, cond, List, [], ◌∷◌, ◌++◌, map, leb, Bool, Option, Some, None, Ok, Err, Result, ap, arith, refl, codes}
+use Rattle.std.proofs.Common.{◌≡◌, ◌≢◌, ◌∙◌, ℕ, ◌≤◌, ◌<◌, true, false, cond, List, [], ◌∷◌, ◌++◌, map, leb, Bool, Option, Some, None, Ok, Err, Result, ap, arith, refl, codes}
 use Rattle.std.specs.Prelude.{decimal, bytes_eq, nat_lt}
 use Rattle.std.specs.List.{AllByRecursion, list_all}
 use Rattle.std.proofs.lemmas.Bool.{cond-false, cond-true, le-ltb, leb-true, lt-ltb}
@@ -20,28 +20,29 @@ use Rattle.xb_text.specs.Pieces.{pieces}
 use Rattle.xb_page.proofs.MarksBack.{IsKeyMark, mark_field, marks-back, marks-no_line_feed, marks-pieces}
 use Rattle.xb_page.proofs.NumbersBack.{and-both, avoids-line_feed, avoids-space, bytes_eq-same, decimal-bytes, four_digits-back, four_digits-bytes, four_digits-no_word}
 use Rattle.xb_page.proofs.Avoiding.{Avoids, both, pieces-cut, pieces-whole, weaker}
+use Rattle.xb_page.proofs.PlainBytes.{IsLine-word, IsWord-decimal, no_blank, no_feed}
 
 -- a text line of an entry, without its LF: four digits, the number, a word, and what follows
 abbrev pub entry_line : ℕ → ℕ → List ℕ → List ℕ
 entry_line line n rest = four_digits line ++ (32 ∷ (decimal n ++ (32 ∷ rest)))
 
-pub entry_line-pieces : (line n : ℕ) (rest : List ℕ) → line < 10000 → n < 10 ^ 8
+pub entry_line-pieces : (line n : ℕ) (rest : List ℕ) → line < 10000
     → pieces 32 (entry_line line n rest) ≡ four_digits line ∷ decimal n ∷ pieces 32 rest
-entry_line-pieces line n rest below small =
+entry_line-pieces line n rest below =
     pieces-cut 32 (four_digits line) (decimal n ++ (32 ∷ rest))
     (avoids-space (four_digits line) (four_digits-bytes line below))
     ∙ ap (λ (more : List (List ℕ)). four_digits line ∷ more)
-    (pieces-cut 32 (decimal n) rest (avoids-space (decimal n) (decimal-bytes n (omega arith))))
+    (pieces-cut 32 (decimal n) rest (no_blank (decimal n) (IsWord-decimal n)))
 
-pub entry_line-no_line_feed : (line n : ℕ) (rest : List ℕ) → line < 10000 → n < 10 ^ 8 → Avoids 10 rest
+pub entry_line-no_line_feed : (line n : ℕ) (rest : List ℕ) → line < 10000 → Avoids 10 rest
     → Avoids 10 (entry_line line n rest)
-entry_line-no_line_feed line n rest below small avoids =
+entry_line-no_line_feed line n rest below avoids =
     let P : ℕ → Type 0 = λ x. x ≢ 10 in
     both P (four_digits line) (32 ∷ (decimal n ++ (32 ∷ rest)))
     (avoids-line_feed (four_digits line) (four_digits-bytes line below)) (
       (λ e. absurd (omega arith)),
       both P (decimal n) (32 ∷ rest)
-          (avoids-line_feed (decimal n) (decimal-bytes n (omega arith))) ((λ e. absurd (omega arith)), avoids),
+          (no_feed (decimal n) (IsLine-word (decimal n) (IsWord-decimal n))) ((λ e. absurd (omega arith)), avoids),
     )
 
 -- a line and the number of its next entry come next at a place
@@ -80,10 +81,10 @@ entry-by_head place line n kind refused fields below at is =
 abbrev pub keyed_rest : List Mark → List ℕ
 keyed_rest entry = codes "KEYED" ++ marks_text entry
 
-pub keyed-pieces : (line n : ℕ) (entry : List Mark) → line < 10000 → n < 10 ^ 8 → AllByRecursion IsKeyMark entry
+pub keyed-pieces : (line n : ℕ) (entry : List Mark) → line < 10000 → AllByRecursion IsKeyMark entry
     → pieces 32 (entry_line line n (keyed_rest entry))
     ≡ four_digits line ∷ decimal n ∷ codes "KEYED" ∷ map mark_field entry
-keyed-pieces line n entry below small are =
+keyed-pieces line n entry below are =
     let word : Avoids 32 (codes "KEYED") = (
       (λ e. absurd (omega arith)),
       (
@@ -91,20 +92,20 @@ keyed-pieces line n entry below small are =
         ((λ e. absurd (omega arith)), ((λ e. absurd (omega arith)), ((λ e. absurd (omega arith)), tt))),
       ),
     ) in
-    entry_line-pieces line n (keyed_rest entry) below small
+    entry_line-pieces line n (keyed_rest entry) below
     ∙ ap (λ (more : List (List ℕ)). four_digits line ∷ decimal n ∷ more) (marks-pieces (codes "KEYED") entry word are)
 
-pub keyed-not_totals : (line n : ℕ) (entry : List Mark) → line < 10000 → n < 10 ^ 8 → AllByRecursion IsKeyMark entry
+pub keyed-not_totals : (line n : ℕ) (entry : List Mark) → line < 10000 → AllByRecursion IsKeyMark entry
     → is_totals (pieces 32 (entry_line line n (keyed_rest entry))) ≡ false
-keyed-not_totals line n entry below small are =
-    ap (λ (fields : List (List ℕ)). is_totals fields) (keyed-pieces line n entry below small are)
+keyed-not_totals line n entry below are =
+    ap (λ (fields : List (List ℕ)). is_totals fields) (keyed-pieces line n entry below are)
     ∙ four_digits-no_word line below
 
-pub keyed-back : (place : Place) (line n : ℕ) (entry : List Mark) → line < 10000 → n < 10 ^ 8 → At place line n
+pub keyed-back : (place : Place) (line n : ℕ) (entry : List Mark) → line < 10000 → At place line n
     → AllByRecursion IsKeyMark entry
     → entry_of_fields place (pieces 32 (entry_line line n (keyed_rest entry))) ≡ Ok (entry_with line n entry)
-keyed-back place line n entry below small at are =
-    ap (λ (fields : List (List ℕ)). entry_of_fields place fields) (keyed-pieces line n entry below small are)
+keyed-back place line n entry below at are =
+    ap (λ (fields : List (List ℕ)). entry_of_fields place fields) (keyed-pieces line n entry below are)
     ∙ entry-by_head place line n (codes "KEYED") false (map mark_field entry) below at refl
     ∙ ap (λ (marks : Option (List Mark)). or_fault {B = Entry} (fault.Key (text_line place)) marks
     (λ marks. Ok (entry_with line n marks))) (marks-back entry are)
@@ -157,11 +158,11 @@ keyed-word byte low = weaker IsLetter (λ x. x ≢ byte) (letter byte low) (code
 pub refused-word : (byte : ℕ) → byte < 65 → Avoids byte (codes "REFUSED")
 refused-word byte low = weaker IsLetter (λ x. x ≢ byte) (letter byte low) (codes "REFUSED") (letters (codes "REFUSED") refl)
 
-pub refused-pieces : (line n : ℕ) (reason : Reason) (heard : ℕ) → line < 10000 → n < 10 ^ 8 → heard < 256
+pub refused-pieces : (line n : ℕ) (reason : Reason) (heard : ℕ) → line < 10000 → heard < 256
     → pieces 32 (entry_line line n (refused_rest reason heard))
     ≡ four_digits line ∷ decimal n ∷ codes "REFUSED" ∷ reason_text reason ∷ decimal heard ∷ []
-refused-pieces line n reason heard below small few =
-    entry_line-pieces line n (refused_rest reason heard) below small
+refused-pieces line n reason heard below few =
+    entry_line-pieces line n (refused_rest reason heard) below
     ∙ ap (λ (more : List (List ℕ)). four_digits line ∷ decimal n ∷ more)
     (pieces-cut 32 (codes "REFUSED") (reason_text reason ++ (32 ∷ decimal heard)) (refused-word 32 (omega arith)))
     ∙ ap (λ (more : List (List ℕ)). four_digits line ∷ decimal n ∷ codes "REFUSED" ∷ more)
@@ -169,10 +170,10 @@ refused-pieces line n reason heard below small few =
     ∙ ap (λ (more : List (List ℕ)). four_digits line ∷ decimal n ∷ codes "REFUSED" ∷ reason_text reason ∷ more)
     (pieces-whole 32 (decimal heard) (avoids-space (decimal heard) (decimal-bytes heard (omega arith))))
 
-pub refused-not_totals : (line n : ℕ) (reason : Reason) (heard : ℕ) → line < 10000 → n < 10 ^ 8 → heard < 256
+pub refused-not_totals : (line n : ℕ) (reason : Reason) (heard : ℕ) → line < 10000 → heard < 256
     → is_totals (pieces 32 (entry_line line n (refused_rest reason heard))) ≡ false
-refused-not_totals line n reason heard below small few =
-    ap (λ (fields : List (List ℕ)). is_totals fields) (refused-pieces line n reason heard below small few)
+refused-not_totals line n reason heard below few =
+    ap (λ (fields : List (List ℕ)). is_totals fields) (refused-pieces line n reason heard below few)
     ∙ four_digits-no_word line below
 
 refusal-back : (reason : Reason) (heard : ℕ) → heard < 256
@@ -182,12 +183,12 @@ refusal-back Unknown heard few = ap (λ (h : Option ℕ). refusal_of_two (Some U
 refusal-back Abandoned heard few = ap (λ (h : Option ℕ). refusal_of_two (Some Abandoned) h) (heard-back heard few)
 refusal-back TimedOut heard few = ap (λ (h : Option ℕ). refusal_of_two (Some TimedOut) h) (heard-back heard few)
 
-pub refused-back : (place : Place) (line n : ℕ) (reason : Reason) (heard : ℕ) → line < 10000 → n < 10 ^ 8 → At place line n
+pub refused-back : (place : Place) (line n : ℕ) (reason : Reason) (heard : ℕ) → line < 10000 → At place line n
     → heard < 256
     → entry_of_fields place (pieces 32 (entry_line line n (refused_rest reason heard)))
     ≡ Ok (entry_with line n (Refused reason heard ∷ []))
-refused-back place line n reason heard below small at few =
-    ap (λ (fields : List (List ℕ)). entry_of_fields place fields) (refused-pieces line n reason heard below small few)
+refused-back place line n reason heard below at few =
+    ap (λ (fields : List (List ℕ)). entry_of_fields place fields) (refused-pieces line n reason heard below few)
     ∙ entry-by_head place line n (codes "REFUSED") true (reason_text reason ∷ decimal heard ∷ []) below at refl
     ∙ ap (λ (mark : Option Mark). or_fault {B = Entry} (fault.Refusal (text_line place)) mark
     (λ mark. Ok (entry_with line n (mark ∷ [])))) (refusal-back reason heard few)

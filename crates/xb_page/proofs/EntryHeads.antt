@@ -1,16 +1,16 @@
 -- The head of an entry is read as it is written, and so are the totals.
-use Rattle.std.proofs.Common.{◌≡◌, ◌≤◌, ◌<◌, ◌-◌, ℕ, Bool, true, false, ◌&&◌, List, [], ◌∷◌, ◌++◌, length, decimal, codes, Some, Option, refl, ap, ◌∙◌, arith, append_assoc}
+use Rattle.std.proofs.Common.{◌≡◌, ◌<◌, ◌-◌, ℕ, Bool, true, false, ◌&&◌, List, [], ◌∷◌, ◌++◌, length, decimal, codes, Some, refl, ap, ◌∙◌, arith, append_assoc}
 use Rattle.std.specs.Prelude.{Ok, Result, bytes_eq}
 use Rattle.xb_model.specs.declared.line.TheConstants.{LINES}
 use Rattle.xb_model.specs.Page.{entry_head, four_digits, totals_text}
-use Rattle.xb_text.specs.Pieces.{pieces}
 use Rattle.xb_page.specs.declared.fault.PageFault.{PageFault}
 use Rattle.xb_page.specs.declared.place.Place.{Place}
 use Rattle.xb_page.specs.PageLines.{words}
-use Rattle.xb_page.specs.Places.{Head, after_head, head_and, is_refusal, next_place, number_at, space}
-use Rattle.xb_page.specs.ReadPages.{are_four, is_totals, says_totals}
+use Rattle.xb_page.specs.Entries.{Entry}
+use Rattle.xb_page.specs.Places.{place_after, space}
+use Rattle.xb_page.specs.ReadPages.{after_entry, are_four, entry_and, entry_of_fields, is_totals, says_totals}
 use Rattle.xb_page.proofs.Avoiding.{pieces-cut, pieces-whole}
-use Rattle.xb_page.proofs.EntriesBack.{At, head-back}
+use Rattle.xb_page.proofs.EntriesBack.{entry_line}
 use Rattle.xb_page.proofs.NumbersBack.{bytes_eq-same, four_digits-no_word}
 use Rattle.xb_page.proofs.PlainBytes.{AreFrom-append, IsLine, IsLine-word, IsWord, IsWord-decimal, IsWord-zeros, no_blank, plain}
 
@@ -43,16 +43,13 @@ words-head line n tail =
     ∙ words-cut (four_digits line) (decimal n ++ space ∷ tail) (IsWord-four_digits line)
     ∙ ap (λ (more : List (List ℕ)). four_digits line ∷ more) (words-cut (decimal n) tail (IsWord-decimal n))
 
--- an entry's head is read, and the place goes on
-pub after_head-entry : (place : Place) (line n : ℕ) (tail kind : List ℕ) (fields : List (List ℕ)) (refused : Bool)
-    → line < LINES → place.line ≤ line → number_at place line ≡ n
-    → words tail ≡ kind ∷ fields → is_refusal kind ≡ Some refused
-    → after_head place (words (with_head line n tail)) ≡ Ok (next_place place line n refused)
-after_head-entry place line n tail kind fields refused below low number are is =
-    ap (λ (all : List (List ℕ)). after_head place all)
-    (words-head line n tail ∙ ap (λ (more : List (List ℕ)). four_digits line ∷ decimal n ∷ more) are)
-    ∙ ap (λ (r : Result Head PageFault). head_and {A = Place} r (λ head. Ok (next_place place head.line head.number head.refused)))
-    (head-back place line n kind refused fields (omega arith) (record { low = low; next = number }) is)
+-- an entry that is read, and the place after it
+pub after_entry-read : (place : Place) (line n : ℕ) (tail : List ℕ) (entry : Entry)
+    → entry_of_fields place (words (entry_line line n tail)) ≡ Ok entry
+    → after_entry place (words (with_head line n tail)) ≡ Ok (place_after place entry)
+after_entry-read place line n tail entry is =
+    ap (λ (text : List ℕ). after_entry place (words text)) (entry_words line n tail)
+    ∙ ap (λ (r : Result Entry PageFault). entry_and {A = Place} r (λ e. Ok (place_after place e))) is
 
 -- an entry is not the totals
 pub is_totals-entry : (line n : ℕ) (tail : List ℕ) → line < LINES → is_totals (words (with_head line n tail)) ≡ false

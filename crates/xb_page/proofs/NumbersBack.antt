@@ -58,7 +58,7 @@ pub and-both : (b c : Bool) → (b && c) ≡ true → (b ≡ true) × (c ≡ tru
 and-both true c e = (refl, e)
 and-both false c e = absurd (false≢true e)
 
-holds_below : (test : ℕ → Bool) (n a : ℕ) → list_all test (range_with_len a n) ≡ true
+pub holds_below : (test : ℕ → Bool) (n a : ℕ) → list_all test (range_with_len a n) ≡ true
     → (k : ℕ) → a ≤ k → k < a + n → test k ≡ true
 holds_below test zero a all k low high = absurd (omega arith)
 holds_below test (suc n) a all k low high =

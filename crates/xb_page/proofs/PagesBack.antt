@@ -1,32 +1,32 @@
 -- Pages that are printed are read.
-use Rattle.std.proofs.Common.{◌≡◌, ◌≢◌, ◌∙◌, ◌⊎◌, inl, inr, ℕ, suc, ◌≤◌, ◌<◌, ◌+◌, ◌-◌, ◌*◌, ◌^◌, Bool, true, false, not, ◌&&◌, cond, List, [], ◌∷◌, ◌++◌, length, Option, Some, None, is_some, Ok, Result, subst, eq-eqb, ne_eqb, sym, ap, append_assoc, append-nil, arith, refl, codes}
-use Rattle.std.specs.Prelude.{decimal, option_and_then, slice_get, count_by, bytes_eq}
+use Rattle.std.proofs.Common.{◌≡◌, ◌∙◌, ◌⊎◌, inl, inr, ℕ, ◌≤◌, ◌<◌, ◌+◌, Bool, true, false, not, cond, List, [], ◌∷◌, ◌++◌, length, Option, Some, None, is_some, Ok, Result, subst, eq-eqb, ne_eqb, sym, ap, append_assoc, append-nil, arith, refl, codes}
+use Rattle.std.specs.Prelude.{decimal, count_by}
 use Rattle.std.specs.List.{AllByRecursion}
 use Rattle.std.proofs.lemmas.Bool.{cond-false, cond-true, false≢true}
 use Rattle.std.proofs.lemmas.List.Recursion.{is_count_by}
-use Rattle.std.proofs.lemmas.List.Sums.{count_by-le-length, sum_by-cons}
+use Rattle.std.proofs.lemmas.List.Sums.{sum_by-cons}
 use Rattle.xb_model.specs.declared.mark.Mark.{Mark}
 use Rattle.xb_model.specs.declared.mark.Mark.TheVariants.{Trunk, Tone, Refused}
 use Rattle.xb_model.specs.declared.reason.Reason.{Reason}
 use Rattle.xb_model.specs.Keyings.{is_ending}
-use Rattle.xb_model.specs.Page.{count_entries, entries_text, entry_text, entry_text_by, four_digits, is_keyed, is_refused, keyed_text, last_refusal, refusal_of, refused_text, tape_text, tapes_text, totals_text}
+use Rattle.xb_model.specs.Page.{count_entries, entries_text, entry_text, entry_text_by, four_digits, is_keyed, is_refused, keyed_text, last_refusal, refused_text, tape_text, tapes_text, totals_text}
 use Rattle.xb_model.specs.Tapes.{entries_of, into_first_entry}
-use Rattle.xb_model.proofs.Entries.{length-entries_of}
 use Rattle.xb_page.specs.declared.fault.PageFault.{PageFault}
 use Rattle.xb_page.specs.declared.place.Place.{Place}
 use Rattle.xb_page.specs.Entries.{Entry, entry_with}
 use Rattle.xb_page.specs.Places.{place_after, place_with}
 use Rattle.xb_page.specs.ReadBack.{AreMarks, IsMark, PagesAreReadBack, entries_of_line, entries_of_tapes, said_by, said_of}
-use Rattle.xb_page.specs.ReadPages.{are_four, before_entries, end_of, entries_from, entry_and_rest, entry_of_fields, first_place, is_end, is_totals, says_totals}
+use Rattle.xb_page.specs.ReadPages.{before_entries, end_of, entries_from, entry_and_rest, entry_of_fields, first_place, is_end, is_totals, says_totals}
 use Rattle.xb_text.specs.Pieces.{pieces}
 use Rattle.xb_page.proofs.EntriesBack.{At, entry_line, entry_line-no_line_feed, keyed-back, keyed-no_line_feed, keyed-not_totals, keyed_rest, refused-back, refused-no_line_feed, refused-not_totals, refused_rest}
+use Rattle.xb_page.proofs.CheckedEntries.{last_refusal-more}
 use Rattle.xb_page.proofs.MarksBack.{IsKeyMark}
 use Rattle.xb_page.proofs.EntryHeads.{IsLine-totals, are-totals, is_totals-totals, totals_text-words, totals_words, words-totals}
 use Rattle.xb_page.proofs.PlainBytes.{no_feed}
 use Rattle.xb_page.proofs.Avoiding.{Avoids, pieces-cut}
 
 -- an entry: its last mark, and no other, ends it
-abbrev IsEntry : List Mark → Type 0
+abbrev pub IsEntry : List Mark → Type 0
 IsEntry [] = ⊥
 IsEntry (m ∷ []) = IsMark m × (is_ending m ≡ true)
 IsEntry (m ∷ k ∷ ms) = IsMark m × (is_ending m ≡ false) × IsEntry (k ∷ ms)
@@ -40,7 +40,7 @@ into_first : (m : Mark) (entries : List (List Mark)) → IsMark m → is_ending 
 into_first m [] is goes_on all = tt
 into_first m (entry ∷ entries) is goes_on all = (entry-front m entry is goes_on all.0, all.1)
 
-entries_are : (marks : List Mark) → AllByRecursion IsMark marks → AllByRecursion IsEntry (entries_of marks)
+pub entries_are : (marks : List Mark) → AllByRecursion IsMark marks → AllByRecursion IsEntry (entries_of marks)
 entries_are [] are = tt
 entries_are (m ∷ ms) are = at (entries_are ms are.1) (is_ending m) refl
   where
@@ -50,7 +50,7 @@ entries_are (m ∷ ms) are = at (entries_are ms are.1) (is_ending m) refl
     at later false e = into_first m (entries_of ms) are.0 e later
 
 -- an entry is a keyed call, or a refusal
-abbrev IsKeyedEntry : List Mark → Type 0
+abbrev pub IsKeyedEntry : List Mark → Type 0
 IsKeyedEntry entry = (last_refusal entry ≡ None) × AllByRecursion IsKeyMark entry
 
 pub record IsRefusedEntry (entry : List Mark) : Type 0 where
@@ -58,11 +58,6 @@ pub record IsRefusedEntry (entry : List Mark) : Type 0 where
   pub heard : ℕ
   pub last : last_refusal entry ≡ Some (reason, heard)
   pub few : heard < 256
-
-last_refusal-more : (m k : Mark) (ms : List Mark) → last_refusal (m ∷ k ∷ ms) ≡ last_refusal (k ∷ ms)
-last_refusal-more m k ms =
-    let e : suc (suc (length ms)) - 1 ≡ suc (suc (length ms) - 1) = omega arith in
-    ap (λ (i : ℕ). option_and_then refusal_of (slice_get (m ∷ k ∷ ms) i)) e
 
 more_of : (m k : Mark) (ms : List Mark) → IsMark m → is_ending m ≡ false
     → IsKeyedEntry (k ∷ ms) ⊎ IsRefusedEntry (k ∷ ms)
@@ -78,7 +73,7 @@ more_of m k ms is goes_on (inr refused) = inr (record {
   few = refused.few;
 })
 
-kind_of : (entry : List Mark) → IsEntry entry → IsKeyedEntry entry ⊎ IsRefusedEntry entry
+pub kind_of : (entry : List Mark) → IsEntry entry → IsKeyedEntry entry ⊎ IsRefusedEntry entry
 kind_of [] entry = absurd entry
 kind_of (Trunk t ∷ []) entry = absurd (false≢true entry.1)
 kind_of (Tone key pair ∷ []) entry = inl (refl, (entry.0, tt))
@@ -111,48 +106,48 @@ refused_text-line line n reason heard rest = simp append_assoc
 abbrev goes : Place → ℕ → ℕ → List Mark → Place
 goes place line n marks = place_after place (entry_with line n marks)
 
-keyed-step : (place : Place) (line n : ℕ) (entry : List Mark) (rest : List ℕ) (later : List Entry) → line < 10000 → n < 10 ^ 8
+keyed-step : (place : Place) (line n : ℕ) (entry : List Mark) (rest : List ℕ) (later : List Entry) → line < 10000
     → At place line n → AllByRecursion IsKeyMark entry → entries_from (goes place line n entry) (pieces 10 rest) ≡ Ok later
     → entries_from place (pieces 10 (keyed_text line n entry ++ rest)) ≡ Ok (entry_with line n entry ∷ later)
-keyed-step place line n entry rest later below small at are next =
+keyed-step place line n entry rest later below at are next =
     let text = entry_line line n (keyed_rest entry) in
     ap (λ (t : List ℕ). entries_from place (pieces 10 t)) (keyed_text-line line n entry rest)
     ∙ line-step place text rest
-    (entry_line-no_line_feed line n (keyed_rest entry) below small (keyed-no_line_feed entry are))
+    (entry_line-no_line_feed line n (keyed_rest entry) below (keyed-no_line_feed entry are))
     (not_end (four_digits line) 32 (decimal n ++ (32 ∷ keyed_rest entry)) (pieces 10 rest))
-    (keyed-not_totals line n entry below small are)
+    (keyed-not_totals line n entry below are)
     ∙ ap (λ (r : Result Entry PageFault). entry_and_rest r (λ e. entries_from (place_after place e) (pieces 10 rest)))
-    (keyed-back place line n entry below small at are)
+    (keyed-back place line n entry below at are)
     ∙ ap (λ (r : Result (List Entry) PageFault). before_entries (entry_with line n entry) r) next
 
 refused-step : (place : Place) (line n : ℕ) (reason : Reason) (heard : ℕ) (rest : List ℕ) (later : List Entry)
-    → line < 10000 → n < 10 ^ 8 → At place line n → heard < 256
+    → line < 10000 → At place line n → heard < 256
     → entries_from (goes place line n (Refused reason heard ∷ [])) (pieces 10 rest) ≡ Ok later
     → entries_from place (pieces 10 (refused_text line n reason heard ++ rest))
     ≡ Ok (entry_with line n (Refused reason heard ∷ []) ∷ later)
-refused-step place line n reason heard rest later below small at few next =
+refused-step place line n reason heard rest later below at few next =
     let text = entry_line line n (refused_rest reason heard) in
     ap (λ (t : List ℕ). entries_from place (pieces 10 t)) (refused_text-line line n reason heard rest)
     ∙ line-step place text rest
-    (entry_line-no_line_feed line n (refused_rest reason heard) below small (refused-no_line_feed reason heard few))
+    (entry_line-no_line_feed line n (refused_rest reason heard) below (refused-no_line_feed reason heard few))
     (not_end (four_digits line) 32 (decimal n ++ (32 ∷ refused_rest reason heard)) (pieces 10 rest))
-    (refused-not_totals line n reason heard below small few)
+    (refused-not_totals line n reason heard below few)
     ∙ ap (λ (r : Result Entry PageFault). entry_and_rest r (λ e. entries_from (place_after place e) (pieces 10 rest)))
-    (refused-back place line n reason heard below small at few)
+    (refused-back place line n reason heard below at few)
     ∙ ap (λ (r : Result (List Entry) PageFault). before_entries (entry_with line n (Refused reason heard ∷ [])) r) next
 
-entry-step : (place : Place) (line n : ℕ) (entry : List Mark) (rest : List ℕ) (later : List Entry) → line < 10000 → n < 10 ^ 8
+entry-step : (place : Place) (line n : ℕ) (entry : List Mark) (rest : List ℕ) (later : List Entry) → line < 10000
     → At place line n → IsKeyedEntry entry ⊎ IsRefusedEntry entry
     → entries_from (goes place line n (said_of entry)) (pieces 10 rest) ≡ Ok later
     → entries_from place (pieces 10 (entry_text line n entry ++ rest)) ≡ Ok (entry_with line n (said_of entry) ∷ later)
-entry-step place line n entry rest later below small at (inl keyed) next =
+entry-step place line n entry rest later below at (inl keyed) next =
     ap (λ (o : Option (Reason × ℕ)). entries_from place (pieces 10 (entry_text_by line n entry o ++ rest))) keyed.0
-    ∙ keyed-step place line n entry rest later below small at keyed.1
+    ∙ keyed-step place line n entry rest later below at keyed.1
     (ap (λ (o : Option (Reason × ℕ)). entries_from (goes place line n (said_by entry o)) (pieces 10 rest)) (sym keyed.0) ∙ next)
     ∙ sym (ap (λ (o : Option (Reason × ℕ)). Ok (entry_with line n (said_by entry o) ∷ later)) keyed.0)
-entry-step place line n entry rest later below small at (inr refused) next =
+entry-step place line n entry rest later below at (inr refused) next =
     ap (λ (o : Option (Reason × ℕ)). entries_from place (pieces 10 (entry_text_by line n entry o ++ rest))) refused.last
-    ∙ refused-step place line n refused.reason refused.heard rest later below small at refused.few
+    ∙ refused-step place line n refused.reason refused.heard rest later below at refused.few
     (ap (λ (o : Option (Reason × ℕ)). entries_from (goes place line n (said_by entry o)) (pieces 10 rest)) (sym refused.last) ∙ next)
     ∙ sym (ap (λ (o : Option (Reason × ℕ)). Ok (entry_with line n (said_by entry o) ∷ later)) refused.last)
 
@@ -215,20 +210,20 @@ count_in-is test entries =
 
 -- the entries of a line
 entries-back : (entries : List (List Mark)) (place : Place) (line n : ℕ) → AllByRecursion IsEntry entries → line < 10000
-    → n + length entries ≤ 10 ^ 8 → At place line n → (rest : List ℕ) (later : List Entry)
+    → At place line n → (rest : List ℕ) (later : List Entry)
     → ((next : Place) (m : ℕ) → At next line m → next.keyed ≡ place.keyed + count_in is_keyed entries
     → next.refused ≡ place.refused + count_in is_refused entries → entries_from next (pieces 10 rest) ≡ Ok later)
     → entries_from place (pieces 10 (entries_text line n entries ++ rest)) ≡ Ok (entries_of_line line n entries ++ later)
 unfolding entries_text
-entries-back [] place line n all below few at rest later next = next place n at (omega arith) (omega arith)
-entries-back (entry ∷ entries) place line n all below few at rest later next =
+entries-back [] place line n all below at rest later next = next place n at (omega arith) (omega arith)
+entries-back (entry ∷ entries) place line n all below at rest later next =
     let more = entries_text line (n + 1) entries ++ rest in
     let kind = kind_of entry all.0 in
     let on = goes-on place line n entry kind in
     ap (λ (t : List ℕ). entries_from place (pieces 10 t))
     (append_assoc (entry_text line n entry) (entries_text line (n + 1) entries) rest)
-    ∙ entry-step place line n entry more (entries_of_line line (n + 1) entries ++ later) below (omega arith) at kind
-    (entries-back entries (goes place line n (said_of entry)) line (n + 1) all.1 below (omega arith) on.at rest later
+    ∙ entry-step place line n entry more (entries_of_line line (n + 1) entries ++ later) below at kind
+    (entries-back entries (goes place line n (said_of entry)) line (n + 1) all.1 below on.at rest later
     (λ q m at_q keyed refused. next q m at_q (omega (arith, keyed, on.keyed)) (omega (arith, refused, on.refused))))
 
 -- the next line
@@ -248,12 +243,11 @@ unfolding tapes_text
 tapes-back [] place line all few at rest later next = next place (omega arith) (omega arith)
 tapes-back (marks ∷ tapes) place line all few at rest later next =
     let entries = entries_of marks in
-    let short : 1 + length entries ≤ 10 ^ 8 = omega (arith, length-entries_of marks, all.0.1) in
     let k = sum_by-cons (λ marks. count_by is_keyed (entries_of marks)) marks tapes in
     let r = sum_by-cons (λ marks. count_by is_refused (entries_of marks)) marks tapes in
     ap (λ (t : List ℕ). entries_from place (pieces 10 t))
     (append_assoc (tape_text line marks) (tapes_text (line + 1) tapes) rest)
-    ∙ entries-back entries place line 1 (entries_are marks all.0.0) (omega arith) short at
+    ∙ entries-back entries place line 1 (entries_are marks all.0) (omega arith) at
     (tapes_text (line + 1) tapes ++ rest) (entries_of_tapes (line + 1) tapes ++ later)
     (λ q m at_q keyed refused. tapes-back tapes q (line + 1) all.1 (omega arith) (at-next q line m at_q) rest later
     (λ last keyed_more refused_more. next last

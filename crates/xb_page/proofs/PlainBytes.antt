@@ -1,5 +1,5 @@
 -- Texts without an LF, and texts without a blank.
-use Rattle.std.proofs.Common.{◌≡◌, ◌≢◌, ◌≤◌, ◌+◌, ◌/◌, ◌%◌, ◌==◌, ℕ, zero, suc, Bool, true, false, leb, ltb, ◌&&◌, List, [], ◌∷◌, ◌++◌, replicate, decimal, refl, arith}
+use Rattle.std.proofs.Common.{◌≡◌, ◌≢◌, ◌≤◌, ◌+◌, ◌/◌, ◌%◌, ◌==◌, ℕ, zero, suc, Bool, true, false, leb, ltb, ◌&&◌, List, [], ◌∷◌, ◌++◌, replicate, decimal, arith}
 use Rattle.std.specs.List.{AllByRecursion, slice_split}
 use Rattle.std.specs.Fmt.{digit_glyph, digits, digits_onto}
 use Rattle.std.proofs.lemmas.Bool.{and_parts, cond_both, leb-true}

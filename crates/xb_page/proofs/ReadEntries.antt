@@ -1,12 +1,13 @@
 -- The entries of tapes are read as they are written.
-use Rattle.std.proofs.Common.{◌≡◌, ◌≤◌, ◌<◌, ◌+◌, ◌==◌, ℕ, zero, suc, Bool, true, false, not, cond, List, [], ◌∷◌, ◌++◌, decimal, codes, Some, None, Option, refl, sym, ap, ap₂, ◌∙◌, arith, append_assoc, append-nil, inl, inr, eq-eqb, subst}
+use Rattle.std.proofs.Common.{◌≡◌, ◌≤◌, ◌<◌, ◌+◌, ◌==◌, ℕ, zero, suc, Bool, true, false, not, cond, List, [], ◌∷◌, ◌++◌, decimal, codes, Ok, Some, None, Option, refl, sym, ap, ap₂, ◌∙◌, arith, append_assoc, append-nil, inl, inr, eq-eqb, subst}
 use Rattle.std.specs.Prelude.{Result, ◌⊎◌, count_by, is_some}
-use Rattle.std.specs.List.{onto_first, slice_split}
+use Rattle.std.specs.List.{AllByRecursion, onto_first, slice_split}
 use Rattle.std.proofs.lemmas.Bool.{cases_eq, cond-true, cond-false, cond_both, eqb-false, eqb-true}
 use Rattle.std.proofs.lemmas.List.Sums.{sum_by-cons}
 use Rattle.xb_model.specs.declared.line.TheConstants.{LINES}
 use Rattle.xb_model.specs.declared.mark.Mark.{Mark}
 use Rattle.xb_model.specs.declared.mark.Mark.TheVariants as mark
+use Rattle.xb_model.specs.declared.mark.Mark.TheVariants.{Refused}
 use Rattle.xb_model.specs.declared.key.Key.{Key}
 use Rattle.xb_model.specs.declared.key.Key.TheVariants as key
 use Rattle.xb_model.specs.declared.reason.Reason.{Reason}
@@ -16,10 +17,15 @@ use Rattle.xb_model.specs.Tapes.{entries_of}
 use Rattle.xb_page.specs.declared.fault.PageFault.{PageFault}
 use Rattle.xb_page.specs.declared.place.Place.{Place}
 use Rattle.xb_page.specs.PageLines.{ends_line, has_more, place_and, read_lines, start_at, words}
-use Rattle.xb_page.specs.Places.{after_head, is_refusal, line_after, next_place, number_at, space}
-use Rattle.xb_page.specs.ReadPages.{is_totals}
+use Rattle.xb_page.specs.Places.{line_after, next_place, number_at}
+use Rattle.xb_page.specs.ReadPages.{after_entry, is_totals}
 use Rattle.xb_page.specs.Sheets.{Sheet, followed_by, no_entries, sheet_with}
-use Rattle.xb_page.proofs.EntryHeads.{IsLine-with_head, IsWord-four_digits, after_head-entry, is_totals-entry, with_head, words-cut}
+use Rattle.xb_page.specs.Entries.{entry_with}
+use Rattle.xb_page.specs.ReadBack.{AreMarks}
+use Rattle.xb_page.proofs.EntriesBack.{At, keyed-back, keyed_rest, refused-back, refused_rest}
+use Rattle.xb_page.proofs.EntryHeads.{IsLine-with_head, IsWord-four_digits, after_entry-read, is_totals-entry, with_head}
+use Rattle.xb_page.proofs.MarksBack.{IsKeyMark}
+use Rattle.xb_page.proofs.PagesBack.{IsEntry, IsKeyedEntry, IsRefusedEntry, entries_are, kind_of}
 use Rattle.xb_page.proofs.LineSheets.{line_sheet, sheet_from}
 use Rattle.xb_page.proofs.PlainBytes.{AreFrom-append, IsLine, IsLine-word, IsWord, IsWord-decimal, plain, slice_split-line}
 
@@ -63,27 +69,6 @@ unfolding marks_text
 IsLine-marks [] = tt
 IsLine-marks (m ∷ ms) = AreFrom-append 32 (mark_text m) (marks_text ms) (IsLine-mark m) (IsLine-marks ms)
 
--- marks begin with a space
-mark_begins : (m : Mark) → (rest : List ℕ) × (mark_text m ≡ space ∷ rest)
-mark_begins (mark.Trunk t) = (four_digits t, refl)
-mark_begins (mark.Tone k pair) = (_, refl)
-mark_begins (mark.Refused r heard) = (_, refl)
-
--- the words of a keying after its head
-words_of_keying : (ms : List Mark) → (fields : List (List ℕ)) × (words (codes "KEYED" ++ marks_text ms) ≡ codes "KEYED" ∷ fields)
-unfolding marks_text
-words_of_keying [] = ([], refl)
-words_of_keying (m ∷ ms) =
-    let begins = mark_begins m in (
-      words (begins.0 ++ marks_text ms),
-      ap (λ (bytes : List ℕ). words (codes "KEYED" ++ (bytes ++ marks_text ms))) begins.1
-          ∙ words-cut (codes "KEYED") (begins.0 ++ marks_text ms) (plain 33 (codes "KEYED") refl),
-    )
-
--- those of a refusal
-words_of_refusal : (rest : List ℕ) → words (codes "REFUSED" ++ space ∷ rest) ≡ codes "REFUSED" ∷ words rest
-words_of_refusal rest = words-cut (codes "REFUSED") rest (plain 33 (codes "REFUSED") refl)
-
 has_more-onto : (x : ℕ) (parts : List (List ℕ)) → has_more (onto_first x parts) ≡ true
 has_more-onto x [] = refl
 has_more-onto x (part ∷ parts) = refl
@@ -99,65 +84,78 @@ has_more-slice_split (x ∷ xs) =
 pub read_lines-more : (entries : List ℕ) (place : Place) (text : List ℕ) (later : List (List ℕ))
     → has_more later ≡ true → is_totals (words text) ≡ false
     → read_lines entries place (text ∷ later)
-    ≡ place_and (after_head place (words text)) (λ next. read_lines (entries ++ text ++ codes "\n") next later)
+    ≡ place_and (after_entry place (words text)) (λ next. read_lines (entries ++ text ++ codes "\n") next later)
 read_lines-more entries place text later more other =
     cond-false _ _ _ (ap not more) ∙ cond-false _ _ _ other
 
 -- the text of an entry, which is `with_head line n tail` and an LF, is read
-read_text : (entries : List ℕ) (place : Place) (line n : ℕ) (tail rest kind : List ℕ) (fields : List (List ℕ)) (refuses : Bool)
-    → line < LINES → place.line ≤ line → number_at place line ≡ n → IsLine tail
-    → words tail ≡ kind ∷ fields → is_refusal kind ≡ Some refuses
+read_text : (entries : List ℕ) (place next : Place) (line n : ℕ) (tail rest : List ℕ) → line < LINES → IsLine tail
+    → after_entry place (words (with_head line n tail)) ≡ Ok next
     → read_lines entries place (slice_split ends_line (with_head line n tail ++ codes "\n" ++ rest))
-    ≡ read_lines (entries ++ (with_head line n tail ++ codes "\n")) (next_place place line n refuses) (slice_split ends_line rest)
-read_text entries place line n tail rest kind fields refuses below low number is are says =
+    ≡ read_lines (entries ++ (with_head line n tail ++ codes "\n")) next (slice_split ends_line rest)
+read_text entries place next line n tail rest below is goes =
     let text : List ℕ = with_head line n tail in
     let later : List (List ℕ) = slice_split ends_line rest in
-    let next = λ (p : Place). read_lines (entries ++ text ++ codes "\n") p later in
+    let then = λ (p : Place). read_lines (entries ++ text ++ codes "\n") p later in
     ap (λ (bytes : List ℕ). read_lines entries place (slice_split ends_line bytes)) (append_assoc text (codes "\n") rest)
     ∙ ap (read_lines entries place) (slice_split-line text rest (IsLine-with_head line n tail is))
     ∙ read_lines-more entries place text later (has_more-slice_split rest) (is_totals-entry line n tail below)
-    ∙ ap (λ (found : Result Place PageFault). place_and found next)
-    (after_head-entry place line n tail kind fields refuses below low number are says)
-    ∙ ap (λ (bytes : List ℕ). read_lines bytes (next_place place line n refuses) later) (append_assoc entries text (codes "\n"))
+    ∙ ap (λ (found : Result Place PageFault). place_and found then) goes
+    ∙ ap (λ (bytes : List ℕ). read_lines bytes next later) (append_assoc entries text (codes "\n"))
 
 -- the same, where the text is written otherwise
-read_text_as : (whole : List ℕ) (entries : List ℕ) (place : Place) (line n : ℕ) (tail rest kind : List ℕ) (fields : List (List ℕ)) (refuses : Bool)
-    → whole ≡ with_head line n tail ++ codes "\n"
-    → line < LINES → place.line ≤ line → number_at place line ≡ n → IsLine tail
-    → words tail ≡ kind ∷ fields → is_refusal kind ≡ Some refuses
+read_text_as : (whole : List ℕ) (entries : List ℕ) (place next : Place) (line n : ℕ) (tail rest : List ℕ)
+    → whole ≡ with_head line n tail ++ codes "\n" → line < LINES → IsLine tail
+    → after_entry place (words (with_head line n tail)) ≡ Ok next
     → read_lines entries place (slice_split ends_line (whole ++ rest))
-    ≡ read_lines (entries ++ whole) (next_place place line n refuses) (slice_split ends_line rest)
-read_text_as whole entries place line n tail rest kind fields refuses e below low number is are says =
+    ≡ read_lines (entries ++ whole) next (slice_split ends_line rest)
+read_text_as whole entries place next line n tail rest e below is goes =
     ap (λ (bytes : List ℕ). read_lines entries place (slice_split ends_line (bytes ++ rest))) e
-    ∙ read_text entries place line n tail rest kind fields refuses below low number is are says
-    ∙ ap (λ (bytes : List ℕ). read_lines (entries ++ bytes) (next_place place line n refuses) (slice_split ends_line rest)) (sym e)
+    ∙ read_text entries place next line n tail rest below is goes
+    ∙ ap (λ (bytes : List ℕ). read_lines (entries ++ bytes) next (slice_split ends_line rest)) (sym e)
 
--- an entry is read
-read_entry_by : (refusal : Option (Reason × ℕ)) (entries : List ℕ) (place : Place) (line n : ℕ) (entry : List Mark) (rest : List ℕ)
-    → line < LINES → place.line ≤ line → number_at place line ≡ n
+-- the entry of a line that comes next is read
+abbrev IsReadNext : Place → ℕ → ℕ → List Mark → Option (Reason × ℕ) → Type 0
+IsReadNext place line n entry refusal =
+    (entries rest : List ℕ)
     → read_lines entries place (slice_split ends_line (entry_text_by line n entry refusal ++ rest))
     ≡ read_lines (entries ++ entry_text_by line n entry refusal) (next_place place line n (is_some refusal)) (slice_split ends_line rest)
-read_entry_by None entries place line n entry rest below low number =
-    let tail : List ℕ = codes "KEYED" ++ marks_text entry in
-    read_text_as (entry_text_by line n entry None) entries place line n tail rest (codes "KEYED") (words_of_keying entry).0 false
+
+read_keyed : (place : Place) (line n : ℕ) (entry : List Mark) → line < LINES → At place line n → AllByRecursion IsKeyMark entry
+    → last_refusal entry ≡ None → IsReadNext place line n entry None
+read_keyed place line n entry below at are none entries rest =
+    read_text_as (entry_text_by line n entry None) entries place (next_place place line n false) line n (keyed_rest entry) rest
     (ap (λ (bytes : List ℕ). bytes ++ codes "\n") (append_assoc (entry_head line n) (codes " KEYED") (marks_text entry)))
-    below low number (AreFrom-append 32 (codes "KEYED") (marks_text entry) (plain 32 (codes "KEYED") refl) (IsLine-marks entry)) (words_of_keying entry).1 refl
-read_entry_by (Some refusal) entries place line n entry rest below low number =
-    let after : List ℕ = reason_text refusal.0 ++ codes " " ++ decimal refusal.1 in
-    let tail : List ℕ = codes "REFUSED" ++ space ∷ after in
-    let spelled : entry_head line n ++ codes " REFUSED " ++ reason_text refusal.0 ++ codes " " ++ decimal refusal.1 ≡ with_head line n tail
-    = simp append_assoc in
-    let text : entry_text_by line n entry (Some refusal) ≡ with_head line n tail ++ codes "\n"
-    = ap (λ (bytes : List ℕ). bytes ++ codes "\n") spelled in
-    read_text_as (entry_text_by line n entry (Some refusal)) entries place line n tail rest (codes "REFUSED") (words after) true text
-    below low number
-    (AreFrom-append 32 (codes "REFUSED") (space ∷ after) (plain 32 (codes "REFUSED") refl) (
+    below (AreFrom-append 32 (codes "KEYED") (marks_text entry) (plain 32 (codes "KEYED") refl) (IsLine-marks entry))
+    (after_entry-read place line n (keyed_rest entry) (entry_with line n entry) (keyed-back place line n entry (omega arith) at are)
+    ∙ ap (λ (o : Option (Reason × ℕ)). Ok (next_place place line n (is_some o))) none)
+
+read_refused : (place : Place) (line n : ℕ) (entry : List Mark) (reason : Reason) (heard : ℕ) → line < LINES → At place line n
+    → heard < 256 → IsReadNext place line n entry (Some (reason, heard))
+read_refused place line n entry reason heard below at few entries rest =
+    let after : List ℕ = reason_text reason ++ (32 ∷ decimal heard) in
+    let spelled : entry_head line n ++ codes " REFUSED " ++ reason_text reason ++ codes " " ++ decimal heard
+    ≡ with_head line n (refused_rest reason heard) = simp append_assoc in
+    read_text_as (entry_text_by line n entry (Some (reason, heard))) entries place (next_place place line n true) line n
+    (refused_rest reason heard) rest (ap (λ (bytes : List ℕ). bytes ++ codes "\n") spelled) below
+    (AreFrom-append 32 (codes "REFUSED") (32 ∷ after) (plain 32 (codes "REFUSED") refl) (
       omega arith,
-      AreFrom-append 32 (reason_text refusal.0 ++ codes " ") (decimal refusal.1)
-          (AreFrom-append 32 (reason_text refusal.0) (codes " ") (IsLine-word (reason_text refusal.0) (IsWord-reason refusal.0)) IsLine-blank)
-          (IsLine-word (decimal refusal.1) (IsWord-decimal refusal.1)),
+      AreFrom-append 32 (reason_text reason) (32 ∷ decimal heard) (IsLine-word (reason_text reason) (IsWord-reason reason))
+          (omega arith, IsLine-word (decimal heard) (IsWord-decimal heard)),
     ))
-    (words_of_refusal after) refl
+    (after_entry-read place line n (refused_rest reason heard) (entry_with line n (Refused reason heard ∷ []))
+    (refused-back place line n reason heard (omega arith) at few))
+
+read_entry : (place : Place) (line n : ℕ) (entry : List Mark) → line < LINES → At place line n → IsEntry entry
+    → IsReadNext place line n entry (last_refusal entry)
+read_entry place line n entry below at is = by (kind_of entry is)
+  where
+    by : IsKeyedEntry entry ⊎ IsRefusedEntry entry → IsReadNext place line n entry (last_refusal entry)
+    by (inl keyed) =
+        subst (λ o. IsReadNext place line n entry o) (sym keyed.0) (read_keyed place line n entry below at keyed.1 keyed.0)
+    by (inr refused) =
+        subst (λ o. IsReadNext place line n entry o) (sym refused.last)
+        (read_refused place line n entry refused.reason refused.heard below at refused.few)
 
 -- from one place to another the entries of a sheet are read
 pub record Reads (place : Place) (sheet : Sheet) (place' : Place) : Type 0 where
@@ -205,11 +203,11 @@ entries_next : (place : Place) (line n : ℕ) (b : Bool) → (next_place place l
 entries_next place line n true = refl
 entries_next place line n false = refl
 
-Reads-entry : (place : Place) (line n : ℕ) (entry : List Mark) → line < LINES → place.line ≤ line → number_at place line ≡ n
+Reads-entry : (place : Place) (line n : ℕ) (entry : List Mark) → line < LINES → At place line n → IsEntry entry
     → Reads place (entry_sheet line n entry) (next_place place line n (is_refused entry))
 unfolding entry_sheet
-Reads-entry place line n entry below low number = record {
-  is = λ entries rest. read_entry_by (last_refusal entry) entries place line n entry rest below low number;
+Reads-entry place line n entry below at is = record {
+  is = λ entries rest. read_entry place line n entry below at is entries rest;
   keyed_is = keyed_next place line n (is_refused entry);
   refused_is = refused_next place line n (is_refused entry);
 }
@@ -249,16 +247,16 @@ pub record ReadsUpTo (place : Place) (sheet : Sheet) (line : ℕ) : Type 0 where
   pub ready : Ready place' line
 
 Reads-entries : (place : Place) (line n : ℕ) (entries : List (List Mark)) → line < LINES → place.line ≤ line → number_at place line ≡ n
-    → (place' : Place) × Reads place (entries_sheet line n entries) place' × (place'.line ≤ line)
-Reads-entries place line n [] below low number =
+    → AllByRecursion IsEntry entries → (place' : Place) × Reads place (entries_sheet line n entries) place' × (place'.line ≤ line)
+Reads-entries place line n [] below low number are =
     (place, subst (λ sheet. Reads place sheet place) (sym (entries_sheet-none line n)) (Reads-none place), low)
-Reads-entries place line n (entry ∷ entries) below low number =
+Reads-entries place line n (entry ∷ entries) below low number are =
     let next : Place = next_place place line n (is_refused entry) in
     let same : next.line ≡ line = line_next place line n (is_refused entry) in
-    let rest = Reads-entries next line (n + 1) entries below (omega arith) (number_next place line n (is_refused entry)) in (
+    let rest = Reads-entries next line (n + 1) entries below (omega arith) (number_next place line n (is_refused entry)) are.1 in (
       rest.0,
       subst (λ sheet. Reads place sheet rest.0) (sym (entries_sheet-more line n entry entries))
-          (Reads-both place next rest.0 (entry_sheet line n entry) (entries_sheet line (n + 1) entries) (Reads-entry place line n entry below low number) rest.1),
+          (Reads-both place next rest.0 (entry_sheet line n entry) (entries_sheet line (n + 1) entries) (Reads-entry place line n entry below (record { low = low; next = number }) are.0) rest.1),
       rest.2,
     )
 
@@ -273,9 +271,10 @@ unfolding entries_sheet
 line_sheet-entries line marks = refl
 
 -- the tape of a line is read, and then the next line may begin
-Reads-line : (place : Place) (line : ℕ) (marks : List Mark) → line < LINES → Ready place line → ReadsUpTo place (line_sheet line marks) (line + 1)
-Reads-line place line marks below ready =
-    let read = Reads-entries place line 1 (entries_of marks) below ready.low (number-ready place line ready) in
+Reads-line : (place : Place) (line : ℕ) (marks : List Mark) → line < LINES → Ready place line → AreMarks marks
+    → ReadsUpTo place (line_sheet line marks) (line + 1)
+Reads-line place line marks below ready are =
+    let read = Reads-entries place line 1 (entries_of marks) below ready.low (number-ready place line ready) (entries_are marks are) in
     record {
       place' = read.0;
       reads = subst (λ sheet. Reads place sheet read.0) (line_sheet-entries line marks) read.1;
@@ -283,14 +282,15 @@ Reads-line place line marks below ready =
     }
 
 -- the tapes of n lines are read
-pub Reads-lines : (tape : ℕ → List Mark) (place : Place) (a n : ℕ) → a + n ≤ LINES → Ready place a → ReadsUpTo place (sheet_from tape a n) (a + n)
+pub Reads-lines : (tape : ℕ → List Mark) (place : Place) (a n : ℕ) → a + n ≤ LINES → Ready place a
+    → ((l : ℕ) → AreMarks (tape l)) → ReadsUpTo place (sheet_from tape a n) (a + n)
 unfolding sheet_from
-Reads-lines tape place a zero within ready =
+Reads-lines tape place a zero within ready are =
     let same : a ≡ a + 0 = omega arith in
     record { place' = place; reads = Reads-none place; ready = subst (λ line. Ready place line) same ready }
-Reads-lines tape place a (suc n) within ready =
-    let first = Reads-line place a (tape a) (omega arith) ready in
-    let rest = Reads-lines tape first.place' (a + 1) n (omega arith) first.ready in
+Reads-lines tape place a (suc n) within ready are =
+    let first = Reads-line place a (tape a) (omega arith) ready (are a) in
+    let rest = Reads-lines tape first.place' (a + 1) n (omega arith) first.ready are in
     let same : a + 1 + n ≡ a + suc n = omega arith in
     record {
       place' = rest.place';

@@ -11,8 +11,8 @@ use Rattle.xb_page.specs.declared.fault.PageFault.{PageFault}
 use Rattle.xb_page.specs.declared.fault.PageFault.TheVariants as fault
 use Rattle.xb_page.specs.declared.place.Place.{Place}
 use Rattle.xb_page.specs.PageLines.{Read, ends_line, has_more, place_and, read_lines, read_page, read_totals, read_with, start_at, words}
-use Rattle.xb_page.specs.Places.{after_head, line_after, line_feed, space, text_line}
-use Rattle.xb_page.specs.ReadPages.{are_four, four_of, is_totals, says_totals}
+use Rattle.xb_page.specs.Places.{line_after, line_feed, space, text_line}
+use Rattle.xb_page.specs.ReadPages.{after_entry, are_four, four_of, is_totals, says_totals}
 use Rattle.xb_page.specs.Sheets.{Sheet, sheet_text, sheet_with}
 use Rattle.xb_page.proofs.EntryHeads.{IsLine-totals, is_totals-totals, says_totals-totals, totals_text-words, totals_words}
 use Rattle.xb_page.proofs.PlainBytes.{slice_split-line}
@@ -27,7 +27,7 @@ read_totals-end entries place =
     ap (λ (bytes : List ℕ). read_lines entries place (slice_split ends_line bytes)) (totals_text-words place.keyed place.refused)
     ∙ ap (read_lines entries place) (slice_split-line text [] (IsLine-totals place.keyed place.refused))
     ∙ cond-true (is_totals (words text)) (read_totals entries place text later)
-    (place_and (after_head place (words text)) (λ next. read_lines (entries ++ text ++ codes "\n") next later))
+    (place_and (after_entry place (words text)) (λ next. read_lines (entries ++ text ++ codes "\n") next later))
     (is_totals-totals place.keyed place.refused)
     ∙ cond-false (not (says_totals place (words text))) (Err (fault.Totals (text_line place))) (Ok (read_with entries place))
     (ap not (says_totals-totals place))
@@ -126,11 +126,11 @@ accepted entries place (text ∷ later) read e =
         → ((next : Place) → read_lines (entries ++ text ++ codes "\n") next later ≡ Ok read
         → (entries ++ text ++ codes "\n") ++ text_of later ≡ sheet_text read.sheet)
         → cond (not m) (Err (fault.NoTotals (text_line place))) (cond t (read_totals entries place text later)
-        (place_and (after_head place (words text)) (λ next. read_lines (entries ++ text ++ codes "\n") next later))) ≡ Ok read
+        (place_and (after_entry place (words text)) (λ next. read_lines (entries ++ text ++ codes "\n") next later))) ≡ Ok read
         → entries ++ text_of (text ∷ later) ≡ sheet_text read.sheet
     at true true more first rest e =
         totals_case entries place text later read more (says_totals place (words text)) (length (text_of later) == 0) refl refl first e
-    at true false more first rest e = entry_case entries place text later read more (after_head place (words text)) rest e
+    at true false more first rest e = entry_case entries place text later read more (after_entry place (words text)) rest e
     at false t more first rest e = absurd (let no : ⊥ = cc in no)
 
 pub accepted_page : (from : ℕ) (page : List ℕ) (read : Read) → read_page from page ≡ Ok read → page ≡ sheet_text read.sheet

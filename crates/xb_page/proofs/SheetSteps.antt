@@ -11,8 +11,8 @@ use Rattle.xb_page.specs.declared.fault.PageFault.{PageFault}
 use Rattle.xb_page.specs.declared.fault.PageFault.TheVariants as fault
 use Rattle.xb_page.specs.declared.place.Place.{Place}
 use Rattle.xb_page.specs.PageLines.{Read, ends_line, has_more, place_and, read_lines, read_page, read_totals, read_with, words}
-use Rattle.xb_page.specs.Places.{after_head, line_feed, text_line}
-use Rattle.xb_page.specs.ReadPages.{is_totals, says_totals}
+use Rattle.xb_page.specs.Places.{line_feed, text_line}
+use Rattle.xb_page.specs.ReadPages.{after_entry, is_totals, says_totals}
 use Rattle.xb_page.proofs.ReadEntries.{has_more-slice_split, read_lines-more}
 
 -- a page is read as its rest from a line's start on is, after the earlier lines
@@ -53,10 +53,10 @@ module _ (from : ℕ) (page : List ℕ) (place : Place) (start n : ℕ) (rest : 
 
   -- a line that is not the totals
   pub not_totals : false ≡ is_totals (words text)
-      → read_page from page ≡ place_and (after_head place (words text)) (λ next. read_lines (take (start + n + 1) page) next (slice_split ends_line (drop (start + n + 1) page)))
+      → read_page from page ≡ place_and (after_entry place (words text)) (λ next. read_lines (take (start + n + 1) page) next (slice_split ends_line (drop (start + n + 1) page)))
   not_totals other =
       here ∙ read_lines-more (take start page) place text later more (sym other)
-      ∙ ap (λ (bytes : List ℕ). place_and (after_head place (words text)) (λ next. read_lines bytes next later))
+      ∙ ap (λ (bytes : List ℕ). place_and (after_entry place (words text)) (λ next. read_lines bytes next later))
       (append_assoc (take start page) text (codes "\n")
       ∙ ap (λ (t : List ℕ). take start page ++ (t ++ codes "\n")) is_text
       ∙ ap (λ (t : List ℕ). take start page ++ t) (with_byte line_feed (drop start page) n at)
@@ -89,12 +89,12 @@ module _ (from : ℕ) (page : List ℕ) (place : Place) (start n : ℕ) (rest : 
 
 -- a line that is wrong
 pub after_fails : (d : PageFault) → (place : Place) (text : List ℕ) (next : Place → Result Read PageFault)
-    → Err d ≡ after_head place (words text) → place_and (after_head place (words text)) next ≡ Err d
+    → Err d ≡ after_entry place (words text) → place_and (after_entry place (words text)) next ≡ Err d
 after_fails d place bytes next e = ap (λ (r : Result Place PageFault). place_and r next) (sym e)
 
 -- a line that is right
 pub after_goes : (place' place : Place) (text : List ℕ) (next : Place → Result Read PageFault)
-    → Ok place' ≡ after_head place (words text) → place_and (after_head place (words text)) next ≡ next place'
+    → Ok place' ≡ after_entry place (words text) → place_and (after_entry place (words text)) next ≡ next place'
 after_goes place' place bytes next e = ap (λ (r : Result Place PageFault). place_and r next) (sym e)
 
 -- no line is left

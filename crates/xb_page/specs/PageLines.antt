@@ -1,4 +1,4 @@
--- What the heads and the totals of a page say.
+-- What a page says whose entries are not kept.
 use Rattle.std.specs.Prelude.{ℕ, ◌==◌, not, if◌then◌else◌, List, [], ◌∷◌, ◌++◌, length, codes, Bool, true, false, Result, Ok, Err}
 use Rattle.std.specs.List.{join_with_byte, slice_split}
 use Rattle.xb_text.specs.Pieces.{pieces}
@@ -6,8 +6,8 @@ use Rattle.xb_page.specs.declared.fault.PageFault.{PageFault}
 use Rattle.xb_page.specs.declared.fault.PageFault.TheVariants as fault
 use Rattle.xb_page.specs.declared.heads.ReadPage.{ReadPage}
 use Rattle.xb_page.specs.declared.place.Place.{Place}
-use Rattle.xb_page.specs.Places.{after_head, line_after, line_feed, place_with, space, text_line}
-use Rattle.xb_page.specs.ReadPages.{is_totals, says_totals}
+use Rattle.xb_page.specs.Places.{line_after, line_feed, place_with, space, text_line}
+use Rattle.xb_page.specs.ReadPages.{after_entry, is_totals, says_totals}
 use Rattle.xb_page.specs.Sheets.{Sheet, sheet_with}
 
 abbrev pub ends_line : ℕ → Bool
@@ -57,7 +57,7 @@ read_lines entries place [] = Err (fault.NoTotals (text_line place))
 read_lines entries place (text ∷ later) =
     if not (has_more later) then Err (fault.NoTotals (text_line place))
     else if is_totals (words text) then read_totals entries place text later
-    else place_and (after_head place (words text))
+    else place_and (after_entry place (words text))
     (λ next. read_lines (entries ++ text ++ codes "\n") next later)
 
 -- what a page gives, whose first entry is of this line or a later one; or what is wrong with it

@@ -94,11 +94,6 @@ next_place place line number refused =
 abbrev pub place_after : Place → Entry → Place
 place_after place entry = next_place place entry.line entry.number (is_refused entry.marks)
 
--- the place after the entry whose head a text line writes, or the first fault of the head
-abbrev pub after_head : Place → List (List ℕ) → Result Place PageFault
-after_head place fields =
-    head_and (head_of_fields place fields) (λ head. Ok (next_place place head.line head.number head.refused))
-
 -- the first line that the next page may have
 abbrev pub line_after : Place → ℕ
 line_after place = if place.entries == 0 then place.line else place.line + 1

@@ -1,5 +1,5 @@
 -- What mfbank prints is read back.
-use Rattle.std.specs.Prelude.{◌≡◌, ℕ, ◌+◌, ◌^◌, ◌<◌, ◌≤◌, List, [], ◌∷◌, ◌++◌, length, Ok, Option, Some, None}
+use Rattle.std.specs.Prelude.{◌≡◌, ℕ, ◌+◌, ◌<◌, ◌≤◌, List, [], ◌∷◌, ◌++◌, length, Ok, Option, Some, None}
 use Rattle.std.specs.List.{AllByRecursion}
 use Rattle.xb_model.specs.declared.digit.TheConstants.{DIGITS}
 use Rattle.xb_model.specs.declared.key.Key.{Key}
@@ -26,7 +26,7 @@ IsMark (Tone key pair) = IsKey key × (pair.low < 4000) × (pair.high < 4000)
 IsMark (Refused reason heard) = heard < 256
 
 abbrev pub AreMarks : List Mark → Type 0
-AreMarks marks = AllByRecursion IsMark marks × (length marks < 10 ^ 7)
+AreMarks marks = AllByRecursion IsMark marks
 
 -- what a page says of an entry: a refusal that ends it, else all its marks
 abbrev pub said_by : List Mark → Option (Reason × ℕ) → List Mark

@@ -100,6 +100,23 @@ abbrev pub entry_of_fields : Place → List (List ℕ) → Result Entry PageFaul
 entry_of_fields place fields =
     head_and (head_of_fields place fields) (λ head. entry_of_head (text_line place) head)
 
+abbrev pub entry_and : {A : Type 0} → Result Entry PageFault → (Entry → Result A PageFault) → Result A PageFault
+entry_and (Err f) next = Err f
+entry_and (Ok entry) next = next entry
+
+-- the place after the entry that a text line writes, or its first fault
+abbrev pub after_entry : Place → List (List ℕ) → Result Place PageFault
+after_entry place fields = entry_and (entry_of_fields place fields) (λ entry. Ok (place_after place entry))
+
+-- a fault where there is nothing
+abbrev pub if_there : {A : Type 0} → PageFault → Option A → Result (Unit {0}) PageFault
+if_there f found = or_fault f found (λ _. Ok tt)
+
+-- whether a refusal follows a head in text line n, or marks do
+abbrev pub check_rest : ℕ → Bool → List (List ℕ) → Result (Unit {0}) PageFault
+check_rest n refused fields =
+    if refused then if_there (fault.Refusal n) (refusal_of_fields fields) else if_there (fault.Key n) (marks_of fields)
+
 -- four pieces
 abbrev pub four_of : List (List ℕ) → Option (List ℕ × List ℕ × List ℕ × List ℕ)
 four_of [] = None

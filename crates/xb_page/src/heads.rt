@@ -1,14 +1,15 @@
-// The heads and the totals of a page.
+// A page whose entries are judged, and not kept.
 ghost use Rattle.std.specs.Prelude.{◌≡◌, ◌≤◌, ◌<◌, ◌^◌, Ok, Err, MatchResult, IfOk};
 ghost use Rattle.std.specs.List.{position};
 ghost use Rattle.xb_model.specs.declared.line.TheConstants.{LINES};
 ghost use Rattle.xb_page.specs.PageLines.{ends_line, read_of, read_page};
 
+use crate::checking::after_entry;
 use crate::fault::PageFault;
 use crate::place::Place;
 use crate::totals::{is_totals, says_totals};
 
-/// What the heads and the totals of a page give.
+/// What a page gives whose entries are not kept.
 #[derive(Clone, Copy)]
 pub struct ReadPage<'a> {
     /// The text of the entries.
@@ -28,9 +29,9 @@ fn line_length(text: &[u8]) -> Option<usize>
     text.iter().position(|byte| *byte == b'\n')
 }
 
-/// Reads the heads and the totals of a page, whose lines are `from` and later ones, or its first fault; what
-/// stands after the head of an entry is not looked at. A text line that no LF ends is none, so a page that is
-/// cut has no totals.
+/// Reads a page whose lines are `from` and later ones, or its first fault. Each entry is judged as
+/// `page_entries` does it, and takes no memory. A text line that no LF ends is none, so a page that is cut has
+/// no totals.
 pub fn read_page(page: &[u8], from: u16) -> Result<ReadPage<'_>, PageFault>
     requires { from ≤ LINES }
     ensures says { MatchResult result (λ read. read_page from page.now ≡ Ok (read_of read))
@@ -59,7 +60,7 @@ pub fn read_page(page: &[u8], from: u16) -> Result<ReadPage<'_>, PageFault>
                 next_line,
             });
         }
-        place = place.after_head(text)?;
+        place = after_entry(&place, text)?;
         start = end + 1;
     }
     Err(PageFault::NoTotals(place.text_line()))

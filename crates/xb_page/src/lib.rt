@@ -5,15 +5,17 @@
 //!   above, a number that is not the next of its line, neither KEYED nor REFUSED, a wrong trunk group or
 //!   key, a wrong refusal, totals that are not those of the entries, no totals, text after them.
 //! - `PageEntry`: its line, its number, its marks, and by its last mark whether and why it is refused.
-//! - `read_page`: exactly the heads and the totals of a page, of lines from a first one on, or the first
-//!   fault of these; what stands after the head of an entry stays text. It takes no memory.
-//! - `laws::pages_are_read_back`: what is read of the page of tapes, of at most 10,000 lines and fewer than
-//!   10^7 marks a line, are exactly the entries that it was printed from.
+//! - `read_page`: of a page of lines from a first one on, the text of its entries and how many are keyed and
+//!   refused, or the first fault. Each text line is judged by the same definition (`entry_of_fields`), and
+//!   takes no memory.
+//! - `laws::pages_are_read_back`: what is read of the page of tapes, of at most 10,000 lines, are exactly the
+//!   entries that it was printed from.
 //!
 //! Not said: that a text that is read is a page, byte for byte. Frequencies (below 4,000 Hz) and counts may
 //! have leading zeros, and the marks of a keyed entry stand in any order.
 #![tactic(auto)]
 
+mod checking;
 mod entry;
 mod fault;
 mod fields;

@@ -1,7 +1,7 @@
 // Where the reading of a page stands, and the head of the entry that comes next.
 ghost use Rattle.std.specs.Prelude.{◌≡◌, ◌<◌, ◌≤◌, ◌+◌, ◌^◌, IfErr, IfOk, IfSome, Err, Ok, drop, option_copied};
 ghost use Rattle.xb_model.specs.declared.line.TheConstants.{LINES};
-ghost use Rattle.xb_page.specs.Places.{after_head, four_digits_of, head_of_fields, head_of_words, line_after, next_number, next_place, number_at, place_with, space, text_line, written};
+ghost use Rattle.xb_page.specs.Places.{four_digits_of, head_of_fields, head_of_words, line_after, next_number, next_place, number_at, place_with, space, text_line, written};
 ghost use Rattle.xb_text.specs.Pieces.{pieces, pieces_left};
 
 use crate::fault::PageFault;
@@ -142,22 +142,6 @@ impl Place {
             } else {
                 self.refused
             },
-        }
-    }
-
-    // The place after the entry whose head a text line writes, or the first fault of the head.
-    pub(crate) fn after_head(&self, text: &[u8]) -> Result<Place, PageFault>
-        requires lines { text_line self.now < 2 ^ 64 }
-        requires entries { self.now.entries + 1 < 2 ^ 64 }
-        ensures place { result ≡ after_head self.now (pieces space text.now) }
-        ensures line { IfOk result (λ next. next.line < LINES) }
-        ensures lines { IfOk result (λ next. text_line next ≡ text_line self.now + 1) }
-        ensures entries { IfOk result (λ next. next.entries ≤ self.now.entries + 1) }
-    {
-        // `?` has no rule for a borrow beside a line
-        match self.head_of(text) {
-            Ok(head) => Ok(self.after(head.line, head.number, head.refused)),
-            Err(fault) => Err(fault),
         }
     }
 

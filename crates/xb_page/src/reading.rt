@@ -78,7 +78,7 @@ fn entry_of_line(alloc: Global, place: &Place, text: &[u8]) -> Result<PageEntry,
     ensures fault { IfErr result (λ f. IsFaultOf (entry_of_fields place.now (pieces space text.now)) f) }
     ensures number { IfOk result (λ entry. entry.number ≤ place.now.entries + 1) }
 {
-    // as in `Place::after_head`
+    // `?` has no rule for a borrow beside a line
     match place.head_of(text) {
         Ok(head) => entry_of_head(alloc, place.text_line(), head),
         Err(fault) => Err(fault),

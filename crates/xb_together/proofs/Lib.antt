@@ -1,3 +1,4 @@
 mod FarEnds
 pub mod PlannedPages
+mod TableRoutes
 pub mod SplitPages

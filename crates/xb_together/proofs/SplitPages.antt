@@ -18,6 +18,7 @@ use Rattle.xb_parts.proofs.RangeParts.{ranges_make_parts}
 use Rattle.xb_join.specs.declared.join_fault.JoinFault.{JoinFault}
 use Rattle.xb_join.specs.Joining.{Given, given_part, given_with, join_of}
 use Rattle.xb_join.proofs.JoinedPages.{parts_make_the_whole}
+use Rattle.xb_together.proofs.TableRoutes.{table-routes}
 use Rattle.xb_together.specs.SplitDecks.{HasItsPage, IsSmall, SplitDecksMakeThePage, range_deck, ranges_of}
 
 -- some of rows are rows
@@ -65,5 +66,6 @@ split_decks_make_the_page made_say lines table rows parts are_lines is_table are
     (parts_are made_say lines table rows are_lines is_table are_rows parts
     (recursion_from_All (IsSmall lines rows) (ranges_of parts) small) (recursion_from_All (HasItsPage lines rows) parts says_them))
     ∙ parts_make_the_whole table.plan table.limits table.routes rows (map (part_with rows) (ranges_of parts))
+    (table-routes (with_ends lines) table is_table)
     (ranges_make_parts rows (ranges_of parts) cover)
     ∙ ap (λ (page : List ℕ). said_page page) (sym (page_of-whole made_say lines table rows are_lines is_table are_rows))

@@ -2,7 +2,7 @@ use Rattle.std.proofs.Common.{◌≡◌, ◌∙◌, ℕ, List, sym, ap, arith, r
 use Rattle.std.specs.Prelude.{Err, Ok, Result}
 use Rattle.xb_page.specs.declared.fault.PageFault.{PageFault}
 use Rattle.xb_page.specs.declared.fault.PageFault.TheVariants as fault
-use Rattle.xb_page.specs.PageLines.{Read, read_page, words}
+use Rattle.xb_page.specs.PageLines.{Read, read_page}
 use Rattle.xb_page.specs.Sheets.{sheet_with}
 use Rattle.xb_page.proofs.SheetSteps.{after_fails, after_goes, ends, goes_on, line_within, no_line, not_totals, text, wrong_totals}
 use Rattle.xb_page.proofs.heads.read_page.Goals as goal
