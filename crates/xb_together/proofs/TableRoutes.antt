@@ -1,8 +1,7 @@
 -- The routes of a table that a text writes are as tables have them.
-use Rattle.std.proofs.Common.{◌≡◌, ◌<◌, ℕ, ltb, Bool, true, false, cond, List, [], ◌∷◌, map, Option, Some, None, Ok, Err, Result, refl, sym, subst, arith, ℤ, pos, negsuc}
-use Rattle.std.specs.Prelude.{◌&&◌, ◌==◌, length, nat_le, option_and_then, option_map}
+use Rattle.std.proofs.Common.{◌≡◌, ◌<◌, ◌-◌, ℕ, ltb, Bool, true, false, cond, List, [], ◌∷◌, map, Option, Some, None, Ok, Err, refl, subst, arith, ℤ, pos, negsuc}
+use Rattle.std.specs.Prelude.{length, nat_le, option_and_then, option_map}
 use Rattle.std.specs.Char.{is_ascii_digit}
-use Rattle.std.specs.List.{AllByRecursion}
 use Rattle.std.proofs.lemmas.Bool.{ltb-true}
 use Rattle.std.proofs.lemmas.Bool.Decides.{nat_tests}
 use Rattle.toml.specs.Data.{Data}
@@ -11,8 +10,8 @@ use Rattle.xb_model.specs.declared.digits.TheConstants.{PREFIX_DIGITS}
 use Rattle.xb_model.specs.declared.plan.Plan.{Plan}
 use Rattle.xb_model.specs.declared.trunk.TheConstants.{TRUNKS}
 use Rattle.xb_model.specs.Digits.{digit_of_ascii}
+use Rattle.xb_model.specs.Page.{zero_byte}
 use Rattle.xb_model.specs.Routing.{CodedRoute, coded_route}
-use Rattle.xb_routes.specs.declared.fault.RouteFault.{RouteFault}
 use Rattle.xb_routes.specs.declared.fault.RouteFault.TheVariants as fault
 use Rattle.xb_routes.specs.Codes.{AreDigits, code_of, digits_of_text, number_length}
 use Rattle.xb_routes.specs.Keys.{FourKeys, keys_of}
@@ -33,7 +32,7 @@ trunk-below (pos n) trunk e = by (ltb n TRUNKS) refl e
 digit-below : (c d : ℕ) → digit_of_ascii c ≡ Some d → d < DIGITS
 digit-below c d e = by (is_ascii_digit c) refl e
   where
-    by : (b : Bool) → is_ascii_digit c ≡ b → cond b (Some _) None ≡ Some d → d < DIGITS
+    by : (b : Bool) → is_ascii_digit c ≡ b → cond b (Some (c - zero_byte)) None ≡ Some d → d < DIGITS
     by false is e = absurd (let no : ⊥ = cc in no)
     by true is e = grind (arith, nat_tests, is, e)
 
