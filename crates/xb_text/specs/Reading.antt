@@ -8,6 +8,10 @@ use Rattle.xb_text.specs.declared.reading.ReadFault.TheVariants.{Failed, NoMemor
 abbrev pub TakesUpTo : ℕ → Option (List ℕ) → Option (List ℕ) → Type 0
 TakesUpTo most old new = (bytes : List ℕ) × Consumes old new bytes × (length bytes ≤ most)
 
+-- a reader gave bytes
+abbrev pub TakesSome : Option (List ℕ) → Option (List ℕ) → Type 0
+TakesSome old new = (bytes : List ℕ) × Consumes old new bytes × (0 < length bytes)
+
 -- a reader has more bytes than this, where they are known
 abbrev pub IsLongerThan : ℕ → Option (List ℕ) → Type 0
 IsLongerThan limit left = IfSome left (λ bytes. limit < length bytes)

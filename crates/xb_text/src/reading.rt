@@ -1,7 +1,7 @@
 // Reading to an end.
 ghost use Rattle.std.specs.Prelude.{◌≡◌, ◌≤◌, ◌<◌, ◌+◌, IfSome, IfOk, OnOk, length, Err};
 ghost use Rattle.std.specs.Io.KnownBytes.{IsAtEnd};
-ghost use Rattle.xb_text.specs.Reading.{IsLongerThan, ReadsMore, TakesUpTo};
+ghost use Rattle.xb_text.specs.Reading.{IsLongerThan, ReadsMore, TakesSome, TakesUpTo};
 
 use std::alloc::Global;
 use std::io::Read;
@@ -12,7 +12,7 @@ const BUFFER_BYTES: usize = 8192;
 /// Why a reader was not read to its end.
 #[derive(Clone, Copy, Debug, PartialEq, Eq)]
 pub enum ReadFault {
-    /// A read failed, or 2^64 - 1 reads did not reach the end.
+    /// A read failed, within the limit. What was read before it is lost.
     Failed,
     /// There are more bytes than the limit allows.
     TooLong,
@@ -42,7 +42,8 @@ fn read_more<R: Read>(
 }
 
 /// The bytes of a reader to its end, of which there are at most `limit`; no more than the first byte
-/// after them is taken. A read that was interrupted has failed, and is not tried again.
+/// after them is taken. A read that was interrupted has failed, and is not tried again. However few bytes
+/// a read gives, the next one follows.
 ///
 /// What the contract says of bytes holds for readers whose bytes contracts know (byte slices); those
 /// of a process's standard input are not known.
@@ -56,18 +57,19 @@ pub fn read_whole<R: Read>(
     ensures taken { TakesUpTo (limit + 1) (R.remaining reader.old) (R.remaining reader.new) }
     ensures within { IfOk result (λ v. length v.items ≤ limit) }
     ensures too_long { result ≡ Err ReadFault.TooLong → IsLongerThan limit (R.remaining reader.old) }
+    ensures failed { result ≡ Err ReadFault.Failed →
+        TakesUpTo limit (R.remaining reader.old) (R.remaining reader.new) }
+    ensures no_memory { result ≡ Err ReadFault.NoMemory →
+        TakesSome (R.remaining reader.old) (R.remaining reader.new) }
 {
     let mut bytes = Vec::new(alloc);
     let mut buffer = [0u8; BUFFER_BYTES];
-    for _ in 0..u64::MAX {
-        if bytes.len() > limit {
-            return Err(ReadFault::TooLong);
-        }
+    while bytes.len() <= limit {
         // one byte more than the limit allows tells that there are too many
         let room = (limit - bytes.len()).min(BUFFER_BYTES - 1) + 1;
         if read_more(reader, &mut buffer[..room], &mut bytes)? == 0 {
             return Ok(bytes);
         }
     }
-    Err(ReadFault::Failed)
+    Err(ReadFault::TooLong)
 }

@@ -1,10 +1,10 @@
-use Rattle.std.proofs.Common.{◌++◌, ℕ, ◌≤◌, ◌+◌, List, [], length, Option, Result, Ok, Err, arith, sym, subst}
+use Rattle.std.proofs.Common.{◌≡◌, ◌++◌, ℕ, ◌≤◌, ◌+◌, List, [], length, Option, Result, Ok, Err, sym, arith}
 use Rattle.std.proofs.lemmas.List.{length-append, length-take}
 use Rattle.std.proofs.KnownBytes.{Consumes-kept, Consumes-nil, Consumes-trans}
 use Rattle.std.specs.Io.KnownBytes.{Consumes}
 use Rattle.xb_text.specs.declared.reading.ReadFault.{ReadFault}
 use Rattle.xb_text.specs.declared.reading.ReadFault.TheVariants.{Failed, NoMemory, TooLong}
-use Rattle.xb_text.specs.Reading.{ReadsMore, TakesUpTo}
+use Rattle.xb_text.specs.Reading.{ReadsMore, TakesSome, TakesUpTo}
 use Rattle.xb_text.proofs.reading.read_whole.Goals as goal
 
 -- one read takes no more than there is room for, whatever comes of it
@@ -25,31 +25,24 @@ and-more most room a b c gathered before few more = (
   simp (length-append) (omega (arith, few, more.2)),
 )
 
+-- what was gathered, and a read whose bytes found no memory
+and-lost : (room : ℕ) (a b c : Option (List ℕ)) (gathered before after : List ℕ) (f : ReadFault)
+    → Consumes a b gathered → ReadsMore room b c before after (Err f) → f ≡ NoMemory → TakesSome a c
+and-lost room a b c gathered before after NoMemory read (more, taken, some, within) e = (
+  gathered ++ more,
+  Consumes-trans a b c gathered more read taken,
+  simp (length-append) (omega (arith, some)),
+)
+and-lost room a b c gathered before after Failed read h e = cc
+and-lost room a b c gathered before after TooLong read h e = absurd h
+
 pub returns-in_err-read_more-clause-taken : goal.returns-in_err-read_more-clause-taken
 returns-in_err-read_more-clause-taken g c =
-    and-more _ _ _ _ _ _ c.loop.invariant.read
-    (omega (arith, length-take {A = ℕ}, c.min-room.ensures, c.len.ensures, c.if-len-limit.false, c.loop.bytes.ok.0))
+    and-more _ _ _ _ _ _ c.loop-buffer.invariant.read
+    (omega (arith, length-take {A = ℕ}, c.min-room.ensures, c.len.ensures, c.loop-buffer-test.true, c.loop-buffer.bytes.ok.0))
     (one-read _ _ _ _ _ _ c.read_more.ensures)
 
-pub returns-then-branch-eq0-clause-taken : goal.returns-then-branch-eq0-clause-taken
-returns-then-branch-eq0-clause-taken g c =
-    and-more _ _ _ _ _ _ c.loop.invariant.read
-    (omega (arith, length-take {A = ℕ}, c.min-room.ensures, c.len.ensures, c.if-len-limit.false, c.loop.bytes.ok.0))
-    (one-read _ _ _ _ _ _ c.read_more.ensures)
-
-pub loop-preserved : goal.loop-preserved
-loop-preserved g c =
-    let h = c.in_ok-read_more.ensures in
-    record {
-      read = subst (Consumes _ _) (sym h.gathered) (Consumes-trans _ _ _ _ _ c.loop.invariant.read h.taken);
-      few = rw h.gathered (simp (length-append) (omega (
-        arith,
-        h.count,
-        h.within,
-        length-take {A = ℕ},
-        c.min-room.ensures,
-        c.len.ensures,
-        c.len-in-loop.ensures,
-        c.if-len-limit.false,
-      )));
-    }
+pub returns-in_err-read_more-clause-no_memory : goal.returns-in_err-read_more-clause-no_memory
+returns-in_err-read_more-clause-no_memory g c = λ e.
+    and-lost _ _ _ _ c.loop-buffer.bytes.items c.loop-buffer.bytes.items c.read_more.new.bytes.items _
+    c.loop-buffer.invariant.read c.in_err-read_more.ensures (sym (rw e at c.from_residual.ensures.1))
