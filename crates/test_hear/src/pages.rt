@@ -63,9 +63,24 @@ line 0008, attempt 2 from 1.261 s, record 33: REFUSED ABANDONED 0
 ",
 );
 
+const TEN: (&str, &str) = (
+    "0010",
+    "<tr><th colspan=\"8\">
+line 0010, attempt 1 from 0.000 s, record 34: REFUSED MUTILATED 0
+</th></tr>
+<tr><td>      x</td><td>1</td><td>-</td><td>-</td><td>91</td><td>-</td><td>200</td>\
+<td>break 91 ms &gt; 90 at 0.500 s, record 35</td></tr>
+<tr><td>      x</td><td>2</td><td>10.0</td><td>60.0</td><td>60-125</td><td>40</td><td>600</td>\
+<td>ignored; break 125 ms &gt; 90 at 0.891 s, record 39</td></tr>
+<tr><td>      1</td><td>1</td><td>-</td><td>-</td><td>60</td><td>-</td><td>200</td><td>ignored</td></tr>
+<tr><td colspan=\"8\">  the record ends
+</td></tr>
+",
+);
+
 // The words after those that ask for a page, and the lines that it has.
 const PAGES: &[(&[&str], &[(&str, &str)])] = &[
-    (&[], &[SEVEN, EIGHT]),
+    (&[], &[SEVEN, EIGHT, TEN]),
     (&["--line", "8"], &[EIGHT]),
     (&["--line", "9"], &[("0009", "")]),
 ];

@@ -39,6 +39,22 @@ const PICTURES: &[(&[&str], &[&str])] = &[
         &[">NUMBER 0<", ">0<", ">10.3/s<", ">61.7 %<", ">20000 ms<"],
     ),
     (&["--line", "9"], &[">line 0009<", ">no attempt<", "</svg>"]),
+    (
+        &["--line", "10"],
+        &[
+            ">REFUSED MUTILATED 0<",
+            ">break 91 ms &gt; 90<",
+            ">at record 35<",
+            ">91<",
+            ">break 125 ms &gt; 90<",
+            ">at record 39, ignored<",
+            ">125<",
+            ">600 ms<",
+            ">1<",
+            ">ignored<",
+            ">record ends<",
+        ],
+    ),
 ];
 
 #[test]

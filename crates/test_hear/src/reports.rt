@@ -3,12 +3,14 @@ use std::test::Fail;
 use test_kit::words_of;
 use xb_hear::attend;
 
-// Line 7 dials 0 with a make at its limit, line 8 a digit with a break over its limit, and line 9 nothing.
+// Line 7 dials 0 with a make at its limit, line 8 a digit with a break over its limit, line 9 nothing, and line 10
+// two such digits and a good one.
 pub const DECK: &[u8] =
     b"[[route]]\ncode = \"0\"\ntrunk = 1\n[limits]\npulse_max = 90\n---\nline,state,ms\n\
 9,B,100\n8,M,500\n7,B,700\n7,M,400\n7,B,60\n7,M,40\n7,B,60\n7,M,40\n7,B,60\n7,M,40\n7,B,60\n7,M,40\n7,B,60\n7,M,15\n\
 7,B,60\n7,M,40\n7,B,60\n7,M,40\n7,B,60\n7,M,40\n7,B,60\n7,M,40\n7,B,60\n7,M,20000\n8,B,60\n8,M,30\n8,B,91\n8,M,200\n\
-8,B,60\n8,M,20\n8,B,300\n7,C,0\n8,M,1\n";
+8,B,60\n8,M,20\n8,B,300\n7,C,0\n8,M,1\n10,M,500\n10,B,91\n10,M,200\n10,B,60\n10,M,40\n10,B,125\n10,M,600\n10,B,60\n\
+10,M,200\n";
 
 const LIMITS: &str =
     "limits in ms: break 20 to 90, make from 15, pause from 180, release from 300, time-out from 20000\n";
@@ -30,27 +32,65 @@ line 0008, attempt 2 from 1.261 s, record 33: REFUSED ABANDONED 0
   the record ends
 ";
 
-// The words after the program's name, and the parts of the report.
-const REPORTS: &[(&[&str], &[&str])] = &[
-    (&[], &[LIMITS, SEVEN, EIGHT]),
-    (&["--line", "7"], &[LIMITS, SEVEN]),
-    (&["--line=8"], &[LIMITS, EIGHT]),
-    (&["--line", "9"], &[LIMITS, "\nline 9 has no attempt\n"]),
+const TEN: &str = "\nline 0010, attempt 1 from 0.000 s, record 34: REFUSED MUTILATED 0
+  digit  pulses    p/s  % break  break ms   make ms  pause ms
+      x       1      -        -        91         -       200  break 91 ms > 90 at 0.500 s, record 35
+      x       2   10.0     60.0    60-125        40       600  ignored; break 125 ms > 90 at 0.891 s, record 39
+      1       1      -        -        60         -       200  ignored
+  the record ends
+";
+
+// A deck whose figures are as wide as its limits let them be: line 1 waits twelve days after a digit, and the breaks
+// and makes of line 3 last up to 1,000 s.
+const WIDE: &[u8] =
+    b"[[route]]\ncode = \"0\"\ntrunk = 1\n[limits]\npulse_max = 973422\nmake_min = 1\npause = 999999\n\
+release = 1000000\ntimeout = 1000000\n---\nline,state,ms\n\
+3,M,500\n3,B,973422\n3,M,1\n3,B,382049\n3,M,999998\n3,B,500000\n3,M,999999\n1,M,500\n1,B,60\n\
+1,M,86400000\n1,M,86400000\n1,M,86400000\n1,M,86400000\n1,M,86400000\n1,M,86400000\n\
+1,M,86400000\n1,M,86400000\n1,M,86400000\n1,M,86400000\n1,M,86400000\n1,M,86400000\n";
+
+const OF_WIDE: &str =
+    "limits in ms: break 20 to 973422, make from 1, pause from 999999, release from 1000000, time-out from 1000000
+
+line 0001, attempt 1 from 0.000 s, record 8: REFUSED TIMEDOUT 1
+  digit  pulses    p/s  % break  break ms   make ms  pause ms
+      1       1      -        -        60         -  1036800000
+  timed out by a make of 1036800000 ms at 0.560 s, record 10
+  the record ends
+
+line 0003, attempt 1 from 0.000 s, record 1: REFUSED ABANDONED 1
+  digit  pulses    p/s  % break  break ms   make ms  pause ms
+      3       3    0.0     57.5  382049-973422  1-999998    999999
+  the record ends
+";
+
+// A deck, the words after the program's name, and the parts of the report.
+const REPORTS: &[(&[u8], &[&str], &[&str])] = &[
+    (DECK, &[], &[LIMITS, SEVEN, EIGHT, TEN]),
+    (DECK, &["--line", "7"], &[LIMITS, SEVEN]),
+    (DECK, &["--line=8"], &[LIMITS, EIGHT]),
     (
+        DECK,
+        &["--line", "9"],
+        &[LIMITS, "\nline 9 has no attempt\n"],
+    ),
+    (
+        DECK,
         &["--line", "9999"],
         &[LIMITS, "\nline 9999 has no attempt\n"],
     ),
+    (WIDE, &[], &[OF_WIDE]),
 ];
 
 #[test]
 fn reports_as_reckoned(rt: HostRuntime) -> Result<(), Fail> {
-    for (words, parts) in REPORTS {
+    for (deck, words, parts) in REPORTS {
         let mut want = String::new(rt.alloc());
         for part in *parts {
             want.push_str(part)?;
         }
         let all = words_of(rt.alloc(), "mfhear", words)?;
-        let mut deck = DECK;
+        let mut deck = *deck;
         let mut out = Vec::new(rt.alloc());
         let mut err = Vec::new(rt.alloc());
         let got = attend(rt.alloc(), &all, &mut deck, &mut out, &mut err);

@@ -15,9 +15,9 @@ abbrev pub name_of : ℕ → Option Spoiler → Option ℕ
 name_of pulses None = Some (pulses % MOST_PULSES)
 name_of pulses (Some spoiler) = None
 
--- what is said of a digit that the register took, or did not
+-- what is said of a digit that the register took, or did not: what spoils it is told of both
 abbrev pub remark_of : Bool → Option Spoiler → Remark
-remark_of false spoiler = Ignored
+remark_of false spoiler = Ignored spoiler
 remark_of true None = Good
 remark_of true (Some spoiler) = Spoiled spoiler
 

@@ -15,8 +15,8 @@ pub enum Remark {
     Good,
     /// The register took a digit that this spoils.
     Spoiled(Spoiler),
-    /// The register did not take it.
-    Ignored,
+    /// The register did not take it; what spoils it, if anything does.
+    Ignored(Option<Spoiler>),
 }
 
 /// A digit and its figures, as a row of a table has them.
@@ -55,7 +55,7 @@ fn remark_of(taken: bool, spoiler: Option<Spoiler>) -> Remark
     ensures { result ≡ remark_of taken spoiler }
 {
     match spoiler {
-        _ if !taken => Remark::Ignored,
+        _ if !taken => Remark::Ignored(spoiler),
         None => Remark::Good,
         Some(spoiler) => Remark::Spoiled(spoiler),
     }

@@ -1,5 +1,5 @@
 -- Texts that are said after others, and runs that fit.
-use Rattle.std.proofs.Common.{◌≡◌, ◌++◌, ◌+◌, ◌<◌, ◌∙◌, ◌∷◌, [], ℕ, List, Result, OnOk, ap, arith, drop, get_or, length, nat_lt, refl, sym, take, true, append_assoc}
+use Rattle.std.proofs.Common.{◌≡◌, ◌++◌, ◌<◌, ◌∙◌, [], ℕ, List, Result, OnOk, ap, arith, drop, get_or, length, nat_lt, refl, sym, true, append_assoc}
 use Rattle.std.proofs.lemmas.Bool.Decides.{nat_tests}
 use Rattle.std.proofs.lemmas.List.{drop_more}
 use Rattle.std.proofs.lemmas.Result.{on_ok_weaker}

@@ -1,5 +1,5 @@
 -- What a picture says of a digit.
-use Rattle.std.specs.Prelude.{ℕ, ◌+◌, List, [], ◌∷◌, ◌++◌, codes, decimal, is_some, if◌then◌else◌, nat_le, Option, Some, None}
+use Rattle.std.specs.Prelude.{ℕ, ◌+◌, List, [], ◌∷◌, ◌++◌, Bool, true, false, codes, decimal, is_some, if◌then◌else◌, nat_le, Option, Some, None}
 use Rattle.xb_model.specs.declared.dialled.Dialled.{Dialled}
 use Rattle.xb_model.specs.declared.limits.Limits.{Limits}
 use Rattle.xb_heard.specs.declared.fault.Spoiler.{Spoiler}
@@ -12,7 +12,7 @@ use Rattle.xb_heard.specs.declared.row.Remark.TheVariants as remark
 use Rattle.xb_heard.specs.DigitRows.{row_of}
 use Rattle.xb_report.specs.Words.{is_taken}
 use Rattle.xb_report.specs.Marked.{fault_marked}
-use Rattle.xb_picture.specs.Labels.{tenths_with}
+use Rattle.xb_picture.specs.Labels.{record_text, tenths_with}
 use Rattle.xb_picture.specs.declared.course.TheConstants.{TRAIN}
 use Rattle.xb_picture.specs.declared.figures.TheConstants.{TOLD}
 use Rattle.xb_picture.specs.Courses.{fitting}
@@ -46,17 +46,22 @@ wrong_words limits n (run ∷ rest) =
     (if is_some (fault_at limits (n + one_if_break run.contact) run.contact run.ms) then decimal run.ms ∷ [] else [])
     ++ wrong_words limits (n + one_if_break run.contact) rest
 
--- under a spoiled digit: its first fault and where, and then each run that is wrong
-abbrev pub spoiler_words : Limits → List PlacedRun → Spoiler → List (List ℕ)
-spoiler_words limits pulses spoiler =
-    fault_marked limits spoiler.fault spoiler.run.ms ∷ (codes "at record " ++ decimal spoiler.run.first_record) ∷ []
-    ++ wrong_words limits 0 (fitting TRAIN pulses)
+-- under a spoiled digit that the register took, or did not: its first fault, and where
+abbrev pub fault_words : Limits → Bool → Spoiler → List (List ℕ)
+fault_words limits taken spoiler =
+    fault_marked limits spoiler.fault spoiler.run.ms ∷ record_text taken spoiler.run.first_record ∷ []
 
--- under a digit; one that the register did not take has no figures
+-- the same, and then each run that is wrong
+abbrev pub spoiler_words : Limits → List PlacedRun → Bool → Spoiler → List (List ℕ)
+spoiler_words limits pulses taken spoiler =
+    fault_words limits taken spoiler ++ wrong_words limits 0 (fitting TRAIN pulses)
+
+-- under a digit; a good one that the register did not take has no figures
 abbrev pub remark_words : Limits → List PlacedRun → DigitRow → Remark → List (List ℕ)
 remark_words limits pulses row remark.Good = figure_words row
-remark_words limits pulses row (remark.Spoiled spoiler) = spoiler_words limits pulses spoiler
-remark_words limits pulses row remark.Ignored = []
+remark_words limits pulses row (remark.Spoiled spoiler) = spoiler_words limits pulses true spoiler
+remark_words limits pulses row (remark.Ignored None) = []
+remark_words limits pulses row (remark.Ignored (Some spoiler)) = spoiler_words limits pulses false spoiler
 
 -- a digit, its row, and its pause
 abbrev pub digit_words : Limits → DigitOfRuns → DigitRow → List (List ℕ)

@@ -1,5 +1,5 @@
 -- What the texts of a picture say.
-use Rattle.std.specs.Prelude.{ℕ, List, ◌++◌, codes, decimal}
+use Rattle.std.specs.Prelude.{ℕ, List, ◌++◌, Bool, true, false, codes, decimal}
 use Rattle.xb_model.specs.declared.limits.Limits.{Limits}
 use Rattle.xb_model.specs.Page.{four_digits}
 use Rattle.xb_report.specs.Cells.{place_text, tenths_text}
@@ -39,6 +39,11 @@ left_out_text before after =
     codes "not drawn here: " ++ decimal before ++ codes " attempts before, " ++ decimal after
     ++ codes " after; --attempt K draws attempt K"
 
+-- the record where a fault stands, of a digit that the register took, or did not
+abbrev pub record_text : Bool → ℕ → List ℕ
+record_text true number = codes "at record " ++ decimal number
+record_text false number = codes "at record " ++ decimal number ++ codes ", ignored"
+
 -- what a label says
 abbrev pub label_text : Label → List ℕ
 label_text (label.Caption caption) = caption_text caption
@@ -51,7 +56,7 @@ label_text (label.Value value) = decimal value
 label_text (label.Speed tenths) = tenths_with tenths (codes "/s")
 label_text (label.Share tenths) = tenths_with tenths (codes " %")
 label_text (label.Fault limits fault ms) = fault_marked limits fault ms
-label_text (label.Record number) = codes "at record " ++ decimal number
+label_text (label.Record number taken) = record_text taken number
 label_text (label.Time ms) = decimal ms ++ codes " ms"
 label_text (label.Wrong ms) = decimal ms
 label_text (label.Unended pulses) = decimal pulses ++ codes " not ended"

@@ -1,5 +1,5 @@
 -- What the picture of a line says.
-use Rattle.std.specs.Prelude.{ℕ, ◌+◌, ◌-◌, List, [], ◌∷◌, ◌++◌, codes, decimal, drop, length, min, nat_lt, take, if◌then◌else◌}
+use Rattle.std.specs.Prelude.{ℕ, ◌+◌, ◌-◌, List, [], ◌∷◌, ◌++◌, codes, drop, length, min, nat_lt, take, if◌then◌else◌}
 use Rattle.xb_model.specs.declared.limits.Limits.{Limits}
 use Rattle.xb_model.specs.Page.{four_digits}
 use Rattle.xb_heard.specs.Attempts.{AttemptOfRuns}

@@ -1,5 +1,5 @@
 -- The text of a picture: one element a line.
-use Rattle.std.specs.Prelude.{ℕ, ◌/◌, List, [], ◌∷◌, ◌++◌, codes, decimal}
+use Rattle.std.specs.Prelude.{ℕ, ◌/◌, List, ◌++◌, codes, decimal}
 use Rattle.std.specs.List.{flat_map}
 use Rattle.xb_picture.specs.declared.look.Ink.{Ink}
 use Rattle.xb_picture.specs.declared.look.Ink.TheVariants.{White}

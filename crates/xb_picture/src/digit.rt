@@ -10,7 +10,7 @@ use crate::label::Caption;
 use crate::look::{Ink, SMALL};
 use crate::places::UNDER;
 use crate::sheet::{Sheet, make_room, put_band, put_caption};
-use crate::wrong::put_spoiler;
+use crate::wrong::{put_fault, put_wrong};
 use std::alloc::{AllocError, Global};
 use xb_heard::{DigitRow, HeardDigit, PlacedRun, Remark, row_of};
 use xb_model::{Dialled, Limits};
@@ -21,7 +21,7 @@ fn inks_of(remark: Remark) -> (Ink, Ink) {
     match remark {
         Remark::Good => (Ink::PaleBlue, Ink::Dark),
         Remark::Spoiled(_) => (Ink::PaleRed, Ink::Red),
-        Remark::Ignored => (Ink::PaleGrey, Ink::Faint),
+        Remark::Ignored(_) => (Ink::PaleGrey, Ink::Faint),
     }
 }
 
@@ -41,9 +41,14 @@ fn put_remark(
     match row.remark {
         Remark::Good => put_figures(sheet, middle, row),
         Remark::Spoiled(spoiler) => {
-            put_spoiler(alloc, sheet, limits, from, middle, pulses, spoiler)
+            put_fault(sheet, limits, middle, spoiler, true)?;
+            put_wrong(alloc, sheet, limits, from, fitting(TRAIN, pulses))
         }
-        Remark::Ignored => put_caption(sheet, middle, UNDER, SMALL, Caption::Ignored),
+        Remark::Ignored(None) => put_caption(sheet, middle, UNDER, SMALL, Caption::Ignored),
+        Remark::Ignored(Some(spoiler)) => {
+            put_fault(sheet, limits, middle, spoiler, false)?;
+            put_wrong(alloc, sheet, limits, from, fitting(TRAIN, pulses))
+        }
     }
 }
 

@@ -1,6 +1,6 @@
 // What a text of a picture says.
 ghost use Rattle.std.specs.Prelude.{◌≡◌, ◌++◌, OnOk, string_bytes};
-ghost use Rattle.xb_picture.specs.Labels.{caption_text, label_text, left_out_text, limits_words, tenths_with};
+ghost use Rattle.xb_picture.specs.Labels.{caption_text, label_text, left_out_text, limits_words, record_text, tenths_with};
 
 use std::alloc::AllocError;
 use xb_heard::{PlacedRun, PulseFault};
@@ -18,7 +18,7 @@ pub enum Caption {
     Cross,
     /// Over pulses that no pause ended: three dots.
     Dots,
-    /// Under a digit that the register did not take.
+    /// Under a good digit that the register did not take.
     Ignored,
     /// Under a digit of one pulse.
     OnePulse,
@@ -57,8 +57,8 @@ pub enum Label<'a> {
     Share(u128),
     /// What is wrong with a run of so many ms, by these limits.
     Fault(Limits, PulseFault, u64),
-    /// The record where it stands.
-    Record(u32),
+    /// The record where it stands, and whether the register took the digit.
+    Record(u32, bool),
     /// How long a run is, in ms.
     Time(u64),
     /// How long a run is that is wrong, in ms.
@@ -122,6 +122,17 @@ fn push_tenths(out: &mut String, tenths: u128, unit: &str) -> Result<(), AllocEr
     write!(out, "{whole}.{tenth}{unit}")
 }
 
+// Puts the record after the text where a fault stands, of a digit that the register took, or did not.
+fn push_record(out: &mut String, number: u32, taken: bool) -> Result<(), AllocError>
+    ensures { OnOk result (string_bytes out.new ≡ string_bytes out.old ++ record_text taken number) }
+{
+    if taken {
+        write!(out, "at record {number}")
+    } else {
+        write!(out, "at record {number}, ignored")
+    }
+}
+
 // Puts after the text how many attempts are not drawn.
 fn push_others(out: &mut String, before: usize, after: usize) -> Result<(), AllocError>
     ensures { OnOk result (string_bytes out.new ≡ string_bytes out.old ++ left_out_text before after) }
@@ -153,7 +164,7 @@ pub(crate) fn push_label(out: &mut String, label: &Label) -> Result<(), AllocErr
         Label::Speed(tenths) => push_tenths(out, *tenths, "/s"),
         Label::Share(tenths) => push_tenths(out, *tenths, " %"),
         Label::Fault(limits, fault, ms) => push_marked_fault(out, *limits, *fault, *ms),
-        Label::Record(record) => write!(out, "at record {record}"),
+        Label::Record(record, taken) => push_record(out, *record, *taken),
         Label::Time(ms) => write!(out, "{ms} ms"),
         Label::Wrong(ms) => write!(out, "{ms}"),
         Label::Unended(pulses) => write!(out, "{pulses} not ended"),

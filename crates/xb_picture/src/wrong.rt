@@ -1,12 +1,12 @@
 // What is wrong with a digit.
 ghost use Rattle.std.specs.Prelude.{◌≡◌, ◌++◌, ◌+◌, ◌<◌, ◌^◌, [], ◌∷◌, OnOk, decimal, is_some, if◌then◌else◌};
 ghost use Rattle.xb_heard.specs.Faults.{fault_at, one_if_break};
-ghost use Rattle.xb_picture.specs.Digits.{spoiler_words, wrong_words};
+ghost use Rattle.xb_picture.specs.Digits.{fault_words, wrong_words};
 ghost use Rattle.xb_picture.specs.Said.{says};
 
-use crate::course::{TRAIN, drawn, fitting};
+use crate::course::drawn;
 use crate::label::Label;
-use crate::look::{Ink, PLAIN_RED, RED, SHORT_RED};
+use crate::look::{Ink, Look, PLAIN_RED, RED, SHORT_RED, SMALL};
 use crate::places::{
     FAULT_MIDDLE, HIGH, LEFT, LOW, OVER_WRONG, UNDER, UNDER_THAT, UNDER_WRONG, WRONG_WIDTH,
 };
@@ -52,7 +52,7 @@ fn one_if_break(contact: Contact) -> usize
 }
 
 // Draws each run of a train that is wrong in red, where the train begins at this place.
-fn put_wrong(
+pub(crate) fn put_wrong(
     alloc: Global,
     sheet: &mut Sheet,
     limits: Limits,
@@ -73,29 +73,36 @@ fn put_wrong(
     Ok(())
 }
 
-// Says what spoils a digit, and where, and draws its wrong runs in red, where the train begins at this place.
-pub(crate) fn put_spoiler(
-    alloc: Global,
+// How a fault looks under a digit that the register took, or did not, and how the record below it.
+fn looks_of(taken: bool) -> (Look, Look) {
+    if taken {
+        (RED, PLAIN_RED)
+    } else {
+        (SMALL, SMALL)
+    }
+}
+
+// Says under a digit that the register took, or did not, what spoils it, and where.
+pub(crate) fn put_fault(
     sheet: &mut Sheet,
     limits: Limits,
-    from: u32,
     middle: u64,
-    pulses: &[PlacedRun],
     spoiler: Spoiler,
+    taken: bool,
 ) -> Result<(), AllocError>
-    ensures { OnOk result (says sheet.new ≡ says sheet.old ++ spoiler_words limits pulses.now spoiler) }
+    ensures { OnOk result (says sheet.new ≡ says sheet.old ++ fault_words limits taken spoiler) }
 {
     let Spoiler { fault, run } = spoiler;
+    let (above, under) = looks_of(taken);
     let at = middle.max(u64::from(LEFT) + FAULT_MIDDLE);
     let y = below(sheet, UNDER);
     put(
         sheet,
-        Shape::Text(at, y, RED, Label::Fault(limits, fault, run.ms)),
+        Shape::Text(at, y, above, Label::Fault(limits, fault, run.ms)),
     )?;
     let y = below(sheet, UNDER_THAT);
     put(
         sheet,
-        Shape::Text(at, y, PLAIN_RED, Label::Record(run.first_record)),
-    )?;
-    put_wrong(alloc, sheet, limits, from, fitting(TRAIN, pulses))
+        Shape::Text(at, y, under, Label::Record(run.first_record, taken)),
+    )
 }

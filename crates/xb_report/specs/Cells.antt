@@ -1,5 +1,6 @@
 -- The cells of a table, and numbers as they are printed.
 use Rattle.std.specs.Prelude.{ℕ, ◌-◌, ◌/◌, ◌%◌, ◌==◌, replicate, length, List, ◌++◌, codes, decimal, if◌then◌else◌, Option, Some, None}
+use Rattle.std.specs.List.{flat_map, zip}
 use Rattle.xb_heard.specs.declared.run.PlacedRun.{PlacedRun}
 use Rattle.xb_heard.specs.declared.figures.Extent.{Extent}
 use Rattle.xb_model.specs.Page.{zero_byte}
@@ -8,9 +9,17 @@ use Rattle.xb_model.specs.Page.{zero_byte}
 abbrev pub blank : ℕ
 blank = 32
 
--- a text at the right of a cell, after blanks; a longer one is not cut
+-- a text at the right of a cell so wide, after blanks; a longer one has a wider cell
 abbrev pub at_right : ℕ → List ℕ → List ℕ
 at_right width text = replicate (width - length text) blank ++ text
+
+-- what stands before each cell of a line
+abbrev pub gap : List ℕ
+gap = codes "  "
+
+-- a line of a table: a cell for each text, by the widths of the columns
+abbrev pub cells_text : List ℕ → List (List ℕ) → List ℕ
+cells_text widths texts = flat_map (λ cell. gap ++ at_right cell.0 cell.1) (zip widths texts)
 
 -- a number in tenths, as 10.0
 abbrev pub tenths_text : ℕ → List ℕ

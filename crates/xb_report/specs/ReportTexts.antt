@@ -3,6 +3,7 @@ use Rattle.std.specs.Prelude.{ℕ, ◌+◌, ◌==◌, List, [], ◌∷◌, ◌++
 use Rattle.xb_model.specs.declared.dialled.Dialled.{Dialled}
 use Rattle.xb_model.specs.declared.limits.Limits.{Limits}
 use Rattle.xb_model.specs.Page.{four_digits}
+use Rattle.xb_heard.specs.declared.fault.Spoiler.{Spoiler}
 use Rattle.xb_heard.specs.declared.run.PlacedRun.{PlacedRun}
 use Rattle.xb_heard.specs.declared.row.DigitRow.{DigitRow}
 use Rattle.xb_heard.specs.declared.row.Remark.{Remark}
@@ -11,7 +12,7 @@ use Rattle.xb_heard.specs.Attempts.{AttemptOfRuns}
 use Rattle.xb_heard.specs.Digits.{DigitOfRuns}
 use Rattle.xb_heard.specs.DigitRows.{row_of}
 use Rattle.xb_heard.specs.Figures.{times_of}
-use Rattle.xb_report.specs.Cells.{at_right, extent_text, place_text, tenths_or_dash}
+use Rattle.xb_report.specs.Cells.{cells_text, extent_text, gap, place_text, tenths_or_dash}
 use Rattle.xb_report.specs.Words.{fault_text, is_taken, is_timed_out, outcome_text}
 
 -- the first line: the limits
@@ -27,29 +28,43 @@ abbrev pub name_text : Option ℕ → List ℕ
 name_text None = codes "x"
 name_text (Some digit) = decimal digit
 
+-- what spoils a digit, and where
+abbrev pub spoiler_text : Limits → Spoiler → List ℕ
+spoiler_text limits spoiler =
+    fault_text limits spoiler.fault spoiler.run.ms ++ codes " at " ++ place_text spoiler.run
+
 -- what is said of a digit after its figures
 abbrev pub remark_text : Limits → Remark → List ℕ
 remark_text limits remark.Good = []
-remark_text limits (remark.Spoiled spoiler) =
-    codes "  " ++ fault_text limits spoiler.fault spoiler.run.ms ++ codes " at " ++ place_text spoiler.run
-remark_text limits remark.Ignored = codes "  ignored"
+remark_text limits (remark.Spoiled spoiler) = gap ++ spoiler_text limits spoiler
+remark_text limits (remark.Ignored None) = gap ++ codes "ignored"
+remark_text limits (remark.Ignored (Some spoiler)) = gap ++ codes "ignored; " ++ spoiler_text limits spoiler
 
--- the line of a digit: its figures, each in its cell
-abbrev pub digit_text : Limits → DigitRow → List ℕ
-digit_text limits row =
-    at_right 7 (name_text row.name) ++ at_right 8 (decimal row.pulses) ++ at_right 7 (tenths_or_dash row.speed)
-    ++ at_right 9 (tenths_or_dash row.share) ++ at_right 10 (extent_text row.breaks)
-    ++ at_right 10 (extent_text row.makes) ++ at_right 10 (decimal row.pause) ++ remark_text limits row.remark
+-- how wide the columns are, at the least
+abbrev pub widths : List ℕ
+widths = 5 ∷ 6 ∷ 5 ∷ 7 ∷ 8 ∷ 8 ∷ 8 ∷ []
+
+abbrev pub columns_text : List ℕ
+columns_text =
+    cells_text widths (codes "digit" ∷ codes "pulses" ∷ codes "p/s" ∷ codes "% break" ∷ codes "break ms"
+    ∷ codes "make ms" ∷ codes "pause ms" ∷ [])
     ++ codes "\n"
+
+-- the figures of a digit, one for each column
+abbrev pub figures_text : DigitRow → List ℕ
+figures_text row =
+    cells_text widths (name_text row.name ∷ decimal row.pulses ∷ tenths_or_dash row.speed
+    ∷ tenths_or_dash row.share ∷ extent_text row.breaks ∷ extent_text row.makes ∷ decimal row.pause ∷ [])
+
+-- the line of a digit
+abbrev pub digit_text : Limits → DigitRow → List ℕ
+digit_text limits row = figures_text row ++ remark_text limits row.remark ++ codes "\n"
 
 -- the lines of the digits of an attempt, from digit k on
 abbrev pub digits_from : Limits → Dialled → ℕ → List DigitOfRuns → List ℕ
 digits_from limits outcome k [] = []
 digits_from limits outcome k (digit ∷ digits) =
     digit_text limits (row_of (is_taken outcome k) digit) ++ digits_from limits outcome (k + 1) digits
-
-abbrev pub columns_text : List ℕ
-columns_text = codes "  digit  pulses    p/s  % break  break ms   make ms  pause ms\n"
 
 -- the table of the digits, where there are any
 abbrev pub table_text : Limits → Dialled → List DigitOfRuns → List ℕ

@@ -1,5 +1,5 @@
 -- The rows of a line's table, in the words of the report.
-use Rattle.std.specs.Prelude.{ℕ, ◌+◌, List, [], ◌∷◌, ◌++◌, codes, decimal}
+use Rattle.std.specs.Prelude.{ℕ, ◌+◌, List, [], ◌∷◌, ◌++◌, codes, decimal, Some, None}
 use Rattle.xb_model.specs.declared.dialled.Dialled.{Dialled}
 use Rattle.xb_model.specs.declared.limits.Limits.{Limits}
 use Rattle.xb_heard.specs.declared.run.PlacedRun.{PlacedRun}
@@ -9,10 +9,10 @@ use Rattle.xb_heard.specs.declared.row.Remark.TheVariants as remark
 use Rattle.xb_heard.specs.Attempts.{AttemptOfRuns}
 use Rattle.xb_heard.specs.Digits.{DigitOfRuns}
 use Rattle.xb_heard.specs.DigitRows.{row_of}
-use Rattle.xb_report.specs.Cells.{at_right, extent_text, place_text, tenths_or_dash}
+use Rattle.xb_report.specs.Cells.{at_right, extent_text, tenths_or_dash}
 use Rattle.xb_report.specs.ReportTexts.{heading_text, name_text, release_text, timeout_text, unfinished_text}
 use Rattle.xb_report.specs.Words.{is_taken}
-use Rattle.xb_report.specs.Marked.{fault_marked}
+use Rattle.xb_report.specs.Marked.{spoiler_marked}
 
 -- the end of a cell, and the beginning of the next one
 abbrev pub next : List ℕ
@@ -21,9 +21,9 @@ next = codes "</td><td>"
 -- what is said of a digit after its figures
 abbrev pub remark_cell : Limits → Remark → List ℕ
 remark_cell limits remark.Good = []
-remark_cell limits (remark.Spoiled spoiler) =
-    fault_marked limits spoiler.fault spoiler.run.ms ++ codes " at " ++ place_text spoiler.run
-remark_cell limits remark.Ignored = codes "ignored"
+remark_cell limits (remark.Spoiled spoiler) = spoiler_marked limits spoiler
+remark_cell limits (remark.Ignored None) = codes "ignored"
+remark_cell limits (remark.Ignored (Some spoiler)) = codes "ignored; " ++ spoiler_marked limits spoiler
 
 -- the row of a digit: its figures, each in its cell
 abbrev pub digit_row : Limits → DigitRow → List ℕ

@@ -5,7 +5,10 @@ ghost use Rattle.xb_report.specs.Cells.{at_right, extent_text, tenths_or_dash, t
 use std::alloc::{AllocError, Global};
 use xb_heard::Extent;
 
-// Puts a text at the right of a cell, after blanks.
+// What stands before each cell of a line.
+pub(crate) const GAP: &str = "  ";
+
+// Puts a text at the right of a cell so wide, after blanks; a longer one has a wider cell.
 pub(crate) fn push_right(out: &mut String, width: usize, text: &str) -> Result<(), AllocError>
     ensures { OnOk result (string_bytes out.new ≡ string_bytes out.old ++ at_right width text.now) }
 {

@@ -4,23 +4,24 @@ ghost use Rattle.xb_heard.specs.Digits.{digit_in};
 ghost use Rattle.xb_report.specs.Cells.{at_right};
 ghost use Rattle.xb_report.specs.ReportTexts.{digit_text, digits_from, name_text, remark_text, table_text};
 
-use crate::cells::{push_extent, push_number, push_right, push_tenths};
-use crate::words::{is_taken, push_fault, push_place};
+use crate::cells::{GAP, push_extent, push_number, push_right, push_tenths};
+use crate::words::{is_taken, push_spoiler};
 use std::alloc::{AllocError, Global};
-use xb_heard::{DigitRow, HeardDigit, Remark, Spoiler, row_of};
+use xb_heard::{DigitRow, HeardDigit, Remark, row_of};
 use xb_model::{Dialled, Limits};
 
-// Puts a digit at the right of its cell, or x where it is spoiled.
+// Puts a digit at the right of a cell so wide, or x where it is spoiled.
 pub(crate) fn push_name(
     alloc: Global,
     out: &mut String,
+    width: usize,
     name: Option<u64>,
 ) -> Result<(), AllocError>
-    ensures { OnOk result (string_bytes out.new ≡ string_bytes out.old ++ at_right 7 (name_text name)) }
+    ensures { OnOk result (string_bytes out.new ≡ string_bytes out.old ++ at_right width (name_text name)) }
 {
     match name {
-        Some(digit) => push_number(alloc, out, 7, digit),
-        None => push_right(out, 7, "x"),
+        Some(digit) => push_number(alloc, out, width, digit),
+        None => push_right(out, width, "x"),
     }
 }
 
@@ -30,13 +31,15 @@ fn push_remark(out: &mut String, limits: Limits, remark: Remark) -> Result<(), A
 {
     match remark {
         Remark::Good => Ok(()),
-        Remark::Spoiled(Spoiler { fault, run }) => {
-            out.push_str("  ")?;
-            push_fault(out, limits, fault, run.ms)?;
-            out.push_str(" at ")?;
-            push_place(out, &run)
+        Remark::Spoiled(spoiler) => {
+            out.push_str(GAP)?;
+            push_spoiler(out, limits, spoiler)
         }
-        Remark::Ignored => out.push_str("  ignored"),
+        Remark::Ignored(None) => out.push_str("  ignored"),
+        Remark::Ignored(Some(spoiler)) => {
+            out.push_str("  ignored; ")?;
+            push_spoiler(out, limits, spoiler)
+        }
     }
 }
 
@@ -49,13 +52,20 @@ fn push_digit(
 ) -> Result<(), AllocError>
     ensures { OnOk result (string_bytes out.new ≡ string_bytes out.old ++ digit_text limits row) }
 {
-    push_name(alloc, out, row.name)?;
-    push_number(alloc, out, 8, row.pulses)?;
-    push_tenths(alloc, out, 7, row.speed)?;
-    push_tenths(alloc, out, 9, row.share)?;
-    push_extent(alloc, out, 10, row.breaks)?;
-    push_extent(alloc, out, 10, row.makes)?;
-    push_number(alloc, out, 10, row.pause)?;
+    out.push_str(GAP)?;
+    push_name(alloc, out, 5, row.name)?;
+    out.push_str(GAP)?;
+    push_number(alloc, out, 6, row.pulses)?;
+    out.push_str(GAP)?;
+    push_tenths(alloc, out, 5, row.speed)?;
+    out.push_str(GAP)?;
+    push_tenths(alloc, out, 7, row.share)?;
+    out.push_str(GAP)?;
+    push_extent(alloc, out, 8, row.breaks)?;
+    out.push_str(GAP)?;
+    push_extent(alloc, out, 8, row.makes)?;
+    out.push_str(GAP)?;
+    push_number(alloc, out, 8, row.pause)?;
     push_remark(out, limits, row.remark)?;
     out.push_str("\n")
 }

@@ -5,10 +5,10 @@ ghost use Rattle.xb_report.specs.Rows.{digit_row, digit_rows, remark_cell};
 
 use crate::cells::{push_extent, push_number, push_tenths};
 use crate::digit::push_name;
-use crate::signs::push_marked_fault;
-use crate::words::{is_taken, push_place};
+use crate::signs::push_marked_spoiler;
+use crate::words::is_taken;
 use std::alloc::{AllocError, Global};
-use xb_heard::{DigitRow, HeardDigit, Remark, Spoiler, row_of};
+use xb_heard::{DigitRow, HeardDigit, Remark, row_of};
 use xb_model::{Dialled, Limits};
 
 // The end of a cell, and the beginning of the next one.
@@ -20,12 +20,12 @@ fn push_remark(out: &mut String, limits: Limits, remark: Remark) -> Result<(), A
 {
     match remark {
         Remark::Good => Ok(()),
-        Remark::Spoiled(Spoiler { fault, run }) => {
-            push_marked_fault(out, limits, fault, run.ms)?;
-            out.push_str(" at ")?;
-            push_place(out, &run)
+        Remark::Spoiled(spoiler) => push_marked_spoiler(out, limits, spoiler),
+        Remark::Ignored(None) => out.push_str("ignored"),
+        Remark::Ignored(Some(spoiler)) => {
+            out.push_str("ignored; ")?;
+            push_marked_spoiler(out, limits, spoiler)
         }
-        Remark::Ignored => out.push_str("ignored"),
     }
 }
 
@@ -39,7 +39,7 @@ fn push_digit(
     ensures { OnOk result (string_bytes out.new ≡ string_bytes out.old ++ digit_row limits row) }
 {
     out.push_str("<tr><td>")?;
-    push_name(alloc, out, row.name)?;
+    push_name(alloc, out, 7, row.name)?;
     out.push_str(NEXT)?;
     push_number(alloc, out, 0, row.pulses)?;
     out.push_str(NEXT)?;

@@ -3,8 +3,9 @@
 //! - `push_attempts`, `push_limits`: exactly the texts of the definitions in `specs/`: each heading, a line
 //!   for each digit with its figures, what spoiled it and where, and how the attempt ended.
 //! - A digit is told as ignored exactly where the outcome says that it was not taken: after as many digits
-//!   as the number has, or after the one that spoiled it. A make that nothing was heard after is called a
-//!   time-out exactly where the attempt was refused for it.
+//!   as the number has, or after one that is spoiled. What spoils it is told of each digit, taken or not. A
+//!   make that nothing was heard after is called a time-out exactly where the attempt was refused for it.
+//! - The figures of a digit stand in columns, two blanks before each cell, whatever the width of a figure.
 //! - `push_head`, `push_section`, `push_tail`: exactly these parts of a page of HTML. A section has one
 //!   table, with the report's words, and below it the picture that was handed in.
 //!

@@ -1,10 +1,11 @@
 // The words of a report.
 ghost use Rattle.std.specs.Prelude.{◌≡◌, ◌++◌, OnOk, string_bytes};
 ghost use Rattle.xb_report.specs.Cells.{place_text};
+ghost use Rattle.xb_report.specs.ReportTexts.{spoiler_text};
 ghost use Rattle.xb_report.specs.Words.{digits_text, fault_text, fault_with, is_taken, is_timed_out, outcome_text};
 
 use std::alloc::AllocError;
-use xb_heard::{PlacedRun, PulseFault};
+use xb_heard::{PlacedRun, PulseFault, Spoiler};
 use xb_model::{Dialled, Digit, Limits, Reason};
 
 // Puts digits after the text, one after the other.
@@ -66,7 +67,7 @@ pub(crate) fn push_fault_with(
 }
 
 // Puts what is wrong with a run of so many ms after the text, and the limit.
-pub(crate) fn push_fault(
+fn push_fault(
     out: &mut String,
     limits: Limits,
     fault: PulseFault,
@@ -86,6 +87,20 @@ pub fn push_place(out: &mut String, run: &PlacedRun) -> Result<(), AllocError>
     let ms = run.start % 1000;
     let record = run.first_record;
     write!(out, "{seconds}.{ms:03} s, record {record}")
+}
+
+// Puts what spoils a digit after the text, and where.
+pub(crate) fn push_spoiler(
+    out: &mut String,
+    limits: Limits,
+    spoiler: Spoiler,
+) -> Result<(), AllocError>
+    ensures { OnOk result (string_bytes out.new ≡ string_bytes out.old ++ spoiler_text limits spoiler) }
+{
+    let Spoiler { fault, run } = spoiler;
+    push_fault(out, limits, fault, run.ms)?;
+    out.push_str(" at ")?;
+    push_place(out, &run)
 }
 
 /// Whether the register takes digit `index` of an attempt, from 0.

@@ -1,4 +1,4 @@
-use Rattle.std.proofs.Common.{◌≡◌, ◌-◌, ◌++◌, ◌∙◌, ap, ap₂, length, map, min, sym, take}
+use Rattle.std.proofs.Common.{◌≡◌, ◌-◌, ◌++◌, ◌∙◌, ap, ap₂, length, map, sym, take}
 use Rattle.std.proofs.lemmas.List.{length-map, take-map, take_min}
 use Rattle.std.proofs.Math.Nat.{min_comm}
 use Rattle.xb_heard.specs.Digits.{digit_in}

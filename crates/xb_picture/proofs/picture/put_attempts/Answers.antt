@@ -1,4 +1,4 @@
-use Rattle.std.proofs.Common.{◌≡◌, ◌++◌, ◌+◌, ◌∷◌, ◌∙◌, arith, ap, drop, map, sym}
+use Rattle.std.proofs.Common.{◌≡◌, ◌+◌, ◌∷◌, ◌∙◌, arith, ap, drop, map, sym}
 use Rattle.std.proofs.lemmas.List.{drop_more}
 use Rattle.xb_heard.specs.Attempts.{attempt_in}
 use Rattle.xb_picture.specs.Attempts.{attempt_words}

@@ -1,4 +1,4 @@
-use Rattle.std.proofs.Common.{append_assoc, codes, string_bytes}
+use Rattle.std.proofs.Common.{append_assoc, string_bytes}
 use Rattle.xb_report.proofs.Pushed.{both, last}
 use Rattle.xb_picture.specs.Shapes.{line_text}
 use Rattle.xb_picture.proofs.writing.push_line.Goals as goal
