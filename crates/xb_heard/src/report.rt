@@ -98,7 +98,8 @@ pub fn heard_of<'a>(
     ensures heard { IfOk result (λ attempts.
         map attempt_in attempts.items ≡ heard_attempts plan limits runs.entry.now) }
     ensures tells { IfOk result (λ attempts. (record_ : List ChainRun) →
-        map run_in runs.entry.now ≡ joined record_ → Tells plan limits record_ (map attempt_in attempts.items)) }
+        map run_in runs.entry.now ≡ joined record_
+        → Tells plan limits record_ (map attempt_in attempts.items)) }
 {
     heard_attempts(alloc, runs, plan, limits)
 }

@@ -94,7 +94,8 @@ impl Place {
         requires lines { text_line self.now < 2 ^ 64 }
         requires entries { self.now.entries + 1 < 2 ^ 64 }
         ensures head { let fields = pieces_left space (option_copied rest.entry) in
-            IfOk result (λ head. head_of_words self.now line.now number.now kind.now fields ≡ Ok (written head)) }
+            IfOk result (λ head.
+            head_of_words self.now line.now number.now kind.now fields ≡ Ok (written head)) }
         ensures fault { let fields = pieces_left space (option_copied rest.entry) in
             IfErr result (λ f. head_of_words self.now line.now number.now kind.now fields ≡ Err f) }
         ensures number { IfOk result (λ head. head.number ≤ self.now.entries + 1) }
@@ -118,7 +119,8 @@ impl Place {
     pub(crate) fn head_of<'a>(&self, text: &'a [u8]) -> Result<Head<'a>, PageFault>
         requires lines { text_line self.now < 2 ^ 64 }
         requires entries { self.now.entries + 1 < 2 ^ 64 }
-        ensures head { IfOk result (λ head. head_of_fields self.now (pieces space text.now) ≡ Ok (written head)) }
+        ensures head { IfOk result (λ head.
+            head_of_fields self.now (pieces space text.now) ≡ Ok (written head)) }
         ensures fault { IfErr result (λ f. head_of_fields self.now (pieces space text.now) ≡ Err f) }
         ensures number { IfOk result (λ head. head.number ≤ self.now.entries + 1) }
     {
