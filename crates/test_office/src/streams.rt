@@ -162,7 +162,7 @@ fn streams_take_and_give_little_at_a_time(rt: HostRuntime) -> Result<(), Fail> {
     for step in [1, 3] {
         check_step(&rt, rt.alloc(), &texts, step);
     }
-    lengthen(&mut texts.deck, 20_000)?;
+    lengthen(&mut texts.deck, 150_000)?;
     let mut reader = Halting::new(texts.deck.as_bytes(), 1);
     let mut out = Short::new(rt.alloc(), texts.page.len(), None);
     assert!(rt; operated(&rt, rt.alloc(), &mut reader, &mut out) == Ok(()));

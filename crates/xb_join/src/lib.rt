@@ -13,7 +13,7 @@
 //!   nothing was written but the beginning of the page where a write failed.
 //!
 //! What is said of a file is said of the bytes that the caller's `PageFiles` says to be known. Not said:
-//! that a page is of its part's records, since no page tells these.
+//! that a page is of its part's records, since no page tells these; and which file is named with a fault.
 #![tactic(auto)]
 
 mod damage;

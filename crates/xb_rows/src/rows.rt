@@ -37,9 +37,8 @@ fn fault_of_read(fault: ReadFault) -> RowFault
 }
 
 /// The rows of a reader's bytes, which are read to their end first: `Read` where a read failed, an
-/// interrupted one too, or 2^64 - 1 reads did not reach the end; else the faults of `Scan`, and
-/// `NoMemory` where memory ran out. After any result but `Read` and `NoMemory` the reader stands at
-/// its end.
+/// interrupted one too; else the faults of `Scan`, and `NoMemory` where memory ran out. After any
+/// result but `Read` and `NoMemory` the reader stands at its end.
 ///
 /// What the contract says of bytes holds for readers whose bytes contracts know (byte slices); those
 /// of a process's standard input are not known.
