@@ -26,6 +26,11 @@ length-deck_of lines rows =
     let cut : length (with_ends lines ++ codes "---\n") ≡ length (with_ends lines) + 4 = length-append (with_ends lines) (codes "---\n") in
     omega (arith, length-append (with_ends lines ++ codes "---\n") (text_of_rows rows), cut, headed, records)
 
+-- ranges end where they began, or after it
+pub Cover-le : (a b : ℕ) (ranges : List LineRange) → Cover a b ranges → a ≤ b
+Cover-le a b [] cover = omega arith
+Cover-le a b (range ∷ ranges) cover = omega (arith, cover.1, Cover-le range.end b ranges cover.2)
+
 module _ (lines : List (List ℕ)) (rows : List LoopRow) (loads : List Load) (most : Load)
     (are_loads : AreLoadsOf rows loads) (all : length loads ≡ LINES) (room : LeavesRoom lines most) where
   -- a range that fits has a small deck
@@ -34,10 +39,6 @@ module _ (lines : List (List ℕ)) (rows : List LoopRow) (loads : List Load) (mo
       let few = fitting_ranges_have_few rows loads most range are_loads all up within (omega (arith, room.records)) (omega (arith, room.bytes)) fits in
       let bytes = length-deck_of lines (rows_in range rows) in
       (omega (arith, few.0, room.records), omega (arith, few.1, room.bytes, bytes))
-
-  Cover-le : (a b : ℕ) (ranges : List LineRange) → Cover a b ranges → a ≤ b
-  Cover-le a b [] cover = omega arith
-  Cover-le a b (range ∷ ranges) cover = omega (arith, cover.1, Cover-le range.end b ranges cover.2)
 
   all_small : (a b : ℕ) (ranges : List LineRange) → b ≤ LINES → Cover a b ranges → AllByRecursion (Fits loads most) ranges
       → AllByRecursion (IsSmall lines rows) ranges

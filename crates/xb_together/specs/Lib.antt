@@ -1,3 +1,4 @@
 pub mod FarEnd
 pub mod Hearing
 pub mod SplitDecks
+pub mod WrittenDecks

@@ -1,5 +1,6 @@
 // From a large deck to its page, by the decks of its parts: laws that cite the laws below them.
 ghost use Rattle.xb_together.specs.SplitDecks.{PlannedDecksMakeThePage, SplitDecksMakeThePage};
+ghost use Rattle.xb_together.specs.WrittenDecks.{WrittenDecksMakeThePage};
 
 use xb_office::laws::made_decks_say_their_page;
 
@@ -16,4 +17,12 @@ pub fn planned_decks_make_the_page()
     ensures { PlannedDecksMakeThePage }
 {
     split_decks_make_the_page();
+}
+
+/// The same for the decks that a split of a deck writes: where the page of each is what an office says of it,
+/// they join to the page of that deck, however long the deck is.
+pub fn written_decks_make_the_page()
+    ensures { WrittenDecksMakeThePage }
+{
+    planned_decks_make_the_page();
 }

@@ -8,6 +8,8 @@
 //!
 //! `split_decks_make_the_page`: for all rows, and ranges that take all lines, the pages that the decks of the ranges
 //! say, joined, are the page that all rows make. `planned_decks_make_the_page`: the same for the ranges of a plan.
+//! `written_decks_make_the_page`: the same for the decks that a split of a deck writes (`IsSplit` of `xb_split`): the
+//! page is that of the deck, however long it is.
 #![tactic(auto)]
 
 mod calls;
@@ -20,6 +22,8 @@ mod threads;
 pub use calls::marks_of_call;
 pub use far_end::sound_of_calls;
 pub use hearing::hear;
-pub use large_decks::{planned_decks_make_the_page, split_decks_make_the_page};
+pub use large_decks::{
+    planned_decks_make_the_page, split_decks_make_the_page, written_decks_make_the_page,
+};
 pub use schedules::{SoFar, marks_by_schedule};
 pub use threads::marks_on_threads;
