@@ -17,6 +17,8 @@ mod faults;
 #[cfg(test)]
 mod gates;
 #[cfg(test)]
+mod passes;
+#[cfg(test)]
 mod played;
 #[cfg(test)]
 mod rounds;
@@ -36,6 +38,8 @@ mod starved;
 mod two_calls;
 #[cfg(test)]
 mod uses_of_calls;
+#[cfg(test)]
+mod waits;
 #[cfg(test)]
 mod walks;
 #[cfg(test)]
