@@ -14,7 +14,7 @@ use Rattle.xb_page.specs.PageLines.{read_page, start_at}
 use Rattle.xb_page.specs.Places.{line_after}
 use Rattle.xb_page.specs.Sheets.{Sheet, followed_by, joined_sheets, no_entries, sheet_text}
 use Rattle.xb_page.proofs.LineSheets.{followed_by-assoc, no_entries-first, no_entries-last}
-use Rattle.xb_page.proofs.ReadEntries.{Reads, Reads-lines, Ready-start, line_after-ready}
+use Rattle.xb_page.proofs.ReadEntries.{Reads, Reads-lines, Ready-start, line_after-ready, line_after-up}
 use Rattle.xb_page.proofs.ReadSheets.{read_sheet}
 use Rattle.xb_join.specs.declared.join_fault.JoinFault.{JoinFault}
 use Rattle.xb_join.specs.declared.join_fault.JoinFault.TheVariants as fault
@@ -27,21 +27,23 @@ abbrev ok_text : Sheet → Result (List ℕ) JoinFault
 ok_text sheet = Ok (sheet_text sheet)
 
 module _ (plan : Plan) (limits : Limits) (routes : List CodedRoute) (as_had : AreRoutes routes) where
-  -- the page of a part is read
-  read_part : (rows : List LoopRow) (part : Part) → part.first ≤ part.end → part.end ≤ LINES → IsPartOf rows part
-      → (next : ℕ) × (read_page part.first (part_page plan limits routes part)
-      ≡ Ok (record { sheet = part_sheet plan limits routes part; next_line = next })) × (next ≤ part.end)
-  read_part rows part up within is =
+  -- the page of a part is read, from its first line or an earlier one on
+  pub read_part : (rows : List LoopRow) (part : Part) (line : ℕ) → line ≤ part.first → part.first ≤ part.end → part.end ≤ LINES
+      → IsPartOf rows part
+      → (next : ℕ) × (read_page line (part_page plan limits routes part)
+      ≡ Ok (record { sheet = part_sheet plan limits routes part; next_line = next })) × (next ≤ part.end) × (line ≤ next)
+  read_part rows part line low up within is =
       let n : ℕ = part.end - part.first in
       let e : part.first + n ≡ part.end = omega arith in
       let lines = part_sheet-lines plan limits routes rows part n e within is in
-      let ready = Ready-start part.first part.first (omega arith) in
-      let read = Reads-lines (tape_in plan limits routes rows) (start_at part.first) part.first n (omega arith) ready
+      let ready = Ready-start line part.first low in
+      let read = Reads-lines (tape_in plan limits routes rows) (start_at line) part.first n (omega arith) ready
       (λ l. joined_tape-marks plan limits routes l rows as_had) in
-      let reads = subst (λ sheet. Reads (start_at part.first) sheet read.place') (sym lines) read.reads in (
+      let reads = subst (λ sheet. Reads (start_at line) sheet read.place') (sym lines) read.reads in (
         line_after read.place',
-        read_sheet part.first (part_sheet plan limits routes part) read.place' reads,
+        read_sheet line (part_sheet plan limits routes part) read.place' reads,
         subst (λ end. line_after read.place' ≤ end) e (line_after-ready read.place' (part.first + n) read.ready),
+        line_after-up read.place' line read.up,
       )
 
   -- and gives the part's sheet
@@ -51,7 +53,7 @@ module _ (plan : Plan) (limits : Limits) (routes : List CodedRoute) (as_had : Ar
       ≡ Ok (part_sheet plan limits routes part)
   given-part number line rows part first up within is =
       let page : List ℕ = part_page plan limits routes part in
-      let read = read_part rows part (omega arith) within is in
+      let read = read_part rows part part.first (omega arith) (omega arith) within is in
       cond-true _ _ _
       (and_from _ _ (and_from _ _ (eq-eqb part.first line first) (le-leb line part.end up)) (le-leb part.end LINES within))
       ∙ ap (λ (l : ℕ). sheet_within number part.end (read_page l page)) (sym first)

@@ -1,8 +1,16 @@
 -- Which lines each page is given.
-use Rattle.std.specs.Prelude.{ℕ, List, [], ◌∷◌, Option, Some, None}
+use Rattle.std.specs.Prelude.{ℕ, ◌≡◌, List, [], ◌∷◌, map, Ok, Option, Some, None}
+use Rattle.xb_model.specs.declared.limits.Limits.{Limits}
 use Rattle.xb_model.specs.declared.line.TheConstants.{LINES}
+use Rattle.xb_model.specs.declared.plan.Plan.{Plan}
+use Rattle.xb_model.specs.Page.{page_text}
+use Rattle.xb_model.specs.Routing.{CodedRoute}
+use Rattle.xb_model.specs.Rows.{LoopRow}
+use Rattle.xb_model.specs.Tapes.{tapes_of}
+use Rattle.xb_parts.specs.Parts.{AreAllParts, Part}
 use Rattle.xb_parts.specs.declared.range.LineRange.{LineRange}
-use Rattle.xb_join.specs.Joining.{Given, given_with, lines_taken}
+use Rattle.xb_join.specs.Joining.{Given, given_with, join_of, lines_taken}
+use Rattle.xb_join.specs.PartPages.{AreRoutes, part_page}
 
 -- the ranges of a list, and a page for each, as far as there are pages
 abbrev pub given_by_list : List LineRange → List (List ℕ) → List Given
@@ -22,3 +30,11 @@ given_from first (page ∷ pages) =
 abbrev pub given_by : Option (List LineRange) → List (List ℕ) → List Given
 given_by None pages = given_from 0 pages
 given_by (Some ranges) pages = given_by_list ranges pages
+
+-- the pages of the parts of rows make the page of the rows without a list too, by the lines that they take
+abbrev pub PagesMakeTheWhole : Type 0
+PagesMakeTheWhole =
+    (plan : Plan) (limits : Limits) (routes : List CodedRoute) (rows : List LoopRow) (parts : List Part)
+    → AreRoutes routes → AreAllParts rows parts
+    → join_of (given_from 0 (map (part_page plan limits routes) parts))
+    ≡ Ok (page_text (tapes_of plan limits routes rows))

@@ -1,9 +1,12 @@
 -- What is written of the files of pages.
-use Rattle.std.specs.Prelude.{ℕ, ◌≡◌, ◌≤◌, ◌<◌, List, length, Option, Some, None, IfSome, IsSomeAnd, Result, Ok, Err}
+use Rattle.std.specs.Prelude.{ℕ, ◌≡◌, ◌≤◌, ◌<◌, ◌-◌, ◌==◌, ◌⊎◌, if◌then◌else◌, List, length, slice_get, Option, Some, None, IfSome, IsSomeAnd, Result, Ok, Err}
+use Rattle.std.specs.List.{Contains}
 use Rattle.std.specs.Io.KnownBytes.{Appends, Keeps}
 use Rattle.xb_join.specs.Joining.{IsFaultOf, MakesTheWhole, join_of}
 use Rattle.xb_join.specs.declared.join_fault.JoinFault.{JoinFault}
-use Rattle.xb_parts.specs.Lists.{ranges_of_list}
+use Rattle.xb_join.specs.declared.join_fault.JoinFault.TheVariants as join_fault
+use Rattle.xb_parts.specs.declared.list.ListFault.{ListFault}
+use Rattle.xb_parts.specs.Lists.{IsListFault, ranges_of_list}
 use Rattle.xb_parts.specs.declared.range.LineRange.{LineRange}
 use Rattle.xb_text.specs.Writing.{AppendsBeginning}
 use Rattle.xb_join.specs.Files.{Bytes, HasBytes, HaveTexts}
@@ -51,27 +54,54 @@ pub record HasTooMany (bytes : Bytes) (request : Request) (parts : ℕ) : Type 0
   pub more : parts < length pages
   pub count : IsSomeAnd ranges (λ rs. length rs ≡ parts)
 
--- a file is not read, or is no list, or memory ran out
-abbrev pub IsFileFault : JoinProgramFault → Type 0
-IsFileFault (fault.File name error) = Unit {0}
-IsFileFault (fault.List name f) = Unit {0}
-IsFileFault fault.NoMemory = Unit {0}
-IsFileFault f = ⊥
+-- the file of the page of a part, from 1
+abbrev pub page_at : List (List ℕ) → ℕ → Option (List ℕ)
+page_at names part = if part == 0 then None else slice_get names (part - 1)
 
--- a fault of pages, which is told with the name of a file or without
-abbrev pub IsNamedFault : JoinFault → JoinProgramFault → Type 0
-IsNamedFault f (fault.Page name told) = told ≡ f
-IsNamedFault f (fault.Parts told) = told ≡ f
-IsNamedFault f told = ⊥
+-- the file of the part that a fault names, if it names one
+abbrev pub file_of : List (List ℕ) → JoinFault → Option (List ℕ)
+file_of names (join_fault.Lines part) = page_at names part
+file_of names (join_fault.Part part damage) = page_at names part
+file_of names (join_fault.PastEnd part) = page_at names part
+file_of names (join_fault.Missing line) = None
+file_of names join_fault.NoMemory = None
+
+-- the text of this file is no list, or memory ran out
+abbrev pub IsNoList : Bytes → List ℕ → ListFault → Type 0
+IsNoList bytes name f = (text : List ℕ) × HasBytes bytes name text × IsListFault text f
+
+-- the file of a list is not read, or is none
+abbrev pub IsFaultOfList : Bytes → Option (List ℕ) → JoinProgramFault → Type 0
+IsFaultOfList bytes list (fault.File name error) = list ≡ Some name.now
+IsFaultOfList bytes list (fault.List name f) = (list ≡ Some name.now) × IsNoList bytes name.now f
+IsFaultOfList bytes list f = ⊥
+
+-- one of the files is not read, or memory ran out
+abbrev pub IsFaultOfFiles : List (List ℕ) → JoinProgramFault → Type 0
+IsFaultOfFiles names (fault.File name error) = Contains names name.now
+IsFaultOfFiles names fault.NoMemory = Unit {0}
+IsFaultOfFiles names f = ⊥
+
+-- a fault of pages, which is told with the file of its part
+abbrev pub IsNamedFault : List (List ℕ) → JoinFault → JoinProgramFault → Type 0
+IsNamedFault names f (fault.Page name told) = (told ≡ f) × (file_of names f ≡ Some name.now)
+IsNamedFault names f (fault.Parts told) = (told ≡ f) × (file_of names f ≡ None)
+IsNamedFault names f told = ⊥
 
 -- why pages are not joined: there are more than parts of the list, or they have this fault, or memory ran out
-abbrev pub IsFaultOfPages : Option (List LineRange) → List (List ℕ) → JoinProgramFault → Type 0
-IsFaultOfPages ranges pages (fault.TooMany parts) =
+abbrev pub IsFaultOfPages : List (List ℕ) → Option (List LineRange) → List (List ℕ) → JoinProgramFault → Type 0
+IsFaultOfPages names ranges pages (fault.TooMany parts) =
     (parts < length pages) × IsSomeAnd ranges (λ rs. length rs ≡ parts)
-IsFaultOfPages ranges pages (fault.Page name f) = IsFaultOf (join_of (given_by ranges pages)) f
-IsFaultOfPages ranges pages (fault.Parts f) = IsFaultOf (join_of (given_by ranges pages)) f
-IsFaultOfPages ranges pages fault.NoMemory = Unit {0}
-IsFaultOfPages ranges pages f = ⊥
+IsFaultOfPages names ranges pages (fault.Page name f) =
+    IsFaultOf (join_of (given_by ranges pages)) f × (file_of names f ≡ Some name.now)
+IsFaultOfPages names ranges pages (fault.Parts f) =
+    IsFaultOf (join_of (given_by ranges pages)) f × (file_of names f ≡ None)
+IsFaultOfPages names ranges pages fault.NoMemory = Unit {0}
+IsFaultOfPages names ranges pages f = ⊥
+
+-- a file that a request names
+abbrev pub IsNamed : Request → List ℕ → Type 0
+IsNamed request name = (list_of request ≡ Some name) ⊎ Contains (pages_of request) name
 
 -- what is returned for the files of a request, and what the writer got: the page on Ok, its beginning where a
 -- write failed, and nothing on any other fault
@@ -80,7 +110,12 @@ abbrev pub Delivers :
 Delivers bytes request (Ok u) old new = (page : List ℕ) × Join bytes request page × Appends old new page
 Delivers bytes request (Err fault.Write) old new =
     (page : List ℕ) × Join bytes request page × AppendsBeginning old new page
-Delivers bytes request (Err (fault.Page name f)) old new = Keeps old new × Blame bytes request f
-Delivers bytes request (Err (fault.Parts f)) old new = Keeps old new × Blame bytes request f
+Delivers bytes request (Err (fault.File name error)) old new = Keeps old new × IsNamed request name.now
+Delivers bytes request (Err (fault.List name f)) old new =
+    Keeps old new × (list_of request ≡ Some name.now) × IsNoList bytes name.now f
+Delivers bytes request (Err (fault.Page name f)) old new =
+    Keeps old new × Blame bytes request f × (file_of (pages_of request) f ≡ Some name.now)
+Delivers bytes request (Err (fault.Parts f)) old new =
+    Keeps old new × Blame bytes request f × (file_of (pages_of request) f ≡ None)
 Delivers bytes request (Err (fault.TooMany parts)) old new = Keeps old new × HasTooMany bytes request parts
 Delivers bytes request (Err f) old new = Keeps old new

@@ -2,7 +2,7 @@
 ghost use Rattle.std.specs.Prelude.{◌≡◌, ◌≤◌, IfErr, IfOk, IfSome, Ok, OnOk, length, map, option_copied, option_map};
 ghost use Rattle.xb_join.specs.Files.{HaveTexts};
 ghost use Rattle.xb_join.specs.Given.{given_by};
-ghost use Rattle.xb_join.specs.JoinedFiles.{Delivers, IsFaultOfPages, IsFileFault, IsListed, IsNamedFault};
+ghost use Rattle.xb_join.specs.JoinedFiles.{Delivers, IsFaultOfFiles, IsFaultOfList, IsFaultOfPages, IsListed, IsNamedFault, page_at};
 ghost use Rattle.xb_join.specs.Joining.{MakesTheWhole, join_of};
 
 use crate::fault::JoinProgramFault;
@@ -24,7 +24,7 @@ fn read_list<'a, F: PageFiles>(
 ) -> Result<Option<Vec<LineRange>>, JoinProgramFault<'a>>
     ensures listed { IfOk result (λ ranges. IsListed (F.bytes files.now) (option_copied name.entry)
         (option_map (λ r. r.items) ranges)) }
-    ensures fault { IfErr result IsFileFault }
+    ensures fault { IfErr result (IsFaultOfList (F.bytes files.now) (option_copied name.entry)) }
 {
     let name = match name {
         Some(name) => name,
@@ -48,7 +48,7 @@ fn read_pages<'a, F: PageFiles>(
 ) -> Result<Vec<Vec<u8>>, JoinProgramFault<'a>>
     ensures texts { IfOk result (λ pages. HaveTexts (F.bytes files.now) (map (λ name. name.now) names.now)
         (map (λ page. page.items) pages.items)) }
-    ensures fault { IfErr result IsFileFault }
+    ensures fault { IfErr result (IsFaultOfFiles (map (λ name. name.now) names.now)) }
 {
     let mut pages = Vec::new(alloc);
     for name in names {
@@ -64,13 +64,15 @@ fn read_pages<'a, F: PageFiles>(
 }
 
 // The name of the page of a part, from 1.
-fn name_of<'a>(names: &[&'a str], part: usize) -> Option<&'a str> {
+fn name_of<'a>(names: &[&'a str], part: usize) -> Option<&'a str>
+    ensures { option_map (λ name. name.now) result ≡ page_at (map (λ name. name.now) names.now) part }
+{
     names.get(part.checked_sub(1)?).copied()
 }
 
 // Why the pages of these files can't be joined, with the file where there is one.
 fn fault_of<'a>(names: &[&'a str], fault: JoinFault) -> JoinProgramFault<'a>
-    ensures { IsNamedFault fault result }
+    ensures { IsNamedFault (map (λ name. name.now) names.now) fault result }
 {
     let part = match fault {
         JoinFault::Lines(part) | JoinFault::Part(part, _) | JoinFault::PastEnd(part) => part,
@@ -93,7 +95,8 @@ fn page_of<'a>(
         IfOk result (λ page. (join_of given ≡ Ok page.items) × MakesTheWhole given page.items) }
     ensures few { OnOk result (IfSome (option_copied ranges.entry) (λ r. length pages.now ≤ length r)) }
     ensures fault { let r = option_copied ranges.entry in
-        IfErr result (IsFaultOfPages r (map (λ p. p.items) pages.now)) }
+        let all = map (λ name. name.now) names.now in
+        IfErr result (IsFaultOfPages all r (map (λ p. p.items) pages.now)) }
 {
     if let Some(ranges) = ranges {
         if ranges.len() < pages.len() {

@@ -1,4 +1,5 @@
 //! What the definitions give: each law is the contract of a function that does nothing.
+ghost use Rattle.xb_join.specs.Given.{PagesMakeTheWhole};
 ghost use Rattle.xb_join.specs.Joining.{JoinedPartsAreWhole, PartsMakeTheWhole};
 ghost use Rattle.xb_join.specs.PartPages.{PagesJoin};
 
@@ -13,6 +14,12 @@ pub fn pages_join()
 #[tactic(auto, using(crate::proofs::JoinedPages::parts_make_the_whole))]
 pub fn parts_make_the_whole()
     ensures { PartsMakeTheWhole }
+{}
+
+/// The same without a list, by the lines that the pages take themselves.
+#[tactic(auto, using(crate::proofs::TakenPages::pages_make_the_whole))]
+pub fn pages_make_the_whole()
+    ensures { PagesMakeTheWhole }
 {}
 
 /// Parts that are joined take all lines, the page of each is a text of entries and a line of totals, and the

@@ -3,7 +3,7 @@
 //! - `laws::pages_join`: for every plan, limits, routes and rows whose parts take all lines, one after the
 //!   other, the page of all rows is the entries of the parts' pages, part by part, and a line with the sums
 //!   of their totals. `laws::parts_make_the_whole`: such pages have no fault, and are joined to it, where the
-//!   routes are as tables have them (`AreRoutes`).
+//!   routes are as tables have them (`AreRoutes`); `laws::pages_make_the_whole`: the same without a list.
 //!   `laws::joined_parts_are_whole`: whatever is joined takes all lines, and nothing is lost or added.
 //! - `join_pages`: the joined page, or the first fault: a part whose lines do not begin where those before
 //!   it end, a page that is damaged, a page with a line of a later part, or the first line that no part
@@ -13,7 +13,7 @@
 //!   nothing was written but the beginning of the page where a write failed.
 //!
 //! What is said of a file is said of the bytes that the caller's `PageFiles` says to be known. Not said:
-//! that a page is of its part's records, since no page tells these; and which file is named with a fault.
+//! that a page is of its part's records, since no page tells these.
 #![tactic(auto)]
 
 mod damage;

@@ -9,11 +9,12 @@ pub(crate) struct InOneLine<'a>(pub(crate) &'a str);
 impl<'a> fmt::Display for InOneLine<'a> {
     fn fmt<W: fmt::Write>(&self, f: &mut fmt::Formatter<W>) -> fmt::Result {
         for character in self.0.chars() {
-            f.write_char(if character.is_control() {
+            let told = if character.is_control() {
                 '?'
             } else {
                 character
-            })?;
+            };
+            f.write_char(told)?;
         }
         Ok(())
     }

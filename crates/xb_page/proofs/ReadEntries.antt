@@ -245,11 +245,12 @@ pub record ReadsUpTo (place : Place) (sheet : Sheet) (line : ℕ) : Type 0 where
   pub place' : Place
   pub reads : Reads place sheet place'
   pub ready : Ready place' line
+  pub up : place.line ≤ place'.line
 
 Reads-entries : (place : Place) (line n : ℕ) (entries : List (List Mark)) → line < LINES → place.line ≤ line → number_at place line ≡ n
-    → AllByRecursion IsEntry entries → (place' : Place) × Reads place (entries_sheet line n entries) place' × (place'.line ≤ line)
+    → AllByRecursion IsEntry entries → (place' : Place) × Reads place (entries_sheet line n entries) place' × (place'.line ≤ line) × (place.line ≤ place'.line)
 Reads-entries place line n [] below low number are =
-    (place, subst (λ sheet. Reads place sheet place) (sym (entries_sheet-none line n)) (Reads-none place), low)
+    (place, subst (λ sheet. Reads place sheet place) (sym (entries_sheet-none line n)) (Reads-none place), low, omega arith)
 Reads-entries place line n (entry ∷ entries) below low number are =
     let next : Place = next_place place line n (is_refused entry) in
     let same : next.line ≡ line = line_next place line n (is_refused entry) in
@@ -258,6 +259,7 @@ Reads-entries place line n (entry ∷ entries) below low number are =
       subst (λ sheet. Reads place sheet rest.0) (sym (entries_sheet-more line n entry entries))
           (Reads-both place next rest.0 (entry_sheet line n entry) (entries_sheet line (n + 1) entries) (Reads-entry place line n entry below (record { low = low; next = number }) are.0) rest.1),
       rest.2,
+      omega (arith, rest.3),
     )
 
 -- the first entry of a line that may begin has the number 1
@@ -279,6 +281,7 @@ Reads-line place line marks below ready are =
       place' = read.0;
       reads = subst (λ sheet. Reads place sheet read.0) (line_sheet-entries line marks) read.1;
       ready = record { low = omega (arith, read.2); fresh = λ e. absurd (omega (arith, read.2, e)) };
+      up = read.3;
     }
 
 -- the tapes of n lines are read
@@ -287,7 +290,7 @@ pub Reads-lines : (tape : ℕ → List Mark) (place : Place) (a n : ℕ) → a +
 unfolding sheet_from
 Reads-lines tape place a zero within ready are =
     let same : a ≡ a + 0 = omega arith in
-    record { place' = place; reads = Reads-none place; ready = subst (λ line. Ready place line) same ready }
+    record { place' = place; reads = Reads-none place; ready = subst (λ line. Ready place line) same ready; up = omega arith }
 Reads-lines tape place a (suc n) within ready are =
     let first = Reads-line place a (tape a) (omega arith) ready (are a) in
     let rest = Reads-lines tape first.place' (a + 1) n (omega arith) first.ready are in
@@ -296,11 +299,17 @@ Reads-lines tape place a (suc n) within ready are =
       place' = rest.place';
       reads = Reads-both place first.place' rest.place' (line_sheet a (tape a)) (sheet_from tape (a + 1) n) first.reads rest.reads;
       ready = subst (λ line. Ready rest.place' line) same rest.ready;
+      up = omega (arith, first.up, rest.up);
     }
 
 -- before the first entry a page may begin with this line or a later one
 pub Ready-start : (from line : ℕ) → from ≤ line → Ready (start_at from) line
 Ready-start from line low = record { low = low; fresh = λ e. refl }
+
+-- the next page begins with no line before that of a place
+pub line_after-up : (place : Place) (line : ℕ) → line ≤ place.line → line ≤ line_after place
+line_after-up place line up =
+    cond_both (place.entries == 0) place.line (place.line + 1) (λ next. line ≤ next) (λ e. up) (λ e. omega arith)
 
 -- where a line may begin, the next page may begin with it
 pub line_after-ready : (place : Place) (line : ℕ) → Ready place line → line_after place ≤ line
