@@ -6,7 +6,7 @@ use Rattle.xb_model.specs.declared.line.TheConstants.{LINES}
 use Rattle.xb_model.specs.declared.limits.Limits.{Limits}
 use Rattle.xb_model.specs.declared.plan.Plan.{Plan}
 use Rattle.xb_model.specs.Page.{page_text}
-use Rattle.xb_model.specs.Routing.{CodedRoute}
+use Rattle.xb_model.specs.Routing.{AreRoutes, CodedRoute}
 use Rattle.xb_model.specs.Rows.{LoopRow}
 use Rattle.xb_model.specs.Tapes.{tapes_of}
 use Rattle.xb_parts.specs.Parts.{AreParts, IsPartOf, Part}
@@ -19,7 +19,7 @@ use Rattle.xb_page.proofs.ReadSheets.{read_sheet}
 use Rattle.xb_join.specs.declared.join_fault.JoinFault.{JoinFault}
 use Rattle.xb_join.specs.declared.join_fault.JoinFault.TheVariants as fault
 use Rattle.xb_join.specs.Joining.{BlamesNoPart, Given, IsFaultOf, MakesTheWhole, PartsMakeTheWhole, given_part, join_from, join_of, or_fault, sheet_given, sheet_within}
-use Rattle.xb_join.specs.PartPages.{AreRoutes, part_page, part_sheet}
+use Rattle.xb_join.specs.PartPages.{part_page, part_sheet}
 use Rattle.xb_join.proofs.TapeMarks.{joined_tape-marks}
 use Rattle.xb_join.proofs.JoinedParts.{AreParts-le, part_sheet-lines, sheet_of-parts, tape_in}
 

@@ -5,7 +5,7 @@ use Rattle.std.proofs.lemmas.Bool.{and_from, cond-true, cond-false, eq-eqb, le-l
 use Rattle.xb_model.specs.declared.line.TheConstants.{LINES}
 use Rattle.xb_model.specs.declared.limits.Limits.{Limits}
 use Rattle.xb_model.specs.declared.plan.Plan.{Plan}
-use Rattle.xb_model.specs.Routing.{CodedRoute}
+use Rattle.xb_model.specs.Routing.{AreRoutes, CodedRoute}
 use Rattle.xb_model.specs.Rows.{LoopRow}
 use Rattle.xb_parts.specs.declared.range.LineRange.{LineRange}
 use Rattle.xb_parts.specs.Parts.{AreParts, IsPartOf, Part}
@@ -16,7 +16,7 @@ use Rattle.xb_page.proofs.LineSheets.{followed_by-assoc, no_entries-first, no_en
 use Rattle.xb_join.specs.declared.join_fault.JoinFault.{JoinFault}
 use Rattle.xb_join.specs.Given.{PagesMakeTheWhole, given_from}
 use Rattle.xb_join.specs.Joining.{given_with, join_from, lines_by, or_fault, sheet_given, sheet_within}
-use Rattle.xb_join.specs.PartPages.{AreRoutes, part_page, part_sheet}
+use Rattle.xb_join.specs.PartPages.{part_page, part_sheet}
 use Rattle.xb_join.proofs.JoinedPages.{read_part}
 use Rattle.xb_join.proofs.JoinedParts.{AreParts-le, sheet_of-parts}
 

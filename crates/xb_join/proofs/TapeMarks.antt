@@ -18,13 +18,12 @@ use Rattle.xb_model.specs.MfPairs.{mf_pair}
 use Rattle.xb_model.specs.Numbers.{before_mutilated, digit_of_count, digit_of_train, good_digits, has_length, is_complete, number_of, or_refused, outcome_of, reaches, shortest_complete, train_digits, without_number}
 use Rattle.xb_model.specs.Plans.{length_after_three}
 use Rattle.xb_model.specs.Records.{Attempt, Run, Train, attempts_of, is_timed, record_of, trains_of}
-use Rattle.xb_model.specs.Routing.{CodedRoute, longer_of, longest_of, order_by, order_of, route_for}
+use Rattle.xb_model.specs.Routing.{AreRoutes, CodedRoute, IsRoute, longer_of, longest_of, order_by, order_of, route_for}
 use Rattle.xb_model.specs.Rows.{LoopRow}
 use Rattle.xb_model.specs.Signals.{breaks_in, is_bad_train}
 use Rattle.xb_model.specs.Tapes.{joined_tape}
 use Rattle.xb_model.proofs.Completed.{completed_number, shortest_complete-completed}
 use Rattle.xb_model.proofs.Pending.{IsPending, one, reaches-pending}
-use Rattle.xb_join.specs.PartPages.{AreRoutes, IsRoute}
 use Rattle.xb_page.specs.ReadBack.{AreMarks, IsMark}
 use Rattle.xb_page.proofs.NumbersBack.{holds_below}
 

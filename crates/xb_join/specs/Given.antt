@@ -4,13 +4,13 @@ use Rattle.xb_model.specs.declared.limits.Limits.{Limits}
 use Rattle.xb_model.specs.declared.line.TheConstants.{LINES}
 use Rattle.xb_model.specs.declared.plan.Plan.{Plan}
 use Rattle.xb_model.specs.Page.{page_text}
-use Rattle.xb_model.specs.Routing.{CodedRoute}
+use Rattle.xb_model.specs.Routing.{AreRoutes, CodedRoute}
 use Rattle.xb_model.specs.Rows.{LoopRow}
 use Rattle.xb_model.specs.Tapes.{tapes_of}
 use Rattle.xb_parts.specs.Parts.{AreAllParts, Part}
 use Rattle.xb_parts.specs.declared.range.LineRange.{LineRange}
 use Rattle.xb_join.specs.Joining.{Given, given_with, join_of, lines_taken}
-use Rattle.xb_join.specs.PartPages.{AreRoutes, part_page}
+use Rattle.xb_join.specs.PartPages.{part_page}
 
 -- the ranges of a list, and a page for each, as far as there are pages
 abbrev pub given_by_list : List LineRange → List (List ℕ) → List Given

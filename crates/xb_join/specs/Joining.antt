@@ -4,12 +4,12 @@ use Rattle.xb_model.specs.declared.limits.Limits.{Limits}
 use Rattle.xb_model.specs.declared.line.TheConstants.{LINES}
 use Rattle.xb_model.specs.declared.plan.Plan.{Plan}
 use Rattle.xb_model.specs.Page.{page_text}
-use Rattle.xb_model.specs.Routing.{CodedRoute}
+use Rattle.xb_model.specs.Routing.{AreRoutes, CodedRoute}
 use Rattle.xb_model.specs.Rows.{LoopRow}
 use Rattle.xb_model.specs.Tapes.{tapes_of}
 use Rattle.xb_parts.specs.Parts.{AreAllParts, Part}
 use Rattle.xb_parts.specs.declared.range.LineRange.{LineRange}
-use Rattle.xb_join.specs.PartPages.{AreRoutes, part_page}
+use Rattle.xb_join.specs.PartPages.{part_page}
 use Rattle.xb_page.specs.declared.fault.PageFault.{PageFault}
 use Rattle.xb_page.specs.declared.fault.PageFault.TheVariants as page
 use Rattle.xb_join.specs.declared.damage.Damage.TheVariants as damage

@@ -1,23 +1,14 @@
 -- The pages of parts, and the page of all rows.
-use Rattle.std.specs.Prelude.{◌≡◌, ◌<◌, ℕ, List, ◌++◌, map, sum_by}
-use Rattle.std.specs.List.{AllByRecursion, flat_map}
-use Rattle.xb_model.specs.declared.digit.TheConstants.{DIGITS}
+use Rattle.std.specs.Prelude.{◌≡◌, ℕ, List, ◌++◌, map, sum_by}
+use Rattle.std.specs.List.{flat_map}
 use Rattle.xb_model.specs.declared.limits.Limits.{Limits}
 use Rattle.xb_model.specs.declared.plan.Plan.{Plan}
-use Rattle.xb_model.specs.declared.trunk.TheConstants.{TRUNKS}
 use Rattle.xb_model.specs.Page.{page_text, totals_text}
 use Rattle.xb_model.specs.Routing.{CodedRoute}
 use Rattle.xb_model.specs.Rows.{LoopRow}
 use Rattle.xb_model.specs.Tapes.{tapes_of}
 use Rattle.xb_parts.specs.Parts.{AreAllParts, Part}
 use Rattle.xb_page.specs.Sheets.{Sheet, sheet_of}
-
--- a route as tables have them: its trunk group has at most four digits, and what it puts in front are digits
-abbrev pub IsRoute : CodedRoute → Type 0
-IsRoute route = (route.trunk < TRUNKS) × AllByRecursion (λ digit. digit < DIGITS) route.prefixed
-
-abbrev pub AreRoutes : List CodedRoute → Type 0
-AreRoutes routes = AllByRecursion IsRoute routes
 
 -- the sheet of a part
 abbrev pub part_sheet : Plan → Limits → List CodedRoute → Part → Sheet

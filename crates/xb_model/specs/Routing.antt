@@ -1,11 +1,13 @@
 -- Routing a number.
-use Rattle.std.specs.Prelude.{ℕ, List, [], ◌∷◌, ◌++◌, drop, length, Bool, true, false, ◌&&◌, ◌==◌, nat_lt, if◌then◌else◌, Option, Some, None}
-use Rattle.std.specs.List.{filter}
+use Rattle.std.specs.Prelude.{ℕ, ◌<◌, List, [], ◌∷◌, ◌++◌, drop, length, Bool, true, false, ◌&&◌, ◌==◌, nat_lt, if◌then◌else◌, Option, Some, None}
+use Rattle.std.specs.List.{AllByRecursion, filter}
 use Rattle.xb_model.specs.declared.dialled.Dialled.{Dialled}
 use Rattle.xb_model.specs.declared.dialled.Dialled.TheVariants as dialled
 use Rattle.xb_model.specs.declared.reason.Reason.TheVariants.{Unknown}
 use Rattle.xb_model.specs.declared.order.Order.{Order}
 use Rattle.xb_model.specs.declared.order.Order.TheVariants.{Key, Refused}
+use Rattle.xb_model.specs.declared.digit.TheConstants.{DIGITS}
+use Rattle.xb_model.specs.declared.trunk.TheConstants.{TRUNKS}
 
 -- a route: the code of the numbers that take it, its trunk group, how many digits it deletes, and
 -- which it puts in front
@@ -18,6 +20,13 @@ pub record CodedRoute : Type 0 where
 abbrev pub coded_route : List ℕ → ℕ → ℕ → List ℕ → CodedRoute
 coded_route code trunk deleted prefixed =
     record { code = code; trunk = trunk; deleted = deleted; prefixed = prefixed }
+
+-- a route as tables have them: its trunk group has at most four digits, and what it puts in front are digits
+abbrev pub IsRoute : CodedRoute → Type 0
+IsRoute route = (route.trunk < TRUNKS) × AllByRecursion (λ digit. digit < DIGITS) route.prefixed
+
+abbrev pub AreRoutes : List CodedRoute → Type 0
+AreRoutes routes = AllByRecursion IsRoute routes
 
 -- the code is a prefix of the digits
 abbrev pub covers : List ℕ → List ℕ → Bool

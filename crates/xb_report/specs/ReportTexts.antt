@@ -13,7 +13,7 @@ use Rattle.xb_heard.specs.Digits.{DigitOfRuns}
 use Rattle.xb_heard.specs.DigitRows.{row_of}
 use Rattle.xb_heard.specs.Figures.{times_of}
 use Rattle.xb_report.specs.Cells.{cells_text, extent_text, gap, place_text, tenths_or_dash}
-use Rattle.xb_report.specs.Words.{fault_text, is_taken, is_timed_out, outcome_text}
+use Rattle.xb_report.specs.Words.{fault_with, is_taken, is_timed_out, outcome_text}
 
 -- the first line: the limits
 abbrev pub limits_text : Limits → List ℕ
@@ -28,10 +28,13 @@ abbrev pub name_text : Option ℕ → List ℕ
 name_text None = codes "x"
 name_text (Some digit) = decimal digit
 
--- what spoils a digit, and where
+-- what spoils a digit, and where, with these signs for less and for more
+abbrev pub spoiler_with : List ℕ → List ℕ → Limits → Spoiler → List ℕ
+spoiler_with less more limits spoiler =
+    fault_with less more limits spoiler.fault spoiler.run.ms ++ codes " at " ++ place_text spoiler.run
+
 abbrev pub spoiler_text : Limits → Spoiler → List ℕ
-spoiler_text limits spoiler =
-    fault_text limits spoiler.fault spoiler.run.ms ++ codes " at " ++ place_text spoiler.run
+spoiler_text limits spoiler = spoiler_with (codes "<") (codes ">") limits spoiler
 
 -- what is said of a digit after its figures
 abbrev pub remark_text : Limits → Remark → List ℕ

@@ -2,7 +2,7 @@
 ghost use Rattle.std.specs.Prelude.{◌≡◌, ◌++◌, OnOk, string_bytes};
 ghost use Rattle.xb_report.specs.Marked.{fault_marked, spoiler_marked};
 
-use crate::words::{push_fault_with, push_place};
+use crate::words::{push_fault_with, push_spoiler_with};
 use std::alloc::AllocError;
 use xb_heard::{PulseFault, Spoiler};
 use xb_model::Limits;
@@ -28,8 +28,5 @@ pub(crate) fn push_marked_spoiler(
 ) -> Result<(), AllocError>
     ensures { OnOk result (string_bytes out.new ≡ string_bytes out.old ++ spoiler_marked limits spoiler) }
 {
-    let Spoiler { fault, run } = spoiler;
-    push_marked_fault(out, limits, fault, run.ms)?;
-    out.push_str(" at ")?;
-    push_place(out, &run)
+    push_spoiler_with(out, "&lt;", "&gt;", limits, spoiler)
 }

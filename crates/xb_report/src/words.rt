@@ -1,8 +1,8 @@
 // The words of a report.
 ghost use Rattle.std.specs.Prelude.{◌≡◌, ◌++◌, OnOk, string_bytes};
 ghost use Rattle.xb_report.specs.Cells.{place_text};
-ghost use Rattle.xb_report.specs.ReportTexts.{spoiler_text};
-ghost use Rattle.xb_report.specs.Words.{digits_text, fault_text, fault_with, is_taken, is_timed_out, outcome_text};
+ghost use Rattle.xb_report.specs.ReportTexts.{spoiler_text, spoiler_with};
+ghost use Rattle.xb_report.specs.Words.{digits_text, fault_with, is_taken, is_timed_out, outcome_text};
 
 use std::alloc::AllocError;
 use xb_heard::{PlacedRun, PulseFault, Spoiler};
@@ -66,18 +66,6 @@ pub(crate) fn push_fault_with(
     }
 }
 
-// Puts what is wrong with a run of so many ms after the text, and the limit.
-fn push_fault(
-    out: &mut String,
-    limits: Limits,
-    fault: PulseFault,
-    ms: u64,
-) -> Result<(), AllocError>
-    ensures { OnOk result (string_bytes out.new ≡ string_bytes out.old ++ fault_text limits fault ms) }
-{
-    push_fault_with(out, "<", ">", limits, fault, ms)
-}
-
 /// Puts where a run begins after the text: the time from the line's first record, and the number of its
 /// record among those of all lines. `Err` says that memory ran out.
 pub fn push_place(out: &mut String, run: &PlacedRun) -> Result<(), AllocError>
@@ -89,6 +77,23 @@ pub fn push_place(out: &mut String, run: &PlacedRun) -> Result<(), AllocError>
     write!(out, "{seconds}.{ms:03} s, record {record}")
 }
 
+// Puts what spoils a digit after the text, and where, with these signs for less and for more.
+pub(crate) fn push_spoiler_with(
+    out: &mut String,
+    less: &str,
+    more: &str,
+    limits: Limits,
+    spoiler: Spoiler,
+) -> Result<(), AllocError>
+    ensures { OnOk result (string_bytes out.new
+        ≡ string_bytes out.old ++ spoiler_with less.now more.now limits spoiler) }
+{
+    let Spoiler { fault, run } = spoiler;
+    push_fault_with(out, less, more, limits, fault, run.ms)?;
+    out.push_str(" at ")?;
+    push_place(out, &run)
+}
+
 // Puts what spoils a digit after the text, and where.
 pub(crate) fn push_spoiler(
     out: &mut String,
@@ -97,10 +102,7 @@ pub(crate) fn push_spoiler(
 ) -> Result<(), AllocError>
     ensures { OnOk result (string_bytes out.new ≡ string_bytes out.old ++ spoiler_text limits spoiler) }
 {
-    let Spoiler { fault, run } = spoiler;
-    push_fault(out, limits, fault, run.ms)?;
-    out.push_str(" at ")?;
-    push_place(out, &run)
+    push_spoiler_with(out, "<", ">", limits, spoiler)
 }
 
 /// Whether the register takes digit `index` of an attempt, from 0.

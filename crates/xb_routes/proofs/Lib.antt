@@ -10,3 +10,4 @@ pub mod Steps
 pub mod ByKey
 pub mod ByItem
 pub mod ByText
+pub mod TableRoutes

@@ -1,6 +1,5 @@
 mod FarEnds
 pub mod PlannedPages
-mod TableRoutes
 pub mod SplitPages
 pub mod ReadRows
 pub mod TableLines

@@ -18,7 +18,7 @@ use Rattle.xb_parts.proofs.RangeParts.{ranges_make_parts}
 use Rattle.xb_join.specs.declared.join_fault.JoinFault.{JoinFault}
 use Rattle.xb_join.specs.Joining.{Given, given_part, given_with, join_of}
 use Rattle.xb_join.proofs.JoinedPages.{parts_make_the_whole}
-use Rattle.xb_together.proofs.TableRoutes.{table-routes}
+use Rattle.xb_routes.proofs.TableRoutes.{table-routes}
 use Rattle.xb_together.specs.SplitDecks.{HasItsPage, IsSmall, SplitDecksMakeThePage, range_deck, ranges_of}
 
 -- some of rows are rows

@@ -11,7 +11,7 @@ use Rattle.xb_model.specs.declared.plan.Plan.{Plan}
 use Rattle.xb_model.specs.declared.trunk.TheConstants.{TRUNKS}
 use Rattle.xb_model.specs.Digits.{digit_of_ascii}
 use Rattle.xb_model.specs.Page.{zero_byte}
-use Rattle.xb_model.specs.Routing.{CodedRoute, coded_route}
+use Rattle.xb_model.specs.Routing.{AreRoutes, CodedRoute, IsRoute, coded_route}
 use Rattle.xb_routes.specs.declared.fault.RouteFault.TheVariants as fault
 use Rattle.xb_routes.specs.Codes.{AreDigits, code_of, digits_of_text, number_length}
 use Rattle.xb_routes.specs.Keys.{FourKeys, keys_of}
@@ -19,7 +19,6 @@ use Rattle.xb_routes.specs.Steps.{or_fault}
 use Rattle.xb_routes.specs.Table.{Table}
 use Rattle.xb_routes.specs.Text.{deleted_of, if_keying, prefixed_of, route_of, table_of_text, trunk_of}
 use Rattle.xb_routes.proofs.ByText.{text-accepted}
-use Rattle.xb_join.specs.PartPages.{AreRoutes, IsRoute}
 
 trunk-below : (z : ℤ) (trunk : ℕ) → trunk_of z ≡ Some trunk → trunk < TRUNKS
 trunk-below (negsuc n) trunk e = absurd (let no : ⊥ = cc in no)
