@@ -1,4 +1,5 @@
 // Both calls by schedules: the second sender would send the refusal.
+use crate::schedule::round_of;
 use crate::two_calls::{are_both, line, rows, table};
 use std::alloc::{AllocError, Global};
 use std::test::Fail;
@@ -6,26 +7,16 @@ use test_kit::marks::operator_marks;
 use xb_ring::Post;
 use xb_together::{SoFar, marks_by_schedule};
 
-// Each post but the second sender.
-const ROUND: [Post; 8] = [
-    Post::Feed,
-    Post::Pulse,
-    Post::Register,
-    Post::Translate,
-    Post::Deal,
-    Post::Send(0),
-    Post::Gather,
-    Post::Tape,
-];
-
-// So many rounds, and then as many in which the second sender has its turn too, if it may have one.
+// So many rounds of each post but the second sender, and then as many in which this one has its turn too, if it
+// may have one.
 fn rounds(alloc: Global, may_send: bool) -> Result<Vec<Post>, AllocError> {
+    let round_of_others = round_of(alloc, 1)?;
     let mut schedule = Vec::new(alloc);
     for round in 0..400 {
         if may_send && round >= 200 {
             schedule.push(Post::Send(1))?;
         }
-        schedule.extend_from_slice(&ROUND)?;
+        schedule.extend_from_slice(&round_of_others)?;
     }
     Ok(schedule)
 }

@@ -1,6 +1,7 @@
 // A post that cannot go on waits between its turns: one that did not would make millions of them.
 use crate::calls::{run_on, usual_table};
 use crate::passes::Passes;
+use crate::schedule::round_of;
 use std::alloc::Global;
 use std::process::Abort;
 use std::sync::Wait;
@@ -23,18 +24,6 @@ const MOST_YIELDS: u128 = 6_000;
 
 /// What a turn more takes at least, in microseconds: later sleeps of a wait ask for 127.
 const LEAST_SLEEP: u128 = 100;
-
-/// The posts of one sender.
-const POSTS: [Post; 8] = [
-    Post::Feed,
-    Post::Pulse,
-    Post::Register,
-    Post::Translate,
-    Post::Deal,
-    Post::Send(0),
-    Post::Gather,
-    Post::Tape,
-];
 
 // Holds one post before its first turn, and counts the turns of all.
 #[derive(Drop)]
@@ -71,7 +60,8 @@ fn check_waits<R: Threads + Wait + Clock + Abort + Sync>(
     held: Post,
 ) -> Result<(), Fail> {
     let table = usual_table(alloc)?;
-    let passes = Passes::new(alloc, &POSTS)?;
+    let posts = round_of(alloc, 1)?;
+    let passes = Passes::new(alloc, &posts)?;
     let gate = Late {
         rt,
         held,
@@ -81,8 +71,8 @@ fn check_waits<R: Threads + Wait + Clock + Abort + Sync>(
     let tapes = run_on(rt, alloc, Listed::new(rows), &table, 1, 1, &gate);
     let most = MOST_YIELDS + start.elapsed(rt)?.as_micros() / LEAST_SLEEP;
     assert!(rt; tapes.is_ok(), "{held} is held");
-    for post in POSTS {
-        let turns = passes.count(post);
+    for post in &posts {
+        let turns = passes.count(*post);
         assert!(rt;
             u128::from(turns) <= most,
             "{post}: {turns} turns while {held} is held"
