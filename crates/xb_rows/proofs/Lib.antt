@@ -1,4 +1,9 @@
-pub mod ThreeFields
+pub mod InsideRecords
+pub mod TakenBytes
+pub mod JudgedRecords
+pub mod LongFields
+pub mod TakenRecords
+pub mod HeldBytes
 pub mod RecordCounts
 pub mod RecordsLeft
 pub mod RestOfRecords

@@ -1,0 +1,74 @@
+// The records of a stream, of each of which it keeps what a row may need.
+ghost use Rattle.std.specs.Prelude.{◌≡◌, option_map};
+ghost use Rattle.csv.specs.Reading.{strip_bom};
+ghost use Rattle.csv.specs.declared.parser.State.TheVariants.{StartRecord};
+ghost use Rattle.xb_rows.specs.Kept.{kept_fields};
+ghost use Rattle.xb_rows.specs.Scanning.{TakesRecord, records_left, records_of_bytes};
+
+use crate::fields::{FieldEnd, take_field};
+use crate::kept::Kept;
+use crate::machine::State;
+use crate::stream_bytes::StreamBytes;
+use std::io::Read;
+use xb_model::RowFault;
+
+// A reader of records, in flat memory.
+#[derive(Drop)]
+pub(crate) struct RecordReader<R: Read> {
+    bytes: StreamBytes<R>,
+    state: State,
+}
+
+impl<R: Read> RecordReader<R> {
+    // A reader of all records of a stream.
+    pub(crate) fn new(reader: R) -> RecordReader<R>
+        ensures { records_left R.remaining result
+            ≡ records_of_bytes StartRecord (option_map strip_bom (R.remaining reader)) }
+    {
+        RecordReader {
+            bytes: StreamBytes::new(reader),
+            state: State::StartRecord,
+        }
+    }
+
+    // A reader of the records that a stream has left after one.
+    pub(crate) fn after_record(reader: R) -> RecordReader<R>
+        ensures { records_left R.remaining result ≡ records_of_bytes StartRecord (R.remaining reader) }
+    {
+        RecordReader {
+            bytes: StreamBytes::begun(reader),
+            state: State::StartRecord,
+        }
+    }
+
+    // Reads the next record as far as it takes to judge it, and says whether there was one. After a record
+    // that was not read to its end, which is that of no row, the reader stands inside it.
+    pub(crate) fn take_record(&mut self, kept: &mut Kept) -> Result<bool, RowFault>
+        ensures { TakesRecord (records_left R.remaining self.old) (records_left R.remaining self.new)
+            (kept_fields kept.new) result }
+    {
+        kept.contact.clear();
+        kept.ms.clear();
+        kept.are_three = false;
+        match take_field(&mut self.bytes, &mut self.state, &mut kept.line)? {
+            FieldEnd::Nowhere => return Ok(false),
+            FieldEnd::Comma => {}
+            FieldEnd::Record => return Ok(true),
+            FieldEnd::Long => {
+                kept.are_three = true;
+                return Ok(true);
+            }
+        }
+        match take_field(&mut self.bytes, &mut self.state, &mut kept.contact)? {
+            FieldEnd::Comma => {}
+            FieldEnd::Long => {
+                kept.are_three = true;
+                return Ok(true);
+            }
+            _ => return Ok(true),
+        }
+        let end = take_field(&mut self.bytes, &mut self.state, &mut kept.ms)?;
+        kept.are_three = end.is_last();
+        Ok(true)
+    }
+}
