@@ -54,16 +54,9 @@ fn text_of(alloc: Global, case: Case) -> Result<Vec<u8>, AllocError> {
 }
 
 // Checks that a stream that gives a text and then fails has these rows, and then this fault for good.
-fn check_stream(
-    rt: &impl Abort,
-    alloc: Global,
-    text: &[u8],
-    step: usize,
-    rows: usize,
-    fault: RowFault,
-) {
+fn check_stream(rt: &impl Abort, text: &[u8], step: usize, rows: usize, fault: RowFault) {
     let mut stream = Halting::failing(text, step, text.len(), ErrorKind::Other);
-    let mut reader = RowReader::new(alloc, &mut stream, u64::MAX);
+    let mut reader = RowReader::new(&mut stream, u64::MAX);
     for _ in 0..rows {
         assert!(rt; reader.next_row().is_ok_and(|row| row.is_some()));
     }
@@ -81,15 +74,15 @@ fn tells_a_fault_before_the_end_of_its_record(rt: HostRuntime) -> Result<(), All
     for case in UNENDED {
         let text = text_of(rt.alloc(), *case)?;
         for step in [1, 100, 100_000] {
-            check_stream(&rt, rt.alloc(), &text, step, case.4, case.5);
+            check_stream(&rt, &text, step, case.4, case.5);
         }
     }
     Ok(())
 }
 
 // Checks that a whole text has these rows, and then this fault for good.
-fn check_text(rt: &impl Abort, alloc: Global, text: &[u8], rows: usize, fault: RowFault) {
-    let mut scan = Scan::new(alloc, text);
+fn check_text(rt: &impl Abort, text: &[u8], rows: usize, fault: RowFault) {
+    let mut scan = Scan::new(text);
     for _ in 0..rows {
         assert!(rt; scan.next_row().is_ok_and(|row| row.is_some()));
     }
@@ -102,8 +95,8 @@ fn check_text(rt: &impl Abort, alloc: Global, text: &[u8], rows: usize, fault: R
 fn judges_long_fields(rt: HostRuntime) -> Result<(), AllocError> {
     for case in ENDED {
         let text = text_of(rt.alloc(), *case)?;
-        check_text(&rt, rt.alloc(), &text, case.4, case.5);
-        check_stream(&rt, rt.alloc(), &text, 100, case.4, case.5);
+        check_text(&rt, &text, case.4, case.5);
+        check_stream(&rt, &text, 100, case.4, case.5);
     }
     Ok(())
 }

@@ -8,10 +8,10 @@ use xb_rows::{RowReader, Scan};
 const PLAIN: &[u8] = b"line,state,ms\n7,M,5\n42,C,0\n9,B,60\n";
 
 // Checks that a `Scan` gives what a `RowReader` gives of a text, and then its stop for good.
-fn check_text(rt: &impl Abort, alloc: Global, text: &[u8]) {
+fn check_text(rt: &impl Abort, text: &[u8]) {
     let mut stream = text;
-    let mut reader = RowReader::new(alloc, &mut stream, 1_000_000);
-    let mut scan = Scan::new(alloc, text);
+    let mut reader = RowReader::new(&mut stream, 1_000_000);
+    let mut scan = Scan::new(text);
     for call in 1..=5 {
         let same = reader.next_row() == scan.next_row();
         assert!(rt; same, "call {call} of {}", text.escape_ascii());
@@ -26,7 +26,7 @@ fn check_changes(rt: &impl Abort, alloc: Global, from: usize, to: usize) -> Resu
         if place >= from && place < to && place < text.len() {
             for byte in 0..=u8::MAX {
                 text[place] = byte;
-                check_text(rt, alloc, &text);
+                check_text(rt, &text);
             }
             text[place] = *plain;
         }
@@ -69,6 +69,6 @@ const OTHERS: &[&[u8]] = &[
 #[test]
 fn reads_other_forms_as_in_a_stream(rt: HostRuntime) {
     for text in OTHERS {
-        check_text(&rt, rt.alloc(), text);
+        check_text(&rt, text);
     }
 }

@@ -14,3 +14,4 @@ pub mod ScanSteps
 pub mod PlainRecords
 pub mod LeadingNumbers
 pub mod PlainSteps
+pub mod ReadRows

@@ -10,7 +10,7 @@ use Rattle.xb_model.specs.declared.fault.RowFault.{RowFault}
 use Rattle.xb_model.specs.declared.fault.RowFault.TheVariants as fault
 use Rattle.xb_rows.specs.declared.scan.TheConstants.{MOST_RECORDS}
 use Rattle.xb_model.specs.Fields.{field_number}
-use Rattle.xb_rows.specs.RowTexts.{Fields, contact_of, rest_from, judged_fields, row_of_fields}
+use Rattle.xb_rows.specs.RowTexts.{Fields, contact_of, judged_fields, rest_from, row_of_fields}
 
 -- a text begins with no byte order mark, and with a record of these fields, after which `csv` stops at this
 -- rest

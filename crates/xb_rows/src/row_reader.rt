@@ -7,7 +7,6 @@ use crate::kept::Kept;
 use crate::place::{Place, place_after};
 use crate::record_reader::RecordReader;
 use crate::steps::{take_first_row, take_row};
-use std::alloc::Global;
 use std::io::Read;
 use std::marker::Model;
 use xb_model::{Row, RowFault};
@@ -41,7 +40,7 @@ impl<R: Read> RowReader<R> {
     /// A reader of a stream's rows: its first record is the header `line,state,ms`, and each further one,
     /// counted from 1, is a row. `most` is how many may follow the header; with `u64::MAX` no stream has
     /// too many.
-    pub fn new(_alloc: Global, reader: R, most: u64) -> RowReader<R>
+    pub fn new(reader: R, most: u64) -> RowReader<R>
         ensures { result ≡ option_map (rest_within most) (R.remaining reader) }
     {
         RowReader {

@@ -5,7 +5,6 @@ ghost use Rattle.xb_rows.specs.RowTexts.{rest_of_text};
 
 use crate::csv_scan::CsvScan;
 use crate::plain::{after_header, plain_row};
-use std::alloc::Global;
 use std::marker::Model;
 use xb_model::{Row, RowFault, RowSource};
 
@@ -52,7 +51,7 @@ fn hand_over<'a>(
 impl<'a> Scan<'a> {
     /// A scan of a text: its first record is the header `line,state,ms`, and each further one,
     /// counted from 1, is a row.
-    pub fn new(_alloc: Global, text: &'a [u8]) -> Scan<'a>
+    pub fn new(text: &'a [u8]) -> Scan<'a>
         ensures { result ≡ rest_of_text text.now }
     {
         let (rest, csv) = match after_header(text) {

@@ -26,7 +26,7 @@ use Rattle.xb_join.specs.Joining.{Given, join_of}
 use Rattle.xb_together.specs.SplitDecks.{HasItsPage, LeavesRoom, PlannedDecksMakeThePage, range_deck, ranges_of}
 use Rattle.xb_together.specs.WrittenDecks.{HasPage, HaveTheirPages, WrittenDecksMakeThePage}
 use Rattle.xb_together.proofs.PlannedPages.{Cover-le}
-use Rattle.xb_together.proofs.ReadRows.{read_rows_are_rows}
+use Rattle.xb_rows.proofs.ReadRows.{read_rows_are_rows}
 use Rattle.xb_together.proofs.TableLines.{HasLines, tables_have_lines}
 
 -- each line has a load
