@@ -1,8 +1,6 @@
 -- What is kept of a record stands for its fields.
-use Rattle.std.proofs.Common.{◌≡◌, ◌≤◌, ◌<◌, ℕ, List, [], ◌∷◌, ◌++◌, length, Option, Some, None, Bool, true, false, ◌&&◌, ◌||◌, Result, Ok, Err, refl, sym, ap, ◌∙◌, arith, length-append}
-use Rattle.std.specs.Prelude.{codes, bytes_eq, nat_le, nat_lt, if◌then◌else◌, option_and_then}
-use Rattle.std.specs.Str.{all_ascii_digits}
-use Rattle.std.specs.Str.Parse.{digits_value}
+use Rattle.std.proofs.Common.{◌≡◌, ◌≤◌, ◌<◌, ℕ, List, [], ◌∷◌, length, Option, Some, None, Bool, true, false, ◌&&◌, Result, Ok, refl, sym, ap, ◌∙◌, arith}
+use Rattle.std.specs.Prelude.{codes, bytes_eq}
 use Rattle.std.proofs.lemmas.Bool.{le-leb, le-ltb, lt-ltb, lt-leb}
 use Rattle.std.proofs.lemmas.Slice.Eq.{bytes_eq-Decides}
 use Rattle.xb_model.specs.Fields.{field_number, line_of}
@@ -14,7 +12,7 @@ use Rattle.xb_model.specs.declared.field.TheConstants.{LINE_DIGITS}
 use Rattle.xb_rows.specs.declared.kept.TheConstants.{MOST_FIELD_BYTES}
 use Rattle.xb_rows.specs.declared.record.TheConstants.{MS_DIGITS}
 use Rattle.xb_rows.specs.Kept.{AreWhole, StandFor}
-use Rattle.xb_rows.specs.RowTexts.{Fields, ThreeFields, contact_of, is_header, is_long, judged_fields, ms_of, or_fault, row_of_fields, three_fields, three_if}
+use Rattle.xb_rows.specs.RowTexts.{Fields, ThreeFields, contact_of, is_header, is_long, judged_fields, ms_of, or_fault, row_of_fields, three_fields}
 
 -- a list that is longer is another one
 longer-not : (p letters : List ℕ) → length letters < length p → bytes_eq p letters ≡ false

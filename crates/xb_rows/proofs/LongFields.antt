@@ -1,7 +1,7 @@
 -- Which records are judged before their end.
-use Rattle.std.proofs.Common.{◌≡◌, ◌⊎◌, [], ◌∷◌, List, ℕ, Bool, true, false, ◌||◌, Some, None, refl, inl, inr, arith, length}
-use Rattle.xb_rows.specs.LongFields.{AreShort, LongFieldsAlone}
-use Rattle.xb_rows.specs.RowTexts.{Fields, ThreeFields, is_long, judged_fields, three_fields, three_if}
+use Rattle.std.proofs.Common.{◌≡◌, [], ◌∷◌, Bool, true, false, ◌||◌, None, refl, inl, inr, arith}
+use Rattle.xb_rows.specs.LongFields.{LongFieldsAlone}
+use Rattle.xb_rows.specs.RowTexts.{ThreeFields, is_long, three_if}
 
 -- records of one field, of two and of more
 one : (a : Bool) (t : ThreeFields) → (a || false) ≡ false → three_if a t ≡ None

@@ -1,13 +1,12 @@
 -- What a scan gives of plain records, and where `csv` reads on.
-use Rattle.std.proofs.Common.{◌≡◌, ◌<◌, ◌+◌, ℕ, List, ◌∷◌, drop, Option, Some, None, IsSome, Bool, true, false, Result, Ok, Err, refl, sym, ap, ap₂, ◌∙◌, inl, inr, ⊎_elim, arith}
-use Rattle.csv.specs.Reading.{default_config, records, strip_bom}
+use Rattle.std.proofs.Common.{◌≡◌, ◌<◌, ◌+◌, ℕ, List, ◌∷◌, Option, Some, None, Ok, sym, ap, ◌∙◌, arith}
+use Rattle.csv.specs.Reading.{default_config, records}
 use Rattle.csv.specs.declared.parser.State.TheVariants as st
 use Rattle.xb_model.specs.Rows.{LoopRow}
 use Rattle.xb_model.specs.Sources.{Gives, Rest}
-use Rattle.xb_model.specs.declared.fault.RowFault.{RowFault}
 use Rattle.xb_rows.specs.declared.scan.TheConstants.{MOST_RECORDS}
 use Rattle.xb_rows.specs.Plain.{BeginsWith, IsPlainRow, rest_after, rest_of_bytes}
-use Rattle.xb_rows.specs.RowTexts.{Fields, rest_from, rest_of_records, rest_of_text}
+use Rattle.xb_rows.specs.RowTexts.{Fields, rest_of_records, rest_of_text}
 use Rattle.xb_rows.specs.WrittenRows.{header}
 use Rattle.xb_rows.proofs.RecordCounts.{records-more}
 use Rattle.xb_rows.proofs.RestOfRecords.{rest_from-more}

@@ -1,12 +1,10 @@
 -- What a byte does to the field that is read.
-use Rattle.std.proofs.Common.{◌≡◌, ◌≤◌, ℕ, List, [], ◌∷◌, ◌++◌, Option, Some, None, length, true, false, refl, sym, ap, ◌∙◌, append-nil}
+use Rattle.std.proofs.Common.{◌≡◌, ◌≤◌, ℕ, List, [], ◌∷◌, ◌++◌, Option, Some, None, length, true, false, refl, ◌∙◌}
 use Rattle.std.specs.Prelude.{if◌then◌else◌, ◌<◌}
 use Rattle.std.specs.Io.KnownBytes.{Consumes, IsAtEnd, Keeps}
-use Rattle.csv.specs.Machine.{ends_at_end, field_after, fields_after, is_end, next_record, step}
+use Rattle.csv.specs.Machine.{ends_at_end, field_after, fields_after, is_end, next_record}
 use Rattle.csv.specs.Reading.{default_config}
-use Rattle.csv.specs.declared.parser.State.TheVariants as csv_st
 use Rattle.xb_rows.specs.declared.kept.TheConstants.{MOST_FIELD_BYTES}
-use Rattle.xb_rows.specs.declared.fields.FieldEnd.{FieldEnd}
 use Rattle.xb_rows.specs.declared.fields.FieldEnd.TheVariants as end
 use Rattle.xb_rows.specs.declared.machine.Action.{Action}
 use Rattle.xb_rows.specs.declared.machine.Action.TheVariants as act
@@ -14,7 +12,7 @@ use Rattle.xb_rows.specs.declared.machine.State.{State}
 use Rattle.xb_rows.specs.declared.machine.State.TheVariants as st
 use Rattle.xb_rows.specs.ByteSteps.{IsStep, csv_action, csv_state}
 use Rattle.xb_rows.specs.RowTexts.{Fields}
-use Rattle.xb_rows.specs.TakenFields.{IsField, IsInside, IsLastField, ReadsOn, TakesField, WhereKnown}
+use Rattle.xb_rows.specs.TakenFields.{ReadsOn, TakesField, WhereKnown}
 use Rattle.xb_rows.proofs.InsideRecords.{adds-inside}
 
 -- the record so far, where the bytes are known

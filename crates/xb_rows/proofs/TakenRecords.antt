@@ -1,5 +1,5 @@
 -- What reading a record, field by field, gives of the records that were left.
-use Rattle.std.proofs.Common.{◌≡◌, ◌≢◌, ◌≤◌, ◌+◌, ℕ, List, [], ◌∷◌, ◌++◌, length, Option, Some, None, true, false, Ok, refl, sym, ◌∙◌, arith, length-append}
+use Rattle.std.proofs.Common.{◌≡◌, ◌≢◌, ◌≤◌, ◌+◌, ℕ, List, [], ◌∷◌, ◌++◌, length, Option, Some, None, true, false, Ok, refl, ◌∙◌, arith, length-append}
 use Rattle.csv.specs.Machine.{Read, next_record}
 use Rattle.csv.specs.Reading.{default_config, records_from}
 use Rattle.xb_rows.specs.declared.kept.TheConstants.{MOST_FIELD_BYTES}

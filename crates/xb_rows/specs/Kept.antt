@@ -1,5 +1,5 @@
 -- What is kept of a record, and what it says of the record.
-use Rattle.std.specs.Prelude.{ℕ, ◌≡◌, List, [], ◌∷◌, Option, Some, None}
+use Rattle.std.specs.Prelude.{ℕ, ◌≡◌, [], ◌∷◌, Option, Some, None}
 use Rattle.xb_rows.specs.declared.kept.Kept.{Kept}
 use Rattle.xb_rows.specs.RowTexts.{Fields, ThreeFields, is_header, judged_fields, row_of_fields, three_fields, three_if}
 

@@ -1,13 +1,12 @@
 -- Records that are read directly of the bytes, and the scan that reads them.
-use Rattle.std.specs.Prelude.{ℕ, ◌≡◌, ◌+◌, ◌⊎◌, ◌++◌, List, [], ◌∷◌, Option, Some, None, Result, Ok}
+use Rattle.std.specs.Prelude.{ℕ, ◌≡◌, ◌+◌, ◌++◌, List, [], ◌∷◌, Option, Some, None, Result, Ok}
 use Rattle.csv.specs.Machine.{next_record}
 use Rattle.csv.specs.Reading.{default_config, records, strip_bom}
 use Rattle.csv.specs.declared.parser.State.TheVariants as st
 use Rattle.xb_model.specs.Rows.{LoopRow}
 use Rattle.xb_model.specs.declared.row.Contact.{Contact}
-use Rattle.xb_model.specs.Sources.{Gives, Rest, told}
+use Rattle.xb_model.specs.Sources.{Gives, Rest}
 use Rattle.xb_model.specs.declared.fault.RowFault.{RowFault}
-use Rattle.xb_model.specs.declared.fault.RowFault.TheVariants as fault
 use Rattle.xb_rows.specs.declared.scan.TheConstants.{MOST_RECORDS}
 use Rattle.xb_model.specs.Fields.{field_number}
 use Rattle.xb_rows.specs.RowTexts.{Fields, contact_of, judged_fields, rest_from, row_of_fields}

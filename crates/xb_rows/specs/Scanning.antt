@@ -26,7 +26,7 @@ records_of_bytes s (Some bytes) = Some (records_from default_config (length byte
 abbrev pub records_left : {R : Type 0} → (R → Option (List ℕ)) → RecordReader R → Option (List Fields)
 records_left remaining r = records_of_bytes (csv_state r.state) (bytes_left remaining r.bytes)
 
--- the reader failed, or memory ran out
+-- a failure of the reader: of a slice it is told as one of memory
 abbrev pub IsOfReader : RowFault → Type 0
 IsOfReader f = (f ≡ fault.Read) ⊎ (f ≡ fault.NoMemory)
 
@@ -92,7 +92,7 @@ GivesRead None (Ok (Some row)) new = Unit {0}
 GivesRead None (Ok None) new = new ≡ Some (told None)
 GivesRead None (Err f) new = new ≡ Some (told (Some f))
 
--- what a step gives of a slice, which does not fail: so memory ran out
+-- what a step gives of a slice, of which no read fails
 abbrev pub of_slice : Result (Option LoopRow) RowFault → Result (Option LoopRow) RowFault
 of_slice (Err fault.Read) = Err fault.NoMemory
 of_slice step = step

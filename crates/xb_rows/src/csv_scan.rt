@@ -12,7 +12,7 @@ use crate::steps::{take_first_row, take_row};
 use std::marker::Model;
 use xb_model::{Row, RowFault, RowSource};
 
-// What a step gives of a slice, which does not fail: so memory ran out.
+// What a step gives of a slice, of which no read fails, though no clause of slices says so.
 fn of_slice(step: Result<Option<Row>, RowFault>) -> Result<Option<Row>, RowFault>
     ensures { result ≡ of_slice step }
 {

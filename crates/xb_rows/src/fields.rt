@@ -24,7 +24,7 @@ pub(crate) enum FieldEnd {
 }
 
 impl FieldEnd {
-    // Whether no field is known to follow.
+    // Whether the record is judged by the fields up to this one, since none is known to follow.
     pub(crate) fn is_last(self) -> bool
         ensures { result ≡ is_last self }
     {

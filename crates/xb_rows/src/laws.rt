@@ -16,8 +16,8 @@ pub fn rows_of_texts()
     ensures { RowsOfTexts }
 {}
 
-/// A record is judged otherwise than by its three fields only where one of its first three is long, and it has
-/// not three.
+/// A record is judged otherwise than by its three fields only where one of its first three is long, and it
+/// has not three.
 #[tactic(auto, using(crate::proofs::LongFields::long_fields_alone))]
 pub fn long_fields_alone_are_judged_sooner()
     ensures { LongFieldsAlone }

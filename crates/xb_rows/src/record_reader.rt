@@ -41,8 +41,8 @@ impl<R: Read> RecordReader<R> {
         }
     }
 
-    // Reads the next record as far as it takes to judge it, and says whether there was one. After a record
-    // that was not read to its end, which is that of no row, the reader stands inside it.
+    // Reads the next record as far as it takes to judge it, and says whether there was one. One that was not
+    // read to its end can be no row; the reader then stands inside it.
     pub(crate) fn take_record(&mut self, kept: &mut Kept) -> Result<bool, RowFault>
         ensures { TakesRecord (records_left R.remaining self.old) (records_left R.remaining self.new)
             (kept_fields kept.new) result }

@@ -92,7 +92,8 @@ impl<R: Read> StreamBytes<R> {
         requires at { self.old.at ≡ 0 }
         requires room { self.old.filled < 3 }
         ensures fault { IfErr result (λ f. f ≡ fault.Read) }
-        ensures keeps { OnOk result (Keeps (held_bytes R.remaining self.old) (held_bytes R.remaining self.new)) }
+        ensures keeps { OnOk result
+            (Keeps (held_bytes R.remaining self.old) (held_bytes R.remaining self.new)) }
         ensures at_end { IfOk result (λ more. more ≡ false → IsAtEnd (R.remaining self.new.reader)) }
         ensures filled { IfOk result (λ more. (more ≡ true → self.new.filled ≡ self.old.filled + 1)
             × (more ≡ false → self.new.filled ≡ self.old.filled)) }
@@ -144,7 +145,8 @@ impl<R: Read> StreamBytes<R> {
     // Looks for a byte order mark, once.
     fn begin(&mut self) -> Result<(), RowFault>
         ensures fault { IfErr result (λ f. f ≡ fault.Read) }
-        ensures keeps { OnOk result (Keeps (bytes_left R.remaining self.old) (held_bytes R.remaining self.new)) }
+        ensures keeps { OnOk result
+            (Keeps (bytes_left R.remaining self.old) (held_bytes R.remaining self.new)) }
         ensures begun { OnOk result (self.new.begun ≡ true) }
     {
         if !self.begun {
@@ -180,7 +182,8 @@ impl<R: Read> StreamBytes<R> {
     fn take_held(&mut self) -> u8
         requires some { self.old.at < self.old.filled }
         requires inside { self.old.at < HELD_BYTES }
-        ensures byte { Consumes (held_bytes R.remaining self.old) (held_bytes R.remaining self.new) (result ∷ []) }
+        ensures byte { Consumes (held_bytes R.remaining self.old) (held_bytes R.remaining self.new)
+            (result ∷ []) }
         ensures same { (self.new.filled ≡ self.old.filled) × (self.new.begun ≡ self.old.begun) }
     {
         let byte = self.buffer[self.at];
