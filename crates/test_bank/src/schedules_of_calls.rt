@@ -7,8 +7,8 @@ use test_kit::marks::operator_marks;
 use xb_ring::Post;
 use xb_together::{SoFar, marks_by_schedule};
 
-// So many rounds of each post but the second sender, and then as many in which this one has its turn too, if it
-// may have one.
+// So many rounds of each post but the second sender, and then as many in which this one has its turn too,
+// if it may have one.
 fn rounds(alloc: Global, may_send: bool) -> Result<Vec<Post>, AllocError> {
     let round_of_others = round_of(alloc, 1)?;
     let mut schedule = Vec::new(alloc);

@@ -1,6 +1,6 @@
-// `operate` has the senders and the room that it is asked for, which no clause can see. So a clock counts how many
-// posts are asleep at once: with room for one item all are, since the feed waits for the others; with room for the
-// whole deck the feed waits for nobody.
+// `operate` has the senders and the room that it is asked for, which no clause can see. So a clock counts
+// how many posts are asleep at once: with room for one item all are, since the feed waits for the others;
+// with room for the whole deck the feed waits for nobody.
 ghost use Rattle.std.specs.Prelude.{◌≤◌};
 
 use crate::office::{operate_on, usual_deck};
