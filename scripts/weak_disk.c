@@ -1,5 +1,5 @@
 /* A disk that is hard to write on, for scripts/tries/parts: it is loaded below a program. A write takes 1,000 bytes at
- * most, as a write may, and with NO_SYNC in the environment no file can be put on the disk. */
+ * most, as a write may, and with NO_SYNC=N in the environment the Nth file or folder cannot be put on the disk. */
 #define _GNU_SOURCE
 #include <dlfcn.h>
 #include <errno.h>
@@ -17,7 +17,10 @@ ssize_t write(int file, const void *bytes, size_t count)
 int fsync(int file)
 {
     int (*sync)(int) = dlsym(RTLD_NEXT, "fsync");
-    if (getenv("NO_SYNC") != NULL) {
+    static int count;
+    const char *failing = getenv("NO_SYNC");
+    count++;
+    if (failing != NULL && count == atoi(failing)) {
         errno = EIO;
         return -1;
     }

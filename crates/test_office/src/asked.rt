@@ -1,6 +1,6 @@
 // `operate` has the senders and the room that it is asked for, which no clause can see. So a clock counts
 // how many posts are asleep at once: with room for one item all are, since the feed waits for the others;
-// with room for the whole deck the feed waits for nobody.
+// with room for the whole deck the feed waits for nobody, but seldom for the word to begin.
 ghost use Rattle.std.specs.Prelude.{◌≤◌};
 
 use crate::office::{operate_on, usual_deck};
@@ -17,11 +17,14 @@ use xb_ring::{GREATEST_CAPACITY, MOST_BRANCHES};
 /// How many posts a chain of one sender has.
 const POSTS_OF_ONE: u64 = 8;
 
+/// How many posts a chain of eight senders has.
+const POSTS_OF_EIGHT: u64 = 15;
+
 /// How long a sleep is, in milliseconds: others fall asleep meanwhile.
 const NAP: u64 = 5;
 
-/// How many runs may miss the moment in which all are asleep.
-const RUNS: u32 = 12;
+/// How many runs there are: some miss the moment in which all are asleep.
+const RUNS: u32 = 20;
 
 // A clock by which sleeps are long, and which counts those who sleep at once.
 #[derive(Drop)]
@@ -81,38 +84,35 @@ fn most_asleep<R: Threads + Wait + Clock + Sync>(
     Ok(dormitory.most.load(Ordering::SeqCst))
 }
 
-// Whether so many are asleep at once, in one of some runs.
-fn are_asleep<R: Threads + Wait + Clock + Sync>(
+// In how many runs all posts, of which there are so many, are asleep at once.
+fn runs_asleep<R: Threads + Wait + Clock + Sync>(
     rt: &R,
     alloc: Global,
     posts: u64,
     senders: usize,
     ring: usize,
-) -> Result<bool, Fail>
+) -> Result<u32, Fail>
     requires senders { (1 ≤ senders) × (senders ≤ MOST_BRANCHES) }
     requires ring { (1 ≤ ring) × (ring ≤ GREATEST_CAPACITY) }
 {
+    let mut count = 0u32;
     for _ in 0..RUNS {
-        if most_asleep(rt, alloc, senders, ring)? >= posts {
-            return Ok(true);
+        if most_asleep(rt, alloc, senders, ring)? == posts {
+            count = count.saturating_add(1);
         }
     }
-    Ok(false)
+    Ok(count)
 }
 
 #[test]
 fn operate_has_the_senders_and_the_room_that_it_is_asked_for(rt: HostRuntime) -> Result<(), Fail> {
+    let narrow = runs_asleep(&rt, rt.alloc(), POSTS_OF_ONE, 1, 1)?;
+    let wide = runs_asleep(&rt, rt.alloc(), POSTS_OF_ONE, 1, 1_024)?;
+    let many = runs_asleep(&rt, rt.alloc(), POSTS_OF_EIGHT, 8, 1)?;
     assert!(rt;
-        are_asleep(&rt, rt.alloc(), POSTS_OF_ONE, 1, 1)?,
-        "no run with the feed asleep"
+        narrow > wide.saturating_mul(2),
+        "the feed slept in {narrow} runs with little room, and in {wide} with much"
     );
-    assert!(rt;
-        !are_asleep(&rt, rt.alloc(), POSTS_OF_ONE, 1, 1_024)?,
-        "the feed waits for room"
-    );
-    assert!(rt;
-        are_asleep(&rt, rt.alloc(), POSTS_OF_ONE + 1, 8, 1_024)?,
-        "there are few senders"
-    );
+    assert!(rt; many > 0, "there are fewer than eight senders");
     Ok(())
 }
