@@ -1,6 +1,6 @@
-// `operate` has the senders and the room that it is asked for, which no clause can see. So a clock counts
-// how many posts are asleep at once: with room for one item all are, since the feed waits for the others;
-// with room for the whole deck the feed waits for nobody, but seldom for the word to begin.
+// `operate` has the senders and the room that it is asked for, which no clause can see. So a clock keeps posts
+// asleep until all are: with room for one item that comes about again and again, since the feed waits for the
+// others; with room for the whole deck at most once, while they wait for the word to begin.
 ghost use Rattle.std.specs.Prelude.{◌≤◌};
 
 use crate::office::{operate_on, usual_deck};
@@ -20,18 +20,71 @@ const POSTS_OF_ONE: u64 = 8;
 /// How many posts a chain of eight senders has.
 const POSTS_OF_EIGHT: u64 = 15;
 
-/// How long a sleep is, in milliseconds: others fall asleep meanwhile.
-const NAP: u64 = 5;
+/// More nights than the one that may come before the word to begin.
+const TWO_NIGHTS: u64 = 2;
 
-/// How many runs there are: some miss the moment in which all are asleep.
-const RUNS: u32 = 20;
+/// How long a night is, in milliseconds: by its end the word to begin was given.
+const NIGHT: u64 = 200;
 
-// A clock by which sleeps are long, and which counts those who sleep at once.
+/// For how long a post looks for a night at most, in milliseconds: then somebody stays awake. On a busy machine it
+/// takes a while until a post has yielded so often that it sleeps.
+const LOOKS: u64 = 4_000;
+
+/// How many runs there are at most: in one the posts may pass all items on without a second night.
+const RUNS: u32 = 5;
+
+// A clock by which those who sleep wake up once all have slept for a night, until there were so many nights.
 #[derive(Drop)]
 struct Dormitory<'a, R> {
     rt: &'a R,
+    posts: u64,
+    wanted: u64,
     asleep: AtomicU64,
-    most: AtomicU64,
+    nights: AtomicU64,
+    awake: AtomicU64,
+}
+
+impl<'a, R> Dormitory<'a, R> {
+    fn new(rt: &'a R, posts: u64, wanted: u64) -> Dormitory<'a, R> {
+        Dormitory {
+            rt,
+            posts,
+            wanted,
+            asleep: AtomicU64::new(0),
+            nights: AtomicU64::new(0),
+            awake: AtomicU64::new(0),
+        }
+    }
+
+    // Whether there were as many nights as are wanted.
+    fn has_all(&self) -> bool {
+        self.nights.load(Ordering::SeqCst) >= self.wanted
+    }
+
+    // Whether nobody is kept asleep any more.
+    fn is_over(&self) -> bool {
+        self.has_all() || self.awake.load(Ordering::SeqCst) > 0
+    }
+}
+
+impl<'a, R: Clock> Dormitory<'a, R> {
+    // The last to fall asleep sleeps for a night, and then wakes all.
+    fn end_night(&self) {
+        thread::sleep(self.rt, Duration::from_millis(NIGHT));
+        self.asleep.store(0, Ordering::SeqCst);
+        self.nights.fetch_add(1, Ordering::SeqCst);
+    }
+
+    // Sleeps until a night is over, or no longer where somebody stays awake.
+    fn wait_for_night(&self, before: u64) {
+        for _ in 0..LOOKS {
+            thread::sleep(self.rt, Duration::from_millis(1));
+            if self.nights.load(Ordering::SeqCst) != before {
+                return;
+            }
+        }
+        self.awake.store(1, Ordering::SeqCst);
+    }
 }
 
 impl<'a, R: Threads> Threads for Dormitory<'a, R> {}
@@ -47,31 +100,35 @@ impl<'a, R: Clock> Clock for Dormitory<'a, R> {
         self.rt.since_1970()
     }
 
-    fn sleep(&self, _duration: Duration) {
-        let asleep = self.asleep.fetch_add(1, Ordering::SeqCst).saturating_add(1);
-        self.most.fetch_max(asleep, Ordering::SeqCst);
-        thread::sleep(self.rt, Duration::from_millis(NAP));
-        self.asleep.fetch_sub(1, Ordering::SeqCst);
+    fn sleep(&self, duration: Duration) {
+        if self.is_over() {
+            thread::sleep(self.rt, duration);
+            return;
+        }
+        let before = self.nights.load(Ordering::SeqCst);
+        if self.asleep.fetch_add(1, Ordering::SeqCst).saturating_add(1) == self.posts {
+            self.end_night();
+        } else {
+            self.wait_for_night(before);
+        }
     }
 }
 
-// How many posts are asleep at once, at the most, while a call is keyed.
-fn most_asleep<R: Threads + Wait + Clock + Sync>(
+// Whether so many posts all sleep for so many nights while a call is keyed.
+fn have_nights<R: Threads + Wait + Clock + Sync>(
     rt: &R,
     alloc: Global,
+    posts: u64,
+    nights: u64,
     senders: usize,
     ring: usize,
-) -> Result<u64, Fail>
+) -> Result<bool, Fail>
     requires senders { (1 ≤ senders) × (senders ≤ MOST_BRANCHES) }
     requires ring { (1 ≤ ring) × (ring ≤ GREATEST_CAPACITY) }
 {
     let deck = usual_deck(alloc, &OPERATOR_CALL)?;
     let mut page: Vec<u8> = Vec::new(alloc);
-    let dormitory = Dormitory {
-        rt,
-        asleep: AtomicU64::new(0),
-        most: AtomicU64::new(0),
-    };
+    let dormitory = Dormitory::new(rt, posts, nights);
     operate_on(
         &dormitory,
         alloc,
@@ -81,38 +138,24 @@ fn most_asleep<R: Threads + Wait + Clock + Sync>(
         ring,
     )
     .map_err(|_| "no page")?;
-    Ok(dormitory.most.load(Ordering::SeqCst))
-}
-
-// In how many runs all posts, of which there are so many, are asleep at once.
-fn runs_asleep<R: Threads + Wait + Clock + Sync>(
-    rt: &R,
-    alloc: Global,
-    posts: u64,
-    senders: usize,
-    ring: usize,
-) -> Result<u32, Fail>
-    requires senders { (1 ≤ senders) × (senders ≤ MOST_BRANCHES) }
-    requires ring { (1 ≤ ring) × (ring ≤ GREATEST_CAPACITY) }
-{
-    let mut count = 0u32;
-    for _ in 0..RUNS {
-        if most_asleep(rt, alloc, senders, ring)? == posts {
-            count = count.saturating_add(1);
-        }
-    }
-    Ok(count)
+    Ok(dormitory.has_all())
 }
 
 #[test]
-fn operate_has_the_senders_and_the_room_that_it_is_asked_for(rt: HostRuntime) -> Result<(), Fail> {
-    let narrow = runs_asleep(&rt, rt.alloc(), POSTS_OF_ONE, 1, 1)?;
-    let wide = runs_asleep(&rt, rt.alloc(), POSTS_OF_ONE, 1, 1_024)?;
-    let many = runs_asleep(&rt, rt.alloc(), POSTS_OF_EIGHT, 8, 1)?;
-    assert!(rt;
-        narrow > wide.saturating_mul(2),
-        "the feed slept in {narrow} runs with little room, and in {wide} with much"
-    );
-    assert!(rt; many > 0, "there are fewer than eight senders");
+fn operate_has_the_room_that_it_is_asked_for(rt: HostRuntime) -> Result<(), Fail> {
+    let mut waits = false;
+    for _ in 0..RUNS {
+        waits = waits || have_nights(&rt, rt.alloc(), POSTS_OF_ONE, TWO_NIGHTS, 1, 1)?;
+    }
+    assert!(rt; waits, "no post waits for room");
+    let waits = have_nights(&rt, rt.alloc(), POSTS_OF_ONE, TWO_NIGHTS, 1, 1_024)?;
+    assert!(rt; !waits, "the feed waits for room");
+    Ok(())
+}
+
+#[test]
+fn operate_has_the_senders_that_it_is_asked_for(rt: HostRuntime) -> Result<(), Fail> {
+    let are_there = have_nights(&rt, rt.alloc(), POSTS_OF_EIGHT, 1, 8, 1)?;
+    assert!(rt; are_there, "fifteen posts are not asleep at once");
     Ok(())
 }
