@@ -3,7 +3,7 @@
 // others; with room for the whole deck at most once, while they wait for the word to begin.
 ghost use Rattle.std.specs.Prelude.{◌≤◌};
 
-use crate::office::{operate_on, usual_deck};
+use crate::office::operate_on;
 use std::alloc::Global;
 use std::sync::Wait;
 use std::sync::atomic::{AtomicU64, Ordering};
@@ -11,8 +11,13 @@ use std::test::Fail;
 use std::thread::Threads;
 use std::time::{Clock, Duration};
 use std::{io, thread};
-use test_kit::attempts::OPERATOR_CALL;
+use test_kit::decks::{TABLE, deck_of};
+use test_kit::pulses::rows_of;
 use xb_ring::{GREATEST_CAPACITY, MOST_BRANCHES};
+
+/// How many lines dial seven digits, one after the other, in 71 rows each: all rows, closes and the end fit into the
+/// widest ring. A post that gets a number of each line falls asleep before the next one comes.
+const LINES: u16 = 14;
 
 /// How many posts a chain of one sender has.
 const POSTS_OF_ONE: u64 = 8;
@@ -29,9 +34,6 @@ const NIGHT: u64 = 200;
 /// For how long a post looks for a night at most, in milliseconds: then somebody stays awake. On a busy machine it
 /// takes a while until a post has yielded so often that it sleeps.
 const LOOKS: u64 = 4_000;
-
-/// How many runs there are at most: in one the posts may pass all items on without a second night.
-const RUNS: u32 = 5;
 
 // A clock by which those who sleep wake up once all have slept for a night, until there were so many nights.
 #[derive(Drop)]
@@ -114,7 +116,16 @@ impl<'a, R: Clock> Clock for Dormitory<'a, R> {
     }
 }
 
-// Whether so many posts all sleep for so many nights while a call is keyed.
+// A deck in which each line dials.
+fn deck_of_calls(alloc: Global) -> Result<String, Fail> {
+    let mut rows = Vec::new(alloc);
+    for line in 0..LINES {
+        rows.extend_from_slice(&rows_of(alloc, line, "M500 #2 #3 #4 #5 #6 #7 #8")?)?;
+    }
+    deck_of(alloc, TABLE, &rows)
+}
+
+// Whether so many posts all sleep for so many nights while the calls are keyed.
 fn have_nights<R: Threads + Wait + Clock + Sync>(
     rt: &R,
     alloc: Global,
@@ -126,7 +137,7 @@ fn have_nights<R: Threads + Wait + Clock + Sync>(
     requires senders { (1 ≤ senders) × (senders ≤ MOST_BRANCHES) }
     requires ring { (1 ≤ ring) × (ring ≤ GREATEST_CAPACITY) }
 {
-    let deck = usual_deck(alloc, &OPERATOR_CALL)?;
+    let deck = deck_of_calls(alloc)?;
     let mut page: Vec<u8> = Vec::new(alloc);
     let dormitory = Dormitory::new(rt, posts, nights);
     operate_on(
@@ -143,10 +154,7 @@ fn have_nights<R: Threads + Wait + Clock + Sync>(
 
 #[test]
 fn operate_has_the_room_that_it_is_asked_for(rt: HostRuntime) -> Result<(), Fail> {
-    let mut waits = false;
-    for _ in 0..RUNS {
-        waits = waits || have_nights(&rt, rt.alloc(), POSTS_OF_ONE, TWO_NIGHTS, 1, 1)?;
-    }
+    let waits = have_nights(&rt, rt.alloc(), POSTS_OF_ONE, TWO_NIGHTS, 1, 1)?;
     assert!(rt; waits, "no post waits for room");
     let waits = have_nights(&rt, rt.alloc(), POSTS_OF_ONE, TWO_NIGHTS, 1, 1_024)?;
     assert!(rt; !waits, "the feed waits for room");
