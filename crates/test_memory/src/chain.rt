@@ -52,7 +52,7 @@ fn run_table<R: Threads + Wait + Clock + Sync>(
 ) -> Option<Outcome> {
     let (_, text) = table_and_rows();
     aim.take(alloc)?;
-    let source = Scan::new(text.as_bytes());
+    let source = Scan::new(alloc, text.as_bytes());
     Some(match run(rt, alloc, source, table, 2, 2, &NoGate) {
         Ok(tapes) => Outcome::ample_where(are_tapes(&tapes)),
         Err(BankFault::NoMemory) => Outcome::NoMemory,

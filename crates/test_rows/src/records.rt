@@ -142,8 +142,14 @@ fn check_whole(
 }
 
 // Checks that a `Scan` gives a text's rows, and then its stop for good.
-fn check_scan(rt: &impl Abort, text: &[u8], wanted: &[RowParts], stop: Option<RowFault>) {
-    let mut scan = Scan::new(text);
+fn check_scan(
+    rt: &impl Abort,
+    alloc: Global,
+    text: &[u8],
+    wanted: &[RowParts],
+    stop: Option<RowFault>,
+) {
+    let mut scan = Scan::new(alloc, text);
     let text = text.escape_ascii();
     for parts in wanted {
         let row = scan.next_row();
@@ -171,7 +177,7 @@ fn check_text(
 ) {
     let mut reader = text;
     check_whole(rt, text, read_rows(alloc, &mut reader), wanted, stop);
-    check_scan(rt, text, wanted, stop);
+    check_scan(rt, alloc, text, wanted, stop);
 }
 
 #[test]

@@ -6,7 +6,7 @@ use Rattle.xb_model.specs.declared.fault.RowFault.TheVariants.{Header, TooMany}
 use Rattle.xb_model.specs.Rows.{LoopRow}
 use Rattle.xb_model.specs.Sources.{Rest}
 use Rattle.xb_rows.specs.declared.scan.TheConstants.{MOST_RECORDS}
-use Rattle.xb_rows.specs.RowTexts.{Fields, fault_alone, is_header, judged_fields, rest_from, rest_of_records, row_and_rest, row_of_fields, three_fields}
+use Rattle.xb_rows.specs.RowTexts.{Fields, fault_alone, is_header, rest_from, rest_of_records, row_and_rest, row_of_fields, three_fields}
 use Rattle.csv.specs.Reading.{default_config, records, strip_bom}
 use Rattle.xb_live.specs.Decks.{AcceptedRowsAreAll}
 
@@ -23,15 +23,15 @@ module _ (few many : ℕ) (more : few ≤ many) where
   same-from n (fields ∷ later) stop =
       ⊎_elim
       (λ over.
-      let none : (fault_alone TooMany).stop ≡ None = subst (λ b. (cond b (fault_alone TooMany) (row_and_rest (row_of_fields n (judged_fields fields)) (rest_from few (n + 1) later))).stop ≡ None) over stop in
+      let none : (fault_alone TooMany).stop ≡ None = subst (λ b. (cond b (fault_alone TooMany) (row_and_rest (row_of_fields n (three_fields fields)) (rest_from few (n + 1) later))).stop ≡ None) over stop in
       absurd (cc none))
       (λ within.
-      let stops : (row_and_rest (row_of_fields n (judged_fields fields)) (rest_from few (n + 1) later)).stop ≡ None =
-      subst (λ b. (cond b (fault_alone TooMany) (row_and_rest (row_of_fields n (judged_fields fields)) (rest_from few (n + 1) later))).stop ≡ None) within stop in
+      let stops : (row_and_rest (row_of_fields n (three_fields fields)) (rest_from few (n + 1) later)).stop ≡ None =
+      subst (λ b. (cond b (fault_alone TooMany) (row_and_rest (row_of_fields n (three_fields fields)) (rest_from few (n + 1) later))).stop ≡ None) within stop in
       let wide : ltb many n ≡ false = le-ltb many n (let fits = ltb-false few n within in omega (arith, fits, more)) in
-      ap (λ b. cond b (fault_alone TooMany) (row_and_rest (row_of_fields n (judged_fields fields)) (rest_from many (n + 1) later))) wide
-      ∙ same-rest (row_of_fields n (judged_fields fields)) (rest_from few (n + 1) later) (rest_from many (n + 1) later) (same-from (n + 1) later) stops
-      ∙ sym (ap (λ b. cond b (fault_alone TooMany) (row_and_rest (row_of_fields n (judged_fields fields)) (rest_from few (n + 1) later))) within))
+      ap (λ b. cond b (fault_alone TooMany) (row_and_rest (row_of_fields n (three_fields fields)) (rest_from many (n + 1) later))) wide
+      ∙ same-rest (row_of_fields n (three_fields fields)) (rest_from few (n + 1) later) (rest_from many (n + 1) later) (same-from (n + 1) later) stops
+      ∙ sym (ap (λ b. cond b (fault_alone TooMany) (row_and_rest (row_of_fields n (three_fields fields)) (rest_from few (n + 1) later))) within))
       (cases_Bool (ltb few n))
 
   same-records : (all : List Fields) → (rest_of_records few all).stop ≡ None → rest_of_records many all ≡ rest_of_records few all

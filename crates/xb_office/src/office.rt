@@ -26,11 +26,11 @@ use xb_tape::{Tapes, page};
 use xb_text::write_whole;
 
 // Reads the rows of a text to their stop, and keeps none.
-fn read_to_stop(text: &[u8]) -> Result<(), DeckFault>
+fn read_to_stop(alloc: Global, text: &[u8]) -> Result<(), DeckFault>
     ensures end { OnOk result (fault_of_text text.now ≡ None) }
     ensures fault { IfErr result (IsRowsFault text.now) }
 {
-    let mut scan = Scan::new(text);
+    let mut scan = Scan::new(alloc, text);
     while scan.next_row()?.is_some() {}
     Ok(())
 }
@@ -51,12 +51,12 @@ fn tapes_of_text<H: Threads + Wait + Clock + Sync, G: Gate + Sync>(
     ensures fault { IfErr result (IsFaultOfDeck
         (page_of_contents (with_rows table.now (rows_of_text text.now) (fault_of_text text.now)))) }
 {
-    let scan = Scan::new(text);
+    let scan = Scan::new(alloc, text);
     match run(rt, alloc, scan, table, options.senders, options.ring, gate) {
         Ok(tapes) => Ok(tapes),
         Err(BankFault::Rows(fault)) => Err(OfficeFault::Rows(fault)),
         Err(BankFault::NoThread(post)) => {
-            read_to_stop(text)?;
+            read_to_stop(alloc, text)?;
             Err(OfficeFault::Bank(post))
         }
         Err(BankFault::NoMemory) => Err(OfficeFault::NoMemory),

@@ -1,9 +1,4 @@
-pub mod InsideRecords
-pub mod TakenBytes
-pub mod JudgedRecords
-pub mod LongFields
-pub mod TakenRecords
-pub mod HeldBytes
+pub mod ThreeFields
 pub mod RecordCounts
 pub mod RecordsLeft
 pub mod RestOfRecords

@@ -15,7 +15,7 @@ use Rattle.xb_model.specs.declared.fault.RowFault.TheVariants as fault
 use Rattle.xb_model.specs.Fields.{line_of}
 use Rattle.xb_model.specs.Rows.{IsRow, LoopRow, may_last, row_of}
 use Rattle.xb_model.specs.Sources.{Rest}
-use Rattle.xb_rows.specs.RowTexts.{Fields, ThreeFields, contact_of, fault_alone, is_header, judged_fields, ms_of, or_fault, rest_from, rest_of_records, rest_within, row_and_rest, row_of_fields, three_fields}
+use Rattle.xb_rows.specs.RowTexts.{Fields, ThreeFields, contact_of, fault_alone, is_header, ms_of, or_fault, rest_from, rest_of_records, rest_within, row_and_rest, row_of_fields, three_fields}
 use Rattle.xb_rows.specs.WrittenRows.{AreRows, IsLawfulRow}
 
 -- a field of a line has one of the office
@@ -78,17 +78,17 @@ from_lawful : (most n : ℕ) (left : List Fields) → AllByRecursion IsLawfulRow
 unfolding rest_from
 from_lawful most n [] = tt
 from_lawful most n (fields ∷ later) =
-    at (nat_lt most n) (row_of_fields n (judged_fields fields)) refl (from_lawful most (n + 1) later)
+    at (nat_lt most n) (row_of_fields n (three_fields fields)) refl (from_lawful most (n + 1) later)
   where
     next : Rest
     next = rest_from most (n + 1) later
 
-    at : (many : Bool) (r : Result LoopRow RowFault) → row_of_fields n (judged_fields fields) ≡ r
+    at : (many : Bool) (r : Result LoopRow RowFault) → row_of_fields n (three_fields fields) ≡ r
         → AllByRecursion IsLawfulRow next.rows
         → AllByRecursion IsLawfulRow (cond many (fault_alone fault.TooMany) (row_and_rest r next)).rows
     at true r is all = tt
     at false (Err f) is all = tt
-    at false (Ok row) is all = (row_lawful n (judged_fields fields) row is, all)
+    at false (Ok row) is all = (row_lawful n (three_fields fields) row is, all)
 
 records_lawful : (most : ℕ) (left : List Fields) → AllByRecursion IsLawfulRow (rest_of_records most left).rows
 records_lawful most [] = tt

@@ -6,7 +6,7 @@ use Rattle.xb_model.specs.Rows.{LoopRow}
 use Rattle.xb_model.specs.Sources.{Rest}
 use Rattle.xb_model.specs.declared.fault.RowFault.{RowFault}
 use Rattle.xb_model.specs.declared.fault.RowFault.TheVariants as fault
-use Rattle.xb_rows.specs.RowTexts.{Fields, fault_alone, is_header, rest_from, rest_of_records, row_and_rest, row_of_fields, stop_alone, three_fields, judged_fields}
+use Rattle.xb_rows.specs.RowTexts.{Fields, fault_alone, is_header, rest_from, rest_of_records, row_and_rest, row_of_fields, stop_alone, three_fields}
 
 -- no record
 pub rest_from-none : (most n : ℕ) (left : List Fields) → left ≡ [] → rest_from most n left ≡ stop_alone None
@@ -21,7 +21,7 @@ rest_from-many most n left f later e h = rw (e, lt-ltb most n h) refl
 
 -- one record more
 pub rest_from-more : (most n : ℕ) (left : List Fields) (f : Fields) (later : List Fields)
-    (r : Result LoopRow RowFault) → left ≡ f ∷ later → n ≤ most → r ≡ row_of_fields n (judged_fields f)
+    (r : Result LoopRow RowFault) → left ≡ f ∷ later → n ≤ most → r ≡ row_of_fields n (three_fields f)
     → rest_from most n left ≡ row_and_rest r (rest_from most (n + 1) later)
 unfolding rest_from
 rest_from-more most n left f later r e h is = rw (e, le-ltb most n h, is) refl
@@ -31,7 +31,7 @@ few_from : (most n : ℕ) (left : List Fields) → n ≤ most + 1 → length (re
 unfolding rest_from
 few_from most n [] h = omega arith
 few_from most n (fields ∷ later) h =
-    at (nat_lt most n) refl (row_of_fields n (judged_fields fields)) (λ below. few_from most (n + 1) later below)
+    at (nat_lt most n) refl (row_of_fields n (three_fields fields)) (λ below. few_from most (n + 1) later below)
   where
     next : Rest
     next = rest_from most (n + 1) later

@@ -1,12 +1,13 @@
 -- What a step of a reader of rows gives.
 use Rattle.std.proofs.Common.{◌≡◌, ◌<◌, ◌^◌, ℕ, ◌+◌, List, [], ◌∷◌, Bool, true, false, cond, Option, Some, None, Result, Ok, Err, refl, sym, ap, ◌∙◌, inl, inr, ⊎_elim, arith}
-use Rattle.std.specs.Prelude.{nat_lt, IfSome, IsSome, option_map}
+use Rattle.std.specs.Prelude.{nat_lt, IfOk, IfSome, IsSome, option_map}
+use Rattle.csv.specs.declared.reader.Reader.{Reader}
 use Rattle.xb_model.specs.declared.fault.RowFault.{RowFault}
 use Rattle.xb_model.specs.declared.fault.RowFault.TheVariants as fault
 use Rattle.xb_model.specs.Rows.{LoopRow}
 use Rattle.xb_model.specs.Sources.{Gives, Rest, told}
-use Rattle.xb_rows.specs.RowTexts.{Fields, fault_alone, is_header, rest_from, rest_of_records, row_and_rest, judged_fields, row_of_fields, three_fields}
-use Rattle.xb_rows.specs.Scanning.{CanCount, GivesRead, TakesRow, of_slice, place_after, rest_at, rest_known}
+use Rattle.xb_rows.specs.RowTexts.{Fields, fault_alone, is_header, rest_from, rest_of_records, row_and_rest, row_of_fields, three_fields}
+use Rattle.xb_rows.specs.Scanning.{CanCount, CanGo, GivesRead, IsGoing, TakesRow, of_slice, place_after, rest_at, rest_known}
 use Rattle.xb_rows.specs.declared.scan.TheConstants.{MOST_RECORDS}
 
 -- a row, and what follows it, may allocate
@@ -22,11 +23,11 @@ rest_from-allocates most n [] = refl
 rest_from-allocates most n (fields ∷ later) = at (nat_lt most n)
   where
     next : Rest
-    next = row_and_rest (row_of_fields n (judged_fields fields)) (rest_from most (n + 1) later)
+    next = row_and_rest (row_of_fields n (three_fields fields)) (rest_from most (n + 1) later)
 
     at : (many : Bool) → (cond many (fault_alone fault.TooMany) next).may_allocate ≡ true
     at true = refl
-    at false = row_and_rest-allocates (row_of_fields n (judged_fields fields)) (rest_from most (n + 1) later)
+    at false = row_and_rest-allocates (row_of_fields n (three_fields fields)) (rest_from most (n + 1) later)
 
 -- and so may reading the header
 rest_of_records-allocates : (most : ℕ) (records : List Fields) → (rest_of_records most records).may_allocate ≡ true
@@ -82,6 +83,13 @@ pub can_count : (most taken : ℕ) (old : Option Rest) (new : Option (List Field
 can_count most taken old new (Ok (Some row)) small took = omega (arith, took.0)
 can_count most taken old new (Ok None) small took = tt
 can_count most taken old new (Err f) small took = tt
+
+-- after a step that took a row the reader goes on
+pub step-goes_on : {R : Type 0} (r : Reader R) (taken : ℕ) (step : RowResult)
+    → IfOk step (λ row. IsSome row → IsGoing r) → CanGo (place_after taken step) r
+step-goes_on r taken (Ok (Some row)) goes = goes refl
+step-goes_on r taken (Ok None) goes = tt
+step-goes_on r taken (Err f) goes = tt
 
 -- a step from a place where this rest was to come
 abbrev pub Steps : ℕ → ℕ → Option Rest → Option (List Fields) → RowResult → Type 0
@@ -158,17 +166,21 @@ pub scan-record : (taken : ℕ) (left : Option (List Fields)) (old : Rest) (new 
 scan-record taken left old new step known is took =
     scan-gives taken _ old new step known is (allocates-from MOST_RECORDS (taken + 1) left, took)
 
--- after a step of a scan its bytes are known
-pub scan-knows : (taken : ℕ) (was : Option Rest) (new : Option (List Fields)) (step : RowResult)
-    → IsSome was → TakesRow MOST_RECORDS taken was new step
-    → IsSome (rest_at MOST_RECORDS (place_after taken (of_slice step)) new)
-scan-knows taken None new step known took = cc known
-scan-knows taken (Some was) new (Ok (Some row)) known took = rw took.1.1 refl
-scan-knows taken (Some was) new (Ok None) known took = refl
-scan-knows taken (Some was) new (Err f) known took = stops (of_slice (Err f)) (is_err f)
+-- after a step of a scan
+pub scan-goes_on : {R : Type 0} (r : Reader R) (taken : ℕ) (was : Option Rest) (new : Option (List Fields))
+    (step : RowResult) → IsSome was → IfOk step (λ row. IsSome row → IsGoing r)
+    → TakesRow MOST_RECORDS taken was new step
+    → CanGo (place_after taken (of_slice step)) r
+    × IsSome (rest_at MOST_RECORDS (place_after taken (of_slice step)) new)
+scan-goes_on r taken None new step known goes took = cc known
+scan-goes_on r taken (Some was) new (Ok (Some row)) known goes took =
+    (goes refl, rw took.1.1 refl)
+scan-goes_on r taken (Some was) new (Ok None) known goes took = (tt, refl)
+scan-goes_on r taken (Some was) new (Err f) known goes took = stops (of_slice (Err f)) (is_err f)
   where
-    stops : (x : RowResult) → ((f : RowFault) × (x ≡ Err f)) → IsSome (rest_at MOST_RECORDS (place_after taken x) new)
-    stops x (g, e) = rw e refl
+    stops : (x : RowResult) → ((f : RowFault) × (x ≡ Err f)) → CanGo (place_after taken x) r
+        × IsSome (rest_at MOST_RECORDS (place_after taken x) new)
+    stops x (g, e) = rw e (tt, refl)
 
     is_err : (f : RowFault) → (g : RowFault) × (of_slice (Err f) ≡ Err g)
     is_err fault.Read = (_, refl)

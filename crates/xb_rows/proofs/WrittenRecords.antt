@@ -14,7 +14,7 @@ use Rattle.xb_model.proofs.RowTimes.{at_most_a_day}
 use Rattle.xb_rows.specs.declared.scan.TheConstants.{MOST_RECORDS}
 use Rattle.xb_model.specs.declared.field.TheConstants.{LINE_DIGITS}
 use Rattle.xb_rows.specs.declared.record.TheConstants.{MS_DIGITS}
-use Rattle.xb_rows.specs.RowTexts.{Fields, contact_of, rest_of_records, row_of_fields, row_and_rest, rest_from, rows_and_stop, judged_fields}
+use Rattle.xb_rows.specs.RowTexts.{Fields, contact_of, rest_of_records, row_of_fields, row_and_rest, rest_from, rows_and_stop, three_fields}
 use Rattle.xb_rows.specs.WrittenRows.{AreRows, IsLawfulRow, WrittenRowsAreRead, contact_text, csv_text, fields_of_row, header, text_of_rows}
 use Rattle.xb_rows.proofs.CsvTexts.{written_rows_are_csv}
 use Rattle.xb_rows.proofs.RecordCounts.{records-end, records-more}
@@ -37,7 +37,7 @@ contact_of_text Close = refl
 
 -- the row of a written record
 row_of_written : (n : ℕ) (row : LoopRow) → IsLawfulRow row
-    → row_of_fields n (judged_fields (read_back (fields_of_row row))) ≡ Ok row
+    → row_of_fields n (three_fields (read_back (fields_of_row row))) ≡ Ok row
 row_of_written n row h =
     let short = at_most_a_day row.contact row.ms h.1 in
     let line = field_number-decimal LINE_DIGITS row.line (omega arith) (omega arith) (omega arith) in

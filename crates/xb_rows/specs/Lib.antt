@@ -1,9 +1,4 @@
-pub mod ByteSteps
-pub mod StreamBytes
-pub mod TakenFields
 pub mod RowTexts
-pub mod Kept
-pub mod LongFields
 pub mod RowResults
 pub mod Scanning
 pub mod Plain

@@ -1,7 +1,7 @@
 -- What the text of the loop rows says: its rows before the first fault, and that fault,
 -- read as `csv` reads it. A text, its records, and the records from the n-th on are each a `Rest`:
 -- what a source of their rows has to give.
-use Rattle.std.specs.Prelude.{ℕ, ◌+◌, ◌&&◌, ◌||◌, nat_lt, if◌then◌else◌, List, [], ◌∷◌, length, codes, Bool, false, true, Option, Some, None, Result, Ok, Err, bytes_eq, option_and_then}
+use Rattle.std.specs.Prelude.{ℕ, ◌+◌, ◌&&◌, nat_lt, if◌then◌else◌, List, [], ◌∷◌, codes, Bool, false, true, Option, Some, None, Result, Ok, Err, bytes_eq, option_and_then}
 use Rattle.csv.specs.Reading.{default_config, records, strip_bom}
 use Rattle.xb_model.specs.Sources.{Rest}
 use Rattle.xb_model.specs.declared.row.Contact.{Contact}
@@ -10,7 +10,6 @@ use Rattle.xb_model.specs.declared.fault.RowFault.{RowFault}
 use Rattle.xb_model.specs.declared.fault.RowFault.TheVariants as fault
 use Rattle.xb_model.specs.Rows.{LoopRow, may_last, row_of}
 use Rattle.xb_model.specs.Fields.{field_number, line_of}
-use Rattle.xb_rows.specs.declared.kept.TheConstants.{MOST_FIELD_BYTES}
 use Rattle.xb_rows.specs.declared.record.TheConstants.{MS_DIGITS}
 use Rattle.xb_rows.specs.declared.scan.TheConstants.{MOST_RECORDS}
 
@@ -42,23 +41,6 @@ three_fields (a ∷ []) = None
 three_fields (a ∷ b ∷ []) = None
 three_fields (a ∷ b ∷ c ∷ []) = Some (a, b, c)
 three_fields (a ∷ b ∷ c ∷ d ∷ rest) = None
-
--- whether a field is longer than one that is waited for
-abbrev pub is_long : List ℕ → Bool
-is_long field = nat_lt MOST_FIELD_BYTES (length field)
-
--- these three, where a record is judged before its end
-abbrev pub three_if : Bool → ThreeFields → Option ThreeFields
-three_if early t = if early then Some t else None
-
--- the fields by which a record is judged: the three of a record that has three; of any other its first
--- three, a missing one being empty, where one of these is long
-abbrev pub judged_fields : Fields → Option ThreeFields
-judged_fields [] = None
-judged_fields (a ∷ []) = three_if (is_long a) (a, [], [])
-judged_fields (a ∷ b ∷ []) = three_if (is_long a || is_long b) (a, b, [])
-judged_fields (a ∷ b ∷ c ∷ []) = Some (a, b, c)
-judged_fields (a ∷ b ∷ c ∷ d ∷ rest) = three_if (is_long a || is_long b || is_long c) (a, b, c)
 
 -- what is there, or else a fault
 abbrev pub or_fault : {A B : Type 0} → RowFault → Option A → (A → Result B RowFault) → Result B RowFault
@@ -96,7 +78,7 @@ unfoldable pub rest_from : ℕ → ℕ → List Fields → Rest
 rest_from most n [] = stop_alone None
 rest_from most n (fields ∷ later) =
     if nat_lt most n then fault_alone fault.TooMany
-    else row_and_rest (row_of_fields n (judged_fields fields)) (rest_from most (n + 1) later)
+    else row_and_rest (row_of_fields n (three_fields fields)) (rest_from most (n + 1) later)
 
 -- whether a record is the header
 abbrev pub is_header : Option ThreeFields → Bool

@@ -2,12 +2,10 @@
 -- bytes of the reader are known.
 use Rattle.std.specs.Prelude.{ℕ, ◌+◌, ◌≡◌, ◌<◌, ◌⊎◌, List, ◌∷◌, [], length, Bool, true, false, Option, Some, None, Result, Ok, Err, IfSome, IsSome, option_map, ◌^◌, ◌-◌}
 use denote.Ref.{Bor}
-use Rattle.csv.specs.Reading.{default_config, records_from}
+use Rattle.csv.specs.Reading.{Ready, default_config, is_flexible, reader_config, reader_state, reader_trim, records_from, source_of}
+use Rattle.csv.specs.declared.reader.Reader.{Reader}
+use Rattle.csv.specs.declared.reader.Trim.TheVariants as trim
 use Rattle.csv.specs.declared.parser.State.{State}
-use Rattle.xb_rows.specs.ByteSteps.{csv_state}
-use Rattle.xb_rows.specs.Kept.{AreWhole, StandFor}
-use Rattle.xb_rows.specs.StreamBytes.{bytes_left}
-use Rattle.xb_rows.specs.declared.record_reader.RecordReader.{RecordReader}
 use Rattle.xb_rows.specs.declared.place.Place.{Place}
 use Rattle.xb_rows.specs.declared.place.Place.TheVariants as place
 use Rattle.xb_rows.specs.declared.scan.TheConstants.{MOST_RECORDS}
@@ -15,7 +13,12 @@ use Rattle.xb_model.specs.declared.fault.RowFault.{RowFault}
 use Rattle.xb_model.specs.declared.fault.RowFault.TheVariants as fault
 use Rattle.xb_model.specs.Sources.{Gives, Rest, told}
 use Rattle.xb_model.specs.Rows.{LoopRow}
-use Rattle.xb_rows.specs.RowTexts.{Fields, ThreeFields, fault_alone, rest_from, rest_of_records, row_and_rest, stop_alone}
+use Rattle.xb_rows.specs.RowTexts.{Fields, fault_alone, rest_from, rest_of_records, row_and_rest, stop_alone}
+
+-- a reader that gives every record of its text, as it stands
+abbrev pub IsGoing : {R : Type 0} → Reader R → Type 0
+IsGoing r =
+    (reader_trim r ≡ trim.None) × (reader_config r ≡ default_config) × (is_flexible r ≡ true) × Ready r
 
 -- the records of bytes, from a state on
 unfoldable pub records_of_bytes : State → Option (List ℕ) → Option (List Fields)
@@ -23,10 +26,10 @@ records_of_bytes s None = None
 records_of_bytes s (Some bytes) = Some (records_from default_config (length bytes + 1) s bytes)
 
 -- the records that a reader has still to give
-abbrev pub records_left : {R : Type 0} → (R → Option (List ℕ)) → RecordReader R → Option (List Fields)
-records_left remaining r = records_of_bytes (csv_state r.state) (bytes_left remaining r.bytes)
+abbrev pub records_left : {R : Type 0} → (R → Option (List ℕ)) → Reader R → Option (List Fields)
+records_left remaining r = records_of_bytes (reader_state r) (source_of remaining r)
 
--- a failure of the reader: of a slice it is told as one of memory
+-- the reader failed, or memory ran out
 abbrev pub IsOfReader : RowFault → Type 0
 IsOfReader f = (f ≡ fault.Read) ⊎ (f ≡ fault.NoMemory)
 
@@ -34,15 +37,12 @@ IsOfReader f = (f ≡ fault.Read) ⊎ (f ≡ fault.NoMemory)
 abbrev pub StopsBy : Rest → RowFault → Type 0
 StopsBy rest f = (rest ≡ fault_alone f) ⊎ IsOfReader f
 
--- what one read of a record gives: what is kept stands for its fields, and where these are whole, the records
--- after it are left
-abbrev pub TakesRecord :
-    Option (List Fields) → Option (List Fields) → Option ThreeFields → Result Bool RowFault → Type 0
-TakesRecord old new kept (Ok true) = IfSome old (λ left.
-    (fields : Fields) × (later : List Fields) × (left ≡ fields ∷ later) × StandFor kept fields
-    × (AreWhole kept → new ≡ Some later))
-TakesRecord old new kept (Ok false) = IfSome old (λ left. left ≡ [])
-TakesRecord old new kept (Err f) = IsOfReader f
+-- what one read of a record gives
+abbrev pub TakesRecord : Option (List Fields) → Option (List Fields) → Fields → Result Bool RowFault → Type 0
+TakesRecord old new fields (Ok true) =
+    IfSome old (λ left. (later : List Fields) × (new ≡ Some later) × (left ≡ fields ∷ later))
+TakesRecord old new fields (Ok false) = IfSome old (λ left. left ≡ [])
+TakesRecord old new fields (Err f) = IsOfReader f
 
 -- what reading the header gives
 abbrev pub TakesHeader :
@@ -72,11 +72,23 @@ place_after taken (Ok (Some row)) = place.After (taken + 1)
 place_after taken (Ok None) = place.Stopped None
 place_after taken (Err f) = place.Stopped (Some f)
 
+-- where a reader stands that was to read the last of so many records again: there, or memory ran out
+abbrev pub place_resumed : ℕ → Result Bool RowFault → Place
+place_resumed taken (Ok true) = place.After taken
+place_resumed taken (Ok false) = place.Stopped (Some fault.NoMemory)
+place_resumed taken (Err f) = place.Stopped (Some fault.NoMemory)
+
 -- what is still to come at this place, where these records are left
 abbrev pub rest_at : ℕ → Place → Option (List Fields) → Option Rest
 rest_at most place.Header left = option_map (rest_of_records most) left
 rest_at most (place.After taken) left = option_map (rest_from most (taken + 1)) left
 rest_at most (place.Stopped stop) left = Some (told stop)
+
+-- where records are still to come, the reader gives them
+abbrev pub CanGo : {R : Type 0} → Place → Reader R → Type 0
+CanGo place.Header r = IsGoing r
+CanGo (place.After taken) r = IsGoing r
+CanGo (place.Stopped stop) r = Unit {0}
 
 -- a read failed, which stops the rows for good
 abbrev pub FailsToRead : Rest → Result (Option LoopRow) RowFault → Rest → Type 0
@@ -92,14 +104,14 @@ GivesRead None (Ok (Some row)) new = Unit {0}
 GivesRead None (Ok None) new = new ≡ Some (told None)
 GivesRead None (Err f) new = new ≡ Some (told (Some f))
 
--- what a step gives of a slice, of which no read fails
+-- what a step gives of a slice, which does not fail: so memory ran out
 abbrev pub of_slice : Result (Option LoopRow) RowFault → Result (Option LoopRow) RowFault
 of_slice (Err fault.Read) = Err fault.NoMemory
 of_slice step = step
 
 -- a reader over a text
 abbrev pub TextReader : Type 0
-TextReader = RecordReader (Bor (List ℕ))
+TextReader = Reader (Bor (List ℕ))
 
 -- the records that such a reader has still to give
 abbrev pub text_left : TextReader → Option (List Fields)
@@ -114,6 +126,6 @@ rest_known (Some rest) = rest
 abbrev pub rest_of_scan : Place → TextReader → Rest
 rest_of_scan place r = rest_known (rest_at MOST_RECORDS place (text_left r))
 
--- the bytes of a scan are known
+-- a scan can go on, and its bytes are known
 abbrev pub IsScanning : Place → TextReader → Type 0
-IsScanning place r = IsSome (rest_at MOST_RECORDS place (text_left r))
+IsScanning place r = CanGo place r × IsSome (rest_at MOST_RECORDS place (text_left r))

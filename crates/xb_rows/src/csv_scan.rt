@@ -1,18 +1,18 @@
-// The rows of a text as `csv` reads it, byte by byte, one at a time.
-ghost use Rattle.std.specs.Prelude.{◌≡◌};
-ghost use Rattle.xb_rows.specs.RowTexts.{rest_of_text};
-ghost use Rattle.xb_rows.specs.Plain.{rest_of_bytes};
+// The rows of a text as `csv` reads it, one at a time.
+ghost use Rattle.std.specs.Prelude.{◌≡◌, ℕ, List};
+ghost use Rattle.xb_rows.specs.RowTexts.{Fields, rest_of_text};
+ghost use Rattle.xb_rows.specs.Plain.{BeginsWith, IsScanAfter};
 ghost use Rattle.xb_rows.specs.Scanning.{of_slice};
 
-use crate::kept::Kept;
-use crate::place::{Place, place_after};
-use crate::record_reader::RecordReader;
+use crate::place::{Place, place_after, place_resumed};
 use crate::scan::MOST_RECORDS;
-use crate::steps::{take_first_row, take_row};
+use crate::steps::{reader_of_records, take_first_row, take_record, take_row};
+use csv::{ByteRecord, Reader};
+use std::alloc::Global;
 use std::marker::Model;
 use xb_model::{Row, RowFault, RowSource};
 
-// What a step gives of a slice, of which no read fails, though no clause of slices says so.
+// What a step gives of a slice, which does not fail: so memory ran out.
 fn of_slice(step: Result<Option<Row>, RowFault>) -> Result<Option<Row>, RowFault>
     ensures { result ≡ of_slice step }
 {
@@ -25,8 +25,8 @@ fn of_slice(step: Result<Option<Row>, RowFault>) -> Result<Option<Row>, RowFault
 // The rows of a text, or of the rest of one, one at a time.
 #[derive(Drop)]
 pub(crate) struct CsvScan<'a> {
-    reader: RecordReader<&'a [u8]>,
-    kept: Kept,
+    reader: Reader<&'a [u8]>,
+    fields: ByteRecord,
     place: Place,
 }
 
@@ -43,24 +43,31 @@ impl<'a> Model for CsvScan<'a> {
 
 impl<'a> CsvScan<'a> {
     // A scan of a whole text.
-    pub(crate) fn new(text: &'a [u8]) -> CsvScan<'a>
+    pub(crate) fn new(alloc: Global, text: &'a [u8]) -> CsvScan<'a>
         ensures { result ≡ rest_of_text text.now }
     {
         CsvScan {
-            reader: RecordReader::new(text),
-            kept: Kept::new(),
+            reader: reader_of_records(alloc, text),
+            fields: ByteRecord::new(alloc),
             place: Place::Header,
         }
     }
 
-    // A scan of what follows the header and so many records of a text.
-    pub(crate) fn after(text: &'a [u8], taken: u64) -> CsvScan<'a>
-        ensures { result ≡ rest_of_bytes taken text.now }
+    // A scan of what follows the first record of a text, after the header and so many records. The first
+    // record, which was read before, is read once more, since a reader drops a byte order mark where it
+    // begins.
+    pub(crate) fn after(alloc: Global, text: &'a [u8], taken: u64) -> CsvScan<'a>
+        ensures { (fields : Fields) → (rest : List ℕ) → BeginsWith text.now fields rest
+            → IsScanAfter taken rest result }
     {
+        let mut reader = reader_of_records(alloc, text);
+        let mut fields = ByteRecord::new(alloc);
+        let again = take_record(&mut reader, &mut fields);
+        let place = place_resumed(taken, &again);
         CsvScan {
-            reader: RecordReader::after_record(text),
-            kept: Kept::new(),
-            place: Place::After(taken),
+            reader,
+            fields,
+            place,
         }
     }
 }
@@ -75,10 +82,10 @@ impl<'a> RowSource for CsvScan<'a> {
         let (taken, step) = match self.place {
             Place::Stopped(None) => return Ok(None),
             Place::Stopped(Some(fault)) => return Err(fault),
-            Place::Header => (0, take_first_row(most, &mut self.reader, &mut self.kept)),
+            Place::Header => (0, take_first_row(most, &mut self.reader, &mut self.fields)),
             Place::After(taken) => (
                 taken,
-                take_row(most, taken, &mut self.reader, &mut self.kept),
+                take_row(most, taken, &mut self.reader, &mut self.fields),
             ),
         };
         let given = of_slice(step);

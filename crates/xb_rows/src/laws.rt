@@ -1,11 +1,9 @@
 //! What the definitions give: each law is the contract of a function that does nothing.
 ghost use Rattle.xb_rows.specs.Constants.{AreConstants};
-ghost use Rattle.xb_rows.specs.LongFields.{LongFieldsAlone};
 ghost use Rattle.xb_rows.specs.WorkedTexts.{MostRecords, RowsOfTexts};
 ghost use Rattle.xb_rows.specs.WrittenRows.{WrittenRowsAreCsv, WrittenRowsAreRead};
 
-/// The most digits of a line and of a time, the most records, and the most bytes of a field that is waited
-/// for, each as it is.
+/// The most digits of a line and of a time, and the most records, each as it is.
 pub fn constants()
     ensures { AreConstants }
 {}
@@ -14,13 +12,6 @@ pub fn constants()
 #[tactic(auto, unfolding(csv::proofs::OnLiterals::csv_on_literals, crate::specs::RowTexts::rest_from))]
 pub fn rows_of_texts()
     ensures { RowsOfTexts }
-{}
-
-/// A record is judged otherwise than by its three fields only where one of its first three is long, and it
-/// has not three.
-#[tactic(auto, using(crate::proofs::LongFields::long_fields_alone))]
-pub fn long_fields_alone_are_judged_sooner()
-    ensures { LongFieldsAlone }
 {}
 
 /// After 1,000,000 records a further one is the fault.

@@ -4,34 +4,26 @@
 //!
 //! - `rows_of_text`: exactly the rows of a text in memory, at most 1,000,000, or its first fault, or that
 //!   memory ran out.
-//! - `Scan` is a source of the same rows, and stops with the same fault, for good.
+//! - `Scan` is a source of the same rows, and stops with the same fault, for good. It reads plain records
+//!   without `csv`, which no clause tells: what a text means is what `csv` reads.
 //! - `read_rows`, of a reader whose bytes a contract can name: the rows of the text, which then has no
 //!   fault, or the text's first fault; a failed read may be returned in place of any other fault.
 //! - `RowReader`, of a stream whose bytes a contract can name: the rows of the stream's text, as many as
-//!   may follow the header, and then the stop of a `Scan` or a failed read, for good. It takes no memory.
-//! - What a text means is what `csv` reads: its state machine is in `machine`, and no clause tells whether a
-//!   record was read by it or, in a `Scan`, as one of the plain form. A record is judged by its three fields;
-//!   one that has not three, but a field longer than 4,096 bytes among its first three, by these, so that its
-//!   fault is known before its end (`laws::long_fields_alone_are_judged_sooner`).
+//!   may follow the header, and then the stop of a `Scan` or a failed read, for good.
 //! - `record_of`: exactly the record of a row. `text_of_rows`: exactly the text of the rows. Rows that are
 //!   no more than 1,000,000 are read back of it (`laws::written_rows_are_read`), and it is what a `csv`
 //!   writer writes (`written_rows_are_csv`).
 #![tactic(auto)]
 
 mod csv_scan;
-mod fields;
-mod kept;
 pub mod laws;
-mod machine;
 mod place;
 mod plain;
 mod record;
-mod record_reader;
 mod row_reader;
 mod rows;
 mod scan;
 mod steps;
-mod stream_bytes;
 mod writing;
 
 pub use row_reader::RowReader;

@@ -1,10 +1,13 @@
 // What one record of the rows' text writes.
-ghost use Rattle.std.specs.Prelude.{◌≡◌, Some};
-ghost use Rattle.xb_rows.specs.Kept.{kept_fields};
-ghost use Rattle.xb_rows.specs.RowTexts.{contact_of, is_header, row_of_fields};
+ghost use Rattle.std.specs.Prelude.{◌≡◌, Some, option_map};
+ghost use Rattle.csv.specs.Records.{fields_of};
+ghost use Rattle.xb_rows.specs.RowTexts.{contact_of, is_header, row_of_fields, three_fields};
 
-use crate::kept::Kept;
+use csv::ByteRecord;
 use xb_model::{Contact, Row, RowFault, field_number, line_of};
+
+// How many fields a row has.
+const ROW_FIELDS: usize = 3;
 
 // The most digits of a time in ms.
 pub(crate) const MS_DIGITS: usize = 8;
@@ -21,6 +24,19 @@ pub(crate) fn contact_of(field: &[u8]) -> Option<Contact>
     }
 }
 
+// The three fields of a record that has three: line, state, ms.
+fn three_fields(fields: &ByteRecord) -> Option<(&[u8], &[u8], &[u8])>
+    ensures { option_map (λ t. (t.0.now, t.1.now, t.2.now)) result ≡ three_fields (fields_of fields.now) }
+{
+    if fields.len() != ROW_FIELDS {
+        return None;
+    }
+    let line = fields.get(0)?;
+    let state = fields.get(1)?;
+    let ms = fields.get(2)?;
+    Some((line, state, ms))
+}
+
 // The row that record `n` writes in its three fields, or the first fault of these.
 fn row_of_fields(n: u64, line: &[u8], state: &[u8], ms: &[u8]) -> Result<Row, RowFault>
     ensures { result ≡ row_of_fields n (Some (line.now, state.now, ms.now)) }
@@ -31,19 +47,19 @@ fn row_of_fields(n: u64, line: &[u8], state: &[u8], ms: &[u8]) -> Result<Row, Ro
     Row::new(line, contact, ms).ok_or(RowFault::Ms(n))
 }
 
-// The row that record `n` writes, or its first fault, in the order fields, line, state, ms.
-pub(crate) fn parse_row(n: u64, kept: &Kept) -> Result<Row, RowFault>
-    ensures { result ≡ row_of_fields n (kept_fields kept.now) }
+/// The row that record `n` writes, or its first fault, in the order fields, line, state, ms.
+pub fn parse_row(n: u64, fields: &ByteRecord) -> Result<Row, RowFault>
+    ensures { result ≡ row_of_fields n (three_fields (fields_of fields.now)) }
 {
-    let (line, state, ms) = kept.three_fields().ok_or(RowFault::Fields(n))?;
+    let (line, state, ms) = three_fields(fields).ok_or(RowFault::Fields(n))?;
     row_of_fields(n, line, state, ms)
 }
 
-// Whether a record is the header.
-pub(crate) fn is_header(kept: &Kept) -> bool
-    ensures { result ≡ is_header (kept_fields kept.now) }
+/// Whether a record is the header.
+pub fn is_header(fields: &ByteRecord) -> bool
+    ensures { result ≡ is_header (three_fields (fields_of fields.now)) }
 {
-    match kept.three_fields() {
+    match three_fields(fields) {
         Some((line, state, ms)) => {
             line == b"line".as_slice() && state == b"state".as_slice() && ms == b"ms".as_slice()
         }

@@ -16,7 +16,7 @@ pub fn rows_of_text(alloc: Global, text: &[u8]) -> Result<Vec<Row>, RowFault>
     ensures few { IfOk result (λ rows. length rows.items ≤ MOST_RECORDS) }
     ensures fault { IfErr result (λ f. IsFaultOf text.now f) }
 {
-    let mut scan = Scan::new(text);
+    let mut scan = Scan::new(alloc, text);
     let mut rows = Vec::new(alloc);
     while let Some(row) = scan.next_row()? {
         if rows.push(row).is_err() {

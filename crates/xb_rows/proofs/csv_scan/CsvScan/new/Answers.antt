@@ -7,7 +7,11 @@ use Rattle.xb_rows.proofs.csv_scan.CsvScan.new.Goals as goal
 
 pub invariant_of-result : goal.invariant_of-result
 invariant_of-result c =
-    subst IsSome (sym (records_left-start MOST_RECORDS (Some c.args.text.now) _ c.new.ensures)) refl
+    let new = c.reader_of_records in
+    let start = records_left-start MOST_RECORDS (Some c.args.text.now) _ _ new.ensures.source new.ensures.state in
+    (new.ensures.going, subst IsSome (sym start) refl)
 
 pub returns : goal.returns
-returns c = ap rest_known (records_left-start MOST_RECORDS (Some c.args.text.now) _ c.new.ensures)
+returns c =
+    let new = c.reader_of_records in
+    ap rest_known (records_left-start MOST_RECORDS (Some c.args.text.now) _ _ new.ensures.source new.ensures.state)

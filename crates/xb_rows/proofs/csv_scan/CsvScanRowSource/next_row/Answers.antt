@@ -13,13 +13,13 @@ returns c =
           let here = rw w.in-Header.is at c.self.view_is in
           let known = rw w.in-Header.is at c.self.invariant in
           let read = w.take_first_row in
-          let took = rw c.from-most.ensures at read.ensures in
-          rw (w.taken-is, w.self-inside-is) (scan-header left _ _ read.result known here took)
+          let took = rw c.from-most.ensures at read.ensures.row in
+          rw (w.taken-is, w.self-inside-is) (scan-header left _ _ read.result known.1 here took)
       | in-After w ↦
           let here = rw w.in-After.is at c.self.view_is in
           let known = rw w.in-After.is at c.self.invariant in
           let read = w.take_row in
-          let took = rw c.from-most.ensures at read.ensures in
-          rw (w.taken-is, w.self-inside-is) (scan-record w.in-After.taken left _ _ read.result known here took)
+          let took = rw c.from-most.ensures at read.ensures.row in
+          rw (w.taken-is, w.self-inside-is) (scan-record w.in-After.taken left _ _ read.result known.1 here took)
     ] in
     rw (c.place_after-self-inside.ensures, c.of_slice-given.ensures) gives

@@ -13,11 +13,11 @@ returns g c =
       | in-Header w ↦
           let here = rw w.in-Header.is at c.self.view_is in
           let read = w.take_first_row in
-          rw (w.taken-is, w.self-inside-is) (header-steps most left _ _ read.result here read.ensures)
+          rw (w.taken-is, w.self-inside-is) (header-steps most left _ _ read.result here read.ensures.row)
       | in-After w ↦
           let here = rw w.in-After.is at c.self.view_is in
           let read = w.take_row in
-          rw (w.taken-is, w.self-inside-is) (record-steps most w.in-After.taken left _ _ read.result here read.ensures)
+          rw (w.taken-is, w.self-inside-is) (record-steps most w.in-After.taken left _ _ read.result here read.ensures.row)
     ] in
     rw c.place_after-self-inside.ensures
     (step-gives c.match-self.self-inside.most c.match-self.taken.0 c.args.self.now new c.match-self.taken.1 step.0 step.1)
