@@ -1,0 +1,15 @@
+pub mod Places
+pub mod Sums
+pub mod Windows
+pub mod Taken
+pub mod Near
+pub mod Bounds
+pub mod Shown
+pub mod ShownKeys
+pub mod Steps
+pub mod Runs
+pub mod Segments
+pub mod HeardKeys
+pub mod WholeSounds
+pub mod Scaled
+pub mod OneTone

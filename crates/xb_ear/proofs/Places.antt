@@ -1,0 +1,28 @@
+-- Where a sample of an MF frequency stands in the table.
+use Rattle.std.proofs.Common.{◌≡◌, ◌∙◌, ℕ, ◌+◌, ◌*◌, ◌/◌, ◌%◌, sym, ap, arith, to_z, of_z}
+use Rattle.std.specs.Int.{w16}
+use Rattle.std.proofs.lemmas.Int.{to_z-of_z, fits_signed_from_abs}
+use Rattle.std.proofs.Math.Nat.{mul-div_cancel, add-mul-mod_self_right}
+use Rattle.xb_tone.specs.Sines.{sine_at}
+use Rattle.xb_tone.proofs.SineTables.{sine_at-small}
+use Rattle.xb_ear.specs.Levels.{sine_of}
+
+-- a sample is read from the table as it is
+pub read : (place : ℕ) → to_z w16 (of_z w16 (sine_at place)) ≡ sine_at place
+read place =
+    let small = sine_at-small place in
+    to_z-of_z w16 (sine_at place) (fits_signed_from_abs w16 (sine_at place) (omega arith))
+
+-- of a multiple of 100 Hz each sample stands at a whole place
+place-whole : (h n : ℕ) → h * 100 * n / 100 ≡ h * n
+place-whole h n =
+    let e : h * 100 * n ≡ h * n * 100 = omega arith in
+    ap (λ (m : ℕ). m / 100) e ∙ mul-div_cancel (h * n) (omega arith)
+
+-- after each 80 samples it stands at the same place
+pub sine_of-turns : (h turns n : ℕ) → sine_of (h * 100) (turns * 80 + n) ≡ sine_of (h * 100) n
+sine_of-turns h turns n =
+    let e : h * (turns * 80 + n) ≡ h * n + h * turns * 80 = omega arith in
+    ap (λ (m : ℕ). sine_at (m % 80)) (place-whole h (turns * 80 + n) ∙ e)
+    ∙ ap (λ (place : ℕ). sine_at place) (add-mul-mod_self_right (h * n) (h * turns) 80)
+    ∙ sym (ap (λ (m : ℕ). sine_at (m % 80)) (place-whole h n))

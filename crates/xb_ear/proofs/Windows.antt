@@ -1,0 +1,97 @@
+-- The windows of samples, as samples come.
+use Rattle.std.proofs.Common.{◌≡◌, ◌∙◌, ℕ, zero, suc, ◌+◌, ◌*◌, ◌<◌, ◌≤◌, List, [], ◌∷◌, ◌++◌, map, take, drop, fold, length, sym, ap, arith, refl, ℤ, append_assoc, length-drop, length-append, Option}
+use Rattle.std.specs.List.{range_with_len}
+use Rattle.std.proofs.lemmas.List.{drop-append-le, take-append-le, take_all, drop-drop}
+use Rattle.std.proofs.lemmas.List.FromFn.{map-range_with_len_more}
+use Rattle.xb_model.specs.Image.{Machine, image_from}
+use Rattle.xb_ear.specs.declared.sight.Sight.{Sight}
+use Rattle.xb_ear.specs.Pairs.{seen}
+use Rattle.xb_ear.specs.Ears.{recent_of, sights, window, windows_in}
+
+-- what is sent for one item more, and for many
+pub image_from-append : {I O S : Type 0} (m : Machine I O S) (s : S) (xs ys : List I)
+    → image_from m s (xs ++ ys) ≡ image_from m s xs ++ image_from m (fold m.next s xs) ys
+image_from-append m s [] ys = refl
+image_from-append m s (x ∷ xs) ys =
+    ap (λ rest. m.outs s x ++ rest) (image_from-append m (m.next s x) xs ys)
+    ∙ sym (append_assoc (m.outs s x) (image_from m (m.next s x) xs) (image_from m (fold m.next (m.next s x) xs) ys))
+
+-- two functions that agree on a range
+pub map-agrees : {A : Type 0} (f g : ℕ → A) (a n : ℕ) → ((k : ℕ) → k < a + n → f k ≡ g k)
+    → map f (range_with_len a n) ≡ map g (range_with_len a n)
+map-agrees f g a zero same = refl
+map-agrees f g a (suc n) same =
+    ap (λ x. x ∷ map f (range_with_len (a + 1) n)) (same a (omega arith))
+    ∙ ap (λ xs. g a ∷ xs) (map-agrees f g (a + 1) n (λ k below. same k (omega (arith, below))))
+
+-- a window that lies in the first samples is the same, whatever comes later
+pub window-early : (xs ys : List ℤ) (w : ℕ) → 20 * w + 80 ≤ length xs → window (xs ++ ys) w ≡ window xs w
+window-early xs ys w fits =
+    let long : 80 ≤ length (drop (20 * w) xs) = omega (arith, length-drop (20 * w) xs) in
+    ap (λ (zs : List ℤ). take 80 zs) (drop-append-le (20 * w) xs ys (omega arith))
+    ∙ take-append-le 80 (drop (20 * w) xs) ys long
+
+-- a window that is whole fits
+pub window-fits : (n w : ℕ) → w < windows_in n → 20 * w + 80 ≤ n
+window-fits n w below = omega arith
+
+-- the windows of the first samples
+pub sights-early : (xs ys : List ℤ)
+    → map (λ w. seen (window (xs ++ ys) w)) (range_with_len 0 (windows_in (length xs))) ≡ sights xs
+sights-early xs ys =
+    map-agrees (λ w. seen (window (xs ++ ys) w)) (λ w. seen (window xs w)) 0 (windows_in (length xs))
+    (λ w below. ap (λ (zs : List ℤ). seen zs) (window-early xs ys w (window-fits (length xs) w (omega (arith, below)))))
+
+-- how many samples wait for the next window
+pub waiting : (xs : List ℤ) (r : ℕ) → length (recent_of xs) ≡ r → r < 80 → 20 * windows_in (length xs) ≤ length xs
+waiting xs r is below = omega arith
+
+pub count-same : (n : ℕ) → n + 1 < 20 * windows_in n + 80 → windows_in (n + 1) ≡ windows_in n
+count-same n few = omega arith
+
+pub count-more : (n : ℕ) → n + 1 ≡ 20 * windows_in n + 80 → windows_in (n + 1) ≡ windows_in n + 1
+count-more n full = omega arith
+
+longer : (xs : List ℤ) (x : ℤ) → length (xs ++ x ∷ []) ≡ length xs + 1
+longer xs x = length-append xs (x ∷ [])
+
+-- a sample that completes no window
+pub sights-same : (xs : List ℤ) (x : ℤ) → length xs + 1 < 20 * windows_in (length xs) + 80
+    → sights (xs ++ x ∷ []) ≡ sights xs
+sights-same xs x few =
+    ap (λ (n : ℕ). map (λ w. seen (window (xs ++ x ∷ []) w)) (range_with_len 0 n))
+    (ap (λ (n : ℕ). windows_in n) (longer xs x) ∙ count-same (length xs) few)
+    ∙ sights-early xs (x ∷ [])
+
+pub recent-same : (xs : List ℤ) (x : ℤ) → length xs + 1 < 20 * windows_in (length xs) + 80
+    → recent_of (xs ++ x ∷ []) ≡ recent_of xs ++ x ∷ []
+recent-same xs x few =
+    ap (λ (n : ℕ). drop (20 * n) (xs ++ x ∷ []))
+    (ap (λ (n : ℕ). windows_in n) (longer xs x) ∙ count-same (length xs) few)
+    ∙ drop-append-le (20 * windows_in (length xs)) xs (x ∷ []) (omega arith)
+
+-- a sample that completes one
+pub sights-more : (xs : List ℤ) (x : ℤ) → length xs + 1 ≡ 20 * windows_in (length xs) + 80
+    → sights (xs ++ x ∷ []) ≡ sights xs ++ seen (recent_of xs ++ x ∷ []) ∷ []
+sights-more xs x full =
+    let w = windows_in (length xs) in
+    let f = λ (k : ℕ). seen (window (xs ++ x ∷ []) k) in
+    let all : window (xs ++ x ∷ []) w ≡ recent_of xs ++ x ∷ [] =
+    ap (λ (zs : List ℤ). take 80 zs) (drop-append-le (20 * w) xs (x ∷ []) (omega arith))
+    ∙ take_all 80 (recent_of xs ++ x ∷ [])
+    (omega (arith, length-append (recent_of xs) (x ∷ []), length-drop (20 * w) xs)) in
+    ap (λ (n : ℕ). map f (range_with_len 0 n)) (ap (λ (n : ℕ). windows_in n) (longer xs x) ∙ count-more (length xs) full)
+    ∙ map-range_with_len_more f 0 w w (omega arith)
+    ∙ ap (λ (zs : List (Option Sight)). zs ++ f w ∷ []) (sights-early xs (x ∷ []))
+    ∙ ap (λ (zs : List ℤ). sights xs ++ seen zs ∷ []) all
+
+pub recent-more : (xs : List ℤ) (x : ℤ) → length xs + 1 ≡ 20 * windows_in (length xs) + 80
+    → recent_of (xs ++ x ∷ []) ≡ drop 20 (recent_of xs ++ x ∷ [])
+recent-more xs x full =
+    let w = windows_in (length xs) in
+    let next : 20 * (w + 1) ≡ 20 * w + 20 = omega arith in
+    ap (λ (n : ℕ). drop (20 * n) (xs ++ x ∷ []))
+    (ap (λ (n : ℕ). windows_in n) (longer xs x) ∙ count-more (length xs) full)
+    ∙ ap (λ (n : ℕ). drop n (xs ++ x ∷ [])) next
+    ∙ sym (drop-drop 20 (20 * w) (xs ++ x ∷ []))
+    ∙ ap (λ (zs : List ℤ). drop 20 zs) (drop-append-le (20 * w) xs (x ∷ []) (omega arith))

@@ -1,0 +1,71 @@
+-- What is keyed is heard, disturbed too.
+use Rattle.std.specs.Prelude.{◌≡◌, ℕ, ◌<◌, ◌≤◌, List, [], ◌∷◌, ◌++◌, map, ℤ, unsigned_abs}
+use Rattle.std.specs.List.{AllByRecursion, flat_map}
+use Rattle.xb_model.specs.declared.digit.TheConstants.{DIGITS}
+use Rattle.xb_model.specs.declared.key.Key.{Key}
+use Rattle.xb_model.specs.declared.key.Key.TheVariants.{Digit, Kp, St}
+use Rattle.xb_model.specs.declared.key.Tone.{Tone as Pair}
+use Rattle.xb_model.specs.declared.mark.Mark.{Mark}
+use Rattle.xb_model.specs.declared.mark.Mark.TheVariants.{Trunk, Tone, Refused}
+use Rattle.xb_model.specs.Keyings.{keying}
+use Rattle.xb_tone.specs.declared.cadence.Cadence.{Cadence}
+use Rattle.xb_tone.specs.HeardKeys.{AreKeyed, frequencies_of, keys_of, keys_with}
+use Rattle.xb_tone.specs.Sounds.{sound_of}
+use Rattle.xb_ear.specs.declared.hearing.Heard.{Heard}
+use Rattle.xb_ear.specs.Disturbed.{IsNear}
+use Rattle.xb_ear.specs.Ears.{heard}
+
+-- the greatest disturbance of a sample that is borne; a tone's amplitude is 10,000, so this is 31 dB less
+abbrev pub MOST_NOISE : ℕ
+MOST_NOISE = 277
+
+-- no tone or gap is shorter than these, in ms; there is no longest
+pub record IsHearable (cadence : Cadence) : Type 0 where
+  pub kp : 55 ≤ cadence.kp_ms
+  pub key : 30 ≤ cadence.key_ms
+  pub gap : 25 ≤ cadence.gap_ms
+
+-- the pairs of what is heard, in order
+abbrev pub pairs_in : List Heard → List Pair
+pairs_in keys = map (λ (key : Heard). key.sight.pair) keys
+
+abbrev pub keys_in : List Heard → List Key
+keys_in keys = flat_map (λ p. keys_with (frequencies_of p)) (pairs_in keys)
+
+-- the pairs of marks, in order
+abbrev pub tones_of_mark : Mark → List Pair
+tones_of_mark (Trunk t) = []
+tones_of_mark (Tone key p) = p ∷ []
+tones_of_mark (Refused reason count) = []
+
+abbrev pub tones_of : List Mark → List Pair
+tones_of marks = flat_map tones_of_mark marks
+
+-- of the sound of marks, as any disturbance has left it, just the pairs of the marks are heard, in order, and so
+-- just their keys
+pub record IsHeardAs (samples : List ℤ) (marks : List Mark) : Type 0 where
+  pub pairs : pairs_in (heard samples) ≡ tones_of marks
+  pub keys : keys_in (heard samples) ≡ keys_of marks
+
+abbrev pub DisturbedKeysAreHeard : Type 0
+DisturbedKeysAreHeard = (cadence : Cadence) (marks : List Mark) (samples : List ℤ) → IsHearable cadence → AreKeyed marks
+    → IsNear MOST_NOISE (sound_of cadence marks) samples → IsHeardAs samples marks
+
+-- so of a keying: KP, its digits, ST
+abbrev pub DisturbedKeyingsAreHeard : Type 0
+DisturbedKeyingsAreHeard = (cadence : Cadence) (trunk : ℕ) (digits : List ℕ) (samples : List ℤ) → IsHearable cadence
+    → AllByRecursion (λ d. d < DIGITS) digits → IsNear MOST_NOISE (sound_of cadence (keying trunk digits)) samples
+    → keys_in (heard samples) ≡ Kp ∷ (map (λ d. Digit d) digits ++ St ∷ [])
+
+-- the clean sound itself
+abbrev pub CleanKeysAreHeard : Type 0
+CleanKeysAreHeard = (cadence : Cadence) (marks : List Mark) → IsHearable cadence → AreKeyed marks
+    → IsHeardAs (sound_of cadence marks) marks
+
+-- of silence, disturbed too, nothing is heard
+abbrev pub SilenceIsSilent : Type 0
+SilenceIsSilent = (samples : List ℤ) → AllByRecursion (λ x. unsigned_abs x ≤ MOST_NOISE) samples → heard samples ≡ []
+
+-- what was heard is not taken back: a stream that is cut anywhere gives the same as far as it goes
+abbrev pub HearsSoFar : Type 0
+HearsSoFar = (earlier later : List ℤ) → (rest : List Heard) × (heard (earlier ++ later) ≡ heard earlier ++ rest)
