@@ -1,7 +1,8 @@
 -- What is keyed is heard, disturbed too.
-use Rattle.std.proofs.Common.{◌≡◌, ◌∙◌, ℕ, zero, suc, ◌+◌, ◌-◌, ◌*◌, ◌≤◌, false, List, [], ◌∷◌, ◌++◌, map, replicate, length, sym, ap, subst, arith, refl, ℤ, pos, Option, Some, None, inl, inr, ◌⊎◌, append_assoc, append-nil, length-append}
+use Rattle.std.proofs.Common.{◌≡◌, ◌∙◌, ℕ, zero, suc, ◌+◌, ◌-◌, ◌*◌, ◌≤◌, Bool, true, false, List, [], ◌∷◌, ◌++◌, map, replicate, length, sym, ap, subst, arith, refl, ℤ, pos, Option, Some, None, inl, inr, ◌⊎◌, append_assoc, append-nil, length-append}
 use Rattle.std.specs.List.{range_with_len}
-use Rattle.std.proofs.lemmas.List.{length-replicate}
+use Rattle.std.proofs.lemmas.Bool.{cases_lt}
+use Rattle.std.proofs.lemmas.List.{length-map, length-replicate}
 use Rattle.std.proofs.lemmas.Simd.{map-map}
 use Rattle.std.proofs.lemmas.List.FromFn.{length-map-range_with_len}
 use Rattle.xb_model.specs.declared.key.Key.{Key}
@@ -14,33 +15,34 @@ use Rattle.xb_tone.specs.declared.cadence.Cadence.{Cadence}
 use Rattle.xb_tone.specs.Cadences.{tone_ms}
 use Rattle.xb_tone.specs.HeardKeys.{AreKeyed, IsKey}
 use Rattle.xb_tone.specs.Sines.{pair_sample}
-use Rattle.xb_tone.specs.Sounds.{silence, sound_of}
+use Rattle.xb_tone.specs.Sounds.{silence}
 use Rattle.xb_tone.proofs.KeyWaves.{each_digit}
-use Rattle.xb_ear.specs.Disturbed.{IsNear}
+use Rattle.xb_ear.specs.Disturbed.{AreWithin, bounded}
 use Rattle.xb_ear.specs.Ears.{heard, sights, window, windows_in}
-use Rattle.xb_ear.specs.HeardKeys.{IsHearable, MOST_NOISE, pairs_in, tones_of}
+use Rattle.xb_ear.specs.HeardKeys.{IsHearable, MOST_NOISE, MOST_NOISE_IN_TONES, disturbable, mark_disturbable, pairs_in, tones_of}
 use Rattle.xb_ear.specs.Hearings.{silent}
 use Rattle.xb_ear.specs.Pairs.{seen}
-use Rattle.xb_ear.proofs.Bounds.{label}
-use Rattle.xb_ear.proofs.Near.{near-length}
-use Rattle.xb_ear.proofs.Runs.{Gives, HasArrived, gives_all-append, stays}
-use Rattle.xb_ear.proofs.Segments.{all-in-range, between, part-turns, range-split, sees, sees-part}
-use Rattle.xb_ear.proofs.Shown.{Shows, silence-shows}
+use Rattle.xb_ear.proofs.Bounds.{Sees, is_strong, label}
+use Rattle.xb_ear.proofs.Near.{within-length}
+use Rattle.xb_ear.proofs.Runs.{Gives, HasArrived, gives-then, needed-range, stays}
+use Rattle.xb_ear.proofs.Segments.{all-in-range, between, part-turns, part_of, range-split, sees, sees-part, sight_at}
+use Rattle.xb_ear.proofs.Shown.{Shows, silence-shows, still}
 use Rattle.xb_ear.proofs.ShownKeys.{shows-key}
 use Rattle.xb_ear.proofs.Steps.{Known, after_all, gives_all, is_same_label, known, needed_of, one, pairs-heard}
 
-abbrev still : ℕ → ℤ
-still n = pos 0
-
--- silence, as a wave
-zeros : (n i : ℕ) → replicate n (pos 0) ≡ map still (range_with_len i n)
+-- silence, as a part
+zeros : (n i : ℕ) → bounded MOST_NOISE (replicate n (pos 0)) ≡ map (λ k. (still k, MOST_NOISE)) (range_with_len i n)
 zeros zero i = refl
-zeros (suc n) i = ap (λ (xs : List ℤ). pos 0 ∷ xs) (zeros n (i + 1))
+zeros (suc n) i = ap (λ (xs : List (ℤ × ℕ)). (pos 0, MOST_NOISE) ∷ xs) (zeros n (i + 1))
 
-more-zeros : (z n i : ℕ) → map still (range_with_len i z) ++ replicate n (pos 0) ≡ map still (range_with_len i (z + n))
-more-zeros z n i =
-    ap (λ (xs : List ℤ). map still (range_with_len i z) ++ xs) (zeros n (i + z))
-    ∙ sym (range-split still i z n (z + n) refl)
+more-zeros : (z n : ℕ) → part_of still MOST_NOISE z ++ bounded MOST_NOISE (replicate n (pos 0)) ≡ part_of still MOST_NOISE (z + n)
+more-zeros z n =
+    ap (λ (xs : List (ℤ × ℕ)). part_of still MOST_NOISE z ++ xs) (zeros n (0 + z))
+    ∙ sym (range-split (λ k. (still k, MOST_NOISE)) 0 z n (z + n) refl)
+
+-- how long a part is
+part-long : (f : ℕ → ℤ) (noise m : ℕ) → length (part_of f noise m) ≡ m
+part-long f noise m = length-map-range_with_len (λ k. (f k, noise)) 0 m
 
 -- windows up to a place and from it on
 between-split : (j : ℕ → Option Pair) (a b c : ℕ) → a ≤ b → b ≤ c → between j a c ≡ between j a b ++ between j b c
@@ -63,16 +65,29 @@ long-enough cadence lawful (Digit d) is =
     omega (arith, lawful.key, eight)
 
 -- a silence that is long enough, or the first one
-abbrev IsReady : Option Pair → List ℤ → ℕ → Type 0
+abbrev IsReady : Option Pair → List (ℤ × ℕ) → ℕ → Type 0
 IsReady a past z = ((a ≡ None) × (length past ≡ 0)) ⊎ ((is_same_label a None ≡ false) × (200 ≤ z))
 
+abbrev pub strong_at : List ℤ → ℕ → Bool
+strong_at samples w = is_strong (sight_at samples w)
+
+-- a window sees what is as strong as a key, or nothing; or else the fourth one after it does, if there is one
+abbrev pub IsSteady : List ℤ → ℕ → ℕ → Type 0
+IsSteady samples total w =
+    (strong_at samples w ≡ true) ⊎ (20 * (w + 4) + 80 ≤ total → strong_at samples (w + 4) ≡ true)
+
+-- what is given from a place on, and that the windows from there on are steady
+pub record Outcome (samples : List ℤ) (k : Known) (from total : ℕ) (what : List Pair) : Type 0 where
+  pub gives : Gives k (between (sees samples) from total) what None
+  pub steady : (w : ℕ) → from ≤ 20 * w → 20 * w + 80 ≤ total → IsSteady samples total w
+
 module _ (cadence : Cadence) (lawful : IsHearable cadence) (samples : List ℤ) where
-  quiet-part : (past rest : List ℤ) (z : ℕ) (a : Option Pair) (k : Known) → HasArrived a k → IsReady a past z
-      → IsNear MOST_NOISE (past ++ (map still (range_with_len 0 z) ++ rest)) samples
+  quiet-part : (past rest : List (ℤ × ℕ)) (z : ℕ) (a : Option Pair) (k : Known) → HasArrived a k → IsReady a past z
+      → AreWithin (past ++ (part_of still MOST_NOISE z ++ rest)) samples
       → Gives k (between (sees samples) (length past) (length past + z)) (one a) None
   quiet-part past rest z a k arrived ready near =
       let sees-still : (w : ℕ) → length past ≤ 20 * w → 20 * w + 80 ≤ length past + z → sees samples w ≡ None =
-      λ w from to. sees-part still None silence-shows past rest samples z w near from to in
+      λ w from to. (sees-part still MOST_NOISE None silence-shows past rest samples z w near from to).pair in
       elim ready [
         | inl first ↦
             let all = all-in-range (sees samples) None (windows_in (length past))
@@ -85,29 +100,39 @@ module _ (cadence : Cadence) (lawful : IsHearable cadence) (samples : List ℤ) 
             part-turns (sees samples) a None later.0 (length past) z (length past + z) refl (omega (arith, later.1)) sees-still k arrived
       ]
 
-  from-quiet : (marks : List Mark) → AreKeyed marks → (past : List ℤ) (z : ℕ) (a : Option Pair) (k : Known)
+  from-quiet : (marks : List Mark) → AreKeyed marks → (past : List (ℤ × ℕ)) (z : ℕ) (a : Option Pair) (k : Known)
       → HasArrived a k → IsReady a past z
-      → IsNear MOST_NOISE (past ++ (map still (range_with_len 0 z) ++ sound_of cadence marks)) samples
-      → (total : ℕ) → total ≡ length past + z + length (sound_of cadence marks)
-      → gives_all k (between (sees samples) (length past) total) ≡ one a ++ tones_of marks
+      → AreWithin (past ++ (part_of still MOST_NOISE z ++ disturbable cadence marks)) samples
+      → (total : ℕ) → total ≡ length past + z + length (disturbable cadence marks)
+      → Outcome samples k (length past) total (one a ++ tones_of marks)
   from-quiet [] keyed past z a k arrived ready near total is =
       let run = quiet-part past [] z a k arrived ready near in
       let end : total ≡ length past + z = omega (arith, is) in
-      ap (λ (n : ℕ). gives_all k (between (sees samples) (length past) n)) end ∙ run.given ∙ sym (append-nil (one a))
+      let what : List Pair = one a ++ [] in
+      record {
+        gives =
+            subst (λ (n : ℕ). Gives k (between (sees samples) (length past) n) what None) (sym end)
+            (subst (λ ps. Gives k (between (sees samples) (length past) (length past + z)) ps None)
+            (sym (append-nil (one a))) run);
+        steady = λ w low high.
+            inl (sees-part still MOST_NOISE None silence-shows past [] samples z w near low (omega (arith, high, end))).strong;
+      }
   from-quiet (Trunk t ∷ marks) keyed past z a k arrived ready near total is =
       let lead : ℕ = cadence.lead_ms * 8 in
-      let rest = sound_of cadence marks in
-      let same : map still (range_with_len 0 z) ++ (silence cadence.lead_ms ++ rest)
-      ≡ map still (range_with_len 0 (z + lead)) ++ rest =
-      sym (append_assoc (map still (range_with_len 0 z)) (silence cadence.lead_ms) rest)
-      ∙ ap (λ (xs : List ℤ). xs ++ rest) (more-zeros z lead 0) in
+      let rest = disturbable cadence marks in
+      let pause = bounded MOST_NOISE (silence cadence.lead_ms) in
+      let same : part_of still MOST_NOISE z ++ (pause ++ rest) ≡ part_of still MOST_NOISE (z + lead) ++ rest =
+      sym (append_assoc (part_of still MOST_NOISE z) pause rest)
+      ∙ ap (λ (xs : List (ℤ × ℕ)). xs ++ rest) (more-zeros z lead) in
       let more : IsReady a past (z + lead) = elim ready [
         | inl first ↦ inl first
         | inr later ↦ inr (later.0, omega (arith, later.1))
       ] in
+      let pause-long : length pause ≡ lead =
+      length-map (silence cadence.lead_ms) (λ x. (x, MOST_NOISE)) ∙ length-replicate lead (pos 0) in
       from-quiet marks keyed.1 past (z + lead) a k arrived more
-      (subst (λ (xs : List ℤ). IsNear MOST_NOISE (past ++ xs) samples) same near) total
-      (omega (arith, is, length-append (silence cadence.lead_ms) rest, length-replicate lead (pos 0)))
+      (subst (λ (xs : List (ℤ × ℕ)). AreWithin (past ++ xs) samples) same near) total
+      (omega (arith, is, length-append pause rest, pause-long))
   from-quiet (Refused reason count ∷ marks) keyed past z a k arrived ready near total is =
       from-quiet marks keyed.1 past z a k arrived ready near total is
   from-quiet (Tone key p ∷ marks) keyed past z a k arrived ready near total is =
@@ -115,66 +140,100 @@ module _ (cadence : Cadence) (lawful : IsHearable cadence) (samples : List ℤ) 
       let f : ℕ → ℤ = λ n. pair_sample p n in
       let m : ℕ = tone_ms cadence key * 8 in
       let gap : ℕ = cadence.gap_ms * 8 in
-      let quiet = map still (range_with_len 0 z) in
-      let tone = map f (range_with_len 0 m) in
-      let pause = silence cadence.gap_ms in
-      let later = sound_of cadence marks in
-      let quiet-long = length-map-range_with_len still 0 z in
-      let tone-long = length-map-range_with_len f 0 m in
+      let quiet = part_of still MOST_NOISE z in
+      let tone = part_of f MOST_NOISE_IN_TONES m in
+      let pause = part_of still MOST_NOISE gap in
+      let later = disturbable cadence marks in
+      let quiet-long : length quiet ≡ z = part-long still MOST_NOISE z in
+      let tone-long : length tone ≡ m = part-long f MOST_NOISE_IN_TONES m in
+      let pause-long : length pause ≡ gap = part-long still MOST_NOISE gap in
       let from : ℕ = length past in
       let to : ℕ = from + z in
       let end : ℕ = to + m in
-      let shows : Shows f (Some p) =
-      subst (λ (q : Pair). Shows (λ n. pair_sample q n) (Some q)) (sym keyed.0.1) (shows-key key keyed.0.0) in
+      let parts : mark_disturbable cadence (Tone key p) ≡ tone ++ pause =
+      ap (λ (xs : List (ℤ × ℕ)). xs ++ bounded MOST_NOISE (silence cadence.gap_ms))
+      (map-map (λ (x : ℤ). (x, MOST_NOISE_IN_TONES)) f (range_with_len 0 m))
+      ∙ ap (λ (xs : List (ℤ × ℕ)). tone ++ xs) (zeros gap 0) in
+      let shows : Shows MOST_NOISE_IN_TONES f (Some p) =
+      subst (λ (q : Pair). Shows MOST_NOISE_IN_TONES (λ n. pair_sample q n) (Some q)) (sym keyed.0.1) (shows-key key keyed.0.0) in
       let long : needed_of (Some p) * 20 + 80 ≤ m =
       subst (λ (q : Pair). needed_of (Some q) * 20 + 80 ≤ m) (sym keyed.0.1) (long-enough cadence lawful key keyed.0.0) in
-      let run = quiet-part past ((tone ++ pause) ++ later) z a k arrived ready near in
+      let wide : 200 ≤ m = omega (arith, long, (needed-range (Some p)).0) in
+      let near1 : AreWithin (past ++ (quiet ++ ((tone ++ pause) ++ later))) samples =
+      subst (λ (xs : List (ℤ × ℕ)). AreWithin (past ++ (quiet ++ (xs ++ later))) samples) parts near in
+      let run = quiet-part past ((tone ++ pause) ++ later) z a k arrived ready near1 in
       let k1 : Known = after_all k (between j from to) in
       let past2 = past ++ quiet in
       let at2 : length past2 ≡ to = omega (arith, length-append past quiet, quiet-long) in
-      let near2 : IsNear MOST_NOISE (past2 ++ (tone ++ (pause ++ later))) samples =
-      subst (λ (xs : List ℤ). IsNear MOST_NOISE xs samples)
-      (ap (λ (xs : List ℤ). past ++ (quiet ++ xs)) (append_assoc tone pause later)
-      ∙ sym (append_assoc past quiet (tone ++ (pause ++ later)))) near in
-      let sees-tone : (w : ℕ) → to ≤ 20 * w → 20 * w + 80 ≤ end → j w ≡ Some p =
-      λ w low high. sees-part f (Some p) shows past2 (pause ++ later) samples m w near2 (omega (arith, at2, low)) (omega (arith, at2, high)) in
-      let run2 = part-turns j None (Some p) refl to m end refl long sees-tone k1 run.arrived in
+      let near2 : AreWithin (past2 ++ (tone ++ (pause ++ later))) samples =
+      subst (λ (xs : List (ℤ × ℕ)). AreWithin xs samples)
+      (ap (λ (xs : List (ℤ × ℕ)). past ++ (quiet ++ xs)) (append_assoc tone pause later)
+      ∙ sym (append_assoc past quiet (tone ++ (pause ++ later)))) near1 in
+      let sees-tone : (w : ℕ) → to ≤ 20 * w → 20 * w + 80 ≤ end → Sees (Some p) (sight_at samples w) =
+      λ w low high. sees-part f MOST_NOISE_IN_TONES (Some p) shows past2 (pause ++ later) samples m w near2
+      (omega (arith, at2, low)) (omega (arith, at2, high)) in
+      let run2 = part-turns j None (Some p) refl to m end refl long (λ w low high. (sees-tone w low high).pair) k1 run.arrived in
       let k2 : Known = after_all k1 (between j to end) in
       let past3 = past2 ++ tone in
       let at3 : length past3 ≡ end = omega (arith, length-append past2 tone, at2, tone-long) in
-      let near3 : IsNear MOST_NOISE (past3 ++ (map still (range_with_len 0 gap) ++ later)) samples =
-      subst (λ (xs : List ℤ). IsNear MOST_NOISE xs samples)
-      (sym (append_assoc past2 tone (pause ++ later))
-      ∙ ap (λ (xs : List ℤ). past3 ++ (xs ++ later)) (zeros gap 0)) near2 in
-      let all : total ≡ length past3 + gap + length later =
-      omega (arith, is, at3, length-append (tone ++ pause) later, length-append tone pause, tone-long, length-replicate gap (pos 0)) in
-      let rest = from-quiet marks keyed.1 past3 gap (Some p) k2 run2.arrived (inr (refl, omega (arith, lawful.gap))) near3 total all in
-      let rest-at : gives_all k2 (between j end total) ≡ p ∷ tones_of marks =
-      ap (λ (n : ℕ). gives_all k2 (between j n total)) (sym at3) ∙ rest in
+      let near3 : AreWithin (past3 ++ (pause ++ later)) samples =
+      subst (λ (xs : List (ℤ × ℕ)). AreWithin xs samples) (sym (append_assoc past2 tone (pause ++ later))) near2 in
+      let sound-long : length (mark_disturbable cadence (Tone key p) ++ later) ≡ m + gap + length later =
+      length-append (mark_disturbable cadence (Tone key p)) later
+      ∙ ap (λ (n : ℕ). n + length later) (ap (λ (xs : List (ℤ × ℕ)). length xs) parts ∙ length-append tone pause
+      ∙ ap (λ (n : ℕ). n + length pause) tone-long ∙ ap (λ (n : ℕ). m + n) pause-long) in
+      let all : total ≡ length past3 + gap + length later = omega (arith, is, at3, sound-long) in
+      let wide-gap : 200 ≤ gap = omega (arith, lawful.gap) in
+      let rest = from-quiet marks keyed.1 past3 gap (Some p) k2 run2.arrived (inr (refl, wide-gap)) near3 total all in
+      let rest-at : Gives k2 (between j end total) (p ∷ tones_of marks) None =
+      subst (λ (n : ℕ). Gives k2 (between j n total) (p ∷ tones_of marks) None) at3 rest.gives in
       let ends : end ≤ total = omega (arith, all, at3) in
-      ap (λ xs. gives_all k xs)
-      (between-split j from to total (omega arith) (omega (arith, ends))
-      ∙ ap (λ xs. between j from to ++ xs) (between-split j to end total (omega arith) ends))
-      ∙ gives_all-append k (between j from to) (between j to end ++ between j end total)
-      ∙ ap (λ ps. ps ++ gives_all k1 (between j to end ++ between j end total)) run.given
-      ∙ ap (λ ps. one a ++ ps)
-      (gives_all-append k1 (between j to end) (between j end total)
-      ∙ ap (λ ps. ps ++ gives_all k2 (between j end total)) run2.given
-      ∙ rest-at)
+      let split : between j from total ≡ between j from to ++ (between j to end ++ between j end total) =
+      between-split j from to total (omega arith) (omega (arith, ends))
+      ∙ ap (λ xs. between j from to ++ xs) (between-split j to end total (omega arith) ends) in
+      let tail = gives-then k1 (between j to end) (between j end total) [] (p ∷ tones_of marks) (Some p) None run2 rest-at in
+      let whole = gives-then k (between j from to) (between j to end ++ between j end total) (one a) (p ∷ tones_of marks)
+      None None run tail in
+      record {
+        gives = subst (λ xs. Gives k xs (one a ++ (p ∷ tones_of marks)) None) (sym split) whole;
+        steady = λ w low high.
+            elim (cases_lt (20 * w + 79) to) [
+              | inl inside ↦
+                  inl (sees-part still MOST_NOISE None silence-shows past ((tone ++ pause) ++ later) samples z w near1 low
+                  (omega (arith, inside))).strong
+              | inr past_quiet ↦ elim (cases_lt (20 * w) to) [
+                | inl crosses ↦ inr (λ fits. (sees-tone (w + 4) (omega (arith, past_quiet)) (omega (arith, crosses, wide))).strong)
+                | inr in_tone ↦ elim (cases_lt (20 * w + 79) end) [
+                  | inl inside ↦ inl (sees-tone w in_tone (omega (arith, inside))).strong
+                  | inr past_tone ↦ elim (cases_lt (20 * w) end) [
+                    | inl crosses ↦
+                        inr (λ fits. (sees-part still MOST_NOISE None silence-shows past3 later samples gap (w + 4) near3
+                        (omega (arith, at3, past_tone)) (omega (arith, at3, crosses, wide-gap))).strong)
+                    | inr after ↦ rest.steady w (omega (arith, at3, after)) high
+                  ]
+                ]
+              ]
+            ];
+      }
 
--- what the windows of samples see, and what is heard of them
+-- the pairs that the windows of samples see
+pub labels-are : (samples : List ℤ) → map label (sights samples) ≡ between (sees samples) 0 (length samples)
+labels-are samples =
+    let n : ℕ = windows_in (length samples) in
+    let all : n ≡ n - 0 = omega arith in
+    map-map label (λ w. seen (window samples w)) (range_with_len 0 n)
+    ∙ ap (λ (m : ℕ). map (sees samples) (range_with_len 0 m)) all
+
+-- and those that are heard of them
 pub heard-pairs : (samples : List ℤ)
     → pairs_in (heard samples) ≡ gives_all (known silent) (between (sees samples) 0 (length samples))
 heard-pairs samples =
-    let n : ℕ = windows_in (length samples) in
-    let all : n ≡ n - 0 = omega arith in
-    pairs-heard silent (sights samples)
-    ∙ ap (λ xs. gives_all (known silent) xs) (map-map label (λ w. seen (window samples w)) (range_with_len 0 n))
-    ∙ ap (λ (m : ℕ). gives_all (known silent) (map (sees samples) (range_with_len 0 m))) all
+    pairs-heard silent (sights samples) ∙ ap (λ xs. gives_all (known silent) xs) (labels-are samples)
 
-pub pairs_are_heard : (cadence : Cadence) → IsHearable cadence → (marks : List Mark) → AreKeyed marks → (samples : List ℤ)
-    → IsNear MOST_NOISE (sound_of cadence marks) samples → pairs_in (heard samples) ≡ tones_of marks
-pairs_are_heard cadence lawful marks keyed samples near =
-    heard-pairs samples
-    ∙ from-quiet cadence lawful samples marks keyed [] 0 None (known silent) (record { sees = refl; sounds = refl })
-    (inl (refl, refl)) near (length samples) (omega (arith, near-length MOST_NOISE (sound_of cadence marks) samples near))
+-- of a disturbed sound of keys
+pub outcome : (cadence : Cadence) → IsHearable cadence → (marks : List Mark) → AreKeyed marks → (samples : List ℤ)
+    → AreWithin (disturbable cadence marks) samples
+    → Outcome samples (known silent) 0 (length samples) (tones_of marks)
+outcome cadence lawful marks keyed samples within =
+    from-quiet cadence lawful samples marks keyed [] 0 None (known silent) (record { sees = refl; sounds = refl })
+    (inl (refl, refl)) within (length samples) (omega (arith, within-length (disturbable cadence marks) samples within))

@@ -10,6 +10,10 @@ pub mod Steps
 pub mod Runs
 pub mod Segments
 pub mod HeardKeys
+pub mod Strength
+pub mod Loudness
+pub mod Received
 pub mod WholeSounds
+pub mod Coded
 pub mod Scaled
 pub mod OneTone

@@ -12,20 +12,20 @@ use Rattle.xb_tone.proofs.SineTables.{holds_below}
 use Rattle.xb_ear.specs.declared.levels.Levels.{Levels}
 use Rattle.xb_ear.specs.declared.sight.Sight.{Sight}
 use Rattle.xb_ear.specs.Disturbed.{IsNear}
-use Rattle.xb_ear.specs.Ears.{heard, window, windows_in}
+use Rattle.xb_ear.specs.Ears.{window, windows_in}
 use Rattle.xb_ear.specs.Hearings.{silent}
 use Rattle.xb_ear.specs.Levels.{correlated, cosine_of, level, levels_of, part, sine_of, squares}
 use Rattle.xb_ear.specs.Pairs.{mf_pairs, seen}
+use Rattle.xb_ear.specs.Receivers.{keys_of_sound}
 use Rattle.xb_ear.specs.SingleTones.{IsToneOf, SingleTonesAreNoKeys}
 use Rattle.xb_ear.proofs.Bounds.{IsBelow, IsWithinReach, REACH, is_weak, label, none-shown, reach-1100, reach-1300, reach-1500, reach-1700, reach-700, reach-900, square-mono}
-use Rattle.xb_ear.proofs.HeardKeys.{heard-pairs}
 use Rattle.xb_ear.proofs.Near.{near-correlated, near-drop, near-take, reach}
+use Rattle.xb_ear.proofs.Received.{nothing-heard}
 use Rattle.xb_ear.proofs.Runs.{stays}
 use Rattle.xb_ear.proofs.Scaled.{scaled, scaled-drop, scaled-take, size-scaled}
 use Rattle.xb_ear.proofs.Segments.{all-in-range, between, inside, sees}
 use Rattle.xb_ear.proofs.Shown.{turned}
 use Rattle.xb_ear.proofs.Steps.{known}
-use Rattle.xb_ear.proofs.WholeSounds.{none-given}
 
 -- the greatest level that a frequency can have in a tone of amplitude 40,000, whose sine of 10,000 is clean
 abbrev top : List ℤ → ℕ → ℕ
@@ -115,13 +115,13 @@ module _ (h : ℕ) (weak : list_all (λ n. weak_at (h * 100) n) (range_with_len 
       sees-no-pair amplitude most clean (window samples w) (length-map-range_with_len g (n % 80) 80) near2
       (holds_below (λ k. weak_at (h * 100) k) 80 0 weak (n % 80) (omega arith) (omega arith))
 
-  one-tone-is-no-key : heard samples ≡ []
+  one-tone-is-no-key : keys_of_sound samples ≡ []
   one-tone-is-no-key =
       let n : ℕ = length samples in
       let all = all-in-range (sees samples) None (windows_in 0) (windows_in n - windows_in 0)
       (λ w low high. sees-none-at w (omega (arith, high))) in
-      let run = stays None (between (sees samples) 0 n) all (known silent) (record { sees = refl; sounds = refl }) in
-      none-given (heard samples) (heard-pairs samples ∙ run.given)
+      nothing-heard samples
+      (stays None (between (sees samples) 0 n) all (known silent) (record { sees = refl; sounds = refl }))
 
 pub single_tones_are_no_keys : SingleTonesAreNoKeys
 unfolding correlated sine_table

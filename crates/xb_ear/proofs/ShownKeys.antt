@@ -6,12 +6,13 @@ use Rattle.xb_model.specs.MfPairs.{mf_pair}
 use Rattle.xb_tone.specs.HeardKeys.{IsKey}
 use Rattle.xb_tone.specs.Sines.{pair_sample, sine_table}
 use Rattle.xb_tone.proofs.KeyWaves.{each_digit}
+use Rattle.xb_ear.specs.HeardKeys.{MOST_NOISE_IN_TONES}
 use Rattle.xb_ear.specs.Levels.{correlated}
 use Rattle.xb_ear.proofs.Near.{far_squares}
 use Rattle.xb_ear.proofs.Shown.{Shows, shown_everywhere}
 
 abbrev pub KeyShows : Key → Type 0
-KeyShows key = Shows (λ k. pair_sample (mf_pair key) k) (Some (mf_pair key))
+KeyShows key = Shows MOST_NOISE_IN_TONES (λ k. pair_sample (mf_pair key) k) (Some (mf_pair key))
 
 shows-kp : KeyShows Kp
 unfolding correlated far_squares sine_table

@@ -1,5 +1,5 @@
 -- The laws of what is heard.
-use Rattle.std.proofs.Common.{◌≡◌, ◌∙◌, ℕ, ◌+◌, ◌-◌, ◌≤◌, List, [], ◌∷◌, ◌++◌, map, fold, length, sym, ap, subst, arith, refl, ℤ, pos, unsigned_abs, Option, None, append-nil, length-append, zero-add}
+use Rattle.std.proofs.Common.{◌≡◌, ◌∙◌, ℕ, ◌+◌, ◌-◌, ◌<◌, ◌≤◌, true, List, [], ◌∷◌, ◌++◌, map, fold, length, sym, ap, subst, arith, refl, ℤ, ◌-ℤ◌, unsigned_abs, Option, None, inl, inr, ◌⊎◌, append_assoc, append-nil, length-append, zero-add}
 use Rattle.std.specs.List.{AllByRecursion, flat_map, range_with_len}
 use Rattle.std.proofs.lemmas.Int.{ints}
 use Rattle.xb_model.specs.declared.key.Key.{Key}
@@ -10,22 +10,29 @@ use Rattle.xb_model.specs.declared.mark.Mark.TheVariants.{Trunk, Tone, Refused}
 use Rattle.xb_model.specs.Keyings.{keying, tone}
 use Rattle.xb_model.specs.Image.{image_from}
 use Rattle.xb_tone.specs.HeardKeys.{AreKeyed, frequencies_of, keys_of, keys_with}
-use Rattle.xb_tone.specs.Sounds.{sound_of}
+use Rattle.xb_tone.specs.declared.cadence.Cadence.{Cadence}
+use Rattle.xb_tone.specs.Cadences.{tone_ms}
+use Rattle.xb_tone.specs.Sounds.{silence, sound_of, tone_sound}
 use Rattle.xb_tone.proofs.HeardMarks.{digits_are_keyed}
 use Rattle.xb_tone.proofs.KeyWaves.{keys_with-pair}
 use Rattle.xb_ear.specs.declared.sight.Sight.{Sight}
 use Rattle.xb_ear.specs.declared.hearing.Heard.{Heard}
-use Rattle.xb_ear.specs.Disturbed.{IsNear}
+use Rattle.xb_ear.specs.Disturbed.{AreWithin, IsNear, bounded}
 use Rattle.xb_ear.specs.Ears.{heard, sights, window, windows_in}
-use Rattle.xb_ear.specs.HeardKeys.{CleanKeysAreHeard, DisturbedKeyingsAreHeard, DisturbedKeysAreHeard, HearsSoFar, MOST_NOISE, SilenceIsSilent, pairs_in, tones_of}
+use Rattle.xb_ear.specs.HeardKeys.{CleanKeysAreHeard, DisturbedKeyingsAreHeard, DisturbedKeysAreHeard, HearsSoFar, MOST_NOISE, MOST_NOISE_IN_TONES, NoisyKeysAreHeard, SilenceIsSilent, disturbable, pairs_in, tones_of}
 use Rattle.xb_ear.specs.Hearings.{hearer, silent}
 use Rattle.xb_ear.specs.Pairs.{seen}
-use Rattle.xb_ear.proofs.HeardKeys.{heard-pairs, pairs_are_heard}
+use Rattle.xb_ear.specs.Receivers.{keys_of_sound}
+use Rattle.xb_ear.specs.Tails.{tail_filter, without_tails}
+use Rattle.xb_ear.proofs.HeardKeys.{heard-pairs, outcome, strong_at}
+use Rattle.xb_ear.proofs.Loudness.{sound-low}
+use Rattle.xb_ear.proofs.Received.{ends-quiet, keys-whole, nothing-heard}
 use Rattle.xb_ear.proofs.Runs.{stays}
-use Rattle.xb_ear.proofs.Segments.{all-in-range, between, range-split, sees, sees-part}
-use Rattle.xb_ear.proofs.Shown.{silence-shows}
+use Rattle.xb_ear.proofs.Segments.{all-in-range, between, part_of, range-split, sees, sees-part, sight_at}
+use Rattle.xb_ear.proofs.Shown.{silence-shows, still}
 use Rattle.xb_ear.proofs.Steps.{known}
-use Rattle.xb_ear.proofs.Windows.{image_from-append, sights-early}
+use Rattle.xb_ear.proofs.Strength.{all-alike}
+use Rattle.xb_ear.proofs.Windows.{image_from-append, sights-early, window-fits}
 
 abbrev keys_with_pair : Pair → List Key
 keys_with_pair p = keys_with (frequencies_of p)
@@ -42,12 +49,22 @@ keys-of-tones (Tone key p ∷ marks) keyed =
 keys-of-tones (Refused reason count ∷ marks) keyed = keys-of-tones marks keyed.1
 
 pub disturbed_keys_are_heard : DisturbedKeysAreHeard
-disturbed_keys_are_heard cadence marks samples lawful keyed near =
-    let pairs = pairs_are_heard cadence lawful marks keyed samples near in
-    record {
-      pairs = pairs;
-      keys = ap (λ (ps : List Pair). flat_map keys_with_pair ps) pairs ∙ keys-of-tones marks keyed;
-    }
+disturbed_keys_are_heard cadence marks samples lawful keyed within =
+    let out = outcome cadence lawful marks keyed samples within in
+    let total : ℕ = length samples in
+    let steady : (w : ℕ) → w < windows_in total
+    → (strong_at samples w ≡ true) ⊎ (w + 4 < windows_in total → strong_at samples (w + 4) ≡ true) =
+    λ w below. elim (out.steady w (omega arith) (window-fits total w below)) [
+      | inl strong ↦ inl strong
+      | inr later ↦ inr (λ fits. later (window-fits total (w + 4) fits))
+    ] in
+    let alike = all-alike (sight_at samples) (windows_in total)
+    (λ w below. sound-low cadence marks samples within w (window-fits total w below)) steady in
+    let whole : keys_of_sound samples ≡ heard samples =
+    keys-whole samples (ends-quiet samples (tones_of marks) out.gives) alike in
+    let pairs : pairs_in (keys_of_sound samples) ≡ tones_of marks =
+    ap (λ (ks : List Heard). pairs_in ks) whole ∙ heard-pairs samples ∙ out.gives.given in
+    record { pairs = pairs; keys = ap (λ (ps : List Pair). flat_map keys_with_pair ps) pairs ∙ keys-of-tones marks keyed }
 
 keys-of-digits : (digits : List ℕ)
     → keys_of (map (λ d. tone (Digit d)) digits ++ tone St ∷ []) ≡ map (λ d. Digit d) digits ++ St ∷ []
@@ -55,10 +72,43 @@ keys-of-digits [] = refl
 keys-of-digits (d ∷ digits) = ap (λ (keys : List Key). Digit d ∷ keys) (keys-of-digits digits)
 
 pub disturbed_keyings_are_heard : DisturbedKeyingsAreHeard
-disturbed_keyings_are_heard cadence trunk digits samples lawful below near =
+disturbed_keyings_are_heard cadence trunk digits samples lawful below within =
     (disturbed_keys_are_heard cadence (keying trunk digits) samples lawful
-    (tt, ((tt, refl), digits_are_keyed digits below)) near).keys
+    (tt, ((tt, refl), digits_are_keyed digits below)) within).keys
     ∙ ap (λ (keys : List Key). Kp ∷ keys) (keys-of-digits digits)
+
+-- what is near the sound is within the bounds of each sample, which are no closer
+near-within : (n m : ℕ) → n ≤ m → (xs : List ℤ) (rest : List (ℤ × ℕ)) (more ys : List ℤ) → IsNear n (xs ++ more) ys
+    → ((zs : List ℤ) → IsNear n more zs → AreWithin rest zs) → AreWithin (bounded m xs ++ rest) ys
+near-within n m most [] rest more ys near later = later ys near
+near-within n m most (x ∷ xs) rest more [] near later = absurd near
+near-within n m most (x ∷ xs) rest more (y ∷ ys) near later =
+    let apart : unsigned_abs (y -ℤ x) ≤ n = near.0 in
+    (omega (arith, apart, most), near-within n m most xs rest more ys near.1 later)
+
+sound-within : (cadence : Cadence) (marks : List Mark) (ys : List ℤ) → IsNear MOST_NOISE (sound_of cadence marks) ys
+    → AreWithin (disturbable cadence marks) ys
+sound-within cadence [] [] near = tt
+sound-within cadence [] (y ∷ ys) near = absurd near
+sound-within cadence (Trunk t ∷ marks) ys near =
+    near-within MOST_NOISE MOST_NOISE (omega arith) (silence cadence.lead_ms) (disturbable cadence marks) (sound_of cadence marks)
+    ys near (λ zs later. sound-within cadence marks zs later)
+sound-within cadence (Refused reason count ∷ marks) ys near = sound-within cadence marks ys near
+sound-within cadence (Tone key p ∷ marks) ys near =
+    let tone = tone_sound p (tone_ms cadence key) in
+    let pause = silence cadence.gap_ms in
+    let more = sound_of cadence marks in
+    let rest = disturbable cadence marks in
+    subst (λ (xs : List (ℤ × ℕ)). AreWithin xs ys)
+    (sym (append_assoc (bounded MOST_NOISE_IN_TONES tone) (bounded MOST_NOISE pause) rest))
+    (near-within MOST_NOISE MOST_NOISE_IN_TONES (omega arith) tone (bounded MOST_NOISE pause ++ rest) (pause ++ more) ys
+    (subst (λ (xs : List ℤ). IsNear MOST_NOISE xs ys) (append_assoc tone pause more) near)
+    (λ zs later. near-within MOST_NOISE MOST_NOISE (omega arith) pause rest more zs later
+    (λ us last. sound-within cadence marks us last)))
+
+pub noisy_keys_are_heard : NoisyKeysAreHeard
+noisy_keys_are_heard cadence marks samples lawful keyed near =
+    disturbed_keys_are_heard cadence marks samples lawful keyed (sound-within cadence marks samples near)
 
 near-itself : (n : ℕ) (xs : List ℤ) → IsNear n xs xs
 near-itself n [] = tt
@@ -66,33 +116,29 @@ near-itself n (x ∷ xs) = (omega (arith, ints), near-itself n xs)
 
 pub clean_keys_are_heard : CleanKeysAreHeard
 clean_keys_are_heard cadence marks lawful keyed =
-    disturbed_keys_are_heard cadence marks (sound_of cadence marks) lawful keyed (near-itself MOST_NOISE (sound_of cadence marks))
+    noisy_keys_are_heard cadence marks (sound_of cadence marks) lawful keyed (near-itself MOST_NOISE (sound_of cadence marks))
 
-abbrev still : ℕ → ℤ
-still n = pos 0
-
-near-silence : (n : ℕ) (samples : List ℤ) → AllByRecursion (λ x. unsigned_abs x ≤ n) samples → (i : ℕ)
-    → IsNear n (map still (range_with_len i (length samples))) samples
-near-silence n [] small i = tt
-near-silence n (x ∷ samples) small i = (omega (arith, ints, small.0), near-silence n samples small.1 (i + 1))
-
-pub none-given : (keys : List Heard) → pairs_in keys ≡ [] → keys ≡ []
-none-given [] none = refl
-none-given (key ∷ keys) none = absurd (cc)
+quiet-within : (samples : List ℤ) → AllByRecursion (λ x. unsigned_abs x ≤ MOST_NOISE) samples → (i : ℕ)
+    → AreWithin (map (λ k. (still k, MOST_NOISE)) (range_with_len i (length samples))) samples
+quiet-within [] small i = tt
+quiet-within (x ∷ samples) small i =
+    let this : unsigned_abs x ≤ MOST_NOISE = small.0 in
+    (omega (arith, ints, this), quiet-within samples small.1 (i + 1))
 
 pub silence_is_silent : SilenceIsSilent
 silence_is_silent samples small =
     let n : ℕ = length samples in
-    let near : IsNear MOST_NOISE (map still (range_with_len 0 n) ++ []) samples =
-    subst (λ (xs : List ℤ). IsNear MOST_NOISE xs samples) (sym (append-nil (map still (range_with_len 0 n))))
-    (near-silence MOST_NOISE samples small 0) in
+    let within : AreWithin ([] ++ (part_of still MOST_NOISE n ++ [])) samples =
+    subst (λ (xs : List (ℤ × ℕ)). AreWithin xs samples) (sym (append-nil (part_of still MOST_NOISE n)))
+    (quiet-within samples small 0) in
     let all = all-in-range (sees samples) None (windows_in 0) (windows_in n - windows_in 0)
-    (λ w low high. sees-part still None silence-shows [] [] samples n w near (omega arith) (omega (arith, high))) in
-    let run = stays None (between (sees samples) 0 n) all (known silent) (record { sees = refl; sounds = refl }) in
-    none-given (heard samples) (heard-pairs samples ∙ run.given)
+    (λ w low high. (sees-part still MOST_NOISE None silence-shows [] [] samples n w within (omega arith) (omega (arith, high))).pair) in
+    nothing-heard samples
+    (stays None (between (sees samples) 0 n) all (known silent) (record { sees = refl; sounds = refl }))
 
-pub hears_so_far : HearsSoFar
-hears_so_far earlier later =
+-- what is heard of more samples is what was heard, and more
+more-heard : (earlier later : List ℤ) → (rest : List Heard) × (heard (earlier ++ later) ≡ heard earlier ++ rest)
+more-heard earlier later =
     let all = earlier ++ later in
     let f = λ (w : ℕ). seen (window all w) in
     let n : ℕ = windows_in (length earlier) in
@@ -105,4 +151,12 @@ hears_so_far earlier later =
       image_from hearer (fold hearer.next hearer.start (sights earlier)) (map f (range_with_len n m)),
       ap (λ (xs : List (Option Sight)). image_from hearer hearer.start xs) split
           ∙ image_from-append hearer hearer.start (sights earlier) (map f (range_with_len n m)),
+    )
+
+pub hears_so_far : HearsSoFar
+hears_so_far earlier later =
+    let more = more-heard earlier later in (
+      image_from tail_filter (fold tail_filter.next tail_filter.start (heard earlier)) more.0,
+      ap (λ (ks : List Heard). without_tails ks) more.1
+          ∙ image_from-append tail_filter tail_filter.start (heard earlier) more.0,
     )
