@@ -22,7 +22,7 @@ use Rattle.xb_tone.proofs.SineTables.{holds_below}
 use Rattle.xb_ear.specs.Disturbed.{AreWithin, bounded}
 use Rattle.xb_ear.specs.HeardKeys.{MOST_NOISE, MOST_NOISE_IN_TONES, disturbable}
 use Rattle.xb_ear.specs.MuLaw.{AreCodedAs, IsCodedAs, MuLawIsHeard, mu_law_sample}
-use Rattle.xb_ear.proofs.Bounds.{and-both, or-cases}
+use Rattle.xb_ear.proofs.Standing.{and-both, or-cases}
 use Rattle.xb_ear.proofs.WholeSounds.{disturbed_keys_are_heard}
 
 -- bytes of which one is near to each sample up to 20,000

@@ -22,7 +22,7 @@ use Rattle.xb_ear.specs.Ears.{heard, sights, window, windows_in}
 use Rattle.xb_ear.specs.HeardKeys.{IsHearable, MOST_NOISE, MOST_NOISE_IN_TONES, disturbable, mark_disturbable, pairs_in, tones_of}
 use Rattle.xb_ear.specs.Hearings.{silent}
 use Rattle.xb_ear.specs.Pairs.{seen}
-use Rattle.xb_ear.proofs.Bounds.{Sees, is_strong, label}
+use Rattle.xb_ear.proofs.Standing.{Sees, is_strong, label}
 use Rattle.xb_ear.proofs.Near.{within-length}
 use Rattle.xb_ear.proofs.Runs.{Gives, HasArrived, gives-then, needed-range, stays}
 use Rattle.xb_ear.proofs.Segments.{all-in-range, between, part-turns, part_of, range-split, sees, sees-part, sight_at}

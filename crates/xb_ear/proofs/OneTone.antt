@@ -18,7 +18,8 @@ use Rattle.xb_ear.specs.Levels.{correlated, cosine_of, level, levels_of, part, s
 use Rattle.xb_ear.specs.Pairs.{mf_pairs, seen}
 use Rattle.xb_ear.specs.Receivers.{keys_of_sound}
 use Rattle.xb_ear.specs.SingleTones.{IsToneOf, SingleTonesAreNoKeys}
-use Rattle.xb_ear.proofs.Bounds.{IsBelow, IsWithinReach, REACH, is_weak, label, none-shown, reach-1100, reach-1300, reach-1500, reach-1700, reach-700, reach-900, square-mono}
+use Rattle.xb_ear.proofs.Bounds.{IsBelow, IsWithinReach, REACH, reach-1100, reach-1300, reach-1500, reach-1700, reach-700, reach-900, square-mono}
+use Rattle.xb_ear.proofs.Standing.{is_weak, label, none-shown}
 use Rattle.xb_ear.proofs.Near.{near-correlated, near-drop, near-take, reach}
 use Rattle.xb_ear.proofs.Received.{nothing-heard}
 use Rattle.xb_ear.proofs.Runs.{stays}

@@ -15,7 +15,7 @@ use Rattle.xb_ear.specs.Hearings.{hearer, listed, silent, sounds}
 use Rattle.xb_ear.specs.HeardKeys.{pairs_in}
 use Rattle.xb_ear.specs.Receivers.{HasReceived, Receiving, keys_of_sound, keys_so_far}
 use Rattle.xb_ear.specs.Tails.{is_tail, kept, last_key, strength, tail_filter, without_tails}
-use Rattle.xb_ear.proofs.Bounds.{LEAST_STRENGTH, label}
+use Rattle.xb_ear.proofs.Standing.{LEAST_STRENGTH, label}
 use Rattle.xb_ear.proofs.HeardKeys.{heard-pairs, labels-are}
 use Rattle.xb_ear.proofs.Runs.{Gives}
 use Rattle.xb_ear.proofs.Segments.{between, sees}

@@ -13,7 +13,8 @@ use Rattle.xb_ear.specs.HeardKeys.{MOST_NOISE, MOST_NOISE_IN_TONES}
 use Rattle.xb_ear.specs.Hearings.{is_same_pair}
 use Rattle.xb_ear.specs.Levels.{correlated}
 use Rattle.xb_ear.specs.Pairs.{mf_pairs, seen}
-use Rattle.xb_ear.proofs.Bounds.{Sees, lowers, sees-none, sees-pair, shows, uppers}
+use Rattle.xb_ear.proofs.Bounds.{lowers, uppers}
+use Rattle.xb_ear.proofs.Standing.{Sees, sees-none, sees-pair, shows}
 use Rattle.xb_ear.proofs.Near.{far_squares}
 
 -- a window that is near 80 samples of a wave, wherever they begin, sees this

@@ -10,7 +10,7 @@ use Rattle.xb_ear.specs.declared.hearing.Heard.{Heard}
 use Rattle.xb_ear.specs.declared.hearing.Hearing.{Hearing}
 use Rattle.xb_ear.specs.declared.hearing.TheConstants.{GAP_WINDOWS, KEY_WINDOWS, KP_WINDOWS}
 use Rattle.xb_ear.specs.Hearings.{begun, counted, counts, ended, goes_on, hearer, is_same, is_same_pair, lengthened, listed, needed, run_on, settled, sounds, stronger, strongest}
-use Rattle.xb_ear.proofs.Bounds.{label, same-pair}
+use Rattle.xb_ear.proofs.Standing.{label, same-pair}
 
 -- whether two windows see the same, by their pairs
 abbrev pub is_same_label : Option Pair → Option Pair → Bool

@@ -10,7 +10,7 @@ use Rattle.xb_ear.specs.declared.hearing.Hearing.{Hearing}
 use Rattle.xb_ear.specs.declared.hearing.TheConstants.{KEY_WINDOWS, KP_WINDOWS}
 use Rattle.xb_ear.specs.Hearings.{begun, counted, counts, ended, goes_on, hearer, is_same, lengthened, listed, needed, run_on, silent, sounds, stronger, strongest}
 use Rattle.xb_ear.specs.Tails.{strength}
-use Rattle.xb_ear.proofs.Bounds.{LEAST_STRENGTH, is_strong}
+use Rattle.xb_ear.proofs.Standing.{LEAST_STRENGTH, is_strong}
 
 -- no pair of a window is stronger
 abbrev pub MOST_STRENGTH : ℕ
