@@ -1,20 +1,14 @@
 -- What a window sees, whatever a disturbance does to it: by bounds on each level.
-use Rattle.std.proofs.Common.{◌≡◌, ◌∙◌, ℕ, ◌+◌, ◌-◌, ◌*◌, ◌/◌, ◌<◌, ◌≤◌, ◌^◌, Bool, true, false, ◌&&◌, ◌||◌, List, [], ◌∷◌, length, min, max, ap, subst, arith, refl, ℤ, ◌-ℤ◌, unsigned_abs, Option, Some, None, eqb, eqb-true, inl, inr, ◌⊎◌}
+use Rattle.std.proofs.Common.{◌≡◌, ℕ, ◌+◌, ◌-◌, ◌*◌, ◌/◌, ◌≤◌, ◌^◌, Bool, true, false, List, length, subst, arith, refl, ℤ, ◌-ℤ◌, unsigned_abs}
 use native.Mathlib.Nat.{pow-le-pow_left}
-use Rattle.std.specs.Prelude.{if◌then◌else◌, nat_le, nat_lt}
-use Rattle.std.specs.List.{AllByRecursion, list_all, list_any}
+use Rattle.std.specs.Prelude.{if◌then◌else◌}
 use Rattle.std.proofs.lemmas.Int.{ints}
 use Rattle.std.proofs.lemmas.Nat.{mul-le}
-use Rattle.std.proofs.lemmas.Bool.{false≢true, le-leb, leb-true, lt-leb, ltb-true}
-use Rattle.xb_model.specs.declared.key.Tone.{Tone as Pair}
-use Rattle.xb_model.specs.MfPairs.{pair}
+use Rattle.std.proofs.lemmas.Bool.{leb-true}
 use Rattle.xb_ear.specs.declared.levels.Levels.{Levels}
-use Rattle.xb_ear.specs.declared.sight.Sight.{Sight}
-use Rattle.xb_ear.specs.declared.sight.TheConstants.{LEAST_LEVEL, TWIST, CLEAR, SHARE_OF, SHARE}
 use Rattle.xb_ear.specs.Disturbed.{IsNear}
-use Rattle.xb_ear.specs.Hearings.{is_same_pair}
 use Rattle.xb_ear.specs.Levels.{correlated, cosine_of, level, levels_of, part, sine_of, squares}
-use Rattle.xb_ear.specs.Pairs.{all_levels, first_pair, is_pair, level_at, mf_pairs, seen, sight, stand_out}
+use Rattle.xb_ear.specs.Pairs.{level_at}
 use Rattle.xb_tone.specs.Sines.{sine_table}
 use Rattle.xb_ear.proofs.Near.{far_squares, near-correlated, near-squares, reach}
 

@@ -22,13 +22,14 @@ use Rattle.xb_ear.specs.Ears.{heard, sights, window, windows_in}
 use Rattle.xb_ear.specs.HeardKeys.{IsHearable, MOST_NOISE, MOST_NOISE_IN_TONES, disturbable, mark_disturbable, pairs_in, tones_of}
 use Rattle.xb_ear.specs.Hearings.{silent}
 use Rattle.xb_ear.specs.Pairs.{seen}
-use Rattle.xb_ear.proofs.Standing.{Sees, is_strong, label}
+use Rattle.xb_ear.specs.LongRuns.{is_same_label, label, needed_of, one}
+use Rattle.xb_ear.proofs.Standing.{Sees, is_strong}
 use Rattle.xb_ear.proofs.Near.{within-length}
 use Rattle.xb_ear.proofs.Runs.{Gives, HasArrived, gives-then, needed-range, stays}
 use Rattle.xb_ear.proofs.Segments.{all-in-range, between, part-turns, part_of, range-split, sees, sees-part, sight_at}
 use Rattle.xb_ear.proofs.Shown.{Shows, silence-shows, still}
 use Rattle.xb_ear.proofs.ShownKeys.{shows-key}
-use Rattle.xb_ear.proofs.Steps.{Known, after_all, gives_all, is_same_label, known, needed_of, one, pairs-heard}
+use Rattle.xb_ear.proofs.Steps.{Known, after_all, gives_all, known, pairs-heard}
 
 -- silence, as a part
 zeros : (n i : ℕ) → bounded MOST_NOISE (replicate n (pos 0)) ≡ map (λ k. (still k, MOST_NOISE)) (range_with_len i n)

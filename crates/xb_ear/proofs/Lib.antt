@@ -14,6 +14,7 @@ pub mod HeardKeys
 pub mod Strength
 pub mod Loudness
 pub mod Received
+pub mod LongRuns
 pub mod WholeSounds
 pub mod Coded
 pub mod Scaled

@@ -7,6 +7,7 @@ use Rattle.std.proofs.lemmas.List.FromFn.{length-map-range_with_len}
 use Rattle.std.proofs.lemmas.Nat.{div-add-mod', mod_below, mul-le}
 use Rattle.std.proofs.lemmas.Simd.{map-map}
 use Rattle.xb_tone.specs.Sines.{sine_table}
+use Rattle.xb_ear.specs.LongRuns.{label}
 use Rattle.xb_ear.proofs.Places.{sine_of-turns}
 use Rattle.xb_tone.proofs.SineTables.{holds_below}
 use Rattle.xb_ear.specs.declared.levels.Levels.{Levels}
@@ -19,7 +20,7 @@ use Rattle.xb_ear.specs.Pairs.{mf_pairs, seen}
 use Rattle.xb_ear.specs.Receivers.{keys_of_sound}
 use Rattle.xb_ear.specs.SingleTones.{IsToneOf, SingleTonesAreNoKeys}
 use Rattle.xb_ear.proofs.Bounds.{IsBelow, IsWithinReach, REACH, reach-1100, reach-1300, reach-1500, reach-1700, reach-700, reach-900, square-mono}
-use Rattle.xb_ear.proofs.Standing.{is_weak, label, none-shown}
+use Rattle.xb_ear.proofs.Standing.{is_weak, none-shown}
 use Rattle.xb_ear.proofs.Near.{near-correlated, near-drop, near-take, reach}
 use Rattle.xb_ear.proofs.Received.{nothing-heard}
 use Rattle.xb_ear.proofs.Runs.{stays}

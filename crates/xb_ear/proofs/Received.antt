@@ -15,7 +15,8 @@ use Rattle.xb_ear.specs.Hearings.{hearer, listed, silent, sounds}
 use Rattle.xb_ear.specs.HeardKeys.{pairs_in}
 use Rattle.xb_ear.specs.Receivers.{HasReceived, Receiving, keys_of_sound, keys_so_far}
 use Rattle.xb_ear.specs.Tails.{is_tail, kept, last_key, strength, tail_filter, without_tails}
-use Rattle.xb_ear.proofs.Standing.{LEAST_STRENGTH, label}
+use Rattle.xb_ear.specs.LongRuns.{label}
+use Rattle.xb_ear.proofs.Standing.{LEAST_STRENGTH}
 use Rattle.xb_ear.proofs.HeardKeys.{heard-pairs, labels-are}
 use Rattle.xb_ear.proofs.Runs.{Gives}
 use Rattle.xb_ear.proofs.Segments.{between, sees}
@@ -92,7 +93,7 @@ no-tails (key ∷ keys) last alike all =
     ∙ ap (λ (ks : List Heard). key ∷ ks) (no-tails keys (Some key) all.0 all.1)
 
 -- what is known after windows
-known-after : (h : Hearing) (js : List (Option Sight))
+pub known-after : (h : Hearing) (js : List (Option Sight))
     → known (fold hearer.next h js) ≡ after_all (known h) (map label js)
 known-after h [] = refl
 known-after h (j ∷ js) =

@@ -1,10 +1,7 @@
 -- What a window surely sees, by bounds on its levels.
-use Rattle.std.proofs.Common.{◌≡◌, ◌∙◌, ℕ, ◌+◌, ◌-◌, ◌*◌, ◌/◌, ◌<◌, ◌≤◌, ◌^◌, Bool, true, false, ◌&&◌, ◌||◌, List, [], ◌∷◌, length, min, max, ap, subst, arith, refl, ℤ, ◌-ℤ◌, unsigned_abs, Option, Some, None, eqb, eqb-true, inl, inr, ◌⊎◌}
-use native.Mathlib.Nat.{pow-le-pow_left}
+use Rattle.std.proofs.Common.{◌≡◌, ◌∙◌, ℕ, ◌+◌, ◌-◌, ◌*◌, ◌<◌, ◌≤◌, Bool, true, false, ◌&&◌, ◌||◌, List, [], ◌∷◌, length, min, max, ap, subst, arith, refl, ℤ, Option, Some, None, eqb, eqb-true, inl, inr, ◌⊎◌}
 use Rattle.std.specs.Prelude.{if◌then◌else◌, nat_le, nat_lt}
 use Rattle.std.specs.List.{AllByRecursion, list_all, list_any}
-use Rattle.std.proofs.lemmas.Int.{ints}
-use Rattle.std.proofs.lemmas.Nat.{mul-le}
 use Rattle.std.proofs.lemmas.Bool.{false≢true, le-leb, leb-true, lt-leb, ltb-true}
 use Rattle.xb_model.specs.declared.key.Tone.{Tone as Pair}
 use Rattle.xb_model.specs.MfPairs.{pair}
@@ -13,10 +10,9 @@ use Rattle.xb_ear.specs.declared.sight.Sight.{Sight}
 use Rattle.xb_ear.specs.declared.sight.TheConstants.{LEAST_LEVEL, TWIST, CLEAR, SHARE_OF, SHARE}
 use Rattle.xb_ear.specs.Disturbed.{IsNear}
 use Rattle.xb_ear.specs.Hearings.{is_same_pair}
-use Rattle.xb_ear.specs.Levels.{correlated, cosine_of, level, levels_of, part, sine_of, squares}
+use Rattle.xb_ear.specs.LongRuns.{label}
+use Rattle.xb_ear.specs.Levels.{levels_of}
 use Rattle.xb_ear.specs.Pairs.{all_levels, first_pair, is_pair, level_at, mf_pairs, seen, sight, stand_out}
-use Rattle.xb_tone.specs.Sines.{sine_table}
-use Rattle.xb_ear.proofs.Near.{far_squares, near-correlated, near-squares, reach}
 use Rattle.xb_ear.proofs.Bounds.{IsBelow, at-below, below-uppers, lowers, lowers-below, uppers}
 
 -- a window holds so much of the pair of a key, at least; and of any pair so much at most
@@ -102,11 +98,6 @@ drowned-fails x y sum p drowned =
     && nat_le (SHARE * p) (SHARE_OF * (x + y))) (lt-leb (CLEAR * (sum - (x + y))) (min x y) drowned)
     ∙ ap (λ (b : Bool). b && nat_le (SHARE * p) (SHARE_OF * (x + y)))
     (and-false (nat_le LEAST_LEVEL (min x y) && nat_le (max x y) (TWIST * min x y)))
-
--- the pair of a sight
-abbrev pub label : Option Sight → Option Pair
-label None = None
-label (Some sight) = Some sight.pair
 
 pub same-pair : (q p : Pair) → is_same_pair q p ≡ true → q ≡ p
 same-pair q p is =

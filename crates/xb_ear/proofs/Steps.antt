@@ -1,6 +1,6 @@
 -- What a hearing makes of the pairs that windows see: its levels and places left out.
-use Rattle.std.proofs.Common.{◌≡◌, ◌∙◌, ℕ, ◌+◌, Bool, true, false, ◌&&◌, List, [], ◌∷◌, ◌++◌, map, sym, ap, refl, Option, Some, None}
-use Rattle.std.specs.Prelude.{◌==◌, if◌then◌else◌, nat_le, nat_lt}
+use Rattle.std.proofs.Common.{◌≡◌, ◌∙◌, ℕ, ◌+◌, Bool, true, false, List, [], ◌∷◌, ◌++◌, map, sym, ap, refl, Option, Some, None}
+use Rattle.std.specs.Prelude.{if◌then◌else◌, nat_le, nat_lt}
 use Rattle.std.proofs.lemmas.Bool.{false≢true}
 use Rattle.std.proofs.lemmas.List.{map-append}
 use Rattle.xb_model.specs.declared.key.Tone.{Tone as Pair}
@@ -8,20 +8,9 @@ use Rattle.xb_model.specs.Image.{image_from}
 use Rattle.xb_ear.specs.declared.sight.Sight.{Sight}
 use Rattle.xb_ear.specs.declared.hearing.Heard.{Heard}
 use Rattle.xb_ear.specs.declared.hearing.Hearing.{Hearing}
-use Rattle.xb_ear.specs.declared.hearing.TheConstants.{GAP_WINDOWS, KEY_WINDOWS, KP_WINDOWS}
 use Rattle.xb_ear.specs.Hearings.{begun, counted, counts, ended, goes_on, hearer, is_same, is_same_pair, lengthened, listed, needed, run_on, settled, sounds, stronger, strongest}
-use Rattle.xb_ear.proofs.Standing.{label, same-pair}
-
--- whether two windows see the same, by their pairs
-abbrev pub is_same_label : Option Pair → Option Pair → Bool
-is_same_label None None = true
-is_same_label None (Some q) = false
-is_same_label (Some p) None = false
-is_same_label (Some p) (Some q) = is_same_pair p q
-
-abbrev pub needed_of : Option Pair → ℕ
-needed_of None = GAP_WINDOWS
-needed_of (Some p) = if (p.low == 1100) && (p.high == 1700) then KP_WINDOWS else KEY_WINDOWS
+use Rattle.xb_ear.specs.LongRuns.{is_same_label, label, needed_of, one}
+use Rattle.xb_ear.proofs.Standing.{same-pair}
 
 -- what is known, by pairs alone
 pub record Known : Type 0 where
@@ -41,10 +30,6 @@ after k l = record {
   count = count_after k l;
   sounding = if nat_le (needed_of l) (count_after k l) then l else k.sounding;
 }
-
-abbrev pub one : Option Pair → List Pair
-one None = []
-one (Some p) = p ∷ []
 
 abbrev pub gives : Known → Option Pair → List Pair
 gives k l = if nat_le (needed_of l) (count_after k l) then (if is_same_label k.sounding l then [] else one k.sounding) else []

@@ -4,6 +4,7 @@
 //! - `Receiver::take`: after one sample more the receiver has given exactly the keys of `keys_so_far` of all samples that
 //!   it was given, whatever they are: what an `Ear` hears, but for the tails that a room leaves. With what `finish` gives
 //!   they are `keys_of_sound` of the samples. `Receiver::new` has taken none. `seen`: the pair that stands out in a window.
+//! - `laws::keys_are_long_runs`: what is heard are the runs of windows that see the same and are long enough, joined.
 //! - `laws::hears_so_far`: what was given is not taken back, so a stream may be cut anywhere.
 //! - `laws::disturbed_keys_are_heard`: of the sound of keyed marks, by each cadence of keys from 30 ms, KP from 55 and
 //!   gaps from 25, exactly the pairs of the marks are heard, in order, and so their keys, whatever disturbs each sample
