@@ -19,3 +19,4 @@ pub mod WholeSounds
 pub mod Coded
 pub mod Scaled
 pub mod OneTone
+pub mod BriefTones

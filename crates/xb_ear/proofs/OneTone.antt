@@ -1,31 +1,30 @@
 -- Of a single tone nothing is heard.
-use Rattle.std.proofs.Common.{◌≡◌, ◌∙◌, ℕ, ◌+◌, ◌-◌, ◌*◌, ◌/◌, ◌%◌, ◌<◌, ◌≤◌, ◌^◌, Bool, true, List, [], map, take, drop, length, sym, ap, subst, arith, refl, ℤ, pos, ◌-ℤ◌, ◌*ℤ◌, unsigned_abs, Option, None, append-nil}
+use Rattle.std.proofs.Common.{◌≡◌, ◌∙◌, ℕ, ◌+◌, ◌-◌, ◌*◌, ◌/◌, ◌%◌, ◌<◌, ◌≤◌, ◌^◌, Bool, true, List, [], map, take, drop, length, sym, ap, subst, arith, refl, ℤ, pos, ◌-ℤ◌, ◌*ℤ◌, unsigned_abs, Option, None}
 use Rattle.std.specs.List.{list_all, range_with_len}
 use Rattle.std.proofs.lemmas.Int.{ints}
 use Rattle.std.proofs.lemmas.List.{length-map}
-use Rattle.std.proofs.lemmas.List.FromFn.{length-map-range_with_len}
+use Rattle.std.proofs.lemmas.List.FromFn.{length-map-range_with_len, take-map-range_with_len}
 use Rattle.std.proofs.lemmas.Nat.{div-add-mod', mod_below, mul-le}
 use Rattle.std.proofs.lemmas.Simd.{map-map}
-use Rattle.xb_tone.specs.Sines.{sine_table}
 use Rattle.xb_ear.specs.LongRuns.{label}
 use Rattle.xb_ear.proofs.Places.{sine_of-turns}
 use Rattle.xb_tone.proofs.SineTables.{holds_below}
 use Rattle.xb_ear.specs.declared.levels.Levels.{Levels}
 use Rattle.xb_ear.specs.declared.sight.Sight.{Sight}
 use Rattle.xb_ear.specs.Disturbed.{IsNear}
-use Rattle.xb_ear.specs.Ears.{window, windows_in}
+use Rattle.xb_ear.specs.Ears.{windows_in}
 use Rattle.xb_ear.specs.Hearings.{silent}
 use Rattle.xb_ear.specs.Levels.{correlated, cosine_of, level, levels_of, part, sine_of, squares}
 use Rattle.xb_ear.specs.Pairs.{mf_pairs, seen}
 use Rattle.xb_ear.specs.Receivers.{keys_of_sound}
-use Rattle.xb_ear.specs.SingleTones.{IsToneOf, SingleTonesAreNoKeys}
+use Rattle.xb_ear.specs.SingleTones.{IsToneOf}
 use Rattle.xb_ear.proofs.Bounds.{IsBelow, IsWithinReach, REACH, reach-1100, reach-1300, reach-1500, reach-1700, reach-700, reach-900, square-mono}
 use Rattle.xb_ear.proofs.Standing.{is_weak, none-shown}
 use Rattle.xb_ear.proofs.Near.{near-correlated, near-drop, near-take, reach}
 use Rattle.xb_ear.proofs.Received.{nothing-heard}
 use Rattle.xb_ear.proofs.Runs.{stays}
 use Rattle.xb_ear.proofs.Scaled.{scaled, scaled-drop, scaled-take, size-scaled}
-use Rattle.xb_ear.proofs.Segments.{all-in-range, between, inside, sees}
+use Rattle.xb_ear.proofs.Segments.{all-in-range, between, drops, sees}
 use Rattle.xb_ear.proofs.Shown.{turned}
 use Rattle.xb_ear.proofs.Steps.{known}
 
@@ -85,21 +84,21 @@ module _ (amplitude : ℕ) (most : amplitude ≤ 40000) (clean xs : List ℤ) (l
       } in
       ap (λ (s : Option Sight). label s) (none-shown (levels_of xs) (tops clean (squares xs / 40)) below mf_pairs weak)
 
-abbrev weak_at : ℕ → ℕ → Bool
+abbrev pub weak_at : ℕ → ℕ → Bool
 weak_at hz n = list_all (is_weak (tops (map (λ k. sine_of hz k) (range_with_len n 80)) 0)) mf_pairs
 
 module _ (h : ℕ) (weak : list_all (λ n. weak_at (h * 100) n) (range_with_len 0 80) ≡ true) (amplitude : ℕ)
     (most : amplitude ≤ 40000) (samples : List ℤ) (tone : IsToneOf (h * 100) amplitude samples) where
-  sees-none-at : (w : ℕ) → w < windows_in (length samples) → sees samples w ≡ None
-  sees-none-at w below =
+  pub sees-none-in : (n : ℕ) → n + 80 ≤ length samples → label (seen (take 80 (drop n samples))) ≡ None
+  sees-none-in n fits =
       let f : ℕ → ℤ = λ n. pos amplitude *ℤ sine_of (h * 100) n in
       let g : ℕ → ℤ = λ n. sine_of (h * 100) n in
       let m : ℕ = length samples in
-      let n : ℕ = 20 * w in
-      let fits : n + 80 ≤ m = omega (arith, below) in
-      let place : 20 * w ≡ 0 + n = omega arith in
-      let cut : take 80 (drop (20 * w) (map f (range_with_len 0 m))) ≡ map f (range_with_len n 80) =
-      ap (λ (xs : List ℤ). window xs w) (sym (append-nil (map f (range_with_len 0 m)))) ∙ inside f [] [] m w n place fits in
+      let start : n ≡ 0 + n = omega arith in
+      let covers : m ≡ n + (m - n) = omega (arith, fits) in
+      let cut : take 80 (drop n (map f (range_with_len 0 m))) ≡ map f (range_with_len n 80) =
+      ap (λ (xs : List ℤ). take 80 xs) (drops f n 0 m n (m - n) start covers)
+      ∙ take-map-range_with_len f n (m - n) 80 (omega (arith, fits)) in
       let rest : n % 80 < 80 = mod_below n 80 (omega arith) in
       let whole : n ≡ n / 80 * 80 + n % 80 = sym (div-add-mod' n 80) in
       let turn : map g (range_with_len n 80) ≡ map g (range_with_len (n % 80) 80) =
@@ -107,31 +106,24 @@ module _ (h : ℕ) (weak : list_all (λ n. weak_at (h * 100) n) (range_with_len 
       let clean = map g (range_with_len (n % 80) 80) in
       let is-scaled : map f (range_with_len n 80) ≡ scaled amplitude clean =
       sym (map-map (λ (x : ℤ). pos amplitude *ℤ x) g (range_with_len n 80)) ∙ ap (λ (xs : List ℤ). scaled amplitude xs) turn in
-      let ours : take 80 (drop (20 * w) (scaled 10000 samples)) ≡ scaled 10000 (window samples w) =
-      ap (λ (xs : List ℤ). take 80 xs) (scaled-drop 10000 (20 * w) samples) ∙ scaled-take 10000 80 (drop (20 * w) samples) in
-      let near = near-take 10000 80 (drop (20 * w) (map f (range_with_len 0 m))) (drop (20 * w) (scaled 10000 samples))
-      (near-drop 10000 (20 * w) (map f (range_with_len 0 m)) (scaled 10000 samples) tone) in
-      let near2 : IsNear 10000 (scaled amplitude clean) (scaled 10000 (window samples w)) =
+      let piece : List ℤ = take 80 (drop n samples) in
+      let ours : take 80 (drop n (scaled 10000 samples)) ≡ scaled 10000 piece =
+      ap (λ (xs : List ℤ). take 80 xs) (scaled-drop 10000 n samples) ∙ scaled-take 10000 80 (drop n samples) in
+      let near = near-take 10000 80 (drop n (map f (range_with_len 0 m))) (drop n (scaled 10000 samples))
+      (near-drop 10000 n (map f (range_with_len 0 m)) (scaled 10000 samples) tone) in
+      let near2 : IsNear 10000 (scaled amplitude clean) (scaled 10000 piece) =
       subst (λ (ys : List ℤ). IsNear 10000 (scaled amplitude clean) ys) ours
-      (subst (λ (xs : List ℤ). IsNear 10000 xs (take 80 (drop (20 * w) (scaled 10000 samples)))) (cut ∙ is-scaled) near) in
-      sees-no-pair amplitude most clean (window samples w) (length-map-range_with_len g (n % 80) 80) near2
+      (subst (λ (xs : List ℤ). IsNear 10000 xs (take 80 (drop n (scaled 10000 samples)))) (cut ∙ is-scaled) near) in
+      sees-no-pair amplitude most clean piece (length-map-range_with_len g (n % 80) 80) near2
       (holds_below (λ k. weak_at (h * 100) k) 80 0 weak (n % 80) (omega arith) (omega arith))
 
-  one-tone-is-no-key : keys_of_sound samples ≡ []
+  sees-none-at : (w : ℕ) → w < windows_in (length samples) → sees samples w ≡ None
+  sees-none-at w below = sees-none-in (20 * w) (omega (arith, below))
+
+  pub one-tone-is-no-key : keys_of_sound samples ≡ []
   one-tone-is-no-key =
       let n : ℕ = length samples in
       let all = all-in-range (sees samples) None (windows_in 0) (windows_in n - windows_in 0)
       (λ w low high. sees-none-at w (omega (arith, high))) in
       nothing-heard samples
       (stays None (between (sees samples) 0 n) all (known silent) (record { sees = refl; sounds = refl }))
-
-pub single_tones_are_no_keys : SingleTonesAreNoKeys
-unfolding correlated sine_table
-single_tones_are_no_keys = record {
-  of700 = λ a xs most tone. one-tone-is-no-key 7 refl a most xs tone;
-  of900 = λ a xs most tone. one-tone-is-no-key 9 refl a most xs tone;
-  of1100 = λ a xs most tone. one-tone-is-no-key 11 refl a most xs tone;
-  of1300 = λ a xs most tone. one-tone-is-no-key 13 refl a most xs tone;
-  of1500 = λ a xs most tone. one-tone-is-no-key 15 refl a most xs tone;
-  of1700 = λ a xs most tone. one-tone-is-no-key 17 refl a most xs tone;
-}

@@ -20,7 +20,7 @@ use Rattle.xb_ear.proofs.Standing.{LEAST_STRENGTH}
 use Rattle.xb_ear.proofs.HeardKeys.{heard-pairs, labels-are}
 use Rattle.xb_ear.proofs.Runs.{Gives}
 use Rattle.xb_ear.proofs.Segments.{between, sees}
-use Rattle.xb_ear.proofs.Steps.{Known, after_all, known, known-next}
+use Rattle.xb_ear.proofs.Steps.{Known, after_all, gives_all, known, known-next}
 use Rattle.xb_ear.proofs.Strength.{IsAlike, MOST_STRENGTH}
 use Rattle.xb_ear.proofs.Windows.{image_from-append}
 
@@ -103,12 +103,18 @@ no-key : (key : Option Heard) → label (sounds key) ≡ None → key ≡ None
 no-key None none = refl
 no-key (Some key) none = absurd (cc)
 
+-- what sounds after samples, by pairs alone
+sounds-after : (samples : List ℤ) → label (sounds (hearing_after samples).sounding)
+    ≡ (after_all (known silent) (between (sees samples) 0 (length samples))).sounding
+sounds-after samples =
+    ap (λ (k : Known). k.sounding)
+    (known-after silent (sights samples) ∙ ap (λ xs. after_all (known silent) xs) (labels-are samples))
+
 -- where the last windows are silent no key sounds
 pub ends-quiet : (samples : List ℤ) (what : List Pair)
     → Gives (known silent) (between (sees samples) 0 (length samples)) what None → (hearing_after samples).sounding ≡ None
 ends-quiet samples what gives =
-    no-key (hearing_after samples).sounding
-    (ap (λ (k : Known). k.sounding) (known-after silent (sights samples) ∙ ap (λ xs. after_all (known silent) xs) (labels-are samples)) ∙ gives.arrived.sounds)
+    no-key (hearing_after samples).sounding (sounds-after samples ∙ gives.arrived.sounds)
 
 -- and keys that are alike are all given
 pub keys-whole : (samples : List ℤ) → (hearing_after samples).sounding ≡ None → AllByRecursion IsAlike (heard samples)
@@ -122,10 +128,17 @@ none-given : (keys : List Heard) → pairs_in keys ≡ [] → keys ≡ []
 none-given [] none = refl
 none-given (key ∷ keys) none = absurd (cc)
 
--- where all windows are silent nothing is given
+-- where no pair sounds nothing is given
+pub nothing-sounds : (samples : List ℤ) → gives_all (known silent) (between (sees samples) 0 (length samples)) ≡ []
+    → (after_all (known silent) (between (sees samples) 0 (length samples))).sounding ≡ None → keys_of_sound samples ≡ []
+nothing-sounds samples given sounds =
+    let none : heard samples ≡ [] = none-given (heard samples) (heard-pairs samples ∙ given) in
+    let quiet : (hearing_after samples).sounding ≡ None =
+    no-key (hearing_after samples).sounding (sounds-after samples ∙ sounds) in
+    ap (λ (key : Option Heard). without_tails (heard samples ++ listed key)) quiet
+    ∙ ap (λ (ks : List Heard). without_tails (ks ++ [])) none
+
+-- where all windows are silent
 pub nothing-heard : (samples : List ℤ)
     → Gives (known silent) (between (sees samples) 0 (length samples)) [] None → keys_of_sound samples ≡ []
-nothing-heard samples gives =
-    let none : heard samples ≡ [] = none-given (heard samples) (heard-pairs samples ∙ gives.given) in
-    ap (λ (key : Option Heard). without_tails (heard samples ++ listed key)) (ends-quiet samples [] gives)
-    ∙ ap (λ (ks : List Heard). without_tails (ks ++ [])) none
+nothing-heard samples gives = nothing-sounds samples gives.given gives.arrived.sounds

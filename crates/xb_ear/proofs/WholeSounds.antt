@@ -118,7 +118,7 @@ pub clean_keys_are_heard : CleanKeysAreHeard
 clean_keys_are_heard cadence marks lawful keyed =
     noisy_keys_are_heard cadence marks (sound_of cadence marks) lawful keyed (near-itself MOST_NOISE (sound_of cadence marks))
 
-quiet-within : (samples : List ℤ) → AllByRecursion (λ x. unsigned_abs x ≤ MOST_NOISE) samples → (i : ℕ)
+pub quiet-within : (samples : List ℤ) → AllByRecursion (λ x. unsigned_abs x ≤ MOST_NOISE) samples → (i : ℕ)
     → AreWithin (map (λ k. (still k, MOST_NOISE)) (range_with_len i (length samples))) samples
 quiet-within [] small i = tt
 quiet-within (x ∷ samples) small i =

@@ -12,7 +12,8 @@
 //!   `disturbed_keyings_are_heard` of KP, digits and ST, `clean_keys_are_heard` of the sound itself, and
 //!   `mu_law_is_heard` of the nearest bytes of mu-law.
 //! - `laws::silence_is_silent`: of samples that are each at most 277 nothing is heard; `single_tones_are_no_keys`: nor
-//!   of one of the six tones alone, of any amplitude.
+//!   of one of the six tones alone, of any amplitude, also where it begins and ends in such a silence (of 12.5 ms or
+//!   more).
 //!
 //! Not said: what is heard of tones of other amplitudes, twisted or detuned, of more noise, or in a room; that is
 //! measured.
