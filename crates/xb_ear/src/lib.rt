@@ -1,19 +1,20 @@
 //! A receiver of MF tones: samples in, one by one, and the keys that sounded in them out, each as it ends. It
 //! takes no memory but its own 80 samples, and counts in whole numbers alone.
 //!
-//! - `Receiver::take`: after one sample more the receiver has given exactly the keys of `keys_so_far` of all samples that
-//!   it was given, whatever they are: what an `Ear` hears, but for the tails that a room leaves. With what `finish` gives
-//!   they are `keys_of_sound` of the samples. `Receiver::new` has taken none. `seen`: the pair that stands out in a window.
-//! - `laws::keys_are_long_runs`: what is heard are the runs of windows that see the same and are long enough, joined.
-//! - `laws::hears_so_far`: what was given is not taken back, so a stream may be cut anywhere.
-//! - `laws::disturbed_keys_are_heard`: of the sound of keyed marks, by each cadence of keys from 30 ms, KP from 55 and
-//!   gaps from 25, exactly the pairs of the marks are heard, in order, and so their keys, whatever disturbs each sample
-//!   of a tone by at most 923 and of silence by at most 277. `noisy_keys_are_heard` says so of 277 everywhere,
-//!   `disturbed_keyings_are_heard` of KP, digits and ST, `clean_keys_are_heard` of the sound itself, and
-//!   `mu_law_is_heard` of the nearest bytes of mu-law.
-//! - `laws::silence_is_silent`: of samples that are each at most 277 nothing is heard; `single_tones_are_no_keys`: nor
-//!   of one of the six tones alone, of any amplitude, also where it begins and ends in such a silence (of 12.5 ms or
-//!   more).
+//! - `Receiver::take`: after one sample more the receiver has given exactly the keys of `keys_so_far` of all
+//!   samples that it was given, whatever they are: what an `Ear` hears, but for the tails that a room leaves.
+//!   With what `finish` gives they are `keys_of_sound` of the samples. `Receiver::new` has taken none. `seen`:
+//!   the pair that stands out in a window.
+//! - `laws::keys_are_long_runs`: what is heard are the runs of windows that see the same and are long enough,
+//!   joined. `hears_so_far`: what was given is not taken back, so a stream may be cut anywhere.
+//! - `laws::disturbed_keys_are_heard`: of the sound of keyed marks, by each cadence of keys from 30 ms, KP from 55
+//!   and gaps from 25, exactly the pairs of the marks are heard, in order, and so their keys, whatever disturbs
+//!   each sample of a tone by at most 923 and of silence by at most 277. `noisy_keys_are_heard` says so of 277
+//!   everywhere, `disturbed_keyings_are_heard` of KP, digits and ST, `clean_keys_are_heard` of the sound itself,
+//!   and `mu_law_is_heard` of the nearest bytes of mu-law.
+//! - `laws::silence_is_silent`: of samples that are each at most 277 nothing is heard; `single_tones_are_no_keys`:
+//!   nor of one of the six tones alone, of any amplitude, also where it begins and ends in such a silence (of 12.5
+//!   ms or more).
 //!
 //! Not said: what is heard of tones of other amplitudes, twisted or detuned, of more noise, or in a room; that is
 //! measured.

@@ -7,8 +7,8 @@ use crate::hearing::Heard;
 /// So soon after the end of a key its tail begins, in windows: 150 ms.
 pub const TAIL_WINDOWS: u64 = 60;
 
-/// So many times what a tail holds is less than what its key did: a tail is 13 dB weaker. The keys of a keying are alike,
-/// also where they are disturbed, and what a room leaves of one is weaker by far.
+/// So many times what a tail holds is less than what its key did: a tail is 13 dB weaker. The keys of a keying are
+/// alike, also where they are disturbed, and what a room leaves of one is weaker by far.
 pub const TAIL_WEAKER: u64 = 21;
 
 // What both tones of a key hold.
