@@ -7,6 +7,8 @@
 #[cfg(test)]
 mod dialled;
 #[cfg(test)]
+mod hearing;
+#[cfg(test)]
 mod keyings;
 #[cfg(test)]
 mod pages;
