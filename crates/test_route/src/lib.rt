@@ -1,0 +1,5 @@
+//! Numbers routed, and the program that does it: what no clause says of them, and each public call at values
+//! worked out by hand.
+//!
+//! Tests alone.
+#![tactic(auto)]

@@ -1,0 +1,13 @@
+pub mod Letters
+pub mod NumberTexts
+pub mod TextSteps
+pub mod Answers
+pub mod Lines
+pub mod Objects
+pub mod Pages
+pub mod Files
+pub mod Rules
+pub mod Options
+pub mod Routing
+pub mod Program
+pub mod Worked

@@ -1,0 +1,39 @@
+-- The line that is printed of a number.
+use Rattle.std.specs.Prelude.{◌≡◌, ℕ, List, [], ◌∷◌, ◌++◌, codes, decimal, length, Option, Some, None}
+use Rattle.std.specs.List.{flat_map}
+use Rattle.xb_model.specs.declared.mark.Mark.{Mark}
+use Rattle.xb_model.specs.declared.reason.Reason.{Reason}
+use Rattle.xb_model.specs.Keyings.{marks_of}
+use Rattle.xb_model.specs.Page.{entry_head, entry_text, last_refusal, marks_text, reason_text}
+use Rattle.xb_route.specs.declared.answer.Answer.{Answer}
+use Rattle.xb_route.specs.declared.answer.Answer.TheVariants.{Incomplete, Routed}
+use Rattle.xb_route.specs.Answers.{left_over}
+
+-- digits, one after the other
+abbrev pub digits_text : List ℕ → List ℕ
+digits_text digits = flat_map decimal digits
+
+abbrev pub entry_body_by : List Mark → Option (Reason × ℕ) → List ℕ
+entry_body_by entry None = codes " KEYED" ++ marks_text entry
+entry_body_by entry (Some refusal) = codes " REFUSED " ++ reason_text refusal.0 ++ codes " " ++ decimal refusal.1
+
+-- what the page writes of an entry after the line and the number
+abbrev pub entry_body : List Mark → List ℕ
+entry_body entry = entry_body_by entry (last_refusal entry)
+
+-- the page's line of an entry is the line and the number, and this
+abbrev pub PagesWriteBodies : Type 0
+PagesWriteBodies =
+    (line n : ℕ) (entry : List Mark) → entry_text line n entry ≡ entry_head line n ++ entry_body entry ++ codes "\n"
+
+-- the digits that are left over, where there are any
+abbrev pub ignored_text : List ℕ → List ℕ
+ignored_text [] = []
+ignored_text (digit ∷ digits) = codes " IGNORED " ++ digits_text (digit ∷ digits)
+
+-- the line of digits, by what is done with them: the number, and what the page writes of its entry; or that
+-- they are not complete, and how many they are
+abbrev pub answer_line : List ℕ → Answer → List ℕ
+answer_line digits Incomplete = digits_text digits ++ codes " INCOMPLETE " ++ decimal (length digits) ++ codes "\n"
+answer_line digits (Routed number order) =
+    digits_text number ++ entry_body (marks_of order) ++ ignored_text (left_over digits number) ++ codes "\n"

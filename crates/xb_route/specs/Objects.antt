@@ -1,0 +1,44 @@
+-- The JSON object that is printed of a number.
+use Rattle.std.specs.Prelude.{ℕ, List, [], ◌∷◌, ◌++◌, codes, decimal, length, map}
+use Rattle.serde_json.specs.Data.{Data, Members, array, member, no_members, number, object, string, unsigned}
+use Rattle.serde_json.specs.View.{items_of}
+use Rattle.serde_json.specs.Written.{compact_text}
+use Rattle.xb_model.specs.declared.order.Order.{Order}
+use Rattle.xb_model.specs.declared.order.Order.TheVariants as orders
+use Rattle.xb_model.specs.Page.{reason_text}
+use Rattle.xb_route.specs.declared.answer.Answer.{Answer}
+use Rattle.xb_route.specs.declared.answer.Answer.TheVariants.{Incomplete, Routed}
+use Rattle.xb_route.specs.Answers.{left_over}
+use Rattle.xb_route.specs.Lines.{digits_text}
+
+-- the keys of a keying, by the page's words
+abbrev pub keys_of : List ℕ → List Data
+keys_of digits = string (codes "KP") ∷ (map (λ digit. string (decimal digit)) digits ++ string (codes "ST") ∷ [])
+
+-- the object of digits that complete a number, what is left over, and its order
+abbrev pub object_of_order : List ℕ → List ℕ → Order → Data
+object_of_order digits left (orders.Key trunk sent) = object
+    (member (codes "dialled") (string (digits_text digits))
+    (member (codes "ignored") (string (digits_text left))
+    (member (codes "keys") (array (items_of (keys_of sent)))
+    (member (codes "outcome") (string (codes "KEYED"))
+    (member (codes "sent") (string (digits_text sent))
+    (member (codes "trunk") (number (unsigned trunk)) no_members))))))
+object_of_order digits left (orders.Refused reason heard) = object
+    (member (codes "dialled") (string (digits_text digits))
+    (member (codes "heard") (number (unsigned heard))
+    (member (codes "ignored") (string (digits_text left))
+    (member (codes "outcome") (string (codes "REFUSED"))
+    (member (codes "reason") (string (reason_text reason)) no_members)))))
+
+-- the object of digits, by what is done with them
+abbrev pub object_of : List ℕ → Answer → Data
+object_of digits Incomplete = object
+    (member (codes "dialled") (string (digits_text digits))
+    (member (codes "heard") (number (unsigned (length digits)))
+    (member (codes "outcome") (string (codes "INCOMPLETE")) no_members)))
+object_of digits (Routed number order) = object_of_order number (left_over digits number) order
+
+-- the object as a line
+abbrev pub object_line : List ℕ → Answer → List ℕ
+object_line digits answer = compact_text (object_of digits answer) ++ codes "\n"

@@ -1,0 +1,75 @@
+-- What is written of the numbers of a request.
+use Rattle.std.specs.Prelude.{◌≡◌, ◌≢◌, ◌×◌, ◌<◌, ℕ, List, [], ◌∷◌, if◌then◌else◌, Bool, Option, None, IfSome, Result, Ok, Err}
+use Rattle.std.specs.List.{flat_map}
+use Rattle.std.specs.Io.KnownBytes.{Appends, Keeps}
+use Rattle.xb_routes.specs.Table.{Table}
+use Rattle.xb_routes.specs.Text.{table_of_text}
+use Rattle.xb_text.specs.Reading.{IsLongerThan}
+use Rattle.xb_text.specs.Writing.{AppendsBeginning}
+use Rattle.xb_route.specs.declared.fault.RouteProgramFault.{RouteProgramFault}
+use Rattle.xb_route.specs.declared.fault.RouteProgramFault.TheVariants as fault
+use Rattle.xb_route.specs.declared.reading.TheConstants.{MOST_TEXT_BYTES}
+use Rattle.xb_route.specs.declared.words.Request.{Request}
+use Rattle.xb_route.specs.Answers.{answer_to}
+use Rattle.xb_route.specs.Files.{Bytes}
+use Rattle.xb_route.specs.Lines.{answer_line}
+use Rattle.xb_route.specs.NumberTexts.{Numbers, numbers_of_text, numbers_of_words}
+use Rattle.xb_route.specs.Objects.{object_line}
+use Rattle.xb_route.specs.Options.{words_of}
+
+-- the line of a number
+abbrev pub line_of : Bool → Table → List ℕ → List ℕ
+line_of json table digits = if json then object_line digits (answer_to table digits)
+    else answer_line digits (answer_to table digits)
+
+-- the lines of numbers
+abbrev pub lines_of : Bool → Table → List (List ℕ) → List ℕ
+lines_of json table numbers = flat_map (line_of json table) numbers
+
+-- the numbers of the words, or where there is none those of the input, if it is known
+abbrev pub AreNumbers : List (List ℕ) → Option (List ℕ) → Numbers → Type 0
+AreNumbers [] input numbers = IfSome input (λ text. numbers_of_text text ≡ numbers)
+AreNumbers (word ∷ words) input numbers = numbers_of_words 1 (word ∷ words) ≡ numbers
+
+-- the file of this name has a table
+abbrev pub HasTable : Bytes → List ℕ → Table → Type 0
+HasTable bytes name table = IfSome (bytes name) (λ text. table_of_text text ≡ Ok table)
+
+-- the file could not be read, or memory ran out, or this is the fault of its text
+abbrev pub IsFaultOfTable : Bytes → List ℕ → RouteProgramFault → Type 0
+IsFaultOfTable bytes name (fault.File error) = Unit {0}
+IsFaultOfTable bytes name fault.NoMemory = Unit {0}
+IsFaultOfTable bytes name (fault.Table f) = IfSome (bytes name) (λ text. table_of_text text ≡ Err f)
+IsFaultOfTable bytes name f = ⊥
+
+-- the input could not be read, or memory ran out, or this is the fault of the words, or of the input
+abbrev pub IsFaultOfNumbers : List (List ℕ) → Option (List ℕ) → RouteProgramFault → Type 0
+IsFaultOfNumbers words input fault.Read = Unit {0}
+IsFaultOfNumbers words input fault.NoMemory = Unit {0}
+IsFaultOfNumbers words input fault.TooLong = (words ≡ []) × IsLongerThan MOST_TEXT_BYTES input
+IsFaultOfNumbers words input (fault.Word n f) = (words ≢ []) × (numbers_of_words 1 words ≡ Err (n, f))
+IsFaultOfNumbers words input (fault.TextLine n f) =
+    (words ≡ []) × IfSome input (λ text. numbers_of_text text ≡ Err (n, f))
+IsFaultOfNumbers words input f = ⊥
+
+-- the table of the file, and the numbers, and what is printed of these
+pub record Routes (bytes : Bytes) (request : Request) (input : Option (List ℕ)) (printed : List ℕ) : Type 0 where
+  pub table : Table
+  pub numbers : List (List ℕ)
+  pub is_read : HasTable bytes request.table.now table
+  pub are_read : AreNumbers (words_of request) input (Ok numbers)
+  pub is_printed : printed ≡ lines_of request.json table numbers
+
+-- what is returned for a request, and what the writer got: the lines on Ok, their beginning where a write
+-- failed, and nothing on any other fault
+abbrev pub Delivers :
+    Bytes → Request → Option (List ℕ) → Result (Unit {0}) RouteProgramFault → Option (List ℕ) → Option (List ℕ)
+    → Type 0
+Delivers bytes request input (Ok u) old new =
+    (printed : List ℕ) × Routes bytes request input printed × Appends old new printed
+Delivers bytes request input (Err fault.Write) old new =
+    (printed : List ℕ) × Routes bytes request input printed × AppendsBeginning old new printed
+Delivers bytes request input (Err (fault.File error)) old new = Keeps old new
+Delivers bytes request input (Err (fault.Table f)) old new =
+    Keeps old new × IsFaultOfTable bytes request.table.now (fault.Table f)
+Delivers bytes request input (Err f) old new = Keeps old new × IsFaultOfNumbers (words_of request) input f

@@ -1,0 +1,58 @@
+-- Worked numbers: as they are written, what is done with them, and what is printed.
+use Rattle.std.specs.Prelude.{◌≡◌, ℕ, List, [], ◌∷◌, ◌++◌, codes, map, Some, None, Ok, Err}
+use Rattle.xb_model.specs.declared.plan.Plan.TheVariants.{Seven}
+use Rattle.xb_model.specs.LawfulLimits.{standard_limits}
+use Rattle.xb_model.specs.WorkedRows.{three_routes}
+use Rattle.xb_routes.specs.Table.{Table}
+use Rattle.xb_routes.specs.Text.{table_by}
+use Rattle.xb_route.specs.declared.number_fault.NumberFault.TheVariants as fault
+use Rattle.xb_route.specs.Letters.{digit_of_character}
+use Rattle.xb_route.specs.NumberTexts.{number_of_text}
+use Rattle.xb_route.specs.Answers.{answer_to}
+use Rattle.xb_route.specs.Lines.{answer_line}
+use Rattle.xb_route.specs.Objects.{object_line}
+
+-- the digits of letters
+pub record LettersOfTheDial : Type 0 where
+  pub capitals : map digit_of_character (codes "ABCDEFGHIJKLMNOP")
+      ≡ map Some (2 ∷ 2 ∷ 2 ∷ 3 ∷ 3 ∷ 3 ∷ 4 ∷ 4 ∷ 4 ∷ 5 ∷ 5 ∷ 5 ∷ 6 ∷ 6 ∷ 6 ∷ 7 ∷ [])
+  pub last_capitals : map digit_of_character (codes "QRSTUVWXYZ")
+      ≡ None ∷ Some 7 ∷ Some 7 ∷ Some 8 ∷ Some 8 ∷ Some 8 ∷ Some 9 ∷ Some 9 ∷ Some 9 ∷ None ∷ []
+  pub small : map digit_of_character (codes "pe") ≡ Some 7 ∷ Some 3 ∷ []
+  pub digits : map digit_of_character (codes "059") ≡ Some 0 ∷ Some 5 ∷ Some 9 ∷ []
+  pub others : map digit_of_character (codes "@[`{/:*#+") ≡
+      None ∷ None ∷ None ∷ None ∷ None ∷ None ∷ None ∷ None ∷ None ∷ []
+
+-- numbers as they are written
+pub record NumbersOfTexts : Type 0 where
+  pub letters : number_of_text (codes "PE6-5000") ≡ Ok (7 ∷ 3 ∷ 6 ∷ 5 ∷ 0 ∷ 0 ∷ 0 ∷ [])
+  pub grouped : number_of_text (codes " 4-1 1") ≡ Ok (4 ∷ 1 ∷ 1 ∷ [])
+  pub character : number_of_text (codes "4*1") ≡ Err fault.Character
+  pub no_digits : number_of_text (codes "- ") ≡ Err fault.NoDigits
+
+-- three routes, by plan Seven
+abbrev pub worked_table : Table
+worked_table = table_by three_routes Seven standard_limits
+
+abbrev pub plain_line : List ℕ → List ℕ
+plain_line digits = answer_line digits (answer_to worked_table digits)
+
+abbrev pub json_line : List ℕ → List ℕ
+json_line digits = object_line digits (answer_to worked_table digits)
+
+-- what is printed of some numbers
+pub record LinesOfNumbers : Type 0 where
+  pub operator : plain_line (0 ∷ []) ≡ codes "0 KEYED 0001 KP:1100+1700 0:1300+1500 ST:1500+1700\n"
+  pub unknown : plain_line (5 ∷ 5 ∷ 5 ∷ 1 ∷ 2 ∷ 3 ∷ 4 ∷ []) ≡ codes "5551234 REFUSED UNKNOWN 7\n"
+  pub incomplete : plain_line (2 ∷ 3 ∷ 4 ∷ []) ≡ codes "234 INCOMPLETE 3\n"
+  pub left_over : plain_line (0 ∷ 9 ∷ 9 ∷ [])
+      ≡ codes "0 KEYED 0001 KP:1100+1700 0:1300+1500 ST:1500+1700 IGNORED 99\n"
+
+-- the same as JSON
+pub record ObjectsOfNumbers : Type 0 where
+  pub operator : json_line (0 ∷ 9 ∷ []) ≡
+      codes "{\"dialled\":\"0\",\"ignored\":\"9\",\"keys\":[\"KP\",\"0\",\"ST\"],\"outcome\":\"KEYED\",\"sent\":\"0\",\"trunk\":1}\n"
+  pub unknown : json_line (6 ∷ 1 ∷ 1 ∷ []) ≡
+      codes "{\"dialled\":\"611\",\"heard\":3,\"ignored\":\"\",\"outcome\":\"REFUSED\",\"reason\":\"UNKNOWN\"}\n"
+  pub incomplete : json_line (2 ∷ 3 ∷ 4 ∷ []) ≡
+      codes "{\"dialled\":\"234\",\"heard\":3,\"outcome\":\"INCOMPLETE\"}\n"

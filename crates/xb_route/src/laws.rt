@@ -1,0 +1,31 @@
+//! What the definitions give: each law is the contract of a function that does nothing.
+ghost use Rattle.xb_route.specs.Lines.{PagesWriteBodies};
+ghost use Rattle.xb_route.specs.Program.{UsageNamesTheOption};
+ghost use Rattle.xb_route.specs.Worked.{LettersOfTheDial, LinesOfNumbers, NumbersOfTexts, ObjectsOfNumbers};
+
+/// The digits of letters, and of other characters.
+pub fn letters_of_the_dial()
+    ensures { LettersOfTheDial }
+{}
+
+/// The numbers that some texts write.
+pub fn numbers_of_texts()
+    ensures { NumbersOfTexts }
+{}
+
+/// What is printed of some numbers, by three routes.
+pub fn lines_of_numbers()
+    ensures lines { LinesOfNumbers }
+    ensures objects { ObjectsOfNumbers }
+{}
+
+/// The page's line of an entry is the line and the number, and then what is printed after a number.
+pub fn pages_write_bodies()
+    ensures { PagesWriteBodies }
+{}
+
+/// The line of refused words names the option of the command.
+#[tactic(auto, unfolding(clap::proofs::OnLiterals::clap_on_literals, xb_command::specs::Usages::has_part))]
+pub fn usage_names_the_option()
+    ensures { UsageNamesTheOption }
+{}

@@ -1,0 +1,143 @@
+// From a table and numbers to what is done with them.
+ghost use Rattle.std.specs.Prelude.{◌≡◌, ◌≢◌, [], IfErr, IfOk, Err, Ok, map, string_bytes};
+ghost use Rattle.xb_route.specs.Options.{words_of};
+ghost use Rattle.xb_route.specs.Routing.{AreNumbers, Delivers, HasTable, IsFaultOfNumbers, IsFaultOfTable, line_of, lines_of};
+ghost use Rattle.xb_route.specs.TextSteps.{digits_of_numbers};
+
+use crate::answer::answer_to;
+use crate::fault::RouteProgramFault;
+use crate::files::TableFiles;
+use crate::lines::answer_line;
+use crate::number_fault::NumberFault;
+use crate::objects::object_line;
+use crate::reading::{MOST_TEXT_BYTES, numbers_of_text, numbers_of_words};
+use crate::words::Request;
+use std::alloc::{AllocError, Global};
+use std::io::{Read, Write};
+use xb_model::Digit;
+use xb_routes::{RouteFault, RouteTable};
+use xb_text::{ReadFault, read_whole, write_whole};
+
+// The table of a file.
+fn read_table<F: TableFiles>(
+    alloc: Global,
+    files: &F,
+    name: &str,
+) -> Result<RouteTable, RouteProgramFault>
+    ensures table { IfOk result (HasTable (F.bytes files.now) name.now) }
+    ensures fault { IfErr result (IsFaultOfTable (F.bytes files.now) name.now) }
+{
+    let text = match files.read(alloc, name) {
+        Ok(text) => text,
+        Err(error) => return Err(RouteProgramFault::File(error)),
+    };
+    match RouteTable::read(alloc, &text) {
+        Ok(table) => Ok(table),
+        Err(RouteFault::NoMemory) => Err(RouteProgramFault::NoMemory),
+        Err(fault) => Err(RouteProgramFault::Table(fault)),
+    }
+}
+
+// The numbers of the input.
+fn read_numbers<R: Read>(alloc: Global, input: &mut R) -> Result<Vec<Vec<Digit>>, RouteProgramFault>
+    ensures numbers { IfOk result (λ numbers.
+        AreNumbers [] (R.remaining input.old) (Ok (digits_of_numbers numbers.items))) }
+    ensures fault { IfErr result (IsFaultOfNumbers [] (R.remaining input.old)) }
+{
+    let text = match read_whole(alloc, input, MOST_TEXT_BYTES) {
+        Ok(text) => text,
+        Err(ReadFault::Failed) => return Err(RouteProgramFault::Read),
+        Err(ReadFault::TooLong) => return Err(RouteProgramFault::TooLong),
+        Err(ReadFault::NoMemory) => return Err(RouteProgramFault::NoMemory),
+    };
+    match numbers_of_text(alloc, &text) {
+        Ok(numbers) => Ok(numbers),
+        Err((_, NumberFault::NoMemory)) => Err(RouteProgramFault::NoMemory),
+        Err((n, fault)) => Err(RouteProgramFault::TextLine(n, fault)),
+    }
+}
+
+// The numbers of the words, or where there is none those of the input.
+fn numbers_given<R: Read>(
+    alloc: Global,
+    words: &[&str],
+    input: &mut R,
+) -> Result<Vec<Vec<Digit>>, RouteProgramFault>
+    ensures numbers { let texts = map (λ word. word.now) words.now in IfOk result (λ numbers.
+        AreNumbers texts (R.remaining input.old) (Ok (digits_of_numbers numbers.items))) }
+    ensures fault { let texts = map (λ word. word.now) words.now in
+        IfErr result (IsFaultOfNumbers texts (R.remaining input.old)) }
+{
+    if words.is_empty() {
+        return read_numbers(alloc, input);
+    }
+    match numbers_of_words(alloc, words) {
+        Ok(numbers) => Ok(numbers),
+        Err((_, NumberFault::NoMemory)) => Err(RouteProgramFault::NoMemory),
+        Err((n, fault)) => Err(RouteProgramFault::Word(n, fault)),
+    }
+}
+
+// The line of a number.
+fn line_of(
+    alloc: Global,
+    json: bool,
+    table: &RouteTable,
+    digits: &[Digit],
+) -> Result<Vec<u8>, AllocError>
+    ensures { IfOk result (λ line. line.items ≡ line_of json table.now digits.now) }
+{
+    let answer = answer_to(table, digits);
+    if json {
+        object_line(alloc, digits, &answer)
+    } else {
+        answer_line(alloc, digits, &answer)
+    }
+}
+
+// The lines of numbers.
+fn lines_of(
+    alloc: Global,
+    json: bool,
+    table: &RouteTable,
+    numbers: &[Vec<Digit>],
+) -> Result<Vec<u8>, AllocError>
+    ensures { IfOk result (λ lines.
+        lines.items ≡ lines_of json table.now (digits_of_numbers numbers.now)) }
+{
+    let mut lines = Vec::new(alloc);
+    for number in numbers {
+        lines.extend_from_slice(&line_of(alloc, json, table, number)?)?;
+    }
+    Ok(lines)
+}
+
+/// Reads the table and the numbers of a request, and writes a line for each number: what an office of this
+/// table does with it. The table is read before the numbers; these are the words, or else the input; and
+/// nothing is written before all numbers are read.
+///
+/// On an `Err` nothing was written, except on `Write`, where the beginning of the lines was.
+///
+/// What the contract says of bytes it says of files, readers and writers whose bytes are known to contracts,
+/// which those of a system are not.
+pub fn route<'a, F: TableFiles, R: Read, W: Write>(
+    alloc: Global,
+    files: &F,
+    request: &Request<'a>,
+    input: &mut R,
+    out: &mut W,
+) -> Result<(), RouteProgramFault>
+    ensures { Delivers (F.bytes files.now) request.now (R.remaining input.old) result
+        (W.contents out.old) (W.contents out.new) }
+{
+    let table = read_table(alloc, files, request.table)?;
+    let numbers = numbers_given(alloc, &request.numbers, input)?;
+    let lines = match lines_of(alloc, request.json, &table, &numbers) {
+        Ok(lines) => lines,
+        Err(_) => return Err(RouteProgramFault::NoMemory),
+    };
+    match write_whole(out, &lines) {
+        Ok(()) => Ok(()),
+        Err(_) => Err(RouteProgramFault::Write),
+    }
+}
