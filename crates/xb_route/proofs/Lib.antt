@@ -1,0 +1,6 @@
+pub mod Completing
+pub mod DialledDigits
+pub mod NumberLines
+pub mod EntryBodies
+pub mod KeyValues
+pub mod Keyed

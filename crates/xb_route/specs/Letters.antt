@@ -1,6 +1,6 @@
 -- The digits that the characters of a number dial.
 use Rattle.std.specs.Prelude.{ℕ, ◌&&◌, ◌||◌, ◌==◌, nat_le, if◌then◌else◌, Bool, Option, Some, None}
-use Rattle.core.specs.Char.{to_ascii_uppercase}
+use Rattle.std.specs.Char.{to_ascii_uppercase}
 use Rattle.xb_model.specs.Digits.{digit_of_ascii}
 
 -- from one character to another

@@ -37,7 +37,7 @@ object_of digits Incomplete = object
     (member (codes "dialled") (string (digits_text digits))
     (member (codes "heard") (number (unsigned (length digits)))
     (member (codes "outcome") (string (codes "INCOMPLETE")) no_members)))
-object_of digits (Routed number order) = object_of_order number (left_over digits number) order
+object_of digits (Routed dialled order) = object_of_order dialled (left_over digits dialled) order
 
 -- the object as a line
 abbrev pub object_line : List ℕ → Answer → List ℕ

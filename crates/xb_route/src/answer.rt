@@ -21,7 +21,11 @@ fn completed(plan: Plan, digits: &[Digit]) -> Option<NumberDigits>
     ensures { result ≡ shortest_complete plan digits.now }
 {
     let len = usize::from(plan_len(plan, digits)?);
-    NumberDigits::of(digits.get(..len)?)
+    if len <= digits.len() {
+        NumberDigits::of(&digits[..len])
+    } else {
+        None
+    }
 }
 
 /// What is done with digits by a table: the number that they complete by its plan is routed. The order of the

@@ -1,7 +1,7 @@
 // What the words of the command line ask for.
-ghost use Rattle.std.specs.Prelude.{◌≡◌, [], ◌∷◌, IfErr, IfOk, map};
+ghost use Rattle.std.specs.Prelude.{◌≡◌, [], IfErr, IfOk};
 ghost use Rattle.xb_command.specs.Commands.{texts_of};
-ghost use Rattle.xb_route.specs.Options.{AreRefused, Asks, lone_words};
+ghost use Rattle.xb_route.specs.Options.{AreRefused, Asks, Say, lone_words};
 
 use crate::program::PROGRAM;
 use std::alloc::Global;
@@ -21,21 +21,22 @@ pub struct Request<'a> {
 // The option of the program, and its words that stand alone, each under its name.
 const OPTIONS: [(&str, Takes); 2] = [("json", Takes::Nothing), ("word", Takes::AllThatFollow)];
 
-// The words that stand alone: the table, and the numbers.
-fn table_and_numbers<'a>(
-    alloc: Global,
-    words: &Words<'a>,
-) -> Result<(&'a str, Vec<&'a str>), WordsFault>
-    ensures parts { IfOk result (λ parts.
-        lone_words words.now ≡ parts.0.now ∷ map (λ word. word.now) parts.1.items) }
+// What the words say; refused where none of them is a table.
+fn request_of<'a>(alloc: Global, words: &Words<'a>) -> Result<Request<'a>, WordsFault>
+    ensures says { IfOk result (λ request. Say words.now request) }
     ensures none { IfErr result (λ f. f ≡ WordsFault.Refused → lone_words words.now ≡ []) }
 {
+    let json = words.flag("json");
     match words.texts("word").unwrap_or(&[]) {
         [] => Err(WordsFault::Refused),
         [table, rest @ ..] => {
             let mut numbers = Vec::new(alloc);
             match numbers.extend_from_slice(rest) {
-                Ok(()) => Ok((*table, numbers)),
+                Ok(()) => Ok(Request {
+                    table,
+                    numbers,
+                    json,
+                }),
                 Err(_) => Err(WordsFault::NoMemory),
             }
         }
@@ -48,12 +49,5 @@ pub fn request_of_words<'a>(alloc: Global, words: &'a [String]) -> Result<Reques
     ensures refused { IfErr result (λ f. f ≡ WordsFault.Refused → AreRefused (texts_of words.entry.now)) }
 {
     let words = read_words(alloc, PROGRAM, &OPTIONS, words)?;
-    match table_and_numbers(alloc, &words) {
-        Ok((table, numbers)) => Ok(Request {
-            table,
-            numbers,
-            json: words.flag("json"),
-        }),
-        Err(fault) => Err(fault),
-    }
+    request_of(alloc, &words)
 }

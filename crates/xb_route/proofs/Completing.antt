@@ -1,0 +1,174 @@
+-- The number that digits complete, by its length.
+use Rattle.std.proofs.Common.{◌≡◌, ◌⊎◌, inl, inr, ℕ, suc, ◌+◌, ◌<◌, ◌≤◌, Bool, true, false, List, [], ◌∷◌, ◌++◌, map, length, take, drop, Option, Some, None, refl, sym, ap, ◌∙◌, arith, eqb-true, ne_eqb, subst}
+use Rattle.std.specs.Prelude.{option_map, ◌==◌, if◌then◌else◌, unwrap_or}
+use Rattle.std.specs.List.{find}
+use Rattle.xb_model.specs.declared.plan.Plan.{Plan}
+use Rattle.xb_model.specs.declared.plan.Plan.TheVariants.{Seven, Ten}
+use Rattle.xb_model.specs.Plans.{is_area_code, is_service_code, length_after, length_after_three, length_of_others, plan_len}
+use Rattle.xb_model.specs.Numbers.{fronts, has_length, is_complete, shortest_complete}
+use Rattle.std.proofs.lemmas.List.{length-append, length-take-le, take-append-drop}
+use Rattle.xb_dial.proofs.CompleteNumbers.{complete_is_shortest}
+
+some_is : {A : Type 0} {x y : A} → Some x ≡ Some y → x ≡ y
+some_is {A} {x} {y} e = ap (λ o. unwrap_or o x) e
+
+none_is : {A : Type 0} {x : A} → None ≡ Some x → ⊥
+none_is e = cc
+
+-- finding among images
+find-map : {A B : Type 0} (test : B → Bool) (f : A → B) (xs : List A)
+    → find test (map f xs) ≡ option_map f (find (λ x. test (f x)) xs)
+find-map test f [] = refl
+find-map test f (x ∷ xs) = at (find-map test f xs) (test (f x)) refl
+  where
+    at : find test (map f xs) ≡ option_map f (find (λ y. test (f y)) xs)
+        → (passes : Bool) → test (f x) ≡ passes
+        → find test (map f (x ∷ xs)) ≡ option_map f (find (λ y. test (f y)) (x ∷ xs))
+    at later true e = rw e refl
+    at later false e = rw e later
+
+-- a front that is found is found where more stands behind
+put-first : (d : ℕ) (found more : Option (List ℕ)) (front : List ℕ)
+    → ((f : List ℕ) → found ≡ Some f → more ≡ Some f)
+    → option_map (λ f. d ∷ f) found ≡ Some front → option_map (λ f. d ∷ f) more ≡ Some front
+put-first d None more front same is = absurd (none_is is)
+put-first d (Some f) more front same is = ap (option_map (λ g. d ∷ g)) (same f refl) ∙ is
+
+find-more : (test : List ℕ → Bool) (digits rest front : List ℕ) → find test (fronts digits) ≡ Some front
+    → find test (fronts (digits ++ rest)) ≡ Some front
+find-more test [] [] front is = is
+find-more test [] (d ∷ rest) front is = at (test []) refl
+  where
+    at : (passes : Bool) → test [] ≡ passes → find test (fronts (d ∷ rest)) ≡ Some front
+    at true e = rw e (rw e at is)
+    at false e = absurd (none_is (rw e at is))
+find-more test (d ∷ digits) rest front is =
+    at (λ f found. find-more (λ g. test (d ∷ g)) digits rest f found) (test []) refl
+  where
+    at : ((f : List ℕ) → find (λ g. test (d ∷ g)) (fronts digits) ≡ Some f
+        → find (λ g. test (d ∷ g)) (fronts (digits ++ rest)) ≡ Some f)
+        → (passes : Bool) → test [] ≡ passes → find test (fronts ((d ∷ digits) ++ rest)) ≡ Some front
+    at later true e = rw e (rw e at is)
+    at later false e =
+        let here : find test (map (λ g. d ∷ g) (fronts digits)) ≡ Some front = rw e at is in
+        rw e (find-map test (λ g. d ∷ g) (fronts (digits ++ rest))
+        ∙ put-first d _ _ front later (sym (find-map test (λ g. d ∷ g) (fronts digits)) ∙ here))
+
+-- none is found where none passes
+find-none : (test : List ℕ → Bool) (digits : List ℕ)
+    → ((front rest : List ℕ) → front ++ rest ≡ digits → test front ≡ false) → find test (fronts digits) ≡ None
+find-none test [] fails = rw (fails [] [] refl) refl
+find-none test (d ∷ digits) fails =
+    rw (fails [] (d ∷ digits) refl)
+    (find-map test (λ g. d ∷ g) (fronts digits)
+    ∙ ap (option_map (λ g. d ∷ g)) (find-none (λ g. test (d ∷ g)) digits
+    (λ front rest e. fails (d ∷ front) rest (ap (λ more. d ∷ more) e))))
+
+-- what the first digits tell of the length, more digits tell too
+length_after-front : (plan : Plan) (a : ℕ) (front rest : List ℕ)
+    → (length_after plan a front ≡ None) ⊎ (length_after plan a front ≡ length_after plan a (front ++ rest))
+length_after-front plan a [] rest = inl refl
+length_after-front plan a (b ∷ []) rest = inl refl
+length_after-front plan a (b ∷ c ∷ front) rest = inr refl
+
+plan_len-front : (plan : Plan) (front rest : List ℕ)
+    → (plan_len plan front ≡ None) ⊎ (plan_len plan front ≡ plan_len plan (front ++ rest))
+plan_len-front plan [] rest = inl refl
+plan_len-front plan (a ∷ front) rest = at (a == 0) refl
+  where
+    at : (operator : Bool) → (a == 0) ≡ operator
+        → (plan_len plan (a ∷ front) ≡ None) ⊎ (plan_len plan (a ∷ front)
+        ≡ plan_len plan ((a ∷ front) ++ rest))
+    at true e = inr (rw e refl)
+    at false e = rw e (length_after-front plan a front rest)
+
+-- a number has three digits at least, if it does not begin with 0, and ten at most
+record IsLength (n : ℕ) : Type 0 where
+  pub more : ℕ
+  pub is : n ≡ suc (suc (suc more))
+  pub few : n ≤ 10
+
+length_by : (plan : Plan) (service area : Bool) → IsLength (if service then 3 else length_of_others plan area)
+length_by plan true area = record { more = 0; is = refl; few = omega arith }
+length_by Seven false area = record { more = 4; is = refl; few = omega arith }
+length_by Ten false true = record { more = 7; is = refl; few = omega arith }
+length_by Ten false false = record { more = 4; is = refl; few = omega arith }
+
+-- the front that has the length of the number tells that length, which is ten at most
+record Fills (plan : Plan) (digits : List ℕ) (n : ℕ) : Type 0 where
+  pub front : plan_len plan (take n digits) ≡ Some n
+  pub few : n ≤ 10
+
+fills-three : (plan : Plan) (a b c n : ℕ) (rest : List ℕ) → (a == 0) ≡ false → length_after_three plan a b c ≡ n
+    → Fills plan (a ∷ b ∷ c ∷ rest) n
+fills-three plan a b c n rest other is =
+    let len = length_by plan (is_service_code a b c) (is_area_code a b c) in
+    let three : n ≡ suc (suc (suc len.more)) = sym is ∙ len.is in
+    record {
+      front = rw (three, other) (ap Some (is ∙ three));
+      few = subst (λ m. m ≤ 10) is len.few;
+    }
+
+fills : (plan : Plan) (digits : List ℕ) (n : ℕ) → plan_len plan digits ≡ Some n → Fills plan digits n
+fills plan [] n is = absurd (none_is is)
+fills plan (a ∷ rest) n is = at (a == 0) refl
+  where
+    after : (more : List ℕ) → (a == 0) ≡ false → length_after plan a more ≡ Some n → Fills plan (a ∷ more) n
+    after [] e len = absurd (none_is len)
+    after (b ∷ []) e len = absurd (none_is len)
+    after (b ∷ c ∷ more) e len = fills-three plan a b c n more e (some_is len)
+
+    at : (operator : Bool) → (a == 0) ≡ operator → Fills plan (a ∷ rest) n
+    at true e =
+        let one : 1 ≡ n = some_is (rw e at is) in
+        subst (Fills plan (a ∷ rest)) one (record { front = rw e refl; few = omega arith })
+    at false e = after rest e (rw e at is)
+
+-- the number is the front of its length, which has ten digits at most
+pub record Completes (plan : Plan) (digits : List ℕ) (n : ℕ) : Type 0 where
+  pub number : shortest_complete plan digits ≡ Some (take n digits)
+  pub few : length (take n digits) ≤ 10
+
+has_own_length : (n m : ℕ) → n ≡ m → (n == m) ≡ true
+has_own_length n m e = grind (arith, e)
+
+pub completes : (plan : Plan) (digits : List ℕ) (n : ℕ) → plan_len plan digits ≡ Some n → n ≤ length digits
+    → Completes plan digits n
+completes plan digits n is within =
+    let number = take n digits in
+    let filled = fills plan digits n is in
+    let count : length number ≡ n = length-take-le n digits within in
+    let complete : is_complete plan number ≡ true =
+    ap (λ len. has_length len (length number)) filled.front ∙ has_own_length n (length number) (sym count) in
+    let found = find-more (is_complete plan) number (drop n digits) number
+    (complete_is_shortest plan number complete) in
+    record {
+      number = subst (λ all. shortest_complete plan all ≡ Some number) (take-append-drop n digits) found;
+      few = omega (arith, count, filled.few);
+    }
+
+-- digits that are fewer than their number has complete none
+pub completes_none : (plan : Plan) (digits : List ℕ) (n : ℕ) → plan_len plan digits ≡ Some n → length digits < n
+    → shortest_complete plan digits ≡ None
+completes_none plan digits n is short =
+    find-none (is_complete plan) digits (λ front rest e. at front rest e (plan_len-front plan front rest))
+  where
+    at : (front rest : List ℕ) → front ++ rest ≡ digits
+        → (plan_len plan front ≡ None) ⊎ (plan_len plan front ≡ plan_len plan (front ++ rest))
+        → is_complete plan front ≡ false
+    at front rest e (inl none) = rw none refl
+    at front rest e (inr same) =
+        let count : length front + length rest ≡ length digits = sym (length-append front rest) ∙ ap length e in
+        rw (same ∙ ap (plan_len plan) e ∙ is) (ne_eqb n (length front) (λ w. omega (arith, count, short, w)))
+
+-- and so are digits that do not tell the length
+pub tells_none : (plan : Plan) (digits : List ℕ) → plan_len plan digits ≡ None
+    → shortest_complete plan digits ≡ None
+tells_none plan digits is =
+    find-none (is_complete plan) digits (λ front rest e. at front rest e (plan_len-front plan front rest))
+  where
+    at : (front rest : List ℕ) → front ++ rest ≡ digits
+        → (plan_len plan front ≡ None) ⊎ (plan_len plan front ≡ plan_len plan (front ++ rest))
+        → is_complete plan front ≡ false
+    at front rest e (inl none) = rw none refl
+    at front rest e (inr same) = rw (same ∙ ap (plan_len plan) e ∙ is) refl

@@ -1,0 +1,17 @@
+use Rattle.std.proofs.Common.{◌≡◌, inl, inr, sym, ap, ◌∙◌, subst, IfOk, IfErr}
+use Rattle.std.proofs.lemmas.Result.{IfOk-weaker, err_from_is_err_and}
+use Rattle.xb_command.specs.Commands.{texts_of}
+use Rattle.xb_route.specs.Options.{Say, lone_words}
+use Rattle.xb_route.specs.Rules.{command_of_words}
+use Rattle.xb_route.proofs.words.request_of_words.Goals as goal
+
+pub returns-in_err-words-clause-refused : goal.returns-in_err-words-clause-refused
+returns-in_err-words-clause-refused c =
+    let p = err_from_is_err_and c.from_residual.result c.from_residual.ensures.1 in
+    rw p.1 (λ refused. inl (c.in_err-words.ensures.refused (rw p.2 at refused)))
+
+pub returns-clause-asks : goal.returns-clause-asks
+returns-clause-asks c =
+    IfOk-weaker c.request_of.result _ _
+    (λ request says. (c.in_ok-words.ensures.taken, subst (λ rows. Say rows request) c.in_ok-words.ensures.words says))
+    c.request_of.ensures.says
