@@ -15,16 +15,16 @@ abbrev pub digit_key : ℕ → Data
 digit_key digit = string (decimal digit)
 
 -- one digit more
-pub keys-more : (items : List Value) (value : Value) (digits : List ℕ) (i : ℕ) → i < length digits
+pub keys-more : (items : List Value) (value : Value) (digits : List ℕ) (i d : ℕ) → i < length digits
     → map view items ≡ string (codes "KP") ∷ map digit_key (take i digits)
-    → view value ≡ digit_key (get_or digits i 0)
+    → view value ≡ digit_key (get_or digits i d)
     → map view (items ++ value ∷ []) ≡ string (codes "KP") ∷ map digit_key (take (i + 1) digits)
-keys-more items value digits i below so_far is =
+keys-more items value digits i d below so_far is =
     map-append view items (value ∷ [])
     ∙ ap (λ keys. keys ++ view value ∷ []) so_far
     ∙ ap (λ key. string (codes "KP") ∷ (map digit_key (take i digits) ++ key ∷ [])) is
-    ∙ ap (λ keys. string (codes "KP") ∷ keys) (sym (map-append digit_key (take i digits) (get_or digits i 0 ∷ [])))
-    ∙ ap (λ front. string (codes "KP") ∷ map digit_key front) (sym (take_more digits i 0 below))
+    ∙ ap (λ keys. string (codes "KP") ∷ keys) (sym (map-append digit_key (take i digits) (get_or digits i d ∷ [])))
+    ∙ ap (λ front. string (codes "KP") ∷ map digit_key front) (sym (take_more digits i d below))
 
 -- and the last key
 pub keys-end : (items : List Value) (value : Value) (digits : List ℕ)

@@ -8,7 +8,7 @@ use Rattle.xb_text.specs.Pieces.{pieces}
 use Rattle.xb_route.specs.declared.number_fault.NumberFault.{NumberFault}
 use Rattle.xb_route.specs.declared.number_fault.NumberFault.TheVariants as fault
 use Rattle.xb_route.specs.NumberTexts.{Numbers, IsFaultOfText, is_passed_over, number_and_rest, number_of_text, numbers_of_lines, numbers_of_words}
-use Rattle.xb_route.specs.TextSteps.{IsWrong, StopsBy, TakesLine, after}
+use Rattle.xb_route.specs.TextSteps.{StopsBy, StopsByWord, TakesLine, TakesWord, after}
 
 after-more : (n : ℕ) (numbers : List (List ℕ)) (number : List ℕ) (rest : Numbers)
     → after numbers (number_and_rest n (Ok number) rest) ≡ after (numbers ++ number ∷ []) rest
@@ -21,20 +21,19 @@ after-none (Ok numbers) = refl
 after-none (Err wrong) = refl
 
 -- a word with a number
-pub takes_word : (n : ℕ) (word : List ℕ) (words numbers : List (List ℕ)) (number : List ℕ)
-    → number_of_text word ≡ Ok number
-    → after numbers (numbers_of_words n (word ∷ words)) ≡ after (numbers ++ number ∷ []) (numbers_of_words (n + 1) words)
+pub takes_word : (word : List ℕ) (numbers : List (List ℕ)) (number : List ℕ) → number_of_text word ≡ Ok number
+    → TakesWord word numbers (numbers ++ number ∷ [])
 unfolding numbers_of_words
-takes_word n word words numbers number is =
-    ap (λ first. after numbers (number_and_rest n first (numbers_of_words (n + 1) words))) is
-    ∙ after-more n numbers number (numbers_of_words (n + 1) words)
+takes_word word numbers number is n later =
+    ap (λ first. after numbers (number_and_rest n first (numbers_of_words (n + 1) later))) is
+    ∙ after-more n numbers number (numbers_of_words (n + 1) later)
 
 -- a word with a fault
-pub wrong_word : (n : ℕ) (word : List ℕ) (words numbers : List (List ℕ)) (f : NumberFault)
-    → number_of_text word ≡ Err f → after numbers (numbers_of_words n (word ∷ words)) ≡ Err (n, f)
+pub stops_by_word : (word : List ℕ) (f : NumberFault) → IsFaultOfText word f → StopsByWord word f
 unfolding numbers_of_words
-wrong_word n word words numbers f is =
-    ap (λ first. after numbers (number_and_rest n first (numbers_of_words (n + 1) words))) is
+stops_by_word word f (inl memory) = inl memory
+stops_by_word word f (inr is) =
+    inr (λ n later. ap (λ first. number_and_rest n first (numbers_of_words (n + 1) later)) is)
 
 -- no word is left
 pub words-none : (n : ℕ) (numbers : List (List ℕ)) → after numbers (numbers_of_words n []) ≡ Ok numbers
@@ -69,12 +68,6 @@ stops_by line f read (inr is) =
 pub lines-none : (n : ℕ) (numbers : List (List ℕ)) → after numbers (numbers_of_lines n []) ≡ Ok numbers
 unfolding numbers_of_lines
 lines-none n numbers = ap Ok (append-nil numbers)
-
--- the fault of a line is that of the text
-pub wrong_line : (all : Numbers) (line : List ℕ) (later : List (List ℕ)) (n : ℕ) (numbers : List (List ℕ)) (f : NumberFault)
-    → all ≡ after numbers (numbers_of_lines n (line ∷ later)) → StopsBy line f → IsWrong all (n, f)
-wrong_line all line later n numbers f is (inl memory) = inl memory
-wrong_line all line later n numbers f is (inr stops) = inr (is ∙ ap (after numbers) (stops n later))
 
 -- there are no more lines than bytes, and one
 pub few-lines : (text : List ℕ) → length (pieces 10 text) ≤ length text + 1

@@ -20,10 +20,10 @@ fn keys_of(alloc: Global, digits: &[Digit]) -> Result<Value, AllocError>
     keys.push(Value::try_from_str(alloc, "KP")?)?;
     for digit in digits {
         let value = digit.get();
-        keys.push(Value::String(format!(in alloc; "{value}")?))?;
+        keys.push(Value::from(format!(in alloc; "{value}")?))?;
     }
     keys.push(Value::try_from_str(alloc, "ST")?)?;
-    Ok(Value::Array(keys))
+    Ok(Value::from(keys))
 }
 
 // The object of a number that is keyed.

@@ -2,7 +2,7 @@
 ghost use Rattle.std.specs.Prelude.{◌≡◌, ◌≤◌, Ok, IfErr, IfOk, OnOk, length, map};
 ghost use Rattle.std.specs.Str.Lines.{strip_carriage_return};
 ghost use Rattle.xb_route.specs.NumberTexts.{is_passed_over, numbers_of_text, numbers_of_words};
-ghost use Rattle.xb_route.specs.TextSteps.{IsWrong, StopsBy, TakesLine, digits_of_numbers};
+ghost use Rattle.xb_route.specs.TextSteps.{IsWrong, StopsBy, StopsByWord, TakesLine, TakesWord, digits_of_numbers};
 
 use crate::number_fault::NumberFault;
 use crate::numbers::number_of_text;
@@ -16,6 +16,19 @@ pub const MOST_TEXT_BYTES: usize = 16_777_216;
 /// The first text that is no number: its place, from 1, and what is wrong with it.
 pub(crate) type Wrong = (usize, NumberFault);
 
+// Puts the number of a word after the earlier ones.
+fn take_word(alloc: Global, word: &str, numbers: &mut Vec<Vec<Digit>>) -> Result<(), NumberFault>
+    ensures taken { OnOk result
+        (TakesWord word.now (digits_of_numbers numbers.old.items) (digits_of_numbers numbers.new.items)) }
+    ensures fault { IfErr result (StopsByWord word.now) }
+{
+    let number = number_of_text(alloc, word.as_bytes())?;
+    if numbers.push(number).is_err() {
+        return Err(NumberFault::NoMemory);
+    }
+    Ok(())
+}
+
 /// The numbers of words.
 pub(crate) fn numbers_of_words(alloc: Global, words: &[&str]) -> Result<Vec<Vec<Digit>>, Wrong>
     ensures numbers { IfOk result (λ numbers.
@@ -23,14 +36,11 @@ pub(crate) fn numbers_of_words(alloc: Global, words: &[&str]) -> Result<Vec<Vec<
     ensures fault { IfErr result (IsWrong (numbers_of_words 1 (map (λ word. word.now) words.now))) }
 {
     let mut numbers = Vec::new(alloc);
+    let mut place = 0;
     for word in words {
-        let place = numbers.len() + 1;
-        let number = match number_of_text(alloc, word.as_bytes()) {
-            Ok(number) => number,
-            Err(fault) => return Err((place, fault)),
-        };
-        if numbers.push(number).is_err() {
-            return Err((place, NumberFault::NoMemory));
+        place += 1;
+        if let Err(fault) = take_word(alloc, word, &mut numbers) {
+            return Err((place, fault));
         }
     }
     Ok(numbers)

@@ -1,4 +1,4 @@
-use Rattle.std.proofs.Common.{◌≡◌, ◌+◌, drop, length, map}
+use Rattle.std.proofs.Common.{◌≡◌, ◌+◌, drop, map}
 use Rattle.xb_route.specs.NumberTexts.{numbers_of_words}
 use Rattle.xb_route.specs.TextSteps.{after, digits_of_numbers}
 use Rattle.xb_route.proofs.reading.numbers_of_words.Given as goal
@@ -7,7 +7,7 @@ abbrev pub invariant-loop-word : goal.invariant-loop-word
 invariant-loop-word l = record {
   numbers :
       numbers_of_words 1 (map (λ word. word.now) l.words)
-      ≡ after (digits_of_numbers l.numbers.items) (numbers_of_words (l.word-index + 1)
+      ≡ after (digits_of_numbers l.numbers.items) (numbers_of_words (l.place + 1)
       (map (λ word. word.now) (drop l.word-index l.words)));
-  count : length l.numbers.items ≡ l.word-index;
+  place : l.place ≡ l.word-index;
 }

@@ -1,0 +1,14 @@
+use Rattle.std.proofs.Common.{◌+◌, map, ap, ◌∙◌, drop_of_length-le}
+use Rattle.xb_route.specs.NumberTexts.{numbers_of_words}
+use Rattle.xb_route.specs.TextSteps.{after, digits_of_numbers}
+use Rattle.xb_route.proofs.NumberLines.{words-none}
+use Rattle.xb_route.proofs.reading.numbers_of_words.Goals as goal
+
+pub returns-clause-numbers : goal.returns-clause-numbers
+returns-clause-numbers c =
+    let n = c.loop-word.place + 1 in
+    let numbers = digits_of_numbers c.loop-word.numbers.items in
+    c.loop-word.invariant.numbers
+    ∙ ap (λ left. after numbers (numbers_of_words n (map (λ word. word.now) left)))
+    (drop_of_length-le c.args.words.now c.loop-word-test.false)
+    ∙ words-none n numbers
