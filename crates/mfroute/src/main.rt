@@ -31,7 +31,14 @@ fn main(rt: HostRuntime) -> ExitCode {
     let files = SystemFiles { rt: &rt };
     match words(&rt) {
         Ok(words) => {
-            let status = attend(rt.alloc(), &words, &files, &mut numbers, &mut lines, &mut err);
+            let status = attend(
+                rt.alloc(),
+                &words,
+                &files,
+                &mut numbers,
+                &mut lines,
+                &mut err,
+            );
             ExitCode::from(status)
         }
         Err(fault) => {

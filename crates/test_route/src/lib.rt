@@ -3,3 +3,12 @@
 //!
 //! Tests alone.
 #![tactic(auto)]
+
+#[cfg(test)]
+mod statuses;
+#[cfg(test)]
+mod streams;
+#[cfg(test)]
+mod tables;
+#[cfg(test)]
+mod words;

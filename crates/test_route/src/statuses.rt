@@ -1,0 +1,142 @@
+// Words, tables and numbers in; a status, lines and lines of faults out.
+use crate::tables::Folder;
+use std::test::Fail;
+use test_kit::words_of;
+use xb_route::attend;
+
+// The words after the program's name, the numbers on standard input, the status, and what stands on standard
+// output and on standard error.
+type Case = (
+    &'static [&'static str],
+    &'static [u8],
+    u8,
+    &'static [u8],
+    &'static [u8],
+);
+
+const USAGE: &[u8] = b"mfroute: usage: mfroute [--json] TABLE [NUMBER...]\n";
+
+const CASES: &[Case] = &[
+    (
+        &["seven", "234-5678", "4 1 1", "0"],
+        b"411",
+        0,
+        b"2345678 KEYED 0017 KP:1100+1700 5:900+1300 6:1100+1300 5:900+1300 6:1100+1300 7:700+1500 \
+8:900+1500 ST:1500+1700\n\
+411 KEYED 0003 KP:1100+1700 4:700+1300 1:700+900 1:700+900 ST:1500+1700\n\
+0 KEYED 0001 KP:1100+1700 0:1300+1500 ST:1500+1700\n",
+        b"",
+    ),
+    (
+        &["seven"],
+        b"# numbers\r\nPE6-5000\r\n\npe6-500\n0 99",
+        0,
+        b"7365000 REFUSED UNKNOWN 7\n736500 INCOMPLETE 6\n\
+0 KEYED 0001 KP:1100+1700 0:1300+1500 ST:1500+1700 IGNORED 99\n",
+        b"",
+    ),
+    (&["seven"], b"", 0, b"", b""),
+    // ten digits, by the longer code
+    (
+        &["ten", "212 555 1234", "212-4444"],
+        b"",
+        0,
+        b"2125551234 KEYED 9999 KP:1100+1700 0:1300+1500 ST:1500+1700\n2124444 INCOMPLETE 7\n",
+        b"",
+    ),
+    (
+        &["no routes", "2125551234"],
+        b"",
+        0,
+        b"2125551 REFUSED UNKNOWN 7 IGNORED 234\n",
+        b"",
+    ),
+    // JSON
+    (
+        &["seven", "--json", "0", "611", "2349"],
+        b"",
+        0,
+        b"{\"dialled\":\"0\",\"ignored\":\"\",\"keys\":[\"KP\",\"0\",\"ST\"],\"outcome\":\"KEYED\",\
+\"sent\":\"0\",\"trunk\":1}\n\
+{\"dialled\":\"611\",\"heard\":3,\"ignored\":\"\",\"outcome\":\"REFUSED\",\"reason\":\"UNKNOWN\"}\n\
+{\"dialled\":\"2349\",\"heard\":4,\"outcome\":\"INCOMPLETE\"}\n",
+        b"",
+    ),
+    // faults, that of the table first
+    (
+        &["no toml", "x"],
+        b"",
+        1,
+        b"",
+        b"mfroute: route table: not TOML\n",
+    ),
+    (
+        &["no trunk", "0"],
+        b"",
+        1,
+        b"",
+        b"mfroute: route table: route 1 has a wrong shape\n",
+    ),
+    (
+        &["wrong plan"],
+        b"0",
+        1,
+        b"",
+        b"mfroute: route table: plan is neither 7 nor 10\n",
+    ),
+    (
+        &["seven", "0", "QUiet", "*"],
+        b"",
+        1,
+        b"",
+        b"mfroute: number 2 has a wrong character\n",
+    ),
+    (
+        &["seven", ""],
+        b"",
+        1,
+        b"",
+        b"mfroute: number 1 has no digits\n",
+    ),
+    (
+        &["seven"],
+        b"#\n0\n4*1",
+        1,
+        b"",
+        b"mfroute: text line 3 has a wrong character\n",
+    ),
+    (
+        &["seven"],
+        b"0\n -\n",
+        1,
+        b"",
+        b"mfroute: text line 2 has no digits\n",
+    ),
+    // refused words
+    (&[], b"0", 2, b"", USAGE),
+    (&["--json"], b"0", 2, b"", USAGE),
+    (&["--help"], b"0", 2, b"", USAGE),
+    (&["seven", "--line", "0"], b"", 2, b"", USAGE),
+];
+
+#[test]
+fn gives_each_status(rt: HostRuntime) -> Result<(), Fail> {
+    for (words, numbers, status, lines, line) in CASES {
+        let words = words_of(rt.alloc(), "mfroute", words)?;
+        let mut reader = *numbers;
+        let (mut out, mut err) = (Vec::new(rt.alloc()), Vec::new(rt.alloc()));
+        let got = attend(rt.alloc(), &words, &Folder, &mut reader, &mut out, &mut err);
+        assert_eq!(rt; got, *status, "{words:?}");
+        assert!(rt;
+            out.as_slice() == *lines,
+            "{words:?}, {}",
+            out.escape_ascii()
+        );
+        assert!(rt;
+            err.as_slice() == *line,
+            "{words:?}, {}",
+            err.escape_ascii()
+        );
+    }
+    Ok(())
+}
