@@ -1,5 +1,5 @@
 -- The number that digits complete, by its length.
-use Rattle.std.proofs.Common.{◌≡◌, ◌⊎◌, inl, inr, ℕ, suc, ◌+◌, ◌<◌, ◌≤◌, Bool, true, false, List, [], ◌∷◌, ◌++◌, map, length, take, drop, Option, Some, None, refl, sym, ap, ◌∙◌, arith, eqb-true, ne_eqb, subst}
+use Rattle.std.proofs.Common.{◌≡◌, ◌⊎◌, inl, inr, ℕ, suc, ◌+◌, ◌<◌, ◌≤◌, Bool, true, false, List, [], ◌∷◌, ◌++◌, map, length, take, drop, Option, Some, None, refl, sym, ap, ◌∙◌, arith, ne_eqb, subst}
 use Rattle.std.specs.Prelude.{option_map, ◌==◌, if◌then◌else◌, unwrap_or}
 use Rattle.std.specs.List.{find}
 use Rattle.xb_model.specs.declared.plan.Plan.{Plan}

@@ -1,11 +1,11 @@
 -- The body of an entry is the page's line without its head and its end.
-use Rattle.std.proofs.Common.{◌≡◌, ℕ, ◌+◌, ◌-◌, List, [], ◌∷◌, ◌++◌, codes, decimal, length, take, drop, Option, Some, None, refl, sym, ap, ◌∙◌, arith, append_assoc}
+use Rattle.std.proofs.Common.{◌≡◌, ℕ, ◌-◌, List, [], ◌∷◌, ◌++◌, codes, length, take, drop, Option, Some, None, refl, ap, ◌∙◌, arith, append_assoc}
 use Rattle.std.specs.Fmt.{digits}
 use Rattle.std.proofs.Math.Seq.{take-append_seam}
 use Rattle.std.proofs.lemmas.List.{length-append}
 use Rattle.xb_model.specs.declared.mark.Mark.{Mark}
 use Rattle.xb_model.specs.declared.reason.Reason.{Reason}
-use Rattle.xb_model.specs.Page.{entry_head, entry_text, entry_text_by, last_refusal, marks_text, reason_text}
+use Rattle.xb_model.specs.Page.{entry_head, entry_text, entry_text_by, last_refusal}
 use Rattle.xb_route.specs.Lines.{PagesWriteBodies, entry_body, entry_body_by}
 
 by-refusal : (line n : ℕ) (entry : List Mark) (refusal : Option (Reason × ℕ))

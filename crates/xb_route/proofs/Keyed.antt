@@ -1,14 +1,14 @@
 -- What is done with a number is what the page says of a line that dials just this number.
-use Rattle.std.proofs.Common.{◌≡◌, ℕ, ◌<◌, Bool, true, false, List, [], ◌∷◌, map, Option, Some, None, refl, sym, ap, ◌∙◌}
+use Rattle.std.proofs.Common.{◌≡◌, ℕ, Bool, true, false, List, [], ◌∷◌, map, Some, None, refl, sym, ap, ◌∙◌}
 use Rattle.std.specs.Prelude.{◌==◌, if◌then◌else◌, unwrap_or}
 use Rattle.std.specs.List.{find}
 use Rattle.std.proofs.lemmas.List.Elements.{All-cons, All-nil}
 use Rattle.xb_model.specs.Keyings.{marks_of}
 use Rattle.xb_model.specs.Numbers.{fronts, is_complete, shortest_complete}
 use Rattle.xb_model.specs.Routing.{CodedRoute, routed}
-use Rattle.xb_dial.specs.Calls.{AreCalls, AreDigits, DialledCall, IsCall, call_of}
+use Rattle.xb_dial.specs.Calls.{AreCalls, DialledCall, IsCall, call_of}
 use Rattle.xb_dial.specs.Dialling.{dialled, numbers_on}
-use Rattle.xb_dial.specs.Heard.{AreComplete, entry_of}
+use Rattle.xb_dial.specs.Heard.{entry_of}
 use Rattle.xb_dial.proofs.HeardNumbers.{dialled_is_heard}
 use Rattle.xb_dial.proofs.RowsOfLines.{orders_are_dialled}
 use Rattle.xb_routes.specs.Table.{Table}

@@ -1,12 +1,11 @@
 -- The numbers of words, and of the text lines of a text.
-use Rattle.std.proofs.Common.{◌≡◌, ◌⊎◌, inl, inr, ℕ, ◌+◌, ◌≤◌, true, false, List, [], ◌∷◌, ◌++◌, length, Option, Some, None, Result, Ok, Err, refl, sym, ap, ◌∙◌, arith, append_assoc, append-nil}
+use Rattle.std.proofs.Common.{◌≡◌, inl, inr, ℕ, ◌+◌, ◌≤◌, true, false, List, [], ◌∷◌, ◌++◌, length, Ok, Err, refl, sym, ap, ◌∙◌, arith, append_assoc, append-nil}
 use Rattle.std.specs.Prelude.{◌==◌}
 use Rattle.std.proofs.lemmas.Bool.{cond-true, cond-false}
 use Rattle.std.proofs.lemmas.List.Sums.{count_by-le-length}
 use Rattle.std.proofs.lemmas.List.Splits.{length-slice_split}
 use Rattle.xb_text.specs.Pieces.{pieces}
 use Rattle.xb_route.specs.declared.number_fault.NumberFault.{NumberFault}
-use Rattle.xb_route.specs.declared.number_fault.NumberFault.TheVariants as fault
 use Rattle.xb_route.specs.NumberTexts.{Numbers, IsFaultOfText, is_passed_over, number_and_rest, number_of_text, numbers_of_lines, numbers_of_words}
 use Rattle.xb_route.specs.TextSteps.{StopsBy, StopsByWord, TakesLine, TakesWord, after}
 

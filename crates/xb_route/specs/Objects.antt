@@ -1,6 +1,6 @@
 -- The JSON object that is printed of a number.
 use Rattle.std.specs.Prelude.{ℕ, List, [], ◌∷◌, ◌++◌, codes, decimal, length, map}
-use Rattle.serde_json.specs.Data.{Data, Members, array, member, no_members, number, object, string, unsigned}
+use Rattle.serde_json.specs.Data.{Data, array, member, no_members, number, object, string, unsigned}
 use Rattle.serde_json.specs.View.{items_of}
 use Rattle.serde_json.specs.Written.{compact_text}
 use Rattle.xb_model.specs.declared.order.Order.{Order}

@@ -1,4 +1,4 @@
-use Rattle.std.proofs.Common.{◌≡◌, Some, sym, ap, ◌∙◌, subst, rules}
+use Rattle.std.proofs.Common.{◌≡◌, Some, sym, subst, rules}
 use Rattle.xb_model.specs.Keyings.{marks_of}
 use Rattle.xb_model.specs.Numbers.{shortest_complete}
 use Rattle.xb_model.specs.Routing.{routed}

@@ -1,6 +1,5 @@
-use Rattle.std.proofs.Common.{◌≡◌, ◌∙◌, ◌≤◌, length, take, Some, None, sym, ap, rules}
+use Rattle.std.proofs.Common.{◌≡◌, Some, sym, rules}
 use Rattle.xb_model.specs.Plans.{plan_len}
-use Rattle.xb_model.specs.Numbers.{shortest_complete}
 use Rattle.xb_route.proofs.Completing.{completes, completes_none}
 use Rattle.xb_route.proofs.answer.completed.Goals as goal
 

@@ -1,4 +1,4 @@
-use Rattle.std.proofs.Common.{◌≡◌, ◌+◌, ◌++◌, ◌∷◌, [], codes, get_or, map, sym, ap, ◌∙◌, subst, take, take_all, rules}
+use Rattle.std.proofs.Common.{◌≡◌, ◌++◌, ◌∷◌, [], codes, get_or, map, ap, ◌∙◌, subst, take_all, rules}
 use Rattle.serde_json.specs.Data.{array, string}
 use Rattle.serde_json.specs.View.{items_of, view}
 use Rattle.xb_route.proofs.KeyValues.{digit_key, keys-end, keys-more}

@@ -1,8 +1,8 @@
-use Rattle.std.proofs.Common.{◌≡◌, ◌++◌, ◌∷◌, [], List, ℕ, map, Ok, sym, ap, ◌∙◌, subst, rules}
+use Rattle.std.proofs.Common.{◌≡◌, ◌++◌, ◌∷◌, [], Ok, sym, ap, ◌∙◌, subst, rules}
 use Rattle.std.proofs.lemmas.List.{map-append}
 use Rattle.std.proofs.lemmas.Result.{err_from_is_err_and}
 use Rattle.xb_route.specs.NumberTexts.{IsFaultOfText, number_of_text}
-use Rattle.xb_route.specs.TextSteps.{StopsByWord, TakesWord, digits_of_numbers}
+use Rattle.xb_route.specs.TextSteps.{TakesWord, digits_of_numbers}
 use Rattle.xb_route.proofs.NumberLines.{stops_by_word, takes_word}
 use Rattle.xb_route.proofs.reading.take_word.Goals as goal
 

@@ -1,8 +1,6 @@
-use Rattle.std.proofs.Common.{◌≡◌, inl, inr, sym, ap, ◌∙◌, subst, IfOk, IfErr}
+use Rattle.std.proofs.Common.{inl, subst}
 use Rattle.std.proofs.lemmas.Result.{IfOk-weaker, err_from_is_err_and}
-use Rattle.xb_command.specs.Commands.{texts_of}
-use Rattle.xb_route.specs.Options.{Say, lone_words}
-use Rattle.xb_route.specs.Rules.{command_of_words}
+use Rattle.xb_route.specs.Options.{Say}
 use Rattle.xb_route.proofs.words.request_of_words.Goals as goal
 
 pub returns-in_err-words-clause-refused : goal.returns-in_err-words-clause-refused
