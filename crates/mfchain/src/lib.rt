@@ -3,6 +3,5 @@
 
 mod exports;
 mod faults;
-mod status;
 
 pub use exports::{mfchain_close, mfchain_entries, mfchain_open, mfchain_reopen, mfchain_take};

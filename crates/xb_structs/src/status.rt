@@ -1,15 +1,15 @@
-// What a call of the library returns.
+// The numbers by which a call answers a caller of another language.
 ghost use Rattle.std.specs.Prelude.{◌≡◌, ◌≢◌};
-ghost use Rattle.mfchain.specs.Status.{fault_status, refusal_status};
+ghost use Rattle.xb_structs.specs.Status.{fault_place, fault_status, refusal_status};
 
+use crate::refusal::Refusal;
 use xb_routes::RouteFault;
-use xb_structs::Refusal;
 
 /// All was done.
-pub(crate) const DONE: u32 = 0;
+pub const DONE: u32 = 0;
 
 /// The status of a refusal.
-pub(crate) fn refusal_status(refusal: Refusal) -> u32
+pub fn refusal_status(refusal: Refusal) -> u32
     ensures value { result ≡ refusal_status refusal }
     ensures not_done { result ≢ 0 }
 {
@@ -23,7 +23,7 @@ pub(crate) fn refusal_status(refusal: Refusal) -> u32
 }
 
 /// The status of a fault of a route table.
-pub(crate) fn fault_status(fault: RouteFault) -> u32
+pub fn fault_status(fault: RouteFault) -> u32
     ensures value { result ≡ fault_status fault }
     ensures not_done { result ≢ 0 }
 {
@@ -40,5 +40,22 @@ pub(crate) fn fault_status(fault: RouteFault) -> u32
         RouteFault::Prefix(_) => 16,
         RouteFault::NothingToKey(_) => 17,
         RouteFault::Twice(_) => 18,
+    }
+}
+
+/// The limit or the route that a fault of a route table names; 0 where it names none.
+pub fn fault_place(fault: RouteFault) -> u32
+    ensures { result ≡ fault_place fault }
+{
+    match fault {
+        RouteFault::NoMemory | RouteFault::NotToml | RouteFault::Plan | RouteFault::TooMany => 0,
+        RouteFault::Limits(limit) => limit,
+        RouteFault::Shape(route)
+        | RouteFault::Code(route)
+        | RouteFault::Trunk(route)
+        | RouteFault::Delete(route)
+        | RouteFault::Prefix(route)
+        | RouteFault::NothingToKey(route)
+        | RouteFault::Twice(route) => route,
     }
 }
