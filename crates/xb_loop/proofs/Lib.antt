@@ -1,0 +1,4 @@
+pub mod DayParts
+pub mod RowTexts
+pub mod HeardRows
+pub mod KeptTapes

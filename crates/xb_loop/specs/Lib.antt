@@ -1,0 +1,5 @@
+pub mod RowsOfHolds
+pub mod HeardLaws
+pub mod TapeLaws
+pub mod Contacts
+pub mod Watching

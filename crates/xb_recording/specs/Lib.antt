@@ -1,0 +1,5 @@
+pub mod Numbers
+pub mod VcdWords
+pub mod VcdChanges
+pub mod WorkedVcd
+pub mod Hysteresis
