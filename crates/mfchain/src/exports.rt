@@ -1,16 +1,13 @@
-// What C calls. `unsafe` stands in the attributes alone: a name that is exported as it stands must be that of
-// no other symbol, and none else begins with `mfchain_`.
+// What C calls.
 ghost use Rattle.std.specs.Prelude.{◌≡◌, ◌≢◌, []};
 ghost use Rattle.xb_routes.specs.Table.{Table};
-ghost use Rattle.xb_structs.specs.Calls.{IsNotTaken, IsTaken};
 ghost use Rattle.xb_structs.specs.Taking.{HasTaken};
-ghost use Rattle.mfchain.specs.Calls.{DoesNotOpen, Opens, close_of};
+ghost use Rattle.mfchain.specs.Calls.{DoesNotOpen, DoesNotTake, Opens, TakesRow, close_of};
 
 use crate::faults::{put_fault, put_text};
+use crate::status::{DONE, fault_status, refusal_status};
 use std::alloc::Global;
-use xb_structs::{
-    DONE, PlainLine, PlainMark, PlainRow, PlainTable, fault_status, open, take_by_status,
-};
+use xb_structs::{PlainLine, PlainMark, PlainRow, PlainTable, open, take};
 
 /// Reads the route table that a TOML text writes. Where it is refused, the status says why, `fault` gets the
 /// same as a text, and the table is as it was.
@@ -44,11 +41,18 @@ pub extern "C" fn mfchain_take(
     room: &mut [PlainMark],
     count: &mut usize,
 ) -> u32
-    ensures takes { result ≡ 0 → IsTaken table.now line.old line.new row.now room.new count.new }
+    ensures takes { result ≡ 0 → TakesRow table.now line.old line.new row.now room.new count.new }
     ensures refuses { result ≢ 0 →
-        IsNotTaken table.now line.old line.new row.now room.old room.new count.new result }
+        DoesNotTake table.now line.old line.new row.now room.old room.new count.new result }
 {
-    take_by_status(table, line, row, room, count)
+    *count = 0;
+    match take(table, line, row, room) {
+        Ok(given) => {
+            *count = given;
+            DONE
+        }
+        Err(refusal) => refusal_status(refusal),
+    }
 }
 
 /// Takes the row that ends the record of a line, as `mfchain_take` does.
@@ -61,9 +65,9 @@ pub extern "C" fn mfchain_close(
     count: &mut usize,
 ) -> u32
     ensures takes { result ≡ 0 →
-        IsTaken table.now line.old line.new (close_of number) room.new count.new }
+        TakesRow table.now line.old line.new (close_of number) room.new count.new }
     ensures refuses { result ≢ 0 →
-        IsNotTaken table.now line.old line.new (close_of number) room.old room.new count.new result }
+        DoesNotTake table.now line.old line.new (close_of number) room.old room.new count.new result }
 {
     let row = PlainRow {
         line: number,

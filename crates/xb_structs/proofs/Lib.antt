@@ -3,5 +3,3 @@ pub mod Looking
 pub mod Counting
 pub mod Opening
 pub mod Giving
-pub mod Adding
-pub mod EntryLines

@@ -7,9 +7,3 @@ pub mod Tables
 pub mod Opening
 pub mod Taking
 pub mod Promises
-pub mod Signals
-pub mod Filling
-pub mod Status
-pub mod Calls
-pub mod EntryLines
-pub mod Deciding

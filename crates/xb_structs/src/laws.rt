@@ -1,18 +1,12 @@
 //! What the marks of a line are: each law is the contract of a function that does nothing.
-ghost use Rattle.std.specs.Prelude.{◌≡◌, ◌≤◌, ℕ, List, [], length, map};
+ghost use Rattle.std.specs.Prelude.{◌≡◌, ℕ, List, []};
 ghost use Rattle.std.specs.List.{AllByRecursion};
 ghost use Rattle.xb_model.specs.LawfulLimits.{IsLawful};
-ghost use Rattle.xb_model.specs.declared.mark.TheConstants.{KEYING_MARKS};
-ghost use Rattle.xb_model.specs.declared.on.On.{On};
-ghost use Rattle.xb_model.specs.declared.mark.Mark.{Mark};
 ghost use Rattle.xb_model.specs.Lines.{row_line};
-ghost use Rattle.xb_model.specs.Page.{entry_text};
 ghost use Rattle.xb_model.specs.Rows.{LoopRow};
 ghost use Rattle.xb_routes.specs.Table.{Table};
 ghost use Rattle.xb_structs.specs.declared.line.PlainLine.{PlainLine};
 ghost use Rattle.xb_structs.specs.declared.mark.PlainMark.{PlainMark};
-ghost use Rattle.xb_structs.specs.EntryLines.{MayBeEntry, line_in};
-ghost use Rattle.xb_structs.specs.Marks.{plain_mark};
 ghost use Rattle.xb_structs.specs.Promises.{KeepPromises};
 ghost use Rattle.xb_structs.specs.Taking.{HasTaken};
 
@@ -22,13 +16,4 @@ pub fn keeps_promises()
     ensures { (table : Table) (line : PlainLine) (l : ℕ) (rows : List LoopRow) (marks : List PlainMark) →
         IsLawful table.limits → AllByRecursion (λ row. row_line row ≡ l) rows →
         HasTaken table line rows marks → KeepPromises table rows marks }
-{}
-
-/// The line that `print_entry` writes of marks that a row gave is the line of the page: what the plain
-/// numbers of a mark say is this mark.
-pub fn prints_what_was_given()
-    ensures line { (line n : ℕ) (given : List (On Mark)) →
-        line_in line n (map plain_mark given) ≡ entry_text line n (map (λ mark. mark.what) given) }
-    ensures marks { (given : List (On Mark)) → length given ≤ KEYING_MARKS →
-        MayBeEntry (map plain_mark given) }
 {}

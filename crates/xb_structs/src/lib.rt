@@ -1,48 +1,26 @@
 //! The chain on lines whose states the caller keeps, as plain values in memory of its own: the route
 //! table, what is known of each line, rows and marks are structs of numbers, as C lays them out. Any
-//! bytes in them have a meaning, so nothing that a caller writes there is undefined. But for `open` no call
-//! takes memory.
-//!
-//! - `open`: the table holds what a text writes. `begin` and `add`: it holds what the values of a plan, of
-//!   limits and of routes write, in the words of the text's definition. Else the fault is the first one, and
-//!   the table is as it was.
-//! - `take`: the marks of a row, one whole entry or none, and what is known of the line after it. `signals`:
-//!   what the register is told by a row. On a refusal nothing has changed.
-//! - `deciding`: the longest code of the table that the digits of a number begin with.
-//! - `print_entry`: the line of the page of these marks (`entry_text`); `laws::prints_what_was_given`.
-//! - `laws::keeps_promises`: the marks of a line are those of a live office, nothing taken back or missing.
-//! - `take_by_status`, `refusal_status`, `fault_status`: the answers to callers of other languages.
+//! bytes in them have a meaning, so nothing that a caller writes there is undefined.
 #![tactic(auto)]
 
-mod calls;
 mod digits;
-mod filling;
 mod keying;
 pub mod laws;
 mod line;
 mod mark;
-mod printing;
 mod reading;
 mod refusal;
 mod route;
 mod row;
 mod search;
-mod status;
 mod table;
 mod taking;
-mod telling;
 
-pub use calls::take_by_status;
-pub use filling::{add, begin};
 pub use line::{PlainLine, PulsePart, RegisterPart};
 pub use mark::PlainMark;
-pub use printing::{PrintFault, print_entry};
 pub use reading::open;
 pub use refusal::Refusal;
 pub use route::PlainRoute;
 pub use row::PlainRow;
-pub use search::deciding;
-pub use status::{DONE, fault_place, fault_status, refusal_status};
 pub use table::PlainTable;
 pub use taking::take;
-pub use telling::{PlainSignal, signals};
