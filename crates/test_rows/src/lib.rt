@@ -1,11 +1,13 @@
 //! Texts and rows read and written: what no clause says of them, on streams that give little at a time and that
-//! fail, and of texts beside `csv` alone; decks read of streams; and fields that write numbers.
+//! fail, and of texts beside the same as streams; decks read of streams; and fields that write numbers.
 //!
 //! Tests alone.
 #![tactic(auto)]
 
 #[cfg(test)]
 mod fields;
+#[cfg(test)]
+mod long;
 #[cfg(test)]
 mod plain;
 #[cfg(test)]

@@ -1,4 +1,4 @@
-// Plain records beside `csv` alone, which is what reads a stream.
+// Plain records beside the same text as a stream, which is read byte by byte.
 use std::alloc::{AllocError, Global};
 use std::process::Abort;
 use xb_model::RowSource;
@@ -7,10 +7,10 @@ use xb_rows::{RowReader, Scan};
 // A header and three records, each of the plain form.
 const PLAIN: &[u8] = b"line,state,ms\n7,M,5\n42,C,0\n9,B,60\n";
 
-// Checks that a `Scan` gives what `csv` alone gives of a text, and then its stop for good.
+// Checks that a `Scan` gives what a `RowReader` gives of a text, and then its stop for good.
 fn check_text(rt: &impl Abort, alloc: Global, text: &[u8]) {
     let mut stream = text;
-    let mut reader = RowReader::new(alloc, &mut stream, 1_000_000);
+    let mut reader = RowReader::new(&mut stream, 1_000_000);
     let mut scan = Scan::new(alloc, text);
     for call in 1..=5 {
         let same = reader.next_row() == scan.next_row();
@@ -35,12 +35,12 @@ fn check_changes(rt: &impl Abort, alloc: Global, from: usize, to: usize) -> Resu
 }
 
 #[test]
-fn reads_changes_of_the_header_as_csv_does(rt: HostRuntime) -> Result<(), AllocError> {
+fn reads_changes_of_the_header_as_in_a_stream(rt: HostRuntime) -> Result<(), AllocError> {
     check_changes(&rt, rt.alloc(), 0, 14)
 }
 
 #[test]
-fn reads_changes_of_records_as_csv_does(rt: HostRuntime) -> Result<(), AllocError> {
+fn reads_changes_of_records_as_in_a_stream(rt: HostRuntime) -> Result<(), AllocError> {
     check_changes(&rt, rt.alloc(), 14, 34)
 }
 
@@ -67,7 +67,7 @@ const OTHERS: &[&[u8]] = &[
 ];
 
 #[test]
-fn reads_other_forms_as_csv_does(rt: HostRuntime) {
+fn reads_other_forms_as_in_a_stream(rt: HostRuntime) {
     for text in OTHERS {
         check_text(&rt, rt.alloc(), text);
     }

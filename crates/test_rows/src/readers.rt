@@ -1,5 +1,4 @@
 // Rows read of streams.
-use std::alloc::Global;
 use std::io::ErrorKind;
 use std::process::Abort;
 use std::test::Fail;
@@ -29,9 +28,9 @@ fn check_row(rt: &impl Abort, n: usize, given: Result<Option<Row>, RowFault>) {
 
 // Checks that a stream that fails after its record `last`, which ends at `end`, gives each row up to that
 // one: the rows come before a further read. The failure is told for good, though the stream would go on.
-fn check_failing(rt: &impl Abort, alloc: Global, last: usize, end: usize, step: usize) {
+fn check_failing(rt: &impl Abort, last: usize, end: usize, step: usize) {
     let mut stream = Halting::failing(TEXT, step, end, ErrorKind::Interrupted);
-    let mut reader = RowReader::new(alloc, &mut stream, u64::MAX);
+    let mut reader = RowReader::new(&mut stream, u64::MAX);
     for n in 1..=last {
         check_row(rt, n, reader.next_row());
     }
@@ -48,7 +47,7 @@ fn gives_a_row_once_its_end_is_read(rt: HostRuntime) {
     for (last, end) in ENDS.iter().enumerate() {
         // a byte, some bytes, and all that there is at a time
         for step in [1, 5, 100] {
-            check_failing(&rt, rt.alloc(), last, *end, step);
+            check_failing(&rt, last, *end, step);
         }
     }
 }
@@ -57,7 +56,7 @@ fn gives_a_row_once_its_end_is_read(rt: HostRuntime) {
 fn reads_a_stream_to_its_end(rt: HostRuntime) {
     for step in [1, 5, 100] {
         let mut stream = Halting::new(TEXT, step);
-        let mut reader = RowReader::new(rt.alloc(), &mut stream, 3);
+        let mut reader = RowReader::new(&mut stream, 3);
         for n in 1..=3 {
             check_row(&rt, n, reader.next_row());
         }
@@ -70,7 +69,7 @@ fn reads_a_stream_to_its_end(rt: HostRuntime) {
 #[test]
 fn counts_the_records_of_a_stream(rt: HostRuntime) {
     let mut stream = Halting::new(TEXT, 5);
-    let mut reader = RowReader::new(rt.alloc(), &mut stream, 2);
+    let mut reader = RowReader::new(&mut stream, 2);
     check_row(&rt, 1, reader.next_row());
     check_row(&rt, 2, reader.next_row());
     for _ in 0..3 {

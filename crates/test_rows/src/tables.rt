@@ -20,7 +20,7 @@ fn reads_a_deck_as_a_stream(rt: HostRuntime) {
             table.is_ok_and(|table| table.as_slice() == TABLE),
             "by {step}"
         );
-        let mut reader = RowReader::new(rt.alloc(), &mut stream, 1);
+        let mut reader = RowReader::new(&mut stream, 1);
         assert!(rt;
             reader
                 .next_row()

@@ -64,14 +64,14 @@ const HALVES: [LineRange; 2] = [
 #[test]
 fn decks_of_parts(rt: HostRuntime) -> Result<(), Fail> {
     let alloc = rt.alloc();
-    let mut rows = RowReader::new(alloc, ROWS, u64::MAX);
+    let mut rows = RowReader::new(ROWS, u64::MAX);
     let loads = count_rows(alloc, &mut rows)?;
     // lines 0 and 7 have 4 of the 6 records, and line 7 alone has 3
     let halves = plan_parts(alloc, TABLE.len(), &loads, Some(2))?;
     assert_eq!(rt; halves.as_slice(), HALVES.as_slice());
     let one = plan_parts(alloc, TABLE.len(), &loads, None)?;
     assert_eq!(rt; one.len(), 1);
-    let mut rows = RowReader::new(alloc, ROWS, u64::MAX);
+    let mut rows = RowReader::new(ROWS, u64::MAX);
     let mut decks = TwoDecks::new(alloc);
     let written = write_parts(alloc, TABLE, &mut rows, &HALVES, &mut decks)?;
     for (line, load) in written.iter() {
@@ -118,7 +118,7 @@ const PLANS: &[(usize, Option<u32>, &[LineRange])] = &[
 #[test]
 fn even_parts(rt: HostRuntime) -> Result<(), Fail> {
     let alloc = rt.alloc();
-    let mut rows = RowReader::new(alloc, UNEVEN, u64::MAX);
+    let mut rows = RowReader::new(UNEVEN, u64::MAX);
     let loads = count_rows(alloc, &mut rows)?;
     for (table, parts, ranges) in PLANS {
         let plan = plan_parts(alloc, *table, &loads, *parts)?;

@@ -1,5 +1,5 @@
 -- Rows of which there are not too many are the same where more are allowed.
-use Rattle.std.proofs.Common.{◌≡◌, ◌≤◌, ◌+◌, ◌-◌, ◌^◌, ℕ, ltb, false, cond, List, [], ◌∷◌, None, Ok, Err, Result, refl, sym, ap, ◌∙◌, subst, ⊎_elim, arith}
+use Rattle.std.proofs.Common.{◌≡◌, ◌≤◌, ◌+◌, ◌-◌, ◌^◌, ℕ, ltb, false, cond, List, [], ◌∷◌, None, Ok, Err, Result, refl, inr, sym, ap, ◌∙◌, subst, ⊎_elim, arith}
 use Rattle.std.proofs.lemmas.Bool.{cases_Bool, le-ltb, ltb-false}
 use Rattle.xb_model.specs.declared.fault.RowFault.{RowFault}
 use Rattle.xb_model.specs.declared.fault.RowFault.TheVariants.{Header, TooMany}
@@ -8,6 +8,7 @@ use Rattle.xb_model.specs.Sources.{Rest}
 use Rattle.xb_rows.specs.declared.scan.TheConstants.{MOST_RECORDS}
 use Rattle.xb_rows.specs.RowTexts.{Fields, fault_alone, is_header, rest_from, rest_of_records, row_and_rest, row_of_fields, three_fields}
 use Rattle.csv.specs.Reading.{default_config, records, strip_bom}
+use Rattle.xb_rows.proofs.StreamRows.{streams_are_texts}
 use Rattle.xb_live.specs.Decks.{AcceptedRowsAreAll}
 
 -- a row, or a fault, before what is the same
@@ -49,4 +50,5 @@ module _ (few many : ℕ) (more : few ≤ many) where
 
 pub accepted_rows_are_all : AcceptedRowsAreAll
 accepted_rows_are_all text accepted =
-    same-records MOST_RECORDS (2 ^ 64 - 1) (omega arith) (records default_config (strip_bom text)) accepted
+    let all = same-records MOST_RECORDS (2 ^ 64 - 1) (omega arith) (records default_config (strip_bom text)) accepted in
+    streams_are_texts.rows_same (2 ^ 64 - 1) text (inr (ap (λ (rest : Rest). rest.stop) all ∙ accepted)) ∙ all

@@ -11,7 +11,7 @@ use Rattle.xb_routes.specs.declared.fault.RouteFault.{RouteFault}
 use Rattle.xb_routes.specs.declared.fault.RouteFault.TheVariants as route_fault
 use Rattle.xb_routes.specs.Table.{Table}
 use Rattle.xb_routes.specs.Text.{table_of_text}
-use Rattle.xb_rows.specs.RowTexts.{rest_within}
+use Rattle.xb_rows.specs.Streams.{rest_of_stream}
 use Rattle.xb_live.specs.declared.printing.Form.{Form}
 use Rattle.xb_live.specs.declared.fault.LiveFault.{LiveFault}
 use Rattle.xb_live.specs.declared.fault.LiveFault.TheVariants as fault
@@ -77,12 +77,12 @@ of_known form deck table rest (Err fault.Write) old new has h = (table, (rest, h
 -- a deck whose table is read
 pub deck-run : (form : Form) (table : Table) (text : List ℕ) (input left : Option (List ℕ)) (result : Result (Unit {0}) LiveFault) (old new : Option (List ℕ))
     → IsCutAfter text input left → table_of_text text ≡ Ok table
-    → PrintsRows form table (option_map (rest_within (2 ^ 64 - 1)) left) result old new
+    → PrintsRows form table (option_map (rest_of_stream (2 ^ 64 - 1)) left) result old new
     → Runs form input result old new
 deck-run form table text None None result old new cut reads prints = of_unknown form result old new prints
 deck-run form table text None (Some rows) result old new cut reads prints =
-    of_unknown form result old new (ends_rows form table (rest_within (2 ^ 64 - 1) rows) result old new prints)
+    of_unknown form result old new (ends_rows form table (rest_of_stream (2 ^ 64 - 1) rows) result old new prints)
 deck-run form table text (Some deck) None result old new cut reads prints = absurd cut
 deck-run form table text (Some deck) (Some rows) result old new cut reads prints =
-    of_known form deck table (rest_within (2 ^ 64 - 1) rows) result old new
+    of_known form deck table (rest_of_stream (2 ^ 64 - 1) rows) result old new
     (record { parts = record { table = text; rows = rows }; cut = cut; reads = reads; is = refl }) prints

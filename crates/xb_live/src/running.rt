@@ -61,6 +61,6 @@ pub fn run_deck<R: Read, W: Write>(
     let text = read_table(alloc, deck, MOST_DECK_BYTES)?;
     let table = RouteTable::read(alloc, &text)?;
     let mut office = Counting::new(alloc, table)?;
-    let mut rows = RowReader::new(alloc, deck, u64::MAX);
+    let mut rows = RowReader::new(deck, u64::MAX);
     print_rows(alloc, form, &mut office, &mut rows, out)
 }

@@ -10,3 +10,9 @@ pub mod PlainRecords
 pub mod LeadingNumbers
 pub mod PlainSteps
 pub mod ReadRows
+pub mod HeldBytes
+pub mod InsideRecords
+pub mod TakenBytes
+pub mod JudgedRecords
+pub mod TakenRecords
+pub mod StreamRows

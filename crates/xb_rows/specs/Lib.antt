@@ -5,3 +5,9 @@ pub mod Plain
 pub mod WrittenRows
 pub mod Constants
 pub mod WorkedTexts
+pub mod ByteSteps
+pub mod StreamBytes
+pub mod TakenFields
+pub mod Kept
+pub mod Streams
+pub mod StreamRecords

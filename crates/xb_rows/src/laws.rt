@@ -1,9 +1,11 @@
 //! What the definitions give: each law is the contract of a function that does nothing.
 ghost use Rattle.xb_rows.specs.Constants.{AreConstants};
+ghost use Rattle.xb_rows.specs.Streams.{StreamsAreTexts};
 ghost use Rattle.xb_rows.specs.WorkedTexts.{MostRecords, RowsOfTexts};
 ghost use Rattle.xb_rows.specs.WrittenRows.{WrittenRowsAreCsv, WrittenRowsAreRead};
 
-/// The most digits of a line and of a time, and the most records, each as it is.
+/// The most digits of a line and of a time, the most records, and the most bytes of a field that a stream
+/// waits for, each as it is.
 pub fn constants()
     ensures { AreConstants }
 {}
@@ -12,6 +14,13 @@ pub fn constants()
 #[tactic(auto, unfolding(csv::proofs::OnLiterals::csv_on_literals, crate::specs::RowTexts::rest_from))]
 pub fn rows_of_texts()
     ensures { RowsOfTexts }
+{}
+
+/// A stream gives what its text does, but for a record with a long field among its first three that has not
+/// three; and where all records of either are rows, they are the same.
+#[tactic(auto, using(crate::proofs::StreamRows::streams_are_texts))]
+pub fn streams_are_texts()
+    ensures { StreamsAreTexts }
 {}
 
 /// After 1,000,000 records a further one is the fault.

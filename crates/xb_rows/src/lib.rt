@@ -9,21 +9,30 @@
 //! - `read_rows`, of a reader whose bytes a contract can name: the rows of the text, which then has no
 //!   fault, or the text's first fault; a failed read may be returned in place of any other fault.
 //! - `RowReader`, of a stream whose bytes a contract can name: the rows of the stream's text, as many as
-//!   may follow the header, and then the stop of a `Scan` or a failed read, for good.
+//!   may follow the header, and then their fault or a failed read, for good. It takes no memory, and tells a
+//!   record that can be no row before its end: by its first three fields, where one of them is longer than
+//!   4,096 bytes. Else a stream stops as its text does (`laws::streams_are_texts`). Its machine of states is
+//!   that of `csv` (`machine`).
 //! - `record_of`: exactly the record of a row. `text_of_rows`: exactly the text of the rows. Rows that are
 //!   no more than 1,000,000 are read back of it (`laws::written_rows_are_read`), and it is what a `csv`
 //!   writer writes (`written_rows_are_csv`).
 #![tactic(auto)]
 
 mod csv_scan;
+mod fields;
+mod kept;
 pub mod laws;
+mod machine;
 mod place;
 mod plain;
 mod record;
+mod record_reader;
 mod row_reader;
 mod rows;
 mod scan;
 mod steps;
+mod stream_bytes;
+mod stream_steps;
 mod writing;
 
 pub use row_reader::RowReader;

@@ -24,8 +24,11 @@ pub(crate) fn contact_of(field: &[u8]) -> Option<Contact>
     }
 }
 
-// The three fields of a record that has three: line, state, ms.
-fn three_fields(fields: &ByteRecord) -> Option<(&[u8], &[u8], &[u8])>
+// Three fields of a record: line, state, ms.
+pub(crate) type ThreeFields<'a> = (&'a [u8], &'a [u8], &'a [u8]);
+
+// The three fields of a record that has three.
+pub(crate) fn three_fields(fields: &ByteRecord) -> Option<ThreeFields<'_>>
     ensures { option_map (λ t. (t.0.now, t.1.now, t.2.now)) result ≡ three_fields (fields_of fields.now) }
 {
     if fields.len() != ROW_FIELDS {
@@ -47,19 +50,20 @@ fn row_of_fields(n: u64, line: &[u8], state: &[u8], ms: &[u8]) -> Result<Row, Ro
     Row::new(line, contact, ms).ok_or(RowFault::Ms(n))
 }
 
-/// The row that record `n` writes, or its first fault, in the order fields, line, state, ms.
-pub fn parse_row(n: u64, fields: &ByteRecord) -> Result<Row, RowFault>
-    ensures { result ≡ row_of_fields n (three_fields (fields_of fields.now)) }
+// The row that record `n` writes, by the three fields that it has, or its first fault, in the order fields,
+// line, state, ms.
+pub(crate) fn parse_row(n: u64, fields: Option<ThreeFields>) -> Result<Row, RowFault>
+    ensures { result ≡ row_of_fields n (option_map (λ t. (t.0.now, t.1.now, t.2.now)) fields.entry) }
 {
-    let (line, state, ms) = three_fields(fields).ok_or(RowFault::Fields(n))?;
+    let (line, state, ms) = fields.ok_or(RowFault::Fields(n))?;
     row_of_fields(n, line, state, ms)
 }
 
-/// Whether a record is the header.
-pub fn is_header(fields: &ByteRecord) -> bool
-    ensures { result ≡ is_header (three_fields (fields_of fields.now)) }
+// Whether a record that has these three fields is the header.
+pub(crate) fn is_header(fields: Option<ThreeFields>) -> bool
+    ensures { result ≡ is_header (option_map (λ t. (t.0.now, t.1.now, t.2.now)) fields.entry) }
 {
-    match three_fields(fields) {
+    match fields {
         Some((line, state, ms)) => {
             line == b"line".as_slice() && state == b"state".as_slice() && ms == b"ms".as_slice()
         }

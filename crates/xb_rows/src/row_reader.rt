@@ -1,25 +1,27 @@
 // The rows of a stream, one at a time.
 ghost use Rattle.std.specs.Prelude.{◌≡◌, option_map};
-ghost use Rattle.xb_rows.specs.RowTexts.{rest_within};
 ghost use Rattle.xb_rows.specs.Scanning.{GivesRead};
+ghost use Rattle.xb_rows.specs.Streams.{rest_of_stream};
 
+use crate::kept::Kept;
 use crate::place::{Place, place_after};
-use crate::steps::{reader_of_records, take_first_row, take_row};
-use csv::{ByteRecord, Reader};
-use std::alloc::Global;
+use crate::record_reader::RecordReader;
+use crate::stream_steps::{take_first_row, take_row};
 use std::io::Read;
 use std::marker::Model;
 use xb_model::{Row, RowFault};
 
-/// The rows of a stream of CSV text, one at a time, of which it holds a record and a buffer of bytes. A row
-/// is returned as soon as the byte that ends its record was read, and what one read gives is enough.
+/// The rows of a stream of CSV text, one at a time, in flat memory: it holds a buffer of bytes and the first
+/// three fields of a record, up to 4,096 bytes of each. A row is returned as soon as the byte that ends its
+/// record was read, and what one read gives is enough. The fault of a record comes then too, or sooner: at
+/// the comma before a fourth field, and at the 4,097th byte of a field.
 ///
 /// What the contracts say of rows holds for readers whose bytes contracts know (byte slices); those of a
 /// process's standard input are not known.
 #[derive(Drop)]
 pub struct RowReader<R: Read> {
-    reader: Reader<R>,
-    fields: ByteRecord,
+    reader: RecordReader<R>,
+    kept: Kept,
     place: Place,
     most: u64,
 }
@@ -27,25 +29,25 @@ pub struct RowReader<R: Read> {
 impl<R: Read> Model for RowReader<R> {
     ghost use Rattle.std.specs.Prelude.{Option};
     ghost use Rattle.xb_model.specs.Sources.{Rest};
-    ghost use Rattle.xb_rows.specs.Scanning.{CanGo, records_left, rest_at};
+    ghost use Rattle.xb_rows.specs.Scanning.{rest_at};
+    ghost use Rattle.xb_rows.specs.StreamRecords.{stream_left};
 
     ghost Value = { Option Rest };
 
-    ghost view = { λ r. rest_at r.most r.place (records_left R.remaining r.reader) };
-
-    ghost invariant = { λ r. CanGo r.place r.reader };
+    ghost view = { λ r. rest_at r.most r.place (stream_left R.remaining r.reader) };
 }
 
 impl<R: Read> RowReader<R> {
     /// A reader of a stream's rows: its first record is the header `line,state,ms`, and each further one,
     /// counted from 1, is a row. `most` is how many may follow the header; with `u64::MAX` no stream has
-    /// too many.
-    pub fn new(alloc: Global, reader: R, most: u64) -> RowReader<R>
-        ensures { result ≡ option_map (rest_within most) (R.remaining reader) }
+    /// too many. A record with a field of more than 4,096 bytes among its first three is judged by these,
+    /// whatever follows it.
+    pub fn new(reader: R, most: u64) -> RowReader<R>
+        ensures { result ≡ option_map (rest_of_stream most) (R.remaining reader) }
     {
         RowReader {
-            reader: reader_of_records(alloc, reader),
-            fields: ByteRecord::new(alloc),
+            reader: RecordReader::new(reader),
+            kept: Kept::new(),
             place: Place::Header,
             most,
         }
@@ -62,12 +64,12 @@ impl<R: Read> RowReader<R> {
             Place::Stopped(Some(fault)) => return Err(fault),
             Place::Header => (
                 0,
-                take_first_row(self.most, &mut self.reader, &mut self.fields),
+                take_first_row(self.most, &mut self.reader, &mut self.kept),
             ),
             Place::After(taken) => {
                 (
                     taken,
-                    take_row(self.most, taken, &mut self.reader, &mut self.fields),
+                    take_row(self.most, taken, &mut self.reader, &mut self.kept),
                 )
             }
         };

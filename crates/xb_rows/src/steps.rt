@@ -6,7 +6,7 @@ ghost use Rattle.csv.specs.declared.parser.State.TheVariants.{StartRecord};
 ghost use Rattle.xb_rows.specs.RowTexts.{rest_from, rest_of_records};
 ghost use Rattle.xb_rows.specs.Scanning.{IsGoing, TakesHeader, TakesRecord, TakesRow, records_left};
 
-use crate::record::{is_header, parse_row};
+use crate::record::{is_header, parse_row, three_fields};
 use csv::{ByteRecord, Reader, ReaderBuilder};
 use std::alloc::Global;
 use std::io::Read;
@@ -49,7 +49,7 @@ fn take_header<R: Read>(reader: &mut Reader<R>, fields: &mut ByteRecord) -> Resu
         (records_left R.remaining reader.new) result }
     ensures going { OnOk result (IsGoing reader.new) }
 {
-    if take_record(reader, fields)? && is_header(fields) {
+    if take_record(reader, fields)? && is_header(three_fields(fields)) {
         Ok(())
     } else {
         Err(RowFault::Header)
@@ -75,7 +75,7 @@ pub(crate) fn take_row<R: Read>(
     if taken >= most {
         return Err(RowFault::TooMany);
     }
-    Ok(Some(parse_row(taken + 1, fields)?))
+    Ok(Some(parse_row(taken + 1, three_fields(fields))?))
 }
 
 // Reads the header, and the record after it.

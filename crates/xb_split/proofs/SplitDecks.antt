@@ -1,5 +1,5 @@
 -- What is known of a deck that was read twice.
-use Rattle.std.proofs.Common.{◌≡◌, ◌∙◌, ◌<◌, ◌-◌, ◌^◌, ◌++◌, ℕ, List, Option, Some, None, IfSome, length, sym, ap, subst}
+use Rattle.std.proofs.Common.{◌≡◌, ◌∙◌, ◌<◌, ◌-◌, ◌^◌, ◌++◌, ℕ, List, Option, Some, None, IfSome, length, sym, ap, subst, inl}
 use Rattle.std.specs.Prelude.{option_map}
 use Rattle.std.specs.Io.KnownBytes.{Appends, Keeps}
 use Rattle.xb_deck.specs.Tables.{IsCutAfter, IsTableFault}
@@ -9,19 +9,20 @@ use Rattle.xb_deck.specs.declared.table.TableFault.TheVariants as table
 use Rattle.xb_model.specs.Rows.{LoopRow}
 use Rattle.xb_model.specs.Sources.{Rest}
 use Rattle.xb_model.specs.declared.fault.RowFault.{RowFault}
-use Rattle.xb_rows.specs.RowTexts.{rest_within}
+use Rattle.xb_rows.specs.Streams.{rest_of_stream}
+use Rattle.xb_rows.proofs.StreamRows.{streams_are_texts}
 use Rattle.xb_split.specs.declared.load.Load.{Load}
 use Rattle.xb_parts.specs.declared.range.LineRange.{LineRange}
 use Rattle.xb_split.specs.PartDecks.{Decks, GetsDecks, deck_of_part}
 use Rattle.xb_split.specs.RowStreams.{CountsAll, HasGivenAll, StopsRows}
 use Rattle.xb_split.specs.SplitFaults.{IsFaultOf}
-use Rattle.xb_split.specs.Splits.{AreMade, HasRows, IsCounted, IsOpened, IsReady, IsSplit, rest_of_rows}
+use Rattle.xb_split.specs.Splits.{AreMade, HasRows, IsCounted, IsOpened, IsReady, IsSplit, rest_of_row_stream}
 use Rattle.xb_split.specs.declared.fault.SplitFault.TheVariants as fault
 
 -- a deck whose table was read
 pub opened : (deck : Option (List ℕ)) (table : List ℕ) (old new : Option (List ℕ)) (left : Option Rest)
     → IfSome deck (λ known. old ≡ Some known) → IsCutAfter table old new
-    → left ≡ option_map (rest_within (2 ^ 64 - 1)) new → IsOpened deck table left
+    → left ≡ option_map (rest_of_stream (2 ^ 64 - 1)) new → IsOpened deck table left
 opened None table old new left known cut is = tt
 opened (Some text) table old None left known cut is = absurd (subst (λ o. IsCutAfter table o None) known cut)
 opened (Some text) table old (Some rows) left known cut is =
@@ -33,7 +34,12 @@ pub has_rows : (deck : Option (List ℕ)) (table : List ℕ) (left : Option Rest
 has_rows None table left rows opened given = tt
 has_rows (Some text) table left rows opened given =
     let all = subst (HasGivenAll rows) opened.2 given in
-    (opened.0, opened.1, all.0, all.1)
+    let same = streams_are_texts.rows_same (2 ^ 64 - 1) opened.0 (inl all.1) in (
+      opened.0,
+      opened.1,
+      sym (ap (λ (rest : Rest). rest.rows) same) ∙ all.0,
+      sym (ap (λ (rest : Rest). rest.stop) same) ∙ all.1,
+    )
 
 pub counted : (deck : Option (List ℕ)) (table : List ℕ) (left : Option Rest) (loads : List Load)
     → IsOpened deck table left → CountsAll left loads → IsCounted deck table loads
@@ -47,7 +53,7 @@ pub rows_fault : (deck : Option (List ℕ)) (table : List ℕ) (left : Option Re
 rows_fault None table left parts f opened stops = tt
 rows_fault (Some text) table left parts f opened stops =
     let stop = subst (λ o. IfSome o (λ rest. StopsRows rest f)) opened.2 stops in
-    subst (λ o. IfSome o (λ cut. StopsRows (rest_of_rows cut.rows) f)) (sym opened.1) stop
+    subst (λ o. IfSome o (λ cut. StopsRows (rest_of_row_stream cut.rows) f)) (sym opened.1) stop
 
 -- decks that got all rows after they were made
 pub are_made : (fresh : Option (List ℕ)) (start made : Decks) (table : List ℕ) (loads : List Load)

@@ -11,7 +11,7 @@ use Rattle.xb_parts.specs.Ranges.{CoverAll}
 use Rattle.xb_split.specs.PartDecks.{Decks}
 use Rattle.xb_split.specs.Plans.{AreAsked, FitDecks, IsPlanPartsFault}
 use Rattle.xb_split.specs.RowStreams.{StopsRows}
-use Rattle.xb_split.specs.Splits.{IsCounted, IsSplit, rest_of_rows}
+use Rattle.xb_split.specs.Splits.{IsCounted, IsSplit, rest_of_row_stream}
 use Rattle.xb_split.specs.declared.splitting.TheConstants.{MOST_PARTS}
 use Rattle.xb_split.specs.declared.fault.SplitFault.{SplitFault}
 use Rattle.xb_split.specs.declared.fault.SplitFault.TheVariants as fault
@@ -27,7 +27,7 @@ IsFaultOf deck parts fault.NoParts = parts ≡ Some 0
 IsFaultOf deck parts fault.NoCut = IsTableFault MOST_DECK_BYTES deck table.NoCut
 IsFaultOf deck parts fault.LongTable = IsTableFault MOST_DECK_BYTES deck table.TooLong
 IsFaultOf deck parts (fault.Rows f) = IfSome deck (λ text.
-    IfSome (deck_parts text) (λ cut. StopsRows (rest_of_rows cut.rows) f))
+    IfSome (deck_parts text) (λ cut. StopsRows (rest_of_row_stream cut.rows) f))
 IsFaultOf deck parts (fault.Plan f) =
     (table : List ℕ) × (loads : List Load) × IsCounted deck table loads × IsPlanPartsFault (length table) loads f
 IsFaultOf deck parts (fault.TooMany count) =

@@ -5,6 +5,7 @@ use Rattle.xb_deck.specs.Deck.{deck_parts}
 use Rattle.xb_model.specs.Rows.{LoopRow}
 use Rattle.xb_model.specs.Sources.{Rest}
 use Rattle.xb_rows.specs.RowTexts.{rest_within}
+use Rattle.xb_rows.specs.Streams.{rest_of_stream}
 use Rattle.xb_split.specs.Counts.{AreLoadsOf, counted}
 use Rattle.xb_parts.specs.Lists.{list_of}
 use Rattle.xb_split.specs.Loads.{records_of}
@@ -21,10 +22,14 @@ use Rattle.xb_split.specs.declared.splitting.TheConstants.{MOST_PARTS}
 abbrev pub rest_of_rows : List ℕ → Rest
 rest_of_rows text = rest_within (2 ^ 64 - 1) text
 
+-- what a stream of such a text gives: the same, where it has no fault
+abbrev pub rest_of_row_stream : List ℕ → Rest
+rest_of_row_stream text = rest_of_stream (2 ^ 64 - 1) text
+
 -- a deck that was opened: its table was read, and its rows are left
 abbrev pub IsOpened : Option (List ℕ) → List ℕ → Option Rest → Type 0
 IsOpened deck table left = IfSome deck (λ text. (rows : List ℕ)
-    × (deck_parts text ≡ Some (record { table = table; rows = rows })) × (left ≡ Some (rest_of_rows rows)))
+    × (deck_parts text ≡ Some (record { table = table; rows = rows })) × (left ≡ Some (rest_of_row_stream rows)))
 
 -- a deck is this table, the cut, and records of these rows, without a fault
 abbrev pub HasRows : List ℕ → List ℕ → List LoopRow → Type 0

@@ -47,7 +47,7 @@ fn open_deck<F: SplitFiles>(
         Err(error) => return Err(SplitFault::Deck(error)),
     };
     match read_table(alloc, &mut deck, MOST_DECK_BYTES) {
-        Ok(table) => Ok((table, RowReader::new(alloc, deck, u64::MAX))),
+        Ok(table) => Ok((table, RowReader::new(deck, u64::MAX))),
         Err(fault) => Err(fault_of_table(fault)),
     }
 }

@@ -45,3 +45,22 @@ returns-in-Err-name g c parts ready =
         )
       ],
     )
+
+pub returns-in-Ok-name : goal.returns-in-Ok-name
+returns-in-Ok-name g c parts ready =
+    let plan = c.args.plan.now in
+    let deck = g.F.SplitFiles.bytes c.args.files.now c.args.request.now.big.now in
+    let folder = c.args.request.now.folder.now in
+    let list = c.deref.result.now in
+    let made = g.F.Parts.PartDecks.contents c.in-Ok.parts in
+    let old = g.F.SplitFiles.listed c.args.files.now folder in
+    let mid = g.F.SplitFiles.listed c.make_parts.new.files folder in
+    let new = g.F.SplitFiles.listed c.name.new.self folder in
+    let none = c.in-Ok.ensures.list folder in
+    let named = c.in-Ok-name.ensures.named in (
+      list,
+      rw c.deref.ensures (is_split deck parts (g.F.SplitFiles.fresh c.args.files.now) made
+          (g.F.SplitFiles.named c.name.new.self folder) plan.table.items plan.loads plan.ranges.items
+          (string_bytes plan.list) c.args.rows.now ready c.in-Ok.ensures.made named.decks),
+      kept_then old mid new list none named.listed,
+    )
