@@ -120,7 +120,7 @@ module _ (digits : List ℕ) where
   longer-second route other h = cond-true _ _ _ (lt-ltb (length route.code) (length other.code) h)
 
   -- what stands at the place of a code has the code
-  at-place : (code : List ℕ) (routes : List CodedRoute) (p : ℕ) → place_of code routes ≡ Some p
+  pub at-place : (code : List ℕ) (routes : List CodedRoute) (p : ℕ) → place_of code routes ≡ Some p
       → (route : CodedRoute) × (slice_get routes p ≡ Some route) × (route.code ≡ code)
   at-place code [] p e = absurd (cc)
   at-place code (route ∷ routes) p e =

@@ -2,7 +2,7 @@
 use Rattle.std.specs.Prelude.{ℕ, ℤ, List, codes, Option, Some, None, option_and_then, option_map}
 use Rattle.toml.specs.Data.{Data, Members, as_integer, as_str, as_table, get_member}
 use denote.Ref.{Bor}
-use Rattle.xb_routes.specs.declared.keys.RouteKeys.{RouteKeys}
+use Rattle.xb_routes.specs.declared.keys.RouteWords.{RouteWords}
 
 -- what a key holds, read as one kind of value: none where the key is missing or holds another kind
 abbrev pub required : {A : Type 0} → (Data → Option A) → List ℕ → Members → Option A
@@ -42,7 +42,7 @@ keys_of_table keys =
 abbrev pub keys_of : Data → Option FourKeys
 keys_of value = option_and_then keys_of_table (as_table value)
 
--- what the keys that were read say
-abbrev pub keys_read : RouteKeys → FourKeys
-keys_read keys = four_keys keys.code.now keys.trunk keys.delete
-    (option_map (λ (text : Bor (List ℕ)). text.now) keys.prefix)
+-- what the keys hold, by the words of who has read them
+abbrev pub keys_in : RouteWords → FourKeys
+keys_in words = four_keys words.code.now words.trunk words.delete
+    (option_map (λ (text : Bor (List ℕ)). text.now) words.prefix)

@@ -40,6 +40,24 @@ in_order limits =
     else if nat_le limits.timeout limits.pause then Err (fault.Limits 10)
     else Ok limits
 
+-- limits by their numbers, or the first fault: of a limit by itself, then of their order
+abbrev pub limits_by : Limits → Result Limits RouteFault
+limits_by limits =
+    or_fault (fault.Limits 1) (limit_of_number (pos limits.pulse_min)) (λ pulse_min.
+    or_fault (fault.Limits 2) (limit_of_number (pos limits.pulse_max)) (λ pulse_max.
+    or_fault (fault.Limits 3) (limit_of_number (pos limits.make_min)) (λ make_min.
+    or_fault (fault.Limits 4) (limit_of_number (pos limits.pause)) (λ pause.
+    or_fault (fault.Limits 5) (limit_of_number (pos limits.release)) (λ release.
+    or_fault (fault.Limits 6) (limit_of_number (pos limits.timeout)) (λ timeout.
+    in_order (record {
+      pulse_min = pulse_min;
+      pulse_max = pulse_max;
+      make_min = make_min;
+      pause = pause;
+      release = release;
+      timeout = timeout;
+    })))))))
+
 -- the limits of a table with these keys, or the first fault: of a limit by itself, then of their order
 abbrev pub limits_of_keys : Members → Result Limits RouteFault
 limits_of_keys keys =

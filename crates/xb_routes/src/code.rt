@@ -113,11 +113,11 @@ pub(crate) fn number_length(plan: Plan, code: &Code) -> u8
 }
 
 /// The digits that a text puts before a number; none without a text.
-pub(crate) fn prefixed_of(text: Option<&str>) -> Option<PrefixDigits>
+pub(crate) fn prefixed_of(text: Option<&[u8]>) -> Option<PrefixDigits>
     ensures { result ≡ prefixed_of (option_map (λ s. s.now) text.entry) }
 {
     match text {
         None => Some(PrefixDigits::new()),
-        Some(text) => digits_of(text.as_bytes()),
+        Some(text) => digits_of(text),
     }
 }

@@ -2,21 +2,22 @@
 ghost use Rattle.std.specs.Prelude.{◌≡◌, option_map};
 ghost use Rattle.toml.specs.Data.{as_integer, as_str, get_member};
 ghost use Rattle.toml.specs.View.{table_view, view};
-ghost use Rattle.xb_routes.specs.Keys.{keys_of, keys_of_table, keys_read, optional, required};
+ghost use Rattle.xb_routes.specs.Keys.{keys_in, keys_of, keys_of_table, optional, required};
 
 use toml::{Table, Value};
 
-/// The four keys of a route, whatever their values.
-#[derive(Drop)]
-pub(crate) struct RouteKeys<'a> {
+/// What the four keys of a route hold, whatever that is: those of a table's text, or the words of a caller
+/// that reads no TOML.
+#[derive(Clone, Copy)]
+pub struct RouteWords<'a> {
     /// The text of its code.
-    pub(crate) code: &'a str,
+    pub code: &'a [u8],
     /// Its trunk group.
-    pub(crate) trunk: i64,
+    pub trunk: i64,
     /// How many digits it deletes, if it says so.
-    pub(crate) delete: Option<i64>,
+    pub delete: Option<i64>,
     /// The text that it puts before a number, if any.
-    pub(crate) prefix: Option<&'a str>,
+    pub prefix: Option<&'a [u8]>,
 }
 
 /// What a key holds.
@@ -26,10 +27,10 @@ pub(crate) fn value_at<'a>(keys: &'a Table, name: &str) -> Option<&'a Value>
     keys.get(name)
 }
 
-fn required_text<'a>(keys: &'a Table, name: &str) -> Option<&'a str>
+fn required_text<'a>(keys: &'a Table, name: &str) -> Option<&'a [u8]>
     ensures { option_map (λ s. s.now) result ≡ required as_str name.now (table_view keys.now) }
 {
-    value_at(keys, name)?.as_str()
+    Some(value_at(keys, name)?.as_str()?.as_bytes())
 }
 
 fn required_number(keys: &Table, name: &str) -> Option<i64>
@@ -47,24 +48,24 @@ fn optional_number(keys: &Table, name: &str) -> Option<Option<i64>>
     Some(Some(value.as_integer()?))
 }
 
-fn optional_text<'a>(keys: &'a Table, name: &str) -> Option<Option<&'a str>>
+fn optional_text<'a>(keys: &'a Table, name: &str) -> Option<Option<&'a [u8]>>
     ensures { option_map (λ o. option_map (λ s. s.now) o) result
         ≡ optional as_str name.now (table_view keys.now) }
 {
     let Some(value) = value_at(keys, name) else {
         return Some(None);
     };
-    Some(Some(value.as_str()?))
+    Some(Some(value.as_str()?.as_bytes()))
 }
 
-fn keys_of_table(keys: &Table) -> Option<RouteKeys<'_>>
-    ensures { option_map keys_read result ≡ keys_of_table (table_view keys.now) }
+fn keys_of_table(keys: &Table) -> Option<RouteWords<'_>>
+    ensures { option_map keys_in result ≡ keys_of_table (table_view keys.now) }
 {
     let code = required_text(keys, "code")?;
     let trunk = required_number(keys, "trunk")?;
     let delete = optional_number(keys, "delete")?;
     let prefix = optional_text(keys, "prefix")?;
-    Some(RouteKeys {
+    Some(RouteWords {
         code,
         trunk,
         delete,
@@ -74,8 +75,8 @@ fn keys_of_table(keys: &Table) -> Option<RouteKeys<'_>>
 
 /// The four keys of a route; `None` where the route is not a table, a required key is missing, or
 /// one of them holds another kind of value.
-pub(crate) fn keys_of(value: &Value) -> Option<RouteKeys<'_>>
-    ensures { option_map keys_read result ≡ keys_of (view value.now) }
+pub(crate) fn keys_of(value: &Value) -> Option<RouteWords<'_>>
+    ensures { option_map keys_in result ≡ keys_of (view value.now) }
 {
     keys_of_table(value.as_table()?)
 }

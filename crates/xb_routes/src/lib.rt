@@ -13,6 +13,8 @@
 //! - `RouteTable::read`: an accepted table holds exactly what the text says; a refusal, unless memory ran
 //!   out, is the first fault in the text. `laws::tables_by_text`, `limits_by_key` and `routes_by_item` say
 //!   the same of all keys and routes at once, without an order of reading.
+//! - `limits_by`, `entry_of`: the limits and a route of a caller that reads no TOML, judged by the same
+//!   bodies in the same words. They take no memory.
 //! - `RouteTable::look`: the route of the longest code that the digits begin with, `None` exactly where no
 //!   code is one. `limits` are lawful.
 //! - `Translate::new`: a number gives the order of its route, or is refused as Unknown with its length; a
@@ -31,7 +33,9 @@ mod translate;
 
 pub use code::{CODE_DIGITS, CODE_LENGTHS};
 pub use fault::RouteFault;
-pub use route::{Entry, Route};
+pub use keys::RouteWords;
+pub use limits::limits_by;
+pub use route::{Entry, Route, entry_of};
 pub use routes::code_number;
 pub use table::{MOST_ROUTES, RouteTable};
 pub use translate::{Translate, keyed, order_by};

@@ -1,9 +1,10 @@
 // The plan and the limits of a table.
-ghost use Rattle.std.specs.Prelude.{◌≡◌, ◌≤◌, ◌<◌, codes, IfOk, IfSome};
+ghost use Rattle.std.specs.Prelude.{◌≡◌, ◌≤◌, ◌<◌, codes, pos, IfOk, IfSome};
 ghost use Rattle.toml.specs.Data.{get_member};
 ghost use Rattle.toml.specs.View.{table_view};
 ghost use Rattle.xb_model.specs.LawfulLimits.{IsLawful, IsLimit, AreLimits};
-ghost use Rattle.xb_routes.specs.PlanAndLimits.{in_order, limit_at, limits_of, limits_of_keys, plan_of};
+ghost use Rattle.xb_routes.specs.PlanAndLimits.{in_order, limit_at, limit_of_number, limits_by, limits_of};
+ghost use Rattle.xb_routes.specs.PlanAndLimits.{limits_of_keys, plan_of};
 
 use crate::fault::RouteFault;
 use crate::keys::value_at;
@@ -20,7 +21,19 @@ pub(crate) fn plan_of(tree: &Table) -> Option<Plan>
     Plan::of_digits(u32::try_from(value.as_integer()?).ok()?)
 }
 
-// The limit at a key, 1 to `GREATEST_LIMIT` ms, or its default where the key is missing.
+// A limit of 1 to `GREATEST_LIMIT` ms.
+fn limit_of(limit: u32) -> Option<u32>
+    ensures value { result ≡ limit_of_number (pos limit) }
+    ensures within { IfSome result IsLimit }
+{
+    if 1 <= limit && limit <= GREATEST_LIMIT {
+        Some(limit)
+    } else {
+        None
+    }
+}
+
+// The limit at a key, or its default where the key is missing.
 fn limit_at(keys: &Table, name: &str, default: u32) -> Option<u32>
     requires { IsLimit default }
     ensures value { result ≡ limit_at (get_member name.now (table_view keys.now)) default }
@@ -29,12 +42,7 @@ fn limit_at(keys: &Table, name: &str, default: u32) -> Option<u32>
     let Some(value) = value_at(keys, name) else {
         return Some(default);
     };
-    let limit = u32::try_from(value.as_integer()?).ok()?;
-    if 1 <= limit && limit <= GREATEST_LIMIT {
-        Some(limit)
-    } else {
-        None
-    }
+    limit_of(u32::try_from(value.as_integer()?).ok()?)
 }
 
 // Limits that stand in their order, or the first fault of it.
@@ -54,6 +62,40 @@ fn in_order(limits: Limits) -> Result<Limits, RouteFault>
     } else {
         Ok(limits)
     }
+}
+
+/// Limits that a caller has who reads no TOML, if each is in its range and they stand in their order, or the
+/// first fault, as for those of a text.
+pub fn limits_by(limits: Limits) -> Result<Limits, RouteFault>
+    ensures value { result ≡ limits_by limits }
+    ensures lawful { IfOk result IsLawful }
+{
+    let Some(pulse_min) = limit_of(limits.pulse_min) else {
+        return Err(RouteFault::Limits(1));
+    };
+    let Some(pulse_max) = limit_of(limits.pulse_max) else {
+        return Err(RouteFault::Limits(2));
+    };
+    let Some(make_min) = limit_of(limits.make_min) else {
+        return Err(RouteFault::Limits(3));
+    };
+    let Some(pause) = limit_of(limits.pause) else {
+        return Err(RouteFault::Limits(4));
+    };
+    let Some(release) = limit_of(limits.release) else {
+        return Err(RouteFault::Limits(5));
+    };
+    let Some(timeout) = limit_of(limits.timeout) else {
+        return Err(RouteFault::Limits(6));
+    };
+    in_order(Limits {
+        pulse_min,
+        pulse_max,
+        make_min,
+        pause,
+        release,
+        timeout,
+    })
 }
 
 // The limits of a table with these keys.

@@ -1,15 +1,15 @@
 // Routes.
-ghost use Rattle.std.specs.Prelude.{◌≡◌, ◌==◌, ◌&&◌, length};
+ghost use Rattle.std.specs.Prelude.{◌≡◌, ◌==◌, ◌&&◌, Some, length};
 ghost use Rattle.std.specs.Result.{result_map_both};
 ghost use Rattle.toml.specs.View.{view};
-ghost use Rattle.xb_routes.specs.Keys.{keys_of};
+ghost use Rattle.xb_routes.specs.Keys.{keys_in, keys_of};
 ghost use Rattle.xb_routes.specs.Text.{deleted_of, route_of, trunk_of};
 ghost use Rattle.xb_routes.specs.Coded.{coded};
 ghost use Rattle.xb_routes.specs.Codes.{IsCodeLength};
 
 use crate::code::{Code, code_of, number_length, prefixed_of};
 use crate::fault::RouteFault;
-use crate::keys::keys_of;
+use crate::keys::{RouteWords, keys_of};
 use toml::Value;
 use xb_model::{Digit, Plan, PrefixDigits, Trunk};
 
@@ -68,24 +68,21 @@ fn keys_no_digit(number_length: u8, route: &Route) -> bool
     route.deleted == number_length && route.prefixed.digits().is_empty()
 }
 
-/// Route `i` of a table, or its first fault.
-pub(crate) fn route_of(plan: Plan, i: u32, value: &Value) -> Result<Entry, RouteFault>
-    ensures { result_map_both coded (λ f. f) result ≡ route_of plan i (keys_of (view value.now)) }
+/// Route `i` of a table by what its four keys hold, or its first fault.
+pub fn entry_of(plan: Plan, i: u32, words: RouteWords<'_>) -> Result<Entry, RouteFault>
+    ensures { result_map_both coded (λ f. f) result ≡ route_of plan i (Some (keys_in words.entry)) }
 {
-    let Some(keys) = keys_of(value) else {
-        return Err(RouteFault::Shape(i));
-    };
-    let Some(code) = code_of(plan, keys.code.as_bytes()) else {
+    let Some(code) = code_of(plan, words.code) else {
         return Err(RouteFault::Code(i));
     };
-    let Some(trunk) = trunk_of(keys.trunk) else {
+    let Some(trunk) = trunk_of(words.trunk) else {
         return Err(RouteFault::Trunk(i));
     };
     let length = number_length(plan, &code);
-    let Some(deleted) = deleted_of(length, keys.delete) else {
+    let Some(deleted) = deleted_of(length, words.delete) else {
         return Err(RouteFault::Delete(i));
     };
-    let Some(prefixed) = prefixed_of(keys.prefix) else {
+    let Some(prefixed) = prefixed_of(words.prefix) else {
         return Err(RouteFault::Prefix(i));
     };
     let route = Route {
@@ -98,4 +95,14 @@ pub(crate) fn route_of(plan: Plan, i: u32, value: &Value) -> Result<Entry, Route
         return Err(RouteFault::NothingToKey(i));
     }
     Ok(entry)
+}
+
+/// Route `i` of a table's text, or its first fault.
+pub(crate) fn route_of(plan: Plan, i: u32, value: &Value) -> Result<Entry, RouteFault>
+    ensures { result_map_both coded (λ f. f) result ≡ route_of plan i (keys_of (view value.now)) }
+{
+    match keys_of(value) {
+        Some(words) => entry_of(plan, i, words),
+        None => Err(RouteFault::Shape(i)),
+    }
 }

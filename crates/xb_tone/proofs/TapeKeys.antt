@@ -135,7 +135,7 @@ both-keyed : (xs ys : List Mark) → AreKeyed xs → AreKeyed ys → AreKeyed (x
 both-keyed [] ys x y = y
 both-keyed (m ∷ xs) ys x y = (x.0, both-keyed xs ys x.1 y)
 
-entries-keyed : (routes : List CodedRoute) → HavePrefixes routes → (plan : Plan) (limits : Limits) (attempts : List Attempt)
+pub entries-keyed : (routes : List CodedRoute) → HavePrefixes routes → (plan : Plan) (limits : Limits) (attempts : List Attempt)
     → AreKeyed (flat_map (λ entry. entry) (map (λ outcome. marks_of (order_of routes outcome))
     (map (λ (attempt : Attempt). outcome_of plan limits attempt.runs) attempts)))
 entries-keyed routes have plan limits [] = tt

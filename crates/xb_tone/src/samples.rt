@@ -1,5 +1,7 @@
 // The samples of marks.
-ghost use Rattle.std.specs.Prelude.{◌≡◌, ◌++◌, IfOk, OnOk};
+ghost use Rattle.std.specs.Prelude.{◌≡◌, ◌++◌, ◌<◌, ◌^◌, IfOk, OnOk, length, map};
+ghost use Rattle.std.specs.List.{range_with_len};
+ghost use Rattle.xb_tone.specs.Sines.{pair_sample};
 ghost use Rattle.xb_tone.specs.Sounds.{silence, tone_sound, mark_sound, sound_of};
 
 use crate::cadence::Cadence;
@@ -57,4 +59,14 @@ pub fn samples_of(alloc: Global, marks: &[Mark], cadence: Cadence) -> Result<Vec
         push_mark(&mut samples, cadence, mark)?;
     }
     Ok(samples)
+}
+
+/// Fills the room with the first samples of a tone, for a caller that has no memory to give.
+pub fn fill_tone(tone: Tone, room: &mut [i16])
+    requires { length room.old < 2 ^ 32 }
+    ensures { room.new ≡ map (λ n. pair_sample tone n) (range_with_len 0 (length room.old)) }
+{
+    for n in 0..room.len() {
+        room[n] = pair_sample(tone, n as u32);
+    }
 }
