@@ -1,0 +1,7 @@
+//! The program that says what is wrong with a deck: what a person finds in it, statuses, and streams that fail.
+//!
+//! Tests alone.
+#![tactic(auto)]
+
+#[cfg(test)]
+mod statuses;

@@ -1,0 +1,106 @@
+// Words and decks in; a status, what is wrong and the line of a fault out, as a person reckoned them.
+use std::alloc::Global;
+use std::test::Fail;
+use test_kit::{Gives, Halting, Program, Short, check_reads, check_status, check_writes};
+use xb_check::attend;
+
+// The program `mfcheck`.
+#[derive(Clone, Copy)]
+struct Mfcheck;
+
+impl Program for Mfcheck {
+    fn name(&self) -> &'static str {
+        "mfcheck"
+    }
+
+    fn attend(
+        &self,
+        alloc: Global,
+        words: &[String],
+        reader: &mut Halting<'_>,
+        out: &mut Short,
+        err: &mut Vec<u8>,
+    ) -> u8 {
+        attend(alloc, words, reader, out, err)
+    }
+}
+
+// A deck that is whole, but for two keys and a heading that are passed over.
+const PASSED_OVER: &[u8] =
+    b"plann = 10\r\n[limit]\npulse_mx = 40\n[[route]]\ncode = \"234\"\n trunk = 17\n\
+delte = 3\n---\n\nline,state,ms\n7,M,500\n";
+
+const TOLD: &[u8] =
+    b"a.deck:1:1: no rule names this key; here are plan, limits and route: plann = 10?
+a.deck:2:1: no rule names this heading; there are [limits] and [[route]]: [limit]
+a.deck:7:1: no rule names this key; here are code, trunk, delete and prefix: delte = 3
+";
+
+// A deck with a record of each kind of fault.
+const FAULTY: &[u8] =
+    b"---\nline,state,ms\n7,M,500\n10000,M,1\n7,X,60\n7,B\n\n\"7\",M,86400001\n7,C,1\n";
+
+const FAULTS: &[u8] = b"deck:4:1: the line is not 0 to 9999: 10000,M,1
+deck:5:3: the state is not M, B or C: 7,X,60
+deck:6:1: the record has not three fields: 7,B
+deck:8:7: the ms are not 0 to 86400000, or not 0 in a close: \"7\",M,86400001
+deck:9:5: the ms are not 0 to 86400000, or not 0 in a close: 7,C,1
+";
+
+const USAGE: &[u8] = b"mfcheck: usage: mfcheck [--name NAME]\n";
+
+// The words after the program's name, the deck, the status, and what stands on standard output and error.
+const CASES: &[(&[&str], &[u8], u8, &[u8], &[u8])] = &[
+    (&["--name", "a.deck"], PASSED_OVER, 0, TOLD, b""),
+    (
+        &[],
+        FAULTY,
+        1,
+        FAULTS,
+        b"mfcheck: loop rows: record 2 has a wrong line\n",
+    ),
+    (
+        &[],
+        b"---\n\nline,state\n7,M,1\n",
+        1,
+        b"deck:3:1: the first record is not line,state,ms: line,state\n",
+        b"mfcheck: loop rows: the header is not line,state,ms\n",
+    ),
+    (
+        &[],
+        b"[[routes]]\ncode = \"0\"\n",
+        1,
+        b"deck:1:1: no rule names this heading; there are [limits] and [[route]]: [[routes]]\n",
+        b"mfcheck: the deck has no line ---\n",
+    ),
+    (
+        &[],
+        b"plan = 8\n---\n",
+        1,
+        b"",
+        b"mfcheck: route table: plan is neither 7 nor 10\n",
+    ),
+    (&["deck"], PASSED_OVER, 2, b"", USAGE),
+    (&["--name"], PASSED_OVER, 2, b"", USAGE),
+];
+
+#[test]
+fn tells_what_is_wrong(rt: HostRuntime) -> Result<(), Fail> {
+    for (words, deck, status, written, line) in CASES {
+        let wanted = Gives {
+            status: *status,
+            written,
+            line,
+        };
+        check_status(rt.alloc(), &Mfcheck, words, deck, wanted)?;
+    }
+    Ok(())
+}
+
+#[test]
+fn fails_where_a_stream_fails(rt: HostRuntime) -> Result<(), Fail> {
+    let line = b"mfcheck: the deck could not be read\n";
+    check_reads(rt.alloc(), &Mfcheck, FAULTY, &[0, 1, FAULTY.len()], line)?;
+    let line = b"mfcheck: what was found could not be written\n";
+    check_writes(rt.alloc(), &Mfcheck, &[], FAULTY, &[0, 1, 99], line)
+}

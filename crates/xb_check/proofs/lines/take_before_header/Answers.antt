@@ -1,0 +1,13 @@
+use Rattle.std.proofs.Common.{map, sym}
+use Rattle.xb_check.specs.Findings.{found_of}
+use Rattle.xb_check.proofs.TakenLines.{passes_empty, takes_header}
+use Rattle.xb_check.proofs.lines.take_before_header.Goals as goal
+
+pub returns-then-is_empty : goal.returns-then-is_empty
+returns-then-is_empty c =
+    passes_empty c.args.n c.args.line.now (map found_of c.args.found.now.items) (sym c.if-is_empty.ensures)
+
+pub returns : goal.returns
+returns c =
+    takes_header c.args.n c.args.line.now c.in_ok-wrong_header.field-0 _ _ (sym c.if-is_empty.ensures)
+    c.in_ok-wrong_header.ensures c.in_ok-push_found.ensures

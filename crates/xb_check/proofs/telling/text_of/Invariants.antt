@@ -1,0 +1,10 @@
+use Rattle.std.proofs.Common.{◌≡◌, ◌++◌, map, drop}
+use Rattle.std.specs.List.{flat_map}
+use Rattle.xb_check.specs.Findings.{found_of}
+use Rattle.xb_check.specs.Reports.{found_text}
+use Rattle.xb_check.proofs.telling.text_of.Given as goal
+
+abbrev pub invariant-loop-finding : goal.invariant-loop-finding
+invariant-loop-finding l =
+    l.out.items ++ flat_map (found_text l.fn.name) (map found_of (drop l.finding-index l.found))
+    ≡ flat_map (found_text l.fn.name) (map found_of l.found)

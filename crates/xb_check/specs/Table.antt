@@ -1,0 +1,81 @@
+-- Which text lines of a route table have a key or a table that no rule names, each read by itself.
+use Rattle.std.specs.Prelude.{ℕ, ◌==◌, ◌||◌, ◌&&◌, not, nat_le, List, [], ◌∷◌, codes, Bool, true, false, if◌then◌else◌, bytes_eq, Option, Some, None}
+use Rattle.std.specs.List.{filter, list_all}
+use Rattle.xb_text.specs.Pieces.{cut_at}
+use Rattle.xb_check.specs.declared.finding.What.{What}
+use Rattle.xb_check.specs.declared.finding.What.TheVariants as what
+use Rattle.xb_check.specs.declared.table.Section.{Section}
+use Rattle.xb_check.specs.declared.table.Section.TheVariants as section
+
+-- blanks and tabs
+abbrev pub is_blank : ℕ → Bool
+is_blank byte = (byte == 32) || (byte == 9)
+
+-- a text line without its blanks
+abbrev pub squeezed : List ℕ → List ℕ
+squeezed line = filter (λ byte. not (is_blank byte)) line
+
+-- a letter, a digit, _ or -: what keys have that stand without quotes
+abbrev pub is_bare : ℕ → Bool
+is_bare byte = (nat_le 97 byte && nat_le byte 122) || (nat_le 65 byte && nat_le byte 90)
+    || (nat_le 48 byte && nat_le byte 57) || (byte == 95) || (byte == 45)
+
+-- what stands before the first such byte; all where there is none
+abbrev pub before_cut : List ℕ → Option (List ℕ × List ℕ) → List ℕ
+before_cut text None = text
+before_cut text (Some parts) = parts.0
+
+-- a heading, as [limits]
+abbrev pub is_heading : List ℕ → Bool
+is_heading [] = false
+is_heading (byte ∷ rest) = byte == 91
+
+-- the keys that rules name
+abbrev pub is_known : Section → List ℕ → Bool
+is_known section.Top key =
+    bytes_eq key (codes "plan") || bytes_eq key (codes "limits") || bytes_eq key (codes "route")
+is_known section.Limits key =
+    bytes_eq key (codes "pulse_min") || bytes_eq key (codes "pulse_max") || bytes_eq key (codes "make_min")
+    || bytes_eq key (codes "pause") || bytes_eq key (codes "release") || bytes_eq key (codes "timeout")
+is_known section.Route key =
+    bytes_eq key (codes "code") || bytes_eq key (codes "trunk") || bytes_eq key (codes "delete")
+    || bytes_eq key (codes "prefix")
+is_known section.Other key = true
+
+-- the section that a heading begins, by what stands before its first ]
+abbrev pub section_of : List ℕ → Section
+section_of name =
+    if bytes_eq name (codes "[[route") then section.Route
+    else if bytes_eq name (codes "[limits") then section.Limits
+    else section.Other
+
+-- a heading that no rule names
+abbrev pub wrong_heading : Section → Option What
+wrong_heading section.Top = None
+wrong_heading section.Limits = None
+wrong_heading section.Route = None
+wrong_heading section.Other = Some what.Table
+
+-- what is said of a key that no rule of its section names
+abbrev pub unnamed : Section → What
+unnamed section.Top = what.TopKey
+unnamed section.Limits = what.LimitKey
+unnamed section.Route = what.RouteKey
+unnamed section.Other = what.Table
+
+-- a key that no rule of its section names
+abbrev pub wrong_key : Section → Option (List ℕ × List ℕ) → Option What
+wrong_key section None = None
+wrong_key section (Some parts) =
+    if list_all is_bare parts.0 && not (is_known section parts.0) then Some (unnamed section) else None
+
+-- what is wrong with a text line of a section, without its blanks
+abbrev pub wrong_line : Section → List ℕ → Option What
+wrong_line section line =
+    if is_heading line then wrong_heading (section_of (before_cut line (cut_at 93 line)))
+    else wrong_key section (cut_at 61 line)
+
+-- the section after such a text line
+abbrev pub section_after : Section → List ℕ → Section
+section_after section line =
+    if is_heading line then section_of (before_cut line (cut_at 93 line)) else section

@@ -1,0 +1,23 @@
+// Why a deck is not whole.
+use thiserror::Error;
+use xb_deck::DeckFault;
+
+/// Why a deck is not whole, or could not be checked. Running out of memory is always `NoMemory`.
+#[derive(Clone, Copy, Debug, PartialEq, Eq, Error)]
+pub enum CheckFault {
+    /// A read of the deck failed, an interrupted one too.
+    #[error("the deck could not be read")]
+    Read,
+    /// The deck has more than 16,777,216 bytes, and is not looked at.
+    #[error("the deck is longer than 16777216 bytes; mfsplit makes parts of it")]
+    TooLong,
+    /// `mfbank` refuses the deck by this fault, the first of it. What was found was told.
+    #[error("{0}")]
+    Refused(DeckFault),
+    /// A write or the flush failed, or a write took no byte. The beginning of what was found was written.
+    #[error("what was found could not be written")]
+    Write,
+    /// Memory ran out.
+    #[error("out of memory")]
+    NoMemory,
+}

@@ -1,0 +1,8 @@
+//! What the definitions give: each law is the contract of a function that does nothing.
+ghost use Rattle.xb_check.specs.Program.{UsageNamesTheOption};
+
+/// The line of refused words names the option of the command.
+#[tactic(auto, unfolding(clap::proofs::OnLiterals::clap_on_literals, xb_command::specs::Usages::has_part))]
+pub fn usage_names_the_option()
+    ensures { UsageNamesTheOption }
+{}

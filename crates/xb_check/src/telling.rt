@@ -1,0 +1,88 @@
+// What is told of what was found.
+ghost use Rattle.std.specs.Prelude.{◌≡◌, ◌≤◌, ◌++◌, IfOk, OnOk, length, map, string_bytes, take};
+ghost use Rattle.xb_deck.specs.declared.deck.TheConstants.{MOST_DECK_BYTES};
+ghost use Rattle.std.specs.List.{flat_map};
+ghost use Rattle.xb_check.specs.Findings.{found_of};
+ghost use Rattle.xb_check.specs.Reports.{found_text, place_text, report_text, shown, visible};
+
+use crate::finding::Finding;
+use crate::lines::findings;
+use std::alloc::{AllocError, Global};
+
+/// The most bytes of a text line that are shown beside what is wrong with it.
+pub const MOST_SHOWN_BYTES: usize = 60;
+
+// A byte as it is shown.
+fn visible(byte: u8) -> u8
+    ensures { result ≡ visible byte }
+{
+    if 32 <= byte && byte < 127 { byte } else { b'?' }
+}
+
+// The bytes of a text line that are shown.
+fn beginning(text: &[u8]) -> &[u8]
+    ensures { result.now ≡ take MOST_SHOWN_BYTES text.now }
+{
+    if text.len() > MOST_SHOWN_BYTES {
+        &text[..MOST_SHOWN_BYTES]
+    } else {
+        text
+    }
+}
+
+// Puts the beginning of a text line after the text, as it is shown.
+fn push_shown(out: &mut Vec<u8>, text: &[u8]) -> Result<(), AllocError>
+    ensures { OnOk result (out.new.items ≡ out.old.items ++ shown text.now) }
+{
+    let bytes = beginning(text);
+    for byte in bytes {
+        out.push(visible(*byte))?;
+    }
+    Ok(())
+}
+
+// The place of what was found, and what is wrong.
+fn place_text(alloc: Global, name: &str, finding: &Finding) -> Result<String, AllocError>
+    ensures { IfOk result (λ text. string_bytes text ≡ place_text name.now (found_of finding.now)) }
+{
+    let line = finding.line;
+    let column = finding.column;
+    let words = finding.what.words();
+    format!(in alloc; "{name}:{line}:{column}: {words}: ")
+}
+
+// Puts the line of what was found after the text.
+fn push_found(
+    alloc: Global,
+    out: &mut Vec<u8>,
+    name: &str,
+    finding: &Finding,
+) -> Result<(), AllocError>
+    ensures { OnOk result (out.new.items ≡ out.old.items ++ found_text name.now (found_of finding.now)) }
+{
+    out.extend_from_slice(place_text(alloc, name, finding)?.as_bytes())?;
+    push_shown(out, finding.text)?;
+    out.push(b'\n')?;
+    Ok(())
+}
+
+// The lines of what was found.
+fn text_of(alloc: Global, name: &str, found: &[Finding]) -> Result<Vec<u8>, AllocError>
+    ensures { IfOk result (λ text.
+        text.items ≡ flat_map (found_text name.now) (map found_of found.now)) }
+{
+    let mut out = Vec::new(alloc);
+    for finding in found {
+        push_found(alloc, &mut out, name, finding)?;
+    }
+    Ok(out)
+}
+
+/// What is told of a deck in a file of this name: a line for each text line that is wrong, in order.
+pub fn report(alloc: Global, name: &str, deck: &[u8]) -> Result<Vec<u8>, AllocError>
+    requires { length deck.now ≤ MOST_DECK_BYTES }
+    ensures { IfOk result (λ text. text.items ≡ report_text name.now deck.now) }
+{
+    let found = findings(alloc, deck)?;
+    text_of(alloc, name, &found)
+}
