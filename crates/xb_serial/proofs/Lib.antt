@@ -9,3 +9,4 @@ pub mod Ends
 pub mod Lacking
 pub mod Promises
 pub mod WorkedRows
+pub mod Entrances

@@ -8,6 +8,7 @@ ghost use Rattle.xb_model.specs.Rows.{LoopRow};
 ghost use Rattle.xb_routes.specs.Table.{Table};
 ghost use Rattle.xb_model.specs.Image.{image_on};
 ghost use Rattle.xb_serial.specs.Chain.{live_machine};
+ghost use Rattle.xb_serial.specs.Entrances.{EntrancesAgree};
 ghost use Rattle.xb_serial.specs.Office.{Office, HasTaken, marks_of_rows};
 ghost use Rattle.xb_serial.specs.Promises.{KeepsPromises};
 ghost use Rattle.xb_serial.specs.WorkedRows.{KeyedInTheRowOfItsPause, RefusedInTheRowOfTheTimeOut};
@@ -33,6 +34,13 @@ pub fn one_state_is_enough()
     ensures { (table : Table) (l : ℕ) (rows : List LoopRow) →
         AllByRecursion (λ row. row_line row ≡ l) rows →
         image_on (live_machine table) rows ≡ marks_of_rows table rows }
+{}
+
+/// A line may come in by its rows or by its signals, told one by one: the signals of its whole record give its
+/// tape; after any rows, those that they have sent give the marks of the rows, and leave the register as the
+/// rows do.
+pub fn entrances_agree()
+    ensures { (table : Table) → EntrancesAgree table }
 {}
 
 /// 234 5678 row by row: no mark until the row that reaches the last digit's pause, and with it all nine.

@@ -3,7 +3,9 @@
 //! - `key_serial`: for any list of rows and any table, each of the 10,000 lines' marks are exactly the tape
 //!   of that line's record: one entry for each attempt, in order, and nothing of another line.
 //! - `Line::take`: one row of one line gives its marks, which are one whole entry, or nothing, and leaves
-//!   the state for the line's next row. It asks for nothing, cannot fail, and takes no memory.
+//!   the state for the line's next row. It asks for nothing, cannot fail, and takes no memory. `Line::hear` does
+//!   the same with a signal in place of a row; `laws::entrances_agree`: the signals of a line's record, one by one,
+//!   give its tape, and those of its rows so far the marks of the rows.
 //! - `Live::take`: whatever rows it has taken and whatever marks it has given, it has then taken one row
 //!   more and given the marks of that row more. They are all on its line; they are none, or one whole
 //!   entry; they are 24 at most. It asks for nothing, cannot fail, and takes no memory. `Live::reopen`

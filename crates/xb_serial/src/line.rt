@@ -1,13 +1,13 @@
-// The chain on one line, one row at a time.
-ghost use Rattle.std.specs.Prelude.{◌≡◌, [], IfNone, IfSome};
-ghost use Rattle.std.specs.Option.{option_to_list};
+// The chain on one line, one row or one signal at a time.
+ghost use Rattle.std.specs.Prelude.{◌≡◌, ◌≤◌, [], ◌∷◌, IfNone, IfSome, length};
 ghost use Rattle.xb_model.specs.Tapes.{EndsAtLast};
 ghost use Rattle.xb_model.specs.OnLines.{on_line};
-ghost use Rattle.xb_serial.specs.Chain.{fresh_line, marks_of_row, outcomes_of_row, state_after_row};
+ghost use Rattle.xb_serial.specs.Chain.{fresh_line, marks_of_row, state_after_row};
+ghost use Rattle.xb_serial.specs.Entrances.{marks_from, marks_of_signal, outcomes_from, state_after_signal, state_after_signals};
 
 use crate::hearing::outcome_of;
 use arrayvec::ArrayVec;
-use xb_model::{Dialled, LineStage, MOST_OUTPUTS, Mark, Row};
+use xb_model::{LineStage, MOST_OUTPUTS, Mark, Row, Signal};
 use xb_pulse::{Pulse, PulseState};
 use xb_register::{Register, RegisterState};
 use xb_routes::RouteTable;
@@ -16,7 +16,7 @@ use xb_sender::marks_of;
 /// The most marks that one row gives: those of one entry.
 pub const MOST_MARKS: usize = MOST_OUTPUTS;
 
-/// What the stages know of a line from its rows so far.
+/// What the stages know of a line from its rows so far, or from its signals.
 #[derive(Drop)]
 pub struct Line {
     /// What the pulse stage knows.
@@ -36,13 +36,37 @@ impl Line {
         }
     }
 
-    // Takes a row: what comes of an attempt by it, if it does.
-    fn hear(&mut self, table: &RouteTable, row: Row) -> Option<Dialled>
-        ensures outcome { on_line row.line (option_to_list result) ≡ outcomes_of_row table.now self.old row }
-        ensures state { self.new ≡ state_after_row table.now self.old row }
+    // Takes signals of which no more than one brings an outcome: the marks of that.
+    fn hear_all(
+        &mut self,
+        table: &RouteTable,
+        signals: &[Signal],
+    ) -> Option<ArrayVec<Mark, MOST_MARKS>>
+        requires { length (outcomes_from table.now self.old.register signals.now) ≤ 1 }
+        ensures marks { IfSome result (λ marks. marks.items
+            ≡ marks_from table.now self.old.register signals.now) }
+        ensures none { IfNone result (marks_from table.now self.old.register signals.now ≡ []) }
+        ensures entry { IfSome result (λ marks. EndsAtLast marks.items) }
+        ensures state { self.new ≡ state_after_signals table.now self.old signals.now }
     {
-        let signals = Pulse::new(table.limits()).take(&mut self.pulse, row);
-        outcome_of(&Register::new(table.plan()), &mut self.register, &signals)
+        match outcome_of(&Register::new(table.plan()), &mut self.register, signals) {
+            Some(dialled) => Some(marks_of(&table.order_of(&dialled))),
+            None => None,
+        }
+    }
+
+    /// Takes one signal of the line, for a caller that hears seizures, digits and releases by itself. It
+    /// goes to the register and on through the stages after it, as one that a row sends does, and what is
+    /// known of the loop stays. Gives the marks that it makes certain, one whole entry or nothing. It
+    /// asks for nothing, cannot fail, and takes no memory.
+    pub fn hear(&mut self, table: &RouteTable, signal: Signal) -> Option<ArrayVec<Mark, MOST_MARKS>>
+        ensures marks { IfSome result (λ marks. marks.items
+            ≡ marks_of_signal table.now self.old.register signal) }
+        ensures none { IfNone result (marks_of_signal table.now self.old.register signal ≡ []) }
+        ensures entry { IfSome result (λ marks. EndsAtLast marks.items) }
+        ensures state { self.new ≡ state_after_signal table.now self.old signal }
+    {
+        self.hear_all(table, &[signal])
     }
 
     /// Takes one row of the line, through all stages at once: the marks that it makes certain, which
@@ -54,9 +78,7 @@ impl Line {
         ensures entry { IfSome result (λ marks. EndsAtLast marks.items) }
         ensures state { self.new ≡ state_after_row table.now self.old row }
     {
-        match self.hear(table, row) {
-            Some(dialled) => Some(marks_of(&table.order_of(&dialled))),
-            None => None,
-        }
+        let signals = Pulse::new(table.limits()).take(&mut self.pulse, row);
+        self.hear_all(table, &signals)
     }
 }
