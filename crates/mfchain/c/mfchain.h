@@ -1,4 +1,4 @@
-/* The dialling chain of a No. 5 Crossbar office, one row at a time, in the caller's own memory.
+/* The dialling chain of a No. 5 Crossbar office, one row or one digit at a time, in the caller's own memory.
 
    The library keeps nothing between two calls, starts no thread and, but for mf_open, takes no memory. Calls
    on different lines may be made at the same time, by one table or several.
@@ -29,6 +29,9 @@ extern "C" {
 /* The most routes of a table. */
 #define MF_MOST_ROUTES 1000
 
+/* The most digits of a number: room for those of mf_dialled. */
+#define MF_MOST_DIGITS 10
+
 /* Room for the text of any fault of a table. */
 #define MF_FAULT_ROOM 64
 
@@ -53,7 +56,13 @@ enum mf_status {
     MF_WRONG_DELETE = 15,   /* a route deletes more digits than its numbers have */
     MF_WRONG_PREFIX = 16,   /* the prefix of a route is not 0 to 8 digits */
     MF_NOTHING_TO_KEY = 17, /* a route deletes all digits and has no prefix */
-    MF_CODE_TWICE = 18      /* two routes have the same code */
+    MF_CODE_TWICE = 18,     /* two routes have the same code */
+    /* of what a caller hears by itself */
+    MF_WRONG_DIGIT = 19,    /* the digit is over 9 */
+    MF_CLOSED = 20,         /* the line's record has ended: mf_reopen begins a new one */
+    MF_SEIZED = 21,         /* a seizure of a line that is seized */
+    MF_NOT_SEIZED = 22,     /* a digit, a time-out or a release of a line that is not seized */
+    MF_INCOMPLETE = 23      /* the digits complete no number (mf_route_number alone) */
 };
 
 /* What the loop of a line does. */
@@ -113,6 +122,17 @@ uint32_t mfchain_close(const mf_table *table, mf_line *line, uint32_t number, mf
                        size_t *count);
 void mfchain_reopen(mf_line *line);
 uint32_t mfchain_entries(const mf_line *line);
+uint32_t mfchain_seize(const mf_table *table, mf_line *line, uint32_t number, mf_mark *room, size_t room_len,
+                       size_t *count);
+uint32_t mfchain_digit(const mf_table *table, mf_line *line, uint32_t number, uint8_t digit, mf_mark *room,
+                       size_t room_len, size_t *count);
+uint32_t mfchain_mutilated_digit(const mf_table *table, mf_line *line, uint32_t number, mf_mark *room,
+                                 size_t room_len, size_t *count);
+uint32_t mfchain_time_out(const mf_table *table, mf_line *line, uint32_t number, mf_mark *room, size_t room_len,
+                          size_t *count);
+uint32_t mfchain_release(const mf_table *table, mf_line *line, uint32_t number, mf_mark *room, size_t room_len,
+                         size_t *count);
+uint32_t mfchain_dialled(const mf_line *line, uint8_t digits[MF_MOST_DIGITS]);
 
 /* Reads the route table that a TOML text of `len` bytes writes. Where it is refused, `fault` gets the reason, a
    text that ends with a zero and is cut to `fault_len` bytes, and the table is as it was. */
@@ -159,6 +179,80 @@ static inline enum mf_status mf_entries(const mf_line *line, uint32_t *entries)
         return MF_NULL;
     *entries = mfchain_entries(line);
     return MF_DONE;
+}
+
+/* For a caller that hears seizures, digits and releases by itself, as of a telephone network: line `number` is seized,
+   and a call attempt begins. Each of these five calls goes to the register of the line as the makes and breaks would
+   that say the same, and gives marks as mf_take does. A line that is told rows and signals hears both. */
+static inline enum mf_status mf_seize(const mf_table *table, mf_line *line, uint32_t number,
+                                      mf_mark *marks, size_t room, size_t *count)
+{
+    if (!table || !line || !marks || !count)
+        return MF_NULL;
+    return (enum mf_status)mfchain_seize(table, line, number, marks, room, count);
+}
+
+/* A digit was dialled, 0 to 9 (not a character). The last of a number gives the marks of its entry. */
+static inline enum mf_status mf_digit(const mf_table *table, mf_line *line, uint32_t number, uint8_t digit,
+                                      mf_mark *marks, size_t room, size_t *count)
+{
+    if (!table || !line || !marks || !count)
+        return MF_NULL;
+    return (enum mf_status)mfchain_digit(table, line, number, digit, marks, room, count);
+}
+
+/* A digit was dialled that cannot be told: the attempt is refused as mutilated. */
+static inline enum mf_status mf_mutilated_digit(const mf_table *table, mf_line *line, uint32_t number,
+                                                mf_mark *marks, size_t room, size_t *count)
+{
+    if (!table || !line || !marks || !count)
+        return MF_NULL;
+    return (enum mf_status)mfchain_mutilated_digit(table, line, number, marks, room, count);
+}
+
+/* Nothing was dialled for too long: an attempt without a number is refused as timed out. */
+static inline enum mf_status mf_time_out(const mf_table *table, mf_line *line, uint32_t number,
+                                         mf_mark *marks, size_t room, size_t *count)
+{
+    if (!table || !line || !marks || !count)
+        return MF_NULL;
+    return (enum mf_status)mfchain_time_out(table, line, number, marks, room, count);
+}
+
+/* The line is released: an attempt without an outcome is refused as abandoned. The next call begins with mf_seize. */
+static inline enum mf_status mf_release(const mf_table *table, mf_line *line, uint32_t number,
+                                        mf_mark *marks, size_t room, size_t *count)
+{
+    if (!table || !line || !marks || !count)
+        return MF_NULL;
+    return (enum mf_status)mfchain_release(table, line, number, marks, room, count);
+}
+
+/* The digits so far of an attempt that has no outcome yet, as lamps show them: *count of them, and none on any other
+   line. */
+static inline enum mf_status mf_dialled(const mf_line *line, uint8_t digits[MF_MOST_DIGITS], size_t *count)
+{
+    if (!line || !digits || !count)
+        return MF_NULL;
+    *count = mfchain_dialled(line, digits);
+    return MF_DONE;
+}
+
+/* The marks of the number that `len` digits complete, on line 0, as a fresh line gives them that hears these digits.
+   Digits after it are not heard. MF_INCOMPLETE where they complete none. */
+static inline enum mf_status mf_route_number(const mf_table *table, const uint8_t *digits, size_t len,
+                                             mf_mark *marks, size_t room, size_t *count)
+{
+    mf_line line;
+    enum mf_status status;
+    size_t heard;
+    if (!digits)
+        return MF_NULL;
+    mfchain_reopen(&line);
+    status = mf_seize(table, &line, 0, marks, room, count);
+    for (heard = 0; status == MF_DONE && *count == 0 && heard < len; heard++)
+        status = mf_digit(table, &line, 0, digits[heard], marks, room, count);
+    return status == MF_DONE && *count == 0 ? MF_INCOMPLETE : status;
 }
 
 #ifdef __cplusplus

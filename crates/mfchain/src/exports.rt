@@ -1,6 +1,7 @@
 // What C calls.
-ghost use Rattle.std.specs.Prelude.{◌≡◌, ◌≢◌, []};
+ghost use Rattle.std.specs.Prelude.{◌≡◌, ◌≢◌, ℕ, []};
 ghost use Rattle.xb_routes.specs.Table.{Table};
+ghost use Rattle.xb_structs.specs.Hearing.{HasHeard};
 ghost use Rattle.xb_structs.specs.Taking.{HasTaken};
 ghost use Rattle.mfchain.specs.Calls.{DoesNotOpen, DoesNotTake, Opens, TakesRow, close_of};
 
@@ -77,10 +78,11 @@ pub extern "C" fn mfchain_close(
     mfchain_take(table, line, &row, room, count)
 }
 
-/// Forgets what is known of a line: its next row begins a new record.
+/// Forgets what is known of a line: its next row, or what is heard on it next, begins a new record.
 #[unsafe(no_mangle)]
 pub extern "C" fn mfchain_reopen(line: &mut PlainLine)
-    ensures { (table : Table) → HasTaken table line.new [] [] }
+    ensures taken { (table : Table) → HasTaken table line.new [] [] }
+    ensures heard { (table : Table) (number : ℕ) → HasHeard table number line.new [] [] }
 {
     *line = PlainLine::new();
 }

@@ -1,5 +1,5 @@
 //! The chain on one thread: its pages, a live office row by row beside it, what `mflive` prints of decks and on
-//! streams that fail, and rows in structs of numbers.
+//! streams that fail, and rows and signals in structs of numbers.
 //!
 //! Tests alone.
 #![tactic(auto)]
@@ -22,6 +22,8 @@ mod rows;
 mod statuses;
 #[cfg(test)]
 mod structs;
+#[cfg(test)]
+mod told;
 #[cfg(test)]
 mod watched;
 #[cfg(test)]

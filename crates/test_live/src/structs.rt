@@ -32,7 +32,7 @@ fn unopened() -> PlainTable {
     }
 }
 
-fn mark(kind: u32, value: u32, low: u32, high: u32) -> PlainMark {
+pub(crate) fn mark(kind: u32, value: u32, low: u32, high: u32) -> PlainMark {
     PlainMark {
         line: 7,
         kind,
@@ -46,7 +46,7 @@ fn row(state: u32, ms: u32) -> PlainRow {
     PlainRow { line: 7, state, ms }
 }
 
-fn is_same(one: &PlainMark, other: &PlainMark) -> bool {
+pub(crate) fn is_same(one: &PlainMark, other: &PlainMark) -> bool {
     one.line == other.line
         && one.kind == other.kind
         && one.value == other.value
@@ -64,7 +64,7 @@ fn dial_nearly(rt: &impl Abort, table: &PlainTable, line: &mut PlainLine, room: 
     }
 }
 
-fn opened(alloc: Global) -> Result<PlainTable, Fail> {
+pub(crate) fn opened(alloc: Global) -> Result<PlainTable, Fail> {
     let mut table = unopened();
     match open(alloc, OPERATOR, &mut table) {
         Ok(()) => Ok(table),

@@ -28,7 +28,7 @@ on line what = record { line = line; what = what }
 abbrev ends : On Mark → ℕ
 ends mark = cond (is_ending mark.what) 1 0
 
-among-append : (xs ys : List (On Mark)) → entries_among (xs ++ ys) ≡ entries_among xs + entries_among ys
+pub among-append : (xs ys : List (On Mark)) → entries_among (xs ++ ys) ≡ entries_among xs + entries_among ys
 among-append xs ys = sum_by-append ends xs ys
 
 -- digits, and the ST after them
@@ -44,7 +44,7 @@ among-order l (Key trunk digits) =
     omega (arith, sum_by-cons ends (on l (Trunk trunk)) (on_line l (tone Kp ∷ rest)), sum_by-cons ends (on l (tone Kp)) (on_line l rest), digits_and_st l digits (tone St ∷ []), sum_by-cons ends (on l (tone St)) [])
 among-order l (Refused reason heard) = omega (arith, sum_by-cons ends (on l (mark.Refused reason heard)) [])
 
-counted-more : (n m : ℕ) → counted (counted n + m) ≡ counted (n + m)
+pub counted-more : (n m : ℕ) → counted (counted n + m) ≡ counted (n + m)
 counted-more n m = omega arith
 
 -- where a row is taken, the line has taken one row more

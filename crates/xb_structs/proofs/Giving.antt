@@ -1,6 +1,7 @@
 -- A row that is taken by the parts of an open table.
-use Rattle.std.proofs.Common.{◌≡◌, ℕ, ◌<◌, List, [], ◌∷◌, length, map, take, Some, Result, Ok, Err, IfOk, IfErr, refl, sym, ap, ◌∙◌, subst}
-use Rattle.std.specs.List.{AllByRecursion}
+use Rattle.std.proofs.Common.{◌≡◌, ℕ, suc, ◌<◌, List, [], ◌∷◌, length, map, take, Some, Result, Ok, Err, IfOk, IfErr, refl, sym, ap, ◌∙◌, subst, arith}
+use Rattle.std.specs.List.{AllByRecursion, flat_map}
+use Rattle.xb_model.specs.declared.dialled.Dialled.{Dialled}
 use Rattle.xb_model.specs.declared.key.Key.TheVariants.{Digit, Kp, St}
 use Rattle.xb_model.specs.declared.limits.Limits.{Limits}
 use Rattle.xb_model.specs.declared.line.LineNo.{LineNo}
@@ -11,12 +12,15 @@ use Rattle.xb_model.specs.declared.plan.Plan.{Plan}
 use Rattle.xb_model.specs.declared.reason.Reason.TheVariants.{Mutilated, Unknown, Abandoned, TimedOut}
 use Rattle.xb_model.specs.Lines.{on_line_of}
 use Rattle.xb_model.specs.Plans.{plan_of_digits}
-use Rattle.xb_model.specs.Routing.{CodedRoute}
+use Rattle.xb_model.specs.Keyings.{marks_of}
+use Rattle.xb_model.specs.Routing.{CodedRoute, order_of}
 use Rattle.xb_model.specs.Rows.{LoopRow}
 use Rattle.xb_model.specs.OnLines.{on_line}
+use Rattle.xb_model.proofs.OnLines.{on_line-append}
 use Rattle.xb_routes.specs.Table.{Table}
 use Rattle.xb_routes.specs.Text.{table_by}
-use Rattle.xb_serial.specs.Chain.{marks_of_row}
+use Rattle.xb_serial.specs.Chain.{keyed, marks_of_row, outcomes_of_row, state_after_row}
+use Rattle.xb_serial.proofs.Entrances.{keyed-on_line}
 use Rattle.xb_serial.proofs.Fusion.{row_marks-on}
 use Rattle.xb_structs.specs.declared.line.PlainLine.{PlainLine}
 use Rattle.xb_structs.specs.declared.mark.PlainMark.{PlainMark}
@@ -30,8 +34,9 @@ use Rattle.xb_structs.specs.Marks.{mark_on, plain_mark}
 use Rattle.xb_structs.specs.Routes.{AreRoutes}
 use Rattle.xb_structs.specs.Rows.{row_in}
 use Rattle.xb_structs.specs.Tables.{Holds, IsOpen, limits_in}
-use Rattle.xb_structs.specs.Taking.{HasNoRoom, IsRefused, Takes, TakesRow}
-use Rattle.xb_structs.proofs.Counting.{taken-more}
+use Rattle.xb_structs.specs.Giving.{Gives, marks_of_outcomes}
+use Rattle.xb_structs.specs.Taking.{HasNoRoom, IsRefused, Takes, TakesRow, entries_among}
+use Rattle.xb_structs.proofs.Counting.{among-append, among-order, taken-more}
 
 -- marks on a line, as plain numbers
 pub plain-on : (line : LineNo) (marks : List Mark) → map plain_mark (on_line line marks) ≡ map (mark_on line) marks
@@ -99,3 +104,38 @@ if-ok P Q f (Err e) p = tt
 pub if-err : {X E : Type 0} (P Q : E → Type 0) → ((e : E) → P e → Q e) → (r : Result X E) → IfErr r P → IfErr r Q
 if-err P Q f (Ok x) p = tt
 if-err P Q f (Err e) p = f e p
+
+-- they are as many on a line
+length-on : (line : LineNo) (marks : List Mark) → length (on_line line marks) ≡ length marks
+length-on line [] = refl
+length-on line (mark ∷ marks) = ap suc (length-on line marks)
+
+-- outcomes are as many entries
+pub among-outcomes : (routes : List CodedRoute) (l : ℕ) (outcomes : List Dialled) → entries_among (on_line l (marks_of_outcomes routes outcomes)) ≡ length outcomes
+among-outcomes routes l [] = refl
+among-outcomes routes l (outcome ∷ outcomes) =
+    let first = marks_of (order_of routes outcome) in
+    let rest = marks_of_outcomes routes outcomes in
+    omega (arith, ap entries_among (on_line-append l first rest), among-append (on_line l first) (on_line l rest), among-order l (order_of routes outcome), among-outcomes routes l outcomes)
+
+-- a row whose signals bring these outcomes
+module _ (all : List CodedRoute) (plan : Plan) (limits : Limits) (old : PlainLine) (row : LoopRow) (outcomes : List Dialled)
+    (brought : on_line row.line outcomes ≡ outcomes_of_row (table_by all plan limits) (state_in old) row) where
+  given_by : marks_of_row (table_by all plan limits) (state_in old) row ≡ on_line row.line (marks_of_outcomes all outcomes)
+  given_by = ap (flat_map (keyed (table_by all plan limits))) (sym brought) ∙ keyed-on_line (table_by all plan limits) row.line outcomes
+
+  -- is taken, where these are given
+  pub takes_by : (heard new : PlainLine) (number : ℕ) (room : List PlainMark) (count : ℕ) → number ≡ row.line
+      → state_in heard ≡ state_after_row (table_by all plan limits) (state_in old) row → heard.entries ≡ old.entries
+      → Gives all number outcomes heard new room count → TakesRow (table_by all plan limits) old new row room count
+  takes_by heard new number room count on state entries gives = record {
+    state = gives.state ∙ state;
+    marks = gives.marks ∙ ap (λ l. map (mark_on l) (marks_of_outcomes all outcomes)) on
+        ∙ sym (plain-on row.line (marks_of_outcomes all outcomes)) ∙ ap (map plain_mark) (sym given_by);
+    entries = omega (arith, gives.entries, entries, ap entries_among given_by, among-outcomes all row.line outcomes);
+  }
+
+  -- and gives as many marks
+  pub lacks_by : (room : ℕ) → room < length (marks_of_outcomes all outcomes) → room < length (marks_of_row (table_by all plan limits) (state_in old) row)
+  lacks_by room less =
+      subst (λ n. room < n) (sym (ap length given_by ∙ length-on row.line (marks_of_outcomes all outcomes))) less

@@ -3,3 +3,4 @@ pub mod Looking
 pub mod Counting
 pub mod Opening
 pub mod Giving
+pub mod HeardSignals

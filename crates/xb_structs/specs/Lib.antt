@@ -6,4 +6,8 @@ pub mod Routes
 pub mod Tables
 pub mod Opening
 pub mod Taking
+pub mod Giving
+pub mod Heard
+pub mod Hearing
+pub mod Entrances
 pub mod Promises

@@ -26,7 +26,8 @@ pub(crate) fn digits_of<const CAPACITY: usize>(bytes: &[u8]) -> DigitList<CAPACI
 /// Writes digits to the front of the room.
 pub(crate) fn put_digits(digits: &[Digit], room: &mut [u8])
     requires { length digits.now ≤ length room.old }
-    ensures { map digit_in (take (length digits.now) room.new) ≡ digits.now }
+    ensures digits { map digit_in (take (length digits.now) room.new) ≡ digits.now }
+    ensures bytes { take (length digits.now) room.new ≡ digits.now }
 {
     for (i, digit) in digits.iter().enumerate() {
         room[i] = digit.get();

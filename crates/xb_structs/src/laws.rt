@@ -7,6 +7,7 @@ ghost use Rattle.xb_model.specs.Rows.{LoopRow};
 ghost use Rattle.xb_routes.specs.Table.{Table};
 ghost use Rattle.xb_structs.specs.declared.line.PlainLine.{PlainLine};
 ghost use Rattle.xb_structs.specs.declared.mark.PlainMark.{PlainMark};
+ghost use Rattle.xb_structs.specs.Entrances.{EntrancesAgree};
 ghost use Rattle.xb_structs.specs.Promises.{KeepPromises};
 ghost use Rattle.xb_structs.specs.Taking.{HasTaken};
 
@@ -16,4 +17,10 @@ pub fn keeps_promises()
     ensures { (table : Table) (line : PlainLine) (l : ℕ) (rows : List LoopRow) (marks : List PlainMark) →
         IsLawful table.limits → AllByRecursion (λ row. row_line row ≡ l) rows →
         HasTaken table line rows marks → KeepPromises table rows marks }
+{}
+
+/// A line of which a caller tells seizures, digits, time-outs and releases gives with its close exactly the tape of
+/// each record that has these signals: that of the rows by which the loop would have said the same.
+pub fn entrances_agree()
+    ensures { (table : Table) → EntrancesAgree table }
 {}

@@ -1,6 +1,7 @@
 // What is known of a line, as plain numbers.
-ghost use Rattle.std.specs.Prelude.{◌≡◌, []};
+ghost use Rattle.std.specs.Prelude.{◌≡◌, ℕ, []};
 ghost use Rattle.xb_routes.specs.Table.{Table};
+ghost use Rattle.xb_structs.specs.Hearing.{HasHeard};
 ghost use Rattle.xb_structs.specs.Lines.{pulse_in, register_in};
 ghost use Rattle.xb_structs.specs.Taking.{HasTaken};
 
@@ -101,7 +102,8 @@ pub(crate) fn register_part(state: &RegisterState) -> RegisterPart
 impl PlainLine {
     /// A line before its first row: zeros.
     pub fn new() -> PlainLine
-        ensures { (table : Table) → HasTaken table result [] [] }
+        ensures taken { (table : Table) → HasTaken table result [] [] }
+        ensures heard { (table : Table) (number : ℕ) → HasHeard table number result [] [] }
     {
         PlainLine {
             entries: 0,

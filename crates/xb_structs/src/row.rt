@@ -17,8 +17,8 @@ pub struct PlainRow {
     pub ms: u32,
 }
 
-// The line of a number.
-fn line_of(number: u32) -> Option<LineNo>
+/// The line of a number.
+pub(crate) fn line_of(number: u32) -> Option<LineNo>
     ensures { result ≡ line_in number }
 {
     LineNo::new(u16::try_from(number).ok()?)

@@ -10,9 +10,9 @@ ghost use Rattle.xb_structs.specs.Lines.{state_in};
 ghost use Rattle.xb_structs.specs.Routes.{AreRoutes};
 ghost use Rattle.xb_structs.specs.Taking.{IsRefused, Takes, TakesRow};
 
-use crate::keying::order_of;
+use crate::entry::{NoRoom, give};
 use crate::line::{PlainLine, pulse_of, pulse_part, register_of, register_part};
-use crate::mark::{PlainMark, put_marks};
+use crate::mark::PlainMark;
 use crate::refusal::Refusal;
 use crate::route::PlainRoute;
 use crate::row::{PlainRow, row_of};
@@ -20,7 +20,6 @@ use crate::table::{PlainTable, limits_of, routes_of};
 use xb_model::{Dialled, Limits, Plan, Row};
 use xb_pulse::Pulse;
 use xb_register::Register;
-use xb_sender::marks_of;
 use xb_serial::outcome_of;
 
 // What comes of an attempt by a row, if it does, and what is known of the line after it.
@@ -59,19 +58,11 @@ fn take_row(
         length room.old < length (marks_of_row (table_by all plan limits) (state_in line.old) row))) }
     ensures kept { OnErr result ((line.new ≡ line.old) × (room.new ≡ room.old)) }
 {
-    let (outcome, mut heard) = hear(plan, limits, line, row);
-    let mut count = 0;
-    if let Some(dialled) = outcome {
-        let marks = marks_of(&order_of(routes, &dialled));
-        if marks.len() > room.len() {
-            return Err(Refusal::Room);
-        }
-        put_marks(row.line(), &marks, room);
-        count = marks.len();
-        heard.entries = heard.entries.saturating_add(1);
+    let (outcome, heard) = hear(plan, limits, line, row);
+    match give(routes, row.line(), outcome, heard, line, room) {
+        Ok(count) => Ok(count),
+        Err(NoRoom) => Err(Refusal::Room),
     }
-    *line = heard;
-    Ok(count)
 }
 
 /// Takes one row of a line, by a table: the first marks of the room, as many as the result says, are those

@@ -3,4 +3,7 @@ use Rattle.xb_structs.specs.Digits.{digit_in}
 use Rattle.xb_structs.proofs.digits.put_digits.Given as goal
 
 abbrev pub invariant-loop-i : goal.invariant-loop-i
-invariant-loop-i l = map digit_in (take l.i l.room) ≡ take l.i l.digits
+invariant-loop-i l = record {
+  digits : map digit_in (take l.i l.room) ≡ take l.i l.digits;
+  bytes : take l.i l.room ≡ take l.i l.digits;
+}
