@@ -86,9 +86,65 @@ static void try_room(void)
           "the four marks");
 }
 
+/* What was heard on line 7 is refused with this status: the line and the marks are as they were. */
+static void unheard(enum mf_status got, const mf_line *before, enum mf_status status, const char *what)
+{
+    check(got == status, what);
+    check(count == 0 && memcmp(before, &line, sizeof line) == 0, what);
+}
+
+/* A call of the operator digit by digit, with what is refused in each of its states. */
+static void try_digits(void)
+{
+    mf_line before;
+    uint8_t digits[MF_MOST_DIGITS];
+    mf_reopen(&line);
+    before = line;
+    unheard(mf_digit(&table, &line, 7, 0, marks, 4, &count), &before, MF_NOT_SEIZED, "a digit before a seizure");
+    unheard(mf_mutilated_digit(&table, &line, 7, marks, 4, &count), &before, MF_NOT_SEIZED, "and a mutilated one");
+    unheard(mf_time_out(&table, &line, 7, marks, 4, &count), &before, MF_NOT_SEIZED, "and a time-out");
+    unheard(mf_release(&table, &line, 7, marks, 4, &count), &before, MF_NOT_SEIZED, "and a release");
+    unheard(mf_seize(&zeros, &line, 10000, marks, 4, &count), &before, MF_NOT_OPENED, "a table that was not opened");
+    unheard(mf_seize(&table, &line, 10000, marks, 4, &count), &before, MF_WRONG_LINE, "a seizure of line 10000");
+    check(mf_seize(&table, &line, 7, marks, 0, &count) == MF_DONE && count == 0, "a seizure");
+    before = line;
+    unheard(mf_seize(&table, &line, 7, marks, 4, &count), &before, MF_SEIZED, "a seizure of a line that is seized");
+    unheard(mf_digit(&table, &line, 7, 10, marks, 4, &count), &before, MF_WRONG_DIGIT, "a digit of 10");
+    unheard(mf_digit(&table, &line, 7, 255, marks, 4, &count), &before, MF_WRONG_DIGIT, "a digit of 255");
+    unheard(mf_digit(&table, &line, 7, 0, marks, 3, &count), &before, MF_NO_ROOM, "room for three marks");
+    check(mf_digit(&table, &line, 7, 0, marks, 4, &count) == MF_DONE && count == 4, "the operator's digit");
+    check(marks[0].kind == MF_TRUNK && marks[0].line == 7 && marks[2].value == 0 && marks[3].kind == MF_ST, "its marks");
+    check(mf_digit(&table, &line, 7, 5, marks, 0, &count) == MF_DONE && count == 0, "a digit after the number");
+    check(mf_release(&table, &line, 7, marks, 0, &count) == MF_DONE && count == 0, "a release");
+    check(mf_seize(&table, &line, 7, marks, 0, &count) == MF_DONE, "the next call");
+    check(mf_digit(&table, &line, 7, 2, marks, 0, &count) == MF_DONE, "its first digit");
+    check(mf_dialled(&line, digits, &count) == MF_DONE && count == 1 && digits[0] == 2, "the digits so far");
+    check(mf_close(&table, &line, 7, marks, 1, &count) == MF_DONE && count == 1, "a close in a call");
+    check(marks[0].kind == MF_ABANDONED && marks[0].value == 1, "which is abandoned");
+    before = line;
+    count = 0;
+    unheard(mf_seize(&table, &line, 7, marks, 4, &count), &before, MF_CLOSED, "a seizure after the close");
+    unheard(mf_digit(&table, &line, 7, 1, marks, 4, &count), &before, MF_CLOSED, "a digit after the close");
+    digits[0] = 2;
+    check(mf_route_number(&table, digits, 1, marks, 4, &count) == MF_INCOMPLETE && count == 0, "a number that is not complete");
+    digits[0] = 10;
+    check(mf_route_number(&table, digits, 1, marks, 4, &count) == MF_WRONG_DIGIT && count == 0, "a number with a digit of 10");
+    mf_reopen(&line);
+}
+
 static void try_nulls(void)
 {
+    uint8_t digits[MF_MOST_DIGITS];
     uint32_t entries;
+    check(mf_seize(NULL, &line, 7, marks, 4, &count) == MF_NULL, "no table of a seizure");
+    check(mf_digit(&table, NULL, 7, 0, marks, 4, &count) == MF_NULL, "no line of a digit");
+    check(mf_mutilated_digit(&table, &line, 7, NULL, 0, &count) == MF_NULL, "no marks of a mutilated digit");
+    check(mf_time_out(&table, &line, 7, marks, 4, NULL) == MF_NULL, "no count of a time-out");
+    check(mf_release(NULL, &line, 7, marks, 4, &count) == MF_NULL, "no table of a release");
+    check(mf_dialled(NULL, digits, &count) == MF_NULL, "no line of lamps");
+    check(mf_dialled(&line, NULL, &count) == MF_NULL, "no lamps");
+    check(mf_dialled(&line, digits, NULL) == MF_NULL, "no count of lamps");
+    check(mf_route_number(&table, NULL, 0, marks, 4, &count) == MF_NULL, "no digits");
     check(mf_open(NULL, 0, &table, fault, sizeof fault) == MF_NULL, "no text");
     check(mf_open(routes, 0, NULL, fault, sizeof fault) == MF_NULL, "no table to open");
     check(mf_open(routes, 0, &zeros, NULL, 0) == MF_NULL, "no room for a fault");
@@ -169,6 +225,7 @@ int main(void)
     check(mf_open(routes, strlen(routes), &table, fault, sizeof fault) == MF_DONE && !*fault, "a good table");
     try_rows();
     try_room();
+    try_digits();
     try_nulls();
     try_texts();
     try_bytes();

@@ -5,12 +5,11 @@
 #include "mfchain.h"
 #include <stdio.h>
 
-/* Prints the marks of one entry, the entry of this number on its line. */
-static inline void show_entry(const mf_mark *marks, size_t count, uint32_t number)
+/* Prints the marks of one entry, as a page has them after the line and the number. */
+static inline void show_body(const mf_mark *marks, size_t count)
 {
     static const char *const reasons[] = {"MUTILATED", "UNKNOWN", "ABANDONED", "TIMEDOUT"};
     const mf_mark *first = marks;
-    printf("%04u %u", (unsigned)first->line, (unsigned)number);
     if (first->kind >= MF_MUTILATED) {
         printf(" REFUSED %s %u\n", reasons[first->kind - MF_MUTILATED], (unsigned)first->value);
         return;
@@ -24,6 +23,13 @@ static inline void show_entry(const mf_mark *marks, size_t count, uint32_t numbe
         printf(":%u+%u", (unsigned)marks[i].low, (unsigned)marks[i].high);
     }
     putchar('\n');
+}
+
+/* Prints the marks of one entry, the entry of this number on its line. */
+static inline void show_entry(const mf_mark *marks, size_t count, uint32_t number)
+{
+    printf("%04u %u", (unsigned)marks->line, (unsigned)number);
+    show_body(marks, count);
 }
 
 #endif

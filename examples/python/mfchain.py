@@ -1,10 +1,12 @@
-"""The dialling chain of a No. 5 Crossbar office, one row at a time, by its C library.
+"""The dialling chain of a No. 5 Crossbar office, one row or one digit at a time, by its C library.
 
 An `Office` takes what the loops of its lines do, and yields each mark the moment it is certain:
 
     office = Office(table_text, "libmfchain.so")
     for mark in office.take(7, "M", 500):
         print(mark)
+
+Or it is told what was heard on a line, by `seize`, `digit`, `mutilated_digit`, `time_out` and `release`.
 
 Needs Python 3.8 and no package. The shared object is made by `make` in examples/c.
 """
@@ -15,12 +17,14 @@ from typing import Iterator, NamedTuple
 LINES = 10000
 MOST_MARKS = 24
 MOST_ROUTES = 1000
+MOST_DIGITS = 10
 FAULT_ROOM = 64
 
 KINDS = ("TRUNK", "DIGIT", "KP", "ST", "MUTILATED", "UNKNOWN", "ABANDONED", "TIMEDOUT")
 """What a mark is, by its number in C. The last four are refusals, each an entry by itself."""
 
 NO_MEMORY, NOT_OPENED, WRONG_LINE, WRONG_STATE, WRONG_MS, NO_ROOM = 1, 3, 4, 5, 6, 7
+WRONG_DIGIT, CLOSED, SEIZED, NOT_SEIZED = 19, 20, 21, 22
 
 
 class TableError(ValueError):
@@ -40,6 +44,22 @@ class RowError(ValueError):
         WRONG_STATE: "a state is M, B or C",
         WRONG_MS: "a time is 0 to 86400000 ms, and 0 for C",
         NO_ROOM: "the row gives more marks than there is room for",
+    }
+
+    def __init__(self, status: int):
+        super().__init__(self.TEXTS[status])
+        self.status = status
+
+
+class SignalError(ValueError):
+    """What was heard is refused, and what is known of its line is as it was: `status` says why."""
+
+    TEXTS = {
+        WRONG_LINE: "a line is 0 to 9999",
+        WRONG_DIGIT: "a digit is 0 to 9",
+        CLOSED: "the record of the line has ended",
+        SEIZED: "the line is seized already",
+        NOT_SEIZED: "the line is not seized",
     }
 
     def __init__(self, status: int):
@@ -95,6 +115,14 @@ def _declare(library: ctypes.CDLL) -> None:
     library.mfchain_reopen.restype = None
     library.mfchain_entries.argtypes = [address]
     library.mfchain_entries.restype = number
+    library.mfchain_dialled.argtypes = [address, address]
+    library.mfchain_dialled.restype = number
+    library.mfchain_digit.argtypes = [address, address, number, ctypes.c_uint8, address, size, address]
+    library.mfchain_digit.restype = number
+    for name in ("seize", "mutilated_digit", "time_out", "release"):
+        call = getattr(library, f"mfchain_{name}")
+        call.argtypes = [address, address, number, address, size, address]
+        call.restype = number
 
 
 class Office:
@@ -139,10 +167,7 @@ class Office:
             status = self._library.mfchain_take(table, known, at, room, MOST_MARKS, count)
             if status:
                 raise RowError(status)
-            return [
-                Mark(mark.line, KINDS[mark.kind], mark.value, mark.low, mark.high)
-                for mark in self._room[: self._count.value]
-            ]
+            return self._given()
 
     def close(self, line: int) -> Iterator[Mark]:
         """Ends the record of a line, which gives no more marks until it is reopened."""
@@ -160,8 +185,53 @@ class Office:
         with self._lock:
             return self._library.mfchain_entries(known)
 
-    def _known(self, line: int) -> int:
+    def seize(self, line: int) -> list:
+        """Takes it that a line is seized: a call attempt begins. Returns the marks that this makes certain, as do the
+        next four. Each raises `SignalError` where it does not fit the line, which is then as it was."""
+        return self._tell(line, self._library.mfchain_seize)
+
+    def digit(self, line: int, digit: int) -> list:
+        """Takes a digit that was dialled, 0 to 9."""
+        return self._tell(line, self._library.mfchain_digit, digit if 0 <= digit <= 255 else 255)
+
+    def mutilated_digit(self, line: int) -> list:
+        """Takes it that a digit was dialled which cannot be told."""
+        return self._tell(line, self._library.mfchain_mutilated_digit)
+
+    def time_out(self, line: int) -> list:
+        """Takes it that nothing was dialled for too long."""
+        return self._tell(line, self._library.mfchain_time_out)
+
+    def release(self, line: int) -> list:
+        """Takes it that a line is released. Its next call begins with `seize`."""
+        return self._tell(line, self._library.mfchain_release)
+
+    def dialled(self, line: int) -> list:
+        """The digits so far of an attempt that has no outcome yet, as lamps show them."""
+        known, digits = self._known(line), (ctypes.c_uint8 * MOST_DIGITS)()
+        with self._lock:
+            count = self._library.mfchain_dialled(known, ctypes.addressof(digits))
+        return list(digits[:count])
+
+    def _tell(self, line: int, call, *digit) -> list:
+        """Tells the register of a line what was heard."""
+        table, _, room, count = self._places
+        known = self._known(line, SignalError)
+        with self._lock:
+            status = call(table, known, line, *digit, room, MOST_MARKS, count)
+            if status:
+                raise SignalError(status)
+            return self._given()
+
+    def _given(self) -> list:
+        """The marks that the last call gave."""
+        return [
+            Mark(mark.line, KINDS[mark.kind], mark.value, mark.low, mark.high)
+            for mark in self._room[: self._count.value]
+        ]
+
+    def _known(self, line: int, refusal: type = RowError) -> int:
         """Where what is known of a line stands."""
         if not 0 <= line < LINES:
-            raise RowError(WRONG_LINE)
+            raise refusal(WRONG_LINE)
         return ctypes.addressof(self._lines) + ctypes.sizeof(_Line) * line
