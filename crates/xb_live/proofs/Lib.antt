@@ -8,3 +8,12 @@ pub mod Pages
 pub mod Runs
 pub mod Decks
 pub mod Accepted
+pub mod HeardSignals
+pub mod KeptDigits
+pub mod HeardRows
+pub mod BegunAttempts
+pub mod ToldRows
+pub mod HeardLines
+pub mod ObjectValues
+pub mod ObjectLines
+pub mod AscendingTimes

@@ -31,10 +31,13 @@ use Rattle.xb_serial.proofs.Fusion.{fusion}
 use Rattle.xb_serial.proofs.Promises.{chain_keeps_promises}
 use Rattle.xb_live.specs.Counting.{AreOnLines}
 use Rattle.xb_live.specs.Entries.{Entry, Numbered, entries_of_rows, next_number, numbered_after}
-use Rattle.xb_live.specs.Pages.{printed_entries}
 use Rattle.xb_live.specs.Texts.{with_closes}
 use Rattle.xb_live.proofs.Completed.{dialled_of, entries-dialled, entry_from, marks-dialled}
 use Rattle.xb_live.proofs.Sheets.{line_of, numbered_from}
+
+-- the entries of rows that end, with their numbers
+abbrev pub numbered_entries : Table → List LoopRow → List Numbered
+numbered_entries table rows = numbered_after [] (entries_of_rows table (with_closes rows))
 
 -- the marks of entries
 abbrev pub marks_in : List Entry → List (List Mark)
@@ -185,13 +188,13 @@ module _ (table : Table) (lawful : IsLawful table.limits) (rows : List LoopRow) 
 
   -- the entries of a line are those of its tape, numbered from 1
   pub line-sheet : (l : ℕ) → l < LINES
-      → of_line line_of l (printed_entries table rows) ≡ numbered_from l 1 (entries_of (joined_tape table.plan table.limits table.routes l rows))
+      → of_line line_of l (numbered_entries table rows) ≡ numbered_from l 1 (entries_of (joined_tape table.plan table.limits table.routes l rows))
   line-sheet l below =
       numbered-of_line l [] (entries_of_rows table (with_closes rows))
       ∙ ap (numbered_from l 1) (entries-of_line table l (with_closes rows) ∙ ap entries_of (marks-closed l below))
 
   -- beyond the lines there are none
-  pub line-none : AreOnLines rows → (l : ℕ) → LINES ≤ l → of_line line_of l (printed_entries table rows) ≡ []
+  pub line-none : AreOnLines rows → (l : ℕ) → LINES ≤ l → of_line line_of l (numbered_entries table rows) ≡ []
   line-none on l above =
       let own : rows_of l (with_closes rows) ≡ [] =
       of_line-append row_line l rows (closes_below LINES) ∙ ap (λ more. more ++ rows_of l (closes_below LINES)) (rows_of-above l rows above on) ∙ closes-none LINES l above in

@@ -1,12 +1,8 @@
 -- Entries with their numbers.
 use Rattle.std.proofs.Common.{◌≡◌, ℕ, List, [], ◌∷◌, ◌++◌, refl, sym, ap, ◌∙◌, append_assoc, append-nil}
-use Rattle.std.specs.List.{flat_map}
-use Rattle.std.proofs.lemmas.List.Concat.{flat_map-append}
 use Rattle.xb_model.specs.declared.mark.Mark.{Mark}
-use Rattle.xb_live.specs.declared.printing.Form.{Form}
 use Rattle.xb_live.specs.Entries.{Entry, Numbered, next_number, numbered_after}
 use Rattle.xb_live.specs.Counting.{entry_of}
-use Rattle.xb_live.specs.Texts.{text_of, text_after}
 
 pub numbered_after-none : (earlier : List Entry) → numbered_after earlier [] ≡ []
 unfolding numbered_after
@@ -26,9 +22,3 @@ numbered_after-append earlier (x ∷ xs) ys =
     ap (λ es. record { line = x.line; number = next_number earlier x.line; marks = x.what } ∷ es)
     (numbered_after-append (earlier ++ x ∷ []) xs ys
     ∙ ap (λ es. numbered_after (earlier ++ x ∷ []) xs ++ numbered_after es ys) (append_assoc earlier (x ∷ []) xs))
-
--- their text
-pub text_after-append : (form : Form) (earlier xs ys : List Entry) → text_after form earlier (xs ++ ys) ≡ text_after form earlier xs ++ text_after form (earlier ++ xs) ys
-text_after-append form earlier xs ys =
-    ap (flat_map (text_of form)) (numbered_after-append earlier xs ys)
-    ∙ flat_map-append (text_of form) (numbered_after earlier xs) (numbered_after (earlier ++ xs) ys)

@@ -12,13 +12,13 @@ use Rattle.xb_model.specs.Page.{count_entries, is_keyed, is_refused, tapes_text,
 use Rattle.xb_model.specs.Rows.{LoopRow}
 use Rattle.xb_model.specs.Tapes.{entries_of, joined_tape, tapes_of}
 use Rattle.xb_routes.specs.Table.{Table}
-use Rattle.xb_live.specs.declared.printing.Form.TheVariants.{Entries}
 use Rattle.xb_live.specs.Counting.{AreOnLines}
 use Rattle.xb_live.specs.Entries.{Entry, Numbered, entries_of_rows, next_number, numbered_after}
-use Rattle.xb_live.specs.Pages.{SortsIntoPage, printed_entries}
-use Rattle.xb_live.specs.Texts.{text_of, with_closes}
-use Rattle.xb_live.proofs.LineEntries.{all-below, line-none, line-sheet}
+use Rattle.xb_live.specs.Pages.{SortsIntoPage, page_line}
+use Rattle.xb_live.specs.Texts.{with_closes}
+use Rattle.xb_live.proofs.LineEntries.{all-below, line-none, line-sheet, numbered_entries}
 use Rattle.xb_live.proofs.Sheets.{of_lines-all, of_lines-sheet, sheet, sheet-order, sheet-sum, sheet-text}
+use Rattle.xb_live.proofs.ToldRows.{told-all}
 
 -- a sum over entries, with their numbers and without
 numbered-sum : (f : List Mark → ℕ) (earlier entries : List Entry) → sum_by (λ (e : Entry). f e.what) entries ≡ sum_by (λ (e : Numbered). f e.marks) (numbered_after earlier entries)
@@ -40,21 +40,21 @@ module _ (table : Table) (lawful : IsLawful table.limits) (rows : List LoopRow) 
   abbrev sorted : List Numbered
   sorted = sheet (λ l. entries_of (tape l)) 0 LINES
 
-  same : IsPermutation (printed_entries table rows) sorted
+  same : IsPermutation (numbered_entries table rows) sorted
   same =
-      subst (IsPermutation (printed_entries table rows))
-      (of_lines-sheet (printed_entries table rows) (λ l. entries_of (tape l)) 0 LINES (λ l below. line-sheet table lawful rows l (omega (arith, below))))
-      (of_lines-all (printed_entries table rows) LINES (all-below (printed_entries table rows) LINES (line-none table lawful rows on)))
+      subst (IsPermutation (numbered_entries table rows))
+      (of_lines-sheet (numbered_entries table rows) (λ l. entries_of (tape l)) 0 LINES (λ l below. line-sheet table lawful rows l (omega (arith, below))))
+      (of_lines-all (numbered_entries table rows) LINES (all-below (numbered_entries table rows) LINES (line-none table lawful rows on)))
 
   counted : (test : List Mark → Bool) → count_by (λ (e : Entry). test e.what) (entries_of_rows table (with_closes rows)) ≡ count_entries test tapes
   unfolding lines_below
   counted test =
       let f : List Mark → ℕ = λ marks. cond (test marks) 1 0 in
       numbered-sum f [] (entries_of_rows table (with_closes rows))
-      ∙ sym (sum_by-IsPermutation (λ (e : Numbered). f e.marks) (printed_entries table rows) sorted same)
+      ∙ sym (sum_by-IsPermutation (λ (e : Numbered). f e.marks) (numbered_entries table rows) sorted same)
       ∙ sheet-sum f tape 0 LINES
 
-  text : flat_map (text_of Entries) sorted ≡ tapes_text 0 tapes
+  text : flat_map page_line sorted ≡ tapes_text 0 tapes
   unfolding lines_below
   text = sheet-text tape 0 LINES
 
@@ -62,10 +62,10 @@ module _ (table : Table) (lawful : IsLawful table.limits) (rows : List LoopRow) 
   sorts_into_page = record {
     printed = λ form. refl;
     sorted = sorted;
-    same = same;
+    same = subst (λ entries. IsPermutation entries sorted) (sym (told-all table (with_closes rows))) same;
     order = sheet-order (λ l. entries_of (tape l)) 0 LINES;
     page =
         ap (λ front. front ++ totals_text (count_entries is_keyed tapes) (count_entries is_refused tapes)) (sym text)
-        ∙ ap (λ k. flat_map (text_of Entries) sorted ++ totals_text k (count_entries is_refused tapes)) (sym (counted is_keyed))
-        ∙ ap (λ k. flat_map (text_of Entries) sorted ++ totals_text (count_by (λ (e : Entry). is_keyed e.what) (entries_of_rows table (with_closes rows))) k) (sym (counted is_refused));
+        ∙ ap (λ k. flat_map page_line sorted ++ totals_text k (count_entries is_refused tapes)) (sym (counted is_keyed))
+        ∙ ap (λ k. flat_map page_line sorted ++ totals_text (count_by (λ (e : Entry). is_keyed e.what) (entries_of_rows table (with_closes rows))) k) (sym (counted is_refused));
   }

@@ -8,18 +8,18 @@ use Rattle.xb_model.specs.declared.fault.RowFault.{RowFault}
 use Rattle.xb_model.specs.declared.fault.RowFault.TheVariants as row_fault
 use Rattle.xb_model.specs.Rows.{LoopRow}
 use Rattle.xb_model.specs.Sources.{Rest}
-use Rattle.xb_model.specs.Image.{image_after}
 use Rattle.xb_routes.specs.Table.{Table}
 use Rattle.xb_rows.specs.Scanning.{GivesRead}
-use Rattle.xb_serial.specs.Office.{marks_of_rows}
 use Rattle.xb_live.specs.declared.fault.EntriesFault.{EntriesFault}
 use Rattle.xb_live.specs.declared.fault.EntriesFault.TheVariants as entries_fault
+use Rattle.xb_live.specs.declared.hearings.Hearings.{Hearings}
 use Rattle.xb_live.specs.declared.printing.Form.{Form}
+use Rattle.xb_live.specs.declared.printing.Form.TheVariants.{Entries, Marks, Objects, MarkObjects}
 use Rattle.xb_live.specs.Counting.{Counted, HasCounted}
-use Rattle.xb_live.specs.Entries.{entries_given}
-use Rattle.xb_live.specs.Texts.{entries_text, text_after, text_of}
-use Rattle.xb_live.specs.Writing.{Ends, GotBeginning, GotFirst, HasWritten, Writes}
-use Rattle.xb_live.proofs.Numbers.{numbered_after-none}
+use Rattle.xb_live.specs.Hearings.{HasHeard}
+use Rattle.xb_live.specs.Texts.{entries_text, text_of}
+use Rattle.xb_live.specs.Writing.{Ends, GotBeginning, GotFirst, HasWritten, Hears, Writes}
+use Rattle.xb_live.proofs.ToldRows.{told_of_rows-none}
 use Rattle.xb_live.proofs.Written.{first_of, first_of_first}
 use Rattle.xb_live.specs.declared.fault.LiveFault.{LiveFault}
 use Rattle.xb_live.specs.declared.fault.LiveFault.TheVariants as fault
@@ -33,9 +33,9 @@ IsLeft all taken (Some left) = (all.rows ≡ taken ++ left.rows) × (all.stop �
 
 -- the entries of the rows that were taken, so many, were written
 abbrev pub IsSoFar :
-    ℕ → Form → Counted → Option Rest → Option Rest → Option (List ℕ) → Option (List ℕ) → Type 0
-IsSoFar count form office all now start out = IfSome all (λ rest.
-    (taken : List LoopRow) × IsLeft rest taken now × HasWritten form office taken start out
+    ℕ → Form → Counted → Hearings → Option Rest → Option Rest → Option (List ℕ) → Option (List ℕ) → Type 0
+IsSoFar count form office hearings all now start out = IfSome all (λ rest.
+    (taken : List LoopRow) × IsLeft rest taken now × HasWritten form office hearings taken start out
     × (length taken ≡ count))
 
 -- rows that stop are among those that are taken
@@ -47,31 +47,31 @@ first_of_taken rows (Some f) = ([], append-nil rows)
 first_along : (first some all : List LoopRow) → IsPrefix first some → IsPrefix some all → IsPrefix first all
 first_along first some all p q = subst (IsPrefix first) q.1 (first_of_first first some q.0 p)
 
--- no row gives no mark
-marks-none : (table : Table) → marks_of_rows table [] ≡ []
-unfolding image_after
-marks-none table = refl
-
 text-none : (form : Form) (table : Table) → entries_text form table [] ≡ []
-text-none form table =
-    ap (λ marks. text_after form [] (entries_given marks)) (marks-none table)
-    ∙ ap (flat_map (text_of form)) (numbered_after-none [])
+text-none form table = ap (flat_map (text_of form)) (told_of_rows-none table)
 
-pub so_far-start : (form : Form) (office : Counted) (all : Option Rest) (out : Option (List ℕ)) → HasCounted office [] → IsSoFar 0 form office all all out out
-so_far-start form office None out counted = tt
-so_far-start form office (Some rest) out counted =
-    ([], (refl, refl), record { counted = counted; text = subst (Appends out out) (sym (text-none form office.live.table)) (Appends-nil out) }, refl)
+-- before the first row nothing is to be heard
+hears-none : (form : Form) (table : Table) (hearings : Hearings) → HasHeard table hearings [] → Hears form table hearings []
+hears-none Entries table hearings silent = tt
+hears-none Marks table hearings silent = tt
+hears-none Objects table hearings silent = silent
+hears-none MarkObjects table hearings silent = silent
 
-module _ (count : ℕ) (form : Form) (office : Counted) (start out : Option (List ℕ)) where
+pub so_far-start : (form : Form) (office : Counted) (hearings : Hearings) (all : Option Rest) (out : Option (List ℕ)) → HasCounted office [] → HasHeard office.live.table hearings [] → IsSoFar 0 form office hearings all all out out
+so_far-start form office hearings None out counted silent = tt
+so_far-start form office hearings (Some rest) out counted silent =
+    ([], (refl, refl), record { counted = counted; heard = hears-none form office.live.table hearings silent; text = subst (Appends out out) (sym (text-none form office.live.table)) (Appends-nil out) }, refl)
+
+module _ (count : ℕ) (form : Form) (office : Counted) (hearings : Hearings) (start out : Option (List ℕ)) where
   -- a row more
-  pub so_far-more : (after : Counted) (row : LoopRow) (new : Option (List ℕ)) (all now left : Option Rest)
-      → IsSoFar count form office all now start out → GivesRead now (Ok (Some row)) left
-      → ((rows : List LoopRow) → HasWritten form office rows start out → HasWritten form after (rows ++ row ∷ []) start new)
-      → IsSoFar (count + 1) form after all left start new
-  so_far-more after row new None now left so gives more = tt
-  so_far-more after row new (Some rest) None left so gives more = absurd so.1
-  so_far-more after row new (Some rest) (Some here) None so gives more = absurd gives
-  so_far-more after row new (Some rest) (Some here) (Some left) (taken, are, wrote, many) gives more =
+  pub so_far-more : (after : Counted) (heard : Hearings) (row : LoopRow) (new : Option (List ℕ)) (all now left : Option Rest)
+      → IsSoFar count form office hearings all now start out → GivesRead now (Ok (Some row)) left
+      → ((rows : List LoopRow) → HasWritten form office hearings rows start out → HasWritten form after heard (rows ++ row ∷ []) start new)
+      → IsSoFar (count + 1) form after heard all left start new
+  so_far-more after heard row new None now left so gives more = tt
+  so_far-more after heard row new (Some rest) None left so gives more = absurd so.1
+  so_far-more after heard row new (Some rest) (Some here) None so gives more = absurd gives
+  so_far-more after heard row new (Some rest) (Some here) (Some left) (taken, are, wrote, many) gives more =
       ⊎_elim
       (λ g. (
         taken ++ row ∷ [],
@@ -83,14 +83,14 @@ module _ (count : ℕ) (form : Form) (office : Counted) (start out : Option (Lis
       gives
 
   -- a row more, which was not written
-  pub so_far-fault : (after : Counted) (table : Table) (row : LoopRow) (new : Option (List ℕ)) (f : EntriesFault) (all now left : Option Rest)
-      → after.live.table ≡ table → IsSoFar count form office all now start out → GivesRead now (Ok (Some row)) left
-      → ((rows : List LoopRow) → HasWritten form office rows start out → Writes form after (rows ++ row ∷ []) (Err f) start new)
+  pub so_far-fault : (after : Counted) (heard : Hearings) (table : Table) (row : LoopRow) (new : Option (List ℕ)) (f : EntriesFault) (all now left : Option Rest)
+      → after.live.table ≡ table → IsSoFar count form office hearings all now start out → GivesRead now (Ok (Some row)) left
+      → ((rows : List LoopRow) → HasWritten form office hearings rows start out → Writes form after heard (rows ++ row ∷ []) (Err f) start new)
       → IfSome all (λ rest. Prints form table rest (Err (of_entries f)) start new)
-  so_far-fault after table row new f None now left same so gives more = tt
-  so_far-fault after table row new f (Some rest) None left same so gives more = absurd so.1
-  so_far-fault after table row new f (Some rest) (Some here) None same so gives more = absurd gives
-  so_far-fault after table row new f (Some rest) (Some here) (Some left) same (taken, are, wrote, many) gives more =
+  so_far-fault after heard table row new f None now left same so gives more = tt
+  so_far-fault after heard table row new f (Some rest) None left same so gives more = absurd so.1
+  so_far-fault after heard table row new f (Some rest) (Some here) None same so gives more = absurd gives
+  so_far-fault after heard table row new f (Some rest) (Some here) (Some left) same (taken, are, wrote, many) gives more =
       ⊎_elim
       (λ g.
       let first : IsPrefix (taken ++ row ∷ []) rest.rows = (left.rows, append_assoc taken (row ∷ []) left.rows ∙ ap (λ rows. taken ++ rows) (sym g.0) ∙ sym are.0) in
@@ -98,24 +98,24 @@ module _ (count : ℕ) (form : Form) (office : Counted) (start out : Option (Lis
       (λ g. absurd (cc (g.1)))
       gives
     where
-      at : (f : EntriesFault) → IsPrefix (taken ++ row ∷ []) (rows_taken rest.rows rest.stop) → Writes form after (taken ++ row ∷ []) (Err f) start new → Prints form table rest (Err (of_entries f)) start new
+      at : (f : EntriesFault) → IsPrefix (taken ++ row ∷ []) (rows_taken rest.rows rest.stop) → Writes form after heard (taken ++ row ∷ []) (Err f) start new → Prints form table rest (Err (of_entries f)) start new
       at entries_fault.NoMemory p got = subst (λ t. GotFirst form t (rows_taken rest.rows rest.stop) start new) same (got.0, first_along got.0 _ _ got.1 p, got.2)
       at entries_fault.Write p got = inr (subst (λ t. GotBeginning form t (rows_taken rest.rows rest.stop) start new) same (got.0, first_along got.0 _ _ got.1 p, got.2))
 
   -- the entries of the first rows stand
-  so_far-first : (rest : Rest) (table : Table) (now : Option Rest) → office.live.table ≡ table → IsSoFar count form office (Some rest) now start out → GotFirst form table rest.rows start out
+  so_far-first : (rest : Rest) (table : Table) (now : Option Rest) → office.live.table ≡ table → IsSoFar count form office hearings (Some rest) now start out → GotFirst form table rest.rows start out
   so_far-first rest table None same so = absurd so.1
   so_far-first rest table (Some left) same (taken, are, wrote, many) =
       (taken, (left.rows, sym are.0), subst (λ t. Appends start out (entries_text form t taken)) same wrote.text)
 
   -- and they are the first of those that are taken
-  so_far-some : (rest : Rest) (table : Table) (now : Option Rest) → office.live.table ≡ table → IsSoFar count form office (Some rest) now start out → GotFirst form table (rows_taken rest.rows rest.stop) start out
+  so_far-some : (rest : Rest) (table : Table) (now : Option Rest) → office.live.table ≡ table → IsSoFar count form office hearings (Some rest) now start out → GotFirst form table (rows_taken rest.rows rest.stop) start out
   so_far-some rest table now same so =
       let first = so_far-first rest table now same so in
       (first.0, first_along first.0 rest.rows (rows_taken rest.rows rest.stop) first.1 (first_of_taken rest.rows rest.stop), first.2)
 
   -- there are as many rows as were taken, and maybe more
-  pub so_far-many : (table : Table) (all now : Option Rest) → office.live.table ≡ table → 2 ^ 63 ≤ count → IsSoFar count form office all now start out → IfSome all (λ rest. Prints form table rest (Err fault.TooMany) start out)
+  pub so_far-many : (table : Table) (all now : Option Rest) → office.live.table ≡ table → 2 ^ 63 ≤ count → IsSoFar count form office hearings all now start out → IfSome all (λ rest. Prints form table rest (Err fault.TooMany) start out)
   so_far-many table None now same most so = tt
   so_far-many table (Some rest) None same most so = absurd so.1
   so_far-many table (Some rest) (Some left) same most (taken, are, wrote, many) =
@@ -123,8 +123,8 @@ module _ (count : ℕ) (form : Form) (office : Counted) (start out : Option (Lis
 
   -- the rows end
   pub so_far-end : (table : Table) (new : Option (List ℕ)) (result : Result (Unit {0}) EntriesFault) (all now left : Option Rest)
-      → IsSoFar count form office all now start out → GivesRead now (Ok None) left
-      → ((rows : List LoopRow) → HasWritten form office rows start out → Ends form table rows result start new)
+      → IsSoFar count form office hearings all now start out → GivesRead now (Ok None) left
+      → ((rows : List LoopRow) → HasWritten form office hearings rows start out → Ends form table rows result start new)
       → IfSome all (λ rest. (rest.stop ≡ None) × Ends form table rest.rows result start new)
   so_far-end table new result None now left so gives ends = tt
   so_far-end table new result (Some rest) None left so gives ends = absurd so.1
@@ -139,7 +139,7 @@ module _ (count : ℕ) (form : Form) (office : Counted) (start out : Option (Lis
 
   -- a fault stops the rows
   pub so_far-stop : (table : Table) (f : RowFault) (e : LiveFault) (all now left : Option Rest) → office.live.table ≡ table
-      → IsSoFar count form office all now start out → GivesRead now (Err f) left → IsOfRows f e
+      → IsSoFar count form office hearings all now start out → GivesRead now (Err f) left → IsOfRows f e
       → IfSome all (λ rest. Prints form table rest (Err e) start out)
   so_far-stop table f e None now left same so gives of = tt
   so_far-stop table f e (Some rest) None left same so gives of = absurd so.1

@@ -13,10 +13,8 @@ use Rattle.xb_model.specs.Lines.{of_line}
 use Rattle.xb_model.specs.Page.{entries_text, tapes_text}
 use Rattle.xb_model.specs.Tapes.{entries_of}
 use Rattle.xb_model.proofs.Lines.{of_line-here, of_line-other}
-use Rattle.xb_live.specs.declared.printing.Form.TheVariants.{Entries}
 use Rattle.xb_live.specs.Entries.{Numbered}
-use Rattle.xb_live.specs.Pages.{ComesBefore}
-use Rattle.xb_live.specs.Texts.{text_of}
+use Rattle.xb_live.specs.Pages.{ComesBefore, page_line}
 
 abbrev pub line_of : Numbered → ℕ
 line_of entry = entry.line
@@ -82,7 +80,7 @@ of_lines-sheet entries sheets a (suc n) same =
     ∙ ap (λ es. numbered_from a 1 (sheets a) ++ es) (of_lines-sheet entries sheets (a + 1) n (λ l below. same l (omega (arith, below))))
 
 -- what holds of both parts and between them
-AllPairs-append : {X : Type 0} (R : X → X → Type 0) (xs ys : List X) → AllPairs R xs → AllPairs R ys → AllByRecursion (λ x. All (R x) ys) xs → AllPairs R (xs ++ ys)
+pub AllPairs-append : {X : Type 0} (R : X → X → Type 0) (xs ys : List X) → AllPairs R xs → AllPairs R ys → AllByRecursion (λ x. All (R x) ys) xs → AllPairs R (xs ++ ys)
 AllPairs-append R [] ys first second between = second
 AllPairs-append R (x ∷ xs) ys first second between =
     AllPairs-cons R x (xs ++ ys)
@@ -136,19 +134,19 @@ module _ (sheets : ℕ → List (List Mark)) where
           (All-from_recursion (ComesBefore x) (sheet sheets (a + 1) n) (later x h.0.0 (sheet sheets (a + 1) n) (sheet-from (a + 1) n (a + 1) (omega arith))), between xs h.1)
 
 -- the text of a line's entries
-numbered_from-text : (l n : ℕ) (entries : List (List Mark)) → flat_map (text_of Entries) (numbered_from l n entries) ≡ entries_text l n entries
+numbered_from-text : (l n : ℕ) (entries : List (List Mark)) → flat_map page_line (numbered_from l n entries) ≡ entries_text l n entries
 unfolding entries_text
 numbered_from-text l n [] = refl
-numbered_from-text l n (marks ∷ later) = ap (λ text. text_of Entries (record { line = l; number = n; marks = marks }) ++ text) (numbered_from-text l (n + 1) later)
+numbered_from-text l n (marks ∷ later) = ap (λ text. page_line (record { line = l; number = n; marks = marks }) ++ text) (numbered_from-text l (n + 1) later)
 
 -- and of all lines
 pub sheet-text : (tapes : ℕ → List Mark) (a n : ℕ)
-    → flat_map (text_of Entries) (sheet (λ l. entries_of (tapes l)) a n) ≡ tapes_text a (map tapes (range_with_len a n))
+    → flat_map page_line (sheet (λ l. entries_of (tapes l)) a n) ≡ tapes_text a (map tapes (range_with_len a n))
 unfolding tapes_text
 sheet-text tapes a zero = refl
 sheet-text tapes a (suc n) =
-    flat_map-append (text_of Entries) (numbered_from a 1 (entries_of (tapes a))) (sheet (λ l. entries_of (tapes l)) (a + 1) n)
-    ∙ ap (λ text. text ++ flat_map (text_of Entries) (sheet (λ l. entries_of (tapes l)) (a + 1) n)) (numbered_from-text a 1 (entries_of (tapes a)))
+    flat_map-append page_line (numbered_from a 1 (entries_of (tapes a))) (sheet (λ l. entries_of (tapes l)) (a + 1) n)
+    ∙ ap (λ text. text ++ flat_map page_line (sheet (λ l. entries_of (tapes l)) (a + 1) n)) (numbered_from-text a 1 (entries_of (tapes a)))
     ∙ ap (λ text. entries_text a 1 (entries_of (tapes a)) ++ text) (sheet-text tapes (a + 1) n)
 
 -- a sum over the entries of a line, and over those of all lines

@@ -1,4 +1,10 @@
 pub mod Entries
+pub mod Times
+pub mod Hearings
+pub mod Told
+pub mod Objects
+pub mod PageOfObjects
+pub mod Ascending
 pub mod Texts
 pub mod Counting
 pub mod Writing

@@ -1,35 +1,40 @@
 -- What is printed of rows that end, beside their page.
-use Rattle.std.specs.Prelude.{◌≡◌, ◌⊎◌, ℕ, ◌<◌, List, [], ◌++◌, IsPermutation}
+use Rattle.std.specs.Prelude.{◌≡◌, ◌⊎◌, ℕ, ◌<◌, List, ◌++◌, map, IsPermutation}
 use Rattle.std.specs.List.{AllPairs, flat_map}
-use Rattle.xb_model.specs.Page.{page_text, totals_text}
+use Rattle.xb_model.specs.Page.{entry_text, page_text, totals_text}
 use Rattle.xb_model.specs.Rows.{LoopRow}
 use Rattle.xb_model.specs.Tapes.{tapes_of}
 use Rattle.xb_routes.specs.Table.{Table}
 use Rattle.xb_live.specs.declared.printing.Form.{Form}
-use Rattle.xb_live.specs.declared.printing.Form.TheVariants.{Entries}
-use Rattle.xb_live.specs.Entries.{Numbered, count_keyed, count_refused, entries_of_rows, numbered_after}
-use Rattle.xb_live.specs.Texts.{text_of, whole_text, with_closes}
+use Rattle.xb_live.specs.Entries.{Numbered, count_keyed, count_refused, entries_of_rows}
+use Rattle.xb_live.specs.Texts.{text_of, totals_of, whole_text, with_closes}
+use Rattle.xb_live.specs.Told.{Told, entry_in, told_of_rows}
 
 -- the entries of rows that end, in the order in which they are printed
-abbrev pub printed_entries : Table → List LoopRow → List Numbered
-printed_entries table rows = numbered_after [] (entries_of_rows table (with_closes rows))
+abbrev pub printed_entries : Table → List LoopRow → List Told
+printed_entries table rows = told_of_rows table (with_closes rows)
 
 -- the text line after them
-abbrev pub last_line : Table → List LoopRow → List ℕ
-last_line table rows =
+abbrev pub last_line : Form → Table → List LoopRow → List ℕ
+last_line form table rows =
     let entries = entries_of_rows table (with_closes rows) in
-    totals_text (count_keyed entries) (count_refused entries)
+    totals_of form (count_keyed entries) (count_refused entries)
 
 -- one entry is on a lower line than another, or on the same one with a lower number
 abbrev pub ComesBefore : Numbered → Numbered → Type 0
 ComesBefore a b = (a.line < b.line) ⊎ ((a.line ≡ b.line) × (a.number < b.number))
 
+-- the text of an entry on the page
+abbrev pub page_line : Numbered → List ℕ
+page_line entry = entry_text entry.line entry.number entry.marks
+
 -- sorted by line and number, what is printed of rows that end is their page; the totals stay last
 pub record SortsIntoPage (table : Table) (rows : List LoopRow) : Type 0 where
   pub printed : (form : Form) → whole_text form table rows
-      ≡ flat_map (text_of form) (printed_entries table rows) ++ last_line table rows
+      ≡ flat_map (text_of form) (printed_entries table rows) ++ last_line form table rows
   pub sorted : List Numbered
-  pub same : IsPermutation (printed_entries table rows) sorted
+  pub same : IsPermutation (map entry_in (printed_entries table rows)) sorted
   pub order : AllPairs ComesBefore sorted
   pub page : page_text (tapes_of table.plan table.limits table.routes rows)
-      ≡ flat_map (text_of Entries) sorted ++ last_line table rows
+      ≡ flat_map page_line sorted
+      ++ totals_text (count_keyed (entries_of_rows table (with_closes rows))) (count_refused (entries_of_rows table (with_closes rows)))

@@ -17,7 +17,7 @@ program = codes "mflive"
 
 -- the line for words that are refused
 abbrev pub usage_line : List ℕ
-usage_line = codes "mflive: usage: mflive [--marks]\n"
+usage_line = codes "mflive: usage: mflive [--json] [--marks]\n"
 
 -- it names each option of the command
 abbrev pub UsageNamesEachOption : Type 0

@@ -1,5 +1,10 @@
 //! What the definitions give: each law is the contract of a function that does nothing.
+ghost use Rattle.std.specs.Prelude.{List};
+ghost use Rattle.xb_model.specs.Rows.{LoopRow};
+ghost use Rattle.xb_routes.specs.Table.{Table};
+ghost use Rattle.xb_live.specs.Ascending.{TimesAscend};
 ghost use Rattle.xb_live.specs.Decks.{AcceptedRowsAreAll};
+ghost use Rattle.xb_live.specs.PageOfObjects.{ObjectsAreLines};
 ghost use Rattle.xb_live.specs.Program.{UsageNamesEachOption};
 
 /// The line of refused words names each option of the command.
@@ -13,4 +18,16 @@ pub fn usage_names_each_option()
 #[tactic(auto, using(crate::proofs::Accepted::accepted_rows_are_all))]
 pub fn accepted_rows_are_all()
     ensures { AcceptedRowsAreAll }
+{}
+
+/// The page's line of an entry is made of its object alone, whatever its number, its times and its digits.
+pub fn objects_are_lines()
+    ensures { ObjectsAreLines }
+{}
+
+/// Whatever the rows, an attempt begins no later than its entry is completed, and the entries of a line are told in
+/// the order of their times.
+#[tactic(auto, using(crate::proofs::AscendingTimes::times_ascend))]
+pub fn times_ascend()
+    ensures { (table : Table) (rows : List LoopRow) → TimesAscend table rows }
 {}

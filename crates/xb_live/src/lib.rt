@@ -12,7 +12,10 @@
 
 mod counting;
 mod fault;
+mod hearing;
+mod hearings;
 pub mod laws;
+mod objects;
 mod printing;
 mod program;
 mod running;
@@ -21,7 +24,9 @@ mod writing;
 
 pub use counting::Counting;
 pub use fault::{EntriesFault, LiveFault};
-pub use printing::{Form, text_of_entry};
+pub use hearing::Hearing;
+pub use hearings::Hearings;
+pub use printing::Form;
 pub use program::attend;
 pub use running::run_deck;
 pub use writing::{end, take_row};

@@ -1,10 +1,12 @@
 // From a deck as it comes to the entries of its rows.
 ghost use Rattle.std.specs.Prelude.{◌≡◌, ◌+◌, []};
 ghost use Rattle.xb_live.specs.Counting.{HasCounted};
+ghost use Rattle.xb_live.specs.Hearings.{HasHeard};
 ghost use Rattle.xb_live.specs.Runs.{PrintsRows, Runs};
 
 use crate::counting::Counting;
 use crate::fault::LiveFault;
+use crate::hearings::Hearings;
 use crate::printing::Form;
 use crate::writing::{end, take_row};
 use std::alloc::Global;
@@ -22,19 +24,21 @@ fn print_rows<R: Read, W: Write>(
     alloc: Global,
     form: Form,
     office: &mut Counting,
+    hearings: &mut Hearings,
     rows: &mut RowReader<R>,
     out: &mut W,
 ) -> Result<(), LiveFault>
     requires fresh { HasCounted office.old [] }
+    requires silent { HasHeard office.old.live.table hearings.old [] }
     requires none { office.old.keyed + office.old.refused ≡ 0 }
     ensures { PrintsRows form office.old.live.table rows.old result
         (W.contents out.old) (W.contents out.new) }
 {
     for _ in 0..MOST_ROWS {
         match rows.next_row()? {
-            Some(row) => take_row(alloc, form, office, row, out)?,
+            Some(row) => take_row(alloc, form, office, hearings, row, out)?,
             None => {
-                end(alloc, form, office, out)?;
+                end(alloc, form, office, hearings, out)?;
                 return Ok(());
             }
         }
@@ -60,7 +64,8 @@ pub fn run_deck<R: Read, W: Write>(
 {
     let text = read_table(alloc, deck, MOST_DECK_BYTES)?;
     let table = RouteTable::read(alloc, &text)?;
+    let mut hearings = Hearings::new(alloc, &table)?;
     let mut office = Counting::new(alloc, table)?;
     let mut rows = RowReader::new(deck, u64::MAX);
-    print_rows(alloc, form, &mut office, &mut rows, out)
+    print_rows(alloc, form, &mut office, &mut hearings, &mut rows, out)
 }

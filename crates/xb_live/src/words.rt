@@ -8,21 +8,36 @@ use crate::program::PROGRAM;
 use std::alloc::Global;
 use xb_command::{Takes, Words, WordsFault, read_words};
 
-// The options of the program, each under its name.
-const OPTIONS: [(&str, Takes); 1] = [("marks", Takes::Nothing)];
+// What the options of the command line say.
+#[derive(Clone, Copy)]
+pub(crate) struct Options {
+    pub(crate) json: bool,
+    pub(crate) marks: bool,
+}
 
-// Whether the words ask for marks by themselves.
-fn asks_for_marks(words: &Words) -> bool
+// The options of the program, each under its name.
+const OPTIONS: [(&str, Takes); 2] = [("json", Takes::Nothing), ("marks", Takes::Nothing)];
+
+// What the words say.
+fn options_of(words: &Words) -> Options
     ensures { Say words.now result }
 {
-    words.flag("marks")
+    Options {
+        json: words.flag("json"),
+        marks: words.flag("marks"),
+    }
 }
 
 // The form that is asked for.
-fn form_of(marks: bool) -> Option<Form>
-    ensures { result ≡ form_of marks }
+fn form_of(options: Options) -> Option<Form>
+    ensures { result ≡ form_of options }
 {
-    Some(if marks { Form::Marks } else { Form::Entries })
+    Some(match (options.json, options.marks) {
+        (false, false) => Form::Entries,
+        (false, true) => Form::Marks,
+        (true, false) => Form::Objects,
+        (true, true) => Form::MarkObjects,
+    })
 }
 
 /// The form that the words ask for.
@@ -31,5 +46,5 @@ pub(crate) fn form_of_words(alloc: Global, words: &[String]) -> Result<Form, Wor
     ensures refused { IfErr result (λ f. f ≡ WordsFault.Refused → AreRefused (texts_of words.now)) }
 {
     let words = read_words(alloc, PROGRAM, &OPTIONS, words)?;
-    form_of(asks_for_marks(&words)).ok_or(WordsFault::Refused)
+    form_of(options_of(&words)).ok_or(WordsFault::Refused)
 }

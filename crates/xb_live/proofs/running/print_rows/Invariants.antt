@@ -6,5 +6,5 @@ abbrev pub invariant-loop : goal.invariant-loop
 invariant-loop g l = record {
   few : l.office.keyed + l.office.refused ≤ l.counter;
   table : l.office.live.table ≡ l.initial.office.live.table;
-  so_far : IsSoFar l.counter l.form l.office l.initial.rows l.rows (g.W.Write.contents l.initial.out) (g.W.Write.contents l.out);
+  so_far : IsSoFar l.counter l.form l.office l.hearings l.initial.rows l.rows (g.W.Write.contents l.initial.out) (g.W.Write.contents l.out);
 }

@@ -15,12 +15,12 @@ returns-in_err-words-clause-refused c =
 
 pub returns-clause-asks : goal.returns-clause-asks
 returns-clause-asks c =
-    asks-for command_of_words Say form_of (texts_of c.args.words.now) c.in_ok-words.words c.asks_for_marks.result
-    c.ok_or.result c.in_ok-words.ensures.taken c.in_ok-words.ensures.words c.asks_for_marks.ensures
+    asks-for command_of_words Say form_of (texts_of c.args.words.now) c.in_ok-words.words c.options_of.result
+    c.ok_or.result c.in_ok-words.ensures.taken c.in_ok-words.ensures.words c.options_of.ensures
     (c.ok_or.ensures.value ∙ ap (λ asked. ok_or asked Refused) c.form_of.ensures)
 
 pub returns-clause-refused : goal.returns-clause-refused
 returns-clause-refused c =
     ask-for-nothing command_of_words Say form_of (texts_of c.args.words.now) c.in_ok-words.words
-    c.asks_for_marks.result c.ok_or.result c.in_ok-words.ensures.words c.asks_for_marks.ensures
+    c.options_of.result c.ok_or.result c.in_ok-words.ensures.words c.options_of.ensures
     (c.ok_or.ensures.value ∙ ap (λ asked. ok_or asked Refused) c.form_of.ensures)

@@ -11,7 +11,7 @@ pub loop-number-init : goal.loop-number-init
 loop-number-init g c = record {
   few = omega arith;
   table = refl;
-  written = λ rows start before. subst (λ rs. HasWritten c.args.form c.args.office.now rs start (g.W.Write.contents c.args.out.now)) (sym (closes-none rows)) before;
+  written = λ rows start before. subst (λ rs. HasWritten c.args.form c.args.office.now c.args.hearings.now rs start (g.W.Write.contents c.args.out.now)) (sym (closes-none rows)) before;
 }
 
 pub returns-in_err-take_row-clause-written : goal.returns-in_err-take_row-clause-written
@@ -21,22 +21,22 @@ returns-in_err-take_row-clause-written g c = λ rows start before.
     ap (λ row. with_closes_below n rows ++ row ∷ []) (c.close.ensures ∙ ap close_row c.in-Some.ensures.value) ∙ closes-more n rows in
     let wrote = c.in_err-take_row.ensures.written (with_closes_below n rows) start (c.loop-number.invariant.written rows start before) in
     let fault : c.from_residual.result ≡ Err c.in_err-take_row.field-0.0 = search rules in
-    subst (λ r. Writes c.args.form c.take_row.new.office (with_closes rows) r start (g.W.Write.contents c.take_row.new.out)) (sym fault)
-    (faults-more c.args.form c.take_row.new.office (with_closes_below (n + 1) rows) (with_closes rows) c.in_err-take_row.field-0.0 start _
+    subst (λ r. Writes c.args.form c.take_row.new.office c.take_row.new.hearings (with_closes rows) r start (g.W.Write.contents c.take_row.new.out)) (sym fault)
+    (faults-more c.args.form c.take_row.new.office c.take_row.new.hearings (with_closes_below (n + 1) rows) (with_closes rows) c.in_err-take_row.field-0.0 start _
     (first_closes (n + 1) rows (omega arith))
-    (subst (λ rs. Writes c.args.form c.take_row.new.office rs (Err c.in_err-take_row.field-0.0) start (g.W.Write.contents c.take_row.new.out)) now wrote))
+    (subst (λ rs. Writes c.args.form c.take_row.new.office c.take_row.new.hearings rs (Err c.in_err-take_row.field-0.0) start (g.W.Write.contents c.take_row.new.out)) now wrote))
 
 pub loop-number-preserved : goal.loop-number-preserved
 loop-number-preserved g c =
     elim c.match-new.branch [
-      | in-Some+in_ok-take_row w ↦ rw (w.office-is, w.out-is) (record {
+      | in-Some+in_ok-take_row w ↦ rw (w.office-is, w.hearings-is, w.out-is) (record {
         few = omega (arith, w.take_row.ensures.one, c.loop-number.invariant.few);
         table = w.take_row.ensures.table ∙ c.loop-number.invariant.table;
         written = λ rows start before.
             let n : ℕ = c.loop-number.number in
             let now : with_closes_below n rows ++ w.close.result ∷ [] ≡ with_closes_below (n + 1) rows =
             ap (λ row. with_closes_below n rows ++ row ∷ []) (w.close.ensures ∙ ap close_row w.in-Some.ensures.value) ∙ closes-more n rows in
-            subst (λ rs. HasWritten c.args.form w.take_row.new.office rs start (g.W.Write.contents w.take_row.new.out)) now
+            subst (λ rs. HasWritten c.args.form w.take_row.new.office w.take_row.new.hearings rs start (g.W.Write.contents w.take_row.new.out)) now
             (w.in_ok-take_row.ensures.written (with_closes_below n rows) start (c.loop-number.invariant.written rows start before));
       })
       | in_default w ↦ absurd (none_below c.new.result c.loop-number.number c.new.ensures.variant c.loop-number-test.true w.in_default.is)
@@ -45,5 +45,5 @@ loop-number-preserved g c =
 pub returns-clause-written : goal.returns-clause-written
 returns-clause-written g c = λ rows start before.
     let last : c.loop-number.number ≡ LINES = omega arith in
-    subst (λ n. HasWritten c.args.form c.loop-number.office (with_closes_below n rows) start (g.W.Write.contents c.loop-number.out)) last
+    subst (λ n. HasWritten c.args.form c.loop-number.office c.loop-number.hearings (with_closes_below n rows) start (g.W.Write.contents c.loop-number.out)) last
     (c.loop-number.invariant.written rows start before)

@@ -8,6 +8,6 @@ abbrev pub invariant-loop-number : goal.invariant-loop-number
 invariant-loop-number g l = record {
   few : l.office.keyed + l.office.refused ≤ l.initial.office.keyed + l.initial.office.refused + l.number;
   table : l.office.live.table ≡ l.initial.office.live.table;
-  written : (rows : List LoopRow) (start : Option (List ℕ)) → HasWritten l.form l.initial.office rows start (g.W.Write.contents l.initial.out)
-      → HasWritten l.form l.office (with_closes_below l.number rows) start (g.W.Write.contents l.out);
+  written : (rows : List LoopRow) (start : Option (List ℕ)) → HasWritten l.form l.initial.office l.initial.hearings rows start (g.W.Write.contents l.initial.out)
+      → HasWritten l.form l.office l.hearings (with_closes_below l.number rows) start (g.W.Write.contents l.out);
 }

@@ -1,0 +1,13 @@
+//! What several programs write as JSON: the digits and the keys of a call, and an object as a text line.
+//!
+//! - `text_of_digits`: digits as one string; `keys_of`: a keying as the names of its keys, as the page has
+//!   them.
+//! - `line_of`: a value as one text line of JSON. Without a float in it the line is exactly the value's
+//!   compact text, which is read back to the value.
+#![tactic(auto)]
+
+mod keys;
+mod line;
+
+pub use keys::{keys_of, text_of_digits};
+pub use line::line_of;

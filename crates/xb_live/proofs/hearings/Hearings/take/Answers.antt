@@ -1,0 +1,10 @@
+use Rattle.std.proofs.Common.{set, refl}
+use Rattle.xb_live.specs.declared.hearings.Hearings.{Hearings}
+use Rattle.xb_live.proofs.HeardLines.{heard-more}
+use Rattle.xb_live.proofs.hearings.Hearings.take.Goals as goal
+
+pub returns : goal.returns
+returns c =
+    let after : Hearings = record { limits = c.args.self.now.limits; plan = c.args.self.now.plan; lines = set c.args.self.now.lines c.line.result c.take.new.self } in
+    heard-more c.args.self.now after c.args.row c.line.result c.get_mut.result.now c.take.new.self refl refl refl
+    c.get_mut.ensures.lines c.get_mut.ensures.below c.line.ensures (c.get_mut.ensures.value c.get_mut.result.now) c.take.ensures

@@ -1,0 +1,183 @@
+// The JSON objects that are printed of an entry, of a mark, and of the totals.
+ghost use Rattle.std.specs.Prelude.{◌≡◌, [], IfOk, string_bytes};
+ghost use Rattle.serde_json.specs.View.{view};
+ghost use Rattle.xb_model.specs.declared.order.Order.TheVariants as orders;
+ghost use Rattle.xb_model.specs.Page.{key_text};
+ghost use Rattle.xb_live.specs.Objects.{digits_in, mark_object, object_by, object_of, totals_object, trunk_in};
+ghost use Rattle.xb_live.specs.Told.{told_with};
+
+use crate::hearing::Hearing;
+use serde_json::{Value, json};
+use std::alloc::{AllocError, Global};
+use xb_json::{keys_of, text_of_digits};
+use xb_model::{Digit, Key, LineNo, Mark, Reason, Tone};
+
+// The digits that marks key.
+fn digits_in(alloc: Global, marks: &[Mark]) -> Result<Vec<Digit>, AllocError>
+    ensures { IfOk result (λ digits. digits.items ≡ digits_in marks.now) }
+{
+    let mut digits = Vec::new(alloc);
+    for mark in marks {
+        if let Mark::Tone(Key::Digit(digit), _) = mark {
+            digits.push(*digit)?;
+        }
+    }
+    Ok(digits)
+}
+
+// The trunk group that marks begin with.
+fn trunk_in(marks: &[Mark]) -> u16
+    ensures { result ≡ trunk_in marks.now }
+{
+    match marks.first() {
+        Some(Mark::Trunk(trunk)) => trunk.get(),
+        _ => 0,
+    }
+}
+
+// The object of an entry that is keyed on a trunk group.
+fn keyed_object(
+    alloc: Global,
+    line: LineNo,
+    number: usize,
+    trunk: u16,
+    sent: &[Digit],
+    heard: &Hearing,
+) -> Result<Value, AllocError>
+    ensures { IfOk result (λ value. view value
+        ≡ object_by (told_with line number [] heard.now) (orders.Key trunk sent.now)) }
+{
+    let dialled = text_of_digits(alloc, heard.dialled.digits())?;
+    let keys = keys_of(alloc, sent)?;
+    let sent = text_of_digits(alloc, sent)?;
+    let line = line.get();
+    let from = heard.began;
+    let at = heard.at;
+    json!(in alloc; {
+        "at_ms": at,
+        "dialled": dialled,
+        "entry": number,
+        "from_ms": from,
+        "keys": keys,
+        "line": line,
+        "outcome": "KEYED",
+        "sent": sent,
+        "trunk": trunk
+    })
+}
+
+// The object of an entry that is refused.
+fn refused_object(
+    alloc: Global,
+    line: LineNo,
+    number: usize,
+    reason: Reason,
+    count: u8,
+    heard: &Hearing,
+) -> Result<Value, AllocError>
+    ensures { IfOk result (λ value. view value
+        ≡ object_by (told_with line number [] heard.now) (orders.Refused reason count)) }
+{
+    let dialled = text_of_digits(alloc, heard.dialled.digits())?;
+    let line = line.get();
+    let reason = reason.word();
+    let from = heard.began;
+    let at = heard.at;
+    json!(in alloc; {
+        "at_ms": at,
+        "dialled": dialled,
+        "entry": number,
+        "from_ms": from,
+        "heard": count,
+        "line": line,
+        "outcome": "REFUSED",
+        "reason": reason
+    })
+}
+
+/// The object of entry `number` of a line. `Err` says that memory ran out.
+pub(crate) fn object_of(
+    alloc: Global,
+    line: LineNo,
+    number: usize,
+    marks: &[Mark],
+    heard: &Hearing,
+) -> Result<Value, AllocError>
+    ensures { IfOk result (λ value. view value ≡ object_of (told_with line number marks.now heard.now)) }
+{
+    match marks.last() {
+        Some(Mark::Refused(reason, count)) => {
+            refused_object(alloc, line, number, *reason, *count, heard)
+        }
+        _ => {
+            let sent = digits_in(alloc, marks)?;
+            keyed_object(alloc, line, number, trunk_in(marks), &sent, heard)
+        }
+    }
+}
+
+// The name of a key.
+fn key_name(alloc: Global, key: Key) -> Result<String, AllocError>
+    ensures { IfOk result (λ name. string_bytes name ≡ key_text key) }
+{
+    match key {
+        Key::Digit(digit) => {
+            let value = digit.get();
+            format!(in alloc; "{value}")
+        }
+        Key::Kp => String::from_str(alloc, "KP"),
+        Key::St => String::from_str(alloc, "ST"),
+    }
+}
+
+/// The object of a mark of entry `number` of a line. `Err` says that memory ran out.
+pub(crate) fn mark_object(
+    alloc: Global,
+    line: LineNo,
+    number: usize,
+    mark: &Mark,
+    at: u64,
+) -> Result<Value, AllocError>
+    ensures { IfOk result (λ value. view value ≡ mark_object line number at mark.now) }
+{
+    let line = line.get();
+    match mark {
+        Mark::Trunk(trunk) => {
+            let trunk = trunk.get();
+            json!(in alloc; {"at_ms": at, "entry": number, "line": line, "trunk": trunk})
+        }
+        Mark::Tone(key, tone) => {
+            let name = key_name(alloc, *key)?;
+            let Tone { low, high } = *tone;
+            json!(in alloc; {
+                "at_ms": at,
+                "entry": number,
+                "high_hz": high,
+                "key": name,
+                "line": line,
+                "low_hz": low
+            })
+        }
+        Mark::Refused(reason, count) => {
+            let reason = reason.word();
+            json!(in alloc; {
+                "at_ms": at,
+                "entry": number,
+                "heard": *count,
+                "line": line,
+                "reason": reason
+            })
+        }
+    }
+}
+
+/// The object of the totals. `Err` says that memory ran out.
+pub(crate) fn totals_object(
+    alloc: Global,
+    keyed: usize,
+    refused: usize,
+) -> Result<Value, AllocError>
+    ensures { IfOk result (λ value. view value ≡ totals_object keyed refused) }
+{
+    json!(in alloc; {"keyed": keyed, "refused": refused})
+}
