@@ -23,6 +23,24 @@ pub const REFUSED: &[u8] = b"0009 1 REFUSED ABANDONED 0\n";
 /// The entry of the end, and the totals.
 pub const LAST: &[u8] = b"0007 2 REFUSED ABANDONED 0\nKEYED 1 REFUSED 2\n";
 
+/// The objects of these entries, and of the totals. Line 7 was seized at once, and its digit ends 2060 ms later;
+/// it hung up for 400 ms, and the close ends its second attempt after 500 more.
+pub const OBJECTS: &[u8] = b"{\"at_ms\":2060,\"dialled\":\"0\",\"entry\":1,\"from_ms\":0,\
+\"keys\":[\"KP\",\"0\",\"ST\"],\"line\":7,\"outcome\":\"KEYED\",\"sent\":\"0\",\"trunk\":1}\n\
+{\"at_ms\":900,\"dialled\":\"\",\"entry\":1,\"from_ms\":0,\"heard\":0,\"line\":9,\
+\"outcome\":\"REFUSED\",\"reason\":\"ABANDONED\"}\n\
+{\"at_ms\":2960,\"dialled\":\"\",\"entry\":2,\"from_ms\":2460,\"heard\":0,\"line\":7,\
+\"outcome\":\"REFUSED\",\"reason\":\"ABANDONED\"}\n{\"keyed\":1,\"refused\":2}\n";
+
+/// The objects of their marks, and of the totals.
+pub const MARK_OBJECTS: &[u8] = b"{\"at_ms\":2060,\"entry\":1,\"line\":7,\"trunk\":1}\n\
+{\"at_ms\":2060,\"entry\":1,\"high_hz\":1700,\"key\":\"KP\",\"line\":7,\"low_hz\":1100}\n\
+{\"at_ms\":2060,\"entry\":1,\"high_hz\":1500,\"key\":\"0\",\"line\":7,\"low_hz\":1300}\n\
+{\"at_ms\":2060,\"entry\":1,\"high_hz\":1700,\"key\":\"ST\",\"line\":7,\"low_hz\":1500}\n\
+{\"at_ms\":900,\"entry\":1,\"heard\":0,\"line\":9,\"reason\":\"ABANDONED\"}\n\
+{\"at_ms\":2960,\"entry\":2,\"heard\":0,\"line\":7,\"reason\":\"ABANDONED\"}\n\
+{\"keyed\":1,\"refused\":2}\n";
+
 /// Texts, one after the other.
 pub fn joined(alloc: Global, parts: &[&[u8]]) -> Result<Vec<u8>, AllocError> {
     let mut all = Vec::new(alloc);

@@ -1,11 +1,11 @@
 // Words and decks in; a status, entries, and lines of faults out.
-use crate::reckoned::{BEGINNING, END, KEYED, LAST, MARKS, REFUSED, joined};
+use crate::reckoned::{BEGINNING, END, KEYED, LAST, MARK_OBJECTS, MARKS, OBJECTS, REFUSED, joined};
 use std::test::Fail;
 use test_kit::words_of;
 use xb_live::{Form, LiveFault, attend, run_deck};
 use xb_model::RowFault;
 
-const USAGE: &[u8] = b"mflive: usage: mflive [--marks]\n";
+const USAGE: &[u8] = b"mflive: usage: mflive [--json] [--marks]\n";
 
 // The words after the program's name, the parts of the deck, the status, the parts of what is printed, and
 // what stands on standard error.
@@ -24,6 +24,14 @@ const CASES: &[Case] = &[
         &[BEGINNING, END],
         0,
         &[MARKS, REFUSED, LAST],
+        b"",
+    ),
+    (&["--json"], &[BEGINNING, END], 0, &[OBJECTS], b""),
+    (
+        &["--marks", "--json"],
+        &[BEGINNING, END],
+        0,
+        &[MARK_OBJECTS],
         b"",
     ),
     (
