@@ -1,6 +1,6 @@
 -- The line that is printed of a number.
 use Rattle.std.specs.Prelude.{◌≡◌, ℕ, List, [], ◌∷◌, ◌++◌, codes, decimal, length, Option, Some, None}
-use Rattle.std.specs.List.{flat_map}
+use Rattle.xb_json.specs.Keys.{digits_text}
 use Rattle.xb_model.specs.declared.mark.Mark.{Mark}
 use Rattle.xb_model.specs.declared.reason.Reason.{Reason}
 use Rattle.xb_model.specs.Keyings.{marks_of}
@@ -8,10 +8,6 @@ use Rattle.xb_model.specs.Page.{entry_head, entry_text, last_refusal, marks_text
 use Rattle.xb_route.specs.declared.answer.Answer.{Answer}
 use Rattle.xb_route.specs.declared.answer.Answer.TheVariants.{Incomplete, Routed}
 use Rattle.xb_route.specs.Answers.{left_over}
-
--- digits, one after the other
-abbrev pub digits_text : List ℕ → List ℕ
-digits_text digits = flat_map decimal digits
 
 abbrev pub entry_body_by : List Mark → Option (Reason × ℕ) → List ℕ
 entry_body_by entry None = codes " KEYED" ++ marks_text entry

@@ -1,5 +1,5 @@
 -- The JSON object that is printed of a number.
-use Rattle.std.specs.Prelude.{ℕ, List, [], ◌∷◌, ◌++◌, codes, decimal, length, map}
+use Rattle.std.specs.Prelude.{ℕ, List, ◌++◌, codes, length}
 use Rattle.serde_json.specs.Data.{Data, array, member, no_members, number, object, string, unsigned}
 use Rattle.serde_json.specs.View.{items_of}
 use Rattle.serde_json.specs.Written.{compact_text}
@@ -9,11 +9,7 @@ use Rattle.xb_model.specs.Page.{reason_text}
 use Rattle.xb_route.specs.declared.answer.Answer.{Answer}
 use Rattle.xb_route.specs.declared.answer.Answer.TheVariants.{Incomplete, Routed}
 use Rattle.xb_route.specs.Answers.{left_over}
-use Rattle.xb_route.specs.Lines.{digits_text}
-
--- the keys of a keying, by the page's words
-abbrev pub keys_of : List ℕ → List Data
-keys_of digits = string (codes "KP") ∷ (map (λ digit. string (decimal digit)) digits ++ string (codes "ST") ∷ [])
+use Rattle.xb_json.specs.Keys.{digits_text, keys_of}
 
 -- the object of digits that complete a number, what is left over, and its order
 abbrev pub object_of_order : List ℕ → List ℕ → Order → Data

@@ -1,28 +1,17 @@
 // The line that is printed of a number.
 ghost use Rattle.std.specs.Prelude.{◌≡◌, ◌++◌, IfOk, OnOk, string_bytes};
 ghost use Rattle.xb_route.specs.declared.answer.Answer.TheVariants.{Incomplete};
-ghost use Rattle.xb_route.specs.Lines.{answer_line, digits_text, entry_body, ignored_text};
+ghost use Rattle.xb_route.specs.Lines.{answer_line, entry_body, ignored_text};
 
 use crate::answer::{Answer, left_over};
 use std::alloc::{AllocError, Global};
+use xb_json::text_of_digits;
 use xb_model::{Digit, LineNo, Mark};
 use xb_sender::marks_of;
 use xb_tape::write_entry;
 
 // How many bytes the page writes before an entry of line 0 that is its first: `0000 1`.
 const HEAD_BYTES: usize = 6;
-
-/// Digits, one after the other.
-pub(crate) fn text_of_digits(alloc: Global, digits: &[Digit]) -> Result<String, AllocError>
-    ensures { IfOk result (λ text. string_bytes text ≡ digits_text digits.now) }
-{
-    let mut text = String::new(alloc);
-    for digit in digits {
-        let value = digit.get();
-        write!(text, "{value}")?;
-    }
-    Ok(text)
-}
 
 // Appends what the page writes of an entry after the line and the number.
 fn append_entry(alloc: Global, out: &mut Vec<u8>, entry: &[Mark]) -> Result<(), AllocError>

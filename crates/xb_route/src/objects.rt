@@ -1,30 +1,15 @@
 // The JSON object that is printed of a number.
-ghost use Rattle.std.specs.Prelude.{◌≡◌, IfOk, codes, decimal};
-ghost use Rattle.serde_json.specs.Data.{array, string};
-ghost use Rattle.serde_json.specs.View.{items_of, view};
+ghost use Rattle.std.specs.Prelude.{◌≡◌, IfOk};
+ghost use Rattle.serde_json.specs.View.{view};
 ghost use Rattle.xb_model.specs.declared.order.Order.TheVariants as orders;
 ghost use Rattle.xb_route.specs.declared.answer.Answer.TheVariants.{Incomplete};
-ghost use Rattle.xb_route.specs.Objects.{keys_of, object_line, object_of, object_of_order};
+ghost use Rattle.xb_route.specs.Objects.{object_line, object_of, object_of_order};
 
 use crate::answer::{Answer, left_over};
-use crate::lines::text_of_digits;
 use serde_json::{Value, json};
 use std::alloc::{AllocError, Global};
+use xb_json::{keys_of, line_of, text_of_digits};
 use xb_model::{Digit, Order, Reason, Trunk};
-
-// The keys of a keying.
-fn keys_of(alloc: Global, digits: &[Digit]) -> Result<Value, AllocError>
-    ensures { IfOk result (λ keys. view keys ≡ array (items_of (keys_of digits.now))) }
-{
-    let mut keys = Vec::new(alloc);
-    keys.push(Value::try_from_str(alloc, "KP")?)?;
-    for digit in digits {
-        let value = digit.get();
-        keys.push(Value::from(format!(in alloc; "{value}")?))?;
-    }
-    keys.push(Value::try_from_str(alloc, "ST")?)?;
-    Ok(Value::from(keys))
-}
 
 // The object of a number that is keyed.
 fn keyed_object(
@@ -109,9 +94,6 @@ pub(crate) fn object_line(
 ) -> Result<Vec<u8>, AllocError>
     ensures { IfOk result (λ line. line.items ≡ object_line digits.now answer.now) }
 {
-    let mut line = object_of(alloc, digits, answer)?
-        .to_string(alloc)?
-        .into_bytes();
-    line.push(b'\n')?;
-    Ok(line)
+    let object = object_of(alloc, digits, answer)?;
+    Ok(line_of(alloc, &object)?.into_bytes())
 }

@@ -1,4 +1,4 @@
-use Rattle.std.proofs.Common.{◌≡◌, false, ap, ◌∙◌, rules, string_bytes}
+use Rattle.std.proofs.Common.{◌≡◌, ◌++◌, codes, false, ap, ◌∙◌, rules, string_bytes}
 use Rattle.serde_json.specs.View.{view}
 use Rattle.serde_json.specs.Written.{compact_text, has_float}
 use Rattle.xb_route.specs.Objects.{object_of}
@@ -7,9 +7,9 @@ use Rattle.xb_route.proofs.objects.object_line.Goals as goal
 
 pub returns : goal.returns
 returns c =
-    let is : view c.in_ok-object_of.field-0 ≡ object_of c.args.digits.now c.args.answer.now = search rules in
-    let none : has_float (view c.in_ok-object_of.field-0) ≡ false
+    let is : view c.in_ok-object.object ≡ object_of c.args.digits.now c.args.answer.now = search rules in
+    let none : has_float (view c.in_ok-object.object) ≡ false
     = ap has_float is ∙ no-floats c.args.digits.now c.args.answer.now in
-    let text : string_bytes c.in_ok-to_string.field-0 ≡ compact_text (object_of c.args.digits.now c.args.answer.now)
-    = c.in_ok-to_string.ensures.text none ∙ ap compact_text is in
+    let text : string_bytes c.in_ok-line_of.field-0 ≡ compact_text (object_of c.args.digits.now c.args.answer.now) ++ codes "\n"
+    = c.in_ok-line_of.ensures.text none ∙ ap (λ d. compact_text d ++ codes "\n") is in
     search rules
