@@ -6,6 +6,9 @@
 //! - `take_row` and `end` write these entries: exactly them, and on a fault those of the first rows.
 //!   `SortsIntoPage` (`specs/Pages.antt`): sorted by line and number, what is printed of rows that end is
 //!   their page.
+//! - As JSON an entry has the times of its line, and what was dialled: those of the line's record so far
+//!   (`told_of_rows`, `specs/Told.antt`). `Hearings` keeps them, row by row. Its line of the page is made of
+//!   its object alone (`laws::objects_are_lines`), and the times of a line ascend (`laws::times_ascend`).
 //! - `run_deck` (`Runs`, `specs/Runs.antt`): what was written of a deck is what its table and its rows say,
 //!   also where a fault stops them; `attend` says the same of the program, by its status.
 #![tactic(auto)]
