@@ -5,8 +5,7 @@ ghost use Rattle.xb_structs.specs.Hearing.{digits_so_far};
 ghost use Rattle.xb_structs.specs.Lines.{register_in};
 ghost use Rattle.mfchain.specs.Told.{IsNotTold, IsTold, not_heard_status};
 
-use crate::status::DONE;
-use xb_structs::{Heard, NotHeard, PlainLine, PlainMark, PlainTable, dialled, hear};
+use xb_structs::{DONE, Heard, NotHeard, PlainLine, PlainMark, PlainTable, dialled, hear};
 
 // The status of what is not heard.
 fn not_heard_status(why: NotHeard) -> u32

@@ -4,3 +4,7 @@ pub mod Counting
 pub mod Opening
 pub mod Giving
 pub mod HeardSignals
+pub mod Adding
+pub mod EntryLines
+pub mod PrintedTapes
+pub mod FilledTables

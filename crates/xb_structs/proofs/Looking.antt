@@ -1,5 +1,5 @@
 -- The route of the longest code, found by the numbers of the first digits.
-use Rattle.std.proofs.Common.{◌≡◌, ℕ, zero, suc, ◌<◌, ◌≤◌, List, [], ◌∷◌, length, Option, Some, None, Bool, true, false, option_map, take, refl, sym, ap, ◌∙◌, ⊎_elim, arith}
+use Rattle.std.proofs.Common.{◌≡◌, ℕ, zero, suc, ◌<◌, ◌≤◌, List, [], ◌∷◌, length, Option, Some, None, Bool, true, false, option_map, take, length-take-le, refl, sym, ap, ◌∙◌, ⊎_elim, arith}
 use Rattle.std.specs.Prelude.{nat_le, slice_get, if◌then◌else◌}
 use Rattle.std.proofs.lemmas.Bool.{cases_Bool, cond-true, cond-false}
 use Rattle.std.proofs.lemmas.Bool.Decides.{nat_tests}
@@ -9,8 +9,9 @@ use Rattle.xb_routes.specs.Codes.{AreDigits}
 use Rattle.xb_routes.specs.Coded.{uncoded}
 use Rattle.xb_routes.specs.Places.{code_number, place_of, place_of_first}
 use Rattle.xb_routes.specs.Text.{has_code}
-use Rattle.xb_routes.proofs.Longest.{Left, left-found, left-next, place-below}
+use Rattle.xb_routes.proofs.Longest.{Left, at-place, left-found, left-next}
 use Rattle.xb_structs.specs.declared.route.PlainRoute.{PlainRoute}
+use Rattle.xb_structs.specs.Deciding.{IsLongest}
 use Rattle.xb_structs.specs.Routes.{HaveSameRoutes, numbered, numbered_first, of_code, route_in}
 
 -- what stands at a place, if there is one
@@ -29,14 +30,12 @@ of_code-at code (route ∷ routes) = by (has_code code route) (place_of code rou
     by false None e = e
     by false (Some k) e = e
 
-some-at : (routes : List CodedRoute) (p : ℕ) → p < length routes → (r : CodedRoute) × (slice_get routes p ≡ Some r)
-some-at [] p h = absurd (omega (arith, h))
-some-at (route ∷ routes) zero h = (route, refl)
-some-at (route ∷ routes) (suc p) h = some-at routes p (omega (arith, h))
+some-injective : {X : Type 0} {x y : X} → Some x ≡ Some y → x ≡ y
+some-injective e = cc
 
--- what a search by the first digits gives: the route of the longest code, or the shorter codes are left
-pub record Step (digits : List ℕ) (routes : List CodedRoute) (lengths : List ℕ) (r : Option Route) : Type 0 where
-  pub found : (route : Route) → r ≡ Some route → r ≡ option_map uncoded (route_for routes digits)
+-- what a search by the first n digits gives: the route of the longest code, or the shorter codes are left
+pub record Step (digits : List ℕ) (routes : List CodedRoute) (n : ℕ) (lengths : List ℕ) (r : Option Route) : Type 0 where
+  pub found : (route : Route) → r ≡ Some route → IsLongest routes digits (Some (n, route))
   pub goes_on : r ≡ None → Left digits lengths routes
 
 module _ (plain : List PlainRoute) (routes : List CodedRoute) (same : HaveSameRoutes plain routes) (digits : List ℕ) (n : ℕ) (lengths : List ℕ) where
@@ -47,21 +46,30 @@ module _ (plain : List PlainRoute) (routes : List CodedRoute) (same : HaveSameRo
   given = option_map route_in (numbered (code_number code) plain)
 
   by_place : (q : Option ℕ) → place_of code routes ≡ q → nat_le n (length digits) ≡ true → given ≡ option_map uncoded (at routes q)
-      → Left digits (n ∷ lengths) routes → Step digits routes lengths given
+      → Left digits (n ∷ lengths) routes → Step digits routes n lengths given
   by_place None e fits is left = record {
     found = λ route f. absurd (cc (sym f ∙ is));
     goes_on = λ f. left-next digits n lengths routes left (cond-true _ _ _ fits ∙ e);
   }
   by_place (Some p) e fits is left =
       let first : place_of_first n digits routes ≡ Some p = cond-true _ _ _ fits ∙ e in
-      let there = some-at routes p (place-below digits n routes p first) in
+      let there = at-place digits code routes p e in
+      let gives : given ≡ Some (uncoded there.0) = is ∙ ap (option_map uncoded) there.1 in
       record {
-        found = λ route f. is ∙ ap (option_map uncoded) (left-found digits n lengths routes left p first);
-        goes_on = λ f. absurd (cc (sym f ∙ is ∙ ap (option_map uncoded) there.1));
+        found = λ route f. (
+          record {
+            route = there.0;
+            longest = sym (left-found digits n lengths routes left p first) ∙ there.1;
+            code = there.2;
+            whole = ap length there.2 ∙ length-take-le n digits (grind (arith, nat_tests));
+          },
+          some-injective (sym gives ∙ f),
+        );
+        goes_on = λ f. absurd (cc (sym f ∙ gives));
       }
 
   pub step : (n ≤ length digits → AreDigits code) → Left digits (n ∷ lengths) routes → (r : Option Route)
-      → r ≡ option_map route_in (numbered_first n digits plain) → Step digits routes lengths r
+      → r ≡ option_map route_in (numbered_first n digits plain) → Step digits routes n lengths r
   step are left r is =
       ⊎_elim
       (λ fits.

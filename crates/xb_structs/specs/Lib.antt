@@ -11,3 +11,9 @@ pub mod Heard
 pub mod Hearing
 pub mod Entrances
 pub mod Promises
+pub mod Signals
+pub mod Filling
+pub mod Status
+pub mod Calls
+pub mod EntryLines
+pub mod Deciding

@@ -43,7 +43,7 @@ fn sorted(alloc: Global, entries: &[Entry]) -> Result<Vec<PlainRoute>, AllocErro
 }
 
 // Writes routes to the front of the room.
-fn put_routes(routes: &[PlainRoute], room: &mut [PlainRoute])
+pub(crate) fn put_routes(routes: &[PlainRoute], room: &mut [PlainRoute])
     requires { length routes.now ≤ length room.old }
     ensures { take (length routes.now) room.new ≡ routes.now }
 {

@@ -11,7 +11,7 @@ use xb_routes::{Entry, Route, code_number};
 
 /// A route with its code.
 #[repr(C)]
-#[derive(Clone, Copy)]
+#[derive(Clone, Copy, Default)]
 pub struct PlainRoute {
     /// The number of its code: the decimal number that 1 and then the digits of the code write.
     pub code: u32,

@@ -1,19 +1,18 @@
-use Rattle.std.proofs.Common.{◌+◌, ◌∙◌, ap, sym, drop}
-use Rattle.std.specs.Prelude.{option_map, slice_index_or}
+use Rattle.std.proofs.Common.{◌+◌, ap, sym, drop}
+use Rattle.std.specs.Prelude.{slice_index_or}
 use Rattle.std.proofs.lemmas.List.{drop_more, drop_all}
-use Rattle.xb_routes.specs.Coded.{uncoded}
 use Rattle.xb_routes.specs.declared.code.TheConstants.{CODE_LENGTHS}
 use Rattle.xb_routes.proofs.Longest.{left-none}
 use Rattle.xb_structs.proofs.Looking.{step}
-use Rattle.xb_structs.proofs.search.look.Goals as goal
+use Rattle.xb_structs.proofs.search.longest.Goals as goal
 
-pub returns-in-Some : goal.returns-in-Some
-returns-in-Some c = λ all are.
+pub returns-in-Some-clause-longest : goal.returns-in-Some-clause-longest
+returns-in-Some-clause-longest c = λ all are.
     let n = slice_index_or CODE_LENGTHS c.loop-count.count-index 0 in
     let left = rw (drop_more CODE_LENGTHS c.loop-count.count-index 0 c.loop-count-test.true) at (c.loop-count.invariant all are) in
     let went = step c.args.routes.now all are.same c.args.digits.now n (drop (c.loop-count.count-index + 1) CODE_LENGTHS)
     c.numbered_first.ensures.digits left c.numbered_first.result (c.numbered_first.ensures.route are.rise) in
-    sym c.in-Some.is ∙ went.found c.in-Some.route c.in-Some.is
+    went.found c.in-Some.route c.in-Some.is
 
 pub loop-count-preserved : goal.loop-count-preserved
 loop-count-preserved c = λ all are.
@@ -23,7 +22,7 @@ loop-count-preserved c = λ all are.
     c.numbered_first.ensures.digits left c.numbered_first.result (c.numbered_first.ensures.route are.rise) in
     went.goes_on c.in_default.is
 
-pub returns : goal.returns
-returns c = λ all are.
+pub returns-clause-longest : goal.returns-clause-longest
+returns-clause-longest c = λ all are.
     let left = rw (drop_all c.loop-count.count-index CODE_LENGTHS c.loop-count-test.false) at (c.loop-count.invariant all are) in
-    ap (option_map uncoded) (sym (left-none c.args.digits.now all left))
+    left-none c.args.digits.now all left

@@ -1,0 +1,44 @@
+-- The numbers by which calls answer callers of other languages.
+use Rattle.std.specs.Prelude.{ℕ}
+use Rattle.xb_structs.specs.declared.refusal.Refusal.{Refusal}
+use Rattle.xb_structs.specs.declared.refusal.Refusal.TheVariants as refusal
+use Rattle.xb_routes.specs.declared.fault.RouteFault.{RouteFault}
+use Rattle.xb_routes.specs.declared.fault.RouteFault.TheVariants as fault
+
+-- of a row that is not taken
+abbrev pub refusal_status : Refusal → ℕ
+refusal_status refusal.NotOpened = 3
+refusal_status refusal.Line = 4
+refusal_status refusal.State = 5
+refusal_status refusal.Ms = 6
+refusal_status refusal.Room = 7
+
+-- of a table that is refused
+abbrev pub fault_status : RouteFault → ℕ
+fault_status fault.NoMemory = 1
+fault_status fault.NotToml = 8
+fault_status fault.Plan = 9
+fault_status (fault.Limits k) = 10
+fault_status fault.TooMany = 11
+fault_status (fault.Shape i) = 12
+fault_status (fault.Code i) = 13
+fault_status (fault.Trunk i) = 14
+fault_status (fault.Delete i) = 15
+fault_status (fault.Prefix i) = 16
+fault_status (fault.NothingToKey i) = 17
+fault_status (fault.Twice i) = 18
+
+-- the limit or the route that a fault names
+abbrev pub fault_place : RouteFault → ℕ
+fault_place fault.NoMemory = 0
+fault_place fault.NotToml = 0
+fault_place fault.Plan = 0
+fault_place (fault.Limits k) = k
+fault_place fault.TooMany = 0
+fault_place (fault.Shape i) = i
+fault_place (fault.Code i) = i
+fault_place (fault.Trunk i) = i
+fault_place (fault.Delete i) = i
+fault_place (fault.Prefix i) = i
+fault_place (fault.NothingToKey i) = i
+fault_place (fault.Twice i) = i

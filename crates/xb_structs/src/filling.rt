@@ -1,0 +1,84 @@
+// A table that is filled by its values, where no memory is to be had and another reads the text.
+ghost use Rattle.std.specs.Prelude.{◌≡◌, ◌≤◌, ◌<◌, ◌≢◌, Ok, Err, IfOk, IfErr, OnOk, OnErr, length};
+ghost use Rattle.std.specs.List.{insert};
+ghost use Rattle.xb_routes.specs.declared.table.TheConstants.{MOST_ROUTES};
+ghost use Rattle.xb_routes.specs.Keys.{keys_in};
+ghost use Rattle.xb_routes.specs.Table.{Table};
+ghost use Rattle.xb_structs.specs.Filling.{Adds, begun, next_route};
+ghost use Rattle.xb_structs.specs.Tables.{Holds};
+
+use crate::reading::put_routes;
+use crate::route::{PlainRoute, plain_route};
+use crate::table::{PlainTable, routes_of};
+use arrayvec::ArrayVec;
+use xb_model::{Limits, Plan};
+use xb_routes::{MOST_ROUTES, RouteFault, RouteWords, entry_of, limits_by};
+
+/// Begins a table: its plan, 7 or 10, and its limits, with no route as yet. On an `Err` the table is as it
+/// was.
+pub fn begin(table: &mut PlainTable, plan: u32, limits: Limits) -> Result<(), RouteFault>
+    ensures begun { IfOk result (λ _. (read : Table) × (begun plan limits ≡ Ok read) × Holds table.new read) }
+    ensures refused { IfErr result (λ f. begun plan limits ≡ Err f) }
+    ensures kept { OnErr result (table.new ≡ table.old) }
+{
+    let Some(_) = Plan::of_digits(plan) else {
+        return Err(RouteFault::Plan);
+    };
+    let limits = limits_by(limits)?;
+    table.plan = plan;
+    table.pulse_min = limits.pulse_min;
+    table.pulse_max = limits.pulse_max;
+    table.make_min = limits.make_min;
+    table.pause = limits.pause;
+    table.release = limits.release;
+    table.timeout = limits.timeout;
+    table.count = 0;
+    Ok(())
+}
+
+// The routes with one more at a place.
+fn with_route(
+    routes: &[PlainRoute],
+    place: usize,
+    route: PlainRoute,
+) -> ArrayVec<PlainRoute, MOST_ROUTES>
+    requires room { length routes.now < MOST_ROUTES }
+    requires place { place ≤ length routes.now }
+    ensures items { result.items ≡ insert routes.now place route }
+{
+    let mut all = ArrayVec::new();
+    for other in routes {
+        all.push(*other);
+    }
+    all.insert(place, route);
+    all
+}
+
+/// Adds route `i` to a table, by the words of its keys. On an `Err` the table is as it was; `TooMany` comes
+/// where it has 1,000 routes.
+pub fn add(table: &mut PlainTable, i: u32, words: RouteWords<'_>) -> Result<(), RouteFault>
+    ensures added { OnOk result ((read : Table) → Holds table.old read →
+        Adds table.new (next_route read i (keys_in words.entry)) read) }
+    ensures refused { IfErr result (λ f. f ≢ RouteFault.TooMany → (read : Table) → Holds table.old read →
+        next_route read i (keys_in words.entry) ≡ Err f) }
+    ensures full { IfErr result (λ f. f ≡ RouteFault.TooMany → MOST_ROUTES ≤ table.old.count) }
+    ensures kept { OnErr result (table.new ≡ table.old) }
+{
+    let Some(plan) = Plan::of_digits(table.plan) else {
+        return Err(RouteFault::Plan);
+    };
+    let Some(routes) = routes_of(table) else {
+        return Err(RouteFault::TooMany);
+    };
+    if routes.len() == MOST_ROUTES {
+        return Err(RouteFault::TooMany);
+    }
+    let route = plain_route(&entry_of(plan, i, words)?);
+    let Err(place) = routes.binary_search_by_key(&route.code, |other| other.code) else {
+        return Err(RouteFault::Twice(i));
+    };
+    let all = with_route(routes, place, route);
+    put_routes(&all, &mut table.routes);
+    table.count = all.len() as u32;
+    Ok(())
+}

@@ -1,0 +1,61 @@
+// The numbers by which a call answers a caller of another language.
+ghost use Rattle.std.specs.Prelude.{◌≡◌, ◌≢◌};
+ghost use Rattle.xb_structs.specs.Status.{fault_place, fault_status, refusal_status};
+
+use crate::refusal::Refusal;
+use xb_routes::RouteFault;
+
+/// All was done.
+pub const DONE: u32 = 0;
+
+/// The status of a refusal.
+pub fn refusal_status(refusal: Refusal) -> u32
+    ensures value { result ≡ refusal_status refusal }
+    ensures not_done { result ≢ 0 }
+{
+    match refusal {
+        Refusal::NotOpened => 3,
+        Refusal::Line => 4,
+        Refusal::State => 5,
+        Refusal::Ms => 6,
+        Refusal::Room => 7,
+    }
+}
+
+/// The status of a fault of a route table.
+pub fn fault_status(fault: RouteFault) -> u32
+    ensures value { result ≡ fault_status fault }
+    ensures not_done { result ≢ 0 }
+{
+    match fault {
+        RouteFault::NoMemory => 1,
+        RouteFault::NotToml => 8,
+        RouteFault::Plan => 9,
+        RouteFault::Limits(_) => 10,
+        RouteFault::TooMany => 11,
+        RouteFault::Shape(_) => 12,
+        RouteFault::Code(_) => 13,
+        RouteFault::Trunk(_) => 14,
+        RouteFault::Delete(_) => 15,
+        RouteFault::Prefix(_) => 16,
+        RouteFault::NothingToKey(_) => 17,
+        RouteFault::Twice(_) => 18,
+    }
+}
+
+/// The limit or the route that a fault of a route table names; 0 where it names none.
+pub fn fault_place(fault: RouteFault) -> u32
+    ensures { result ≡ fault_place fault }
+{
+    match fault {
+        RouteFault::NoMemory | RouteFault::NotToml | RouteFault::Plan | RouteFault::TooMany => 0,
+        RouteFault::Limits(limit) => limit,
+        RouteFault::Shape(route)
+        | RouteFault::Code(route)
+        | RouteFault::Trunk(route)
+        | RouteFault::Delete(route)
+        | RouteFault::Prefix(route)
+        | RouteFault::NothingToKey(route)
+        | RouteFault::Twice(route) => route,
+    }
+}
