@@ -1,0 +1,89 @@
+-- What the calls of the module do.
+use Rattle.std.specs.Prelude.{◌≡◌, ◌≢◌, ℕ, ◌==◌, ◌≤◌, if◌then◌else◌, List, length, Option, Some, None, Ok, Err}
+use Rattle.xb_model.specs.declared.key.Tone.{Tone}
+use Rattle.xb_model.specs.declared.limits.Limits.{Limits}
+use Rattle.xb_routes.specs.declared.fault.RouteFault.{RouteFault}
+use Rattle.xb_routes.specs.declared.fault.RouteFault.TheVariants.{TooMany}
+use Rattle.xb_routes.specs.declared.table.TheConstants.{MOST_ROUTES}
+use Rattle.xb_routes.specs.Keys.{FourKeys, four_keys}
+use Rattle.xb_routes.specs.Table.{Table}
+use Rattle.xb_structs.specs.declared.line.PlainLine.{PlainLine}
+use Rattle.xb_structs.specs.declared.refusal.Refusal.{Refusal}
+use Rattle.xb_structs.specs.declared.row.PlainRow.{PlainRow}
+use Rattle.xb_structs.specs.declared.telling.PlainSignal.{PlainSignal}
+use Rattle.xb_structs.specs.declared.table.PlainTable.{PlainTable}
+use Rattle.xb_structs.specs.Filling.{Adds, begun, next_route}
+use Rattle.xb_structs.specs.Signals.{Hears, IsNotHeard}
+use Rattle.xb_structs.specs.Tables.{Holds}
+use Rattle.xb_tone.specs.declared.cadence.Cadence.{Cadence}
+use Rattle.mfweb.specs.declared.exports.WebCadence.{WebCadence}
+use Rattle.mfweb.specs.declared.exports.WebLimits.{WebLimits}
+use Rattle.mfweb.specs.declared.exports.WebRoute.{WebRoute}
+use Rattle.xb_structs.specs.Status.{fault_place, fault_status, refusal_status}
+
+abbrev pub limits_of : WebLimits → Limits
+limits_of limits = record {
+  pulse_min = limits.pulse_min;
+  pulse_max = limits.pulse_max;
+  make_min = limits.make_min;
+  pause = limits.pause;
+  release = limits.release;
+  timeout = limits.timeout;
+}
+
+abbrev pub cadence_of : WebCadence → Cadence
+cadence_of cadence = record {
+  lead_ms = cadence.lead_ms;
+  kp_ms = cadence.kp_ms;
+  key_ms = cadence.key_ms;
+  gap_ms = cadence.gap_ms;
+}
+
+abbrev pub pair : ℕ → ℕ → Tone
+pair low high = record { low = low; high = high }
+
+-- what is there where a byte is not 0
+abbrev pub if_there : {A : Type 0} → ℕ → A → Option A
+if_there byte value = if byte == 0 then None else Some value
+
+-- the four keys of a route
+abbrev pub words_of : WebRoute → List ℕ → List ℕ → FourKeys
+words_of route code prefix =
+    four_keys code route.trunk (if_there route.has_delete route.delete) (if_there route.has_prefix prefix)
+
+-- the table holds what the plan and the limits begin
+abbrev pub Begins : PlainTable → ℕ → Limits → Type 0
+Begins new plan limits = (table : Table) × (begun plan limits ≡ Ok table) × Holds new table
+
+-- the status and the place are those of the first fault, and the table is as it was
+pub record DoesNotBegin (old new : PlainTable) (plan : ℕ) (limits : Limits) (place status : ℕ) : Type 0 where
+  pub fault : RouteFault
+  pub is : status ≡ fault_status fault
+  pub at : place ≡ fault_place fault
+  pub why : begun plan limits ≡ Err fault
+  pub kept : new ≡ old
+
+-- whatever table it held, it now holds one route more, which is the next of that table's text
+abbrev pub HasAdded : PlainTable → PlainTable → ℕ → FourKeys → Type 0
+HasAdded old new i words = (table : Table) → Holds old table → Adds new (next_route table i words) table
+
+-- the status is that of the route's fault, and the table is as it was
+pub record DoesNotAdd (old new : PlainTable) (i : ℕ) (words : FourKeys) (status : ℕ) : Type 0 where
+  pub fault : RouteFault
+  pub is : status ≡ fault_status fault
+  pub why : fault ≢ TooMany → (table : Table) → Holds old table → next_route table i words ≡ Err fault
+  pub full : fault ≡ TooMany → MOST_ROUTES ≤ old.count
+  pub kept : new ≡ old
+
+-- the row's signals are in the room
+pub record HearsRow (table : PlainTable) (line : PlainLine) (row : PlainRow) (room : List PlainSignal) (count : ℕ) : Type 0 where
+  pub hears : Hears table line row room count
+  pub few : count ≤ length room
+
+-- the status says why not
+pub record DoesNotHear (table : PlainTable) (line : PlainLine) (row : PlainRow) (room given : List PlainSignal) (count status : ℕ) : Type 0 where
+  pub refusal : Refusal
+  pub is : status ≡ refusal_status refusal
+  pub why : IsNotHeard refusal table row line (length room)
+  pub none : count ≡ 0
+  pub same : given ≡ room

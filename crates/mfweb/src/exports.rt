@@ -1,0 +1,258 @@
+// What the page calls. `unsafe` stands in the attributes alone: a name that is exported as it stands must be
+// that of no other symbol, and none else begins with `mfweb_`.
+ghost use Rattle.std.specs.Prelude.{◌≡◌, ◌≢◌, ◌≤◌, length, map};
+ghost use Rattle.std.specs.List.{range_with_len};
+ghost use Rattle.xb_model.specs.LawfulLimits.{standard_limits};
+ghost use Rattle.xb_tone.specs.Cadences.{standard_cadence};
+ghost use Rattle.xb_tone.specs.Sines.{pair_sample};
+ghost use Rattle.xb_structs.specs.Calls.{IsNotTaken, IsTaken};
+ghost use Rattle.mfweb.specs.Calls.{Begins, DoesNotAdd, DoesNotBegin, DoesNotHear, HasAdded};
+ghost use Rattle.mfweb.specs.Calls.{HearsRow, cadence_of, limits_of, pair, words_of};
+ghost use Rattle.mfweb.specs.Showing.{DoesNotPrint, FindsCode, FindsNoCode, PrintsEntry, number_in};
+
+use crate::status::{NO_CODE, print_status};
+use xb_model::{Limits, Tone};
+use xb_routes::RouteWords;
+use xb_structs::{
+    DONE, PlainLine, PlainMark, PlainRow, PlainSignal, PlainTable, add, begin, deciding,
+    fault_place, fault_status, print_entry, refusal_status, signals, take_by_status,
+};
+use xb_tone::{Cadence, fill_tone};
+
+/// The limits of a line's pulses, each in ms.
+#[repr(C)]
+#[derive(Clone, Copy)]
+pub struct WebLimits {
+    /// The shortest break that is a pulse.
+    pub pulse_min: u32,
+    /// The longest break that is a pulse.
+    pub pulse_max: u32,
+    /// The shortest make between two pulses.
+    pub make_min: u32,
+    /// A make of this or more after a pulse ends the digit.
+    pub pause: u32,
+    /// A break of this or more releases the line.
+    pub release: u32,
+    /// A make of this or more times out an unfinished attempt.
+    pub timeout: u32,
+}
+
+/// The numbers of a route, and which of them its text says.
+#[repr(C)]
+#[derive(Clone, Copy)]
+pub struct WebRoute {
+    /// Its trunk group.
+    pub trunk: i64,
+    /// How many digits it deletes.
+    pub delete: i64,
+    /// Whether the text says how many: 0 where it does not.
+    pub has_delete: u8,
+    /// Whether the text has a prefix: 0 where it does not.
+    pub has_prefix: u8,
+}
+
+/// How long the tones of a keying last, and the silences between them, each in ms.
+#[repr(C)]
+#[derive(Clone, Copy)]
+pub struct WebCadence {
+    /// The silence before KP.
+    pub lead_ms: u16,
+    /// The tone of KP.
+    pub kp_ms: u16,
+    /// The tone of a digit, and of ST.
+    pub key_ms: u16,
+    /// The silence after each tone, ST too.
+    pub gap_ms: u16,
+}
+
+/// Writes the standard limits.
+#[unsafe(no_mangle)]
+pub extern "C" fn mfweb_limits(limits: &mut WebLimits)
+    ensures { limits_of limits.new ≡ standard_limits }
+{
+    let standard = Limits::standard();
+    *limits = WebLimits {
+        pulse_min: standard.pulse_min,
+        pulse_max: standard.pulse_max,
+        make_min: standard.make_min,
+        pause: standard.pause,
+        release: standard.release,
+        timeout: standard.timeout,
+    };
+}
+
+/// Begins a route table by its plan, 7 or 10, and its limits: it has no route as yet. On any other status than
+/// 0 the table is as it was, and `place` says which limit is wrong.
+#[unsafe(no_mangle)]
+pub extern "C" fn mfweb_begin(
+    table: &mut PlainTable,
+    plan: u32,
+    limits: &WebLimits,
+    place: &mut u32,
+) -> u32
+    ensures begins { result ≡ 0 → Begins table.new plan (limits_of limits.now) }
+    ensures refuses { result ≢ 0 →
+        DoesNotBegin table.old table.new plan (limits_of limits.now) place.new result }
+{
+    let limits = Limits {
+        pulse_min: limits.pulse_min,
+        pulse_max: limits.pulse_max,
+        make_min: limits.make_min,
+        pause: limits.pause,
+        release: limits.release,
+        timeout: limits.timeout,
+    };
+    *place = 0;
+    match begin(table, plan, limits) {
+        Ok(()) => DONE,
+        Err(fault) => {
+            *place = fault_place(fault);
+            fault_status(fault)
+        }
+    }
+}
+
+/// Adds route `i` of a text, counted from 1, to a table. On any other status than 0 the table is as it was.
+#[unsafe(no_mangle)]
+pub extern "C" fn mfweb_add(
+    table: &mut PlainTable,
+    i: u32,
+    route: &WebRoute,
+    code: &[u8],
+    prefix: &[u8],
+) -> u32
+    ensures adds { result ≡ 0 →
+        HasAdded table.old table.new i (words_of route.now code.now prefix.now) }
+    ensures refuses { result ≢ 0 →
+        DoesNotAdd table.old table.new i (words_of route.now code.now prefix.now) result }
+{
+    let words = RouteWords {
+        code,
+        trunk: route.trunk,
+        delete: if route.has_delete != 0 {
+            Some(route.delete)
+        } else {
+            None
+        },
+        prefix: if route.has_prefix != 0 {
+            Some(prefix)
+        } else {
+            None
+        },
+    };
+    match add(table, i, words) {
+        Ok(()) => DONE,
+        Err(fault) => fault_status(fault),
+    }
+}
+
+/// What the register is told by a row that a line is about to take: the first `count` of `room`. Nothing of
+/// the line changes. On any other status than 0 the room is as it was, and `count` is 0.
+#[unsafe(no_mangle)]
+pub extern "C" fn mfweb_signals(
+    table: &PlainTable,
+    line: &PlainLine,
+    row: &PlainRow,
+    room: &mut [PlainSignal],
+    count: &mut usize,
+) -> u32
+    ensures hears { result ≡ 0 → HearsRow table.now line.now row.now room.new count.new }
+    ensures refuses { result ≢ 0 →
+        DoesNotHear table.now line.now row.now room.old room.new count.new result }
+{
+    *count = 0;
+    match signals(table, line, row, room) {
+        Ok(given) => {
+            *count = given;
+            DONE
+        }
+        Err(refusal) => refusal_status(refusal),
+    }
+}
+
+/// Takes one row of a line, by a table: the first `count` of `room` are the marks that the row gives. On any
+/// other status than 0 the line and the room are as they were, and `count` is 0.
+#[unsafe(no_mangle)]
+pub extern "C" fn mfweb_take(
+    table: &PlainTable,
+    line: &mut PlainLine,
+    row: &PlainRow,
+    room: &mut [PlainMark],
+    count: &mut usize,
+) -> u32
+    ensures takes { result ≡ 0 → IsTaken table.now line.old line.new row.now room.new count.new }
+    ensures refuses { result ≢ 0 →
+        IsNotTaken table.now line.old line.new row.now room.old room.new count.new result }
+{
+    take_by_status(table, line, row, room, count)
+}
+
+/// How many of the digits of a number are the code that decides where a table sends it: status 0 and
+/// `length`, or 20 and 0 where the digits begin with no code. Ten digits are read at most, and a byte over 9
+/// is a 0.
+#[unsafe(no_mangle)]
+pub extern "C" fn mfweb_route(table: &PlainTable, digits: &[u8], length: &mut u32) -> u32
+    ensures finds { result ≡ 0 → FindsCode table.now (number_in digits.now) length.new }
+    ensures finds_none { result ≢ 0 → FindsNoCode table.now (number_in digits.now) length.new result }
+{
+    *length = 0;
+    match deciding(table, digits) {
+        Ok(Some(count)) => {
+            *length = count as u32;
+            DONE
+        }
+        Ok(None) => NO_CODE,
+        Err(refusal) => refusal_status(refusal),
+    }
+}
+
+/// The line of entry `number` of a line as `mfbank` prints it, but without the LF, of the marks that a row gave:
+/// the first `count` bytes of `room`, for which 1,024 are enough. On any other status than 0 the room is as it
+/// was, and `count` is 0.
+#[unsafe(no_mangle)]
+pub extern "C" fn mfweb_entry(
+    line: u32,
+    number: u32,
+    marks: &[PlainMark],
+    room: &mut [u8],
+    count: &mut usize,
+) -> u32
+    ensures prints { result ≡ 0 → PrintsEntry line number marks.now room.new count.new }
+    ensures refuses { result ≢ 0 →
+        DoesNotPrint line number marks.now room.old room.new count.new result }
+{
+    *count = 0;
+    match print_entry(line, number, marks, room) {
+        Ok(written) => {
+            *count = written;
+            DONE
+        }
+        Err(fault) => print_status(fault),
+    }
+}
+
+/// Writes the times of a sender.
+#[unsafe(no_mangle)]
+pub extern "C" fn mfweb_cadence(cadence: &mut WebCadence)
+    ensures { cadence_of cadence.new ≡ standard_cadence }
+{
+    let standard = Cadence::standard();
+    *cadence = WebCadence {
+        lead_ms: standard.lead_ms,
+        kp_ms: standard.kp_ms,
+        key_ms: standard.key_ms,
+        gap_ms: standard.gap_ms,
+    };
+}
+
+/// Fills the room with the first samples of a tone of two frequencies, 8,000 samples a second. A room of 2^32
+/// samples or more stays as it was.
+#[unsafe(no_mangle)]
+pub extern "C" fn mfweb_tone(low: u16, high: u16, room: &mut [i16])
+    ensures { length room.old ≤ 4294967295
+        → room.new ≡ map (λ n. pair_sample (pair low high) n) (range_with_len 0 (length room.old)) }
+{
+    if room.len() <= 4_294_967_295 {
+        fill_tone(Tone { low, high }, room);
+    }
+}

@@ -1,0 +1,21 @@
+//! The chain as a WebAssembly module: what a page calls. The page hands over numbers and bytes in memory of
+//! its own, and draws what comes back; the module takes no memory, and keeps nothing between two calls. It is
+//! a static library, and `web/module` builds it once more for WebAssembly.
+//!
+//! - `mfweb_take`: what a line knows and has given after the row is what the chain makes of all its rows. The
+//!   statuses and the contract are those of `mfchain_take`. `mfweb_signals` says what the register is told.
+//! - `mfweb_begin`, `mfweb_add`: the table holds just what a text of this plan, these limits and these routes
+//!   writes, or the status is its first fault, and the table is as it was.
+//! - `mfweb_route`: the longest code of the table that the digits begin with, or that there is none.
+//! - `mfweb_entry`: the line of the page of these marks.
+//! - `mfweb_tone`: the samples of a tone, as in `xb_tone`. `mfweb_limits`, `mfweb_cadence`: the standard
+//!   values.
+#![tactic(auto)]
+
+mod exports;
+mod status;
+
+pub use exports::{
+    mfweb_add, mfweb_begin, mfweb_cadence, mfweb_entry, mfweb_limits, mfweb_route, mfweb_signals,
+    mfweb_take, mfweb_tone,
+};

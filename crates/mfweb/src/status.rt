@@ -1,0 +1,19 @@
+// The statuses of the calls that other libraries do not have.
+ghost use Rattle.std.specs.Prelude.{◌≡◌, ◌≢◌};
+ghost use Rattle.mfweb.specs.Showing.{print_status};
+
+use xb_structs::PrintFault;
+
+/// The digits begin with no code of the table.
+pub(crate) const NO_CODE: u32 = 20;
+
+/// The status of an entry that is not printed.
+pub(crate) fn print_status(fault: PrintFault) -> u32
+    ensures value { result ≡ print_status fault }
+    ensures not_done { result ≢ 0 }
+{
+    match fault {
+        PrintFault::Room => 7,
+        PrintFault::Marks => 19,
+    }
+}
