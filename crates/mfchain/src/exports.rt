@@ -1,14 +1,17 @@
-// What C calls.
+// What C calls. `unsafe` stands in the attributes alone: a name that is exported as it stands must be that of
+// no other symbol, and none else begins with `mfchain_`.
 ghost use Rattle.std.specs.Prelude.{◌≡◌, ◌≢◌, ℕ, []};
 ghost use Rattle.xb_routes.specs.Table.{Table};
+ghost use Rattle.xb_structs.specs.Calls.{IsNotTaken, IsTaken};
 ghost use Rattle.xb_structs.specs.Hearing.{HasHeard};
 ghost use Rattle.xb_structs.specs.Taking.{HasTaken};
-ghost use Rattle.mfchain.specs.Calls.{DoesNotOpen, DoesNotTake, Opens, TakesRow, close_of};
+ghost use Rattle.mfchain.specs.Calls.{DoesNotOpen, Opens, close_of};
 
 use crate::faults::{put_fault, put_text};
-use crate::status::{DONE, fault_status, refusal_status};
 use std::alloc::Global;
-use xb_structs::{PlainLine, PlainMark, PlainRow, PlainTable, open, take};
+use xb_structs::{
+    DONE, PlainLine, PlainMark, PlainRow, PlainTable, fault_status, open, take_by_status,
+};
 
 /// Reads the route table that a TOML text writes. Where it is refused, the status says why, `fault` gets the
 /// same as a text, and the table is as it was.
@@ -42,18 +45,11 @@ pub extern "C" fn mfchain_take(
     room: &mut [PlainMark],
     count: &mut usize,
 ) -> u32
-    ensures takes { result ≡ 0 → TakesRow table.now line.old line.new row.now room.new count.new }
+    ensures takes { result ≡ 0 → IsTaken table.now line.old line.new row.now room.new count.new }
     ensures refuses { result ≢ 0 →
-        DoesNotTake table.now line.old line.new row.now room.old room.new count.new result }
+        IsNotTaken table.now line.old line.new row.now room.old room.new count.new result }
 {
-    *count = 0;
-    match take(table, line, row, room) {
-        Ok(given) => {
-            *count = given;
-            DONE
-        }
-        Err(refusal) => refusal_status(refusal),
-    }
+    take_by_status(table, line, row, room, count)
 }
 
 /// Takes the row that ends the record of a line, as `mfchain_take` does.
@@ -66,9 +62,9 @@ pub extern "C" fn mfchain_close(
     count: &mut usize,
 ) -> u32
     ensures takes { result ≡ 0 →
-        TakesRow table.now line.old line.new (close_of number) room.new count.new }
+        IsTaken table.now line.old line.new (close_of number) room.new count.new }
     ensures refuses { result ≢ 0 →
-        DoesNotTake table.now line.old line.new (close_of number) room.old room.new count.new result }
+        IsNotTaken table.now line.old line.new (close_of number) room.old room.new count.new result }
 {
     let row = PlainRow {
         line: number,

@@ -3,7 +3,6 @@
 
 mod exports;
 mod faults;
-mod status;
 mod told;
 
 pub use exports::{mfchain_close, mfchain_entries, mfchain_open, mfchain_reopen, mfchain_take};

@@ -2,7 +2,13 @@
 use std::alloc::Global;
 use std::process::Abort;
 use std::test::Fail;
-use xb_structs::{PlainLine, PlainMark, PlainRoute, PlainRow, PlainTable, open, take};
+use xb_model::Limits;
+use xb_routes::{RouteFault, RouteWords};
+use xb_structs::{
+    DONE, PlainLine, PlainMark, PlainRoute, PlainRow, PlainSignal, PlainTable, Refusal, add, begin,
+    deciding, fault_place, fault_status, open, print_entry, refusal_status, signals, take,
+    take_by_status,
+};
 
 const OPERATOR: &[u8] = b"[[route]]\ncode = \"0\"\ntrunk = 1\n";
 
@@ -72,6 +78,16 @@ pub(crate) fn opened(alloc: Global) -> Result<PlainTable, Fail> {
     }
 }
 
+// What the operator's call gives.
+fn keyed() -> [PlainMark; 4] {
+    [
+        mark(0, 1, 0, 0),
+        mark(2, 0, 1100, 1700),
+        mark(1, 0, 1300, 1500),
+        mark(3, 0, 1500, 1700),
+    ]
+}
+
 #[test]
 fn keyed_in_the_row_of_its_pause(rt: HostRuntime) -> Result<(), Fail> {
     let table = opened(rt.alloc())?;
@@ -81,14 +97,65 @@ fn keyed_in_the_row_of_its_pause(rt: HostRuntime) -> Result<(), Fail> {
     assert_eq!(rt; line.entries, 0);
     assert!(rt; matches!(take(&table, &mut line, &row(MAKE, 1), &mut room), Ok(4)));
     assert_eq!(rt; line.entries, 1);
-    let keyed = [
-        mark(0, 1, 0, 0),
-        mark(2, 0, 1100, 1700),
-        mark(1, 0, 1300, 1500),
-        mark(3, 0, 1500, 1700),
-    ];
+    let keyed = keyed();
     for i in 0..4 {
         assert!(rt; is_same(&room[i], &keyed[i]));
     }
     Ok(())
+}
+
+// A table of the operator's route, filled by its values.
+fn filled(rt: &impl Abort) -> PlainTable {
+    let mut table = unopened();
+    assert!(rt; matches!(begin(&mut table, 7, Limits::standard()), Ok(())));
+    let words = RouteWords {
+        code: b"0",
+        trunk: 1,
+        delete: None,
+        prefix: None,
+    };
+    assert!(rt; matches!(add(&mut table, 1, words), Ok(())));
+    assert!(rt; matches!(add(&mut table, 2, words), Err(RouteFault::Twice(2))));
+    table
+}
+
+#[test]
+fn told_by_a_table_of_values(rt: HostRuntime) {
+    let table = filled(&rt);
+    let mut line = PlainLine::new();
+    let mut room = [mark(9, 9, 9, 9); 24];
+    dial_nearly(&rt, &table, &mut line, &mut room);
+    let mut told = [PlainSignal {
+        kind: 9,
+        breaks: 9,
+        bad: 9,
+        elements: [9; 5],
+    }; 4];
+    assert!(rt; matches!(signals(&table, &line, &row(MAKE, 1), &mut told), Ok(1)));
+    assert_eq!(rt; told[0].kind, 1);
+    assert_eq!(rt; told[0].breaks, 10);
+    assert_eq!(rt; told[0].bad, 0);
+    assert!(rt; told[0].elements == [0, 0, 0, 1, 1]);
+    assert!(rt; matches!(deciding(&table, &[0]), Ok(Some(1))));
+    assert!(rt; matches!(deciding(&table, &[2, 3, 4]), Ok(None)));
+    let mut count = 9;
+    assert_eq!(rt; take_by_status(&table, &mut line, &row(MAKE, 1), &mut room, &mut count), DONE);
+    assert_eq!(rt; count, 4);
+}
+
+#[test]
+fn answered_by_numbers(rt: HostRuntime) {
+    assert_eq!(rt; refusal_status(Refusal::Ms), 6);
+    assert_eq!(rt; fault_status(RouteFault::Twice(2)), 18);
+    assert_eq!(rt; fault_place(RouteFault::Twice(2)), 2);
+}
+
+#[test]
+fn printed_without_memory(rt: HostRuntime) {
+    let line = b"0007 1 KEYED 0001 KP:1100+1700 0:1300+1500 ST:1500+1700";
+    let mut room = [0; 80];
+    match print_entry(7, 1, &keyed(), &mut room) {
+        Ok(count) => assert!(rt; room[..count] == *line),
+        Err(_) => assert!(rt; false),
+    }
 }
