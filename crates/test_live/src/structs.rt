@@ -139,7 +139,10 @@ fn told_by_a_table_of_values(rt: HostRuntime) {
     assert!(rt; matches!(deciding(&table, &[0]), Ok(Some(1))));
     assert!(rt; matches!(deciding(&table, &[2, 3, 4]), Ok(None)));
     let mut count = 9;
-    assert_eq!(rt; take_by_status(&table, &mut line, &row(MAKE, 1), &mut room, &mut count), DONE);
+    assert_eq!(rt;
+        take_by_status(&table, &mut line, &row(MAKE, 1), &mut room, &mut count),
+        DONE
+    );
     assert_eq!(rt; count, 4);
 }
 
