@@ -1,0 +1,63 @@
+// What happened in one call attempt, for its picture: the loop's makes and breaks, and what the register made of them.
+
+const MOST_RUNS = 600;
+
+class Attempt {
+  // from: the ms of the line's record at which it begins.
+  constructor(from) {
+    this.from = from;
+    this.runs = [];
+    this.parts = [];
+    this.next = 0;         // the first run that is in no digit yet
+  }
+
+  // A row of the loop. Neighbouring rows of one contact are one run; a wrong one is known when the next begins.
+  add({ closed, ms, endsWrong }) {
+    const last = this.runs.at(-1);
+    if (last?.closed === closed) {
+      last.ms += ms;
+    } else if (this.runs.length < MOST_RUNS) {
+      if (endsWrong && last) last.isWrong = true;
+      this.runs.push({ closed, ms, isWrong: false });
+    }
+  }
+
+  // The breaks since the last digit were one, or spoiled one.
+  digit(signal, limits) {
+    const part = this.pulses();
+    if (!part) return;
+    const eleventh = part.runs.filter((run) => !run.closed)[10];
+    if (signal.breaks > 10 && eleventh) Object.assign(eleventh, { isWrong: true, isEleventh: true });
+    const wrong = part.runs.find((run) => run.isWrong);
+    const words = wrong ? wordsOfWrong(wrong, limits) : '';
+    this.parts.push({ ...part, figure: figureOf(signal), kind: signal.isStored ? '' : 'bad', words });
+  }
+
+  // The runs from the first break after the last digit to the last break.
+  pulses() {
+    const first = this.runs.findIndex((run, i) => i >= this.next && !run.closed);
+    if (first < 0) return null;
+    const end = 1 + this.runs.findLastIndex((run) => !run.closed);
+    this.next = end;
+    return { first, end, runs: this.runs.slice(first, end) };
+  }
+
+  // What is left of an attempt that ended before its number did.
+  end(kind) {
+    if (kind === Kind.ABANDONED) {
+      const hangUp = this.runs.pop();
+      hangUp.words = 'hangs up';
+      const part = this.pulses();
+      if (part) this.parts.push({ ...part, figure: '…', kind: 'open', words: 'no pause ended these' });
+      this.runs.push(hangUp);
+    }
+    if (kind === Kind.TIMED_OUT) Object.assign(this.runs.at(-1), { isWrong: true, words: 'time-out' });
+  }
+}
+
+// Why a run spoiled its digit, in the words of mfhear: the module says that it did, and these are the limits in use.
+function wordsOfWrong(run, { make_min, pulse_min, pulse_max }) {
+  if (run.isEleventh) return 'pulse 11';
+  if (run.closed) return `make ${run.ms} ms < ${make_min}`;
+  return run.ms > pulse_max ? `break ${run.ms} ms > ${pulse_max}` : `break ${run.ms} ms < ${pulse_min}`;
+}

@@ -1,0 +1,79 @@
+// Decks that are dropped or chosen: each is read by a worker, and its page is shown.
+
+const MOST_SHOWN_LINES = 2000;
+
+class Decks {
+  constructor(wasm) {
+    this.wasm = wasm;
+    this.worker = null;
+    this.turn = 0;
+    // A worker takes its script as an address. This one's is made of the page's own text.
+    const texts = [$('chain').textContent, $('worker').textContent];
+    this.script = URL.createObjectURL(new Blob(texts, { type: 'text/javascript' }));
+    $('cancel').addEventListener('click', () => this.stop('Stopped.'));
+  }
+
+  async read(name, file) {
+    this.stop('');
+    const turn = ++this.turn;
+    // of a deck that is too long one byte more than the most is enough to say so
+    const bytes = await file.slice(0, MOST_DECK_BYTES + 1).arrayBuffer().catch(() => null);
+    if (turn !== this.turn) return;
+    if (!bytes) {
+      this.stop(`${name} could not be read.`);
+      return;
+    }
+    this.begin(name, new Uint8Array(bytes));
+  }
+
+  begin(name, bytes) {
+    const began = performance.now();
+    $('progress').hidden = false;
+    $('share').value = 0;
+    $('read').textContent = `Reading ${name}`;
+    this.worker = new Worker(this.script);
+    this.worker.onmessage = ({ data }) => {
+      if (data.share !== undefined) {
+        $('share').value = data.share;
+        return;
+      }
+      const seconds = ((performance.now() - began) / 1000).toFixed(1);
+      const records = `${data.records?.toLocaleString('en')} record${data.records === 1 ? '' : 's'}`;
+      this.stop(data.fault ? `${name} is refused.` : `${name}: ${records}, in ${seconds} s.`);
+      if (data.fault) this.showFault(data.fault);
+      else this.showPage(name, data.page);
+    };
+    this.worker.onerror = () => this.stop('The deck could not be read by this browser.');
+    this.worker.postMessage({ wasm: this.wasm, bytes }, [bytes.buffer]);
+  }
+
+  stop(words) {
+    this.worker?.terminate();
+    this.worker = null;
+    $('progress').hidden = true;
+    $('read').textContent = words;
+  }
+
+  showFault(fault) {
+    $('page').textContent = '';
+    $('save').hidden = true;
+    make('span', { class: 'refused' }, $('page'), `Refused: ${fault}`);
+  }
+
+  showPage(name, text) {
+    const lines = text.split('\n').slice(0, -1);
+    const shown = lines.length > MOST_SHOWN_LINES ? lines.slice(0, MOST_SHOWN_LINES - 1) : lines;
+    $('page').textContent = '';
+    for (const line of shown) {
+      make('span', / REFUSED [A-Z]/.test(line) ? { class: 'refused' } : {}, $('page'), `${line}\n`);
+    }
+    if (shown.length < lines.length) {
+      make('span', {}, $('page'), `… and ${(lines.length - shown.length - 1).toLocaleString('en')} entries more\n`);
+      make('span', {}, $('page'), `${lines.at(-1)}\n`);
+    }
+    URL.revokeObjectURL($('save').href);
+    $('save').href = URL.createObjectURL(new Blob([text], { type: 'text/plain' }));
+    $('save').download = name.replace(/(\.[^.]*)?$/, '.page');
+    $('save').hidden = false;
+  }
+}

@@ -1,0 +1,166 @@
+// A rotary dial: it is turned to its stop and let go, and while it runs back its contact opens once for each pulse.
+// Only the way back sends anything, so one that is let go too early sends fewer pulses, as a real one does.
+
+const DIAL_LETTERS = {
+  1: '', 2: 'ABC', 3: 'DEF', 4: 'GHI', 5: 'JKL', 6: 'MNO', 7: 'PRS', 8: 'TUV', 9: 'WXY', 0: 'OPERATOR',
+};
+const DIAL_DIGITS = ['1', '2', '3', '4', '5', '6', '7', '8', '9', '0'];
+
+// Degrees clockwise from above: where the stop is, and how far two holes are apart. The way from the stop to the first
+// hole is one step more, so that a digit is never shorter than the pause before it.
+const STOP_ANGLE = 128;
+const STEP_ANGLE = 30;
+const HOLE_DISTANCE = 112;
+const HOLE_RADIUS = 23;
+
+// The times of a contact for each pulse, in ms; `more` is how many pulses it sends too many.
+const DIAL_KINDS = {
+  good: { open: 60, closed: 40, more: 0 },
+  worn: { open: 130, closed: 40, more: 0 },
+  sticky: { open: 88, closed: 12, more: 0 },
+  extra: { open: 60, closed: 40, more: 1 },
+  fast: { open: 30, closed: 20, more: 0 },
+};
+
+const pulsesOf = (digit) => (digit === '0' ? 10 : Number(digit));
+const turnOf = (digit) => STEP_ANGLE * (pulsesOf(digit) + 1);
+
+function pointAt(degrees, radius) {
+  const at = (degrees - 90) * Math.PI / 180;
+  return { x: radius * Math.cos(at), y: radius * Math.sin(at) };
+}
+
+class Dial {
+  constructor(top, name, clock, loop) {
+    this.top = top;
+    this.clock = clock;
+    this.loop = loop;
+    this.kind = 'good';
+    this.angle = 0;
+    this.asked = [];       // digits that keys or taps asked for, and that are still to be dialled
+    this.drag = null;      // a finger or a mouse in a hole
+    this.winding = null;   // the wheel goes to the stop by itself
+    this.running = null;   // it runs back
+    this.restsUntil = 0;
+    this.draw(name);
+    top.addEventListener('pointerdown', (event) => this.press(event));
+    top.addEventListener('pointermove', (event) => this.turn(event));
+    top.addEventListener('pointerup', () => this.release());
+    top.addEventListener('pointercancel', () => this.release());
+  }
+
+  isBusy() { return this.drag || this.winding || this.running; }
+
+  ask(digit) { this.asked.push(digit); }
+
+  // ---- by hand
+
+  angleOf(event) {
+    const box = this.top.getBoundingClientRect();
+    const [x, y] = [event.clientX - box.left - box.width / 2, event.clientY - box.top - box.height / 2];
+    return Math.atan2(y, x) * 180 / Math.PI;
+  }
+
+  press(event) {
+    const digit = event.target.dataset.digit;
+    if (!digit || this.isBusy()) return;
+    event.preventDefault();
+    this.top.setPointerCapture(event.pointerId);
+    this.drag = { digit, last: this.angleOf(event), moved: 0 };
+  }
+
+  turn(event) {
+    if (!this.drag) return;
+    const angle = this.angleOf(event);
+    const step = ((angle - this.drag.last + 540) % 360) - 180;
+    this.drag.last = angle;
+    this.drag.moved += Math.abs(step);
+    this.angle = Math.max(0, Math.min(turnOf(this.drag.digit), this.angle + step));
+  }
+
+  release() {
+    if (!this.drag) return;
+    const { digit, moved } = this.drag;
+    this.drag = null;
+    // a press that hardly moved is a tap: the wheel then turns by itself
+    if (moved >= 4) { this.letGo(); return; }
+    this.angle = 0;
+    this.ask(digit);
+  }
+
+  // ---- by itself
+
+  letGo() {
+    const { open, closed, more } = DIAL_KINDS[this.kind];
+    const turned = Math.max(0, Math.floor((this.angle + 3) / STEP_ANGLE) - 1);
+    const pulses = turned > 0 ? turned + more : 0;
+    const from = this.clock.now();
+    for (let i = 0; i < pulses; i++) {
+      const at = from + i * (open + closed);
+      this.loop.set('dial', false, at);
+      this.loop.set('dial', true, at + open);
+    }
+    const takes = Math.max(this.angle / STEP_ANGLE, pulses) * (open + closed);
+    this.running = { from, angle: this.angle, takes };
+  }
+
+  move() {
+    const now = this.clock.now();
+    if (this.running) {
+      const part = (now - this.running.from) / this.running.takes;
+      this.angle = this.running.angle * Math.max(0, 1 - part);
+      if (!(part < 1)) { this.running = null; this.restsUntil = now + 60; }
+    } else if (this.winding) {
+      const part = Math.min(1, (now - this.winding.from) / this.winding.takes);
+      this.angle = turnOf(this.winding.digit) * part;
+      if (part === 1) { this.winding = null; this.letGo(); }
+    } else if (!this.drag && this.asked.length && now >= this.restsUntil) {
+      const digit = this.asked.shift();
+      this.winding = { digit, from: now, takes: 120 + 14 * turnOf(digit) / STEP_ANGLE };
+    }
+  }
+
+  show() {
+    // by hand it follows the finger; by itself it stands still for those who ask for less motion
+    const angle = lessMotion.matches && !this.drag ? 0 : this.angle;
+    this.wheel.setAttribute('transform', `rotate(${angle.toFixed(1)})`);
+  }
+
+  // ---- its look
+
+  draw(name) {
+    makeSvg('circle', { class: 'body', r: 156 }, this.top);
+    makeSvg('circle', { class: 'ring', r: 149 }, this.top);
+    for (const digit of DIAL_DIGITS) this.drawFigure(digit);
+    this.wheel = makeSvg('g', {}, this.top);
+    // a plate with ten holes, through which the figures are seen
+    const circle = (x, y, r) => `M${x + r} ${y}A${r} ${r} 0 1 0 ${x - r} ${y}A${r} ${r} 0 1 0 ${x + r} ${y}Z`;
+    const holes = DIAL_DIGITS.map((digit) => ({ digit, ...pointAt(STOP_ANGLE - turnOf(digit), HOLE_DISTANCE) }));
+    const plate = circle(0, 0, 142) + holes.map(({ x, y }) => circle(x, y, HOLE_RADIUS)).join('');
+    makeSvg('path', { class: 'wheel', d: plate, 'fill-rule': 'evenodd' }, this.wheel);
+    for (const { digit, x, y } of holes) this.drawHole(digit, x, y, name);
+    makeSvg('circle', { class: 'card', r: 62 }, this.top);
+    makeSvg('text', { class: 'name', y: 1 }, this.top, name);
+    makeSvg('text', { class: 'under', y: 19 }, this.top, 'turn, let go');
+    const [inner, outer] = [pointAt(STOP_ANGLE + 2, 92), pointAt(STOP_ANGLE + 2, 150)];
+    makeSvg('path', { class: 'stop', d: `M${inner.x} ${inner.y}L${outer.x} ${outer.y}` }, this.top);
+  }
+
+  drawFigure(digit) {
+    const { x, y } = pointAt(STOP_ANGLE - turnOf(digit), HOLE_DISTANCE);
+    const letters = DIAL_LETTERS[digit];
+    makeSvg('text', { class: 'figure', x, y: letters ? y + 4 : y }, this.top, digit);
+    makeSvg('text', { class: letters.length > 3 ? 'letters long' : 'letters', x, y: y - 11 }, this.top, letters);
+  }
+
+  drawHole(digit, cx, cy, name) {
+    const hole = makeSvg('circle', { class: 'hole', cx, cy, r: HOLE_RADIUS, tabindex: 0, role: 'button',
+      'aria-label': `Dial ${digit} on ${name.toLowerCase()}`, 'data-digit': digit }, this.wheel);
+    hole.addEventListener('keydown', (event) => {
+      if (event.key !== 'Enter' && event.key !== ' ') return;
+      event.preventDefault();
+      event.stopPropagation();
+      this.ask(digit);
+    });
+  }
+}

@@ -1,0 +1,24 @@
+// Small helpers for what is drawn.
+
+const $ = (id) => document.getElementById(id);
+
+function make(name, attributes = {}, parent = null, text = '') {
+  const made = document.createElement(name);
+  for (const [key, value] of Object.entries(attributes)) made.setAttribute(key, value);
+  made.textContent = text;
+  parent?.append(made);
+  return made;
+}
+
+function makeSvg(name, attributes = {}, parent = null, text = '') {
+  const made = document.createElementNS('http://www.w3.org/2000/svg', name);
+  for (const [key, value] of Object.entries(attributes)) made.setAttribute(key, value);
+  if (text !== '') made.textContent = text;
+  parent?.append(made);
+  return made;
+}
+
+const plural = (count, word) => `${count} ${word}${count === 1 ? '' : 's'}`;
+
+const narrow = matchMedia('(max-width: 860px)');
+const lessMotion = matchMedia('(prefers-reduced-motion: reduce)');

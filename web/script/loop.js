@@ -1,0 +1,54 @@
+// A line's loop: the two contacts in its wires, and what of their makes and breaks the module was told.
+
+const MOST_ROW_MS = 86400000;
+
+class Loop {
+  constructor(line, clock, module, listener) {
+    this.line = line;
+    this.clock = clock;
+    this.module = module;
+    this.listener = listener;
+    this.contacts = { hook: false, dial: true };
+    this.coming = [];      // changes of a contact that are still to happen, in their order
+    this.toldUntil = Math.floor(clock.now());
+    this.recorded = 0;     // how many ms of the line the module was told
+  }
+
+  // Current flows only where both contacts are closed.
+  isClosed() { return this.contacts.hook && this.contacts.dial; }
+
+  set(contact, closed, at) {
+    this.coming.push({ contact, closed, at });
+    this.coming.sort((a, b) => a.at - b.at);
+  }
+
+  // Tells the module all that has happened until now: a row for the time before each change, and one for the rest.
+  tell() {
+    const until = Math.floor(this.clock.now());
+    while (this.coming.length && this.coming[0].at <= until) {
+      const { contact, closed, at } = this.coming.shift();
+      this.giveRow(Math.max(Math.floor(at), this.toldUntil));
+      const was = this.isClosed();
+      this.contacts[contact] = closed;
+      if (this.isClosed() !== was) this.listener.changed(this.toldUntil, !was);
+    }
+    this.giveRow(until);
+  }
+
+  // One row of the time from what was told last. After a sleep of the computer a row may be of many days: a day is
+  // the most that a row may have.
+  giveRow(until) {
+    const ms = Math.min(until - this.toldUntil, MOST_ROW_MS);
+    if (ms <= 0) return;
+    const from = this.recorded;
+    this.recorded += ms;
+    this.toldUntil = until;
+    const state = this.isClosed() ? 'M' : 'B';
+    const { attempt } = this.module.stateOf(this.line);
+    const signals = this.module.signalsOf(this.line, state, ms);
+    const endsWrong = this.module.endsWrong(this.line, state, ms);
+    const count = this.module.take(this.line, state, ms);
+    this.listener.rowTaken({ closed: state === 'M', ms, from, endsWrong, signals, attempt, at: until });
+    if (count > 0) this.listener.entryGiven(this.module.entryText(this.line, count), this.module.marksGiven(count));
+  }
+}

@@ -1,0 +1,233 @@
+// The proved module. Numbers and bytes are put into its memory, and what it gives is read there. What a row means,
+// which route a number takes, what an entry says and how a tone sounds: all of that is decided in the module.
+
+const LIMIT_NAMES = ['pulse_min', 'pulse_max', 'make_min', 'pause', 'release', 'timeout'];
+const MOST_ROUTES = 1000;
+const MOST_MARKS = 24;
+
+// How many bytes each thing has in the module's memory.
+const LIMITS_BYTES = 24;
+const ROUTE_BYTES = 24;
+const TABLE_BYTES = 32 + 16 * MOST_ROUTES;
+const LINE_BYTES = 24;
+const MARK_BYTES = 20;
+const SIGNAL_BYTES = 8;
+const MOST_SIGNALS = 4;
+const ENTRY_BYTES = 1024;
+const MOST_SAMPLES = 16000;
+
+// Where in a line's bytes stands how its pulses are, and how its attempt is.
+const PHASE_AT = 8;
+const BREAKS_AT = 9;
+const IS_BAD_AT = 10;
+const ATTEMPT_AT = 12;
+
+// What a mark is.
+const Kind = { TRUNK: 0, DIGIT: 1, KP: 2, ST: 3, MUTILATED: 4, UNKNOWN: 5, ABANDONED: 6, TIMED_OUT: 7 };
+const isRefusal = (mark) => mark.kind >= Kind.MUTILATED;
+
+// What a register is told.
+const Signal = { SEIZED: 0, DIGIT: 1, TIMED_OUT: 2, RELEASED: 3, CLOSED: 4 };
+
+// A text that is refused. Its words are those of mfbank.
+class Refused extends Error {}
+
+const TABLE_FAULTS = {
+  8: () => 'not TOML',
+  9: () => 'plan is neither 7 nor 10',
+  10: (limit) => `limit ${limit} is wrong`,
+  11: () => `more than ${MOST_ROUTES} routes`,
+  12: (route) => `route ${route} has a wrong shape`,
+  13: (route) => `route ${route} has a wrong code`,
+  14: (route) => `route ${route} has a wrong trunk`,
+  15: (route) => `route ${route} has a wrong delete`,
+  16: (route) => `route ${route} has a wrong prefix`,
+  17: (route) => `route ${route} keys no digit`,
+  18: (route) => `route ${route} repeats a code`,
+};
+
+class Module {
+  static async open(wasm) {
+    return new Module((await WebAssembly.instantiate(wasm, {})).instance.exports);
+  }
+
+  constructor(exports) {
+    this.calls = exports;
+    // The module takes no memory, so what follows its own is the page's: one thing after another.
+    let next = Number(exports.__heap_base.value);
+    const room = (bytes) => {
+      const at = next;
+      next += Math.ceil(bytes / 16) * 16;
+      return at;
+    };
+    this.limits = room(LIMITS_BYTES);
+    this.place = room(4);
+    this.route = room(ROUTE_BYTES);
+    this.texts = room(1024);
+    this.row = room(12);
+    this.count = room(8);
+    this.marks = room(MOST_MARKS * MARK_BYTES);
+    this.signals = room(MOST_SIGNALS * SIGNAL_BYTES);
+    this.digits = room(16);
+    this.entry = room(ENTRY_BYTES);
+    this.table = room(TABLE_BYTES);
+    this.nextTable = room(TABLE_BYTES);
+    this.trial = room(LINE_BYTES);
+    this.samples = room(2 * MOST_SAMPLES);
+    this.lines = room(LINE_BYTES * 10000);
+    if (next > exports.memory.buffer.byteLength) throw new Error('the module has too little memory');
+    this.view = new DataView(exports.memory.buffer);
+    this.bytes = new Uint8Array(exports.memory.buffer);
+  }
+
+  number(at) { return this.view.getUint32(at, true); }
+
+  // ---- the route table
+
+  // Takes a table into use, as its text was read. Where it is refused, the one before it stays in use.
+  useTable(text) {
+    this.beginTable(text);
+    text.routes.forEach((route, i) => this.addRoute(route, i + 1));
+    this.bytes.copyWithin(this.table, this.nextTable, this.nextTable + TABLE_BYTES);
+  }
+
+  beginTable(text) {
+    // What is no number of 32 bits is no limit and no plan: 0 is refused, as it would be.
+    const small = (value) => (typeof value === 'bigint' && value > 0n && value < 4294967296n ? Number(value) : 0);
+    this.calls.mfweb_limits(BigInt(this.limits));
+    LIMIT_NAMES.forEach((name, i) => {
+      if (text.limits?.has(name)) this.view.setUint32(this.limits + 4 * i, small(text.limits.get(name)), true);
+    });
+    const plan = small(text.keys.has('plan') ? text.keys.get('plan') : 7n);
+    const status = this.calls.mfweb_begin(BigInt(this.nextTable), plan, BigInt(this.limits), BigInt(this.place));
+    if (status) throw new Refused(TABLE_FAULTS[status](this.number(this.place)));
+    if (!text.limits) throw new Refused(TABLE_FAULTS[10](0));
+    if (!text.routes) throw new Refused(TABLE_FAULTS[12](0));
+    if (text.routes.length > MOST_ROUTES) throw new Refused(TABLE_FAULTS[11]());
+  }
+
+  addRoute(route, i) {
+    const isText = (key, without) => (route.has(key) ? typeof route.get(key) === 'string' : without);
+    const isNumber = (key, without) => (route.has(key) ? typeof route.get(key) === 'bigint' : without);
+    const hasNumbers = isNumber('trunk', false) && isNumber('delete', true);
+    if (!hasNumbers || !isText('code', false) || !isText('prefix', true)) throw new Refused(TABLE_FAULTS[12](i));
+    this.view.setBigInt64(this.route, route.get('trunk'), true);
+    this.view.setBigInt64(this.route + 8, route.get('delete') ?? 0n, true);
+    this.bytes[this.route + 16] = Number(route.has('delete'));
+    this.bytes[this.route + 17] = Number(route.has('prefix'));
+    const code = this.putText(route.get('code'), this.texts);
+    const prefix = this.putText(route.get('prefix') ?? '', this.texts + 512);
+    const status = this.calls.mfweb_add(BigInt(this.nextTable), i, BigInt(this.route), ...code, ...prefix);
+    if (status) throw new Refused(TABLE_FAULTS[status](i));
+  }
+
+  // A text's place and length. No code or prefix is near 512 bytes long, so what is cut off is wrong with or without.
+  putText(text, at) {
+    const bytes = new TextEncoder().encode(text).subarray(0, 512);
+    this.bytes.set(bytes, at);
+    return [BigInt(at), BigInt(bytes.length)];
+  }
+
+  limitsInUse() {
+    return Object.fromEntries(LIMIT_NAMES.map((name, i) => [name, this.number(this.table + 4 + 4 * i)]));
+  }
+
+  // The code of the route that decides a number, which is the beginning of the number; empty where no route does.
+  codeOf(number) {
+    this.bytes.set([...number].map(Number), this.digits);
+    const status = this.calls.mfweb_route(BigInt(this.table),
+      BigInt(this.digits), BigInt(number.length), BigInt(this.place));
+    return status ? '' : number.slice(0, this.number(this.place));
+  }
+
+  // ---- lines and their rows
+
+  placeOf(line) { return this.lines + LINE_BYTES * Math.min(line, 9999); }
+
+  forget(line) { this.bytes.fill(0, this.placeOf(line), this.placeOf(line) + LINE_BYTES); }
+
+  putRow(line, state, ms) {
+    this.view.setUint32(this.row, line, true);
+    this.view.setUint32(this.row + 4, state.charCodeAt(0), true);
+    this.view.setUint32(this.row + 8, ms, true);
+  }
+
+  // Takes a row: how many marks it gives, or less than 0 where it is refused, by the status.
+  take(line, state, ms) { return this.takeAt(this.placeOf(line), line, state, ms); }
+
+  takeAt(at, line, state, ms) {
+    this.putRow(line, state, ms);
+    const status = this.calls.mfweb_take(BigInt(this.table), BigInt(at), BigInt(this.row),
+      BigInt(this.marks), BigInt(MOST_MARKS), BigInt(this.count));
+    return status ? -status : this.number(this.count);
+  }
+
+  // The marks that the last row gave.
+  marksGiven(count) {
+    return Array.from({ length: count }, (_, i) => {
+      const [kind, value, low, high] = [4, 8, 12, 16].map((part) => this.number(this.marks + MARK_BYTES * i + part));
+      return { kind, value, low, high };
+    });
+  }
+
+  isRefusalGiven() { return this.number(this.marks + 4) >= Kind.MUTILATED; }
+
+  // The line of the page that the marks of the last row make, as mfbank prints it.
+  entryText(line, count) {
+    const number = this.number(this.placeOf(line));
+    const status = this.calls.mfweb_entry(line, number, BigInt(this.marks), BigInt(count),
+      BigInt(this.entry), BigInt(ENTRY_BYTES), BigInt(this.count));
+    if (status) throw new Error(`no entry: status ${status}`);
+    return new TextDecoder().decode(this.bytes.slice(this.entry, this.entry + this.number(this.count)));
+  }
+
+  // What the register will be told by a row that the line has still to take.
+  signalsOf(line, state, ms) { return this.signalsAt(this.placeOf(line), line, state, ms); }
+
+  signalsAt(place, line, state, ms) {
+    this.putRow(line, state, ms);
+    const status = this.calls.mfweb_signals(BigInt(this.table), BigInt(place), BigInt(this.row),
+      BigInt(this.signals), BigInt(MOST_SIGNALS), BigInt(this.count));
+    if (status) return [];
+    return Array.from({ length: this.number(this.count) }, (_, i) => {
+      const at = this.signals + SIGNAL_BYTES * i;
+      const [kind, breaks, isBad, ...elements] = this.bytes.subarray(at, at + SIGNAL_BYTES);
+      return { kind, breaks, isBad: isBad !== 0, elements, isStored: elements.some((element) => element) };
+    });
+  }
+
+  // Whether a row ends a make or break that is wrong in its digit, as the module judges: a copy of the line whose
+  // digit is still good takes the row, and is looked at.
+  endsWrong(line, state, ms) {
+    const place = this.placeOf(line);
+    this.bytes.copyWithin(this.trial, place, place + LINE_BYTES);
+    this.bytes[this.trial + IS_BAD_AT] = 0;
+    const digit = this.signalsAt(this.trial, line, state, ms).find((signal) => signal.kind === Signal.DIGIT);
+    if (digit?.isBad) return true;
+    this.takeAt(this.trial, line, state, ms);
+    return this.bytes[this.trial + IS_BAD_AT] !== 0;
+  }
+
+  // What the module knows of a line.
+  stateOf(line) {
+    const at = this.placeOf(line);
+    return {
+      phase: this.bytes[at + PHASE_AT], breaks: this.bytes[at + BREAKS_AT], attempt: this.bytes[at + ATTEMPT_AT],
+    };
+  }
+
+  // ---- tones
+
+  // The times of a sender, in ms.
+  cadence() {
+    this.calls.mfweb_cadence(BigInt(this.limits));
+    const [lead, kp, key, gap] = [0, 2, 4, 6].map((at) => this.view.getUint16(this.limits + at, true));
+    return { lead, kp, key, gap };
+  }
+
+  // So many samples of a tone, 8,000 a second.
+  tone(low, high, count) {
+    this.calls.mfweb_tone(low, high, BigInt(this.samples), BigInt(count));
+    return new Int16Array(this.bytes.buffer.slice(this.samples, this.samples + 2 * count));
+  }
+}

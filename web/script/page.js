@@ -1,0 +1,223 @@
+// The office on the page: its telephones, the route table, the sender, the tape, and what a visitor does with them.
+
+const LINES = [7, 8, 9];
+const FIRST_CALL = '411';
+const CALLS_AT_ONCE = ['2345678', '411', '0'];
+const TOLD_EACH_MS = 20;
+const TYPING_ENDS_MS = 300;
+
+class Office {
+  constructor(module, wasm) {
+    this.module = module;
+    this.clock = new Clock();
+    this.sound = new Sound();
+    this.route = new RouteView($('route'), $('trunk'));
+    this.sender = new Sender($('tones'), $('keying'), module, this.clock, this.sound);
+    this.tape = new Tape($('roll'), $('entries'));
+    this.decks = new Decks(wasm);
+    this.coming = [];
+    this.telephones = LINES.map((line) => new Telephone(line, module, this.clock, this));
+    $('telephones').replaceWith(...this.telephones.map((telephone) => telephone.top));
+    this.readColours();
+    this.choose(this.telephones[0]);
+    this.setRow(false);
+  }
+
+  // ---- telephones
+
+  choose(telephone) {
+    this.chosen = telephone;
+    for (const each of this.telephones) {
+      each.find('choice').checked = each === telephone;
+      each.top.classList.toggle('chosen', each === telephone);
+    }
+  }
+
+  // One telephone, or several in a row.
+  setRow(isRow) {
+    this.isRow = isRow;
+    if (!isRow) this.choose(this.telephones[0]);
+    document.body.classList.toggle('row', isRow);
+    this.telephones.forEach((telephone, i) => { telephone.top.hidden = i > 0 && !isRow; });
+    $('row').textContent = isRow ? 'One telephone' : 'Three telephones';
+    $('demo-words').textContent = isRow ? 'Hear three calls' : 'Hear a call';
+    this.foldWords();
+    this.sender.redraw();
+  }
+
+  foldWords() {
+    for (const telephone of this.telephones) telephone.foldWords(this.isRow || narrow.matches);
+  }
+
+  demonstrate() {
+    if (this.isRow) this.telephones.forEach((telephone, i) => telephone.dialNumber(CALLS_AT_ONCE[i]));
+    else this.telephones[0].dialNumber(FIRST_CALL);
+  }
+
+  // Does something in so many ms of the page's time.
+  later(ms, what) { this.coming.push({ at: this.clock.now() + ms, what }); }
+
+  // ---- what the telephones tell
+
+  clicked(closed) { if (this.clock.pace <= 1) this.sound.click(closed); }
+
+  seized() {
+    if (this.isRow) return;
+    this.route.clear();
+    this.sender.clear();
+  }
+
+  entryGiven(telephone, text, marks) {
+    const number = telephone.numberDialled();
+    if (isRefusal(marks[0])) {
+      const why = this.whyRefused(marks[0], number);
+      const label = `${telephone.name}, refused: ${why}`;
+      this.tape.add(text, `${telephone.name} is refused: ${why}`, new AttemptPicture(telephone.attempt, label).svg);
+      this.route.showRefused(telephone.name, why);
+      return;
+    }
+    const keyed = marks.filter((mark) => mark.kind === Kind.DIGIT).map((mark) => mark.value).join('');
+    this.tape.add(text, `${telephone.name} is keyed on trunk group ${marks[0].value}`, null);
+    this.route.showKeyed(telephone.name, number, this.module.codeOf(number), marks[0].value, keyed);
+    this.sender.send(telephone.name, marks);
+  }
+
+  whyRefused({ kind, value }, number) {
+    return {
+      [Kind.MUTILATED]: () => {
+        return value ? `a digit was spoiled, after ${plural(value, 'good one')}` : 'its first digit was spoiled';
+      },
+      [Kind.UNKNOWN]: () => `no code of the table begins ${number}`,
+      [Kind.ABANDONED]: () => `it hung up after ${plural(value, 'digit')}`,
+      [Kind.TIMED_OUT]: () => {
+        const seconds = this.module.limitsInUse().timeout / 1000;
+        return `no more came for ${seconds} s, after ${plural(value, 'digit')}`;
+      },
+    }[kind]();
+  }
+
+  // ---- the route table
+
+  // A table is judged once its writer stops for a moment: else a fault would be read out for each letter.
+  tableTyped() {
+    clearTimeout(this.typing);
+    this.typing = setTimeout(() => this.useTable(), TYPING_ENDS_MS);
+  }
+
+  useTable() {
+    try {
+      const text = readTable($('routes').value);
+      this.module.useTable(text);
+      $('fault').textContent = '';
+      $('routes').removeAttribute('aria-invalid');
+      this.telephones.forEach((telephone) => telephone.reset());
+      this.route.use(text.routes);
+      this.sender.clear();
+    } catch (fault) {
+      if (!(fault instanceof Refused)) throw fault;
+      $('fault').textContent = `Refused: ${fault.message}. The table before it stays in use.`;
+      $('routes').setAttribute('aria-invalid', 'true');
+    }
+  }
+
+  // ---- what the visitor does
+
+  listen() {
+    $('demo').addEventListener('click', () => { this.setSound(true); this.demonstrate(); });
+    $('row').addEventListener('click', () => this.setRow(!this.isRow));
+    $('sound').addEventListener('click', () => this.setSound(!this.sound.isOn));
+    $('pace').addEventListener('change', () => { this.move(); this.clock.setPace(Number($('pace').value)); });
+    $('routes').addEventListener('input', () => this.tableTyped());
+    $('example').addEventListener('click', () => this.readExample());
+    $('file').addEventListener('change', () => {
+      this.readFile($('file').files[0]);
+      // the same file may be chosen once more
+      $('file').value = '';
+    });
+    document.addEventListener('keydown', (event) => this.key(event));
+    for (const name of ['dragover', 'dragleave', 'drop']) document.addEventListener(name, (event) => this.drag(event));
+    matchMedia('(prefers-color-scheme: dark)').addEventListener('change', () => this.readColours());
+    narrow.addEventListener('change', () => this.foldWords());
+    addEventListener('resize', () => this.sender.redraw());
+  }
+
+  setSound(on) {
+    const isNew = on && !this.sound.isOn;
+    this.sound.turn(on);
+    $('sound').textContent = on ? 'Sound is on' : 'Sound is off';
+    if (isNew) this.sender.sendAgain();
+  }
+
+  key(event) {
+    const { target, key } = event;
+    if (event.ctrlKey || event.metaKey || event.altKey || event.repeat) return;
+    if (/^(TEXTAREA|SELECT)$/.test(target.tagName)) return;
+    if (/^[0-9]$/.test(key)) this.chosen.ask(key);
+    // anywhere else the space bar has something to do of its own
+    if (key === ' ' && target === document.body) {
+      event.preventDefault();
+      this.chosen.hang(!this.chosen.isUp);
+    }
+  }
+
+  // Files may be dropped anywhere; text may still be dragged into the route table.
+  drag(event) {
+    if (!event.dataTransfer.types.includes('Files')) return;
+    event.preventDefault();
+    $('page').classList.toggle('over', event.type === 'dragover');
+    if (event.type === 'drop') this.readFile(event.dataTransfer.files[0]);
+  }
+
+  readFile(file) { if (file) this.decks.read(file.name, file); }
+
+  readExample() { this.decks.read('calls.deck', new Blob([$('example-deck').textContent])); }
+
+  // ---- time
+
+  readColours() {
+    const style = getComputedStyle(document.documentElement);
+    const colourOf = (name) => [name, style.getPropertyValue(`--${name}`).trim()];
+    this.colours = Object.fromEntries(['line', 'rule', 'soft', 'red', 'lamp'].map(colourOf));
+  }
+
+  move() {
+    const now = this.clock.now();
+    const due = this.coming.filter(({ at }) => at <= now);
+    this.coming = this.coming.filter(({ at }) => at > now);
+    due.forEach(({ what }) => what());
+    this.telephones.forEach((telephone) => telephone.move());
+  }
+
+  show() {
+    this.sender.move();
+    for (const telephone of this.telephones) if (!telephone.top.hidden) telephone.show(this.colours);
+    if (lessMotion.matches) setTimeout(() => this.show(), 250);
+    else requestAnimationFrame(() => this.show());
+  }
+
+  begin() {
+    this.useTable();
+    this.listen();
+    this.readExample();
+    setInterval(() => this.move(), TOLD_EACH_MS);
+    this.show();
+    if (!lessMotion.matches && !location.hash.includes('quiet')) this.demonstrate();
+  }
+}
+
+const bytesOf = (id) => Uint8Array.from(atob($(id).textContent), (letter) => letter.charCodeAt(0));
+
+// A browser without 64-bit memory refuses the module, and takes its copy.
+async function openModule() {
+  const wasm = bytesOf('module');
+  try {
+    if (location.hash.includes('lowered')) throw new Error('the copy is asked for');
+    return { module: await Module.open(wasm), wasm };
+  } catch {
+    const lowered = bytesOf('lowered');
+    $('copy').hidden = false;
+    return { module: await Module.open(lowered), wasm: lowered };
+  }
+}
+
+openModule().then(({ module, wasm }) => new Office(module, wasm).begin());

@@ -1,0 +1,54 @@
+// The view of the route table: its routes, and the one that the module says decides a number.
+
+const MOST_SHOWN_ROUTES = 8;
+
+// A route in the words of its table.
+function routeText(route) {
+  const deleted = route.get('delete') ? `, delete ${route.get('delete')}` : '';
+  const prefixed = route.get('prefix') ? `, prefix ${route.get('prefix')}` : '';
+  return `${route.get('code')} → trunk ${route.get('trunk')}${deleted}${prefixed}`;
+}
+
+class RouteView {
+  constructor(top, status) {
+    this.top = top;
+    this.status = status;
+    this.routes = [];
+  }
+
+  use(routes) {
+    this.routes = routes;
+    this.clear();
+  }
+
+  // The routes, and lit the one of this code.
+  light(code) {
+    this.top.textContent = '';
+    this.routes.forEach((route, i) => {
+      const isTaken = route.get('code') === code;
+      if (i >= MOST_SHOWN_ROUTES && !isTaken) return;
+      make('span', isTaken ? { class: 'taken' } : {}, this.top, routeText(route));
+    });
+    const more = this.routes.length - MOST_SHOWN_ROUTES;
+    if (more > 0) make('span', {}, this.top, `and ${more} more`);
+  }
+
+  clear() {
+    this.light('');
+    this.status.textContent = '';
+  }
+
+  showKeyed(name, number, code, trunk, keyed) {
+    this.light(code);
+    this.status.textContent = `trunk group ${trunk}`;
+    const line = make('p', {}, this.top);
+    const bold = (words) => make('b', {}, null, words);
+    line.append(`${name}: `, bold(number), ' leaves by trunk group ', bold(trunk), ', keyed as ', bold(keyed));
+  }
+
+  showRefused(name, why) {
+    this.light('');
+    this.status.textContent = 'none';
+    make('p', { class: 'refused' }, this.top, `${name}: ${why}`);
+  }
+}

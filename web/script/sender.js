@@ -1,0 +1,117 @@
+// The sender: the keys of a call as pairs of bars on six lanes, one for each frequency, and their sound. Calls that
+// are keyed at once wait for one another here, so that each is seen and heard; in an office each has its own sender.
+
+const FREQUENCIES = [700, 900, 1100, 1300, 1500, 1700];
+const LANE_WEIGHTS = { 700: '0', 900: '1', 1100: '2', 1300: '4', 1500: '7', 1700: '' };
+const WIDEST_KEY = 92;
+const NARROWEST_PAIR = 58;
+
+const keyName = (mark) => ({ [Kind.KP]: 'KP', [Kind.ST]: 'ST' })[mark.kind] ?? String(mark.value);
+const keysOf = (marks) => marks.filter((mark) => [Kind.DIGIT, Kind.KP, Kind.ST].includes(mark.kind));
+
+class Sender {
+  constructor(top, status, module, clock, sound) {
+    Object.assign(this, { top, status, module, clock, sound });
+    this.cadence = module.cadence();
+    this.waiting = [];
+    this.playing = null;
+    this.last = null;
+    this.draw([]);
+  }
+
+  send(name, marks) { this.waiting.push({ name, keys: keysOf(marks) }); }
+
+  sendAgain() { if (this.last && !this.playing) this.waiting.push(this.last); }
+
+  clear() {
+    this.waiting = [];
+    this.playing = null;
+    this.last = null;
+    this.status.textContent = '';
+    this.draw([]);
+  }
+
+  // When each key sounds, in ms from the beginning. Slow motion makes tones longer and leaves their pitch.
+  timesOf(keys, slower) {
+    const { lead, kp, key, gap } = this.cadence;
+    let at = lead * slower;
+    const times = keys.map((mark) => {
+      const from = at;
+      const until = from + (mark.kind === Kind.KP ? kp : key) * slower;
+      at = until + gap * slower;
+      return { mark, from, until };
+    });
+    return { times, ends: at };
+  }
+
+  // A keying as one sound: silences, and the samples that the module made.
+  samplesOf({ times, ends }) {
+    const samples = new Float32Array(SAMPLES_A_MS * ends);
+    for (const { mark, from, until } of times) {
+      const tone = this.module.tone(mark.low, mark.high, SAMPLES_A_MS * (until - from));
+      tone.forEach((sample, n) => { samples[SAMPLES_A_MS * from + n] = sample / 32768; });
+    }
+    return samples;
+  }
+
+  begin(call) {
+    this.last = call;
+    const slower = Math.round(1 / Math.min(this.clock.pace, 1));
+    const keying = this.timesOf(call.keys, slower);
+    const groups = this.draw(call.keys);
+    keying.times.forEach((time, i) => { time.group = groups[i]; });
+    if (this.sound.isOn) this.sound.play(this.samplesOf(keying));
+    this.playing = { ...call, ...keying, began: performance.now() };
+  }
+
+  move() {
+    if (!this.playing && this.waiting.length) this.begin(this.waiting.shift());
+    if (!this.playing) return;
+    const { name, times, ends, began } = this.playing;
+    const now = performance.now() - began;
+    const look = ({ from, until }) => (now >= until ? 'gone' : now >= from ? 'on' : '');
+    for (const time of times) time.group.setAttribute('class', look(time));
+    const on = times.find(({ from, until }) => now >= from && now < until)?.mark;
+    if (now >= ends) {
+      this.status.textContent = `${name}: ${plural(times.length, 'key')} sent`;
+      this.playing = null;
+    } else if (on) {
+      this.status.textContent = `${name}: ${keyName(on)}, ${on.low} + ${on.high} Hz`;
+    } else if (now < times[0].from) {
+      this.status.textContent = `${name}: the trunk is seized`;
+    }
+  }
+
+  redraw() {
+    if (this.playing) return;
+    for (const group of this.draw(this.last?.keys ?? [])) group.setAttribute('class', 'gone');
+  }
+
+  // Draws the lanes and the keys; returns what was drawn of each key.
+  draw(keys) {
+    const [width, height] = [Math.max(280, this.top.clientWidth || 600), this.top.clientHeight || 180];
+    this.top.setAttribute('viewBox', `0 0 ${width} ${height}`);
+    this.top.textContent = '';
+    this.top.setAttribute('aria-label', keys.length ? `Keys: ${keys.map(keyName).join(' ')}` : 'No keys are sent');
+    const lane = (hz) => height - 50 - (hz - FREQUENCIES[0]) / 1000 * (height - 64);
+    for (const hz of FREQUENCIES) {
+      makeSvg('line', { class: 'lane', x1: 56, x2: width, y1: lane(hz), y2: lane(hz) }, this.top);
+      makeSvg('text', { class: 'weight', x: 8, y: lane(hz) }, this.top, LANE_WEIGHTS[hz]);
+      makeSvg('text', { class: 'hz', x: 50, y: lane(hz) }, this.top, String(hz));
+    }
+    const step = Math.min(WIDEST_KEY, (width - 62) / Math.max(keys.length, 1));
+    return keys.map((mark, i) => this.drawKey(mark, 60 + i * step, step, lane, height));
+  }
+
+  drawKey(mark, x, step, lane, height) {
+    const group = makeSvg('g', {}, this.top);
+    const width = Math.max(6, step - 8);
+    for (const hz of [mark.low, mark.high]) {
+      makeSvg('rect', { class: 'bar', x, y: lane(hz) - 5, width, height: 10, rx: 3 }, group);
+    }
+    makeSvg('text', { class: 'key', x: x + width / 2, y: height - 22 }, group, keyName(mark));
+    const pair = `${mark.low}+${mark.high}`;
+    if (step > NARROWEST_PAIR) makeSvg('text', { class: 'pair', x: x + width / 2, y: height - 6 }, group, pair);
+    return group;
+  }
+}

@@ -1,0 +1,28 @@
+// The tape: the entries of all lines in the order in which they came, each in mfbank's words, and a refused one with
+// the picture of its attempt.
+
+const MOST_ENTRIES = 60;
+
+class Tape {
+  constructor(roll, list) { Object.assign(this, { roll, list }); }
+
+  add(text, words, picture) {
+    const entry = make('li', picture ? { class: 'refused' } : {}, this.list);
+    make('code', {}, entry, text);
+    make('span', {}, entry, words);
+    if (picture) this.addPicture(entry, picture);
+    if (this.list.children.length > MOST_ENTRIES) this.list.firstElementChild.remove();
+    this.roll.scrollTop = this.roll.scrollHeight;
+  }
+
+  // Only the last picture is open. Where it is wider than the page its end is seen, since that is why it was refused.
+  addPicture(entry, picture) {
+    this.list.querySelectorAll('details[open]').forEach((details) => { details.open = false; });
+    const details = make('details', { open: '' }, entry);
+    make('summary', {}, details, 'What the register heard');
+    const words = { class: 'picture', tabindex: 0, role: 'group', 'aria-label': 'Picture of the attempt' };
+    const frame = make('div', words, details);
+    frame.append(picture);
+    frame.scrollLeft = frame.scrollWidth;
+  }
+}

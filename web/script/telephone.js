@@ -1,0 +1,158 @@
+// One telephone of the office: its hook and dial, its loop, and the register that listens to it.
+
+class Telephone {
+  constructor(line, module, clock, office) {
+    Object.assign(this, { line, module, clock, office, name: `Line ${line}` });
+    this.digits = [];
+    this.attempt = null;
+    this.outcome = '';
+    this.top = $('telephone').content.cloneNode(true).firstElementChild;
+    this.find = (name) => this.top.querySelector(`.${name}`);
+    this.top.setAttribute('aria-label', this.name);
+    this.find('title').textContent = this.name;
+    this.find('dial').setAttribute('aria-label', `Dial of line ${line}`);
+    this.find('trace').setAttribute('aria-label', `Makes and breaks of the loop of line ${line} in the last seconds`);
+    this.find('kind').setAttribute('aria-label', `How the dial of line ${line} is`);
+    this.loop = new Loop(line, clock, module, this);
+    this.dial = new Dial(this.find('dial'), this.name, clock, this.loop);
+    this.trace = new Trace(this.find('trace'), clock);
+    this.register = new RegisterView(this.find('relays'));
+    this.find('hook').addEventListener('click', () => this.hang(!this.isUp));
+    this.find('kind').addEventListener('change', (event) => { this.dial.kind = event.target.value; });
+    for (const button of this.top.querySelectorAll('[data-number]')) {
+      button.addEventListener('click', () => this.dialNumber(button.dataset.number));
+    }
+    this.find('choice').addEventListener('change', () => office.choose(this));
+    this.top.addEventListener('pointerdown', () => office.choose(this));
+    this.isUp = false;
+    this.showHook();
+  }
+
+  // The words beside loop and register are folded where there is little room for them.
+  foldWords(isFolded) {
+    for (const words of this.top.querySelectorAll('.told')) words.open = !isFolded;
+  }
+
+  // Forgets what its line did: a line is known by one route table.
+  reset() {
+    this.module.forget(this.line);
+    this.loop.recorded = 0;
+    this.attempt = null;
+    this.clear();
+    this.showState();
+  }
+
+  clear() {
+    this.digits = [];
+    this.outcome = '';
+  }
+
+  // ---- the hook and the dial
+
+  hang(isUp) {
+    this.isUp = isUp;
+    this.turn = {};        // whoever was to dial a number here, dials it no more
+    this.loop.set('hook', isUp, this.clock.now());
+    if (!isUp) this.dial.asked = [];
+    this.showHook();
+    this.move();
+  }
+
+  showHook() {
+    const hook = this.find('hook');
+    hook.textContent = this.isUp ? 'Hang up' : 'Lift the receiver';
+    hook.setAttribute('aria-label', `${hook.textContent}, line ${this.line}`);
+    hook.classList.toggle('up', this.isUp);
+    hook.classList.remove('wanted');
+  }
+
+  ask(digit) {
+    this.dial.ask(digit);
+    // it turns on the hook too, but nothing is sent: so the hook is pointed at
+    if (!this.isUp) this.find('hook').classList.add('wanted');
+  }
+
+  // Hangs up if need be, and dials a number as a hand would.
+  dialNumber(number) {
+    const isIdle = this.module.stateOf(this.line).phase === 0 && !this.isUp;
+    this.hang(false);
+    this.inTurn(isIdle ? 50 : 450, () => {
+      this.hang(true);
+      this.inTurn(250, () => [...number].forEach((digit) => this.ask(digit)));
+    });
+  }
+
+  // Does something after so many ms, unless the hook moves before.
+  inTurn(ms, what) {
+    const { turn } = this;
+    this.office.later(ms, () => { if (turn === this.turn) what(); });
+  }
+
+  // ---- what the loop tells
+
+  changed(at, closed) {
+    this.trace.changed(at, closed);
+    this.office.clicked(closed);
+  }
+
+  rowTaken(row) {
+    if (row.signals.some((signal) => signal.kind === Signal.SEIZED)) {
+      this.clear();
+      this.attempt = new Attempt(row.from);
+      this.office.seized(this);
+    }
+    this.attempt?.add(row);
+    row.signals.forEach((signal) => this.told(signal, row));
+  }
+
+  // What the register was told. It listens in the attempt's first phase alone.
+  told(signal, { attempt, at }) {
+    const words = { [Signal.SEIZED]: 'seized', [Signal.TIMED_OUT]: 'time-out', [Signal.RELEASED]: 'released' };
+    if (signal.kind !== Signal.DIGIT) {
+      this.trace.note(words[signal.kind] ?? '', signal.kind === Signal.TIMED_OUT ? 'bad' : '', at);
+      return;
+    }
+    this.attempt?.digit(signal, this.module.limitsInUse());
+    if (attempt !== 1) {
+      this.trace.note('not heard', '', at);
+      return;
+    }
+    this.digits.push(signal);
+    this.trace.note(signal.isStored ? figureOf(signal) : 'spoiled', signal.isStored ? 'digit' : 'bad', at);
+  }
+
+  entryGiven(text, marks) {
+    this.outcome = isRefusal(marks[0]) ? 'refused' : 'complete';
+    this.attempt?.end(marks[0].kind);
+    this.office.entryGiven(this, text, marks);
+    this.attempt = null;
+  }
+
+  numberDialled() { return this.digits.map(figureOf).join(''); }
+
+  // ---- its look
+
+  move() {
+    this.dial.move();
+    this.loop.tell();
+    this.showState();
+  }
+
+  show(colours) {
+    this.dial.show();
+    this.trace.draw(colours);
+  }
+
+  showState() {
+    const state = this.module.stateOf(this.line);
+    const now = [state.phase, state.attempt, state.breaks, this.outcome, this.digits.length].join();
+    if (now === this.shown) return;
+    this.shown = now;
+    this.find('phase').textContent = PHASES[state.phase];
+    const heard = this.find('heard');
+    heard.textContent = this.outcome || ATTEMPTS[state.attempt];
+    heard.classList.toggle('refused', this.outcome === 'refused');
+    this.find('number').textContent = this.numberDialled();
+    this.register.show(this.digits, state.attempt === 1 ? state.breaks : 0);
+  }
+}

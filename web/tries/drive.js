@@ -1,0 +1,53 @@
+// node tries/drive.js PAGE EXAMPLES MFBANK MFHEAR [PICTURES]: drives the page in Chromium as a visitor would, and
+// compares its tape, its pictures, its sound and its pages of decks with what they should be. Pictures of the page are
+// put into PICTURES.
+'use strict';
+const fs = require('fs');
+const path = require('path');
+const { CallTries } = require('./calls.js');
+const { tryChance } = require('./chance.js');
+const { is, end } = require('./checks.js');
+const { tryDecks, tryLongDeck } = require('./dropped.js');
+const { tryNames, tryKeysAlone, tryOpening, tryPhone, tryLessMotion, takePictures } = require('./looks.js');
+const { TapeTry } = require('./tape.js');
+const { Visitor } = require('./visitor.js');
+
+const [, , file, examples, mfbank, mfhear, pictures] = process.argv;
+const read = (name) => fs.readFileSync(path.join(examples, name));
+const table = read('routes.toml').toString().trimEnd();
+
+async function tryAll(it) {
+  await it.open();
+  await it.look();
+  await it.visit('#quiet');
+  await it.listen();
+  const tape = new TapeTry(it, { mfbank, mfhear });
+  const calls = new CallTries(it, tape, read);
+  await calls.byKeys();
+  await calls.bySound();
+  await calls.byHands();
+  await calls.refused();
+  await calls.atOnce();
+  await calls.slowly();
+  await tape.compare(table, 0);
+  await calls.byTables();
+  await tryChance(it, table, { mfbank, mfhear });
+  await tryDecks(it, examples, read);
+  await tryLongDeck(it, mfbank, table);
+  await tryNames(it);
+  await tryKeysAlone(it);
+  await tryOpening(it);
+  await tryPhone(it);
+  await tryLessMotion(it);
+  if (pictures) await takePictures(it, pictures);
+  is('nothing was said in the console', it.messages, []);
+  await it.close();
+  end();
+}
+
+const it = new Visitor(file);
+tryAll(it).catch(async (fault) => {
+  console.error(fault);
+  await it.close().catch(() => {});
+  process.exit(1);
+});

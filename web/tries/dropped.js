@@ -1,0 +1,76 @@
+// Decks that a visitor drops on the page or chooses, a very long one among them.
+'use strict';
+const { spawnSync } = require('child_process');
+const fs = require('fs');
+const os = require('os');
+const path = require('path');
+const { is } = require('./checks.js');
+
+const LONG = 1000000;
+
+async function tryDecks(it, examples, read) {
+  for (const name of fs.readdirSync(examples).filter((file) => file.endsWith('.deck'))) {
+    const base = name.slice(0, -5);
+    const isPage = fs.existsSync(path.join(examples, `${base}.page`));
+    await it.drop(name, read(name).toString());
+    const wanted = isPage ? read(`${base}.page`).toString()
+      : `Refused: ${read(`${base}.err`).toString().replace('mfbank: ', '').trimEnd()}`;
+    is(`${name}, dropped`, await it.text('#page'), wanted);
+  }
+  await it.drop('quoted.deck', '---\n"line","state","ms"\r\n7,"M","600"\r\n');
+  is('a deck in quotes, dropped', await it.text('#page'), '0007 1 REFUSED ABANDONED 0\nKEYED 0 REFUSED 1\n');
+}
+
+// Calls of many lines in turn, in so many records.
+function longDeck(table, records) {
+  const rows = [];
+  for (let call = 0; rows.length < records; call++) {
+    const line = call % 10000;
+    rows.push(`${line},M,500`);
+    for (const digit of ['411', '0', '2345678', '611'][call % 4]) {
+      const pulses = Number(digit) || 10;
+      for (let i = 1; i <= pulses; i++) rows.push(`${line},B,60`, `${line},M,${i < pulses ? 40 : 600}`);
+    }
+    rows.push(`${line},B,400`);
+  }
+  return `${table}\n---\nline,state,ms\n${rows.slice(0, records).join('\n')}\n`;
+}
+
+// Keeps how far the bar is, the longest time between two frames, and what may be saved.
+const WATCH = `(() => {
+  window.longest = 0;
+  window.shares = [];
+  let last = performance.now();
+  const look = () => {
+    const now = performance.now();
+    longest = Math.max(longest, now - last);
+    last = now;
+    if (!window.isRead) requestAnimationFrame(look);
+  };
+  requestAnimationFrame(look);
+  const { createObjectURL } = URL;
+  URL.createObjectURL = (blob) => { window.saved = blob; return createObjectURL(blob); };
+  setInterval(() => shares.push(document.getElementById('share').value), 50);
+})()`;
+
+async function tryLongDeck(it, mfbank, table) {
+  const folder = fs.mkdtempSync(path.join(os.tmpdir(), 'mfbank-deck-'));
+  const deck = path.join(folder, 'long.deck');
+  fs.writeFileSync(deck, longDeck(table, LONG));
+  const ran = spawnSync(mfbank, { input: fs.readFileSync(deck), maxBuffer: 1 << 28 });
+  await it.run(WATCH);
+  await it.chooseFile('#file', deck);
+  await it.until('/1,000,000 records/.test(document.getElementById("read").textContent)', 60000);
+  const saved = await it.run('saved.text()');
+  is(`a deck of 1,000,000 records: ${await it.text('#read')}`, saved === ran.stdout.toString(), true);
+  is('its progress was shown', await it.run('new Set(shares).size > 3'), true);
+  const longest = await it.run('isRead = true, Math.round(longest)');
+  is(`the page did not stand still: ${longest} ms at most between two frames`, longest < 500, true);
+  await it.chooseFile('#file', deck);
+  await it.until('!document.getElementById("progress").hidden');
+  await it.click('#cancel');
+  is('reading is stopped', await it.text('#read'), 'Stopped.');
+  fs.rmSync(folder, { recursive: true, force: true });
+}
+
+module.exports = { tryDecks, tryLongDeck };

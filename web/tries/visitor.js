@@ -1,0 +1,118 @@
+// A visitor of the page: what one sees there, and what one does, by keys, mouse, finger and files.
+'use strict';
+const path = require('path');
+const { Browser, sleep } = require('./browser.js');
+
+// Keeps the rows and the sounds that the page gives.
+const LISTEN = `(() => {
+  window.rows = [];
+  window.sounds = [];
+  const { take } = Module.prototype;
+  Module.prototype.take = function (line, state, ms) {
+    rows.push([line, state, ms].join());
+    return take.call(this, line, state, ms);
+  };
+  const { start } = AudioBufferSourceNode.prototype;
+  AudioBufferSourceNode.prototype.start = function (...words) {
+    sounds.push([...this.buffer.getChannelData(0)]);
+    return start.apply(this, words);
+  };
+})()`;
+
+class Visitor extends Browser {
+  constructor(file) {
+    super();
+    this.file = `file://${path.resolve(file)}`;
+  }
+
+  visit(hash) { return this.go(`${this.file}${hash}`); }
+
+  listen() { return this.run(LISTEN); }
+
+  // ---- what is seen
+
+  text(selector) { return this.run(`document.querySelector(${JSON.stringify(selector)}).textContent`); }
+
+  texts(selector) {
+    return this.run(`[...document.querySelectorAll(${JSON.stringify(selector)})].map((it) => it.textContent)`);
+  }
+
+  entries() { return this.texts('#entries code'); }
+
+  untilEntries(count, ms) { return this.until(`document.querySelectorAll('#entries li').length >= ${count}`, ms); }
+
+  // The relays of the digits that a register has stored, the one of weight 0 first.
+  lamps(nth) {
+    return this.run(`[...document.querySelectorAll('.telephone')[${nth}].querySelectorAll('.cell')]
+      .map((cell) => [...cell.querySelectorAll('i')].reverse().map((it) => (it.matches('.on') ? 1 : 0)).join(''))
+      .filter((bits) => bits !== '00000')`);
+  }
+
+  untilNumber(number) { return this.until(`document.querySelector('.number').textContent === '${number}'`); }
+
+  // ---- what one does
+
+  async dial(digits) { for (const digit of digits) await this.key(digit); }
+
+  async lift() {
+    await this.run('document.activeElement.blur()');
+    await this.key(' ');
+  }
+
+  async hangUp() {
+    await this.lift();
+    await this.until('document.querySelector(".phase").textContent === "on hook"');
+  }
+
+  // A choice of a list, as the keys of a closed list make it.
+  choose(selector, value, nth = 0) {
+    return this.run(`(() => {
+      const list = document.querySelectorAll(${JSON.stringify(selector)})[${nth}];
+      list.value = ${JSON.stringify(value)};
+      list.dispatchEvent(new Event('change', { bubbles: true }));
+    })()`);
+  }
+
+  async write(table) {
+    await this.run('document.getElementById("routes").focus(); document.getElementById("routes").select()');
+    await this.send('Input.insertText', { text: table });
+    await sleep(500);
+  }
+
+  async drop(name, deck) {
+    await this.run(`(() => {
+      const data = new DataTransfer();
+      data.items.add(new File([${JSON.stringify(deck)}], ${JSON.stringify(name)}));
+      const page = document.getElementById('page');
+      page.textContent = '';
+      page.dispatchEvent(new DragEvent('drop', { dataTransfer: data, bubbles: true, cancelable: true }));
+    })()`);
+    await this.until('document.getElementById("page").textContent !== ""');
+  }
+
+  turnByMouse(digit, degrees) {
+    return this.turn(digit, degrees, ['mousePressed', 'mouseMoved', 'mouseReleased'], (...at) => this.mouse(...at));
+  }
+
+  turnByFinger(digit, degrees) {
+    return this.turn(digit, degrees, ['touchStart', 'touchMove', 'touchEnd'], (...at) => this.touch(...at));
+  }
+
+  // Turns the dial from the hole of a digit, so many degrees: 330 takes a 0 to the stop.
+  async turn(digit, degrees, [press, move, release], act) {
+    const [x, y] = await this.middle('.dial');
+    const [holeX, holeY] = await this.run(`(() => {
+      const box = document.querySelector('[data-digit="${digit}"]').getBoundingClientRect();
+      return [box.left + box.width / 2, box.top + box.height / 2];
+    })()`);
+    const [radius, from] = [Math.hypot(holeX - x, holeY - y), Math.atan2(holeY - y, holeX - x)];
+    await act(press, holeX, holeY);
+    for (let turned = 10; turned <= degrees; turned += 10) {
+      const at = from + turned * Math.PI / 180;
+      await act(move, x + radius * Math.cos(at), y + radius * Math.sin(at));
+    }
+    await act(release, x, y);
+  }
+}
+
+module.exports = { Visitor };
