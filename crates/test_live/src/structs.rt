@@ -158,7 +158,7 @@ fn printed_without_memory(rt: HostRuntime) {
     let line = b"0007 1 KEYED 0001 KP:1100+1700 0:1300+1500 ST:1500+1700";
     let mut room = [0; 80];
     match print_entry(7, 1, &keyed(), &mut room) {
-        Ok(count) => assert!(rt; room[..count] == *line),
+        Ok(count) => assert!(rt; &room[..count] == &line[..]),
         Err(_) => assert!(rt; false),
     }
 }
