@@ -1,5 +1,4 @@
-#!/usr/bin/env python3
-"""usage: scripts/page.py < OBJECTS
+"""usage: python3 scripts/page.py < OBJECTS
 
 Makes the page of the objects of `mflive --json`, as mfbank prints it, and knows nothing of either but their words."""
 import json
