@@ -1,4 +1,5 @@
 mod FarEnds
+mod ReceivedNumbers
 pub mod PlannedPages
 pub mod SplitPages
 pub mod TableLines

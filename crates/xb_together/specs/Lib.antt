@@ -1,4 +1,5 @@
 pub mod FarEnd
+pub mod Received
 pub mod Hearing
 pub mod SplitDecks
 pub mod WrittenDecks

@@ -5,6 +5,7 @@
 //! `sound_of_calls`: the samples are exactly the sound of the line's tape, by the cadence that is asked for; and, number
 //! by number, the keys that are heard in it are KP, the digits that the number's route sends, and ST, and nothing of a
 //! number without a route. What is heard are the tone patterns that are keys (`keys_heard` of `xb_tone`).
+//! `dialled_is_received`: the same of the receiver of `xb_ear`, and of the sound as a disturbance has left it.
 //!
 //! `split_decks_make_the_page`: for all rows, and ranges that take all lines, the pages that the decks of the ranges
 //! say, joined, are the page that all rows make. `planned_decks_make_the_page`: the same for the ranges of a plan.
@@ -16,6 +17,7 @@ mod calls;
 mod far_end;
 mod hearing;
 mod large_decks;
+mod received;
 mod schedules;
 mod threads;
 
@@ -25,5 +27,6 @@ pub use hearing::hear;
 pub use large_decks::{
     planned_decks_make_the_page, split_decks_make_the_page, written_decks_make_the_page,
 };
+pub use received::dialled_is_received;
 pub use schedules::{SoFar, marks_by_schedule};
 pub use threads::marks_on_threads;
