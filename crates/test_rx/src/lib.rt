@@ -1,9 +1,0 @@
-//! Sounds heard as pages, and each fault of a sound.
-//!
-//! Tests alone.
-#![tactic(auto)]
-
-#[cfg(test)]
-mod pages;
-#[cfg(test)]
-mod statuses;

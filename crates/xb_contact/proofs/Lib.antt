@@ -1,7 +1,0 @@
-pub mod JoinedHolds
-pub mod Remaining
-pub mod Exact
-pub mod Records
-pub mod RoundedHolds
-pub mod JoinedRuns
-pub mod Told
