@@ -1,0 +1,16 @@
+//! Recordings of contacts, and the program that makes rows of them: each form from some lines, each refusal with its
+//! place, and streams that fail. The rows are worked out by hand.
+//!
+//! Tests alone.
+#![tactic(auto)]
+
+#[cfg(test)]
+mod attending;
+#[cfg(test)]
+mod forms;
+#[cfg(test)]
+mod refusals;
+#[cfg(test)]
+mod settling;
+#[cfg(test)]
+mod statuses;

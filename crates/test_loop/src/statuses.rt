@@ -1,0 +1,107 @@
+// Words that are refused, and streams that fail.
+use crate::attending::{Case, Tables, check_reader};
+use std::io::ErrorKind;
+use std::test::Fail;
+use test_kit::{Halting, Short, words_of};
+use xb_loop::attend;
+
+const USAGE: &[u8] = b"mfloop: usage: mfloop [--line N=WIRE]... [--table FILE] \
+[--format vcd|sigrok|saleae|edges|gpiomon|bits|s16|wav] [--rate HZ] [--settle MS] [--tick MS] \
+[--threshold PERCENT] [--inverted] [--said]\n";
+
+const RECORDING: &[u8] = b"0,0\n0.010,1\n0.030,1\n";
+
+const ROWS: &[u8] = b"line,state,ms\n7,B,10\n7,M,20\n";
+
+const REFUSED: &[&[&str]] = &[
+    &[],
+    &["--line", "7"],
+    &["--line", "10000=1"],
+    &["--line", "7="],
+    &["--line", "x=1"],
+    // two wires for one line
+    &["--line", "7=1", "--line", "7=2"],
+    &["--line", "7=1", "--format", "csv"],
+    &["--line", "7=1", "--threshold", "0"],
+    &["--line", "7=1", "--threshold", "100"],
+    &["--line", "7=1", "--rate", "x"],
+    &["--help"],
+];
+
+#[test]
+fn refuses_words(rt: HostRuntime) -> Result<(), Fail> {
+    for words in REFUSED {
+        let case = Case {
+            words,
+            recording: RECORDING,
+            rows: b"",
+            told: USAGE,
+        };
+        let mut reader = RECORDING;
+        check_reader(&rt, rt.alloc(), &mut reader, &case, 2)?;
+        assert!(rt; reader == RECORDING);
+    }
+    Ok(())
+}
+
+#[test]
+fn fails_where_the_recording_fails(rt: HostRuntime) -> Result<(), Fail> {
+    let words = words_of(rt.alloc(), "mfloop", &["--line", "7=1"])?;
+    for place in 0..=RECORDING.len() {
+        let mut reader = Halting::failing(RECORDING, 4, place, ErrorKind::Interrupted);
+        let mut out = Vec::new(rt.alloc());
+        let mut err = Vec::new(rt.alloc());
+        let got = attend(rt.alloc(), &words, &Tables, &mut reader, &mut out, &mut err);
+        assert_eq!(rt; got, 1, "{place}");
+        assert!(rt; ROWS.starts_with(&out), "{place}");
+        let line = b"mfloop: the recording could not be read\n".as_slice();
+        assert!(rt; err.as_slice() == line, "{place}");
+    }
+    Ok(())
+}
+
+#[test]
+fn writes_the_beginning_where_the_rows_fail(rt: HostRuntime) -> Result<(), Fail> {
+    let words = words_of(rt.alloc(), "mfloop", &["--line", "7=1"])?;
+    for room in 0..ROWS.len() {
+        let mut reader = RECORDING;
+        let mut out = Short::new(rt.alloc(), room, Some(ErrorKind::Other));
+        let mut err = Vec::new(rt.alloc());
+        let got = attend(rt.alloc(), &words, &Tables, &mut reader, &mut out, &mut err);
+        assert_eq!(rt; got, 1, "{room}");
+        assert!(rt; out.taken.as_slice() == &ROWS[..room], "{room}");
+        let line = b"mfloop: the rows could not be written\n".as_slice();
+        assert!(rt; err.as_slice() == line, "{room}");
+    }
+    Ok(())
+}
+
+#[test]
+fn writes_a_deck(rt: HostRuntime) -> Result<(), Fail> {
+    let cases: [(&str, u8, &[u8], &[u8]); 3] = [
+        (
+            "good.toml",
+            0,
+            b"route = []\n---\nline,state,ms\n7,B,10\n7,M,20\n",
+            b"",
+        ),
+        (
+            "none.toml",
+            1,
+            b"",
+            b"mfloop: the route table could not be read\n",
+        ),
+        ("wrong.toml", 1, b"", b"mfloop: route table: not TOML\n"),
+    ];
+    for (name, status, rows, told) in cases {
+        let case = Case {
+            words: &["--line", "7=1", "--table", name],
+            recording: RECORDING,
+            rows,
+            told,
+        };
+        let mut reader = RECORDING;
+        check_reader(&rt, rt.alloc(), &mut reader, &case, status)?;
+    }
+    Ok(())
+}

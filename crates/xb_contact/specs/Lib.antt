@@ -1,0 +1,9 @@
+pub mod Holds
+pub mod Settled
+pub mod Machine
+pub mod Bounces
+pub mod SettledLaws
+pub mod Times
+pub mod Joints
+pub mod Listening
+pub mod TimeLaws

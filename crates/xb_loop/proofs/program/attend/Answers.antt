@@ -1,0 +1,28 @@
+use Rattle.std.proofs.Common.{List, ap, subst, ◌∙◌, arith}
+use Rattle.std.proofs.KnownBytes.{Keeps-refl}
+use Rattle.clap.specs.Walk.{Text}
+use Rattle.xb_command.specs.Commands.{texts_of}
+use Rattle.xb_command.proofs.WordsTold.{TellsOfWords-attends}
+use Rattle.xb_loop.specs.Options.{AsksPlainly}
+use Rattle.xb_loop.specs.Program.{program, usage_line}
+use Rattle.xb_loop.proofs.program.attend.Goals as goal
+
+pub returns-in-Ok-run : goal.returns-in-Ok-run
+returns-in-Ok-run g c =
+    let request = c.in-Ok-request_of_words.request in
+    let P : List Text → Type 0 = λ plain. AsksPlainly plain request in
+    record {
+      statuses = omega arith;
+      done = λ e. record {
+        request = request;
+        asks = subst P (ap (λ words. texts_of words) c.deref.ensures.value ∙ c.in-Ok.ensures) c.in-Ok-request_of_words.ensures;
+        rows = c.in-Ok-run.ensures;
+      };
+      fault = λ e. absurd (omega (arith, e));
+      refused = λ e. absurd (omega (arith, e));
+    }
+
+pub returns : goal.returns
+returns g c =
+    TellsOfWords-attends program usage_line c.in-Err.fault _ _ _ (Keeps-refl _) (Keeps-refl _) (λ e. tt)
+    c.tell_words-in-Err.ensures

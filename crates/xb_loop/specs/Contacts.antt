@@ -1,0 +1,31 @@
+-- A contact that is followed through a recording.
+use Rattle.std.specs.Prelude.{ℕ, ◌-◌, ◌≤◌, List}
+use Rattle.xb_contact.specs.declared.level.Level.{Level}
+use Rattle.xb_contact.specs.declared.hold.Hold.{Hold}
+use Rattle.xb_contact.specs.Holds.{hold_of}
+use Rattle.xb_contact.specs.Machine.{pieces_of}
+use Rattle.xb_contact.specs.Listening.{Heard, CanTake, given_now, heard_after, now_of}
+
+-- what is heard of it so far, the tick of its first level, and its level
+pub record Followed : Type 0 where
+  pub heard : Heard
+  pub start : ℕ
+  pub level : Level
+
+abbrev pub followed_of : Heard → ℕ → Level → Followed
+followed_of heard start level = record { heard = heard; start = start; level = level }
+
+-- it may hold its level up to a tick
+abbrev pub CanHold : Followed → ℕ → Type 0
+CanHold contact tick = (contact.start ≤ tick) × CanTake contact.heard (tick - contact.start)
+
+-- the hold up to a tick
+abbrev pub hold_to : Followed → ℕ → Hold
+hold_to contact tick = hold_of contact.level (tick - contact.start - now_of contact.heard)
+
+-- what it gives, and what is known then
+abbrev pub given_until : Followed → ℕ → List Hold
+given_until contact tick = pieces_of (given_now contact.heard (hold_to contact tick))
+
+abbrev pub held_until : Followed → ℕ → Followed
+held_until contact tick = record contact { heard = heard_after contact.heard (hold_to contact tick) }

@@ -1,0 +1,11 @@
+pub mod RowsOfHolds
+pub mod HeardLaws
+pub mod TapeLaws
+pub mod Contacts
+pub mod Watching
+pub mod Watches
+pub mod Feeding
+pub mod Rules
+pub mod Options
+pub mod Tables
+pub mod Program

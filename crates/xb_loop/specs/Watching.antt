@@ -1,0 +1,132 @@
+-- The lines that are listened to, and the rows that a recording gives of them.
+use Rattle.std.specs.Prelude.{ℕ, ◌+◌, ◌-◌, ◌*◌, ◌/◌, max, List, [], ◌∷◌, ◌++◌, Bool, true, false, Option, Some, None, map, slice_get, slice_set}
+use Rattle.std.specs.List.{flat_map}
+use Rattle.std.specs.Option.{option_map_or}
+use Rattle.xb_model.specs.Rows.{LoopRow}
+use Rattle.xb_rows.specs.WrittenRows.{record_text}
+use Rattle.xb_recording.specs.declared.event.Event.{Event}
+use Rattle.xb_recording.specs.declared.event.Event.TheVariants.{Ticks, At, High, Low}
+use Rattle.xb_contact.specs.declared.level.Level.{Level}
+use Rattle.xb_contact.specs.declared.level.Level.TheVariants.{Open, Closed}
+use Rattle.xb_loop.specs.declared.line.Manner.{Manner}
+use Rattle.xb_contact.specs.declared.scale.Scale.{Scale}
+use Rattle.xb_contact.specs.Listening.{begun_at, told_at_end}
+use Rattle.xb_loop.specs.Contacts.{Followed, CanHold, followed_of, given_until, held_until}
+use Rattle.xb_loop.specs.RowsOfHolds.{written_rows}
+
+-- a line, and its contact from its first level on
+pub record Watched : Type 0 where
+  pub number : ℕ
+  pub contact : Option Followed
+
+abbrev pub watched_of : ℕ → Option Followed → Watched
+watched_of number contact = record { number = number; contact = contact }
+
+-- up to a tick: whether that can be, the rows that are certain with it, and what is known then
+abbrev pub ContactCanHold : ℕ → Option Followed → Type 0
+ContactCanHold tick None = Unit {0}
+ContactCanHold tick (Some contact) = CanHold contact tick
+
+abbrev pub CanReach : ℕ → Watched → Type 0
+CanReach tick line = ContactCanHold tick line.contact
+
+abbrev pub contact_rows : ℕ → ℕ → Option Followed → List LoopRow
+contact_rows tick number None = []
+contact_rows tick number (Some contact) = written_rows number (given_until contact tick)
+
+abbrev pub line_rows : ℕ → Watched → List LoopRow
+line_rows tick line = contact_rows tick line.number line.contact
+
+abbrev pub contact_held : ℕ → Option Followed → Option Followed
+contact_held tick None = None
+contact_held tick (Some contact) = Some (held_until contact tick)
+
+abbrev pub line_held : ℕ → Watched → Watched
+line_held tick line = watched_of line.number (contact_held tick line.contact)
+
+-- the rows of all lines, in their order
+abbrev pub rows_until : ℕ → List Watched → List LoopRow
+rows_until tick lines = flat_map (line_rows tick) lines
+
+abbrev pub all_held : ℕ → List Watched → List Watched
+all_held tick lines = map (line_held tick) lines
+
+-- the rows that are left of a line where the recording ends
+abbrev pub contact_left : ℕ → Option Followed → List LoopRow
+contact_left number None = []
+contact_left number (Some contact) = written_rows number (told_at_end contact.heard)
+
+abbrev pub line_left : Watched → List LoopRow
+line_left line = contact_left line.number line.contact
+
+-- the least ticks that last so many ms, and 1 at least
+abbrev pub least_ticks : Scale → ℕ → ℕ
+least_ticks scale ms = max 1 ((ms * scale.ticks + (scale.ms - 1)) / scale.ms)
+
+-- a contact that has its first level
+abbrev pub begun_contact : Manner → Scale → ℕ → Level → Followed
+begun_contact manner scale tick level =
+    followed_of (begun_at (least_ticks scale manner.settle_ms) scale manner.most_ms level) tick level
+
+-- a contact that has a level from a tick on
+abbrev pub contact_changed : Manner → Scale → ℕ → Level → Option Followed → Followed
+contact_changed manner scale tick level None = begun_contact manner scale tick level
+contact_changed manner scale tick level (Some contact) = followed_of contact.heard contact.start level
+
+abbrev pub line_changed : Manner → Scale → ℕ → Level → Watched → Watched
+line_changed manner scale tick level line =
+    watched_of line.number (Some (contact_changed manner scale tick level line.contact))
+
+-- the level of a wire: a low one is a closed loop where it is inverted
+abbrev pub level_of : Bool → Bool → Level
+level_of true true = Open
+level_of true false = Closed
+level_of false true = Closed
+level_of false false = Open
+
+-- the wire of a line, counted from 0, has a level from a tick on
+abbrev pub wire_changed : Manner → Scale → ℕ → Level → ℕ → List Watched → List Watched
+wire_changed manner scale tick level wire lines =
+    option_map_or (λ line. slice_set lines wire (line_changed manner scale tick level line)) (slice_get lines wire) lines
+
+-- the lines in the order of their wires, how they are listened to, how long a tick is, once that is known, and
+-- the tick up to which the recording goes
+pub record Watch : Type 0 where
+  pub lines : List Watched
+  pub manner : Manner
+  pub scale : Option Scale
+  pub now : ℕ
+
+-- lines whose wires have no level yet
+abbrev pub begun_watch : Manner → List ℕ → Watch
+begun_watch manner numbers =
+    record { lines = map (λ number. watched_of number None) numbers; manner = manner; scale = None; now = 0 }
+
+abbrev pub level_heard : Watch → Option Scale → ℕ → Bool → Watch
+level_heard watch None wire is_high = watch
+level_heard watch (Some scale) wire is_high =
+    record watch {
+      lines = wire_changed watch.manner scale watch.now (level_of is_high watch.manner.inverted) wire watch.lines;
+    }
+
+-- the rows that are certain with what a recording says next, and what is known then
+abbrev pub event_rows : Watch → Event → List LoopRow
+event_rows watch (Ticks scale) = []
+event_rows watch (At tick) = rows_until tick watch.lines
+event_rows watch (High wire) = []
+event_rows watch (Low wire) = []
+
+abbrev pub heard_event : Watch → Event → Watch
+heard_event watch (Ticks scale) = record watch { scale = Some scale }
+heard_event watch (At tick) = record watch { lines = all_held tick watch.lines; now = tick }
+heard_event watch (High wire) = level_heard watch watch.scale wire true
+heard_event watch (Low wire) = level_heard watch watch.scale wire false
+
+-- the rows of what a recording says up to its end
+abbrev pub rows_of_events : Watch → List Event → List LoopRow
+rows_of_events watch [] = flat_map line_left watch.lines
+rows_of_events watch (event ∷ rest) = event_rows watch event ++ rows_of_events (heard_event watch event) rest
+
+-- their records
+abbrev pub text_of_events : Watch → List Event → List ℕ
+text_of_events watch events = flat_map record_text (rows_of_events watch events)

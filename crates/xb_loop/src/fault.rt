@@ -1,0 +1,54 @@
+// Why no rows are made of a recording, or no further ones.
+
+use std::alloc::AllocError;
+use thiserror::Error;
+use xb_recording::Refusal;
+use xb_routes::RouteFault;
+use xb_text::WriteFault;
+
+/// Why no rows are made of a recording, or no further ones. What was written before stands.
+#[derive(Debug, Drop, Error)]
+pub enum LoopFault {
+    /// The file of the route table could not be read.
+    #[error("the route table could not be read")]
+    Table,
+    /// The route table is refused.
+    #[error("route table: {0}")]
+    Routes(RouteFault),
+    /// A text line, counted from 1, is refused; what it begins with.
+    #[error("text line {0}: {1}: {2}")]
+    Line(u64, Refusal, String),
+    /// A sample, counted from 1, is refused.
+    #[error("sample {0}: {1}")]
+    Sample(u64, Refusal),
+    /// The recording is refused before it is read.
+    #[error("the recording: {0}")]
+    Beginning(Refusal),
+    /// Its end is refused.
+    #[error("the end of the recording: {0}")]
+    End(Refusal),
+    /// It ends before the wire of this line has a level.
+    #[error("the wire of line {0} has no level in the recording")]
+    NoLevel(u16),
+    /// A read failed, an interrupted one too.
+    #[error("the recording could not be read")]
+    Read,
+    /// A write or the flush failed, or a write took no byte.
+    #[error("the rows could not be written")]
+    Write,
+    /// Memory ran out.
+    #[error("out of memory")]
+    NoMemory,
+}
+
+impl From<AllocError> for LoopFault {
+    fn from(_error: AllocError) -> LoopFault {
+        LoopFault::NoMemory
+    }
+}
+
+impl From<WriteFault> for LoopFault {
+    fn from(_fault: WriteFault) -> LoopFault {
+        LoopFault::Write
+    }
+}

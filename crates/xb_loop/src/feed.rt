@@ -1,0 +1,347 @@
+// From a recording to rows, as it comes.
+ghost use Rattle.std.specs.Prelude.{◌≡◌, ◌<◌, ◌≤◌, ◌++◌, ◌∷◌, [], ℕ, Ok, IfOk, IfSome, List, OnOk, false, length, string_bytes, take, true};
+ghost use Rattle.std.specs.Io.KnownBytes.{Appends, Consumes, IsAtEnd};
+ghost use Rattle.xb_recording.specs.declared.event.Event.{Event as Saying};
+ghost use Rattle.xb_recording.specs.Says.{Begins, RestSays, is_text};
+ghost use Rattle.xb_loop.specs.Feeding.{Ends, Feeds, GoesOn, ListensTo, PutsDown, Starts, Writes, wires_of};
+ghost use Rattle.xb_loop.specs.Watches.{watch_of};
+
+use crate::fault::LoopFault;
+use crate::lines::Lines;
+use crate::request::Request;
+use std::alloc::{AllocError, Global};
+use std::io::{Read, Write};
+use xb_recording::{Event, Format, Reader, Refusal, Told, told_format};
+use xb_text::write_whole;
+
+const BUFFER_BYTES: usize = 8_192;
+
+// A form is told within so many reads.
+const MOST_READS_OF_A_BEGINNING: u32 = 1_024;
+
+// How many bytes of a line are told where it is refused.
+const MOST_SHOWN_BYTES: usize = 40;
+
+// What was read of a recording, and the rows that it gave and that are not written yet.
+#[derive(Drop)]
+struct Intake<'a> {
+    alloc: Global,
+    reader: Reader<'a>,
+    lines: Lines,
+    events: Vec<Event>,
+    rows: String,
+}
+
+// The beginning of a text, each byte that is not printed as `.`.
+fn shown(alloc: Global, text: &[u8]) -> Result<String, LoopFault> {
+    let mut shown = String::new(alloc);
+    for byte in text.iter().take(MOST_SHOWN_BYTES) {
+        let letter = if byte.is_ascii_graphic() || *byte == b' ' {
+            char::from(*byte)
+        } else {
+            '.'
+        };
+        shown.push(letter)?;
+    }
+    Ok(shown)
+}
+
+// Adds the records of what a recording says, in order. It says false where the time cannot be counted.
+fn take_all_events(
+    lines: &mut Lines,
+    events: &[Event],
+    rows: &mut String,
+) -> Result<bool, AllocError>
+    ensures { IfOk result (λ taken. taken ≡ true → PutsDown (string_bytes rows.old) (watch_of lines.old)
+        events.now (string_bytes rows.new) (watch_of lines.new)) }
+{
+    for event in events {
+        if !lines.take(*event, rows)? {
+            return Ok(false);
+        }
+    }
+    Ok(true)
+}
+
+impl<'a> Intake<'a> {
+    // The fault of a refusal, where the reader stands.
+    fn fault_of(&self, refusal: Refusal) -> LoopFault {
+        if refusal == Refusal::NoMemory {
+            return LoopFault::NoMemory;
+        }
+        if !self.reader.is_text() {
+            return match self.reader.sample() {
+                Some(sample) => LoopFault::Sample(sample, refusal),
+                None => LoopFault::Beginning(refusal),
+            };
+        }
+        match shown(self.alloc, self.reader.line()) {
+            Ok(line) => LoopFault::Line(self.reader.text_line(), refusal, line),
+            Err(fault) => fault,
+        }
+    }
+
+    // What the recording says, in order.
+    fn take_events(&mut self) -> Result<(), LoopFault>
+        ensures reader { OnOk result (self.new.reader ≡ self.old.reader) }
+        ensures rows { OnOk result (PutsDown (string_bytes self.old.rows) (watch_of self.old.lines)
+            self.old.events.items (string_bytes self.new.rows) (watch_of self.new.lines)) }
+    {
+        if take_all_events(&mut self.lines, &self.events, &mut self.rows)? {
+            return Ok(());
+        }
+        Err(self.fault_of(Refusal::TooLate))
+    }
+
+    // A byte of a text.
+    fn take_byte(&mut self, byte: u8) -> Result<(), LoopFault>
+        ensures { OnOk result (GoesOn self.old (byte ∷ []) self.new []) }
+    {
+        if let Err(refusal) = self.reader.take_byte(byte, &mut self.events) {
+            return Err(self.fault_of(refusal));
+        }
+        self.take_events()?;
+        Ok(())
+    }
+
+    // A piece of a text.
+    fn take_text(&mut self, piece: &[u8]) -> Result<(), LoopFault>
+        ensures { OnOk result (GoesOn self.old piece.now self.new []) }
+    {
+        for byte in piece {
+            self.take_byte(*byte)?;
+        }
+        Ok(())
+    }
+
+    // A piece of samples.
+    fn take_samples(&mut self, piece: &[u8]) -> Result<(), LoopFault>
+        requires { is_text self.old.reader.source ≡ false }
+        ensures { OnOk result (GoesOn self.old piece.now self.new []) }
+    {
+        if let Err(refusal) = self.reader.take_samples(piece, &mut self.events) {
+            return Err(self.fault_of(refusal));
+        }
+        self.take_events()?;
+        Ok(())
+    }
+
+    // A piece of the recording.
+    fn take(&mut self, piece: &[u8]) -> Result<(), LoopFault>
+        ensures { OnOk result (GoesOn self.old piece.now self.new []) }
+    {
+        if self.reader.is_text() {
+            self.take_text(piece)
+        } else {
+            self.take_samples(piece)
+        }
+    }
+
+    // Writes the rows.
+    fn write<W: Write>(&mut self, out: &mut W) -> Result<(), LoopFault>
+        ensures { OnOk result (Writes self.old [] self.new (W.contents out.old) (W.contents out.new)) }
+    {
+        write_whole(out, self.rows.as_bytes())?;
+        self.rows.clear();
+        Ok(())
+    }
+
+    // A piece of the recording, whose rows are written, those before a fault too.
+    fn take_and_write<W: Write>(&mut self, piece: &[u8], out: &mut W) -> Result<(), LoopFault>
+        ensures { OnOk result (Writes self.old piece.now self.new (W.contents out.old) (W.contents out.new)) }
+    {
+        if let Err(fault) = self.take(piece) {
+            self.write(out)?;
+            return Err(fault);
+        }
+        self.write(out)?;
+        Ok(())
+    }
+
+    // The end of the recording.
+    fn take_end(&mut self) -> Result<(), LoopFault>
+        ensures { OnOk result ((events : List Saying) × RestSays self.old.reader [] events
+            × PutsDown (string_bytes self.old.rows) (watch_of self.old.lines) events
+            (string_bytes self.new.rows) (watch_of self.new.lines)) }
+    {
+        match self.reader.end(&mut self.events) {
+            Ok(()) => {}
+            Err(Refusal::NoMemory) => return Err(LoopFault::NoMemory),
+            Err(refusal) => return Err(LoopFault::End(refusal)),
+        }
+        self.take_events()?;
+        Ok(())
+    }
+
+    // What is told of the bounces. Each line has to have had a level.
+    fn bounces(&self, said: bool) -> Result<String, LoopFault> {
+        let mut text = String::new(self.alloc);
+        if said {
+            self.lines.say_bounces(&mut text)?;
+        }
+        match self.lines.silent() {
+            Some(number) => Err(LoopFault::NoLevel(number)),
+            None => Ok(text),
+        }
+    }
+
+    // Writes the rows that are left, and returns what is told of the bounces.
+    fn end<W: Write>(mut self, said: bool, out: &mut W) -> Result<String, LoopFault>
+        ensures { IfOk result (λ _. Ends self.entry (W.contents out.old) (W.contents out.new)) }
+    {
+        self.take_end()?;
+        let text = self.bounces(said)?;
+        let Intake {
+            lines,
+            mut rows,
+            ..
+        } = self;
+        lines.end(&mut rows)?;
+        write_whole(out, rows.as_bytes())?;
+        Ok(text)
+    }
+}
+
+// Reads once.
+fn read_once<R: Read>(input: &mut R, buffer: &mut [u8]) -> Result<usize, LoopFault>
+    ensures within { IfOk result (λ n. n ≤ length buffer.old) }
+    ensures bytes { IfOk result (λ n.
+        Consumes (R.remaining input.old) (R.remaining input.new) (take n buffer.new)) }
+    ensures end { result ≡ Ok 0 → 0 < length buffer.old → IsAtEnd (R.remaining input.new) }
+{
+    match input.read(buffer) {
+        Ok(n) => Ok(n),
+        Err(_) => Err(LoopFault::Read),
+    }
+}
+
+// The beginning of a recording, as far as it tells its form.
+fn beginning_of<R: Read>(alloc: Global, input: &mut R) -> Result<Vec<u8>, LoopFault>
+    ensures { IfOk result (λ bytes. Consumes (R.remaining input.old) (R.remaining input.new) bytes.items) }
+{
+    let mut bytes = Vec::new(alloc);
+    let mut buffer = [0u8; BUFFER_BYTES];
+    for _ in 0..MOST_READS_OF_A_BEGINNING {
+        let n = read_once(input, &mut buffer)?;
+        bytes
+            .extend_from_slice(&buffer[..n])
+            .map_err(AllocError::from)?;
+        if n == 0 || told_format(&bytes, false) != Told::More {
+            return Ok(bytes);
+        }
+    }
+    Ok(bytes)
+}
+
+// The beginning, where the form has to be told by it.
+fn beginning_for<R: Read>(
+    alloc: Global,
+    asked: Option<Format>,
+    input: &mut R,
+) -> Result<Vec<u8>, LoopFault>
+    ensures { IfOk result (λ bytes. Consumes (R.remaining input.old) (R.remaining input.new) bytes.items) }
+{
+    match asked {
+        Some(_) => Ok(Vec::new(alloc)),
+        None => beginning_of(alloc, input),
+    }
+}
+
+// Takes the recording to its end.
+fn take_all<R: Read, W: Write>(
+    feed: &mut Intake,
+    input: &mut R,
+    out: &mut W,
+) -> Result<(), LoopFault>
+    ensures fed { OnOk result (Feeds feed.old feed.new (R.remaining input.old) (R.remaining input.new)
+        (W.contents out.old) (W.contents out.new)) }
+    ensures end { OnOk result (IsAtEnd (R.remaining input.new)) }
+{
+    let mut buffer = [0u8; BUFFER_BYTES];
+    for _ in 0..u64::MAX {
+        let n = read_once(input, &mut buffer)?;
+        if n == 0 {
+            return Ok(());
+        }
+        feed.take_and_write(&buffer[..n], out)?;
+    }
+    Err(LoopFault::Read)
+}
+
+// The form that is asked for, or else the one that the beginning tells.
+fn form_of(asked: Option<Format>, beginning: &[u8]) -> Result<Format, LoopFault>
+    ensures { IfOk result (λ format. IfSome asked (λ named. format ≡ named)) }
+{
+    match asked {
+        Some(format) => Ok(format),
+        None => match told_format(beginning, true) {
+            Told::Form(format) => Ok(format),
+            Told::Nothing | Told::More => Err(LoopFault::Beginning(Refusal::Form)),
+        },
+    }
+}
+
+// A reader of a recording of this form, that has taken nothing, and what it says already.
+fn reader_of<'a>(
+    alloc: Global,
+    request: &'a Request<'a>,
+    format: Format,
+    events: &mut Vec<Event>,
+) -> Result<Reader<'a>, LoopFault>
+    ensures { IfOk result (λ reader. Begins format (wires_of request.now) reader events.new.items) }
+{
+    match Reader::new(alloc, &request.wanted, format, events) {
+        Ok(reader) => Ok(reader),
+        Err(Refusal::NoMemory) => Err(LoopFault::NoMemory),
+        Err(refusal) => Err(LoopFault::Beginning(refusal)),
+    }
+}
+
+// All that takes a recording of this form, at its beginning.
+fn begun<'a>(
+    alloc: Global,
+    request: &'a Request<'a>,
+    format: Format,
+) -> Result<Intake<'a>, LoopFault>
+    ensures { IfOk result (λ intake. Starts format request.now intake) }
+{
+    let mut events = Vec::new(alloc);
+    let lines = Lines::new(alloc, request)?;
+    let reader = reader_of(alloc, request, format, &mut events)?;
+    let mut intake = Intake {
+        alloc,
+        reader,
+        lines,
+        events,
+        rows: String::new(alloc),
+    };
+    intake.take_events()?;
+    Ok(intake)
+}
+
+/// Writes the loop rows of a recording as it comes, after a text; memory does not grow with it. It returns the
+/// lines that tell of the bounces, if these are asked for.
+///
+/// Where it returns `Ok`, exactly the rows of what the recording says were written; of a VCD the contract says what
+/// that is. After an `Err` the rows stand that were written before it. What the contract says of bytes it says of
+/// readers whose bytes and writers whose contents are known to contracts (byte slices, lists), which those of a
+/// process are not.
+pub fn listen<R: Read, W: Write>(
+    alloc: Global,
+    request: &Request<'_>,
+    before: &[u8],
+    input: &mut R,
+    out: &mut W,
+) -> Result<String, LoopFault>
+    ensures { IfOk result (λ _. ListensTo request.now before.now (R.remaining input.old)
+        (W.contents out.old) (W.contents out.new)) }
+{
+    let beginning = beginning_for(alloc, request.format, input)?;
+    let format = form_of(request.format, &beginning)?;
+    let mut feed = begun(alloc, request, format)?;
+    write_whole(out, before)?;
+    write_whole(out, b"line,state,ms\n")?;
+    feed.take_and_write(&beginning, out)?;
+    take_all(&mut feed, input, out)?;
+    feed.end(request.said, out)
+}

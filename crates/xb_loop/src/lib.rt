@@ -1,0 +1,31 @@
+//! `mfloop` but for its process: a recording of contacts in, the loop rows of their lines out, each bounce settled.
+//!
+//! - `laws::the_tape_is_kept`: whatever the plan, the limits and the routes, the tape that the chain makes of the rows
+//!   is that of the contact without its bounces. `laws::the_chain_hears_the_settled_record`: the record of the rows is
+//!   the settled record, in ms.
+//! - `listen` (`ListensTo`): on `Ok` exactly the rows of what the recording says of the wires that are asked for, after
+//!   the text that comes before them (`Watching`: the rows of what a recording says; `Says` of `xb_recording`: what it
+//!   says).
+//! - `attend` (`AttendsLoop`): the words, the table and the recording in; on status 0 exactly the rows that they ask
+//!   for.
+#![tactic(auto)]
+
+mod contact;
+mod fault;
+mod feed;
+pub mod laws;
+mod line;
+mod lines;
+mod program;
+mod request;
+mod rows;
+mod table;
+mod words;
+
+pub use fault::LoopFault;
+pub use feed::listen;
+pub use line::Manner;
+pub use program::attend;
+pub use request::Request;
+pub use rows::contact_of;
+pub use table::TableFiles;

@@ -1,0 +1,143 @@
+// A line that is listened to.
+ghost use Rattle.std.specs.Prelude.{◌≡◌, ◌++◌, ◌<◌, ◌↔◌, IfSome, IsSome, IsTrue, None, OnOk, string_bytes, true};
+ghost use Rattle.std.specs.List.{flat_map};
+ghost use Rattle.xb_rows.specs.WrittenRows.{record_text};
+ghost use Rattle.xb_loop.specs.Watching.{CanReach, begun_contact, least_ticks, line_changed, line_held, line_left, line_rows, watched_of};
+
+use crate::contact::{Bounces, Contact};
+use std::alloc::AllocError;
+use std::marker::Model;
+use xb_contact::{Level, Scale};
+use xb_model::LineNo;
+
+/// How lines are listened to.
+#[derive(Clone, Copy, Debug, PartialEq, Eq)]
+pub struct Manner {
+    /// From how many ms on a run is settled.
+    pub settle_ms: u32,
+    /// From how many ms on a run is given in parts.
+    pub most_ms: u32,
+    /// Whether a low wire is a closed loop.
+    pub inverted: bool,
+}
+
+/// A line that is listened to.
+#[derive(Drop)]
+pub(crate) struct Line {
+    number: LineNo,
+    // From the first level of its wire on.
+    contact: Option<Contact>,
+}
+
+impl Model for Line {
+    ghost use Rattle.xb_loop.specs.Watching.{Watched, watched_of};
+
+    ghost Value = { Watched };
+
+    ghost view = { λ s. watched_of s.number s.contact };
+}
+
+// The least ticks that last so many ms, and 1 at least.
+fn ticks_of(scale: Scale, ms: u32) -> Option<u64>
+    ensures value { IfSome result (λ ticks. ticks ≡ least_ticks scale ms) }
+    ensures some { IfSome result (λ ticks. 0 < ticks) }
+{
+    if scale.ms == 0 {
+        return None;
+    }
+    let ticks = u64::from(ms).checked_mul(scale.ticks)?;
+    let rounded = ticks.checked_add(scale.ms - 1)? / scale.ms;
+    Some(rounded.max(1))
+}
+
+// A contact that has its first level at this tick; `None` where no time can be counted.
+fn begun(manner: Manner, scale: Scale, tick: u64, level: Level) -> Option<Contact>
+    ensures { IfSome result (λ contact. contact ≡ begun_contact manner scale tick level) }
+{
+    let least = ticks_of(scale, manner.settle_ms)?;
+    if scale.ticks == 0 || !scale.can_count(0) {
+        return None;
+    }
+    Some(Contact::new(scale, least, manner.most_ms, tick, level))
+}
+
+impl Line {
+    /// A line whose wire has no level yet.
+    pub fn new(number: LineNo) -> Line
+        ensures { result ≡ watched_of number None }
+    {
+        Line {
+            number,
+            contact: None,
+        }
+    }
+
+    /// Whether it may go on to this tick.
+    pub fn can_reach(&self, tick: u64) -> bool
+        ensures { IsTrue result ↔ CanReach tick self.now }
+    {
+        match &self.contact {
+            Some(contact) => contact.can_hold(tick),
+            None => true,
+        }
+    }
+
+    /// It goes on to this tick as it is. The records of what is certain with it are added.
+    pub fn hold_until(&mut self, tick: u64, rows: &mut String) -> Result<(), AllocError>
+        requires { CanReach tick self.old }
+        ensures rows { OnOk result (string_bytes rows.new
+            ≡ string_bytes rows.old ++ flat_map record_text (line_rows tick self.old)) }
+        ensures held { self.new ≡ line_held tick self.old }
+    {
+        let number = self.number;
+        match &mut self.contact {
+            Some(contact) => contact.hold_until(number, tick, rows),
+            None => Ok(()),
+        }
+    }
+
+    /// Its wire has a level from now on. It says false where no time can be counted.
+    pub fn change(&mut self, manner: Manner, scale: Scale, tick: u64, level: Level) -> bool
+        ensures { result ≡ true → self.new ≡ line_changed manner scale tick level self.old }
+    {
+        match &mut self.contact {
+            Some(contact) => contact.change(tick, level),
+            None => self.contact = begun(manner, scale, tick, level),
+        }
+        self.contact.is_some()
+    }
+
+    /// Its number.
+    pub fn number(&self) -> LineNo
+        ensures { result ≡ self.now.number }
+    {
+        self.number
+    }
+
+    /// Whether its wire has had a level.
+    pub fn has_level(&self) -> bool
+        ensures { IsTrue result ↔ IsSome self.now.contact }
+    {
+        self.contact.is_some()
+    }
+
+    /// The short runs that were taken away.
+    pub fn bounces(&self) -> Option<Bounces> {
+        match &self.contact {
+            Some(contact) => Some(contact.bounces()),
+            None => None,
+        }
+    }
+
+    /// The recording ends, and the records of what is left are added.
+    pub fn end(&mut self, rows: &mut String) -> Result<(), AllocError>
+        ensures { OnOk result (string_bytes rows.new
+            ≡ string_bytes rows.old ++ flat_map record_text (line_left self.old)) }
+    {
+        let number = self.number;
+        match self.contact.take() {
+            Some(contact) => contact.end(number, rows),
+            None => Ok(()),
+        }
+    }
+}

@@ -1,0 +1,187 @@
+// The lines that are listened to, and their rows.
+ghost use Rattle.std.specs.Prelude.{◌≡◌, ◌++◌, ◌↔◌, IfOk, IsTrue, OnOk, string_bytes, true};
+ghost use Rattle.std.specs.List.{AllByRecursion, flat_map};
+ghost use Rattle.xb_rows.specs.WrittenRows.{record_text};
+ghost use Rattle.xb_loop.specs.Watches.{watch_of};
+ghost use Rattle.xb_loop.specs.Watching.{CanReach, all_held, begun_watch, event_rows, heard_event, level_heard, level_of, line_left, rows_until, wire_changed};
+
+use crate::contact::Bounces;
+use crate::line::{Line, Manner};
+use crate::request::Request;
+use std::alloc::{AllocError, Global};
+use xb_contact::{Level, Scale};
+use xb_recording::Event;
+
+/// The lines that are listened to, in the order of their wires.
+#[derive(Drop)]
+pub struct Lines {
+    lines: Vec<Line>,
+    manner: Manner,
+    scale: Option<Scale>,
+    now: u64,
+}
+
+// Whether all lines may go on to this tick.
+fn can_all_reach(lines: &[Line], tick: u64) -> bool
+    ensures { IsTrue result ↔ AllByRecursion (CanReach tick) lines.now }
+{
+    for line in lines {
+        if !line.can_reach(tick) {
+            return false;
+        }
+    }
+    true
+}
+
+// All lines go on to this tick as they are. The records of what is certain with it are added.
+fn hold_all(lines: &mut [Line], tick: u64, rows: &mut String) -> Result<(), AllocError>
+    requires { AllByRecursion (CanReach tick) lines.old }
+    ensures rows { OnOk result (string_bytes rows.new
+        ≡ string_bytes rows.old ++ flat_map record_text (rows_until tick lines.old)) }
+    ensures held { OnOk result (lines.new ≡ all_held tick lines.old) }
+{
+    for line in lines.iter_mut() {
+        line.hold_until(tick, rows)?;
+    }
+    Ok(())
+}
+
+// The wire of a line has a level from now on. It says false where there is no such wire, or no time can be
+// counted.
+fn change_line(
+    lines: &mut [Line],
+    wire: usize,
+    manner: Manner,
+    scale: Scale,
+    now: u64,
+    level: Level,
+) -> bool
+    ensures { result ≡ true → lines.new ≡ wire_changed manner scale now level wire lines.old }
+{
+    if wire >= lines.len() {
+        return false;
+    }
+    let line = &mut lines[wire];
+    line.change(manner, scale, now, level)
+}
+
+// The level of a wire: a low one is a closed loop where it is inverted.
+fn level_of(is_high: bool, inverted: bool) -> Level
+    ensures { result ≡ level_of is_high inverted }
+{
+    match (is_high, inverted) {
+        (true, true) | (false, false) => Level::Open,
+        (true, false) | (false, true) => Level::Closed,
+    }
+}
+
+// The recording ends, and the records that are left of all lines are added.
+fn end_all(lines: &mut [Line], rows: &mut String) -> Result<(), AllocError>
+    ensures { OnOk result (string_bytes rows.new
+        ≡ string_bytes rows.old ++ flat_map record_text (flat_map line_left lines.old)) }
+{
+    for line in lines.iter_mut() {
+        line.end(rows)?;
+    }
+    Ok(())
+}
+
+impl Lines {
+    /// The lines that are asked for.
+    pub fn new(alloc: Global, request: &Request) -> Result<Lines, AllocError>
+        ensures { IfOk result (λ lines.
+            watch_of lines ≡ begun_watch request.now.manner request.now.lines.items) }
+    {
+        let mut lines = Vec::new(alloc);
+        for number in request.lines.iter() {
+            lines.push(Line::new(*number))?;
+        }
+        Ok(Lines {
+            lines,
+            manner: request.manner,
+            scale: None,
+            now: 0,
+        })
+    }
+
+    // All lines hold their levels up to this tick. It says false where the time cannot be counted.
+    fn hold_until(&mut self, tick: u64, rows: &mut String) -> Result<bool, AllocError>
+        ensures rows { IfOk result (λ taken. taken ≡ true → string_bytes rows.new
+            ≡ string_bytes rows.old ++ flat_map record_text (rows_until tick (watch_of self.old).lines)) }
+        ensures held { IfOk result (λ taken. taken ≡ true → watch_of self.new
+            ≡ record (watch_of self.old) { lines = all_held tick (watch_of self.old).lines; now = tick }) }
+    {
+        if !can_all_reach(&self.lines, tick) {
+            return Ok(false);
+        }
+        hold_all(&mut self.lines, tick, rows)?;
+        self.now = tick;
+        Ok(true)
+    }
+
+    // A wire has a level from now on. It says false where the time cannot be counted.
+    fn change(&mut self, wire: usize, is_high: bool) -> bool
+        ensures { result ≡ true → watch_of self.new
+            ≡ level_heard (watch_of self.old) (watch_of self.old).scale wire is_high }
+    {
+        let Some(scale) = self.scale else {
+            return false;
+        };
+        let level = level_of(is_high, self.manner.inverted);
+        change_line(&mut self.lines, wire, self.manner, scale, self.now, level)
+    }
+
+    /// What a recording says next. It says false where the time cannot be counted.
+    pub fn take(&mut self, event: Event, rows: &mut String) -> Result<bool, AllocError>
+        ensures rows { IfOk result (λ taken. taken ≡ true → string_bytes rows.new
+            ≡ string_bytes rows.old ++ flat_map record_text (event_rows (watch_of self.old) event)) }
+        ensures heard { IfOk result (λ taken. taken ≡ true
+            → watch_of self.new ≡ heard_event (watch_of self.old) event) }
+    {
+        match event {
+            Event::Ticks(scale) => {
+                self.scale = Some(scale);
+                Ok(true)
+            }
+            Event::At(tick) => self.hold_until(tick, rows),
+            Event::High(wire) => Ok(self.change(wire, true)),
+            Event::Low(wire) => Ok(self.change(wire, false)),
+        }
+    }
+
+    /// Adds, as lines, how many short runs were taken away of each line, and how long the longest was.
+    pub fn say_bounces(&self, said: &mut String) -> Result<(), AllocError> {
+        let Some(scale) = self.scale else {
+            return Ok(());
+        };
+        for line in self.lines.iter() {
+            if let Some(Bounces { count, longest }) = line.bounces() {
+                let number = line.number().get();
+                let micros = scale.micros_of(longest);
+                write!(
+                    said,
+                    "line {number}: {count} bounces, the longest {micros} us\n"
+                )?;
+            }
+        }
+        Ok(())
+    }
+
+    /// The first line whose wire has had no level.
+    pub fn silent(&self) -> Option<u16> {
+        for line in self.lines.iter() {
+            if !line.has_level() {
+                return Some(line.number().get());
+            }
+        }
+        None
+    }
+
+    /// The recording ends, and the records that are left of all lines are added.
+    pub fn end(mut self, rows: &mut String) -> Result<(), AllocError>
+        ensures { OnOk result (string_bytes rows.new
+            ≡ string_bytes rows.old ++ flat_map record_text (flat_map line_left (watch_of self).lines)) }
+    {
+        end_all(&mut self.lines, rows)
+    }
+}

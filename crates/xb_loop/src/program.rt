@@ -1,0 +1,76 @@
+// The program: its words and a recording in, a status and rows out.
+ghost use Rattle.std.specs.Prelude.{◌≡◌, ℕ, [], IfOk, List, None};
+ghost use Rattle.xb_command.specs.Programs.{streams};
+ghost use Rattle.xb_command.specs.Commands.{texts_of};
+ghost use Rattle.xb_loop.specs.Program.{AttendsLoop, PrintsDeck};
+
+use crate::fault::LoopFault;
+use crate::feed::listen;
+use crate::request::Request;
+use crate::table::{TableFiles, beginning_of};
+use crate::words::{plain_words, request_of_words};
+use std::alloc::Global;
+use std::io::{Read, Write};
+use xb_command::{DONE, WordsFault, tell_fault, tell_words};
+use xb_text::write_whole;
+
+// The program's name.
+pub(crate) const PROGRAM: &str = "mfloop";
+
+// The line of refused words.
+const USAGE: &[u8] = b"mfloop: usage: mfloop [--line N=WIRE]... [--table FILE] \
+[--format vcd|sigrok|saleae|edges|gpiomon|bits|s16|wav] [--rate HZ] [--settle MS] [--tick MS] \
+[--threshold PERCENT] [--inverted] [--said]\n";
+
+// Writes the rows that are asked for, after a route table, if one is.
+fn run<F: TableFiles, R: Read, W: Write>(
+    alloc: Global,
+    files: &F,
+    request: &Request<'_>,
+    recording: &mut R,
+    out: &mut W,
+) -> Result<String, LoopFault>
+    ensures { IfOk result (λ _. PrintsDeck (F.bytes files.now) request.now (R.remaining recording.old)
+        (W.contents out.old) (W.contents out.new)) }
+{
+    let before = beginning_of(alloc, files, request.table)?;
+    listen(alloc, request, &before, recording, out)
+}
+
+/// Reads the words of the command line, the program's name first, and by them writes the loop rows of a
+/// recording as it comes, as `listen` does, after a route table where one is named. It returns the status of the
+/// process:
+///
+/// - `DONE`: the words ask for something, and `out` got the rows;
+/// - `FAULT`: the table or the recording has a fault, or memory ran out while the words were read; `err` gets the
+///   fault as one line, and `out` got the rows before it;
+/// - `WORDS_REFUSED`: the words are refused, or ask for help; `err` gets the usage as one line, the recording
+///   is not read and `out` got nothing.
+///
+/// A fault in writing to `err` changes no status.
+pub fn attend<F: TableFiles, R: Read, W: Write, E: Write>(
+    alloc: Global,
+    words: &[String],
+    files: &F,
+    recording: &mut R,
+    out: &mut W,
+    err: &mut E,
+) -> u8
+    ensures { AttendsLoop (F.bytes files.now) (texts_of words.now)
+        (streams (R.remaining recording.old) (W.contents out.old) (E.contents err.old))
+        (streams (R.remaining recording.new) (W.contents out.new) (E.contents err.new)) result }
+{
+    let Ok(words) = plain_words(alloc, words) else {
+        return tell_words(err, PROGRAM, USAGE, WordsFault::NoMemory);
+    };
+    match request_of_words(alloc, &words) {
+        Ok(request) => match run(alloc, files, &request, recording, out) {
+            Ok(said) => {
+                let _ = write_whole(err, said.as_bytes());
+                DONE
+            }
+            Err(fault) => tell_fault(alloc, err, PROGRAM, fault),
+        },
+        Err(fault) => tell_words(err, PROGRAM, USAGE, fault),
+    }
+}

@@ -1,0 +1,269 @@
+// The reader of a recording, whatever its form.
+ghost use Rattle.std.specs.Prelude.{◌≡◌, ◌++◌, [], ◌∷◌, ℕ, true, false, IfOk, OnOk, List, map};
+ghost use Rattle.xb_recording.specs.declared.event.Event.{Event as EventTaken};
+ghost use Rattle.xb_recording.specs.Says.{Begins, IsOfFormat, LinesSay, RestSays, Takes, is_in_first, is_text, line_so_far, plain_line};
+
+use crate::columns::{Columns, Form};
+use crate::event::{Event, Refusal};
+use crate::format::{BYTE_ORDER_MARK, Format};
+use crate::gpiomon::Gpiomon;
+use crate::samples::Bits;
+use crate::sound::Sound;
+use crate::vcd::Vcd;
+use crate::wanted::Wanted;
+use crate::wav::{WavFormat, WavHead};
+use std::alloc::{AllocError, Global};
+
+// The longest line of a recording.
+const MOST_LINE_BYTES: usize = 65_536;
+
+// What is read.
+#[derive(Drop)]
+enum Source<'a> {
+    Vcd(Vcd<'a>),
+    Columns(Columns<'a>),
+    Gpiomon(Gpiomon<'a>),
+    Bits(Bits),
+    WavHead(WavHead),
+    Sound(Sound),
+}
+
+/// The reader of a recording, which takes it in pieces of any length.
+#[derive(Drop)]
+pub struct Reader<'a> {
+    alloc: Global,
+    wanted: &'a Wanted<'a>,
+    source: Source<'a>,
+    // What has come of a text line, whether it has ended, whether it is the first, and how many stand before it.
+    line: Vec<u8>,
+    is_whole: bool,
+    is_first: bool,
+    lines: u64,
+}
+
+// What is read of a recording of this form.
+fn source_of<'a>(
+    alloc: Global,
+    wanted: &'a Wanted<'a>,
+    format: Format,
+    events: &mut Vec<Event>,
+) -> Result<Source<'a>, Refusal>
+    requires { events.old.items ≡ [] }
+    ensures { IfOk result (λ source. IsOfFormat format (map (λ wire. wire.now) wanted.now.wires.items) source
+        events.new.items) }
+{
+    let (names, rate) = (wanted.wires.as_slice(), wanted.rate);
+    Ok(match format {
+        Format::Vcd => Source::Vcd(Vcd::new(alloc, names)?),
+        Format::Sigrok => Source::Columns(Columns::new(alloc, Form::Sigrok, names, rate)),
+        Format::Saleae => Source::Columns(Columns::new(alloc, Form::Saleae, names, rate)),
+        Format::Edges => Source::Columns(Columns::new(alloc, Form::Edges, names, rate)),
+        Format::Gpiomon => Source::Gpiomon(Gpiomon::new(names)),
+        Format::Bits => Source::Bits(Bits::new(alloc, names, rate, events)?),
+        Format::Wav => Source::WavHead(WavHead::new(alloc)),
+        Format::Sixteen => {
+            Source::Sound(Sound::new(alloc, names, 1, rate, wanted.threshold, events)?)
+        }
+    })
+}
+
+// A line without the mark that the first one may begin with.
+fn without_mark(line: &[u8], is_first: bool) -> &[u8]
+    ensures { result.now ≡ plain_line is_first line.now }
+{
+    if is_first && line.starts_with(BYTE_ORDER_MARK) {
+        return &line[BYTE_ORDER_MARK.len()..];
+    }
+    line
+}
+
+// A line of a text.
+fn take_line_of(
+    source: &mut Source<'_>,
+    line: &[u8],
+    events: &mut Vec<Event>,
+) -> Result<(), Refusal>
+    requires { events.old.items ≡ [] }
+    ensures { OnOk result ((lines : List (List ℕ)) (later : List EventTaken) → LinesSay source.new lines later
+        → LinesSay source.old (line.now ∷ lines) (events.new.items ++ later)) }
+{
+    match source {
+        Source::Vcd(vcd) => vcd.take_line(line, events),
+        Source::Columns(columns) => columns.take_line(line, events),
+        Source::Gpiomon(gpiomon) => gpiomon.take_line(line, events),
+        Source::Bits(_) | Source::WavHead(_) | Source::Sound(_) => Ok(()),
+    }
+}
+
+// The last line of a text, and the end of a recording.
+fn end_source(source: &mut Source<'_>, line: &[u8], events: &mut Vec<Event>) -> Result<(), Refusal>
+    requires { events.old.items ≡ [] }
+    ensures { OnOk result (LinesSay source.old (line.now ∷ []) events.new.items) }
+{
+    match source {
+        Source::Vcd(vcd) => {
+            vcd.take_line(line, events)?;
+            vcd.end()
+        }
+        Source::Columns(columns) => {
+            columns.take_line(line, events)?;
+            columns.end(events)
+        }
+        Source::Gpiomon(gpiomon) => gpiomon.take_line(line, events),
+        Source::WavHead(_) => Err(Refusal::Wav),
+        Source::Bits(_) | Source::Sound(_) => Ok(()),
+    }
+}
+
+impl<'a> Reader<'a> {
+    /// The reader of a recording of this form. `events` has then what it says before anything is read.
+    pub fn new(
+        alloc: Global,
+        wanted: &'a Wanted<'a>,
+        format: Format,
+        events: &mut Vec<Event>,
+    ) -> Result<Reader<'a>, Refusal>
+        ensures { IfOk result (λ reader. Begins format (map (λ wire. wire.now) wanted.now.wires.items) reader
+            events.new.items) }
+    {
+        events.clear();
+        let source = source_of(alloc, wanted, format, events)?;
+        Ok(Reader {
+            alloc,
+            wanted,
+            source,
+            line: Vec::new(alloc),
+            is_whole: false,
+            is_first: true,
+            lines: 0,
+        })
+    }
+
+    /// Whether the recording is a text.
+    pub fn is_text(&self) -> bool
+        ensures { result ≡ is_text self.now.source }
+    {
+        match &self.source {
+            Source::Vcd(_) | Source::Columns(_) | Source::Gpiomon(_) => true,
+            Source::Bits(_) | Source::WavHead(_) | Source::Sound(_) => false,
+        }
+    }
+
+    // The line that has come. It stands there until the next one begins.
+    fn take_line(&mut self, events: &mut Vec<Event>) -> Result<(), Refusal>
+        requires none { events.old.items ≡ [] }
+        ensures said { OnOk result ((lines : List (List ℕ)) (later : List EventTaken)
+            → LinesSay self.new.source lines later
+            → LinesSay self.old.source (plain_line self.old.is_first self.old.line.items ∷ lines)
+            (events.new.items ++ later)) }
+        ensures whole { OnOk result (self.new.is_whole ≡ true) }
+    {
+        self.is_whole = true;
+        let line = without_mark(&self.line, self.is_first);
+        take_line_of(&mut self.source, line, events)
+    }
+
+    // The next byte belongs to another line, where the last one has ended.
+    fn begin_line(&mut self)
+        ensures begun { self.new.is_whole ≡ false }
+        ensures line { self.new.line.items ≡ line_so_far self.old }
+        ensures first { self.new.is_first ≡ is_in_first self.old }
+        ensures source { self.new.source ≡ self.old.source }
+    {
+        if self.is_whole {
+            self.line.clear();
+            self.is_whole = false;
+            self.is_first = false;
+            self.lines = self.lines.saturating_add(1);
+        }
+    }
+
+    /// The next byte of a text. `events` has then what it says, in place of what was there.
+    pub fn take_byte(&mut self, byte: u8, events: &mut Vec<Event>) -> Result<(), Refusal>
+        ensures { OnOk result (Takes self.old self.new (byte ∷ []) events.new.items) }
+    {
+        events.clear();
+        self.begin_line();
+        if byte == b'\n' {
+            return self.take_line(events);
+        }
+        if self.line.len() >= MOST_LINE_BYTES {
+            return Err(Refusal::TooLong);
+        }
+        self.line.push(byte).map_err(AllocError::from)?;
+        Ok(())
+    }
+
+    // The samples of a WAV file begin.
+    fn begin_sound(
+        &mut self,
+        format: WavFormat,
+        bytes: &[u8],
+        events: &mut Vec<Event>,
+    ) -> Result<(), Refusal> {
+        let (names, threshold) = (self.wanted.wires.as_slice(), self.wanted.threshold);
+        let rate = Some(format.rate);
+        let mut sound = Sound::new(self.alloc, names, format.channels, rate, threshold, events)?;
+        sound.set_length(format.length);
+        let taken = sound.take(bytes, events);
+        self.source = Source::Sound(sound);
+        taken
+    }
+
+    // Bytes that begin in the head of a WAV file.
+    fn take_head(&mut self, bytes: &[u8], events: &mut Vec<Event>) -> Result<(), Refusal> {
+        for (i, byte) in bytes.iter().enumerate() {
+            let found = match &mut self.source {
+                Source::WavHead(head) => head.take(*byte)?,
+                _ => None,
+            };
+            if let Some(format) = found {
+                return self.begin_sound(format, &bytes[i + 1..], events);
+            }
+        }
+        Ok(())
+    }
+
+    /// The next bytes of samples. `events` has then what they say, in place of what was there.
+    pub fn take_samples(&mut self, bytes: &[u8], events: &mut Vec<Event>) -> Result<(), Refusal>
+        requires { is_text self.old.source ≡ false }
+        ensures { OnOk result (Takes self.old self.new bytes.now events.new.items) }
+    {
+        events.clear();
+        match &mut self.source {
+            Source::Bits(bits) => bits.take(bytes, events),
+            Source::Sound(sound) => sound.take(bytes, events),
+            Source::WavHead(_) => self.take_head(bytes, events),
+            Source::Vcd(_) | Source::Columns(_) | Source::Gpiomon(_) => Ok(()),
+        }
+    }
+
+    /// The end. `events` has then what was left to be said, in place of what was there.
+    pub fn end(&mut self, events: &mut Vec<Event>) -> Result<(), Refusal>
+        ensures { OnOk result (RestSays self.old [] events.new.items) }
+    {
+        events.clear();
+        self.begin_line();
+        let line = without_mark(&self.line, self.is_first);
+        end_source(&mut self.source, line, events)
+    }
+
+    /// The text line that is read, counted from 1.
+    pub fn text_line(&self) -> u64 {
+        self.lines.wrapping_add(1)
+    }
+
+    /// The sample that is read, counted from 1; `None` before the first.
+    pub fn sample(&self) -> Option<u64> {
+        match &self.source {
+            Source::Bits(bits) => Some(bits.count().wrapping_add(1)),
+            Source::Sound(sound) => Some(sound.count().wrapping_add(1)),
+            _ => None,
+        }
+    }
+
+    /// What has come of the text line.
+    pub fn line(&self) -> &[u8] {
+        self.line.as_slice()
+    }
+}
