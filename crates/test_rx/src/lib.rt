@@ -1,0 +1,9 @@
+//! Sounds heard as pages, and each fault of a sound.
+//!
+//! Tests alone.
+#![tactic(auto)]
+
+#[cfg(test)]
+mod pages;
+#[cfg(test)]
+mod statuses;

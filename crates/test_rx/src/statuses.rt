@@ -1,0 +1,78 @@
+// Words, sounds and streams in; a status and lines of faults out.
+use std::alloc::Global;
+use std::test::Fail;
+use test_kit::{Gives, Halting, Program, Short, check_reads, check_status};
+use xb_rx::attend;
+
+// The program `mfrx`.
+#[derive(Clone, Copy)]
+struct Mfrx;
+
+impl Program for Mfrx {
+    fn name(&self) -> &'static str {
+        "mfrx"
+    }
+
+    fn attend(
+        &self,
+        alloc: Global,
+        words: &[String],
+        reader: &mut Halting<'_>,
+        out: &mut Short,
+        err: &mut Vec<u8>,
+    ) -> u8 {
+        attend(alloc, words, reader, out, err)
+    }
+}
+
+const USAGE: &[u8] = b"mfrx: usage: mfrx [--line N] [--trunk T] [--raw [--rate HZ] [--ulaw]]\n";
+
+// A file of two samples of silence, after a chunk of three bytes that says nothing.
+const FILE: &[u8] = b"RIFF\x34\0\0\0WAVELIST\x03\0\0\0abc\0\
+fmt \x10\0\0\0\x01\0\x01\0\x40\x1f\0\0\x80\x3e\0\0\x02\0\x10\0data\x04\0\0\0\0\0\0\0";
+
+// The words after the program's name, the sound, the status, what is written, and what stands on standard error.
+const CASES: &[(&[&str], &[u8], u8, &[u8], &[u8])] = &[
+    (&[], FILE, 0, b"KEYED 0 REFUSED 0\n", b""),
+    (&["--raw"], b"", 0, b"KEYED 0 REFUSED 0\n", b""),
+    (
+        &["--raw", "--ulaw", "--rate", "16000"],
+        b"abcdefg",
+        0,
+        b"KEYED 0 REFUSED 0\n",
+        b"",
+    ),
+    (
+        &[],
+        b"KEYED 0 REFUSED 0\n",
+        1,
+        b"",
+        b"mfrx: the sound is no WAV file that can be heard: its first 12 bytes are not those of a WAV file\n",
+    ),
+    (&["--line", "10000"], FILE, 2, b"", USAGE),
+    (&["--trunk", "10000"], FILE, 2, b"", USAGE),
+    (&["--raw", "--rate", "11025"], FILE, 2, b"", USAGE),
+    (&["--ulaw"], FILE, 2, b"", USAGE),
+    (&["--rate", "8000"], FILE, 2, b"", USAGE),
+    (&["--help"], FILE, 2, b"", USAGE),
+];
+
+#[test]
+fn gives_each_fault(rt: HostRuntime) -> Result<(), Fail> {
+    for (words, sound, status, page, line) in CASES {
+        let wanted = Gives {
+            status: *status,
+            written: page,
+            line,
+        };
+        check_status(rt.alloc(), &Mfrx, words, sound, wanted)?;
+    }
+    Ok(())
+}
+
+#[test]
+fn fails_where_the_sound_fails(rt: HostRuntime) -> Result<(), Fail> {
+    let places = [0, 11, 30, 40, FILE.len() - 1];
+    let line = b"mfrx: the sound could not be read\n";
+    check_reads(rt.alloc(), &Mfrx, FILE, &places, line)
+}

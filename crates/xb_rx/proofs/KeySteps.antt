@@ -1,0 +1,124 @@
+-- What a key makes of a page, whatever comes of the writing.
+use Rattle.std.proofs.Common.{◌≡◌, ◌∙◌, ℕ, ◌+◌, ◌≤◌, List, [], ◌∷◌, ◌++◌, Option, Result, Ok, Err, ap, arith, drop, subst, sym}
+use Rattle.std.specs.Prelude.{IfErr, OnErr, OnOk}
+use Rattle.std.specs.Io.KnownBytes.{Appends}
+use Rattle.xb_model.specs.Keyings.{keying}
+use Rattle.xb_model.specs.Page.{entry_text}
+use Rattle.xb_text.specs.Writing.{AppendsBeginning}
+use Rattle.xb_ear.specs.declared.hearing.Heard.{Heard}
+use Rattle.xb_rx.specs.declared.page.PageFault.{PageFault}
+use Rattle.xb_rx.specs.declared.page.Step.TheVariants as steps
+use Rattle.xb_rx.specs.Keyings.{digits_in}
+use Rattle.xb_rx.specs.Begun.{IsBegun, broken, kept_after, step_of}
+use Rattle.xb_rx.specs.Pages.{Paged, Writes, loose_lines, loose_rest, page_rest}
+use Rattle.xb_rx.proofs.Written.{broken-begun, broken-fault, broken-page, broken-told, complete-fault, complete-page, complete-quiet, kept-begun, kept-loose, kept-page, none-written}
+
+module _ (page new : Paged) (key : Heard) (r : Result (Unit {0}) PageFault) where
+  -- the key is kept
+  module _ (after : OnOk r (new ≡ record page { begun = page.begun ++ key ∷ [] })) (a : Option (List ℕ)) where
+    pub keeps-page : Writes (λ later. page_rest page (key ∷ later)) (page_rest new) r a a
+    keeps-page = by r after
+      where
+        by : (r : Result (Unit {0}) PageFault) → OnOk r (new ≡ record page { begun = page.begun ++ key ∷ [] })
+            → Writes (λ later. page_rest page (key ∷ later)) (page_rest new) r a a
+        by (Ok u) is = kept-page page new key a a is
+        by (Err f) is = λ later. none-written a (page_rest page (key ∷ later))
+
+    pub keeps-loose : Writes (λ later. loose_rest page (key ∷ later)) (loose_rest new) r a a
+    keeps-loose = by r after
+      where
+        by : (r : Result (Unit {0}) PageFault) → OnOk r (new ≡ record page { begun = page.begun ++ key ∷ [] })
+            → Writes (λ later. loose_rest page (key ∷ later)) (loose_rest new) r a a
+        by (Ok u) is = kept-loose page new key a a is
+        by (Err f) is = λ later. none-written a (loose_rest page (key ∷ later))
+
+  pub keeps-count : OnOk r (new ≡ record page { begun = page.begun ++ key ∷ [] }) → OnErr r (new ≡ page)
+      → new.count ≤ page.count + 1
+  keeps-count after same = by r after same
+    where
+      by : (r : Result (Unit {0}) PageFault) → OnOk r (new ≡ record page { begun = page.begun ++ key ∷ [] })
+          → OnErr r (new ≡ page) → new.count ≤ page.count + 1
+      by (Ok u) is same = let e : new.count ≡ page.count = ap (λ (p : Paged). p.count) is in omega (arith, e)
+      by (Err f) is same = let e : new.count ≡ page.count = ap (λ (p : Paged). p.count) same in omega (arith, e)
+
+  pub keeps-begun : IsBegun page.begun → step_of page.begun key ≡ steps.Keeps
+      → OnOk r (new ≡ record page { begun = page.begun ++ key ∷ [] }) → OnOk r (IsBegun new.begun)
+  keeps-begun begun step after = by r after
+    where
+      by : (r : Result (Unit {0}) PageFault) → OnOk r (new ≡ record page { begun = page.begun ++ key ∷ [] })
+          → OnOk r (IsBegun new.begun)
+      by (Ok u) is = subst IsBegun (sym (ap (λ (p : Paged). p.begun) is)) (kept-begun page.begun key begun step)
+      by (Err f) is = tt
+
+  -- the keying is complete
+  abbrev pub entry_of : List ℕ
+  entry_of = entry_text page.line (page.count + 1) (keying page.trunk (digits_in (drop 1 page.begun)))
+
+  module _ (begun : IsBegun page.begun) (step : step_of page.begun key ≡ steps.Completes)
+      (after : OnOk r (new ≡ record page { count = page.count + 1; begun = [] })) where
+    pub completes-page : (a b : Option (List ℕ)) → OnOk r (Appends a b entry_of)
+        → IfErr r (λ f. AppendsBeginning a b entry_of)
+        → Writes (λ later. page_rest page (key ∷ later)) (page_rest new) r a b
+    completes-page a b whole beginning = by r after whole beginning
+      where
+        by : (r : Result (Unit {0}) PageFault) → OnOk r (new ≡ record page { count = page.count + 1; begun = [] })
+            → OnOk r (Appends a b entry_of) → IfErr r (λ f. AppendsBeginning a b entry_of)
+            → Writes (λ later. page_rest page (key ∷ later)) (page_rest new) r a b
+        by (Ok u) is whole beginning = complete-page page new key begun a b step is whole
+        by (Err f) is whole beginning = complete-fault page new key begun a b step f beginning
+
+    pub completes-loose : (a : Option (List ℕ)) → Writes (λ later. loose_rest page (key ∷ later)) (loose_rest new) r a a
+    completes-loose a = by r after
+      where
+        by : (r : Result (Unit {0}) PageFault) → OnOk r (new ≡ record page { count = page.count + 1; begun = [] })
+            → Writes (λ later. loose_rest page (key ∷ later)) (loose_rest new) r a a
+        by (Ok u) is = complete-quiet page new key begun a a step is
+        by (Err f) is = λ later. none-written a (loose_rest page (key ∷ later))
+
+  pub completes-count : OnOk r (new ≡ record page { count = page.count + 1; begun = [] }) → OnErr r (new.count ≡ page.count)
+      → new.count ≤ page.count + 1
+  completes-count after same = by r after same
+    where
+      by : (r : Result (Unit {0}) PageFault) → OnOk r (new ≡ record page { count = page.count + 1; begun = [] })
+          → OnErr r (new.count ≡ page.count) → new.count ≤ page.count + 1
+      by (Ok u) is same = let e : new.count ≡ page.count + 1 = ap (λ (p : Paged). p.count) is in omega (arith, e)
+      by (Err f) is same = omega (arith, same)
+
+  pub completes-begun : OnOk r (new ≡ record page { count = page.count + 1; begun = [] }) → OnOk r (IsBegun new.begun)
+  completes-begun after = by r after
+    where
+      by : (r : Result (Unit {0}) PageFault) → OnOk r (new ≡ record page { count = page.count + 1; begun = [] })
+          → OnOk r (IsBegun new.begun)
+      by (Ok u) is = subst IsBegun (sym (ap (λ (p : Paged). p.begun) is)) tt
+      by (Err f) is = tt
+
+  -- the keying is broken off
+  module _ (begun : IsBegun page.begun) (step : step_of page.begun key ≡ steps.BreaksOff)
+      (after : OnOk r (new ≡ record page { begun = kept_after key })) where
+    pub breaks-page : (a : Option (List ℕ)) → Writes (λ later. page_rest page (key ∷ later)) (page_rest new) r a a
+    breaks-page a = by r after
+      where
+        by : (r : Result (Unit {0}) PageFault) → OnOk r (new ≡ record page { begun = kept_after key })
+            → Writes (λ later. page_rest page (key ∷ later)) (page_rest new) r a a
+        by (Ok u) is = broken-page page new key begun a a step is
+        by (Err f) is = λ later. none-written a (page_rest page (key ∷ later))
+
+    pub breaks-loose : (a b : Option (List ℕ)) → OnOk r (Appends a b (loose_lines (broken page.begun key)))
+        → IfErr r (λ f. AppendsBeginning a b (loose_lines (broken page.begun key)))
+        → Writes (λ later. loose_rest page (key ∷ later)) (loose_rest new) r a b
+    breaks-loose a b whole beginning = by r after whole beginning
+      where
+        by : (r : Result (Unit {0}) PageFault) → OnOk r (new ≡ record page { begun = kept_after key })
+            → OnOk r (Appends a b (loose_lines (broken page.begun key)))
+            → IfErr r (λ f. AppendsBeginning a b (loose_lines (broken page.begun key)))
+            → Writes (λ later. loose_rest page (key ∷ later)) (loose_rest new) r a b
+        by (Ok u) is whole beginning = broken-told page new key begun a b step is whole
+        by (Err f) is whole beginning = broken-fault page new key begun a b step f beginning
+
+  pub breaks-begun : OnOk r (new ≡ record page { begun = kept_after key }) → OnOk r (IsBegun new.begun)
+  breaks-begun after = by r after
+    where
+      by : (r : Result (Unit {0}) PageFault) → OnOk r (new ≡ record page { begun = kept_after key })
+          → OnOk r (IsBegun new.begun)
+      by (Ok u) is = subst IsBegun (sym (ap (λ (p : Paged). p.begun) is)) (broken-begun key)
+      by (Err f) is = tt

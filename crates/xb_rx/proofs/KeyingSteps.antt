@@ -1,0 +1,166 @@
+-- What one key more makes of a keying that goes on.
+use Rattle.std.proofs.Common.{◌≡◌, ◌∙◌, ℕ, zero, suc, ◌+◌, ◌≤◌, ◌<◌, Bool, true, false, cond, ◌&&◌, List, [], ◌∷◌, ◌++◌, length, map, Option, Some, None, is_some, le-leb, sym, ap, ap₂, refl, arith, append_assoc, append-nil, add-one}
+use Rattle.std.specs.Prelude.{if◌then◌else◌, nat_le}
+use Rattle.std.specs.List.{AllByRecursion, flat_map}
+use Rattle.std.proofs.lemmas.Bool.{cond-true, cond-false}
+use Rattle.xb_ear.specs.declared.hearing.Heard.{Heard}
+use Rattle.xb_rx.specs.declared.keys.TheConstants.{MOST_DIGITS}
+use Rattle.xb_rx.specs.Keyings.{before_digits, digit_of, digits_in, digits_to_st, is_kp, is_st, keying_at, keyings, listed_digit, loose_after, loose_by, loose_keys, one_more}
+use Rattle.xb_rx.specs.Begun.{IsDigit, broken, kept_after}
+use Rattle.xb_rx.proofs.KeyPairs.{digit-no-kp, digit-no-st, st-no-kp}
+
+abbrev pub AreDigits : List Heard → Type 0
+AreDigits digits = AllByRecursion IsDigit digits
+
+-- digits and an ST
+number : (n : ℕ) (digits : List Heard) (st : Heard) (later : List Heard) → AreDigits digits → length digits ≤ n
+    → is_st st ≡ true → digits_to_st n (digits ++ st ∷ later) ≡ Some (digits_in digits)
+unfolding digits_to_st
+number zero [] st later all few is = cond-true _ _ _ is
+number (suc n) [] st later all few is = cond-true _ _ _ is
+number zero (d ∷ digits) st later all few is = absurd (omega (arith, few))
+number (suc n) (d ∷ digits) st later (one, all) few is =
+    cond-false _ _ _ (digit-no-st d one)
+    ∙ ap (before_digits (digit_of d)) (number n digits st later all (omega (arith, few)) is)
+    ∙ ap (λ (o : Option ℕ). before_digits o (Some (digits_in digits))) one.1
+    ∙ ap (λ (o : Option ℕ). Some (listed_digit o ++ digits_in digits)) (sym one.1)
+
+-- digits, and a key that is none ST, and none digit where there is room for one
+no-number : (n : ℕ) (digits : List Heard) (key : Heard) (later : List Heard) → AreDigits digits → length digits ≤ n
+    → is_st key ≡ false → (length digits < n → digit_of key ≡ None) → digits_to_st n (digits ++ key ∷ later) ≡ None
+unfolding digits_to_st
+no-number zero [] key later all few none room = cond-false _ _ _ none
+no-number (suc n) [] key later all few none room =
+    cond-false _ _ _ none ∙ ap (λ (o : Option ℕ). before_digits o (digits_to_st n later)) (room (omega arith))
+no-number zero (d ∷ digits) key later all few none room = absurd (omega (arith, few))
+no-number (suc n) (d ∷ digits) key later (one, all) few none room =
+    cond-false _ _ _ (digit-no-st d one)
+    ∙ ap (before_digits (digit_of d))
+    (no-number n digits key later all (omega (arith, few)) none (λ below. room (omega (arith, below))))
+    ∙ ap (λ (o : Option ℕ). before_digits o None) one.1
+
+-- digits after which nothing comes
+no-end : (n : ℕ) (digits : List Heard) → AreDigits digits → digits_to_st n digits ≡ None
+unfolding digits_to_st
+no-end n [] all = refl
+no-end zero (d ∷ digits) (one, all) = cond-false _ _ _ (digit-no-st d one)
+no-end (suc n) (d ∷ digits) (one, all) =
+    cond-false _ _ _ (digit-no-st d one)
+    ∙ ap (before_digits (digit_of d)) (no-end n digits all)
+    ∙ ap (λ (o : Option ℕ). before_digits o None) one.1
+
+-- a keying
+kp-at : (kp : Heard) (keys : List Heard) → is_kp kp ≡ true → keying_at kp keys ≡ digits_to_st MOST_DIGITS keys
+kp-at kp keys is = cond-true _ _ _ is
+
+no-kp-at : (key : Heard) (keys : List Heard) → is_kp key ≡ false → keying_at key keys ≡ None
+no-kp-at key keys none = cond-false _ _ _ none
+
+-- keys without a KP begin none keying
+none-begun : (key : Heard) (keys : List Heard) → is_kp key ≡ false → keyings (key ∷ keys) ≡ keyings keys
+unfolding keyings
+none-begun key keys none = ap (λ (o : Option (List ℕ)). one_more o (keyings keys)) (no-kp-at key keys none)
+
+digits-begin-none : (digits later : List Heard) → AreDigits digits → keyings (digits ++ later) ≡ keyings later
+digits-begin-none [] later all = refl
+digits-begin-none (d ∷ digits) later (one, all) =
+    none-begun d (digits ++ later) (digit-no-kp d one) ∙ digits-begin-none digits later all
+
+-- and stand in none
+loose-one : (key : Heard) (keys : List Heard) → is_kp key ≡ false → loose_keys (key ∷ keys) ≡ key ∷ loose_keys keys
+unfolding loose_after
+loose-one key keys none = ap (λ (o : Option (List ℕ)). loose_by o key (λ n. loose_after n keys)) (no-kp-at key keys none)
+
+digits-are-loose : (digits later : List Heard) → AreDigits digits
+    → loose_keys (digits ++ later) ≡ digits ++ loose_keys later
+digits-are-loose [] later all = refl
+digits-are-loose (d ∷ digits) later (one, all) =
+    loose-one d (digits ++ later) (digit-no-kp d one) ∙ ap (λ ks. d ∷ ks) (digits-are-loose digits later all)
+
+-- those of a keying are passed over
+pass : (keys later : List Heard) → loose_after (length keys) (keys ++ later) ≡ loose_keys later
+unfolding loose_after
+pass [] later = refl
+pass (key ∷ keys) later = pass keys later
+
+count-digits : (digits : List Heard) → AreDigits digits → length (digits_in digits) ≡ length digits
+count-digits [] all = refl
+count-digits (d ∷ digits) (one, all) =
+    ap (λ (o : Option ℕ). length (listed_digit o ++ digits_in digits)) one.1 ∙ ap suc (count-digits digits all)
+
+module _ (kp : Heard) (digits : List Heard) (is : is_kp kp ≡ true) (all : AreDigits digits) (few : length digits ≤ MOST_DIGITS) where
+  -- an ST completes a keying
+  pub completes : (st : Heard) (later : List Heard) → is_st st ≡ true
+      → keyings (kp ∷ digits ++ st ∷ later) ≡ digits_in digits ∷ keyings later
+  unfolding keyings
+  completes st later ends =
+      ap (λ (o : Option (List ℕ)). one_more o (keyings (digits ++ st ∷ later)))
+      (kp-at kp (digits ++ st ∷ later) is ∙ number MOST_DIGITS digits st later all few ends)
+      ∙ ap (λ ks. digits_in digits ∷ ks)
+      (digits-begin-none digits (st ∷ later) all ∙ none-begun st later (st-no-kp st ends))
+
+  pub none-loose : (st : Heard) (later : List Heard) → is_st st ≡ true
+      → loose_keys (kp ∷ digits ++ st ∷ later) ≡ loose_keys later
+  unfolding loose_after
+  none-loose st later ends =
+      ap (λ (o : Option (List ℕ)). loose_by o kp (λ n. loose_after n (digits ++ st ∷ later)))
+      (kp-at kp (digits ++ st ∷ later) is ∙ number MOST_DIGITS digits st later all few ends)
+      ∙ ap (λ (n : ℕ). loose_after (suc n) (digits ++ st ∷ later)) (count-digits digits all)
+      ∙ ap (λ ks. loose_after (suc (length digits)) ks) (sym (append_assoc digits (st ∷ []) later))
+      ∙ ap (λ (n : ℕ). loose_after n ((digits ++ st ∷ []) ++ later)) (one-longer digits)
+      ∙ pass (digits ++ st ∷ []) later
+    where
+      one-longer : (keys : List Heard) → suc (length keys) ≡ length (keys ++ st ∷ [])
+      one-longer [] = refl
+      one-longer (key ∷ keys) = ap suc (one-longer keys)
+
+  -- another key breaks it off
+  module _ (key : Heard) (none : is_st key ≡ false) (room : length digits < MOST_DIGITS → digit_of key ≡ None) where
+    not-at : (later : List Heard) → keying_at kp (digits ++ key ∷ later) ≡ None
+    not-at later = kp-at kp (digits ++ key ∷ later) is ∙ no-number MOST_DIGITS digits key later all few none room
+
+    pub breaks : (later : List Heard) → keyings (kp ∷ digits ++ key ∷ later) ≡ keyings (key ∷ later)
+    unfolding keyings
+    breaks later =
+        ap (λ (o : Option (List ℕ)). one_more o (keyings (digits ++ key ∷ later))) (not-at later)
+        ∙ digits-begin-none digits (key ∷ later) all
+
+    pub all-loose : (later : List Heard)
+        → loose_keys (kp ∷ digits ++ key ∷ later) ≡ kp ∷ (digits ++ loose_keys (key ∷ later))
+    unfolding loose_after
+    all-loose later =
+        ap (λ (o : Option (List ℕ)). loose_by o kp (λ n. loose_after n (digits ++ key ∷ later))) (not-at later)
+        ∙ ap (λ ks. kp ∷ ks) (digits-are-loose digits (key ∷ later) all)
+
+  -- so does the end
+  pub end-none : keyings (kp ∷ digits) ≡ []
+  unfolding keyings
+  end-none =
+      ap (λ (o : Option (List ℕ)). one_more o (keyings digits)) (kp-at kp digits is ∙ no-end MOST_DIGITS digits all)
+      ∙ ap keyings (sym (append-nil digits))
+      ∙ digits-begin-none digits [] all
+
+  pub end-loose : loose_keys (kp ∷ digits) ≡ kp ∷ digits
+  unfolding loose_after
+  end-loose =
+      ap (λ (o : Option (List ℕ)). loose_by o kp (λ n. loose_after n digits))
+      (kp-at kp digits is ∙ no-end MOST_DIGITS digits all)
+      ∙ ap (λ ks. kp ∷ ks)
+      (ap loose_keys (sym (append-nil digits)) ∙ digits-are-loose digits [] all ∙ append-nil digits)
+
+-- a key that breaks off goes on as a KP, or stands in none keying
+pub goes-on : (key : Heard) (later : List Heard) → keyings (key ∷ later) ≡ keyings (kept_after key ++ later)
+goes-on key later = by (is_kp key) refl
+  where
+    by : (b : Bool) → is_kp key ≡ b → keyings (key ∷ later) ≡ keyings ((if b then key ∷ [] else []) ++ later)
+    by true e = refl
+    by false e = none-begun key later e
+
+pub goes-loose : (key : Heard) (later : List Heard)
+    → loose_keys (key ∷ later) ≡ (if is_kp key then [] else key ∷ []) ++ loose_keys (kept_after key ++ later)
+goes-loose key later = by (is_kp key) refl
+  where
+    by : (b : Bool) → is_kp key ≡ b
+        → loose_keys (key ∷ later) ≡ (if b then [] else key ∷ []) ++ loose_keys ((if b then key ∷ [] else []) ++ later)
+    by true e = refl
+    by false e = loose-one key later e

@@ -1,0 +1,13 @@
+pub mod KeyPairs
+pub mod KeyingSteps
+pub mod Written
+pub mod KeySteps
+pub mod LastSteps
+pub mod Samples
+pub mod SoFar
+pub mod PagedKeys
+pub mod Walks
+pub mod Sounds
+pub mod Skipping
+pub mod Starts
+pub mod Delivered

@@ -1,0 +1,255 @@
+-- What was written of the samples that a source has given so far.
+use Rattle.std.proofs.Common.{◌≡◌, ◌∙◌, ℕ, ◌+◌, ◌<◌, List, [], ◌∷◌, ◌++◌, fold, Option, Some, None, IfSome, Result, Ok, Err, sym, ap, subst, refl, append_assoc, append-nil, ℤ}
+use Rattle.std.specs.Io.KnownBytes.{Appends}
+use Rattle.std.proofs.KnownBytes.{Appends-nil, Appends-trans}
+use Rattle.xb_text.specs.Writing.{AppendsBeginning}
+use Rattle.xb_text.proofs.Beginnings.{AppendsBeginning-first, AppendsBeginning-second}
+use Rattle.xb_model.specs.Image.{image_from}
+use Rattle.xb_ear.specs.declared.hearing.Heard.{Heard}
+use Rattle.xb_ear.specs.Ears.{heard, hearing_after}
+use Rattle.xb_ear.specs.Hearings.{listed}
+use Rattle.xb_ear.specs.Receivers.{HasReceived, Receiving, keys_of_sound, keys_so_far}
+use Rattle.xb_ear.specs.Tails.{tail_filter}
+use Rattle.xb_ear.proofs.Windows.{image_from-append}
+use Rattle.xb_ear.proofs.WholeSounds.{hears_so_far}
+use Rattle.xb_rx.specs.declared.page.PageFault.{PageFault}
+use Rattle.xb_rx.specs.declared.page.PageFault.TheVariants as page_fault
+use Rattle.xb_rx.specs.declared.source.StreamFault.{StreamFault}
+use Rattle.xb_rx.specs.declared.source.StreamFault.TheVariants as stream_fault
+use Rattle.xb_rx.specs.Faults.{of_page, of_stream}
+use Rattle.xb_rx.specs.Pages.{Paged, Writes, loose_rest, page_rest}
+use Rattle.xb_rx.specs.Hearing.{Hears, IsFaultOf, Outputs, outputs}
+use Rattle.xb_rx.specs.Samples.{Sound, sound_with}
+use Rattle.xb_rx.specs.Streams.{GivesSample}
+
+-- the keys of samples are those that ended in the first of them, and more
+pub keys-begin : (earlier later : List ℤ)
+    → (rest : List Heard) × (keys_of_sound (earlier ++ later) ≡ keys_so_far earlier ++ rest)
+keys-begin earlier later =
+    let more = hears_so_far earlier later in
+    let all = earlier ++ later in
+    let last : List Heard = image_from tail_filter (fold tail_filter.next tail_filter.start (heard all)) (listed (hearing_after all).sounding) in (
+      more.0 ++ last,
+      image_from-append tail_filter tail_filter.start (heard all) (listed (hearing_after all).sounding)
+          ∙ ap (λ ks. ks ++ last) more.1
+          ∙ append_assoc (keys_so_far earlier) more.0 last,
+    )
+
+-- what was written of keys, and of later ones
+module _ (text : Paged → List Heard → List ℕ) (first : Paged) where
+  -- of the first keys this much was written
+  abbrev pub Has : Paged → List Heard → Option (List ℕ) → Option (List ℕ) → Type 0
+  Has page keys start out = Writes {F = PageFault} (λ later. text first (keys ++ later)) (text page) (Ok tt) start out
+
+  pub has-none : (out : Option (List ℕ)) → Has first [] out out
+  has-none out = ([], Appends-nil out, λ later. refl)
+
+  pub has-more : (page new : Paged) (keys more : List Heard) (start out next : Option (List ℕ))
+      → Has page keys start out → Writes {F = PageFault} (λ later. text page (more ++ later)) (text new) (Ok tt) out next
+      → Has new (keys ++ more) start next
+  has-more page new keys more start out next (a, wrote, is) (b, also, goes) = (
+    a ++ b,
+    Appends-trans start out next a b wrote also,
+    λ later. ap (text first) (append_assoc keys more later)
+        ∙ is (more ++ later)
+        ∙ ap (λ bytes. a ++ bytes) (goes later)
+        ∙ sym (append_assoc a b (text new later)),
+  )
+
+  -- it is the beginning of all that is to be written
+  pub has-begun : (page : Paged) (keys later : List Heard) (start out : Option (List ℕ)) → Has page keys start out
+      → AppendsBeginning start out (text first (keys ++ later))
+  has-begun page keys later start out (a, wrote, is) =
+      subst (AppendsBeginning start out) (sym (is later))
+      (AppendsBeginning-first start out a (text page later) (whole a wrote))
+    where
+      whole : (a : List ℕ) → Appends start out a → AppendsBeginning start out a
+      whole a wrote = subst (λ bytes. AppendsBeginning start out bytes) (append-nil a)
+          (AppendsBeginning-second start out out a [] wrote (0, Appends-nil out))
+
+  pub has-fault : (page new : Paged) (keys more later : List Heard) (f : PageFault) (start out next : Option (List ℕ))
+      → Has page keys start out → Writes (λ later. text page (more ++ later)) (text new) (Err f) out next
+      → AppendsBeginning start next (text first ((keys ++ more) ++ later))
+  has-fault page new keys more later f start out next (a, wrote, is) begun =
+      subst (AppendsBeginning start next)
+      (sym (ap (text first) (append_assoc keys more later) ∙ is (more ++ later)))
+      (AppendsBeginning-second start out next a (text page (more ++ later)) wrote (begun later))
+
+  -- with the rest it is all of it
+  pub has-last : (page : Paged) (keys more : List Heard) (start out next : Option (List ℕ)) → Has page keys start out
+      → Appends out next (text page more) → Appends start next (text first (keys ++ more))
+  has-last page keys more start out next (a, wrote, is) rest =
+      subst (Appends start next) (sym (is more)) (Appends-trans start out next a (text page more) wrote rest)
+
+  pub has-last-begun : (page : Paged) (keys more : List Heard) (start out next : Option (List ℕ)) → Has page keys start out
+      → AppendsBeginning out next (text page more) → AppendsBeginning start next (text first (keys ++ more))
+  has-last-begun page keys more start out next (a, wrote, is) rest =
+      subst (AppendsBeginning start next) (sym (is more))
+      (AppendsBeginning-second start out next a (text page more) wrote rest)
+
+-- a fault of a page says nothing of the sound
+page-fault : (sound : Sound) (f : PageFault) → IsFaultOf sound (of_page f)
+page-fault sound page_fault.NoMemory = tt
+page-fault sound page_fault.Write = tt
+page-fault sound page_fault.Tell = tt
+
+-- of a sound these samples were given, and this is left
+abbrev pub IsLeft : Sound → List ℤ → Option Sound → Type 0
+IsLeft sound samples None = ⊥
+IsLeft sound samples (Some left) = sound ≡ sound_with (samples ++ left.samples) left.lacking
+
+-- the keys that ended in these samples were written
+pub record Heard_so_far (first page : Paged) (receiver : Receiving) (sound : Sound) (left : Option Sound)
+    (outs : Outputs) : Type 0 where
+  pub samples : List ℤ
+  pub keys : List Heard
+  pub is_left : IsLeft sound samples left
+  pub received : HasReceived receiver samples keys
+  pub page_has : Has page_rest first page keys outs.page_old outs.page_new
+  pub told_has : Has loose_rest first page keys outs.told_old outs.told_new
+
+abbrev pub IsSoFar : Paged → Paged → Receiving → Option Sound → Option Sound → Outputs → Type 0
+IsSoFar first page receiver all left outs =
+    IfSome all (λ sound. Heard_so_far first page receiver sound left outs)
+
+pub so_far-start : (first : Paged) (receiver : Receiving) (all : Option Sound) (a b : Option (List ℕ))
+    → HasReceived receiver [] [] → IsSoFar first first receiver all all (outputs a a b b)
+so_far-start first receiver None a b received = tt
+so_far-start first receiver (Some sound) a b received = record {
+  samples = [];
+  keys = [];
+  is_left = refl;
+  received = received;
+  page_has = has-none page_rest first a;
+  told_has = has-none loose_rest first b;
+}
+
+module _ (first page : Paged) (receiver : Receiving) (a b c d : Option (List ℕ)) where
+  -- the keys of a sound that ends
+  all-keys : (key : Option Heard) (sound here : Sound) (left : Option Sound)
+      (so : Heard_so_far first page receiver sound (Some here) (outputs a b c d)) → GivesSample (Some here) (Ok None) left
+      → ((samples : List ℤ) (keys : List Heard) → HasReceived receiver samples keys
+      → keys ++ listed key ≡ keys_of_sound samples)
+      → so.keys ++ listed key ≡ keys_of_sound sound.samples
+  all-keys key sound here left so gives finishes =
+      finishes so.samples so.keys so.received
+      ∙ ap keys_of_sound
+      (sym (ap (λ (s : Sound). s.samples) so.is_left ∙ ap (λ (s : Sound). so.samples ++ s.samples) gives
+      ∙ append-nil so.samples))
+
+  -- a sample more, and the key that it ended
+  pub so_far-more : (new : Paged) (after : Receiving) (x : ℤ) (key : Option Heard) (all now left : Option Sound)
+      (next also : Option (List ℕ)) → IsSoFar first page receiver all now (outputs a b c d)
+      → GivesSample now (Ok (Some x)) left
+      → ((samples : List ℤ) (keys : List Heard) → HasReceived receiver samples keys
+      → HasReceived after (samples ++ x ∷ []) (keys ++ listed key))
+      → Writes {F = PageFault} (λ later. page_rest page (listed key ++ later)) (page_rest new) (Ok tt) b next
+      → Writes {F = PageFault} (λ later. loose_rest page (listed key ++ later)) (loose_rest new) (Ok tt) d also
+      → IsSoFar first new after all left (outputs a next c also)
+  so_far-more new after x key None now left next also so gives takes wrote told = tt
+  so_far-more new after x key (Some sound) None left next also so gives takes wrote told = absurd so.is_left
+  so_far-more new after x key (Some sound) (Some here) None next also so gives takes wrote told = absurd gives
+  so_far-more new after x key (Some sound) (Some here) (Some left) next also so gives takes wrote told = record {
+    samples = so.samples ++ x ∷ [];
+    keys = so.keys ++ listed key;
+    is_left =
+        so.is_left
+        ∙ ap (λ (s : Sound). sound_with (so.samples ++ s.samples) s.lacking) gives
+        ∙ ap (λ xs. sound_with xs left.lacking) (sym (append_assoc so.samples (x ∷ []) left.samples));
+    received = takes so.samples so.keys so.received;
+    page_has = has-more page_rest first page new so.keys (listed key) a b next so.page_has wrote;
+    told_has = has-more loose_rest first page new so.keys (listed key) c d also so.told_has told;
+  }
+
+  -- the key that it ended was not written
+  pub so_far-fault : (new : Paged) (after : Receiving) (x : ℤ) (key : Option Heard) (f : PageFault)
+      (all now left : Option Sound) (next also : Option (List ℕ)) → IsSoFar first page receiver all now (outputs a b c d)
+      → GivesSample now (Ok (Some x)) left
+      → ((samples : List ℤ) (keys : List Heard) → HasReceived receiver samples keys
+      → HasReceived after (samples ++ x ∷ []) (keys ++ listed key))
+      → Writes (λ later. page_rest page (listed key ++ later)) (page_rest new) (Err f) b next
+      → Writes (λ later. loose_rest page (listed key ++ later)) (loose_rest new) (Err f) d also
+      → Hears all first (Err (of_page f)) (outputs a next c also)
+  so_far-fault new after x key f None now left next also so gives takes wrote told = tt
+  so_far-fault new after x key f (Some sound) None left next also so gives takes wrote told = absurd so.is_left
+  so_far-fault new after x key f (Some sound) (Some here) None next also so gives takes wrote told = absurd gives
+  so_far-fault new after x key f (Some sound) (Some here) (Some left) next also so gives takes wrote told =
+      let taken = takes so.samples so.keys so.received in
+      let samples : sound.samples ≡ (so.samples ++ x ∷ []) ++ left.samples =
+      ap (λ (s : Sound). s.samples) so.is_left
+      ∙ ap (λ (s : Sound). so.samples ++ s.samples) gives
+      ∙ sym (append_assoc so.samples (x ∷ []) left.samples) in
+      let more = keys-begin (so.samples ++ x ∷ []) left.samples in
+      let keys : keys_of_sound sound.samples ≡ (so.keys ++ listed key) ++ more.0 =
+      ap keys_of_sound samples ∙ more.1 ∙ ap (λ ks. ks ++ more.0) (sym taken.given) in (
+        page-fault sound f,
+        record {
+          page_begun = subst (λ ks. AppendsBeginning a next (page_rest first ks)) (sym keys)
+              (has-fault page_rest first page new so.keys (listed key) more.0 f a b next so.page_has wrote);
+          told_begun = subst (λ ks. AppendsBeginning c also (loose_rest first ks)) (sym keys)
+              (has-fault loose_rest first page new so.keys (listed key) more.0 f c d also so.told_has told);
+        },
+      )
+
+  -- the source gives no more because of a fault
+  pub so_far-stop : (f : StreamFault) (all now left : Option Sound) → IsSoFar first page receiver all now (outputs a b c d)
+      → GivesSample now (Err f) left → Hears all first (Err (of_stream f)) (outputs a b c d)
+  so_far-stop f None now left so gives = tt
+  so_far-stop f (Some sound) None left so gives = absurd so.is_left
+  so_far-stop f (Some sound) (Some here) left so gives =
+      let more = keys-begin so.samples here.samples in
+      let keys : keys_of_sound sound.samples ≡ so.keys ++ more.0 =
+      ap (λ (s : Sound). keys_of_sound s.samples) so.is_left ∙ more.1 ∙ ap (λ ks. ks ++ more.0) (sym so.received.given) in (
+        at f gives,
+        record {
+          page_begun = subst (λ ks. AppendsBeginning a b (page_rest first ks)) (sym keys)
+              (has-begun page_rest first page so.keys more.0 a b so.page_has);
+          told_begun = subst (λ ks. AppendsBeginning c d (loose_rest first ks)) (sym keys)
+              (has-begun loose_rest first page so.keys more.0 c d so.told_has);
+        },
+      )
+    where
+      at : (f : StreamFault) → GivesSample (Some here) (Err f) left → IsFaultOf sound (of_stream f)
+      at stream_fault.Read gives = tt
+      at (stream_fault.Cut n) gives =
+          (ap (λ (s : Sound). s.lacking) so.is_left ∙ ap (λ (s : Sound). s.lacking) gives.0, gives.1)
+
+  -- the sound ends, and the rest of its keys was written
+  pub so_far-end : (key : Option Heard) (all now left : Option Sound) (next also : Option (List ℕ))
+      → IsSoFar first page receiver all now (outputs a b c d) → GivesSample now (Ok None) left
+      → ((samples : List ℤ) (keys : List Heard) → HasReceived receiver samples keys
+      → keys ++ listed key ≡ keys_of_sound samples)
+      → Appends b next (page_rest page (listed key)) → Appends d also (loose_rest page (listed key))
+      → Hears all first (Ok tt) (outputs a next c also)
+  so_far-end key None now left next also so gives finishes wrote told = tt
+  so_far-end key (Some sound) None left next also so gives finishes wrote told = absurd so.is_left
+  so_far-end key (Some sound) (Some here) left next also so gives finishes wrote told =
+      let keys = all-keys key sound here left so gives finishes in (
+        ap (λ (s : Sound). s.lacking) so.is_left ∙ ap (λ (s : Sound). s.lacking) gives,
+        record {
+          page_whole = subst (λ ks. Appends a next (page_rest first ks)) keys
+              (has-last page_rest first page so.keys (listed key) a b next so.page_has wrote);
+          told_whole = subst (λ ks. Appends c also (loose_rest first ks)) keys
+              (has-last loose_rest first page so.keys (listed key) c d also so.told_has told);
+        },
+      )
+
+  -- or the beginning of the rest was
+  pub so_far-end-fault : (key : Option Heard) (f : PageFault) (all now left : Option Sound) (next also : Option (List ℕ))
+      → IsSoFar first page receiver all now (outputs a b c d) → GivesSample now (Ok None) left
+      → ((samples : List ℤ) (keys : List Heard) → HasReceived receiver samples keys
+      → keys ++ listed key ≡ keys_of_sound samples)
+      → AppendsBeginning b next (page_rest page (listed key)) → AppendsBeginning d also (loose_rest page (listed key))
+      → Hears all first (Err (of_page f)) (outputs a next c also)
+  so_far-end-fault key f None now left next also so gives finishes wrote told = tt
+  so_far-end-fault key f (Some sound) None left next also so gives finishes wrote told = absurd so.is_left
+  so_far-end-fault key f (Some sound) (Some here) left next also so gives finishes wrote told =
+      let keys = all-keys key sound here left so gives finishes in (
+        page-fault sound f,
+        record {
+          page_begun = subst (λ ks. AppendsBeginning a next (page_rest first ks)) keys
+              (has-last-begun page_rest first page so.keys (listed key) a b next so.page_has wrote);
+          told_begun = subst (λ ks. AppendsBeginning c also (loose_rest first ks)) keys
+              (has-last-begun loose_rest first page so.keys (listed key) c d also so.told_has told);
+        },
+      )

@@ -1,0 +1,73 @@
+use Rattle.std.proofs.Common.{◌≡◌, ◌∙◌, ◌++◌, ◌∷◌, [], List, Option, Result, Err, ap, arith, rules, subst, sym, ℤ, FitsSigned}
+use Rattle.std.specs.Int.{w16}
+use Rattle.std.proofs.lemmas.Int.{to_z-of_z}
+use Rattle.std.proofs.lemmas.Result.{err_from_is_err_and}
+use Rattle.xb_ear.specs.declared.hearing.Heard.{Heard}
+use Rattle.xb_ear.specs.Hearings.{listed}
+use Rattle.xb_ear.specs.Receivers.{HasReceived, Receiving}
+use Rattle.xb_rx.specs.declared.fault.RxFault.{RxFault}
+use Rattle.xb_rx.specs.Hearing.{Hears, outputs}
+use Rattle.xb_rx.specs.Pages.{paged}
+use Rattle.xb_rx.specs.Samples.{IsForm}
+use Rattle.xb_rx.specs.Streams.{sound_left}
+use Rattle.xb_rx.proofs.SoFar.{so_far-end-fault, so_far-fault, so_far-more, so_far-stop}
+use Rattle.xb_rx.proofs.receiving.hear.Goals as goal
+
+-- the sample as it is passed is the sample
+taken : (old new : Receiving) (x y : ℤ) (key : Option Heard) → x ≡ y
+    → ((samples : List ℤ) (keys : List Heard) → HasReceived old samples keys → HasReceived new (samples ++ x ∷ []) (keys ++ listed key))
+    → (samples : List ℤ) (keys : List Heard) → HasReceived old samples keys → HasReceived new (samples ++ y ∷ []) (keys ++ listed key)
+taken old new x y key same takes samples keys has =
+    subst (λ (z : ℤ). HasReceived new (samples ++ z ∷ []) (keys ++ listed key)) same (takes samples keys has)
+
+pub returns-in_err-sample : goal.returns-in_err-sample
+returns-in_err-sample g c =
+    let p = err_from_is_err_and c.from_residual.result c.from_residual.ensures.1 in
+    subst (λ (r : Result (Unit {0}) RxFault). Hears (sound_left g.R.Read.remaining c.args.source.now) (paged c.args.page.now) r
+    (outputs (g.W.Write.contents c.args.out.now) (g.W.Write.contents c.loop-sample.out) (g.E.Write.contents c.args.err.now) (g.E.Write.contents c.loop-sample.err)))
+    (sym (p.1 ∙ ap (λ f. Err f) p.2))
+    (so_far-stop (paged c.args.page.now) (paged c.loop-sample.page) c.loop-sample.receiver (g.W.Write.contents c.args.out.now) (g.W.Write.contents c.loop-sample.out) (g.E.Write.contents c.args.err.now)
+    (g.E.Write.contents c.loop-sample.err) c.in_err-sample.field-0.0
+    (sound_left g.R.Read.remaining c.args.source.now) (sound_left g.R.Read.remaining c.loop-sample.source)
+    (sound_left g.R.Read.remaining c.next_sample.new.self) c.loop-sample.invariant.so_far c.in_err-sample.ensures.sample)
+
+pub loop-sample-preserved : goal.loop-sample-preserved
+loop-sample-preserved g c =
+    let fits : FitsSigned w16 c.in-Some.sample = search rules in
+    let less = rw c.in-Some.is at c.in_ok-sample.ensures.said in record {
+      form = subst IsForm (sym c.in_ok-sample.ensures.form) c.loop-sample.invariant.form;
+      begun = c.in_ok-take.ensures.begun;
+      few = omega (arith, less, c.in_ok-take.ensures.count, c.loop-sample.invariant.few);
+      so_far = so_far-more (paged c.args.page.now) (paged c.loop-sample.page) c.loop-sample.receiver (g.W.Write.contents c.args.out.now) (g.W.Write.contents c.loop-sample.out) (g.E.Write.contents c.args.err.now)
+          (g.E.Write.contents c.loop-sample.err) (paged c.take.new.self) c.take-key.new.self
+          c.in-Some.sample c.take-key.result (sound_left g.R.Read.remaining c.args.source.now) (sound_left g.R.Read.remaining c.loop-sample.source)
+          (sound_left g.R.Read.remaining c.next_sample.new.self) _ _
+          c.loop-sample.invariant.so_far (rw c.in-Some.is at c.in_ok-sample.ensures.sample)
+          (taken c.loop-sample.receiver c.take-key.new.self _ c.in-Some.sample c.take-key.result (to_z-of_z w16 c.in-Some.sample fits) c.take-key.ensures) c.in_ok-take.ensures.page c.in_ok-take.ensures.loose;
+    }
+
+pub returns-in_err-take : goal.returns-in_err-take
+returns-in_err-take g c =
+    let fits : FitsSigned w16 c.in-Some.sample = search rules in
+    let p = err_from_is_err_and c.from_residual-in_err-take.result c.from_residual-in_err-take.ensures.1 in
+    subst (λ (r : Result (Unit {0}) RxFault). Hears (sound_left g.R.Read.remaining c.args.source.now) (paged c.args.page.now) r
+    (outputs (g.W.Write.contents c.args.out.now) (g.W.Write.contents c.take.new.out) (g.E.Write.contents c.args.err.now) (g.E.Write.contents c.take.new.err)))
+    (sym (p.1 ∙ ap (λ f. Err f) p.2))
+    (so_far-fault (paged c.args.page.now) (paged c.loop-sample.page) c.loop-sample.receiver (g.W.Write.contents c.args.out.now) (g.W.Write.contents c.loop-sample.out) (g.E.Write.contents c.args.err.now)
+    (g.E.Write.contents c.loop-sample.err) (paged c.take.new.self) c.take-key.new.self
+    c.in-Some.sample c.take-key.result c.in_err-take.field-0.0 (sound_left g.R.Read.remaining c.args.source.now) (sound_left g.R.Read.remaining c.loop-sample.source)
+    (sound_left g.R.Read.remaining c.next_sample.new.self) _ _
+    c.loop-sample.invariant.so_far (rw c.in-Some.is at c.in_ok-sample.ensures.sample)
+    (taken c.loop-sample.receiver c.take-key.new.self _ c.in-Some.sample c.take-key.result (to_z-of_z w16 c.in-Some.sample fits) c.take-key.ensures) c.in_err-take.ensures.page c.in_err-take.ensures.loose)
+
+pub returns-in_err-end : goal.returns-in_err-end
+returns-in_err-end g c =
+    let p = err_from_is_err_and c.from_residual-in_err-end.result c.from_residual-in_err-end.ensures.1 in
+    subst (λ (r : Result (Unit {0}) RxFault). Hears (sound_left g.R.Read.remaining c.args.source.now) (paged c.args.page.now) r
+    (outputs (g.W.Write.contents c.args.out.now) (g.W.Write.contents c.end.new.out) (g.E.Write.contents c.args.err.now) (g.E.Write.contents c.end.new.err)))
+    (sym (p.1 ∙ ap (λ f. Err f) p.2))
+    (so_far-end-fault (paged c.args.page.now) (paged c.loop-sample.page) c.loop-sample.receiver (g.W.Write.contents c.args.out.now) (g.W.Write.contents c.loop-sample.out) (g.E.Write.contents c.args.err.now)
+    (g.E.Write.contents c.loop-sample.err) c.finish-last.result c.in_err-end.field-0.0
+    (sound_left g.R.Read.remaining c.args.source.now) (sound_left g.R.Read.remaining c.loop-sample.source)
+    (sound_left g.R.Read.remaining c.next_sample.new.self) _ _ c.loop-sample.invariant.so_far (rw c.in_default.is at c.in_ok-sample.ensures.sample)
+    c.finish-last.ensures c.in_err-end.ensures.page c.in_err-end.ensures.loose)

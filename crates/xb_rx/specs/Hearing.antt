@@ -1,0 +1,94 @@
+-- What is written of a sound.
+use Rattle.std.specs.Prelude.{ℕ, ◌≡◌, ◌⊎◌, ◌<◌, ◌++◌, List, [], Bool, false, Option, Some, None, IfSome, Result, Ok, Err}
+use Rattle.std.specs.Io.KnownBytes.{Appends, Keeps}
+use Rattle.xb_text.specs.Writing.{AppendsBeginning}
+use Rattle.xb_ear.specs.Receivers.{keys_of_sound}
+use Rattle.xb_rx.specs.declared.fault.RxFault.{RxFault}
+use Rattle.xb_rx.specs.declared.fault.RxFault.TheVariants as fault
+use Rattle.xb_rx.specs.declared.request.Input.{Input}
+use Rattle.xb_rx.specs.declared.request.Input.TheVariants as input
+use Rattle.xb_rx.specs.declared.request.Request.{Request}
+use Rattle.xb_rx.specs.declared.wav_start.Start.{Start}
+use Rattle.xb_rx.specs.declared.wav_start.WavFault.{WavFault}
+use Rattle.xb_rx.specs.declared.wav_start.TheConstants.{UNKNOWN_SAMPLES}
+use Rattle.xb_rx.specs.Pages.{Paged, loose_rest, loose_text, page_of, page_rest}
+use Rattle.xb_rx.specs.Samples.{IsForm, Sound, sound_of}
+use Rattle.xb_rx.specs.Starts.{start_of_file}
+
+-- what the output and the stream of errors had, and have
+pub record Outputs : Type 0 where
+  pub page_old : Option (List ℕ)
+  pub page_new : Option (List ℕ)
+  pub told_old : Option (List ℕ)
+  pub told_new : Option (List ℕ)
+
+abbrev pub outputs : Option (List ℕ) → Option (List ℕ) → Option (List ℕ) → Option (List ℕ) → Outputs
+outputs page_old page_new told_old told_new =
+    record { page_old = page_old; page_new = page_new; told_old = told_old; told_new = told_new }
+
+-- exactly these texts were written, or the beginning of each
+pub record Wrote (outs : Outputs) (page told : List ℕ) : Type 0 where
+  pub page_whole : Appends outs.page_old outs.page_new page
+  pub told_whole : Appends outs.told_old outs.told_new told
+
+pub record Began (outs : Outputs) (page told : List ℕ) : Type 0 where
+  pub page_begun : AppendsBeginning outs.page_old outs.page_new page
+  pub told_begun : AppendsBeginning outs.told_old outs.told_new told
+
+-- what a fault says of the sound: where samples are missing, so many were to come after it
+abbrev pub IsFaultOf : Sound → RxFault → Type 0
+IsFaultOf sound (fault.Cut n) = (sound.lacking ≡ n) × (0 < n)
+IsFaultOf sound (fault.Wav f) = ⊥
+IsFaultOf sound f = Unit {0}
+
+-- what was written of a sound that is known: the page of its keys, and a line for each that stands in no keying
+abbrev pub Hears : Option Sound → Paged → Result (Unit {0}) RxFault → Outputs → Type 0
+Hears None page result outs = Unit {0}
+Hears (Some sound) page (Ok u) outs =
+    (sound.lacking ≡ 0)
+    × Wrote outs (page_rest page (keys_of_sound sound.samples)) (loose_rest page (keys_of_sound sound.samples))
+Hears (Some sound) page (Err f) outs =
+    IsFaultOf sound f
+    × Began outs (page_rest page (keys_of_sound sound.samples)) (loose_rest page (keys_of_sound sound.samples))
+
+-- samples alone are written in some form
+abbrev pub HasForm : Input → Type 0
+HasForm input.Wav = Unit {0}
+HasForm (input.Raw form) = IsForm form
+
+-- what the samples of bytes begin with
+abbrev pub start_by : Input → List ℕ → Result (Start × List ℕ) WavFault
+start_by input.Wav bytes = start_of_file bytes
+start_by (input.Raw form) bytes =
+    Ok (record { form = form; samples = UNKNOWN_SAMPLES; counted = false }, bytes)
+
+-- the sound that bytes say
+abbrev pub sound_after : Result (Start × List ℕ) WavFault → Result Sound WavFault
+sound_after (Err f) = Err f
+sound_after (Ok (start, rest)) = Ok (sound_of start.form start.samples start.counted rest)
+
+abbrev pub sound_by : Input → List ℕ → Result Sound WavFault
+sound_by how bytes = sound_after (start_by how bytes)
+
+-- what was written of a sound: the page of its keys, by the line and the trunk group that are asked for
+abbrev pub HearsSound : Request → Sound → Result (Unit {0}) RxFault → Outputs → Type 0
+HearsSound request sound (Ok u) outs =
+    (sound.lacking ≡ 0)
+    × Wrote outs (page_of request.line request.trunk (keys_of_sound sound.samples)) (loose_text (keys_of_sound sound.samples))
+HearsSound request sound (Err f) outs =
+    IsFaultOf sound f
+    × Began outs (page_of request.line request.trunk (keys_of_sound sound.samples)) (loose_text (keys_of_sound sound.samples))
+
+pub record WroteNothing (outs : Outputs) : Type 0 where
+  pub page_kept : Keeps outs.page_old outs.page_new
+  pub told_kept : Keeps outs.told_old outs.told_new
+
+-- what is returned for bytes, and what was written of them: where they are no WAV, or were not read so far,
+-- nothing
+abbrev pub Delivers : Request → Option (List ℕ) → Result (Unit {0}) RxFault → Outputs → Type 0
+Delivers request None result outs = Unit {0}
+Delivers request (Some bytes) (Err (fault.Wav f)) outs = (sound_by request.input bytes ≡ Err f) × WroteNothing outs
+Delivers request (Some bytes) (Err fault.Read) outs = WroteNothing outs
+    ⊎ ((sound : Sound) × (sound_by request.input bytes ≡ Ok sound) × HearsSound request sound (Err fault.Read) outs)
+Delivers request (Some bytes) result outs =
+    (sound : Sound) × (sound_by request.input bytes ≡ Ok sound) × HearsSound request sound result outs

@@ -1,0 +1,72 @@
+-- The keyings among keys that are heard, and the keys that stand in none.
+use Rattle.std.specs.Prelude.{ℕ, zero, suc, List, [], ◌∷◌, length, Bool, if◌then◌else◌, Option, Some, None, option_and_then, option_map}
+use Rattle.std.specs.List.{flat_map, position}
+use Rattle.xb_model.specs.declared.key.Key.TheVariants.{Kp, St}
+use Rattle.xb_model.specs.declared.key.Tone.{Tone as Pair}
+use Rattle.xb_model.specs.MfPairs.{mf_pair, pair}
+use Rattle.xb_ear.specs.declared.hearing.Heard.{Heard}
+use Rattle.xb_ear.specs.Hearings.{is_same_pair}
+use Rattle.xb_rx.specs.declared.keys.TheConstants.{MOST_DIGITS}
+
+abbrev pub is_kp : Heard → Bool
+is_kp key = is_same_pair key.sight.pair (mf_pair Kp)
+
+abbrev pub is_st : Heard → Bool
+is_st key = is_same_pair key.sight.pair (mf_pair St)
+
+-- the pairs of the digits, from 0 on
+abbrev pub digit_pairs : List Pair
+digit_pairs =
+    pair 1300 1500 ∷ pair 700 900 ∷ pair 700 1100 ∷ pair 900 1100 ∷ pair 700 1300 ∷ pair 900 1300 ∷ pair 1100 1300
+    ∷ pair 700 1500 ∷ pair 900 1500 ∷ pair 1100 1500 ∷ []
+
+-- the digit that a pair stands for
+abbrev pub digit_of_pair : Pair → Option ℕ
+digit_of_pair p = position (λ q. is_same_pair q p) digit_pairs
+
+abbrev pub digit_of : Heard → Option ℕ
+digit_of key = digit_of_pair key.sight.pair
+
+abbrev pub before_digits : Option ℕ → Option (List ℕ) → Option (List ℕ)
+before_digits digit digits = option_and_then (λ d. option_map (λ ds. d ∷ ds) digits) digit
+
+-- the digits that keys begin with, at most n, where an ST comes after them
+unfoldable pub digits_to_st : ℕ → List Heard → Option (List ℕ)
+digits_to_st n [] = None
+digits_to_st zero (key ∷ keys) = if is_st key then Some [] else None
+digits_to_st (suc n) (key ∷ keys) =
+    if is_st key then Some [] else before_digits (digit_of key) (digits_to_st n keys)
+
+-- a keying is a KP, digits, and an ST
+abbrev pub keying_at : Heard → List Heard → Option (List ℕ)
+keying_at key keys = if is_kp key then digits_to_st MOST_DIGITS keys else None
+
+abbrev pub one_more : Option (List ℕ) → List (List ℕ) → List (List ℕ)
+one_more None keyings = keyings
+one_more (Some digits) keyings = digits ∷ keyings
+
+-- the digits of each keying, in order
+unfoldable pub keyings : List Heard → List (List ℕ)
+keyings [] = []
+keyings (key ∷ keys) = one_more (keying_at key keys) (keyings keys)
+
+abbrev pub loose_by : Option (List ℕ) → Heard → (ℕ → List Heard) → List Heard
+loose_by None key next = key ∷ next 0
+loose_by (Some digits) key next = next (suc (length digits))
+
+-- the keys that stand in no keying, after n that stand in one
+unfoldable pub loose_after : ℕ → List Heard → List Heard
+loose_after n [] = []
+loose_after zero (key ∷ keys) = loose_by (keying_at key keys) key (λ n. loose_after n keys)
+loose_after (suc n) (key ∷ keys) = loose_after n keys
+
+abbrev pub loose_keys : List Heard → List Heard
+loose_keys keys = loose_after 0 keys
+
+-- the digits of keys
+abbrev pub listed_digit : Option ℕ → List ℕ
+listed_digit None = []
+listed_digit (Some d) = d ∷ []
+
+abbrev pub digits_in : List Heard → List ℕ
+digits_in keys = flat_map (λ key. listed_digit (digit_of key)) keys

@@ -1,0 +1,12 @@
+pub mod Samples
+pub mod Streams
+pub mod Starts
+pub mod Faults
+pub mod Keyings
+pub mod Begun
+pub mod Pages
+pub mod Hearing
+pub mod Rules
+pub mod Options
+pub mod Program
+pub mod PagedKeys

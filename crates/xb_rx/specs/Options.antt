@@ -1,0 +1,58 @@
+-- What the words of the command line ask for, as clap reads them.
+use Rattle.std.specs.Prelude.{ℕ, ◌||◌, List, Bool, true, false, if◌then◌else◌, Option, Some, None, codes, is_some, nat_lt, option_and_then, option_map, unwrap_or}
+use Rattle.clap.specs.Walk.{Row, Text}
+use Rattle.xb_command.specs.Given.{AskForNothing, AsksFor, ReadsFlag, ReadsNumber, given_by}
+use Rattle.xb_model.specs.declared.line.TheConstants.{LINES}
+use Rattle.xb_model.specs.declared.trunk.TheConstants.{TRUNKS}
+use Rattle.xb_rx.specs.declared.coding.Coding.{Coding}
+use Rattle.xb_rx.specs.declared.coding.Coding.TheVariants as coding
+use Rattle.xb_rx.specs.declared.request.Input.{Input}
+use Rattle.xb_rx.specs.declared.request.Input.TheVariants as input
+use Rattle.xb_rx.specs.declared.request.Request.{Request}
+use Rattle.xb_rx.specs.declared.words.Options.{Options}
+use Rattle.xb_rx.specs.Rules.{command_of_words}
+use Rattle.xb_rx.specs.Starts.{form_with, frames_of}
+
+-- what clap matched says these options
+pub record Say (rows : List Row) (options : Options) : Type 0 where
+  pub line : ReadsNumber (given_by rows (codes "line")) options.line
+  pub trunk : ReadsNumber (given_by rows (codes "trunk")) options.trunk
+  pub raw : ReadsFlag (given_by rows (codes "raw")) options.raw
+  pub rate : ReadsNumber (given_by rows (codes "rate")) options.rate
+  pub ulaw : ReadsFlag (given_by rows (codes "ulaw")) options.ulaw
+
+-- a number below this, or 0 where none is given
+abbrev pub below : ℕ → Option ℕ → Option ℕ
+below most given = if nat_lt (unwrap_or given 0) most then Some (unwrap_or given 0) else None
+
+abbrev pub line_of : Option ℕ → Option ℕ
+line_of given = below LINES given
+
+abbrev pub trunk_of : Option ℕ → Option ℕ
+trunk_of given = below TRUNKS given
+
+abbrev pub raw_coding : Bool → Coding
+raw_coding ulaw = if ulaw then coding.MuLaw else coding.Signed16
+
+-- samples alone are of one channel, 8,000 a second where nothing else is said; of a WAV file nothing is said
+abbrev pub input_of : Options → Option Input
+input_of options =
+    if options.raw
+    then option_map (λ frames. input.Raw (form_with (raw_coding options.ulaw) 1 frames))
+    (frames_of (unwrap_or options.rate 8000))
+    else (if is_some options.rate || options.ulaw then None else Some input.Wav)
+
+-- what the options ask for
+abbrev pub request_of : Options → Option Request
+request_of options =
+    option_and_then (λ line. option_and_then (λ trunk.
+    option_map (λ how. record { line = line; trunk = trunk; input = how }) (input_of options))
+    (trunk_of options.trunk)) (line_of options.line)
+
+-- clap takes the words, and they ask for this
+abbrev pub Asks : List Text → Request → Type 0
+Asks words request = AsksFor command_of_words Say request_of words request
+
+-- clap refuses the words, or they ask for what there is not
+abbrev pub AreRefused : List Text → Type 0
+AreRefused words = AskForNothing command_of_words Say request_of words

@@ -1,0 +1,326 @@
+// The page of keys, as they end.
+ghost use Rattle.std.specs.Prelude.{◌≡◌, [], ◌∷◌, ◌++◌, IfOk, OnOk, drop, map, string_bytes};
+ghost use Rattle.xb_model.specs.declared.key.Key.TheVariants.{Digit};
+ghost use Rattle.xb_model.specs.Keyings.{tone};
+ghost use Rattle.xb_model.specs.Page.{totals_text};
+ghost use Rattle.xb_rx.specs.Keyings.{digits_in};
+ghost use Rattle.xb_rx.specs.Pages.{loose_lines};
+
+use crate::keys::{MOST_DIGITS, digit_of, is_kp, is_st, write_loose};
+use std::alloc::{AllocError, Global};
+use std::io::Write;
+use xb_ear::Heard;
+use xb_model::{Key, LineNo, Mark, Trunk, mf};
+use xb_tape::{write_entry, write_totals};
+use xb_text::write_whole;
+
+// Why a page is not written.
+#[derive(Clone, Copy, Debug, PartialEq, Eq)]
+pub(crate) enum PageFault {
+    // Memory ran out.
+    NoMemory,
+    // The page could not be written.
+    Write,
+    // A key that stands in no keying could not be told of.
+    Tell,
+}
+
+impl From<AllocError> for PageFault {
+    ghost use Rattle.std.specs.Prelude.{◌≡◌};
+    ghost use Rattle.xb_rx.specs.declared.page.PageFault.TheVariants.{NoMemory};
+
+    ghost from_gives = { λ _ e. e ≡ NoMemory };
+
+    fn from(_error: AllocError) -> PageFault {
+        PageFault::NoMemory
+    }
+}
+
+/// A page that is written as keys end: of each keying its entry, and a line of errors for each key that stands in
+/// none. It holds the keys of one keying, up to `MOST_DIGITS` digits.
+#[derive(Drop)]
+pub(crate) struct Page {
+    pub(crate) line: LineNo,
+    pub(crate) trunk: Trunk,
+    // how many entries were written
+    pub(crate) count: usize,
+    // the keys of a keying that goes on
+    pub(crate) begun: Vec<Heard>,
+}
+
+// What is done with a key.
+#[derive(Clone, Copy, Debug, PartialEq, Eq)]
+enum Step {
+    // A keying begins with it, or goes on.
+    Keeps,
+    // It completes the keying.
+    Completes,
+    // The keys so far stand in no keying.
+    BreaksOff,
+}
+
+// Puts the mark of a key after the marks.
+fn push_key(marks: &mut Vec<Mark>, key: &Key) -> Result<(), AllocError>
+    ensures { OnOk result (marks.new.items ≡ marks.old.items ++ tone key.now ∷ []) }
+{
+    let pair = mf(*key);
+    marks.push(Mark::Tone(*key, pair))?;
+    Ok(())
+}
+
+// The keys after the first.
+fn after_first(keys: &[Heard]) -> &[Heard]
+    ensures { result.now ≡ drop 1 keys.now }
+{
+    match keys.split_first() {
+        Some((_, later)) => later,
+        None => keys,
+    }
+}
+
+// Puts the marks of the digits among keys after the marks.
+fn push_digits(marks: &mut Vec<Mark>, keys: &[Heard]) -> Result<(), AllocError>
+    ensures { OnOk result (marks.new.items ≡ marks.old.items
+        ++ map (λ d. tone (Digit d)) (digits_in keys.now)) }
+{
+    for key in keys {
+        if let Some(digit) = digit_of(key.sight.pair) {
+            push_key(marks, &Key::Digit(digit))?;
+        }
+    }
+    Ok(())
+}
+
+// The lines of keys that stand in no keying.
+fn loose_lines(alloc: Global, keys: &[Heard]) -> Result<String, AllocError>
+    ensures { IfOk result (λ text. string_bytes text ≡ loose_lines keys.now) }
+{
+    let mut text = String::new(alloc);
+    for key in keys {
+        write_loose(&mut text, *key)?;
+    }
+    Ok(text)
+}
+
+// The totals of so many entries.
+fn totals(alloc: Global, count: usize) -> Result<String, AllocError>
+    ensures { IfOk result (λ text. string_bytes text ≡ totals_text count 0) }
+{
+    let mut text = String::new(alloc);
+    write_totals(&mut text, count as u128, 0)?;
+    Ok(text)
+}
+
+impl Page {
+    ghost use Rattle.std.specs.Prelude.{◌≡◌, ◌≤◌, ◌<◌, ◌+◌, ◌^◌, ◌∷◌, [], ◌++◌, IfErr, IfOk, OnErr, OnOk, List, drop, string_bytes};
+    ghost use Rattle.std.specs.Io.KnownBytes.{Appends};
+    ghost use Rattle.xb_ear.specs.Hearings.{listed};
+    ghost use Rattle.xb_model.specs.Keyings.{keying};
+    ghost use Rattle.xb_model.specs.Page.{entry_text};
+    ghost use Rattle.xb_text.specs.Writing.{AppendsBeginning};
+    ghost use Rattle.xb_rx.specs.Keyings.{digits_in};
+    ghost use Rattle.xb_rx.specs.Begun.{IsBegun, broken, kept_after, step_of};
+    ghost use Rattle.xb_rx.specs.Pages.{Ends, Writes, fresh_page, loose_lines, loose_rest, page_rest, paged};
+
+    /// A page on which nothing stands.
+    pub(crate) fn new(alloc: Global, line: LineNo, trunk: Trunk) -> Page
+        ensures { paged result ≡ fresh_page line trunk }
+    {
+        Page {
+            line,
+            trunk,
+            count: 0,
+            begun: Vec::new(alloc),
+        }
+    }
+
+    // What is done with a key.
+    fn step_of(&self, key: Heard) -> Step
+        ensures { result ≡ step_of self.now.begun.items key }
+    {
+        if self.begun.is_empty() {
+            if is_kp(key) {
+                return Step::Keeps;
+            }
+            return Step::BreaksOff;
+        }
+        if is_st(key) {
+            return Step::Completes;
+        }
+        if self.begun.len() <= MOST_DIGITS && digit_of(key.sight.pair).is_some() {
+            Step::Keeps
+        } else {
+            Step::BreaksOff
+        }
+    }
+
+    // Keeps a key of the keying.
+    fn keep(&mut self, key: Heard) -> Result<(), PageFault>
+        ensures kept { OnOk result (paged self.new ≡ record (paged self.old) { begun = self.old.begun.items ++ key ∷ [] }) }
+        ensures same { OnErr result (paged self.new ≡ paged self.old) }
+    {
+        match self.begun.push(key) {
+            Ok(()) => Ok(()),
+            Err(_) => Err(PageFault::NoMemory),
+        }
+    }
+
+    // The entry of the keying that goes on.
+    fn entry(&self, alloc: Global) -> Result<String, AllocError>
+        requires { self.now.count + 1 < 2 ^ 64 }
+        ensures { IfOk result (λ text. string_bytes text ≡ entry_text self.now.line (self.now.count + 1)
+            (keying self.now.trunk (digits_in (drop 1 self.now.begun.items)))) }
+    {
+        let mut marks = Vec::new(alloc);
+        marks.push(Mark::Trunk(self.trunk))?;
+        push_key(&mut marks, &Key::Kp)?;
+        push_digits(&mut marks, after_first(&self.begun))?;
+        push_key(&mut marks, &Key::St)?;
+        let mut text = String::new(alloc);
+        write_entry(&mut text, self.line, self.count + 1, &marks)?;
+        Ok(text)
+    }
+
+    // Writes the entry of the keying that goes on, which is complete.
+    fn complete<W: Write>(&mut self, alloc: Global, out: &mut W) -> Result<(), PageFault>
+        requires { self.old.count + 1 < 2 ^ 64 }
+        ensures whole { OnOk result (Appends (W.contents out.old) (W.contents out.new)
+            (entry_text self.old.line (self.old.count + 1) (keying self.old.trunk (digits_in (drop 1 self.old.begun.items))))) }
+        ensures beginning { IfErr result (λ _. AppendsBeginning (W.contents out.old) (W.contents out.new)
+            (entry_text self.old.line (self.old.count + 1) (keying self.old.trunk (digits_in (drop 1 self.old.begun.items))))) }
+        ensures after { OnOk result (paged self.new ≡ record (paged self.old) { count = self.old.count + 1; begun = [] }) }
+        ensures same { OnErr result (self.new.count ≡ self.old.count) }
+    {
+        let text = self.entry(alloc)?;
+        if write_whole(out, text.as_bytes()).is_err() {
+            return Err(PageFault::Write);
+        }
+        self.count += 1;
+        self.begun.clear();
+        Ok(())
+    }
+
+    // The lines of the keys that stand in no keying, since this key comes after them.
+    fn broken(&self, alloc: Global, key: Heard) -> Result<String, AllocError>
+        ensures { IfOk result (λ text. string_bytes text ≡ loose_lines (broken self.now.begun.items key)) }
+    {
+        let mut text = loose_lines(alloc, &self.begun)?;
+        if !is_kp(key) {
+            write_loose(&mut text, key)?;
+        }
+        Ok(text)
+    }
+
+    // Tells of the keys that stand in no keying, since this key comes after them, and keeps it if it is a KP.
+    fn break_off<E: Write>(
+        &mut self,
+        alloc: Global,
+        key: Heard,
+        err: &mut E,
+    ) -> Result<(), PageFault>
+        ensures whole { OnOk result (Appends (E.contents err.old) (E.contents err.new)
+            (loose_lines (broken self.old.begun.items key))) }
+        ensures beginning { IfErr result (λ _. AppendsBeginning (E.contents err.old) (E.contents err.new)
+            (loose_lines (broken self.old.begun.items key))) }
+        ensures after { OnOk result (paged self.new ≡ record (paged self.old) { begun = kept_after key }) }
+        ensures count { self.new.count ≡ self.old.count }
+    {
+        let text = self.broken(alloc, key)?;
+        if write_whole(err, text.as_bytes()).is_err() {
+            return Err(PageFault::Tell);
+        }
+        self.begun.clear();
+        if is_kp(key) {
+            return self.keep(key);
+        }
+        Ok(())
+    }
+
+    // Takes a key.
+    fn take_key<W: Write, E: Write>(
+        &mut self,
+        alloc: Global,
+        key: Heard,
+        out: &mut W,
+        err: &mut E,
+    ) -> Result<(), PageFault>
+        requires begun { IsBegun self.old.begun.items }
+        requires count { self.old.count + 1 < 2 ^ 64 }
+        ensures page { Writes (λ later. page_rest (paged self.old) (key ∷ later)) (page_rest (paged self.new)) result
+            (W.contents out.old) (W.contents out.new) }
+        ensures loose { Writes (λ later. loose_rest (paged self.old) (key ∷ later)) (loose_rest (paged self.new)) result
+            (E.contents err.old) (E.contents err.new) }
+        ensures count { self.new.count ≤ self.old.count + 1 }
+        ensures begun { OnOk result (IsBegun self.new.begun.items) }
+    {
+        match self.step_of(key) {
+            Step::Keeps => { self.keep(key) }
+            Step::Completes => self.complete(alloc, out),
+            Step::BreaksOff => self.break_off(alloc, key, err),
+        }
+    }
+
+    /// Takes the key that ended, if one did: writes the entry that it completes, and tells of the keys that stand in
+    /// no keying because of it. On an `Err` the beginning of this was written.
+    pub(crate) fn take<W: Write, E: Write>(
+        &mut self,
+        alloc: Global,
+        key: Option<Heard>,
+        out: &mut W,
+        err: &mut E,
+    ) -> Result<(), PageFault>
+        requires begun { IsBegun self.old.begun.items }
+        requires count { self.old.count + 1 < 2 ^ 64 }
+        ensures page { Writes (λ later. page_rest (paged self.old) (listed key ++ later)) (page_rest (paged self.new)) result
+            (W.contents out.old) (W.contents out.new) }
+        ensures loose { Writes (λ later. loose_rest (paged self.old) (listed key ++ later)) (loose_rest (paged self.new)) result
+            (E.contents err.old) (E.contents err.new) }
+        ensures count { self.new.count ≤ self.old.count + 1 }
+        ensures begun { OnOk result (IsBegun self.new.begun.items) }
+    {
+        match key {
+            Some(key) => self.take_key(alloc, key, out, err),
+            None => Ok(()),
+        }
+    }
+
+    /// Tells of the keys of a keying that goes on, since no key comes after them, and writes the totals. On an `Err` the
+    /// beginning of this was written.
+    pub(crate) fn close<W: Write, E: Write>(
+        &self,
+        alloc: Global,
+        out: &mut W,
+        err: &mut E,
+    ) -> Result<(), PageFault>
+        requires { IsBegun self.now.begun.items }
+        ensures page { Ends (page_rest (paged self.now) []) result (W.contents out.old) (W.contents out.new) }
+        ensures loose { Ends (loose_rest (paged self.now) []) result (E.contents err.old) (E.contents err.new) }
+    {
+        let text = loose_lines(alloc, &self.begun)?;
+        let totals = totals(alloc, self.count)?;
+        if write_whole(err, text.as_bytes()).is_err() {
+            return Err(PageFault::Tell);
+        }
+        if write_whole(out, totals.as_bytes()).is_err() {
+            return Err(PageFault::Write);
+        }
+        Ok(())
+    }
+
+    /// Takes the key that sounds at the end, if one does, and closes the page.
+    pub(crate) fn end<W: Write, E: Write>(
+        &mut self,
+        alloc: Global,
+        key: Option<Heard>,
+        out: &mut W,
+        err: &mut E,
+    ) -> Result<(), PageFault>
+        requires begun { IsBegun self.old.begun.items }
+        requires count { self.old.count + 1 < 2 ^ 64 }
+        ensures page { Ends (page_rest (paged self.old) (listed key)) result (W.contents out.old) (W.contents out.new) }
+        ensures loose { Ends (loose_rest (paged self.old) (listed key)) result (E.contents err.old) (E.contents err.new) }
+    {
+        self.take(alloc, key, out, err)?;
+        self.close(alloc, out, err)
+    }
+}

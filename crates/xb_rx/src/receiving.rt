@@ -1,0 +1,90 @@
+// From a sound to the page of its keys.
+ghost use Rattle.std.specs.Prelude.{◌≡◌, ◌≤◌, IfOk};
+ghost use Rattle.xb_rx.specs.Begun.{IsBegun};
+ghost use Rattle.xb_rx.specs.Pages.{paged};
+ghost use Rattle.xb_rx.specs.Hearing.{Delivers, HasForm, Hears, outputs, start_by};
+ghost use Rattle.xb_rx.specs.Samples.{IsForm};
+ghost use Rattle.xb_rx.specs.Starts.{Opens};
+ghost use Rattle.xb_rx.specs.Streams.{sound_left};
+ghost use Rattle.xb_rx.specs.declared.wav_start.TheConstants.{UNKNOWN_SAMPLES};
+
+use crate::fault::RxFault;
+use crate::page::Page;
+use crate::request::{Input, Request};
+use crate::source::Source;
+use crate::wav_start::{OpenFault, Start, UNKNOWN_SAMPLES, open_wav};
+use std::alloc::Global;
+use std::io::{Read, Write};
+use xb_ear::Receiver;
+
+// Takes the samples of a source to their end.
+fn hear<R: Read, W: Write, E: Write>(
+    alloc: Global,
+    source: &mut Source<R>,
+    page: &mut Page,
+    out: &mut W,
+    err: &mut E,
+) -> Result<(), RxFault>
+    requires form { IsForm source.old.form }
+    requires said { source.old.said ≤ UNKNOWN_SAMPLES }
+    requires none { page.old.count ≡ 0 }
+    requires begun { IsBegun page.old.begun.items }
+    ensures { Hears (sound_left R.remaining source.old) (paged page.old) result
+        (outputs (W.contents out.old) (W.contents out.new) (E.contents err.old) (E.contents err.new)) }
+{
+    let mut receiver = Receiver::new();
+    while let Some(sample) = source.next_sample()? {
+        let key = receiver.take(sample);
+        page.take(alloc, key, out, err)?;
+    }
+    let last = receiver.finish();
+    page.end(alloc, last, out, err)?;
+    Ok(())
+}
+
+// What the samples begin with.
+fn start_of<R: Read>(input: Input, reader: &mut R) -> Result<Start, OpenFault>
+    requires { HasForm input }
+    ensures form { IfOk result (λ start. IsForm start.form) }
+    ensures most { IfOk result (λ start. start.samples ≤ UNKNOWN_SAMPLES) }
+    ensures bytes { Opens (R.remaining reader.old) (start_by input) result (R.remaining reader.new) }
+{
+    match input {
+        Input::Wav => open_wav(reader),
+        Input::Raw(form) => Ok(Start {
+            form,
+            samples: UNKNOWN_SAMPLES,
+            counted: false,
+        }),
+    }
+}
+
+/// Hears a sound, and writes the page of its keyings: an entry of the line for each, from KP to ST, as it ends, and
+/// the totals. A key that stands in no keying is told of by a line to `err`. Memory does not grow with the sound,
+/// which is read a few bytes at a time: hand it a reader with a buffer.
+///
+/// On an `Err` the beginning of this was written.
+///
+/// What the contract says of bytes it says of readers whose bytes and writers whose contents are known to contracts
+/// (byte slices, lists), which those of a process are not.
+pub fn receive<R: Read, W: Write, E: Write>(
+    alloc: Global,
+    request: Request,
+    sound: &mut R,
+    out: &mut W,
+    err: &mut E,
+) -> Result<(), RxFault>
+    requires { HasForm request.input }
+    ensures { Delivers request (R.remaining sound.old) result
+        (outputs (W.contents out.old) (W.contents out.new) (E.contents err.old) (E.contents err.new)) }
+{
+    let start = start_of(request.input, sound)?;
+    let mut page = Page::new(alloc, request.line, request.trunk);
+    let mut source = Source {
+        reader: sound,
+        form: start.form,
+        said: start.samples,
+        counted: start.counted,
+    };
+    hear(alloc, &mut source, &mut page, out, err)
+}

@@ -1,0 +1,120 @@
+// What the words of the command line ask for.
+ghost use Rattle.std.specs.Prelude.{◌≡◌, IfErr, IfOk, IfSome};
+ghost use Rattle.xb_command.specs.Commands.{texts_of};
+ghost use Rattle.xb_rx.specs.Hearing.{HasForm};
+ghost use Rattle.xb_rx.specs.Options.{AreRefused, Asks, Say, input_of, line_of, raw_coding, request_of, trunk_of};
+
+use crate::coding::{Coding, Form};
+use crate::program::PROGRAM;
+use crate::request::{Input, Request};
+use crate::wav_start::frames_of;
+use std::alloc::Global;
+use xb_command::{Takes, Words, WordsFault, read_words};
+use xb_model::{LINES, LineNo, TRUNKS, Trunk};
+
+// What the options of the command line say.
+#[derive(Clone, Copy)]
+pub(crate) struct Options {
+    pub(crate) line: Option<u32>,
+    pub(crate) trunk: Option<u32>,
+    pub(crate) raw: bool,
+    pub(crate) rate: Option<u32>,
+    pub(crate) ulaw: bool,
+}
+
+// The options of the program, each under its name.
+const OPTIONS: [(&str, Takes); 5] = [
+    ("line", Takes::Number),
+    ("trunk", Takes::Number),
+    ("raw", Takes::Nothing),
+    ("rate", Takes::Number),
+    ("ulaw", Takes::Nothing),
+];
+
+// What the words say.
+fn options_of(words: &Words) -> Options
+    ensures { Say words.now result }
+{
+    Options {
+        line: words.number("line"),
+        trunk: words.number("trunk"),
+        raw: words.flag("raw"),
+        rate: words.number("rate"),
+        ulaw: words.flag("ulaw"),
+    }
+}
+
+// The line that is given, or line 0; `None` where there is no such line.
+fn line_of(given: Option<u32>) -> Option<LineNo>
+    ensures { result ≡ line_of given }
+{
+    let line = given.unwrap_or(0);
+    if line < u32::from(LINES) {
+        LineNo::new(line as u16)
+    } else {
+        None
+    }
+}
+
+// The trunk group that is given, or group 0; `None` where there is no such group.
+fn trunk_of(given: Option<u32>) -> Option<Trunk>
+    ensures { result ≡ trunk_of given }
+{
+    let trunk = given.unwrap_or(0);
+    if trunk < u32::from(TRUNKS) {
+        Trunk::new(trunk as u16)
+    } else {
+        None
+    }
+}
+
+// How samples alone are written.
+fn coding_of(ulaw: bool) -> Coding
+    ensures { result ≡ raw_coding ulaw }
+{
+    if ulaw {
+        Coding::MuLaw
+    } else {
+        Coding::Signed16
+    }
+}
+
+// How the sound is given; `None` where the rate or mu-law is said of a WAV file, or the rate is no multiple of 8,000.
+fn input_of(options: Options) -> Option<Input>
+    ensures value { result ≡ input_of options }
+    ensures form { IfSome result HasForm }
+{
+    if options.raw {
+        let frames = frames_of(options.rate.unwrap_or(8_000))?;
+        Some(Input::Raw(Form {
+            coding: coding_of(options.ulaw),
+            channels: 1,
+            frames,
+        }))
+    } else if options.rate.is_some() || options.ulaw {
+        None
+    } else {
+        Some(Input::Wav)
+    }
+}
+
+// What the options ask for.
+fn request_of(options: Options) -> Option<Request>
+    ensures value { result ≡ request_of options }
+    ensures form { IfSome result (λ request. HasForm request.input) }
+{
+    let line = line_of(options.line)?;
+    let trunk = trunk_of(options.trunk)?;
+    let input = input_of(options)?;
+    Some(Request { line, trunk, input })
+}
+
+/// What the words ask for: the page of a line, by a trunk group, of a WAV file or of samples alone.
+pub fn request_of_words(alloc: Global, words: &[String]) -> Result<Request, WordsFault>
+    ensures asks { IfOk result (λ request. Asks (texts_of words.now) request) }
+    ensures form { IfOk result (λ request. HasForm request.input) }
+    ensures refused { IfErr result (λ f. f ≡ WordsFault.Refused → AreRefused (texts_of words.now)) }
+{
+    let words = read_words(alloc, PROGRAM, &OPTIONS, words)?;
+    request_of(options_of(&words)).ok_or(WordsFault::Refused)
+}

@@ -1,0 +1,136 @@
+/* Sounds of a keying, each spoilt in one way, as samples of 16 bits, 8,000 a second, the low byte first. It knows
+   nothing of the programs here.
+
+       spoilt                prints a line for each row: its number, whether it has to be heard, its name
+       spoilt ROW PHASE      writes the sound of a row, which begins PHASE samples later
+       spoilt keys           prints the keys of the keying
+
+   A row is 'must' where a receiver that is better than the field's has to hear it wherever it begins, and 'may' else. */
+#include <math.h>
+#include <stdint.h>
+#include <stdio.h>
+#include <stdlib.h>
+#include <string.h>
+#include <spandsp.h>
+
+enum { RATE = 8000, MOST = 40000, PAUSE = RATE / 10, ECHO = RATE / 50 };
+
+static const char *keys[] = { "KP", "2", "2", "3", "3", "4", "5", "6", "7", "7", "8", "9", "0", "1", "ST" };
+enum { KEYS = sizeof keys / sizeof *keys };
+
+static const struct { const char *key; int low, high; } pairs[] = {
+    { "1", 700, 900 }, { "2", 700, 1100 }, { "3", 900, 1100 }, { "4", 700, 1300 }, { "5", 900, 1300 }, { "6", 1100, 1300 },
+    { "7", 700, 1500 }, { "8", 900, 1500 }, { "9", 1100, 1500 }, { "0", 1300, 1500 }, { "KP", 1100, 1700 },
+    { "ST", 1500, 1700 },
+};
+
+/* Times in ms, levels of a tone in dBm0, twist in dB, detuning as a part; of what is beside, its level and its Hz. */
+struct row {
+    const char *must, *name;
+    double kp, key, gap, level, twist, detuning, hz, noise, beside, beside_hz, echo, clip, wow;
+    int is_mu_law;
+};
+#define SILENT (-200)
+#define USUAL .kp = 100, .key = 68, .gap = 68, .level = -7, .noise = SILENT, .beside = SILENT
+#define ROW(must, name, ...) { must, name, USUAL, __VA_ARGS__ }
+#pragma GCC diagnostic ignored "-Woverride-init"
+static const struct row rows[] = {
+    ROW("must", "as it is keyed", .wow = 0),
+    ROW("must", "keys of 30 ms", .key = 30), ROW("must", "keys of 35 ms", .key = 35), ROW("must", "keys of 40 ms", .key = 40),
+    ROW("may", "keys of 28 ms", .key = 28), ROW("may", "keys of 26 ms", .key = 26), ROW("must", "KP of 55 ms", .kp = 55),
+    ROW("may", "KP of 50 ms", .kp = 50), ROW("must", "gaps of 38 ms", .gap = 38), ROW("must", "gaps of 30 ms", .gap = 30),
+    ROW("must", "gaps of 25 ms", .gap = 25), ROW("may", "gaps of 20 ms", .gap = 20),
+    ROW("must", "keys of 30, KP of 55 and gaps of 25 ms", .key = 30, .kp = 55, .gap = 25),
+    ROW("must", "0 dBm0", .level = 0), ROW("must", "-14 dBm0", .level = -14), ROW("must", "-22 dBm0", .level = -22),
+    ROW("must", "-28 dBm0", .level = -28), ROW("may", "-32 dBm0", .level = -32), ROW("may", "-34 dBm0", .level = -34),
+    ROW("must", "6 dB of twist", .twist = 6), ROW("must", "-6 dB of twist", .twist = -6),
+    ROW("may", "9 dB of twist", .twist = 9), ROW("may", "-9 dB of twist", .twist = -9),
+    ROW("must", "1.5 % too high", .detuning = .015), ROW("must", "1.5 % too low", .detuning = -.015),
+    ROW("may", "2 % too high", .detuning = .02), ROW("may", "2 % too low", .detuning = -.02),
+    ROW("must", "10 Hz too high", .hz = 10), ROW("must", "10 Hz too low", .hz = -10),
+    ROW("may", "1.5 % and 10 Hz too high", .detuning = .015, .hz = 10),
+    ROW("may", "1.5 % and 10 Hz too low", .detuning = -.015, .hz = -10),
+    ROW("may", "6 dB of twist, 2 % too high", .twist = 6, .detuning = .02),
+    ROW("may", "-6 dB of twist, 2 % too low", .twist = -6, .detuning = -.02),
+    ROW("must", "white noise of -14 dBm0", .noise = -14), ROW("must", "white noise of -10 dBm0", .noise = -10),
+    ROW("may", "white noise of -8 dBm0", .noise = -8), ROW("may", "white noise of -7 dBm0", .noise = -7),
+    ROW("must", "2,600 Hz beside, 6 dB below a tone", .beside = -13, .beside_hz = 2600),
+    ROW("may", "2,600 Hz beside, as loud as a tone", .beside = -7, .beside_hz = 2600),
+    ROW("must", "60 Hz beside, 13 dB below a tone", .beside = -20, .beside_hz = 60),
+    ROW("may", "60 Hz beside, as loud as a tone", .beside = -7, .beside_hz = 60),
+    ROW("must", "an echo of 20 ms, 10 dB below", .echo = .316), ROW("may", "an echo of 20 ms, 6 dB below", .echo = .5),
+    ROW("must", "clipped at half", .clip = .5), ROW("may", "clipped at a quarter", .clip = .25),
+    ROW("must", "by mu-law", .is_mu_law = 1), ROW("must", "by mu-law, -28 dBm0", .is_mu_law = 1, .level = -28),
+    ROW("may", "wow of 1 % at 4 Hz", .wow = .01), ROW("may", "wow of 2 % at 4 Hz", .wow = .02),
+};
+enum { ROWS = sizeof rows / sizeof *rows };
+
+static uint64_t state;
+
+static double uniform(void)
+{
+    state ^= state << 13;
+    state ^= state >> 7;
+    state ^= state << 17;
+    return (state >> 11) / 9007199254740992.0;
+}
+
+static double gauss(void) { return sqrt(-2 * log(uniform() + 1e-300)) * cos(2 * M_PI * uniform()); }
+
+/* The amplitude of a sine of so many dBm0, where 32,767 is 3.14. */
+static double amplitude(double dbm0) { return 32767 * pow(10, (dbm0 - 3.14) / 20); }
+
+/* Puts the tones of a key, and the gap after it, from place n on. */
+static int key_at(const struct row *row, const char *key, double *mix, int n)
+{
+    int pair = 0;
+    double low = 0, high = 0;
+    while (strcmp(pairs[pair].key, key)) pair++;
+    for (int length = (int) ((key[0] == 'K' ? row->kp : row->key) * RATE / 1000); length > 0; length--) {
+        double speed = (1 + row->wow * sin(2 * M_PI * 4 * n / RATE)) * 2 * M_PI / RATE;
+        mix[n++] = amplitude(row->level + row->twist / 2) * sin(low) + amplitude(row->level - row->twist / 2) * sin(high);
+        low += (pairs[pair].low * (1 + row->detuning) + row->hz) * speed;
+        high += (pairs[pair].high * (1 + row->detuning) + row->hz) * speed;
+    }
+    for (int length = (int) (row->gap * RATE / 1000); length > 0; length--) mix[n++] = 0;
+    return n;
+}
+
+static void write_row(const struct row *row, int phase)
+{
+    static double mix[MOST];
+    int n = PAUSE + phase;
+    double most = amplitude(row->level) * 2 * row->clip;
+    for (int k = 0; k < KEYS; k++) n = key_at(row, keys[k], mix, n);
+    n += PAUSE;
+    state = 88172645463325252ull + 7919ull * (phase + 1);
+    for (int i = 0; i < 20; i++) uniform();
+    if (row->echo > 0)
+        for (int i = n - 1; i >= ECHO; i--) mix[i] += row->echo * mix[i - ECHO];
+    for (int i = 0; i < n; i++) {
+        double sum = mix[i];
+        if (row->beside > SILENT) sum += amplitude(row->beside) * sin(2 * M_PI * row->beside_hz * i / RATE);
+        if (row->noise > SILENT) sum += gauss() * amplitude(row->noise) / sqrt(2);
+        if (row->clip > 0) sum = fmax(-most, fmin(most, sum));
+        long sample = lround(fmax(-32768, fmin(32767, sum)));
+        if (row->is_mu_law) sample = ulaw_to_linear(linear_to_ulaw((int) sample));
+        putchar((int) (sample & 255));
+        putchar((int) (sample >> 8 & 255));
+    }
+}
+
+int main(int count, char **words)
+{
+    if (count == 1) {
+        for (int r = 0; r < ROWS; r++) printf("%d\t%s\t%s\n", r, rows[r].must, rows[r].name);
+    } else if (count == 2 && !strcmp(words[1], "keys")) {
+        for (int k = 0; k < KEYS; k++) printf("%s%s", k ? " " : "", keys[k]);
+        putchar('\n');
+    } else if (count == 3 && atoi(words[1]) < ROWS) {
+        write_row(&rows[atoi(words[1])], atoi(words[2]));
+    } else {
+        fprintf(stderr, "usage: spoilt [ROW PHASE | keys]\n");
+        return 2;
+    }
+    return ferror(stdout) || fflush(stdout) ? 1 : 0;
+}
