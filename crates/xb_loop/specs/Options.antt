@@ -6,7 +6,7 @@ use Rattle.clap.specs.Simple.{matches_of}
 use Rattle.clap.specs.Walk.{Row, Text, all_of, first_of}
 use Rattle.xb_command.specs.Given.{IsTaken, ReadsFlag, ReadsNumber, given_by}
 use Rattle.xb_recording.specs.Formats.{format_of}
-use Rattle.xb_recording.specs.Numbers.{number_of}
+use Rattle.xb_vcd.specs.Numbers.{number_of}
 use Rattle.xb_loop.specs.declared.request.Request.{Request}
 use Rattle.xb_loop.specs.declared.words.TheConstants.{SETTLE_MS, THRESHOLD_PERCENT}
 use Rattle.xb_loop.specs.Feeding.{wires_of}

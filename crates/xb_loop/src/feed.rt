@@ -1,7 +1,7 @@
 // From a recording to rows, as it comes.
 ghost use Rattle.std.specs.Prelude.{◌≡◌, ◌<◌, ◌≤◌, ◌++◌, ◌∷◌, [], ℕ, Ok, IfOk, IfSome, List, OnOk, false, length, string_bytes, take, true};
 ghost use Rattle.std.specs.Io.KnownBytes.{Appends, Consumes, IsAtEnd};
-ghost use Rattle.xb_recording.specs.declared.event.Event.{Event as Saying};
+ghost use Rattle.xb_vcd.specs.declared.event.Event.{Event as Saying};
 ghost use Rattle.xb_recording.specs.Says.{Begins, RestSays, is_text};
 ghost use Rattle.xb_loop.specs.Feeding.{Ends, Feeds, GoesOn, ListensTo, PutsDown, Starts, Writes, wires_of};
 ghost use Rattle.xb_loop.specs.Watches.{watch_of};
@@ -11,8 +11,9 @@ use crate::lines::Lines;
 use crate::request::Request;
 use std::alloc::{AllocError, Global};
 use std::io::{Read, Write};
-use xb_recording::{Event, Format, Reader, Refusal, Told, told_format};
+use xb_recording::{Format, Reader, Told, told_format};
 use xb_text::write_whole;
+use xb_vcd::{Event, Refusal};
 
 const BUFFER_BYTES: usize = 8_192;
 

@@ -10,7 +10,7 @@ use crate::line::{Line, Manner};
 use crate::request::Request;
 use std::alloc::{AllocError, Global};
 use xb_contact::{Level, Scale};
-use xb_recording::Event;
+use xb_vcd::Event;
 
 /// The lines that are listened to, in the order of their wires.
 #[derive(Drop)]

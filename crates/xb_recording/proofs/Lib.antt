@@ -1,5 +1,2 @@
 pub mod HeardLevels
-pub mod StepLemmas
-pub mod WordLemmas
-pub mod VcdLemmas
 pub mod SaidLemmas

@@ -1,9 +1,3 @@
-pub mod Numbers
-pub mod VcdWords
-pub mod VcdChanges
-pub mod WorkedVcd
 pub mod Hysteresis
-pub mod Steps
-pub mod VcdTexts
 pub mod Says
 pub mod Formats

@@ -1,16 +1,14 @@
 -- What a recording says, whatever its form.
-use Rattle.std.specs.Prelude.{◌≡◌, ℕ, List, [], ◌∷◌, ◌++◌, Bool, true, false, ◌==◌, if◌then◌else◌, Some, drop, length, nat_eq}
+use Rattle.std.specs.Prelude.{◌≡◌, ℕ, List, [], ◌∷◌, ◌++◌, Bool, true, false, ◌==◌, if◌then◌else◌, drop, length, nat_eq}
 use Rattle.std.specs.List.{starts_with}
-use Rattle.xb_recording.specs.declared.event.Event.{Event}
+use Rattle.xb_vcd.specs.declared.event.Event.{Event}
 use Rattle.xb_recording.specs.declared.format.TheConstants.{BYTE_ORDER_MARK}
 use Rattle.xb_recording.specs.declared.format.Format.{Format}
 use Rattle.xb_recording.specs.declared.format.Format.TheVariants as formats
 use Rattle.xb_recording.specs.declared.reader.Reader.{Reader}
 use Rattle.xb_recording.specs.declared.reader.Source.{Source}
 use Rattle.xb_recording.specs.declared.reader.Source.TheVariants as sources
-use Rattle.xb_recording.specs.declared.vcd.Place.TheVariants as places
-use Rattle.xb_recording.specs.Steps.{all_say}
-use Rattle.xb_recording.specs.VcdTexts.{VcdState, begun_vcd, vcd_line_says, vcd_state}
+use Rattle.xb_vcd.specs.VcdTexts.{VcdSays, begun_vcd, vcd_state}
 
 -- the lines of a text, of whose first line this has come
 abbrev pub lines_in : List ℕ → List ℕ → List (List ℕ)
@@ -28,11 +26,6 @@ plain_line is_first line = if is_first then without_mark line else line
 abbrev pub plain_lines : Bool → List (List ℕ) → List (List ℕ)
 plain_lines is_first [] = []
 plain_lines is_first (line ∷ rest) = plain_line is_first line ∷ rest
-
--- a VCD from a state on: each of its lines says something, and it ends among its changes
-abbrev pub VcdSays : VcdState → List (List ℕ) → List Event → Type 0
-VcdSays state lines events =
-    (last : VcdState) × (all_say vcd_line_says state lines ≡ Some (events, last)) × (last.place ≡ places.Changes)
 
 -- what is read says these events of further lines: exact for a VCD, and nothing is said of the other forms
 abbrev pub LinesSay : Source → List (List ℕ) → List Event → Type 0

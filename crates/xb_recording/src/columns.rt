@@ -2,10 +2,10 @@
 ghost use Rattle.std.specs.Prelude.{◌≤◌, length};
 
 use crate::cells::{cell_at, cell_of, trimmed};
-use crate::event::{Event, Refusal, say};
-use crate::number::{nanoseconds_of, number_of};
+use crate::seconds::nanoseconds_of;
 use std::alloc::{AllocError, Global};
 use xb_contact::{NANOSECONDS, Scale};
+use xb_vcd::{Event, Refusal, number_of, say};
 
 /// The form of a table.
 #[derive(Clone, Copy, Debug, PartialEq, Eq)]

@@ -4,7 +4,7 @@ ghost use Rattle.xb_recording.specs.Formats.{format_of};
 
 use crate::cells::{cell_at, trimmed};
 use crate::gpiomon::is_of_gpiomon;
-use crate::number::nanoseconds_of;
+use crate::seconds::nanoseconds_of;
 use xb_text::cut_at;
 
 /// The mark that some programs write before a text.

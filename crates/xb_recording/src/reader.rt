@@ -1,18 +1,17 @@
 // The reader of a recording, whatever its form.
 ghost use Rattle.std.specs.Prelude.{◌≡◌, ◌++◌, [], ◌∷◌, ℕ, true, false, IfOk, OnOk, List, map};
-ghost use Rattle.xb_recording.specs.declared.event.Event.{Event as EventTaken};
+ghost use Rattle.xb_vcd.specs.declared.event.Event.{Event as EventTaken};
 ghost use Rattle.xb_recording.specs.Says.{Begins, IsOfFormat, LinesSay, RestSays, Takes, is_in_first, is_text, line_so_far, plain_line};
 
 use crate::columns::{Columns, Form};
-use crate::event::{Event, Refusal};
 use crate::format::{BYTE_ORDER_MARK, Format};
 use crate::gpiomon::Gpiomon;
 use crate::samples::Bits;
 use crate::sound::Sound;
-use crate::vcd::Vcd;
 use crate::wanted::Wanted;
 use crate::wav::{WavFormat, WavHead};
 use std::alloc::{AllocError, Global};
+use xb_vcd::{Event, Refusal, Vcd};
 
 // The longest line of a recording.
 const MOST_LINE_BYTES: usize = 65_536;

@@ -2,10 +2,9 @@
 ghost use Rattle.std.specs.Prelude.{◌<ℤ◌, ◌<◌, ◌↔◌, IsBitSet, IsTrue};
 ghost use Rattle.xb_recording.specs.Hysteresis.{IsHeard};
 
-use crate::event::{Event, Refusal, say};
-use crate::number::number_of;
 use std::alloc::{AllocError, Global};
 use xb_contact::Scale;
+use xb_vcd::{Event, Refusal, number_of, say};
 
 /// The level of a sample after another one: high from `high` on, low up to `low`, and between them as before.
 pub fn heard_level(low: i16, high: i16, was_high: bool, sample: i16) -> bool

@@ -1,8 +1,8 @@
 // The head of a WAV file.
 ghost use Rattle.std.specs.Prelude.{◌≤◌, length};
 
-use crate::event::Refusal;
 use std::alloc::{AllocError, Global};
+use xb_vcd::Refusal;
 
 // The most bytes of a chunk that says how the samples are.
 const MOST_FORMAT_BYTES: u32 = 64;

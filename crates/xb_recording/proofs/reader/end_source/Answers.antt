@@ -1,10 +1,10 @@
 use Rattle.std.proofs.Common.{◌≡◌, ◌∷◌, [], sym, subst}
 use Rattle.std.proofs.lemmas.Result.{on_ok_weaker}
 use Rattle.xb_recording.specs.declared.reader.Source.{Source}
-use Rattle.xb_recording.specs.declared.vcd.Place.TheVariants as places
+use Rattle.xb_vcd.specs.declared.vcd.Place.TheVariants as places
 use Rattle.xb_recording.specs.Says.{LinesSay}
-use Rattle.xb_recording.specs.VcdTexts.{vcd_state}
-use Rattle.xb_recording.proofs.SaidLemmas.{vcd_ends}
+use Rattle.xb_vcd.specs.VcdTexts.{vcd_state}
+use Rattle.xb_vcd.proofs.VcdEnds.{vcd_ends}
 use Rattle.xb_recording.proofs.reader.end_source.Goals as goal
 
 pub returns-in_ok-take_line-in-Vcd : goal.returns-in_ok-take_line-in-Vcd

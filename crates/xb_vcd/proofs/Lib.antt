@@ -1,0 +1,4 @@
+pub mod StepLemmas
+pub mod WordLemmas
+pub mod VcdLemmas
+pub mod VcdEnds

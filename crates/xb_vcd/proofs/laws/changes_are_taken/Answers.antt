@@ -1,0 +1,18 @@
+use Rattle.std.proofs.Common.{refl}
+use Rattle.xb_vcd.proofs.laws.changes_are_taken.Goals as goal
+
+pub returns : goal.returns
+returns c = record {
+  time = refl;
+  same_time = refl;
+  backwards = refl;
+  high = refl;
+  both = refl;
+  another = refl;
+  unknown = refl;
+  unknown_other = refl;
+  vector = refl;
+  long_vector = refl;
+  declaration = refl;
+  a_row = refl;
+}

@@ -1,0 +1,12 @@
+use Rattle.std.proofs.Common.{sym, ◌∙◌}
+use Rattle.std.proofs.lemmas.Result.{on_ok_weaker}
+use Rattle.xb_vcd.specs.VcdTexts.{vcd_state}
+use Rattle.xb_vcd.proofs.VcdLemmas.{piece_adds}
+use Rattle.xb_vcd.proofs.vcd.Vcd.take_piece.Goals as goal
+
+pub returns : goal.returns
+returns c =
+    on_ok_weaker c.take_word.result
+    (piece_adds (vcd_state c.args.self.now) (vcd_state c.take_word.new.self) c.args.piece.now c.args.events.now.items
+    c.take_word.new.events.items (sym c.is_empty.ensures ∙ c.if-is_empty.false))
+    c.take_word.ensures

@@ -1,0 +1,12 @@
+//! What the definitions of `specs/` come to: each law is the contract of a function that does nothing.
+ghost use Rattle.xb_vcd.specs.WorkedVcd.{ChangesAreTaken, WordsAreRead};
+
+/// What some words of a VCD say.
+pub fn words_are_read()
+    ensures { WordsAreRead }
+{}
+
+/// What some words come to among the changes of a VCD of two wires.
+pub fn changes_are_taken()
+    ensures { ChangesAreTaken }
+{}

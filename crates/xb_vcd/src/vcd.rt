@@ -1,0 +1,502 @@
+// A value change dump, line by line.
+ghost use Rattle.std.specs.Prelude.{◌≡◌, ◌≤◌, ◌++◌, ◌↔◌, [], Some, IfErr, IfOk, IfSome, IsErr, IsTrue, OnOk, is_some, map, drop, length, take};
+ghost use Rattle.std.specs.List.{list_all, list_any};
+ghost use Rattle.xb_vcd.specs.Steps.{Adds, all_say};
+ghost use Rattle.xb_vcd.specs.VcdChanges.{IsRefused, IsSaid, change_taken, code_taken, has_code, level_events, time_taken, times_of};
+ghost use Rattle.xb_vcd.specs.VcdTexts.{after_digits, begun_vcd, declared_code, declared_codes, found_code, header_taken, is_blank, is_header, leading_digits, scale_of, scale_said, scale_taken, unit_of, var_taken, vcd_line_says, vcd_state, word_before, word_says, words_of};
+
+use crate::event::{Event, Refusal, say};
+use crate::number::number_of;
+use crate::word::{Word, code_of, word_of};
+use std::alloc::Global;
+use xb_contact::Scale;
+
+// Where a VCD stands.
+#[derive(Clone, Copy, Debug, PartialEq, Eq)]
+enum Place {
+    // Among the sections of the header.
+    Header,
+    // In a section that is passed over; whether the header has ended.
+    Passed(bool),
+    // In the timescale, after this number.
+    Timescale(Option<u64>),
+    // In the declaration of a wire, after so many words.
+    Var(VarWords),
+    // Among the changes.
+    Changes,
+    // After the value of a vector.
+    AfterVector(Option<bool>),
+}
+
+// What the words of a declaration said so far: how many they are, whether the wire has one bit, and its code.
+#[derive(Clone, Copy, Debug, PartialEq, Eq)]
+struct VarWords {
+    count: u8,
+    is_bit: bool,
+    code: u64,
+}
+
+const NO_WORDS: VarWords = VarWords {
+    count: 0,
+    is_bit: false,
+    code: 0,
+};
+
+/// The reader of a VCD. Its wires are found by their names, and numbered as these are given.
+#[derive(Drop)]
+pub struct Vcd<'a> {
+    names: &'a [&'a str],
+    codes: Vec<Option<u64>>,
+    place: Place,
+    has_scale: bool,
+    last: u64,
+    has_time: bool,
+}
+
+// The unit of a timescale: how many ms are how many units.
+fn unit_of(word: &[u8]) -> Option<Scale>
+    ensures value { result ≡ unit_of word.now }
+    ensures few { IfSome result (λ scale. scale.ms ≤ 1000) }
+{
+    let (ms, ticks) = match word {
+        b"s" => (1_000, 1),
+        b"ms" => (1, 1),
+        b"us" => (1, 1_000),
+        b"ns" => (1, 1_000_000),
+        b"ps" => (1, 1_000_000_000),
+        b"fs" => (1, 1_000_000_000_000),
+        _ => return None,
+    };
+    Some(Scale { ms, ticks })
+}
+
+// The scale of so many units, which are 1, 10 or 100.
+fn scale_of(number: u64, word: &[u8]) -> Option<Scale>
+    ensures { result ≡ scale_of number word.now }
+{
+    let Scale { ms, ticks } = unit_of(word)?;
+    match number {
+        1 => Some(Scale { ms, ticks }),
+        10 => Some(Scale { ms: ms * 10, ticks }),
+        100 => Some(Scale {
+            ms: ms * 100,
+            ticks,
+        }),
+        _ => None,
+    }
+}
+
+// Whether words are parted by a byte.
+fn is_blank(byte: u8) -> bool
+    ensures { result ≡ is_blank byte }
+{
+    byte == b' ' || (byte >= b'\t' && byte <= b'\r')
+}
+
+// Whether a text stands in its header, outside of a section.
+fn is_header(place: Place) -> bool
+    ensures { result ≡ is_header place }
+{
+    match place {
+        Place::Header => true,
+        Place::Passed(_)
+        | Place::Timescale(_)
+        | Place::Var(_)
+        | Place::Changes
+        | Place::AfterVector(_) => false,
+    }
+}
+
+// How many digits a word begins with.
+fn digits_before(word: &[u8]) -> usize
+    ensures within { result ≤ length word.now }
+    ensures digits { take result word.now ≡ leading_digits word.now }
+    ensures rest { drop result word.now ≡ after_digits word.now }
+{
+    for (i, byte) in word.iter().enumerate() {
+        if *byte < b'0' || *byte > b'9' {
+            return i;
+        }
+    }
+    word.len()
+}
+
+// The digits that a word begins with, and what follows them.
+fn cut_digits(word: &[u8]) -> (&[u8], &[u8])
+    ensures digits { result.0.now ≡ leading_digits word.now }
+    ensures rest { result.1.now ≡ after_digits word.now }
+{
+    let length = digits_before(word);
+    (&word[..length], &word[length..])
+}
+
+// The code of a wire that is declared, which had none.
+fn found_code(words: VarWords, own: Option<u64>) -> Result<Option<u64>, Refusal>
+    ensures { IfOk result (λ code. found_code words own ≡ Some code) }
+{
+    match own {
+        _ if !words.is_bit => Err(Refusal::Bits),
+        Some(_) => Err(Refusal::Twice),
+        None => Ok(Some(words.code)),
+    }
+}
+
+// The code of a wire after a declaration of this name.
+fn declared_code(
+    words: VarWords,
+    name: &[u8],
+    wanted: &str,
+    own: Option<u64>,
+) -> Result<Option<u64>, Refusal>
+    ensures { IfOk result (λ code. declared_code words name.now wanted.now own ≡ Some code) }
+{
+    if wanted.as_bytes() == name {
+        found_code(words, own)
+    } else {
+        Ok(own)
+    }
+}
+
+// A wire of this name is declared: those that are asked for by the name have its code.
+fn declare(
+    words: VarWords,
+    name: &[u8],
+    names: &[&str],
+    codes: &mut [Option<u64>],
+) -> Result<(), Refusal>
+    ensures { OnOk result
+        (declared_codes words name.now (map (λ wanted. wanted.now) names.now) codes.old ≡ Some codes.new) }
+{
+    for (i, code) in codes.iter_mut().enumerate() {
+        match names.get(i) {
+            Some(wanted) => *code = declared_code(words, name, wanted, *code)?,
+            None => return Ok(()),
+        }
+    }
+    Ok(())
+}
+
+impl<'a> Vcd<'a> {
+    /// A reader that has read nothing. The wires are those of these names.
+    pub fn new(alloc: Global, names: &'a [&'a str]) -> Result<Vcd<'a>, Refusal>
+        ensures { IfOk result (λ vcd. vcd_state vcd ≡ begun_vcd (map (λ name. name.now) names.now)) }
+    {
+        let mut codes = Vec::new(alloc);
+        for _name in names {
+            if codes.push(None).is_err() {
+                return Err(Refusal::NoMemory);
+            }
+        }
+        Ok(Vcd {
+            names,
+            codes,
+            place: Place::Header,
+            has_scale: false,
+            last: 0,
+            has_time: false,
+        })
+    }
+
+    // Whether all wires were found.
+    fn has_all(&self) -> bool
+        ensures { result ≡ list_all is_some self.now.codes.items }
+    {
+        self.codes.iter().all(|code| code.is_some())
+    }
+
+    // The wire of this code has a level.
+    fn change(&self, code: u64, is_high: bool, events: &mut Vec<Event>) -> Result<(), Refusal>
+        ensures said { OnOk result (events.new.items
+            ≡ events.old.items ++ level_events 0 code is_high self.now.codes.items) }
+        ensures only { IfErr result (λ e. e ≡ Refusal.NoMemory) }
+    {
+        for (i, own) in self.codes.iter().enumerate() {
+            if *own == Some(code) {
+                let event = if is_high {
+                    Event::High(i)
+                } else {
+                    Event::Low(i)
+                };
+                say(events, event)?;
+            }
+        }
+        Ok(())
+    }
+
+    // The wire of this code has another value than 0 or 1.
+    fn refuse_if_wanted(&self, code: u64) -> Result<(), Refusal>
+        ensures wanted { IsErr result ↔ IsTrue (list_any (has_code code) self.now.codes.items) }
+        ensures level { IfErr result (λ e. e ≡ Refusal.Level) }
+    {
+        for own in self.codes.iter() {
+            if *own == Some(code) {
+                return Err(Refusal::Level);
+            }
+        }
+        Ok(())
+    }
+
+    // A time.
+    fn go_to(&mut self, time: u64, events: &mut Vec<Event>) -> Result<(), Refusal>
+        requires { self.old.place ≡ Place.Changes }
+        ensures said { OnOk result (IsSaid (time_taken (times_of self.old.last self.old.has_time) time)
+            events.old.items events.new.items self.new.place (times_of self.new.last self.new.has_time)) }
+        ensures refused { IfErr result (IsRefused (time_taken (times_of self.old.last self.old.has_time) time)) }
+        ensures kept { self.new ≡ record self.old {
+          place = self.new.place;
+          last = self.new.last;
+          has_time = self.new.has_time;
+        } }
+    {
+        if self.has_time && time < self.last {
+            return Err(Refusal::Backwards);
+        }
+        say(events, Event::At(time))?;
+        self.last = time;
+        self.has_time = true;
+        Ok(())
+    }
+
+    // The unit after a number of the timescale; without one the next word is the unit.
+    fn say_scale(
+        &mut self,
+        number: u64,
+        unit: &[u8],
+        events: &mut Vec<Event>,
+    ) -> Result<(), Refusal>
+        ensures { OnOk result (Adds (scale_said (vcd_state self.old) number unit.now)
+            events.old.items events.new.items (vcd_state self.new)) }
+    {
+        if unit.is_empty() {
+            self.place = Place::Timescale(Some(number));
+            return Ok(());
+        }
+        match scale_of(number, unit) {
+            None => Err(Refusal::Timescale),
+            Some(scale) => {
+                say(events, Event::Ticks(scale))?;
+                self.has_scale = true;
+                self.place = Place::Passed(false);
+                Ok(())
+            }
+        }
+    }
+
+    // A word of the timescale.
+    fn take_scale(
+        &mut self,
+        number: Option<u64>,
+        word: &[u8],
+        events: &mut Vec<Event>,
+    ) -> Result<(), Refusal>
+        ensures { OnOk result (Adds (scale_taken (vcd_state self.old) number word.now)
+            events.old.items events.new.items (vcd_state self.new)) }
+    {
+        if let Some(number) = number {
+            return self.say_scale(number, word, events);
+        }
+        let (digits, unit) = cut_digits(word);
+        match number_of(digits) {
+            Some(number) => self.say_scale(number, unit, events),
+            None => Err(Refusal::Timescale),
+        }
+    }
+
+    // A word of a declaration: kind, size, code and name.
+    fn take_var(&mut self, words: VarWords, word: &[u8]) -> Result<(), Refusal>
+        ensures { OnOk result (var_taken (vcd_state self.old) words word.now ≡ Some ([], vcd_state self.new)) }
+    {
+        let VarWords {
+            count,
+            is_bit,
+            code,
+        } = words;
+        match count {
+            0 => self.place = Place::Var(VarWords {
+                count: 1,
+                is_bit,
+                code,
+            }),
+            1 => {
+                let is_bit = word == b"1".as_slice();
+                self.place = Place::Var(VarWords {
+                    count: 2,
+                    is_bit,
+                    code,
+                });
+            }
+            2 => match code_of(word) {
+                Some(code) => self.place = Place::Var(VarWords {
+                    count: 3,
+                    is_bit,
+                    code,
+                }),
+                None => return Err(Refusal::Word),
+            },
+            _ => {
+                declare(words, word, self.names, &mut self.codes)?;
+                self.place = Place::Passed(false);
+            }
+        }
+        Ok(())
+    }
+
+    // A word of the header.
+    fn take_header(&mut self, word: &[u8]) -> Result<(), Refusal>
+        ensures { OnOk result (header_taken (vcd_state self.old) word.now ≡ Some ([], vcd_state self.new)) }
+    {
+        match word_of(word) {
+            Word::Timescale if self.has_scale => Err(Refusal::Timescale),
+            Word::Timescale => {
+                self.place = Place::Timescale(None);
+                Ok(())
+            }
+            Word::Var => {
+                self.place = Place::Var(NO_WORDS);
+                Ok(())
+            }
+            Word::EndDefinitions if !self.has_scale => Err(Refusal::Timescale),
+            Word::EndDefinitions if !self.has_all() => Err(Refusal::NoWire),
+            Word::EndDefinitions => {
+                self.place = Place::Passed(true);
+                Ok(())
+            }
+            Word::Section => {
+                self.place = Place::Passed(false);
+                Ok(())
+            }
+            _ => Err(Refusal::Word),
+        }
+    }
+
+    // A word among the changes.
+    fn take_change(&mut self, word: &[u8], events: &mut Vec<Event>) -> Result<(), Refusal>
+        requires { self.old.place ≡ Place.Changes }
+        ensures said { OnOk result (IsSaid
+            (change_taken self.old.codes.items (times_of self.old.last self.old.has_time) word.now)
+            events.old.items events.new.items self.new.place (times_of self.new.last self.new.has_time)) }
+        ensures refused { IfErr result (IsRefused
+            (change_taken self.old.codes.items (times_of self.old.last self.old.has_time) word.now)) }
+        ensures kept { self.new ≡ record self.old {
+          place = self.new.place;
+          last = self.new.last;
+          has_time = self.new.has_time;
+        } }
+    {
+        match word_of(word) {
+            Word::Time(time) => self.go_to(time, events),
+            Word::High(code) => self.change(code, true, events),
+            Word::Low(code) => self.change(code, false, events),
+            Word::Unknown(code) => self.refuse_if_wanted(code),
+            Word::Vector(value) => {
+                self.place = Place::AfterVector(value);
+                Ok(())
+            }
+            Word::Dump | Word::End => Ok(()),
+            Word::Section => {
+                self.place = Place::Passed(true);
+                Ok(())
+            }
+            _ => Err(Refusal::Word),
+        }
+    }
+
+    // The code after the value of a vector.
+    fn take_code(
+        &mut self,
+        value: Option<bool>,
+        word: &[u8],
+        events: &mut Vec<Event>,
+    ) -> Result<(), Refusal>
+        ensures said { OnOk result (IsSaid
+            (code_taken self.old.codes.items (times_of self.old.last self.old.has_time) value word.now)
+            events.old.items events.new.items self.new.place (times_of self.new.last self.new.has_time)) }
+        ensures refused { IfErr result (IsRefused
+            (code_taken self.old.codes.items (times_of self.old.last self.old.has_time) value word.now)) }
+        ensures kept { self.new ≡ record self.old {
+          place = self.new.place;
+          last = self.new.last;
+          has_time = self.new.has_time;
+        } }
+    {
+        let Some(code) = code_of(word) else {
+            return Err(Refusal::Word);
+        };
+        self.place = Place::Changes;
+        match value {
+            Some(is_high) => self.change(code, is_high, events),
+            None => self.refuse_if_wanted(code),
+        }
+    }
+
+    // A word.
+    fn take_word(&mut self, word: &[u8], events: &mut Vec<Event>) -> Result<(), Refusal>
+        ensures { OnOk result (Adds (word_says (vcd_state self.old) word.now)
+            events.old.items events.new.items (vcd_state self.new)) }
+    {
+        match self.place {
+            Place::Header => self.take_header(word),
+            Place::Passed(is_body) => {
+                if word == b"$end".as_slice() {
+                    self.place = if is_body {
+                        Place::Changes
+                    } else {
+                        Place::Header
+                    };
+                }
+                Ok(())
+            }
+            Place::Timescale(number) => self.take_scale(number, word, events),
+            Place::Var(words) => self.take_var(words, word),
+            Place::Changes => self.take_change(word, events),
+            Place::AfterVector(value) => self.take_code(value, word, events),
+        }
+    }
+
+    // What stands between two blanks, if it is a word.
+    fn take_piece(&mut self, piece: &[u8], events: &mut Vec<Event>) -> Result<(), Refusal>
+        ensures { OnOk result (Adds (all_say word_says (vcd_state self.old) (word_before piece.now))
+            events.old.items events.new.items (vcd_state self.new)) }
+    {
+        if piece.is_empty() {
+            return Ok(());
+        }
+        self.take_word(piece, events)
+    }
+
+    // The words of a line.
+    fn take_words(&mut self, line: &[u8], events: &mut Vec<Event>) -> Result<(), Refusal>
+        ensures { OnOk result (Adds (all_say word_says (vcd_state self.old) (words_of line.now))
+            events.old.items events.new.items (vcd_state self.new)) }
+    {
+        let mut start = 0;
+        for end in 0..line.len() {
+            if is_blank(line[end]) {
+                self.take_piece(&line[start..end], events)?;
+                start = end + 1;
+            }
+        }
+        self.take_piece(&line[start..], events)
+    }
+
+    /// Takes a line, and adds what it says to `events`. After an `Err` the reader is not to be used again.
+    pub fn take_line(&mut self, line: &[u8], events: &mut Vec<Event>) -> Result<(), Refusal>
+        ensures { OnOk result (Adds (vcd_line_says (vcd_state self.old) line.now)
+            events.old.items events.new.items (vcd_state self.new)) }
+    {
+        if line.starts_with(b"META ") && is_header(self.place) {
+            return Ok(());
+        }
+        self.take_words(line, events)
+    }
+
+    /// The end of the file: it is refused where the header had not ended.
+    pub fn end(&self) -> Result<(), Refusal>
+        ensures { OnOk result (self.now.place ≡ Place.Changes) }
+    {
+        match self.place {
+            Place::Changes => Ok(()),
+            _ => Err(Refusal::Header),
+        }
+    }
+}
