@@ -18,13 +18,19 @@ use Rattle.mfweb.specs.declared.status.TheConstants.{NO_CODE}
 abbrev pub number_in : List ℕ → List ℕ
 number_in bytes = digits_in NUMBER_DIGITS (length bytes) bytes
 
--- by the table that is held, the code of so many digits decides
-abbrev pub FindsCode : PlainTable → List ℕ → ℕ → Type 0
-FindsCode plain digits count = (table : Table) → Holds plain table → Decides table.routes digits (Some count)
+-- by the open table that is held, the code of so many digits decides
+pub record FindsCode (plain : PlainTable) (digits : List ℕ) (count : ℕ) : Type 0 where
+  pub is_open : IsOpen plain
+  pub decides : (table : Table) → Holds plain table → Decides table.routes digits (Some count)
 
--- by the table that is held no code decides, or the table is none that was opened: the status says which
+-- by the open table that is held no code decides
+pub record HasNoCode (plain : PlainTable) (digits : List ℕ) : Type 0 where
+  pub is_open : IsOpen plain
+  pub decides : (table : Table) → Holds plain table → Decides table.routes digits None
+
+-- no code decides, or the table is none that was opened: the status says which
 pub record FindsNoCode (plain : PlainTable) (digits : List ℕ) (count status : ℕ) : Type 0 where
-  pub why : (status ≡ NO_CODE) × ((table : Table) → Holds plain table → Decides table.routes digits None)
+  pub why : (status ≡ NO_CODE) × HasNoCode plain digits
       ⊎ (status ≡ refusal_status NotOpened) × (IsOpen plain → ⊥)
   pub none : count ≡ 0
 

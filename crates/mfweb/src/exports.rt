@@ -188,8 +188,8 @@ pub extern "C" fn mfweb_take(
 }
 
 /// How many of the digits of a number are the code that decides where a table sends it: status 0 and
-/// `length`, or 20 and 0 where the digits begin with no code. Ten digits are read at most, and a byte over 9
-/// is a 0.
+/// `length`; 20 and 0 where the digits begin with no code; 3 and 0 where the table is none that was begun. Ten
+/// digits are read at most, and a byte over 9 is a 0.
 #[unsafe(no_mangle)]
 pub extern "C" fn mfweb_route(table: &PlainTable, digits: &[u8], length: &mut u32) -> u32
     ensures finds { result ≡ 0 → FindsCode table.now (number_in digits.now) length.new }

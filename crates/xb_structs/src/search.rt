@@ -15,8 +15,8 @@ ghost use Rattle.xb_structs.specs.Tables.{Holds, IsOpen};
 use crate::digits::digits_of;
 use crate::refusal::Refusal;
 use crate::route::{PlainRoute, route_of};
-use crate::table::{PlainTable, routes_of};
-use xb_model::{Digit, NUMBER_DIGITS, NumberDigits};
+use crate::table::{PlainTable, limits_of, routes_of};
+use xb_model::{Digit, NUMBER_DIGITS, NumberDigits, Plan};
 use xb_routes::{CODE_DIGITS, CODE_LENGTHS, Route, code_number};
 
 // The route of the code with this number, among routes whose numbers rise.
@@ -66,13 +66,17 @@ pub(crate) fn look(routes: &[PlainRoute], digits: &[Digit]) -> Option<Route>
 
 /// How many of the digits of a number are the code by which a table decides where it goes; `None` exactly
 /// where they begin with no code of the table. Ten digits are read at most, and a byte over 9 is a 0.
-/// `NotOpened` comes only where the table is none that was opened.
+/// `NotOpened` comes exactly where the table is none that was opened.
 pub fn deciding(table: &PlainTable, digits: &[u8]) -> Result<Option<usize>, Refusal>
+    ensures opened { IfOk result (λ _. IsOpen table.now) }
     ensures decides { IfOk result (λ found. (held : Table) → Holds table.now held →
         Decides held.routes (digits_in NUMBER_DIGITS (length digits.now) digits.now) found) }
     ensures few { IfOk result (λ found. IfSome found (λ count. count ≤ CODE_DIGITS)) }
     ensures refused { IfErr result (λ refusal. (refusal ≡ NotOpened) × (IsOpen table.now → ⊥)) }
 {
+    if Plan::of_digits(table.plan).is_none() || limits_of(table).is_none() {
+        return Err(Refusal::NotOpened);
+    }
     let Some(routes) = routes_of(table) else {
         return Err(Refusal::NotOpened);
     };
