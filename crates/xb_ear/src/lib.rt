@@ -3,8 +3,8 @@
 //!
 //! - `Receiver::take`: after one sample more the receiver has given exactly the keys of `keys_so_far` of all
 //!   samples that it was given, whatever they are: what an `Ear` hears, but for the tails that a room leaves.
-//!   With what `finish` gives they are `keys_of_sound` of the samples. `Receiver::new` has taken none. `seen`:
-//!   the pair that stands out in a window.
+//!   With what `finish` gives they are `keys_of_sound` of the samples. `Receiver::new` has taken none. `parts` and
+//!   `of_parts`: what one knows, and one that goes on from there. `seen`: the pair that stands out in a window.
 //! - `laws::keys_are_long_runs`: what is heard are the runs of windows that see the same and are long enough,
 //!   joined. `hears_so_far`: what was given is not taken back, so a stream may be cut anywhere.
 //! - `laws::disturbed_keys_are_heard`: of the sound of keyed marks, by each cadence of keys from 30 ms, KP from 55
@@ -25,6 +25,7 @@ mod ear;
 mod hearing;
 pub mod laws;
 mod levels;
+mod plain;
 mod receiver;
 mod sight;
 mod tails;
@@ -33,6 +34,7 @@ mod waves;
 pub use ear::Ear;
 pub use hearing::{GAP_WINDOWS, Heard, Hearing, KEY_WINDOWS, KP_WINDOWS};
 pub use levels::{Levels, levels_of};
+pub use plain::PlainEar;
 pub use receiver::Receiver;
 pub use sight::{CLEAR, LEAST_LEVEL, SHARE, SHARE_OF, Sight, TWIST, seen};
 pub use tails::{TAIL_WEAKER, TAIL_WINDOWS};

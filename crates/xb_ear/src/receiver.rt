@@ -1,6 +1,7 @@
 // A receiver: an ear, and no tails.
 use crate::ear::Ear;
 use crate::hearing::Heard;
+use crate::plain::PlainEar;
 use crate::tails::{kept, last_key};
 use std::marker::Model;
 
@@ -22,9 +23,10 @@ impl Model for Receiver {
 }
 
 impl Receiver {
-    ghost use Rattle.std.specs.Prelude.{◌≡◌, [], ◌∷◌, ◌++◌, List, ℤ};
+    ghost use Rattle.std.specs.Prelude.{◌≡◌, ◌<◌, ◌↔◌, [], ◌∷◌, ◌++◌, List, ℤ, IsSome, IfSome};
     ghost use Rattle.xb_ear.specs.declared.hearing.Heard.{Heard as HeardKey};
     ghost use Rattle.xb_ear.specs.Hearings.{listed};
+    ghost use Rattle.xb_ear.specs.Plain.{receiving_in};
     ghost use Rattle.xb_ear.specs.Receivers.{HasReceived, keys_of_sound};
 
     /// A receiver that has taken no sample.
@@ -54,5 +56,27 @@ impl Receiver {
             → keys ++ listed result ≡ keys_of_sound samples }
     {
         kept(self.last, self.ear.sounding())
+    }
+
+    /// A receiver that goes on from what another knew: its ear, and its last key. `None` where the window is full.
+    pub fn of_parts(ear: PlainEar, last: Option<Heard>) -> Option<Receiver>
+        ensures variant { IsSome result ↔ (ear.filled < 80) }
+        ensures value { IfSome result (λ receiver. receiver ≡ receiving_in ear last) }
+    {
+        if ear.filled >= 80 {
+            return None;
+        }
+        Some(Receiver {
+            ear: Ear::knowing(ear),
+            last,
+        })
+    }
+
+    /// What it knows, from which another goes on: its ear, and its last key.
+    pub fn parts(&self) -> (PlainEar, Option<Heard>)
+        ensures value { receiving_in result.0 result.1 ≡ self.now }
+        ensures few { result.0.filled < 80 }
+    {
+        (self.ear.plain(), self.last)
     }
 }
