@@ -1,0 +1,2 @@
+pub mod KeyNames
+pub mod HeardSoFar

@@ -1,2 +1,4 @@
 pub mod Calls
 pub mod Showing
+pub mod Names
+pub mod Ears

@@ -8,14 +8,20 @@
 //!   writes, or the status is its first fault, and the table is as it was.
 //! - `mfweb_route`: the longest code of the table that the digits begin with, or that there is none.
 //! - `mfweb_entry`: the line of the page of these marks.
+//! - `mfweb_ear`, `mfweb_hear`, `mfweb_heard`: what a receiver hears of samples, in parts of any lengths: the keys
+//!   are those of `keys_of_sound` of `xb_ear`.
 //! - `mfweb_tone`: the samples of a tone, as in `xb_tone`. `mfweb_limits`, `mfweb_cadence`: the standard
 //!   values.
 #![tactic(auto)]
 
+mod ears;
 mod exports;
+mod listening;
+mod names;
 mod status;
 
 pub use exports::{
     mfweb_add, mfweb_begin, mfweb_cadence, mfweb_entry, mfweb_limits, mfweb_route, mfweb_signals,
     mfweb_take, mfweb_tone,
 };
+pub use listening::{mfweb_ear, mfweb_hear, mfweb_heard};

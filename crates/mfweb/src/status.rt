@@ -7,6 +7,9 @@ use xb_structs::PrintFault;
 /// The digits begin with no code of the table.
 pub(crate) const NO_CODE: u32 = 20;
 
+/// It is no ear that was begun: its window is full.
+pub(crate) const NO_EAR: u32 = 21;
+
 /// The status of an entry that is not printed.
 pub(crate) fn print_status(fault: PrintFault) -> u32
     ensures value { result ≡ print_status fault }

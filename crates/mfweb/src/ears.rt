@@ -1,0 +1,190 @@
+// What an ear knows and hears, as plain numbers.
+ghost use Rattle.std.specs.Prelude.{◌≡◌, ◌↔◌, IsSome, IfSome, Some};
+ghost use Rattle.mfweb.specs.Ears.{IsEar, key_in, no_sight, plain_key, plain_optional, plain_sight};
+ghost use Rattle.mfweb.specs.Ears.{receiving_in, sight_in};
+
+use crate::names::name_of;
+use xb_ear::{Heard, Hearing, PlainEar, Receiver, Sight};
+use xb_model::Tone;
+
+/// Two tones that were heard together.
+#[repr(C)]
+#[derive(Clone, Copy)]
+pub struct WebSight {
+    /// The amplitude squared of the lower tone, where both were strongest.
+    pub low_level: u64,
+    /// The amplitude squared of the higher one.
+    pub high_level: u64,
+    /// The lower tone, in Hz.
+    pub low: u16,
+    /// The higher tone, in Hz.
+    pub high: u16,
+    /// Which key it is: 1 a digit, 2 KP, 3 ST, 4 none of them; 0 where nothing was heard.
+    pub kind: u16,
+    /// The digit.
+    pub value: u16,
+}
+
+/// A key that was heard. A window of 80 samples begins with each 20th sample.
+#[repr(C)]
+#[derive(Clone, Copy)]
+pub struct WebHeard {
+    /// Its tones.
+    pub sight: WebSight,
+    /// The number of the first window that saw it.
+    pub first: u64,
+    /// The number of the window after the last one that counted.
+    pub past: u64,
+}
+
+/// What an ear knows of a sound from its samples so far. All zeros is an ear before the first sample.
+#[repr(C)]
+#[derive(Clone, Copy)]
+pub struct WebEar {
+    /// How many windows there were.
+    pub at: u64,
+    /// The first of the last ones in a row that saw the same.
+    pub first: u64,
+    /// How many they are.
+    pub count: u64,
+    /// What they saw.
+    pub seen: WebSight,
+    /// The key that sounds.
+    pub sounding: WebHeard,
+    /// The last key that is no tail of another.
+    pub last: WebHeard,
+    /// How many samples of the next window are there: fewer than 80.
+    pub filled: u32,
+    /// These samples, and room for more.
+    pub window: [i16; 80],
+}
+
+fn sight_of(web: WebSight) -> Option<Sight>
+    ensures { result ≡ sight_in web }
+{
+    if web.kind == 0 {
+        return None;
+    }
+    Some(Sight {
+        pair: Tone {
+            low: web.low,
+            high: web.high,
+        },
+        low: web.low_level,
+        high: web.high_level,
+    })
+}
+
+fn key_of(web: WebHeard) -> Option<Heard>
+    ensures { result ≡ key_in web }
+{
+    Some(Heard {
+        sight: sight_of(web.sight)?,
+        first: web.first,
+        past: web.past,
+    })
+}
+
+fn plain_sight(sight: Sight) -> WebSight
+    ensures value { result ≡ plain_sight sight }
+    ensures back { sight_in result ≡ Some sight }
+{
+    let name = name_of(sight.pair);
+    WebSight {
+        low_level: sight.low,
+        high_level: sight.high,
+        low: sight.pair.low,
+        high: sight.pair.high,
+        kind: name.kind,
+        value: name.value,
+    }
+}
+
+// Nothing that was heard.
+fn no_sight() -> WebSight
+    ensures { result ≡ no_sight }
+{
+    WebSight {
+        low_level: 0,
+        high_level: 0,
+        low: 0,
+        high: 0,
+        kind: 0,
+        value: 0,
+    }
+}
+
+fn optional_sight(sight: Option<Sight>) -> WebSight
+    ensures { sight_in result ≡ sight }
+{
+    match sight {
+        None => no_sight(),
+        Some(sight) => plain_sight(sight),
+    }
+}
+
+/// A key in numbers.
+pub(crate) fn plain_key(key: Heard) -> WebHeard
+    ensures value { result ≡ plain_key key }
+    ensures back { key_in result ≡ Some key }
+{
+    WebHeard {
+        sight: plain_sight(key.sight),
+        first: key.first,
+        past: key.past,
+    }
+}
+
+/// A key in numbers, if there is one.
+pub(crate) fn plain_optional(key: Option<Heard>) -> WebHeard
+    ensures value { result ≡ plain_optional key }
+    ensures back { key_in result ≡ key }
+{
+    match key {
+        None => WebHeard {
+            sight: no_sight(),
+            first: 0,
+            past: 0,
+        },
+        Some(key) => plain_key(key),
+    }
+}
+
+/// The receiver that knows what an ear does; `None` exactly where it is no ear.
+pub(crate) fn receiver_of(ear: &WebEar) -> Option<Receiver>
+    ensures variant { IsSome result ↔ IsEar ear.now }
+    ensures value { IfSome result (λ receiver. receiver ≡ receiving_in ear.now) }
+{
+    let window = ear.window;
+    let parts = PlainEar {
+        window,
+        filled: ear.filled as usize,
+        hearing: Hearing {
+            at: ear.at,
+            seen: sight_of(ear.seen),
+            first: ear.first,
+            count: ear.count,
+            sounding: key_of(ear.sounding),
+        },
+    };
+    Receiver::of_parts(parts, key_of(ear.last))
+}
+
+// An ear that knows what a receiver does.
+pub(crate) fn ear_of(receiver: &Receiver) -> WebEar
+    ensures value { receiving_in result ≡ receiver.now }
+    ensures ear { IsEar result }
+{
+    let (parts, last) = receiver.parts();
+    let window = parts.window;
+    WebEar {
+        at: parts.hearing.at,
+        first: parts.hearing.first,
+        count: parts.hearing.count,
+        seen: optional_sight(parts.hearing.seen),
+        sounding: plain_optional(parts.hearing.sounding),
+        last: plain_optional(last),
+        filled: parts.filled as u32,
+        window,
+    }
+}
