@@ -15,6 +15,9 @@ const SIGNAL_BYTES = 8;
 const MOST_SIGNALS = 4;
 const ENTRY_BYTES = 1024;
 const MOST_SAMPLES = 16000;
+const EAR_BYTES = 296;
+const HEARD_BYTES = 40;
+const MOST_HEARD = 64;
 
 // Where in a line's bytes stands how its pulses are, and how its attempt is.
 const PHASE_AT = 8;
@@ -25,6 +28,9 @@ const ATTEMPT_AT = 12;
 // What a mark is.
 const Kind = { TRUNK: 0, DIGIT: 1, KP: 2, ST: 3, MUTILATED: 4, UNKNOWN: 5, ABANDONED: 6, TIMED_OUT: 7 };
 const isRefusal = (mark) => mark.kind >= Kind.MUTILATED;
+
+// A pair of tones that an ear heard and that is no key. The others are digits, KP and ST as marks are.
+const OTHER_PAIR = 4;
 
 // What a register is told.
 const Signal = { SEIZED: 0, DIGIT: 1, TIMED_OUT: 2, RELEASED: 3, CLOSED: 4 };
@@ -74,6 +80,9 @@ class Module {
     this.nextTable = room(TABLE_BYTES);
     this.trial = room(LINE_BYTES);
     this.samples = room(2 * MOST_SAMPLES);
+    this.taken = room(8);
+    this.heard = room(HEARD_BYTES * MOST_HEARD);
+    this.ear = room(EAR_BYTES);
     this.lines = room(LINE_BYTES * 10000);
     if (next > exports.memory.buffer.byteLength) throw new Error('the module has too little memory');
     this.view = new DataView(exports.memory.buffer);
@@ -229,5 +238,43 @@ class Module {
   tone(low, high, count) {
     this.calls.mfweb_tone(low, high, BigInt(this.samples), BigInt(count));
     return new Int16Array(this.bytes.buffer.slice(this.samples, this.samples + 2 * count));
+  }
+
+  // ---- what is heard of a sound
+
+  // What an ear knows that has heard nothing.
+  newEar() {
+    this.calls.mfweb_ear(BigInt(this.ear));
+    return this.bytes.slice(this.ear, this.ear + EAR_BYTES);
+  }
+
+  // Has an ear hear whole numbers of 16 bits, 8,000 a second: how many it took, the keys that they ended, and what it
+  // knows then. It takes no more than there is room for.
+  hear(ear, samples) {
+    const some = samples.subarray(0, MOST_SAMPLES);
+    this.bytes.set(ear, this.ear);
+    new Int16Array(this.bytes.buffer, this.samples, some.length).set(some);
+    const status = this.calls.mfweb_hear(BigInt(this.ear), BigInt(this.samples), BigInt(some.length),
+      BigInt(this.heard), BigInt(MOST_HEARD), BigInt(this.taken), BigInt(this.count));
+    if (status) throw new Error(`nothing is heard: status ${status}`);
+    const keys = Array.from({ length: this.number(this.count) }, (_, i) => this.heardAt(this.heard + HEARD_BYTES * i));
+    return { taken: this.number(this.taken), keys, ear: this.bytes.slice(this.ear, this.ear + EAR_BYTES) };
+  }
+
+  // The key that sounds where an ear's samples end, or null.
+  heardLast(ear) {
+    this.bytes.set(ear, this.ear);
+    const status = this.calls.mfweb_heard(BigInt(this.ear), BigInt(this.heard));
+    if (status) throw new Error(`nothing is heard: status ${status}`);
+    const key = this.heardAt(this.heard);
+    return key.kind ? key : null;
+  }
+
+  heardAt(at) {
+    const [lowLevel, highLevel, first, past] = [0, 8, 24, 32].map((part) => {
+      return Number(this.view.getBigUint64(at + part, true));
+    });
+    const [low, high, kind, value] = [16, 18, 20, 22].map((part) => this.view.getUint16(at + part, true));
+    return { kind, value, low, high, lowLevel, highLevel, first, past };
   }
 }

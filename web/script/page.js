@@ -12,9 +12,10 @@ class Office {
     this.clock = new Clock();
     this.sound = new Sound();
     this.route = new RouteView($('route'), $('trunk'));
-    this.sender = new Sender($('tones'), $('keying'), module, this.clock, this.sound);
+    this.sender = new Sender($('tones'), $('keying'), $('far'), module, this.clock, this.sound);
     this.tape = new Tape($('roll'), $('entries'));
     this.decks = new Decks(wasm);
+    this.recordings = new Recordings(module);
     this.coming = [];
     this.telephones = LINES.map((line) => new Telephone(line, module, this.clock, this));
     $('telephones').replaceWith(...this.telephones.map((telephone) => telephone.top));
@@ -77,9 +78,9 @@ class Office {
       return;
     }
     const keyed = marks.filter((mark) => mark.kind === Kind.DIGIT).map((mark) => mark.value).join('');
-    this.tape.add(text, `${telephone.name} is keyed on trunk group ${marks[0].value}`, null);
+    const entry = this.tape.add(text, `${telephone.name} is keyed on trunk group ${marks[0].value}`, null);
     this.route.showKeyed(telephone.name, number, this.module.codeOf(number), marks[0].value, keyed);
-    this.sender.send(telephone.name, marks);
+    this.sender.send(telephone.name, marks, (keys, heard) => this.tape.showHeard(entry, keys, heard));
   }
 
   whyRefused({ kind, value }, number) {
@@ -127,6 +128,7 @@ class Office {
     $('row').addEventListener('click', () => this.setRow(!this.isRow));
     $('sound').addEventListener('click', () => this.setSound(!this.sound.isOn));
     $('pace').addEventListener('change', () => { this.move(); this.clock.setPace(Number($('pace').value)); });
+    $('noise').addEventListener('change', () => { this.sender.noise = Number($('noise').value); });
     $('routes').addEventListener('input', () => this.tableTyped());
     $('example').addEventListener('click', () => this.readExample());
     $('file').addEventListener('change', () => {
@@ -164,11 +166,14 @@ class Office {
   drag(event) {
     if (!event.dataTransfer.types.includes('Files')) return;
     event.preventDefault();
-    $('page').classList.toggle('over', event.type === 'dragover');
+    for (const id of ['page', 'ear']) $(id).classList.toggle('over', event.type === 'dragover');
     if (event.type === 'drop') this.readFile(event.dataTransfer.files[0]);
   }
 
-  readFile(file) { if (file) this.decks.read(file.name, file); }
+  readFile(file) {
+    if (file && isRecording(file)) this.recordings.read(file);
+    else if (file) this.decks.read(file.name, file);
+  }
 
   readExample() { this.decks.read('calls.deck', new Blob([$('example-deck').textContent])); }
 

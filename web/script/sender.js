@@ -1,17 +1,25 @@
-// The sender: the keys of a call as pairs of bars on six lanes, one for each frequency, and their sound. Calls that
-// are keyed at once wait for one another here, so that each is seen and heard; in an office each has its own sender.
+// The sender: the keys of a call as pairs of bars on six lanes, one for each frequency, their sound, and what the far
+// end hears of it. Calls that are keyed at once wait for one another here, so that each is seen and heard; in an office
+// each has its own sender.
 
 const FREQUENCIES = [700, 900, 1100, 1300, 1500, 1700];
 const LANE_WEIGHTS = { 700: '0', 900: '1', 1100: '2', 1300: '4', 1500: '7', 1700: '' };
 const WIDEST_KEY = 92;
 const NARROWEST_PAIR = 58;
 
-const keyName = (mark) => ({ [Kind.KP]: 'KP', [Kind.ST]: 'ST' })[mark.kind] ?? String(mark.value);
 const keysOf = (marks) => marks.filter((mark) => [Kind.DIGIT, Kind.KP, Kind.ST].includes(mark.kind));
 
+// Samples that are each changed by chance, by so much at most.
+function noisy(samples, most) {
+  if (most === 0) return samples;
+  const changed = (sample) => sample + Math.round(most * (2 * Math.random() - 1)) / 32768;
+  return samples.map((sample) => Math.max(-1, Math.min(32767 / 32768, changed(sample))));
+}
+
 class Sender {
-  constructor(top, status, module, clock, sound) {
-    Object.assign(this, { top, status, module, clock, sound });
+  constructor(top, status, far, module, clock, sound) {
+    Object.assign(this, { top, status, far, module, clock, sound });
+    this.noise = 0;
     this.cadence = module.cadence();
     this.waiting = [];
     this.playing = null;
@@ -19,15 +27,17 @@ class Sender {
     this.draw([]);
   }
 
-  send(name, marks) { this.waiting.push({ name, keys: keysOf(marks) }); }
+  // tell: is given what the far end heard of these keys, once they have sounded.
+  send(name, marks, tell) { this.waiting.push({ name, keys: keysOf(marks), tell }); }
 
   sendAgain() { if (this.last && !this.playing) this.waiting.push(this.last); }
 
   clear() {
     this.waiting = [];
-    this.playing = null;
+    if (this.playing) this.end();
     this.last = null;
     this.status.textContent = '';
+    this.far.textContent = 'nothing';
     this.draw([]);
   }
 
@@ -60,8 +70,27 @@ class Sender {
     const keying = this.timesOf(call.keys, slower);
     const groups = this.draw(call.keys);
     keying.times.forEach((time, i) => { time.group = groups[i]; });
-    if (this.sound.isOn) this.sound.play(this.samplesOf(keying));
-    this.playing = { ...call, ...keying, began: performance.now() };
+    const samples = noisy(this.samplesOf(keying), this.noise);
+    this.sound.play(samples);
+    const hearing = { samples: wholeSamples(samples), ear: new Ear(this.module), sounded: 0, heard: [] };
+    this.playing = { ...call, ...keying, ...hearing, began: performance.now() };
+  }
+
+  // The far end hears what has sounded so far.
+  hearUntil(ms) {
+    const { samples, ear, sounded, heard } = this.playing;
+    const until = Math.min(samples.length, SAMPLES_A_MS * Math.floor(ms));
+    if (until <= sounded) return;
+    heard.push(...ear.hear(samples.subarray(sounded, until)));
+    this.playing.sounded = until;
+    this.far.textContent = heardText(heard);
+  }
+
+  end() {
+    this.hearUntil(Infinity);
+    const { ear, heard, keys, tell } = this.playing;
+    this.playing = null;
+    tell(keys, [...heard, ...ear.end()]);
   }
 
   move() {
@@ -72,9 +101,10 @@ class Sender {
     const look = ({ from, until }) => (now >= until ? 'gone' : now >= from ? 'on' : '');
     for (const time of times) time.group.setAttribute('class', look(time));
     const on = times.find(({ from, until }) => now >= from && now < until)?.mark;
+    this.hearUntil(now);
     if (now >= ends) {
       this.status.textContent = `${name}: ${plural(times.length, 'key')} sent`;
-      this.playing = null;
+      this.end();
     } else if (on) {
       this.status.textContent = `${name}: ${keyName(on)}, ${on.low} + ${on.high} Hz`;
     } else if (now < times[0].from) {

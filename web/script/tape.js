@@ -1,5 +1,5 @@
-// The tape: the entries of all lines in the order in which they came, each in mfbank's words, and a refused one with
-// the picture of its attempt.
+// The tape: the entries of all lines in the order in which they came, each in mfbank's words, below it what the far
+// end heard of a keyed one, and the picture of the attempt of a refused one.
 
 const MOST_ENTRIES = 60;
 
@@ -12,6 +12,16 @@ class Tape {
     make('span', {}, entry, words);
     if (picture) this.addPicture(entry, picture);
     if (this.list.children.length > MOST_ENTRIES) this.list.firstElementChild.remove();
+    this.roll.scrollTop = this.roll.scrollHeight;
+    return entry;
+  }
+
+  // What the far end heard of the keys of an entry. A call that sounds once more is heard once more.
+  showHeard(entry, keys, heard) {
+    const line = entry.querySelector('.far') ?? make('span', { class: 'far' }, entry);
+    const isSame = heardText(heard) === keys.map(keyName).join(' ');
+    line.classList.toggle('wrong', !isSame);
+    line.textContent = `The far end heard ${heardText(heard)}${isSame ? '' : ', which is not what was keyed'}`;
     this.roll.scrollTop = this.roll.scrollHeight;
   }
 

@@ -11,9 +11,12 @@ const sleep = (ms) => new Promise((done) => { setTimeout(done, ms); });
 const WORDS = ['--headless', '--no-sandbox', '--disable-gpu', '--hide-scrollbars', '--remote-debugging-port=0'];
 
 class Browser {
-  async open() {
+  // sound: a WAV file, which the browser hears over and over in place of a microphone, and asks nobody.
+  async open(sound) {
     this.home = fs.mkdtempSync(path.join(os.tmpdir(), 'mfbank-web-'));
-    const words = [...WORDS, `--user-data-dir=${this.home}`, 'about:blank'];
+    const microphone = ['--use-fake-ui-for-media-stream', '--use-fake-device-for-media-stream',
+      `--use-file-for-fake-audio-capture=${path.resolve(sound)}`];
+    const words = [...WORDS, ...microphone, `--user-data-dir=${this.home}`, 'about:blank'];
     this.process = spawn(process.env.CHROMIUM || 'chromium', words, { stdio: ['ignore', 'ignore', 'pipe'] });
     const port = await this.port();
     const pages = await (await fetch(`http://127.0.0.1:${port}/json/list`)).json();

@@ -2,6 +2,7 @@
 // route tables.
 'use strict';
 const { is } = require('./checks.js');
+const { keysOfPage } = require('./ears.js');
 const { sleep } = require('./browser.js');
 
 const BY_OPERATOR = 'KEYED 0001 KP:1100+1700 0:1300+1500 ST:1500+1700';
@@ -49,7 +50,28 @@ class CallTries {
     const heard = await it.run('sounds.find((sound) => sound.length > 1000).map((sample) => sample * 32768)');
     is(`its sound is what mftone writes, ${samples.length} samples`, heard, samples);
     is('each break and make clicks', await it.run('sounds.filter((sound) => sound.length < 1000).length'), 71);
+    await it.until('document.querySelector("#entries li:last-child .far")');
+    const keys = keysOfPage(this.read('seven_digits.page'));
+    is('the far end hears it', await this.heardFar(), `The far end heard ${keys}`);
     await it.hangUp();
+  }
+
+  heardFar() { return this.it.text('#entries li:last-child .far'); }
+
+  // The trunk is noisy, and then drowned in noise: what is heard there is promised no more.
+  async throughNoise() {
+    const { it, tape } = this;
+    const heard = [];
+    for (const most of ['277', '16000', '0']) {
+      await it.choose('#noise', most);
+      await it.lift();
+      await it.dial('0');
+      await tape.more(1);
+      await it.until('document.querySelector("#entries li:last-child .far")');
+      heard.push((await this.heardFar()) === 'The far end heard KP 0 ST');
+      await it.hangUp();
+    }
+    is('the far end hears it through noise, but not where it is drowned', heard, [true, false, true]);
   }
 
   async byHands() {

@@ -1,10 +1,10 @@
-// The scripts of the page that draw nothing, for Node: the module's calls, and the reading of tables and decks.
+// The scripts of the page that draw nothing, for Node: the module's calls, its ears, the reading of tables and decks.
 'use strict';
 const fs = require('fs');
 const path = require('path');
 
-const SCRIPTS = ['module.js', 'toml.js', 'csv.js', 'deck.js'];
-const NAMES = ['Module', 'Refused', 'readTable', 'pageOfDeck', 'Kind'];
+const SCRIPTS = ['module.js', 'toml.js', 'csv.js', 'deck.js', 'ear.js'];
+const NAMES = ['Module', 'Refused', 'readTable', 'pageOfDeck', 'Kind', 'Ear', 'heardText'];
 const readScript = (name) => fs.readFileSync(path.join(__dirname, '..', 'script', name), 'utf8');
 const text = SCRIPTS.map(readScript).join('\n');
 const chain = new Function(`'use strict';\n${text}\nreturn { ${NAMES.join(', ')} };`)();

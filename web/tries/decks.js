@@ -1,12 +1,14 @@
 // node tries/decks.js PAGE EXAMPLES MFBANK: decks through the page's module and its reading, in Node. Each deck of
 // EXAMPLES gives its page or its fault; 500 decks and 500 route tables that are made by a seed, right and wrong ones,
-// give what MFBANK gives, by the module and by its copy; and a row takes less than a microsecond.
+// give what MFBANK gives, by the module and by its copy; a row takes less than a microsecond; and the sound of EXAMPLES
+// is heard.
 'use strict';
 const { spawnSync } = require('child_process');
 const fs = require('fs');
 const path = require('path');
 const { Module, modulesOf, givenOf } = require('./chain.js');
 const { is, end } = require('./checks.js');
+const { tryEars } = require('./ears.js');
 const { deckOf, deckOfTable, deckOfSeededTable, dialRows } = require('./seeds.js');
 
 const [, , page, examples, mfbank] = process.argv;
@@ -95,6 +97,7 @@ async function main() {
     tryDecks(`route tables of docs/DECK.md, by ${name}`, module, ofDocs);
     const nanoseconds = nanosecondsOfRow(module);
     is(`${nanoseconds.toFixed(0)} ns a row, by ${name}`, nanoseconds < MOST_NANOSECONDS, true);
+    tryEars(module, name, read);
   }
   end();
 }

@@ -1,6 +1,6 @@
 // node tries/drive.js PAGE EXAMPLES MFBANK MFHEAR [PICTURES]: drives the page in Chromium as a visitor would, and
-// compares its tape, its pictures, its sound and its pages of decks with what they should be. Pictures of the page are
-// put into PICTURES.
+// compares its tape, its pictures, its sound, what it hears and its pages of decks with what they should be. Pictures
+// of the page are put into PICTURES.
 'use strict';
 const fs = require('fs');
 const path = require('path');
@@ -8,6 +8,7 @@ const { CallTries } = require('./calls.js');
 const { tryChance } = require('./chance.js');
 const { is, end } = require('./checks.js');
 const { tryDecks, tryLongDeck } = require('./dropped.js');
+const { tryRecordings, tryMicrophone } = require('./recorded.js');
 const { tryNames, tryKeysAlone, tryOpening, tryPhone, tryLessMotion, takePictures } = require('./looks.js');
 const { TapeTry } = require('./tape.js');
 const { Visitor } = require('./visitor.js');
@@ -17,7 +18,7 @@ const read = (name) => fs.readFileSync(path.join(examples, name));
 const table = read('routes.toml').toString().trimEnd();
 
 async function tryAll(it) {
-  await it.open();
+  await it.open(path.join(examples, 'seven_digits.wav'));
   await it.look();
   await it.visit('#quiet');
   await it.listen();
@@ -30,10 +31,13 @@ async function tryAll(it) {
   await calls.atOnce();
   await calls.slowly();
   await tape.compare(table, 0);
+  await calls.throughNoise();
   await calls.byTables();
   await tryChance(it, table, { mfbank, mfhear });
   await tryDecks(it, examples, read);
   await tryLongDeck(it, mfbank, table);
+  await tryRecordings(it, examples, read);
+  await tryMicrophone(it, read);
   await tryNames(it);
   await tryKeysAlone(it);
   await tryOpening(it);

@@ -9,7 +9,7 @@ const { BY_OPERATOR } = require('./calls.js');
 const CONTROLS = ['button', 'link', 'textbox', 'combobox', 'radio', 'checkbox', 'progressbar', 'image', 'log', 'region',
   'Canvas', 'DisclosureTriangle'];
 const TABBED = ['demo', 'sound', 'row', 'pace', 'Dial 1 on line 7', 'Dial 0 on line 7', 'Lift the receiver, line 7',
-  'routes', 'file', 'example', 'roll', 'page'];
+  'noise', 'recording', 'microphone', 'heard', 'routes', 'file', 'example', 'roll', 'page'];
 
 async function tryNames(it) {
   const { nodes } = await it.send('Accessibility.getFullAXTree');
@@ -22,7 +22,7 @@ async function tryNames(it) {
   is('so has all that takes the keys', nameless(focusable), []);
   const live = await it.run(`[...document.querySelectorAll('[role=log], [role=alert], [role=status]')]
     .map((it) => it.id)`);
-  is('the tape and the faults are live', live, ['roll', 'fault', 'read']);
+  is('the tape, what is heard and the faults are live', live, ['roll', 'listening', 'heard', 'fault', 'read']);
 }
 
 async function tryKeysAlone(it) {
@@ -99,7 +99,7 @@ async function tryLessMotion(it) {
 async function takePictures(it, folder) {
   fs.mkdirSync(folder, { recursive: true });
   const picture = (name, isWhole) => it.picture(path.join(folder, `${name}.png`), isWhole);
-  for (const [name, width, height] of [['wide', 1280, 1120], ['phone', 390, 844]]) {
+  for (const [name, width, height] of [['wide', 1280, 1164], ['phone', 390, 844]]) {
     for (const dark of [false, true]) {
       const shade = dark ? 'dark' : 'light';
       await it.look({ width, height, dark });
