@@ -24,7 +24,7 @@ KINDS = ("TRUNK", "DIGIT", "KP", "ST", "MUTILATED", "UNKNOWN", "ABANDONED", "TIM
 """What a mark is, by its number in C. The last four are refusals, each an entry by itself."""
 
 NO_MEMORY, NOT_OPENED, WRONG_LINE, WRONG_STATE, WRONG_MS, NO_ROOM = 1, 3, 4, 5, 6, 7
-WRONG_DIGIT, CLOSED, SEIZED, NOT_SEIZED = 19, 20, 21, 22
+WRONG_DIGIT, CLOSED, SEIZED, NOT_SEIZED, INCOMPLETE = 19, 20, 21, 22, 23
 
 
 class TableError(ValueError):
@@ -60,6 +60,7 @@ class SignalError(ValueError):
         CLOSED: "the record of the line has ended",
         SEIZED: "the line is seized already",
         NOT_SEIZED: "the line is not seized",
+        INCOMPLETE: "the digits complete no number",
     }
 
     def __init__(self, status: int):
@@ -117,6 +118,8 @@ def _declare(library: ctypes.CDLL) -> None:
     library.mfchain_entries.restype = number
     library.mfchain_dialled.argtypes = [address, address]
     library.mfchain_dialled.restype = number
+    library.mfchain_route_number.argtypes = [address, ctypes.c_char_p, size, address, size, address]
+    library.mfchain_route_number.restype = number
     library.mfchain_digit.argtypes = [address, address, number, ctypes.c_uint8, address, size, address]
     library.mfchain_digit.restype = number
     for name in ("seize", "mutilated_digit", "time_out", "release"):
@@ -212,6 +215,17 @@ class Office:
         with self._lock:
             count = self._library.mfchain_dialled(known, ctypes.addressof(digits))
         return list(digits[:count])
+
+    def route(self, digits: list) -> list:
+        """The marks of the number that digits complete, 0 to 9 each, on line 0: its keying, or its refusal. Digits after
+        it are not read. Raises `SignalError` where they complete none."""
+        table, _, room, count = self._places
+        given = bytes(digit if 0 <= digit <= 255 else 255 for digit in digits)
+        with self._lock:
+            status = self._library.mfchain_route_number(table, given, len(given), room, MOST_MARKS, count)
+            if status:
+                raise SignalError(status)
+            return self._given()
 
     def _tell(self, line: int, call, *digit) -> list:
         """Tells the register of a line what was heard."""

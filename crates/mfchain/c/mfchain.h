@@ -133,6 +133,8 @@ uint32_t mfchain_time_out(const mf_table *table, mf_line *line, uint32_t number,
 uint32_t mfchain_release(const mf_table *table, mf_line *line, uint32_t number, mf_mark *room, size_t room_len,
                          size_t *count);
 uint32_t mfchain_dialled(const mf_line *line, uint8_t digits[MF_MOST_DIGITS]);
+uint32_t mfchain_route_number(const mf_table *table, const uint8_t *digits, size_t len, mf_mark *room,
+                              size_t room_len, size_t *count);
 
 /* Reads the route table that a TOML text of `len` bytes writes. Where it is refused, `fault` gets the reason, a
    text that ends with a zero and is cut to `fault_len` bytes, and the table is as it was. */
@@ -238,21 +240,15 @@ static inline enum mf_status mf_dialled(const mf_line *line, uint8_t digits[MF_M
     return MF_DONE;
 }
 
-/* The marks of the number that `len` digits complete, on line 0, as a fresh line gives them that hears these digits.
-   Digits after it are not heard. MF_INCOMPLETE where they complete none. */
+/* The marks of the number that `len` digits complete, on line 0, as a line gives them that dials just this number: its
+   keying, or its refusal as unknown. What stands after the number is not read. MF_INCOMPLETE where they complete none,
+   and MF_WRONG_DIGIT where one before that is over 9. */
 static inline enum mf_status mf_route_number(const mf_table *table, const uint8_t *digits, size_t len,
                                              mf_mark *marks, size_t room, size_t *count)
 {
-    mf_line line;
-    enum mf_status status;
-    size_t heard;
-    if (!digits)
+    if (!table || !digits || !marks || !count)
         return MF_NULL;
-    mfchain_reopen(&line);
-    status = mf_seize(table, &line, 0, marks, room, count);
-    for (heard = 0; status == MF_DONE && *count == 0 && heard < len; heard++)
-        status = mf_digit(table, &line, 0, digits[heard], marks, room, count);
-    return status == MF_DONE && *count == 0 ? MF_INCOMPLETE : status;
+    return (enum mf_status)mfchain_route_number(table, digits, len, marks, room, count);
 }
 
 #ifdef __cplusplus

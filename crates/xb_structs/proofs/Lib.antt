@@ -8,3 +8,4 @@ pub mod Adding
 pub mod EntryLines
 pub mod PrintedTapes
 pub mod FilledTables
+pub mod NumberSteps

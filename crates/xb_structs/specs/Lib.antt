@@ -17,3 +17,4 @@ pub mod Status
 pub mod Calls
 pub mod EntryLines
 pub mod Deciding
+pub mod Numbers

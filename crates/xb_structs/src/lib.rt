@@ -11,6 +11,7 @@
 //! - `hear`: what a caller hears on a line by itself, as a digit, in place of its rows. `laws::entrances_agree`: the
 //!   signals of a record, and its close, give its tape. `dialled`: the digits so far of an attempt that goes on.
 //! - `deciding`: the longest code of the table that the digits of a number begin with.
+//! - `route_number`: the marks of the number that digits complete, by its route: what the chain makes of it.
 //! - `print_entry`: the line of the page of these marks (`entry_text`). `laws::prints_the_tape`: printed in the
 //!   row that gives it, by the line's count of entries, each is the next line of the tape.
 //! - `laws::keeps_promises`: the marks of a line are those of a live office, nothing taken back or missing.
@@ -29,6 +30,7 @@ pub mod laws;
 mod line;
 mod mark;
 mod not_heard;
+mod number;
 mod printing;
 mod reading;
 mod refusal;
@@ -48,6 +50,7 @@ pub use lamps::dialled;
 pub use line::{PlainLine, PulsePart, RegisterPart};
 pub use mark::PlainMark;
 pub use not_heard::NotHeard;
+pub use number::{NotRouted, route_number};
 pub use printing::{PrintFault, print_entry};
 pub use reading::open;
 pub use refusal::Refusal;
