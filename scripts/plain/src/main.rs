@@ -1,13 +1,16 @@
 //! The page of a deck that has no fault, on one thread, as a Rust program would have it without a proof:
-//! records are read by the crate `csv`, and each goes through the state of its line.
+//! records are cut by the machine of the crate `csv`, and each goes through the state of its line, which takes no memory
+//! of its own.
+use csv_core::ReadRecordResult;
 use std::error::Error;
-use std::fmt::Write as _;
-use std::io::{self, Read, Write as _};
+use std::io::{self, Read, Write};
 
 type Fault = Box<dyn Error>;
 
 const LINES: usize = 10_000;
 const MARK: &[u8] = b"\n---\n";
+const MOST_RECORD_BYTES: usize = 64;
+const MOST_FIELDS: usize = 4;
 
 struct Limits {
     pulse_min: u64,
@@ -31,27 +34,65 @@ struct Table {
     routes: Vec<Route>,
 }
 
-/// Why an attempt is refused, and how many digits were good.
-type Refusal = (&'static str, usize);
+/// The most digits of a number.
+const MOST_DIGITS: usize = 10;
 
-/// What a register has heard of an attempt.
-#[derive(Default)]
-struct Attempt {
-    number: Vec<u8>,
-    pulses: u8,
-    bad: bool,
-    outcome: Option<Result<(), Refusal>>,
+/// What came of an attempt.
+#[derive(Clone, Copy)]
+enum Outcome {
+    Dialled,
+    Mutilated,
+    TimedOut,
+    Abandoned,
 }
 
-/// A line: how long its loop has been closed, or open, its attempt, and what the page has of it.
-#[derive(Default)]
+/// An attempt, as far as a line has heard it.
+#[derive(Clone, Copy, Default)]
+enum Attempt {
+    #[default]
+    None,
+    Heard,
+    Ended(Outcome),
+}
+
+/// A line: how long its loop has been closed, or open; its attempt, with the digits of it; and its entries, the first
+/// and the last of them.
+#[derive(Clone, Copy)]
 struct Line {
-    make: bool,
     ms: u64,
+    number: [u8; MOST_DIGITS],
+    count: u8,
+    pulses: u8,
+    bad: bool,
+    make: bool,
     closed: bool,
-    attempt: Option<Attempt>,
-    entries: usize,
-    page: String,
+    attempt: Attempt,
+    first: u32,
+    last: u32,
+}
+
+/// No entry.
+const NONE: u32 = u32::MAX;
+
+const IDLE: Line = Line {
+    ms: 0,
+    number: [0; MOST_DIGITS],
+    count: 0,
+    pulses: 0,
+    bad: false,
+    make: false,
+    closed: false,
+    attempt: Attempt::None,
+    first: NONE,
+    last: NONE,
+};
+
+/// An attempt that has ended, and the next one of its line.
+struct Entry {
+    number: [u8; MOST_DIGITS],
+    count: u8,
+    outcome: Outcome,
+    next: u32,
 }
 
 fn digits(text: &str) -> Vec<u8> {
@@ -116,36 +157,6 @@ fn length(ten: bool, number: &[u8]) -> Option<usize> {
     }
 }
 
-impl Attempt {
-    /// Hears a make, which is the first of the attempt where it has no pulses and no digits yet.
-    fn hear_make(&mut self, table: &Table, ms: u64, first: bool) {
-        let limits = &table.limits;
-        if !first && ms < limits.make_min {
-            self.bad = true;
-        }
-        if !first && ms >= limits.pause {
-            if self.bad || self.pulses > 10 {
-                self.outcome = Some(Err(("MUTILATED", self.number.len())));
-                return;
-            }
-            self.number.push(self.pulses % 10);
-            self.pulses = 0;
-            if length(table.ten, &self.number) == Some(self.number.len()) {
-                self.outcome = Some(Ok(()));
-                return;
-            }
-        }
-        if ms >= limits.timeout {
-            self.outcome = Some(Err(("TIMEDOUT", self.number.len())));
-        }
-    }
-
-    fn hear_break(&mut self, limits: &Limits, ms: u64) {
-        self.bad |= ms < limits.pulse_min || ms > limits.pulse_max;
-        self.pulses = (self.pulses + 1).min(11);
-    }
-}
-
 fn route<'a>(table: &'a Table, number: &[u8]) -> Option<&'a Route> {
     let with = |code: &[u8]| {
         table
@@ -177,94 +188,192 @@ const TONES: [&str; 10] = [
 ];
 
 impl Line {
-    /// Puts what came of the attempt on the page, if there is one.
-    fn end_attempt(
-        &mut self,
-        table: &Table,
-        totals: &mut [usize; 2],
-        line: usize,
-    ) -> Result<(), Fault> {
-        let Some(Attempt {
-            number, outcome, ..
-        }) = self.attempt.take()
-        else {
-            return Ok(());
-        };
-        self.entries += 1;
-        write!(self.page, "{line:04} {} ", self.entries)?;
-        let outcome = outcome.unwrap_or(Err(("ABANDONED", number.len())));
-        match outcome.and_then(|()| route(table, &number).ok_or(("UNKNOWN", number.len()))) {
-            Ok(route) => {
-                totals[0] += 1;
-                write!(self.page, "KEYED {:04} KP:1100+1700", route.trunk)?;
-                for digit in route.prefix.iter().chain(number.iter().skip(route.delete)) {
-                    write!(self.page, " {digit}:{}", TONES[usize::from(*digit)])?;
-                }
-                self.page.push_str(" ST:1500+1700\n");
+    fn digits(&self) -> &[u8] {
+        &self.number[..usize::from(self.count)]
+    }
+
+    /// Hears a make, which is the first of the attempt where it has no pulses and no digits yet.
+    fn hear_make(&mut self, table: &Table, first: bool) {
+        let limits = &table.limits;
+        self.bad |= !first && self.ms < limits.make_min;
+        if !first && self.ms >= limits.pause {
+            if self.bad || self.pulses > 10 {
+                self.attempt = Attempt::Ended(Outcome::Mutilated);
+                return;
             }
-            Err((reason, count)) => {
-                totals[1] += 1;
-                writeln!(self.page, "REFUSED {reason} {count}")?;
+            self.number[usize::from(self.count)] = self.pulses % 10;
+            self.count += 1;
+            self.pulses = 0;
+            if length(table.ten, self.digits()) == Some(usize::from(self.count)) {
+                self.attempt = Attempt::Ended(Outcome::Dialled);
+                return;
             }
         }
-        Ok(())
+        if self.ms >= limits.timeout {
+            self.attempt = Attempt::Ended(Outcome::TimedOut);
+        }
+    }
+
+    fn hear_break(&mut self, limits: &Limits) {
+        self.bad |= self.ms < limits.pulse_min || self.ms > limits.pulse_max;
+        self.pulses = (self.pulses + 1).min(11);
+    }
+
+    /// Puts what came of the attempt after the entries of the line, if there is one.
+    fn end_attempt(&mut self, entries: &mut Vec<Entry>) {
+        let outcome = match self.attempt {
+            Attempt::None => return,
+            Attempt::Heard => Outcome::Abandoned,
+            Attempt::Ended(outcome) => outcome,
+        };
+        let place = entries.len() as u32;
+        entries.push(Entry {
+            number: self.number,
+            count: self.count,
+            outcome,
+            next: NONE,
+        });
+        match self.last {
+            NONE => self.first = place,
+            last => entries[last as usize].next = place,
+        }
+        self.last = place;
+        self.attempt = Attempt::None;
     }
 
     /// Hears the run that has ended.
-    fn end_run(
-        &mut self,
-        table: &Table,
-        totals: &mut [usize; 2],
-        line: usize,
-    ) -> Result<(), Fault> {
+    fn end_run(&mut self, table: &Table, entries: &mut Vec<Entry>) {
         if self.ms == 0 {
-            return Ok(());
+            return;
         }
         if !self.make && self.ms >= table.limits.release {
-            return self.end_attempt(table, totals, line);
+            self.end_attempt(entries);
+            return;
         }
-        let first = self.attempt.is_none();
-        if first && !self.make {
-            return Ok(());
+        match self.attempt {
+            Attempt::None if self.make => {
+                self.attempt = Attempt::Heard;
+                (self.count, self.pulses, self.bad) = (0, 0, false);
+                self.hear_make(table, true);
+            }
+            Attempt::None | Attempt::Ended(_) => {}
+            Attempt::Heard if self.make => self.hear_make(table, false),
+            Attempt::Heard => self.hear_break(&table.limits),
         }
-        let attempt = self.attempt.get_or_insert_with(Attempt::default);
-        match attempt.outcome {
-            Some(_) => {}
-            None if self.make => attempt.hear_make(table, self.ms, first),
-            None => attempt.hear_break(&table.limits, self.ms),
-        }
-        Ok(())
     }
 }
 
-fn page_of(table: &Table, rows: &[u8]) -> Result<String, Fault> {
-    let mut lines = Vec::new();
-    lines.resize_with(LINES, Line::default);
-    let mut totals = [0, 0];
-    let mut reader = csv::Reader::from_reader(rows);
-    let mut record = csv::ByteRecord::new();
-    while reader.read_byte_record(&mut record)? {
-        let name = number(&record[0]);
-        let line: &mut Line = lines.get_mut(name).ok_or("a wrong line")?;
-        let (make, ms) = (&record[1] == b"M", number(&record[2]) as u64);
-        line.closed |= &record[1] == b"C";
+/// The records of a text, as the machine of the crate `csv` cuts them.
+struct Records<'a> {
+    reader: csv_core::Reader,
+    left: &'a [u8],
+    text: [u8; MOST_RECORD_BYTES],
+    ends: [usize; MOST_FIELDS],
+}
+
+impl<'a> Records<'a> {
+    fn new(text: &'a [u8]) -> Records<'a> {
+        Records {
+            reader: csv_core::Reader::new(),
+            left: text,
+            text: [0; MOST_RECORD_BYTES],
+            ends: [0; MOST_FIELDS],
+        }
+    }
+
+    /// The three fields of the next record, if there is one.
+    fn next(&mut self) -> Result<Option<[&[u8]; 3]>, Fault> {
+        loop {
+            let (result, read, _, fields) =
+                self.reader
+                    .read_record(self.left, &mut self.text, &mut self.ends);
+            self.left = &self.left[read..];
+            match result {
+                // what is left is empty then, and the next call ends the last record
+                ReadRecordResult::InputEmpty => {}
+                ReadRecordResult::Record if fields == 3 => break,
+                ReadRecordResult::End => return Ok(None),
+                _ => return Err("a record that has not three short fields".into()),
+            }
+        }
+        let [first, second, third, _] = self.ends;
+        Ok(Some([
+            &self.text[..first],
+            &self.text[first..second],
+            &self.text[second..third],
+        ]))
+    }
+}
+
+/// Hears the records of all lines; returns the lines and the entries.
+fn hear(table: &Table, rows: &[u8]) -> Result<(Vec<Line>, Vec<Entry>), Fault> {
+    let mut lines = vec![IDLE; LINES];
+    let mut entries = Vec::new();
+    let mut records = Records::new(rows);
+    records.next()?;
+    while let Some([name, state, ms]) = records.next()? {
+        let line = lines.get_mut(number(name)).ok_or("a wrong line")?;
+        let (make, ms) = (state == b"M", number(ms) as u64);
+        line.closed |= state == b"C";
         if ms == 0 || line.closed {
             continue;
         }
         if line.make != make {
-            line.end_run(table, &mut totals, name)?;
+            line.end_run(table, &mut entries);
             line.make = make;
             line.ms = 0;
         }
         line.ms += ms;
     }
-    let mut page = String::new();
-    for (name, line) in lines.iter_mut().enumerate() {
-        line.end_run(table, &mut totals, name)?;
-        line.end_attempt(table, &mut totals, name)?;
-        page.push_str(&line.page);
+    for line in &mut lines {
+        line.end_run(table, &mut entries);
+        line.end_attempt(&mut entries);
     }
-    let [keyed, refused] = totals;
+    Ok((lines, entries))
+}
+
+impl Entry {
+    /// Puts the entry on the page, without its line and its number; returns whether it is keyed.
+    fn print(&self, table: &Table, page: &mut Vec<u8>) -> io::Result<bool> {
+        let number = &self.number[..usize::from(self.count)];
+        let reason = match self.outcome {
+            Outcome::Dialled => match route(table, number) {
+                Some(route) => {
+                    write!(page, "KEYED {:04} KP:1100+1700", route.trunk)?;
+                    for digit in route.prefix.iter().chain(&number[route.delete..]) {
+                        page.extend_from_slice(&[b' ', b'0' + digit, b':']);
+                        page.extend_from_slice(TONES[usize::from(*digit)].as_bytes());
+                    }
+                    page.extend_from_slice(b" ST:1500+1700\n");
+                    return Ok(true);
+                }
+                None => "UNKNOWN",
+            },
+            Outcome::Mutilated => "MUTILATED",
+            Outcome::TimedOut => "TIMEDOUT",
+            Outcome::Abandoned => "ABANDONED",
+        };
+        writeln!(page, "REFUSED {reason} {}", self.count)?;
+        Ok(false)
+    }
+}
+
+fn page_of(table: &Table, lines: &[Line], entries: &[Entry]) -> io::Result<Vec<u8>> {
+    let mut page = Vec::new();
+    let (mut keyed, mut refused) = (0, 0);
+    for (name, line) in lines.iter().enumerate() {
+        let (mut place, mut count) = (line.first, 0);
+        while let Some(entry) = entries.get(place as usize) {
+            count += 1;
+            write!(page, "{name:04} {count} ")?;
+            if entry.print(table, &mut page)? {
+                keyed += 1;
+            } else {
+                refused += 1;
+            }
+            place = entry.next;
+        }
+    }
     writeln!(page, "KEYED {keyed} REFUSED {refused}")?;
     Ok(page)
 }
@@ -277,7 +386,7 @@ fn main() -> Result<(), Fault> {
         .position(|bytes| bytes == MARK)
         .ok_or("a deck without a cut")?;
     let table = table_of(std::str::from_utf8(&deck[..cut + 1])?)?;
-    let page = page_of(&table, &deck[cut + MARK.len()..])?;
-    io::stdout().write_all(page.as_bytes())?;
+    let (lines, entries) = hear(&table, &deck[cut + MARK.len()..])?;
+    io::stdout().write_all(&page_of(&table, &lines, &entries)?)?;
     Ok(())
 }
