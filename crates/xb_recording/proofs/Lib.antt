@@ -1,2 +1,4 @@
 pub mod HeardLevels
+pub mod WaitLemmas
+pub mod BitLemmas
 pub mod SaidLemmas

@@ -1,3 +1,5 @@
 pub mod Hysteresis
+pub mod Pieces
+pub mod Samples
 pub mod Says
 pub mod Formats
