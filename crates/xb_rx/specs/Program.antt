@@ -17,7 +17,7 @@ program = codes "mfrx"
 
 -- the line for words that are refused
 abbrev pub usage_line : List ℕ
-usage_line = codes "mfrx: usage: mfrx [--line N] [--trunk T] [--raw [--rate HZ] [--ulaw]]\n"
+usage_line = codes "mfrx: usage: mfrx [--line N] [--trunk T] [--tones] [--json] [--raw [--rate HZ] [--ulaw]]\n"
 
 -- it names each option of the command
 abbrev pub UsageNamesEachOption : Type 0
