@@ -29,3 +29,12 @@ pub struct Request {
     /// How the sound is given.
     pub input: Input,
 }
+
+/// What the words ask for.
+#[derive(Clone, Copy, Debug)]
+pub enum Asked<'a> {
+    /// That a sound is written down.
+    Hear(Request),
+    /// That it is compared with the page in the file of this name.
+    Compare(&'a str, Input),
+}
