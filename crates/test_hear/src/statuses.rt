@@ -26,7 +26,7 @@ impl Program for Mfhear {
     }
 }
 
-const USAGE: &[u8] = b"mfhear: usage: mfhear [--line N] [--html] [--json] [--svg [--attempt K]]\n";
+const USAGE: &[u8] = b"mfhear: usage: mfhear [--line N] [--html] [--svg [--attempt K]]\n";
 
 // The words after the program's name, the deck, the status, and what stands on standard error; nothing is
 // written.
@@ -59,8 +59,6 @@ const CASES: &[(&[&str], &[u8], u8, &[u8])] = &[
     ),
     (&["--svg"], DECK, 2, USAGE),
     (&["--line", "8", "--html", "--svg"], DECK, 2, USAGE),
-    (&["--line", "8", "--json", "--svg"], DECK, 2, USAGE),
-    (&["--html", "--json"], DECK, 2, USAGE),
     (&["--line", "8", "--html", "--attempt", "1"], DECK, 2, USAGE),
     (&["--line", "8", "--attempt", "1"], DECK, 2, USAGE),
     (&["--line", "8", "--svg", "--attempt", "0"], DECK, 2, USAGE),

@@ -15,8 +15,8 @@ use Rattle.xb_hear.proofs.OfLines.{agrees}
 pub drawn-as-asked : (T : Table) (R : List LoopRow) (l : ℕ) (k : Option ℕ) (L : Limits) (A : List AttemptOfRuns) (n : ℕ) (text : List ℕ)
     → L ≡ T.limits → A ≡ attempts_of_line T R l → n ≡ length A
     → ((deck : Contents) → unless_missing k n deck ≡ Ok deck) → IsPicture L l k A text
-    → (before : Option ℕ) → Tells (Picture l k) before (says_asked (Picture l k) (contents T R)) text
-drawn-as-asked T R l k L A n text limits attempts many found drawn before =
+    → Tells (Picture l k) (says_asked (Picture l k) (contents T R)) text
+drawn-as-asked T R l k L A n text limits attempts many found drawn =
     let all = attempts_of_line T R l in
     let there : IsPicture L l k all text = subst (λ X. IsPicture L l k X text) attempts drawn in
     record {

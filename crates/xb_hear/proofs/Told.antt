@@ -1,5 +1,5 @@
 -- What is told of lines, one after the other.
-use Rattle.std.proofs.Common.{◌≡◌, ◌||◌, ℕ, zero, suc, ◌+◌, List, [], ◌++◌, ◌∙◌, Bool, true, false, add-one, ap, ap₂, append_assoc, append-nil, length, nat_lt, Option, refl, subst, sym}
+use Rattle.std.proofs.Common.{◌≡◌, ◌||◌, ℕ, zero, suc, ◌+◌, List, [], ◌++◌, ◌∙◌, Bool, true, false, add-one, ap, ap₂, append_assoc, append-nil, length, nat_lt, refl, subst, sym}
 use Rattle.xb_model.specs.declared.line.TheConstants.{LINES}
 use Rattle.xb_model.specs.declared.limits.Limits.{Limits}
 use Rattle.xb_model.specs.Rows.{LoopRow}
@@ -87,9 +87,3 @@ page-is asked T R o p q head put tail =
       of_lines = put.is;
       is = parts (head_text T.limits) put.text tail_text o p q head put.put tail;
     }
-
--- objects alone
-pub objects-are : (asked : Choice) (before : Option ℕ) (T : Table) (R : List LoopRow) (o p : List ℕ) → o ≡ []
-    → Adds (AreOfLines (form.Json before) asked T R) o p → AreOfLines (form.Json before) asked T R p
-objects-are asked before T R o p none put =
-    subst (AreOfLines (form.Json before) asked T R) (sym (put.put ∙ ap (λ front. front ++ put.text) none)) put.is

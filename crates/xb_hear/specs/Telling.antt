@@ -1,4 +1,4 @@
--- What is told of the lines of a deck, as a text, as a page or as JSON.
+-- What is told of the lines of a deck, as a text or as a page.
 use Rattle.std.specs.Prelude.{ℕ, zero, suc, ◌≡◌, ◌||◌, List, [], ◌++◌, Bool, true, false, length, nat_lt, None}
 use Rattle.xb_model.specs.declared.line.TheConstants.{LINES}
 use Rattle.xb_model.specs.declared.limits.Limits.{Limits}
@@ -12,7 +12,6 @@ use Rattle.xb_hear.specs.declared.request.Choice.TheVariants as choice
 use Rattle.xb_hear.specs.declared.request.Form.{Form}
 use Rattle.xb_hear.specs.declared.request.Form.TheVariants as form
 use Rattle.xb_hear.specs.Hearing.{attempts_of_line, told_text}
-use Rattle.xb_hear.specs.Objects.{objects_from}
 
 -- the section of a line: its attempts, each with what came of it, and its picture
 pub record IsSection (limits : Limits) (line : ℕ) (attempts : List AttemptOfRuns) (text : List ℕ) : Type 0 where
@@ -25,11 +24,9 @@ abbrev pub IsSectionIf : Bool → Limits → ℕ → List AttemptOfRuns → List
 IsSectionIf true limits line attempts text = IsSection limits line attempts text
 IsSectionIf false limits line attempts text = text ≡ []
 
--- what is told of a line with these attempts: a text, or an object for each, or a section if it has an attempt or is
--- alone
+-- what is told of a line with these attempts: a text, or a section if it has an attempt or is alone
 abbrev pub IsTold : Form → Bool → Limits → ℕ → List AttemptOfRuns → List ℕ → Type 0
 IsTold form.Text alone limits line attempts text = text ≡ told_text alone limits line attempts
-IsTold (form.Json before) alone limits line attempts text = text ≡ objects_from before limits line 1 attempts
 IsTold form.Html alone limits line attempts text =
     IsSectionIf (alone || nat_lt 0 (length attempts)) limits line attempts text
 

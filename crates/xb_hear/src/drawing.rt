@@ -1,5 +1,5 @@
 // The picture of a line of a deck.
-ghost use Rattle.std.specs.Prelude.{◌≡◌, ◌<◌, ◌^◌, ℕ, IfErr, IfOk, OnOk, Option, length, string_bytes};
+ghost use Rattle.std.specs.Prelude.{◌≡◌, ◌<◌, ◌^◌, IfErr, IfOk, OnOk, length, string_bytes};
 ghost use Rattle.xb_deck.specs.Contents.{Contents, contents};
 ghost use Rattle.xb_hear.specs.DeckReport.{IsFaultOfDeck, Tells, says_asked, unless_missing};
 ghost use Rattle.xb_hear.specs.declared.request.Request.TheVariants.{Picture};
@@ -34,8 +34,7 @@ pub(crate) fn picture(
 ) -> Result<String, HearFault>
     requires { length rows.now < 2 ^ 32 }
     ensures text { let asked = Picture line attempt in let deck = contents table.now rows.now in
-        IfOk result (λ text. (before : Option ℕ) →
-        Tells asked before (says_asked asked deck) (string_bytes text)) }
+        IfOk result (λ text. Tells asked (says_asked asked deck) (string_bytes text)) }
     ensures fault { let asked = Picture line attempt in let deck = contents table.now rows.now in
         IfErr result (IsFaultOfDeck (says_asked asked deck)) }
 {

@@ -1,20 +1,17 @@
 // From a deck on a reader to its report, page or picture on a writer.
-ghost use Rattle.std.specs.Prelude.{◌≡◌, ◌≤◌, ◌<◌, ◌^◌, Err, IfErr, IfOk, Some, length, string_bytes};
+ghost use Rattle.std.specs.Prelude.{◌≤◌, ◌<◌, ◌^◌, IfErr, IfOk, length, string_bytes};
 ghost use Rattle.xb_deck.specs.declared.deck.TheConstants.{MOST_DECK_BYTES};
-ghost use Rattle.xb_deck.specs.Contents.{contents, contents_of, contents_of_parts, with_rows};
-ghost use Rattle.xb_deck.specs.Deck.{deck_parts, parts_of_deck};
+ghost use Rattle.xb_deck.specs.Contents.{contents, with_rows};
 ghost use Rattle.xb_hear.specs.DeckReport.{Delivers, IsFaultOfDeck, Tells, and_asked, says, says_asked};
-ghost use Rattle.xb_hear.specs.Places.{before_records, lines_before};
 ghost use Rattle.xb_rows.specs.RowTexts.{fault_of_text, rows_of_text};
 
 use crate::drawing::picture;
 use crate::fault::HearFault;
-use crate::lines::{objects, page, report};
-use crate::places::lines_before;
+use crate::lines::{page, report};
 use crate::request::{Choice, Request};
 use std::alloc::Global;
 use std::io::{Read, Write};
-use xb_deck::{Deck, DeckFault, read_deck};
+use xb_deck::{Deck, read_deck};
 use xb_model::Row;
 use xb_routes::RouteTable;
 use xb_rows::rows_of_text;
@@ -25,13 +22,12 @@ use xb_text::write_whole;
 fn text_of(
     alloc: Global,
     request: Request,
-    before: Option<u64>,
     table: &RouteTable,
     rows: &[Row],
 ) -> Result<String, HearFault>
     requires { length rows.now < 2 ^ 32 }
     ensures text { IfOk result (λ text.
-        Tells request before (says_asked request (contents table.now rows.now)) (string_bytes text)) }
+        Tells request (says_asked request (contents table.now rows.now)) (string_bytes text)) }
     ensures fault { IfErr result (IsFaultOfDeck (says_asked request (contents table.now rows.now))) }
 {
     match request {
@@ -40,55 +36,39 @@ fn text_of(
         Request::Picture(line, attempt) => picture(alloc, table, rows, line, attempt),
         Request::Page => Ok(page(alloc, table, rows, Choice::All)?),
         Request::PageOf(line) => Ok(page(alloc, table, rows, Choice::Line(line))?),
-        Request::Objects => Ok(objects(alloc, table, rows, Choice::All, before)?),
-        Request::ObjectsOf(line) => Ok(objects(alloc, table, rows, Choice::Line(line), before)?),
     }
 }
 
-// What is asked for of a table, and of the parts of a deck.
+// What is asked for of a table, and of the text of rows.
 fn text_of_rows(
     alloc: Global,
     request: Request,
     table: &RouteTable,
-    deck: Deck<'_>,
+    rows: &[u8],
 ) -> Result<String, HearFault>
-    ensures text { let rows = rows_of_text deck.rows.now in IfOk result (λ text. Tells request
-        (lines_before deck.table.now deck.rows.now (length rows))
-        (and_asked request (with_rows table.now rows (fault_of_text deck.rows.now))) (string_bytes text)) }
+    ensures text { IfOk result (λ text. Tells request (and_asked request
+        (with_rows table.now (rows_of_text rows.now) (fault_of_text rows.now))) (string_bytes text)) }
     ensures fault { IfErr result (IsFaultOfDeck (and_asked request
-        (with_rows table.now (rows_of_text deck.rows.now) (fault_of_text deck.rows.now)))) }
+        (with_rows table.now (rows_of_text rows.now) (fault_of_text rows.now)))) }
 {
-    let rows = rows_of_text(alloc, deck.rows)?;
-    let before = lines_before(deck.table, deck.rows, rows.len());
-    text_of(alloc, request, before, table, &rows)
-}
-
-// The parts of a deck.
-fn parts_of(bytes: &[u8]) -> Result<Deck<'_>, DeckFault>
-    requires { length bytes.now ≤ MOST_DECK_BYTES }
-    ensures parts { IfOk result (λ deck. deck_parts bytes.now ≡ Some (parts_of_deck deck)) }
-    ensures contents { IfOk result (λ deck.
-        contents_of bytes.now ≡ contents_of_parts (Some (parts_of_deck deck))) }
-    ensures fault { IfErr result (λ fault. contents_of bytes.now ≡ Err fault) }
-{
-    Deck::cut(bytes).ok_or(DeckFault::NoCut)
+    let rows = rows_of_text(alloc, rows)?;
+    text_of(alloc, request, table, &rows)
 }
 
 // What is asked for of a deck that was read.
 fn text_of_deck(alloc: Global, request: Request, bytes: &[u8]) -> Result<String, HearFault>
     requires { length bytes.now ≤ MOST_DECK_BYTES }
-    ensures text { IfOk result (λ text.
-        Tells request (before_records bytes.now) (says request bytes.now) (string_bytes text)) }
+    ensures text { IfOk result (λ text. Tells request (says request bytes.now) (string_bytes text)) }
     ensures fault { IfErr result (IsFaultOfDeck (says request bytes.now)) }
 {
-    let deck = parts_of(bytes)?;
+    let deck = Deck::open(bytes)?;
     let table = deck.route_table(alloc)?;
-    text_of_rows(alloc, request, &table, deck)
+    text_of_rows(alloc, request, &table, deck.rows)
 }
 
 /// Reads a deck, and writes what is asked for: of the report the limits of the deck, and each attempt with
 /// its digits, their figures, what spoiled them and where, and what came of it, as a text or as a page of
-/// HTML; or the picture of a line; or an object of JSON for each attempt. Nothing is written before the whole deck is read: a page is held in
+/// HTML; or the picture of a line. Nothing is written before the whole deck is read: a page is held in
 /// memory, and then written.
 ///
 /// On an `Err` nothing was written, except on `Write`, where the beginning was.

@@ -4,7 +4,6 @@ ghost use Rattle.xb_heard.specs.PlacedRuns.{placed_runs};
 ghost use Rattle.xb_model.specs.Rows.{LoopRow};
 ghost use Rattle.xb_model.specs.declared.line.TheConstants.{LINES};
 ghost use Rattle.xb_hear.specs.Hearing.{report_text};
-ghost use Rattle.xb_hear.specs.declared.request.Form.TheVariants.{Json};
 ghost use Rattle.xb_hear.specs.Telling.{Adds, AreOfLines, IsOfLine, IsOfLinesBelow, IsPage};
 
 use crate::request::{Choice, Form};
@@ -120,21 +119,5 @@ pub(crate) fn page(
     push_head(&mut out, table.limits())?;
     push_lines(alloc, &mut out, Form::Html, table, rows, choice)?;
     push_tail(&mut out)?;
-    Ok(out)
-}
-
-// The objects of the lines that are asked for, in a deck where so many text lines stand before the first record.
-pub(crate) fn objects(
-    alloc: Global,
-    table: &RouteTable,
-    rows: &[Row],
-    choice: Choice,
-    before: Option<u64>,
-) -> Result<String, AllocError>
-    requires { length rows.now < 2 ^ 32 }
-    ensures { IfOk result (λ text. AreOfLines (Json before) choice table.now rows.now (string_bytes text)) }
-{
-    let mut out = String::new(alloc);
-    push_lines(alloc, &mut out, Form::Json(before), table, rows, choice)?;
     Ok(out)
 }

@@ -4,7 +4,6 @@ ghost use Rattle.xb_heard.specs.Attempts.{attempt_in};
 ghost use Rattle.xb_hear.specs.Hearing.{nothing_text, told_text};
 ghost use Rattle.xb_hear.specs.Telling.{Adds, IsSection, IsSectionIf, IsTold};
 
-use crate::objects::push_objects;
 use crate::request::Form;
 use std::alloc::{AllocError, Global};
 use xb_heard::HeardAttempt;
@@ -97,6 +96,5 @@ pub(crate) fn push_told(
     match form {
         Form::Text => push_text(alloc, out, limits, line, attempts, alone),
         Form::Html => push_html(alloc, out, limits, line, attempts, alone),
-        Form::Json(before) => push_objects(alloc, out, before, limits, line, attempts),
     }
 }

@@ -1,4 +1,2 @@
 pub mod HeardLevels
-pub mod WaitLemmas
-pub mod BitLemmas
 pub mod SaidLemmas

@@ -1,5 +1,3 @@
 pub mod Hysteresis
-pub mod Pieces
-pub mod Samples
 pub mod Says
 pub mod Formats

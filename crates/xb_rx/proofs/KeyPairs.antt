@@ -7,8 +7,7 @@ use Rattle.xb_model.specs.declared.key.Tone.{Tone as Pair}
 use Rattle.xb_model.specs.MfPairs.{mf_pair, pair}
 use Rattle.xb_ear.specs.declared.hearing.Heard.{Heard}
 use Rattle.xb_ear.specs.Hearings.{is_same_pair}
-use Rattle.xb_keyed.specs.Names.{digit_of_pair, digit_pairs}
-use Rattle.xb_rx.specs.Keyings.{digit_of, is_kp, is_st}
+use Rattle.xb_rx.specs.Keyings.{digit_of, digit_of_pair, digit_pairs, is_kp, is_st}
 use Rattle.xb_rx.specs.Begun.{IsDigit}
 
 and-true : (a b : Bool) → (a && b) ≡ true → b ≡ true

@@ -1,7 +1,6 @@
 pub mod KeyPairs
 pub mod KeyingSteps
 pub mod Written
-pub mod Listings
 pub mod KeySteps
 pub mod LastSteps
 pub mod Samples

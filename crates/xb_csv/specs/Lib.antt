@@ -1,4 +1,0 @@
-pub mod Cells
-pub mod Seconds
-pub mod Tables
-pub mod WorkedTables
