@@ -95,21 +95,15 @@ fn check_writer<H: Threads + Wait + Clock + Abort + Sync>(
     check_short(rt, &out, beginning, 1);
 }
 
-// Each run of an office starts its threads anew, so most ways to fail are tried at some bytes of the page alone.
-const STRIDE: usize = 16;
-
 fn check_writers<H: Threads + Wait + Clock + Abort + Sync>(
     rt: &H,
     alloc: Global,
     texts: &Texts,
     fault: Option<ErrorKind>,
-    at_each_byte: bool,
 ) {
     let page = texts.page.as_bytes();
     for room in 0..page.len() {
-        if at_each_byte || room % STRIDE == 0 {
-            check_writer(rt, alloc, texts.deck.as_bytes(), &page[..room], fault);
-        }
+        check_writer(rt, alloc, texts.deck.as_bytes(), &page[..room], fault);
     }
 }
 
@@ -130,13 +124,12 @@ fn check_flush<H: Threads + Wait + Clock + Abort + Sync>(
 #[test]
 fn writers_fail(rt: HostRuntime) -> Result<(), Fail> {
     let texts = make_texts(rt.alloc())?;
-    check_writers(&rt, rt.alloc(), &texts, Some(ErrorKind::Other), true);
-    check_writers(&rt, rt.alloc(), &texts, Some(ErrorKind::Interrupted), false);
-    // a write that takes no byte
-    check_writers(&rt, rt.alloc(), &texts, None, false);
     for kind in KINDS {
+        check_writers(&rt, rt.alloc(), &texts, Some(kind));
         check_flush(&rt, rt.alloc(), &texts, kind);
     }
+    // a write that takes no byte
+    check_writers(&rt, rt.alloc(), &texts, None);
     Ok(())
 }
 
