@@ -15,7 +15,7 @@ const SIGNAL_BYTES = 8;
 const MOST_SIGNALS = 4;
 const ENTRY_BYTES = 1024;
 const MOST_SAMPLES = 16000;
-const EAR_BYTES = 296;
+const EAR_BYTES = 736;
 const HEARD_BYTES = 40;
 const MOST_HEARD = 64;
 

@@ -27,6 +27,7 @@ abbrev pub parts_in : WebEar → PlainEar
 parts_in ear = record {
   window = ear.window;
   filled = ear.filled;
+  held = ear.held;
   hearing = record {
     at = ear.at;
     seen = sight_in ear.seen;
@@ -38,7 +39,7 @@ parts_in ear = record {
 
 -- what it knows
 abbrev pub receiving_in : WebEar → Receiving
-receiving_in ear = receiving_of_parts (parts_in ear) (key_in ear.last)
+receiving_in ear = receiving_of_parts (parts_in ear)
 
 -- it may have been begun: its window is not full
 abbrev pub IsEar : WebEar → Type 0

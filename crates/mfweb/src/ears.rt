@@ -51,8 +51,8 @@ pub struct WebEar {
     pub seen: WebSight,
     /// The key that sounds.
     pub sounding: WebHeard,
-    /// The last key that is no tail of another.
-    pub last: WebHeard,
+    /// What the last 60 windows held: both tones' levels together, of silence 0.
+    pub held: [u64; 60],
     /// How many samples of the next window are there: fewer than 80.
     pub filled: u32,
     /// These samples, and room for more.
@@ -156,9 +156,11 @@ pub(crate) fn receiver_of(ear: &WebEar) -> Option<Receiver>
     ensures value { IfSome result (λ receiver. receiver ≡ receiving_in ear.now) }
 {
     let window = ear.window;
-    let parts = PlainEar {
+    let held = ear.held;
+    Receiver::of_parts(PlainEar {
         window,
         filled: ear.filled as usize,
+        held,
         hearing: Hearing {
             at: ear.at,
             seen: sight_of(ear.seen),
@@ -166,8 +168,7 @@ pub(crate) fn receiver_of(ear: &WebEar) -> Option<Receiver>
             count: ear.count,
             sounding: key_of(ear.sounding),
         },
-    };
-    Receiver::of_parts(parts, key_of(ear.last))
+    })
 }
 
 // An ear that knows what a receiver does.
@@ -175,15 +176,16 @@ pub(crate) fn ear_of(receiver: &Receiver) -> WebEar
     ensures value { receiving_in result ≡ receiver.now }
     ensures ear { IsEar result }
 {
-    let (parts, last) = receiver.parts();
+    let parts = receiver.parts();
     let window = parts.window;
+    let held = parts.held;
     WebEar {
         at: parts.hearing.at,
         first: parts.hearing.first,
         count: parts.hearing.count,
         seen: optional_sight(parts.hearing.seen),
         sounding: plain_optional(parts.hearing.sounding),
-        last: plain_optional(last),
+        held,
         filled: parts.filled as u32,
         window,
     }

@@ -15,6 +15,7 @@ use Rattle.xb_ear.specs.LongRuns.{label}
 use Rattle.xb_ear.specs.Pairs.{seen}
 use Rattle.xb_ear.specs.Receivers.{keys_of_sound}
 use Rattle.xb_ear.specs.SingleTones.{IsNoKey, IsQuiet, IsToneOf, SingleTonesAreNoKeys}
+use Rattle.xb_ear.proofs.Fading.{sees-silence}
 use Rattle.xb_ear.proofs.Near.{one-bound, within-drop, within-take}
 use Rattle.xb_ear.proofs.OneTone.{one-tone-is-no-key, sees-none-in, weak_at}
 use Rattle.xb_ear.proofs.Received.{nothing-sounds}
@@ -118,16 +119,18 @@ module _ (h : ℕ) (weak : list_all (λ n. weak_at (h * 100) n) (range_with_len 
   in-before : (w : ℕ) → 20 * w + 80 ≤ length before → sees all w ≡ None
   in-before w fits =
       let at : 20 * w ≡ 0 + 20 * w = omega arith in
-      ap (λ (xs : List ℤ). label (seen xs)) (piece-of [] before (tone ++ after) (20 * w) (20 * w) at fits)
-      ∙ quiet-sees before quiet_before (20 * w) fits
+      sees-silence all w
+      (ap (λ (xs : List ℤ). label (seen xs)) (piece-of [] before (tone ++ after) (20 * w) (20 * w) at fits)
+      ∙ quiet-sees before quiet_before (20 * w) fits)
 
   in-tone : (w : ℕ) → length before ≤ 20 * w → 20 * w + 80 ≤ length before + length tone → sees all w ≡ None
   in-tone w low high =
       let n : ℕ = 20 * w - length before in
       let at : 20 * w ≡ length before + n = omega (arith, low) in
       let fits : n + 80 ≤ length tone = omega (arith, low, high) in
-      ap (λ (xs : List ℤ). label (seen xs)) (piece-of before tone after (20 * w) n at fits)
-      ∙ sees-none-in h weak amplitude most tone is n fits
+      sees-silence all w
+      (ap (λ (xs : List ℤ). label (seen xs)) (piece-of before tone after (20 * w) n at fits)
+      ∙ sees-none-in h weak amplitude most tone is n fits)
 
   in-after : (w : ℕ) → length before + length tone ≤ 20 * w → 20 * w + 80 ≤ length all → sees all w ≡ None
   in-after w low high =
@@ -140,9 +143,10 @@ module _ (h : ℕ) (weak : list_all (λ n. weak_at (h * 100) n) (range_with_len 
       let fits : n + 80 ≤ length after = omega (arith, at, long_past, total, high) in
       let same : all ≡ past ++ (after ++ []) =
       sym (append_assoc before tone after) ∙ ap (λ (xs : List ℤ). past ++ xs) (sym (append-nil after)) in
-      ap (λ (xs : List ℤ). label (seen (take 80 (drop (20 * w) xs)))) same
+      sees-silence all w
+      (ap (λ (xs : List ℤ). label (seen (take 80 (drop (20 * w) xs)))) same
       ∙ ap (λ (xs : List ℤ). label (seen xs)) (piece-of past after [] (20 * w) n at fits)
-      ∙ quiet-sees after quiet_after n fits
+      ∙ quiet-sees after quiet_after n fits)
 
   -- after each window, one of the next four lies in the tone or in a silence, or there is none
   soon-none : (w : ℕ) → w < windows_in (length all) → (d : ℕ) × IsSoon (sees all) (windows_in (length all)) w d

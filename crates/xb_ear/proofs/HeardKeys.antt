@@ -1,7 +1,6 @@
 -- What is keyed is heard, disturbed too.
-use Rattle.std.proofs.Common.{◌≡◌, ◌∙◌, ℕ, zero, suc, ◌+◌, ◌-◌, ◌*◌, ◌≤◌, Bool, true, false, List, [], ◌∷◌, ◌++◌, map, replicate, length, sym, ap, subst, arith, refl, ℤ, pos, Option, Some, None, inl, inr, ◌⊎◌, append_assoc, append-nil, length-append}
+use Rattle.std.proofs.Common.{◌≡◌, ◌∙◌, ℕ, zero, suc, ◌+◌, ◌-◌, ◌*◌, ◌≤◌, false, List, [], ◌∷◌, ◌++◌, map, replicate, length, sym, ap, subst, arith, refl, ℤ, pos, Option, Some, None, inl, inr, ◌⊎◌, append_assoc, append-nil, length-append}
 use Rattle.std.specs.List.{range_with_len}
-use Rattle.std.proofs.lemmas.Bool.{cases_lt}
 use Rattle.std.proofs.lemmas.List.{length-map, length-replicate}
 use Rattle.std.proofs.lemmas.Simd.{map-map}
 use Rattle.std.proofs.lemmas.List.FromFn.{length-map-range_with_len}
@@ -18,15 +17,14 @@ use Rattle.xb_tone.specs.Sines.{pair_sample}
 use Rattle.xb_tone.specs.Sounds.{silence}
 use Rattle.xb_tone.proofs.KeyWaves.{each_digit}
 use Rattle.xb_ear.specs.Disturbed.{AreWithin, bounded}
-use Rattle.xb_ear.specs.Ears.{heard, sights, window, windows_in}
+use Rattle.xb_ear.specs.Ears.{heard, seen_at, sights, windows_in}
 use Rattle.xb_ear.specs.HeardKeys.{IsHearable, MOST_NOISE, MOST_NOISE_IN_TONES, disturbable, mark_disturbable, pairs_in, tones_of}
 use Rattle.xb_ear.specs.Hearings.{silent}
-use Rattle.xb_ear.specs.Pairs.{seen}
 use Rattle.xb_ear.specs.LongRuns.{is_same_label, label, needed_of, one}
-use Rattle.xb_ear.proofs.Standing.{Sees, is_strong}
+use Rattle.xb_ear.proofs.Fading.{AreLow, sees-key, sees-silence}
 use Rattle.xb_ear.proofs.Near.{within-length}
 use Rattle.xb_ear.proofs.Runs.{Gives, HasArrived, gives-then, needed-range, stays}
-use Rattle.xb_ear.proofs.Segments.{all-in-range, between, part-turns, part_of, range-split, sees, sees-part, sight_at}
+use Rattle.xb_ear.proofs.Segments.{all-in-range, between, part-turns, part_of, range-split, sees, sees-part}
 use Rattle.xb_ear.proofs.Shown.{Shows, silence-shows, still}
 use Rattle.xb_ear.proofs.ShownKeys.{shows-key}
 use Rattle.xb_ear.proofs.Steps.{Known, after_all, gives_all, known, pairs-heard}
@@ -69,26 +67,14 @@ long-enough cadence lawful (Digit d) is =
 abbrev IsReady : Option Pair → List (ℤ × ℕ) → ℕ → Type 0
 IsReady a past z = ((a ≡ None) × (length past ≡ 0)) ⊎ ((is_same_label a None ≡ false) × (200 ≤ z))
 
-abbrev pub strong_at : List ℤ → ℕ → Bool
-strong_at samples w = is_strong (sight_at samples w)
-
--- a window sees what is as strong as a key, or nothing; or else the fourth one after it does, if there is one
-abbrev pub IsSteady : List ℤ → ℕ → ℕ → Type 0
-IsSteady samples total w =
-    (strong_at samples w ≡ true) ⊎ (20 * (w + 4) + 80 ≤ total → strong_at samples (w + 4) ≡ true)
-
--- what is given from a place on, and that the windows from there on are steady
-pub record Outcome (samples : List ℤ) (k : Known) (from total : ℕ) (what : List Pair) : Type 0 where
-  pub gives : Gives k (between (sees samples) from total) what None
-  pub steady : (w : ℕ) → from ≤ 20 * w → 20 * w + 80 ≤ total → IsSteady samples total w
-
-module _ (cadence : Cadence) (lawful : IsHearable cadence) (samples : List ℤ) where
+module _ (cadence : Cadence) (lawful : IsHearable cadence) (samples : List ℤ) (low : AreLow samples) where
   quiet-part : (past rest : List (ℤ × ℕ)) (z : ℕ) (a : Option Pair) (k : Known) → HasArrived a k → IsReady a past z
       → AreWithin (past ++ (part_of still MOST_NOISE z ++ rest)) samples
       → Gives k (between (sees samples) (length past) (length past + z)) (one a) None
   quiet-part past rest z a k arrived ready near =
       let sees-still : (w : ℕ) → length past ≤ 20 * w → 20 * w + 80 ≤ length past + z → sees samples w ≡ None =
-      λ w from to. (sees-part still MOST_NOISE None silence-shows past rest samples z w near from to).pair in
+      λ w from to. sees-silence samples w
+      (sees-part still MOST_NOISE None silence-shows past rest samples z w near from to).pair in
       elim ready [
         | inl first ↦
             let all = all-in-range (sees samples) None (windows_in (length past))
@@ -105,19 +91,12 @@ module _ (cadence : Cadence) (lawful : IsHearable cadence) (samples : List ℤ) 
       → HasArrived a k → IsReady a past z
       → AreWithin (past ++ (part_of still MOST_NOISE z ++ disturbable cadence marks)) samples
       → (total : ℕ) → total ≡ length past + z + length (disturbable cadence marks)
-      → Outcome samples k (length past) total (one a ++ tones_of marks)
+      → Gives k (between (sees samples) (length past) total) (one a ++ tones_of marks) None
   from-quiet [] keyed past z a k arrived ready near total is =
       let run = quiet-part past [] z a k arrived ready near in
       let end : total ≡ length past + z = omega (arith, is) in
-      let what : List Pair = one a ++ [] in
-      record {
-        gives =
-            subst (λ (n : ℕ). Gives k (between (sees samples) (length past) n) what None) (sym end)
-            (subst (λ ps. Gives k (between (sees samples) (length past) (length past + z)) ps None)
-            (sym (append-nil (one a))) run);
-        steady = λ w low high.
-            inl (sees-part still MOST_NOISE None silence-shows past [] samples z w near low (omega (arith, high, end))).strong;
-      }
+      subst (λ (n : ℕ). Gives k (between (sees samples) (length past) n) (one a ++ []) None) (sym end)
+      (subst (λ ps. Gives k (between (sees samples) (length past) (length past + z)) ps None) (sym (append-nil (one a))) run)
   from-quiet (Trunk t ∷ marks) keyed past z a k arrived ready near total is =
       let lead : ℕ = cadence.lead_ms * 8 in
       let rest = disturbable cadence marks in
@@ -170,10 +149,20 @@ module _ (cadence : Cadence) (lawful : IsHearable cadence) (samples : List ℤ) 
       subst (λ (xs : List (ℤ × ℕ)). AreWithin xs samples)
       (ap (λ (xs : List (ℤ × ℕ)). past ++ (quiet ++ xs)) (append_assoc tone pause later)
       ∙ sym (append_assoc past quiet (tone ++ (pause ++ later)))) near1 in
-      let sees-tone : (w : ℕ) → to ≤ 20 * w → 20 * w + 80 ≤ end → Sees (Some p) (sight_at samples w) =
-      λ w low high. sees-part f MOST_NOISE_IN_TONES (Some p) shows past2 (pause ++ later) samples m w near2
-      (omega (arith, at2, low)) (omega (arith, at2, high)) in
-      let run2 = part-turns j None (Some p) refl to m end refl long (λ w low high. (sees-tone w low high).pair) k1 run.arrived in
+      let ends : end ≤ length samples =
+      omega (
+        arith,
+        at2,
+        tone-long,
+        within-length (past2 ++ (tone ++ (pause ++ later))) samples near2,
+        length-append past2 (tone ++ (pause ++ later)),
+        length-append tone (pause ++ later),
+      ) in
+      let sees-tone : (w : ℕ) → to ≤ 20 * w → 20 * w + 80 ≤ end → sees samples w ≡ Some p =
+      λ w from to. sees-key samples low p w (omega (arith, to, ends))
+      (sees-part f MOST_NOISE_IN_TONES (Some p) shows past2 (pause ++ later) samples m w near2
+      (omega (arith, at2, from)) (omega (arith, at2, to))) in
+      let run2 = part-turns j None (Some p) refl to m end refl long sees-tone k1 run.arrived in
       let k2 : Known = after_all k1 (between j to end) in
       let past3 = past2 ++ tone in
       let at3 : length past3 ≡ end = omega (arith, length-append past2 tone, at2, tone-long) in
@@ -187,42 +176,22 @@ module _ (cadence : Cadence) (lawful : IsHearable cadence) (samples : List ℤ) 
       let wide-gap : 200 ≤ gap = omega (arith, lawful.gap) in
       let rest = from-quiet marks keyed.1 past3 gap (Some p) k2 run2.arrived (inr (refl, wide-gap)) near3 total all in
       let rest-at : Gives k2 (between j end total) (p ∷ tones_of marks) None =
-      subst (λ (n : ℕ). Gives k2 (between j n total) (p ∷ tones_of marks) None) at3 rest.gives in
-      let ends : end ≤ total = omega (arith, all, at3) in
+      subst (λ (n : ℕ). Gives k2 (between j n total) (p ∷ tones_of marks) None) at3 rest in
+      let before : end ≤ total = omega (arith, all, at3) in
       let split : between j from total ≡ between j from to ++ (between j to end ++ between j end total) =
-      between-split j from to total (omega arith) (omega (arith, ends))
-      ∙ ap (λ xs. between j from to ++ xs) (between-split j to end total (omega arith) ends) in
+      between-split j from to total (omega arith) (omega (arith, before))
+      ∙ ap (λ xs. between j from to ++ xs) (between-split j to end total (omega arith) before) in
       let tail = gives-then k1 (between j to end) (between j end total) [] (p ∷ tones_of marks) (Some p) None run2 rest-at in
       let whole = gives-then k (between j from to) (between j to end ++ between j end total) (one a) (p ∷ tones_of marks)
       None None run tail in
-      record {
-        gives = subst (λ xs. Gives k xs (one a ++ (p ∷ tones_of marks)) None) (sym split) whole;
-        steady = λ w low high.
-            elim (cases_lt (20 * w + 79) to) [
-              | inl inside ↦
-                  inl (sees-part still MOST_NOISE None silence-shows past ((tone ++ pause) ++ later) samples z w near1 low
-                  (omega (arith, inside))).strong
-              | inr past_quiet ↦ elim (cases_lt (20 * w) to) [
-                | inl crosses ↦ inr (λ fits. (sees-tone (w + 4) (omega (arith, past_quiet)) (omega (arith, crosses, wide))).strong)
-                | inr in_tone ↦ elim (cases_lt (20 * w + 79) end) [
-                  | inl inside ↦ inl (sees-tone w in_tone (omega (arith, inside))).strong
-                  | inr past_tone ↦ elim (cases_lt (20 * w) end) [
-                    | inl crosses ↦
-                        inr (λ fits. (sees-part still MOST_NOISE None silence-shows past3 later samples gap (w + 4) near3
-                        (omega (arith, at3, past_tone)) (omega (arith, at3, crosses, wide-gap))).strong)
-                    | inr after ↦ rest.steady w (omega (arith, at3, after)) high
-                  ]
-                ]
-              ]
-            ];
-      }
+      subst (λ xs. Gives k xs (one a ++ (p ∷ tones_of marks)) None) (sym split) whole
 
 -- the pairs that the windows of samples see
 pub labels-are : (samples : List ℤ) → map label (sights samples) ≡ between (sees samples) 0 (length samples)
 labels-are samples =
     let n : ℕ = windows_in (length samples) in
     let all : n ≡ n - 0 = omega arith in
-    map-map label (λ w. seen (window samples w)) (range_with_len 0 n)
+    map-map label (seen_at samples) (range_with_len 0 n)
     ∙ ap (λ (m : ℕ). map (sees samples) (range_with_len 0 m)) all
 
 -- and those that are heard of them
@@ -233,8 +202,8 @@ heard-pairs samples =
 
 -- of a disturbed sound of keys
 pub outcome : (cadence : Cadence) → IsHearable cadence → (marks : List Mark) → AreKeyed marks → (samples : List ℤ)
-    → AreWithin (disturbable cadence marks) samples
-    → Outcome samples (known silent) 0 (length samples) (tones_of marks)
-outcome cadence lawful marks keyed samples within =
-    from-quiet cadence lawful samples marks keyed [] 0 None (known silent) (record { sees = refl; sounds = refl })
+    → AreLow samples → AreWithin (disturbable cadence marks) samples
+    → Gives (known silent) (between (sees samples) 0 (length samples)) (tones_of marks) None
+outcome cadence lawful marks keyed samples low within =
+    from-quiet cadence lawful samples low marks keyed [] 0 None (known silent) (record { sees = refl; sounds = refl })
     (inl (refl, refl)) within (length samples) (omega (arith, within-length (disturbable cadence marks) samples within))

@@ -10,9 +10,9 @@ pub mod ShownKeys
 pub mod Steps
 pub mod Runs
 pub mod Segments
-pub mod HeardKeys
-pub mod Strength
 pub mod Loudness
+pub mod Fading
+pub mod HeardKeys
 pub mod Received
 pub mod LongRuns
 pub mod WholeSounds

@@ -1,5 +1,5 @@
 -- How loud a disturbed sound is, and so how strong a pair of its windows can be.
-use Rattle.std.proofs.Common.{ℕ, zero, suc, ◌+◌, ◌-◌, ◌*◌, ◌≤◌, Bool, true, false, List, [], ◌∷◌, ◌++◌, map, replicate, length, subst, arith, refl, ℤ, pos, ◌+ℤ◌, ◌-ℤ◌, unsigned_abs, Some, append-nil, sym}
+use Rattle.std.proofs.Common.{ℕ, zero, suc, ◌+◌, ◌-◌, ◌*◌, ◌≤◌, Bool, true, false, List, [], ◌∷◌, ◌++◌, map, replicate, length, subst, arith, refl, ℤ, pos, ◌+ℤ◌, ◌-ℤ◌, unsigned_abs, Option, Some, None, append-nil, sym}
 use Rattle.std.specs.Prelude.{if◌then◌else◌}
 use Rattle.std.specs.List.{AllByRecursion, range_with_len}
 use Rattle.std.proofs.lemmas.Int.{ints}
@@ -16,6 +16,7 @@ use Rattle.xb_tone.specs.Sounds.{silence, tone_sound}
 use Rattle.xb_tone.proofs.SineTables.{sine_at-small}
 use Rattle.xb_ear.specs.declared.levels.Levels.{Levels}
 use Rattle.xb_ear.specs.Disturbed.{AreWithin, IsNear, bounded}
+use Rattle.xb_ear.specs.declared.sight.Sight.{Sight}
 use Rattle.xb_ear.specs.Ears.{window}
 use Rattle.xb_ear.specs.HeardKeys.{MOST_NOISE, MOST_NOISE_IN_TONES, disturbable, mark_disturbable}
 use Rattle.xb_ear.specs.Levels.{correlated, levels_of}
@@ -24,7 +25,19 @@ use Rattle.xb_ear.proofs.Bounds.{IsBelow, at-below, below-uppers, uppers}
 use Rattle.xb_ear.proofs.Near.{far_squares}
 use Rattle.xb_ear.proofs.Segments.{near-part, part_of}
 use Rattle.xb_ear.proofs.Shown.{still, still-anywhere}
-use Rattle.xb_ear.proofs.Strength.{IsLow, all-append}
+
+-- no pair of a window is stronger
+abbrev pub MOST_STRENGTH : ℕ
+MOST_STRENGTH = 2835775504
+
+abbrev pub IsLow : Option Sight → Type 0
+IsLow None = Unit {0}
+IsLow (Some s) = s.low + s.high ≤ MOST_STRENGTH
+
+all-append : {A : Type 0} (P : A → Type 0) (xs ys : List A) → AllByRecursion P xs → AllByRecursion P ys
+    → AllByRecursion P (xs ++ ys)
+all-append P [] ys all_x all_y = all_y
+all-append P (x ∷ xs) ys all_x all_y = (all_x.0, all-append P xs ys all_x.1 all_y)
 
 -- no sample is louder
 abbrev LOUDEST : ℕ

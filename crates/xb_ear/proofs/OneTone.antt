@@ -19,6 +19,7 @@ use Rattle.xb_ear.specs.Pairs.{mf_pairs, seen}
 use Rattle.xb_ear.specs.Receivers.{keys_of_sound}
 use Rattle.xb_ear.specs.SingleTones.{IsToneOf}
 use Rattle.xb_ear.proofs.Bounds.{IsBelow, IsWithinReach, REACH, reach-1100, reach-1300, reach-1500, reach-1700, reach-700, reach-900, square-mono}
+use Rattle.xb_ear.proofs.Fading.{sees-silence}
 use Rattle.xb_ear.proofs.Standing.{is_weak, none-shown}
 use Rattle.xb_ear.proofs.Near.{near-correlated, near-drop, near-take, reach}
 use Rattle.xb_ear.proofs.Received.{nothing-heard}
@@ -118,7 +119,7 @@ module _ (h : ℕ) (weak : list_all (λ n. weak_at (h * 100) n) (range_with_len 
       (holds_below (λ k. weak_at (h * 100) k) 80 0 weak (n % 80) (omega arith) (omega arith))
 
   sees-none-at : (w : ℕ) → w < windows_in (length samples) → sees samples w ≡ None
-  sees-none-at w below = sees-none-in (20 * w) (omega (arith, below))
+  sees-none-at w below = sees-silence samples w (sees-none-in (20 * w) (omega (arith, below)))
 
   pub one-tone-is-no-key : keys_of_sound samples ≡ []
   one-tone-is-no-key =

@@ -1,5 +1,5 @@
 -- The laws of what is heard.
-use Rattle.std.proofs.Common.{◌≡◌, ◌∙◌, ℕ, ◌+◌, ◌-◌, ◌<◌, ◌≤◌, true, List, [], ◌∷◌, ◌++◌, map, fold, length, sym, ap, subst, arith, refl, ℤ, ◌-ℤ◌, unsigned_abs, Option, None, inl, inr, ◌⊎◌, append_assoc, append-nil, length-append, zero-add}
+use Rattle.std.proofs.Common.{◌≡◌, ◌∙◌, ℕ, ◌+◌, ◌-◌, ◌≤◌, List, [], ◌∷◌, ◌++◌, map, fold, length, sym, ap, subst, arith, refl, ℤ, ◌-ℤ◌, unsigned_abs, Option, None, append_assoc, append-nil, length-append, zero-add}
 use Rattle.std.specs.List.{AllByRecursion, flat_map, range_with_len}
 use Rattle.std.proofs.lemmas.Int.{ints}
 use Rattle.xb_model.specs.declared.key.Key.{Key}
@@ -18,21 +18,19 @@ use Rattle.xb_tone.proofs.KeyWaves.{keys_with-pair}
 use Rattle.xb_ear.specs.declared.sight.Sight.{Sight}
 use Rattle.xb_ear.specs.declared.hearing.Heard.{Heard}
 use Rattle.xb_ear.specs.Disturbed.{AreWithin, IsNear, bounded}
-use Rattle.xb_ear.specs.Ears.{heard, sights, window, windows_in}
+use Rattle.xb_ear.specs.Ears.{heard, seen_at, sights, windows_in}
 use Rattle.xb_ear.specs.HeardKeys.{CleanKeysAreHeard, DisturbedKeyingsAreHeard, DisturbedKeysAreHeard, HearsSoFar, MOST_NOISE, MOST_NOISE_IN_TONES, NoisyKeysAreHeard, SilenceIsSilent, disturbable, pairs_in, tones_of}
 use Rattle.xb_ear.specs.Hearings.{hearer, silent}
-use Rattle.xb_ear.specs.Pairs.{seen}
 use Rattle.xb_ear.specs.Receivers.{keys_of_sound}
-use Rattle.xb_ear.specs.Tails.{tail_filter, without_tails}
-use Rattle.xb_ear.proofs.HeardKeys.{heard-pairs, outcome, strong_at}
+use Rattle.xb_ear.proofs.Fading.{sees-silence}
+use Rattle.xb_ear.proofs.HeardKeys.{heard-pairs, outcome}
 use Rattle.xb_ear.proofs.Loudness.{sound-low}
 use Rattle.xb_ear.proofs.Received.{ends-quiet, keys-whole, nothing-heard}
 use Rattle.xb_ear.proofs.Runs.{stays}
-use Rattle.xb_ear.proofs.Segments.{all-in-range, between, part_of, range-split, sees, sees-part, sight_at}
+use Rattle.xb_ear.proofs.Segments.{all-in-range, between, part_of, range-split, sees, sees-part}
 use Rattle.xb_ear.proofs.Shown.{silence-shows, still}
 use Rattle.xb_ear.proofs.Steps.{known}
-use Rattle.xb_ear.proofs.Strength.{all-alike}
-use Rattle.xb_ear.proofs.Windows.{image_from-append, sights-early, window-fits}
+use Rattle.xb_ear.proofs.Windows.{image_from-append, sights-early}
 
 abbrev keys_with_pair : Pair → List Key
 keys_with_pair p = keys_with (frequencies_of p)
@@ -50,20 +48,10 @@ keys-of-tones (Refused reason count ∷ marks) keyed = keys-of-tones marks keyed
 
 pub disturbed_keys_are_heard : DisturbedKeysAreHeard
 disturbed_keys_are_heard cadence marks samples lawful keyed within =
-    let out = outcome cadence lawful marks keyed samples within in
-    let total : ℕ = length samples in
-    let steady : (w : ℕ) → w < windows_in total
-    → (strong_at samples w ≡ true) ⊎ (w + 4 < windows_in total → strong_at samples (w + 4) ≡ true) =
-    λ w below. elim (out.steady w (omega arith) (window-fits total w below)) [
-      | inl strong ↦ inl strong
-      | inr later ↦ inr (λ fits. later (window-fits total (w + 4) fits))
-    ] in
-    let alike = all-alike (sight_at samples) (windows_in total)
-    (λ w below. sound-low cadence marks samples within w (window-fits total w below)) steady in
-    let whole : keys_of_sound samples ≡ heard samples =
-    keys-whole samples (ends-quiet samples (tones_of marks) out.gives) alike in
+    let gives = outcome cadence lawful marks keyed samples (sound-low cadence marks samples within) within in
+    let whole : keys_of_sound samples ≡ heard samples = keys-whole samples (ends-quiet samples (tones_of marks) gives) in
     let pairs : pairs_in (keys_of_sound samples) ≡ tones_of marks =
-    ap (λ (ks : List Heard). pairs_in ks) whole ∙ heard-pairs samples ∙ out.gives.given in
+    ap (λ (ks : List Heard). pairs_in ks) whole ∙ heard-pairs samples ∙ gives.given in
     record { pairs = pairs; keys = ap (λ (ps : List Pair). flat_map keys_with_pair ps) pairs ∙ keys-of-tones marks keyed }
 
 keys-of-digits : (digits : List ℕ)
@@ -132,15 +120,16 @@ silence_is_silent samples small =
     subst (λ (xs : List (ℤ × ℕ)). AreWithin xs samples) (sym (append-nil (part_of still MOST_NOISE n)))
     (quiet-within samples small 0) in
     let all = all-in-range (sees samples) None (windows_in 0) (windows_in n - windows_in 0)
-    (λ w low high. (sees-part still MOST_NOISE None silence-shows [] [] samples n w within (omega arith) (omega (arith, high))).pair) in
+    (λ w low high. sees-silence samples w
+    (sees-part still MOST_NOISE None silence-shows [] [] samples n w within (omega arith) (omega (arith, high))).pair) in
     nothing-heard samples
     (stays None (between (sees samples) 0 n) all (known silent) (record { sees = refl; sounds = refl }))
 
 -- what is heard of more samples is what was heard, and more
-more-heard : (earlier later : List ℤ) → (rest : List Heard) × (heard (earlier ++ later) ≡ heard earlier ++ rest)
-more-heard earlier later =
+pub hears_so_far : HearsSoFar
+hears_so_far earlier later =
     let all = earlier ++ later in
-    let f = λ (w : ℕ). seen (window all w) in
+    let f = seen_at all in
     let n : ℕ = windows_in (length earlier) in
     let m : ℕ = windows_in (length all) - n in
     let more : windows_in (length all) ≡ n + m = omega (arith, length-append earlier later) in
@@ -151,12 +140,4 @@ more-heard earlier later =
       image_from hearer (fold hearer.next hearer.start (sights earlier)) (map f (range_with_len n m)),
       ap (λ (xs : List (Option Sight)). image_from hearer hearer.start xs) split
           ∙ image_from-append hearer hearer.start (sights earlier) (map f (range_with_len n m)),
-    )
-
-pub hears_so_far : HearsSoFar
-hears_so_far earlier later =
-    let more = more-heard earlier later in (
-      image_from tail_filter (fold tail_filter.next tail_filter.start (heard earlier)) more.0,
-      ap (λ (ks : List Heard). without_tails ks) more.1
-          ∙ image_from-append tail_filter tail_filter.start (heard earlier) more.0,
     )

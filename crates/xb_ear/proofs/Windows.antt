@@ -1,12 +1,16 @@
 -- The windows of samples, as samples come.
-use Rattle.std.proofs.Common.{◌≡◌, ◌∙◌, ℕ, zero, suc, ◌+◌, ◌*◌, ◌<◌, ◌≤◌, List, [], ◌∷◌, ◌++◌, map, take, drop, fold, length, sym, ap, arith, refl, ℤ, append_assoc, length-drop, length-append, Option}
+use Rattle.std.proofs.Common.{◌≡◌, ◌∙◌, ℕ, zero, suc, ◌+◌, ◌-◌, ◌*◌, ◌<◌, ◌≤◌, Bool, true, false, List, [], ◌∷◌, ◌++◌, map, take, drop, fold, length, sym, ap, arith, refl, ℤ, append_assoc, length-drop, length-append, Option}
+use Rattle.std.specs.Prelude.{if◌then◌else◌, nat_lt}
 use Rattle.std.specs.List.{range_with_len}
+use Rattle.std.proofs.lemmas.Bool.{le-ltb, ltb-false}
 use Rattle.std.proofs.lemmas.List.{drop-append-le, take-append-le, take_all, drop-drop}
 use Rattle.std.proofs.lemmas.List.FromFn.{map-range_with_len_more}
 use Rattle.xb_model.specs.Image.{Machine, image_from}
 use Rattle.xb_ear.specs.declared.sight.Sight.{Sight}
+use Rattle.xb_ear.specs.declared.tails.TheConstants.{TAIL_WINDOWS}
 use Rattle.xb_ear.specs.Pairs.{seen}
-use Rattle.xb_ear.specs.Ears.{recent_of, sights, window, windows_in}
+use Rattle.xb_ear.specs.Ears.{held, held_before, recent_of, seen_at, sight_at, sights, window, windows_in}
+use Rattle.xb_ear.specs.Tails.{strength, without_tail}
 
 -- what is sent for one item more, and for many
 pub image_from-append : {I O S : Type 0} (m : Machine I O S) (s : S) (xs ys : List I)
@@ -35,12 +39,37 @@ window-early xs ys w fits =
 pub window-fits : (n w : ℕ) → w < windows_in n → 20 * w + 80 ≤ n
 window-fits n w below = omega arith
 
+-- what stands out in a window of the first samples
+sight-early : (xs ys : List ℤ) (w : ℕ) → w < windows_in (length xs) → sight_at (xs ++ ys) w ≡ sight_at xs w
+sight-early xs ys w below =
+    ap (λ (zs : List ℤ). seen zs) (window-early xs ys w (window-fits (length xs) w (omega (arith, below))))
+
+held-early : (xs ys : List ℤ) (n : ℕ) → n < windows_in (length xs) + 60 → held (xs ++ ys) n ≡ held xs n
+held-early xs ys n below = by (nat_lt n TAIL_WINDOWS) refl
+  where
+    by : (b : Bool) → nat_lt n TAIL_WINDOWS ≡ b
+        → (if b then 0 else strength (sight_at (xs ++ ys) (n - TAIL_WINDOWS)))
+        ≡ (if b then 0 else strength (sight_at xs (n - TAIL_WINDOWS)))
+    by true e = refl
+    by false e =
+        let past : 60 ≤ n = ltb-false _ _ e in
+        ap (λ (s : Option Sight). strength s) (sight-early xs ys (n - TAIL_WINDOWS) (omega (arith, past, below)))
+
+held-before-early : (xs ys : List ℤ) (w : ℕ) → w ≤ windows_in (length xs)
+    → held_before (xs ++ ys) w ≡ held_before xs w
+held-before-early xs ys w most =
+    map-agrees (held (xs ++ ys)) (held xs) w 60 (λ n below. held-early xs ys n (omega (arith, below, most)))
+
+seen-early : (xs ys : List ℤ) (w : ℕ) → w < windows_in (length xs) → seen_at (xs ++ ys) w ≡ seen_at xs w
+seen-early xs ys w below =
+    ap (λ (before : List ℕ). without_tail before (sight_at (xs ++ ys) w)) (held-before-early xs ys w (omega (arith, below)))
+    ∙ ap (λ (s : Option Sight). without_tail (held_before xs w) s) (sight-early xs ys w below)
+
 -- the windows of the first samples
-pub sights-early : (xs ys : List ℤ)
-    → map (λ w. seen (window (xs ++ ys) w)) (range_with_len 0 (windows_in (length xs))) ≡ sights xs
+pub sights-early : (xs ys : List ℤ) → map (seen_at (xs ++ ys)) (range_with_len 0 (windows_in (length xs))) ≡ sights xs
 sights-early xs ys =
-    map-agrees (λ w. seen (window (xs ++ ys) w)) (λ w. seen (window xs w)) 0 (windows_in (length xs))
-    (λ w below. ap (λ (zs : List ℤ). seen zs) (window-early xs ys w (window-fits (length xs) w (omega (arith, below)))))
+    map-agrees (seen_at (xs ++ ys)) (seen_at xs) 0 (windows_in (length xs))
+    (λ w below. seen-early xs ys w (omega (arith, below)))
 
 -- how many samples wait for the next window
 pub waiting : (xs : List ℤ) (r : ℕ) → length (recent_of xs) ≡ r → r < 80 → 20 * windows_in (length xs) ≤ length xs
@@ -59,7 +88,7 @@ longer xs x = length-append xs (x ∷ [])
 pub sights-same : (xs : List ℤ) (x : ℤ) → length xs + 1 < 20 * windows_in (length xs) + 80
     → sights (xs ++ x ∷ []) ≡ sights xs
 sights-same xs x few =
-    ap (λ (n : ℕ). map (λ w. seen (window (xs ++ x ∷ []) w)) (range_with_len 0 n))
+    ap (λ (n : ℕ). map (seen_at (xs ++ x ∷ [])) (range_with_len 0 n))
     (ap (λ (n : ℕ). windows_in n) (longer xs x) ∙ count-same (length xs) few)
     ∙ sights-early xs (x ∷ [])
 
@@ -70,20 +99,63 @@ recent-same xs x few =
     (ap (λ (n : ℕ). windows_in n) (longer xs x) ∙ count-same (length xs) few)
     ∙ drop-append-le (20 * windows_in (length xs)) xs (x ∷ []) (omega arith)
 
+pub held-same : (xs : List ℤ) (x : ℤ) → length xs + 1 < 20 * windows_in (length xs) + 80
+    → held_before (xs ++ x ∷ []) (windows_in (length (xs ++ x ∷ []))) ≡ held_before xs (windows_in (length xs))
+held-same xs x few =
+    ap (λ (n : ℕ). held_before (xs ++ x ∷ []) n)
+    (ap (λ (n : ℕ). windows_in n) (longer xs x) ∙ count-same (length xs) few)
+    ∙ held-before-early xs (x ∷ []) (windows_in (length xs)) (omega arith)
+
 -- a sample that completes one
+sight-more : (xs : List ℤ) (x : ℤ) → length xs + 1 ≡ 20 * windows_in (length xs) + 80
+    → sight_at (xs ++ x ∷ []) (windows_in (length xs)) ≡ seen (recent_of xs ++ x ∷ [])
+sight-more xs x full =
+    let w = windows_in (length xs) in
+    ap (λ (zs : List ℤ). seen zs)
+    (ap (λ (zs : List ℤ). take 80 zs) (drop-append-le (20 * w) xs (x ∷ []) (omega arith))
+    ∙ take_all 80 (recent_of xs ++ x ∷ [])
+    (omega (arith, length-append (recent_of xs) (x ∷ []), length-drop (20 * w) xs)))
+
 pub sights-more : (xs : List ℤ) (x : ℤ) → length xs + 1 ≡ 20 * windows_in (length xs) + 80
-    → sights (xs ++ x ∷ []) ≡ sights xs ++ seen (recent_of xs ++ x ∷ []) ∷ []
+    → sights (xs ++ x ∷ [])
+    ≡ sights xs ++ without_tail (held_before xs (windows_in (length xs))) (seen (recent_of xs ++ x ∷ [])) ∷ []
 sights-more xs x full =
     let w = windows_in (length xs) in
-    let f = λ (k : ℕ). seen (window (xs ++ x ∷ []) k) in
-    let all : window (xs ++ x ∷ []) w ≡ recent_of xs ++ x ∷ [] =
-    ap (λ (zs : List ℤ). take 80 zs) (drop-append-le (20 * w) xs (x ∷ []) (omega arith))
-    ∙ take_all 80 (recent_of xs ++ x ∷ [])
-    (omega (arith, length-append (recent_of xs) (x ∷ []), length-drop (20 * w) xs)) in
+    let f = seen_at (xs ++ x ∷ []) in
+    let this : f w ≡ without_tail (held_before xs w) (seen (recent_of xs ++ x ∷ [])) =
+    ap (λ (before : List ℕ). without_tail before (sight_at (xs ++ x ∷ []) w))
+    (held-before-early xs (x ∷ []) w (omega arith))
+    ∙ ap (λ (s : Option Sight). without_tail (held_before xs w) s) (sight-more xs x full) in
     ap (λ (n : ℕ). map f (range_with_len 0 n)) (ap (λ (n : ℕ). windows_in n) (longer xs x) ∙ count-more (length xs) full)
     ∙ map-range_with_len_more f 0 w w (omega arith)
     ∙ ap (λ (zs : List (Option Sight)). zs ++ f w ∷ []) (sights-early xs (x ∷ []))
-    ∙ ap (λ (zs : List ℤ). sights xs ++ seen zs ∷ []) all
+    ∙ ap (λ (s : Option Sight). sights xs ++ s ∷ []) this
+
+-- a range that begins one later
+range-moved : (f : ℕ → ℕ) (a n : ℕ)
+    → map f (range_with_len (a + 1) (suc n)) ≡ drop 1 (map f (range_with_len a (suc n))) ++ f (a + suc n) ∷ []
+range-moved f a n =
+    let one : suc n ≡ n + 1 = omega arith in
+    ap (λ (k : ℕ). map f (range_with_len (a + 1) k)) one ∙ map-range_with_len_more f (a + 1) n (a + suc n) (omega arith)
+
+held-last : (xs : List ℤ) (w : ℕ) → held xs (w + 60) ≡ strength (sight_at xs w)
+held-last xs w =
+    let late : nat_lt (w + 60) TAIL_WINDOWS ≡ false = le-ltb (w + 60) TAIL_WINDOWS (omega arith) in
+    let back : w + 60 - TAIL_WINDOWS ≡ w = omega arith in
+    ap (λ (b : Bool). if b then 0 else strength (sight_at xs (w + 60 - TAIL_WINDOWS))) late
+    ∙ ap (λ (n : ℕ). strength (sight_at xs n)) back
+
+pub held-more : (xs : List ℤ) (x : ℤ) → length xs + 1 ≡ 20 * windows_in (length xs) + 80
+    → held_before (xs ++ x ∷ []) (windows_in (length (xs ++ x ∷ [])))
+    ≡ drop 1 (held_before xs (windows_in (length xs))) ++ strength (seen (recent_of xs ++ x ∷ [])) ∷ []
+held-more xs x full =
+    let w = windows_in (length xs) in
+    let all = xs ++ x ∷ [] in
+    ap (λ (n : ℕ). held_before all n) (ap (λ (n : ℕ). windows_in n) (longer xs x) ∙ count-more (length xs) full)
+    ∙ range-moved (held all) w 59
+    ∙ ap (λ (before : List ℕ). drop 1 before ++ held all (w + 60) ∷ []) (held-before-early xs (x ∷ []) w (omega arith))
+    ∙ ap (λ (h : ℕ). drop 1 (held_before xs w) ++ h ∷ [])
+    (held-last all w ∙ ap (λ (s : Option Sight). strength s) (sight-more xs x full))
 
 pub recent-more : (xs : List ℤ) (x : ℤ) → length xs + 1 ≡ 20 * windows_in (length xs) + 80
     → recent_of (xs ++ x ∷ []) ≡ drop 20 (recent_of xs ++ x ∷ [])

@@ -1,12 +1,14 @@
--- What a receiver hears of samples.
-use Rattle.std.specs.Prelude.{◌≡◌, ℕ, ◌-◌, ◌*◌, ◌/◌, List, map, take, drop, length, fold, Option, ℤ}
+-- What is heard of samples.
+use Rattle.std.specs.Prelude.{ℕ, ◌-◌, ◌*◌, ◌/◌, if◌then◌else◌, nat_lt, List, map, take, drop, length, fold, Option, ℤ}
 use Rattle.std.specs.List.{range_with_len}
 use Rattle.xb_model.specs.Image.{image_on}
 use Rattle.xb_ear.specs.declared.sight.Sight.{Sight}
 use Rattle.xb_ear.specs.declared.hearing.Heard.{Heard}
 use Rattle.xb_ear.specs.declared.hearing.Hearing.{Hearing}
+use Rattle.xb_ear.specs.declared.tails.TheConstants.{TAIL_WINDOWS}
 use Rattle.xb_ear.specs.Pairs.{seen}
 use Rattle.xb_ear.specs.Hearings.{hearer}
+use Rattle.xb_ear.specs.Tails.{strength, without_tail}
 
 -- a window of 80 samples begins with each 20th sample
 abbrev pub window : List ℤ → ℕ → List ℤ
@@ -16,9 +18,25 @@ window samples w = take 80 (drop (20 * w) samples)
 abbrev pub windows_in : ℕ → ℕ
 windows_in n = (n - 60) / 20
 
+-- the pair that stands out in a window, by its number
+abbrev pub sight_at : List ℤ → ℕ → Option Sight
+sight_at samples w = seen (window samples w)
+
+-- what windows held, where 60 silent ones stand before the first
+abbrev pub held : List ℤ → ℕ → ℕ
+held samples n = if nat_lt n TAIL_WINDOWS then 0 else strength (sight_at samples (n - TAIL_WINDOWS))
+
+-- what the 60 windows before a window held, which is 150 ms
+abbrev pub held_before : List ℤ → ℕ → List ℕ
+held_before samples w = map (held samples) (range_with_len w TAIL_WINDOWS)
+
+-- what a window sees, but for tails
+abbrev pub seen_at : List ℤ → ℕ → Option Sight
+seen_at samples w = without_tail (held_before samples w) (sight_at samples w)
+
 -- what the windows of samples see
 abbrev pub sights : List ℤ → List (Option Sight)
-sights samples = map (λ w. seen (window samples w)) (range_with_len 0 (windows_in (length samples)))
+sights samples = map (seen_at samples) (range_with_len 0 (windows_in (length samples)))
 
 -- the keys that have ended in samples
 abbrev pub heard : List ℤ → List Heard
@@ -31,14 +49,3 @@ hearing_after samples = fold hearer.next hearer.start (sights samples)
 -- the samples that stand in no whole window but the last
 abbrev pub recent_of : List ℤ → List ℤ
 recent_of samples = drop (20 * windows_in (length samples)) samples
-
--- what an ear knows: the samples that the next window begins with, and what the windows so far make of it
-pub record Knowing : Type 0 where
-  pub recent : List ℤ
-  pub hearing : Hearing
-
--- these are the samples that it has taken so far, and the keys that it has given
-pub record HasTaken (ear : Knowing) (samples : List ℤ) (keys : List Heard) : Type 0 where
-  pub recent : ear.recent ≡ recent_of samples
-  pub hearing : ear.hearing ≡ hearing_after samples
-  pub given : keys ≡ heard samples

@@ -14,7 +14,8 @@ use Rattle.xb_tone.specs.Cadences.{tone_ms}
 use Rattle.xb_tone.specs.Sounds.{silence, sound_of, tone_sound}
 use Rattle.xb_ear.specs.declared.hearing.Heard.{Heard}
 use Rattle.xb_ear.specs.Disturbed.{AreWithin, IsNear, bounded}
-use Rattle.xb_ear.specs.Receivers.{keys_of_sound, keys_so_far}
+use Rattle.xb_ear.specs.Ears.{heard}
+use Rattle.xb_ear.specs.Receivers.{keys_of_sound}
 
 -- the greatest disturbance of a sample that is borne in silence; a tone's amplitude is 10,000, so this is 31 dB less
 abbrev pub MOST_NOISE : ℕ
@@ -90,4 +91,4 @@ SilenceIsSilent = (samples : List ℤ) → AllByRecursion (λ x. unsigned_abs x 
 -- what was heard is not taken back: a stream that is cut anywhere gives the same as far as it goes
 abbrev pub HearsSoFar : Type 0
 HearsSoFar = (earlier later : List ℤ)
-    → (rest : List Heard) × (keys_so_far (earlier ++ later) ≡ keys_so_far earlier ++ rest)
+    → (rest : List Heard) × (heard (earlier ++ later) ≡ heard earlier ++ rest)

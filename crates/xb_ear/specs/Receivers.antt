@@ -1,25 +1,24 @@
--- What a receiver gives: what is heard, but for tails; and at the end of the samples the key that sounds then.
-use Rattle.std.specs.Prelude.{◌≡◌, List, ◌++◌, fold, Option, ℤ}
+-- What a receiver gives: what is heard, and at the end of the samples the key that sounds then.
+use Rattle.std.specs.Prelude.{◌≡◌, ℕ, List, length, ◌++◌, ℤ}
 use Rattle.xb_ear.specs.declared.hearing.Heard.{Heard}
-use Rattle.xb_ear.specs.Ears.{HasTaken, Knowing, heard, hearing_after}
+use Rattle.xb_ear.specs.declared.hearing.Hearing.{Hearing}
+use Rattle.xb_ear.specs.Ears.{heard, hearing_after, held_before, recent_of, windows_in}
 use Rattle.xb_ear.specs.Hearings.{listed}
-use Rattle.xb_ear.specs.Tails.{tail_filter, without_tails}
-
--- the keys of samples that go on
-abbrev pub keys_so_far : List ℤ → List Heard
-keys_so_far samples = without_tails (heard samples)
 
 -- the keys of samples that end
 abbrev pub keys_of_sound : List ℤ → List Heard
-keys_of_sound samples = without_tails (heard samples ++ listed (hearing_after samples).sounding)
+keys_of_sound samples = heard samples ++ listed (hearing_after samples).sounding
 
--- what a receiver knows: what its ear does, and the last key that was no tail
+-- what a receiver knows: the samples that the next window begins with, what the windows before that one held, and what
+-- the windows so far make of it
 pub record Receiving : Type 0 where
-  pub ear : Knowing
-  pub last : Option Heard
+  pub recent : List ℤ
+  pub held : List ℕ
+  pub hearing : Hearing
 
 -- these are the samples that it has taken so far, and the keys that it has given
 pub record HasReceived (receiver : Receiving) (samples : List ℤ) (keys : List Heard) : Type 0 where
-  pub taken : HasTaken receiver.ear samples (heard samples)
-  pub last : receiver.last ≡ fold tail_filter.next tail_filter.start (heard samples)
-  pub given : keys ≡ keys_so_far samples
+  pub recent : receiver.recent ≡ recent_of samples
+  pub held : receiver.held ≡ held_before samples (windows_in (length samples))
+  pub hearing : receiver.hearing ≡ hearing_after samples
+  pub given : keys ≡ heard samples

@@ -1,37 +1,21 @@
--- The tails of keys. In a room a key goes on sounding after its end, and its tail may sound as a key of its own.
-use Rattle.std.specs.Prelude.{ℕ, ◌+◌, ◌-◌, ◌*◌, List, Bool, false, ◌&&◌, if◌then◌else◌, nat_le, nat_lt, Option, Some, None}
-use Rattle.xb_model.specs.Image.{Machine, image_on}
-use Rattle.xb_ear.specs.declared.hearing.Heard.{Heard}
-use Rattle.xb_ear.specs.Hearings.{listed}
-use Rattle.xb_ear.specs.declared.tails.TheConstants.{TAIL_WEAKER, TAIL_WINDOWS}
+-- The tails of keys. In a room a key goes on sounding after its end, and a window may see its pair there again.
+use Rattle.std.specs.Prelude.{ℕ, ◌+◌, ◌*◌, List, Bool, if◌then◌else◌, nat_lt, Option, Some, None}
+use Rattle.std.specs.List.{list_any}
+use Rattle.xb_ear.specs.declared.sight.Sight.{Sight}
+use Rattle.xb_ear.specs.declared.tails.TheConstants.{TAIL_WEAKER}
 
--- what both tones of a key hold
-abbrev pub strength : Heard → ℕ
-strength key = key.sight.low + key.sight.high
+-- what both tones hold that a window sees
+abbrev pub strength : Option Sight → ℕ
+strength None = 0
+strength (Some sight) = sight.low + sight.high
 
--- a key that begins within 150 ms of the end of another and is 13 dB weaker is a tail of that one
-abbrev pub is_tail : Option Heard → Heard → Bool
-is_tail None key = false
-is_tail (Some before) key =
-    nat_le (key.first - before.past) TAIL_WINDOWS && nat_lt (TAIL_WEAKER * strength key) (strength before)
+-- one of the windows before held more than 21 times as much: 13 dB
+abbrev pub is_outdone : List ℕ → ℕ → Bool
+is_outdone before strength = list_any (λ held. nat_lt (TAIL_WEAKER * strength) held) before
 
--- a key, where there is one that is no tail
-abbrev pub kept : Option Heard → Option Heard → Option Heard
-kept last None = None
-kept last (Some key) = if is_tail last key then None else Some key
+abbrev pub is_tail : List ℕ → Option Sight → Bool
+is_tail before seen = is_outdone before (strength seen)
 
--- the last key that is no tail
-abbrev pub last_key : Option Heard → Option Heard → Option Heard
-last_key last None = last
-last_key last (Some key) = if is_tail last key then last else Some key
-
-abbrev pub tail_filter : Machine Heard Heard (Option Heard)
-tail_filter = record {
-  start = None;
-  next = λ last key. last_key last (Some key);
-  outs = λ last key. listed (kept last (Some key));
-}
-
--- the keys that are no tails
-abbrev pub without_tails : List Heard → List Heard
-without_tails keys = image_on tail_filter keys
+-- what a window sees but for tails
+abbrev pub without_tail : List ℕ → Option Sight → Option Sight
+without_tail before seen = if is_tail before seen then None else seen

@@ -1,10 +1,10 @@
 //! A receiver of MF tones: samples in, one by one, and the keys that sounded in them out, each as it ends. It
-//! takes no memory but its own 80 samples, and counts in whole numbers alone.
+//! takes no memory but its own 80 samples and 60 levels, and counts in whole numbers alone.
 //!
-//! - `Receiver::take`: after one sample more the receiver has given exactly the keys of `keys_so_far` of all
-//!   samples that it was given, whatever they are: what an `Ear` hears, but for the tails that a room leaves.
-//!   With what `finish` gives they are `keys_of_sound` of the samples. `Receiver::new` has taken none. `parts` and
-//!   `of_parts`: what one knows, and one that goes on from there. `seen`: the pair that stands out in a window.
+//! - `Receiver::take`: after one sample more the receiver has given exactly the keys of `heard` of all samples that it
+//!   was given, whatever they are. With what `finish` gives they are `keys_of_sound` of the samples. `Receiver::new`
+//!   has taken none. `parts` and `of_parts`: what one knows, and one that goes on from there. `seen`: the pair that
+//!   stands out in a window; it counts but where it is the tail that a room leaves of a key.
 //! - `laws::keys_are_long_runs`: what is heard are the runs of windows that see the same and are long enough,
 //!   joined. `hears_so_far`: what was given is not taken back, so a stream may be cut anywhere.
 //! - `laws::disturbed_keys_are_heard`: of the sound of keyed marks, by each cadence of keys from 30 ms, KP from 55
@@ -21,7 +21,6 @@
 #![tactic(auto)]
 
 mod correlation;
-mod ear;
 mod hearing;
 pub mod laws;
 mod levels;
@@ -31,7 +30,6 @@ mod sight;
 mod tails;
 mod waves;
 
-pub use ear::Ear;
 pub use hearing::{GAP_WINDOWS, Heard, Hearing, KEY_WINDOWS, KP_WINDOWS};
 pub use levels::{Levels, levels_of};
 pub use plain::PlainEar;

@@ -1,25 +1,50 @@
-// A receiver: an ear, and no tails.
-use crate::ear::Ear;
-use crate::hearing::Heard;
+// A receiver, which takes one sample at a time.
+ghost use Rattle.std.specs.Prelude.{◌≡◌, take, drop};
+
+use crate::hearing::{Heard, Hearing, hear, silent};
 use crate::plain::PlainEar;
-use crate::tails::{kept, last_key};
+use crate::sight::seen;
+use crate::tails::{TAIL_WINDOWS, moved_on, strength, without_tail};
 use std::marker::Model;
 
+// How many samples a window has, and how many the next one begins later.
+const WINDOW: usize = 80;
+
+const HOP: usize = 20;
+
 /// A receiver that takes one sample at a time, for as long as they come, and gives the keys but for the tails that a
-/// room leaves of them.
+/// room leaves of them. It keeps 80 samples, and what the last 60 windows held.
 #[derive(Drop)]
 pub struct Receiver {
-    ear: Ear,
-    last: Option<Heard>,
+    window: [i16; WINDOW],
+    filled: usize,
+    held: [u64; TAIL_WINDOWS],
+    hearing: Hearing,
 }
 
-// Clauses see what the ear knows, and the last key.
+// Clauses see the samples that the next window begins with, and what is known.
 impl Model for Receiver {
+    ghost use Rattle.std.specs.Prelude.{◌<◌, take};
     ghost use Rattle.xb_ear.specs.Receivers.{Receiving};
 
     ghost Value = { Receiving };
 
-    ghost view = { λ receiver. record { ear = receiver.ear; last = receiver.last } };
+    ghost view = { λ receiver. record {
+      recent = take receiver.filled receiver.window;
+      held = receiver.held;
+      hearing = receiver.hearing;
+    } };
+
+    ghost invariant = { λ receiver. receiver.filled < 80 };
+}
+
+// The last 60 samples of a window are the first 60 of the next one.
+fn shifted(window: [i16; WINDOW]) -> [i16; WINDOW]
+    ensures { take 60 result ≡ drop 20 window }
+{
+    let mut next = window;
+    next.copy_within(HOP.., 0);
+    next
 }
 
 impl Receiver {
@@ -34,8 +59,10 @@ impl Receiver {
         ensures { HasReceived result [] [] }
     {
         Receiver {
-            ear: Ear::new(),
-            last: None,
+            window: [0; WINDOW],
+            filled: 0,
+            held: [0; TAIL_WINDOWS],
+            hearing: silent(),
         }
     }
 
@@ -44,10 +71,18 @@ impl Receiver {
         ensures { (samples : List ℤ) (keys : List HeardKey) → HasReceived self.old samples keys
             → HasReceived self.new (samples ++ sample ∷ []) (keys ++ listed result) }
     {
-        let key = self.ear.take(sample);
-        let given = kept(self.last, key);
-        self.last = last_key(self.last, key);
-        given
+        self.window[self.filled] = sample;
+        self.filled += 1;
+        if self.filled < WINDOW {
+            return None;
+        }
+        let sight = seen(&self.window);
+        let (hearing, key) = hear(self.hearing, without_tail(&self.held, sight));
+        self.hearing = hearing;
+        self.held = moved_on(self.held, strength(sight));
+        self.window = shifted(self.window);
+        self.filled = WINDOW - HOP;
+        key
     }
 
     /// The key that sounds where the samples end.
@@ -55,28 +90,39 @@ impl Receiver {
         ensures { (samples : List ℤ) (keys : List HeardKey) → HasReceived self.now samples keys
             → keys ++ listed result ≡ keys_of_sound samples }
     {
-        kept(self.last, self.ear.sounding())
+        self.hearing.sounding
     }
 
-    /// A receiver that goes on from what another knew: its ear, and its last key. `None` where the window is full.
-    pub fn of_parts(ear: PlainEar, last: Option<Heard>) -> Option<Receiver>
-        ensures variant { IsSome result ↔ (ear.filled < 80) }
-        ensures value { IfSome result (λ receiver. receiver ≡ receiving_in ear last) }
+    /// A receiver that goes on from what another knew. `None` where the window is full.
+    pub fn of_parts(plain: PlainEar) -> Option<Receiver>
+        ensures variant { IsSome result ↔ (plain.filled < 80) }
+        ensures value { IfSome result (λ receiver. receiver ≡ receiving_in plain) }
     {
-        if ear.filled >= 80 {
+        if plain.filled >= 80 {
             return None;
         }
+        let window = plain.window;
+        let held = plain.held;
         Some(Receiver {
-            ear: Ear::knowing(ear),
-            last,
+            window,
+            filled: plain.filled,
+            held,
+            hearing: plain.hearing,
         })
     }
 
-    /// What it knows, from which another goes on: its ear, and its last key.
-    pub fn parts(&self) -> (PlainEar, Option<Heard>)
-        ensures value { receiving_in result.0 result.1 ≡ self.now }
-        ensures few { result.0.filled < 80 }
+    /// What it knows, from which another goes on.
+    pub fn parts(&self) -> PlainEar
+        ensures value { receiving_in result ≡ self.now }
+        ensures few { result.filled < 80 }
     {
-        (self.ear.plain(), self.last)
+        let window = self.window;
+        let held = self.held;
+        PlainEar {
+            window,
+            filled: self.filled,
+            held,
+            hearing: self.hearing,
+        }
     }
 }

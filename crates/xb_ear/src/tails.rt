@@ -1,52 +1,60 @@
 // The tails of keys.
-ghost use Rattle.std.specs.Prelude.{◌≡◌};
-ghost use Rattle.xb_ear.specs.Tails.{is_tail, kept, last_key, strength};
+ghost use Rattle.std.specs.Prelude.{◌≡◌, ◌<◌, ◌^◌, ◌++◌, ◌∷◌, [], IfSome, drop};
+ghost use Rattle.xb_ear.specs.Pairs.{IsSmall};
+ghost use Rattle.xb_ear.specs.Tails.{is_outdone, strength, without_tail};
 
-use crate::hearing::Heard;
+use crate::sight::Sight;
 
-/// So soon after the end of a key its tail begins, in windows: 150 ms.
-pub const TAIL_WINDOWS: u64 = 60;
+/// A tail lasts for at most so many windows: 150 ms.
+pub const TAIL_WINDOWS: usize = 60;
 
 /// So many times what a tail holds is less than what its key did: a tail is 13 dB weaker. The keys of a keying are
 /// alike, also where they are disturbed, and what a room leaves of one is weaker by far.
 pub const TAIL_WEAKER: u64 = 21;
 
-// What both tones of a key hold.
-fn strength(key: Heard) -> u128
-    ensures { result ≡ strength key }
+/// What both tones hold that a window sees.
+pub(crate) fn strength(seen: Option<Sight>) -> u64
+    requires { IfSome seen IsSmall }
+    ensures value { result ≡ strength seen }
+    ensures bound { result < 2 ^ 41 }
 {
-    u128::from(key.sight.low) + u128::from(key.sight.high)
+    match seen {
+        None => 0,
+        Some(sight) => sight.low + sight.high,
+    }
 }
 
-// Whether a key is the tail of the last one before it.
-fn is_tail(last: Option<Heard>, key: Heard) -> bool
-    ensures { result ≡ is_tail last key }
+// Whether a window before held more than so many times as much.
+fn is_outdone(before: &[u64], strength: u64) -> bool
+    requires { strength < 2 ^ 41 }
+    ensures { result ≡ is_outdone before.now strength }
 {
-    match last {
-        None => false,
-        Some(before) => {
-            key.first.saturating_sub(before.past) <= TAIL_WINDOWS
-                && u128::from(TAIL_WEAKER) * strength(key) < strength(before)
+    for held in before {
+        if TAIL_WEAKER * strength < *held {
+            return true;
         }
     }
+    false
 }
 
-/// A key, where there is one that is no tail.
-pub(crate) fn kept(last: Option<Heard>, key: Option<Heard>) -> Option<Heard>
-    ensures { result ≡ kept last key }
+/// What a window sees, but for a tail of what the windows before it held.
+pub(crate) fn without_tail(before: &[u64], seen: Option<Sight>) -> Option<Sight>
+    requires { IfSome seen IsSmall }
+    ensures { result ≡ without_tail before.now seen }
 {
-    match key {
-        None => None,
-        Some(key) => { if is_tail(last, key) { None } else { Some(key) } }
+    if is_outdone(before, strength(seen)) {
+        None
+    } else {
+        seen
     }
 }
 
-/// The last key that is no tail, after this one.
-pub(crate) fn last_key(last: Option<Heard>, key: Option<Heard>) -> Option<Heard>
-    ensures { result ≡ last_key last key }
+/// What the last windows held, after one more.
+pub(crate) fn moved_on(before: [u64; TAIL_WINDOWS], held: u64) -> [u64; TAIL_WINDOWS]
+    ensures { result ≡ drop 1 before ++ held ∷ [] }
 {
-    match key {
-        None => last,
-        Some(key) => { if is_tail(last, key) { last } else { Some(key) } }
-    }
+    let mut after = before;
+    after.copy_within(1.., 0);
+    after[TAIL_WINDOWS - 1] = held;
+    after
 }

@@ -1,16 +1,13 @@
 -- What was written of the samples that a source has given so far.
-use Rattle.std.proofs.Common.{◌≡◌, ◌∙◌, ℕ, ◌+◌, ◌<◌, List, [], ◌∷◌, ◌++◌, fold, Option, Some, None, IfSome, Result, Ok, Err, sym, ap, subst, refl, append_assoc, append-nil, ℤ}
+use Rattle.std.proofs.Common.{◌≡◌, ◌∙◌, ℕ, ◌+◌, ◌<◌, List, [], ◌∷◌, ◌++◌, Option, Some, None, IfSome, Result, Ok, Err, sym, ap, subst, refl, append_assoc, append-nil, ℤ}
 use Rattle.std.specs.Io.KnownBytes.{Appends}
 use Rattle.std.proofs.KnownBytes.{Appends-nil, Appends-trans}
 use Rattle.xb_text.specs.Writing.{AppendsBeginning}
 use Rattle.xb_text.proofs.Beginnings.{AppendsBeginning-first, AppendsBeginning-second}
-use Rattle.xb_model.specs.Image.{image_from}
 use Rattle.xb_ear.specs.declared.hearing.Heard.{Heard}
 use Rattle.xb_ear.specs.Ears.{heard, hearing_after}
 use Rattle.xb_ear.specs.Hearings.{listed}
-use Rattle.xb_ear.specs.Receivers.{HasReceived, Receiving, keys_of_sound, keys_so_far}
-use Rattle.xb_ear.specs.Tails.{tail_filter}
-use Rattle.xb_ear.proofs.Windows.{image_from-append}
+use Rattle.xb_ear.specs.Receivers.{HasReceived, Receiving, keys_of_sound}
 use Rattle.xb_ear.proofs.WholeSounds.{hears_so_far}
 use Rattle.xb_rx.specs.declared.page.PageFault.{PageFault}
 use Rattle.xb_rx.specs.declared.page.PageFault.TheVariants as page_fault
@@ -24,15 +21,12 @@ use Rattle.xb_rx.specs.Streams.{GivesSample}
 
 -- the keys of samples are those that ended in the first of them, and more
 pub keys-begin : (earlier later : List ℤ)
-    → (rest : List Heard) × (keys_of_sound (earlier ++ later) ≡ keys_so_far earlier ++ rest)
+    → (rest : List Heard) × (keys_of_sound (earlier ++ later) ≡ heard earlier ++ rest)
 keys-begin earlier later =
     let more = hears_so_far earlier later in
-    let all = earlier ++ later in
-    let last : List Heard = image_from tail_filter (fold tail_filter.next tail_filter.start (heard all)) (listed (hearing_after all).sounding) in (
+    let last : List Heard = listed (hearing_after (earlier ++ later)).sounding in (
       more.0 ++ last,
-      image_from-append tail_filter tail_filter.start (heard all) (listed (hearing_after all).sounding)
-          ∙ ap (λ ks. ks ++ last) more.1
-          ∙ append_assoc (keys_so_far earlier) more.0 last,
+      ap (λ ks. ks ++ last) more.1 ∙ append_assoc (heard earlier) more.0 last,
     )
 
 -- what was written of keys, and of later ones

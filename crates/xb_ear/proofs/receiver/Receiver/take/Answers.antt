@@ -1,19 +1,52 @@
-use Rattle.std.proofs.Common.{◌∙◌, [], ◌∷◌, ◌++◌, ap, subst, sym, ℤ, Option}
+use Rattle.std.proofs.Common.{◌≡◌, ◌∙◌, ℕ, ◌+◌, ◌<◌, List, [], ◌∷◌, ◌++◌, take, drop, length, set, sym, ap, subst, arith, refl, ℤ, to_z, of_z, Option, length-take, length-set}
 use Rattle.std.specs.Int.{w16}
 use Rattle.std.proofs.lemmas.Int.{to_z-of_z}
+use Rattle.std.proofs.lemmas.List.{take_all, take_more_set}
+use Rattle.xb_ear.specs.declared.sight.Sight.{Sight}
 use Rattle.xb_ear.specs.declared.hearing.Heard.{Heard}
-use Rattle.xb_ear.specs.Ears.{HasTaken, heard}
-use Rattle.xb_ear.specs.Hearings.{listed}
+use Rattle.xb_ear.specs.Hearings.{hearer, listed}
+use Rattle.xb_ear.specs.Pairs.{seen}
 use Rattle.xb_ear.specs.Receivers.{HasReceived}
-use Rattle.xb_ear.proofs.Received.{kept-image, last-image, received}
+use Rattle.xb_ear.specs.Tails.{strength, without_tail}
+use Rattle.xb_ear.proofs.Taken.{sees_next, taken-more, taken-same}
 use Rattle.xb_ear.proofs.receiver.Receiver.take.Goals as goal
 
+pub returns-then-self-lt-WINDOW : goal.returns-then-self-lt-WINDOW
+returns-then-self-lt-WINDOW c samples keys taken =
+    let window = c.self.inside.window in
+    let filled : ℕ = c.self.inside.filled in
+    let x : ℤ = c.args.sample in
+    let below : filled < length window = omega (arith, c.self.told, c.if-self-lt-WINDOW.true) in
+    let written : take (filled + 1) (set window filled (to_z w16 (of_z w16 x))) ≡ take filled window ++ x ∷ [] =
+    ap (λ (y : ℤ). take (filled + 1) (set window filled y)) (to_z-of_z w16 x c.ranges.sample)
+    ∙ take_more_set window filled x below in
+    let before = subst (λ receiver. HasReceived receiver samples keys) (sym c.self.view_is) taken in
+    let few : length (take filled window) + 1 < 80 = omega (arith, length-take filled window, c.self.told, c.if-self-lt-WINDOW.true) in
+    taken-same _ _ samples keys x before few written refl refl
+
 pub returns : goal.returns
-returns c samples keys has =
-    let before = subst (λ receiver. HasReceived receiver samples keys) (sym c.self.view_is) has in
-    let heard_key = c.take-key.result in
-    let taken = subst (λ (x : ℤ). HasTaken c.take-key.new.self (samples ++ x ∷ []) (heard samples ++ listed heard_key))
-    (to_z-of_z w16 c.args.sample c.ranges.sample) (c.take-key.ensures samples (heard samples) before.taken) in
-    received _ _ samples keys (listed c.kept-given.result) c.args.sample heard_key before taken
-    (c.last_key-self-inside.ensures ∙ last-image c.self.inside.last heard_key)
-    (ap (λ (key : Option Heard). listed key) c.kept-given.ensures ∙ kept-image c.self.inside.last heard_key)
+returns c samples keys taken =
+    let window = c.self.inside.window in
+    let filled : ℕ = c.self.inside.filled in
+    let held = c.self.inside.held in
+    let x : ℤ = c.args.sample in
+    let last : filled + 1 ≡ 80 = omega (arith, c.self.invariant, c.if-self-lt-WINDOW.false) in
+    let below : filled < length window = omega (arith, c.self.told, last) in
+    let all = set window filled (to_z w16 (of_z w16 x)) in
+    let written : all ≡ take filled window ++ x ∷ [] =
+    sym (take_all (filled + 1) all (omega (arith, last, c.self.told, length-set window filled (to_z w16 (of_z w16 x)))))
+    ∙ ap (λ (y : ℤ). take (filled + 1) (set window filled y)) (to_z-of_z w16 x c.ranges.sample)
+    ∙ take_more_set window filled x below in
+    let before = subst (λ receiver. HasReceived receiver samples keys) (sym c.self.view_is) taken in
+    let full : length (take filled window) + 1 ≡ 80 = omega (arith, length-take filled window, c.self.told, last) in
+    let sight : c.seen-sight.result ≡ seen (take filled window ++ x ∷ []) =
+    c.seen-sight.ensures.value ∙ ap (λ (zs : List ℤ). seen zs) written in
+    let sees : c.without_tail.result ≡ sees_next held (take filled window) x =
+    c.without_tail.ensures ∙ ap (λ (s : Option Sight). without_tail held s) sight in
+    let recent : take 60 c.shifted-self-inside.result ≡ drop 20 (take filled window ++ x ∷ []) =
+    c.shifted-self-inside.ensures ∙ ap (λ (zs : List ℤ). drop 20 zs) written in
+    taken-more _ _ samples keys _ x before full recent
+    (c.moved_on-self-inside.ensures ∙ ap (λ (h : ℕ). drop 1 held ++ h ∷ []) (c.strength.ensures.value ∙ ap (λ (s : Option Sight). strength s) sight))
+    (c.hear-key.ensures.next ∙ ap (λ (s : Option Sight). hearer.next c.self.inside.hearing s) sees)
+    (ap (λ (k : Option Heard). listed k) c.hear-key.ensures.key
+    ∙ ap (λ (s : Option Sight). hearer.outs c.self.inside.hearing s) sees)
