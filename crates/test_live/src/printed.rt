@@ -67,7 +67,7 @@ fn entries_are_printed_as_on_the_page(rt: HostRuntime) -> Result<(), Fail> {
 
 #[test]
 fn objects_tell_when_and_what_was_dialled(rt: HostRuntime) -> Result<(), Fail> {
-    let out = printed(rt.alloc(), Form::Objects, REFUSED)?;
+    let out = printed(rt.alloc(), Form::Objects(None), REFUSED)?;
     assert_eq!(rt; out.as_slice(), OBJECTS);
     Ok(())
 }

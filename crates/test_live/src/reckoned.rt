@@ -32,6 +32,18 @@ pub const OBJECTS: &[u8] = b"{\"at_ms\":2060,\"dialled\":\"0\",\"entry\":1,\"fro
 {\"at_ms\":2960,\"dialled\":\"\",\"entry\":2,\"from_ms\":2460,\"heard\":0,\"line\":7,\
 \"outcome\":\"REFUSED\",\"reason\":\"ABANDONED\"}\n{\"keyed\":1,\"refused\":2}\n";
 
+/// Those objects, where the rows begin 2 s before a year ends.
+pub const TIMED_OBJECTS: &[u8] =
+    b"{\"at\":\"2027-01-01T00:00:00.06Z\",\"at_ms\":2060,\"dialled\":\"0\",\"entry\":1,\
+\"from\":\"2026-12-31T23:59:58Z\",\"from_ms\":0,\"keys\":[\"KP\",\"0\",\"ST\"],\"line\":7,\
+\"outcome\":\"KEYED\",\"sent\":\"0\",\"trunk\":1}\n\
+{\"at\":\"2026-12-31T23:59:58.9Z\",\"at_ms\":900,\"dialled\":\"\",\"entry\":1,\
+\"from\":\"2026-12-31T23:59:58Z\",\"from_ms\":0,\"heard\":0,\"line\":9,\
+\"outcome\":\"REFUSED\",\"reason\":\"ABANDONED\"}\n\
+{\"at\":\"2027-01-01T00:00:00.96Z\",\"at_ms\":2960,\"dialled\":\"\",\"entry\":2,\
+\"from\":\"2027-01-01T00:00:00.46Z\",\"from_ms\":2460,\"heard\":0,\"line\":7,\
+\"outcome\":\"REFUSED\",\"reason\":\"ABANDONED\"}\n{\"keyed\":1,\"refused\":2}\n";
+
 /// The objects of their marks, and of the totals.
 pub const MARK_OBJECTS: &[u8] = b"{\"at_ms\":2060,\"entry\":1,\"line\":7,\"trunk\":1}\n\
 {\"at_ms\":2060,\"entry\":1,\"high_hz\":1700,\"key\":\"KP\",\"line\":7,\"low_hz\":1100}\n\

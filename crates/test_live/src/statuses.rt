@@ -1,11 +1,13 @@
 // Words and decks in; a status, entries, and lines of faults out.
-use crate::reckoned::{BEGINNING, END, KEYED, LAST, MARK_OBJECTS, MARKS, OBJECTS, REFUSED, joined};
+use crate::reckoned::{
+    BEGINNING, END, KEYED, LAST, MARK_OBJECTS, MARKS, OBJECTS, REFUSED, TIMED_OBJECTS, joined,
+};
 use std::test::Fail;
 use test_kit::words_of;
 use xb_live::{Form, LiveFault, attend, run_deck};
 use xb_model::RowFault;
 
-const USAGE: &[u8] = b"mflive: usage: mflive [--json] [--marks]\n";
+const USAGE: &[u8] = b"mflive: usage: mflive [--json [--since TIME]] [--marks]\n";
 
 // The words after the program's name, the parts of the deck, the status, the parts of what is printed, and
 // what stands on standard error.
@@ -35,6 +37,20 @@ const CASES: &[Case] = &[
         b"",
     ),
     (
+        &["--json", "--since", "2026-12-31T18:59:58-05:00"],
+        &[BEGINNING, END],
+        0,
+        &[TIMED_OBJECTS],
+        b"",
+    ),
+    (
+        &["--json", "--since", "9999-12-30T22:00:00Z"],
+        &[BEGINNING, END],
+        1,
+        &[],
+        b"mflive: line 7, entry 1: a time is past 9999-12-30T22:00:00.999999999Z\n",
+    ),
+    (
         &[],
         &[BEGINNING, b"7,X,60\n", END],
         1,
@@ -61,6 +77,14 @@ const CASES: &[Case] = &[
         1,
         &[],
         b"mflive: route table: plan is neither 7 nor 10\n",
+    ),
+    (&["--json", "--since", "noon"], &[BEGINNING], 2, &[], USAGE),
+    (
+        &["--marks", "--since", "2026-12-31T23:59:58Z"],
+        &[BEGINNING],
+        2,
+        &[],
+        USAGE,
     ),
     (&["--mark"], &[BEGINNING], 2, &[], USAGE),
     (&["--help"], &[BEGINNING], 2, &[], USAGE),

@@ -20,6 +20,10 @@ const WORDS: &[(LiveFault, &str)] = &[
         "loop rows: record 2 has a wrong ms",
     ),
     (LiveFault::TooMany, "more than 9223372036854775808 records"),
+    (
+        LiveFault::Late(7, 3),
+        "line 7, entry 3: a time is past 9999-12-30T22:00:00.999999999Z",
+    ),
     (LiveFault::NoMemory, "out of memory"),
     (LiveFault::Write, "the entries could not be written"),
 ];

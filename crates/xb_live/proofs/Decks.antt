@@ -12,7 +12,7 @@ use Rattle.xb_routes.specs.declared.fault.RouteFault.TheVariants as route_fault
 use Rattle.xb_routes.specs.Table.{Table}
 use Rattle.xb_routes.specs.Text.{table_of_text}
 use Rattle.xb_rows.specs.Streams.{rest_of_stream}
-use Rattle.xb_live.specs.declared.printing.Form.{Form}
+use Rattle.xb_live.specs.Clocks.{Style}
 use Rattle.xb_live.specs.declared.fault.LiveFault.{LiveFault}
 use Rattle.xb_live.specs.declared.fault.LiveFault.TheVariants as fault
 use Rattle.xb_live.specs.Decks.{Has}
@@ -20,17 +20,17 @@ use Rattle.xb_live.specs.Faults.{IsOfRoutes, of_table}
 use Rattle.xb_live.specs.Runs.{EndsRows, Prints, PrintsRows, Runs}
 
 -- a deck that gives no table
-pub table-fault : (form : Form) (input out : Option (List ℕ)) (f : TableFault)
-    → IsTableFault MOST_DECK_BYTES input f → Runs form input (Err (of_table f)) out out
-table-fault form input out table_fault.Read is = inl (Keeps-refl out)
-table-fault form input out table_fault.TooLong is = (Keeps-refl out, is)
-table-fault form input out table_fault.NoCut is = (Keeps-refl out, is)
-table-fault form input out table_fault.NoMemory is = inl (Keeps-refl out)
+pub table-fault : (style : Style) (input out : Option (List ℕ)) (f : TableFault)
+    → IsTableFault MOST_DECK_BYTES input f → Runs style input (Err (of_table f)) out out
+table-fault style input out table_fault.Read is = inl (Keeps-refl out)
+table-fault style input out table_fault.TooLong is = (Keeps-refl out, is)
+table-fault style input out table_fault.NoCut is = (Keeps-refl out, is)
+table-fault style input out table_fault.NoMemory is = inl (Keeps-refl out)
 
 -- a table that is refused
-pub routes-fault : (form : Form) (input left out : Option (List ℕ)) (text : List ℕ) (f : RouteFault) (e : LiveFault)
-    → IsCutAfter text input left → (f ≢ route_fault.NoMemory → table_of_text text ≡ Err f) → IsOfRoutes f e → Runs form input (Err e) out out
-routes-fault form input left out text f e cut is of =
+pub routes-fault : (style : Style) (input left out : Option (List ℕ)) (text : List ℕ) (f : RouteFault) (e : LiveFault)
+    → IsCutAfter text input left → (f ≢ route_fault.NoMemory → table_of_text text ≡ Err f) → IsOfRoutes f e → Runs style input (Err e) out out
+routes-fault style input left out text f e cut is of =
     ⊎_elim (λ m. rw (m.1) (inl (Keeps-refl out))) (λ o. rw (o.1) (Keeps-refl out, of_deck input left cut (is o.0))) of
   where
     of_deck : (input left : Option (List ℕ)) → IsCutAfter text input left → table_of_text text ≡ Err f → IfSome input (λ deck. (parts : Parts) × (deck_parts deck ≡ Some parts) × (table_of_text parts.table ≡ Err f))
@@ -39,50 +39,53 @@ routes-fault form input left out text f e cut is of =
     of_deck (Some deck) (Some rows) cut refused = (record { table = text; rows = rows }, cut, refused)
 
 -- what is returned for rows of bytes that are not known
-of_unknown : (form : Form) (result : Result (Unit {0}) LiveFault) (old new : Option (List ℕ)) → EndsRows result → Runs form None result old new
-of_unknown form (Ok u) old new ends = tt
-of_unknown form (Err fault.Read) old new ends = inr tt
-of_unknown form (Err fault.NoCut) old new ends = absurd ends
-of_unknown form (Err fault.TooLong) old new ends = absurd ends
-of_unknown form (Err (fault.Routes f)) old new ends = absurd ends
-of_unknown form (Err (fault.Rows f)) old new ends = tt
-of_unknown form (Err fault.TooMany) old new ends = tt
-of_unknown form (Err fault.NoMemory) old new ends = inr tt
-of_unknown form (Err fault.Write) old new ends = tt
+of_unknown : (style : Style) (result : Result (Unit {0}) LiveFault) (old new : Option (List ℕ)) → EndsRows result → Runs style None result old new
+of_unknown style (Ok u) old new ends = tt
+of_unknown style (Err fault.Read) old new ends = inr tt
+of_unknown style (Err fault.NoCut) old new ends = absurd ends
+of_unknown style (Err fault.TooLong) old new ends = absurd ends
+of_unknown style (Err (fault.Routes f)) old new ends = absurd ends
+of_unknown style (Err (fault.Rows f)) old new ends = tt
+of_unknown style (Err fault.TooMany) old new ends = tt
+of_unknown style (Err fault.NoMemory) old new ends = inr tt
+of_unknown style (Err (fault.Late line number)) old new ends = tt
+of_unknown style (Err fault.Write) old new ends = tt
 
 -- what is printed of rows ends them
-ends_rows : (form : Form) (table : Table) (rest : Rest) (result : Result (Unit {0}) LiveFault) (old new : Option (List ℕ)) → Prints form table rest result old new → EndsRows result
-ends_rows form table rest (Ok u) old new h = tt
-ends_rows form table rest (Err fault.Read) old new h = tt
-ends_rows form table rest (Err fault.NoCut) old new h = h
-ends_rows form table rest (Err fault.TooLong) old new h = h
-ends_rows form table rest (Err (fault.Routes f)) old new h = h
-ends_rows form table rest (Err (fault.Rows f)) old new h = tt
-ends_rows form table rest (Err fault.TooMany) old new h = tt
-ends_rows form table rest (Err fault.NoMemory) old new h = tt
-ends_rows form table rest (Err fault.Write) old new h = tt
+ends_rows : (style : Style) (table : Table) (rest : Rest) (result : Result (Unit {0}) LiveFault) (old new : Option (List ℕ)) → Prints style table rest result old new → EndsRows result
+ends_rows style table rest (Ok u) old new h = tt
+ends_rows style table rest (Err fault.Read) old new h = tt
+ends_rows style table rest (Err fault.NoCut) old new h = h
+ends_rows style table rest (Err fault.TooLong) old new h = h
+ends_rows style table rest (Err (fault.Routes f)) old new h = h
+ends_rows style table rest (Err (fault.Rows f)) old new h = tt
+ends_rows style table rest (Err fault.TooMany) old new h = tt
+ends_rows style table rest (Err fault.NoMemory) old new h = tt
+ends_rows style table rest (Err (fault.Late line number)) old new h = tt
+ends_rows style table rest (Err fault.Write) old new h = tt
 
 -- what is returned for a deck that has these rows
-of_known : (form : Form) (deck : List ℕ) (table : Table) (rest : Rest) (result : Result (Unit {0}) LiveFault) (old new : Option (List ℕ)) → Has deck table rest → Prints form table rest result old new → Runs form (Some deck) result old new
-of_known form deck table rest (Ok u) old new has h = (table, (rest, has, h))
-of_known form deck table rest (Err fault.Read) old new has h = inr (table, (rest, has, h))
-of_known form deck table rest (Err fault.NoCut) old new has h = absurd h
-of_known form deck table rest (Err fault.TooLong) old new has h = absurd h
-of_known form deck table rest (Err (fault.Routes f)) old new has h = absurd h
-of_known form deck table rest (Err (fault.Rows f)) old new has h = (table, (rest, has, h))
-of_known form deck table rest (Err fault.TooMany) old new has h = (table, (rest, has, h))
-of_known form deck table rest (Err fault.NoMemory) old new has h = inr (table, (rest, has, h))
-of_known form deck table rest (Err fault.Write) old new has h = (table, (rest, has, h))
+of_known : (style : Style) (deck : List ℕ) (table : Table) (rest : Rest) (result : Result (Unit {0}) LiveFault) (old new : Option (List ℕ)) → Has deck table rest → Prints style table rest result old new → Runs style (Some deck) result old new
+of_known style deck table rest (Ok u) old new has h = (table, (rest, has, h))
+of_known style deck table rest (Err fault.Read) old new has h = inr (table, (rest, has, h))
+of_known style deck table rest (Err fault.NoCut) old new has h = absurd h
+of_known style deck table rest (Err fault.TooLong) old new has h = absurd h
+of_known style deck table rest (Err (fault.Routes f)) old new has h = absurd h
+of_known style deck table rest (Err (fault.Rows f)) old new has h = (table, (rest, has, h))
+of_known style deck table rest (Err fault.TooMany) old new has h = (table, (rest, has, h))
+of_known style deck table rest (Err fault.NoMemory) old new has h = inr (table, (rest, has, h))
+of_known style deck table rest (Err (fault.Late line number)) old new has h = (table, (rest, has, h))
+of_known style deck table rest (Err fault.Write) old new has h = (table, (rest, has, h))
 
 -- a deck whose table is read
-pub deck-run : (form : Form) (table : Table) (text : List ℕ) (input left : Option (List ℕ)) (result : Result (Unit {0}) LiveFault) (old new : Option (List ℕ))
+pub deck-run : (style : Style) (table : Table) (text : List ℕ) (input left : Option (List ℕ)) (result : Result (Unit {0}) LiveFault) (old new : Option (List ℕ))
     → IsCutAfter text input left → table_of_text text ≡ Ok table
-    → PrintsRows form table (option_map (rest_of_stream (2 ^ 64 - 1)) left) result old new
-    → Runs form input result old new
-deck-run form table text None None result old new cut reads prints = of_unknown form result old new prints
-deck-run form table text None (Some rows) result old new cut reads prints =
-    of_unknown form result old new (ends_rows form table (rest_of_stream (2 ^ 64 - 1) rows) result old new prints)
-deck-run form table text (Some deck) None result old new cut reads prints = absurd cut
-deck-run form table text (Some deck) (Some rows) result old new cut reads prints =
-    of_known form deck table (rest_of_stream (2 ^ 64 - 1) rows) result old new
+    → PrintsRows style table (option_map (rest_of_stream (2 ^ 64 - 1)) left) result old new
+    → Runs style input result old new
+deck-run style table text None None result old new cut reads prints = of_unknown style result old new prints
+deck-run style table text None (Some rows) result old new cut reads prints =
+    of_unknown style result old new (ends_rows style table (rest_of_stream (2 ^ 64 - 1) rows) result old new prints)
+deck-run style table text (Some deck) None result old new cut reads prints = absurd cut
+deck-run style table text (Some deck) (Some rows) result old new cut reads prints =
+    of_known style deck table (rest_of_stream (2 ^ 64 - 1) rows) result old new
     (record { parts = record { table = text; rows = rows }; cut = cut; reads = reads; is = refl }) prints

@@ -12,8 +12,10 @@ pub mod HeardSignals
 pub mod KeptDigits
 pub mod HeardRows
 pub mod BegunAttempts
+pub mod TimesTold
 pub mod ToldRows
 pub mod HeardLines
 pub mod ObjectValues
+pub mod PutTexts
 pub mod ObjectLines
 pub mod AscendingTimes

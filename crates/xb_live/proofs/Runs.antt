@@ -14,11 +14,12 @@ use Rattle.xb_live.specs.declared.fault.EntriesFault.{EntriesFault}
 use Rattle.xb_live.specs.declared.fault.EntriesFault.TheVariants as entries_fault
 use Rattle.xb_live.specs.declared.hearings.Hearings.{Hearings}
 use Rattle.xb_live.specs.declared.printing.Form.{Form}
+use Rattle.xb_live.specs.Clocks.{Style}
 use Rattle.xb_live.specs.declared.printing.Form.TheVariants.{Entries, Marks, Objects, MarkObjects}
 use Rattle.xb_live.specs.Counting.{Counted, HasCounted}
 use Rattle.xb_live.specs.Hearings.{HasHeard}
 use Rattle.xb_live.specs.Texts.{entries_text, text_of}
-use Rattle.xb_live.specs.Writing.{Ends, GotBeginning, GotFirst, HasWritten, Hears, Writes}
+use Rattle.xb_live.specs.Writing.{Ends, GotBeginning, GotFirst, GotUntilLate, HasWritten, Hears, Writes}
 use Rattle.xb_live.proofs.ToldRows.{told_of_rows-none}
 use Rattle.xb_live.proofs.Written.{first_of, first_of_first}
 use Rattle.xb_live.specs.declared.fault.LiveFault.{LiveFault}
@@ -33,9 +34,9 @@ IsLeft all taken (Some left) = (all.rows ≡ taken ++ left.rows) × (all.stop �
 
 -- the entries of the rows that were taken, so many, were written
 abbrev pub IsSoFar :
-    ℕ → Form → Counted → Hearings → Option Rest → Option Rest → Option (List ℕ) → Option (List ℕ) → Type 0
-IsSoFar count form office hearings all now start out = IfSome all (λ rest.
-    (taken : List LoopRow) × IsLeft rest taken now × HasWritten form office hearings taken start out
+    ℕ → Style → Counted → Hearings → Option Rest → Option Rest → Option (List ℕ) → Option (List ℕ) → Type 0
+IsSoFar count style office hearings all now start out = IfSome all (λ rest.
+    (taken : List LoopRow) × IsLeft rest taken now × HasWritten style office hearings taken start out
     × (length taken ≡ count))
 
 -- rows that stop are among those that are taken
@@ -47,27 +48,27 @@ first_of_taken rows (Some f) = ([], append-nil rows)
 first_along : (first some all : List LoopRow) → IsPrefix first some → IsPrefix some all → IsPrefix first all
 first_along first some all p q = subst (IsPrefix first) q.1 (first_of_first first some q.0 p)
 
-text-none : (form : Form) (table : Table) → entries_text form table [] ≡ []
-text-none form table = ap (flat_map (text_of form)) (told_of_rows-none table)
+text-none : (style : Style) (table : Table) → entries_text style table [] ≡ []
+text-none style table = ap (flat_map (text_of style)) (told_of_rows-none table)
 
 -- before the first row nothing is to be heard
 hears-none : (form : Form) (table : Table) (hearings : Hearings) → HasHeard table hearings [] → Hears form table hearings []
 hears-none Entries table hearings silent = tt
 hears-none Marks table hearings silent = tt
-hears-none Objects table hearings silent = silent
-hears-none MarkObjects table hearings silent = silent
+hears-none (Objects since) table hearings silent = silent
+hears-none (MarkObjects since) table hearings silent = silent
 
-pub so_far-start : (form : Form) (office : Counted) (hearings : Hearings) (all : Option Rest) (out : Option (List ℕ)) → HasCounted office [] → HasHeard office.live.table hearings [] → IsSoFar 0 form office hearings all all out out
-so_far-start form office hearings None out counted silent = tt
-so_far-start form office hearings (Some rest) out counted silent =
-    ([], (refl, refl), record { counted = counted; heard = hears-none form office.live.table hearings silent; text = subst (Appends out out) (sym (text-none form office.live.table)) (Appends-nil out) }, refl)
+pub so_far-start : (style : Style) (office : Counted) (hearings : Hearings) (all : Option Rest) (out : Option (List ℕ)) → HasCounted office [] → HasHeard office.live.table hearings [] → IsSoFar 0 style office hearings all all out out
+so_far-start style office hearings None out counted silent = tt
+so_far-start style office hearings (Some rest) out counted silent =
+    ([], (refl, refl), record { counted = counted; heard = hears-none style.form office.live.table hearings silent; text = subst (Appends out out) (sym (text-none style office.live.table)) (Appends-nil out) }, refl)
 
-module _ (count : ℕ) (form : Form) (office : Counted) (hearings : Hearings) (start out : Option (List ℕ)) where
+module _ (count : ℕ) (style : Style) (office : Counted) (hearings : Hearings) (start out : Option (List ℕ)) where
   -- a row more
   pub so_far-more : (after : Counted) (heard : Hearings) (row : LoopRow) (new : Option (List ℕ)) (all now left : Option Rest)
-      → IsSoFar count form office hearings all now start out → GivesRead now (Ok (Some row)) left
-      → ((rows : List LoopRow) → HasWritten form office hearings rows start out → HasWritten form after heard (rows ++ row ∷ []) start new)
-      → IsSoFar (count + 1) form after heard all left start new
+      → IsSoFar count style office hearings all now start out → GivesRead now (Ok (Some row)) left
+      → ((rows : List LoopRow) → HasWritten style office hearings rows start out → HasWritten style after heard (rows ++ row ∷ []) start new)
+      → IsSoFar (count + 1) style after heard all left start new
   so_far-more after heard row new None now left so gives more = tt
   so_far-more after heard row new (Some rest) None left so gives more = absurd so.1
   so_far-more after heard row new (Some rest) (Some here) None so gives more = absurd gives
@@ -84,9 +85,9 @@ module _ (count : ℕ) (form : Form) (office : Counted) (hearings : Hearings) (s
 
   -- a row more, which was not written
   pub so_far-fault : (after : Counted) (heard : Hearings) (table : Table) (row : LoopRow) (new : Option (List ℕ)) (f : EntriesFault) (all now left : Option Rest)
-      → after.live.table ≡ table → IsSoFar count form office hearings all now start out → GivesRead now (Ok (Some row)) left
-      → ((rows : List LoopRow) → HasWritten form office hearings rows start out → Writes form after heard (rows ++ row ∷ []) (Err f) start new)
-      → IfSome all (λ rest. Prints form table rest (Err (of_entries f)) start new)
+      → after.live.table ≡ table → IsSoFar count style office hearings all now start out → GivesRead now (Ok (Some row)) left
+      → ((rows : List LoopRow) → HasWritten style office hearings rows start out → Writes style after heard (rows ++ row ∷ []) (Err f) start new)
+      → IfSome all (λ rest. Prints style table rest (Err (of_entries f)) start new)
   so_far-fault after heard table row new f None now left same so gives more = tt
   so_far-fault after heard table row new f (Some rest) None left same so gives more = absurd so.1
   so_far-fault after heard table row new f (Some rest) (Some here) None same so gives more = absurd gives
@@ -98,24 +99,27 @@ module _ (count : ℕ) (form : Form) (office : Counted) (hearings : Hearings) (s
       (λ g. absurd (cc (g.1)))
       gives
     where
-      at : (f : EntriesFault) → IsPrefix (taken ++ row ∷ []) (rows_taken rest.rows rest.stop) → Writes form after heard (taken ++ row ∷ []) (Err f) start new → Prints form table rest (Err (of_entries f)) start new
-      at entries_fault.NoMemory p got = subst (λ t. GotFirst form t (rows_taken rest.rows rest.stop) start new) same (got.0, first_along got.0 _ _ got.1 p, got.2)
-      at entries_fault.Write p got = inr (subst (λ t. GotBeginning form t (rows_taken rest.rows rest.stop) start new) same (got.0, first_along got.0 _ _ got.1 p, got.2))
+      at : (f : EntriesFault) → IsPrefix (taken ++ row ∷ []) (rows_taken rest.rows rest.stop) → Writes style after heard (taken ++ row ∷ []) (Err f) start new → Prints style table rest (Err (of_entries f)) start new
+      at entries_fault.NoMemory p got = subst (λ t. GotFirst style t (rows_taken rest.rows rest.stop) start new) same (got.0, first_along got.0 _ _ got.1 p, got.2)
+      at (entries_fault.Late line number) p (earlier, (late, q, text, completes)) =
+          subst (λ t. GotUntilLate style line number t (rows_taken rest.rows rest.stop) start new) same
+          (earlier, (late, first_along (earlier ++ late ∷ []) _ _ q p, text, completes))
+      at entries_fault.Write p got = inr (subst (λ t. GotBeginning style t (rows_taken rest.rows rest.stop) start new) same (got.0, first_along got.0 _ _ got.1 p, got.2))
 
   -- the entries of the first rows stand
-  so_far-first : (rest : Rest) (table : Table) (now : Option Rest) → office.live.table ≡ table → IsSoFar count form office hearings (Some rest) now start out → GotFirst form table rest.rows start out
+  so_far-first : (rest : Rest) (table : Table) (now : Option Rest) → office.live.table ≡ table → IsSoFar count style office hearings (Some rest) now start out → GotFirst style table rest.rows start out
   so_far-first rest table None same so = absurd so.1
   so_far-first rest table (Some left) same (taken, are, wrote, many) =
-      (taken, (left.rows, sym are.0), subst (λ t. Appends start out (entries_text form t taken)) same wrote.text)
+      (taken, (left.rows, sym are.0), subst (λ t. Appends start out (entries_text style t taken)) same wrote.text)
 
   -- and they are the first of those that are taken
-  so_far-some : (rest : Rest) (table : Table) (now : Option Rest) → office.live.table ≡ table → IsSoFar count form office hearings (Some rest) now start out → GotFirst form table (rows_taken rest.rows rest.stop) start out
+  so_far-some : (rest : Rest) (table : Table) (now : Option Rest) → office.live.table ≡ table → IsSoFar count style office hearings (Some rest) now start out → GotFirst style table (rows_taken rest.rows rest.stop) start out
   so_far-some rest table now same so =
       let first = so_far-first rest table now same so in
       (first.0, first_along first.0 rest.rows (rows_taken rest.rows rest.stop) first.1 (first_of_taken rest.rows rest.stop), first.2)
 
   -- there are as many rows as were taken, and maybe more
-  pub so_far-many : (table : Table) (all now : Option Rest) → office.live.table ≡ table → 2 ^ 63 ≤ count → IsSoFar count form office hearings all now start out → IfSome all (λ rest. Prints form table rest (Err fault.TooMany) start out)
+  pub so_far-many : (table : Table) (all now : Option Rest) → office.live.table ≡ table → 2 ^ 63 ≤ count → IsSoFar count style office hearings all now start out → IfSome all (λ rest. Prints style table rest (Err fault.TooMany) start out)
   so_far-many table None now same most so = tt
   so_far-many table (Some rest) None same most so = absurd so.1
   so_far-many table (Some rest) (Some left) same most (taken, are, wrote, many) =
@@ -123,9 +127,9 @@ module _ (count : ℕ) (form : Form) (office : Counted) (hearings : Hearings) (s
 
   -- the rows end
   pub so_far-end : (table : Table) (new : Option (List ℕ)) (result : Result (Unit {0}) EntriesFault) (all now left : Option Rest)
-      → IsSoFar count form office hearings all now start out → GivesRead now (Ok None) left
-      → ((rows : List LoopRow) → HasWritten form office hearings rows start out → Ends form table rows result start new)
-      → IfSome all (λ rest. (rest.stop ≡ None) × Ends form table rest.rows result start new)
+      → IsSoFar count style office hearings all now start out → GivesRead now (Ok None) left
+      → ((rows : List LoopRow) → HasWritten style office hearings rows start out → Ends style table rows result start new)
+      → IfSome all (λ rest. (rest.stop ≡ None) × Ends style table rest.rows result start new)
   so_far-end table new result None now left so gives ends = tt
   so_far-end table new result (Some rest) None left so gives ends = absurd so.1
   so_far-end table new result (Some rest) (Some here) None so gives ends = absurd gives
@@ -133,14 +137,14 @@ module _ (count : ℕ) (form : Form) (office : Counted) (hearings : Hearings) (s
       ⊎_elim
       (λ g.
       let whole : taken ≡ rest.rows = sym (are.0 ∙ ap (λ rows. taken ++ rows) g.0 ∙ append-nil taken) in
-      (are.1 ∙ g.1, subst (λ rows. Ends form table rows result start new) whole (ends taken wrote)))
+      (are.1 ∙ g.1, subst (λ rows. Ends style table rows result start new) whole (ends taken wrote)))
       (λ g. absurd (cc (g.1)))
       gives
 
   -- a fault stops the rows
   pub so_far-stop : (table : Table) (f : RowFault) (e : LiveFault) (all now left : Option Rest) → office.live.table ≡ table
-      → IsSoFar count form office hearings all now start out → GivesRead now (Err f) left → IsOfRows f e
-      → IfSome all (λ rest. Prints form table rest (Err e) start out)
+      → IsSoFar count style office hearings all now start out → GivesRead now (Err f) left → IsOfRows f e
+      → IfSome all (λ rest. Prints style table rest (Err e) start out)
   so_far-stop table f e None now left same so gives of = tt
   so_far-stop table f e (Some rest) None left same so gives of = absurd so.1
   so_far-stop table f e (Some rest) (Some here) None same so gives of = absurd gives
@@ -153,38 +157,41 @@ module _ (count : ℕ) (form : Form) (office : Counted) (hearings : Hearings) (s
       of
     where
       stopped : (f ≡ row_fault.NoMemory → ⊥) → (f ≡ row_fault.Read → ⊥) → GivesRead (Some here) (Err f) (Some left)
-          → (rest.stop ≡ Some f) × Appends start out (entries_text form table rest.rows)
+          → (rest.stop ≡ Some f) × Appends start out (entries_text style table rest.rows)
       stopped memory read g =
           ⊎_elim
           (λ h. ⊎_elim
           (λ s.
           let whole : taken ≡ rest.rows = sym (are.0 ∙ ap (λ rows. taken ++ rows) s.0 ∙ append-nil taken) in
-          (are.1 ∙ s.1, subst (λ t. Appends start out (entries_text form t rest.rows)) same (subst (λ rows. Appends start out (entries_text form office.live.table rows)) whole wrote.text)))
+          (are.1 ∙ s.1, subst (λ t. Appends start out (entries_text style t rest.rows)) same (subst (λ rows. Appends start out (entries_text style office.live.table rows)) whole wrote.text)))
           (λ m. absurd (memory m.1)) h.0)
           (λ failed. absurd (read (cc (failed.1))))
           g
 
 -- what the end gives is what is printed
-pub ends-printed : (form : Form) (table : Table) (start new : Option (List ℕ)) (f : EntriesFault) (all : Option Rest)
-    → IfSome all (λ rest. (rest.stop ≡ None) × Ends form table rest.rows (Err f) start new) → IfSome all (λ rest. Prints form table rest (Err (of_entries f)) start new)
-ends-printed form table start new f None h = tt
-ends-printed form table start new entries_fault.NoMemory (Some rest) h =
-    subst (λ stop. GotFirst form table (rows_taken rest.rows stop) start new) (sym h.0) h.1
-ends-printed form table start new entries_fault.Write (Some rest) h =
+pub ends-printed : (style : Style) (table : Table) (start new : Option (List ℕ)) (f : EntriesFault) (all : Option Rest)
+    → IfSome all (λ rest. (rest.stop ≡ None) × Ends style table rest.rows (Err f) start new) → IfSome all (λ rest. Prints style table rest (Err (of_entries f)) start new)
+ends-printed style table start new f None h = tt
+ends-printed style table start new entries_fault.NoMemory (Some rest) h =
+    subst (λ stop. GotFirst style table (rows_taken rest.rows stop) start new) (sym h.0) h.1
+ends-printed style table start new (entries_fault.Late line number) (Some rest) h =
+    subst (λ stop. GotUntilLate style line number table (rows_taken rest.rows stop) start new) (sym h.0) h.1
+ends-printed style table start new entries_fault.Write (Some rest) h =
     ⊎_elim
     (λ beginning. inl (h.0, beginning))
-    (λ got. inr (subst (λ stop. GotBeginning form table (rows_taken rest.rows stop) start new) (sym h.0) got))
+    (λ got. inr (subst (λ stop. GotBeginning style table (rows_taken rest.rows stop) start new) (sym h.0) got))
     h.1
 
 -- what is printed of rows that are known is all that is said of them
-pub known : (form : Form) (table : Table) (all : Option Rest) (result : Result (Unit {0}) LiveFault) (start out : Option (List ℕ))
-    → EndsRows result → IfSome all (λ rest. Prints form table rest result start out) → PrintsRows form table all result start out
-known form table None result start out ends h = ends
-known form table (Some rest) result start out ends h = h
+pub known : (style : Style) (table : Table) (all : Option Rest) (result : Result (Unit {0}) LiveFault) (start out : Option (List ℕ))
+    → EndsRows result → IfSome all (λ rest. Prints style table rest result start out) → PrintsRows style table all result start out
+known style table None result start out ends h = ends
+known style table (Some rest) result start out ends h = h
 
 -- the faults of entries, and of rows, are such as end rows
 pub entries-end : (f : EntriesFault) → EndsRows (Err (of_entries f))
 entries-end entries_fault.NoMemory = tt
+entries-end (entries_fault.Late line number) = tt
 entries-end entries_fault.Write = tt
 
 pub rows-end : (f : RowFault) (e : LiveFault) → IsOfRows f e → EndsRows (Err e)

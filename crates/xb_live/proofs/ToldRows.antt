@@ -1,5 +1,5 @@
 -- The entries that rows complete, as they are told, one row after another.
-use Rattle.std.proofs.Common.{◌≡◌, ◌<◌, List, [], ◌∷◌, ◌++◌, map, length, drop, get_or, refl, sym, ap, ◌∙◌, append_assoc, append-nil}
+use Rattle.std.proofs.Common.{◌≡◌, ◌<◌, List, [], ◌∷◌, ◌++◌, map, length, drop, get_or, refl, sym, subst, ap, ◌∙◌, append_assoc, append-nil}
 use Rattle.std.proofs.Math.Seq.{drop-append_seam, drop-length}
 use Rattle.std.proofs.lemmas.List.{map-append}
 use Rattle.std.specs.List.{flat_map}
@@ -16,12 +16,15 @@ use Rattle.xb_model.proofs.Images.{image_after-append}
 use Rattle.xb_pulse.specs.Machine.{machine as pulse_machine}
 use Rattle.xb_register.specs.Machine.{machine as register_machine}
 use Rattle.xb_routes.specs.Table.{Table}
+use Rattle.xb_live.specs.declared.fault.EntriesFault.{EntriesFault}
+use Rattle.xb_live.specs.declared.fault.EntriesFault.TheVariants.{Late, NoMemory, Write}
 use Rattle.xb_live.specs.declared.hearing.Hearing.{Hearing}
 use Rattle.xb_live.specs.declared.hearings.Hearings.{Hearings}
 use Rattle.xb_live.specs.declared.printing.Form.{Form}
 use Rattle.xb_live.specs.declared.printing.Form.TheVariants.{Entries, Marks, Objects, MarkObjects}
+use Rattle.xb_live.specs.Clocks.{Clock, IsLate, Style, styled}
 use Rattle.xb_live.specs.Entries.{Entry, Numbered, entries_of_rows, numbered_after}
-use Rattle.xb_live.specs.Objects.{line_of, mark_object, object_of}
+use Rattle.xb_live.specs.Faults.{IsOfEntry}
 use Rattle.xb_live.specs.Texts.{entries_text, text_of}
 use Rattle.xb_live.specs.Told.{Told, completed_by, entry_in, told_after, told_by, told_of_rows, told_with}
 use Rattle.xb_live.specs.Writing.{Hears}
@@ -131,13 +134,13 @@ module _ (table : Table) where
   told_of_rows-none = told_after-none []
 
 -- the text of a row more
-pub text-more : (form : Form) (table : Table) (rows : List LoopRow) (row : LoopRow) (more : List Entry) (numbered : List Numbered)
+pub text-more : (style : Style) (table : Table) (rows : List LoopRow) (row : LoopRow) (more : List Entry) (numbered : List Numbered)
     → entries_of_rows table (rows ++ row ∷ []) ≡ entries_of_rows table rows ++ more
     → numbered_after (entries_of_rows table rows) more ≡ numbered
-    → entries_text form table (rows ++ row ∷ []) ≡ entries_text form table rows ++ flat_map (text_of form) (map (told_by table (rows ++ row ∷ [])) numbered)
-text-more form table rows row more numbered completed is =
-    ap (flat_map (text_of form)) (told-more table rows row more numbered completed is)
-    ∙ flat_map-append (text_of form) (told_of_rows table rows) (map (told_by table (rows ++ row ∷ [])) numbered)
+    → entries_text style table (rows ++ row ∷ []) ≡ entries_text style table rows ++ flat_map (text_of style) (map (told_by table (rows ++ row ∷ [])) numbered)
+text-more style table rows row more numbered completed is =
+    ap (flat_map (text_of style)) (told-more table rows row more numbered completed is)
+    ∙ flat_map-append (text_of style) (told_of_rows table rows) (map (told_by table (rows ++ row ∷ [])) numbered)
 
 -- what is heard of a line is what is told of its entry
 module _ (table : Table) (lawful : IsLawful table.limits) (rows : List LoopRow) (entry : Numbered) where
@@ -150,11 +153,29 @@ module _ (table : Table) (lawful : IsLawful table.limits) (rows : List LoopRow) 
       let told : Told = record { line = entry.line; number = entry.number; marks = entry.marks; began = (told_by table rows entry).began; at = at; dialled = now.dialled } in told) (at-is table.limits table.plan entry.line rows)
       ∙ ap (λ dialled. let told : Told = record { line = entry.line; number = entry.number; marks = entry.marks; began = (told_by table rows entry).began; at = (told_by table rows entry).at; dialled = dialled } in told) (dialled-is table.limits table.plan lawful entry.line rows)
 
-  pub text-heard : (form : Form) (hearings : Hearings) (heard : Hearing) → Hears form table hearings rows → entry.line < LINES → heard ≡ get_or hearings.lines entry.line heard
-      → text_of form (told_with entry.line entry.number entry.marks heard) ≡ text_of form (told_by table rows entry)
-  text-heard Entries hearings heard hears below is = refl
-  text-heard Marks hearings heard hears below is = refl
-  text-heard Objects hearings heard hears below is =
-      ap (λ told. line_of (object_of told)) (told-heard heard (is ∙ hears.lines entry.line heard below))
-  text-heard MarkObjects hearings heard hears below is =
-      ap (λ (told : Told). flat_map (λ mark. line_of (mark_object told.line told.number told.at mark)) told.marks) (told-heard heard (is ∙ hears.lines entry.line heard below))
+  -- so its text is the same
+  pub text-heard : (form : Form) (clock : Clock) (hearings : Hearings) (heard : Hearing) → Hears form table hearings rows → entry.line < LINES → heard ≡ get_or hearings.lines entry.line heard
+      → text_of (styled form clock) (told_with entry.line entry.number entry.marks heard) ≡ text_of (styled form clock) (told_by table rows entry)
+  text-heard Entries clock hearings heard hears below is = refl
+  text-heard Marks clock hearings heard hears below is = refl
+  text-heard (Objects since) clock hearings heard hears below is =
+      ap (text_of (styled (Objects since) clock)) (told-heard heard (is ∙ hears.lines entry.line heard below))
+  text-heard (MarkObjects since) clock hearings heard hears below is =
+      ap (text_of (styled (MarkObjects since) clock)) (told-heard heard (is ∙ hears.lines entry.line heard below))
+
+  -- and its times are past the last instant where these are
+  pub late-heard : (form : Form) (hearings : Hearings) (heard : Hearing) → Hears form table hearings rows → entry.line < LINES → heard ≡ get_or hearings.lines entry.line heard
+      → IsLate form (told_with entry.line entry.number entry.marks heard) → IsLate form (told_by table rows entry)
+  late-heard Entries hearings heard hears below is late = late
+  late-heard Marks hearings heard hears below is late = late
+  late-heard (Objects since) hearings heard hears below is late =
+      subst (IsLate (Objects since)) (told-heard heard (is ∙ hears.lines entry.line heard below)) late
+  late-heard (MarkObjects since) hearings heard hears below is late =
+      subst (IsLate (MarkObjects since)) (told-heard heard (is ∙ hears.lines entry.line heard below)) late
+
+  -- nor is it printed for another reason
+  pub fault-heard : (form : Form) (hearings : Hearings) (heard : Hearing) → Hears form table hearings rows → entry.line < LINES → heard ≡ get_or hearings.lines entry.line heard
+      → (f : EntriesFault) → IsOfEntry form (told_with entry.line entry.number entry.marks heard) f → IsOfEntry form (told_by table rows entry) f
+  fault-heard form hearings heard hears below is NoMemory of = of
+  fault-heard form hearings heard hears below is (Late line number) (same, numbered, late) = (same, numbered, late-heard form hearings heard hears below is late)
+  fault-heard form hearings heard hears below is Write of = of

@@ -12,15 +12,16 @@ use Rattle.xb_routes.specs.Table.{Table}
 use Rattle.xb_text.specs.Writing.{AppendsBeginning}
 use Rattle.xb_text.proofs.Beginnings.{AppendsBeginning-second}
 use Rattle.xb_live.specs.declared.fault.EntriesFault.{EntriesFault}
-use Rattle.xb_live.specs.declared.fault.EntriesFault.TheVariants.{NoMemory, Write}
+use Rattle.xb_live.specs.declared.fault.EntriesFault.TheVariants.{Late, NoMemory, Write}
 use Rattle.xb_live.specs.declared.hearings.Hearings.{Hearings}
-use Rattle.xb_live.specs.declared.printing.Form.{Form}
+use Rattle.xb_live.specs.Clocks.{IsLate, Style}
 use Rattle.xb_live.specs.Entries.{Entry, Numbered, count_keyed, count_refused, entries_of_rows, numbered_after}
 use Rattle.xb_live.specs.Counting.{Counted, HasCounted}
+use Rattle.xb_live.specs.Faults.{IsOfEntry}
 use Rattle.xb_live.specs.Texts.{entries_text, text_of, totals_of, whole_text, with_closes}
 use Rattle.xb_live.specs.Told.{Told, told_by}
-use Rattle.xb_live.specs.Writing.{Ends, GotBeginning, GotFirst, HasWritten, Hears, Writes}
-use Rattle.xb_live.proofs.ToldRows.{text-more}
+use Rattle.xb_live.specs.Writing.{CompletesLate, Ends, GotBeginning, GotFirst, GotUntilLate, HasWritten, Hears, Writes}
+use Rattle.xb_live.proofs.ToldRows.{text-more, told-more}
 
 -- some rows are the first of themselves and more
 pub first_of : (rows more : List LoopRow) → IsPrefix rows (rows ++ more)
@@ -31,20 +32,20 @@ pub first_of_first : (first rows more : List LoopRow) → IsPrefix first rows �
 first_of_first first rows more p = (p.0 ++ more, sym (append_assoc first p.0 more) ∙ ap (λ xs. xs ++ more) p.1)
 
 -- one row more of an office, whose table is the same
-module _ (form : Form) (office after : Counted) (hearings heard : Hearings) (row : LoopRow) (more : List Entry) (table : after.live.table ≡ office.live.table)
-    (rows : List LoopRow) (start out : Option (List ℕ)) (before : HasWritten form office hearings rows start out)
-    (counted : HasCounted after (rows ++ row ∷ [])) (hears : Hears form office.live.table heard (rows ++ row ∷ []))
+module _ (style : Style) (office after : Counted) (hearings heard : Hearings) (row : LoopRow) (more : List Entry) (table : after.live.table ≡ office.live.table)
+    (rows : List LoopRow) (start out : Option (List ℕ)) (before : HasWritten style office hearings rows start out)
+    (counted : HasCounted after (rows ++ row ∷ [])) (hears : Hears style.form office.live.table heard (rows ++ row ∷ []))
     (completed : entries_of_rows office.live.table (rows ++ row ∷ []) ≡ entries_of_rows office.live.table rows ++ more) where
-  heard-now : Hears form after.live.table heard (rows ++ row ∷ [])
-  heard-now = subst (λ t. Hears form t heard (rows ++ row ∷ [])) (sym table) hears
+  heard-now : Hears style.form after.live.table heard (rows ++ row ∷ [])
+  heard-now = subst (λ t. Hears style.form t heard (rows ++ row ∷ [])) (sym table) hears
 
   -- no entry
-  pub written-none : numbered_after (entries_of_rows office.live.table rows) more ≡ [] → HasWritten form after heard (rows ++ row ∷ []) start out
+  pub written-none : numbered_after (entries_of_rows office.live.table rows) more ≡ [] → HasWritten style after heard (rows ++ row ∷ []) start out
   written-none none = record {
     counted = counted;
     heard = heard-now;
     text = subst (Appends start out)
-        (sym (ap (λ t. entries_text form t (rows ++ row ∷ [])) table ∙ text-more form office.live.table rows row more [] completed none ∙ append-nil _))
+        (sym (ap (λ t. entries_text style t (rows ++ row ∷ [])) table ∙ text-more style office.live.table rows row more [] completed none ∙ append-nil _))
         before.text;
   }
 
@@ -52,33 +53,54 @@ module _ (form : Form) (office after : Counted) (hearings heard : Hearings) (row
     abbrev told : Told
     told = told_by office.live.table (rows ++ row ∷ []) it
 
-    all : entries_text form after.live.table (rows ++ row ∷ []) ≡ entries_text form office.live.table rows ++ text_of form told
+    all : entries_text style after.live.table (rows ++ row ∷ []) ≡ entries_text style office.live.table rows ++ text_of style told
     all =
-        ap (λ t. entries_text form t (rows ++ row ∷ [])) table
-        ∙ text-more form office.live.table rows row more (it ∷ []) completed one
-        ∙ ap (λ text. entries_text form office.live.table rows ++ text) (append-nil (text_of form told))
+        ap (λ t. entries_text style t (rows ++ row ∷ [])) table
+        ∙ text-more style office.live.table rows row more (it ∷ []) completed one
+        ∙ ap (λ text. entries_text style office.live.table rows ++ text) (append-nil (text_of style told))
 
     -- an entry, whose text was written
-    pub written-one : (new : Option (List ℕ)) → Appends out new (text_of form told) → HasWritten form after heard (rows ++ row ∷ []) start new
+    pub written-one : (new : Option (List ℕ)) → Appends out new (text_of style told) → HasWritten style after heard (rows ++ row ∷ []) start new
     written-one new wrote = record {
       counted = counted;
       heard = heard-now;
-      text = subst (Appends start new) (sym all) (Appends-trans start out new (entries_text form office.live.table rows) (text_of form told) before.text wrote);
+      text = subst (Appends start new) (sym all) (Appends-trans start out new (entries_text style office.live.table rows) (text_of style told) before.text wrote);
     }
 
     -- or the beginning of its text
-    pub written-beginning : (new : Option (List ℕ)) → AppendsBeginning out new (text_of form told) → GotBeginning form after.live.table (rows ++ row ∷ []) start new
+    pub written-beginning : (new : Option (List ℕ)) → AppendsBeginning out new (text_of style told) → GotBeginning style after.live.table (rows ++ row ∷ []) start new
     written-beginning new wrote = (
       rows ++ row ∷ [],
       ([], append-nil _),
-      subst (AppendsBeginning start new) (sym all) (AppendsBeginning-second start out new (entries_text form office.live.table rows) (text_of form told) before.text wrote),
+      subst (AppendsBeginning start new) (sym all) (AppendsBeginning-second start out new (entries_text style office.live.table rows) (text_of style told) before.text wrote),
     )
 
+    -- or nothing, since a time of it is past the last instant
+    written-late : IsLate style.form told → GotUntilLate style it.line it.number after.live.table (rows ++ row ∷ []) start out
+    written-late late = (
+      rows,
+      (
+        row,
+        ([], append-nil _),
+        subst (λ t. Appends start out (entries_text style t rows)) (sym table) before.text,
+        subst (λ t. CompletesLate style.form it.line it.number t rows row) (sym table)
+            (told, told-more office.live.table rows row more (it ∷ []) completed one, refl, refl, late),
+      ),
+    )
+
+    -- it is not written for these reasons alone
+    pub written-fault : (f : EntriesFault) → IsOfEntry style.form told f → Writes style after heard (rows ++ row ∷ []) (Err f) start out
+    written-fault NoMemory of = (rows, first_of rows (row ∷ []), subst (λ t. Appends start out (entries_text style t rows)) (sym table) before.text)
+    written-fault (Late line number) (same, numbered, late) =
+        subst (λ l. GotUntilLate style l number after.live.table (rows ++ row ∷ []) start out) same
+        (subst (λ n. GotUntilLate style it.line n after.live.table (rows ++ row ∷ []) start out) numbered (written-late late))
+    written-fault Write of = absurd of
+
 -- where nothing was written, the entries of the earlier rows stand
-pub written-first : (form : Form) (office after : Counted) (hearings : Hearings) (table : after.live.table ≡ office.live.table) (rows more : List LoopRow) (start out : Option (List ℕ))
-    → HasWritten form office hearings rows start out → GotFirst form after.live.table (rows ++ more) start out
-written-first form office after hearings table rows more start out before =
-    (rows, first_of rows more, subst (λ t. Appends start out (entries_text form t rows)) (sym table) before.text)
+pub written-first : (style : Style) (office after : Counted) (hearings : Hearings) (table : after.live.table ≡ office.live.table) (rows more : List LoopRow) (start out : Option (List ℕ))
+    → HasWritten style office hearings rows start out → GotFirst style after.live.table (rows ++ more) start out
+written-first style office after hearings table rows more start out before =
+    (rows, first_of rows more, subst (λ t. Appends start out (entries_text style t rows)) (sym table) before.text)
 
 -- the lines below a number are the first of those below a greater one
 first_below : (n k : ℕ) → IsPrefix (lines_below n) (lines_below (n + k))
@@ -118,38 +140,42 @@ first_along : (first some all : List LoopRow) → IsPrefix first some → IsPref
 first_along first some all p q = subst (IsPrefix first) q.1 (first_of_first first some q.0 p)
 
 -- a fault at the first of some rows
-pub faults-more : (form : Form) (office : Counted) (hearings : Hearings) (some all : List LoopRow) (fault : EntriesFault) (start out : Option (List ℕ))
-    → IsPrefix some all → Writes form office hearings some (Err fault) start out → Writes form office hearings all (Err fault) start out
-faults-more form office hearings some all NoMemory start out q (first, p, text) = (first, first_along first some all p q, text)
-faults-more form office hearings some all Write start out q (first, p, text) = (first, first_along first some all p q, text)
+pub faults-more : (style : Style) (office : Counted) (hearings : Hearings) (some all : List LoopRow) (fault : EntriesFault) (start out : Option (List ℕ))
+    → IsPrefix some all → Writes style office hearings some (Err fault) start out → Writes style office hearings all (Err fault) start out
+faults-more style office hearings some all NoMemory start out q (first, p, text) = (first, first_along first some all p q, text)
+faults-more style office hearings some all (Late line number) start out q (earlier, (row, p, text, late)) =
+    (earlier, (row, first_along (earlier ++ row ∷ []) some all p q, text, late))
+faults-more style office hearings some all Write start out q (first, p, text) = (first, first_along first some all p q, text)
 
 -- a fault at the closes ends the rows
-pub faults-end : (form : Form) (office : Counted) (hearings : Hearings) (table : Table) (rows : List LoopRow) (fault : EntriesFault) (start out : Option (List ℕ))
-    → office.live.table ≡ table → Writes form office hearings (with_closes rows) (Err fault) start out → Ends form table rows (Err fault) start out
-faults-end form office hearings table rows NoMemory start out e got = subst (λ t. GotFirst form t (with_closes rows) start out) e got
-faults-end form office hearings table rows Write start out e got = inr (subst (λ t. GotBeginning form t (with_closes rows) start out) e got)
+pub faults-end : (style : Style) (office : Counted) (hearings : Hearings) (table : Table) (rows : List LoopRow) (fault : EntriesFault) (start out : Option (List ℕ))
+    → office.live.table ≡ table → Writes style office hearings (with_closes rows) (Err fault) start out → Ends style table rows (Err fault) start out
+faults-end style office hearings table rows NoMemory start out e got = subst (λ t. GotFirst style t (with_closes rows) start out) e got
+faults-end style office hearings table rows (Late line number) start out e got =
+    subst (λ t. GotUntilLate style line number t (with_closes rows) start out) e got
+faults-end style office hearings table rows Write start out e got = inr (subst (λ t. GotBeginning style t (with_closes rows) start out) e got)
 
 -- after the closes, the totals
-module _ (form : Form) (office : Counted) (hearings : Hearings) (table : Table) (rows : List LoopRow) (start out : Option (List ℕ))
-    (same : office.live.table ≡ table) (written : HasWritten form office hearings (with_closes rows) start out) where
+module _ (style : Style) (office : Counted) (hearings : Hearings) (table : Table) (rows : List LoopRow) (start out : Option (List ℕ))
+    (same : office.live.table ≡ table) (written : HasWritten style office hearings (with_closes rows) start out) where
   -- are not told where memory ran out
-  pub totals-missing : GotFirst form table (with_closes rows) start out
-  totals-missing = (with_closes rows, ([], append-nil _), subst (λ t. Appends start out (entries_text form t (with_closes rows))) same written.text)
+  pub totals-missing : GotFirst style table (with_closes rows) start out
+  totals-missing = (with_closes rows, ([], append-nil _), subst (λ t. Appends start out (entries_text style t (with_closes rows))) same written.text)
 
-  totals : totals_of form office.keyed office.refused ≡ totals_of form (count_keyed (entries_of_rows table (with_closes rows))) (count_refused (entries_of_rows table (with_closes rows)))
+  totals : totals_of style.form office.keyed office.refused ≡ totals_of style.form (count_keyed (entries_of_rows table (with_closes rows))) (count_refused (entries_of_rows table (with_closes rows)))
   totals =
-      ap (λ k. totals_of form k office.refused) (written.counted.keyed ∙ ap (λ t. count_keyed (entries_of_rows t (with_closes rows))) same)
-      ∙ ap (totals_of form (count_keyed (entries_of_rows table (with_closes rows)))) (written.counted.refused ∙ ap (λ t. count_refused (entries_of_rows t (with_closes rows))) same)
+      ap (λ k. totals_of style.form k office.refused) (written.counted.keyed ∙ ap (λ t. count_keyed (entries_of_rows t (with_closes rows))) same)
+      ∙ ap (totals_of style.form (count_keyed (entries_of_rows table (with_closes rows)))) (written.counted.refused ∙ ap (λ t. count_refused (entries_of_rows t (with_closes rows))) same)
 
-  text : Appends start out (entries_text form table (with_closes rows))
-  text = subst (λ t. Appends start out (entries_text form t (with_closes rows))) same written.text
+  text : Appends start out (entries_text style table (with_closes rows))
+  text = subst (λ t. Appends start out (entries_text style t (with_closes rows))) same written.text
 
   -- are told whole
-  pub totals-whole : (new : Option (List ℕ)) → Appends out new (totals_of form office.keyed office.refused) → Appends start new (whole_text form table rows)
+  pub totals-whole : (new : Option (List ℕ)) → Appends out new (totals_of style.form office.keyed office.refused) → Appends start new (whole_text style table rows)
   totals-whole new more = Appends-trans start out new _ _ text (subst (Appends out new) totals more)
 
   -- or their beginning is
-  pub totals-begun : (new : Option (List ℕ)) → AppendsBeginning out new (totals_of form office.keyed office.refused) → AppendsBeginning start new (whole_text form table rows)
+  pub totals-begun : (new : Option (List ℕ)) → AppendsBeginning out new (totals_of style.form office.keyed office.refused) → AppendsBeginning start new (whole_text style table rows)
   totals-begun new more = AppendsBeginning-second start out new _ _ text (subst (AppendsBeginning out new) totals more)
 
 -- a number of a line is one

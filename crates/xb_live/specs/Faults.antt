@@ -8,6 +8,9 @@ use Rattle.xb_deck.specs.declared.table.TableFault.{TableFault}
 use Rattle.xb_deck.specs.declared.table.TableFault.TheVariants as table_fault
 use Rattle.xb_live.specs.declared.fault.EntriesFault.{EntriesFault}
 use Rattle.xb_live.specs.declared.fault.EntriesFault.TheVariants as entries_fault
+use Rattle.xb_live.specs.Clocks.{IsLate}
+use Rattle.xb_live.specs.Told.{Told}
+use Rattle.xb_live.specs.declared.printing.Form.{Form}
 use Rattle.xb_live.specs.declared.fault.LiveFault.{LiveFault}
 use Rattle.xb_live.specs.declared.fault.LiveFault.TheVariants as fault
 
@@ -24,6 +27,7 @@ IsOfRows f e = ((f ≡ row_fault.NoMemory) × (e ≡ fault.NoMemory))
 
 abbrev pub of_entries : EntriesFault → LiveFault
 of_entries entries_fault.NoMemory = fault.NoMemory
+of_entries (entries_fault.Late line number) = fault.Late line number
 of_entries entries_fault.Write = fault.Write
 
 abbrev pub of_table : TableFault → LiveFault
@@ -31,3 +35,9 @@ of_table table_fault.Read = fault.Read
 of_table table_fault.TooLong = fault.TooLong
 of_table table_fault.NoCut = fault.NoCut
 of_table table_fault.NoMemory = fault.NoMemory
+
+-- what is returned of an entry, where it is not printed: memory ran out, or one of its times is past the last instant
+abbrev pub IsOfEntry : Form → Told → EntriesFault → Type 0
+IsOfEntry form told entries_fault.NoMemory = Unit {0}
+IsOfEntry form told (entries_fault.Late line number) = (told.line ≡ line) × (told.number ≡ number) × IsLate form told
+IsOfEntry form told entries_fault.Write = ⊥

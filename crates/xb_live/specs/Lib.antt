@@ -5,6 +5,7 @@ pub mod Told
 pub mod Objects
 pub mod PageOfObjects
 pub mod Ascending
+pub mod Clocks
 pub mod Texts
 pub mod Counting
 pub mod Writing

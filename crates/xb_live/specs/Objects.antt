@@ -1,7 +1,7 @@
 -- The JSON objects that are printed of an entry, of a mark, and of the totals.
 use Rattle.std.specs.Prelude.{ℕ, List, [], ◌∷◌, ◌++◌, codes, Option, Some, None}
 use Rattle.std.specs.List.{flat_map}
-use Rattle.serde_json.specs.Data.{Data, array, member, no_members, number, object, string, unsigned}
+use Rattle.serde_json.specs.Data.{Data, array, member, no_members, number, object, put, string, unsigned}
 use Rattle.serde_json.specs.View.{items_of}
 use Rattle.serde_json.specs.Written.{compact_text}
 use Rattle.xb_json.specs.Keys.{digits_text, keys_of}
@@ -91,6 +91,24 @@ mark_object line entry at (mark.Refused reason heard) = object
     (member (codes "heard") (number (unsigned heard))
     (member (codes "line") (number (unsigned line))
     (member (codes "reason") (string (reason_text reason)) no_members)))))
+
+-- an object that also has this text under a name
+abbrev pub with_text : List ℕ → List ℕ → Data → Data
+with_text name text (object members) = object (put name (string text) members)
+with_text name text other = other
+
+-- or this time, where there is one
+abbrev pub with_time : List ℕ → Option (List ℕ) → Data → Data
+with_time name None value = value
+with_time name (Some text) value = with_text name text value
+
+-- the object of an entry, which also has the times at which its attempt began and at which it is complete
+abbrev pub timed_object : Option (List ℕ) → Option (List ℕ) → Told → Data
+timed_object from at told = with_time (codes "from") from (with_time (codes "at") at (object_of told))
+
+-- the object of a mark, which also has the time at which its entry is complete
+abbrev pub timed_mark : Option (List ℕ) → ℕ → ℕ → ℕ → Mark → Data
+timed_mark time line entry at m = with_time (codes "at") time (mark_object line entry at m)
 
 -- the object of the totals
 abbrev pub totals_object : ℕ → ℕ → Data

@@ -1,33 +1,58 @@
 -- What the words of the command line ask for, as clap reads them.
-use Rattle.std.specs.Prelude.{List, [], ◌∷◌, codes, Option, Some, if◌then◌else◌}
+use Rattle.std.specs.Prelude.{◌≡◌, ℤ, List, [], ◌∷◌, codes, Bool, Option, Some, None, Result, Ok, Err, if◌then◌else◌}
 use Rattle.clap.specs.Simple.{App}
-use Rattle.clap.specs.Walk.{Row, Text}
+use Rattle.clap.specs.Walk.{Row, Text, first_of}
+use Rattle.jiff_core.specs.declared.error.Error.{Error}
+use Rattle.jiff_core.specs.declared.timestamp.Timestamp.{Timestamp}
+use Rattle.jiff_fmt.specs.Temporal.{parse_timestamp}
 use Rattle.xb_command.specs.Commands.{command_of}
 use Rattle.xb_command.specs.Given.{AskForNothing, AsksFor, ReadsFlag, given_by}
 use Rattle.xb_command.specs.declared.command.Takes.TheVariants as takes
 use Rattle.xb_live.specs.declared.printing.Form.{Form}
 use Rattle.xb_live.specs.declared.printing.Form.TheVariants as form
 use Rattle.xb_live.specs.declared.words.Options.{Options}
+use Rattle.xb_live.specs.declared.words.Since.{Since}
+use Rattle.xb_live.specs.declared.words.Since.TheVariants as since
 
--- `mflive [--json] [--marks]`
+-- `mflive [--json [--since TIME]] [--marks]`
 abbrev pub command_of_words : App
 command_of_words =
-    command_of (codes "mflive") ((codes "json", takes.Nothing) ∷ (codes "marks", takes.Nothing) ∷ [])
+    command_of (codes "mflive")
+    ((codes "json", takes.Nothing) ∷ (codes "marks", takes.Nothing) ∷ (codes "since", takes.Text) ∷ [])
 
--- what clap matched says whether JSON is printed, and whether marks are printed by themselves
+-- what is read of a text as jiff reads an instant: that instant, or no time
+abbrev pub IsRead : Result ℤ Error → Since → Type 0
+IsRead (Ok nanos) given = (time : Timestamp) × (time.nanosecond ≡ nanos) × (given ≡ since.Time time)
+IsRead (Err e) given = given ≡ since.NoTime
+
+abbrev pub ReadsSince : Option Text → Since → Type 0
+ReadsSince None given = given ≡ since.NotGiven
+ReadsSince (Some text) given = IsRead (parse_timestamp text) given
+
+-- what clap matched says whether JSON is printed, whether marks are printed by themselves, and the time that the ms
+-- are counted from
 pub record Say (rows : List Row) (options : Options) : Type 0 where
   pub json : ReadsFlag (given_by rows (codes "json")) options.json
   pub marks : ReadsFlag (given_by rows (codes "marks")) options.marks
+  pub since : ReadsSince (first_of (codes "since") rows) options.since
+
+abbrev pub objects_since : Bool → Option Timestamp → Form
+objects_since marks time = if marks then form.MarkObjects time else form.Objects time
+
+-- a time goes with objects alone
+abbrev pub form_by : Bool → Bool → Since → Option Form
+form_by json marks since.NotGiven = Some
+    (if json then objects_since marks None else (if marks then form.Marks else form.Entries))
+form_by json marks (since.Time time) = if json then Some (objects_since marks (Some time)) else None
+form_by json marks since.NoTime = None
 
 abbrev pub form_of : Options → Option Form
-form_of options = Some
-    (if options.json then (if options.marks then form.MarkObjects else form.Objects)
-    else (if options.marks then form.Marks else form.Entries))
+form_of options = form_by options.json options.marks options.since
 
 -- clap takes the words, and they ask for this form
 abbrev pub Asks : List Text → Form → Type 0
 Asks words form = AsksFor command_of_words Say form_of words form
 
--- clap refuses the words
+-- clap refuses the words, or they ask for no form: a word that is no time, or a time without objects
 abbrev pub AreRefused : List Text → Type 0
 AreRefused words = AskForNothing command_of_words Say form_of words

@@ -5,7 +5,7 @@ use Rattle.xb_model.specs.Page.{entry_text, page_text, totals_text}
 use Rattle.xb_model.specs.Rows.{LoopRow}
 use Rattle.xb_model.specs.Tapes.{tapes_of}
 use Rattle.xb_routes.specs.Table.{Table}
-use Rattle.xb_live.specs.declared.printing.Form.{Form}
+use Rattle.xb_live.specs.Clocks.{Style}
 use Rattle.xb_live.specs.Entries.{Numbered, count_keyed, count_refused, entries_of_rows}
 use Rattle.xb_live.specs.Texts.{text_of, totals_of, whole_text, with_closes}
 use Rattle.xb_live.specs.Told.{Told, entry_in, told_of_rows}
@@ -15,10 +15,10 @@ abbrev pub printed_entries : Table → List LoopRow → List Told
 printed_entries table rows = told_of_rows table (with_closes rows)
 
 -- the text line after them
-abbrev pub last_line : Form → Table → List LoopRow → List ℕ
-last_line form table rows =
+abbrev pub last_line : Style → Table → List LoopRow → List ℕ
+last_line style table rows =
     let entries = entries_of_rows table (with_closes rows) in
-    totals_of form (count_keyed entries) (count_refused entries)
+    totals_of style.form (count_keyed entries) (count_refused entries)
 
 -- one entry is on a lower line than another, or on the same one with a lower number
 abbrev pub ComesBefore : Numbered → Numbered → Type 0
@@ -30,8 +30,8 @@ page_line entry = entry_text entry.line entry.number entry.marks
 
 -- sorted by line and number, what is printed of rows that end is their page; the totals stay last
 pub record SortsIntoPage (table : Table) (rows : List LoopRow) : Type 0 where
-  pub printed : (form : Form) → whole_text form table rows
-      ≡ flat_map (text_of form) (printed_entries table rows) ++ last_line form table rows
+  pub printed : (style : Style) → whole_text style table rows
+      ≡ flat_map (text_of style) (printed_entries table rows) ++ last_line style table rows
   pub sorted : List Numbered
   pub same : IsPermutation (map entry_in (printed_entries table rows)) sorted
   pub order : AllPairs ComesBefore sorted

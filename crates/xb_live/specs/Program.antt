@@ -8,6 +8,7 @@ use Rattle.xb_command.specs.Telling.{Tells}
 use Rattle.xb_command.specs.Usages.{names_option}
 use Rattle.xb_live.specs.declared.printing.Form.{Form}
 use Rattle.xb_live.specs.declared.fault.LiveFault.{LiveFault}
+use Rattle.xb_live.specs.Clocks.{Clock, IsClockOf, styled}
 use Rattle.xb_live.specs.Options.{AreRefused, Asks, command_of_words}
 use Rattle.xb_live.specs.Runs.{Runs}
 
@@ -17,7 +18,7 @@ program = codes "mflive"
 
 -- the line for words that are refused
 abbrev pub usage_line : List ℕ
-usage_line = codes "mflive: usage: mflive [--json] [--marks]\n"
+usage_line = codes "mflive: usage: mflive [--json [--since TIME]] [--marks]\n"
 
 -- it names each option of the command
 abbrev pub UsageNamesEachOption : Type 0
@@ -27,7 +28,8 @@ UsageNamesEachOption = list_all (λ rule. names_option usage_line rule.id) comma
 pub record WritesEntries (words : List Text) (old new : Streams) : Type 0 where
   pub form : Form
   pub asks : Asks words form
-  pub entries : Runs form old.input (Ok tt) old.output new.output
+  pub entries : (clock : Clock) → IsClockOf form clock
+      → Runs (styled form clock) old.input (Ok tt) old.output new.output
   pub quiet : Keeps old.errors new.errors
 
 -- they ask for a form, and there was a fault, of which a line was told
@@ -35,7 +37,8 @@ pub record HasFault (words : List Text) (old new : Streams) : Type 0 where
   pub form : Form
   pub fault : LiveFault
   pub asks : Asks words form
-  pub entries : Runs form old.input (Err fault) old.output new.output
+  pub entries : (clock : Clock) → IsClockOf form clock
+      → Runs (styled form clock) old.input (Err fault) old.output new.output
   pub line : Tells program None old.errors new.errors
 
 -- what the program did with its words and its streams

@@ -11,9 +11,9 @@ use Rattle.xb_deck.specs.Tables.{IsTableFault}
 use Rattle.xb_routes.specs.Table.{Table}
 use Rattle.xb_routes.specs.Text.{table_of_text}
 use Rattle.xb_text.specs.Writing.{AppendsBeginning}
-use Rattle.xb_live.specs.declared.printing.Form.{Form}
+use Rattle.xb_live.specs.Clocks.{Style}
 use Rattle.xb_live.specs.Texts.{entries_text, whole_text, with_closes}
-use Rattle.xb_live.specs.Writing.{GotAll, GotBeginning, GotFirst}
+use Rattle.xb_live.specs.Writing.{GotAll, GotBeginning, GotFirst, GotUntilLate}
 use Rattle.xb_live.specs.declared.fault.LiveFault.{LiveFault}
 use Rattle.xb_live.specs.declared.fault.LiveFault.TheVariants as fault
 use Rattle.xb_live.specs.Decks.{Has}
@@ -25,21 +25,23 @@ rows_taken rows (Some f) = rows
 
 -- what was written of rows and the stop after them: all that is to be printed where they end, which sorted is
 -- their page; where a fault stops them, exactly the entries that they complete; where a write failed, the
--- beginning of what is to be printed; else the entries of the first of them
+-- beginning of what is to be printed; where a time is past the last instant, the entries of the rows before; else the entries of the first of them
 abbrev pub Prints :
-    Form → Table → Rest → Result (Unit {0}) LiveFault → Option (List ℕ) → Option (List ℕ) → Type 0
-Prints form table rest (Ok u) old new = (rest.stop ≡ None) × GotAll form table rest.rows old new
-Prints form table rest (Err (fault.Rows f)) old new =
-    (rest.stop ≡ Some f) × Appends old new (entries_text form table rest.rows)
-Prints form table rest (Err fault.Write) old new =
-    ((rest.stop ≡ None) × AppendsBeginning old new (whole_text form table rest.rows))
-    ⊎ GotBeginning form table (rows_taken rest.rows rest.stop) old new
-Prints form table rest (Err fault.NoMemory) old new =
-    GotFirst form table (rows_taken rest.rows rest.stop) old new
-Prints form table rest (Err fault.Read) old new = GotFirst form table rest.rows old new
-Prints form table rest (Err fault.TooMany) old new =
-    (2 ^ 63 ≤ length rest.rows) × GotFirst form table rest.rows old new
-Prints form table rest (Err f) old new = ⊥
+    Style → Table → Rest → Result (Unit {0}) LiveFault → Option (List ℕ) → Option (List ℕ) → Type 0
+Prints style table rest (Ok u) old new = (rest.stop ≡ None) × GotAll style table rest.rows old new
+Prints style table rest (Err (fault.Rows f)) old new =
+    (rest.stop ≡ Some f) × Appends old new (entries_text style table rest.rows)
+Prints style table rest (Err fault.Write) old new =
+    ((rest.stop ≡ None) × AppendsBeginning old new (whole_text style table rest.rows))
+    ⊎ GotBeginning style table (rows_taken rest.rows rest.stop) old new
+Prints style table rest (Err fault.NoMemory) old new =
+    GotFirst style table (rows_taken rest.rows rest.stop) old new
+Prints style table rest (Err (fault.Late line number)) old new =
+    GotUntilLate style line number table (rows_taken rest.rows rest.stop) old new
+Prints style table rest (Err fault.Read) old new = GotFirst style table rest.rows old new
+Prints style table rest (Err fault.TooMany) old new =
+    (2 ^ 63 ≤ length rest.rows) × GotFirst style table rest.rows old new
+Prints style table rest (Err f) old new = ⊥
 
 -- what a run of rows may return: not what a deck without a table does
 abbrev pub EndsRows : Result (Unit {0}) LiveFault → Type 0
@@ -50,27 +52,27 @@ EndsRows result = Unit {0}
 
 -- what was written of rows that may be known
 abbrev pub PrintsRows :
-    Form → Table → Option Rest → Result (Unit {0}) LiveFault → Option (List ℕ) → Option (List ℕ) → Type 0
-PrintsRows form table None result old new = EndsRows result
-PrintsRows form table (Some rest) result old new = Prints form table rest result old new
+    Style → Table → Option Rest → Result (Unit {0}) LiveFault → Option (List ℕ) → Option (List ℕ) → Type 0
+PrintsRows style table None result old new = EndsRows result
+PrintsRows style table (Some rest) result old new = Prints style table rest result old new
 
 -- what was written of a deck: what its table and its rows say
 abbrev pub PrintsDeck :
-    Form → List ℕ → Result (Unit {0}) LiveFault → Option (List ℕ) → Option (List ℕ) → Type 0
-PrintsDeck form deck result old new =
-    (table : Table) × ((rest : Rest) × Has deck table rest × Prints form table rest result old new)
+    Style → List ℕ → Result (Unit {0}) LiveFault → Option (List ℕ) → Option (List ℕ) → Type 0
+PrintsDeck style deck result old new =
+    (table : Table) × ((rest : Rest) × Has deck table rest × Prints style table rest result old new)
 
 -- what is returned for a deck, and what the writer got of it
 abbrev pub Runs :
-    Form → Option (List ℕ) → Result (Unit {0}) LiveFault → Option (List ℕ) → Option (List ℕ) → Type 0
-Runs form input (Err fault.NoCut) old new =
+    Style → Option (List ℕ) → Result (Unit {0}) LiveFault → Option (List ℕ) → Option (List ℕ) → Type 0
+Runs style input (Err fault.NoCut) old new =
     Keeps old new × IsTableFault MOST_DECK_BYTES input table_fault.NoCut
-Runs form input (Err fault.TooLong) old new =
+Runs style input (Err fault.TooLong) old new =
     Keeps old new × IsTableFault MOST_DECK_BYTES input table_fault.TooLong
-Runs form input (Err (fault.Routes f)) old new = Keeps old new × IfSome input (λ deck.
+Runs style input (Err (fault.Routes f)) old new = Keeps old new × IfSome input (λ deck.
     (parts : Parts) × (deck_parts deck ≡ Some parts) × (table_of_text parts.table ≡ Err f))
-Runs form input (Err fault.NoMemory) old new =
-    Keeps old new ⊎ IfSome input (λ deck. PrintsDeck form deck (Err fault.NoMemory) old new)
-Runs form input (Err fault.Read) old new =
-    Keeps old new ⊎ IfSome input (λ deck. PrintsDeck form deck (Err fault.Read) old new)
-Runs form input result old new = IfSome input (λ deck. PrintsDeck form deck result old new)
+Runs style input (Err fault.NoMemory) old new =
+    Keeps old new ⊎ IfSome input (λ deck. PrintsDeck style deck (Err fault.NoMemory) old new)
+Runs style input (Err fault.Read) old new =
+    Keeps old new ⊎ IfSome input (λ deck. PrintsDeck style deck (Err fault.Read) old new)
+Runs style input result old new = IfSome input (λ deck. PrintsDeck style deck result old new)

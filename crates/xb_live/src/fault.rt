@@ -14,6 +14,10 @@ pub enum EntriesFault {
     /// Memory ran out. Nothing was written of the entry.
     #[error("out of memory")]
     NoMemory,
+    /// A time of this entry of this line is past the last that there is, 9999-12-30T22:00:00.999999999Z. Nothing was
+    /// written of the entry.
+    #[error("line {0}, entry {1}: a time is past 9999-12-30T22:00:00.999999999Z")]
+    Late(u16, usize),
     /// A write or the flush failed, or a write took no byte. The beginning of the entry was written.
     #[error("the entries could not be written")]
     Write,
@@ -63,6 +67,9 @@ pub enum LiveFault {
     /// Memory ran out.
     #[error("out of memory")]
     NoMemory,
+    /// A time of this entry of this line is past the last that there is, 9999-12-30T22:00:00.999999999Z.
+    #[error("line {0}, entry {1}: a time is past 9999-12-30T22:00:00.999999999Z")]
+    Late(u16, usize),
     /// A write or the flush failed, or a write took no byte.
     #[error("the entries could not be written")]
     Write,
@@ -118,6 +125,7 @@ impl From<EntriesFault> for LiveFault {
     fn from(fault: EntriesFault) -> LiveFault {
         match fault {
             EntriesFault::NoMemory => LiveFault::NoMemory,
+            EntriesFault::Late(line, number) => LiveFault::Late(line, number),
             EntriesFault::Write => LiveFault::Write,
         }
     }

@@ -9,6 +9,8 @@
 //! - As JSON an entry has the times of its line, and what was dialled: those of the line's record so far
 //!   (`told_of_rows`, `specs/Told.antt`). `Hearings` keeps them, row by row. Its line of the page is made of
 //!   its object alone (`laws::objects_are_lines`), and the times of a line ascend (`laws::times_ascend`).
+//! - Counted from a time of day, an object has its times as such too (`specs/Clocks.antt`), as any clock tells them that
+//!   tells the times of `jiff_core`. One past the last of these is a fault.
 //! - `run_deck` (`Runs`, `specs/Runs.antt`): what was written of a deck is what its table and its rows say,
 //!   also where a fault stops them; `attend` says the same of the program, by its status.
 #![tactic(auto)]
@@ -22,6 +24,7 @@ mod objects;
 mod printing;
 mod program;
 mod running;
+mod times;
 mod words;
 mod writing;
 

@@ -1,13 +1,20 @@
 // The text of an entry.
-ghost use Rattle.std.specs.Prelude.{◌≡◌, ◌++◌, IfOk, OnOk, string_bytes};
+ghost use Rattle.std.specs.Prelude.{◌≡◌, ◌++◌, IfErr, IfOk, OnOk, string_bytes};
 ghost use Rattle.std.specs.List.{flat_map};
+ghost use Rattle.serde_json.specs.View.{view};
 ghost use Rattle.xb_tape.specs.MarkLines.{mark_line};
-ghost use Rattle.xb_live.specs.Objects.{line_of, mark_object, object_of, totals_object};
-ghost use Rattle.xb_live.specs.Texts.{text_of, totals_of};
+ghost use Rattle.xb_live.specs.Clocks.{Clock, IsClockOf, IsClockSince, styled, text_in};
+ghost use Rattle.xb_live.specs.Faults.{IsOfEntry};
+ghost use Rattle.xb_live.specs.Objects.{line_of, timed_mark, timed_object, totals_object, with_time};
+ghost use Rattle.xb_live.specs.Texts.{text_by, text_of, totals_of};
 ghost use Rattle.xb_live.specs.Told.{told_with};
 
+use crate::fault::EntriesFault;
 use crate::hearing::Hearing;
-use crate::objects::{mark_object, object_of, totals_object};
+use crate::objects::{mark_object, object_of, totals_object, with_text};
+use crate::times::{TimeText, Times, times_of};
+use jiff_core::Timestamp;
+use serde_json::Value;
 use std::alloc::{AllocError, Global};
 use xb_json::line_of;
 use xb_model::{LineNo, Mark};
@@ -20,10 +27,11 @@ pub enum Form {
     Entries,
     /// One line for each mark.
     Marks,
-    /// One JSON object for each entry, with its times and what was dialled.
-    Objects,
-    /// One JSON object for each mark.
-    MarkObjects,
+    /// One JSON object for each entry, with its times and what was dialled: its times of day too, where the one
+    /// is given that the ms are counted from.
+    Objects(Option<Timestamp>),
+    /// One JSON object for each mark, in the same way.
+    MarkObjects(Option<Timestamp>),
 }
 
 // Writes a line for each mark of entry `number` of a line.
@@ -42,54 +50,118 @@ fn write_mark_lines(
     Ok(())
 }
 
-// The object of entry `number` of a line, as a text line.
+// An object that also has this time, if it is one.
+fn with_time(
+    alloc: Global,
+    object: Value,
+    name: &str,
+    time: &Option<TimeText>,
+) -> Result<Value, AllocError>
+    ensures { IfOk result (λ value. view value ≡ with_time name.now (text_in time.now) (view object)) }
+{
+    match time {
+        None => Ok(object),
+        Some(text) => with_text(alloc, object, name, text.as_str()),
+    }
+}
+
+// The object of entry `number` of a line with these times, as a text line.
 fn object_line(
     alloc: Global,
     line: LineNo,
     number: usize,
     entry: &[Mark],
     heard: &Hearing,
+    times: &Times,
 ) -> Result<String, AllocError>
-    ensures { IfOk result (λ text. string_bytes text
-        ≡ line_of (object_of (told_with line number entry.now heard.now))) }
+    ensures { IfOk result (λ text. string_bytes text ≡ line_of (timed_object
+        (text_in times.now.from) (text_in times.now.at) (told_with line number entry.now heard.now))) }
 {
     let object = object_of(alloc, line, number, entry, heard)?;
+    let object = with_time(alloc, object, "at", &times.at)?;
+    let object = with_time(alloc, object, "from", &times.from)?;
     line_of(alloc, &object)
 }
 
-// The object of a mark, as a text line.
+// The object of a mark, of which the entry is complete at this time, as a text line.
 fn mark_object_line(
     alloc: Global,
     line: LineNo,
     number: usize,
     mark: &Mark,
     at: u64,
+    time: &Option<TimeText>,
 ) -> Result<String, AllocError>
-    ensures { IfOk result (λ text. string_bytes text ≡ line_of (mark_object line number at mark.now)) }
+    ensures { IfOk result (λ text. string_bytes text
+        ≡ line_of (timed_mark (text_in time.now) line number at mark.now)) }
 {
     let object = mark_object(alloc, line, number, mark, at)?;
+    let object = with_time(alloc, object, "at", time)?;
     line_of(alloc, &object)
 }
 
-// Writes an object for each mark of entry `number` of a line.
-fn write_mark_objects(
+// Objects for the marks of entry `number` of a line, each a text line.
+fn mark_object_lines(
     alloc: Global,
-    out: &mut String,
     line: LineNo,
     number: usize,
     entry: &[Mark],
     at: u64,
-) -> Result<(), AllocError>
-    ensures { OnOk result (string_bytes out.new
-        ≡ string_bytes out.old ++ flat_map (λ mark. line_of (mark_object line number at mark)) entry.now) }
+    time: &Option<TimeText>,
+) -> Result<String, AllocError>
+    ensures { IfOk result (λ text. string_bytes text
+        ≡ flat_map (λ mark. line_of (timed_mark (text_in time.now) line number at mark)) entry.now) }
 {
+    let mut lines = String::new(alloc);
     for mark in entry {
-        out.push_str(&mark_object_line(alloc, line, number, mark, at)?)?;
+        lines.push_str(&mark_object_line(alloc, line, number, mark, at, time)?)?;
     }
-    Ok(())
+    Ok(lines)
 }
 
-/// What is printed of entry `number` of a line, of which this is heard. `Err` says that memory ran out.
+// The object of entry `number` of a line, as a text line.
+fn text_of_object(
+    alloc: Global,
+    since: Option<Timestamp>,
+    line: LineNo,
+    number: usize,
+    entry: &[Mark],
+    heard: &Hearing,
+) -> Result<String, EntriesFault>
+    ensures text { (clock : Clock) → IsClockSince since clock → IfOk result (λ text. string_bytes text
+        ≡ text_by (Form.Objects since) clock (told_with line number entry.now heard.now)) }
+    ensures fault { IfErr result
+        (IsOfEntry (Form.Objects since) (told_with line number entry.now heard.now)) }
+{
+    let _text: Option<TimeText> = None;
+    let Some(times) = times_of(since, heard) else {
+        return Err(EntriesFault::Late(line.get(), number));
+    };
+    Ok(object_line(alloc, line, number, entry, heard, &times)?)
+}
+
+// The objects of its marks, each a text line.
+fn text_of_mark_objects(
+    alloc: Global,
+    since: Option<Timestamp>,
+    line: LineNo,
+    number: usize,
+    entry: &[Mark],
+    heard: &Hearing,
+) -> Result<String, EntriesFault>
+    ensures text { (clock : Clock) → IsClockSince since clock → IfOk result (λ text. string_bytes text
+        ≡ text_by (Form.MarkObjects since) clock (told_with line number entry.now heard.now)) }
+    ensures fault { IfErr result
+        (IsOfEntry (Form.MarkObjects since) (told_with line number entry.now heard.now)) }
+{
+    let _text: Option<TimeText> = None;
+    let Some(times) = times_of(since, heard) else {
+        return Err(EntriesFault::Late(line.get(), number));
+    };
+    Ok(mark_object_lines(alloc, line, number, entry, heard.at, &times.at)?)
+}
+
+/// What is printed of entry `number` of a line, of which this is heard.
 pub(crate) fn text_of_entry(
     alloc: Global,
     form: Form,
@@ -97,16 +169,19 @@ pub(crate) fn text_of_entry(
     number: usize,
     entry: &[Mark],
     heard: &Hearing,
-) -> Result<String, AllocError>
-    ensures { IfOk result (λ text. string_bytes text
-        ≡ text_of form (told_with line number entry.now heard.now)) }
+) -> Result<String, EntriesFault>
+    ensures text { (clock : Clock) → IsClockOf form clock → IfOk result (λ text. string_bytes text
+        ≡ text_of (styled form clock) (told_with line number entry.now heard.now)) }
+    ensures fault { IfErr result (IsOfEntry form (told_with line number entry.now heard.now)) }
 {
     let mut text = String::new(alloc);
     match form {
         Form::Entries => write_entry(&mut text, line, number, entry)?,
         Form::Marks => write_mark_lines(&mut text, line, number, entry)?,
-        Form::Objects => return object_line(alloc, line, number, entry, heard),
-        Form::MarkObjects => write_mark_objects(alloc, &mut text, line, number, entry, heard.at)?,
+        Form::Objects(since) => return text_of_object(alloc, since, line, number, entry, heard),
+        Form::MarkObjects(since) => {
+            return text_of_mark_objects(alloc, since, line, number, entry, heard);
+        }
     }
     Ok(text)
 }
@@ -134,6 +209,6 @@ pub(crate) fn text_of_totals(
             write_totals(&mut text, keyed as u128, refused as u128)?;
             Ok(text)
         }
-        Form::Objects | Form::MarkObjects => totals_line(alloc, keyed, refused),
+        Form::Objects(_) | Form::MarkObjects(_) => totals_line(alloc, keyed, refused),
     }
 }

@@ -1,5 +1,6 @@
 // From a deck as it comes to the entries of its rows.
 ghost use Rattle.std.specs.Prelude.{◌≡◌, ◌+◌, []};
+ghost use Rattle.xb_live.specs.Clocks.{Clock, IsClockOf, styled};
 ghost use Rattle.xb_live.specs.Counting.{HasCounted};
 ghost use Rattle.xb_live.specs.Hearings.{HasHeard};
 ghost use Rattle.xb_live.specs.Runs.{PrintsRows, Runs};
@@ -31,7 +32,8 @@ fn print_rows<R: Read, W: Write>(
     requires fresh { HasCounted office.old [] }
     requires silent { HasHeard office.old.live.table hearings.old [] }
     requires none { office.old.keyed + office.old.refused ≡ 0 }
-    ensures { PrintsRows form office.old.live.table rows.old result
+    ensures { (clock : Clock) → IsClockOf form clock →
+        PrintsRows (styled form clock) office.old.live.table rows.old result
         (W.contents out.old) (W.contents out.new) }
 {
     for _ in 0..MOST_ROWS {
@@ -60,7 +62,8 @@ pub fn run_deck<R: Read, W: Write>(
     deck: &mut R,
     out: &mut W,
 ) -> Result<(), LiveFault>
-    ensures { Runs form (R.remaining deck.old) result (W.contents out.old) (W.contents out.new) }
+    ensures { (clock : Clock) → IsClockOf form clock →
+        Runs (styled form clock) (R.remaining deck.old) result (W.contents out.old) (W.contents out.new) }
 {
     let text = read_table(alloc, deck, MOST_DECK_BYTES)?;
     let table = RouteTable::read(alloc, &text)?;

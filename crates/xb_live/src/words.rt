@@ -1,22 +1,53 @@
 // What the words of the command line ask for.
-ghost use Rattle.std.specs.Prelude.{◌≡◌, IfErr, IfOk};
+ghost use Rattle.std.specs.Prelude.{◌≡◌, IfErr, IfOk, option_map};
 ghost use Rattle.xb_command.specs.Commands.{texts_of};
-ghost use Rattle.xb_live.specs.Options.{AreRefused, Asks, Say, form_of};
+ghost use Rattle.xb_live.specs.Options.{AreRefused, Asks, ReadsSince, Say, form_of, objects_since};
 
 use crate::printing::Form;
 use crate::program::PROGRAM;
+use jiff_core::Timestamp;
+use jiff_fmt::temporal::parse_timestamp;
 use std::alloc::Global;
 use xb_command::{Takes, Words, WordsFault, read_words};
+
+// The time of day that the ms of a deck are counted from.
+#[derive(Clone, Copy)]
+pub(crate) enum Since {
+    // None is asked for.
+    NotGiven,
+    // This one is.
+    Time(Timestamp),
+    // The word that was given is none.
+    NoTime,
+}
 
 // What the options of the command line say.
 #[derive(Clone, Copy)]
 pub(crate) struct Options {
     pub(crate) json: bool,
     pub(crate) marks: bool,
+    pub(crate) since: Since,
 }
 
 // The options of the program, each under its name.
-const OPTIONS: [(&str, Takes); 2] = [("json", Takes::Nothing), ("marks", Takes::Nothing)];
+const OPTIONS: [(&str, Takes); 3] = [
+    ("json", Takes::Nothing),
+    ("marks", Takes::Nothing),
+    ("since", Takes::Text),
+];
+
+// The time of day that a word says.
+fn since_of(word: Option<&str>) -> Since
+    ensures { ReadsSince (option_map (λ text. text.now) word.entry) result }
+{
+    match word {
+        None => Since::NotGiven,
+        Some(word) => match parse_timestamp(word.as_bytes()) {
+            Ok(time) => Since::Time(time),
+            Err(_) => Since::NoTime,
+        },
+    }
+}
 
 // What the words say.
 fn options_of(words: &Words) -> Options
@@ -25,6 +56,18 @@ fn options_of(words: &Words) -> Options
     Options {
         json: words.flag("json"),
         marks: words.flag("marks"),
+        since: since_of(words.text("since")),
+    }
+}
+
+// The form of objects, whose times are counted from one of day, if one is given.
+fn objects_since(marks: bool, since: Option<Timestamp>) -> Form
+    ensures { result ≡ objects_since marks since }
+{
+    if marks {
+        Form::MarkObjects(since)
+    } else {
+        Form::Objects(since)
     }
 }
 
@@ -32,12 +75,13 @@ fn options_of(words: &Words) -> Options
 fn form_of(options: Options) -> Option<Form>
     ensures { result ≡ form_of options }
 {
-    Some(match (options.json, options.marks) {
-        (false, false) => Form::Entries,
-        (false, true) => Form::Marks,
-        (true, false) => Form::Objects,
-        (true, true) => Form::MarkObjects,
-    })
+    let Options { json, marks, since } = options;
+    match since {
+        Since::NotGiven if json => Some(objects_since(marks, None)),
+        Since::NotGiven => Some(if marks { Form::Marks } else { Form::Entries }),
+        Since::Time(time) if json => Some(objects_since(marks, Some(time))),
+        Since::Time(_) | Since::NoTime => None,
+    }
 }
 
 /// The form that the words ask for.

@@ -3,6 +3,7 @@ ghost use Rattle.std.specs.Prelude.{◌≡◌, ◌<◌, ◌≤◌, ◌+◌, ℕ,
 ghost use Rattle.xb_model.specs.declared.line.TheConstants.{LINES};
 ghost use Rattle.xb_model.specs.Rows.{LoopRow};
 ghost use Rattle.xb_routes.specs.Table.{Table};
+ghost use Rattle.xb_live.specs.Clocks.{Clock, IsClockOf, styled};
 ghost use Rattle.xb_live.specs.Texts.{with_closes};
 ghost use Rattle.xb_live.specs.Writing.{Ends, HasWritten, Hears, Writes};
 ghost use Rattle.xb_live.specs.declared.counting.TheConstants.{MOST_ENTRIES};
@@ -24,8 +25,8 @@ fn hear(form: Form, hearings: &mut Hearings, row: Row)
     match form {
         Form::Entries => {}
         Form::Marks => {}
-        Form::Objects => hearings.take(row),
-        Form::MarkObjects => hearings.take(row),
+        Form::Objects(_) => hearings.take(row),
+        Form::MarkObjects(_) => hearings.take(row),
     }
 }
 
@@ -42,9 +43,10 @@ pub fn take_row<W: Write>(
     out: &mut W,
 ) -> Result<(), EntriesFault>
     requires { office.old.keyed + office.old.refused < MOST_ENTRIES }
-    ensures written { (rows : List LoopRow) (start : Option (List ℕ)) →
-        HasWritten form office.old hearings.old rows start (W.contents out.old) →
-        Writes form office.new hearings.new (rows ++ row ∷ []) result start (W.contents out.new) }
+    ensures written { (clock : Clock) → IsClockOf form clock →
+        (rows : List LoopRow) (start : Option (List ℕ)) →
+        HasWritten (styled form clock) office.old hearings.old rows start (W.contents out.old) →
+        Writes (styled form clock) office.new hearings.new (rows ++ row ∷ []) result start (W.contents out.new) }
     ensures one { office.new.keyed + office.new.refused ≤ office.old.keyed + office.old.refused + 1 }
     ensures table { office.new.live.table ≡ office.old.live.table }
 {
@@ -67,9 +69,10 @@ fn close_lines<W: Write>(
     out: &mut W,
 ) -> Result<(), EntriesFault>
     requires { office.old.keyed + office.old.refused + LINES < MOST_ENTRIES }
-    ensures written { (rows : List LoopRow) (start : Option (List ℕ)) →
-        HasWritten form office.old hearings.old rows start (W.contents out.old) →
-        Writes form office.new hearings.new (with_closes rows) result start (W.contents out.new) }
+    ensures written { (clock : Clock) → IsClockOf form clock →
+        (rows : List LoopRow) (start : Option (List ℕ)) →
+        HasWritten (styled form clock) office.old hearings.old rows start (W.contents out.old) →
+        Writes (styled form clock) office.new hearings.new (with_closes rows) result start (W.contents out.new) }
     ensures table { office.new.live.table ≡ office.old.live.table }
 {
     for number in 0..LINES {
@@ -90,9 +93,10 @@ pub fn end<W: Write>(
     out: &mut W,
 ) -> Result<(), EntriesFault>
     requires { office.old.keyed + office.old.refused + LINES < MOST_ENTRIES }
-    ensures { (rows : List LoopRow) (start : Option (List ℕ)) →
-        HasWritten form office.old hearings.old rows start (W.contents out.old) →
-        Ends form office.old.live.table rows result start (W.contents out.new) }
+    ensures { (clock : Clock) → IsClockOf form clock →
+        (rows : List LoopRow) (start : Option (List ℕ)) →
+        HasWritten (styled form clock) office.old hearings.old rows start (W.contents out.old) →
+        Ends (styled form clock) office.old.live.table rows result start (W.contents out.new) }
 {
     close_lines(alloc, form, office, hearings, out)?;
     let text = text_of_totals(alloc, form, office.keyed(), office.refused())?;

@@ -2,13 +2,16 @@ use Rattle.std.proofs.Common.{◌≡◌, ◌++◌, codes, false, ap, ◌∙◌}
 use Rattle.std.proofs.lemmas.Result.{IfOk-weaker}
 use Rattle.serde_json.specs.View.{view}
 use Rattle.serde_json.specs.Written.{compact_text, has_float}
-use Rattle.xb_live.specs.Objects.{mark_object}
-use Rattle.xb_live.proofs.ObjectValues.{no-floats-in-mark}
+use Rattle.xb_live.specs.Clocks.{text_in}
+use Rattle.xb_live.specs.Objects.{timed_mark, with_time}
+use Rattle.xb_live.proofs.ObjectValues.{timed-no-floats-in-mark}
 use Rattle.xb_live.proofs.printing.mark_object_line.Goals as goal
 
 pub returns : goal.returns
 returns c =
-    let is : view c.in_ok-object.object ≡ mark_object c.args.line c.args.number c.args.at c.args.mark.now = c.in_ok-object.ensures in
-    let none : has_float (view c.in_ok-object.object) ≡ false
-    = ap has_float is ∙ no-floats-in-mark c.args.line c.args.number c.args.at c.args.mark.now in
+    let time = text_in c.args.time.now in
+    let is : view c.in_ok-object-2.object ≡ timed_mark time c.args.line c.args.number c.args.at c.args.mark.now =
+    c.in_ok-object-2.ensures ∙ ap (with_time (codes "at") time) c.in_ok-object.ensures in
+    let none : has_float (view c.in_ok-object-2.object) ≡ false
+    = ap has_float is ∙ timed-no-floats-in-mark time c.args.line c.args.number c.args.at c.args.mark.now in
     IfOk-weaker c.line_of.result _ _ (λ line text. text none ∙ ap (λ value. compact_text value ++ codes "\n") is) c.line_of.ensures.text

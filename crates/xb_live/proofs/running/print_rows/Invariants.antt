@@ -1,4 +1,5 @@
 use Rattle.std.proofs.Common.{◌≡◌, ◌≤◌, ◌+◌}
+use Rattle.xb_live.specs.Clocks.{Clock, IsClockOf, styled}
 use Rattle.xb_live.proofs.Runs.{IsSoFar}
 use Rattle.xb_live.proofs.running.print_rows.Given as goal
 
@@ -6,5 +7,5 @@ abbrev pub invariant-loop : goal.invariant-loop
 invariant-loop g l = record {
   few : l.office.keyed + l.office.refused ≤ l.counter;
   table : l.office.live.table ≡ l.initial.office.live.table;
-  so_far : IsSoFar l.counter l.form l.office l.hearings l.initial.rows l.rows (g.W.Write.contents l.initial.out) (g.W.Write.contents l.out);
+  so_far : (clock : Clock) → IsClockOf l.form clock → IsSoFar l.counter (styled l.form clock) l.office l.hearings l.initial.rows l.rows (g.W.Write.contents l.initial.out) (g.W.Write.contents l.out);
 }

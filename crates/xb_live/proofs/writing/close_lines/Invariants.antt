@@ -1,5 +1,6 @@
 use Rattle.std.proofs.Common.{◌≡◌, ◌≤◌, ◌+◌, ℕ, List, Option}
 use Rattle.xb_model.specs.Rows.{LoopRow}
+use Rattle.xb_live.specs.Clocks.{Clock, IsClockOf, styled}
 use Rattle.xb_live.specs.Writing.{HasWritten}
 use Rattle.xb_live.proofs.Written.{with_closes_below}
 use Rattle.xb_live.proofs.writing.close_lines.Given as goal
@@ -8,6 +9,6 @@ abbrev pub invariant-loop-number : goal.invariant-loop-number
 invariant-loop-number g l = record {
   few : l.office.keyed + l.office.refused ≤ l.initial.office.keyed + l.initial.office.refused + l.number;
   table : l.office.live.table ≡ l.initial.office.live.table;
-  written : (rows : List LoopRow) (start : Option (List ℕ)) → HasWritten l.form l.initial.office l.initial.hearings rows start (g.W.Write.contents l.initial.out)
-      → HasWritten l.form l.office l.hearings (with_closes_below l.number rows) start (g.W.Write.contents l.out);
+  written : (clock : Clock) → IsClockOf l.form clock → (rows : List LoopRow) (start : Option (List ℕ)) → HasWritten (styled l.form clock) l.initial.office l.initial.hearings rows start (g.W.Write.contents l.initial.out)
+      → HasWritten (styled l.form clock) l.office l.hearings (with_closes_below l.number rows) start (g.W.Write.contents l.out);
 }

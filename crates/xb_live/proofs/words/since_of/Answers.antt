@@ -1,0 +1,10 @@
+use Rattle.std.proofs.Common.{◌≡◌, ◌∙◌, Ok, ap, refl, subst}
+use Rattle.jiff_fmt.specs.Temporal.{parse_timestamp}
+use Rattle.xb_live.specs.declared.words.Since.TheVariants as since
+use Rattle.xb_live.specs.Options.{IsRead}
+use Rattle.xb_live.proofs.words.since_of.Goals as goal
+
+pub returns-in-Ok : goal.returns-in-Ok
+returns-in-Ok c =
+    let read : Ok c.in-Ok.time.nanosecond ≡ parse_timestamp c.in-Some.word.now = c.in-Ok.ensures ∙ ap parse_timestamp c.as_bytes.ensures.value in
+    rw (c.in-Some.is) (subst (λ r. IsRead r (since.Time c.in-Ok.time)) read (c.in-Ok.time, refl, refl))

@@ -1,0 +1,60 @@
+// The times of day of an entry.
+ghost use Rattle.std.specs.Prelude.{◌≡◌, ◌*◌, pos, IfNone, IfSome};
+ghost use Rattle.xb_live.specs.Clocks.{AreTimes, IsLateAfter, IsLateSince, IsTimeText};
+
+use crate::hearing::Hearing;
+use arrayvec::ArrayString;
+use jiff_core::Timestamp;
+use jiff_fmt::temporal::DateTimePrinter;
+
+// The text of a time, as 2026-11-25T20:00:00.5Z.
+pub(crate) type TimeText = ArrayString<33>;
+
+// The texts of the times of an entry, where they are asked for.
+#[derive(Clone, Copy)]
+pub(crate) struct Times {
+    // When its attempt began.
+    pub(crate) from: Option<TimeText>,
+    // When it is complete.
+    pub(crate) at: Option<TimeText>,
+}
+
+// The ns of ms.
+fn nanos(ms: u64) -> i128
+    ensures { result ≡ pos (ms * 1_000_000) }
+{
+    i128::from(ms) * 1_000_000
+}
+
+// The time so many ms after another, if there is one.
+fn time_after(since: Timestamp, ms: u64) -> Option<TimeText>
+    ensures told { IfSome result (λ text. IsTimeText since ms (text.bytes)) }
+    ensures late { IfNone result (IsLateAfter since ms) }
+{
+    match since.checked_add_nanos(nanos(ms)) {
+        Ok(time) => Some(DateTimePrinter::new().timestamp_text(time)),
+        Err(_) => None,
+    }
+}
+
+/// The times of an entry, counted from one of day, if one is given; nothing where one of them is past the last
+/// instant that there is.
+pub(crate) fn times_of(since: Option<Timestamp>, heard: &Hearing) -> Option<Times>
+    ensures told { IfSome result (λ times. AreTimes since heard.now.began heard.now.at times) }
+    ensures late { IfNone result (IsLateSince since heard.now.began heard.now.at) }
+{
+    match since {
+        None => Some(Times {
+            from: None,
+            at: None,
+        }),
+        Some(since) => {
+            let from = time_after(since, heard.began)?;
+            let at = time_after(since, heard.at)?;
+            Some(Times {
+                from: Some(from),
+                at: Some(at),
+            })
+        }
+    }
+}
