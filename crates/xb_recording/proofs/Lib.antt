@@ -1,2 +1,6 @@
 pub mod HeardLevels
 pub mod SaidLemmas
+pub mod WrittenTexts
+pub mod WrittenWords
+pub mod WrittenLines
+pub mod WrittenBack

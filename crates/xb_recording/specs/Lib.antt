@@ -1,3 +1,4 @@
 pub mod Hysteresis
 pub mod Says
+pub mod WrittenVcd
 pub mod Formats

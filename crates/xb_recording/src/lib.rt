@@ -6,6 +6,7 @@
 //!   wires, in pieces of any length (`Says`; `xb_vcd` has its lines and words).
 //! - What the other forms say is not defined: of these each reader is proved safe alone. Exact are the level and
 //!   the bit of a sample, and the names of the forms.
+//! - `vcd_of_changes` (`vcd_text`): the VCD of what wires do. It is read back: it says exactly that.
 //! - `laws::each_level_is_heard`: two thresholds hear each level of a sound that is disturbed by less than they differ.
 #![tactic(auto)]
 
@@ -20,9 +21,11 @@ mod seconds;
 mod sound;
 mod wanted;
 mod wav;
+mod written;
 
 pub use format::{Format, Told, format_of, told_format};
 pub use reader::Reader;
 pub use samples::{bit_of, heard_level};
 pub use sound::Threshold;
 pub use wanted::Wanted;
+pub use written::{Change, vcd_of_changes};
