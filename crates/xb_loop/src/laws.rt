@@ -1,7 +1,7 @@
 //! What the chain hears of a contact, as the contracts of functions that do nothing. The definitions are in `specs/`:
 //! `RowsOfHolds` (the rows that are written), and the statements in `HeardLaws` and `TapeLaws`.
 ghost use Rattle.xb_loop.specs.HeardLaws.{HearsEachCleanRun, HearsTheCleanRecord, HearsTheSettledRecord};
-ghost use Rattle.xb_loop.specs.TapeLaws.{KeepsTheTape, LeavesLongRunsTheirTape};
+ghost use Rattle.xb_loop.specs.TapeLaws.{HearsNothingOtherwise, KeepsTheTape, LeavesLongRunsTheirTape};
 
 /// The record that the chain makes of a line's rows, neighbours joined, is the settled record of its contact in
 /// ms, each time rounded once. So where short bounces disturb a clean record, the chain hears the clean one,
@@ -18,4 +18,10 @@ pub fn the_chain_hears_the_settled_record()
 pub fn the_tape_is_kept()
     ensures clean { KeepsTheTape }
     ensures long_runs { LeavesLongRunsTheirTape }
+{}
+
+/// Where contacts settle in no more ms than a break and a make of a pulse have at the least (`pulse_min` and `make_min`
+/// of the limits), a record without shorter runs has the tape that it has unsettled.
+pub fn nothing_is_heard_otherwise()
+    ensures { HearsNothingOtherwise }
 {}
