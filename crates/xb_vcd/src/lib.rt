@@ -10,9 +10,11 @@ mod event;
 pub mod laws;
 mod number;
 mod vcd;
+mod wire;
 mod word;
 
 pub use event::{Event, Refusal, say};
 pub use number::{digit_after, number_of};
 pub use vcd::Vcd;
+pub use wire::say_level;
 pub use word::{Word, code_of, word_of};

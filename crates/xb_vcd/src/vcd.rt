@@ -7,6 +7,7 @@ ghost use Rattle.xb_vcd.specs.VcdTexts.{after_digits, begun_vcd, declared_code, 
 
 use crate::event::{Event, Refusal, say};
 use crate::number::number_of;
+use crate::wire::say_level;
 use crate::word::{Word, code_of, word_of};
 use std::alloc::Global;
 use xb_contact::Scale;
@@ -212,12 +213,7 @@ impl<'a> Vcd<'a> {
     {
         for (i, own) in self.codes.iter().enumerate() {
             if *own == Some(code) {
-                let event = if is_high {
-                    Event::High(i)
-                } else {
-                    Event::Low(i)
-                };
-                say(events, event)?;
+                say_level(events, i, is_high)?;
             }
         }
         Ok(())
