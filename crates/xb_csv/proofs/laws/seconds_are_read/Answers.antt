@@ -1,0 +1,17 @@
+use Rattle.std.proofs.Common.{refl}
+use Rattle.xb_csv.specs.Seconds.{nanoseconds_of}
+use Rattle.xb_csv.proofs.laws.seconds_are_read.Goals as goal
+
+pub returns : goal.returns
+unfolding nanoseconds_of
+returns c = record {
+  whole = refl;
+  fraction = refl;
+  before = refl;
+  tenth_digit = refl;
+  late = refl;
+  too_late = refl;
+  decimal_comma = refl;
+  exponent = refl;
+  nothing = refl;
+}

@@ -1,0 +1,4 @@
+pub mod Cells
+pub mod Seconds
+pub mod Tables
+pub mod WorkedTables

@@ -1,0 +1,58 @@
+-- Times and tables, each with what it says.
+use Rattle.std.specs.Prelude.{◌≡◌, ℕ, ◌+◌, ◌-◌, ◌^◌, List, [], ◌∷◌, Some, None, codes}
+use Rattle.xb_vcd.specs.declared.event.Event.TheVariants.{At, High, Low, Ticks}
+use Rattle.xb_vcd.specs.VcdTexts.{scale_by}
+use Rattle.xb_csv.specs.declared.columns.Form.TheVariants as forms
+use Rattle.xb_csv.specs.Seconds.{nanoseconds_of}
+use Rattle.xb_csv.specs.Tables.{TableState, begun_table, table_says}
+
+pub record SecondsAreRead : Type 0 where
+  pub whole : nanoseconds_of (codes "2") ≡ Some (2 ^ 62 + 2000000000)
+  pub fraction : nanoseconds_of (codes "0.015") ≡ Some (2 ^ 62 + 15000000)
+  pub before : nanoseconds_of (codes "-0.005000000") ≡ Some (2 ^ 62 - 5000000)
+  pub tenth_digit : nanoseconds_of (codes "1.0000000019") ≡ Some (2 ^ 62 + 1000000001)
+  pub late : nanoseconds_of (codes "4611686018.427387903") ≡ Some (2 ^ 62 + 4611686018427387903)
+  pub too_late : nanoseconds_of (codes "4611686018.427387904") ≡ None
+  pub decimal_comma : nanoseconds_of (codes "0,5") ≡ None
+  pub exponent : nanoseconds_of (codes "1e-3") ≡ None
+  pub nothing : nanoseconds_of [] ≡ None
+
+-- a table of the wire D1, before it is read
+abbrev pub of_sigrok : TableState
+of_sigrok = begun_table forms.Sigrok (codes "D1" ∷ []) None
+
+-- the comment of sigrok with the names of two wires
+abbrev pub two_names : List ℕ
+two_names = codes "; Channels (2/2): D0, D1"
+
+abbrev pub of_saleae : TableState
+of_saleae = begun_table forms.Saleae (codes "D1" ∷ []) None
+
+-- a table of the wire 1
+abbrev pub of_edges : TableState
+of_edges = begun_table forms.Edges (codes "1" ∷ []) None
+
+pub record TablesAreRead : Type 0 where
+  pub sigrok :
+      table_says of_sigrok
+      (codes "; CSV" ∷ two_names ∷ codes "milliseconds,logic,logic" ∷ codes "5,1,0" ∷ codes "15,1,1" ∷ [] ∷ [])
+      ≡ Some (Ticks (scale_by 1 1) ∷ At 5 ∷ Low 0 ∷ At 15 ∷ High 0 ∷ [])
+  pub samples :
+      table_says of_sigrok
+      (two_names ∷ codes "; Samplerate: 10 kHz" ∷ codes "logic,logic" ∷ codes "1,0" ∷ codes "1,1" ∷ [])
+      ≡ Some (Ticks (scale_by 1000 10000) ∷ At 0 ∷ Low 0 ∷ At 1 ∷ High 0 ∷ At 2 ∷ [])
+  pub no_rate : table_says of_sigrok (two_names ∷ codes "logic,logic" ∷ codes "1,0" ∷ []) ≡ None
+  pub no_unit : table_says of_sigrok (two_names ∷ codes "Time,logic,logic" ∷ codes "0,1,0" ∷ []) ≡ None
+  pub no_names : table_says of_sigrok (codes "milliseconds,logic,logic" ∷ codes "5,1,0" ∷ []) ≡ None
+  pub saleae :
+      table_says of_saleae
+      (codes "Time [s],D0,D1" ∷ codes "-0.005000000,1,0" ∷ codes "0.005000000,1,1" ∷ [])
+      ≡ Some (Ticks (scale_by 1 1000000) ∷ At (2 ^ 62 - 5000000) ∷ Low 0 ∷ At (2 ^ 62 + 5000000) ∷ High 0 ∷ [])
+  pub no_wire : table_says of_saleae (codes "Time [s],D0" ∷ codes "0,1" ∷ []) ≡ None
+  pub edges :
+      table_says of_edges (codes "1.5, 0" ∷ [] ∷ codes "1.51,1" ∷ [])
+      ≡ Some (Ticks (scale_by 1 1000000) ∷ At (2 ^ 62 + 1500000000) ∷ Low 0 ∷ At (2 ^ 62 + 1510000000) ∷ High 0 ∷ [])
+  pub backwards : table_says of_edges (codes "2,0" ∷ codes "1,1" ∷ []) ≡ None
+  pub no_level : table_says of_edges (codes "1,x" ∷ []) ≡ None
+  pub no_column : table_says of_edges (codes "1" ∷ []) ≡ None
+  pub no_row : table_says of_edges ([] ∷ []) ≡ None

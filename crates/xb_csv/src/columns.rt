@@ -1,0 +1,356 @@
+// Tables of levels, row by row.
+ghost use Rattle.std.specs.Prelude.{◌≡◌, ◌+◌, ◌++◌, ◌≤◌, [], Some, OnOk, map, option_copied};
+ghost use Rattle.xb_vcd.specs.Steps.{Adds};
+ghost use Rattle.xb_vcd.specs.VcdChanges.{times_of};
+ghost use Rattle.xb_csv.specs.Cells.{cells_of};
+ghost use Rattle.xb_csv.specs.Tables.{AddsAll, begun_table, begins_rows, columns_before, comment_says, edges_row, ends_at, levels_from, line_of_form, names_say, no_header, row_at, row_says, row_time, saleae_begins, saleae_header, saleae_row, samples_begin, sigrok_by_unit, sigrok_header, sigrok_line, sigrok_row, table_ends, table_line_says, table_state, unit_of_label};
+
+use crate::cells::{after, cell_at, trimmed};
+use crate::labels::{is_comment, rate_in, unit_of_label};
+use crate::seconds::nanoseconds_of;
+use crate::wires::{find_columns, level_of_cell, number_columns};
+use std::alloc::Global;
+use xb_contact::{NANOSECONDS, Scale};
+use xb_text::cut_at;
+use xb_vcd::{Event, Refusal, number_of, say, say_level};
+
+/// The form of a table.
+#[derive(Clone, Copy, Debug, PartialEq, Eq)]
+pub enum Form {
+    /// What `sigrok-cli -O csv` writes: comments with `;`, a header with the unit of the time column, if there
+    /// is one, and rows. Wires have the names of the comment `; Channels`.
+    Sigrok,
+    /// What Saleae Logic exports: a header `Time [s],NAME,..`, and rows.
+    Saleae,
+    /// No header, rows `SECONDS,LEVEL,..`; the wires are 1, 2 and so on.
+    Edges,
+}
+
+// When a row is.
+#[derive(Clone, Copy, Debug, PartialEq, Eq)]
+enum Clock {
+    // The header has not come.
+    Unknown,
+    // Its first column says it, a whole number of ticks.
+    Ticks,
+    // Its first column says it, in seconds.
+    Seconds,
+    // Each row is a tick.
+    Rows,
+}
+
+/// The reader of a table of levels.
+#[derive(Drop)]
+pub struct Columns<'a> {
+    form: Form,
+    names: &'a [&'a str],
+    // The column of each wire, counted from 0; of sigrok without that of the time.
+    columns: Vec<u16>,
+    clock: Clock,
+    rate: Option<u64>,
+    last: u64,
+    has_time: bool,
+}
+
+// The columns before those that sigrok names: that of the time.
+fn columns_before(clock: Clock) -> usize
+    ensures value { result ≡ columns_before clock }
+    ensures few { result ≤ 1 }
+{
+    match clock {
+        Clock::Ticks => 1,
+        Clock::Unknown | Clock::Seconds | Clock::Rows => 0,
+    }
+}
+
+impl<'a> Columns<'a> {
+    /// A reader that has read nothing. The wires are those of these names; `rate` is how many samples a second
+    /// has, where the table does not say it.
+    pub fn new(alloc: Global, form: Form, names: &'a [&'a str], rate: Option<u64>) -> Columns<'a>
+        ensures { table_state result ≡ begun_table form (map (λ name. name.now) names.now) rate }
+    {
+        Columns {
+            form,
+            names,
+            columns: Vec::new(alloc),
+            clock: Clock::Unknown,
+            rate,
+            last: 0,
+            has_time: false,
+        }
+    }
+
+    // The comment with the names of the wires.
+    fn take_names(&mut self, names: &[u8]) -> Result<(), Refusal>
+        ensures { OnOk result (names_say (table_state self.old) names.now ≡ Some ([], table_state self.new)) }
+    {
+        find_columns(names, self.names, &mut self.columns)
+    }
+
+    // A comment of sigrok.
+    fn take_comment(&mut self, line: &[u8]) -> Result<(), Refusal>
+        ensures { OnOk result
+            (comment_says (table_state self.old) line.now ≡ Some ([], table_state self.new)) }
+    {
+        match after(line, b"; Channels (") {
+            Some(names) => match cut_at(b':', names) {
+                Some((_, names)) => self.take_names(names),
+                None => Err(Refusal::Header),
+            },
+            None => {
+                // what the command line says goes before what the file says
+                if self.rate.is_none() {
+                    self.rate = rate_in(line);
+                }
+                Ok(())
+            }
+        }
+    }
+
+    // Rows begin, in which the time is so.
+    fn begin_rows(
+        &mut self,
+        clock: Clock,
+        scale: Scale,
+        events: &mut Vec<Event>,
+    ) -> Result<(), Refusal>
+        ensures { OnOk result (Adds (begins_rows (table_state self.old) clock scale)
+            events.old.items events.new.items (table_state self.new)) }
+    {
+        self.clock = clock;
+        say(events, Event::Ticks(scale))
+    }
+
+    // Rows begin, of which each is a sample.
+    fn begin_samples(&mut self, events: &mut Vec<Event>) -> Result<(), Refusal>
+        ensures { OnOk result (Adds (samples_begin (table_state self.old) self.old.rate)
+            events.old.items events.new.items (table_state self.new)) }
+    {
+        match self.rate {
+            Some(ticks) if ticks > 0 => {
+                self.begin_rows(Clock::Rows, Scale { ms: 1_000, ticks }, events)
+            }
+            _ => Err(Refusal::NoRate),
+        }
+    }
+
+    // The header of sigrok, whose first column has this label.
+    fn take_label(&mut self, label: &[u8], events: &mut Vec<Event>) -> Result<(), Refusal>
+        ensures { OnOk result
+            (Adds (sigrok_by_unit (table_state self.old) label.now (unit_of_label label.now))
+            events.old.items events.new.items (table_state self.new)) }
+    {
+        match unit_of_label(label) {
+            Some(scale) => self.begin_rows(Clock::Ticks, scale, events),
+            None => match label {
+                b"logic" => self.begin_samples(events),
+                b"samples" | b"Time" => Err(Refusal::NoUnit),
+                _ => Err(Refusal::Header),
+            },
+        }
+    }
+
+    // The header of sigrok: with a time column the wires stand one column further to the right.
+    fn take_sigrok_header(&mut self, line: &[u8], events: &mut Vec<Event>) -> Result<(), Refusal>
+        ensures { OnOk result (Adds (sigrok_header (table_state self.old) line.now)
+            events.old.items events.new.items (table_state self.new)) }
+    {
+        if self.columns.len() != self.names.len() {
+            return Err(Refusal::Header);
+        }
+        match cell_at(line, 0) {
+            Some(label) => self.take_label(label, events),
+            None => Err(Refusal::Header),
+        }
+    }
+
+    // The wires of Saleae have their names in its header.
+    fn begin_saleae(&mut self, line: &[u8], events: &mut Vec<Event>) -> Result<(), Refusal>
+        ensures { OnOk result (Adds (saleae_begins (table_state self.old) line.now)
+            events.old.items events.new.items (table_state self.new)) }
+    {
+        find_columns(line, self.names, &mut self.columns)?;
+        self.begin_rows(Clock::Seconds, NANOSECONDS, events)
+    }
+
+    // The header of Saleae.
+    fn take_saleae_header(&mut self, line: &[u8], events: &mut Vec<Event>) -> Result<(), Refusal>
+        ensures { OnOk result (Adds (saleae_header (table_state self.old) line.now)
+            events.old.items events.new.items (table_state self.new)) }
+    {
+        match cell_at(line, 0) {
+            Some(label) if label == b"Time [s]".as_slice() => self.begin_saleae(line, events),
+            _ => Err(Refusal::Header),
+        }
+    }
+
+    // Where no header comes, wires are numbered from 1.
+    fn take_no_header(&mut self, events: &mut Vec<Event>) -> Result<(), Refusal>
+        ensures { OnOk result (Adds (no_header (table_state self.old))
+            events.old.items events.new.items (table_state self.new)) }
+    {
+        number_columns(self.names, &mut self.columns)?;
+        self.begin_rows(Clock::Seconds, NANOSECONDS, events)
+    }
+
+    // The time of a row with this first cell.
+    fn row_time(&self, cell: &[u8]) -> Option<u64>
+        ensures { result ≡ row_time self.now.clock (times_of self.now.last self.now.has_time) cell.now }
+    {
+        match self.clock {
+            Clock::Seconds => nanoseconds_of(cell),
+            Clock::Ticks => number_of(cell),
+            Clock::Rows if self.has_time => self.last.checked_add(1),
+            Clock::Rows => Some(0),
+            Clock::Unknown => None,
+        }
+    }
+
+    // The levels of the wires in a row.
+    fn say_levels(&self, line: &[u8], events: &mut Vec<Event>) -> Result<(), Refusal>
+        ensures { OnOk result (AddsAll
+            (levels_from 0 (columns_before self.now.clock) (cells_of line.now) self.now.columns.items)
+            events.old.items events.new.items) }
+    {
+        let before = columns_before(self.clock);
+        for (wire, column) in self.columns.iter().enumerate() {
+            let Some(cell) = cell_at(line, before + usize::from(*column)) else {
+                return Err(Refusal::Columns);
+            };
+            match level_of_cell(cell) {
+                Some(is_high) => say_level(events, wire, is_high)?,
+                None => return Err(Refusal::Level),
+            }
+        }
+        Ok(())
+    }
+
+    // A row at this time.
+    fn take_row_at(
+        &mut self,
+        line: &[u8],
+        time: u64,
+        events: &mut Vec<Event>,
+    ) -> Result<(), Refusal>
+        ensures { OnOk result (Adds (row_at (table_state self.old) (cells_of line.now) time)
+            events.old.items events.new.items (table_state self.new)) }
+    {
+        if self.has_time && time < self.last {
+            return Err(Refusal::Backwards);
+        }
+        self.last = time;
+        self.has_time = true;
+        say(events, Event::At(time))?;
+        self.say_levels(line, events)
+    }
+
+    // A row.
+    fn take_row(&mut self, line: &[u8], events: &mut Vec<Event>) -> Result<(), Refusal>
+        ensures { OnOk result (Adds (row_says (table_state self.old) line.now)
+            events.old.items events.new.items (table_state self.new)) }
+    {
+        let Some(cell) = cell_at(line, 0) else {
+            return Err(Refusal::Columns);
+        };
+        let Some(time) = self.row_time(cell) else {
+            return Err(Refusal::Time);
+        };
+        self.take_row_at(line, time, events)
+    }
+
+    // A line of sigrok that is no comment.
+    fn take_sigrok_row(&mut self, line: &[u8], events: &mut Vec<Event>) -> Result<(), Refusal>
+        ensures { OnOk result (Adds (sigrok_row (table_state self.old) self.old.clock line.now)
+            events.old.items events.new.items (table_state self.new)) }
+    {
+        match self.clock {
+            Clock::Unknown => self.take_sigrok_header(line, events),
+            Clock::Ticks | Clock::Seconds | Clock::Rows => self.take_row(line, events),
+        }
+    }
+
+    // A line of sigrok.
+    fn take_sigrok(&mut self, line: &[u8], events: &mut Vec<Event>) -> Result<(), Refusal>
+        ensures { OnOk result (Adds (sigrok_line (table_state self.old) line.now)
+            events.old.items events.new.items (table_state self.new)) }
+    {
+        if is_comment(line) {
+            return self.take_comment(line);
+        }
+        self.take_sigrok_row(line, events)
+    }
+
+    // A line of Saleae.
+    fn take_saleae(&mut self, line: &[u8], events: &mut Vec<Event>) -> Result<(), Refusal>
+        ensures { OnOk result (Adds (saleae_row (table_state self.old) self.old.clock line.now)
+            events.old.items events.new.items (table_state self.new)) }
+    {
+        match self.clock {
+            Clock::Unknown => self.take_saleae_header(line, events),
+            Clock::Ticks | Clock::Seconds | Clock::Rows => self.take_row(line, events),
+        }
+    }
+
+    // A line of times and levels. The first one is a row too.
+    fn take_edges(&mut self, line: &[u8], events: &mut Vec<Event>) -> Result<(), Refusal>
+        ensures { OnOk result (Adds (edges_row (table_state self.old) self.old.clock line.now)
+            events.old.items events.new.items (table_state self.new)) }
+    {
+        match self.clock {
+            Clock::Unknown => {
+                self.take_no_header(events)?;
+                self.take_row(line, events)
+            }
+            Clock::Ticks | Clock::Seconds | Clock::Rows => self.take_row(line, events),
+        }
+    }
+
+    // A line that is not empty.
+    fn take_by_form(&mut self, line: &[u8], events: &mut Vec<Event>) -> Result<(), Refusal>
+        ensures { OnOk result (Adds (line_of_form (table_state self.old) self.old.form line.now)
+            events.old.items events.new.items (table_state self.new)) }
+    {
+        match self.form {
+            Form::Sigrok => self.take_sigrok(line, events),
+            Form::Saleae => self.take_saleae(line, events),
+            Form::Edges => self.take_edges(line, events),
+        }
+    }
+
+    /// Takes a line, and adds what it says to `events`. After an `Err` the reader is not to be used again.
+    pub fn take_line(&mut self, line: &[u8], events: &mut Vec<Event>) -> Result<(), Refusal>
+        ensures { OnOk result (Adds (table_line_says (table_state self.old) line.now)
+            events.old.items events.new.items (table_state self.new)) }
+    {
+        let line = trimmed(line);
+        if line.is_empty() {
+            return Ok(());
+        }
+        self.take_by_form(line, events)
+    }
+
+    // The last row of samples lasts a tick too.
+    fn end_samples(&self, events: &mut Vec<Event>) -> Result<(), Refusal>
+        ensures { OnOk result
+            (AddsAll (ends_at self.now.clock self.now.last) events.old.items events.new.items) }
+    {
+        match self.clock {
+            Clock::Rows => match self.last.checked_add(1) {
+                Some(time) => say(events, Event::At(time)),
+                None => Err(Refusal::Time),
+            },
+            Clock::Unknown | Clock::Ticks | Clock::Seconds => Ok(()),
+        }
+    }
+
+    /// The end of the file. Where each row is a tick, the last one lasts a tick too.
+    pub fn end(&self, events: &mut Vec<Event>) -> Result<(), Refusal>
+        ensures { OnOk result
+            (AddsAll (table_ends (table_state self.now)) events.old.items events.new.items) }
+    {
+        if !self.has_time {
+            return Err(Refusal::Header);
+        }
+        self.end_samples(events)
+    }
+}

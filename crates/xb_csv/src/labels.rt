@@ -1,0 +1,88 @@
+// What the words before the rows say: the unit of a time column, and the rate of the samples.
+ghost use Rattle.std.specs.Prelude.{◌≡◌};
+ghost use Rattle.xb_vcd.specs.VcdTexts.{scale_by};
+ghost use Rattle.xb_csv.specs.Tables.{hertz_of, is_comment, rate_by, rate_in, rate_of, unit_of_label};
+
+use crate::cells::{after, trimmed};
+use xb_contact::Scale;
+use xb_text::cut_at;
+use xb_vcd::number_of;
+
+// So many ms are so many ticks.
+fn scale_by(ms: u64, ticks: u64) -> Scale
+    ensures { result ≡ scale_by ms ticks }
+{
+    Scale { ms, ticks }
+}
+
+// The scale of a time column by its label.
+pub(crate) fn unit_of_label(label: &[u8]) -> Option<Scale>
+    ensures { result ≡ unit_of_label label.now }
+{
+    if label == b"seconds".as_slice() {
+        Some(scale_by(1_000, 1))
+    } else if label == b"milliseconds".as_slice() {
+        Some(scale_by(1, 1))
+    } else if label == b"microseconds".as_slice() {
+        Some(scale_by(1, 1_000))
+    } else if label == b"nanoseconds".as_slice() {
+        Some(scale_by(1, 1_000_000))
+    } else if label == b"picoseconds".as_slice() {
+        Some(scale_by(1, 1_000_000_000))
+    } else {
+        None
+    }
+}
+
+// How many Hz a unit has.
+fn hertz_of(unit: &[u8]) -> Option<u64>
+    ensures { result ≡ hertz_of unit.now }
+{
+    match unit {
+        b"Hz" => Some(1),
+        b"kHz" => Some(1_000),
+        b"MHz" => Some(1_000_000),
+        b"GHz" => Some(1_000_000_000),
+        _ => None,
+    }
+}
+
+// A rate of so many units.
+fn rate_by(number: &[u8], unit: &[u8]) -> Option<u64>
+    ensures { result ≡ rate_by number.now unit.now }
+{
+    let hertz = hertz_of(unit)?;
+    number_of(number)?.checked_mul(hertz)
+}
+
+// A rate as `10 kHz` or `10000`.
+#[tactic(auto, unfolding(crate::specs::Tables::rate_of))]
+fn rate_of(text: &[u8]) -> Option<u64>
+    ensures { result ≡ rate_of text.now }
+{
+    let text = trimmed(text);
+    match cut_at(b' ', text) {
+        Some((number, unit)) => rate_by(number, trimmed(unit)),
+        None => rate_by(text, b"Hz"),
+    }
+}
+
+// The rate that a comment says.
+pub(crate) fn rate_in(line: &[u8]) -> Option<u64>
+    ensures { result ≡ rate_in line.now }
+{
+    if let Some(text) = after(line, b"; Samplerate:") {
+        return rate_of(text);
+    }
+    match after(line, b"META samplerate:") {
+        Some(text) => rate_of(text),
+        None => None,
+    }
+}
+
+// A line of sigrok beside the header and the rows.
+pub(crate) fn is_comment(line: &[u8]) -> bool
+    ensures { result ≡ is_comment line.now }
+{
+    line.starts_with(b";") || line.starts_with(b"META ")
+}

@@ -1,0 +1,62 @@
+// The columns of the wires, and their levels.
+ghost use Rattle.std.specs.Prelude.{◌≡◌, Some, OnOk, map};
+ghost use Rattle.xb_csv.specs.Cells.{cells_of};
+ghost use Rattle.xb_csv.specs.Tables.{column_number, columns_in, level_of_cell, numbered_columns};
+
+use crate::cells::cell_of;
+use std::alloc::AllocError;
+use xb_vcd::{Refusal, number_of};
+
+// The columns of wires in a line with their names.
+pub(crate) fn find_columns(
+    line: &[u8],
+    names: &[&str],
+    columns: &mut Vec<u16>,
+) -> Result<(), Refusal>
+    ensures { OnOk result
+        (columns_in (cells_of line.now) (map (λ name. name.now) names.now) ≡ Some columns.new.items) }
+{
+    columns.clear();
+    for name in names {
+        match cell_of(line, name.as_bytes()) {
+            Some(column) => columns.push(column).map_err(AllocError::from)?,
+            None => return Err(Refusal::NoWire),
+        }
+    }
+    Ok(())
+}
+
+// The column of a wire that is named by its number.
+fn column_number(name: &str) -> Option<u16>
+    ensures { result ≡ column_number name.now }
+{
+    match number_of(name.as_bytes()) {
+        Some(column) if column > 0 && column < 65_536 => Some(column as u16),
+        _ => None,
+    }
+}
+
+// The columns of wires that are named by their numbers.
+pub(crate) fn number_columns(names: &[&str], columns: &mut Vec<u16>) -> Result<(), Refusal>
+    ensures { OnOk result (numbered_columns (map (λ name. name.now) names.now) ≡ Some columns.new.items) }
+{
+    columns.clear();
+    for name in names {
+        match column_number(name) {
+            Some(column) => columns.push(column).map_err(AllocError::from)?,
+            None => return Err(Refusal::NoWire),
+        }
+    }
+    Ok(())
+}
+
+// The level that stands in a cell.
+pub(crate) fn level_of_cell(cell: &[u8]) -> Option<bool>
+    ensures { result ≡ level_of_cell cell.now }
+{
+    match cell {
+        b"0" => Some(false),
+        b"1" => Some(true),
+        _ => None,
+    }
+}
