@@ -1,5 +1,5 @@
 -- What is written of a recording as it comes.
-use Rattle.std.specs.Prelude.{◌≡◌, ℕ, List, [], ◌++◌, Option, IfSome, map, string_bytes}
+use Rattle.std.specs.Prelude.{◌≡◌, ℕ, List, [], ◌++◌, Option, IfSome, string_bytes}
 use Rattle.std.specs.Io.KnownBytes.{Appends, Consumes}
 use Rattle.xb_rows.specs.WrittenRows.{text_of_rows}
 use Rattle.xb_vcd.specs.declared.event.Event.{Event}
@@ -47,24 +47,20 @@ pub record Feeds (old new : Intake) (input left output after : Option (List ℕ)
   pub wrote : Appends output after written
   pub goes_on : GoesOn old bytes new written
 
--- the names of the wires that are asked for
-abbrev pub wires_of : Request → List (List ℕ)
-wires_of request = map (λ wire. wire.now) request.wanted.wires.items
-
 -- the rows of a recording: of the form that is asked for, or else of one, exactly those of what the recording
 -- says of the wires that are asked for
 pub record Listens (request : Request) (text : List ℕ) (rows : List ℕ) : Type 0 where
   pub format : Format
   pub asked : IfSome request.format (λ asked. format ≡ asked)
   pub events : List Event
-  pub said : Says format (wires_of request) text events
+  pub said : Says format request.wanted text events
   pub printed : rows ≡ text_of_rows (rows_of_events (begun_watch request.manner request.lines.items) events)
 
 -- nothing has been read of a recording of this form
 abbrev pub Starts : Format → Request → Intake → Type 0
 Starts format request intake =
     (text written : List ℕ) → Delivers intake text written
-    → (events : List Event) × Says format (wires_of request) text events
+    → (events : List Event) × Says format request.wanted text events
     × (written ≡ text_of_events (begun_watch request.manner request.lines.items) events)
 
 -- an output got a text and then the rows of an input, where their bytes are known

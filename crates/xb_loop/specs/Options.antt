@@ -6,10 +6,10 @@ use Rattle.clap.specs.Simple.{matches_of}
 use Rattle.clap.specs.Walk.{Row, Text, all_of, first_of}
 use Rattle.xb_command.specs.Given.{IsTaken, ReadsFlag, ReadsNumber, given_by}
 use Rattle.xb_recording.specs.Formats.{format_of}
+use Rattle.xb_recording.specs.Says.{names_in}
 use Rattle.xb_vcd.specs.Numbers.{number_of}
 use Rattle.xb_loop.specs.declared.request.Request.{Request}
 use Rattle.xb_loop.specs.declared.words.TheConstants.{SETTLE_MS, THRESHOLD_PERCENT}
-use Rattle.xb_loop.specs.Feeding.{wires_of}
 use Rattle.xb_loop.specs.Rules.{command_of_words}
 
 -- the words without each `--line`, behind which the wire of a line stands
@@ -52,7 +52,7 @@ pub record Say (rows : List Row) (request : Request) : Type 0 where
   pub threshold : ReadsOr (given_by rows (codes "threshold")) THRESHOLD_PERCENT request.wanted.threshold.percent
   pub inverted : ReadsFlag (given_by rows (codes "inverted")) request.manner.inverted
   pub said : ReadsFlag (given_by rows (codes "said")) request.said
-  pub wires : NameWires (lone_words rows) request.lines.items (wires_of request)
+  pub wires : NameWires (lone_words rows) request.lines.items (names_in request.wanted)
 
 -- clap takes plain words, and they ask for this
 abbrev pub AsksPlainly : List Text → Request → Type 0

@@ -3,7 +3,7 @@ ghost use Rattle.std.specs.Prelude.{◌≡◌, ◌<◌, ◌≤◌, ◌++◌, ◌
 ghost use Rattle.std.specs.Io.KnownBytes.{Appends, Consumes, IsAtEnd};
 ghost use Rattle.xb_vcd.specs.declared.event.Event.{Event as Saying};
 ghost use Rattle.xb_recording.specs.Says.{Begins, RestSays, is_text};
-ghost use Rattle.xb_loop.specs.Feeding.{Ends, Feeds, GoesOn, ListensTo, PutsDown, Starts, Writes, wires_of};
+ghost use Rattle.xb_loop.specs.Feeding.{Ends, Feeds, GoesOn, ListensTo, PutsDown, Starts, Writes};
 ghost use Rattle.xb_loop.specs.Watches.{watch_of};
 
 use crate::fault::LoopFault;
@@ -289,7 +289,7 @@ fn reader_of<'a>(
     format: Format,
     events: &mut Vec<Event>,
 ) -> Result<Reader<'a>, LoopFault>
-    ensures { IfOk result (λ reader. Begins format (wires_of request.now) reader events.new.items) }
+    ensures { IfOk result (λ reader. Begins format request.now.wanted reader events.new.items) }
 {
     match Reader::new(alloc, &request.wanted, format, events) {
         Ok(reader) => Ok(reader),
@@ -323,10 +323,10 @@ fn begun<'a>(
 /// Writes the loop rows of a recording as it comes, after a text; memory does not grow with it. It returns the
 /// lines that tell of the bounces, if these are asked for.
 ///
-/// Where it returns `Ok`, exactly the rows of what the recording says were written; of a VCD the contract says what
-/// that is. After an `Err` the rows stand that were written before it. What the contract says of bytes it says of
-/// readers whose bytes and writers whose contents are known to contracts (byte slices, lists), which those of a
-/// process are not.
+/// Where it returns `Ok`, exactly the rows of what the recording says were written; what that is, is defined of a VCD,
+/// of tables of levels and of raw samples. After an `Err` the rows stand that were written before it. What the contract
+/// says of bytes it says of readers whose bytes and writers whose contents are known to contracts (byte slices, lists),
+/// which those of a process are not.
 pub fn listen<R: Read, W: Write>(
     alloc: Global,
     request: &Request<'_>,

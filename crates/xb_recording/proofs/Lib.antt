@@ -1,4 +1,6 @@
 pub mod HeardLevels
+pub mod WaitLemmas
+pub mod BitLemmas
 pub mod SaidLemmas
 pub mod WrittenTexts
 pub mod WrittenWords

@@ -1,51 +1,170 @@
 -- What a recording says.
-use Rattle.std.proofs.Common.{◌≡◌, ℕ, List, [], ◌∷◌, ◌++◌, true, false, refl, sym, subst}
+use Rattle.std.proofs.Common.{◌≡◌, ℕ, List, [], ◌∷◌, ◌++◌, true, false, Option, Some, None, refl, ap, sym, subst, ◌∙◌}
+use Rattle.std.specs.Prelude.{option_map, unwrap_or}
+use Rattle.std.specs.Option.{option_and_then}
 use Rattle.xb_vcd.specs.declared.event.Event.{Event}
+use Rattle.xb_vcd.specs.Steps.{Adds}
+use Rattle.xb_vcd.specs.VcdTexts.{VcdSays, VcdState, begun_vcd, vcd_state}
+use Rattle.xb_csv.specs.declared.columns.Form.{Form}
+use Rattle.xb_csv.specs.declared.columns.Form.TheVariants as forms
 use Rattle.xb_recording.specs.declared.format.Format.{Format}
 use Rattle.xb_recording.specs.declared.format.Format.TheVariants as formats
+use Rattle.xb_recording.specs.declared.reader.Reader.{Reader}
 use Rattle.xb_recording.specs.declared.reader.Source.{Source}
 use Rattle.xb_recording.specs.declared.reader.Source.TheVariants as sources
-use Rattle.xb_vcd.specs.VcdTexts.{VcdSays, VcdState, begun_vcd, vcd_state}
-use Rattle.xb_recording.specs.Says.{IsOfFormat, LinesSay, Says, is_text, lines_in, plain_lines}
+use Rattle.xb_recording.specs.declared.wanted.Wanted.{Wanted}
+use Rattle.xb_csv.specs.Tables.{AddsAll, TableState, table_ends, table_line_says, table_says}
+use Rattle.xb_recording.specs.Pieces.{SamplesSay, samples_events}
+use Rattle.xb_recording.specs.Samples.{BitsState, bits_of, bits_reading, bits_say, bits_state, masks_of, rate_says}
+use Rattle.xb_recording.specs.Says.{BitsSay, BytesSay, IsBegunBits, IsBegunTable, IsBegunVcd, IsOfFormat, LinesSay, Says, TableSays, Takes, TakesBytes, TakesText, is_text, lines_in, lines_left, names_in, plain_lines, text_lines}
+use Rattle.xb_recording.proofs.WaitLemmas.{same-after}
 
--- of samples nothing is said
-pub samples_say : (source : Source) (lines : List (List ℕ)) (said : List Event) → is_text source ≡ false → LinesSay source lines said
-samples_say (sources.Vcd vcd) lines said h = cc
-samples_say (sources.Columns columns) lines said h = tt
-samples_say (sources.Gpiomon gpiomon) lines said h = tt
-samples_say (sources.Bits bits) lines said h = tt
-samples_say (sources.WavHead head) lines said h = tt
-samples_say (sources.Sound sound) lines said h = tt
+some_is : {A : Type 0} {x y : A} → Some x ≡ Some y → x ≡ y
+some_is {A} {x} {y} e = ap (λ o. unwrap_or o x) e
+
+none_is : {A : Type 0} {x : A} → None ≡ Some x → ⊥
+none_is e = cc
+
+-- samples have no lines, and a text no samples
+lines_none : (source : Source) (lines : List (List ℕ)) (said : List Event) → is_text source ≡ false → LinesSay source lines said
+lines_none (sources.Vcd vcd) lines said h = cc
+lines_none (sources.Columns table) lines said h = cc
+lines_none (sources.Gpiomon gpiomon) lines said h = cc
+lines_none (sources.Bits bits) lines said h = tt
+lines_none (sources.WavHead head) lines said h = tt
+lines_none (sources.Sound sound) lines said h = tt
+
+bytes_none : (source : Source) (bytes : List ℕ) (said : List Event) → is_text source ≡ true → BytesSay source bytes said
+bytes_none (sources.Vcd vcd) bytes said h = tt
+bytes_none (sources.Columns table) bytes said h = tt
+bytes_none (sources.Gpiomon gpiomon) bytes said h = tt
+bytes_none (sources.Bits bits) bytes said h = cc
+bytes_none (sources.WavHead head) bytes said h = cc
+bytes_none (sources.Sound sound) bytes said h = cc
+
+pub takes_text :
+    (old new : Reader) (bytes : List ℕ) (said : List Event) → is_text old.source ≡ true → TakesText old new bytes said
+    → Takes old new bytes said
+takes_text old new bytes said h taken text later rest =
+    (taken text later rest.0, bytes_none old.source (bytes ++ text) (said ++ later) h)
+
+pub takes_bytes :
+    (old new : Reader) (bytes : List ℕ) (said : List Event) → is_text old.source ≡ false
+    → TakesBytes old.source new.source bytes said → Takes old new bytes said
+takes_bytes old new bytes said h taken text later rest =
+    (lines_none old.source (lines_left old (bytes ++ text)) (said ++ later) h, taken text later rest.1)
 
 -- lines of which none is the first
 pub plain_lines-later : (lines : List (List ℕ)) → plain_lines false lines ≡ lines
 plain_lines-later [] = refl
 plain_lines-later (line ∷ rest) = refl
 
--- the beginning
-pub begins :
-    (format : Format) (names : List (List ℕ)) (source : Source) (said : List Event) → IsOfFormat format names source said
-    → (text : List ℕ) (later : List Event) → LinesSay source (plain_lines true (lines_in [] text)) later
-    → Says format names text (said ++ later)
-begins formats.Vcd names source said h text later k = at source h k
+-- a line of a table that was said, and then the rest
+pub table_line_then :
+    (before now : TableState) (line : List ℕ) (lines : List (List ℕ)) (old new later : List Event) → old ≡ []
+    → Adds (table_line_says before line) old new now → table_says now lines ≡ Some later
+    → table_says before (line ∷ lines) ≡ Some (new ++ later)
+table_line_then before now line lines old new later none h k = at (table_line_says before line) refl h
   where
     at :
-        (source : Source) → IsOfFormat formats.Vcd names source said
-        → LinesSay source (plain_lines true (lines_in [] text)) later
-        → VcdSays (begun_vcd names) (plain_lines true (lines_in [] text)) (said ++ later)
+        (first : Option (List Event × TableState)) → table_line_says before line ≡ first → Adds first old new now
+        → table_says before (line ∷ lines) ≡ Some (new ++ later)
+    at None e f = elim f [ ]
+    at (Some said) e f =
+        let events : new ≡ said.0 = f.0 ∙ ap (λ o. o ++ said.0) none in
+        rw e (ap (λ s. option_map (λ more. said.0 ++ more) (table_says s lines)) (sym f.1)
+        ∙ ap (option_map (λ more. said.0 ++ more)) k ∙ ap (λ m. Some (m ++ later)) (sym events))
+
+-- the last line of a table that was said, and its end
+pub table_ended :
+    (before now : TableState) (line : List ℕ) (old mid new : List Event) → old ≡ []
+    → Adds (table_line_says before line) old mid now → AddsAll (table_ends now) mid new
+    → table_says before (line ∷ []) ≡ Some new
+table_ended before now line old mid new none h k = at (table_ends now) refl k
+  where
+    at : (left : Option (List Event)) → table_ends now ≡ left → AddsAll left mid new → table_says before (line ∷ []) ≡ Some new
+    at None e f = elim f [ ]
+    at (Some left) e f = table_line_then before now line [] old mid left none h e ∙ ap Some (sym f)
+
+-- the beginning of a table
+table_begins :
+    (form : Form) (wanted : Wanted) (source : Source) (said : List Event)
+    → IsBegunTable form (names_in wanted) wanted.rate source said
+    → (text : List ℕ) (later : List Event) → LinesSay source (text_lines text) later
+    → TableSays form wanted text (said ++ later)
+table_begins form wanted (sources.Columns table) said h text later k =
+    ap (λ s. table_says s (text_lines text)) (sym h.0) ∙ k ∙ ap (λ m. Some (m ++ later)) (sym h.1)
+table_begins form wanted (sources.Vcd vcd) said h text later k = elim h [ ]
+table_begins form wanted (sources.Gpiomon gpiomon) said h text later k = elim h [ ]
+table_begins form wanted (sources.Bits bits) said h text later k = elim h [ ]
+table_begins form wanted (sources.WavHead head) said h text later k = elim h [ ]
+table_begins form wanted (sources.Sound sound) said h text later k = elim h [ ]
+
+-- the beginning of samples
+rated : (rate : Option ℕ) (said : List Event) → AddsAll (rate_says rate) [] said → rate_says rate ≡ Some said
+rated rate said h = at (rate_says rate) refl h
+  where
+    at : (told : Option (List Event)) → rate_says rate ≡ told → AddsAll told [] said → rate_says rate ≡ Some said
+    at None e f = elim f [ ]
+    at (Some told) e f = e ∙ ap Some (sym f)
+
+bits_begin :
+    (wanted : Wanted) (source : Source) (said : List Event) → IsBegunBits (names_in wanted) wanted.rate source said
+    → (text : List ℕ) (later : List Event) → BytesSay source text later → BitsSay wanted text (said ++ later)
+bits_begin wanted (sources.Bits bits) said h text later k = at (masks_of (names_in wanted)) refl h.0
+  where
+    at :
+        (found : Option (List ℕ)) → masks_of (names_in wanted) ≡ found
+        → option_map (λ masks. bits_of masks None 0) found ≡ Some (bits_state bits)
+        → BitsSay wanted text (said ++ later)
+    at None e f = absurd (none_is f)
+    at (Some masks) e f =
+        let state : bits_of masks None 0 ≡ bits_state bits = some_is f in
+        let all : List Event = said ++ samples_events bits_reading (bits_of masks None 0) text in
+        let whole : bits_say (names_in wanted) wanted.rate text ≡ Some all =
+        ap (option_and_then (λ found. option_map (λ told. told ++ samples_events bits_reading (bits_of found None 0) text) (rate_says wanted.rate))) e
+        ∙ ap (option_map (λ told. told ++ samples_events bits_reading (bits_of masks None 0) text)) (rated wanted.rate said h.1) in
+        let P : BitsState → Type 0 = λ s. SamplesSay bits_reading s text later in
+        (all, whole, same-after said later (samples_events bits_reading (bits_of masks None 0) text) (subst P (sym state) k))
+bits_begin wanted (sources.Vcd vcd) said h text later k = elim h [ ]
+bits_begin wanted (sources.Columns table) said h text later k = elim h [ ]
+bits_begin wanted (sources.Gpiomon gpiomon) said h text later k = elim h [ ]
+bits_begin wanted (sources.WavHead head) said h text later k = elim h [ ]
+bits_begin wanted (sources.Sound sound) said h text later k = elim h [ ]
+
+-- the beginning
+pub begins :
+    (format : Format) (wanted : Wanted) (source : Source) (said : List Event) → IsOfFormat format wanted source said
+    → (text : List ℕ) (later : List Event) → LinesSay source (text_lines text) later × BytesSay source text later
+    → Says format wanted text (said ++ later)
+begins formats.Vcd wanted source said h text later k = at source h k.0
+  where
+    at :
+        (source : Source) → IsBegunVcd (names_in wanted) source said → LinesSay source (text_lines text) later
+        → VcdSays (begun_vcd (names_in wanted)) (text_lines text) (said ++ later)
     at (sources.Vcd vcd) h k =
-        let P : VcdState → Type 0 = λ s. VcdSays s (plain_lines true (lines_in [] text)) (said ++ later) in
-        let Q : List Event → Type 0 = λ m. VcdSays (vcd_state vcd) (plain_lines true (lines_in [] text)) (m ++ later) in
+        let P : VcdState → Type 0 = λ s. VcdSays s (text_lines text) (said ++ later) in
+        let Q : List Event → Type 0 = λ m. VcdSays (vcd_state vcd) (text_lines text) (m ++ later) in
         subst P h.0 (subst Q (sym h.1) k)
     at (sources.Columns columns) h k = elim h [ ]
     at (sources.Gpiomon gpiomon) h k = elim h [ ]
     at (sources.Bits bits) h k = elim h [ ]
     at (sources.WavHead head) h k = elim h [ ]
     at (sources.Sound sound) h k = elim h [ ]
-begins formats.Sigrok names source said h text later k = tt
-begins formats.Saleae names source said h text later k = tt
-begins formats.Edges names source said h text later k = tt
-begins formats.Gpiomon names source said h text later k = tt
-begins formats.Bits names source said h text later k = tt
-begins formats.Sixteen names source said h text later k = tt
-begins formats.Wav names source said h text later k = tt
+begins formats.Sigrok wanted source said h text later k = table_begins forms.Sigrok wanted source said h text later k.0
+begins formats.Saleae wanted source said h text later k = table_begins forms.Saleae wanted source said h text later k.0
+begins formats.Edges wanted source said h text later k = table_begins forms.Edges wanted source said h text later k.0
+begins formats.Gpiomon wanted source said h text later k = tt
+begins formats.Bits wanted source said h text later k = bits_begin wanted source said h text later k.1
+begins formats.Sixteen wanted source said h text later k = tt
+begins formats.Wav wanted source said h text later k = tt
+
+-- a reader whose line is empty
+pub reader_begins :
+    (format : Format) (wanted : Wanted) (source : Source) (said : List Event) (line : List ℕ) → line ≡ []
+    → IsOfFormat format wanted source said
+    → (text : List ℕ) (later : List Event) → LinesSay source (plain_lines true (lines_in line text)) later × BytesSay source text later
+    → Says format wanted text (said ++ later)
+reader_begins format wanted source said line none is text later rest =
+    begins format wanted source said is text later
+    (subst (λ l. LinesSay source (plain_lines true (lines_in l text)) later) none rest.0, rest.1)

@@ -17,7 +17,7 @@ use Rattle.xb_vcd.specs.VcdTexts.{VcdSays, VcdState, begun_vcd, by_changes, decl
 use Rattle.xb_vcd.specs.VcdWords.{change_by, time_by}
 use Rattle.xb_recording.specs.declared.written.Change.{Change}
 use Rattle.xb_recording.specs.Says.{lines_in, plain_lines}
-use Rattle.xb_recording.specs.WrittenVcd.{AreInOrder, AreNames, IsName, change_events, change_lines, events_of, level_line, level_text, time_line, var_line, var_lines, vcd_text, wire_code}
+use Rattle.xb_recording.specs.WrittenVcd.{AreInOrder, AreNames, IsName, IsReadBack, change_events, change_lines, events_of, level_line, level_text, time_line, var_line, var_lines, vcd_text, wire_code}
 use Rattle.xb_recording.proofs.WrittenLines.{lines_are_read, never_after_end}
 use Rattle.xb_recording.proofs.WrittenWords.{code_is_name, code_is_read, number_is_read, time_is_name, word_alone, word_and_more}
 
@@ -317,7 +317,8 @@ read_back names changes end lawful order small = (
 pub is_read_back :
     (names : List (List ℕ)) (changes : List Change) (end wires : ℕ) (text : List ℕ) → length names ≡ wires → AreNames names
     → AreInOrder wires 0 changes end → end < 2 ^ 64 → text ≡ vcd_text names changes end
-    → VcdSays (begun_vcd names) (plain_lines true (lines_in [] text)) (events_of changes end)
-is_read_back names changes end wires text same lawful order small e =
-    subst (λ t. VcdSays (begun_vcd names) (plain_lines true (lines_in [] t)) (events_of changes end)) (sym e)
-    (read_back names changes end lawful (subst (λ n. AreInOrder n 0 changes end) (sym same) order) small)
+    → IsReadBack names changes end text
+is_read_back names changes end wires text same lawful order small e wanted asked =
+    subst (λ n. VcdSays (begun_vcd n) (plain_lines true (lines_in [] text)) (events_of changes end)) (sym asked)
+    (subst (λ t. VcdSays (begun_vcd names) (plain_lines true (lines_in [] t)) (events_of changes end)) (sym e)
+    (read_back names changes end lawful (subst (λ n. AreInOrder n 0 changes end) (sym same) order) small))

@@ -1,4 +1,6 @@
 pub mod Hysteresis
+pub mod Pieces
+pub mod Samples
 pub mod Says
 pub mod WrittenVcd
 pub mod Formats

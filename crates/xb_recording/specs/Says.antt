@@ -1,14 +1,20 @@
 -- What a recording says, whatever its form.
-use Rattle.std.specs.Prelude.{◌≡◌, ℕ, List, [], ◌∷◌, ◌++◌, Bool, true, false, ◌==◌, if◌then◌else◌, drop, length, nat_eq}
+use Rattle.std.specs.Prelude.{◌≡◌, ℕ, Option, List, [], ◌∷◌, ◌++◌, Bool, true, false, ◌==◌, if◌then◌else◌, None, Some, drop, length, map, nat_eq, option_map}
 use Rattle.std.specs.List.{starts_with}
 use Rattle.xb_vcd.specs.declared.event.Event.{Event}
+use Rattle.xb_csv.specs.declared.columns.Form.{Form}
+use Rattle.xb_csv.specs.declared.columns.Form.TheVariants as forms
 use Rattle.xb_recording.specs.declared.format.TheConstants.{BYTE_ORDER_MARK}
 use Rattle.xb_recording.specs.declared.format.Format.{Format}
 use Rattle.xb_recording.specs.declared.format.Format.TheVariants as formats
 use Rattle.xb_recording.specs.declared.reader.Reader.{Reader}
 use Rattle.xb_recording.specs.declared.reader.Source.{Source}
 use Rattle.xb_recording.specs.declared.reader.Source.TheVariants as sources
+use Rattle.xb_recording.specs.declared.wanted.Wanted.{Wanted}
 use Rattle.xb_vcd.specs.VcdTexts.{VcdSays, begun_vcd, vcd_state}
+use Rattle.xb_recording.specs.Pieces.{SamplesSay, SayTheSame}
+use Rattle.xb_recording.specs.Samples.{bits_of, bits_reading, bits_say, bits_state, masks_of, rate_says}
+use Rattle.xb_csv.specs.Tables.{AddsAll, begun_table, table_says, table_state}
 
 -- the lines of a text, of whose first line this has come
 abbrev pub lines_in : List ℕ → List ℕ → List (List ℕ)
@@ -27,14 +33,24 @@ abbrev pub plain_lines : Bool → List (List ℕ) → List (List ℕ)
 plain_lines is_first [] = []
 plain_lines is_first (line ∷ rest) = plain_line is_first line ∷ rest
 
--- what is read says these events of further lines: exact for a VCD, and nothing is said of the other forms
+-- what is read says these events of further lines: exact for a VCD and for tables, and nothing is said of the other
+-- forms
 abbrev pub LinesSay : Source → List (List ℕ) → List Event → Type 0
 LinesSay (sources.Vcd vcd) lines events = VcdSays (vcd_state vcd) lines events
-LinesSay (sources.Columns columns) lines events = Unit {0}
+LinesSay (sources.Columns table) lines events = table_says (table_state table) lines ≡ Some events
 LinesSay (sources.Gpiomon gpiomon) lines events = Unit {0}
 LinesSay (sources.Bits bits) lines events = Unit {0}
 LinesSay (sources.WavHead head) lines events = Unit {0}
 LinesSay (sources.Sound sound) lines events = Unit {0}
+
+-- and of further bytes: exact for raw samples, but for waits
+abbrev pub BytesSay : Source → List ℕ → List Event → Type 0
+BytesSay (sources.Vcd vcd) bytes events = Unit {0}
+BytesSay (sources.Columns table) bytes events = Unit {0}
+BytesSay (sources.Gpiomon gpiomon) bytes events = Unit {0}
+BytesSay (sources.Bits bits) bytes events = SamplesSay bits_reading (bits_state bits) bytes events
+BytesSay (sources.WavHead head) bytes events = Unit {0}
+BytesSay (sources.Sound sound) bytes events = Unit {0}
 
 -- whether it is a text
 abbrev pub is_text : Source → Bool
@@ -54,15 +70,40 @@ IsBegunVcd names (sources.Bits bits) said = ⊥
 IsBegunVcd names (sources.WavHead head) said = ⊥
 IsBegunVcd names (sources.Sound sound) said = ⊥
 
-abbrev pub IsOfFormat : Format → List (List ℕ) → Source → List Event → Type 0
-IsOfFormat formats.Vcd names source said = IsBegunVcd names source said
-IsOfFormat formats.Sigrok names source said = Unit {0}
-IsOfFormat formats.Saleae names source said = Unit {0}
-IsOfFormat formats.Edges names source said = Unit {0}
-IsOfFormat formats.Gpiomon names source said = Unit {0}
-IsOfFormat formats.Bits names source said = Unit {0}
-IsOfFormat formats.Sixteen names source said = Unit {0}
-IsOfFormat formats.Wav names source said = Unit {0}
+-- and of a table of this form
+abbrev pub IsBegunTable : Form → List (List ℕ) → Option ℕ → Source → List Event → Type 0
+IsBegunTable form names rate (sources.Columns table) said =
+    (table_state table ≡ begun_table form names rate) × (said ≡ [])
+IsBegunTable form names rate (sources.Vcd vcd) said = ⊥
+IsBegunTable form names rate (sources.Gpiomon gpiomon) said = ⊥
+IsBegunTable form names rate (sources.Bits bits) said = ⊥
+IsBegunTable form names rate (sources.WavHead head) said = ⊥
+IsBegunTable form names rate (sources.Sound sound) said = ⊥
+
+-- and of samples, of which the rate was said
+abbrev pub IsBegunBits : List (List ℕ) → Option ℕ → Source → List Event → Type 0
+IsBegunBits names rate (sources.Bits bits) said =
+    (option_map (λ masks. bits_of masks None 0) (masks_of names) ≡ Some (bits_state bits))
+    × AddsAll (rate_says rate) [] said
+IsBegunBits names rate (sources.Vcd vcd) said = ⊥
+IsBegunBits names rate (sources.Columns table) said = ⊥
+IsBegunBits names rate (sources.Gpiomon gpiomon) said = ⊥
+IsBegunBits names rate (sources.WavHead head) said = ⊥
+IsBegunBits names rate (sources.Sound sound) said = ⊥
+
+-- the names of the wires that are wanted
+abbrev pub names_in : Wanted → List (List ℕ)
+names_in wanted = map (λ wire. wire.now) wanted.wires.items
+
+abbrev pub IsOfFormat : Format → Wanted → Source → List Event → Type 0
+IsOfFormat formats.Vcd wanted source said = IsBegunVcd (names_in wanted) source said
+IsOfFormat formats.Sigrok wanted source said = IsBegunTable forms.Sigrok (names_in wanted) wanted.rate source said
+IsOfFormat formats.Saleae wanted source said = IsBegunTable forms.Saleae (names_in wanted) wanted.rate source said
+IsOfFormat formats.Edges wanted source said = IsBegunTable forms.Edges (names_in wanted) wanted.rate source said
+IsOfFormat formats.Gpiomon wanted source said = Unit {0}
+IsOfFormat formats.Bits wanted source said = IsBegunBits (names_in wanted) wanted.rate source said
+IsOfFormat formats.Sixteen wanted source said = Unit {0}
+IsOfFormat formats.Wav wanted source said = Unit {0}
 
 -- what has come of a line that has not ended, and whether it is the first
 abbrev pub line_so_far : Reader → List ℕ
@@ -72,27 +113,53 @@ abbrev pub is_in_first : Reader → Bool
 is_in_first reader = if reader.is_whole then false else reader.is_first
 
 -- a reader says these events of the bytes that follow, up to the end of the recording
+abbrev pub lines_left : Reader → List ℕ → List (List ℕ)
+lines_left reader text = plain_lines (is_in_first reader) (lines_in (line_so_far reader) text)
+
 abbrev pub RestSays : Reader → List ℕ → List Event → Type 0
 RestSays reader text events =
-    LinesSay reader.source (plain_lines (is_in_first reader) (lines_in (line_so_far reader) text)) events
+    LinesSay reader.source (lines_left reader text) events × BytesSay reader.source text events
 
 -- what a reader took says these events, whatever comes later
 abbrev pub Takes : Reader → Reader → List ℕ → List Event → Type 0
 Takes old new bytes said =
     (text : List ℕ) (later : List Event) → RestSays new text later → RestSays old (bytes ++ text) (said ++ later)
 
--- a recording of a form, whose wires have these names, says these events: exact for a VCD
-abbrev pub Says : Format → List (List ℕ) → List ℕ → List Event → Type 0
-Says formats.Vcd names text events = VcdSays (begun_vcd names) (plain_lines true (lines_in [] text)) events
-Says formats.Sigrok names text events = Unit {0}
-Says formats.Saleae names text events = Unit {0}
-Says formats.Edges names text events = Unit {0}
-Says formats.Gpiomon names text events = Unit {0}
-Says formats.Bits names text events = Unit {0}
-Says formats.Sixteen names text events = Unit {0}
-Says formats.Wav names text events = Unit {0}
+-- what it took as a text, and as samples
+abbrev pub TakesText : Reader → Reader → List ℕ → List Event → Type 0
+TakesText old new bytes said =
+    (text : List ℕ) (later : List Event) → LinesSay new.source (lines_left new text) later
+    → LinesSay old.source (lines_left old (bytes ++ text)) (said ++ later)
+
+abbrev pub TakesBytes : Source → Source → List ℕ → List Event → Type 0
+TakesBytes old new bytes said =
+    (text : List ℕ) (later : List Event) → BytesSay new text later → BytesSay old (bytes ++ text) (said ++ later)
+
+-- the lines of a text
+abbrev pub text_lines : List ℕ → List (List ℕ)
+text_lines text = plain_lines true (lines_in [] text)
+
+abbrev pub TableSays : Form → Wanted → List ℕ → List Event → Type 0
+TableSays form wanted text events =
+    table_says (begun_table form (names_in wanted) wanted.rate) (text_lines text) ≡ Some events
+
+abbrev pub BitsSay : Wanted → List ℕ → List Event → Type 0
+BitsSay wanted samples events =
+    (all : List Event) × (bits_say (names_in wanted) wanted.rate samples ≡ Some all) × SayTheSame events all
+
+-- a recording of a form says these events of the wires that are wanted: exact for a VCD, for tables and for raw
+-- samples, where pieces may end in waits
+abbrev pub Says : Format → Wanted → List ℕ → List Event → Type 0
+Says formats.Vcd wanted text events = VcdSays (begun_vcd (names_in wanted)) (text_lines text) events
+Says formats.Sigrok wanted text events = TableSays forms.Sigrok wanted text events
+Says formats.Saleae wanted text events = TableSays forms.Saleae wanted text events
+Says formats.Edges wanted text events = TableSays forms.Edges wanted text events
+Says formats.Gpiomon wanted text events = Unit {0}
+Says formats.Bits wanted text events = BitsSay wanted text events
+Says formats.Sixteen wanted text events = Unit {0}
+Says formats.Wav wanted text events = Unit {0}
 
 -- what a reader that has read nothing says after what was said already is what the recording says
-abbrev pub Begins : Format → List (List ℕ) → Reader → List Event → Type 0
-Begins format names reader said =
-    (text : List ℕ) (later : List Event) → RestSays reader text later → Says format names text (said ++ later)
+abbrev pub Begins : Format → Wanted → Reader → List Event → Type 0
+Begins format wanted reader said =
+    (text : List ℕ) (later : List Event) → RestSays reader text later → Says format wanted text (said ++ later)

@@ -5,7 +5,10 @@ use Rattle.xb_vcd.specs.declared.event.Event.{Event}
 use Rattle.xb_vcd.specs.declared.event.Event.TheVariants.{At, Ticks}
 use Rattle.xb_vcd.specs.VcdChanges.{level_event}
 use Rattle.xb_vcd.specs.VcdTexts.{is_blank, scale_by}
+use Rattle.xb_recording.specs.declared.format.Format.TheVariants as formats
+use Rattle.xb_recording.specs.declared.wanted.Wanted.{Wanted}
 use Rattle.xb_recording.specs.declared.written.Change.{Change}
+use Rattle.xb_recording.specs.Says.{Says, names_in}
 
 -- the code of a wire: a printable byte, from `!` on
 abbrev pub wire_code : ℕ → List ℕ
@@ -70,3 +73,8 @@ abbrev pub AreInOrder : ℕ → ℕ → List Change → ℕ → Type 0
 AreInOrder wires tick [] end = tick ≤ end
 AreInOrder wires tick (change ∷ rest) end =
     (change.wire < wires) × (tick ≤ change.tick) × AreInOrder wires change.tick rest end
+
+-- a VCD says exactly these changes, where the wires of these names are wanted
+abbrev pub IsReadBack : List (List ℕ) → List Change → ℕ → List ℕ → Type 0
+IsReadBack names changes end text =
+    (wanted : Wanted) → names_in wanted ≡ names → Says formats.Vcd wanted text (events_of changes end)

@@ -2,9 +2,8 @@
 ghost use Rattle.std.specs.Prelude.{◌≡◌};
 ghost use Rattle.xb_recording.specs.Formats.{format_of};
 
-use crate::cells::{cell_at, trimmed};
 use crate::gpiomon::is_of_gpiomon;
-use crate::seconds::nanoseconds_of;
+use xb_csv::{cell_at, nanoseconds_of, trimmed};
 use xb_text::cut_at;
 
 /// The mark that some programs write before a text.

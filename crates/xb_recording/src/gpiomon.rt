@@ -1,10 +1,8 @@
 // The lines that gpiomon writes.
 
-use crate::cells::trimmed;
-use crate::samples::say_level;
-use crate::seconds::nanoseconds_of;
 use xb_contact::NANOSECONDS;
-use xb_vcd::{Event, Refusal, say};
+use xb_csv::{nanoseconds_of, trimmed};
+use xb_vcd::{Event, Refusal, say, say_level};
 
 /// The reader of what gpiomon writes, of libgpiod 1 and 2: a line for each edge. A wire has the number of its
 /// line, or, where libgpiod 2 writes it, its name.

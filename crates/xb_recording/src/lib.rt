@@ -2,22 +2,20 @@
 //! writes, raw samples, and sound. A `Reader` says what the wires that are asked for do and when, and refuses what it
 //! does not understand.
 //!
-//! - `Reader::take_byte` and `Reader::end` (`Takes`, `RestSays`): of a VCD exactly what its whole text says of these
-//!   wires, in pieces of any length (`Says`; `xb_vcd` has its lines and words).
-//! - What the other forms say is not defined: of these each reader is proved safe alone. Exact are the level and
-//!   the bit of a sample, and the names of the forms.
+//! - `Reader::take_byte`, `take_samples` and `end` (`Takes`, `RestSays`): exactly what the whole recording says of
+//!   these wires, in pieces of any length (`Says`): of a VCD (`xb_vcd`), of the CSV forms and of times with levels
+//!   (`xb_csv`), and of raw samples (`Samples`), of which a piece may also say up to when the levels hold.
+//! - What gpiomon and sound say is not defined: of these each reader is proved safe alone. Exact are the level of a
+//!   sample, and the names of the forms.
 //! - `vcd_of_changes` (`vcd_text`): the VCD of what wires do. It is read back: it says exactly that.
 //! - `laws::each_level_is_heard`: two thresholds hear each level of a sound that is disturbed by less than they differ.
 #![tactic(auto)]
 
-mod cells;
-mod columns;
 mod format;
 mod gpiomon;
 pub mod laws;
 mod reader;
 mod samples;
-mod seconds;
 mod sound;
 mod wanted;
 mod wav;
@@ -25,7 +23,7 @@ mod written;
 
 pub use format::{Format, Told, format_of, told_format};
 pub use reader::Reader;
-pub use samples::{bit_of, heard_level};
+pub use samples::heard_level;
 pub use sound::Threshold;
 pub use wanted::Wanted;
 pub use written::{Change, vcd_of_changes};

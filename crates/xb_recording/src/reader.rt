@@ -1,9 +1,10 @@
 // The reader of a recording, whatever its form.
-ghost use Rattle.std.specs.Prelude.{◌≡◌, ◌++◌, [], ◌∷◌, ℕ, true, false, IfOk, OnOk, List, map};
+ghost use Rattle.std.specs.Prelude.{◌≡◌, ◌++◌, [], ◌∷◌, ℕ, Some, true, false, IfOk, OnOk, List};
+ghost use Rattle.xb_csv.specs.Tables.{table_says, table_state};
 ghost use Rattle.xb_vcd.specs.declared.event.Event.{Event as EventTaken};
-ghost use Rattle.xb_recording.specs.Says.{Begins, IsOfFormat, LinesSay, RestSays, Takes, is_in_first, is_text, line_so_far, plain_line};
+ghost use Rattle.xb_vcd.specs.VcdTexts.{VcdSays, vcd_state};
+ghost use Rattle.xb_recording.specs.Says.{Begins, BytesSay, IsOfFormat, LinesSay, RestSays, Takes, TakesBytes, TakesText, is_in_first, is_text, line_so_far, plain_line};
 
-use crate::columns::{Columns, Form};
 use crate::format::{BYTE_ORDER_MARK, Format};
 use crate::gpiomon::Gpiomon;
 use crate::samples::Bits;
@@ -11,6 +12,7 @@ use crate::sound::Sound;
 use crate::wanted::Wanted;
 use crate::wav::{WavFormat, WavHead};
 use std::alloc::{AllocError, Global};
+use xb_csv::{Columns, Form};
 use xb_vcd::{Event, Refusal, Vcd};
 
 // The longest line of a recording.
@@ -48,8 +50,7 @@ fn source_of<'a>(
     events: &mut Vec<Event>,
 ) -> Result<Source<'a>, Refusal>
     requires { events.old.items ≡ [] }
-    ensures { IfOk result (λ source. IsOfFormat format (map (λ wire. wire.now) wanted.now.wires.items) source
-        events.new.items) }
+    ensures { IfOk result (λ source. IsOfFormat format wanted.now source events.new.items) }
 {
     let (names, rate) = (wanted.wires.as_slice(), wanted.rate);
     Ok(match format {
@@ -94,23 +95,37 @@ fn take_line_of(
     }
 }
 
+// The last line of a VCD, and its end.
+fn end_vcd(vcd: &mut Vcd<'_>, line: &[u8], events: &mut Vec<Event>) -> Result<(), Refusal>
+    requires { events.old.items ≡ [] }
+    ensures { OnOk result (VcdSays (vcd_state vcd.old) (line.now ∷ []) events.new.items) }
+{
+    vcd.take_line(line, events)?;
+    vcd.end()
+}
+
+// The last line of a table, and its end.
+fn end_table(table: &mut Columns<'_>, line: &[u8], events: &mut Vec<Event>) -> Result<(), Refusal>
+    requires { events.old.items ≡ [] }
+    ensures { OnOk result (table_says (table_state table.old) (line.now ∷ []) ≡ Some events.new.items) }
+{
+    table.take_line(line, events)?;
+    table.end(events)
+}
+
 // The last line of a text, and the end of a recording.
 fn end_source(source: &mut Source<'_>, line: &[u8], events: &mut Vec<Event>) -> Result<(), Refusal>
     requires { events.old.items ≡ [] }
-    ensures { OnOk result (LinesSay source.old (line.now ∷ []) events.new.items) }
+    ensures lines { OnOk result (LinesSay source.old (line.now ∷ []) events.new.items) }
+    ensures bytes { OnOk result (BytesSay source.old [] events.new.items) }
 {
     match source {
-        Source::Vcd(vcd) => {
-            vcd.take_line(line, events)?;
-            vcd.end()
-        }
-        Source::Columns(columns) => {
-            columns.take_line(line, events)?;
-            columns.end(events)
-        }
+        Source::Vcd(vcd) => end_vcd(vcd, line, events),
+        Source::Columns(table) => end_table(table, line, events),
         Source::Gpiomon(gpiomon) => gpiomon.take_line(line, events),
+        Source::Bits(bits) => bits.end(events),
         Source::WavHead(_) => Err(Refusal::Wav),
-        Source::Bits(_) | Source::Sound(_) => Ok(()),
+        Source::Sound(_) => Ok(()),
     }
 }
 
@@ -122,8 +137,7 @@ impl<'a> Reader<'a> {
         format: Format,
         events: &mut Vec<Event>,
     ) -> Result<Reader<'a>, Refusal>
-        ensures { IfOk result (λ reader. Begins format (map (λ wire. wire.now) wanted.now.wires.items) reader
-            events.new.items) }
+        ensures { IfOk result (λ reader. Begins format wanted.now reader events.new.items) }
     {
         events.clear();
         let source = source_of(alloc, wanted, format, events)?;
@@ -177,11 +191,11 @@ impl<'a> Reader<'a> {
         }
     }
 
-    /// The next byte of a text. `events` has then what it says, in place of what was there.
-    pub fn take_byte(&mut self, byte: u8, events: &mut Vec<Event>) -> Result<(), Refusal>
-        ensures { OnOk result (Takes self.old self.new (byte ∷ []) events.new.items) }
+    // The next byte of a text.
+    fn take_letter(&mut self, byte: u8, events: &mut Vec<Event>) -> Result<(), Refusal>
+        requires { events.old.items ≡ [] }
+        ensures { OnOk result (TakesText self.old self.new (byte ∷ []) events.new.items) }
     {
-        events.clear();
         self.begin_line();
         if byte == b'\n' {
             return self.take_line(events);
@@ -191,6 +205,17 @@ impl<'a> Reader<'a> {
         }
         self.line.push(byte).map_err(AllocError::from)?;
         Ok(())
+    }
+
+    /// The next byte. `events` has then what it says, in place of what was there.
+    pub fn take_byte(&mut self, byte: u8, events: &mut Vec<Event>) -> Result<(), Refusal>
+        ensures { OnOk result (Takes self.old self.new (byte ∷ []) events.new.items) }
+    {
+        if !self.is_text() {
+            return self.take_samples(&[byte], events);
+        }
+        events.clear();
+        self.take_letter(byte, events)
     }
 
     // The samples of a WAV file begin.
@@ -223,18 +248,27 @@ impl<'a> Reader<'a> {
         Ok(())
     }
 
-    /// The next bytes of samples. `events` has then what they say, in place of what was there.
-    pub fn take_samples(&mut self, bytes: &[u8], events: &mut Vec<Event>) -> Result<(), Refusal>
-        requires { is_text self.old.source ≡ false }
-        ensures { OnOk result (Takes self.old self.new bytes.now events.new.items) }
+    // The next bytes of samples.
+    fn take_values(&mut self, bytes: &[u8], events: &mut Vec<Event>) -> Result<(), Refusal>
+        requires none { events.old.items ≡ [] }
+        requires samples { is_text self.old.source ≡ false }
+        ensures { OnOk result (TakesBytes self.old.source self.new.source bytes.now events.new.items) }
     {
-        events.clear();
         match &mut self.source {
             Source::Bits(bits) => bits.take(bytes, events),
             Source::Sound(sound) => sound.take(bytes, events),
             Source::WavHead(_) => self.take_head(bytes, events),
             Source::Vcd(_) | Source::Columns(_) | Source::Gpiomon(_) => Ok(()),
         }
+    }
+
+    /// The next bytes of samples. `events` has then what they say, in place of what was there.
+    pub fn take_samples(&mut self, bytes: &[u8], events: &mut Vec<Event>) -> Result<(), Refusal>
+        requires { is_text self.old.source ≡ false }
+        ensures { OnOk result (Takes self.old self.new bytes.now events.new.items) }
+    {
+        events.clear();
+        self.take_values(bytes, events)
     }
 
     /// The end. `events` has then what was left to be said, in place of what was there.

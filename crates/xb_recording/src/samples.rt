@@ -1,10 +1,14 @@
 // Raw samples.
-ghost use Rattle.std.specs.Prelude.{◌<ℤ◌, ◌<◌, ◌↔◌, IsBitSet, IsTrue};
+ghost use Rattle.std.specs.Prelude.{◌≡◌, ◌<ℤ◌, ◌++◌, ◌∷◌, [], ℕ, None, Some, IfOk, List, OnOk, map, option_map};
+ghost use Rattle.xb_vcd.specs.declared.event.Event.{Event as Saying};
+ghost use Rattle.xb_csv.specs.Tables.{AddsAll};
 ghost use Rattle.xb_recording.specs.Hysteresis.{IsHeard};
+ghost use Rattle.xb_recording.specs.Pieces.{SamplesSay, after_piece, piece_events};
+ghost use Rattle.xb_recording.specs.Samples.{after_sample, bits_of, bits_reading, bits_state, is_set, mask_of, masks_of, rate_says, sample_events, sample_levels};
 
 use std::alloc::{AllocError, Global};
 use xb_contact::Scale;
-use xb_vcd::{Event, Refusal, number_of, say};
+use xb_vcd::{Event, Refusal, number_of, say, say_level};
 
 /// The level of a sample after another one: high from `high` on, low up to `low`, and between them as before.
 pub fn heard_level(low: i16, high: i16, was_high: bool, sample: i16) -> bool
@@ -18,38 +22,10 @@ pub fn heard_level(low: i16, high: i16, was_high: bool, sample: i16) -> bool
     }
 }
 
-/// A bit, 0 to 7, of a sample of eight wires.
-pub fn bit_of(sample: u8, bit: u8) -> bool
-    ensures { bit < 8 → (IsTrue result ↔ IsBitSet sample bit) }
-{
-    match bit {
-        0 => sample & 1 != 0,
-        1 => sample & 2 != 0,
-        2 => sample & 4 != 0,
-        3 => sample & 8 != 0,
-        4 => sample & 16 != 0,
-        5 => sample & 32 != 0,
-        6 => sample & 64 != 0,
-        _ => sample & 128 != 0,
-    }
-}
-
-// A wire has a level.
-pub(crate) fn say_level(
-    events: &mut Vec<Event>,
-    wire: usize,
-    is_high: bool,
-) -> Result<(), Refusal> {
-    let event = if is_high {
-        Event::High(wire)
-    } else {
-        Event::Low(wire)
-    };
-    say(events, event)
-}
-
 // How long a tick is where a second has so many samples.
-pub(crate) fn say_rate(events: &mut Vec<Event>, rate: Option<u64>) -> Result<(), Refusal> {
+pub(crate) fn say_rate(events: &mut Vec<Event>, rate: Option<u64>) -> Result<(), Refusal>
+    ensures { OnOk result (AddsAll (rate_says rate) events.old.items events.new.items) }
+{
     match rate {
         Some(ticks) if ticks > 0 => say(events, Event::Ticks(Scale { ms: 1_000, ticks })),
         _ => Err(Refusal::NoRate),
@@ -78,11 +54,49 @@ pub(crate) fn numbers_of(
 /// Samples of eight wires, a byte each, as `sigrok-cli -O binary` writes them. Each sample is a tick.
 #[derive(Drop)]
 pub struct Bits {
-    // The bit of each wire that is asked for.
-    bits: Vec<u8>,
+    // For each wire that is asked for, its bit alone.
+    masks: Vec<u8>,
     // The last sample, and how many have come.
     last: Option<u8>,
     count: u64,
+}
+
+// The bit of a wire that is named by its number, 0 to 7.
+fn mask_of(name: &str) -> Option<u8>
+    ensures { result ≡ mask_of name.now }
+{
+    match number_of(name.as_bytes()) {
+        Some(0) => Some(1),
+        Some(1) => Some(2),
+        Some(2) => Some(4),
+        Some(3) => Some(8),
+        Some(4) => Some(16),
+        Some(5) => Some(32),
+        Some(6) => Some(64),
+        Some(7) => Some(128),
+        _ => None,
+    }
+}
+
+// The bits of wires.
+fn masks_of(alloc: Global, names: &[&str]) -> Result<Vec<u8>, Refusal>
+    ensures { IfOk result (λ masks. masks_of (map (λ name. name.now) names.now) ≡ Some masks.items) }
+{
+    let mut masks = Vec::new(alloc);
+    for name in names {
+        match mask_of(name) {
+            Some(mask) => masks.push(mask).map_err(AllocError::from)?,
+            None => return Err(Refusal::NoWire),
+        }
+    }
+    Ok(masks)
+}
+
+// Whether a wire is high in a sample.
+fn is_set(sample: u8, mask: u8) -> bool
+    ensures { result ≡ is_set sample mask }
+{
+    sample & mask != 0
 }
 
 impl Bits {
@@ -92,38 +106,79 @@ impl Bits {
         names: &[&str],
         rate: Option<u64>,
         events: &mut Vec<Event>,
-    ) -> Result<Bits, Refusal> {
-        let bits = numbers_of(alloc, names, 0, 7)?;
+    ) -> Result<Bits, Refusal>
+        ensures wires { IfOk result (λ bits. option_map (λ masks. bits_of masks None 0)
+            (masks_of (map (λ name. name.now) names.now)) ≡ Some (bits_state bits)) }
+        ensures rate { OnOk result (AddsAll (rate_says rate) events.old.items events.new.items) }
+    {
+        let masks = masks_of(alloc, names)?;
         say_rate(events, rate)?;
         Ok(Bits {
-            bits,
+            masks,
             last: None,
             count: 0,
         })
     }
 
-    // Another sample than the last one.
-    fn change(&mut self, sample: u8, events: &mut Vec<Event>) -> Result<(), Refusal> {
-        say(events, Event::At(self.count))?;
-        for (i, bit) in self.bits.iter().enumerate() {
-            say_level(events, i, bit_of(sample, *bit))?;
+    // The levels of the wires in a sample.
+    fn say_sample(&self, sample: u8, events: &mut Vec<Event>) -> Result<(), Refusal>
+        ensures { OnOk result
+            (events.new.items ≡ events.old.items ++ sample_levels 0 self.now.masks.items sample) }
+    {
+        for (wire, mask) in self.masks.iter().enumerate() {
+            say_level(events, wire, is_set(sample, *mask))?;
         }
-        self.last = Some(sample);
+        Ok(())
+    }
+
+    // A sample.
+    fn take_sample(&mut self, sample: u8, events: &mut Vec<Event>) -> Result<(), Refusal>
+        ensures events { OnOk result
+            (events.new.items ≡ events.old.items ++ sample_events (bits_state self.old) sample) }
+        ensures state { OnOk result (bits_state self.new ≡ after_sample (bits_state self.old) sample) }
+    {
+        if self.last != Some(sample) {
+            say(events, Event::At(self.count))?;
+            self.say_sample(sample, events)?;
+            self.last = Some(sample);
+        }
+        match self.count.checked_add(1) {
+            Some(count) => self.count = count,
+            None => return Err(Refusal::TooLate),
+        }
+        Ok(())
+    }
+
+    // Samples, one after the other.
+    fn take_samples(&mut self, samples: &[u8], events: &mut Vec<Event>) -> Result<(), Refusal>
+        ensures events { OnOk result
+            (events.new.items ≡ events.old.items ++ piece_events bits_reading (bits_state self.old) samples.now) }
+        ensures state { OnOk result
+            (bits_state self.new ≡ after_piece bits_reading (bits_state self.old) samples.now) }
+    {
+        for sample in samples {
+            self.take_sample(*sample, events)?;
+        }
         Ok(())
     }
 
     /// Takes samples, and adds what they say to `events`, also up to where they go. After an `Err` the reader
     /// is not to be used again.
-    pub fn take(&mut self, samples: &[u8], events: &mut Vec<Event>) -> Result<(), Refusal> {
-        for sample in samples {
-            if self.last != Some(*sample) {
-                self.change(*sample, events)?;
-            }
-            match self.count.checked_add(1) {
-                Some(count) => self.count = count,
-                None => return Err(Refusal::TooLate),
-            }
-        }
+    pub fn take(&mut self, samples: &[u8], events: &mut Vec<Event>) -> Result<(), Refusal>
+        requires { events.old.items ≡ [] }
+        ensures { OnOk result ((text : List ℕ) (later : List Saying)
+            → SamplesSay bits_reading (bits_state self.new) text later
+            → SamplesSay bits_reading (bits_state self.old) (samples.now ++ text) (events.new.items ++ later)) }
+    {
+        self.take_samples(samples, events)?;
+        say(events, Event::At(self.count))
+    }
+
+    /// The end: the wires hold their levels up to where the samples go.
+    pub fn end(&self, events: &mut Vec<Event>) -> Result<(), Refusal>
+        requires { events.old.items ≡ [] }
+        ensures { OnOk result (SamplesSay bits_reading (bits_state self.now) [] events.new.items) }
+    {
         say(events, Event::At(self.count))
     }
 

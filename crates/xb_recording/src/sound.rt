@@ -1,9 +1,9 @@
 // Sound of 16 bits a sample: a contact on a sound card.
 ghost use Rattle.std.specs.Prelude.{◌≡◌, IfSome};
 
-use crate::samples::{heard_level, numbers_of, say_level, say_rate};
+use crate::samples::{heard_level, numbers_of, say_rate};
 use std::alloc::{AllocError, Global};
-use xb_vcd::{Event, Refusal, say};
+use xb_vcd::{Event, Refusal, say, say_level};
 
 /// The most channels of a sound.
 pub const MOST_CHANNELS: u8 = 8;

@@ -1,9 +1,7 @@
 // A VCD as it is written.
 ghost use Rattle.std.specs.Prelude.{◌≡◌, ◌++◌, IfOk, OnOk, length, map, string_bytes};
 ghost use Rattle.std.specs.List.{flat_map};
-ghost use Rattle.xb_recording.specs.declared.format.Format.TheVariants.{Vcd};
-ghost use Rattle.xb_recording.specs.Says.{Says};
-ghost use Rattle.xb_recording.specs.WrittenVcd.{AreInOrder, AreNames, change_lines, ended, events_of, level_line, level_text, time_line, var_line, var_lines, vcd_text, wire_code};
+ghost use Rattle.xb_recording.specs.WrittenVcd.{AreInOrder, AreNames, IsReadBack, change_lines, ended, level_line, level_text, time_line, var_line, var_lines, vcd_text, wire_code};
 
 use std::alloc::{AllocError, Global};
 
@@ -118,8 +116,7 @@ pub fn vcd_of_changes(
         ≡ vcd_text (map (λ name. name.now) names.now) changes.now end) }
     ensures read_back { AreNames (map (λ name. name.now) names.now)
         → AreInOrder (length names.now) 0 changes.now end
-        → IfOk result (λ text. Says Vcd (map (λ name. name.now) names.now) (string_bytes text)
-        (events_of changes.now end)) }
+        → IfOk result (λ text. IsReadBack (map (λ name. name.now) names.now) changes.now end (string_bytes text)) }
 {
     written_vcd(alloc, names, changes, end)
 }

@@ -1,0 +1,47 @@
+-- What samples say, in pieces as they come.
+use Rattle.std.specs.Prelude.{◌≡◌, ℕ, List, [], ◌∷◌, ◌++◌, Bool, true, false, if◌then◌else◌}
+use Rattle.xb_vcd.specs.declared.event.Event.{Event}
+use Rattle.xb_vcd.specs.declared.event.Event.TheVariants.{At, High, Low, Ticks}
+
+-- how bytes are read: what each says, what is known after it, and how many ticks have gone by
+pub record Reading (S : Type 0) : Type 0 where
+  pub says : S → ℕ → List Event
+  pub next : S → ℕ → S
+  pub now : S → ℕ
+
+-- what bytes say, one after the other, and what is known after them
+abbrev pub piece_events : {S : Type 0} → Reading S → S → List ℕ → List Event
+piece_events {S} reading state [] = []
+piece_events {S} reading state (byte ∷ rest) =
+    reading.says state byte ++ piece_events reading (reading.next state byte) rest
+
+abbrev pub after_piece : {S : Type 0} → Reading S → S → List ℕ → S
+after_piece {S} reading state [] = state
+after_piece {S} reading state (byte ∷ rest) = after_piece reading (reading.next state byte) rest
+
+-- all bytes, up to where they go
+abbrev pub samples_events : {S : Type 0} → Reading S → S → List ℕ → List Event
+samples_events {S} reading state bytes =
+    piece_events reading state bytes ++ At (reading.now (after_piece reading state bytes)) ∷ []
+
+-- that the levels hold up to a tick says nothing where they hold up to a later one: a reader says it where a piece ends
+abbrev pub begins_later : List Event → Bool
+begins_later [] = false
+begins_later (At tick ∷ rest) = true
+begins_later (High wire ∷ rest) = false
+begins_later (Low wire ∷ rest) = false
+begins_later (Ticks scale ∷ rest) = false
+
+abbrev pub without_waits : List Event → List Event
+without_waits [] = []
+without_waits (At tick ∷ rest) = if begins_later rest then without_waits rest else At tick ∷ without_waits rest
+without_waits (High wire ∷ rest) = High wire ∷ without_waits rest
+without_waits (Low wire ∷ rest) = Low wire ∷ without_waits rest
+without_waits (Ticks scale ∷ rest) = Ticks scale ∷ without_waits rest
+
+abbrev pub SayTheSame : List Event → List Event → Type 0
+SayTheSame events others = without_waits events ≡ without_waits others
+
+-- further bytes say these events
+abbrev pub SamplesSay : {S : Type 0} → Reading S → S → List ℕ → List Event → Type 0
+SamplesSay {S} reading state bytes events = SayTheSame events (samples_events reading state bytes)
