@@ -6,7 +6,8 @@ const { is } = require('./checks.js');
 const { seeded } = require('./seeds.js');
 
 const MOST_NOISE = 277;
-const FILLED_AT = 128;
+const EAR_BYTES = 736;
+const FILLED_AT = 568;
 const NO_EAR = 21;
 const NOT_BEGUN = 3;
 
@@ -43,13 +44,13 @@ function tryRoom(module, samples, wanted) {
 }
 
 function tryNoEar(module, name) {
-  const bytes = new Uint8Array(module.ear + 296 - module.samples).map((_, i) => i * 7);
+  const bytes = new Uint8Array(module.ear + EAR_BYTES - module.samples).map((_, i) => i * 7);
   module.bytes.set(bytes, module.samples);
   module.view.setUint32(module.ear + FILLED_AT, 80, true);
-  const before = module.bytes.slice(module.heard, module.ear + 296);
+  const before = module.bytes.slice(module.heard, module.ear + EAR_BYTES);
   const statuses = [hearAt(module, 16000, 4), module.calls.mfweb_heard(BigInt(module.ear), BigInt(module.heard))];
   is(`what is no ear is refused, by ${name}`, statuses, [NO_EAR, NO_EAR]);
-  const after = module.bytes.slice(module.heard, module.ear + 296);
+  const after = module.bytes.slice(module.heard, module.ear + EAR_BYTES);
   is('and nothing has changed', Buffer.compare(Buffer.from(before), Buffer.from(after)), 0);
 }
 
