@@ -1,15 +1,14 @@
 -- What is written of the bytes of a sound.
-use Rattle.std.proofs.Common.{◌≡◌, ◌∙◌, ℕ, List, Option, Some, None, Result, Ok, Err, inl, inr, ap, refl, subst, sym, option_map}
+use Rattle.std.proofs.Common.{◌≡◌, ℕ, List, Option, Some, None, Result, Ok, Err, inl, inr, ap, subst, option_map}
 use Rattle.std.proofs.KnownBytes.{Keeps-refl}
 use Rattle.xb_rx.specs.declared.fault.RxFault.{RxFault}
 use Rattle.xb_rx.specs.declared.fault.RxFault.TheVariants as fault
-use Rattle.xb_rx.specs.declared.request.Input.{Input}
 use Rattle.xb_rx.specs.declared.request.Request.{Request}
 use Rattle.xb_rx.specs.declared.wav_start.OpenFault.{OpenFault}
 use Rattle.xb_rx.specs.declared.wav_start.OpenFault.TheVariants as open_fault
 use Rattle.xb_rx.specs.declared.wav_start.Start.{Start}
 use Rattle.xb_rx.specs.Faults.{of_open}
-use Rattle.xb_rx.specs.Hearing.{Delivers, Hears, Outputs, WroteNothing, outputs, sound_after, sound_by, start_by}
+use Rattle.xb_rx.specs.Hearing.{Delivers, Hears, Outputs, outputs, sound_after, sound_by, start_by}
 use Rattle.xb_rx.specs.Pages.{fresh_page}
 use Rattle.xb_rx.specs.Samples.{Sound, sound_of}
 use Rattle.xb_rx.specs.Starts.{Opens}

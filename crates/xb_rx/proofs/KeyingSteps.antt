@@ -1,12 +1,12 @@
 -- What one key more makes of a keying that goes on.
-use Rattle.std.proofs.Common.{◌≡◌, ◌∙◌, ℕ, zero, suc, ◌+◌, ◌≤◌, ◌<◌, Bool, true, false, cond, ◌&&◌, List, [], ◌∷◌, ◌++◌, length, map, Option, Some, None, is_some, le-leb, sym, ap, ap₂, refl, arith, append_assoc, append-nil, add-one}
-use Rattle.std.specs.Prelude.{if◌then◌else◌, nat_le}
-use Rattle.std.specs.List.{AllByRecursion, flat_map}
+use Rattle.std.proofs.Common.{◌≡◌, ◌∙◌, ℕ, zero, suc, ◌≤◌, ◌<◌, Bool, true, false, List, [], ◌∷◌, ◌++◌, length, Option, Some, None, sym, ap, refl, arith, append_assoc, append-nil}
+use Rattle.std.specs.Prelude.{if◌then◌else◌}
+use Rattle.std.specs.List.{AllByRecursion}
 use Rattle.std.proofs.lemmas.Bool.{cond-true, cond-false}
 use Rattle.xb_ear.specs.declared.hearing.Heard.{Heard}
 use Rattle.xb_rx.specs.declared.keys.TheConstants.{MOST_DIGITS}
 use Rattle.xb_rx.specs.Keyings.{before_digits, digit_of, digits_in, digits_to_st, is_kp, is_st, keying_at, keyings, listed_digit, loose_after, loose_by, loose_keys, one_more}
-use Rattle.xb_rx.specs.Begun.{IsDigit, broken, kept_after}
+use Rattle.xb_rx.specs.Begun.{IsDigit, kept_after}
 use Rattle.xb_rx.proofs.KeyPairs.{digit-no-kp, digit-no-st, st-no-kp}
 
 abbrev pub AreDigits : List Heard → Type 0

@@ -1,9 +1,9 @@
 -- The next sample that bytes write, and the sound after it.
-use Rattle.std.proofs.Common.{◌≡◌, ◌∙◌, ℕ, zero, suc, ◌+◌, ◌-◌, ◌*◌, ◌/◌, ◌%◌, ◌<◌, ◌≤◌, Bool, true, false, List, [], ◌∷◌, length, drop, min, sym, ap, ap₂, refl, arith, length-drop, suc-mul, ℤ}
+use Rattle.std.proofs.Common.{◌≡◌, ◌∙◌, ℕ, suc, ◌+◌, ◌-◌, ◌*◌, ◌/◌, ◌%◌, ◌<◌, ◌≤◌, Bool, true, false, List, [], ◌∷◌, length, drop, min, sym, ap, ap₂, arith, length-drop, suc-mul}
 use Rattle.std.specs.Prelude.{if◌then◌else◌}
 use Rattle.std.proofs.lemmas.Nat.{div-mul-add, div-add-mod', div_below, mod_below}
 use Rattle.xb_rx.specs.declared.coding.Form.{Form}
-use Rattle.xb_rx.specs.Samples.{Sound, group_bytes, mean_sample, samples_of, sound_of, sound_with, whole_samples}
+use Rattle.xb_rx.specs.Samples.{group_bytes, mean_sample, samples_of, sound_of, sound_with, whole_samples}
 
 -- a group less
 whole-less : (n g : ℕ) → 0 < g → g ≤ n → n / g ≡ suc ((n - g) / g)

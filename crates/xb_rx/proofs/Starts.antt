@@ -1,5 +1,5 @@
 -- What the first bytes of a file and of its chunks say.
-use Rattle.std.proofs.Common.{◌≡◌, ◌∙◌, ℕ, suc, ◌+◌, ◌-◌, ◌<◌, ◌≤◌, true, false, List, [], ◌∷◌, ◌++◌, length, take, drop, Option, Some, None, Result, Ok, Err, sym, ap, ap₂, refl, arith, le-ltb, lt-ltb, length-append, length-drop, subst, IfSome}
+use Rattle.std.proofs.Common.{◌≡◌, ◌∙◌, ℕ, suc, ◌+◌, ◌-◌, ◌<◌, ◌≤◌, true, false, List, ◌++◌, length, take, drop, Option, Some, None, Result, Ok, Err, sym, ap, ap₂, refl, arith, le-ltb, lt-ltb, length-append, subst}
 use Rattle.std.specs.Prelude.{nat_lt}
 use Rattle.std.proofs.Math.Seq.{take-append_seam, drop-append_seam}
 use Rattle.std.proofs.lemmas.Bool.{cond-true, cond-false}
@@ -13,7 +13,7 @@ use Rattle.xb_rx.specs.declared.wav_start.Start.{Start}
 use Rattle.xb_rx.specs.declared.wav_start.WavFault.{WavFault}
 use Rattle.xb_rx.specs.declared.wav_start.WavFault.TheVariants as fault
 use Rattle.xb_rx.specs.declared.wav_start.TheConstants.{MOST_CHUNKS}
-use Rattle.xb_rx.specs.Starts.{Opens, chunk_by, chunk_in, form_and, form_in, form_of, format_in, is_riff, long_at, padded, start_by, start_in, start_of, start_of_file, start_with}
+use Rattle.xb_rx.specs.Starts.{Opens, chunk_by, chunk_in, form_and, form_of, format_in, is_riff, long_at, padded, start_by, start_in, start_of, start_of_file, start_with}
 use Rattle.xb_rx.specs.Streams.{FillsUp, Skips}
 use Rattle.xb_rx.proofs.Walks.{Walks, filled, skipped, walks-open, walks-trans}
 

@@ -2,7 +2,6 @@
 use Rattle.std.proofs.Common.{◌≡◌, ◌∙◌, ℕ, ◌<◌, ◌≤◌, List, [], ◌++◌, length, take, drop, Option, Some, None, Result, Ok, Err, ap, refl, sym, arith, append-nil}
 use Rattle.std.specs.Prelude.{unwrap_or}
 use Rattle.std.proofs.lemmas.List.{length-take, take_all}
-use Rattle.std.specs.Io.KnownBytes.{Consumes}
 use Rattle.xb_rx.specs.declared.wav_start.OpenFault.{OpenFault}
 use Rattle.xb_rx.specs.declared.wav_start.OpenFault.TheVariants as open_fault
 use Rattle.xb_rx.specs.declared.wav_start.WavFault.{WavFault}

@@ -1,10 +1,10 @@
 -- What is written of a key, and what is then still to be written.
-use Rattle.std.proofs.Common.{◌≡◌, ◌∙◌, ℕ, zero, suc, ◌+◌, ◌≤◌, ◌<◌, Bool, true, false, cond, ◌&&◌, List, [], ◌∷◌, ◌++◌, length, map, Option, Some, None, is_some, le-leb, leb-true, Result, Ok, Err, length-append, sym, ap, refl, arith, append_assoc, append-nil, add-one, drop, subst, take}
+use Rattle.std.proofs.Common.{◌≡◌, ◌∙◌, ℕ, suc, ◌+◌, ◌≤◌, ◌<◌, Bool, true, false, ◌&&◌, List, [], ◌∷◌, ◌++◌, length, map, Option, Some, None, is_some, le-leb, leb-true, Result, Ok, Err, length-append, sym, ap, refl, arith, append_assoc, append-nil, drop, subst}
 use Rattle.std.specs.Prelude.{IfErr, OnOk, if◌then◌else◌, is_err, nat_le}
 use Rattle.std.specs.Io.KnownBytes.{Appends}
-use Rattle.std.specs.List.{AllByRecursion, flat_map}
+use Rattle.std.specs.List.{AllByRecursion}
 use Rattle.std.proofs.KnownBytes.{Appends-nil}
-use Rattle.std.proofs.lemmas.Bool.{cond-true, cond-false}
+use Rattle.std.proofs.lemmas.Bool.{cond-false}
 use Rattle.xb_model.specs.Keyings.{keying}
 use Rattle.xb_model.specs.Page.{entries_text, entry_text, totals_text}
 use Rattle.xb_text.specs.Writing.{AppendsBeginning}
@@ -13,7 +13,6 @@ use Rattle.xb_text.specs.declared.writing.WriteFault.{WriteFault}
 use Rattle.xb_text.proofs.Beginnings.{AppendsBeginning-first}
 use Rattle.xb_ear.specs.declared.hearing.Heard.{Heard}
 use Rattle.xb_rx.specs.declared.keys.TheConstants.{MOST_DIGITS}
-use Rattle.xb_rx.specs.declared.page.Step.{Step}
 use Rattle.xb_rx.specs.declared.page.Step.TheVariants as steps
 use Rattle.xb_rx.specs.declared.page.PageFault.{PageFault}
 use Rattle.xb_rx.specs.Keyings.{digit_of, digits_in, is_kp, is_st, keyings, loose_after, loose_keys}

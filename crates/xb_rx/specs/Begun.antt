@@ -1,5 +1,5 @@
 -- A keying that goes on, and what one key more makes of it.
-use Rattle.std.specs.Prelude.{ℕ, ◌≡◌, ◌+◌, ◌≤◌, ◌&&◌, List, [], ◌∷◌, ◌++◌, length, Bool, true, if◌then◌else◌, Option, Some, is_some, nat_le}
+use Rattle.std.specs.Prelude.{ℕ, ◌≡◌, ◌+◌, ◌≤◌, ◌&&◌, List, [], ◌∷◌, ◌++◌, length, true, if◌then◌else◌, Some, is_some, nat_le}
 use Rattle.std.specs.List.{AllByRecursion}
 use Rattle.xb_ear.specs.declared.hearing.Heard.{Heard}
 use Rattle.xb_rx.specs.declared.keys.TheConstants.{MOST_DIGITS}

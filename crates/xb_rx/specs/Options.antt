@@ -1,5 +1,5 @@
 -- What the words of the command line ask for, as clap reads them.
-use Rattle.std.specs.Prelude.{ℕ, ◌||◌, List, Bool, true, false, if◌then◌else◌, Option, Some, None, codes, is_some, nat_lt, option_and_then, option_map, unwrap_or}
+use Rattle.std.specs.Prelude.{ℕ, ◌||◌, List, Bool, if◌then◌else◌, Option, Some, None, codes, is_some, nat_lt, option_and_then, option_map, unwrap_or}
 use Rattle.clap.specs.Walk.{Row, Text}
 use Rattle.xb_command.specs.Given.{AskForNothing, AsksFor, ReadsFlag, ReadsNumber, given_by}
 use Rattle.xb_model.specs.declared.line.TheConstants.{LINES}

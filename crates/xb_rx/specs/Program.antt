@@ -1,5 +1,5 @@
 -- What the program did, by its status.
-use Rattle.std.specs.Prelude.{ℕ, ◌≡◌, ◌++◌, List, codes, true, None, Option, Err, Ok}
+use Rattle.std.specs.Prelude.{ℕ, ◌≡◌, List, codes, true, None, Option, Err, Ok}
 use Rattle.std.specs.List.{list_all}
 use Rattle.clap.specs.Walk.{Text}
 use Rattle.xb_command.specs.Programs.{Attends, Streams}

@@ -1,5 +1,5 @@
 -- The samples that bytes write, 8,000 of them a second.
-use Rattle.std.specs.Prelude.{ℕ, zero, suc, ◌+◌, ◌-◌, ◌*◌, ◌/◌, ◌≤◌, ◌<◌, List, [], ◌∷◌, drop, length, min, slice_index_or, ℤ, pos, ◌+ℤ◌, ◌-ℤ◌, ◌*ℤ◌, unsigned_abs, Bool, if◌then◌else◌}
+use Rattle.std.specs.Prelude.{ℕ, zero, suc, ◌+◌, ◌-◌, ◌*◌, ◌/◌, ◌≤◌, List, [], ◌∷◌, drop, length, min, slice_index_or, ℤ, pos, ◌+ℤ◌, ◌-ℤ◌, ◌*ℤ◌, unsigned_abs, Bool, if◌then◌else◌}
 use Rattle.xb_tone.specs.ReadWavs.{sample_of}
 use Rattle.xb_ear.specs.MuLaw.{mu_law_sample}
 use Rattle.xb_rx.specs.declared.coding.Coding.{Coding}

@@ -1,5 +1,5 @@
 -- What stands before the samples of a WAV file (RIFF, WAVE).
-use Rattle.std.specs.Prelude.{ℕ, zero, suc, ◌≡◌, ◌+◌, ◌*◌, ◌/◌, ◌%◌, ◌^◌, ◌==◌, ◌&&◌, List, [], ◌∷◌, drop, length, take, codes, bytes_eq, nat_lt, Bool, true, false, if◌then◌else◌, Option, Some, None, slice_index_or, Result, Ok, Err}
+use Rattle.std.specs.Prelude.{ℕ, zero, suc, ◌≡◌, ◌+◌, ◌*◌, ◌/◌, ◌%◌, ◌==◌, ◌&&◌, List, [], ◌∷◌, drop, length, take, codes, bytes_eq, nat_lt, Bool, true, false, if◌then◌else◌, Option, Some, None, slice_index_or, Result, Ok, Err}
 use Rattle.std.specs.Int.{from_le_bytes, w16, w32}
 use Rattle.xb_rx.specs.declared.coding.Coding.{Coding}
 use Rattle.xb_rx.specs.declared.coding.Coding.TheVariants as coding

@@ -10,7 +10,7 @@ use Rattle.xb_rx.specs.Hearing.{Hears, outputs}
 use Rattle.xb_rx.specs.Pages.{paged}
 use Rattle.xb_rx.specs.Samples.{IsForm}
 use Rattle.xb_rx.specs.Streams.{sound_left}
-use Rattle.xb_rx.proofs.SoFar.{so_far-end-fault, so_far-fault, so_far-more, so_far-stop}
+use Rattle.xb_rx.proofs.SoFar.{so_far-end, so_far-end-fault, so_far-fault, so_far-more, so_far-start, so_far-stop}
 use Rattle.xb_rx.proofs.receiving.hear.Goals as goal
 
 -- the sample as it is passed is the sample
@@ -19,6 +19,14 @@ taken : (old new : Receiving) (x y : ℤ) (key : Option Heard) → x ≡ y
     → (samples : List ℤ) (keys : List Heard) → HasReceived old samples keys → HasReceived new (samples ++ y ∷ []) (keys ++ listed key)
 taken old new x y key same takes samples keys has =
     subst (λ (z : ℤ). HasReceived new (samples ++ z ∷ []) (keys ++ listed key)) same (takes samples keys has)
+
+pub loop-sample-init : goal.loop-sample-init
+loop-sample-init g c = record {
+  form = c.requires.form;
+  begun = c.requires.begun;
+  few = omega (arith, c.requires.none, c.requires.said);
+  so_far = so_far-start (paged c.args.page.now) c.new-receiver.result (sound_left g.R.Read.remaining c.args.source.now) (g.W.Write.contents c.args.out.now) (g.E.Write.contents c.args.err.now) c.new-receiver.ensures;
+}
 
 pub returns-in_err-sample : goal.returns-in_err-sample
 returns-in_err-sample g c =
@@ -71,3 +79,11 @@ returns-in_err-end g c =
     (sound_left g.R.Read.remaining c.args.source.now) (sound_left g.R.Read.remaining c.loop-sample.source)
     (sound_left g.R.Read.remaining c.next_sample.new.self) _ _ c.loop-sample.invariant.so_far (rw c.in_default.is at c.in_ok-sample.ensures.sample)
     c.finish-last.ensures c.in_err-end.ensures.page c.in_err-end.ensures.loose)
+
+pub returns : goal.returns
+returns g c =
+    so_far-end (paged c.args.page.now) (paged c.loop-sample.page) c.loop-sample.receiver (g.W.Write.contents c.args.out.now) (g.W.Write.contents c.loop-sample.out) (g.E.Write.contents c.args.err.now)
+    (g.E.Write.contents c.loop-sample.err) c.finish-last.result
+    (sound_left g.R.Read.remaining c.args.source.now) (sound_left g.R.Read.remaining c.loop-sample.source)
+    (sound_left g.R.Read.remaining c.next_sample.new.self) _ _ c.loop-sample.invariant.so_far (rw c.in_default.is at c.in_ok-sample.ensures.sample)
+    c.finish-last.ensures c.in_ok-end.ensures.page c.in_ok-end.ensures.loose

@@ -1,4 +1,4 @@
-use Rattle.std.proofs.Common.{ℕ, arith, length-drop}
+use Rattle.std.proofs.Common.{ℕ, arith}
 use Rattle.std.proofs.lemmas.List.{length-take}
 use Rattle.xb_rx.proofs.Skipping.{skips-more, skips-to-end}
 use Rattle.xb_rx.proofs.source.skip.Goals as goal
