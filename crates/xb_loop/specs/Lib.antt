@@ -1,10 +1,8 @@
 pub mod RowsOfHolds
 pub mod HeardLaws
 pub mod TapeLaws
-pub mod Tallies
 pub mod Contacts
 pub mod Watching
-pub mod Told
 pub mod Watches
 pub mod Feeding
 pub mod Rules

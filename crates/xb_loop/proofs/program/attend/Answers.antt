@@ -1,4 +1,4 @@
-use Rattle.std.proofs.Common.{List, ap, subst, ◌∙◌, arith, string_bytes}
+use Rattle.std.proofs.Common.{List, ap, subst, ◌∙◌, arith}
 use Rattle.std.proofs.KnownBytes.{Keeps-refl}
 use Rattle.clap.specs.Walk.{Text}
 use Rattle.xb_command.specs.Commands.{texts_of}
@@ -16,9 +16,7 @@ returns-in-Ok-run g c =
       done = λ e. record {
         request = request;
         asks = subst P (ap (λ words. texts_of words) c.deref.ensures.value ∙ c.in-Ok.ensures) c.in-Ok-request_of_words.ensures;
-        told = string_bytes c.in-Ok-run.said;
         rows = c.in-Ok-run.ensures;
-        errors = c.write_whole.ensures.beginning;
       };
       fault = λ e. absurd (omega (arith, e));
       refused = λ e. absurd (omega (arith, e));
