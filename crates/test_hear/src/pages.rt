@@ -82,7 +82,6 @@ line 0010, attempt 1 from 0.000 s, record 34: REFUSED MUTILATED 0
 const PAGES: &[(&[&str], &[(&str, &str)])] = &[
     (&[], &[SEVEN, EIGHT, TEN]),
     (&["--line", "8"], &[EIGHT]),
-    (&["--line", "9"], &[("0009", "")]),
 ];
 
 // What the program writes of the deck for words and one more.

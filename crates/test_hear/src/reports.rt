@@ -40,6 +40,31 @@ const TEN: &str = "\nline 0010, attempt 1 from 0.000 s, record 34: REFUSED MUTIL
   the record ends
 ";
 
+const SEVEN_OBJECT: &str = "{\"attempt\":1,\
+\"begins\":{\"from_ms\":700,\"ms\":400,\"record\":4,\"text_line\":11},\
+\"digits\":[{\"breaks_ms\":{\"least\":60,\"most\":60},\"digit\":0,\"fault\":null,\
+\"makes_ms\":{\"least\":15,\"most\":40},\"open_permille\":617,\"pause_ms\":20000,\
+\"periods\":{\"count\":9,\"ms\":875,\"open_ms\":540},\"pulses\":10,\"speed_tenths\":103,\"taken\":true}],\
+\"end\":{\"released\":null,\
+\"timeout\":{\"from_ms\":2035,\"ms\":20000,\"record\":24,\"text_line\":31},\
+\"unfinished\":null,\"unfinished_pulses\":0},\
+\"heard\":1,\"line\":7,\"number\":\"0\",\"outcome\":\"NUMBER\",\"reason\":null}
+";
+
+const EIGHT_OBJECTS: &str = "{\"attempt\":1,\
+\"begins\":{\"from_ms\":0,\"ms\":500,\"record\":2,\"text_line\":9},\
+\"digits\":[{\"breaks_ms\":{\"least\":60,\"most\":91},\"digit\":null,\
+\"fault\":{\"from_ms\":590,\"kind\":\"LONG_BREAK\",\"limit\":90,\"ms\":91,\"record\":27,\"text_line\":34},\
+\"makes_ms\":{\"least\":30,\"most\":30},\"open_permille\":667,\"pause_ms\":200,\
+\"periods\":{\"count\":1,\"ms\":90,\"open_ms\":60},\"pulses\":2,\"speed_tenths\":111,\"taken\":true}],\
+\"end\":{\"released\":{\"from_ms\":961,\"ms\":300,\"record\":31,\"text_line\":38},\"timeout\":null,\
+\"unfinished\":{\"from_ms\":881,\"ms\":60,\"record\":29,\"text_line\":36},\"unfinished_pulses\":1},\
+\"heard\":0,\"line\":8,\"number\":null,\"outcome\":\"REFUSED\",\"reason\":\"MUTILATED\"}
+{\"attempt\":2,\"begins\":{\"from_ms\":1261,\"ms\":1,\"record\":33,\"text_line\":40},\"digits\":[],\
+\"end\":{\"released\":null,\"timeout\":null,\"unfinished\":null,\"unfinished_pulses\":0},\
+\"heard\":0,\"line\":8,\"number\":null,\"outcome\":\"REFUSED\",\"reason\":\"ABANDONED\"}
+";
+
 // A deck whose figures are as wide as its limits let them be: line 1 waits twelve days after a digit, and the breaks
 // and makes of line 3 last up to 1,000 s.
 const WIDE: &[u8] =
@@ -64,22 +89,14 @@ line 0003, attempt 1 from 0.000 s, record 1: REFUSED ABANDONED 1
   the record ends
 ";
 
-// A deck, the words after the program's name, and the parts of the report.
+// A deck, the words after the program's name, and the parts of the report or its objects.
 const REPORTS: &[(&[u8], &[&str], &[&str])] = &[
     (DECK, &[], &[LIMITS, SEVEN, EIGHT, TEN]),
     (DECK, &["--line", "7"], &[LIMITS, SEVEN]),
     (DECK, &["--line=8"], &[LIMITS, EIGHT]),
-    (
-        DECK,
-        &["--line", "9"],
-        &[LIMITS, "\nline 9 has no attempt\n"],
-    ),
-    (
-        DECK,
-        &["--line", "9999"],
-        &[LIMITS, "\nline 9999 has no attempt\n"],
-    ),
     (WIDE, &[], &[OF_WIDE]),
+    (DECK, &["--json", "--line", "7"], &[SEVEN_OBJECT]),
+    (DECK, &["--line=8", "--json"], &[EIGHT_OBJECTS]),
 ];
 
 #[test]

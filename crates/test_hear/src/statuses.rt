@@ -26,7 +26,10 @@ impl Program for Mfhear {
     }
 }
 
-const USAGE: &[u8] = b"mfhear: usage: mfhear [--line N] [--html] [--svg [--attempt K]]\n";
+const USAGE: &[u8] = b"mfhear: usage: mfhear [--line N] [--html] [--json] [--svg [--attempt K]]\n";
+
+// Of a line with a break alone.
+const NINE: &[u8] = b"mfhear: line 9 has no attempt\n";
 
 // The words after the program's name, the deck, the status, and what stands on standard error; nothing is
 // written.
@@ -57,8 +60,20 @@ const CASES: &[(&[&str], &[u8], u8, &[u8])] = &[
         1,
         b"mfhear: the line has no attempt 3\n",
     ),
+    (&["--line", "9"], DECK, 1, NINE),
+    (&["--line", "9", "--html"], DECK, 1, NINE),
+    (&["--line", "9", "--json"], DECK, 1, NINE),
+    (&["--line", "9", "--svg"], DECK, 1, NINE),
+    (
+        &["--line", "9999", "--svg", "--attempt", "1"],
+        DECK,
+        1,
+        b"mfhear: line 9999 has no attempt\n",
+    ),
     (&["--svg"], DECK, 2, USAGE),
     (&["--line", "8", "--html", "--svg"], DECK, 2, USAGE),
+    (&["--line", "8", "--json", "--svg"], DECK, 2, USAGE),
+    (&["--html", "--json"], DECK, 2, USAGE),
     (&["--line", "8", "--html", "--attempt", "1"], DECK, 2, USAGE),
     (&["--line", "8", "--attempt", "1"], DECK, 2, USAGE),
     (&["--line", "8", "--svg", "--attempt", "0"], DECK, 2, USAGE),

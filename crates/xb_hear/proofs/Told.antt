@@ -1,5 +1,5 @@
 -- What is told of lines, one after the other.
-use Rattle.std.proofs.Common.{◌≡◌, ◌||◌, ℕ, zero, suc, ◌+◌, List, [], ◌++◌, ◌∙◌, Bool, true, false, add-one, ap, ap₂, append_assoc, append-nil, length, nat_lt, refl, subst, sym}
+use Rattle.std.proofs.Common.{◌≡◌, ℕ, zero, suc, ◌+◌, List, [], ◌++◌, ◌∙◌, add-one, ap, ap₂, append_assoc, append-nil, Option, refl, subst, sym}
 use Rattle.xb_model.specs.declared.line.TheConstants.{LINES}
 use Rattle.xb_model.specs.declared.limits.Limits.{Limits}
 use Rattle.xb_model.specs.Rows.{LoopRow}
@@ -11,28 +11,16 @@ use Rattle.xb_hear.specs.declared.request.Choice.{Choice}
 use Rattle.xb_hear.specs.declared.request.Choice.TheVariants as choice
 use Rattle.xb_hear.specs.declared.request.Form.{Form}
 use Rattle.xb_hear.specs.declared.request.Form.TheVariants as form
-use Rattle.xb_hear.specs.Hearing.{attempts_of_line, line_text, lines_below, report_text, reports_text, told_text}
-use Rattle.xb_hear.specs.Telling.{Adds, AreOfLines, IsOfLine, IsOfLinesBelow, IsPage, IsSection, IsSectionIf, IsTold}
-
--- a section that is shown
-pub if-shown : (b : Bool) (L : Limits) (l : ℕ) (A : List AttemptOfRuns) (o n : List ℕ) → b ≡ true
-    → Adds (IsSection L l A) o n → Adds (IsSectionIf b L l A) o n
-if-shown b L l A o n shown put = subst (λ x. Adds (IsSectionIf x L l A) o n) (sym shown) put
-
--- nothing is put
-pub if-hidden : (b : Bool) (L : Limits) (l : ℕ) (A : List AttemptOfRuns) (o : List ℕ) → b ≡ false
-    → Adds (IsSectionIf b L l A) o o
-if-hidden b L l A o hidden =
-    let nothing : Adds (IsSectionIf false L l A) o o = record { text = []; is = refl; put = sym (append-nil o) } in
-    subst (λ x. Adds (IsSectionIf x L l A) o o) (sym hidden) nothing
+use Rattle.xb_hear.specs.Hearing.{attempts_of_line, lines_below, report_text, reports_text}
+use Rattle.xb_hear.specs.Telling.{Adds, AreOfLines, IsOfLine, IsOfLinesBelow, IsPage, IsTold}
 
 -- what is told of the attempts of a line is told of the line
-pub of-line : (asked : Form) (alone : Bool) (T : Table) (R : List LoopRow) (l : ℕ) (L : Limits) (A : List AttemptOfRuns) (o n : List ℕ)
+pub of-line : (asked : Form) (T : Table) (R : List LoopRow) (l : ℕ) (L : Limits) (A : List AttemptOfRuns) (o n : List ℕ)
     → L ≡ T.limits → A ≡ attempts_of_line T R l
-    → Adds (IsTold asked alone L l A) o n → Adds (IsOfLine asked alone T R l) o n
-of-line asked alone T R l L A o n limits attempts put =
-    let here = subst (λ X. Adds (IsTold asked alone L l X) o n) attempts put in
-    subst (λ X. Adds (IsTold asked alone X l (attempts_of_line T R l)) o n) limits here
+    → Adds (IsTold asked L l A) o n → Adds (IsOfLine asked T R l) o n
+of-line asked T R l L A o n limits attempts put =
+    let here = subst (λ X. Adds (IsTold asked L l X) o n) attempts put in
+    subst (λ X. Adds (IsTold asked X l (attempts_of_line T R l)) o n) limits here
 
 -- before the first line
 pub lines-start : (asked : Form) (o : List ℕ) (T : Table) (R : List LoopRow) → Adds (IsOfLinesBelow asked T R 0) o o
@@ -41,7 +29,7 @@ lines-start asked o T R = record { text = []; is = refl; put = sym (append-nil o
 
 -- one line more
 pub lines-more : (asked : Form) (o p q : List ℕ) (T : Table) (R : List LoopRow) (n l : ℕ) → Adds (IsOfLinesBelow asked T R n) o p
-    → Adds (IsOfLine asked false T R l) p q → l ≡ n → Adds (IsOfLinesBelow asked T R (n + 1)) o q
+    → Adds (IsOfLine asked T R l) p q → l ≡ n → Adds (IsOfLinesBelow asked T R (n + 1)) o q
 unfolding IsOfLinesBelow
 lines-more asked o p q T R n l so_far put is =
     let front = so_far.text in
@@ -49,7 +37,7 @@ lines-more asked o p q T R n l so_far put is =
     subst (λ k. Adds (IsOfLinesBelow asked T R k) o q) (sym (add-one n))
     (record {
       text = front ++ last;
-      is = (front, last, so_far.is, subst (λ k. IsOfLine asked false T R k last) is put.is, refl);
+      is = (front, last, so_far.is, subst (λ k. IsOfLine asked T R k last) is put.is, refl);
       put = put.put ∙ ap (λ t. t ++ last) so_far.put ∙ append_assoc o front last;
     })
 
@@ -87,3 +75,9 @@ page-is asked T R o p q head put tail =
       of_lines = put.is;
       is = parts (head_text T.limits) put.text tail_text o p q head put.put tail;
     }
+
+-- objects alone
+pub objects-are : (asked : Choice) (before : Option ℕ) (T : Table) (R : List LoopRow) (o p : List ℕ) → o ≡ []
+    → Adds (AreOfLines (form.Json before) asked T R) o p → AreOfLines (form.Json before) asked T R p
+objects-are asked before T R o p none put =
+    subst (AreOfLines (form.Json before) asked T R) (sym (put.put ∙ ap (λ front. front ++ put.text) none)) put.is

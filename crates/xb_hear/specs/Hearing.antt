@@ -1,7 +1,6 @@
 -- What was heard of the lines of a deck.
-use Rattle.std.specs.Prelude.{ℕ, zero, suc, ◌≡◌, ◌==◌, List, [], ◌++◌, codes, decimal, length, Bool, true, false, if◌then◌else◌}
+use Rattle.std.specs.Prelude.{ℕ, zero, suc, ◌≡◌, List, [], ◌++◌}
 use Rattle.xb_model.specs.declared.line.TheConstants.{LINES}
-use Rattle.xb_model.specs.declared.limits.Limits.{Limits}
 use Rattle.xb_model.specs.Numbers.{outcomes_of}
 use Rattle.xb_model.specs.Records.{record_of}
 use Rattle.xb_model.specs.Rows.{LoopRow}
@@ -11,15 +10,6 @@ use Rattle.xb_heard.specs.PlacedRuns.{placed_runs}
 use Rattle.xb_report.specs.ReportTexts.{attempts_from, limits_text}
 use Rattle.xb_hear.specs.declared.request.Choice.{Choice}
 use Rattle.xb_hear.specs.declared.request.Choice.TheVariants as choice
-
--- a line of which nothing was heard, which is said of one that is alone
-abbrev pub nothing_text : Bool → ℕ → List ℕ
-nothing_text alone line = if alone then codes "\nline " ++ decimal line ++ codes " has no attempt\n" else []
-
--- the attempts of a line, each with what came of it
-abbrev pub told_text : Bool → Limits → ℕ → List AttemptOfRuns → List ℕ
-told_text alone limits line attempts =
-    if length attempts == 0 then nothing_text alone line else attempts_from limits line 1 attempts
 
 -- the attempts of a line, each with what came of it
 abbrev pub attempts_of_line : Table → List LoopRow → ℕ → List AttemptOfRuns
@@ -31,17 +21,17 @@ AgreesWithPage table rows = (line : ℕ)
     → outcomes_told (attempts_of_line table rows line) ≡ outcomes_of table.plan table.limits (record_of line rows)
 
 -- what was heard of a line
-abbrev pub line_text : Bool → Table → List LoopRow → ℕ → List ℕ
-line_text alone table rows line = told_text alone table.limits line (attempts_of_line table rows line)
+abbrev pub line_text : Table → List LoopRow → ℕ → List ℕ
+line_text table rows line = attempts_from table.limits line 1 (attempts_of_line table rows line)
 
 -- the lines below n, ascending
 unfoldable pub lines_below : Table → List LoopRow → ℕ → List ℕ
 lines_below table rows zero = []
-lines_below table rows (suc n) = lines_below table rows n ++ line_text false table rows n
+lines_below table rows (suc n) = lines_below table rows n ++ line_text table rows n
 
 abbrev pub reports_text : Choice → Table → List LoopRow → List ℕ
 reports_text choice.All table rows = lines_below table rows LINES
-reports_text (choice.Line line) table rows = line_text true table rows line
+reports_text (choice.Line line) table rows = line_text table rows line
 
 -- the report of a table and of rows: the limits, and what was heard of the lines that are asked for
 unfoldable pub report_text : Choice → Table → List LoopRow → List ℕ

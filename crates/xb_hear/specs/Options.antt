@@ -12,11 +12,11 @@ use Rattle.xb_hear.specs.declared.request.Request.{Request}
 use Rattle.xb_hear.specs.declared.request.Request.TheVariants as request
 use Rattle.xb_hear.specs.declared.words.Options.{Options}
 
--- `mfhear [--line N] [--html] [--svg [--attempt K]]`
+-- `mfhear [--line N] [--html] [--json] [--svg [--attempt K]]`
 abbrev pub command_of_words : App
 command_of_words = command_of (codes "mfhear")
     ((codes "line", takes.Number) ∷ (codes "attempt", takes.Number) ∷ (codes "svg", takes.Nothing)
-    ∷ (codes "html", takes.Nothing) ∷ [])
+    ∷ (codes "html", takes.Nothing) ∷ (codes "json", takes.Nothing) ∷ [])
 
 -- what clap matched says these options
 pub record Say (rows : List Row) (options : Options) : Type 0 where
@@ -24,6 +24,7 @@ pub record Say (rows : List Row) (options : Options) : Type 0 where
   pub attempt : ReadsNumber (given_by rows (codes "attempt")) options.attempt
   pub svg : ReadsFlag (given_by rows (codes "svg")) options.svg
   pub html : ReadsFlag (given_by rows (codes "html")) options.html
+  pub json : ReadsFlag (given_by rows (codes "json")) options.json
 
 -- all lines, or the one that is named, if there is such a line
 abbrev pub choice_of : Option ℕ → Option Choice
@@ -47,21 +48,34 @@ abbrev pub page_of : Choice → Request
 page_of choice.All = request.Page
 page_of (choice.Line line) = request.PageOf line
 
--- the report or the page of lines
-abbrev pub written_of : Choice → Bool → Request
-written_of choice html = if html then page_of choice else text_of choice
+-- the objects of lines
+abbrev pub objects_of : Choice → Request
+objects_of choice.All = request.Objects
+objects_of (choice.Line line) = request.ObjectsOf line
 
--- of lines: a picture, or a report, or a page; an attempt is of a picture
-abbrev pub asked_of : Choice → Bool → Bool → Option ℕ → Option Request
-asked_of choice true true attempt = None
-asked_of choice true false attempt = picture_of choice attempt
-asked_of choice false html None = Some (written_of choice html)
-asked_of choice false html (Some attempt) = None
+-- the report, the page or the objects of lines
+abbrev pub written_of : Choice → Bool → Bool → Option Request
+written_of choice false false = Some (text_of choice)
+written_of choice true false = Some (page_of choice)
+written_of choice false true = Some (objects_of choice)
+written_of choice true true = None
+
+-- a picture of lines, and no page or objects
+abbrev pub drawn_of : Choice → Bool → Bool → Option ℕ → Option Request
+drawn_of choice false false attempt = picture_of choice attempt
+drawn_of choice true json attempt = None
+drawn_of choice false true attempt = None
+
+-- of lines: a picture, or a report, a page or objects; an attempt is of a picture
+abbrev pub asked_of : Choice → Bool → Bool → Bool → Option ℕ → Option Request
+asked_of choice true html json attempt = drawn_of choice html json attempt
+asked_of choice false html json None = written_of choice html json
+asked_of choice false html json (Some attempt) = None
 
 -- what the options ask for
 abbrev pub request_of : Options → Option Request
 request_of options =
-    option_and_then (λ choice. asked_of choice options.svg options.html options.attempt)
+    option_and_then (λ choice. asked_of choice options.svg options.html options.json options.attempt)
     (choice_of options.line)
 
 -- clap takes the words, and they ask for this

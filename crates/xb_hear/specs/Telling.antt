@@ -1,17 +1,19 @@
--- What is told of the lines of a deck, as a text or as a page.
-use Rattle.std.specs.Prelude.{ℕ, zero, suc, ◌≡◌, ◌||◌, List, [], ◌++◌, Bool, true, false, length, nat_lt, None}
+-- What is told of the lines of a deck, as a text, as a page or as JSON.
+use Rattle.std.specs.Prelude.{ℕ, zero, suc, ◌≡◌, List, [], ◌∷◌, ◌++◌, None}
 use Rattle.xb_model.specs.declared.line.TheConstants.{LINES}
 use Rattle.xb_model.specs.declared.limits.Limits.{Limits}
 use Rattle.xb_model.specs.Rows.{LoopRow}
 use Rattle.xb_routes.specs.Table.{Table}
 use Rattle.xb_heard.specs.Attempts.{AttemptOfRuns}
 use Rattle.xb_report.specs.Pages.{page_text, section_text}
+use Rattle.xb_report.specs.ReportTexts.{attempts_from}
 use Rattle.xb_picture.specs.Drawing.{IsPicture}
 use Rattle.xb_hear.specs.declared.request.Choice.{Choice}
 use Rattle.xb_hear.specs.declared.request.Choice.TheVariants as choice
 use Rattle.xb_hear.specs.declared.request.Form.{Form}
 use Rattle.xb_hear.specs.declared.request.Form.TheVariants as form
-use Rattle.xb_hear.specs.Hearing.{attempts_of_line, told_text}
+use Rattle.xb_hear.specs.Hearing.{attempts_of_line}
+use Rattle.xb_hear.specs.Objects.{objects_from}
 
 -- the section of a line: its attempts, each with what came of it, and its picture
 pub record IsSection (limits : Limits) (line : ℕ) (attempts : List AttemptOfRuns) (text : List ℕ) : Type 0 where
@@ -19,32 +21,31 @@ pub record IsSection (limits : Limits) (line : ℕ) (attempts : List AttemptOfRu
   pub drawn : IsPicture limits line None attempts picture
   pub is : text ≡ section_text limits line attempts picture
 
--- the same, or nothing
-abbrev pub IsSectionIf : Bool → Limits → ℕ → List AttemptOfRuns → List ℕ → Type 0
-IsSectionIf true limits line attempts text = IsSection limits line attempts text
-IsSectionIf false limits line attempts text = text ≡ []
+-- the same, or nothing of a line without attempts
+abbrev pub IsSectionIfAny : Limits → ℕ → List AttemptOfRuns → List ℕ → Type 0
+IsSectionIfAny limits line [] text = text ≡ []
+IsSectionIfAny limits line (attempt ∷ attempts) text = IsSection limits line (attempt ∷ attempts) text
 
--- what is told of a line with these attempts: a text, or a section if it has an attempt or is alone
-abbrev pub IsTold : Form → Bool → Limits → ℕ → List AttemptOfRuns → List ℕ → Type 0
-IsTold form.Text alone limits line attempts text = text ≡ told_text alone limits line attempts
-IsTold form.Html alone limits line attempts text =
-    IsSectionIf (alone || nat_lt 0 (length attempts)) limits line attempts text
+-- what is told of a line with these attempts: a text or an object for each, or its section
+abbrev pub IsTold : Form → Limits → ℕ → List AttemptOfRuns → List ℕ → Type 0
+IsTold form.Text limits line attempts text = text ≡ attempts_from limits line 1 attempts
+IsTold (form.Json before) limits line attempts text = text ≡ objects_from before limits line 1 attempts
+IsTold form.Html limits line attempts text = IsSectionIfAny limits line attempts text
 
-abbrev pub IsOfLine : Form → Bool → Table → List LoopRow → ℕ → List ℕ → Type 0
-IsOfLine asked alone table rows line text =
-    IsTold asked alone table.limits line (attempts_of_line table rows line) text
+abbrev pub IsOfLine : Form → Table → List LoopRow → ℕ → List ℕ → Type 0
+IsOfLine asked table rows line text = IsTold asked table.limits line (attempts_of_line table rows line) text
 
 -- what is told of the lines below n, ascending
 unfoldable pub IsOfLinesBelow : Form → Table → List LoopRow → ℕ → List ℕ → Type 0
 IsOfLinesBelow asked table rows zero text = text ≡ []
 IsOfLinesBelow asked table rows (suc n) text =
     (front : List ℕ) × (last : List ℕ) × IsOfLinesBelow asked table rows n front
-    × IsOfLine asked false table rows n last × (text ≡ front ++ last)
+    × IsOfLine asked table rows n last × (text ≡ front ++ last)
 
 -- what is told of the lines that are asked for
 abbrev pub AreOfLines : Form → Choice → Table → List LoopRow → List ℕ → Type 0
 AreOfLines asked choice.All table rows text = IsOfLinesBelow asked table rows LINES text
-AreOfLines asked (choice.Line line) table rows text = IsOfLine asked true table rows line text
+AreOfLines asked (choice.Line line) table rows text = IsOfLine asked table rows line text
 
 -- the page of a table and of rows: the limits, and the sections of the lines that are asked for
 pub record IsPage (asked : Choice) (table : Table) (rows : List LoopRow) (text : List ℕ) : Type 0 where

@@ -1,9 +1,11 @@
-// The lines of a deck, one after the other.
+// What is told of the lines of a deck.
 ghost use Rattle.std.specs.Prelude.{◌≡◌, ◌<◌, ◌^◌, IfOk, List, OnOk, length, string_bytes, true};
 ghost use Rattle.xb_heard.specs.PlacedRuns.{placed_runs};
 ghost use Rattle.xb_model.specs.Rows.{LoopRow};
 ghost use Rattle.xb_model.specs.declared.line.TheConstants.{LINES};
-ghost use Rattle.xb_hear.specs.Hearing.{report_text};
+ghost use Rattle.xb_hear.specs.Hearing.{attempts_of_line, report_text};
+ghost use Rattle.xb_picture.specs.Drawing.{IsPicture};
+ghost use Rattle.xb_hear.specs.declared.request.Form.TheVariants.{Json};
 ghost use Rattle.xb_hear.specs.Telling.{Adds, AreOfLines, IsOfLine, IsOfLinesBelow, IsPage};
 
 use crate::request::{Choice, Form};
@@ -11,6 +13,7 @@ use crate::telling::push_told;
 use std::alloc::{AllocError, Global};
 use xb_heard::{PlacedRun, heard_of, runs_by_line, runs_of_line};
 use xb_model::{LINES, LineNo, Row};
+use xb_picture::draw_attempts;
 use xb_report::{push_head, push_limits, push_tail};
 use xb_routes::RouteTable;
 
@@ -22,14 +25,13 @@ fn push_line(
     table: &RouteTable,
     runs: &[PlacedRun],
     line: LineNo,
-    alone: bool,
 ) -> Result<(), AllocError>
     ensures { OnOk result ((rows : List LoopRow) → runs.now ≡ placed_runs line rows →
-        Adds (IsOfLine form alone table.now rows line) (string_bytes out.old) (string_bytes out.new)) }
+        Adds (IsOfLine form table.now rows line) (string_bytes out.old) (string_bytes out.new)) }
 {
     let limits = table.limits();
     let attempts = heard_of(alloc, runs, table.plan(), limits)?;
-    push_told(alloc, out, form, limits, line, &attempts, alone)
+    push_told(alloc, out, form, limits, line, &attempts)
 }
 
 // Puts what is told of a line that is alone after the text.
@@ -42,11 +44,11 @@ fn push_alone(
     line: LineNo,
 ) -> Result<(), AllocError>
     requires { length rows.now < 2 ^ 32 }
-    ensures { OnOk result (Adds (IsOfLine form true table.now rows.now line)
+    ensures { OnOk result (Adds (IsOfLine form table.now rows.now line)
         (string_bytes out.old) (string_bytes out.new)) }
 {
     let runs = runs_of_line(alloc, rows, line)?;
-    push_line(alloc, out, form, table, &runs, line, true)
+    push_line(alloc, out, form, table, &runs, line)
 }
 
 // Puts what is told of each line after the text, the lines ascending; of one without attempts nothing is.
@@ -64,7 +66,7 @@ fn push_all(
     let lines = runs_by_line(alloc, rows)?;
     for number in 0..LINES {
         if let Some(line) = LineNo::new(number) {
-            push_line(alloc, out, form, table, lines.get(line), line, false)?;
+            push_line(alloc, out, form, table, lines.get(line), line)?;
         }
     }
     Ok(())
@@ -120,4 +122,38 @@ pub(crate) fn page(
     push_lines(alloc, &mut out, Form::Html, table, rows, choice)?;
     push_tail(&mut out)?;
     Ok(out)
+}
+
+// The objects of the lines that are asked for, in a deck where so many text lines stand before the first record.
+pub(crate) fn objects(
+    alloc: Global,
+    table: &RouteTable,
+    rows: &[Row],
+    choice: Choice,
+    before: Option<u64>,
+) -> Result<String, AllocError>
+    requires { length rows.now < 2 ^ 32 }
+    ensures { IfOk result (λ text. AreOfLines (Json before) choice table.now rows.now (string_bytes text)) }
+{
+    let mut out = String::new(alloc);
+    push_lines(alloc, &mut out, Form::Json(before), table, rows, choice)?;
+    Ok(out)
+}
+
+// The picture of a line: of one of its attempts, or of the first ones.
+pub(crate) fn picture(
+    alloc: Global,
+    table: &RouteTable,
+    rows: &[Row],
+    line: LineNo,
+    attempt: Option<u32>,
+) -> Result<String, AllocError>
+    requires { length rows.now < 2 ^ 32 }
+    ensures { IfOk result (λ text. IsPicture table.now.limits line attempt
+        (attempts_of_line table.now rows.now line) (string_bytes text)) }
+{
+    let limits = table.limits();
+    let runs = runs_of_line(alloc, rows, line)?;
+    let attempts = heard_of(alloc, &runs, table.plan(), limits)?;
+    draw_attempts(alloc, limits, line, attempt, &attempts)
 }

@@ -13,13 +13,13 @@ use xb_command::{DONE, tell_fault, tell_words};
 pub(crate) const PROGRAM: &str = "mfhear";
 
 // The line of refused words.
-const USAGE: &[u8] = b"mfhear: usage: mfhear [--line N] [--html] [--svg [--attempt K]]\n";
+const USAGE: &[u8] = b"mfhear: usage: mfhear [--line N] [--html] [--json] [--svg [--attempt K]]\n";
 
 /// Reads the words of the command line, the program's name first, and by them writes what was heard of a
-/// deck's lines, as a text or as a page, or draws a line, as `hear` does. It returns the status of the
+/// deck's lines, as a text, as a page or as JSON, or draws a line, as `hear` does. It returns the status of the
 /// process:
 ///
-/// - `DONE`: the words ask for something, `out` got exactly its report, page or picture, and `err` nothing;
+/// - `DONE`: the words ask for something, `out` got exactly its report, page, objects or picture, and `err` nothing;
 /// - `FAULT`: `hear` has a fault, or memory ran out while the words were read; `err` gets the fault as
 ///   one line, and `out` got nothing, or the beginning of the report where this was not written whole;
 /// - `WORDS_REFUSED`: the words are refused, or ask for help; `err` gets the usage as one line, the

@@ -18,6 +18,8 @@ pub(crate) enum Form {
     Text,
     // As a page of HTML.
     Html,
+    // As JSON objects; so many text lines of the deck stand before the first record, if each record is one.
+    Json(Option<u64>),
 }
 
 /// What is to be written of a deck.
@@ -33,4 +35,8 @@ pub enum Request {
     Page,
     /// The page of this line, as HTML.
     PageOf(LineNo),
+    /// The objects of the attempts of all lines, as JSON.
+    Objects,
+    /// The objects of the attempts of this line, as JSON.
+    ObjectsOf(LineNo),
 }

@@ -1,7 +1,7 @@
 // What the words of the command line ask for.
 ghost use Rattle.std.specs.Prelude.{◌≡◌, IfErr, IfOk};
 ghost use Rattle.xb_command.specs.Commands.{texts_of};
-ghost use Rattle.xb_hear.specs.Options.{AreRefused, Asks, Say, choice_of, page_of, picture_of, request_of, text_of, written_of};
+ghost use Rattle.xb_hear.specs.Options.{AreRefused, Asks, Say, choice_of, drawn_of, objects_of, page_of, picture_of, request_of, text_of, written_of};
 
 use crate::program::PROGRAM;
 use crate::request::{Choice, Request};
@@ -16,14 +16,16 @@ pub(crate) struct Options {
     pub(crate) attempt: Option<u32>,
     pub(crate) svg: bool,
     pub(crate) html: bool,
+    pub(crate) json: bool,
 }
 
 // The options of the program, each under its name.
-const OPTIONS: [(&str, Takes); 4] = [
+const OPTIONS: [(&str, Takes); 5] = [
     ("line", Takes::Number),
     ("attempt", Takes::Number),
     ("svg", Takes::Nothing),
     ("html", Takes::Nothing),
+    ("json", Takes::Nothing),
 ];
 
 // What the words say.
@@ -35,6 +37,7 @@ fn options_of(words: &Words) -> Options
         attempt: words.number("attempt"),
         svg: words.flag("svg"),
         html: words.flag("html"),
+        json: words.flag("json"),
     }
 }
 
@@ -86,31 +89,52 @@ fn page_of(choice: Choice) -> Request
     }
 }
 
-// The report or the page of lines.
-fn written_of(choice: Choice, html: bool) -> Request
-    ensures { result ≡ written_of choice html }
+// The objects of lines.
+fn objects_of(choice: Choice) -> Request
+    ensures { result ≡ objects_of choice }
 {
-    if html {
-        page_of(choice)
-    } else {
-        text_of(choice)
+    match choice {
+        Choice::All => Request::Objects,
+        Choice::Line(line) => Request::ObjectsOf(line),
+    }
+}
+
+// The report, the page or the objects of lines; `None` where two are asked for.
+fn written_of(choice: Choice, html: bool, json: bool) -> Option<Request>
+    ensures { result ≡ written_of choice html json }
+{
+    match (html, json) {
+        (false, false) => Some(text_of(choice)),
+        (true, false) => Some(page_of(choice)),
+        (false, true) => Some(objects_of(choice)),
+        (true, true) => None,
+    }
+}
+
+// The picture of one line; `None` where a page or objects are asked for too.
+fn drawn_of(choice: Choice, html: bool, json: bool, attempt: Option<u32>) -> Option<Request>
+    ensures { result ≡ drawn_of choice html json attempt }
+{
+    match (html, json) {
+        (false, false) => picture_of(choice, attempt),
+        (true, _) | (false, true) => None,
     }
 }
 
 // What the options ask for; `None` where they name no line of the office, a picture without its line, an
-// attempt without a picture, or both a picture and a page.
+// attempt without a picture, or two of a picture, a page and objects.
 fn request_of(options: Options) -> Option<Request>
     ensures { result ≡ request_of options }
 {
     let choice = choice_of(options.line)?;
-    match (options.svg, options.html, options.attempt) {
-        (true, false, attempt) => picture_of(choice, attempt),
-        (false, html, None) => Some(written_of(choice, html)),
-        (true, true, _) | (false, _, Some(_)) => None,
+    match (options.svg, options.attempt) {
+        (true, attempt) => drawn_of(choice, options.html, options.json, attempt),
+        (false, None) => written_of(choice, options.html, options.json),
+        (false, Some(_)) => None,
     }
 }
 
-/// What the words ask for: the report or the page of a line, or of all, or the picture of a line.
+/// What the words ask for: the report, the page or the objects of a line, or of all, or the picture of a line.
 pub fn request_of_words(alloc: Global, words: &[String]) -> Result<Request, WordsFault>
     ensures asks { IfOk result (λ request. Asks (texts_of words.now) request) }
     ensures refused { IfErr result (λ f. f ≡ WordsFault.Refused → AreRefused (texts_of words.now)) }

@@ -16,5 +16,5 @@ returns c =
     let heard = c.in_ok-attempts.ensures.heard ∙ ap (heard_attempts c.plan.result limits) placed in
     let attempts : map attempt_in c.deref.result.now ≡ attempts_of_line table rows line =
     rw (← c.plan.ensures, ← is) (ap (map attempt_in) c.deref.ensures.value ∙ heard) in
-    of-line c.args.form c.args.alone table rows line limits (map attempt_in c.deref.result.now) _ _ is attempts put)
+    of-line c.args.form table rows line limits (map attempt_in c.deref.result.now) _ _ is attempts put)
     c.push_told.ensures
