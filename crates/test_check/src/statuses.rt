@@ -93,7 +93,8 @@ deck:2:1: pulse_min is over pulse_max:  pulse_max = 119\n",
         &[],
         b"[[route]]\ncode = \"0\"\ntrunk = 1\n[[route]]\ntrunk = 2\n cod = \"411\"\n---\n",
         1,
-        b"deck:6:1: no rule names this key; here are code, trunk, delete and prefix (did you mean code?):  cod = \"411\"\n\
+        b"deck:6:1: no rule names this key; here are code, trunk, delete and prefix \
+(did you mean code?):  cod = \"411\"\n\
 deck:4:1: this route lacks code or trunk, or one of its keys has another kind of value: [[route]]\n",
         b"mfcheck: route table: route 2 has a wrong shape\n",
     ),
