@@ -67,4 +67,4 @@ what_text what.Ms = codes "the ms are not 0 to 86400000, or not 0 in a close"
 -- the key that may have been meant, in words
 abbrev pub meant_text : Option Key → List ℕ
 meant_text None = []
-meant_text (Some k) = codes " (did you mean " ++ key_text k ++ codes "?)"
+meant_text (Some k) = codes " (did you mean " ++ (key_text k ++ codes "?)")

@@ -1,5 +1,5 @@
 // What is told of what was found.
-ghost use Rattle.std.specs.Prelude.{◌≡◌, ◌≤◌, ◌++◌, IfOk, OnOk, length, map, string_bytes, take};
+ghost use Rattle.std.specs.Prelude.{◌≡◌, ◌≤◌, ◌++◌, IfOk, OnOk, Some, length, map, string_bytes, take};
 ghost use Rattle.xb_deck.specs.declared.deck.TheConstants.{MOST_DECK_BYTES};
 ghost use Rattle.std.specs.List.{flat_map};
 ghost use Rattle.xb_check.specs.Findings.{found_of, meant_text};
@@ -54,14 +54,20 @@ fn place_text(alloc: Global, name: &str, finding: &Finding) -> Result<String, Al
     format!(in alloc; "{name}:{line}:{column}: {words}")
 }
 
+// The key that may have been meant, in words.
+fn words_of_meant(alloc: Global, key: Key) -> Result<String, AllocError>
+    ensures { IfOk result (λ text. string_bytes text ≡ meant_text (Some key)) }
+{
+    let key = key.text();
+    format!(in alloc; " (did you mean {key}?)")
+}
+
 // Puts the key that may have been meant after the text.
-fn push_meant(out: &mut Vec<u8>, meant: Option<Key>) -> Result<(), AllocError>
+fn push_meant(alloc: Global, out: &mut Vec<u8>, meant: Option<Key>) -> Result<(), AllocError>
     ensures { OnOk result (out.new.items ≡ out.old.items ++ meant_text meant) }
 {
     if let Some(key) = meant {
-        out.extend_from_slice(b" (did you mean ")?;
-        out.extend_from_slice(key.text().as_bytes())?;
-        out.extend_from_slice(b"?)")?;
+        out.extend_from_slice(words_of_meant(alloc, key)?.as_bytes())?;
     }
     Ok(())
 }
@@ -76,7 +82,7 @@ fn push_found(
     ensures { OnOk result (out.new.items ≡ out.old.items ++ found_text name.now (found_of finding.now)) }
 {
     out.extend_from_slice(place_text(alloc, name, finding)?.as_bytes())?;
-    push_meant(out, finding.meant)?;
+    push_meant(alloc, out, finding.meant)?;
     out.extend_from_slice(b": ")?;
     push_shown(out, finding.text)?;
     out.push(b'\n')?;
