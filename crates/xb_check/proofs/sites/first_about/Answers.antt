@@ -34,15 +34,15 @@ returns-then-is_about c =
     let lines : pieces_left 10 (option_copied l.left) ≡ first ∷ later =
     ap (λ o. pieces_left 10 (option_copied o)) c.in-Some.is ∙ c.first_piece.ensures in
     let read : List ℕ = c.in_ok-read.read.items in
-    let here : Section = c.section_after.result in
-    let count : ℕ = c.routes_after.result in
+    let here : Section = c.section_after-section.result in
+    let count : ℕ = c.routes_after-routes.result in
     let moved : here ≡ section_after l.section read =
-    c.section_after.ensures ∙ ap (λ (text : List ℕ). section_after l.section text) c.deref.ensures.value in
+    c.section_after-section.ensures ∙ ap (λ (text : List ℕ). section_after l.section text) c.deref.ensures.value in
     let counted : count ≡ routes_after here l.routes read =
-    c.routes_after.ensures.count ∙ ap (λ (text : List ℕ). routes_after here l.routes text) c.deref-2.ensures.value in
+    c.routes_after-routes.ensures.count ∙ ap (λ (text : List ℕ). routes_after here l.routes text) c.deref-in-Some.ensures.value in
     let about : is_about c.args.fault here (route_here here count) read ≡ true =
-    ap (λ (text : List ℕ). is_about c.args.fault here (route_here here count) text) (sym c.deref-3.ensures.value)
-    ∙ ap (λ (route : ℕ). is_about c.args.fault here route c.deref-3.result.now) (sym c.route_here.ensures)
+    ap (λ (text : List ℕ). is_about c.args.fault here (route_here here count) text) (sym c.deref-in-Some-2.ensures.value)
+    ∙ ap (λ (route : ℕ). is_about c.args.fault here route c.deref-in-Some-2.result.now) (sym c.route_here.ensures)
     ∙ sym c.if-is_about.ensures in
     sym (l.invariant.rest ∙ ap (λ ls. first_about c.args.fault l.section l.routes (l.n + 1) ls) lines
     ∙ about_here c.args.fault l.section l.routes (l.n + 1) first later read here count (sym c.if-is_cut.ensures)
@@ -56,15 +56,15 @@ loop-left-preserved c =
     let lines : pieces_left 10 (option_copied l.left) ≡ first ∷ later =
     ap (λ o. pieces_left 10 (option_copied o)) c.in-Some.is ∙ c.first_piece.ensures in
     let read : List ℕ = c.in_ok-read.read.items in
-    let here : Section = c.section_after.result in
-    let count : ℕ = c.routes_after.result in
+    let here : Section = c.section_after-section.result in
+    let count : ℕ = c.routes_after-routes.result in
     let moved : here ≡ section_after l.section read =
-    c.section_after.ensures ∙ ap (λ (text : List ℕ). section_after l.section text) c.deref.ensures.value in
+    c.section_after-section.ensures ∙ ap (λ (text : List ℕ). section_after l.section text) c.deref.ensures.value in
     let counted : count ≡ routes_after here l.routes read =
-    c.routes_after.ensures.count ∙ ap (λ (text : List ℕ). routes_after here l.routes text) c.deref-2.ensures.value in
+    c.routes_after-routes.ensures.count ∙ ap (λ (text : List ℕ). routes_after here l.routes text) c.deref-in-Some.ensures.value in
     let other : is_about c.args.fault here (route_here here count) read ≡ false =
-    ap (λ (text : List ℕ). is_about c.args.fault here (route_here here count) text) (sym c.deref-3.ensures.value)
-    ∙ ap (λ (route : ℕ). is_about c.args.fault here route c.deref-3.result.now) (sym c.route_here.ensures)
+    ap (λ (text : List ℕ). is_about c.args.fault here (route_here here count) text) (sym c.deref-in-Some-2.ensures.value)
+    ∙ ap (λ (route : ℕ). is_about c.args.fault here route c.deref-in-Some-2.result.now) (sym c.route_here.ensures)
     ∙ sym c.if-is_about.ensures in
     record {
       rest =
@@ -72,7 +72,7 @@ loop-left-preserved c =
           ∙ about_later c.args.fault l.section l.routes (l.n + 1) first later read here count (sym c.if-is_cut.ensures)
           c.in_ok-read.ensures moved counted other;
       few = omega (arith, l.invariant.few, ap length lines);
-      routes = omega (arith, l.invariant.routes, c.routes_after.ensures.most);
+      routes = omega (arith, l.invariant.routes, c.routes_after-routes.ensures.most);
     }
 
 pub returns : goal.returns
