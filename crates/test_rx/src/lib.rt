@@ -4,8 +4,6 @@
 #![tactic(auto)]
 
 #[cfg(test)]
-mod folder;
-#[cfg(test)]
 mod pages;
 #[cfg(test)]
 mod statuses;

@@ -1,2 +1,1 @@
 mod TakenLines
-mod FaultLines

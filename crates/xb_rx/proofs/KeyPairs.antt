@@ -1,14 +1,12 @@
 -- What a pair can stand for: a digit is neither KP nor ST.
-use Rattle.std.proofs.Common.{◌≡◌, ◌∙◌, ℕ, zero, suc, ◌+◌, ◌≤◌, ◌<◌, Bool, true, false, ◌&&◌, ◌==◌, List, [], ◌∷◌, length, get_or, Some, sym, ap, refl, arith, eqb-true, ne_eqb}
-use Rattle.std.specs.List.{AllByRecursion, position}
+use Rattle.std.proofs.Common.{◌≡◌, ◌∙◌, ℕ, zero, suc, ◌≤◌, ◌<◌, Bool, true, false, ◌&&◌, ◌==◌, List, [], ◌∷◌, length, get_or, Some, ap, refl, arith, eqb-true, ne_eqb}
+use Rattle.std.specs.List.{AllByRecursion}
 use Rattle.std.proofs.lemmas.List.Quantifiers.{position-Some}
-use Rattle.xb_model.specs.declared.key.Key.TheVariants.{Kp, St}
 use Rattle.xb_model.specs.declared.key.Tone.{Tone as Pair}
-use Rattle.xb_model.specs.MfPairs.{mf_pair, pair}
+use Rattle.xb_model.specs.MfPairs.{pair}
 use Rattle.xb_ear.specs.declared.hearing.Heard.{Heard}
 use Rattle.xb_ear.specs.Hearings.{is_same_pair}
-use Rattle.xb_keyed.specs.Names.{digit_of_pair, digit_pairs}
-use Rattle.xb_rx.specs.Keyings.{digit_of, is_kp, is_st}
+use Rattle.xb_rx.specs.Keyings.{digit_of_pair, digit_pairs, is_kp, is_st}
 use Rattle.xb_rx.specs.Begun.{IsDigit}
 
 and-true : (a b : Bool) → (a && b) ≡ true → b ≡ true

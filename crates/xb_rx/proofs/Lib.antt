@@ -1,7 +1,6 @@
 pub mod KeyPairs
 pub mod KeyingSteps
 pub mod Written
-pub mod Listings
 pub mod KeySteps
 pub mod LastSteps
 pub mod Samples
@@ -12,6 +11,3 @@ pub mod Sounds
 pub mod Skipping
 pub mod Starts
 pub mod Delivered
-pub mod Compared
-pub mod Answered
-pub mod Asked

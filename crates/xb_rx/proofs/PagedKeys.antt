@@ -1,6 +1,6 @@
 -- The keyings among keys whose pairs are those of keyings.
-use Rattle.std.proofs.Common.{◌≡◌, ◌∙◌, ℕ, zero, suc, ◌<◌, ◌≤◌, List, [], ◌∷◌, ◌++◌, length, map, drop, get_or, Some, sym, ap, ap₂, refl, arith, append_assoc, subst, true}
-use Rattle.std.specs.List.{AllByRecursion, flat_map}
+use Rattle.std.proofs.Common.{◌≡◌, ◌∙◌, ℕ, suc, ◌<◌, ◌≤◌, List, [], ◌∷◌, ◌++◌, length, map, drop, get_or, Some, sym, ap, ap₂, refl, append_assoc, subst, true}
+use Rattle.std.specs.List.{AllByRecursion}
 use Rattle.xb_model.specs.declared.digit.TheConstants.{DIGITS}
 use Rattle.xb_model.specs.declared.key.Key.TheVariants.{Digit, Kp, St}
 use Rattle.xb_model.specs.declared.key.Tone.{Tone as Pair}
@@ -17,10 +17,8 @@ use Rattle.xb_ear.specs.Hearings.{is_same_pair}
 use Rattle.xb_ear.specs.Receivers.{keys_of_sound}
 use Rattle.xb_ear.proofs.WholeSounds.{disturbed_keys_are_heard}
 use Rattle.xb_rx.specs.declared.keys.TheConstants.{MOST_DIGITS}
-use Rattle.xb_keyed.specs.Names.{digit_of_pair}
-use Rattle.xb_rx.specs.Keyings.{digit_of, digits_in, is_kp, is_st, keyings, listed_digit, loose_after, loose_keys}
-use Rattle.xb_rx.specs.Begun.{IsDigit}
-use Rattle.xb_rx.specs.PagedKeys.{AreNumbers, IsNumber, KeyedIsPaged, marks_of_numbers}
+use Rattle.xb_rx.specs.Keyings.{digit_of, digit_of_pair, digits_in, is_kp, is_st, keyings, listed_digit, loose_after, loose_keys}
+use Rattle.xb_rx.specs.PagedKeys.{AreNumbers, KeyedIsPaged, marks_of_numbers}
 use Rattle.xb_rx.specs.Pages.{loose_lines, page_after}
 use Rattle.xb_rx.proofs.KeyingSteps.{AreDigits, completes, none-loose}
 

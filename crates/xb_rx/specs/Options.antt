@@ -1,22 +1,15 @@
 -- What the words of the command line ask for, as clap reads them.
-use Rattle.std.specs.Prelude.{ℕ, ◌≡◌, ◌&&◌, ◌||◌, not, is_none, List, Bool, if◌then◌else◌, Option, Some, None, codes, is_some, nat_lt, option_and_then, option_map, unwrap_or}
-use Rattle.clap.specs.Walk.{Row, Text, first_of}
+use Rattle.std.specs.Prelude.{ℕ, ◌||◌, List, Bool, if◌then◌else◌, Option, Some, None, codes, is_some, nat_lt, option_and_then, option_map, unwrap_or}
+use Rattle.clap.specs.Walk.{Row, Text}
 use Rattle.xb_command.specs.Given.{AskForNothing, AsksFor, ReadsFlag, ReadsNumber, given_by}
 use Rattle.xb_model.specs.declared.line.TheConstants.{LINES}
 use Rattle.xb_model.specs.declared.trunk.TheConstants.{TRUNKS}
-use Rattle.xb_keyed.specs.declared.lines.Telling.{Telling}
-use Rattle.xb_keyed.specs.declared.lines.Telling.TheVariants as telling
 use Rattle.xb_rx.specs.declared.coding.Coding.{Coding}
 use Rattle.xb_rx.specs.declared.coding.Coding.TheVariants as coding
 use Rattle.xb_rx.specs.declared.request.Input.{Input}
 use Rattle.xb_rx.specs.declared.request.Input.TheVariants as input
-use Rattle.xb_rx.specs.declared.request.Asked.{Asked}
-use Rattle.xb_rx.specs.declared.request.Asked.TheVariants as asks
 use Rattle.xb_rx.specs.declared.request.Request.{Request}
-use Rattle.xb_rx.specs.declared.request.Written.{Written}
-use Rattle.xb_rx.specs.declared.request.Written.TheVariants as written
 use Rattle.xb_rx.specs.declared.words.Options.{Options}
-use Rattle.xb_rx.specs.Hearing.{HasForm}
 use Rattle.xb_rx.specs.Rules.{command_of_words}
 use Rattle.xb_rx.specs.Starts.{form_with, frames_of}
 
@@ -24,12 +17,9 @@ use Rattle.xb_rx.specs.Starts.{form_with, frames_of}
 pub record Say (rows : List Row) (options : Options) : Type 0 where
   pub line : ReadsNumber (given_by rows (codes "line")) options.line
   pub trunk : ReadsNumber (given_by rows (codes "trunk")) options.trunk
-  pub tones : ReadsFlag (given_by rows (codes "tones")) options.tones
-  pub json : ReadsFlag (given_by rows (codes "json")) options.json
   pub raw : ReadsFlag (given_by rows (codes "raw")) options.raw
   pub rate : ReadsNumber (given_by rows (codes "rate")) options.rate
   pub ulaw : ReadsFlag (given_by rows (codes "ulaw")) options.ulaw
-  pub against : option_map (λ text. text.now) options.against ≡ first_of (codes "against") rows
 
 -- a number below this, or 0 where none is given
 abbrev pub below : ℕ → Option ℕ → Option ℕ
@@ -40,19 +30,6 @@ line_of given = below LINES given
 
 abbrev pub trunk_of : Option ℕ → Option ℕ
 trunk_of given = below TRUNKS given
-
-abbrev pub telling_of : Bool → Telling
-telling_of json = if json then telling.Json else telling.Text
-
-abbrev pub page_by : Option ℕ → Option ℕ → Option Written
-page_by line trunk = option_and_then (λ l. option_map (λ t. written.Page l t) trunk) line
-
--- keys one by one, for which no line and no trunk group is said, or a page
-abbrev pub written_of : Options → Option Written
-written_of options =
-    if options.tones || options.json
-    then (if is_some options.line || is_some options.trunk then None else Some (written.Keys (telling_of options.json)))
-    else page_by (line_of options.line) (trunk_of options.trunk)
 
 abbrev pub raw_coding : Bool → Coding
 raw_coding ulaw = if ulaw then coding.MuLaw else coding.Signed16
@@ -68,30 +45,14 @@ input_of options =
 -- what the options ask for
 abbrev pub request_of : Options → Option Request
 request_of options =
-    option_and_then (λ what. option_map (λ how. record { written = what; input = how }) (input_of options))
-    (written_of options)
-
-abbrev pub is_plain : Options → Bool
-is_plain options =
-    not options.tones && not options.json && is_none options.line && is_none options.trunk
-
--- where a page is named the sound is compared with it, and nothing is said of what is written
-abbrev pub asked_of : Options → Option Asked
-asked_of options =
-    if is_some options.against
-    then (if is_plain options
-    then option_and_then (λ name. option_map (λ how. asks.Compare name how) (input_of options)) options.against
-    else None)
-    else option_map (λ request. asks.Hear request) (request_of options)
-
-abbrev pub AsksForm : Asked → Type 0
-AsksForm (asks.Hear request) = HasForm request.input
-AsksForm (asks.Compare name how) = HasForm how
+    option_and_then (λ line. option_and_then (λ trunk.
+    option_map (λ how. record { line = line; trunk = trunk; input = how }) (input_of options))
+    (trunk_of options.trunk)) (line_of options.line)
 
 -- clap takes the words, and they ask for this
-abbrev pub Asks : List Text → Asked → Type 0
-Asks words asked = AsksFor command_of_words Say asked_of words asked
+abbrev pub Asks : List Text → Request → Type 0
+Asks words request = AsksFor command_of_words Say request_of words request
 
 -- clap refuses the words, or they ask for what there is not
 abbrev pub AreRefused : List Text → Type 0
-AreRefused words = AskForNothing command_of_words Say asked_of words
+AreRefused words = AskForNothing command_of_words Say request_of words

@@ -1,14 +1,10 @@
 // The program: its words and a sound in, a status and a page out.
 ghost use Rattle.xb_command.specs.Programs.{streams};
 ghost use Rattle.xb_command.specs.Commands.{texts_of};
-ghost use Rattle.xb_rx.specs.Options.{AsksForm};
-ghost use Rattle.xb_rx.specs.Program.{Answers, AttendsRx};
+ghost use Rattle.xb_rx.specs.Program.{AttendsRx};
 
-use crate::comparing::compare;
-use crate::files::PageFiles;
 use crate::receiving::receive;
-use crate::request::Asked;
-use crate::words::asked_by_words;
+use crate::words::request_of_words;
 use std::alloc::Global;
 use std::io::{Read, Write};
 use xb_command::{DONE, tell_fault, tell_words};
@@ -17,62 +13,35 @@ use xb_command::{DONE, tell_fault, tell_words};
 pub(crate) const PROGRAM: &str = "mfrx";
 
 // The line of refused words.
-const USAGE: &[u8] =
-    b"mfrx: usage: mfrx [--line N] [--trunk T] [--tones] [--json] [--against PAGE] [--raw [--rate HZ] [--ulaw]]\n";
+const USAGE: &[u8] = b"mfrx: usage: mfrx [--line N] [--trunk T] [--raw [--rate HZ] [--ulaw]]\n";
 
-// Does what is asked for, and returns the status of the process.
-fn answer<F: PageFiles, R: Read, W: Write, E: Write>(
-    alloc: Global,
-    asked: Asked<'_>,
-    files: &F,
-    sound: &mut R,
-    out: &mut W,
-    err: &mut E,
-) -> u8
-    requires { AsksForm asked }
-    ensures { Answers (F.bytes files.now) asked.entry
-        (streams (R.remaining sound.old) (W.contents out.old) (E.contents err.old))
-        (streams (R.remaining sound.new) (W.contents out.new) (E.contents err.new)) result }
-{
-    match asked {
-        Asked::Hear(request) => match receive(alloc, request, sound, out, err) {
-            Ok(()) => DONE,
-            Err(fault) => tell_fault(alloc, err, PROGRAM, fault),
-        },
-        Asked::Compare(name, input) => match compare(alloc, files, name, input, sound, out, err) {
-            Ok(()) => DONE,
-            Err(fault) => tell_fault(alloc, err, PROGRAM, fault),
-        },
-    }
-}
-
-/// Reads the words of the command line, the program's name first, and by them writes the page of a sound, or its keys,
-/// as `receive` does, or its differences from the page in a file, as `compare` does. It returns the status of the
-/// process:
+/// Reads the words of the command line, the program's name first, and by them writes the page of a sound, as
+/// `receive` does. It returns the status of the process:
 ///
 /// - `DONE`: the words ask for something, `out` got exactly the page of the sound's keyings, and `err` a line for each
-///   key that stands in none; or `out` got exactly a line for each key; or nothing, since there is no difference;
-/// - `FAULT`: `receive` or `compare` has a fault, which a difference is too, or memory ran out while the words were
-///   read; `err` gets the fault as one line after such keys, and `out` got nothing, the beginning of the page, or the
-///   differences;
-/// - `WORDS_REFUSED`: the words are refused, or ask for help; `err` gets the usage as one line, nothing is read and
-///   `out` got nothing.
+///   key that stands in none;
+/// - `FAULT`: `receive` has a fault, or memory ran out while the words were read; `err` gets the fault as one line
+///   after such keys, and `out` got nothing, or the beginning of the page;
+/// - `WORDS_REFUSED`: the words are refused, or ask for help; `err` gets the usage as one line, the sound is not read
+///   and `out` got nothing.
 ///
 /// A fault in writing this line to `err` changes no status.
-pub fn attend<F: PageFiles, R: Read, W: Write, E: Write>(
+pub fn attend<R: Read, W: Write, E: Write>(
     alloc: Global,
     words: &[String],
-    files: &F,
     sound: &mut R,
     out: &mut W,
     err: &mut E,
 ) -> u8
-    ensures { AttendsRx (F.bytes files.now) (texts_of words.now)
+    ensures { AttendsRx (texts_of words.now)
         (streams (R.remaining sound.old) (W.contents out.old) (E.contents err.old))
         (streams (R.remaining sound.new) (W.contents out.new) (E.contents err.new)) result }
 {
-    match asked_by_words(alloc, words) {
-        Ok(asked) => answer(alloc, asked, files, sound, out, err),
+    match request_of_words(alloc, words) {
+        Ok(request) => match receive(alloc, request, sound, out, err) {
+            Ok(()) => DONE,
+            Err(fault) => tell_fault(alloc, err, PROGRAM, fault),
+        },
         Err(fault) => tell_words(err, PROGRAM, USAGE, fault),
     }
 }

@@ -1,6 +1,5 @@
 // What is asked for.
 use crate::coding::Form;
-use xb_keyed::Telling;
 use xb_model::{LineNo, Trunk};
 
 /// How a sound is given.
@@ -12,29 +11,13 @@ pub enum Input {
     Raw(Form),
 }
 
-/// What is written of a sound.
-#[derive(Clone, Copy, Debug, PartialEq, Eq)]
-pub enum Written {
-    /// The page of its keyings, whose entries are of a line and a trunk group.
-    Page(LineNo, Trunk),
-    /// A line for each of its keys.
-    Keys(Telling),
-}
-
-/// How a sound is given, and what is written of it.
+/// How a sound is given, and whose page is written of it.
 #[derive(Clone, Copy, Debug, PartialEq, Eq)]
 pub struct Request {
-    /// What is written.
-    pub written: Written,
+    /// The line of the page's entries.
+    pub line: LineNo,
+    /// Their trunk group.
+    pub trunk: Trunk,
     /// How the sound is given.
     pub input: Input,
-}
-
-/// What the words ask for.
-#[derive(Clone, Copy, Debug)]
-pub enum Asked<'a> {
-    /// That a sound is written down.
-    Hear(Request),
-    /// That it is compared with the page in the file of this name.
-    Compare(&'a str, Input),
 }

@@ -1,7 +1,0 @@
-pub mod Names
-pub mod Levels
-pub mod Figures
-pub mod Verdicts
-pub mod Objects
-pub mod Lines
-pub mod Worked
