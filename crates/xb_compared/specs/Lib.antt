@@ -1,0 +1,4 @@
+pub mod Entries
+pub mod Keyed
+pub mod Differences
+pub mod Pages

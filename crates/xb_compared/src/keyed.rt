@@ -1,0 +1,97 @@
+// The keyed entries of a page.
+ghost use Rattle.std.specs.Prelude.{◌≡◌, ◌++◌, IfOk, OnOk, codes, string_bytes};
+ghost use Rattle.xb_model.specs.Page.{key_text};
+ghost use Rattle.xb_compared.specs.Keyed.{keyed_of, keys_text};
+
+use std::alloc::{AllocError, Global};
+use std::marker::Model;
+use xb_model::{Key, LineNo, Mark};
+use xb_page::PageEntry;
+
+/// A keyed entry of a page.
+#[derive(Drop)]
+pub struct Keyed {
+    line: LineNo,
+    number: usize,
+    keys: String,
+}
+
+// Clauses see the names of the keys.
+impl Model for Keyed {
+    ghost use Rattle.std.specs.Prelude.{string_bytes};
+    ghost use Rattle.xb_compared.specs.Entries.{KeyedEntry};
+
+    ghost Value = { KeyedEntry };
+
+    ghost view = { λ k. record { line = k.line; number = k.number; keys = string_bytes k.keys } };
+}
+
+impl Keyed {
+    ghost use Rattle.std.specs.Prelude.{◌≡◌};
+
+    /// The line of the office.
+    pub fn line(&self) -> LineNo
+        ensures { result ≡ self.now.line }
+    {
+        self.line
+    }
+
+    /// The number of the entry on its line.
+    pub fn number(&self) -> usize
+        ensures { result ≡ self.now.number }
+    {
+        self.number
+    }
+
+    /// The names of its keys, each after a blank.
+    pub fn keys(&self) -> &str
+        ensures { result.now ≡ self.now.keys }
+    {
+        self.keys.as_str()
+    }
+}
+
+// Appends the name of a key after a blank.
+fn write_key(out: &mut String, key: Key) -> Result<(), AllocError>
+    ensures { OnOk result (string_bytes out.new ≡ string_bytes out.old ++ (codes " " ++ key_text key)) }
+{
+    match key {
+        Key::Digit(digit) => {
+            let value = digit.get();
+            write!(out, " {value}")
+        }
+        Key::Kp => out.push_str(" KP"),
+        Key::St => out.push_str(" ST"),
+    }
+}
+
+// The names of the keys of marks.
+fn keys_of(alloc: Global, marks: &[Mark]) -> Result<String, AllocError>
+    ensures { IfOk result (λ text. string_bytes text ≡ keys_text marks.now) }
+{
+    let mut text = String::new(alloc);
+    for mark in marks {
+        if let Mark::Tone(key, _) = mark {
+            write_key(&mut text, *key)?;
+        }
+    }
+    Ok(text)
+}
+
+/// The keyed entries among those of a page, in their order. `Err` says that memory ran out.
+pub fn keyed_entries(alloc: Global, entries: &[PageEntry]) -> Result<Vec<Keyed>, AllocError>
+    ensures { IfOk result (λ keyed. keyed.items ≡ keyed_of entries.now) }
+{
+    let mut keyed = Vec::new(alloc);
+    for entry in entries {
+        if !entry.is_refused() {
+            let keys = keys_of(alloc, entry.marks())?;
+            keyed.push(Keyed {
+                line: entry.line(),
+                number: entry.number(),
+                keys,
+            })?;
+        }
+    }
+    Ok(keyed)
+}
