@@ -23,12 +23,17 @@ const LIST: &[u8] = b"0000-4999.deck 0 4999 30\n5000-9999.deck 5000 9999 20\n";
 
 const USAGE: &[u8] = b"mfjoin: usage: mfjoin [--list FILE] PAGE...\n";
 
+// The last page, with CR LF at the end of some lines.
+const LAST_OF_WINDOWS: &[u8] = b"9999 1 KEYED 0003 KP:1100+1700 4:700+1300 1:700+900 1:700+900 ST:1500+1700\r\n\
+KEYED 1 REFUSED 0\n";
+
 // The files that there are.
 struct Folder;
 
 const FILES: &[(&str, &[u8])] = &[
     ("first", FIRST),
     ("last", LAST),
+    ("last of windows", LAST_OF_WINDOWS),
     ("cut", b"0000 1 REFUSED UNKNOWN 3\n0007 1 KE"),
     ("empty", b""),
     (
@@ -56,6 +61,7 @@ impl PageFiles for Folder {
 const CASES: &[(&[&str], u8, &[u8], &[u8])] = &[
     (&["first", "last"], 0, WHOLE, b""),
     (&["--list", "list", "first", "last"], 0, WHOLE, b""),
+    (&["first", "last of windows"], 0, WHOLE, b""),
     (&["first"], 0, FIRST, b""),
     (
         &["last", "first"],

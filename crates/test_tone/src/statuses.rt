@@ -64,6 +64,18 @@ const CASES: &[(&[&str], &[u8], u8, &[u8])] = &[
     ),
     (
         &[],
+        b"0007 1 REFUSED UNKNOWN 3\r\nKEYED 0 REFUSED 1\r\n",
+        1,
+        b"mftone: none of the calls asked for is keyed\n",
+    ),
+    (
+        &[],
+        b"0007 1 REFUSED UNKNOWN 3\nKEYED 0 REFUSED 1\r\r\n",
+        1,
+        b"mftone: text line 2 has wrong totals\n",
+    ),
+    (
+        &[],
         b"0007 1 REFUSED UNKNOWN 3\nKEYED 0 REFUSED 0\n",
         1,
         b"mftone: text line 2 has wrong totals\n",

@@ -8,7 +8,7 @@ use Rattle.xb_model.specs.declared.plan.Plan.{Plan}
 use Rattle.xb_model.specs.Routing.{AreRoutes, CodedRoute}
 use Rattle.xb_model.specs.Rows.{LoopRow}
 use Rattle.xb_parts.specs.declared.range.LineRange.{LineRange}
-use Rattle.xb_parts.specs.Parts.{AreParts, IsPartOf, Part}
+use Rattle.xb_parts.specs.Parts.{AreParts, Part}
 use Rattle.xb_page.specs.declared.fault.PageFault.{PageFault}
 use Rattle.xb_page.specs.PageLines.{Read, read_page}
 use Rattle.xb_page.specs.Sheets.{Sheet, followed_by, joined_sheets, no_entries, sheet_text}

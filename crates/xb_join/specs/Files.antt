@@ -1,5 +1,6 @@
 -- The bytes of files.
 use Rattle.std.specs.Prelude.{ℕ, ◌≡◌, List, [], ◌∷◌, Option, IfSome}
+use Rattle.xb_page.specs.LineEnds.{lf_ended}
 
 -- what files have, by their names, where it is known
 abbrev pub Bytes : Type 0
@@ -9,8 +10,12 @@ Bytes = List ℕ → Option (List ℕ)
 abbrev pub HasBytes : Bytes → List ℕ → List ℕ → Type 0
 HasBytes bytes name text = IfSome (bytes name) (λ known. text ≡ known)
 
--- the files of these names have these texts, one after the other
-abbrev pub HaveTexts : Bytes → List (List ℕ) → List (List ℕ) → Type 0
-HaveTexts bytes [] [] = Unit {0}
-HaveTexts bytes (name ∷ names) (text ∷ texts) = HasBytes bytes name text × HaveTexts bytes names texts
-HaveTexts bytes names texts = ⊥
+-- the file of this name has this page, whose lines end at LF, or at CR LF, if its bytes are known
+abbrev pub HasPage : Bytes → List ℕ → List ℕ → Type 0
+HasPage bytes name page = IfSome (bytes name) (λ known. page ≡ lf_ended known)
+
+-- the files of these names have these pages, one after the other
+abbrev pub HavePages : Bytes → List (List ℕ) → List (List ℕ) → Type 0
+HavePages bytes [] [] = Unit {0}
+HavePages bytes (name ∷ names) (page ∷ pages) = HasPage bytes name page × HavePages bytes names pages
+HavePages bytes names pages = ⊥

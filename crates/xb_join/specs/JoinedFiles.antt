@@ -9,7 +9,7 @@ use Rattle.xb_parts.specs.declared.list.ListFault.{ListFault}
 use Rattle.xb_parts.specs.Lists.{IsListFault, ranges_of_list}
 use Rattle.xb_parts.specs.declared.range.LineRange.{LineRange}
 use Rattle.xb_text.specs.Writing.{AppendsBeginning}
-use Rattle.xb_join.specs.Files.{Bytes, HasBytes, HaveTexts}
+use Rattle.xb_join.specs.Files.{Bytes, HasBytes, HavePages}
 use Rattle.xb_join.specs.Given.{given_by}
 use Rattle.xb_join.specs.Options.{list_of, pages_of}
 use Rattle.xb_join.specs.declared.fault.JoinProgramFault.{JoinProgramFault}
@@ -27,7 +27,7 @@ IsListed bytes (Some name) (Some ranges) =
 pub record Reads (bytes : Bytes) (request : Request) (ranges : Option (List LineRange)) (pages : List (List ℕ))
     : Type 0 where
   pub listed : IsListed bytes (list_of request) ranges
-  pub texts : HaveTexts bytes (pages_of request) pages
+  pub texts : HavePages bytes (pages_of request) pages
 
 -- the files make this page: it is that of the lines that their pages are given, and that of the whole
 -- where they are the pages of parts; a list has a part for each page

@@ -1,6 +1,6 @@
 // From the files of pages to the page of the whole.
 ghost use Rattle.std.specs.Prelude.{◌≡◌, ◌≤◌, IfErr, IfOk, IfSome, Ok, OnOk, length, map, option_copied, option_map};
-ghost use Rattle.xb_join.specs.Files.{HaveTexts};
+ghost use Rattle.xb_join.specs.Files.{HasPage, HavePages};
 ghost use Rattle.xb_join.specs.Given.{given_by};
 ghost use Rattle.xb_join.specs.JoinedFiles.{Delivers, IsFaultOfFiles, IsFaultOfList, IsFaultOfPages, IsListed, IsNamedFault, page_at};
 ghost use Rattle.xb_join.specs.Joining.{MakesTheWhole, join_of};
@@ -12,7 +12,9 @@ use crate::join_fault::JoinFault;
 use crate::pages::join_pages;
 use crate::words::Request;
 use std::alloc::Global;
+use std::io;
 use std::io::Write;
+use xb_page::end_lines_at_lf;
 use xb_parts::{LineRange, ranges_of_list};
 use xb_text::write_whole;
 
@@ -40,19 +42,28 @@ fn read_list<'a, F: PageFiles>(
     }
 }
 
-// The texts of files.
+// The page of a file, each line ended by LF.
+fn page_of_file<F: PageFiles>(alloc: Global, files: &F, name: &str) -> io::Result<Vec<u8>>
+    ensures { IfOk result (λ page. HasPage (F.bytes files.now) name.now page.items) }
+{
+    let mut page = files.read(alloc, name)?;
+    end_lines_at_lf(&mut page);
+    Ok(page)
+}
+
+// The pages of files.
 fn read_pages<'a, F: PageFiles>(
     alloc: Global,
     files: &F,
     names: &[&'a str],
 ) -> Result<Vec<Vec<u8>>, JoinProgramFault<'a>>
-    ensures texts { IfOk result (λ pages. HaveTexts (F.bytes files.now) (map (λ name. name.now) names.now)
+    ensures texts { IfOk result (λ pages. HavePages (F.bytes files.now) (map (λ name. name.now) names.now)
         (map (λ page. page.items) pages.items)) }
     ensures fault { IfErr result (IsFaultOfFiles (map (λ name. name.now) names.now)) }
 {
     let mut pages = Vec::new(alloc);
     for name in names {
-        let page = match files.read(alloc, name) {
+        let page = match page_of_file(alloc, files, name) {
             Ok(page) => page,
             Err(error) => return Err(JoinProgramFault::File(name, error)),
         };

@@ -34,7 +34,7 @@ IsLine-key (key.Digit d) = IsLine-word (decimal d) (IsWord-decimal d)
 IsLine-key key.Kp = (omega arith, (omega arith, tt))
 IsLine-key key.St = (omega arith, (omega arith, tt))
 
-IsWord-reason : (r : Reason) → IsWord (reason_text r)
+pub IsWord-reason : (r : Reason) → IsWord (reason_text r)
 IsWord-reason reason.Mutilated = plain 33 (codes "MUTILATED") refl
 IsWord-reason reason.Unknown = plain 33 (codes "UNKNOWN") refl
 IsWord-reason reason.Abandoned = plain 33 (codes "ABANDONED") refl
@@ -64,7 +64,7 @@ IsLine-mark (mark.Refused r heard) =
     (AreFrom-append 32 (codes " ") (reason_text r) IsLine-blank (IsLine-word (reason_text r) (IsWord-reason r))) IsLine-blank)
     (IsLine-word (decimal heard) (IsWord-decimal heard))
 
-IsLine-marks : (ms : List Mark) → IsLine (marks_text ms)
+pub IsLine-marks : (ms : List Mark) → IsLine (marks_text ms)
 unfolding marks_text
 IsLine-marks [] = tt
 IsLine-marks (m ∷ ms) = AreFrom-append 32 (mark_text m) (marks_text ms) (IsLine-mark m) (IsLine-marks ms)

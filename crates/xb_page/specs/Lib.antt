@@ -4,3 +4,4 @@ pub mod ReadPages
 pub mod Sheets
 pub mod PageLines
 pub mod ReadBack
+pub mod LineEnds

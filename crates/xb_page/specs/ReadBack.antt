@@ -12,6 +12,7 @@ use Rattle.xb_model.specs.declared.reason.Reason.{Reason}
 use Rattle.xb_model.specs.Page.{last_refusal, page_text}
 use Rattle.xb_model.specs.Tapes.{entries_of}
 use Rattle.xb_page.specs.Entries.{Entry, entry_with}
+use Rattle.xb_page.specs.LineEnds.{lf_ended}
 use Rattle.xb_page.specs.ReadPages.{entries_of_page}
 
 abbrev pub IsKey : Key → Type 0
@@ -52,3 +53,7 @@ entries_of_tapes line (marks ∷ tapes) =
 abbrev pub PagesAreReadBack : Type 0
 PagesAreReadBack = (tapes : List (List Mark)) → length tapes ≤ LINES → AllByRecursion AreMarks tapes
     → entries_of_page (page_text tapes) ≡ Ok (entries_of_tapes 0 tapes)
+
+-- they have no CR LF, so their lines are read as they are
+abbrev pub PagesEndAtLf : Type 0
+PagesEndAtLf = (tapes : List (List Mark)) → lf_ended (page_text tapes) ≡ page_text tapes

@@ -8,6 +8,8 @@
 //! - `read_page`: of a page of lines from a first one on, the text of its entries and how many are keyed and
 //!   refused, or the first fault. Each text line is judged by the same definition (`entry_of_fields`), and
 //!   takes no memory.
+//! - `end_lines_at_lf`: a page whose lines may end at CR LF, with LF in its place (`lf_ended`). Who reads a file calls
+//!   it first; `laws::pages_end_at_lf` says that it leaves the page of tapes as it is.
 //! - `laws::pages_are_read_back`: what is read of the page of tapes, of at most 10,000 lines, are exactly the
 //!   entries that it was printed from.
 //!
@@ -21,6 +23,7 @@ mod fault;
 mod fields;
 mod heads;
 pub mod laws;
+mod line_ends;
 mod pieces;
 mod place;
 mod reading;
@@ -29,4 +32,5 @@ mod totals;
 pub use entry::PageEntry;
 pub use fault::PageFault;
 pub use heads::{ReadPage, read_page};
+pub use line_ends::end_lines_at_lf;
 pub use reading::{MOST_PAGE_BYTES, page_entries};

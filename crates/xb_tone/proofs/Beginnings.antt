@@ -1,11 +1,10 @@
 -- The beginnings of a text that is written in parts.
-use Rattle.std.proofs.Common.{◌≡◌, ◌∙◌, ℕ, suc, get_or, ◌+◌, ◌<◌, ◌≤◌, min, List, [], ◌∷◌, ◌++◌, length, take, drop, Option, sym, ap, subst, append_assoc, arith, ℤ}
+use Rattle.std.proofs.Common.{◌≡◌, ◌∙◌, ℕ, suc, get_or, ◌+◌, ◌<◌, ◌≤◌, min, List, ◌∷◌, ◌++◌, length, take, drop, Option, sym, ap, subst, arith, ℤ}
 use Rattle.std.proofs.lemmas.Grind.{flat_map-append}
 use Rattle.std.proofs.lemmas.List.{take-append-drop, take-append-le, take_min}
 use Rattle.std.proofs.KnownBytes.{Appends-trans}
 use Rattle.std.proofs.Math.Seq.{drop-cons, take-append-add, take-length}
 use Rattle.std.specs.Io.KnownBytes.{Appends}
-use Rattle.std.specs.List.{flat_map}
 use Rattle.xb_model.specs.declared.mark.Mark.{Mark}
 use Rattle.xb_text.specs.Writing.{AppendsBeginning}
 use Rattle.xb_tone.specs.declared.cadence.Cadence.{Cadence}

@@ -5,7 +5,9 @@ use Rattle.std.specs.List.{filter, flat_map, list_any}
 use Rattle.xb_model.specs.declared.mark.Mark.{Mark}
 use Rattle.xb_model.specs.Page.{is_keyed}
 use Rattle.xb_page.specs.declared.reading.TheConstants.{MOST_PAGE_BYTES}
+use Rattle.xb_page.specs.declared.fault.PageFault.{PageFault}
 use Rattle.xb_page.specs.Entries.{Entry}
+use Rattle.xb_page.specs.LineEnds.{lf_ended}
 use Rattle.xb_page.specs.ReadPages.{entries_of_page}
 use Rattle.xb_text.specs.Writing.{AppendsBeginning}
 use Rattle.xb_tone.specs.Sounds.{sound_of}
@@ -32,16 +34,20 @@ sounds choice entry = is_chosen choice entry && is_keyed entry.marks
 abbrev pub marks_chosen : Choice → List Entry → List Mark
 marks_chosen choice entries = flat_map (λ (entry : Entry). entry.marks) (filter (λ entry. sounds choice entry) entries)
 
+-- the entries of a page, whose lines end at LF or at CR LF, or its first fault
+abbrev pub entries_read : List ℕ → Result (List Entry) PageFault
+entries_read page = entries_of_page (lf_ended page)
+
 -- the marks that a page has of what is asked for
 pub record Names (choice : Choice) (page : List ℕ) (marks : List Mark) : Type 0 where
   pub entries : List Entry
-  pub are_read : entries_of_page page ≡ Ok entries
+  pub are_read : entries_read page ≡ Ok entries
   pub are_chosen : marks ≡ marks_chosen choice entries
 
 -- none of its entries is asked for
 pub record NamesNone (choice : Choice) (page : List ℕ) : Type 0 where
   pub entries : List Entry
-  pub are_read : entries_of_page page ≡ Ok entries
+  pub are_read : entries_read page ≡ Ok entries
   pub none : list_any (λ entry. is_chosen choice entry) entries ≡ false
 
 -- the bytes of the sound of marks
@@ -63,7 +69,7 @@ JudgesCadence cadence result = IsLawful cadence
 
 -- memory ran out, or this is the fault of the page
 abbrev pub IsFaultOfPage : Choice → List ℕ → ToneFault → Type 0
-IsFaultOfPage choice page (fault.Page f) = entries_of_page page ≡ Err f
+IsFaultOfPage choice page (fault.Page f) = entries_read page ≡ Err f
 IsFaultOfPage choice page fault.NoEntry = NamesNone choice page
 IsFaultOfPage choice page fault.Refused = Names choice page []
 IsFaultOfPage choice page f = f ≡ fault.NoMemory
@@ -81,7 +87,7 @@ Delivers request page (Err fault.CutShort) old new =
 Delivers request page (Err fault.TooLong) old new =
     Keeps old new × IfSome page (λ text. MOST_PAGE_BYTES < length text)
 Delivers request page (Err (fault.Page f)) old new =
-    Keeps old new × IfSome page (λ text. entries_of_page text ≡ Err f)
+    Keeps old new × IfSome page (λ text. entries_read text ≡ Err f)
 Delivers request page (Err fault.NoEntry) old new =
     Keeps old new × IfSome page (λ text. NamesNone request.choice text)
 Delivers request page (Err fault.Refused) old new =

@@ -14,7 +14,7 @@ use crate::sounding::{SoundFault, write_samples, write_wav};
 use std::alloc::{AllocError, Global};
 use std::io::{Read, Write};
 use xb_model::Mark;
-use xb_page::{MOST_PAGE_BYTES, PageEntry, page_entries};
+use xb_page::{MOST_PAGE_BYTES, PageEntry, end_lines_at_lf, page_entries};
 use xb_text::read_whole;
 
 // Whether an entry is asked for.
@@ -67,12 +67,13 @@ fn marks_chosen(
 }
 
 // The marks that a page has of what is asked for. The text is let go as soon as its entries are read.
-fn marks_of_page(alloc: Global, choice: Choice, page: Vec<u8>) -> Result<Vec<Mark>, ToneFault>
+fn marks_of_page(alloc: Global, choice: Choice, mut page: Vec<u8>) -> Result<Vec<Mark>, ToneFault>
     requires { length page.items ≤ MOST_PAGE_BYTES }
     ensures marks { IfOk result (λ marks. Names choice page.items marks.items) }
     ensures some { IfOk result (λ marks. 0 < length marks.items) }
     ensures fault { IfErr result (λ f. IsFaultOfPage choice page.items f) }
 {
+    end_lines_at_lf(&mut page);
     let entries = page_entries(alloc, &page)?;
     drop(page);
     if !has_chosen(choice, &entries) {

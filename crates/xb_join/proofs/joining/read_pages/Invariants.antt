@@ -1,8 +1,8 @@
 use Rattle.std.proofs.Common.{map, take}
-use Rattle.xb_join.specs.Files.{HaveTexts}
+use Rattle.xb_join.specs.Files.{HavePages}
 use Rattle.xb_join.proofs.joining.read_pages.Given as goal
 
 abbrev pub invariant-loop-name : goal.invariant-loop-name
 invariant-loop-name g l =
-    HaveTexts (g.F.PageFiles.bytes l.files) (map (λ name. name.now) (take l.name-index l.names))
+    HavePages (g.F.PageFiles.bytes l.files) (map (λ name. name.now) (take l.name-index l.names))
     (map (λ page. page.items) l.pages.items)

@@ -1,4 +1,3 @@
-use Rattle.std.proofs.Common.{◌++◌}
 use Rattle.xb_tone.specs.Sounds.{sound_of}
 use Rattle.xb_tone.specs.Wavs.{header_of, pcm_of}
 use Rattle.xb_tone.proofs.Beginnings.{beginning-after, beginning-more}

@@ -1,4 +1,4 @@
-use Rattle.std.proofs.Common.{◌++◌, suc, ◌≤◌, drop, length, take, sym, subst, ap, arith}
+use Rattle.std.proofs.Common.{◌++◌, suc, ◌≤◌, drop, length, take, sym, subst, arith}
 use Rattle.std.proofs.lemmas.List.{take_all}
 use Rattle.xb_text.specs.Writing.{AppendsBeginning}
 use Rattle.xb_tone.specs.Sounds.{mark_sound, sound_of}
