@@ -1,17 +1,17 @@
 // Texts of calls, and their faults.
 use std::process::Abort;
 use std::test::Fail;
-use xb_dial::{Call, CallFault, MOST_TEXT_BYTES, calls_of_text};
+use xb_dial::{Call, MOST_TEXT_BYTES, calls_of_text};
 use xb_model::Plan;
 
 // A line, and the values of its digits.
 type Parts = (u16, &'static [u8]);
 
-// A text, the plan by which its numbers have to be complete, and its calls or its fault.
+// A text, the plan by which its numbers have to be complete, and its calls or the words of its fault.
 type Case = (
     &'static [u8],
     Option<Plan>,
-    Result<&'static [Parts], CallFault>,
+    Result<&'static [Parts], &'static [u8]>,
 );
 
 const SEVEN: Option<Plan> = Some(Plan::Seven);
@@ -38,28 +38,86 @@ const CASES: &[Case] = &[
     ),
     (b"7 1112345", TEN, Ok(&[(7, &[1, 1, 1, 2, 3, 4, 5])])),
     // the line
-    (b"10000 0", SEVEN, Err(CallFault::Line(1))),
-    (b"7 0\n\n 7 0", SEVEN, Err(CallFault::Line(3))),
-    (b"-7 0", SEVEN, Err(CallFault::Line(1))),
-    (b"7\t0", SEVEN, Err(CallFault::Line(1))),
-    (b"#\n\r7 0", SEVEN, Err(CallFault::Line(2))),
+    (
+        b"10000 0",
+        SEVEN,
+        Err(b"text line 1: \"10000\" is no line of 0 to 9999"),
+    ),
+    (
+        b"7 0\n\n 7 0",
+        SEVEN,
+        Err(b"text line 3: \"\" is no line of 0 to 9999"),
+    ),
+    (
+        b"-7 0",
+        SEVEN,
+        Err(b"text line 1: \"-7\" is no line of 0 to 9999"),
+    ),
+    (
+        b"7\t0",
+        SEVEN,
+        Err(b"text line 1: \"7?0\" is no line of 0 to 9999"),
+    ),
+    (
+        b"#\n\r7 0",
+        SEVEN,
+        Err(b"text line 2: \"?7\" is no line of 0 to 9999"),
+    ),
+    // 40 bytes are told, and one that is not printed as a question mark
+    (
+        b"\xff234567890123456789012345678901234567890123 0",
+        SEVEN,
+        Err(b"text line 1: \"?234567890123456789012345678901234567890\" is no line of 0 to 9999"),
+    ),
     // the digits
-    (b"7 23x", SEVEN, Err(CallFault::Digit(1))),
-    (b"7 0\r\r\n", SEVEN, Err(CallFault::Digit(1))),
-    (b"7 0 # call", SEVEN, Err(CallFault::Digit(1))),
-    (b"7\n", SEVEN, Err(CallFault::NoDigits(1))),
-    (b"7 - \n", None, Err(CallFault::NoDigits(1))),
+    (b"7 23x", SEVEN, Err(b"text line 1 has a wrong digit")),
+    (b"7 0\r\r\n", SEVEN, Err(b"text line 1 has a wrong digit")),
+    (b"7 0 # call", SEVEN, Err(b"text line 1 has a wrong digit")),
+    (b"7\n", SEVEN, Err(b"text line 1 has no digits")),
+    (b"7 - \n", None, Err(b"text line 1 has no digits")),
     // the number
-    (b"7 41", SEVEN, Err(CallFault::Unfinished(1))),
-    (b"7 234567", SEVEN, Err(CallFault::Unfinished(1))),
-    (b"7 2125551", TEN, Err(CallFault::Unfinished(1))),
-    (b"7 00", SEVEN, Err(CallFault::GoesOn(1))),
-    (b"7 4112", SEVEN, Err(CallFault::GoesOn(1))),
-    (b"7 2125551234", SEVEN, Err(CallFault::GoesOn(1))),
-    (b"7 21255512345", TEN, Err(CallFault::GoesOn(1))),
+    (
+        b"7 41",
+        SEVEN,
+        Err(b"text line 1 has a number that is not complete"),
+    ),
+    (
+        b"7 234567",
+        SEVEN,
+        Err(b"text line 1 has a number that is not complete"),
+    ),
+    (
+        b"7 2125551",
+        TEN,
+        Err(b"text line 1 has a number that is not complete"),
+    ),
+    (
+        b"7 00",
+        SEVEN,
+        Err(b"text line 1 has a number that goes on after it is complete"),
+    ),
+    (
+        b"7 4112",
+        SEVEN,
+        Err(b"text line 1 has a number that goes on after it is complete"),
+    ),
+    (
+        b"7 2125551234",
+        SEVEN,
+        Err(b"text line 1 has a number that goes on after it is complete"),
+    ),
+    (
+        b"7 21255512345",
+        TEN,
+        Err(b"text line 1 has a number that goes on after it is complete"),
+    ),
     (b"7 00\n8 41", None, Ok(&[(7, &[0, 0]), (8, &[4, 1])])),
     // the first fault
-    (b"7 0\n7 00\nx", SEVEN, Err(CallFault::GoesOn(2))),
+    (
+        b"7 0\n7 00\nx",
+        SEVEN,
+        Err(b"text line 2 has a number that goes on after it is complete"),
+    ),
 ];
 
 // Whether a call is on this line and has these digits.
@@ -82,7 +140,7 @@ fn check_calls(rt: &impl Abort, text: &[u8], calls: &[Call], want: &[Parts]) {
 }
 
 #[test]
-fn reads_calls_and_names_the_first_fault(rt: HostRuntime) {
+fn reads_calls_and_names_the_first_fault(rt: HostRuntime) -> Result<(), Fail> {
     for (text, whole, want) in CASES {
         let short = text.len() <= MOST_TEXT_BYTES;
         assert!(rt; short);
@@ -91,7 +149,14 @@ fn reads_calls_and_names_the_first_fault(rt: HostRuntime) {
                 Ok(want) => check_calls(&rt, text, &calls, want),
                 Err(_) => assert!(rt; false, "{} has a fault", text.escape_ascii()),
             },
-            Err(fault) => assert!(rt; want.is_err_and(|f| f == fault), "{}", text.escape_ascii()),
+            Err(fault) => {
+                let told = format!(in rt.alloc(); "{fault}")?;
+                match want {
+                    Ok(_) => assert!(rt; false, "{told}: {}", text.escape_ascii()),
+                    Err(words) => assert!(rt; told.as_bytes() == *words, "{told}"),
+                }
+            }
         }
     }
+    Ok(())
 }

@@ -93,7 +93,7 @@ const CASES: &[Case] = &[
         b"7 0\n10000 0",
         1,
         b"",
-        b"mfdial: text line 2 has a wrong line\n",
+        b"mfdial: text line 2: \"10000\" is no line of 0 to 9999\n",
     ),
     (
         &[],

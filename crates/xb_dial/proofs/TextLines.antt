@@ -15,6 +15,7 @@ use Rattle.xb_dial.specs.declared.fault.CallFault.TheVariants as fault
 use Rattle.xb_dial.specs.Calls.{DialledCall, call_of}
 use Rattle.xb_dial.specs.CallTexts.{call_and_rest, call_of_digits, call_of_line, call_unless, calls_from, calls_of_text, digits_of, is_passed_over, length_fault, line_feed, number_fault, or_fault, or_wrong_digit, text_lines, two_fields}
 use Rattle.xb_dial.specs.Heard.{AreComplete}
+use Rattle.xb_dial.specs.ToldFields.{told}
 use Rattle.xb_dial.specs.TextLines.{StopsBy, TakesLine, after}
 
 some_is : {A : Type 0} {x y : A} → Some x ≡ Some y → x ≡ y
@@ -108,18 +109,18 @@ complete-wrong : (plan : Plan) (n line : ℕ) (digits : Option (List ℕ)) (read
 complete-wrong plan n line None read is = absurd (err_is is)
 complete-wrong plan n line (Some digits) read is = complete-digits plan n line digits read is
 
-complete-fields : (plan : Plan) (n : ℕ) (line : Option ℕ) (digits : Option (List ℕ)) (read : DialledCall)
-    → or_fault (fault.Line n) line (λ l. or_wrong_digit n digits (λ d. call_of_digits (Some plan) n l d))
+complete-fields : (plan : Plan) (n : ℕ) (field : List ℕ) (line : Option ℕ) (digits : Option (List ℕ)) (read : DialledCall)
+    → or_fault (fault.Line n (told field)) line (λ l. or_wrong_digit n digits (λ d. call_of_digits (Some plan) n l d))
     ≡ Ok read
     → is_complete plan read.digits ≡ true
-complete-fields plan n None digits read is = absurd (err_is is)
-complete-fields plan n (Some line) digits read is = complete-wrong plan n line digits read is
+complete-fields plan n field None digits read is = absurd (err_is is)
+complete-fields plan n field (Some line) digits read is = complete-wrong plan n line digits read is
 
 complete-call : (plan : Plan) (n : ℕ) (line : List ℕ) (read : DialledCall)
     → call_of_line (Some plan) n line ≡ Ok read
     → is_complete plan read.digits ≡ true
 complete-call plan n line read is =
-    complete-fields plan n (line_of (two_fields line).0) (digits_of (two_fields line).1) read is
+    complete-fields plan n (two_fields line).0 (line_of (two_fields line).0) (digits_of (two_fields line).1) read is
 
 complete-rest : (plan : Plan) (first : Result DialledCall CallFault)
     (rest : Result (List DialledCall) CallFault)

@@ -12,6 +12,7 @@ use Rattle.xb_model.specs.Fields.{line_of}
 use Rattle.xb_dial.specs.declared.fault.CallFault.{CallFault}
 use Rattle.xb_dial.specs.declared.fault.CallFault.TheVariants as fault
 use Rattle.xb_dial.specs.Calls.{DialledCall, call_of}
+use Rattle.xb_dial.specs.ToldFields.{told}
 
 -- the bytes that set things apart: LF, space, hyphen, #
 abbrev pub line_feed : ℕ
@@ -87,7 +88,7 @@ or_wrong_digit n (Some digits) next = next digits
 -- the call of text line n, or its first fault: line, digits, number
 abbrev pub call_of_fields : Option Plan → ℕ → List ℕ × List ℕ → Result DialledCall CallFault
 call_of_fields whole n fields =
-    or_fault (fault.Line n) (line_of fields.0) (λ line.
+    or_fault (fault.Line n (told fields.0)) (line_of fields.0) (λ line.
     or_wrong_digit n (digits_of fields.1) (λ digits.
     call_of_digits whole n line digits))
 

@@ -3,6 +3,7 @@ pub mod Calls
 pub mod Dialling
 pub mod Heard
 pub mod LineRows
+pub mod ToldFields
 pub mod CallTexts
 pub mod TextLines
 pub mod WorkedCalls

@@ -38,8 +38,9 @@ abbrev pub CallsOfTexts : Type 0
 CallsOfTexts =
     (calls_of_text (Some Seven) (codes "# calls\n\n7 234-5678\r\n0009 4 1 1\n9 0")
     ≡ Ok (call_of 7 (2 ∷ 3 ∷ 4 ∷ 5 ∷ 6 ∷ 7 ∷ 8 ∷ []) ∷ call_of 9 (4 ∷ 1 ∷ 1 ∷ []) ∷ call_of 9 (0 ∷ []) ∷ []))
-    × (calls_of_text (Some Seven) (codes "7 0\n10000 0\n") ≡ Err (fault.Line 2))
-    × (calls_of_text (Some Seven) (codes " 7 0") ≡ Err (fault.Line 1))
+    × (calls_of_text (Some Seven) (codes "7 0\n10000 0\n") ≡ Err (fault.Line 2 (codes "10000")))
+    × (calls_of_text (Some Seven) (codes " 7 0") ≡ Err (fault.Line 1 []))
+    × (calls_of_text (Some Seven) (codes "7\r 0") ≡ Err (fault.Line 1 (codes "7?")))
     × (calls_of_text (Some Seven) (codes "7 2x4") ≡ Err (fault.Digit 1))
     × (calls_of_text (Some Seven) (codes "7") ≡ Err (fault.NoDigits 1))
     × (calls_of_text (Some Seven) (codes "7 234-567") ≡ Err (fault.Unfinished 1))

@@ -2,16 +2,17 @@
 ghost use Rattle.std.specs.Prelude.{◌≡◌};
 
 use crate::speed::SpeedFault;
+use crate::told::ToldField;
 use std::alloc::AllocError;
 use thiserror::Error;
 use xb_text::{ReadFault, WriteFault};
 
 /// Why a text gives no calls: the first fault, with its text line, counted from 1.
-#[derive(Clone, Copy, Debug, PartialEq, Eq, Error)]
+#[derive(Debug, Drop, Error)]
 pub enum CallFault {
-    /// What stands before the first space is not 1 to 4 digits.
-    #[error("text line {0} has a wrong line")]
-    Line(u32),
+    /// What stands before the first space is not 1 to 4 digits. It is told (`ToldField`).
+    #[error("text line {0}: \"{1}\" is no line of 0 to 9999")]
+    Line(u32, ToldField),
     /// Among the digits is a byte that is no digit, space or hyphen.
     #[error("text line {0} has a wrong digit")]
     Digit(u32),
@@ -31,7 +32,7 @@ pub enum CallFault {
 
 /// Why no rows are printed: the first of these, in this order. Running out of memory is always
 /// `NoMemory`, also one of a `CallFault`.
-#[derive(Clone, Copy, Debug, PartialEq, Eq, Error)]
+#[derive(Debug, Drop, Error)]
 pub enum DialFault {
     /// A time of the speed does not fit the standard limits.
     #[error("speed: {0}")]

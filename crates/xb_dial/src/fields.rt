@@ -5,6 +5,7 @@ ghost use Rattle.xb_dial.specs.CallTexts.{IsFaultOf, IsWrongDigit, call_of_line,
 
 use crate::call::Call;
 use crate::fault::CallFault;
+use crate::told::ToldField;
 use std::alloc::Global;
 use xb_model::{Digit, Plan, line_of, plan_len};
 use xb_text::cut_at;
@@ -81,8 +82,10 @@ pub(crate) fn call_of_line(
     ensures call { IfOk result (λ call. call_of_line whole n text.now ≡ Ok call) }
     ensures fault { IfErr result (λ f. IsFaultOf (call_of_line whole n text.now) f) }
 {
-    let (line, field) = two_fields(text);
-    let line = line_of(line).ok_or(CallFault::Line(n))?;
+    let (first, field) = two_fields(text);
+    let Some(line) = line_of(first) else {
+        return Err(CallFault::Line(n, ToldField::of(first)));
+    };
     let digits = digits_of(alloc, n, field)?;
     if digits.is_empty() {
         return Err(CallFault::NoDigits(n));

@@ -7,8 +7,8 @@
 //!   those that it dials.
 //! - `Speed::fits`: `Ok` exactly where the five times fit the limits; else the first that does not.
 //!   `Speed::ten` and `twenty` fit the standard limits.
-//! - `calls_of_text`: the calls of the text, or, unless memory ran out, its first fault with its text line;
-//!   with a plan, each number is complete by it.
+//! - `calls_of_text`: the calls of the text, or, unless memory ran out, its first fault with its text line,
+//!   and with what stands there in place of a line; with a plan, each number is complete by it.
 //! - `dial`, of readers and writers whose bytes a contract can name: on `Ok` the writer got exactly the
 //!   text of the rows that dial the calls of the text; by the plan, if one is asked for, exactly the
 //!   numbers of each line are heard by the standard limits, and keyed. On `Write` it got the beginning, on
@@ -29,6 +29,7 @@ mod reading;
 mod request;
 mod runs;
 mod speed;
+mod told;
 mod words;
 
 pub use call::Call;
@@ -40,3 +41,4 @@ pub use program::attend;
 pub use reading::{MOST_TEXT_BYTES, calls_of_text};
 pub use request::Request;
 pub use speed::{Speed, SpeedFault};
+pub use told::{MOST_TOLD_BYTES, ToldField};
