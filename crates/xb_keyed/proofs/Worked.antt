@@ -1,0 +1,15 @@
+-- Levels, as worked by hand.
+use Rattle.std.proofs.Common.{refl}
+use Rattle.std.specs.Fmt.{digits}
+use Rattle.xb_keyed.specs.Worked.{LevelsAreAsWorked}
+
+pub levels_are_as_worked : LevelsAreAsWorked
+unfolding digits
+levels_are_as_worked = record {
+  greatest = refl;
+  half = refl;
+  tone = refl;
+  tenth = refl;
+  least = refl;
+  none_of_two = refl;
+}

@@ -1,0 +1,7 @@
+pub mod Names
+pub mod Levels
+pub mod Figures
+pub mod Verdicts
+pub mod Objects
+pub mod Lines
+pub mod Worked

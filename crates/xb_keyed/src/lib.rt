@@ -1,0 +1,23 @@
+//! What is told of a key that was heard: its name, when it began and how long it lasted, both levels, and the first
+//! limit of System R1 that it misses.
+//!
+//! - `digit_of` is the digit of a pair, `write_name` the name of any pair: a digit, KP, ST, ST', ST''', and KP2/ST'',
+//!   which are one pair.
+//! - `figures_of`: the figures of a key, by the last key before it. `verdict_of`: GOOD, or the first limit that they
+//!   miss, of length, gap, twist and level.
+//! - `key_line`: exactly the line of the figures (`text_line`), or as an object of JSON (`object_line`).
+//! - `laws::levels_are_as_worked`: levels in dBm0, as worked by hand.
+#![tactic(auto)]
+
+mod figures;
+pub mod laws;
+mod levels;
+mod lines;
+mod names;
+mod objects;
+mod verdicts;
+
+pub use figures::{Figures, figures_of, start_ms};
+pub use lines::{Telling, key_line};
+pub use names::{digit_of, is_same_pair, write_name};
+pub use verdicts::{Verdict, verdict_of};
