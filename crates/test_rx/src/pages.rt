@@ -22,16 +22,47 @@ fn sound(alloc: Global) -> Result<Vec<u8>, Fail> {
     Ok(file)
 }
 
+// Its keys, by a second receiver (scripts/second_ear.c).
+const KEYS: &[u8] = b"\
+KP at 501 ms for 97 ms, 1100 Hz -7.2 dBm0, 1700 Hz -7.2 dBm0, twist 0.0 dB, first: GOOD\n\
+5 at 668 ms for 67 ms, 900 Hz -7.2 dBm0, 1300 Hz -7.2 dBm0, twist 0.0 dB, after 70 ms: GOOD\n\
+0 at 803 ms for 65 ms, 1300 Hz -7.2 dBm0, 1500 Hz -7.2 dBm0, twist 0.0 dB, after 67 ms: GOOD\n\
+ST at 941 ms for 65 ms, 1500 Hz -7.2 dBm0, 1700 Hz -7.2 dBm0, twist 0.0 dB, after 72 ms: GOOD\n\
+KP at 1576 ms for 97 ms, 1100 Hz -7.2 dBm0, 1700 Hz -7.2 dBm0, twist 0.0 dB, after 570 ms: GOOD\n\
+1 at 1743 ms for 67 ms, 700 Hz -7.2 dBm0, 900 Hz -7.2 dBm0, twist 0.0 dB, after 70 ms: GOOD\n\
+ST at 1881 ms for 65 ms, 1500 Hz -7.2 dBm0, 1700 Hz -7.2 dBm0, twist 0.0 dB, after 70 ms: GOOD\n";
+
+// The first of them as an object.
+const OBJECT: &[u8] =
+    b"{\"at_ms\":501,\"gap_ms\":null,\"high_dbm0_tenths\":-72,\"high_hz\":1700,\"key\":\"KP\",\
+\"length_ms\":97,\"low_dbm0_tenths\":-72,\"low_hz\":1100,\"twist_db_tenths\":0,\"verdict\":\"GOOD\"}\n";
+
+// What the program writes of the two keyings by some words.
+fn written(alloc: Global, options: &[&str]) -> Result<Vec<u8>, Fail> {
+    let file = sound(alloc)?;
+    let words = words_of(alloc, "mfrx", options)?;
+    let mut reader = file.as_slice();
+    let mut out = Vec::new(alloc);
+    let mut err = Vec::new(alloc);
+    let status = attend(alloc, &words, &mut reader, &mut out, &mut err);
+    if status != 0 || !err.is_empty() {
+        return Err("another status".into());
+    }
+    Ok(out)
+}
+
 #[test]
 fn writes_the_page_of_a_sound(rt: HostRuntime) -> Result<(), Fail> {
-    let file = sound(rt.alloc())?;
-    let words = words_of(rt.alloc(), "mfrx", &["--line", "42", "--trunk", "17"])?;
-    let mut reader = file.as_slice();
-    let mut out = Vec::new(rt.alloc());
-    let mut err = Vec::new(rt.alloc());
-    let status = attend(rt.alloc(), &words, &mut reader, &mut out, &mut err);
-    assert_eq!(rt; status, 0);
-    assert!(rt; err.is_empty());
-    assert!(rt; out.as_slice() == PAGE);
+    let page = written(rt.alloc(), &["--line", "42", "--trunk", "17"])?;
+    assert!(rt; page.as_slice() == PAGE);
+    Ok(())
+}
+
+#[test]
+fn tells_each_key(rt: HostRuntime) -> Result<(), Fail> {
+    let keys = written(rt.alloc(), &["--tones"])?;
+    assert!(rt; keys.as_slice() == KEYS);
+    let objects = written(rt.alloc(), &["--json"])?;
+    assert!(rt; objects.starts_with(OBJECT));
     Ok(())
 }

@@ -25,7 +25,8 @@ impl Program for Mfrx {
     }
 }
 
-const USAGE: &[u8] = b"mfrx: usage: mfrx [--line N] [--trunk T] [--raw [--rate HZ] [--ulaw]]\n";
+const USAGE: &[u8] =
+    b"mfrx: usage: mfrx [--line N] [--trunk T] [--tones] [--json] [--raw [--rate HZ] [--ulaw]]\n";
 
 // A file of two samples of silence, after a chunk of three bytes that says nothing.
 const FILE: &[u8] = b"RIFF\x34\0\0\0WAVELIST\x03\0\0\0abc\0\
@@ -54,6 +55,8 @@ const CASES: &[(&[&str], &[u8], u8, &[u8], &[u8])] = &[
     (&["--raw", "--rate", "11025"], FILE, 2, b"", USAGE),
     (&["--ulaw"], FILE, 2, b"", USAGE),
     (&["--rate", "8000"], FILE, 2, b"", USAGE),
+    (&["--tones"], FILE, 0, b"", b""),
+    (&["--json", "--line", "7"], FILE, 2, b"", USAGE),
     (&["--help"], FILE, 2, b"", USAGE),
 ];
 

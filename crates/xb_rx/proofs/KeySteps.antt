@@ -11,7 +11,7 @@ use Rattle.xb_rx.specs.declared.page.Step.TheVariants as steps
 use Rattle.xb_rx.specs.Keyings.{digits_in}
 use Rattle.xb_rx.specs.Begun.{IsBegun, broken, kept_after, step_of}
 use Rattle.xb_rx.specs.Pages.{Paged, Writes, loose_lines, loose_rest, page_rest}
-use Rattle.xb_rx.proofs.Written.{broken-begun, broken-fault, broken-page, broken-told, complete-fault, complete-page, complete-quiet, kept-begun, kept-loose, kept-page, none-written}
+use Rattle.xb_rx.proofs.WrittenText.{broken-begun, broken-fault, broken-page, broken-told, complete-fault, complete-page, complete-quiet, kept-begun, kept-loose, kept-page, none-written}
 
 module _ (page new : Paged) (key : Heard) (r : Result (Unit {0}) PageFault) where
   -- the key is kept

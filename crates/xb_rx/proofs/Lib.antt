@@ -1,6 +1,7 @@
 pub mod KeyPairs
 pub mod KeyingSteps
-pub mod Written
+pub mod WrittenText
+pub mod Listings
 pub mod KeySteps
 pub mod LastSteps
 pub mod Samples

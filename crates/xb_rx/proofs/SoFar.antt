@@ -14,7 +14,8 @@ use Rattle.xb_rx.specs.declared.page.PageFault.TheVariants as page_fault
 use Rattle.xb_rx.specs.declared.source.StreamFault.{StreamFault}
 use Rattle.xb_rx.specs.declared.source.StreamFault.TheVariants as stream_fault
 use Rattle.xb_rx.specs.Faults.{of_page, of_stream}
-use Rattle.xb_rx.specs.Pages.{Paged, Writes, loose_rest, page_rest}
+use Rattle.xb_rx.specs.Pages.{Writes}
+use Rattle.xb_rx.specs.Reports.{Reported, report_rest, told_rest}
 use Rattle.xb_rx.specs.Hearing.{Hears, IsFaultOf, Outputs, outputs}
 use Rattle.xb_rx.specs.Samples.{Sound, sound_with}
 use Rattle.xb_rx.specs.Streams.{GivesSample}
@@ -30,15 +31,15 @@ keys-begin earlier later =
     )
 
 -- what was written of keys, and of later ones
-module _ (text : Paged → List Heard → List ℕ) (first : Paged) where
+module _ (text : Reported → List Heard → List ℕ) (first : Reported) where
   -- of the first keys this much was written
-  abbrev pub Has : Paged → List Heard → Option (List ℕ) → Option (List ℕ) → Type 0
+  abbrev pub Has : Reported → List Heard → Option (List ℕ) → Option (List ℕ) → Type 0
   Has page keys start out = Writes {F = PageFault} (λ later. text first (keys ++ later)) (text page) (Ok tt) start out
 
   pub has-none : (out : Option (List ℕ)) → Has first [] out out
   has-none out = ([], Appends-nil out, λ later. refl)
 
-  pub has-more : (page new : Paged) (keys more : List Heard) (start out next : Option (List ℕ))
+  pub has-more : (page new : Reported) (keys more : List Heard) (start out next : Option (List ℕ))
       → Has page keys start out → Writes {F = PageFault} (λ later. text page (more ++ later)) (text new) (Ok tt) out next
       → Has new (keys ++ more) start next
   has-more page new keys more start out next (a, wrote, is) (b, also, goes) = (
@@ -51,7 +52,7 @@ module _ (text : Paged → List Heard → List ℕ) (first : Paged) where
   )
 
   -- it is the beginning of all that is to be written
-  pub has-begun : (page : Paged) (keys later : List Heard) (start out : Option (List ℕ)) → Has page keys start out
+  pub has-begun : (page : Reported) (keys later : List Heard) (start out : Option (List ℕ)) → Has page keys start out
       → AppendsBeginning start out (text first (keys ++ later))
   has-begun page keys later start out (a, wrote, is) =
       subst (AppendsBeginning start out) (sym (is later))
@@ -61,7 +62,7 @@ module _ (text : Paged → List Heard → List ℕ) (first : Paged) where
       whole a wrote = subst (λ bytes. AppendsBeginning start out bytes) (append-nil a)
           (AppendsBeginning-second start out out a [] wrote (0, Appends-nil out))
 
-  pub has-fault : (page new : Paged) (keys more later : List Heard) (f : PageFault) (start out next : Option (List ℕ))
+  pub has-fault : (page new : Reported) (keys more later : List Heard) (f : PageFault) (start out next : Option (List ℕ))
       → Has page keys start out → Writes (λ later. text page (more ++ later)) (text new) (Err f) out next
       → AppendsBeginning start next (text first ((keys ++ more) ++ later))
   has-fault page new keys more later f start out next (a, wrote, is) begun =
@@ -70,12 +71,12 @@ module _ (text : Paged → List Heard → List ℕ) (first : Paged) where
       (AppendsBeginning-second start out next a (text page (more ++ later)) wrote (begun later))
 
   -- with the rest it is all of it
-  pub has-last : (page : Paged) (keys more : List Heard) (start out next : Option (List ℕ)) → Has page keys start out
+  pub has-last : (page : Reported) (keys more : List Heard) (start out next : Option (List ℕ)) → Has page keys start out
       → Appends out next (text page more) → Appends start next (text first (keys ++ more))
   has-last page keys more start out next (a, wrote, is) rest =
       subst (Appends start next) (sym (is more)) (Appends-trans start out next a (text page more) wrote rest)
 
-  pub has-last-begun : (page : Paged) (keys more : List Heard) (start out next : Option (List ℕ)) → Has page keys start out
+  pub has-last-begun : (page : Reported) (keys more : List Heard) (start out next : Option (List ℕ)) → Has page keys start out
       → AppendsBeginning out next (text page more) → AppendsBeginning start next (text first (keys ++ more))
   has-last-begun page keys more start out next (a, wrote, is) rest =
       subst (AppendsBeginning start next) (sym (is more))
@@ -93,20 +94,20 @@ IsLeft sound samples None = ⊥
 IsLeft sound samples (Some left) = sound ≡ sound_with (samples ++ left.samples) left.lacking
 
 -- the keys that ended in these samples were written
-pub record Heard_so_far (first page : Paged) (receiver : Receiving) (sound : Sound) (left : Option Sound)
+pub record Heard_so_far (first page : Reported) (receiver : Receiving) (sound : Sound) (left : Option Sound)
     (outs : Outputs) : Type 0 where
   pub samples : List ℤ
   pub keys : List Heard
   pub is_left : IsLeft sound samples left
   pub received : HasReceived receiver samples keys
-  pub page_has : Has page_rest first page keys outs.page_old outs.page_new
-  pub told_has : Has loose_rest first page keys outs.told_old outs.told_new
+  pub page_has : Has report_rest first page keys outs.page_old outs.page_new
+  pub told_has : Has told_rest first page keys outs.told_old outs.told_new
 
-abbrev pub IsSoFar : Paged → Paged → Receiving → Option Sound → Option Sound → Outputs → Type 0
+abbrev pub IsSoFar : Reported → Reported → Receiving → Option Sound → Option Sound → Outputs → Type 0
 IsSoFar first page receiver all left outs =
     IfSome all (λ sound. Heard_so_far first page receiver sound left outs)
 
-pub so_far-start : (first : Paged) (receiver : Receiving) (all : Option Sound) (a b : Option (List ℕ))
+pub so_far-start : (first : Reported) (receiver : Receiving) (all : Option Sound) (a b : Option (List ℕ))
     → HasReceived receiver [] [] → IsSoFar first first receiver all all (outputs a a b b)
 so_far-start first receiver None a b received = tt
 so_far-start first receiver (Some sound) a b received = record {
@@ -114,11 +115,11 @@ so_far-start first receiver (Some sound) a b received = record {
   keys = [];
   is_left = refl;
   received = received;
-  page_has = has-none page_rest first a;
-  told_has = has-none loose_rest first b;
+  page_has = has-none report_rest first a;
+  told_has = has-none told_rest first b;
 }
 
-module _ (first page : Paged) (receiver : Receiving) (a b c d : Option (List ℕ)) where
+module _ (first page : Reported) (receiver : Receiving) (a b c d : Option (List ℕ)) where
   -- the keys of a sound that ends
   all-keys : (key : Option Heard) (sound here : Sound) (left : Option Sound)
       (so : Heard_so_far first page receiver sound (Some here) (outputs a b c d)) → GivesSample (Some here) (Ok None) left
@@ -132,13 +133,13 @@ module _ (first page : Paged) (receiver : Receiving) (a b c d : Option (List ℕ
       ∙ append-nil so.samples))
 
   -- a sample more, and the key that it ended
-  pub so_far-more : (new : Paged) (after : Receiving) (x : ℤ) (key : Option Heard) (all now left : Option Sound)
+  pub so_far-more : (new : Reported) (after : Receiving) (x : ℤ) (key : Option Heard) (all now left : Option Sound)
       (next also : Option (List ℕ)) → IsSoFar first page receiver all now (outputs a b c d)
       → GivesSample now (Ok (Some x)) left
       → ((samples : List ℤ) (keys : List Heard) → HasReceived receiver samples keys
       → HasReceived after (samples ++ x ∷ []) (keys ++ listed key))
-      → Writes {F = PageFault} (λ later. page_rest page (listed key ++ later)) (page_rest new) (Ok tt) b next
-      → Writes {F = PageFault} (λ later. loose_rest page (listed key ++ later)) (loose_rest new) (Ok tt) d also
+      → Writes {F = PageFault} (λ later. report_rest page (listed key ++ later)) (report_rest new) (Ok tt) b next
+      → Writes {F = PageFault} (λ later. told_rest page (listed key ++ later)) (told_rest new) (Ok tt) d also
       → IsSoFar first new after all left (outputs a next c also)
   so_far-more new after x key None now left next also so gives takes wrote told = tt
   so_far-more new after x key (Some sound) None left next also so gives takes wrote told = absurd so.is_left
@@ -151,18 +152,18 @@ module _ (first page : Paged) (receiver : Receiving) (a b c d : Option (List ℕ
         ∙ ap (λ (s : Sound). sound_with (so.samples ++ s.samples) s.lacking) gives
         ∙ ap (λ xs. sound_with xs left.lacking) (sym (append_assoc so.samples (x ∷ []) left.samples));
     received = takes so.samples so.keys so.received;
-    page_has = has-more page_rest first page new so.keys (listed key) a b next so.page_has wrote;
-    told_has = has-more loose_rest first page new so.keys (listed key) c d also so.told_has told;
+    page_has = has-more report_rest first page new so.keys (listed key) a b next so.page_has wrote;
+    told_has = has-more told_rest first page new so.keys (listed key) c d also so.told_has told;
   }
 
   -- the key that it ended was not written
-  pub so_far-fault : (new : Paged) (after : Receiving) (x : ℤ) (key : Option Heard) (f : PageFault)
+  pub so_far-fault : (new : Reported) (after : Receiving) (x : ℤ) (key : Option Heard) (f : PageFault)
       (all now left : Option Sound) (next also : Option (List ℕ)) → IsSoFar first page receiver all now (outputs a b c d)
       → GivesSample now (Ok (Some x)) left
       → ((samples : List ℤ) (keys : List Heard) → HasReceived receiver samples keys
       → HasReceived after (samples ++ x ∷ []) (keys ++ listed key))
-      → Writes (λ later. page_rest page (listed key ++ later)) (page_rest new) (Err f) b next
-      → Writes (λ later. loose_rest page (listed key ++ later)) (loose_rest new) (Err f) d also
+      → Writes (λ later. report_rest page (listed key ++ later)) (report_rest new) (Err f) b next
+      → Writes (λ later. told_rest page (listed key ++ later)) (told_rest new) (Err f) d also
       → Hears all first (Err (of_page f)) (outputs a next c also)
   so_far-fault new after x key f None now left next also so gives takes wrote told = tt
   so_far-fault new after x key f (Some sound) None left next also so gives takes wrote told = absurd so.is_left
@@ -178,10 +179,10 @@ module _ (first page : Paged) (receiver : Receiving) (a b c d : Option (List ℕ
       ap keys_of_sound samples ∙ more.1 ∙ ap (λ ks. ks ++ more.0) (sym taken.given) in (
         page-fault sound f,
         record {
-          page_begun = subst (λ ks. AppendsBeginning a next (page_rest first ks)) (sym keys)
-              (has-fault page_rest first page new so.keys (listed key) more.0 f a b next so.page_has wrote);
-          told_begun = subst (λ ks. AppendsBeginning c also (loose_rest first ks)) (sym keys)
-              (has-fault loose_rest first page new so.keys (listed key) more.0 f c d also so.told_has told);
+          page_begun = subst (λ ks. AppendsBeginning a next (report_rest first ks)) (sym keys)
+              (has-fault report_rest first page new so.keys (listed key) more.0 f a b next so.page_has wrote);
+          told_begun = subst (λ ks. AppendsBeginning c also (told_rest first ks)) (sym keys)
+              (has-fault told_rest first page new so.keys (listed key) more.0 f c d also so.told_has told);
         },
       )
 
@@ -196,10 +197,10 @@ module _ (first page : Paged) (receiver : Receiving) (a b c d : Option (List ℕ
       ap (λ (s : Sound). keys_of_sound s.samples) so.is_left ∙ more.1 ∙ ap (λ ks. ks ++ more.0) (sym so.received.given) in (
         at f gives,
         record {
-          page_begun = subst (λ ks. AppendsBeginning a b (page_rest first ks)) (sym keys)
-              (has-begun page_rest first page so.keys more.0 a b so.page_has);
-          told_begun = subst (λ ks. AppendsBeginning c d (loose_rest first ks)) (sym keys)
-              (has-begun loose_rest first page so.keys more.0 c d so.told_has);
+          page_begun = subst (λ ks. AppendsBeginning a b (report_rest first ks)) (sym keys)
+              (has-begun report_rest first page so.keys more.0 a b so.page_has);
+          told_begun = subst (λ ks. AppendsBeginning c d (told_rest first ks)) (sym keys)
+              (has-begun told_rest first page so.keys more.0 c d so.told_has);
         },
       )
     where
@@ -213,7 +214,7 @@ module _ (first page : Paged) (receiver : Receiving) (a b c d : Option (List ℕ
       → IsSoFar first page receiver all now (outputs a b c d) → GivesSample now (Ok None) left
       → ((samples : List ℤ) (keys : List Heard) → HasReceived receiver samples keys
       → keys ++ listed key ≡ keys_of_sound samples)
-      → Appends b next (page_rest page (listed key)) → Appends d also (loose_rest page (listed key))
+      → Appends b next (report_rest page (listed key)) → Appends d also (told_rest page (listed key))
       → Hears all first (Ok tt) (outputs a next c also)
   so_far-end key None now left next also so gives finishes wrote told = tt
   so_far-end key (Some sound) None left next also so gives finishes wrote told = absurd so.is_left
@@ -221,10 +222,10 @@ module _ (first page : Paged) (receiver : Receiving) (a b c d : Option (List ℕ
       let keys = all-keys key sound here left so gives finishes in (
         ap (λ (s : Sound). s.lacking) so.is_left ∙ ap (λ (s : Sound). s.lacking) gives,
         record {
-          page_whole = subst (λ ks. Appends a next (page_rest first ks)) keys
-              (has-last page_rest first page so.keys (listed key) a b next so.page_has wrote);
-          told_whole = subst (λ ks. Appends c also (loose_rest first ks)) keys
-              (has-last loose_rest first page so.keys (listed key) c d also so.told_has told);
+          page_whole = subst (λ ks. Appends a next (report_rest first ks)) keys
+              (has-last report_rest first page so.keys (listed key) a b next so.page_has wrote);
+          told_whole = subst (λ ks. Appends c also (told_rest first ks)) keys
+              (has-last told_rest first page so.keys (listed key) c d also so.told_has told);
         },
       )
 
@@ -233,7 +234,7 @@ module _ (first page : Paged) (receiver : Receiving) (a b c d : Option (List ℕ
       → IsSoFar first page receiver all now (outputs a b c d) → GivesSample now (Ok None) left
       → ((samples : List ℤ) (keys : List Heard) → HasReceived receiver samples keys
       → keys ++ listed key ≡ keys_of_sound samples)
-      → AppendsBeginning b next (page_rest page (listed key)) → AppendsBeginning d also (loose_rest page (listed key))
+      → AppendsBeginning b next (report_rest page (listed key)) → AppendsBeginning d also (told_rest page (listed key))
       → Hears all first (Err (of_page f)) (outputs a next c also)
   so_far-end-fault key f None now left next also so gives finishes wrote told = tt
   so_far-end-fault key f (Some sound) None left next also so gives finishes wrote told = absurd so.is_left
@@ -241,9 +242,9 @@ module _ (first page : Paged) (receiver : Receiving) (a b c d : Option (List ℕ
       let keys = all-keys key sound here left so gives finishes in (
         page-fault sound f,
         record {
-          page_begun = subst (λ ks. AppendsBeginning a next (page_rest first ks)) keys
-              (has-last-begun page_rest first page so.keys (listed key) a b next so.page_has wrote);
-          told_begun = subst (λ ks. AppendsBeginning c also (loose_rest first ks)) keys
-              (has-last-begun loose_rest first page so.keys (listed key) c d also so.told_has told);
+          page_begun = subst (λ ks. AppendsBeginning a next (report_rest first ks)) keys
+              (has-last-begun report_rest first page so.keys (listed key) a b next so.page_has wrote);
+          told_begun = subst (λ ks. AppendsBeginning c also (told_rest first ks)) keys
+              (has-last-begun told_rest first page so.keys (listed key) c d also so.told_has told);
         },
       )

@@ -8,10 +8,11 @@ use Rattle.xb_rx.specs.declared.fault.RxFault.TheVariants as fault
 use Rattle.xb_rx.specs.declared.request.Input.{Input}
 use Rattle.xb_rx.specs.declared.request.Input.TheVariants as input
 use Rattle.xb_rx.specs.declared.request.Request.{Request}
+use Rattle.xb_rx.specs.declared.request.Written.{Written}
 use Rattle.xb_rx.specs.declared.wav_start.Start.{Start}
 use Rattle.xb_rx.specs.declared.wav_start.WavFault.{WavFault}
 use Rattle.xb_rx.specs.declared.wav_start.TheConstants.{UNKNOWN_SAMPLES}
-use Rattle.xb_rx.specs.Pages.{Paged, loose_rest, loose_text, page_of, page_rest}
+use Rattle.xb_rx.specs.Reports.{Reported, report_rest, told_rest, told_text, written_text}
 use Rattle.xb_rx.specs.Samples.{IsForm, Sound, sound_of}
 use Rattle.xb_rx.specs.Starts.{start_of_file}
 
@@ -41,15 +42,15 @@ IsFaultOf sound (fault.Cut n) = (sound.lacking ≡ n) × (0 < n)
 IsFaultOf sound (fault.Wav f) = ⊥
 IsFaultOf sound f = Unit {0}
 
--- what was written of a sound that is known: the page of its keys, and a line for each that stands in no keying
-abbrev pub Hears : Option Sound → Paged → Result (Unit {0}) RxFault → Outputs → Type 0
-Hears None page result outs = Unit {0}
-Hears (Some sound) page (Ok u) outs =
+-- what was written and told of a sound that is known, after what there is so far
+abbrev pub Hears : Option Sound → Reported → Result (Unit {0}) RxFault → Outputs → Type 0
+Hears None report result outs = Unit {0}
+Hears (Some sound) report (Ok u) outs =
     (sound.lacking ≡ 0)
-    × Wrote outs (page_rest page (keys_of_sound sound.samples)) (loose_rest page (keys_of_sound sound.samples))
-Hears (Some sound) page (Err f) outs =
+    × Wrote outs (report_rest report (keys_of_sound sound.samples)) (told_rest report (keys_of_sound sound.samples))
+Hears (Some sound) report (Err f) outs =
     IsFaultOf sound f
-    × Began outs (page_rest page (keys_of_sound sound.samples)) (loose_rest page (keys_of_sound sound.samples))
+    × Began outs (report_rest report (keys_of_sound sound.samples)) (told_rest report (keys_of_sound sound.samples))
 
 -- samples alone are written in some form
 abbrev pub HasForm : Input → Type 0
@@ -70,14 +71,14 @@ sound_after (Ok (start, rest)) = Ok (sound_of start.form start.samples start.cou
 abbrev pub sound_by : Input → List ℕ → Result Sound WavFault
 sound_by how bytes = sound_after (start_by how bytes)
 
--- what was written of a sound: the page of its keys, by the line and the trunk group that are asked for
-abbrev pub HearsSound : Request → Sound → Result (Unit {0}) RxFault → Outputs → Type 0
-HearsSound request sound (Ok u) outs =
+-- what was written and told of a sound
+abbrev pub HearsSound : Written → Sound → Result (Unit {0}) RxFault → Outputs → Type 0
+HearsSound written sound (Ok u) outs =
     (sound.lacking ≡ 0)
-    × Wrote outs (page_of request.line request.trunk (keys_of_sound sound.samples)) (loose_text (keys_of_sound sound.samples))
-HearsSound request sound (Err f) outs =
+    × Wrote outs (written_text written (keys_of_sound sound.samples)) (told_text written (keys_of_sound sound.samples))
+HearsSound written sound (Err f) outs =
     IsFaultOf sound f
-    × Began outs (page_of request.line request.trunk (keys_of_sound sound.samples)) (loose_text (keys_of_sound sound.samples))
+    × Began outs (written_text written (keys_of_sound sound.samples)) (told_text written (keys_of_sound sound.samples))
 
 pub record WroteNothing (outs : Outputs) : Type 0 where
   pub page_kept : Keeps outs.page_old outs.page_new
@@ -89,6 +90,6 @@ abbrev pub Delivers : Request → Option (List ℕ) → Result (Unit {0}) RxFaul
 Delivers request None result outs = Unit {0}
 Delivers request (Some bytes) (Err (fault.Wav f)) outs = (sound_by request.input bytes ≡ Err f) × WroteNothing outs
 Delivers request (Some bytes) (Err fault.Read) outs = WroteNothing outs
-    ⊎ ((sound : Sound) × (sound_by request.input bytes ≡ Ok sound) × HearsSound request sound (Err fault.Read) outs)
+    ⊎ ((sound : Sound) × (sound_by request.input bytes ≡ Ok sound) × HearsSound request.written sound (Err fault.Read) outs)
 Delivers request (Some bytes) result outs =
-    (sound : Sound) × (sound_by request.input bytes ≡ Ok sound) × HearsSound request sound result outs
+    (sound : Sound) × (sound_by request.input bytes ≡ Ok sound) × HearsSound request.written sound result outs

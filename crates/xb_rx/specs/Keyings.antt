@@ -1,11 +1,11 @@
 -- The keyings among keys that are heard, and the keys that stand in none.
 use Rattle.std.specs.Prelude.{ℕ, zero, suc, List, [], ◌∷◌, length, Bool, if◌then◌else◌, Option, Some, None, option_and_then, option_map}
-use Rattle.std.specs.List.{flat_map, position}
+use Rattle.std.specs.List.{flat_map}
 use Rattle.xb_model.specs.declared.key.Key.TheVariants.{Kp, St}
-use Rattle.xb_model.specs.declared.key.Tone.{Tone as Pair}
-use Rattle.xb_model.specs.MfPairs.{mf_pair, pair}
+use Rattle.xb_model.specs.MfPairs.{mf_pair}
 use Rattle.xb_ear.specs.declared.hearing.Heard.{Heard}
 use Rattle.xb_ear.specs.Hearings.{is_same_pair}
+use Rattle.xb_keyed.specs.Names.{digit_of_pair}
 use Rattle.xb_rx.specs.declared.keys.TheConstants.{MOST_DIGITS}
 
 abbrev pub is_kp : Heard → Bool
@@ -14,16 +14,7 @@ is_kp key = is_same_pair key.sight.pair (mf_pair Kp)
 abbrev pub is_st : Heard → Bool
 is_st key = is_same_pair key.sight.pair (mf_pair St)
 
--- the pairs of the digits, from 0 on
-abbrev pub digit_pairs : List Pair
-digit_pairs =
-    pair 1300 1500 ∷ pair 700 900 ∷ pair 700 1100 ∷ pair 900 1100 ∷ pair 700 1300 ∷ pair 900 1300 ∷ pair 1100 1300
-    ∷ pair 700 1500 ∷ pair 900 1500 ∷ pair 1100 1500 ∷ []
-
--- the digit that a pair stands for
-abbrev pub digit_of_pair : Pair → Option ℕ
-digit_of_pair p = position (λ q. is_same_pair q p) digit_pairs
-
+-- the digit of a key
 abbrev pub digit_of : Heard → Option ℕ
 digit_of key = digit_of_pair key.sight.pair
 

@@ -5,6 +5,7 @@ pub mod Faults
 pub mod Keyings
 pub mod Begun
 pub mod Pages
+pub mod Reports
 pub mod Hearing
 pub mod Rules
 pub mod Options

@@ -4,11 +4,15 @@ use Rattle.clap.specs.Walk.{Row, Text}
 use Rattle.xb_command.specs.Given.{AskForNothing, AsksFor, ReadsFlag, ReadsNumber, given_by}
 use Rattle.xb_model.specs.declared.line.TheConstants.{LINES}
 use Rattle.xb_model.specs.declared.trunk.TheConstants.{TRUNKS}
+use Rattle.xb_keyed.specs.declared.lines.Telling.{Telling}
+use Rattle.xb_keyed.specs.declared.lines.Telling.TheVariants as telling
 use Rattle.xb_rx.specs.declared.coding.Coding.{Coding}
 use Rattle.xb_rx.specs.declared.coding.Coding.TheVariants as coding
 use Rattle.xb_rx.specs.declared.request.Input.{Input}
 use Rattle.xb_rx.specs.declared.request.Input.TheVariants as input
 use Rattle.xb_rx.specs.declared.request.Request.{Request}
+use Rattle.xb_rx.specs.declared.request.Written.{Written}
+use Rattle.xb_rx.specs.declared.request.Written.TheVariants as written
 use Rattle.xb_rx.specs.declared.words.Options.{Options}
 use Rattle.xb_rx.specs.Rules.{command_of_words}
 use Rattle.xb_rx.specs.Starts.{form_with, frames_of}
@@ -17,6 +21,8 @@ use Rattle.xb_rx.specs.Starts.{form_with, frames_of}
 pub record Say (rows : List Row) (options : Options) : Type 0 where
   pub line : ReadsNumber (given_by rows (codes "line")) options.line
   pub trunk : ReadsNumber (given_by rows (codes "trunk")) options.trunk
+  pub tones : ReadsFlag (given_by rows (codes "tones")) options.tones
+  pub json : ReadsFlag (given_by rows (codes "json")) options.json
   pub raw : ReadsFlag (given_by rows (codes "raw")) options.raw
   pub rate : ReadsNumber (given_by rows (codes "rate")) options.rate
   pub ulaw : ReadsFlag (given_by rows (codes "ulaw")) options.ulaw
@@ -30,6 +36,19 @@ line_of given = below LINES given
 
 abbrev pub trunk_of : Option ℕ → Option ℕ
 trunk_of given = below TRUNKS given
+
+abbrev pub telling_of : Bool → Telling
+telling_of json = if json then telling.Json else telling.Text
+
+abbrev pub page_by : Option ℕ → Option ℕ → Option Written
+page_by line trunk = option_and_then (λ l. option_map (λ t. written.Page l t) trunk) line
+
+-- keys one by one, for which no line and no trunk group is said, or a page
+abbrev pub written_of : Options → Option Written
+written_of options =
+    if options.tones || options.json
+    then (if is_some options.line || is_some options.trunk then None else Some (written.Keys (telling_of options.json)))
+    else page_by (line_of options.line) (trunk_of options.trunk)
 
 abbrev pub raw_coding : Bool → Coding
 raw_coding ulaw = if ulaw then coding.MuLaw else coding.Signed16
@@ -45,9 +64,8 @@ input_of options =
 -- what the options ask for
 abbrev pub request_of : Options → Option Request
 request_of options =
-    option_and_then (λ line. option_and_then (λ trunk.
-    option_map (λ how. record { line = line; trunk = trunk; input = how }) (input_of options))
-    (trunk_of options.trunk)) (line_of options.line)
+    option_and_then (λ what. option_map (λ how. record { written = what; input = how }) (input_of options))
+    (written_of options)
 
 -- clap takes the words, and they ask for this
 abbrev pub Asks : List Text → Request → Type 0

@@ -1,33 +1,15 @@
 -- What is written of keys that are heard: the page of the keyings, and a line for each key that stands in none.
-use Rattle.std.specs.Prelude.{ℕ, ◌≡◌, ◌+◌, ◌*◌, ◌/◌, ◌==◌, ◌&&◌, if◌then◌else◌, List, [], ◌++◌, codes, decimal, length, map, Option, Some, None, Result, Ok, Err}
+use Rattle.std.specs.Prelude.{ℕ, ◌≡◌, ◌+◌, List, [], ◌++◌, codes, decimal, length, map, Option, Result, Ok, Err}
 use Rattle.std.specs.Io.KnownBytes.{Appends}
 use Rattle.std.specs.List.{flat_map}
-use Rattle.xb_model.specs.declared.key.Tone.{Tone as Pair}
 use Rattle.xb_model.specs.Keyings.{keying}
 use Rattle.xb_model.specs.Page.{entries_text, totals_text}
 use Rattle.xb_ear.specs.declared.hearing.Heard.{Heard}
 use Rattle.xb_text.specs.Writing.{AppendsBeginning}
 use Rattle.xb_rx.specs.declared.page.Page.{Page}
-use Rattle.xb_rx.specs.Keyings.{digit_of_pair, keyings, loose_keys}
-
--- the pairs that stand for no digit: KP2 begins a keying and ST'' ends one, by the same pair
-abbrev pub signal_name : Pair → List ℕ
-signal_name p =
-    if (p.low == 1100) && (p.high == 1700) then codes "KP"
-    else (if (p.low == 1500) && (p.high == 1700) then codes "ST"
-    else (if (p.low == 900) && (p.high == 1700) then codes "ST'"
-    else (if (p.low == 1300) && (p.high == 1700) then codes "KP2/ST''" else codes "ST'''")))
-
-abbrev pub name_by : Pair → Option ℕ → List ℕ
-name_by p None = signal_name p
-name_by p (Some digit) = decimal digit
-
-abbrev pub name_text : Pair → List ℕ
-name_text p = name_by p (digit_of_pair p)
-
--- when a key begins, in ms: its first window speaks for the samples from its 31st on
-abbrev pub start_ms : Heard → ℕ
-start_ms key = (20 * key.first + 30) / 8
+use Rattle.xb_keyed.specs.Figures.{start_ms}
+use Rattle.xb_keyed.specs.Names.{name_text}
+use Rattle.xb_rx.specs.Keyings.{keyings, loose_keys}
 
 -- a key that stands in no keying
 abbrev pub loose_line : Heard → List ℕ

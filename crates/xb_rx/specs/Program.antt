@@ -17,13 +17,14 @@ program = codes "mfrx"
 
 -- the line for words that are refused
 abbrev pub usage_line : List ℕ
-usage_line = codes "mfrx: usage: mfrx [--line N] [--trunk T] [--raw [--rate HZ] [--ulaw]]\n"
+usage_line = codes "mfrx: usage: mfrx [--line N] [--trunk T] [--tones] [--json] [--raw [--rate HZ] [--ulaw]]\n"
 
 -- it names each option of the command
 abbrev pub UsageNamesEachOption : Type 0
 UsageNamesEachOption = list_all (λ rule. names_option usage_line rule.id) command_of_words.top.rules ≡ true
 
--- the words ask for something, and exactly the page of the sound was written, and its keys without a keying told of
+-- the words ask for something, and exactly the page of the sound was written, and its keys without a keying told of; or
+-- its keys were written
 pub record WritesPage (words : List Text) (old new : Streams) : Type 0 where
   pub request : Request
   pub asks : Asks words request

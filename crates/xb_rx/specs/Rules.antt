@@ -11,11 +11,13 @@ abbrev options : List (Text × Takes)
 options =
     (codes "line", takes.Number)
     ∷ (codes "trunk", takes.Number)
+    ∷ (codes "tones", takes.Nothing)
+    ∷ (codes "json", takes.Nothing)
     ∷ (codes "raw", takes.Nothing)
     ∷ (codes "rate", takes.Number)
     ∷ (codes "ulaw", takes.Nothing)
     ∷ []
 
--- `mfrx [--line N] [--trunk T] [--raw [--rate HZ] [--ulaw]]`
+-- `mfrx [--line N] [--trunk T] [--tones] [--json] [--raw [--rate HZ] [--ulaw]]`
 abbrev pub command_of_words : App
 command_of_words = command_of (codes "mfrx") options

@@ -19,8 +19,8 @@ pub enum RxFault {
     /// Memory ran out.
     #[error("out of memory")]
     NoMemory,
-    /// A write or the flush failed, or a write took no byte. The beginning of the page was written.
-    #[error("the page could not be written")]
+    /// A write or the flush failed, or a write took no byte. The beginning of the page or of the lines was written.
+    #[error("what was heard could not be written")]
     Write,
     /// A key that stands in no keying could not be told of.
     #[error("a key that belongs to no keying could not be told of")]

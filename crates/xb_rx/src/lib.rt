@@ -1,9 +1,10 @@
 //! `mfrx` but for its process: the sound of keyings in, their page out.
 //!
 //! - `receive`: on `Ok` the output got exactly the page of the keyings that are heard (`page_of` of `keys_of_sound` of
-//!   the samples that the bytes say), and the stream of errors a line for each key that stands in no keying; on an
-//!   `Err` the beginning of both. A WAV is refused exactly by the fault that it has (`start_of_file`); where samples
-//!   are missing at its end, `Cut` says how many. Memory does not grow with the sound.
+//!   the samples that the bytes say), and the stream of errors a line for each key that stands in no keying; or the
+//!   output a line for each key (`key_lines`). On an `Err` it is the beginning of both. A WAV is refused exactly by
+//!   the fault that it has (`start_of_file`); where samples are missing at its end, `Cut` says how many. Memory does
+//!   not grow with the sound.
 //! - `laws::keyed_is_paged`: of the sound of keyings, disturbed too, the page has an entry for each, in order.
 //! - `attend`: `Attends` of this. `laws::usage_names_each_option`.
 //!
@@ -14,9 +15,11 @@ mod coding;
 mod fault;
 mod keys;
 pub mod laws;
+mod listing;
 mod page;
 mod program;
 mod receiving;
+mod report;
 mod request;
 mod source;
 mod wav_start;
@@ -27,5 +30,5 @@ pub use fault::RxFault;
 pub use keys::MOST_DIGITS;
 pub use program::attend;
 pub use receiving::receive;
-pub use request::{Input, Request};
+pub use request::{Input, Request, Written};
 pub use wav_start::{MOST_CHUNKS, Start, UNKNOWN_BYTES, UNKNOWN_SAMPLES, WavFault};

@@ -6,10 +6,11 @@ ghost use Rattle.xb_model.specs.Page.{totals_text};
 ghost use Rattle.xb_rx.specs.Keyings.{digits_in};
 ghost use Rattle.xb_rx.specs.Pages.{loose_lines};
 
-use crate::keys::{MOST_DIGITS, digit_of, is_kp, is_st, write_loose};
+use crate::keys::{MOST_DIGITS, is_kp, is_st, write_loose};
 use std::alloc::{AllocError, Global};
 use std::io::Write;
 use xb_ear::Heard;
+use xb_keyed::digit_of;
 use xb_model::{Key, LineNo, Mark, Trunk, mf};
 use xb_tape::{write_entry, write_totals};
 use xb_text::write_whole;

@@ -1,4 +1,4 @@
-// The program: its words and a sound in, a status and a page out.
+// The program: its words and a sound in, a status and a page or keys out.
 ghost use Rattle.xb_command.specs.Programs.{streams};
 ghost use Rattle.xb_command.specs.Commands.{texts_of};
 ghost use Rattle.xb_rx.specs.Program.{AttendsRx};
@@ -13,15 +13,16 @@ use xb_command::{DONE, tell_fault, tell_words};
 pub(crate) const PROGRAM: &str = "mfrx";
 
 // The line of refused words.
-const USAGE: &[u8] = b"mfrx: usage: mfrx [--line N] [--trunk T] [--raw [--rate HZ] [--ulaw]]\n";
+const USAGE: &[u8] =
+    b"mfrx: usage: mfrx [--line N] [--trunk T] [--tones] [--json] [--raw [--rate HZ] [--ulaw]]\n";
 
-/// Reads the words of the command line, the program's name first, and by them writes the page of a sound, as
-/// `receive` does. It returns the status of the process:
+/// Reads the words of the command line, the program's name first, and by them writes the page of a sound, or its keys,
+/// as `receive` does. It returns the status of the process:
 ///
 /// - `DONE`: the words ask for something, `out` got exactly the page of the sound's keyings, and `err` a line for each
-///   key that stands in none;
+///   key that stands in none; or `out` got exactly a line for each key;
 /// - `FAULT`: `receive` has a fault, or memory ran out while the words were read; `err` gets the fault as one line
-///   after such keys, and `out` got nothing, or the beginning of the page;
+///   after such keys, and `out` got nothing, or the beginning of the page or of the lines;
 /// - `WORDS_REFUSED`: the words are refused, or ask for help; `err` gets the usage as one line, the sound is not read
 ///   and `out` got nothing.
 ///

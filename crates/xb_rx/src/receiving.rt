@@ -1,15 +1,14 @@
-// From a sound to the page of its keys.
+// From a sound to what is written of its keys.
 ghost use Rattle.std.specs.Prelude.{◌≡◌, ◌≤◌, IfOk};
-ghost use Rattle.xb_rx.specs.Begun.{IsBegun};
-ghost use Rattle.xb_rx.specs.Pages.{paged};
 ghost use Rattle.xb_rx.specs.Hearing.{Delivers, HasForm, Hears, outputs, start_by};
+ghost use Rattle.xb_rx.specs.Reports.{IsReady, count_of, reported};
 ghost use Rattle.xb_rx.specs.Samples.{IsForm};
 ghost use Rattle.xb_rx.specs.Starts.{Opens};
 ghost use Rattle.xb_rx.specs.Streams.{sound_left};
 ghost use Rattle.xb_rx.specs.declared.wav_start.TheConstants.{UNKNOWN_SAMPLES};
 
 use crate::fault::RxFault;
-use crate::page::Page;
+use crate::report::Report;
 use crate::request::{Input, Request};
 use crate::source::Source;
 use crate::wav_start::{OpenFault, Start, UNKNOWN_SAMPLES, open_wav};
@@ -21,24 +20,24 @@ use xb_ear::Receiver;
 fn hear<R: Read, W: Write, E: Write>(
     alloc: Global,
     source: &mut Source<R>,
-    page: &mut Page,
+    report: &mut Report,
     out: &mut W,
     err: &mut E,
 ) -> Result<(), RxFault>
     requires form { IsForm source.old.form }
     requires said { source.old.said ≤ UNKNOWN_SAMPLES }
-    requires none { page.old.count ≡ 0 }
-    requires begun { IsBegun page.old.begun.items }
-    ensures { Hears (sound_left R.remaining source.old) (paged page.old) result
+    requires none { count_of (reported report.old) ≡ 0 }
+    requires ready { IsReady (reported report.old) }
+    ensures { Hears (sound_left R.remaining source.old) (reported report.old) result
         (outputs (W.contents out.old) (W.contents out.new) (E.contents err.old) (E.contents err.new)) }
 {
     let mut receiver = Receiver::new();
     while let Some(sample) = source.next_sample()? {
         let key = receiver.take(sample);
-        page.take(alloc, key, out, err)?;
+        report.take(alloc, key, out, err)?;
     }
     let last = receiver.finish();
-    page.end(alloc, last, out, err)?;
+    report.end(alloc, last, out, err)?;
     Ok(())
 }
 
@@ -59,9 +58,9 @@ fn start_of<R: Read>(input: Input, reader: &mut R) -> Result<Start, OpenFault>
     }
 }
 
-/// Hears a sound, and writes the page of its keyings: an entry of the line for each, from KP to ST, as it ends, and
-/// the totals. A key that stands in no keying is told of by a line to `err`. Memory does not grow with the sound,
-/// which is read a few bytes at a time: hand it a reader with a buffer.
+/// Hears a sound, and writes what is asked for: the page of its keyings, an entry for each, from KP to ST, as it ends,
+/// and the totals, and to `err` a line for each key that stands in none; or a line for each key, as it ends. Memory
+/// does not grow with the sound, which is read a few bytes at a time: hand it a reader with a buffer.
 ///
 /// On an `Err` the beginning of this was written.
 ///
@@ -79,12 +78,12 @@ pub fn receive<R: Read, W: Write, E: Write>(
         (outputs (W.contents out.old) (W.contents out.new) (E.contents err.old) (E.contents err.new)) }
 {
     let start = start_of(request.input, sound)?;
-    let mut page = Page::new(alloc, request.line, request.trunk);
+    let mut report = Report::new(alloc, request.written);
     let mut source = Source {
         reader: sound,
         form: start.form,
         said: start.samples,
         counted: start.counted,
     };
-    hear(alloc, &mut source, &mut page, out, err)
+    hear(alloc, &mut source, &mut report, out, err)
 }

@@ -1,5 +1,6 @@
 // What is asked for.
 use crate::coding::Form;
+use xb_keyed::Telling;
 use xb_model::{LineNo, Trunk};
 
 /// How a sound is given.
@@ -11,13 +12,20 @@ pub enum Input {
     Raw(Form),
 }
 
-/// How a sound is given, and whose page is written of it.
+/// What is written of a sound.
+#[derive(Clone, Copy, Debug, PartialEq, Eq)]
+pub enum Written {
+    /// The page of its keyings, whose entries are of a line and a trunk group.
+    Page(LineNo, Trunk),
+    /// A line for each of its keys.
+    Keys(Telling),
+}
+
+/// How a sound is given, and what is written of it.
 #[derive(Clone, Copy, Debug, PartialEq, Eq)]
 pub struct Request {
-    /// The line of the page's entries.
-    pub line: LineNo,
-    /// Their trunk group.
-    pub trunk: Trunk,
+    /// What is written.
+    pub written: Written,
     /// How the sound is given.
     pub input: Input,
 }

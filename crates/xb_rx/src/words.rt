@@ -2,14 +2,15 @@
 ghost use Rattle.std.specs.Prelude.{◌≡◌, IfErr, IfOk, IfSome};
 ghost use Rattle.xb_command.specs.Commands.{texts_of};
 ghost use Rattle.xb_rx.specs.Hearing.{HasForm};
-ghost use Rattle.xb_rx.specs.Options.{AreRefused, Asks, Say, input_of, line_of, raw_coding, request_of, trunk_of};
+ghost use Rattle.xb_rx.specs.Options.{AreRefused, Asks, Say, input_of, line_of, raw_coding, request_of, telling_of, trunk_of, written_of};
 
 use crate::coding::{Coding, Form};
 use crate::program::PROGRAM;
-use crate::request::{Input, Request};
+use crate::request::{Input, Request, Written};
 use crate::wav_start::frames_of;
 use std::alloc::Global;
 use xb_command::{Takes, Words, WordsFault, read_words};
+use xb_keyed::Telling;
 use xb_model::{LINES, LineNo, TRUNKS, Trunk};
 
 // What the options of the command line say.
@@ -17,15 +18,19 @@ use xb_model::{LINES, LineNo, TRUNKS, Trunk};
 pub(crate) struct Options {
     pub(crate) line: Option<u32>,
     pub(crate) trunk: Option<u32>,
+    pub(crate) tones: bool,
+    pub(crate) json: bool,
     pub(crate) raw: bool,
     pub(crate) rate: Option<u32>,
     pub(crate) ulaw: bool,
 }
 
 // The options of the program, each under its name.
-const OPTIONS: [(&str, Takes); 5] = [
+const OPTIONS: [(&str, Takes); 7] = [
     ("line", Takes::Number),
     ("trunk", Takes::Number),
+    ("tones", Takes::Nothing),
+    ("json", Takes::Nothing),
     ("raw", Takes::Nothing),
     ("rate", Takes::Number),
     ("ulaw", Takes::Nothing),
@@ -38,6 +43,8 @@ fn options_of(words: &Words) -> Options
     Options {
         line: words.number("line"),
         trunk: words.number("trunk"),
+        tones: words.flag("tones"),
+        json: words.flag("json"),
         raw: words.flag("raw"),
         rate: words.number("rate"),
         ulaw: words.flag("ulaw"),
@@ -65,6 +72,30 @@ fn trunk_of(given: Option<u32>) -> Option<Trunk>
         Trunk::new(trunk as u16)
     } else {
         None
+    }
+}
+
+// How keys are told.
+fn telling_of(json: bool) -> Telling
+    ensures { result ≡ telling_of json }
+{
+    if json { Telling::Json } else { Telling::Text }
+}
+
+// What is written; `None` where a line or a trunk group is said and no page is written, or there is no such one.
+fn written_of(options: Options) -> Option<Written>
+    ensures { result ≡ written_of options }
+{
+    if options.tones || options.json {
+        if options.line.is_some() || options.trunk.is_some() {
+            None
+        } else {
+            Some(Written::Keys(telling_of(options.json)))
+        }
+    } else {
+        let line = line_of(options.line)?;
+        let trunk = trunk_of(options.trunk)?;
+        Some(Written::Page(line, trunk))
     }
 }
 
@@ -103,18 +134,19 @@ fn request_of(options: Options) -> Option<Request>
     ensures value { result ≡ request_of options }
     ensures form { IfSome result (λ request. HasForm request.input) }
 {
-    let line = line_of(options.line)?;
-    let trunk = trunk_of(options.trunk)?;
+    let written = written_of(options)?;
     let input = input_of(options)?;
-    Some(Request { line, trunk, input })
+    Some(Request { written, input })
 }
 
-/// What the words ask for: the page of a line, by a trunk group, of a WAV file or of samples alone.
+/// What the words ask for: the page of a line, by a trunk group, or a line for each key, of a WAV file or of samples
+/// alone.
 pub fn request_of_words(alloc: Global, words: &[String]) -> Result<Request, WordsFault>
     ensures asks { IfOk result (λ request. Asks (texts_of words.now) request) }
     ensures form { IfOk result (λ request. HasForm request.input) }
     ensures refused { IfErr result (λ f. f ≡ WordsFault.Refused → AreRefused (texts_of words.now)) }
 {
+    let _written: Option<Written> = None;
     let words = read_words(alloc, PROGRAM, &OPTIONS, words)?;
     request_of(options_of(&words)).ok_or(WordsFault::Refused)
 }

@@ -7,7 +7,7 @@ use Rattle.xb_ear.specs.Hearings.{listed}
 use Rattle.xb_ear.specs.Receivers.{HasReceived, Receiving}
 use Rattle.xb_rx.specs.declared.fault.RxFault.{RxFault}
 use Rattle.xb_rx.specs.Hearing.{Hears, outputs}
-use Rattle.xb_rx.specs.Pages.{paged}
+use Rattle.xb_rx.specs.Reports.{reported}
 use Rattle.xb_rx.specs.Samples.{IsForm}
 use Rattle.xb_rx.specs.Streams.{sound_left}
 use Rattle.xb_rx.proofs.SoFar.{so_far-end, so_far-end-fault, so_far-fault, so_far-more, so_far-start, so_far-stop}
@@ -23,18 +23,18 @@ taken old new x y key same takes samples keys has =
 pub loop-sample-init : goal.loop-sample-init
 loop-sample-init g c = record {
   form = c.requires.form;
-  begun = c.requires.begun;
+  ready = c.requires.ready;
   few = omega (arith, c.requires.none, c.requires.said);
-  so_far = so_far-start (paged c.args.page.now) c.new-receiver.result (sound_left g.R.Read.remaining c.args.source.now) (g.W.Write.contents c.args.out.now) (g.E.Write.contents c.args.err.now) c.new-receiver.ensures;
+  so_far = so_far-start (reported c.args.report.now) c.new-receiver.result (sound_left g.R.Read.remaining c.args.source.now) (g.W.Write.contents c.args.out.now) (g.E.Write.contents c.args.err.now) c.new-receiver.ensures;
 }
 
 pub returns-in_err-sample : goal.returns-in_err-sample
 returns-in_err-sample g c =
     let p = err_from_is_err_and c.from_residual.result c.from_residual.ensures.1 in
-    subst (λ (r : Result (Unit {0}) RxFault). Hears (sound_left g.R.Read.remaining c.args.source.now) (paged c.args.page.now) r
+    subst (λ (r : Result (Unit {0}) RxFault). Hears (sound_left g.R.Read.remaining c.args.source.now) (reported c.args.report.now) r
     (outputs (g.W.Write.contents c.args.out.now) (g.W.Write.contents c.loop-sample.out) (g.E.Write.contents c.args.err.now) (g.E.Write.contents c.loop-sample.err)))
     (sym (p.1 ∙ ap (λ f. Err f) p.2))
-    (so_far-stop (paged c.args.page.now) (paged c.loop-sample.page) c.loop-sample.receiver (g.W.Write.contents c.args.out.now) (g.W.Write.contents c.loop-sample.out) (g.E.Write.contents c.args.err.now)
+    (so_far-stop (reported c.args.report.now) (reported c.loop-sample.report) c.loop-sample.receiver (g.W.Write.contents c.args.out.now) (g.W.Write.contents c.loop-sample.out) (g.E.Write.contents c.args.err.now)
     (g.E.Write.contents c.loop-sample.err) c.in_err-sample.field-0.0
     (sound_left g.R.Read.remaining c.args.source.now) (sound_left g.R.Read.remaining c.loop-sample.source)
     (sound_left g.R.Read.remaining c.next_sample.new.self) c.loop-sample.invariant.so_far c.in_err-sample.ensures.sample)
@@ -44,10 +44,10 @@ loop-sample-preserved g c =
     let fits : FitsSigned w16 c.in-Some.sample = search rules in
     let less = rw c.in-Some.is at c.in_ok-sample.ensures.said in record {
       form = subst IsForm (sym c.in_ok-sample.ensures.form) c.loop-sample.invariant.form;
-      begun = c.in_ok-take.ensures.begun;
+      ready = c.in_ok-take.ensures.ready;
       few = omega (arith, less, c.in_ok-take.ensures.count, c.loop-sample.invariant.few);
-      so_far = so_far-more (paged c.args.page.now) (paged c.loop-sample.page) c.loop-sample.receiver (g.W.Write.contents c.args.out.now) (g.W.Write.contents c.loop-sample.out) (g.E.Write.contents c.args.err.now)
-          (g.E.Write.contents c.loop-sample.err) (paged c.take.new.self) c.take-key.new.self
+      so_far = so_far-more (reported c.args.report.now) (reported c.loop-sample.report) c.loop-sample.receiver (g.W.Write.contents c.args.out.now) (g.W.Write.contents c.loop-sample.out) (g.E.Write.contents c.args.err.now)
+          (g.E.Write.contents c.loop-sample.err) (reported c.take.new.self) c.take-key.new.self
           c.in-Some.sample c.take-key.result (sound_left g.R.Read.remaining c.args.source.now) (sound_left g.R.Read.remaining c.loop-sample.source)
           (sound_left g.R.Read.remaining c.next_sample.new.self) _ _
           c.loop-sample.invariant.so_far (rw c.in-Some.is at c.in_ok-sample.ensures.sample)
@@ -58,11 +58,11 @@ pub returns-in_err-take : goal.returns-in_err-take
 returns-in_err-take g c =
     let fits : FitsSigned w16 c.in-Some.sample = search rules in
     let p = err_from_is_err_and c.from_residual-in_err-take.result c.from_residual-in_err-take.ensures.1 in
-    subst (λ (r : Result (Unit {0}) RxFault). Hears (sound_left g.R.Read.remaining c.args.source.now) (paged c.args.page.now) r
+    subst (λ (r : Result (Unit {0}) RxFault). Hears (sound_left g.R.Read.remaining c.args.source.now) (reported c.args.report.now) r
     (outputs (g.W.Write.contents c.args.out.now) (g.W.Write.contents c.take.new.out) (g.E.Write.contents c.args.err.now) (g.E.Write.contents c.take.new.err)))
     (sym (p.1 ∙ ap (λ f. Err f) p.2))
-    (so_far-fault (paged c.args.page.now) (paged c.loop-sample.page) c.loop-sample.receiver (g.W.Write.contents c.args.out.now) (g.W.Write.contents c.loop-sample.out) (g.E.Write.contents c.args.err.now)
-    (g.E.Write.contents c.loop-sample.err) (paged c.take.new.self) c.take-key.new.self
+    (so_far-fault (reported c.args.report.now) (reported c.loop-sample.report) c.loop-sample.receiver (g.W.Write.contents c.args.out.now) (g.W.Write.contents c.loop-sample.out) (g.E.Write.contents c.args.err.now)
+    (g.E.Write.contents c.loop-sample.err) (reported c.take.new.self) c.take-key.new.self
     c.in-Some.sample c.take-key.result c.in_err-take.field-0.0 (sound_left g.R.Read.remaining c.args.source.now) (sound_left g.R.Read.remaining c.loop-sample.source)
     (sound_left g.R.Read.remaining c.next_sample.new.self) _ _
     c.loop-sample.invariant.so_far (rw c.in-Some.is at c.in_ok-sample.ensures.sample)
@@ -71,10 +71,10 @@ returns-in_err-take g c =
 pub returns-in_err-end : goal.returns-in_err-end
 returns-in_err-end g c =
     let p = err_from_is_err_and c.from_residual-in_err-end.result c.from_residual-in_err-end.ensures.1 in
-    subst (λ (r : Result (Unit {0}) RxFault). Hears (sound_left g.R.Read.remaining c.args.source.now) (paged c.args.page.now) r
+    subst (λ (r : Result (Unit {0}) RxFault). Hears (sound_left g.R.Read.remaining c.args.source.now) (reported c.args.report.now) r
     (outputs (g.W.Write.contents c.args.out.now) (g.W.Write.contents c.end.new.out) (g.E.Write.contents c.args.err.now) (g.E.Write.contents c.end.new.err)))
     (sym (p.1 ∙ ap (λ f. Err f) p.2))
-    (so_far-end-fault (paged c.args.page.now) (paged c.loop-sample.page) c.loop-sample.receiver (g.W.Write.contents c.args.out.now) (g.W.Write.contents c.loop-sample.out) (g.E.Write.contents c.args.err.now)
+    (so_far-end-fault (reported c.args.report.now) (reported c.loop-sample.report) c.loop-sample.receiver (g.W.Write.contents c.args.out.now) (g.W.Write.contents c.loop-sample.out) (g.E.Write.contents c.args.err.now)
     (g.E.Write.contents c.loop-sample.err) c.finish-last.result c.in_err-end.field-0.0
     (sound_left g.R.Read.remaining c.args.source.now) (sound_left g.R.Read.remaining c.loop-sample.source)
     (sound_left g.R.Read.remaining c.next_sample.new.self) _ _ c.loop-sample.invariant.so_far (rw c.in_default.is at c.in_ok-sample.ensures.sample)
@@ -82,7 +82,7 @@ returns-in_err-end g c =
 
 pub returns : goal.returns
 returns g c =
-    so_far-end (paged c.args.page.now) (paged c.loop-sample.page) c.loop-sample.receiver (g.W.Write.contents c.args.out.now) (g.W.Write.contents c.loop-sample.out) (g.E.Write.contents c.args.err.now)
+    so_far-end (reported c.args.report.now) (reported c.loop-sample.report) c.loop-sample.receiver (g.W.Write.contents c.args.out.now) (g.W.Write.contents c.loop-sample.out) (g.E.Write.contents c.args.err.now)
     (g.E.Write.contents c.loop-sample.err) c.finish-last.result
     (sound_left g.R.Read.remaining c.args.source.now) (sound_left g.R.Read.remaining c.loop-sample.source)
     (sound_left g.R.Read.remaining c.next_sample.new.self) _ _ c.loop-sample.invariant.so_far (rw c.in_default.is at c.in_ok-sample.ensures.sample)

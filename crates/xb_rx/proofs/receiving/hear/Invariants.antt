@@ -1,8 +1,7 @@
 use Rattle.std.proofs.Common.{◌≤◌, ◌+◌}
 use Rattle.xb_rx.specs.declared.wav_start.TheConstants.{UNKNOWN_SAMPLES}
 use Rattle.xb_rx.specs.Hearing.{outputs}
-use Rattle.xb_rx.specs.Begun.{IsBegun}
-use Rattle.xb_rx.specs.Pages.{paged}
+use Rattle.xb_rx.specs.Reports.{IsReady, count_of, reported}
 use Rattle.xb_rx.specs.Samples.{IsForm}
 use Rattle.xb_rx.specs.Streams.{sound_left}
 use Rattle.xb_rx.proofs.SoFar.{IsSoFar}
@@ -11,9 +10,9 @@ use Rattle.xb_rx.proofs.receiving.hear.Given as goal
 abbrev pub invariant-loop-sample : goal.invariant-loop-sample
 invariant-loop-sample g l = record {
   form : IsForm l.source.form;
-  begun : IsBegun l.page.begun.items;
-  few : l.page.count + l.source.said ≤ UNKNOWN_SAMPLES;
-  so_far : IsSoFar (paged l.initial.page) (paged l.page) l.receiver (sound_left g.R.Read.remaining l.initial.source) (sound_left g.R.Read.remaining l.source) (outputs (g.W.Write.contents l.initial.out) (g.W.Write.contents l.out) (g.E.Write.contents l.initial.err) (g.E.Write.contents l.err));
+  ready : IsReady (reported l.report);
+  few : count_of (reported l.report) + l.source.said ≤ UNKNOWN_SAMPLES;
+  so_far : IsSoFar (reported l.initial.report) (reported l.report) l.receiver (sound_left g.R.Read.remaining l.initial.source) (sound_left g.R.Read.remaining l.source) (outputs (g.W.Write.contents l.initial.out) (g.W.Write.contents l.out) (g.E.Write.contents l.initial.err) (g.E.Write.contents l.err));
 }
 
 abbrev pub decreases-loop-sample : goal.decreases-loop-sample

@@ -2,7 +2,7 @@ use Rattle.std.proofs.Common.{◌≡◌, ◌∙◌, [], ap, sym, subst}
 use Rattle.std.specs.Io.KnownBytes.{Appends}
 use Rattle.xb_text.specs.Writing.{AppendsBeginning}
 use Rattle.xb_rx.specs.Pages.{loose_lines, loose_rest, page_rest, paged}
-use Rattle.xb_rx.proofs.Written.{all-written, end-page, end-told, wrote-whole}
+use Rattle.xb_rx.proofs.WrittenText.{all-written, end-page, end-told, wrote-whole}
 use Rattle.xb_rx.proofs.page.Page.close.Goals as goal
 
 pub returns-then-is_err-clause-loose : goal.returns-then-is_err-clause-loose

@@ -1,4 +1,4 @@
-use Rattle.xb_rx.proofs.Written.{none-at-fault}
+use Rattle.xb_rx.proofs.WrittenText.{none-at-fault}
 use Rattle.xb_rx.proofs.page.Page.complete.Goals as goal
 
 pub returns-in_err-text-clause-beginning : goal.returns-in_err-text-clause-beginning

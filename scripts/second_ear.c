@@ -1,0 +1,153 @@
+/* A second receiver of MF tones, by docs/DEFINITIONS.md ("A receiver"), which knows nothing of xb_ear: it prints for
+   samples of 16 bits, 8,000 a second, the low byte first, just the lines that `mfrx --raw --tones` prints.
+
+       second_ear < SAMPLES */
+#include <math.h>
+#include <stdint.h>
+#include <stdio.h>
+#include <stdlib.h>
+#include <string.h>
+
+enum { HOP = 20, WINDOW = 80, TONES = 6, NONE = -1 };
+enum { LEAST_LEVEL = 500 * 500, TWIST = 16, CLEAR = 2, SHARE = 3, SHARE_OF = 5 };
+enum { GAP_WINDOWS = 6, KEY_WINDOWS = 8, KP_WINDOWS = 18, TAIL_WINDOWS = 60, TAIL_WEAKER = 21 };
+
+struct sight { int low, high; int64_t low_level, high_level; };  /* places among the six */
+struct heard { struct sight sight; int64_t first, past; };       /* numbers of windows */
+
+static const int hundreds[TONES] = { 7, 9, 11, 13, 15, 17 };
+static int sine[80];  /* 10,000 times, rounded */
+
+static int64_t square(int64_t x) { return x * x; }
+
+static int64_t level(const int16_t *window, int tone)
+{
+    int64_t by_sine = 0, by_cosine = 0;
+    for (int n = 0; n < WINDOW; n++) {
+        by_sine += window[n] * sine[hundreds[tone] * n % 80];
+        by_cosine += window[n] * sine[(hundreds[tone] * n + 20) % 80];
+    }
+    return square(llabs(by_sine) / 400000) + square(llabs(by_cosine) / 400000);
+}
+
+static struct sight sees(const int16_t *window)
+{
+    int64_t levels[TONES], all = 0, power = 0;
+    for (int tone = 0; tone < TONES; tone++) all += levels[tone] = level(window, tone);
+    for (int n = 0; n < WINDOW; n++) power += square(window[n]);
+    power /= 40;
+    for (int high = 1; high < TONES; high++)
+        for (int low = 0; low < high; low++) {
+            int64_t two = levels[low] + levels[high];
+            int64_t weaker = levels[low] < levels[high] ? levels[low] : levels[high];
+            if (weaker >= LEAST_LEVEL && two - weaker <= TWIST * weaker && CLEAR * (all - two) <= weaker
+                && SHARE * power <= SHARE_OF * two)
+                return (struct sight) { low, high, levels[low], levels[high] };
+        }
+    return (struct sight) { NONE, NONE, 0, 0 };
+}
+
+static int is_same(struct sight a, struct sight b) { return a.low == b.low && a.high == b.high; }
+
+static int64_t strength(struct sight sight) { return sight.low_level + sight.high_level; }
+
+/* What a window sees, but for tails: the strengths of the pairs that stood out in the last windows are kept. */
+static struct sight without_tail(struct sight seen, int64_t at)
+{
+    static int64_t before[TAIL_WINDOWS];
+    int is_tail = 0;
+    for (int n = 0; n < TAIL_WINDOWS; n++) is_tail |= TAIL_WEAKER * strength(seen) < before[n];
+    before[at % TAIL_WINDOWS] = strength(seen);
+    return is_tail ? (struct sight) { NONE, NONE, 0, 0 } : seen;
+}
+
+static int needed(struct sight sight)
+{
+    return sight.low == NONE ? GAP_WINDOWS : sight.low == 2 && sight.high == 5 ? KP_WINDOWS : KEY_WINDOWS;
+}
+
+static const char *name(struct sight sight)
+{
+    static const char *names[TONES][TONES] = {
+        [0] = { 0, "1", "2", "4", "7", "ST'''" }, [1] = { 0, 0, "3", "5", "8", "ST'" }, [2] = { 0, 0, 0, "6", "9", "KP" },
+        [3] = { 0, 0, 0, 0, "0", "KP2/ST''" }, [4] = { 0, 0, 0, 0, 0, "ST" },
+    };
+    return names[sight.low][sight.high];
+}
+
+/* Tenths of a dBm0, of which a sine of 32,767 has 31.4. */
+static int tenths(int64_t level) { return (int) floorl(100 * log10l(level) - 100 * log10l(32767.0L * 32767) + 31.4L + 0.5L); }
+
+static void print_tenths(int number) { printf("%s%d.%d", number < 0 ? "-" : "", abs(number) / 10, abs(number) % 10); }
+
+static int is_about(int64_t wanted, int64_t off, int64_t number) { return llabs(number - wanted) <= off; }
+
+static struct heard last;
+static int has_last;
+
+static const char *verdict(struct sight sight, int64_t length, int64_t gap)
+{
+    int kp = sight.low == 2 && sight.high == 5, kp2 = sight.low == 3 && sight.high == 5;
+    int low = tenths(sight.low_level), high = tenths(sight.high_level);
+    if (!((!kp && is_about(68, 14, length)) || ((kp || kp2) && is_about(100, 14, length)))) return "LENGTH";
+    if (has_last && !kp && !kp2 && !is_about(68, 14, gap)) return "GAP";
+    if (!is_about(low, 10, high)) return "TWIST";
+    if (!is_about(-70, 10, low) || !is_about(-70, 10, high)) return "LEVEL";
+    return "GOOD";
+}
+
+/* Prints a key that ended. */
+static void give(struct heard key)
+{
+    int64_t start = (HOP * key.first + 30) / 8, length = HOP * (key.past - key.first) / 8;
+    int64_t between = key.first > last.past ? key.first - last.past : 0, gap = HOP * between / 8;
+    int low = tenths(key.sight.low_level), high = tenths(key.sight.high_level);
+    printf("%s at %lld ms for %lld ms, %d00 Hz ", name(key.sight), (long long) start, (long long) length, hundreds[key.sight.low]);
+    print_tenths(low);
+    printf(" dBm0, %d00 Hz ", hundreds[key.sight.high]);
+    print_tenths(high);
+    printf(" dBm0, twist ");
+    print_tenths(high - low);
+    if (has_last)
+        printf(" dB, after %lld ms: %s\n", (long long) gap, verdict(key.sight, length, gap));
+    else
+        printf(" dB, first: %s\n", verdict(key.sight, length, gap));
+    last = key;
+    has_last = 1;
+}
+
+int main(void)
+{
+    int16_t window[WINDOW];
+    int filled = 0, low, high;
+    struct sight run = { NONE, NONE, 0, 0 };
+    struct heard sounding = { { NONE, NONE, 0, 0 }, 0, 0 };
+    int64_t at = 0, first = 0, count = 0;
+    for (int n = 0; n < 80; n++) sine[n] = (int) lround(10000 * sin(2 * M_PI * n / 80));
+    while ((low = getchar()) != EOF && (high = getchar()) != EOF) {
+        window[filled++] = (int16_t) (low | high << 8);
+        if (filled < WINDOW) continue;
+        struct sight seen = without_tail(sees(window), at);
+        memmove(window, window + HOP, sizeof window - HOP * sizeof *window);
+        filled = WINDOW - HOP;
+        if (is_same(run, seen)) {
+            count++;
+            if (strength(run) < strength(seen)) run = seen;
+        } else {
+            run = seen;
+            count = 1;
+            first = at;
+        }
+        at++;
+        if (count < needed(run)) continue;
+        if (!is_same(sounding.sight, run)) {
+            if (sounding.sight.low != NONE) give(sounding);
+            sounding = (struct heard) { run, first, at };
+        } else if (run.low != NONE) {
+            if (strength(sounding.sight) < strength(run)) sounding.sight = run;
+            sounding.past = at;
+        }
+    }
+    if (sounding.sight.low != NONE) give(sounding);
+    return ferror(stdin) || fflush(stdout) ? 1 : 0;
+}
