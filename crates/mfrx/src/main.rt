@@ -1,10 +1,23 @@
-//! The program: words and a sound in, a status and the page of its keyings out.
+//! The program: words, a sound and the file of a page in, a status and what is heard out.
 #![tactic(auto)]
 
+use std::alloc::Global;
 use std::io::BufReader;
 use std::process::ExitCode;
-use std::{env, io};
-use xb_rx::attend;
+use std::{env, fs, io};
+use xb_rx::{PageFiles, attend};
+
+// The files of the system.
+#[derive(Drop)]
+struct SystemFiles<'a> {
+    rt: &'a HostRuntime,
+}
+
+impl<'a> PageFiles for SystemFiles<'a> {
+    fn read(&self, _alloc: Global, name: &str) -> io::Result<Vec<u8>> {
+        fs::read(self.rt, name)
+    }
+}
 
 // The words of the command line, the program's name first.
 fn words(rt: &HostRuntime) -> io::Result<Vec<String>> {
@@ -17,11 +30,13 @@ fn run(rt: &HostRuntime) -> io::Result<u8> {
     let mut sound = BufReader::new(rt.alloc(), rt.stdin())?;
     let (mut page, errors) = (io::writer(rt), rt.stderr());
     let mut err = io::writer(&errors);
-    Ok(attend(rt.alloc(), &words, &mut sound, &mut page, &mut err))
+    let files = SystemFiles { rt };
+    Ok(attend(rt.alloc(), &words, &files, &mut sound, &mut page, &mut err))
 }
 
-/// Reads the sound on standard input, and writes the page of its keyings on standard output, and on standard error a
-/// line for each key that stands in none, or for a fault, as `attend` does.
+/// Reads the sound on standard input, and writes the page of its keyings on standard output, or its keys, or its
+/// differences from a page, and on standard error a line for each key that stands in no keying, or for a fault, as
+/// `attend` does.
 fn main(rt: HostRuntime) -> ExitCode {
     match run(&rt) {
         Ok(status) => ExitCode::from(status),

@@ -4,6 +4,8 @@
 #![tactic(auto)]
 
 #[cfg(test)]
+mod folder;
+#[cfg(test)]
 mod pages;
 #[cfg(test)]
 mod statuses;

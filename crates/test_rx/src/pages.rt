@@ -1,4 +1,5 @@
 // The page of a sound that xb_tone wrote.
+use crate::folder::Folder;
 use std::alloc::Global;
 use std::test::Fail;
 use test_kit::marks::keying;
@@ -37,15 +38,19 @@ const OBJECT: &[u8] =
     b"{\"at_ms\":501,\"gap_ms\":null,\"high_dbm0_tenths\":-72,\"high_hz\":1700,\"key\":\"KP\",\
 \"length_ms\":97,\"low_dbm0_tenths\":-72,\"low_hz\":1100,\"twist_db_tenths\":0,\"verdict\":\"GOOD\"}\n";
 
-// What the program writes of the two keyings by some words.
-fn written(alloc: Global, options: &[&str]) -> Result<Vec<u8>, Fail> {
+// What it is otherwise than the page of the tests.
+const DIFFERENCES: &[u8] = b"heard and not keyed: entry 2: KP 1 ST\n\
+keyed and not heard: line 7 entry 3: KP 2 ST\n";
+
+// What the program writes of the two keyings by some words, with this status.
+fn written(alloc: Global, options: &[&str], wanted: u8) -> Result<Vec<u8>, Fail> {
     let file = sound(alloc)?;
     let words = words_of(alloc, "mfrx", options)?;
     let mut reader = file.as_slice();
     let mut out = Vec::new(alloc);
     let mut err = Vec::new(alloc);
-    let status = attend(alloc, &words, &mut reader, &mut out, &mut err);
-    if status != 0 || !err.is_empty() {
+    let status = attend(alloc, &words, &Folder, &mut reader, &mut out, &mut err);
+    if status != wanted || (status == 0 && !err.is_empty()) {
         return Err("another status".into());
     }
     Ok(out)
@@ -53,16 +58,23 @@ fn written(alloc: Global, options: &[&str]) -> Result<Vec<u8>, Fail> {
 
 #[test]
 fn writes_the_page_of_a_sound(rt: HostRuntime) -> Result<(), Fail> {
-    let page = written(rt.alloc(), &["--line", "42", "--trunk", "17"])?;
+    let page = written(rt.alloc(), &["--line", "42", "--trunk", "17"], 0)?;
     assert!(rt; page.as_slice() == PAGE);
     Ok(())
 }
 
 #[test]
 fn tells_each_key(rt: HostRuntime) -> Result<(), Fail> {
-    let keys = written(rt.alloc(), &["--tones"])?;
+    let keys = written(rt.alloc(), &["--tones"], 0)?;
     assert!(rt; keys.as_slice() == KEYS);
-    let objects = written(rt.alloc(), &["--json"])?;
+    let objects = written(rt.alloc(), &["--json"], 0)?;
     assert!(rt; objects.starts_with(OBJECT));
+    Ok(())
+}
+
+#[test]
+fn tells_differences(rt: HostRuntime) -> Result<(), Fail> {
+    let told = written(rt.alloc(), &["--against", "page"], 1)?;
+    assert!(rt; told.as_slice() == DIFFERENCES);
     Ok(())
 }

@@ -1,4 +1,5 @@
 // Words, sounds and streams in; a status and lines of faults out.
+use crate::folder::Folder;
 use std::alloc::Global;
 use std::test::Fail;
 use test_kit::{Gives, Halting, Program, Short, check_reads, check_status};
@@ -21,12 +22,12 @@ impl Program for Mfrx {
         out: &mut Short,
         err: &mut Vec<u8>,
     ) -> u8 {
-        attend(alloc, words, reader, out, err)
+        attend(alloc, words, &Folder, reader, out, err)
     }
 }
 
 const USAGE: &[u8] =
-    b"mfrx: usage: mfrx [--line N] [--trunk T] [--tones] [--json] [--raw [--rate HZ] [--ulaw]]\n";
+    b"mfrx: usage: mfrx [--line N] [--trunk T] [--tones] [--json] [--against PAGE] [--raw [--rate HZ] [--ulaw]]\n";
 
 // A file of two samples of silence, after a chunk of three bytes that says nothing.
 const FILE: &[u8] = b"RIFF\x34\0\0\0WAVELIST\x03\0\0\0abc\0\
@@ -56,6 +57,15 @@ const CASES: &[(&[&str], &[u8], u8, &[u8], &[u8])] = &[
     (&["--ulaw"], FILE, 2, b"", USAGE),
     (&["--rate", "8000"], FILE, 2, b"", USAGE),
     (&["--tones"], FILE, 0, b"", b""),
+    (&["--against", "none"], FILE, 0, b"", b""),
+    (
+        &["--against", "damaged"],
+        FILE,
+        1,
+        b"",
+        b"mfrx: the page that was keyed: text line 1 has wrong totals\n",
+    ),
+    (&["--against", "none", "--tones"], FILE, 2, b"", USAGE),
     (&["--json", "--line", "7"], FILE, 2, b"", USAGE),
     (&["--help"], FILE, 2, b"", USAGE),
 ];

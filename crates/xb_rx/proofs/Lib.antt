@@ -12,3 +12,6 @@ pub mod Sounds
 pub mod Skipping
 pub mod Starts
 pub mod Delivered
+pub mod Compared
+pub mod Answered
+pub mod AskedPages

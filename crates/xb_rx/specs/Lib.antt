@@ -7,6 +7,7 @@ pub mod Begun
 pub mod Pages
 pub mod Reports
 pub mod Hearing
+pub mod Comparing
 pub mod Rules
 pub mod Options
 pub mod Program

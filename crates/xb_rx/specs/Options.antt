@@ -1,6 +1,7 @@
 -- What the words of the command line ask for, as clap reads them.
-use Rattle.std.specs.Prelude.{ℕ, ◌||◌, List, Bool, if◌then◌else◌, Option, Some, None, codes, is_some, nat_lt, option_and_then, option_map, unwrap_or}
-use Rattle.clap.specs.Walk.{Row, Text}
+use Rattle.std.specs.Prelude.{ℕ, ◌≡◌, ◌&&◌, not, ◌||◌, List, Bool, if◌then◌else◌, Option, Some, None, codes, is_some, nat_lt, option_and_then, option_map, unwrap_or}
+use Rattle.std.specs.Borrow.{Bor}
+use Rattle.clap.specs.Walk.{Row, Text, first_of}
 use Rattle.xb_command.specs.Given.{AskForNothing, AsksFor, ReadsFlag, ReadsNumber, given_by}
 use Rattle.xb_model.specs.declared.line.TheConstants.{LINES}
 use Rattle.xb_model.specs.declared.trunk.TheConstants.{TRUNKS}
@@ -67,10 +68,29 @@ request_of options =
     option_and_then (λ what. option_map (λ how. record { written = what; input = how }) (input_of options))
     (written_of options)
 
--- clap takes the words, and they ask for this
-abbrev pub Asks : List Text → Request → Type 0
-Asks words request = AsksFor command_of_words Say request_of words request
+abbrev pub is_plain : Options → Bool
+is_plain options = not (options.tones || options.json || is_some options.line || is_some options.trunk)
+
+-- where a page is named the sound is compared with it, and nothing is said of what is written
+abbrev pub request_against : Options → Bool → Option Request
+request_against options against = if against && not (is_plain options) then None else request_of options
+
+-- the name of the file of a page
+abbrev pub named : Option (Bor Text) → Option Text
+named name = option_map (λ text. text.now) name
+
+-- what clap matched says these options, and names this page
+abbrev pub SayAll : List Row → Options × Option Text → Type 0
+SayAll rows (options, against) = Say rows options × (against ≡ first_of (codes "against") rows)
+
+abbrev pub asked_of : Options × Option Text → Option (Request × Option Text)
+asked_of (options, against) =
+    option_map (λ request. (request, against)) (request_against options (is_some against))
+
+-- clap takes the words, and they ask for this, or to be compared with this page
+abbrev pub Asks : List Text → Request → Option Text → Type 0
+Asks words request against = AsksFor command_of_words SayAll asked_of words (request, against)
 
 -- clap refuses the words, or they ask for what there is not
 abbrev pub AreRefused : List Text → Type 0
-AreRefused words = AskForNothing command_of_words Say request_of words
+AreRefused words = AskForNothing command_of_words SayAll asked_of words

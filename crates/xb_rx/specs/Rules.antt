@@ -16,8 +16,9 @@ options =
     ∷ (codes "raw", takes.Nothing)
     ∷ (codes "rate", takes.Number)
     ∷ (codes "ulaw", takes.Nothing)
+    ∷ (codes "against", takes.Text)
     ∷ []
 
--- `mfrx [--line N] [--trunk T] [--tones] [--json] [--raw [--rate HZ] [--ulaw]]`
+-- `mfrx [--line N] [--trunk T] [--tones] [--json] [--against PAGE] [--raw [--rate HZ] [--ulaw]]`
 abbrev pub command_of_words : App
 command_of_words = command_of (codes "mfrx") options

@@ -5,6 +5,8 @@
 //!   output a line for each key (`key_lines`). On an `Err` it is the beginning of both. A WAV is refused exactly by
 //!   the fault that it has (`start_of_file`); where samples are missing at its end, `Cut` says how many. Memory does
 //!   not grow with the sound.
+//! - `compare`: on `Ok` the keyings that are heard are those that a page has keyed; on `Differ` the output got exactly
+//!   the differences (`differences`). Another fault says why they are not known, and then nothing of them is written.
 //! - `laws::keyed_is_paged`: of the sound of keyings, disturbed too, the page has an entry for each, in order.
 //! - `attend`: `Attends` of this. `laws::usage_names_each_option`.
 //!
@@ -12,7 +14,9 @@
 #![tactic(auto)]
 
 mod coding;
+mod comparing;
 mod fault;
+mod files;
 mod keys;
 pub mod laws;
 mod listing;
@@ -26,9 +30,11 @@ mod wav_start;
 mod words;
 
 pub use coding::{Coding, Form, MOST_CHANNELS, MOST_FRAMES};
+pub use comparing::{CompareProgramFault, compare};
 pub use fault::RxFault;
+pub use files::PageFiles;
 pub use keys::MOST_DIGITS;
 pub use program::attend;
 pub use receiving::receive;
-pub use request::{Input, Request, Written};
+pub use request::{Asked, Input, Request, Written};
 pub use wav_start::{MOST_CHUNKS, Start, UNKNOWN_BYTES, UNKNOWN_SAMPLES, WavFault};

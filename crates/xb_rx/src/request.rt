@@ -29,3 +29,12 @@ pub struct Request {
     /// How the sound is given.
     pub input: Input,
 }
+
+/// What the words ask for.
+#[derive(Clone, Copy, Debug)]
+pub struct Asked<'a> {
+    /// How the sound is given, and what is written of it.
+    pub request: Request,
+    /// The file of the page that it is compared with, in place of being written down.
+    pub against: Option<&'a str>,
+}

@@ -2,11 +2,11 @@
 ghost use Rattle.std.specs.Prelude.{◌≡◌, IfErr, IfOk, IfSome};
 ghost use Rattle.xb_command.specs.Commands.{texts_of};
 ghost use Rattle.xb_rx.specs.Hearing.{HasForm};
-ghost use Rattle.xb_rx.specs.Options.{AreRefused, Asks, Say, input_of, line_of, raw_coding, request_of, telling_of, trunk_of, written_of};
+ghost use Rattle.xb_rx.specs.Options.{AreRefused, Asks, Say, input_of, is_plain, line_of, named, raw_coding, request_against, request_of, telling_of, trunk_of, written_of};
 
 use crate::coding::{Coding, Form};
 use crate::program::PROGRAM;
-use crate::request::{Input, Request, Written};
+use crate::request::{Asked, Input, Request, Written};
 use crate::wav_start::frames_of;
 use std::alloc::Global;
 use xb_command::{Takes, Words, WordsFault, read_words};
@@ -26,7 +26,7 @@ pub(crate) struct Options {
 }
 
 // The options of the program, each under its name.
-const OPTIONS: [(&str, Takes); 7] = [
+const OPTIONS: [(&str, Takes); 8] = [
     ("line", Takes::Number),
     ("trunk", Takes::Number),
     ("tones", Takes::Nothing),
@@ -34,6 +34,7 @@ const OPTIONS: [(&str, Takes); 7] = [
     ("raw", Takes::Nothing),
     ("rate", Takes::Number),
     ("ulaw", Takes::Nothing),
+    ("against", Takes::Text),
 ];
 
 // What the words say.
@@ -139,14 +140,38 @@ fn request_of(options: Options) -> Option<Request>
     Some(Request { written, input })
 }
 
+// Whether nothing is said of what is written.
+fn is_plain(options: Options) -> bool
+    ensures { result ≡ is_plain options }
+{
+    !(options.tones || options.json || options.line.is_some() || options.trunk.is_some())
+}
+
+// What the options ask for, beside a page that is named or not; `None` also where one is, and something is said of what
+// is written.
+fn request_against(options: Options, against: bool) -> Option<Request>
+    ensures value { result ≡ request_against options against }
+    ensures form { IfSome result (λ request. HasForm request.input) }
+{
+    if against && !is_plain(options) {
+        None
+    } else {
+        request_of(options)
+    }
+}
+
 /// What the words ask for: the page of a line, by a trunk group, or a line for each key, of a WAV file or of samples
-/// alone.
-pub fn request_of_words(alloc: Global, words: &[String]) -> Result<Request, WordsFault>
-    ensures asks { IfOk result (λ request. Asks (texts_of words.now) request) }
-    ensures form { IfOk result (λ request. HasForm request.input) }
-    ensures refused { IfErr result (λ f. f ≡ WordsFault.Refused → AreRefused (texts_of words.now)) }
+/// alone, or that it is compared with a page.
+pub fn asked_by_words<'a>(alloc: Global, words: &'a [String]) -> Result<Asked<'a>, WordsFault>
+    ensures asks { IfOk result (λ asked. Asks (texts_of words.entry.now) asked.request (named asked.against)) }
+    ensures form { IfOk result (λ asked. HasForm asked.request.input) }
+    ensures refused { IfErr result (λ f. f ≡ WordsFault.Refused → AreRefused (texts_of words.entry.now)) }
 {
     let _written: Option<Written> = None;
     let words = read_words(alloc, PROGRAM, &OPTIONS, words)?;
-    request_of(options_of(&words)).ok_or(WordsFault::Refused)
+    let against = words.text("against");
+    match request_against(options_of(&words), against.is_some()) {
+        Some(request) => Ok(Asked { request, against }),
+        None => Err(WordsFault::Refused),
+    }
 }

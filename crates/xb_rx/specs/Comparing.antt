@@ -1,0 +1,67 @@
+-- What was keyed, beside what is heard.
+use Rattle.std.specs.Prelude.{◌≡◌, ◌≢◌, ◌⊎◌, ℕ, List, [], Option, Some, None, IfSome, Result, Ok, Err}
+use Rattle.std.specs.Io.KnownBytes.{Appends, Keeps}
+use Rattle.xb_text.specs.Writing.{AppendsBeginning}
+use Rattle.xb_compared.specs.Differences.{differences}
+use Rattle.xb_compared.specs.Entries.{KeyedEntry}
+use Rattle.xb_compared.specs.Pages.{IsFaultOf, IsKeyed}
+use Rattle.xb_ear.specs.Receivers.{keys_of_sound}
+use Rattle.xb_rx.specs.declared.comparing.CompareProgramFault.{CompareProgramFault}
+use Rattle.xb_rx.specs.declared.comparing.CompareProgramFault.TheVariants as fault
+use Rattle.xb_rx.specs.declared.request.Input.{Input}
+use Rattle.xb_rx.specs.declared.request.Request.{Request}
+use Rattle.xb_rx.specs.declared.request.Written.TheVariants as written
+use Rattle.xb_rx.specs.Hearing.{Delivers, Outputs, outputs, sound_by}
+use Rattle.xb_rx.specs.Pages.{loose_text, page_of}
+use Rattle.xb_rx.specs.Samples.{Sound}
+
+-- the keyed entries of the page in a file, where its bytes are known
+abbrev pub HasKeyed : Option (List ℕ) → List KeyedEntry → Type 0
+HasKeyed file keyed = IfSome file (λ page. IsKeyed page keyed)
+
+-- a sound whose page has this is heard to its end, where its bytes are known, and its keys without a keying are told
+abbrev pub HasHeard : Input → Option (List ℕ) → (List ℕ → Type 0) → Option (List ℕ) → Option (List ℕ) → Type 0
+HasHeard how None P old new = Unit {0}
+HasHeard how (Some bytes) P old new =
+    (sound : Sound) × (sound_by how bytes ≡ Ok sound) × (sound.lacking ≡ 0)
+    × Appends old new (loose_text (keys_of_sound sound.samples)) × P (page_of 0 0 (keys_of_sound sound.samples))
+
+-- the keyed entries of its page
+abbrev pub IsHeardPage : Input → Option (List ℕ) → List KeyedEntry → Option (List ℕ) → Option (List ℕ) → Type 0
+IsHeardPage how bytes keyed old new = HasHeard how bytes (λ page. IsKeyed page keyed) old new
+
+-- why a file gives no keyed entries
+abbrev pub IsFileFault : Option (List ℕ) → CompareProgramFault → Type 0
+IsFileFault file (fault.File e) = Unit {0}
+IsFileFault file (fault.Keyed f) = IfSome file (λ page. IsFaultOf page f)
+IsFileFault file fault.NoMemory = Unit {0}
+IsFileFault file f = ⊥
+
+abbrev pub page_request : Input → Request
+page_request how = record { written = written.Page 0 0; input = how }
+
+-- why a sound gives none
+abbrev pub IsSoundFault : Input → Option (List ℕ) → CompareProgramFault → Option (List ℕ) → Option (List ℕ) → Type 0
+IsSoundFault how bytes (fault.Sound f) old new =
+    (page : Option (List ℕ)) × Delivers (page_request how) bytes (Err f) (outputs (Some []) page old new)
+IsSoundFault how bytes (fault.Heard f) old new = HasHeard how bytes (λ page. IsFaultOf page f) old new
+IsSoundFault how bytes fault.NoMemory old new = Unit {0}
+IsSoundFault how bytes f old new = ⊥
+
+-- this holds of the differences of what was keyed and what is heard
+abbrev pub HasDifferences : Option (List ℕ) → Input → Option (List ℕ) → (List ℕ → Type 0) → Outputs → Type 0
+HasDifferences file how bytes P outs =
+    (keyed : List KeyedEntry) × (heard : List KeyedEntry) × HasKeyed file keyed
+    × IsHeardPage how bytes heard outs.told_old outs.told_new × P (differences keyed heard)
+
+-- there are none, or they were written, or their beginning; or a fault says why they are not known
+abbrev pub Compares : Option (List ℕ) → Input → Option (List ℕ) → Result (Unit {0}) CompareProgramFault → Outputs → Type 0
+Compares file how bytes (Ok u) outs =
+    HasDifferences file how bytes (λ text. (text ≡ []) × Appends outs.page_old outs.page_new text) outs
+Compares file how bytes (Err fault.Differ) outs =
+    HasDifferences file how bytes (λ text. (text ≢ []) × Appends outs.page_old outs.page_new text) outs
+Compares file how bytes (Err fault.Write) outs =
+    HasDifferences file how bytes (λ text. AppendsBeginning outs.page_old outs.page_new text) outs
+Compares file how bytes (Err f) outs =
+    Keeps outs.page_old outs.page_new
+    × ((Keeps outs.told_old outs.told_new × IsFileFault file f) ⊎ IsSoundFault how bytes f outs.told_old outs.told_new)

@@ -1,0 +1,131 @@
+// What was keyed, beside what is heard.
+ghost use Rattle.std.specs.Prelude.{IfErr, IfOk};
+ghost use Rattle.xb_rx.specs.Comparing.{Compares, HasKeyed, IsFileFault, IsHeardPage, IsSoundFault};
+ghost use Rattle.xb_rx.specs.Hearing.{HasForm, outputs};
+
+use crate::fault::RxFault;
+use crate::files::PageFiles;
+use crate::receiving::receive;
+use crate::request::{Input, Request, Written};
+use std::alloc::{AllocError, Global};
+use std::io::{self, Read, Write};
+use thiserror::Error;
+use xb_compared::{CompareFault, Keyed, differences, keyed_of_page};
+use xb_model::{LineNo, Trunk};
+use xb_text::write_whole;
+
+/// Why what was keyed is not what is heard. On `Differ` the differences were written, on `Write` their beginning; else
+/// nothing.
+#[derive(Debug, Drop, Error)]
+pub enum CompareProgramFault {
+    /// The file of the page could not be read.
+    #[error("the page could not be read: {0}")]
+    File(io::Error),
+    /// It has no page.
+    #[error("the page that was keyed: {0}")]
+    Keyed(CompareFault),
+    /// What was heard makes no page. That never comes but where it is too long.
+    #[error("the page that was heard: {0}")]
+    Heard(CompareFault),
+    /// The sound is not heard to its end.
+    #[error("{0}")]
+    Sound(RxFault),
+    /// Memory ran out.
+    #[error("out of memory")]
+    NoMemory,
+    /// A write or the flush failed, or a write took no byte.
+    #[error("the differences could not be written")]
+    Write,
+    /// What was keyed is not what is heard.
+    #[error("what was keyed is not what is heard")]
+    Differ,
+}
+
+impl From<AllocError> for CompareProgramFault {
+    ghost use Rattle.std.specs.Prelude.{◌≡◌};
+    ghost use Rattle.xb_rx.specs.declared.comparing.CompareProgramFault.TheVariants.{NoMemory};
+
+    ghost from_gives = { λ _ e. e ≡ NoMemory };
+
+    fn from(_error: AllocError) -> CompareProgramFault {
+        CompareProgramFault::NoMemory
+    }
+}
+
+// The keyed entries of the page in a file.
+fn keyed_in<F: PageFiles>(
+    alloc: Global,
+    files: &F,
+    name: &str,
+) -> Result<Vec<Keyed>, CompareProgramFault>
+    ensures keyed { IfOk result (λ keyed. HasKeyed (F.bytes files.now name.now) keyed.items) }
+    ensures fault { IfErr result (IsFileFault (F.bytes files.now name.now)) }
+{
+    let page = match files.read(alloc, name) {
+        Ok(page) => page,
+        Err(error) => return Err(CompareProgramFault::File(error)),
+    };
+    match keyed_of_page(alloc, &page) {
+        Ok(keyed) => Ok(keyed),
+        Err(CompareFault::NoMemory) => Err(CompareProgramFault::NoMemory),
+        Err(fault) => Err(CompareProgramFault::Keyed(fault)),
+    }
+}
+
+// The keyed entries of what is heard.
+fn keyed_heard<R: Read, E: Write>(
+    alloc: Global,
+    input: Input,
+    sound: &mut R,
+    err: &mut E,
+) -> Result<Vec<Keyed>, CompareProgramFault>
+    requires { HasForm input }
+    ensures keyed { IfOk result (λ keyed. IsHeardPage input (R.remaining sound.old) keyed.items
+        (E.contents err.old) (E.contents err.new)) }
+    ensures fault { IfErr result (λ fault. IsSoundFault input (R.remaining sound.old) fault
+        (E.contents err.old) (E.contents err.new)) }
+{
+    let mut page = Vec::new(alloc);
+    let request = Request {
+        written: Written::Page(LineNo::default(), Trunk::default()),
+        input,
+    };
+    if let Err(fault) = receive(alloc, request, sound, &mut page, err) {
+        return Err(CompareProgramFault::Sound(fault));
+    }
+    match keyed_of_page(alloc, &page) {
+        Ok(keyed) => Ok(keyed),
+        Err(CompareFault::NoMemory) => Err(CompareProgramFault::NoMemory),
+        Err(fault) => Err(CompareProgramFault::Heard(fault)),
+    }
+}
+
+/// Hears a sound, and compares its keyings with the keyed entries of the page in a file, entry by entry: `out` gets a
+/// line for each that was keyed and not heard, or heard and not keyed, and `err` one for each key that stands in no
+/// keying. `Ok` says that there is no difference. The page of what is heard is held until the end.
+pub fn compare<F: PageFiles, R: Read, W: Write, E: Write>(
+    alloc: Global,
+    files: &F,
+    name: &str,
+    input: Input,
+    sound: &mut R,
+    out: &mut W,
+    err: &mut E,
+) -> Result<(), CompareProgramFault>
+    requires { HasForm input }
+    ensures { Compares (F.bytes files.now name.now) input (R.remaining sound.old) result
+        (outputs (W.contents out.old) (W.contents out.new) (E.contents err.old) (E.contents err.new)) }
+{
+    let keyed = keyed_in(alloc, files, name)?;
+    let heard = keyed_heard(alloc, input, sound, err)?;
+    let text = differences(alloc, &keyed, &heard)?;
+    let lines = text.as_bytes();
+    if write_whole(out, lines).is_err() {
+        return Err(CompareProgramFault::Write);
+    }
+    if lines.is_empty() {
+        Ok(())
+    } else {
+        Err(CompareProgramFault::Differ)
+    }
+}
