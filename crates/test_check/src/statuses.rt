@@ -31,9 +31,9 @@ const PASSED_OVER: &[u8] =
 delte = 3\n---\n\nline,state,ms\n7,M,500\n";
 
 const TOLD: &[u8] =
-    b"a.deck:1:1: no rule names this key; here are plan, limits and route: plann = 10?
+    b"a.deck:1:1: no rule names this key; here are plan, limits and route (did you mean plan?): plann = 10?
 a.deck:2:1: no rule names this heading; there are [limits] and [[route]]: [limit]
-a.deck:7:1: no rule names this key; here are code, trunk, delete and prefix: delte = 3
+a.deck:7:1: no rule names this key; here are code, trunk, delete and prefix (did you mean delete?): delte = 3
 ";
 
 // A deck with a record of each kind of fault.
@@ -77,8 +77,26 @@ const CASES: &[(&[&str], &[u8], u8, &[u8], &[u8])] = &[
         &[],
         b"plan = 8\n---\n",
         1,
-        b"",
+        b"deck:1:1: plan is neither 7 nor 10: plan = 8\n",
         b"mfcheck: route table: plan is neither 7 nor 10\n",
+    ),
+    (
+        &[],
+        b"[limits]\n pulse_max = 119\npulse_mix = 1\npulse_min = 130\n---\n",
+        1,
+        b"deck:3:1: no rule names this key; here are pulse_min, pulse_max, make_min, pause, release and timeout \
+(did you mean pulse_min?): pulse_mix = 1\n\
+deck:2:1: pulse_min is over pulse_max:  pulse_max = 119\n",
+        b"mfcheck: route table: limit 7 is wrong\n",
+    ),
+    (
+        &[],
+        b"[[route]]\ncode = \"0\"\ntrunk = 1\n[[route]]\ntrunk = 2\n cod = \"411\"\n---\n",
+        1,
+        b"deck:6:1: no rule names this key; here are code, trunk, delete and prefix \
+(did you mean code?):  cod = \"411\"\n\
+deck:4:1: this route lacks code or trunk, or one of its keys has another kind of value: [[route]]\n",
+        b"mfcheck: route table: route 2 has a wrong shape\n",
     ),
     (&["deck"], PASSED_OVER, 2, b"", USAGE),
     (&["--name"], PASSED_OVER, 2, b"", USAGE),

@@ -1,1 +1,2 @@
 mod TakenLines
+mod FaultLines

@@ -1,5 +1,5 @@
 -- How text lines are taken, one after the other.
-use Rattle.std.proofs.Common.{◌≡◌, ℕ, ◌+◌, ◌≤◌, true, false, List, [], ◌++◌, length, Option, sym, ap, ◌∙◌, arith, append_assoc, append-nil}
+use Rattle.std.proofs.Common.{◌≡◌, ℕ, ◌+◌, ◌≤◌, true, false, List, [], ◌++◌, length, Option, None, sym, ap, ◌∙◌, arith, append_assoc, append-nil}
 use Rattle.std.specs.Prelude.{◌==◌}
 use Rattle.std.proofs.lemmas.Bool.{cond-true, cond-false, le-ltb}
 use Rattle.std.proofs.lemmas.List.Sums.{count_by-le-length}
@@ -8,6 +8,7 @@ use Rattle.xb_deck.specs.declared.deck.TheConstants.{MOST_DECK_BYTES}
 use Rattle.xb_deck.specs.Deck.{is_cut}
 use Rattle.xb_text.specs.Pieces.{pieces}
 use Rattle.xb_check.specs.declared.finding.What.{What}
+use Rattle.xb_check.specs.declared.key.Key.{Key}
 use Rattle.xb_check.specs.declared.lines.Place.{Place}
 use Rattle.xb_check.specs.declared.lines.Place.TheVariants as place
 use Rattle.xb_check.specs.declared.table.Section.{Section}
@@ -15,7 +16,7 @@ use Rattle.xb_check.specs.declared.table.Section.TheVariants.{Top}
 use Rattle.xb_check.specs.Findings.{Found}
 use Rattle.xb_check.specs.Records.{faults_of_deck, faults_of_lines, faults_of_records, faults_of_table, found_at, is_empty, wrong_header, wrong_record}
 use Rattle.xb_check.specs.Steps.{TakesLine, faults_after}
-use Rattle.xb_check.specs.Table.{section_after, squeezed, wrong_line}
+use Rattle.xb_check.specs.Table.{section_after, squeezed, with_meant, wrong_in_table}
 
 -- the line that cuts
 pub cuts : (section : Section) (n : ℕ) (line : List ℕ) (found : List Found) → is_cut line ≡ true
@@ -24,14 +25,14 @@ unfolding faults_of_table
 cuts section n line found cut later = ap (λ more. found ++ more) (cond-true _ _ _ cut)
 
 -- another line of the table
-pub takes_table : (section : Section) (n : ℕ) (line read : List ℕ) (wrong : Option What) (next : Section)
-    (before after : List Found) → is_cut line ≡ false → read ≡ squeezed line → wrong ≡ wrong_line section read
+pub takes_table : (section : Section) (n : ℕ) (line read : List ℕ) (wrong : Option (What × Option Key)) (next : Section)
+    (before after : List Found) → is_cut line ≡ false → read ≡ squeezed line → wrong ≡ wrong_in_table section read
     → next ≡ section_after section read → after ≡ before ++ found_at n line wrong
     → TakesLine (place.Table section) n line before after (place.Table next)
 unfolding faults_of_table
 takes_table section n line read wrong next before after cut is what moved put later =
     rw (put, what, moved, is) (ap (λ more. before ++ more) (cond-false _ _ _ cut)
-    ∙ sym (append_assoc before (found_at n line (wrong_line section (squeezed line)))
+    ∙ sym (append_assoc before (found_at n line (wrong_in_table section (squeezed line)))
     (faults_of_table (section_after section (squeezed line)) (n + 1) later)))
 
 -- an empty line before the header
@@ -41,21 +42,21 @@ unfolding faults_of_lines
 passes_empty n line found empty later = ap (λ more. found ++ more) (cond-true _ _ _ empty)
 
 -- the header
-pub takes_header : (n : ℕ) (line : List ℕ) (wrong : Option What) (before after : List Found)
-    → is_empty line ≡ false → wrong ≡ wrong_header line → after ≡ before ++ found_at n line wrong
+pub takes_header : (n : ℕ) (line : List ℕ) (wrong : Option (What × Option Key)) (before after : List Found)
+    → is_empty line ≡ false → wrong ≡ with_meant (wrong_header line) None → after ≡ before ++ found_at n line wrong
     → TakesLine place.Header n line before after place.Records
 unfolding faults_of_lines
 takes_header n line wrong before after empty is put later =
     rw (put, is) (ap (λ more. before ++ more) (cond-false _ _ _ empty)
-    ∙ sym (append_assoc before (found_at n line (wrong_header line)) (faults_of_records (n + 1) later)))
+    ∙ sym (append_assoc before (found_at n line (with_meant (wrong_header line) None)) (faults_of_records (n + 1) later)))
 
 -- a record
-pub takes_record : (n : ℕ) (line : List ℕ) (wrong : Option What) (before after : List Found)
-    → wrong ≡ wrong_record line → after ≡ before ++ found_at n line wrong
+pub takes_record : (n : ℕ) (line : List ℕ) (wrong : Option (What × Option Key)) (before after : List Found)
+    → wrong ≡ with_meant (wrong_record line) None → after ≡ before ++ found_at n line wrong
     → TakesLine place.Records n line before after place.Records
 unfolding faults_of_records
 takes_record n line wrong before after is put later =
-    rw (put, is) (sym (append_assoc before (found_at n line (wrong_record line)) (faults_of_records (n + 1) later)))
+    rw (put, is) (sym (append_assoc before (found_at n line (with_meant (wrong_record line) None)) (faults_of_records (n + 1) later)))
 
 -- at first no text line of a deck was taken
 pub none_taken : (deck : List ℕ) → length deck ≤ MOST_DECK_BYTES

@@ -1,14 +1,20 @@
 -- What is wrong in a deck, and where.
-use Rattle.std.specs.Prelude.{ℕ, List, codes}
+use Rattle.std.specs.Prelude.{ℕ, ◌++◌, ◌==◌, if◌then◌else◌, List, [], codes, Option, Some, None}
 use Rattle.xb_check.specs.declared.finding.Finding.{Finding}
 use Rattle.xb_check.specs.declared.finding.What.{What}
 use Rattle.xb_check.specs.declared.finding.What.TheVariants as what
+use Rattle.xb_check.specs.declared.key.Key.{Key}
+use Rattle.xb_check.specs.Keys.{key_text}
+use Rattle.xb_routes.specs.declared.fault.RouteFault.{RouteFault}
+use Rattle.xb_routes.specs.declared.fault.RouteFault.TheVariants as fault
 
--- a text line and a column, both from 1, what is wrong there, and the text line itself
+-- a text line and a column, both from 1, what is wrong there, the key that may have been meant, and the text
+-- line itself
 pub record Found : Type 0 where
   pub line : ℕ
   pub column : ℕ
   pub what : What
+  pub meant : Option Key
   pub text : List ℕ
 
 abbrev pub found_of : Finding → Found
@@ -16,8 +22,34 @@ found_of finding = record {
   line = finding.line;
   column = finding.column;
   what = finding.what;
+  meant = finding.meant;
   text = finding.text.now;
 }
+
+-- what is wrong with limits, by the number of their fault
+abbrev pub limit_words : ℕ → List ℕ
+limit_words n =
+    if n == 0 then codes "limits is not a table"
+    else if n == 7 then codes "pulse_min is over pulse_max"
+    else if n == 8 then codes "pulse_max is not under release"
+    else if n == 9 then codes "make_min is over pause"
+    else if n == 10 then codes "pause is not under timeout"
+    else codes "the limit is not a whole number of 1 to 1000000 ms"
+
+-- the fault by which a route table is refused, in words
+abbrev pub route_words : RouteFault → List ℕ
+route_words fault.NotToml = codes "the table is not TOML"
+route_words fault.Plan = codes "plan is neither 7 nor 10"
+route_words (fault.Limits n) = limit_words n
+route_words fault.TooMany = codes "there are more than 1000 routes"
+route_words (fault.Shape n) = codes "this route lacks code or trunk, or one of its keys has another kind of value"
+route_words (fault.Code n) = codes "the code is not 0, NNX or N11, nor one of plan 10"
+route_words (fault.Trunk n) = codes "the trunk group is not 0 to 9999"
+route_words (fault.Delete n) = codes "more digits are deleted than the numbers of this code have"
+route_words (fault.Prefix n) = codes "the prefix is not 0 to 8 digits"
+route_words (fault.NothingToKey n) = codes "all digits are deleted, and none is put before them"
+route_words (fault.Twice n) = codes "an earlier route has this code"
+route_words fault.NoMemory = codes "out of memory"
 
 -- what is wrong, in words
 abbrev pub what_text : What → List ℕ
@@ -25,8 +57,14 @@ what_text what.Table = codes "no rule names this heading; there are [limits] and
 what_text what.TopKey = codes "no rule names this key; here are plan, limits and route"
 what_text what.LimitKey = codes "no rule names this key; here are pulse_min, pulse_max, make_min, pause, release and timeout"
 what_text what.RouteKey = codes "no rule names this key; here are code, trunk, delete and prefix"
+what_text (what.Routes f) = route_words f
 what_text what.Header = codes "the first record is not line,state,ms"
 what_text what.Fields = codes "the record has not three fields"
 what_text what.Line = codes "the line is not 0 to 9999"
 what_text what.State = codes "the state is not M, B or C"
 what_text what.Ms = codes "the ms are not 0 to 86400000, or not 0 in a close"
+
+-- the key that may have been meant, in words
+abbrev pub meant_text : Option Key → List ℕ
+meant_text None = []
+meant_text (Some k) = codes " (did you mean " ++ (key_text k ++ codes "?)")

@@ -1,6 +1,8 @@
+pub mod Keys
 pub mod Findings
 pub mod Table
 pub mod Records
+pub mod Sites
 pub mod Steps
 pub mod Reports
 pub mod Options

@@ -7,12 +7,13 @@ use Rattle.xb_model.specs.declared.fault.RowFault.TheVariants as fault
 use Rattle.xb_model.specs.Rows.{LoopRow}
 use Rattle.xb_rows.specs.RowTexts.{rest_of_text}
 use Rattle.xb_text.specs.Pieces.{cut_at, pieces}
+use Rattle.xb_check.specs.declared.key.Key.{Key}
 use Rattle.xb_check.specs.declared.finding.What.{What}
 use Rattle.xb_check.specs.declared.finding.What.TheVariants as what
 use Rattle.xb_check.specs.declared.table.Section.{Section}
 use Rattle.xb_check.specs.declared.table.Section.TheVariants.{Top}
 use Rattle.xb_check.specs.Findings.{Found}
-use Rattle.xb_check.specs.Table.{section_after, squeezed, wrong_line}
+use Rattle.xb_check.specs.Table.{section_after, squeezed, with_meant, wrong_in_table}
 
 -- what is wrong with a record that has this fault
 abbrev pub what_of_fault : RowFault → Option What
@@ -53,6 +54,7 @@ from_field what.Table line = line
 from_field what.TopKey line = line
 from_field what.LimitKey line = line
 from_field what.RouteKey line = line
+from_field (what.Routes f) line = line
 from_field what.Header line = line
 from_field what.Fields line = line
 from_field what.Line line = line
@@ -64,10 +66,10 @@ abbrev pub column_of : What → List ℕ → ℕ
 column_of wrong line = length line - length (from_field wrong line) + 1
 
 -- what is wrong with text line n
-abbrev pub found_at : ℕ → List ℕ → Option What → List Found
+abbrev pub found_at : ℕ → List ℕ → Option (What × Option Key) → List Found
 found_at n line None = []
 found_at n line (Some wrong) =
-    record { line = n; column = column_of wrong line; what = wrong; text = line } ∷ []
+    record { line = n; column = column_of wrong.0 line; what = wrong.0; meant = wrong.1; text = line } ∷ []
 
 -- a text line that is passed over before the header, since nothing is written in it
 abbrev pub is_empty : List ℕ → Bool
@@ -76,21 +78,21 @@ is_empty line = bytes_eq line [] || bytes_eq line (codes "\r")
 -- the text lines from n on, which are records, each with what is wrong
 unfoldable pub faults_of_records : ℕ → List (List ℕ) → List Found
 faults_of_records n [] = []
-faults_of_records n (line ∷ lines) = found_at n line (wrong_record line) ++ faults_of_records (n + 1) lines
+faults_of_records n (line ∷ lines) = found_at n line (with_meant (wrong_record line) None) ++ faults_of_records (n + 1) lines
 
 -- the text lines from n on, before the header
 unfoldable pub faults_of_lines : ℕ → List (List ℕ) → List Found
 faults_of_lines n [] = []
 faults_of_lines n (line ∷ lines) =
     if is_empty line then faults_of_lines (n + 1) lines
-    else found_at n line (wrong_header line) ++ faults_of_records (n + 1) lines
+    else found_at n line (with_meant (wrong_header line) None) ++ faults_of_records (n + 1) lines
 
 -- the text lines from n on, of the table's section and before the line that cuts
 unfoldable pub faults_of_table : Section → ℕ → List (List ℕ) → List Found
 faults_of_table section n [] = []
 faults_of_table section n (line ∷ lines) =
     if is_cut line then faults_of_lines (n + 1) lines
-    else found_at n line (wrong_line section (squeezed line))
+    else found_at n line (wrong_in_table section (squeezed line))
     ++ faults_of_table (section_after section (squeezed line)) (n + 1) lines
 
 -- what is wrong in the text lines of a deck that is not too long, each read by itself

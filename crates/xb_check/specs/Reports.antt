@@ -9,8 +9,9 @@ use Rattle.xb_text.specs.Writing.{AppendsBeginning}
 use Rattle.xb_check.specs.declared.fault.CheckFault.{CheckFault}
 use Rattle.xb_check.specs.declared.fault.CheckFault.TheVariants as fault
 use Rattle.xb_check.specs.declared.telling.TheConstants.{MOST_SHOWN_BYTES}
-use Rattle.xb_check.specs.Findings.{Found, what_text}
+use Rattle.xb_check.specs.Findings.{Found, meant_text, what_text}
 use Rattle.xb_check.specs.Records.{faults_of_deck}
+use Rattle.xb_check.specs.Sites.{told_of}
 
 -- a byte as it is shown: what is not printable ASCII is a question mark
 abbrev pub visible : ℕ → ℕ
@@ -23,15 +24,17 @@ shown text = map visible (take MOST_SHOWN_BYTES text)
 -- the place of what was found in a file of this name, and what is wrong, as compilers tell it
 abbrev pub place_text : List ℕ → Found → List ℕ
 place_text name found = name ++ (codes ":" ++ (decimal found.line ++ (codes ":" ++ (decimal found.column
-    ++ (codes ": " ++ (what_text found.what ++ codes ": "))))))
+    ++ (codes ": " ++ what_text found.what)))))
 
 -- the line of what was found
 abbrev pub found_text : List ℕ → Found → List ℕ
-found_text name found = place_text name found ++ shown found.text ++ codes "\n"
+found_text name found =
+    place_text name found ++ meant_text found.meant ++ codes ": " ++ shown found.text ++ codes "\n"
 
--- what is told of a deck in a file of this name
-abbrev pub report_text : List ℕ → List ℕ → List ℕ
-report_text name deck = flat_map (found_text name) (faults_of_deck deck)
+-- what is told of a deck in a file of this name, which `mfbank` takes, or refuses by a fault: a line for each text
+-- line that is wrong, in order, and then that of the fault of the route table
+abbrev pub report_text : List ℕ → Option DeckFault → List ℕ → List ℕ
+report_text name fault deck = flat_map (found_text name) (faults_of_deck deck ++ told_of fault deck)
 
 -- `mfbank` takes a deck, or refuses it by this fault, which is the first of the deck
 abbrev pub IsVerdict : List ℕ → Option DeckFault → Type 0
@@ -44,11 +47,11 @@ IsVerdict deck (Some f) = contents_of deck ≡ Err f
 abbrev pub Delivers :
     List ℕ → Option (List ℕ) → Result (Unit {0}) CheckFault → Option (List ℕ) → Option (List ℕ) → Type 0
 Delivers name deck (Ok u) old new =
-    IfSome deck (λ bytes. IsVerdict bytes None × Appends old new (report_text name bytes))
+    IfSome deck (λ bytes. IsVerdict bytes None × Appends old new (report_text name None bytes))
 Delivers name deck (Err (fault.Refused f)) old new =
-    IfSome deck (λ bytes. IsVerdict bytes (Some f) × Appends old new (report_text name bytes))
+    IfSome deck (λ bytes. IsVerdict bytes (Some f) × Appends old new (report_text name (Some f) bytes))
 Delivers name deck (Err fault.Write) old new =
-    IfSome deck (λ bytes. AppendsBeginning old new (report_text name bytes))
+    IfSome deck (λ bytes. (f : Option DeckFault) × IsVerdict bytes f × AppendsBeginning old new (report_text name f bytes))
 Delivers name deck (Err fault.TooLong) old new =
     Keeps old new × IfSome deck (λ bytes. IsVerdict bytes (Some deck_fault.TooLong))
 Delivers name deck (Err fault.Read) old new = Keeps old new

@@ -1,7 +1,9 @@
 -- Which text lines of a route table have a key or a table that no rule names, each read by itself.
-use Rattle.std.specs.Prelude.{ℕ, ◌==◌, ◌||◌, ◌&&◌, not, nat_le, List, [], ◌∷◌, codes, Bool, true, false, if◌then◌else◌, bytes_eq, Option, Some, None}
+use Rattle.std.specs.Prelude.{ℕ, ◌==◌, ◌||◌, ◌&&◌, not, nat_le, List, [], ◌∷◌, codes, Bool, true, false, if◌then◌else◌, bytes_eq, Option, Some, None, is_some}
 use Rattle.std.specs.List.{filter, list_all}
 use Rattle.xb_text.specs.Pieces.{cut_at}
+use Rattle.xb_check.specs.declared.key.Key.{Key}
+use Rattle.xb_check.specs.Keys.{key_named, keys_of, nearest}
 use Rattle.xb_check.specs.declared.finding.What.{What}
 use Rattle.xb_check.specs.declared.finding.What.TheVariants as what
 use Rattle.xb_check.specs.declared.table.Section.{Section}
@@ -30,17 +32,10 @@ abbrev pub is_heading : List ℕ → Bool
 is_heading [] = false
 is_heading (byte ∷ rest) = byte == 91
 
--- the keys that rules name
+-- whether rules name a key in a section; of another heading they may name any
 abbrev pub is_known : Section → List ℕ → Bool
-is_known section.Top key =
-    bytes_eq key (codes "plan") || bytes_eq key (codes "limits") || bytes_eq key (codes "route")
-is_known section.Limits key =
-    bytes_eq key (codes "pulse_min") || bytes_eq key (codes "pulse_max") || bytes_eq key (codes "make_min")
-    || bytes_eq key (codes "pause") || bytes_eq key (codes "release") || bytes_eq key (codes "timeout")
-is_known section.Route key =
-    bytes_eq key (codes "code") || bytes_eq key (codes "trunk") || bytes_eq key (codes "delete")
-    || bytes_eq key (codes "prefix")
-is_known section.Other key = true
+is_known section.Other text = true
+is_known section text = is_some (key_named text (keys_of section))
 
 -- the section that a heading begins, by what stands before its first ]
 abbrev pub section_of : List ℕ → Section
@@ -74,6 +69,23 @@ abbrev pub wrong_line : Section → List ℕ → Option What
 wrong_line section line =
     if is_heading line then wrong_heading (section_of (before_cut line (cut_at 93 line)))
     else wrong_key section (cut_at 61 line)
+
+-- the key that a wrong key of a section may have meant
+abbrev pub meant_of_key : Section → Option (List ℕ × List ℕ) → Option Key
+meant_of_key section None = None
+meant_of_key section (Some parts) = nearest parts.0 (keys_of section)
+
+abbrev pub meant : Section → List ℕ → Option Key
+meant section line = if is_heading line then None else meant_of_key section (cut_at 61 line)
+
+-- what is wrong, with the key that may have been meant
+abbrev pub with_meant : Option What → Option Key → Option (What × Option Key)
+with_meant None key = None
+with_meant (Some wrong) key = Some (wrong, key)
+
+-- the same of a text line of a section, without its blanks
+abbrev pub wrong_in_table : Section → List ℕ → Option (What × Option Key)
+wrong_in_table section line = with_meant (wrong_line section line) (meant section line)
 
 -- the section after such a text line
 abbrev pub section_after : Section → List ℕ → Section

@@ -55,10 +55,10 @@ pub fn check<R: Read, W: Write>(
         Err(DeckFault::TooLong) => return Err(CheckFault::TooLong),
         Err(_) => return Err(CheckFault::NoMemory),
     };
-    let Ok(text) = report(alloc, name, &bytes) else {
+    let Ok(verdict) = verdict(alloc, &bytes) else {
         return Err(CheckFault::NoMemory);
     };
-    let Ok(verdict) = verdict(alloc, &bytes) else {
+    let Ok(text) = report(alloc, name, &bytes, verdict) else {
         return Err(CheckFault::NoMemory);
     };
     match (write_whole(out, &text), verdict) {

@@ -1,6 +1,9 @@
 // What is wrong in a deck, and where.
 ghost use Rattle.std.specs.Prelude.{◌≡◌};
-ghost use Rattle.xb_check.specs.Findings.{what_text};
+ghost use Rattle.xb_check.specs.Findings.{limit_words, route_words, what_text};
+
+use crate::key::Key;
+use xb_routes::RouteFault;
 
 /// What is wrong with a text line of a deck.
 #[derive(Clone, Copy, Debug, PartialEq, Eq)]
@@ -13,6 +16,8 @@ pub enum What {
     LimitKey,
     /// The key is not one that rules name below `[[route]]`.
     RouteKey,
+    /// By this the route table is refused.
+    Routes(RouteFault),
     /// The first record is not the header, or there is none.
     Header,
     /// The record has not three fields.
@@ -34,8 +39,51 @@ pub struct Finding<'a> {
     pub column: usize,
     /// What is wrong.
     pub what: What,
+    /// The key that may have been meant.
+    pub meant: Option<Key>,
     /// The text line itself.
     pub text: &'a [u8],
+}
+
+// What is wrong with limits, by the number of their fault.
+fn limit_words(limit: u32) -> &'static str
+    ensures { result.now ≡ limit_words limit }
+{
+    if limit == 0 {
+        "limits is not a table"
+    } else if limit == 7 {
+        "pulse_min is over pulse_max"
+    } else if limit == 8 {
+        "pulse_max is not under release"
+    } else if limit == 9 {
+        "make_min is over pause"
+    } else if limit == 10 {
+        "pause is not under timeout"
+    } else {
+        "the limit is not a whole number of 1 to 1000000 ms"
+    }
+}
+
+// The fault by which a route table is refused, in words.
+fn route_words(fault: RouteFault) -> &'static str
+    ensures { result.now ≡ route_words fault }
+{
+    match fault {
+        RouteFault::NotToml => "the table is not TOML",
+        RouteFault::Plan => "plan is neither 7 nor 10",
+        RouteFault::Limits(limit) => limit_words(limit),
+        RouteFault::TooMany => "there are more than 1000 routes",
+        RouteFault::Shape(_) => {
+            "this route lacks code or trunk, or one of its keys has another kind of value"
+        }
+        RouteFault::Code(_) => "the code is not 0, NNX or N11, nor one of plan 10",
+        RouteFault::Trunk(_) => "the trunk group is not 0 to 9999",
+        RouteFault::Delete(_) => "more digits are deleted than the numbers of this code have",
+        RouteFault::Prefix(_) => "the prefix is not 0 to 8 digits",
+        RouteFault::NothingToKey(_) => "all digits are deleted, and none is put before them",
+        RouteFault::Twice(_) => "an earlier route has this code",
+        RouteFault::NoMemory => "out of memory",
+    }
 }
 
 impl What {
@@ -50,6 +98,7 @@ impl What {
                 "no rule names this key; here are pulse_min, pulse_max, make_min, pause, release and timeout"
             }
             What::RouteKey => "no rule names this key; here are code, trunk, delete and prefix",
+            What::Routes(fault) => route_words(fault),
             What::Header => "the first record is not line,state,ms",
             What::Fields => "the record has not three fields",
             What::Line => "the line is not 0 to 9999",

@@ -4,6 +4,11 @@
 //!   are wrong (`faults_of_deck`, `specs/Records.antt`). Before the line `---` it is a key, or a heading, that
 //!   no rule names; after it a header or a record that no row is written by, with the field that is wrong. A
 //!   record that goes over several text lines, which takes quotes, is told line by line.
+//!   A key that no rule names is told with the key of its section that one edit makes of it, or else two
+//!   (`nearest`, `specs/Keys.antt`).
+//! - `report`: the lines of what was found, and then of the text line that the fault of the route table is
+//!   about, if `mfbank` refuses it by one (`told_of`, `specs/Sites.antt`). That fault is sought where keys and
+//!   headings stand bare in text lines of their own.
 //! - `verdict`: nothing exactly where `mfbank` takes the deck, and else the fault by which it refuses, the
 //!   first in its order (`contents_of` of `xb_deck`, by which `mfbank` goes too).
 //! - `check`, of readers and writers whose bytes contracts know: it is `Ok` exactly where `mfbank` takes the
@@ -14,10 +19,12 @@
 mod checking;
 mod fault;
 mod finding;
+mod key;
 pub mod laws;
 mod lines;
 mod program;
 mod records;
+mod sites;
 mod table;
 mod telling;
 mod words;
@@ -25,6 +32,7 @@ mod words;
 pub use checking::{check, verdict};
 pub use fault::CheckFault;
 pub use finding::{Finding, What};
+pub use key::Key;
 pub use lines::findings;
 pub use program::attend;
 pub use table::Section;

@@ -8,8 +8,8 @@ ghost use Rattle.xb_check.specs.Records.{faults_of_deck, is_empty};
 ghost use Rattle.xb_check.specs.Steps.{TakesLine};
 
 use crate::finding::Finding;
-use crate::records::{push_found, wrong_header, wrong_record};
-use crate::table::{Section, section_after, squeezed, wrong_line};
+use crate::records::{push_found, without_key, wrong_header, wrong_record};
+use crate::table::{Section, section_after, squeezed, wrong_in_table};
 use std::alloc::{AllocError, Global};
 use xb_text::first_piece;
 
@@ -24,8 +24,8 @@ pub(crate) enum Place {
     Records,
 }
 
-// Whether a line is the cut.
-fn is_cut(line: &[u8]) -> bool
+/// Whether a line is the cut.
+pub(crate) fn is_cut(line: &[u8]) -> bool
     ensures { result ≡ is_cut line.now }
 {
     line == b"---".as_slice() || line == b"---\r".as_slice()
@@ -53,7 +53,7 @@ fn take_in_table<'a>(
         return Ok(Place::Header);
     }
     let read = squeezed(alloc, line)?;
-    push_found(found, n, line, wrong_line(section, &read))?;
+    push_found(found, n, line, wrong_in_table(alloc, section, &read)?)?;
     Ok(Place::Table(section_after(section, &read)))
 }
 
@@ -70,7 +70,7 @@ fn take_before_header<'a>(
     if is_empty(line) {
         return Ok(Place::Header);
     }
-    push_found(found, n, line, wrong_header(alloc, line)?)?;
+    push_found(found, n, line, without_key(wrong_header(alloc, line)?))?;
     Ok(Place::Records)
 }
 
@@ -84,7 +84,7 @@ fn take_record<'a>(
     ensures { IfOk result (TakesLine place.Records n line.now
         (map found_of found.old.items) (map found_of found.new.items)) }
 {
-    push_found(found, n, line, wrong_record(alloc, line)?)?;
+    push_found(found, n, line, without_key(wrong_record(alloc, line)?))?;
     Ok(Place::Records)
 }
 

@@ -1,10 +1,12 @@
 // Text lines of the rows, read by themselves: what is wrong with them, and where.
-ghost use Rattle.std.specs.Prelude.{◌≡◌, ◌++◌, IfOk, OnOk, map};
+ghost use Rattle.std.specs.Prelude.{◌≡◌, ◌++◌, IfOk, None, OnOk, map};
 ghost use Rattle.xb_rows.specs.RowTexts.{rest_of_text};
 ghost use Rattle.xb_check.specs.Findings.{found_of};
 ghost use Rattle.xb_check.specs.Records.{after_comma, column_of, first_wrong, found_at, from_field, what_of_fault, wrong_header, wrong_record};
+ghost use Rattle.xb_check.specs.Table.{with_meant};
 
 use crate::finding::{Finding, What};
+use crate::key::Key;
 use std::alloc::{AllocError, Global};
 use xb_model::{RowFault, RowSource};
 use xb_rows::Scan;
@@ -69,6 +71,7 @@ fn from_field(what: What, line: &[u8]) -> &[u8]
         | What::TopKey
         | What::LimitKey
         | What::RouteKey
+        | What::Routes(_)
         | What::Header
         | What::Fields
         | What::Line => line,
@@ -84,22 +87,33 @@ fn column_of(what: What, line: &[u8]) -> usize
     line.len().saturating_sub(from_field(what, line).len()) + 1
 }
 
+/// What is wrong with a record, for which no key may have been meant.
+pub(crate) fn without_key(wrong: Option<What>) -> Option<(What, Option<Key>)>
+    ensures { result ≡ with_meant wrong None }
+{
+    match wrong {
+        Some(what) => Some((what, None)),
+        None => None,
+    }
+}
+
 /// Puts what is wrong with text line `n` after the others.
 pub(crate) fn push_found<'a>(
     found: &mut Vec<Finding<'a>>,
     n: usize,
     text: &'a [u8],
-    wrong: Option<What>,
+    wrong: Option<(What, Option<Key>)>,
 ) -> Result<(), AllocError>
     ensures { OnOk result (map found_of found.new.items
         ≡ map found_of found.old.items ++ found_at n text.now wrong) }
 {
-    if let Some(what) = wrong {
+    if let Some((what, meant)) = wrong {
         let column = column_of(what, text);
         found.push(Finding {
             line: n,
             column,
             what,
+            meant,
             text,
         })?;
     }

@@ -1,10 +1,11 @@
 // Text lines of a route table, read by themselves.
 ghost use Rattle.std.specs.Prelude.{◌≡◌, IfOk, option_map};
 ghost use Rattle.std.specs.List.{list_all};
-ghost use Rattle.xb_check.specs.Table.{before_cut, is_bare, is_blank, is_heading, is_known, section_after, section_of, squeezed, unnamed, wrong_heading, wrong_key, wrong_line};
+ghost use Rattle.xb_check.specs.Table.{before_cut, is_bare, is_blank, is_heading, is_known, meant, section_after, section_of, squeezed, unnamed, wrong_heading, wrong_in_table, wrong_key, wrong_line};
 ghost use Rattle.xb_text.specs.Pieces.{cut_at};
 
 use crate::finding::What;
+use crate::key::{Key, key_named, keys_of, nearest};
 use std::alloc::{AllocError, Global};
 use xb_text::cut_at;
 
@@ -65,33 +66,19 @@ fn is_bare(key: &[u8]) -> bool
 }
 
 // Whether a key is one that rules name in its section.
-fn is_known(section: Section, key: &[u8]) -> bool
-    ensures { result ≡ is_known section key.now }
+fn is_known(section: Section, text: &[u8]) -> bool
+    ensures { result ≡ is_known section text.now }
 {
     match section {
-        Section::Top => {
-            key == b"plan".as_slice() || key == b"limits".as_slice() || key == b"route".as_slice()
-        }
-        Section::Limits => {
-            key == b"pulse_min".as_slice()
-                || key == b"pulse_max".as_slice()
-                || key == b"make_min".as_slice()
-                || key == b"pause".as_slice()
-                || key == b"release".as_slice()
-                || key == b"timeout".as_slice()
-        }
-        Section::Route => {
-            key == b"code".as_slice()
-                || key == b"trunk".as_slice()
-                || key == b"delete".as_slice()
-                || key == b"prefix".as_slice()
+        Section::Top | Section::Limits | Section::Route => {
+            key_named(text, keys_of(section)).is_some()
         }
         Section::Other => true,
     }
 }
 
-// Whether a text line begins a section.
-fn is_heading(line: &[u8]) -> bool
+/// Whether a text line begins a section.
+pub(crate) fn is_heading(line: &[u8]) -> bool
     ensures { result ≡ is_heading line.now }
 {
     match line {
@@ -151,14 +138,41 @@ fn wrong_key(section: Section, line: &[u8]) -> Option<What>
     }
 }
 
-/// What is wrong with a text line of a section, given without its blanks.
-pub(crate) fn wrong_line(section: Section, line: &[u8]) -> Option<What>
+// What is wrong with a text line of a section, given without its blanks.
+fn wrong_line(section: Section, line: &[u8]) -> Option<What>
     ensures { result ≡ wrong_line section line.now }
 {
     if is_heading(line) {
         wrong_heading(section_of(line))
     } else {
         wrong_key(section, line)
+    }
+}
+
+// The key that a wrong text line of a section may have meant.
+fn meant(alloc: Global, section: Section, line: &[u8]) -> Result<Option<Key>, AllocError>
+    ensures { IfOk result (λ key. key ≡ meant section line.now) }
+{
+    if is_heading(line) {
+        return Ok(None);
+    }
+    match cut_at(b'=', line) {
+        Some((text, _)) => nearest(alloc, text, section),
+        None => Ok(None),
+    }
+}
+
+/// What is wrong with a text line of a section, given without its blanks, and the key that may have been meant.
+pub(crate) fn wrong_in_table(
+    alloc: Global,
+    section: Section,
+    line: &[u8],
+) -> Result<Option<(What, Option<Key>)>, AllocError>
+    ensures { IfOk result (λ wrong. wrong ≡ wrong_in_table section line.now) }
+{
+    match wrong_line(section, line) {
+        Some(what) => Ok(Some((what, meant(alloc, section, line)?))),
+        None => Ok(None),
     }
 }
 

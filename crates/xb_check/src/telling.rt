@@ -1,13 +1,16 @@
 // What is told of what was found.
-ghost use Rattle.std.specs.Prelude.{◌≡◌, ◌≤◌, ◌++◌, IfOk, OnOk, length, map, string_bytes, take};
+ghost use Rattle.std.specs.Prelude.{◌≡◌, ◌≤◌, ◌++◌, IfOk, OnOk, Some, length, map, string_bytes, take};
 ghost use Rattle.xb_deck.specs.declared.deck.TheConstants.{MOST_DECK_BYTES};
 ghost use Rattle.std.specs.List.{flat_map};
-ghost use Rattle.xb_check.specs.Findings.{found_of};
+ghost use Rattle.xb_check.specs.Findings.{found_of, meant_text};
 ghost use Rattle.xb_check.specs.Reports.{found_text, place_text, report_text, shown, visible};
 
 use crate::finding::Finding;
+use crate::key::Key;
 use crate::lines::findings;
+use crate::sites::push_told;
 use std::alloc::{AllocError, Global};
+use xb_deck::DeckFault;
 
 /// The most bytes of a text line that are shown beside what is wrong with it.
 pub const MOST_SHOWN_BYTES: usize = 60;
@@ -48,7 +51,25 @@ fn place_text(alloc: Global, name: &str, finding: &Finding) -> Result<String, Al
     let line = finding.line;
     let column = finding.column;
     let words = finding.what.words();
-    format!(in alloc; "{name}:{line}:{column}: {words}: ")
+    format!(in alloc; "{name}:{line}:{column}: {words}")
+}
+
+// The key that may have been meant, in words.
+fn words_of_meant(alloc: Global, key: Key) -> Result<String, AllocError>
+    ensures { IfOk result (λ text. string_bytes text ≡ meant_text (Some key)) }
+{
+    let key = key.text();
+    format!(in alloc; " (did you mean {key}?)")
+}
+
+// Puts the key that may have been meant after the text.
+fn push_meant(alloc: Global, out: &mut Vec<u8>, meant: Option<Key>) -> Result<(), AllocError>
+    ensures { OnOk result (out.new.items ≡ out.old.items ++ meant_text meant) }
+{
+    if let Some(key) = meant {
+        out.extend_from_slice(words_of_meant(alloc, key)?.as_bytes())?;
+    }
+    Ok(())
 }
 
 // Puts the line of what was found after the text.
@@ -61,6 +82,8 @@ fn push_found(
     ensures { OnOk result (out.new.items ≡ out.old.items ++ found_text name.now (found_of finding.now)) }
 {
     out.extend_from_slice(place_text(alloc, name, finding)?.as_bytes())?;
+    push_meant(alloc, out, finding.meant)?;
+    out.extend_from_slice(b": ")?;
     push_shown(out, finding.text)?;
     out.push(b'\n')?;
     Ok(())
@@ -78,11 +101,18 @@ fn text_of(alloc: Global, name: &str, found: &[Finding]) -> Result<Vec<u8>, Allo
     Ok(out)
 }
 
-/// What is told of a deck in a file of this name: a line for each text line that is wrong, in order.
-pub fn report(alloc: Global, name: &str, deck: &[u8]) -> Result<Vec<u8>, AllocError>
+/// What is told of a deck in a file of this name, which `mfbank` takes, or refuses by this fault: a line for each
+/// text line that is wrong, in order, and then one for the text line that the fault of the route table is about.
+pub fn report(
+    alloc: Global,
+    name: &str,
+    deck: &[u8],
+    fault: Option<DeckFault>,
+) -> Result<Vec<u8>, AllocError>
     requires { length deck.now ≤ MOST_DECK_BYTES }
-    ensures { IfOk result (λ text. text.items ≡ report_text name.now deck.now) }
+    ensures { IfOk result (λ text. text.items ≡ report_text name.now fault deck.now) }
 {
-    let found = findings(alloc, deck)?;
+    let mut found = findings(alloc, deck)?;
+    push_told(alloc, &mut found, fault, deck)?;
     text_of(alloc, name, &found)
 }

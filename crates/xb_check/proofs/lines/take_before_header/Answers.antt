@@ -1,5 +1,6 @@
-use Rattle.std.proofs.Common.{map, sym}
+use Rattle.std.proofs.Common.{map, sym, ap, ◌∙◌, None}
 use Rattle.xb_check.specs.Findings.{found_of}
+use Rattle.xb_check.specs.Table.{with_meant}
 use Rattle.xb_check.proofs.TakenLines.{passes_empty, takes_header}
 use Rattle.xb_check.proofs.lines.take_before_header.Goals as goal
 
@@ -9,5 +10,5 @@ returns-then-is_empty c =
 
 pub returns : goal.returns
 returns c =
-    takes_header c.args.n c.args.line.now c.in_ok-wrong_header.field-0 _ _ (sym c.if-is_empty.ensures)
-    c.in_ok-wrong_header.ensures c.in_ok-push_found.ensures
+    takes_header c.args.n c.args.line.now c.without_key.result _ _ (sym c.if-is_empty.ensures)
+    (c.without_key.ensures ∙ ap (λ wrong. with_meant wrong None) c.in_ok-wrong_header.ensures) c.in_ok-push_found.ensures

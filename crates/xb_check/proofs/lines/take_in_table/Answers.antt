@@ -1,6 +1,6 @@
 use Rattle.std.proofs.Common.{map, sym, ap, ◌∙◌}
 use Rattle.xb_check.specs.Findings.{found_of}
-use Rattle.xb_check.specs.Table.{section_after, wrong_line}
+use Rattle.xb_check.specs.Table.{section_after, wrong_in_table}
 use Rattle.xb_check.proofs.TakenLines.{cuts, takes_table}
 use Rattle.xb_check.proofs.lines.take_in_table.Goals as goal
 
@@ -10,8 +10,8 @@ returns-then-is_cut c =
 
 pub returns : goal.returns
 returns c =
-    takes_table c.args.section c.args.n c.args.line.now c.in_ok-read.read.items c.wrong_line.result
+    takes_table c.args.section c.args.n c.args.line.now c.in_ok-read.read.items c.in_ok-wrong_in_table.field-0
     c.section_after.result _ _ (sym c.if-is_cut.ensures) c.in_ok-read.ensures
-    (c.wrong_line.ensures ∙ ap (λ read. wrong_line c.args.section read) c.deref.ensures.value)
+    (c.in_ok-wrong_in_table.ensures ∙ ap (λ read. wrong_in_table c.args.section read) c.deref.ensures.value)
     (c.section_after.ensures ∙ ap (λ read. section_after c.args.section read) c.deref-2.ensures.value)
     c.in_ok-push_found.ensures
