@@ -47,6 +47,16 @@ deck:8:7: the ms are not 0 to 86400000, or not 0 in a close: \"7\",M,86400001
 deck:9:5: the ms are not 0 to 86400000, or not 0 in a close: 7,C,1
 ";
 
+// A deck that `mfbank` takes, with records of a line after its close.
+const CLOSED: &[u8] =
+    b"---\nline,state,ms\n7,M,500\n9,B,60\n7,C,0\n0007,B,60\n9,M,40\n7,C,0\n9,C,0\n7,M,1\n10,M,1\n";
+
+const IGNORED: &[u8] =
+    b"deck:6:1: this record is ignored; its line was closed in text line 5: 0007,B,60
+deck:8:1: this record is ignored; its line was closed in text line 5: 7,C,0
+deck:10:1: this record is ignored; its line was closed in text line 5: 7,M,1
+";
+
 const USAGE: &[u8] = b"mfcheck: usage: mfcheck [--name NAME]\n";
 
 // The words after the program's name, the deck, the status, and what stands on standard output and error.
@@ -59,6 +69,7 @@ const CASES: &[(&[&str], &[u8], u8, &[u8], &[u8])] = &[
         FAULTS,
         b"mfcheck: loop rows: record 2 has a wrong line\n",
     ),
+    (&[], CLOSED, 0, IGNORED, b""),
     (
         &[],
         b"---\n\nline,state\n7,M,1\n",

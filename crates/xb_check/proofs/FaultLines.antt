@@ -1,10 +1,9 @@
 -- How the text line is found that the fault of a route table is about.
-use Rattle.std.proofs.Common.{◌≡◌, ◌∙◌, ℕ, ◌+◌, true, false, List, [], ◌∷◌, Option, Some, None, ap, refl}
+use Rattle.std.proofs.Common.{◌≡◌, ◌∙◌, ℕ, ◌+◌, true, false, List, [], ◌∷◌, Some, None, refl}
 use Rattle.std.proofs.lemmas.Bool.{cond-true, cond-false}
 use Rattle.xb_deck.specs.Deck.{is_cut}
 use Rattle.xb_routes.specs.declared.fault.RouteFault.{RouteFault}
 use Rattle.xb_check.specs.declared.table.Section.{Section}
-use Rattle.xb_check.specs.Findings.{Found}
 use Rattle.xb_check.specs.Sites.{first_about, found_about, is_about, route_here, routes_after}
 use Rattle.xb_check.specs.Table.{section_after, squeezed}
 

@@ -11,10 +11,11 @@ use Rattle.xb_check.specs.declared.finding.What.{What}
 use Rattle.xb_check.specs.declared.key.Key.{Key}
 use Rattle.xb_check.specs.declared.lines.Place.{Place}
 use Rattle.xb_check.specs.declared.lines.Place.TheVariants as place
+use Rattle.xb_check.specs.declared.records.Record.{Record}
 use Rattle.xb_check.specs.declared.table.Section.{Section}
 use Rattle.xb_check.specs.declared.table.Section.TheVariants.{Top}
 use Rattle.xb_check.specs.Findings.{Found}
-use Rattle.xb_check.specs.Records.{faults_of_deck, faults_of_lines, faults_of_records, faults_of_table, found_at, is_empty, wrong_header, wrong_record}
+use Rattle.xb_check.specs.Records.{closed_after, closed_of, faults_of_deck, faults_of_lines, faults_of_records, faults_of_table, found_at, is_empty, no_closes, record_of_line, what_of_record, wrong_header}
 use Rattle.xb_check.specs.Steps.{TakesLine, faults_after}
 use Rattle.xb_check.specs.Table.{section_after, squeezed, with_meant, wrong_in_table}
 
@@ -42,21 +43,24 @@ unfolding faults_of_lines
 passes_empty n line found empty later = ap (λ more. found ++ more) (cond-true _ _ _ empty)
 
 -- the header
-pub takes_header : (n : ℕ) (line : List ℕ) (wrong : Option (What × Option Key)) (before after : List Found)
-    → is_empty line ≡ false → wrong ≡ with_meant (wrong_header line) None → after ≡ before ++ found_at n line wrong
-    → TakesLine place.Header n line before after place.Records
+pub takes_header : (n : ℕ) (line : List ℕ) (wrong : Option (What × Option Key)) (closes : List (Option ℕ)) (before after : List Found)
+    → is_empty line ≡ false → wrong ≡ with_meant (wrong_header line) None → closed_of closes ≡ no_closes
+    → after ≡ before ++ found_at n line wrong → TakesLine place.Header n line before after (place.Records closes)
 unfolding faults_of_lines
-takes_header n line wrong before after empty is put later =
-    rw (put, is) (ap (λ more. before ++ more) (cond-false _ _ _ empty)
-    ∙ sym (append_assoc before (found_at n line (with_meant (wrong_header line) None)) (faults_of_records (n + 1) later)))
+takes_header n line wrong closes before after empty is none put later =
+    rw (put, is, none) (ap (λ more. before ++ more) (cond-false _ _ _ empty)
+    ∙ sym (append_assoc before (found_at n line (with_meant (wrong_header line) None)) (faults_of_records no_closes (n + 1) later)))
 
 -- a record
-pub takes_record : (n : ℕ) (line : List ℕ) (wrong : Option (What × Option Key)) (before after : List Found)
-    → wrong ≡ with_meant (wrong_record line) None → after ≡ before ++ found_at n line wrong
-    → TakesLine place.Records n line before after place.Records
+pub takes_record : (closes closes' : List (Option ℕ)) (n : ℕ) (line : List ℕ) (read : Record) (wrong : Option (What × Option Key))
+    (before after : List Found) → read ≡ record_of_line line → wrong ≡ with_meant (what_of_record (closed_of closes) read) None
+    → closed_of closes' ≡ closed_after (closed_of closes) n read → after ≡ before ++ found_at n line wrong
+    → TakesLine (place.Records closes) n line before after (place.Records closes')
 unfolding faults_of_records
-takes_record n line wrong before after is put later =
-    rw (put, is) (sym (append_assoc before (found_at n line (with_meant (wrong_record line) None)) (faults_of_records (n + 1) later)))
+takes_record closes closes' n line read wrong before after is what moved put later =
+    rw (put, what, moved, is) (sym (append_assoc before
+    (found_at n line (with_meant (what_of_record (closed_of closes) (record_of_line line)) None))
+    (faults_of_records (closed_after (closed_of closes) n (record_of_line line)) (n + 1) later)))
 
 -- at first no text line of a deck was taken
 pub none_taken : (deck : List ℕ) → length deck ≤ MOST_DECK_BYTES
@@ -68,7 +72,7 @@ pub none_left : (place : Place) (n : ℕ) (found : List Found) → found ++ faul
 unfolding faults_of_table faults_of_lines faults_of_records
 none_left (place.Table section) n found = append-nil found
 none_left place.Header n found = append-nil found
-none_left place.Records n found = append-nil found
+none_left (place.Records closes) n found = append-nil found
 
 -- there are no more lines than bytes, and one
 pub few_lines : (text : List ℕ) → length (pieces 10 text) ≤ length text + 1

@@ -1,5 +1,5 @@
 -- What is wrong in a deck, and where.
-use Rattle.std.specs.Prelude.{ℕ, ◌++◌, ◌==◌, if◌then◌else◌, List, [], codes, Option, Some, None}
+use Rattle.std.specs.Prelude.{ℕ, ◌++◌, ◌==◌, if◌then◌else◌, List, [], codes, decimal, Option, Some, None}
 use Rattle.xb_check.specs.declared.finding.Finding.{Finding}
 use Rattle.xb_check.specs.declared.finding.What.{What}
 use Rattle.xb_check.specs.declared.finding.What.TheVariants as what
@@ -63,8 +63,18 @@ what_text what.Fields = codes "the record has not three fields"
 what_text what.Line = codes "the line is not 0 to 9999"
 what_text what.State = codes "the state is not M, B or C"
 what_text what.Ms = codes "the ms are not 0 to 86400000, or not 0 in a close"
+what_text (what.Ignored n) = codes "this record is ignored; its line was closed in text line"
+
+-- the text line that closed the line of an ignored record
+abbrev pub closed_text : What → List ℕ
+closed_text (what.Ignored n) = codes " " ++ decimal n
+closed_text other = []
 
 -- the key that may have been meant, in words
 abbrev pub meant_text : Option Key → List ℕ
 meant_text None = []
 meant_text (Some k) = codes " (did you mean " ++ (key_text k ++ codes "?)")
+
+-- what is added to what is wrong
+abbrev pub note_text : Found → List ℕ
+note_text found = closed_text found.what ++ meant_text found.meant

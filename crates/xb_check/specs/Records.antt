@@ -1,44 +1,89 @@
 -- What is wrong in the text lines of a deck, each read by itself.
-use Rattle.std.specs.Prelude.{ℕ, ◌+◌, ◌-◌, ◌||◌, nat_lt, List, [], ◌∷◌, ◌++◌, codes, length, Bool, if◌then◌else◌, bytes_eq, Option, Some, None, option_and_then}
+use Rattle.std.specs.Prelude.{ℕ, ◌+◌, ◌-◌, ◌==◌, ◌||◌, nat_lt, List, [], ◌∷◌, ◌++◌, codes, length, Bool, if◌then◌else◌, bytes_eq, Option, Some, None, unwrap_or, slice_index_or}
 use Rattle.xb_deck.specs.declared.deck.TheConstants.{MOST_DECK_BYTES}
 use Rattle.xb_deck.specs.Deck.{is_cut}
 use Rattle.xb_model.specs.declared.fault.RowFault.{RowFault}
 use Rattle.xb_model.specs.declared.fault.RowFault.TheVariants as fault
 use Rattle.xb_model.specs.Rows.{LoopRow}
+use Rattle.xb_model.specs.declared.row.Contact.{Contact}
+use Rattle.xb_model.specs.declared.row.Contact.TheVariants.{Close}
 use Rattle.xb_rows.specs.RowTexts.{rest_of_text}
 use Rattle.xb_text.specs.Pieces.{cut_at, pieces}
 use Rattle.xb_check.specs.declared.key.Key.{Key}
 use Rattle.xb_check.specs.declared.finding.What.{What}
 use Rattle.xb_check.specs.declared.finding.What.TheVariants as what
+use Rattle.xb_check.specs.declared.records.Record.{Record}
+use Rattle.xb_check.specs.declared.records.Record.TheVariants as read
 use Rattle.xb_check.specs.declared.table.Section.{Section}
 use Rattle.xb_check.specs.declared.table.Section.TheVariants.{Top}
 use Rattle.xb_check.specs.Findings.{Found}
 use Rattle.xb_check.specs.Table.{section_after, squeezed, with_meant, wrong_in_table}
 
--- what is wrong with a record that has this fault
-abbrev pub what_of_fault : RowFault → Option What
-what_of_fault fault.Read = None
-what_of_fault fault.Header = Some what.Header
-what_of_fault (fault.Fields n) = Some what.Fields
-what_of_fault (fault.Line n) = Some what.Line
-what_of_fault (fault.Contact n) = Some what.State
-what_of_fault (fault.Ms n) = Some what.Ms
-what_of_fault fault.TooMany = None
-what_of_fault fault.NoMemory = None
+-- a record that has this fault
+abbrev pub record_of_fault : RowFault → Record
+record_of_fault fault.Read = read.Empty
+record_of_fault fault.Header = read.Wrong what.Header
+record_of_fault (fault.Fields n) = read.Wrong what.Fields
+record_of_fault (fault.Line n) = read.Wrong what.Line
+record_of_fault (fault.Contact n) = read.Wrong what.State
+record_of_fault (fault.Ms n) = read.Wrong what.Ms
+record_of_fault fault.TooMany = read.Empty
+record_of_fault fault.NoMemory = read.Empty
 
--- what is wrong with the first record of a text: nothing where it is a row, or there is none
-abbrev pub first_wrong : List LoopRow → Option RowFault → Option What
-first_wrong (row ∷ rows) stop = None
-first_wrong [] stop = option_and_then what_of_fault stop
+-- the first record of a text
+abbrev pub first_record : List LoopRow → Option RowFault → Record
+first_record (row ∷ rows) stop = read.Row row
+first_record [] None = read.Empty
+first_record [] (Some f) = record_of_fault f
+
+-- what is wrong with a record by itself
+abbrev pub wrong_in : Record → Option What
+wrong_in (read.Row row) = None
+wrong_in (read.Wrong wrong) = Some wrong
+wrong_in read.Empty = None
 
 -- what is wrong with a text line as the header
 abbrev pub wrong_header : List ℕ → Option What
-wrong_header line = let rest = rest_of_text line in first_wrong rest.rows rest.stop
+wrong_header line = let rest = rest_of_text line in wrong_in (first_record rest.rows rest.stop)
 
--- what is wrong with a text line as a record after the header
-abbrev pub wrong_record : List ℕ → Option What
-wrong_record line =
-    let rest = rest_of_text (codes "line,state,ms\n" ++ line) in first_wrong rest.rows rest.stop
+-- a text line after the header, read as a record by itself
+abbrev pub record_of_line : List ℕ → Record
+record_of_line line =
+    let rest = rest_of_text (codes "line,state,ms\n" ++ line) in first_record rest.rows rest.stop
+
+-- the text line that closed each line of the office so far, where one did
+abbrev pub Closed : Type 0
+Closed = ℕ → Option ℕ
+
+-- the same of a list with a value for each line of the office
+abbrev pub closed_of : List (Option ℕ) → Closed
+closed_of lines l = slice_index_or lines l None
+
+abbrev pub no_closes : Closed
+no_closes l = None
+
+-- text line n closes line k of the office, unless an earlier one did
+abbrev pub closed_by : Closed → ℕ → ℕ → Closed
+closed_by closed k n l = if l == k then Some (unwrap_or (closed k) n) else closed l
+
+abbrev pub closed_by_row : Closed → ℕ → Contact → ℕ → Closed
+closed_by_row closed k Close n = closed_by closed k n
+closed_by_row closed k contact n = closed
+
+-- the same after text line n, which is this record
+abbrev pub closed_after : Closed → ℕ → Record → Closed
+closed_after closed n (read.Row row) = closed_by_row closed row.line row.contact n
+closed_after closed n other = closed
+
+-- what is suspicious in a row whose line was closed before in a text line, where it was
+abbrev pub what_of_row : Option ℕ → Option What
+what_of_row (Some n) = Some (what.Ignored n)
+what_of_row None = None
+
+-- what is wrong with a record after the header, or suspicious in it
+abbrev pub what_of_record : Closed → Record → Option What
+what_of_record closed (read.Row row) = what_of_row (closed row.line)
+what_of_record closed other = wrong_in other
 
 -- what follows the first comma of a text
 abbrev pub after_cut : Option (List ℕ × List ℕ) → List ℕ
@@ -60,6 +105,7 @@ from_field what.Fields line = line
 from_field what.Line line = line
 from_field what.State line = after_comma line
 from_field what.Ms line = after_comma (after_comma line)
+from_field (what.Ignored n) line = line
 
 -- the byte of a text line, from 1, at which what is wrong begins
 abbrev pub column_of : What → List ℕ → ℕ
@@ -75,17 +121,20 @@ found_at n line (Some wrong) =
 abbrev pub is_empty : List ℕ → Bool
 is_empty line = bytes_eq line [] || bytes_eq line (codes "\r")
 
--- the text lines from n on, which are records, each with what is wrong
-unfoldable pub faults_of_records : ℕ → List (List ℕ) → List Found
-faults_of_records n [] = []
-faults_of_records n (line ∷ lines) = found_at n line (with_meant (wrong_record line) None) ++ faults_of_records (n + 1) lines
+-- the text lines from n on, which are records, each with what is wrong or suspicious; these lines of the office
+-- were closed before
+unfoldable pub faults_of_records : Closed → ℕ → List (List ℕ) → List Found
+faults_of_records closed n [] = []
+faults_of_records closed n (line ∷ lines) =
+    found_at n line (with_meant (what_of_record closed (record_of_line line)) None)
+    ++ faults_of_records (closed_after closed n (record_of_line line)) (n + 1) lines
 
 -- the text lines from n on, before the header
 unfoldable pub faults_of_lines : ℕ → List (List ℕ) → List Found
 faults_of_lines n [] = []
 faults_of_lines n (line ∷ lines) =
     if is_empty line then faults_of_lines (n + 1) lines
-    else found_at n line (with_meant (wrong_header line) None) ++ faults_of_records (n + 1) lines
+    else found_at n line (with_meant (wrong_header line) None) ++ faults_of_records no_closes (n + 1) lines
 
 -- the text lines from n on, of the table's section and before the line that cuts
 unfoldable pub faults_of_table : Section → ℕ → List (List ℕ) → List Found

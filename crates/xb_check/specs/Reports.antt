@@ -9,7 +9,7 @@ use Rattle.xb_text.specs.Writing.{AppendsBeginning}
 use Rattle.xb_check.specs.declared.fault.CheckFault.{CheckFault}
 use Rattle.xb_check.specs.declared.fault.CheckFault.TheVariants as fault
 use Rattle.xb_check.specs.declared.telling.TheConstants.{MOST_SHOWN_BYTES}
-use Rattle.xb_check.specs.Findings.{Found, meant_text, what_text}
+use Rattle.xb_check.specs.Findings.{Found, note_text, what_text}
 use Rattle.xb_check.specs.Records.{faults_of_deck}
 use Rattle.xb_check.specs.Sites.{told_of}
 
@@ -29,7 +29,7 @@ place_text name found = name ++ (codes ":" ++ (decimal found.line ++ (codes ":" 
 -- the line of what was found
 abbrev pub found_text : List ℕ → Found → List ℕ
 found_text name found =
-    place_text name found ++ meant_text found.meant ++ codes ": " ++ shown found.text ++ codes "\n"
+    place_text name found ++ note_text found ++ codes ": " ++ shown found.text ++ codes "\n"
 
 -- what is told of a deck in a file of this name, which `mfbank` takes, or refuses by a fault: a line for each text
 -- line that is wrong, in order, and then that of the fault of the route table

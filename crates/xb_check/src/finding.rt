@@ -28,6 +28,8 @@ pub enum What {
     State,
     /// The third field is no time in ms that the state may last.
     Ms,
+    /// The line of the office was closed before, in this text line: the record is ignored.
+    Ignored(usize),
 }
 
 /// What is wrong, and where.
@@ -104,6 +106,7 @@ impl What {
             What::Line => "the line is not 0 to 9999",
             What::State => "the state is not M, B or C",
             What::Ms => "the ms are not 0 to 86400000, or not 0 in a close",
+            What::Ignored(_) => "this record is ignored; its line was closed in text line",
         }
     }
 }

@@ -1,27 +1,31 @@
 // The text lines of a deck, one after the other.
-ghost use Rattle.std.specs.Prelude.{◌≡◌, ◌≤◌, IfOk, length, map};
+ghost use Rattle.std.specs.Prelude.{◌≡◌, ◌≤◌, IfOk, OnOk, length, map};
 ghost use Rattle.xb_deck.specs.declared.deck.TheConstants.{MOST_DECK_BYTES};
 ghost use Rattle.xb_deck.specs.Deck.{is_cut};
 ghost use Rattle.xb_check.specs.declared.lines.Place.TheVariants as place;
 ghost use Rattle.xb_check.specs.Findings.{found_of};
-ghost use Rattle.xb_check.specs.Records.{faults_of_deck, is_empty};
+ghost use Rattle.xb_check.specs.Records.{closed_after, closed_of, faults_of_deck, is_empty};
 ghost use Rattle.xb_check.specs.Steps.{TakesLine};
 
+use crate::closes::Closes;
 use crate::finding::Finding;
-use crate::records::{push_found, without_key, wrong_header, wrong_record};
+use crate::records::{
+    Record, push_found, record_of_line, what_of_record, without_key, wrong_header,
+};
 use crate::table::{Section, section_after, squeezed, wrong_in_table};
 use std::alloc::{AllocError, Global};
+use xb_model::Contact;
 use xb_text::first_piece;
 
 // Where a text line of a deck stands.
-#[derive(Clone, Copy)]
+#[derive(Drop)]
 pub(crate) enum Place {
     // In a section of the route table.
     Table(Section),
     // Before the header of the rows.
     Header,
-    // After it.
-    Records,
+    // After it, where these lines of the office were closed.
+    Records(Closes),
 }
 
 /// Whether a line is the cut.
@@ -71,21 +75,36 @@ fn take_before_header<'a>(
         return Ok(Place::Header);
     }
     push_found(found, n, line, without_key(wrong_header(alloc, line)?))?;
-    Ok(Place::Records)
+    Ok(Place::Records(Closes::new(alloc)?))
+}
+
+// Text line `n`, read so, closes the line of its record, where that is a close.
+fn close_by(closes: &mut Closes, n: usize, read: &Record)
+    ensures { closed_of closes.new ≡ closed_after (closed_of closes.old) n read.now }
+{
+    if let Record::Row(row) = read {
+        match row.contact() {
+            Contact::Close => closes.close(row.line(), n),
+            Contact::Make | Contact::Brk => {}
+        }
+    }
 }
 
 // Takes text line `n` after the header.
 fn take_record<'a>(
     alloc: Global,
     found: &mut Vec<Finding<'a>>,
+    closes: &mut Closes,
     n: usize,
     line: &'a [u8],
-) -> Result<Place, AllocError>
-    ensures { IfOk result (TakesLine place.Records n line.now
-        (map found_of found.old.items) (map found_of found.new.items)) }
+) -> Result<(), AllocError>
+    ensures { OnOk result (TakesLine (place.Records closes.old) n line.now
+        (map found_of found.old.items) (map found_of found.new.items) (place.Records closes.new)) }
 {
-    push_found(found, n, line, without_key(wrong_record(alloc, line)?))?;
-    Ok(Place::Records)
+    let read = record_of_line(alloc, line)?;
+    push_found(found, n, line, without_key(what_of_record(closes, &read)))?;
+    close_by(closes, n, &read);
+    Ok(())
 }
 
 // Takes text line `n` at a place.
@@ -102,7 +121,10 @@ fn take_line<'a>(
     match place {
         Place::Table(section) => take_in_table(alloc, found, section, n, line),
         Place::Header => take_before_header(alloc, found, n, line),
-        Place::Records => take_record(alloc, found, n, line),
+        Place::Records(mut closes) => {
+            take_record(alloc, found, &mut closes, n, line)?;
+            Ok(Place::Records(closes))
+        }
     }
 }
 

@@ -1,55 +1,98 @@
-// Text lines of the rows, read by themselves: what is wrong with them, and where.
+// Text lines of the rows, read by themselves: what they are, what is wrong with them, and where.
 ghost use Rattle.std.specs.Prelude.{◌≡◌, ◌++◌, IfOk, None, OnOk, map};
 ghost use Rattle.xb_rows.specs.RowTexts.{rest_of_text};
 ghost use Rattle.xb_check.specs.Findings.{found_of};
-ghost use Rattle.xb_check.specs.Records.{after_comma, column_of, first_wrong, found_at, from_field, what_of_fault, wrong_header, wrong_record};
+ghost use Rattle.xb_check.specs.Records.{after_comma, closed_of, column_of, first_record, found_at, from_field, record_of_fault, record_of_line, what_of_record, what_of_row, wrong_header, wrong_in};
 ghost use Rattle.xb_check.specs.Table.{with_meant};
 
+use crate::closes::Closes;
 use crate::finding::{Finding, What};
 use crate::key::Key;
 use std::alloc::{AllocError, Global};
-use xb_model::{RowFault, RowSource};
+use xb_model::{Row, RowFault, RowSource};
 use xb_rows::Scan;
 use xb_text::cut_at;
 
 // The header, with the end of its text line.
 const HEADER: &[u8] = b"line,state,ms\n";
 
-// What is wrong with a record that has this fault.
-fn what_of_fault(fault: RowFault) -> Option<What>
-    ensures { result ≡ what_of_fault fault }
+/// What a text line is, read as a record by itself.
+#[derive(Clone, Copy)]
+pub(crate) enum Record {
+    /// A row.
+    Row(Row),
+    /// No row, and what is wrong with it.
+    Wrong(What),
+    /// Nothing is written in it.
+    Empty,
+}
+
+// A record that has this fault.
+fn record_of_fault(fault: RowFault) -> Record
+    ensures { result ≡ record_of_fault fault }
 {
     match fault {
-        RowFault::Header => Some(What::Header),
-        RowFault::Fields(_) => Some(What::Fields),
-        RowFault::Line(_) => Some(What::Line),
-        RowFault::Contact(_) => Some(What::State),
-        RowFault::Ms(_) => Some(What::Ms),
-        RowFault::Read | RowFault::TooMany | RowFault::NoMemory => None,
+        RowFault::Header => Record::Wrong(What::Header),
+        RowFault::Fields(_) => Record::Wrong(What::Fields),
+        RowFault::Line(_) => Record::Wrong(What::Line),
+        RowFault::Contact(_) => Record::Wrong(What::State),
+        RowFault::Ms(_) => Record::Wrong(What::Ms),
+        RowFault::Read | RowFault::TooMany | RowFault::NoMemory => Record::Empty,
     }
 }
 
-// What is wrong with the first record of a text.
-fn first_wrong(alloc: Global, text: &[u8]) -> Result<Option<What>, AllocError>
+// The first record of a text.
+fn first_record(alloc: Global, text: &[u8]) -> Result<Record, AllocError>
     ensures { let rest = rest_of_text text.now in
-        IfOk result (λ wrong. wrong ≡ first_wrong rest.rows rest.stop) }
+        IfOk result (λ read. read ≡ first_record rest.rows rest.stop) }
 {
     let mut scan = Scan::new(alloc, text);
     match scan.next_row() {
-        Ok(_) => Ok(None),
+        Ok(Some(row)) => Ok(Record::Row(row)),
+        Ok(None) => Ok(Record::Empty),
         Err(RowFault::NoMemory) => Err(AllocError),
-        Err(fault) => Ok(what_of_fault(fault)),
+        Err(fault) => Ok(record_of_fault(fault)),
     }
 }
 
-/// What is wrong with a text line as a record after the header.
-pub(crate) fn wrong_record(alloc: Global, line: &[u8]) -> Result<Option<What>, AllocError>
-    ensures { IfOk result (λ wrong. wrong ≡ wrong_record line.now) }
+/// A text line after the header, read as a record by itself.
+pub(crate) fn record_of_line(alloc: Global, line: &[u8]) -> Result<Record, AllocError>
+    ensures { IfOk result (λ read. read ≡ record_of_line line.now) }
 {
     let mut text = Vec::new(alloc);
     text.extend_from_slice(HEADER)?;
     text.extend_from_slice(line)?;
-    first_wrong(alloc, &text)
+    first_record(alloc, &text)
+}
+
+// What is wrong with a record by itself.
+fn wrong_in(read: Record) -> Option<What>
+    ensures { result ≡ wrong_in read }
+{
+    match read {
+        Record::Wrong(what) => Some(what),
+        Record::Row(_) | Record::Empty => None,
+    }
+}
+
+// What is suspicious in a row whose line was closed before in this text line, where it was.
+fn what_of_row(closed: Option<usize>) -> Option<What>
+    ensures { result ≡ what_of_row closed }
+{
+    match closed {
+        Some(n) => Some(What::Ignored(n)),
+        None => None,
+    }
+}
+
+/// What is wrong with a record after the header, or suspicious in it.
+pub(crate) fn what_of_record(closes: &Closes, read: &Record) -> Option<What>
+    ensures { result ≡ what_of_record (closed_of closes.now) read.now }
+{
+    match read {
+        Record::Row(row) => what_of_row(closes.closed_in(row.line())),
+        Record::Wrong(_) | Record::Empty => wrong_in(*read),
+    }
 }
 
 // What follows the first comma of a text.
@@ -74,7 +117,8 @@ fn from_field(what: What, line: &[u8]) -> &[u8]
         | What::Routes(_)
         | What::Header
         | What::Fields
-        | What::Line => line,
+        | What::Line
+        | What::Ignored(_) => line,
         What::State => after_comma(line),
         What::Ms => after_comma(after_comma(line)),
     }
@@ -124,5 +168,5 @@ pub(crate) fn push_found<'a>(
 pub(crate) fn wrong_header(alloc: Global, line: &[u8]) -> Result<Option<What>, AllocError>
     ensures { IfOk result (λ wrong. wrong ≡ wrong_header line.now) }
 {
-    first_wrong(alloc, line)
+    Ok(wrong_in(first_record(alloc, line)?))
 }

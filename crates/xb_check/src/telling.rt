@@ -2,10 +2,11 @@
 ghost use Rattle.std.specs.Prelude.{◌≡◌, ◌≤◌, ◌++◌, IfOk, OnOk, Some, length, map, string_bytes, take};
 ghost use Rattle.xb_deck.specs.declared.deck.TheConstants.{MOST_DECK_BYTES};
 ghost use Rattle.std.specs.List.{flat_map};
-ghost use Rattle.xb_check.specs.Findings.{found_of, meant_text};
+ghost use Rattle.xb_check.specs.declared.finding.What.TheVariants as what;
+ghost use Rattle.xb_check.specs.Findings.{closed_text, found_of, meant_text, note_text};
 ghost use Rattle.xb_check.specs.Reports.{found_text, place_text, report_text, shown, visible};
 
-use crate::finding::Finding;
+use crate::finding::{Finding, What};
 use crate::key::Key;
 use crate::lines::findings;
 use crate::sites::push_told;
@@ -72,6 +73,31 @@ fn push_meant(alloc: Global, out: &mut Vec<u8>, meant: Option<Key>) -> Result<()
     Ok(())
 }
 
+// The text line that closed the line of an ignored record, in words.
+fn words_of_close(alloc: Global, n: usize) -> Result<String, AllocError>
+    ensures { IfOk result (λ text. string_bytes text ≡ closed_text (what.Ignored n)) }
+{
+    format!(in alloc; " {n}")
+}
+
+// Puts the text line that closed the line of an ignored record after the text.
+fn push_closed(alloc: Global, out: &mut Vec<u8>, what: What) -> Result<(), AllocError>
+    ensures { OnOk result (out.new.items ≡ out.old.items ++ closed_text what) }
+{
+    if let What::Ignored(n) = what {
+        out.extend_from_slice(words_of_close(alloc, n)?.as_bytes())?;
+    }
+    Ok(())
+}
+
+// Puts what is added to what is wrong after the text.
+fn push_note(alloc: Global, out: &mut Vec<u8>, finding: &Finding) -> Result<(), AllocError>
+    ensures { OnOk result (out.new.items ≡ out.old.items ++ note_text (found_of finding.now)) }
+{
+    push_closed(alloc, out, finding.what)?;
+    push_meant(alloc, out, finding.meant)
+}
+
 // Puts the line of what was found after the text.
 fn push_found(
     alloc: Global,
@@ -82,7 +108,7 @@ fn push_found(
     ensures { OnOk result (out.new.items ≡ out.old.items ++ found_text name.now (found_of finding.now)) }
 {
     out.extend_from_slice(place_text(alloc, name, finding)?.as_bytes())?;
-    push_meant(alloc, out, finding.meant)?;
+    push_note(alloc, out, finding)?;
     out.extend_from_slice(b": ")?;
     push_shown(out, finding.text)?;
     out.push(b'\n')?;

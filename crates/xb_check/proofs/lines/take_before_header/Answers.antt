@@ -10,5 +10,6 @@ returns-then-is_empty c =
 
 pub returns : goal.returns
 returns c =
-    takes_header c.args.n c.args.line.now c.without_key.result _ _ (sym c.if-is_empty.ensures)
-    (c.without_key.ensures ∙ ap (λ wrong. with_meant wrong None) c.in_ok-wrong_header.ensures) c.in_ok-push_found.ensures
+    takes_header c.args.n c.args.line.now c.without_key.result _ _ _ (sym c.if-is_empty.ensures)
+    (c.without_key.ensures ∙ ap (λ wrong. with_meant wrong None) c.in_ok-wrong_header.ensures) c.in_ok-new.ensures
+    c.in_ok-push_found.ensures

@@ -1,12 +1,9 @@
-use Rattle.std.proofs.Common.{◌≡◌, ◌∙◌, ℕ, ◌+◌, List, ◌∷◌, Some, sym, ap, arith, length, refl, true, false}
-use Rattle.std.specs.Prelude.{option_copied, option_map, Option}
-use Rattle.xb_deck.specs.Deck.{is_cut}
-use Rattle.xb_text.specs.Pieces.{pieces, pieces_left}
+use Rattle.std.proofs.Common.{◌≡◌, ◌∙◌, ℕ, ◌+◌, List, ◌∷◌, sym, ap, arith, length, refl, true, false}
+use Rattle.std.specs.Prelude.{option_copied}
+use Rattle.xb_text.specs.Pieces.{pieces_left}
 use Rattle.xb_check.specs.declared.table.Section.{Section}
-use Rattle.xb_check.specs.declared.table.Section.TheVariants.{Top}
-use Rattle.xb_check.specs.Findings.{Found}
 use Rattle.xb_check.specs.Sites.{first_about, is_about, route_here, routes_after}
-use Rattle.xb_check.specs.Table.{section_after, squeezed}
+use Rattle.xb_check.specs.Table.{section_after}
 use Rattle.xb_check.proofs.FaultLines.{about_cut, about_here, about_later, about_none}
 use Rattle.xb_check.proofs.TakenLines.{few_lines}
 use Rattle.xb_check.proofs.sites.first_about.Goals as goal
