@@ -57,6 +57,16 @@ deck:8:1: this record is ignored; its line was closed in text line 5: 7,C,0
 deck:10:1: this record is ignored; its line was closed in text line 5: 7,M,1
 ";
 
+// A deck that `mfbank` takes, with breaks that may be bounces: not those of 0 and 5 ms, a make, nor an ignored one.
+const BOUNCED: &[u8] =
+    b"---\nline,state,ms\n7,M,4\n7,B,1\n7,B,0\n7,B,5\n\"0009\",B,4\n9,C,0\n9,B,2\n";
+
+const BOUNCES: &[u8] =
+    b"deck:4:5: a break of 1 to 4 ms may be a bounce; mfloop settles those of a recording: 7,B,1
+deck:7:10: a break of 1 to 4 ms may be a bounce; mfloop settles those of a recording: \"0009\",B,4
+deck:9:1: this record is ignored; its line was closed in text line 8: 9,B,2
+";
+
 const USAGE: &[u8] = b"mfcheck: usage: mfcheck [--name NAME]\n";
 
 // The words after the program's name, the deck, the status, and what stands on standard output and error.
@@ -70,6 +80,7 @@ const CASES: &[(&[&str], &[u8], u8, &[u8], &[u8])] = &[
         b"mfcheck: loop rows: record 2 has a wrong line\n",
     ),
     (&[], CLOSED, 0, IGNORED, b""),
+    (&[], BOUNCED, 0, BOUNCES, b""),
     (
         &[],
         b"---\n\nline,state\n7,M,1\n",

@@ -64,6 +64,7 @@ what_text what.Line = codes "the line is not 0 to 9999"
 what_text what.State = codes "the state is not M, B or C"
 what_text what.Ms = codes "the ms are not 0 to 86400000, or not 0 in a close"
 what_text (what.Ignored n) = codes "this record is ignored; its line was closed in text line"
+what_text what.Short = codes "a break of 1 to 4 ms may be a bounce; mfloop settles those of a recording"
 
 -- the text line that closed the line of an ignored record
 abbrev pub closed_text : What → List ℕ

@@ -1,12 +1,12 @@
 -- What is wrong in the text lines of a deck, each read by itself.
-use Rattle.std.specs.Prelude.{ℕ, ◌+◌, ◌-◌, ◌==◌, ◌||◌, nat_lt, List, [], ◌∷◌, ◌++◌, codes, length, Bool, if◌then◌else◌, bytes_eq, Option, Some, None, unwrap_or, slice_index_or}
+use Rattle.std.specs.Prelude.{ℕ, ◌+◌, ◌-◌, ◌==◌, ◌||◌, ◌&&◌, nat_lt, List, [], ◌∷◌, ◌++◌, codes, length, Bool, true, false, if◌then◌else◌, bytes_eq, Option, Some, None, unwrap_or, slice_index_or}
 use Rattle.xb_deck.specs.declared.deck.TheConstants.{MOST_DECK_BYTES}
 use Rattle.xb_deck.specs.Deck.{is_cut}
 use Rattle.xb_model.specs.declared.fault.RowFault.{RowFault}
 use Rattle.xb_model.specs.declared.fault.RowFault.TheVariants as fault
 use Rattle.xb_model.specs.Rows.{LoopRow}
 use Rattle.xb_model.specs.declared.row.Contact.{Contact}
-use Rattle.xb_model.specs.declared.row.Contact.TheVariants.{Close}
+use Rattle.xb_model.specs.declared.row.Contact.TheVariants.{Make, Brk, Close}
 use Rattle.xb_rows.specs.RowTexts.{rest_of_text}
 use Rattle.xb_text.specs.Pieces.{cut_at, pieces}
 use Rattle.xb_check.specs.declared.key.Key.{Key}
@@ -75,14 +75,23 @@ abbrev pub closed_after : Closed → ℕ → Record → Closed
 closed_after closed n (read.Row row) = closed_by_row closed row.line row.contact n
 closed_after closed n other = closed
 
+-- a break so short that it may be a bounce
+abbrev pub is_short_break : Contact → ℕ → Bool
+is_short_break Make ms = false
+is_short_break Brk ms = nat_lt 0 ms && nat_lt ms 5
+is_short_break Close ms = false
+
+abbrev pub is_short : LoopRow → Bool
+is_short row = is_short_break row.contact row.ms
+
 -- what is suspicious in a row whose line was closed before in a text line, where it was
-abbrev pub what_of_row : Option ℕ → Option What
-what_of_row (Some n) = Some (what.Ignored n)
-what_of_row None = None
+abbrev pub what_of_row : Option ℕ → LoopRow → Option What
+what_of_row (Some n) row = Some (what.Ignored n)
+what_of_row None row = if is_short row then Some what.Short else None
 
 -- what is wrong with a record after the header, or suspicious in it
 abbrev pub what_of_record : Closed → Record → Option What
-what_of_record closed (read.Row row) = what_of_row (closed row.line)
+what_of_record closed (read.Row row) = what_of_row (closed row.line) row
 what_of_record closed other = wrong_in other
 
 -- what follows the first comma of a text
@@ -106,6 +115,7 @@ from_field what.Line line = line
 from_field what.State line = after_comma line
 from_field what.Ms line = after_comma (after_comma line)
 from_field (what.Ignored n) line = line
+from_field what.Short line = after_comma (after_comma line)
 
 -- the byte of a text line, from 1, at which what is wrong begins
 abbrev pub column_of : What → List ℕ → ℕ

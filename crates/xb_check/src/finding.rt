@@ -30,6 +30,8 @@ pub enum What {
     Ms,
     /// The line of the office was closed before, in this text line: the record is ignored.
     Ignored(usize),
+    /// A break so short may be a bounce.
+    Short,
 }
 
 /// What is wrong, and where.
@@ -107,6 +109,8 @@ impl What {
             What::State => "the state is not M, B or C",
             What::Ms => "the ms are not 0 to 86400000, or not 0 in a close",
             What::Ignored(_) => "this record is ignored; its line was closed in text line",
+            What::Short =>
+                "a break of 1 to 4 ms may be a bounce; mfloop settles those of a recording",
         }
     }
 }

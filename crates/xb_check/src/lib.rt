@@ -4,7 +4,8 @@
 //!   are wrong (`faults_of_deck`, `specs/Records.antt`). Before the line `---` it is a key, or a heading, that
 //!   no rule names; after it a header or a record that no row is written by, with the field that is wrong. A
 //!   record that goes over several text lines, which takes quotes, is told line by line.
-//!   A record is also told that is ignored, since an earlier text line closed its line (`closed_after`).
+//!   A record is also told that is ignored, since an earlier text line closed its line (`closed_after`), and one
+//!   that is a break of 1 to 4 ms (`is_short`).
 //!   A key that no rule names is told with the key of its section that one edit makes of it, or else two
 //!   (`nearest`, `specs/Keys.antt`).
 //! - `report`: the lines of what was found, and then of the text line that the fault of the route table is

@@ -2,19 +2,22 @@
 ghost use Rattle.std.specs.Prelude.{◌≡◌, ◌++◌, IfOk, None, OnOk, map};
 ghost use Rattle.xb_rows.specs.RowTexts.{rest_of_text};
 ghost use Rattle.xb_check.specs.Findings.{found_of};
-ghost use Rattle.xb_check.specs.Records.{after_comma, closed_of, column_of, first_record, found_at, from_field, record_of_fault, record_of_line, what_of_record, what_of_row, wrong_header, wrong_in};
+ghost use Rattle.xb_check.specs.Records.{after_comma, closed_of, column_of, first_record, found_at, from_field, is_short, record_of_fault, record_of_line, what_of_record, what_of_row, wrong_header, wrong_in};
 ghost use Rattle.xb_check.specs.Table.{with_meant};
 
 use crate::closes::Closes;
 use crate::finding::{Finding, What};
 use crate::key::Key;
 use std::alloc::{AllocError, Global};
-use xb_model::{Row, RowFault, RowSource};
+use xb_model::{Contact, Row, RowFault, RowSource};
 use xb_rows::Scan;
 use xb_text::cut_at;
 
 // The header, with the end of its text line.
 const HEADER: &[u8] = b"line,state,ms\n";
+
+// The least ms of a run that is no bounce, as `mfloop` settles them.
+const BOUNCE_MS: u32 = 5;
 
 /// What a text line is, read as a record by itself.
 #[derive(Clone, Copy)]
@@ -75,12 +78,24 @@ fn wrong_in(read: Record) -> Option<What>
     }
 }
 
+// Whether a row is a break so short that it may be a bounce.
+fn is_short(row: Row) -> bool
+    ensures { result ≡ is_short row }
+{
+    let ms = row.ms();
+    match row.contact() {
+        Contact::Brk => 0 < ms && ms < BOUNCE_MS,
+        Contact::Make | Contact::Close => false,
+    }
+}
+
 // What is suspicious in a row whose line was closed before in this text line, where it was.
-fn what_of_row(closed: Option<usize>) -> Option<What>
-    ensures { result ≡ what_of_row closed }
+fn what_of_row(closed: Option<usize>, row: Row) -> Option<What>
+    ensures { result ≡ what_of_row closed row }
 {
     match closed {
         Some(n) => Some(What::Ignored(n)),
+        None if is_short(row) => Some(What::Short),
         None => None,
     }
 }
@@ -90,7 +105,7 @@ pub(crate) fn what_of_record(closes: &Closes, read: &Record) -> Option<What>
     ensures { result ≡ what_of_record (closed_of closes.now) read.now }
 {
     match read {
-        Record::Row(row) => what_of_row(closes.closed_in(row.line())),
+        Record::Row(row) => what_of_row(closes.closed_in(row.line()), *row),
         Record::Wrong(_) | Record::Empty => wrong_in(*read),
     }
 }
@@ -120,7 +135,7 @@ fn from_field(what: What, line: &[u8]) -> &[u8]
         | What::Line
         | What::Ignored(_) => line,
         What::State => after_comma(line),
-        What::Ms => after_comma(after_comma(line)),
+        What::Ms | What::Short => after_comma(after_comma(line)),
     }
 }
 
