@@ -2,7 +2,7 @@
 use std::alloc::Global;
 use std::test::Fail;
 use test_kit::{Gives, Halting, Program, Short, check_reads, check_status, check_writes};
-use xb_check::attend;
+use xb_check::{CheckFault, attend};
 
 // The program `mfcheck`.
 #[derive(Clone, Copy)]
@@ -134,6 +134,21 @@ fn tells_what_is_wrong(rt: HostRuntime) -> Result<(), Fail> {
         };
         check_status(rt.alloc(), &Mfcheck, words, deck, wanted)?;
     }
+    Ok(())
+}
+
+#[test]
+fn names_what_splits_a_large_deck(rt: HostRuntime) -> Result<(), Fail> {
+    let too_many = format!(in rt.alloc(); "{}", CheckFault::TooMany)?;
+    assert_eq!(rt;
+        too_many.as_str(),
+        "loop rows: more than 1000000 records; mfsplit makes parts of the deck"
+    );
+    let too_long = format!(in rt.alloc(); "{}", CheckFault::TooLong)?;
+    assert_eq!(rt;
+        too_long.as_str(),
+        "the deck is longer than 16777216 bytes; mfsplit makes parts of it"
+    );
     Ok(())
 }
 

@@ -1,5 +1,5 @@
 -- What is wrong in the text lines of a deck, each read by itself.
-use Rattle.std.specs.Prelude.{ℕ, ◌+◌, ◌-◌, ◌==◌, ◌||◌, ◌&&◌, nat_lt, List, [], ◌∷◌, ◌++◌, codes, length, Bool, true, false, if◌then◌else◌, bytes_eq, Option, Some, None, unwrap_or, slice_index_or}
+use Rattle.std.specs.Prelude.{ℕ, ◌+◌, ◌-◌, ◌==◌, ◌||◌, ◌&&◌, nat_lt, List, [], ◌∷◌, ◌++◌, codes, length, Bool, false, if◌then◌else◌, bytes_eq, Option, Some, None, unwrap_or, slice_index_or}
 use Rattle.xb_deck.specs.declared.deck.TheConstants.{MOST_DECK_BYTES}
 use Rattle.xb_deck.specs.Deck.{is_cut}
 use Rattle.xb_model.specs.declared.fault.RowFault.{RowFault}

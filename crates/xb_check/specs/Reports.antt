@@ -5,6 +5,7 @@ use Rattle.std.specs.Io.KnownBytes.{Appends, Keeps}
 use Rattle.xb_deck.specs.Contents.{contents_of}
 use Rattle.xb_deck.specs.declared.fault.DeckFault.{DeckFault}
 use Rattle.xb_deck.specs.declared.fault.DeckFault.TheVariants as deck_fault
+use Rattle.xb_model.specs.declared.fault.RowFault.TheVariants as row_fault
 use Rattle.xb_text.specs.Writing.{AppendsBeginning}
 use Rattle.xb_check.specs.declared.fault.CheckFault.{CheckFault}
 use Rattle.xb_check.specs.declared.fault.CheckFault.TheVariants as fault
@@ -41,15 +42,25 @@ abbrev pub IsVerdict : List ℕ → Option DeckFault → Type 0
 IsVerdict deck None = IsOk (contents_of deck)
 IsVerdict deck (Some f) = contents_of deck ≡ Err f
 
+-- what is returned of a deck that `mfbank` refuses by this fault
+abbrev pub refused_by : DeckFault → CheckFault
+refused_by (deck_fault.Rows row_fault.TooMany) = fault.TooMany
+refused_by f = fault.Refused f
+
+-- this is returned of a deck that `mfbank` refuses, and the writer got its report
+abbrev pub Refuses : List ℕ → List ℕ → CheckFault → Option (List ℕ) → Option (List ℕ) → Type 0
+Refuses name bytes returned old new = (f : DeckFault) × (returned ≡ refused_by f) × IsVerdict bytes (Some f)
+    × Appends old new (report_text name (Some f) bytes)
+
 -- what is returned for a deck, and what the writer got of its report: all where the deck was read, its
 -- beginning where a write failed, and else nothing. It is Ok exactly where `mfbank` takes the deck, and
--- Refused with its first fault where `mfbank` refuses it
+-- Refused with its first fault, or TooMany, where `mfbank` refuses it
 abbrev pub Delivers :
     List ℕ → Option (List ℕ) → Result (Unit {0}) CheckFault → Option (List ℕ) → Option (List ℕ) → Type 0
 Delivers name deck (Ok u) old new =
     IfSome deck (λ bytes. IsVerdict bytes None × Appends old new (report_text name None bytes))
-Delivers name deck (Err (fault.Refused f)) old new =
-    IfSome deck (λ bytes. IsVerdict bytes (Some f) × Appends old new (report_text name (Some f) bytes))
+Delivers name deck (Err (fault.Refused f)) old new = IfSome deck (λ bytes. Refuses name bytes (fault.Refused f) old new)
+Delivers name deck (Err fault.TooMany) old new = IfSome deck (λ bytes. Refuses name bytes fault.TooMany old new)
 Delivers name deck (Err fault.Write) old new =
     IfSome deck (λ bytes. (f : Option DeckFault) × IsVerdict bytes f × AppendsBeginning old new (report_text name f bytes))
 Delivers name deck (Err fault.TooLong) old new =

@@ -2,13 +2,14 @@
 ghost use Rattle.std.specs.Prelude.{◌≡◌, ◌≤◌, IfErr, IfOk, IsOk, OnOk, length};
 ghost use Rattle.xb_deck.specs.declared.deck.TheConstants.{MOST_DECK_BYTES};
 ghost use Rattle.xb_deck.specs.Contents.{IsDeckFault, contents_of};
-ghost use Rattle.xb_check.specs.Reports.{Delivers, IsVerdict};
+ghost use Rattle.xb_check.specs.Reports.{Delivers, IsVerdict, refused_by};
 
 use crate::fault::CheckFault;
 use crate::telling::report;
 use std::alloc::{AllocError, Global};
 use std::io::{Read, Write};
 use xb_deck::{Deck, DeckFault, read_deck};
+use xb_model::RowFault;
 use xb_text::write_whole;
 
 // Reads all that a deck has in it.
@@ -35,9 +36,20 @@ pub fn verdict(alloc: Global, deck: &[u8]) -> Result<Option<DeckFault>, AllocErr
     }
 }
 
+// What is returned of a deck that `mfbank` refuses by this fault.
+fn refused_by(fault: DeckFault) -> CheckFault
+    ensures { result ≡ refused_by fault }
+{
+    match fault {
+        DeckFault::Rows(RowFault::TooMany) => CheckFault::TooMany,
+        fault => CheckFault::Refused(fault),
+    }
+}
+
 /// Reads a deck, and writes a line for each of its text lines that is wrong, after the name of its file. It is
 /// `Ok` exactly where `mfbank` takes the deck; `Refused` has the fault by which `mfbank` refuses it, the first
-/// in its order. Nothing is written before the whole deck is read.
+/// in its order, but for that of too many records, which is `TooMany`. Nothing is written before the whole deck is
+/// read.
 ///
 /// What the contract says of bytes it says of readers whose bytes and writers whose contents are known to
 /// contracts (byte slices, lists), which those of a process are not.
@@ -64,6 +76,6 @@ pub fn check<R: Read, W: Write>(
     match (write_whole(out, &text), verdict) {
         (Err(_), _) => Err(CheckFault::Write),
         (Ok(()), None) => Ok(()),
-        (Ok(()), Some(fault)) => Err(CheckFault::Refused(fault)),
+        (Ok(()), Some(fault)) => Err(refused_by(fault)),
     }
 }

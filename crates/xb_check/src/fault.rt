@@ -11,7 +11,10 @@ pub enum CheckFault {
     /// The deck has more than 16,777,216 bytes, and is not looked at.
     #[error("the deck is longer than 16777216 bytes; mfsplit makes parts of it")]
     TooLong,
-    /// `mfbank` refuses the deck by this fault, the first of it. What was found was told.
+    /// The deck has more than 1,000,000 records, by which `mfbank` refuses it. What was found was told.
+    #[error("loop rows: more than 1000000 records; mfsplit makes parts of the deck")]
+    TooMany,
+    /// `mfbank` refuses the deck by this other fault, the first of it. What was found was told.
     #[error("{0}")]
     Refused(DeckFault),
     /// A write or the flush failed, or a write took no byte. The beginning of what was found was written.
