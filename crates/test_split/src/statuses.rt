@@ -14,6 +14,11 @@ const DECK: &[u8] =
 
 const NO_CUT: &[u8] = b"[[route]]\ncode = \"0\"\ntrunk = 1\nline,state,ms\n7,M,500\n";
 
+// A route without its trunk, as `trunk` is written wrong; and the only record is wrong too.
+const NO_TRUNK: &[u8] = b"[[route]]\ncode = \"234\"\ntrunck = 17\n---\nline,state,ms\n7,X,500\n";
+
+const REFUSED_TABLE: &[u8] = b"mfsplit: route table: route 1 has a wrong shape\n";
+
 const WRONG: &[u8] = b"---\nline,state,ms\n7,M,500\n7,X,500\n";
 
 // A record on each of three lines.
@@ -77,6 +82,7 @@ impl SplitFiles for Folder {
         match big {
             "deck" => Ok(DECK),
             "no cut" => Ok(NO_CUT),
+            "no trunk" => Ok(NO_TRUNK),
             "wrong" => Ok(WRONG),
             "three" => Ok(THREE),
             "counted" if self.opened.fetch_add(1, Ordering::SeqCst) == 0 => Ok(COUNTED),
@@ -162,6 +168,7 @@ const FAULTS: &[(&[&str], u8, &[u8])] = &[
         1,
         b"mfsplit: the deck has no line ---\n",
     ),
+    (&["no trunk", "parts"], 1, REFUSED_TABLE),
     (
         &["wrong", "parts"],
         1,
@@ -218,6 +225,8 @@ fn folders_that_fail(rt: HostRuntime) -> Result<(), Fail> {
     let none =
         b"mfsplit: the folder with .incomplete after its name could not be made: entity not found\n";
     assert!(rt; ends_so(&mut folder, alloc, &["deck", "parts"], 1, none)?);
+    // nothing is made of a deck whose table is refused
+    assert!(rt; ends_so(&mut folder, alloc, &["no trunk", "parts"], 1, REFUSED_TABLE)?);
     assert_eq!(rt; folder.list.as_str(), "");
     Ok(())
 }

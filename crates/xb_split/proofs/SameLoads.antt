@@ -1,5 +1,5 @@
 -- Loads that are compared line by line.
-use Rattle.std.proofs.Common.{◌≡◌, ◌+◌, ◌<◌, ◌∙◌, ℕ, List, get_or, length, sym, subst, arith, rules, ext_get_or, inl, inr}
+use Rattle.std.proofs.Common.{◌≡◌, ◌+◌, ◌<◌, ℕ, List, get_or, length, sym, subst, arith, rules, ext_get_or, inl, inr}
 use Rattle.std.specs.Prelude.{◌⊎◌}
 use Rattle.xb_split.specs.declared.load.Load.{Load}
 

@@ -2,6 +2,7 @@
 use Rattle.std.proofs.Common.{◌≡◌, ◌∙◌, ◌<◌, ◌-◌, ◌^◌, ◌++◌, ℕ, List, Option, Some, None, IfSome, length, sym, ap, subst, inl}
 use Rattle.std.specs.Prelude.{option_map}
 use Rattle.std.specs.Io.KnownBytes.{Appends, Keeps}
+use Rattle.xb_deck.specs.Deck.{Parts}
 use Rattle.xb_deck.specs.Tables.{IsCutAfter, IsTableFault}
 use Rattle.xb_deck.specs.declared.deck.TheConstants.{MOST_DECK_BYTES}
 use Rattle.xb_deck.specs.declared.table.TableFault.{TableFault}
@@ -15,8 +16,8 @@ use Rattle.xb_split.specs.declared.load.Load.{Load}
 use Rattle.xb_parts.specs.declared.range.LineRange.{LineRange}
 use Rattle.xb_split.specs.PartDecks.{Decks, GetsDecks, deck_of_part}
 use Rattle.xb_split.specs.RowStreams.{CountsAll, HasGivenAll, StopsRows}
-use Rattle.xb_split.specs.SplitFaults.{IsFaultOf}
-use Rattle.xb_split.specs.Splits.{AreMade, HasRows, IsCounted, IsOpened, IsReady, IsSplit, rest_of_row_stream}
+use Rattle.xb_split.specs.SplitFaults.{HasParts, IsFaultOf}
+use Rattle.xb_split.specs.Splits.{AreMade, HasRows, IsCounted, IsOpened, IsReady, IsSplit, IsTable, rest_of_row_stream}
 use Rattle.xb_split.specs.declared.fault.SplitFault.TheVariants as fault
 
 -- a deck whose table was read
@@ -42,18 +43,27 @@ has_rows (Some text) table left rows opened given =
     )
 
 pub counted : (deck : Option (List ℕ)) (table : List ℕ) (left : Option Rest) (loads : List Load)
-    → IsOpened deck table left → CountsAll left loads → IsCounted deck table loads
-counted None table left loads opened counts = tt
-counted (Some text) table left loads opened counts =
-    (counts.0, has_rows (Some text) table left counts.0 opened counts.1, counts.2)
+    → IsOpened deck table left → IsTable table → CountsAll left loads → IsCounted deck table loads
+counted None table left loads opened taken counts = (taken, tt)
+counted (Some text) table left loads opened taken counts =
+    (taken, (counts.0, has_rows (Some text) table left counts.0 opened counts.1, counts.2))
+
+-- what holds of a table that was read is known of the deck
+pub has_table : (deck : Option (List ℕ)) (table : List ℕ) (left : Option Rest) (P : List ℕ → Type 0)
+    → IsOpened deck table left → P table → HasParts deck (λ cut. P cut.table)
+has_table None table left P opened here = tt
+has_table (Some text) table left P opened here = subst (λ o. IfSome o (λ (cut : Parts). P cut.table)) (sym opened.1) here
 
 -- the fault that stopped the rows is one of the deck
 pub rows_fault : (deck : Option (List ℕ)) (table : List ℕ) (left : Option Rest) (parts : Option ℕ) (f : RowFault)
-    → IsOpened deck table left → IfSome left (λ rest. StopsRows rest f) → IsFaultOf deck parts (fault.Rows f)
-rows_fault None table left parts f opened stops = tt
-rows_fault (Some text) table left parts f opened stops =
-    let stop = subst (λ o. IfSome o (λ rest. StopsRows rest f)) opened.2 stops in
-    subst (λ o. IfSome o (λ cut. StopsRows (rest_of_row_stream cut.rows) f)) (sym opened.1) stop
+    → IsOpened deck table left → IsTable table → IfSome left (λ rest. StopsRows rest f)
+    → IsFaultOf deck parts (fault.Rows f)
+rows_fault None table left parts f opened taken stops = (tt, tt)
+rows_fault (Some text) table left parts f opened taken stops =
+    let stop = subst (λ o. IfSome o (λ rest. StopsRows rest f)) opened.2 stops in (
+      has_table (Some text) table left IsTable opened taken,
+      subst (λ o. IfSome o (λ cut. StopsRows (rest_of_row_stream cut.rows) f)) (sym opened.1) stop,
+    )
 
 -- decks that got all rows after they were made
 pub are_made : (fresh : Option (List ℕ)) (start made : Decks) (table : List ℕ) (loads : List Load)

@@ -1,17 +1,18 @@
 -- Why a deck is not split, where its bytes are known.
 use Rattle.std.specs.Prelude.{ℕ, ◌≡◌, ◌<◌, ◌⊎◌, List, length, Option, Some, IfSome, Result, Ok, Err}
 use Rattle.std.specs.Io.KnownBytes.{Appends, Keeps}
-use Rattle.xb_deck.specs.Deck.{deck_parts}
+use Rattle.xb_deck.specs.Deck.{Parts, deck_parts}
 use Rattle.xb_deck.specs.Tables.{IsTableFault}
 use Rattle.xb_deck.specs.declared.deck.TheConstants.{MOST_DECK_BYTES}
 use Rattle.xb_deck.specs.declared.table.TableFault.TheVariants as table
+use Rattle.xb_routes.specs.Text.{table_of_text}
 use Rattle.xb_split.specs.declared.load.Load.{Load}
 use Rattle.xb_parts.specs.declared.range.LineRange.{LineRange}
 use Rattle.xb_parts.specs.Ranges.{CoverAll}
 use Rattle.xb_split.specs.PartDecks.{Decks}
 use Rattle.xb_split.specs.Plans.{AreAsked, FitDecks, IsPlanPartsFault}
 use Rattle.xb_split.specs.RowStreams.{StopsRows}
-use Rattle.xb_split.specs.Splits.{IsCounted, IsSplit, rest_of_row_stream}
+use Rattle.xb_split.specs.Splits.{IsCounted, IsSplit, IsTable, rest_of_row_stream}
 use Rattle.xb_split.specs.declared.splitting.TheConstants.{MOST_PARTS}
 use Rattle.xb_split.specs.declared.fault.SplitFault.{SplitFault}
 use Rattle.xb_split.specs.declared.fault.SplitFault.TheVariants as fault
@@ -21,13 +22,22 @@ abbrev pub IsPlanned : Option (List ℕ) → Option ℕ → List LineRange → T
 IsPlanned deck parts ranges = (table : List ℕ) × (loads : List Load) × IsCounted deck table loads
     × CoverAll ranges × FitDecks (length table) loads ranges × AreAsked parts (length table) loads ranges
 
+-- this holds of the two parts of a deck, where its bytes are known
+abbrev pub HasParts : Option (List ℕ) → (Parts → Type 0) → Type 0
+HasParts deck P = IfSome deck (λ text. IfSome (deck_parts text) P)
+
+-- an office takes the table of a deck
+abbrev pub HasTable : Option (List ℕ) → Type 0
+HasTable deck = HasParts deck (λ cut. IsTable cut.table)
+
 -- why a deck is not split into so many parts: what the fault says of the deck holds
 abbrev pub IsFaultOf : Option (List ℕ) → Option ℕ → SplitFault → Type 0
 IsFaultOf deck parts fault.NoParts = parts ≡ Some 0
 IsFaultOf deck parts fault.NoCut = IsTableFault MOST_DECK_BYTES deck table.NoCut
 IsFaultOf deck parts fault.LongTable = IsTableFault MOST_DECK_BYTES deck table.TooLong
-IsFaultOf deck parts (fault.Rows f) = IfSome deck (λ text.
-    IfSome (deck_parts text) (λ cut. StopsRows (rest_of_row_stream cut.rows) f))
+IsFaultOf deck parts (fault.Table f) = HasParts deck (λ cut. table_of_text cut.table ≡ Err f)
+IsFaultOf deck parts (fault.Rows f) =
+    HasTable deck × HasParts deck (λ cut. StopsRows (rest_of_row_stream cut.rows) f)
 IsFaultOf deck parts (fault.Plan f) =
     (table : List ℕ) × (loads : List Load) × IsCounted deck table loads × IsPlanPartsFault (length table) loads f
 IsFaultOf deck parts (fault.TooMany count) =

@@ -1,9 +1,10 @@
 -- A deck that is split, where its bytes are known.
-use Rattle.std.specs.Prelude.{ℕ, ◌≡◌, ◌≤◌, ◌<◌, ◌-◌, ◌^◌, List, length, map, Option, Some, None, IfSome}
+use Rattle.std.specs.Prelude.{ℕ, ◌≡◌, ◌≤◌, ◌<◌, ◌-◌, ◌^◌, List, length, map, Option, Some, None, IfSome, IsOk}
 use Rattle.std.specs.Io.KnownBytes.{Appends, Keeps}
 use Rattle.xb_deck.specs.Deck.{deck_parts}
 use Rattle.xb_model.specs.Rows.{LoopRow}
 use Rattle.xb_model.specs.Sources.{Rest}
+use Rattle.xb_routes.specs.Text.{table_of_text}
 use Rattle.xb_rows.specs.RowTexts.{rest_within}
 use Rattle.xb_rows.specs.Streams.{rest_of_stream}
 use Rattle.xb_split.specs.Counts.{AreLoadsOf, counted}
@@ -36,10 +37,14 @@ abbrev pub HasRows : List ℕ → List ℕ → List LoopRow → Type 0
 HasRows deck table rows = (text : List ℕ) × (deck_parts deck ≡ Some (record { table = table; rows = text }))
     × ((rest_of_rows text).rows ≡ rows) × ((rest_of_rows text).stop ≡ None)
 
--- the table of a deck, and what each line has of it
+-- an office takes this text as its route table
+abbrev pub IsTable : List ℕ → Type 0
+IsTable text = IsOk (table_of_text text)
+
+-- the table of a deck, which an office takes, and what each line has of it
 abbrev pub IsCounted : Option (List ℕ) → List ℕ → List Load → Type 0
-IsCounted deck table loads =
-    IfSome deck (λ text. (rows : List LoopRow) × HasRows text table rows × AreLoadsOf rows loads)
+IsCounted deck table loads = IsTable table
+    × IfSome deck (λ text. (rows : List LoopRow) × HasRows text table rows × AreLoadsOf rows loads)
 
 -- a part as the list has it: its lines, and how many records they have
 abbrev pub listed : List Load → LineRange → ListedPart
@@ -67,7 +72,8 @@ abbrev pub AreMade : Option (List ℕ) → Decks → List ℕ → List Load → 
 AreMade fresh made table loads ranges left = (rows : List LoopRow) × HasGivenAll rows left × AreLoadsOf rows loads
     × ((i : ℕ) → i < length ranges → Appends fresh (made i) (deck_of_part table ranges rows i))
 
--- the decks of all parts of a deck, each with exactly its rows, which are as many as its list says
+-- the decks of all parts of a deck, each with its table, which an office takes, and with exactly its rows, which
+-- are as many as its list says
 pub record IsSplit (deck : Option (List ℕ)) (wanted : Option ℕ) (fresh : Option (List ℕ)) (decks : Decks)
     (list : List ℕ) : Type 0 where
   pub table : List ℕ

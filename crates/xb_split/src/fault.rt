@@ -1,8 +1,9 @@
 // Why a deck is not split.
-ghost use Rattle.std.specs.Prelude.{List, Option, ℕ};
+ghost use Rattle.std.specs.Prelude.{◌≡◌, ◌≢◌, Err, List, Option, ℕ};
 ghost use Rattle.xb_deck.specs.declared.deck.TheConstants.{MOST_DECK_BYTES};
 ghost use Rattle.xb_deck.specs.Tables.{IsTableFault};
-ghost use Rattle.xb_split.specs.SplitFaults.{IsFaultOf};
+ghost use Rattle.xb_routes.specs.Text.{table_of_text};
+ghost use Rattle.xb_split.specs.SplitFaults.{HasParts, HasTable, IsFaultOf};
 
 use crate::planning::PlanPartsFault;
 use crate::writing::WriteRowsFault;
@@ -10,6 +11,7 @@ use std::io;
 use thiserror::Error;
 use xb_deck::TableFault;
 use xb_model::RowFault;
+use xb_routes::RouteFault;
 
 /// Why the decks of parts are not made.
 #[derive(Debug, Drop)]
@@ -47,6 +49,9 @@ pub enum SplitFault {
     /// The table is too long for any deck.
     #[error("the route table is longer than 16777216 bytes")]
     LongTable,
+    /// The table is one that an office refuses.
+    #[error("route table: {0}")]
+    Table(RouteFault),
     /// The records have a fault.
     #[error("loop rows: {0}")]
     Rows(RowFault),
@@ -83,6 +88,18 @@ pub(crate) fn fault_of_table(fault: TableFault) -> SplitFault
     }
 }
 
+// Why a table is refused.
+pub(crate) fn fault_of_routes(fault: RouteFault) -> SplitFault
+    ensures { (deck : Option (List ℕ)) (parts : Option ℕ)
+        → (fault ≢ RouteFault.NoMemory → HasParts deck (λ cut. table_of_text cut.table ≡ Err fault))
+        → IsFaultOf deck parts result }
+{
+    match fault {
+        RouteFault::NoMemory => SplitFault::NoMemory,
+        fault => SplitFault::Table(fault),
+    }
+}
+
 // Why the decks of parts are not made.
 pub(crate) fn fault_of_making(fault: MakeFault) -> SplitFault
     ensures { (deck : Option (List ℕ)) (parts : Option ℕ) → IsFaultOf deck parts result }
@@ -96,7 +113,7 @@ pub(crate) fn fault_of_making(fault: MakeFault) -> SplitFault
 // Why they are not written. A fault in records that had none when they were counted says that the deck has
 // changed.
 pub(crate) fn fault_of_writing(fault: WriteRowsFault) -> SplitFault
-    ensures { (deck : Option (List ℕ)) (parts : Option ℕ) → IsFaultOf deck parts result }
+    ensures { (deck : Option (List ℕ)) (parts : Option ℕ) → HasTable deck → IsFaultOf deck parts result }
 {
     match fault {
         WriteRowsFault::Write(error) => SplitFault::Write(error),

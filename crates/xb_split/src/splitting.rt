@@ -1,14 +1,17 @@
 // From the file of a deck to the decks of its parts.
 ghost use Rattle.std.specs.Prelude.{◌≡◌, IfErr, IfOk, IsTrue, List, OnOk, Option, map, string_bytes, ℕ};
+ghost use Rattle.xb_model.specs.Sources.{Rest};
 ghost use Rattle.xb_split.specs.Counts.{counted};
 ghost use Rattle.xb_split.specs.Loads.{records_of};
 ghost use Rattle.xb_split.specs.PartDecks.{GetsDecks};
-ghost use Rattle.xb_split.specs.SplitFaults.{Delivers, IsFaultOf};
-ghost use Rattle.xb_split.specs.Splits.{AreMade, IsCounted, IsOpened, IsPlan, IsReady, ListsKept, listed};
+ghost use Rattle.xb_split.specs.SplitFaults.{Delivers, HasTable, IsFaultOf};
+ghost use Rattle.xb_split.specs.Splits.{AreMade, IsCounted, IsOpened, IsPlan, IsReady, IsTable, ListsKept, listed};
 
 use crate::counting::count_rows;
 use crate::decks::PartDecks;
-use crate::fault::{SplitFault, fault_of_making, fault_of_table, fault_of_writing};
+use crate::fault::{
+    SplitFault, fault_of_making, fault_of_routes, fault_of_table, fault_of_writing,
+};
 use crate::files::SplitFiles;
 use crate::load::Load;
 use crate::planning::plan_parts;
@@ -19,6 +22,7 @@ use std::io::Read;
 use xb_deck::{MOST_DECK_BYTES, read_table};
 use xb_model::PerLine;
 use xb_parts::{LineRange, ListedPart, list_of};
+use xb_routes::RouteTable;
 use xb_rows::RowReader;
 
 /// The most parts, each of which may hold a file open.
@@ -52,6 +56,19 @@ fn open_deck<F: SplitFiles>(
     }
 }
 
+// Refuses a table that no office takes.
+fn check_table(alloc: Global, table: &[u8]) -> Result<(), SplitFault>
+    ensures taken { OnOk result (IsTable table.now) }
+    ensures fault { (deck : Option (List ℕ)) (parts : Option ℕ) (left : Option Rest)
+        → IsOpened deck table.now left → IfErr result (IsFaultOf deck parts) }
+{
+    let _table = match RouteTable::read(alloc, table) {
+        Ok(table) => table,
+        Err(fault) => return Err(fault_of_routes(fault)),
+    };
+    Ok(())
+}
+
 // The table of a deck, and what each line has.
 fn count<F: SplitFiles>(
     alloc: Global,
@@ -65,6 +82,9 @@ fn count<F: SplitFiles>(
         Ok(deck) => deck,
         Err(fault) => return Err(fault),
     };
+    if let Err(fault) = check_table(alloc, &table) {
+        return Err(fault);
+    }
     match count_rows(alloc, &mut rows) {
         Ok(loads) => Ok((table, loads)),
         Err(fault) => Err(SplitFault::Rows(fault)),
@@ -212,7 +232,8 @@ fn fill_parts<R: Read, D: PartDecks>(
     ensures decks { OnOk result (GetsDecks plan.now.table.items rows.old plan.now.ranges.items plan.now.loads
         (D.contents parts.old) (D.contents parts.new)) }
     ensures kept { OnOk result (IsTrue (D.kept parts.new)) }
-    ensures fault { (deck : Option (List ℕ)) (wanted : Option ℕ) → IfErr result (IsFaultOf deck wanted) }
+    ensures fault { (deck : Option (List ℕ)) (wanted : Option ℕ) → HasTable deck
+        → IfErr result (IsFaultOf deck wanted) }
 {
     match write_parts(alloc, &plan.table, rows, &plan.ranges, parts) {
         Ok(loads) => check_loads(&loads, &plan.loads),
@@ -235,7 +256,8 @@ fn make_parts<F: SplitFiles>(
     ensures deck { let big = request.now.big.now in
         OnOk result (F.bytes files.new big ≡ F.bytes files.old big) }
     ensures list { ListsKept (F.listed files.old) (F.listed files.new) }
-    ensures fault { (deck : Option (List ℕ)) (parts : Option ℕ) → IfErr result (IsFaultOf deck parts) }
+    ensures fault { (deck : Option (List ℕ)) (parts : Option ℕ) → HasTable deck
+        → IfErr result (IsFaultOf deck parts) }
 {
     let mut parts = match files.make(alloc, request, &plan.ranges) {
         Ok(parts) => parts,

@@ -1,5 +1,5 @@
 -- The decks of a split make the page of the deck that was split.
-use Rattle.std.proofs.Common.{◌≡◌, ◌∙◌, ◌≤◌, ◌<◌, ◌+◌, ◌-◌, ◌^◌, ◌⊎◌, ℕ, List, [], ◌∷◌, ◌++◌, length, map, take, drop, min, Option, Some, None, IfSome, Ok, refl, sym, ap, ap₂, subst, arith, inl, inr}
+use Rattle.std.proofs.Common.{◌≡◌, ◌∙◌, ◌≤◌, ◌<◌, ◌+◌, ◌-◌, ◌^◌, ◌⊎◌, ℕ, List, [], ◌∷◌, ◌++◌, length, map, take, drop, min, Option, Some, None, IfSome, Result, Ok, Err, IsOk, refl, sym, ap, ap₂, subst, arith, inl, inr}
 use Rattle.std.specs.Prelude.{codes, slice_index_or, slice_range, sum_by}
 use Rattle.std.specs.Io.KnownBytes.{Appends}
 use Rattle.std.specs.List.{All, AllByRecursion}
@@ -9,10 +9,10 @@ use Rattle.std.proofs.lemmas.List.Elements.{All-from_recursion, recursion_from_A
 use Rattle.xb_model.specs.declared.line.TheConstants.{LINES}
 use Rattle.xb_model.specs.Records.{rows_of}
 use Rattle.xb_model.specs.Rows.{LoopRow}
+use Rattle.xb_routes.specs.declared.fault.RouteFault.{RouteFault}
 use Rattle.xb_routes.specs.Table.{Table}
 use Rattle.xb_routes.specs.Text.{table_of_text}
 use Rattle.xb_rows.specs.WrittenRows.{AreRows, text_of_rows}
-use Rattle.xb_deck.specs.Deck.{Parts, deck_parts}
 use Rattle.xb_deck.specs.MadeDecks.{AreTableLines, with_ends}
 use Rattle.xb_office.specs.DeckPage.{page_of, says}
 use Rattle.xb_parts.specs.declared.range.LineRange.{LineRange}
@@ -21,7 +21,7 @@ use Rattle.xb_split.specs.declared.load.Load.{Load}
 use Rattle.xb_split.specs.Counts.{AreLoadsOf, IsLoadOf, counted}
 use Rattle.xb_split.specs.Loads.{Fits}
 use Rattle.xb_split.specs.PartDecks.{Decks, deck_of_part, range_at}
-use Rattle.xb_split.specs.Splits.{HasRows, IsSplit, rest_of_rows}
+use Rattle.xb_split.specs.Splits.{IsSplit}
 use Rattle.xb_join.specs.Joining.{Given, join_of}
 use Rattle.xb_together.specs.SplitDecks.{HasItsPage, LeavesRoom, PlannedDecksMakeThePage, range_deck, ranges_of}
 use Rattle.xb_together.specs.WrittenDecks.{HasPage, HaveTheirPages, WrittenDecksMakeThePage}
@@ -81,24 +81,18 @@ said : (o : Option (List ℕ)) (made page : List ℕ) → Appends (Some []) o ma
 said None made page written told = absurd written
 said (Some deck) made page written told = subst (λ (bytes : List ℕ). says bytes ≡ Ok page) written told
 
-abbrev parts_with : List ℕ → List ℕ → Parts
-parts_with table rows = record { table = table; rows = rows }
-
--- two readings of a deck give the same
-same_parts : (deck : List ℕ) (one other : Parts) → deck_parts deck ≡ Some one → deck_parts deck ≡ Some other → one ≡ other
-same_parts deck one other a b = cc
+-- a text that is a table
+table_in : (r : Result Table RouteFault) → IsOk r → (table : Table) × (r ≡ Ok table)
+table_in (Ok table) is = (table, refl)
+table_in (Err f) is = cc is
 
 pub written_decks_make_the_page : PlannedDecksMakeThePage → WrittenDecksMakeThePage
-written_decks_make_the_page planned deck page list wanted decks parts has split same pages =
+written_decks_make_the_page planned deck list wanted decks parts split same pages =
     let lined : HasLines split.table = tables_have_lines deck split.table split.read.0 split.read.1 in
-    let both : parts_with split.table split.read.0 ≡ parts_with has.text has.has_rows.0 =
-    same_parts deck (parts_with split.table split.read.0) (parts_with has.text has.has_rows.0) split.read.1 has.has_rows.1 in
-    let tables : split.table ≡ has.text = ap (λ (p : Parts). p.table) both in
-    let rows : split.rows ≡ has.rows =
-    sym split.read.2 ∙ ap (λ (p : Parts). (rest_of_rows p.rows).rows) both ∙ has.has_rows.2 in
+    let read = table_in (table_of_text split.table) split.plan.counted.0 in
+    let table : Table = read.0 in
     let are_rows : AreRows split.rows = subst AreRows split.read.2 (read_rows_are_rows (2 ^ 64 - 1) split.read.0) in
-    let is_table : table_of_text (with_ends lined.lines) ≡ Ok has.table =
-    ap table_of_text (sym lined.is ∙ tables) ∙ has.is_table in
+    let is_table : table_of_text (with_ends lined.lines) ≡ Ok table = ap table_of_text (sym lined.is) ∙ read.1 in
     let cover : CoverAll (ranges_of parts) = subst CoverAll (sym same) split.plan.cover in
     let most : Load = split.plan.fit.0 in
     let room : LeavesRoom lined.lines most = record {
@@ -122,9 +116,17 @@ written_decks_make_the_page planned deck page list wanted decks parts has split 
     subst (λ (bytes : List ℕ). says bytes ≡ Ok (slice_index_or parts i d).page) made
     (said (decks i) (deck_of_part split.table split.ranges split.rows i) (slice_index_or parts i d).page
     (split.written i within) (pages i d below)) in
-    let joined : join_of parts ≡ Ok (page_of has.table split.rows) =
-    planned lined.lines has.table split.rows lines most parts lined.are_lines is_table are_rows
+    let joined : join_of parts ≡ Ok (page_of table split.rows) =
+    planned lined.lines table split.rows lines most parts lined.are_lines is_table are_rows
     (loads-lines split.rows split.loads split.recounted)
     (length-take-le LINES split.loads (enough_loads split.rows split.loads split.recounted))
     room cover fits its in
-    subst (λ (p : List ℕ). join_of parts ≡ Ok p) (ap (page_of has.table) rows ∙ sym has.is_page) joined
+    let has : HasPage deck (page_of table split.rows) = record {
+      text = split.table;
+      table = table;
+      rows = split.rows;
+      has_rows = split.read;
+      is_table = read.1;
+      is_page = refl;
+    } in
+    (page_of table split.rows, has, joined)

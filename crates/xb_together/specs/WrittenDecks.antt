@@ -24,10 +24,10 @@ HaveTheirPages decks parts =
     (i : ℕ) (d : Given) → i < length parts
     → IfSome (decks i) (λ deck. says deck ≡ Ok (slice_index_or parts i d).page)
 
--- the decks that a split of a deck writes have pages that join to the page of that deck
+-- a deck that is split has a page, and the decks that the split writes have pages that join to it
 abbrev pub WrittenDecksMakeThePage : Type 0
 WrittenDecksMakeThePage =
-    (deck page list : List ℕ) (wanted : Option ℕ) (decks : Decks) (parts : List Given)
-    → HasPage deck page → (split : IsSplit (Some deck) wanted (Some []) decks list)
+    (deck list : List ℕ) (wanted : Option ℕ) (decks : Decks) (parts : List Given)
+    → (split : IsSplit (Some deck) wanted (Some []) decks list)
     → ranges_of parts ≡ split.ranges → HaveTheirPages decks parts
-    → join_of parts ≡ Ok page
+    → (page : List ℕ) × HasPage deck page × (join_of parts ≡ Ok page)

@@ -20,7 +20,8 @@ pub fn planned_decks_make_the_page()
 }
 
 /// The same for the decks that a split of a deck writes: where the page of each is what an office says of it,
-/// they join to the page of that deck, however long the deck is.
+/// they join to the page of that deck, however long the deck is. A deck that is split has a page: neither its
+/// table nor its rows have a fault.
 pub fn written_decks_make_the_page()
     ensures { WrittenDecksMakeThePage }
 {

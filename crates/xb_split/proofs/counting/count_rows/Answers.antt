@@ -1,8 +1,8 @@
-use Rattle.std.proofs.Common.{◌≡◌, ◌∙◌, ◌+◌, ◌++◌, ◌∷◌, [], ap, arith, length, subst}
+use Rattle.std.proofs.Common.{◌≡◌, ◌+◌, ◌++◌, ◌∷◌, [], arith, length, subst}
 use Rattle.std.specs.Prelude.{Ok}
 use Rattle.std.proofs.lemmas.List.{length_push}
 use Rattle.xb_rows.specs.Scanning.{GivesRead}
-use Rattle.xb_split.proofs.StreamedRows.{HasGiven-many, HasGiven-more}
+use Rattle.xb_split.proofs.StreamedRows.{HasGiven-more}
 use Rattle.xb_split.proofs.counting.count_rows.Goals as goal
 
 pub loop-preserved : goal.loop-preserved

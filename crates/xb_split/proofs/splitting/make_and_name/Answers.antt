@@ -1,13 +1,16 @@
 use Rattle.std.proofs.Common.{refl, inl, inr}
 use Rattle.std.specs.Prelude.{string_bytes}
 use Rattle.std.proofs.KnownBytes.{Keeps-trans}
-use Rattle.xb_split.proofs.SplitDecks.{is_split, kept_then}
+use Rattle.xb_split.specs.Splits.{IsTable}
+use Rattle.xb_split.proofs.SplitDecks.{has_table, is_split, kept_then}
 use Rattle.xb_split.proofs.splitting.make_and_name.Goals as goal
 
 pub returns-in-Err : goal.returns-in-Err
 returns-in-Err g c parts ready =
     let request = c.args.request.now in
-    (c.in-Err.ensures.fault (g.F.SplitFiles.bytes c.args.files.now request.big.now) parts, inl (c.in-Err.ensures.list request.folder.now))
+    let deck = g.F.SplitFiles.bytes c.args.files.now request.big.now in
+    let taken = has_table deck c.args.plan.now.table.items c.args.rows.now IsTable ready.opened ready.plan.counted.0 in
+    (c.in-Err.ensures.fault deck parts taken, inl (c.in-Err.ensures.list request.folder.now))
 
 pub name-requires : goal.name-requires
 name-requires g c =
