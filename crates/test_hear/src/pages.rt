@@ -13,11 +13,13 @@ const HEAD: &str = "<!DOCTYPE html>
 <style>
 :root{color-scheme:light dark;font-family:Helvetica,Arial,sans-serif}
 body{max-width:1304px;margin:2em auto;padding:0 1em}
+nav p{max-height:9em;overflow:auto}
 table{border-collapse:collapse}
 th,td{padding:.2em .8em;text-align:right;border-bottom:1px solid #8884}
 [colspan],td:last-child{text-align:left}
 td[colspan]{white-space:pre-line}
 svg{max-width:100%;height:auto;margin:1em 0}
+@media(max-width:600px){section{overflow-x:auto}table{white-space:nowrap}svg{max-width:none}}
 @media(prefers-color-scheme:dark){svg{filter:invert(.9) hue-rotate(180deg)}}
 </style>
 </head>
@@ -25,6 +27,26 @@ svg{max-width:100%;height:auto;margin:1em 0}
 <h1>What the register heard</h1>
 <p>limits in ms: break 20 to 90, make from 15, pause from 180, release from 300, time-out from 20000
 </p>
+";
+
+// The lists of the lines: line 7 dials a number, and lines 8 and 10 are refused.
+const LIST: &str = "<nav>
+<p>Lines with a refused attempt:
+<a href=\"#line0008\">0008</a>
+<a href=\"#line0010\">0010</a>
+</p>
+<p>Other lines:
+<a href=\"#line0007\">0007</a>
+</p>
+</nav>
+";
+
+const LIST_OF_REFUSED: &str = "<nav>
+<p>Lines with a refused attempt:
+<a href=\"#line0008\">0008</a>
+<a href=\"#line0010\">0010</a>
+</p>
+</nav>
 ";
 
 const COLUMNS: &str =
@@ -78,10 +100,11 @@ line 0010, attempt 1 from 0.000 s, record 34: REFUSED MUTILATED 0
 ",
 );
 
-// The words after those that ask for a page, and the lines that it has.
-const PAGES: &[(&[&str], &[(&str, &str)])] = &[
-    (&[], &[SEVEN, EIGHT, TEN]),
-    (&["--line", "8"], &[EIGHT]),
+// The words before those that ask for a page, its list, and the lines that it has.
+const PAGES: &[(&[&str], &str, &[(&str, &str)])] = &[
+    (&[], LIST, &[SEVEN, EIGHT, TEN]),
+    (&["--refused"], LIST_OF_REFUSED, &[EIGHT, TEN]),
+    (&["--line", "8"], "", &[EIGHT]),
 ];
 
 // What the program writes of the deck for words and one more.
@@ -100,7 +123,9 @@ fn written(alloc: Global, words: &[&str], last: &str) -> Result<Vec<u8>, Fail> {
 
 // The section of a line.
 fn push_section(alloc: Global, page: &mut Vec<u8>, line: &str, rows: &str) -> Result<(), Fail> {
-    page.extend_from_slice(b"<section>\n<h2>Line ")?;
+    page.extend_from_slice(b"<section id=\"line")?;
+    page.extend_from_slice(line.as_bytes())?;
+    page.extend_from_slice(b"\">\n<h2>Line ")?;
     page.extend_from_slice(line.as_bytes())?;
     page.extend_from_slice(b"</h2>\n<table>\n")?;
     page.extend_from_slice(COLUMNS.as_bytes())?;
@@ -113,9 +138,10 @@ fn push_section(alloc: Global, page: &mut Vec<u8>, line: &str, rows: &str) -> Re
 
 #[test]
 fn pages_are_as_written(rt: HostRuntime) -> Result<(), Fail> {
-    for (words, lines) in PAGES {
+    for (words, list, lines) in PAGES {
         let mut want = Vec::new(rt.alloc());
         want.extend_from_slice(HEAD.as_bytes())?;
+        want.extend_from_slice(list.as_bytes())?;
         for (line, rows) in *lines {
             push_section(rt.alloc(), &mut want, line, rows)?;
         }

@@ -94,6 +94,7 @@ const REPORTS: &[(&[u8], &[&str], &[&str])] = &[
     (DECK, &[], &[LIMITS, SEVEN, EIGHT, TEN]),
     (DECK, &["--line", "7"], &[LIMITS, SEVEN]),
     (DECK, &["--line=8"], &[LIMITS, EIGHT]),
+    (DECK, &["--refused"], &[LIMITS, EIGHT, TEN]),
     (WIDE, &[], &[OF_WIDE]),
     (DECK, &["--json", "--line", "7"], &[SEVEN_OBJECT]),
     (DECK, &["--line=8", "--json"], &[EIGHT_OBJECTS]),

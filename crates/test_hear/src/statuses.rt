@@ -26,7 +26,7 @@ impl Program for Mfhear {
     }
 }
 
-const USAGE: &[u8] = b"mfhear: usage: mfhear [--line N] [--html] [--json] [--svg [--attempt K]]\n";
+const USAGE: &[u8] = b"mfhear: usage: mfhear [--line N] [--refused] [--html] [--json] [--svg [--attempt K]]\n";
 
 // Of a line with a break alone.
 const NINE: &[u8] = b"mfhear: line 9 has no attempt\n";
@@ -71,6 +71,8 @@ const CASES: &[(&[&str], &[u8], u8, &[u8])] = &[
         b"mfhear: line 9999 has no attempt\n",
     ),
     (&["--svg"], DECK, 2, USAGE),
+    (&["--refused", "--svg"], DECK, 2, USAGE),
+    (&["--refused", "--line", "8"], DECK, 2, USAGE),
     (&["--line", "8", "--html", "--svg"], DECK, 2, USAGE),
     (&["--line", "8", "--json", "--svg"], DECK, 2, USAGE),
     (&["--html", "--json"], DECK, 2, USAGE),

@@ -21,12 +21,16 @@ use Rattle.xb_hear.specs.Telling.{AreOfLines, IsPage}
 -- a text is what is asked for of a table and of rows, where so many text lines may stand before the first record
 abbrev pub IsAsked : Request → Option ℕ → Contents → List ℕ → Type 0
 IsAsked request.All before deck text = text ≡ report_text choice.All deck.table deck.rows
+IsAsked request.Refused before deck text = text ≡ report_text choice.Refused deck.table deck.rows
 IsAsked (request.Line line) before deck text = text ≡ report_text (choice.Line line) deck.table deck.rows
 IsAsked (request.Picture line attempt) before deck text =
     IsPicture deck.table.limits line attempt (attempts_of_line deck.table deck.rows line) text
 IsAsked request.Page before deck text = IsPage choice.All deck.table deck.rows text
+IsAsked request.PageOfRefused before deck text = IsPage choice.Refused deck.table deck.rows text
 IsAsked (request.PageOf line) before deck text = IsPage (choice.Line line) deck.table deck.rows text
 IsAsked request.Objects before deck text = AreOfLines (form.Json before) choice.All deck.table deck.rows text
+IsAsked request.ObjectsOfRefused before deck text =
+    AreOfLines (form.Json before) choice.Refused deck.table deck.rows text
 IsAsked (request.ObjectsOf line) before deck text =
     AreOfLines (form.Json before) (choice.Line line) deck.table deck.rows text
 
@@ -48,8 +52,11 @@ says_of_line line attempt deck =
 -- a table and rows, if what is asked for can be written of them: of a line only where it has an attempt
 abbrev pub says_asked : Request → Contents → Result Contents HearFault
 says_asked request.All deck = Ok deck
+says_asked request.Refused deck = Ok deck
 says_asked request.Page deck = Ok deck
+says_asked request.PageOfRefused deck = Ok deck
 says_asked request.Objects deck = Ok deck
+says_asked request.ObjectsOfRefused deck = Ok deck
 says_asked (request.Line line) deck = says_of_line line None deck
 says_asked (request.PageOf line) deck = says_of_line line None deck
 says_asked (request.ObjectsOf line) deck = says_of_line line None deck

@@ -1,5 +1,5 @@
 -- What was heard of the lines of a deck.
-use Rattle.std.specs.Prelude.{ℕ, zero, suc, ◌≡◌, List, [], ◌++◌}
+use Rattle.std.specs.Prelude.{ℕ, zero, suc, ◌≡◌, Bool, List, [], ◌∷◌, ◌++◌, if◌then◌else◌}
 use Rattle.xb_model.specs.declared.line.TheConstants.{LINES}
 use Rattle.xb_model.specs.Numbers.{outcomes_of}
 use Rattle.xb_model.specs.Records.{record_of}
@@ -10,6 +10,9 @@ use Rattle.xb_heard.specs.PlacedRuns.{placed_runs}
 use Rattle.xb_report.specs.ReportTexts.{attempts_from, limits_text}
 use Rattle.xb_hear.specs.declared.request.Choice.{Choice}
 use Rattle.xb_hear.specs.declared.request.Choice.TheVariants as choice
+use Rattle.xb_hear.specs.declared.request.Among.{Among}
+use Rattle.xb_hear.specs.declared.request.Among.TheVariants as among
+use Rattle.xb_hear.specs.Choosing.{is_among}
 
 -- the attempts of a line, each with what came of it
 abbrev pub attempts_of_line : Table → List LoopRow → ℕ → List AttemptOfRuns
@@ -24,13 +27,24 @@ AgreesWithPage table rows = (line : ℕ)
 abbrev pub line_text : Table → List LoopRow → ℕ → List ℕ
 line_text table rows line = attempts_from table.limits line 1 (attempts_of_line table rows line)
 
--- the lines below n, ascending
-unfoldable pub lines_below : Table → List LoopRow → ℕ → List ℕ
-lines_below table rows zero = []
-lines_below table rows (suc n) = lines_below table rows n ++ line_text table rows n
+-- a line, where a test of its attempts holds
+abbrev pub line_if : (List AttemptOfRuns → Bool) → Table → List LoopRow → ℕ → List ℕ
+line_if holds table rows line = if holds (attempts_of_line table rows line) then line ∷ [] else []
+
+-- such lines below n, ascending
+unfoldable pub lines_with : (List AttemptOfRuns → Bool) → Table → List LoopRow → ℕ → List ℕ
+lines_with holds table rows zero = []
+lines_with holds table rows (suc n) = lines_with holds table rows n ++ line_if holds table rows n
+
+-- what was heard of the lines below n that are asked for, ascending
+unfoldable pub lines_below : Among → Table → List LoopRow → ℕ → List ℕ
+lines_below asked table rows zero = []
+lines_below asked table rows (suc n) = lines_below asked table rows n
+    ++ (if is_among asked (attempts_of_line table rows n) then line_text table rows n else [])
 
 abbrev pub reports_text : Choice → Table → List LoopRow → List ℕ
-reports_text choice.All table rows = lines_below table rows LINES
+reports_text choice.All table rows = lines_below among.Each table rows LINES
+reports_text choice.Refused table rows = lines_below among.Refused table rows LINES
 reports_text (choice.Line line) table rows = line_text table rows line
 
 -- the report of a table and of rows: the limits, and what was heard of the lines that are asked for

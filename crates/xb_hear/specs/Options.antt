@@ -12,28 +12,32 @@ use Rattle.xb_hear.specs.declared.request.Request.{Request}
 use Rattle.xb_hear.specs.declared.request.Request.TheVariants as request
 use Rattle.xb_hear.specs.declared.words.Options.{Options}
 
--- `mfhear [--line N] [--html] [--json] [--svg [--attempt K]]`
+-- `mfhear [--line N] [--refused] [--html] [--json] [--svg [--attempt K]]`
 abbrev pub command_of_words : App
 command_of_words = command_of (codes "mfhear")
-    ((codes "line", takes.Number) ∷ (codes "attempt", takes.Number) ∷ (codes "svg", takes.Nothing)
-    ∷ (codes "html", takes.Nothing) ∷ (codes "json", takes.Nothing) ∷ [])
+    ((codes "line", takes.Number) ∷ (codes "refused", takes.Nothing) ∷ (codes "attempt", takes.Number)
+    ∷ (codes "svg", takes.Nothing) ∷ (codes "html", takes.Nothing) ∷ (codes "json", takes.Nothing) ∷ [])
 
 -- what clap matched says these options
 pub record Say (rows : List Row) (options : Options) : Type 0 where
   pub line : ReadsNumber (given_by rows (codes "line")) options.line
+  pub refused : ReadsFlag (given_by rows (codes "refused")) options.refused
   pub attempt : ReadsNumber (given_by rows (codes "attempt")) options.attempt
   pub svg : ReadsFlag (given_by rows (codes "svg")) options.svg
   pub html : ReadsFlag (given_by rows (codes "html")) options.html
   pub json : ReadsFlag (given_by rows (codes "json")) options.json
 
--- all lines, or the one that is named, if there is such a line
-abbrev pub choice_of : Option ℕ → Option Choice
-choice_of None = Some choice.All
-choice_of (Some line) = if nat_lt line LINES then Some (choice.Line line) else None
+-- all lines, those with a refused attempt, or the one that is named, if there is such a line
+abbrev pub choice_of : Option ℕ → Bool → Option Choice
+choice_of None false = Some choice.All
+choice_of None true = Some choice.Refused
+choice_of (Some line) true = None
+choice_of (Some line) false = if nat_lt line LINES then Some (choice.Line line) else None
 
 -- the picture of one line, of an attempt from 1 on or of the first ones
 abbrev pub picture_of : Choice → Option ℕ → Option Request
 picture_of choice.All attempt = None
+picture_of choice.Refused attempt = None
 picture_of (choice.Line line) None = Some (request.Picture line None)
 picture_of (choice.Line line) (Some zero) = None
 picture_of (choice.Line line) (Some (suc k)) = Some (request.Picture line (Some (suc k)))
@@ -41,16 +45,19 @@ picture_of (choice.Line line) (Some (suc k)) = Some (request.Picture line (Some 
 -- the report of lines
 abbrev pub text_of : Choice → Request
 text_of choice.All = request.All
+text_of choice.Refused = request.Refused
 text_of (choice.Line line) = request.Line line
 
 -- the page of lines
 abbrev pub page_of : Choice → Request
 page_of choice.All = request.Page
+page_of choice.Refused = request.PageOfRefused
 page_of (choice.Line line) = request.PageOf line
 
 -- the objects of lines
 abbrev pub objects_of : Choice → Request
 objects_of choice.All = request.Objects
+objects_of choice.Refused = request.ObjectsOfRefused
 objects_of (choice.Line line) = request.ObjectsOf line
 
 -- the report, the page or the objects of lines
@@ -76,7 +83,7 @@ asked_of choice false html json (Some attempt) = None
 abbrev pub request_of : Options → Option Request
 request_of options =
     option_and_then (λ choice. asked_of choice options.svg options.html options.json options.attempt)
-    (choice_of options.line)
+    (choice_of options.line options.refused)
 
 -- clap takes the words, and they ask for this
 abbrev pub Asks : List Text → Request → Type 0

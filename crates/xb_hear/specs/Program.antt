@@ -17,7 +17,7 @@ program = codes "mfhear"
 
 -- the line for words that are refused
 abbrev pub usage_line : List ℕ
-usage_line = codes "mfhear: usage: mfhear [--line N] [--html] [--json] [--svg [--attempt K]]\n"
+usage_line = codes "mfhear: usage: mfhear [--line N] [--refused] [--html] [--json] [--svg [--attempt K]]\n"
 
 -- it names each option of the command
 abbrev pub UsageNamesEachOption : Type 0

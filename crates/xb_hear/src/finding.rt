@@ -44,7 +44,7 @@ fn find_on_line(
     find(line, attempt, &attempts)
 }
 
-/// Finds what is asked for: of a line an attempt, or any; of all lines nothing has to be there. `Err` says that
+/// Finds what is asked for: of a line an attempt, or any; of more lines nothing has to be there. `Err` says that
 /// it is missing, or that memory ran out.
 pub(crate) fn find_asked(
     alloc: Global,
@@ -59,6 +59,7 @@ pub(crate) fn find_asked(
 {
     match request {
         Request::All | Request::Page | Request::Objects => Ok(()),
+        Request::Refused | Request::PageOfRefused | Request::ObjectsOfRefused => Ok(()),
         Request::Line(line) | Request::PageOf(line) | Request::ObjectsOf(line) => {
             find_on_line(alloc, table, rows, line, None)
         }

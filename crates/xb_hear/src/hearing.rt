@@ -34,11 +34,14 @@ fn text_of(
 {
     match request {
         Request::All => report(alloc, table, rows, Choice::All),
+        Request::Refused => report(alloc, table, rows, Choice::Refused),
         Request::Line(line) => report(alloc, table, rows, Choice::Line(line)),
         Request::Picture(line, attempt) => picture(alloc, table, rows, line, attempt),
         Request::Page => page(alloc, table, rows, Choice::All),
+        Request::PageOfRefused => page(alloc, table, rows, Choice::Refused),
         Request::PageOf(line) => page(alloc, table, rows, Choice::Line(line)),
         Request::Objects => objects(alloc, table, rows, Choice::All, before),
+        Request::ObjectsOfRefused => objects(alloc, table, rows, Choice::Refused, before),
         Request::ObjectsOf(line) => objects(alloc, table, rows, Choice::Line(line), before),
     }
 }

@@ -1,37 +1,61 @@
 // What is told of the lines of a deck.
-ghost use Rattle.std.specs.Prelude.{◌≡◌, ◌<◌, ◌^◌, IfOk, List, OnOk, length, string_bytes, true};
+ghost use Rattle.std.specs.Prelude.{◌≡◌, ◌++◌, ◌<◌, ◌^◌, IfOk, List, OnOk, length, map, string_bytes, true};
+ghost use Rattle.xb_heard.specs.Attempts.{attempt_in};
 ghost use Rattle.xb_heard.specs.PlacedRuns.{placed_runs};
 ghost use Rattle.xb_model.specs.Rows.{LoopRow};
 ghost use Rattle.xb_model.specs.declared.line.TheConstants.{LINES};
 ghost use Rattle.xb_hear.specs.Hearing.{attempts_of_line, report_text};
 ghost use Rattle.xb_picture.specs.Drawing.{IsPicture};
-ghost use Rattle.xb_hear.specs.declared.request.Form.TheVariants.{Json};
-ghost use Rattle.xb_hear.specs.Telling.{Adds, AreOfLines, IsOfLine, IsOfLinesBelow, IsPage};
+ghost use Rattle.xb_hear.specs.declared.request.Among.TheVariants.{Each};
+ghost use Rattle.xb_hear.specs.declared.request.Form.TheVariants.{Html, Json};
+ghost use Rattle.xb_hear.specs.Telling.{Adds, AreOfLines, IsOfLine, IsOfLinesBelow, IsPage, IsToldIfAmong, list_of};
 
-use crate::request::{Choice, Form};
+use crate::choosing::is_among;
+use crate::listing::{push_full_list, push_refused_list};
+use crate::request::{Among, Choice, Form};
 use crate::telling::push_told;
 use std::alloc::{AllocError, Global};
-use xb_heard::{PlacedRun, heard_of, runs_by_line, runs_of_line};
-use xb_model::{LINES, LineNo, Row};
+use xb_heard::{HeardAttempt, PlacedRun, heard_of, runs_by_line, runs_of_line};
+use xb_model::{LINES, Limits, LineNo, Row};
 use xb_picture::draw_attempts;
 use xb_report::{push_head, push_limits, push_tail};
 use xb_routes::RouteTable;
+
+// Puts what is told of a line with these attempts after the text, if it is one of them.
+fn push_if_among(
+    alloc: Global,
+    out: &mut String,
+    form: Form,
+    among: Among,
+    limits: Limits,
+    line: LineNo,
+    attempts: &[HeardAttempt],
+) -> Result<(), AllocError>
+    ensures { OnOk result (Adds (IsToldIfAmong form among limits line (map attempt_in attempts.now))
+        (string_bytes out.old) (string_bytes out.new)) }
+{
+    if !is_among(among, attempts) {
+        return Ok(());
+    }
+    push_told(alloc, out, form, limits, line, attempts)
+}
 
 // Puts what is told of the runs of a line after the text.
 fn push_line(
     alloc: Global,
     out: &mut String,
     form: Form,
+    among: Among,
     table: &RouteTable,
     runs: &[PlacedRun],
     line: LineNo,
 ) -> Result<(), AllocError>
     ensures { OnOk result ((rows : List LoopRow) → runs.now ≡ placed_runs line rows →
-        Adds (IsOfLine form table.now rows line) (string_bytes out.old) (string_bytes out.new)) }
+        Adds (IsOfLine form among table.now rows line) (string_bytes out.old) (string_bytes out.new)) }
 {
     let limits = table.limits();
     let attempts = heard_of(alloc, runs, table.plan(), limits)?;
-    push_told(alloc, out, form, limits, line, &attempts)
+    push_if_among(alloc, out, form, among, limits, line, &attempts)
 }
 
 // Puts what is told of a line that is alone after the text.
@@ -44,29 +68,31 @@ fn push_alone(
     line: LineNo,
 ) -> Result<(), AllocError>
     requires { length rows.now < 2 ^ 32 }
-    ensures { OnOk result (Adds (IsOfLine form table.now rows.now line)
+    ensures { OnOk result (Adds (IsOfLine form Each table.now rows.now line)
         (string_bytes out.old) (string_bytes out.new)) }
 {
     let runs = runs_of_line(alloc, rows, line)?;
-    push_line(alloc, out, form, table, &runs, line)
+    push_line(alloc, out, form, Among::Each, table, &runs, line)
 }
 
-// Puts what is told of each line after the text, the lines ascending; of one without attempts nothing is.
+// Puts what is told of each line that is one of them after the text, the lines ascending; of one without attempts
+// nothing is.
 fn push_all(
     alloc: Global,
     out: &mut String,
     form: Form,
+    among: Among,
     table: &RouteTable,
     rows: &[Row],
 ) -> Result<(), AllocError>
     requires { length rows.now < 2 ^ 32 }
-    ensures { OnOk result (Adds (IsOfLinesBelow form table.now rows.now LINES)
+    ensures { OnOk result (Adds (IsOfLinesBelow form among table.now rows.now LINES)
         (string_bytes out.old) (string_bytes out.new)) }
 {
     let lines = runs_by_line(alloc, rows)?;
     for number in 0..LINES {
         if let Some(line) = LineNo::new(number) {
-            push_line(alloc, out, form, table, lines.get(line), line)?;
+            push_line(alloc, out, form, among, table, lines.get(line), line)?;
         }
     }
     Ok(())
@@ -86,7 +112,8 @@ fn push_lines(
         (string_bytes out.old) (string_bytes out.new)) }
 {
     match choice {
-        Choice::All => push_all(alloc, out, form, table, rows),
+        Choice::All => push_all(alloc, out, form, Among::Each, table, rows),
+        Choice::Refused => push_all(alloc, out, form, Among::Refused, table, rows),
         Choice::Line(line) => push_alone(alloc, out, form, table, rows, line),
     }
 }
@@ -107,6 +134,31 @@ pub(crate) fn report(
     Ok(out)
 }
 
+// Puts the list of the lines that are asked for after the text, and their sections.
+fn push_listed(
+    alloc: Global,
+    out: &mut String,
+    table: &RouteTable,
+    rows: &[Row],
+    choice: Choice,
+) -> Result<(), AllocError>
+    requires { length rows.now < 2 ^ 32 }
+    ensures { OnOk result (Adds (AreOfLines Html choice table.now rows.now)
+        (string_bytes out.old ++ list_of choice table.now rows.now) (string_bytes out.new)) }
+{
+    match choice {
+        Choice::All => {
+            push_full_list(alloc, out, table, rows)?;
+            push_all(alloc, out, Form::Html, Among::Each, table, rows)
+        }
+        Choice::Refused => {
+            push_refused_list(alloc, out, table, rows)?;
+            push_all(alloc, out, Form::Html, Among::Refused, table, rows)
+        }
+        Choice::Line(line) => push_alone(alloc, out, Form::Html, table, rows, line),
+    }
+}
+
 // The page of the lines that are asked for.
 pub(crate) fn page(
     alloc: Global,
@@ -119,7 +171,7 @@ pub(crate) fn page(
 {
     let mut out = String::new(alloc);
     push_head(&mut out, table.limits())?;
-    push_lines(alloc, &mut out, Form::Html, table, rows, choice)?;
+    push_listed(alloc, &mut out, table, rows, choice)?;
     push_tail(&mut out)?;
     Ok(out)
 }

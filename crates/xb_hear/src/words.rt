@@ -1,5 +1,5 @@
 // What the words of the command line ask for.
-ghost use Rattle.std.specs.Prelude.{◌≡◌, IfErr, IfOk};
+ghost use Rattle.std.specs.Prelude.{◌≡◌, IfErr, IfOk, Some, false};
 ghost use Rattle.xb_command.specs.Commands.{texts_of};
 ghost use Rattle.xb_hear.specs.Options.{AreRefused, Asks, Say, choice_of, drawn_of, objects_of, page_of, picture_of, request_of, text_of, written_of};
 
@@ -13,6 +13,7 @@ use xb_model::{LINES, LineNo};
 #[derive(Clone, Copy)]
 pub(crate) struct Options {
     pub(crate) line: Option<u32>,
+    pub(crate) refused: bool,
     pub(crate) attempt: Option<u32>,
     pub(crate) svg: bool,
     pub(crate) html: bool,
@@ -20,8 +21,9 @@ pub(crate) struct Options {
 }
 
 // The options of the program, each under its name.
-const OPTIONS: [(&str, Takes); 5] = [
+const OPTIONS: [(&str, Takes); 6] = [
     ("line", Takes::Number),
+    ("refused", Takes::Nothing),
     ("attempt", Takes::Number),
     ("svg", Takes::Nothing),
     ("html", Takes::Nothing),
@@ -34,6 +36,7 @@ fn options_of(words: &Words) -> Options
 {
     Options {
         line: words.number("line"),
+        refused: words.flag("refused"),
         attempt: words.number("attempt"),
         svg: words.flag("svg"),
         html: words.flag("html"),
@@ -41,27 +44,36 @@ fn options_of(words: &Words) -> Options
     }
 }
 
-// The lines that a number asks for; `None` where there is no such line.
-fn choice_of(line: Option<u32>) -> Option<Choice>
-    ensures { result ≡ choice_of line }
+// The line of a number; `None` where there is no such line.
+fn line_of(number: u32) -> Option<Choice>
+    ensures { result ≡ choice_of (Some number) false }
 {
-    match line {
-        None => Some(Choice::All),
-        Some(number) if number < u32::from(LINES) => {
-            let line = LineNo::new(number as u16)?;
-            Some(Choice::Line(line))
-        }
-        Some(_) => None,
+    if number >= u32::from(LINES) {
+        return None;
+    }
+    let line = LineNo::new(number as u16)?;
+    Some(Choice::Line(line))
+}
+
+// The lines that are asked for; `None` where there is no such line, and of one line that has to be refused too.
+fn choice_of(line: Option<u32>, refused: bool) -> Option<Choice>
+    ensures { result ≡ choice_of line refused }
+{
+    match (line, refused) {
+        (None, false) => Some(Choice::All),
+        (None, true) => Some(Choice::Refused),
+        (Some(number), false) => line_of(number),
+        (Some(_), true) => None,
     }
 }
 
-// The picture of one line, of one of its attempts or of the first ones; `None` of all lines, and of an
+// The picture of one line, of one of its attempts or of the first ones; `None` of more lines, and of an
 // attempt 0.
 fn picture_of(choice: Choice, attempt: Option<u32>) -> Option<Request>
     ensures { result ≡ picture_of choice attempt }
 {
     match choice {
-        Choice::All => None,
+        Choice::All | Choice::Refused => None,
         Choice::Line(line) => match attempt {
             Some(0) => None,
             attempt => Some(Request::Picture(line, attempt)),
@@ -75,6 +87,7 @@ fn text_of(choice: Choice) -> Request
 {
     match choice {
         Choice::All => Request::All,
+        Choice::Refused => Request::Refused,
         Choice::Line(line) => Request::Line(line),
     }
 }
@@ -85,6 +98,7 @@ fn page_of(choice: Choice) -> Request
 {
     match choice {
         Choice::All => Request::Page,
+        Choice::Refused => Request::PageOfRefused,
         Choice::Line(line) => Request::PageOf(line),
     }
 }
@@ -95,6 +109,7 @@ fn objects_of(choice: Choice) -> Request
 {
     match choice {
         Choice::All => Request::Objects,
+        Choice::Refused => Request::ObjectsOfRefused,
         Choice::Line(line) => Request::ObjectsOf(line),
     }
 }
@@ -121,12 +136,12 @@ fn drawn_of(choice: Choice, html: bool, json: bool, attempt: Option<u32>) -> Opt
     }
 }
 
-// What the options ask for; `None` where they name no line of the office, a picture without its line, an
-// attempt without a picture, or two of a picture, a page and objects.
+// What the options ask for; `None` where they name no line of the office, a line and refused ones too, a picture
+// without its line, an attempt without a picture, or two of a picture, a page and objects.
 fn request_of(options: Options) -> Option<Request>
     ensures { result ≡ request_of options }
 {
-    let choice = choice_of(options.line)?;
+    let choice = choice_of(options.line, options.refused)?;
     match (options.svg, options.attempt) {
         (true, attempt) => drawn_of(choice, options.html, options.json, attempt),
         (false, None) => written_of(choice, options.html, options.json),
@@ -134,7 +149,8 @@ fn request_of(options: Options) -> Option<Request>
     }
 }
 
-/// What the words ask for: the report, the page or the objects of a line, or of all, or the picture of a line.
+/// What the words ask for: the report, the page or the objects of a line, of all, or of those with a refused attempt,
+/// or the picture of a line.
 pub fn request_of_words(alloc: Global, words: &[String]) -> Result<Request, WordsFault>
     ensures asks { IfOk result (λ request. Asks (texts_of words.now) request) }
     ensures refused { IfErr result (λ f. f ≡ WordsFault.Refused → AreRefused (texts_of words.now)) }

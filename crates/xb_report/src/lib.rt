@@ -6,8 +6,9 @@
 //!   as the number has, or after one that is spoiled. What spoils it is told of each digit, taken or not. A
 //!   make that nothing was heard after is called a time-out exactly where the attempt was refused for it.
 //! - The figures of a digit stand in columns, two blanks before each cell, whatever the width of a figure.
-//! - `push_head`, `push_section`, `push_tail`: exactly these parts of a page of HTML. A section has one
-//!   table, with the report's words, and below it the picture that was handed in.
+//! - `push_head`, `push_list`, `push_section`, `push_tail`: exactly these parts of a page of HTML. A section has
+//!   one table, with the report's words, and below it the picture that was handed in. The list has a link to the
+//!   section of each line that was handed in, in its order.
 //!
 //! Not said: that such a text is HTML, and what a browser makes of it.
 #![tactic(auto)]
@@ -23,7 +24,7 @@ mod signs;
 mod words;
 
 pub use attempt::push_line;
-pub use page::{push_head, push_section, push_tail};
+pub use page::{push_head, push_list, push_section, push_tail};
 pub use report::{push_attempts, push_limits};
 pub use signs::push_marked_fault;
 pub use words::{is_taken, is_timed_out, push_outcome, push_place};

@@ -8,4 +8,4 @@ returns c =
     let head = c.in_ok-push_head.ensures
     ∙ ap (λ t. t ++ head_text c.limits.result) c.new-out.ensures.bytes
     ∙ ap head_text c.limits.ensures.value in
-    page-is c.args.choice c.args.table.now c.args.rows.now _ _ _ head c.in_ok-push_lines.ensures c.in_ok-push_tail.ensures
+    page-is c.args.choice c.args.table.now c.args.rows.now _ _ _ head c.in_ok-push_listed.ensures c.in_ok-push_tail.ensures

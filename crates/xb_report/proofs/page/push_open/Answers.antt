@@ -1,13 +1,13 @@
 use Rattle.std.proofs.Common.{append_assoc, codes, string_bytes}
 use Rattle.xb_report.specs.Pages.{open_text}
-use Rattle.xb_model.specs.Page.{four_digits}
 use Rattle.xb_report.proofs.Pushed.{both, last, str}
 use Rattle.xb_report.proofs.page.push_open.Goals as goal
 
 pub returns : goal.returns
 returns c =
     let o = string_bytes c.args.out.now in
-    let line = both o _ _ _ _ c.in_ok-push_str.ensures.bytes c.in_ok-push_line.ensures in
-    let end = str c.push_str-2.result _ _ (codes "</h2>\n<table>\n") c.push_str-2.ensures.bytes in
-    last c.push_str-2.result o _ _ _ _ (open_text c.args.line) line end
-    (append_assoc (codes "<section>\n<h2>Line ") (four_digits c.args.line) (codes "</h2>\n<table>\n"))
+    let id = both o _ _ _ _ c.in_ok-push_str.ensures.bytes c.in_ok-push_line.ensures in
+    let heading = both o _ _ _ _ id c.in_ok-push_str-2.ensures.bytes in
+    let line = both o _ _ _ _ heading c.in_ok-push_line-2.ensures in
+    let end = str c.push_str-3.result _ _ (codes "</h2>\n<table>\n") c.push_str-3.ensures.bytes in
+    last c.push_str-3.result o _ _ _ _ (open_text c.args.line) line end (simp append_assoc)
