@@ -26,7 +26,8 @@ impl Program for Mfhear {
     }
 }
 
-const USAGE: &[u8] = b"mfhear: usage: mfhear [--line N] [--refused] [--html] [--json] [--svg [--attempt K]]\n";
+const USAGE: &[u8] =
+    b"mfhear: usage: mfhear [--line N] [--refused] [--html] [--json] [--svg [--attempt K]]\n";
 
 // Of a line with a break alone.
 const NINE: &[u8] = b"mfhear: line 9 has no attempt\n";

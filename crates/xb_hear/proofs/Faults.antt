@@ -1,15 +1,14 @@
 -- A fault of the deck is what is said of the deck.
-use Rattle.std.proofs.Common.{◌≡◌, ◌<◌, ℕ, List, length, nat_lt, true, Option, Some, None, Result, Err, IfSome, inl, inr, refl, ap, ◌∙◌}
+use Rattle.std.proofs.Common.{◌≡◌, ℕ, List, length, nat_lt, true, Option, Some, None, Result, Err, IfSome, inl, inr, refl, ap}
 use Rattle.std.proofs.lemmas.Bool.{lt-ltb}
 use Rattle.xb_model.specs.declared.fault.RowFault.{RowFault}
-use Rattle.xb_model.specs.Rows.{LoopRow}
 use Rattle.xb_routes.specs.Table.{Table}
 use Rattle.xb_rows.specs.RowTexts.{fault_of_text, rows_of_text}
 use Rattle.xb_rows.specs.RowResults.{IsFaultOf}
 use Rattle.xb_deck.specs.declared.deck.TheConstants.{MOST_DECK_BYTES}
 use Rattle.xb_deck.specs.declared.fault.DeckFault.{DeckFault}
 use Rattle.xb_deck.specs.declared.fault.DeckFault.TheVariants as fault
-use Rattle.xb_deck.specs.Contents.{Contents, IsDeckFault, IsReadFault, contents_of, with_rows}
+use Rattle.xb_deck.specs.Contents.{Contents, IsDeckFault, IsReadFault, with_rows}
 use Rattle.xb_deck.specs.Faults.{IsOfRows}
 use Rattle.xb_hear.specs.declared.fault.HearFault.{HearFault}
 use Rattle.xb_hear.specs.declared.fault.HearFault.TheVariants.{Deck}

@@ -15,7 +15,7 @@ use Rattle.xb_heard.specs.Digits.{DigitOfRuns}
 use Rattle.xb_heard.specs.DigitRows.{row_of}
 use Rattle.xb_heard.specs.Figures.{times_of, whole_periods}
 use Rattle.xb_report.specs.Words.{is_taken}
-use Rattle.xb_hear.specs.Objects.{attempt_object, count_value, digit_object, digits_from, end_object, extent_object, fault_object, first_run, number_in, object_of_row, or_null, reason_in, run_object, text_line}
+use Rattle.xb_hear.specs.Objects.{attempt_object, count_value, digits_from, end_object, extent_object, fault_object, first_run, number_in, object_of_row, or_null, reason_in, run_object, text_line}
 
 none-or-null : {A : Type 0} (value_of : A → Data) → ((item : A) → has_float (value_of item) ≡ false) → (found : Option A)
     → has_float (or_null value_of found) ≡ false

@@ -17,7 +17,7 @@ use Rattle.xb_hear.specs.declared.request.Form.{Form}
 use Rattle.xb_hear.specs.declared.request.Form.TheVariants as form
 use Rattle.xb_hear.specs.Choosing.{is_among}
 use Rattle.xb_hear.specs.Hearing.{attempts_of_line, line_text, lines_below, report_text, reports_text}
-use Rattle.xb_hear.specs.Telling.{Adds, AreOfLines, IsOfLine, IsOfLinesBelow, IsPage, IsTold, IsToldIfAmong, list_of}
+use Rattle.xb_hear.specs.Telling.{Adds, AreOfLines, IsOfLine, IsOfLinesBelow, IsPage, IsToldIfAmong, list_of}
 
 -- what is told of the attempts of a line is told of the line
 pub of-line : (asked : Form) (chosen : Among) (T : Table) (R : List LoopRow) (l : ℕ) (L : Limits) (A : List AttemptOfRuns)

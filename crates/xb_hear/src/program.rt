@@ -13,7 +13,8 @@ use xb_command::{DONE, tell_fault, tell_words};
 pub(crate) const PROGRAM: &str = "mfhear";
 
 // The line of refused words.
-const USAGE: &[u8] = b"mfhear: usage: mfhear [--line N] [--refused] [--html] [--json] [--svg [--attempt K]]\n";
+const USAGE: &[u8] =
+    b"mfhear: usage: mfhear [--line N] [--refused] [--html] [--json] [--svg [--attempt K]]\n";
 
 /// Reads the words of the command line, the program's name first, and by them writes what was heard of a
 /// deck's lines, as a text, as a page or as JSON, or draws a line, as `hear` does. It returns the status of the

@@ -90,11 +90,7 @@ fn push_links(out: &mut String, title: &str, lines: &[LineNo]) -> Result<(), All
 
 /// Puts a list of lines after the text, each with a link to its section: those with a refused attempt, and
 /// then the others. `Err` says that memory ran out.
-pub fn push_list(
-    out: &mut String,
-    refused: &[LineNo],
-    others: &[LineNo],
-) -> Result<(), AllocError>
+pub fn push_list(out: &mut String, refused: &[LineNo], others: &[LineNo]) -> Result<(), AllocError>
     ensures { OnOk result (string_bytes out.new ≡ string_bytes out.old ++ list_text refused.now others.now) }
 {
     out.push_str("<nav>\n")?;

@@ -15,7 +15,7 @@ returns c =
     let limits = c.limits-limits.result in
     let is : limits ≡ table.limits = c.limits-limits.ensures.value in
     let attempts : (rows : List LoopRow) → c.args.runs.now ≡ placed_runs line rows
-        → map attempt_in c.deref.result.now ≡ attempts_of_line table rows line =
+    → map attempt_in c.deref.result.now ≡ attempts_of_line table rows line =
     λ rows placed.
     let heard = c.in_ok-attempts.ensures.heard ∙ ap (heard_attempts c.plan.result limits) placed in
     rw (← c.plan.ensures, ← is) (ap (map attempt_in) c.deref.ensures.value ∙ heard) in
