@@ -9,6 +9,7 @@ const HEAD: &str = "<!DOCTYPE html>
 <html lang=\"en\">
 <head>
 <meta charset=\"utf-8\"/>
+<meta name=\"viewport\" content=\"width=device-width\"/>
 <title>What the register heard</title>
 <style>
 :root{color-scheme:light dark;font-family:Helvetica,Arial,sans-serif}

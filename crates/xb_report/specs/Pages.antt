@@ -9,7 +9,7 @@ use Rattle.xb_report.specs.Rows.{rows_from}
 
 -- what stands before the style sheet
 unfoldable pub front_text : List ℕ
-front_text = codes "<!DOCTYPE html>\n<html lang=\"en\">\n<head>\n<meta charset=\"utf-8\"/>\n<title>What the register heard</title>\n"
+front_text = codes "<!DOCTYPE html>\n<html lang=\"en\">\n<head>\n<meta charset=\"utf-8\"/>\n<meta name=\"viewport\" content=\"width=device-width\"/>\n<title>What the register heard</title>\n"
 
 -- the style sheet: a long list scrolls by itself; on a narrow screen a section does, so that its table and its picture
 -- stay as large as they are; in a dark page the picture is dark too, its colours kept
