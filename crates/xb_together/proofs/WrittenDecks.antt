@@ -1,5 +1,5 @@
 -- The decks of a split make the page of the deck that was split.
-use Rattle.std.proofs.Common.{◌≡◌, ◌∙◌, ◌≤◌, ◌<◌, ◌+◌, ◌-◌, ◌^◌, ◌⊎◌, ℕ, List, [], ◌∷◌, ◌++◌, length, map, take, drop, min, Option, Some, None, IfSome, Result, Ok, Err, IsOk, refl, sym, ap, ap₂, subst, arith, inl, inr}
+use Rattle.std.proofs.Common.{◌≡◌, ◌∙◌, ◌≤◌, ◌<◌, ◌+◌, ◌-◌, ◌^◌, ◌⊎◌, ℕ, List, [], ◌∷◌, ◌++◌, length, take, drop, Option, Some, None, IfSome, Result, Ok, Err, IsOk, refl, sym, ap, ap₂, subst, arith, inl, inr}
 use Rattle.std.specs.Prelude.{codes, slice_index_or, slice_range, sum_by}
 use Rattle.std.specs.Io.KnownBytes.{Appends}
 use Rattle.std.specs.List.{All, AllByRecursion}
@@ -13,18 +13,17 @@ use Rattle.xb_routes.specs.declared.fault.RouteFault.{RouteFault}
 use Rattle.xb_routes.specs.Table.{Table}
 use Rattle.xb_routes.specs.Text.{table_of_text}
 use Rattle.xb_rows.specs.WrittenRows.{AreRows, text_of_rows}
-use Rattle.xb_deck.specs.MadeDecks.{AreTableLines, with_ends}
+use Rattle.xb_deck.specs.MadeDecks.{with_ends}
 use Rattle.xb_office.specs.DeckPage.{page_of, says}
 use Rattle.xb_parts.specs.declared.range.LineRange.{LineRange}
 use Rattle.xb_parts.specs.Ranges.{Cover, CoverAll, rows_in}
 use Rattle.xb_split.specs.declared.load.Load.{Load}
 use Rattle.xb_split.specs.Counts.{AreLoadsOf, IsLoadOf, counted}
 use Rattle.xb_split.specs.Loads.{Fits}
-use Rattle.xb_split.specs.PartDecks.{Decks, deck_of_part, range_at}
-use Rattle.xb_split.specs.Splits.{IsSplit}
+use Rattle.xb_split.specs.PartDecks.{deck_of_part, range_at}
 use Rattle.xb_join.specs.Joining.{Given, join_of}
 use Rattle.xb_together.specs.SplitDecks.{HasItsPage, LeavesRoom, PlannedDecksMakeThePage, range_deck, ranges_of}
-use Rattle.xb_together.specs.WrittenDecks.{HasPage, HaveTheirPages, WrittenDecksMakeThePage}
+use Rattle.xb_together.specs.WrittenDecks.{HasPage, WrittenDecksMakeThePage}
 use Rattle.xb_together.proofs.PlannedPages.{Cover-le}
 use Rattle.xb_rows.proofs.ReadRows.{read_rows_are_rows}
 use Rattle.xb_together.proofs.TableLines.{HasLines, tables_have_lines}

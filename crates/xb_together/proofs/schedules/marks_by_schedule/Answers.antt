@@ -1,4 +1,4 @@
-use Rattle.std.proofs.Common.{◌≡◌, ◌∙◌}
+use Rattle.std.proofs.Common.{◌∙◌}
 use Rattle.xb_together.proofs.schedules.marks_by_schedule.Goals as goal
 
 pub returns-clause-whole : goal.returns-clause-whole
