@@ -1,6 +1,7 @@
 pub mod HeardLevels
 pub mod WaitLemmas
 pub mod BitLemmas
+pub mod SoundLemmas
 pub mod SaidLemmas
 pub mod WrittenTexts
 pub mod WrittenWords

@@ -1,5 +1,5 @@
 -- What a recording says.
-use Rattle.std.proofs.Common.{◌≡◌, ℕ, List, [], ◌∷◌, ◌++◌, true, false, Option, Some, None, refl, ap, sym, subst, ◌∙◌}
+use Rattle.std.proofs.Common.{◌≡◌, ℕ, ℤ, List, [], ◌∷◌, ◌++◌, true, false, Option, Some, None, refl, ap, sym, subst, ◌∙◌}
 use Rattle.std.specs.Prelude.{option_map, unwrap_or}
 use Rattle.std.specs.Option.{option_and_then}
 use Rattle.xb_vcd.specs.declared.event.Event.{Event}
@@ -12,11 +12,13 @@ use Rattle.xb_recording.specs.declared.format.Format.TheVariants as formats
 use Rattle.xb_recording.specs.declared.reader.Reader.{Reader}
 use Rattle.xb_recording.specs.declared.reader.Source.{Source}
 use Rattle.xb_recording.specs.declared.reader.Source.TheVariants as sources
+use Rattle.xb_recording.specs.declared.sound.Channel.{Channel}
 use Rattle.xb_recording.specs.declared.wanted.Wanted.{Wanted}
 use Rattle.xb_csv.specs.Tables.{AddsAll, TableState, table_ends, table_line_says, table_says}
 use Rattle.xb_recording.specs.Pieces.{SamplesSay, samples_events}
 use Rattle.xb_recording.specs.Samples.{BitsState, bits_of, bits_reading, bits_say, bits_state, masks_of, rate_says}
-use Rattle.xb_recording.specs.Says.{BitsSay, BytesSay, IsBegunBits, IsBegunTable, IsBegunVcd, IsOfFormat, LinesSay, Says, TableSays, Takes, TakesBytes, TakesText, is_text, lines_in, lines_left, names_in, plain_lines, text_lines}
+use Rattle.xb_recording.specs.Sounds.{SoundState, begun_sound, high_of, own_bytes, samples_after, samples_left, samples_of, sound_begins, sound_reading, sound_says, sound_state, wires_of}
+use Rattle.xb_recording.specs.Says.{BitsSay, BytesSay, IsBegunBits, IsBegunSound, IsBegunTable, IsBegunVcd, IsOfFormat, LinesSay, Says, SixteenSay, TableSays, Takes, TakesBytes, TakesText, is_text, lines_in, lines_left, names_in, plain_lines, text_lines}
 use Rattle.xb_recording.proofs.WaitLemmas.{same-after}
 
 some_is : {A : Type 0} {x y : A} → Some x ≡ Some y → x ≡ y
@@ -101,12 +103,9 @@ table_begins form wanted (sources.WavHead head) said h text later k = elim h [ ]
 table_begins form wanted (sources.Sound sound) said h text later k = elim h [ ]
 
 -- the beginning of samples
-rated : (rate : Option ℕ) (said : List Event) → AddsAll (rate_says rate) [] said → rate_says rate ≡ Some said
-rated rate said h = at (rate_says rate) refl h
-  where
-    at : (told : Option (List Event)) → rate_says rate ≡ told → AddsAll told [] said → rate_says rate ≡ Some said
-    at None e f = elim f [ ]
-    at (Some told) e f = e ∙ ap Some (sym f)
+all-added : (told : Option (List Event)) (said : List Event) → AddsAll told [] said → told ≡ Some said
+all-added None said h = elim h [ ]
+all-added (Some told) said h = ap Some (sym h)
 
 bits_begin :
     (wanted : Wanted) (source : Source) (said : List Event) → IsBegunBits (names_in wanted) wanted.rate source said
@@ -123,7 +122,7 @@ bits_begin wanted (sources.Bits bits) said h text later k = at (masks_of (names_
         let all : List Event = said ++ samples_events bits_reading (bits_of masks None 0) text in
         let whole : bits_say (names_in wanted) wanted.rate text ≡ Some all =
         ap (option_and_then (λ found. option_map (λ told. told ++ samples_events bits_reading (bits_of found None 0) text) (rate_says wanted.rate))) e
-        ∙ ap (option_map (λ told. told ++ samples_events bits_reading (bits_of masks None 0) text)) (rated wanted.rate said h.1) in
+        ∙ ap (option_map (λ told. told ++ samples_events bits_reading (bits_of masks None 0) text)) (all-added (rate_says wanted.rate) said h.1) in
         let P : BitsState → Type 0 = λ s. SamplesSay bits_reading s text later in
         (all, whole, same-after said later (samples_events bits_reading (bits_of masks None 0) text) (subst P (sym state) k))
 bits_begin wanted (sources.Vcd vcd) said h text later k = elim h [ ]
@@ -131,6 +130,43 @@ bits_begin wanted (sources.Columns table) said h text later k = elim h [ ]
 bits_begin wanted (sources.Gpiomon gpiomon) said h text later k = elim h [ ]
 bits_begin wanted (sources.WavHead head) said h text later k = elim h [ ]
 bits_begin wanted (sources.Sound sound) said h text later k = elim h [ ]
+
+-- the beginning of sound
+sound_begin :
+    (channels : ℕ) (rate length : Option ℕ) (wanted : Wanted) (source : Source) (said : List Event)
+    → IsBegunSound channels rate length (high_of wanted.threshold) (names_in wanted) source said
+    → (text : List ℕ) (later : List Event) → BytesSay source text later
+    → SixteenSay channels rate wanted (own_bytes length text) (said ++ later)
+sound_begin channels rate length wanted (sources.Sound sound) said h text later k =
+    at (wires_of channels (names_in wanted)) refl h.0 h.3
+  where
+    high : ℤ
+    high = high_of wanted.threshold
+
+    at :
+        (found : Option (List Channel)) → wires_of channels (names_in wanted) ≡ found
+        → option_map (begun_sound channels high) found ≡ Some (sound_state sound)
+        → AddsAll (option_and_then (sound_begins rate) found) [] said
+        → SixteenSay channels rate wanted (own_bytes length text) (said ++ later)
+    at None e f g = absurd (none_is f)
+    at (Some wires) e f g =
+        let state : begun_sound channels high wires ≡ sound_state sound = some_is f in
+        let samples : List ℤ = samples_of (own_bytes length text) in
+        let more : List Event = samples_events sound_reading (begun_sound channels high wires) samples in
+        let whole : sound_says channels high (names_in wanted) rate samples ≡ Some (said ++ more) =
+        ap (option_and_then (λ found. option_map (λ told. told ++ samples_events sound_reading (begun_sound channels high found) samples) (sound_begins rate found))) e
+        ∙ ap (option_map (λ told. told ++ more)) (all-added (sound_begins rate wires) said g) in
+        let same : samples_left sound text ≡ samples =
+        ap (λ lower. samples_after lower (own_bytes sound.left text)) h.1
+        ∙ ap (λ left. samples_after None (own_bytes left text)) h.2 in
+        let P : SoundState → Type 0 = λ s. SamplesSay sound_reading s samples later in
+        let Q : List ℤ → Type 0 = λ s. SamplesSay sound_reading (sound_state sound) s later in
+        (said ++ more, whole, same-after said later more (subst P (sym state) (subst Q same k)))
+sound_begin channels rate length wanted (sources.Vcd vcd) said h text later k = elim h [ ]
+sound_begin channels rate length wanted (sources.Columns table) said h text later k = elim h [ ]
+sound_begin channels rate length wanted (sources.Gpiomon gpiomon) said h text later k = elim h [ ]
+sound_begin channels rate length wanted (sources.Bits bits) said h text later k = elim h [ ]
+sound_begin channels rate length wanted (sources.WavHead head) said h text later k = elim h [ ]
 
 -- the beginning
 pub begins :
@@ -156,7 +192,7 @@ begins formats.Saleae wanted source said h text later k = table_begins forms.Sal
 begins formats.Edges wanted source said h text later k = table_begins forms.Edges wanted source said h text later k.0
 begins formats.Gpiomon wanted source said h text later k = tt
 begins formats.Bits wanted source said h text later k = bits_begin wanted source said h text later k.1
-begins formats.Sixteen wanted source said h text later k = tt
+begins formats.Sixteen wanted source said h text later k = sound_begin 1 wanted.rate None wanted source said h text later k.1
 begins formats.Wav wanted source said h text later k = tt
 
 -- a reader whose line is empty

@@ -36,54 +36,54 @@ same-after (High wire ∷ rest) a b h = ap (λ said. High wire ∷ said) (same-a
 same-after (Low wire ∷ rest) a b h = ap (λ said. Low wire ∷ said) (same-after rest a b h)
 same-after (Ticks scale ∷ rest) a b h = ap (λ said. Ticks scale ∷ said) (same-after rest a b h)
 
--- each byte says nothing, or first up to when something held
-abbrev pub SayWhen : {S : Type 0} → Reading S → Type 0
-SayWhen {S} reading =
-    (state : S) (byte : ℕ) (later : List Event) → begins_later later ≡ true
-    → begins_later (reading.says state byte ++ later) ≡ true
+-- each sample says nothing, or first up to when something held
+abbrev pub SayWhen : {S A : Type 0} → Reading S A → Type 0
+SayWhen {S} {A} reading =
+    (state : S) (sample : A) (later : List Event) → begins_later later ≡ true
+    → begins_later (reading.says state sample ++ later) ≡ true
 
 -- so samples do
 samples-begin :
-    {S : Type 0} (reading : Reading S) (state : S) (bytes : List ℕ) → SayWhen reading
-    → begins_later (samples_events reading state bytes) ≡ true
+    {S A : Type 0} (reading : Reading S A) (state : S) (samples : List A) → SayWhen reading
+    → begins_later (samples_events reading state samples) ≡ true
 samples-begin reading state [] when = refl
-samples-begin reading state (byte ∷ rest) when =
-    let whole = append_assoc (reading.says state byte) (piece_events reading (reading.next state byte) rest)
-    (At (reading.now (after_piece reading (reading.next state byte) rest)) ∷ []) in
+samples-begin reading state (sample ∷ rest) when =
+    let whole = append_assoc (reading.says state sample) (piece_events reading (reading.next state sample) rest)
+    (At (reading.now (after_piece reading (reading.next state sample) rest)) ∷ []) in
     ap begins_later whole
-    ∙ when state byte (samples_events reading (reading.next state byte) rest) (samples-begin reading (reading.next state byte) rest when)
+    ∙ when state sample (samples_events reading (reading.next state sample) rest) (samples-begin reading (reading.next state sample) rest when)
 
 -- and a wait before them says nothing more
 waits :
-    {S : Type 0} (reading : Reading S) (state : S) (tick : ℕ) (bytes : List ℕ) (later : List Event) → SayWhen reading
-    → SamplesSay reading state bytes later → SamplesSay reading state bytes (At tick ∷ later)
-waits reading state tick bytes later when h =
+    {S A : Type 0} (reading : Reading S A) (state : S) (tick : ℕ) (samples : List A) (later : List Event) → SayWhen reading
+    → SamplesSay reading state samples later → SamplesSay reading state samples (At tick ∷ later)
+waits reading state tick samples later when h =
     ap (λ b. cond b (without_waits later) (At tick ∷ without_waits later))
-    (begins-same later (samples_events reading state bytes) h ∙ samples-begin reading state bytes when)
+    (begins-same later (samples_events reading state samples) h ∙ samples-begin reading state samples when)
     ∙ h
 
 -- a piece, and then the rest
 after-piece :
-    {S : Type 0} (reading : Reading S) (state : S) (piece text : List ℕ)
+    {S A : Type 0} (reading : Reading S A) (state : S) (piece text : List A)
     → after_piece reading state (piece ++ text) ≡ after_piece reading (after_piece reading state piece) text
 after-piece reading state [] text = refl
-after-piece reading state (byte ∷ rest) text = after-piece reading (reading.next state byte) rest text
+after-piece reading state (sample ∷ rest) text = after-piece reading (reading.next state sample) rest text
 
 piece-piece :
-    {S : Type 0} (reading : Reading S) (state : S) (piece text : List ℕ)
+    {S A : Type 0} (reading : Reading S A) (state : S) (piece text : List A)
     → piece_events reading state (piece ++ text)
     ≡ piece_events reading state piece ++ piece_events reading (after_piece reading state piece) text
 piece-piece reading state [] text = refl
-piece-piece reading state (byte ∷ rest) text =
-    ap (λ later. reading.says state byte ++ later) (piece-piece reading (reading.next state byte) rest text)
-    ∙ sym (append_assoc (reading.says state byte) (piece_events reading (reading.next state byte) rest)
-    (piece_events reading (after_piece reading (reading.next state byte) rest) text))
+piece-piece reading state (sample ∷ rest) text =
+    ap (λ later. reading.says state sample ++ later) (piece-piece reading (reading.next state sample) rest text)
+    ∙ sym (append_assoc (reading.says state sample) (piece_events reading (reading.next state sample) rest)
+    (piece_events reading (after_piece reading (reading.next state sample) rest) text))
 
 samples-piece :
-    {S : Type 0} (reading : Reading S) (state : S) (piece text : List ℕ)
+    {S A : Type 0} (reading : Reading S A) (state : S) (piece text : List A)
     → samples_events reading state (piece ++ text)
     ≡ piece_events reading state piece ++ samples_events reading (after_piece reading state piece) text
-samples-piece {S} reading state piece text =
+samples-piece {S} {A} reading state piece text =
     let mid : S = after_piece reading state piece in
     ap (λ said. said ++ At (reading.now (after_piece reading state (piece ++ text))) ∷ []) (piece-piece reading state piece text)
     ∙ append_assoc (piece_events reading state piece) (piece_events reading mid text)
@@ -93,7 +93,7 @@ samples-piece {S} reading state piece text =
 
 -- so a piece that ends in a wait says what its samples do
 pub piece_says :
-    {S : Type 0} (reading : Reading S) (old new : S) (piece text : List ℕ) (mid said later : List Event) → SayWhen reading
+    {S A : Type 0} (reading : Reading S A) (old new : S) (piece text : List A) (mid said later : List Event) → SayWhen reading
     → mid ≡ piece_events reading old piece → new ≡ after_piece reading old piece → said ≡ mid ++ At (reading.now new) ∷ []
     → SamplesSay reading new text later → SamplesSay reading old (piece ++ text) (said ++ later)
 piece_says {S} reading old new piece text mid said later when e f g h =

@@ -1,6 +1,7 @@
 pub mod Hysteresis
 pub mod Pieces
 pub mod Samples
+pub mod Sounds
 pub mod Says
 pub mod WrittenVcd
 pub mod Formats

@@ -3,26 +3,26 @@ use Rattle.std.specs.Prelude.{◌≡◌, ℕ, List, [], ◌∷◌, ◌++◌, Boo
 use Rattle.xb_vcd.specs.declared.event.Event.{Event}
 use Rattle.xb_vcd.specs.declared.event.Event.TheVariants.{At, High, Low, Ticks}
 
--- how bytes are read: what each says, what is known after it, and how many ticks have gone by
-pub record Reading (S : Type 0) : Type 0 where
-  pub says : S → ℕ → List Event
-  pub next : S → ℕ → S
+-- how samples are read: what each says, what is known after it, and how many ticks have gone by
+pub record Reading (S A : Type 0) : Type 0 where
+  pub says : S → A → List Event
+  pub next : S → A → S
   pub now : S → ℕ
 
--- what bytes say, one after the other, and what is known after them
-abbrev pub piece_events : {S : Type 0} → Reading S → S → List ℕ → List Event
-piece_events {S} reading state [] = []
-piece_events {S} reading state (byte ∷ rest) =
-    reading.says state byte ++ piece_events reading (reading.next state byte) rest
+-- what samples say, one after the other, and what is known after them
+abbrev pub piece_events : {S A : Type 0} → Reading S A → S → List A → List Event
+piece_events {S} {A} reading state [] = []
+piece_events {S} {A} reading state (sample ∷ rest) =
+    reading.says state sample ++ piece_events reading (reading.next state sample) rest
 
-abbrev pub after_piece : {S : Type 0} → Reading S → S → List ℕ → S
-after_piece {S} reading state [] = state
-after_piece {S} reading state (byte ∷ rest) = after_piece reading (reading.next state byte) rest
+abbrev pub after_piece : {S A : Type 0} → Reading S A → S → List A → S
+after_piece {S} {A} reading state [] = state
+after_piece {S} {A} reading state (sample ∷ rest) = after_piece reading (reading.next state sample) rest
 
--- all bytes, up to where they go
-abbrev pub samples_events : {S : Type 0} → Reading S → S → List ℕ → List Event
-samples_events {S} reading state bytes =
-    piece_events reading state bytes ++ At (reading.now (after_piece reading state bytes)) ∷ []
+-- all samples, up to where they go
+abbrev pub samples_events : {S A : Type 0} → Reading S A → S → List A → List Event
+samples_events {S} {A} reading state samples =
+    piece_events reading state samples ++ At (reading.now (after_piece reading state samples)) ∷ []
 
 -- that the levels hold up to a tick says nothing where they hold up to a later one: a reader says it where a piece ends
 abbrev pub begins_later : List Event → Bool
@@ -42,6 +42,6 @@ without_waits (Ticks scale ∷ rest) = Ticks scale ∷ without_waits rest
 abbrev pub SayTheSame : List Event → List Event → Type 0
 SayTheSame events others = without_waits events ≡ without_waits others
 
--- further bytes say these events
-abbrev pub SamplesSay : {S : Type 0} → Reading S → S → List ℕ → List Event → Type 0
-SamplesSay {S} reading state bytes events = SayTheSame events (samples_events reading state bytes)
+-- further samples say these events
+abbrev pub SamplesSay : {S A : Type 0} → Reading S A → S → List A → List Event → Type 0
+SamplesSay {S} {A} reading state samples events = SayTheSame events (samples_events reading state samples)

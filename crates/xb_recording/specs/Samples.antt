@@ -49,7 +49,7 @@ sample_events state sample =
 abbrev pub after_sample : BitsState → ℕ → BitsState
 after_sample state sample = bits_of state.masks (Some sample) (state.count + 1)
 
-abbrev pub bits_reading : Reading BitsState
+abbrev pub bits_reading : Reading BitsState ℕ
 bits_reading = record { says = sample_events; next = after_sample; now = λ state. state.count }
 
 -- how long a tick is where a second has so many samples

@@ -1,6 +1,7 @@
 -- What a recording says, whatever its form.
-use Rattle.std.specs.Prelude.{◌≡◌, ℕ, Option, List, [], ◌∷◌, ◌++◌, Bool, true, false, ◌==◌, if◌then◌else◌, None, Some, drop, length, map, nat_eq, option_map}
+use Rattle.std.specs.Prelude.{◌≡◌, ℕ, ℤ, Option, List, [], ◌∷◌, ◌++◌, Bool, true, false, ◌==◌, if◌then◌else◌, None, Some, drop, length, map, nat_eq, option_map}
 use Rattle.std.specs.List.{starts_with}
+use Rattle.std.specs.Option.{option_and_then}
 use Rattle.xb_vcd.specs.declared.event.Event.{Event}
 use Rattle.xb_csv.specs.declared.columns.Form.{Form}
 use Rattle.xb_csv.specs.declared.columns.Form.TheVariants as forms
@@ -14,6 +15,7 @@ use Rattle.xb_recording.specs.declared.wanted.Wanted.{Wanted}
 use Rattle.xb_vcd.specs.VcdTexts.{VcdSays, begun_vcd, vcd_state}
 use Rattle.xb_recording.specs.Pieces.{SamplesSay, SayTheSame}
 use Rattle.xb_recording.specs.Samples.{bits_of, bits_reading, bits_say, bits_state, masks_of, rate_says}
+use Rattle.xb_recording.specs.Sounds.{SoundSays, begun_sound, high_of, samples_of, sound_begins, sound_says, sound_state, wires_of}
 use Rattle.xb_csv.specs.Tables.{AddsAll, begun_table, table_says, table_state}
 
 -- the lines of a text, of whose first line this has come
@@ -43,14 +45,14 @@ LinesSay (sources.Bits bits) lines events = Unit {0}
 LinesSay (sources.WavHead head) lines events = Unit {0}
 LinesSay (sources.Sound sound) lines events = Unit {0}
 
--- and of further bytes: exact for raw samples, but for waits
+-- and of further bytes: exact for samples, but for waits
 abbrev pub BytesSay : Source → List ℕ → List Event → Type 0
 BytesSay (sources.Vcd vcd) bytes events = Unit {0}
 BytesSay (sources.Columns table) bytes events = Unit {0}
 BytesSay (sources.Gpiomon gpiomon) bytes events = Unit {0}
 BytesSay (sources.Bits bits) bytes events = SamplesSay bits_reading (bits_state bits) bytes events
 BytesSay (sources.WavHead head) bytes events = Unit {0}
-BytesSay (sources.Sound sound) bytes events = Unit {0}
+BytesSay (sources.Sound sound) bytes events = SoundSays sound bytes events
 
 -- whether it is a text
 abbrev pub is_text : Source → Bool
@@ -91,6 +93,18 @@ IsBegunBits names rate (sources.Gpiomon gpiomon) said = ⊥
 IsBegunBits names rate (sources.WavHead head) said = ⊥
 IsBegunBits names rate (sources.Sound sound) said = ⊥
 
+-- and of sound of so many channels and samples a second, and of so many bytes, where that is known
+abbrev pub IsBegunSound : ℕ → Option ℕ → Option ℕ → ℤ → List (List ℕ) → Source → List Event → Type 0
+IsBegunSound channels rate length high names (sources.Sound sound) said =
+    (option_map (begun_sound channels high) (wires_of channels names) ≡ Some (sound_state sound))
+    × (sound.lower ≡ None) × (sound.left ≡ length)
+    × AddsAll (option_and_then (sound_begins rate) (wires_of channels names)) [] said
+IsBegunSound channels rate length high names (sources.Vcd vcd) said = ⊥
+IsBegunSound channels rate length high names (sources.Columns table) said = ⊥
+IsBegunSound channels rate length high names (sources.Gpiomon gpiomon) said = ⊥
+IsBegunSound channels rate length high names (sources.Bits bits) said = ⊥
+IsBegunSound channels rate length high names (sources.WavHead head) said = ⊥
+
 -- the names of the wires that are wanted
 abbrev pub names_in : Wanted → List (List ℕ)
 names_in wanted = map (λ wire. wire.now) wanted.wires.items
@@ -102,7 +116,8 @@ IsOfFormat formats.Saleae wanted source said = IsBegunTable forms.Saleae (names_
 IsOfFormat formats.Edges wanted source said = IsBegunTable forms.Edges (names_in wanted) wanted.rate source said
 IsOfFormat formats.Gpiomon wanted source said = Unit {0}
 IsOfFormat formats.Bits wanted source said = IsBegunBits (names_in wanted) wanted.rate source said
-IsOfFormat formats.Sixteen wanted source said = Unit {0}
+IsOfFormat formats.Sixteen wanted source said =
+    IsBegunSound 1 wanted.rate None (high_of wanted.threshold) (names_in wanted) source said
 IsOfFormat formats.Wav wanted source said = Unit {0}
 
 -- what has come of a line that has not ended, and whether it is the first
@@ -147,8 +162,15 @@ abbrev pub BitsSay : Wanted → List ℕ → List Event → Type 0
 BitsSay wanted samples events =
     (all : List Event) × (bits_say (names_in wanted) wanted.rate samples ≡ Some all) × SayTheSame events all
 
--- a recording of a form says these events of the wires that are wanted: exact for a VCD, for tables and for raw
--- samples, where pieces may end in waits
+-- samples of 16 bits, of so many channels
+abbrev pub SixteenSay : ℕ → Option ℕ → Wanted → List ℕ → List Event → Type 0
+SixteenSay channels rate wanted bytes events =
+    (all : List Event)
+    × (sound_says channels (high_of wanted.threshold) (names_in wanted) rate (samples_of bytes) ≡ Some all)
+    × SayTheSame events all
+
+-- a recording of a form says these events of the wires that are wanted: exact for a VCD, for tables and for samples,
+-- where pieces may end in waits
 abbrev pub Says : Format → Wanted → List ℕ → List Event → Type 0
 Says formats.Vcd wanted text events = VcdSays (begun_vcd (names_in wanted)) (text_lines text) events
 Says formats.Sigrok wanted text events = TableSays forms.Sigrok wanted text events
@@ -156,7 +178,7 @@ Says formats.Saleae wanted text events = TableSays forms.Saleae wanted text even
 Says formats.Edges wanted text events = TableSays forms.Edges wanted text events
 Says formats.Gpiomon wanted text events = Unit {0}
 Says formats.Bits wanted text events = BitsSay wanted text events
-Says formats.Sixteen wanted text events = Unit {0}
+Says formats.Sixteen wanted text events = SixteenSay 1 wanted.rate wanted text events
 Says formats.Wav wanted text events = Unit {0}
 
 -- what a reader that has read nothing says after what was said already is what the recording says

@@ -62,7 +62,7 @@ fn source_of<'a>(
         Format::Bits => Source::Bits(Bits::new(alloc, names, rate, events)?),
         Format::Wav => Source::WavHead(WavHead::new(alloc)),
         Format::Sixteen => {
-            Source::Sound(Sound::new(alloc, names, 1, rate, wanted.threshold, events)?)
+            Source::Sound(Sound::new(alloc, names, 1, rate, wanted.threshold, None, events)?)
         }
     })
 }
@@ -125,7 +125,7 @@ fn end_source(source: &mut Source<'_>, line: &[u8], events: &mut Vec<Event>) -> 
         Source::Gpiomon(gpiomon) => gpiomon.take_line(line, events),
         Source::Bits(bits) => bits.end(events),
         Source::WavHead(_) => Err(Refusal::Wav),
-        Source::Sound(_) => Ok(()),
+        Source::Sound(sound) => sound.end(events),
     }
 }
 
@@ -227,8 +227,8 @@ impl<'a> Reader<'a> {
     ) -> Result<(), Refusal> {
         let (names, threshold) = (self.wanted.wires.as_slice(), self.wanted.threshold);
         let rate = Some(format.rate);
-        let mut sound = Sound::new(self.alloc, names, format.channels, rate, threshold, events)?;
-        sound.set_length(format.length);
+        let (channels, length) = (format.channels, format.length);
+        let mut sound = Sound::new(self.alloc, names, channels, rate, threshold, length, events)?;
         let taken = sound.take(bytes, events);
         self.source = Source::Sound(sound);
         taken

@@ -32,25 +32,6 @@ pub(crate) fn say_rate(events: &mut Vec<Event>, rate: Option<u64>) -> Result<(),
     }
 }
 
-// The numbers of wires that are named by them, from `first` up to `last`.
-pub(crate) fn numbers_of(
-    alloc: Global,
-    names: &[&str],
-    first: u64,
-    last: u8,
-) -> Result<Vec<u8>, Refusal> {
-    let mut numbers = Vec::new(alloc);
-    for name in names {
-        match number_of(name.as_bytes()) {
-            Some(number) if number >= first && number <= u64::from(last) => {
-                numbers.push(number as u8).map_err(AllocError::from)?
-            }
-            _ => return Err(Refusal::NoWire),
-        }
-    }
-    Ok(numbers)
-}
-
 /// Samples of eight wires, a byte each, as `sigrok-cli -O binary` writes them. Each sample is a tick.
 #[derive(Drop)]
 pub struct Bits {
