@@ -2,6 +2,7 @@ pub mod HeardLevels
 pub mod WaitLemmas
 pub mod BitLemmas
 pub mod SoundLemmas
+pub mod WavLemmas
 pub mod SaidLemmas
 pub mod WrittenTexts
 pub mod WrittenWords

@@ -1,5 +1,5 @@
 -- What a recording says.
-use Rattle.std.proofs.Common.{◌≡◌, ℕ, ℤ, List, [], ◌∷◌, ◌++◌, true, false, Option, Some, None, refl, ap, sym, subst, ◌∙◌}
+use Rattle.std.proofs.Common.{◌≡◌, ℕ, ℤ, List, [], ◌∷◌, ◌++◌, true, false, Option, Some, None, refl, ap, sym, subst, ◌∙◌, append_assoc, drop}
 use Rattle.std.specs.Prelude.{option_map, unwrap_or}
 use Rattle.std.specs.Option.{option_and_then}
 use Rattle.xb_vcd.specs.declared.event.Event.{Event}
@@ -13,13 +13,18 @@ use Rattle.xb_recording.specs.declared.reader.Reader.{Reader}
 use Rattle.xb_recording.specs.declared.reader.Source.{Source}
 use Rattle.xb_recording.specs.declared.reader.Source.TheVariants as sources
 use Rattle.xb_recording.specs.declared.sound.Channel.{Channel}
+use Rattle.xb_recording.specs.declared.sound.Sound.{Sound}
+use Rattle.xb_recording.specs.declared.wav.WavFormat.{WavFormat}
+use Rattle.xb_recording.specs.declared.wav.WavHead.{WavHead}
+use Rattle.xb_recording.specs.Wavs.{TakesHead}
 use Rattle.xb_recording.specs.declared.wanted.Wanted.{Wanted}
 use Rattle.xb_csv.specs.Tables.{AddsAll, TableState, table_ends, table_line_says, table_says}
 use Rattle.xb_recording.specs.Pieces.{SamplesSay, samples_events}
 use Rattle.xb_recording.specs.Samples.{BitsState, bits_of, bits_reading, bits_say, bits_state, masks_of, rate_says}
-use Rattle.xb_recording.specs.Sounds.{SoundState, begun_sound, high_of, own_bytes, samples_after, samples_left, samples_of, sound_begins, sound_reading, sound_says, sound_state, wires_of}
-use Rattle.xb_recording.specs.Says.{BitsSay, BytesSay, IsBegunBits, IsBegunSound, IsBegunTable, IsBegunVcd, IsOfFormat, LinesSay, Says, SixteenSay, TableSays, Takes, TakesBytes, TakesText, is_text, lines_in, lines_left, names_in, plain_lines, text_lines}
+use Rattle.xb_recording.specs.Sounds.{SoundSays, SoundState, begun_sound, high_of, own_bytes, samples_after, samples_left, samples_of, sound_begins, sound_reading, sound_says, sound_state, wires_of}
+use Rattle.xb_recording.specs.Says.{BitsSay, BytesSay, IsBegunBits, IsBegunSound, IsBegunTable, IsBegunVcd, IsBegunWav, IsOfFormat, LinesSay, Says, SixteenSay, TableSays, Takes, TakesBytes, TakesText, WavSays, is_text, lines_in, lines_left, names_in, plain_lines, text_lines}
 use Rattle.xb_recording.proofs.WaitLemmas.{same-after}
+use Rattle.xb_recording.proofs.WavLemmas.{wav_is}
 
 some_is : {A : Type 0} {x y : A} → Some x ≡ Some y → x ≡ y
 some_is {A} {x} {y} e = ap (λ o. unwrap_or o x) e
@@ -36,23 +41,25 @@ lines_none (sources.Bits bits) lines said h = tt
 lines_none (sources.WavHead head) lines said h = tt
 lines_none (sources.Sound sound) lines said h = tt
 
-bytes_none : (source : Source) (bytes : List ℕ) (said : List Event) → is_text source ≡ true → BytesSay source bytes said
-bytes_none (sources.Vcd vcd) bytes said h = tt
-bytes_none (sources.Columns table) bytes said h = tt
-bytes_none (sources.Gpiomon gpiomon) bytes said h = tt
-bytes_none (sources.Bits bits) bytes said h = cc
-bytes_none (sources.WavHead head) bytes said h = cc
-bytes_none (sources.Sound sound) bytes said h = cc
+bytes_none :
+    (wanted : Wanted) (source : Source) (bytes : List ℕ) (said : List Event) → is_text source ≡ true
+    → BytesSay wanted source bytes said
+bytes_none wanted (sources.Vcd vcd) bytes said h = tt
+bytes_none wanted (sources.Columns table) bytes said h = tt
+bytes_none wanted (sources.Gpiomon gpiomon) bytes said h = tt
+bytes_none wanted (sources.Bits bits) bytes said h = cc
+bytes_none wanted (sources.WavHead head) bytes said h = cc
+bytes_none wanted (sources.Sound sound) bytes said h = cc
 
 pub takes_text :
     (old new : Reader) (bytes : List ℕ) (said : List Event) → is_text old.source ≡ true → TakesText old new bytes said
     → Takes old new bytes said
 takes_text old new bytes said h taken text later rest =
-    (taken text later rest.0, bytes_none old.source (bytes ++ text) (said ++ later) h)
+    (taken text later rest.0, bytes_none old.wanted.now old.source (bytes ++ text) (said ++ later) h)
 
 pub takes_bytes :
     (old new : Reader) (bytes : List ℕ) (said : List Event) → is_text old.source ≡ false
-    → TakesBytes old.source new.source bytes said → Takes old new bytes said
+    → TakesBytes old new bytes said → Takes old new bytes said
 takes_bytes old new bytes said h taken text later rest =
     (lines_none old.source (lines_left old (bytes ++ text)) (said ++ later) h, taken text later rest.1)
 
@@ -109,7 +116,7 @@ all-added (Some told) said h = ap Some (sym h)
 
 bits_begin :
     (wanted : Wanted) (source : Source) (said : List Event) → IsBegunBits (names_in wanted) wanted.rate source said
-    → (text : List ℕ) (later : List Event) → BytesSay source text later → BitsSay wanted text (said ++ later)
+    → (text : List ℕ) (later : List Event) → BytesSay wanted source text later → BitsSay wanted text (said ++ later)
 bits_begin wanted (sources.Bits bits) said h text later k = at (masks_of (names_in wanted)) refl h.0
   where
     at :
@@ -135,7 +142,7 @@ bits_begin wanted (sources.Sound sound) said h text later k = elim h [ ]
 sound_begin :
     (channels : ℕ) (rate length : Option ℕ) (wanted : Wanted) (source : Source) (said : List Event)
     → IsBegunSound channels rate length (high_of wanted.threshold) (names_in wanted) source said
-    → (text : List ℕ) (later : List Event) → BytesSay source text later
+    → (text : List ℕ) (later : List Event) → BytesSay wanted source text later
     → SixteenSay channels rate wanted (own_bytes length text) (said ++ later)
 sound_begin channels rate length wanted (sources.Sound sound) said h text later k =
     at (wires_of channels (names_in wanted)) refl h.0 h.3
@@ -168,10 +175,39 @@ sound_begin channels rate length wanted (sources.Gpiomon gpiomon) said h text la
 sound_begin channels rate length wanted (sources.Bits bits) said h text later k = elim h [ ]
 sound_begin channels rate length wanted (sources.WavHead head) said h text later k = elim h [ ]
 
+-- the beginning of a WAV
+wav_begin :
+    (wanted : Wanted) (source : Source) (said : List Event) → IsBegunWav source said
+    → (text : List ℕ) (later : List Event) → BytesSay wanted source text later → Says formats.Wav wanted text (said ++ later)
+wav_begin wanted (sources.WavHead head) said h text later k =
+    let P : List Event → Type 0 = λ m. WavSays wanted k.0 (m ++ later) in
+    (k.0, wav_is head text k.0 h.0 h.1 h.2 k.1, subst P (sym h.3) k.2)
+wav_begin wanted (sources.Vcd vcd) said h text later k = elim h [ ]
+wav_begin wanted (sources.Columns table) said h text later k = elim h [ ]
+wav_begin wanted (sources.Gpiomon gpiomon) said h text later k = elim h [ ]
+wav_begin wanted (sources.Bits bits) said h text later k = elim h [ ]
+wav_begin wanted (sources.Sound sound) said h text later k = elim h [ ]
+
+-- the first samples of a WAV, after what is said before them
+pub samples_begin :
+    (format : WavFormat) (wanted : Wanted) (sound now : Sound) (bytes : List ℕ) (before said all : List Event)
+    → IsBegunSound format.channels (Some format.rate) format.length (high_of wanted.threshold) (names_in wanted)
+    (sources.Sound sound) before
+    → all ≡ before ++ said
+    → ((text : List ℕ) (later : List Event) → SoundSays now text later → SoundSays sound (bytes ++ text) (said ++ later))
+    → (text : List ℕ) (later : List Event) → SoundSays now text later
+    → WavSays wanted (format, bytes ++ text) (all ++ later)
+samples_begin format wanted sound now bytes before said all begun told taken text later k =
+    let P : List Event → Type 0 = λ m. WavSays wanted (format, bytes ++ text) m in
+    let whole : all ++ later ≡ before ++ (said ++ later) = ap (λ m. m ++ later) told ∙ append_assoc before said later in
+    subst P (sym whole)
+    (sound_begin format.channels (Some format.rate) format.length wanted (sources.Sound sound) before begun (bytes ++ text)
+    (said ++ later) (taken text later k))
+
 -- the beginning
 pub begins :
     (format : Format) (wanted : Wanted) (source : Source) (said : List Event) → IsOfFormat format wanted source said
-    → (text : List ℕ) (later : List Event) → LinesSay source (text_lines text) later × BytesSay source text later
+    → (text : List ℕ) (later : List Event) → LinesSay source (text_lines text) later × BytesSay wanted source text later
     → Says format wanted text (said ++ later)
 begins formats.Vcd wanted source said h text later k = at source h k.0
   where
@@ -193,14 +229,24 @@ begins formats.Edges wanted source said h text later k = table_begins forms.Edge
 begins formats.Gpiomon wanted source said h text later k = tt
 begins formats.Bits wanted source said h text later k = bits_begin wanted source said h text later k.1
 begins formats.Sixteen wanted source said h text later k = sound_begin 1 wanted.rate None wanted source said h text later k.1
-begins formats.Wav wanted source said h text later k = tt
+begins formats.Wav wanted source said h text later k = wav_begin wanted source said h text later k.1
 
 -- a reader whose line is empty
 pub reader_begins :
     (format : Format) (wanted : Wanted) (source : Source) (said : List Event) (line : List ℕ) → line ≡ []
     → IsOfFormat format wanted source said
-    → (text : List ℕ) (later : List Event) → LinesSay source (plain_lines true (lines_in line text)) later × BytesSay source text later
+    → (text : List ℕ) (later : List Event) → LinesSay source (plain_lines true (lines_in line text)) later × BytesSay wanted source text later
     → Says format wanted text (said ++ later)
 reader_begins format wanted source said line none is text later rest =
     begins format wanted source said is text later
     (subst (λ l. LinesSay source (plain_lines true (lines_in l text)) later) none rest.0, rest.1)
+
+-- the head of a WAV that was taken, and the samples after it
+pub head_then :
+    (wanted : Wanted) (source : Source) (head after : WavHead) (bytes text : List ℕ) (found : WavFormat × ℕ)
+    (events : List Event)
+    → source ≡ sources.WavHead head → TakesHead head bytes (Some found) after
+    → WavSays wanted (found.0, drop found.1 bytes ++ text) events → BytesSay wanted source (bytes ++ text) events
+head_then wanted source head after bytes text found events is taken said =
+    let P : Source → Type 0 = λ s. BytesSay wanted s (bytes ++ text) events in
+    subst P (sym is) ((found.0, drop found.1 bytes ++ text), taken text, said)

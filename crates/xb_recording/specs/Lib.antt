@@ -2,6 +2,7 @@ pub mod Hysteresis
 pub mod Pieces
 pub mod Samples
 pub mod Sounds
+pub mod Wavs
 pub mod Says
 pub mod WrittenVcd
 pub mod Formats

@@ -15,7 +15,10 @@ use Rattle.xb_recording.specs.declared.wanted.Wanted.{Wanted}
 use Rattle.xb_vcd.specs.VcdTexts.{VcdSays, begun_vcd, vcd_state}
 use Rattle.xb_recording.specs.Pieces.{SamplesSay, SayTheSame}
 use Rattle.xb_recording.specs.Samples.{bits_of, bits_reading, bits_say, bits_state, masks_of, rate_says}
-use Rattle.xb_recording.specs.Sounds.{SoundSays, begun_sound, high_of, samples_of, sound_begins, sound_says, sound_state, wires_of}
+use Rattle.xb_recording.specs.declared.wav.Place.TheVariants as places
+use Rattle.xb_recording.specs.declared.wav.WavFormat.{WavFormat}
+use Rattle.xb_recording.specs.Wavs.{HeadBegins, IsWav, Samples}
+use Rattle.xb_recording.specs.Sounds.{SoundSays, begun_sound, high_of, own_bytes, samples_of, sound_begins, sound_says, sound_state, wires_of}
 use Rattle.xb_csv.specs.Tables.{AddsAll, begun_table, table_says, table_state}
 
 -- the lines of a text, of whose first line this has come
@@ -45,14 +48,31 @@ LinesSay (sources.Bits bits) lines events = Unit {0}
 LinesSay (sources.WavHead head) lines events = Unit {0}
 LinesSay (sources.Sound sound) lines events = Unit {0}
 
--- and of further bytes: exact for samples, but for waits
-abbrev pub BytesSay : Source → List ℕ → List Event → Type 0
-BytesSay (sources.Vcd vcd) bytes events = Unit {0}
-BytesSay (sources.Columns table) bytes events = Unit {0}
-BytesSay (sources.Gpiomon gpiomon) bytes events = Unit {0}
-BytesSay (sources.Bits bits) bytes events = SamplesSay bits_reading (bits_state bits) bytes events
-BytesSay (sources.WavHead head) bytes events = Unit {0}
-BytesSay (sources.Sound sound) bytes events = SoundSays sound bytes events
+-- the names of the wires that are wanted
+abbrev pub names_in : Wanted → List (List ℕ)
+names_in wanted = map (λ wire. wire.now) wanted.wires.items
+
+-- samples of 16 bits, of so many channels
+abbrev pub SixteenSay : ℕ → Option ℕ → Wanted → List ℕ → List Event → Type 0
+SixteenSay channels rate wanted bytes events =
+    (all : List Event)
+    × (sound_says channels (high_of wanted.threshold) (names_in wanted) rate (samples_of bytes) ≡ Some all)
+    × SayTheSame events all
+
+-- those of a WAV
+abbrev pub WavSays : Wanted → Samples → List Event → Type 0
+WavSays wanted samples events =
+    SixteenSay samples.0.channels (Some samples.0.rate) wanted (own_bytes samples.0.length samples.1) events
+
+-- what is read says these events of further bytes: exact for samples, but for waits
+abbrev pub BytesSay : Wanted → Source → List ℕ → List Event → Type 0
+BytesSay wanted (sources.Vcd vcd) bytes events = Unit {0}
+BytesSay wanted (sources.Columns table) bytes events = Unit {0}
+BytesSay wanted (sources.Gpiomon gpiomon) bytes events = Unit {0}
+BytesSay wanted (sources.Bits bits) bytes events = SamplesSay bits_reading (bits_state bits) bytes events
+BytesSay wanted (sources.WavHead head) bytes events =
+    (samples : Samples) × HeadBegins head bytes samples × WavSays wanted samples events
+BytesSay wanted (sources.Sound sound) bytes events = SoundSays sound bytes events
 
 -- whether it is a text
 abbrev pub is_text : Source → Bool
@@ -105,9 +125,15 @@ IsBegunSound channels rate length high names (sources.Gpiomon gpiomon) said = �
 IsBegunSound channels rate length high names (sources.Bits bits) said = ⊥
 IsBegunSound channels rate length high names (sources.WavHead head) said = ⊥
 
--- the names of the wires that are wanted
-abbrev pub names_in : Wanted → List (List ℕ)
-names_in wanted = map (λ wire. wire.now) wanted.wires.items
+-- and of a WAV, of which nothing was read
+abbrev pub IsBegunWav : Source → List Event → Type 0
+IsBegunWav (sources.WavHead head) said =
+    (head.place ≡ places.Beginning) × (head.format ≡ None) × (head.bytes.items ≡ []) × (said ≡ [])
+IsBegunWav (sources.Vcd vcd) said = ⊥
+IsBegunWav (sources.Columns table) said = ⊥
+IsBegunWav (sources.Gpiomon gpiomon) said = ⊥
+IsBegunWav (sources.Bits bits) said = ⊥
+IsBegunWav (sources.Sound sound) said = ⊥
 
 abbrev pub IsOfFormat : Format → Wanted → Source → List Event → Type 0
 IsOfFormat formats.Vcd wanted source said = IsBegunVcd (names_in wanted) source said
@@ -118,7 +144,7 @@ IsOfFormat formats.Gpiomon wanted source said = Unit {0}
 IsOfFormat formats.Bits wanted source said = IsBegunBits (names_in wanted) wanted.rate source said
 IsOfFormat formats.Sixteen wanted source said =
     IsBegunSound 1 wanted.rate None (high_of wanted.threshold) (names_in wanted) source said
-IsOfFormat formats.Wav wanted source said = Unit {0}
+IsOfFormat formats.Wav wanted source said = IsBegunWav source said
 
 -- what has come of a line that has not ended, and whether it is the first
 abbrev pub line_so_far : Reader → List ℕ
@@ -133,7 +159,7 @@ lines_left reader text = plain_lines (is_in_first reader) (lines_in (line_so_far
 
 abbrev pub RestSays : Reader → List ℕ → List Event → Type 0
 RestSays reader text events =
-    LinesSay reader.source (lines_left reader text) events × BytesSay reader.source text events
+    LinesSay reader.source (lines_left reader text) events × BytesSay reader.wanted.now reader.source text events
 
 -- what a reader took says these events, whatever comes later
 abbrev pub Takes : Reader → Reader → List ℕ → List Event → Type 0
@@ -146,9 +172,16 @@ TakesText old new bytes said =
     (text : List ℕ) (later : List Event) → LinesSay new.source (lines_left new text) later
     → LinesSay old.source (lines_left old (bytes ++ text)) (said ++ later)
 
-abbrev pub TakesBytes : Source → Source → List ℕ → List Event → Type 0
+abbrev pub TakesBytes : Reader → Reader → List ℕ → List Event → Type 0
 TakesBytes old new bytes said =
-    (text : List ℕ) (later : List Event) → BytesSay new text later → BytesSay old (bytes ++ text) (said ++ later)
+    (text : List ℕ) (later : List Event) → BytesSay new.wanted.now new.source text later
+    → BytesSay old.wanted.now old.source (bytes ++ text) (said ++ later)
+
+-- the first samples of a WAV were taken
+abbrev pub TakesSamples : WavFormat → Reader → Reader → List ℕ → List Event → Type 0
+TakesSamples format old new bytes said =
+    (text : List ℕ) (later : List Event) → BytesSay new.wanted.now new.source text later
+    → WavSays old.wanted.now (format, bytes ++ text) (said ++ later)
 
 -- the lines of a text
 abbrev pub text_lines : List ℕ → List (List ℕ)
@@ -162,13 +195,6 @@ abbrev pub BitsSay : Wanted → List ℕ → List Event → Type 0
 BitsSay wanted samples events =
     (all : List Event) × (bits_say (names_in wanted) wanted.rate samples ≡ Some all) × SayTheSame events all
 
--- samples of 16 bits, of so many channels
-abbrev pub SixteenSay : ℕ → Option ℕ → Wanted → List ℕ → List Event → Type 0
-SixteenSay channels rate wanted bytes events =
-    (all : List Event)
-    × (sound_says channels (high_of wanted.threshold) (names_in wanted) rate (samples_of bytes) ≡ Some all)
-    × SayTheSame events all
-
 -- a recording of a form says these events of the wires that are wanted: exact for a VCD, for tables and for samples,
 -- where pieces may end in waits
 abbrev pub Says : Format → Wanted → List ℕ → List Event → Type 0
@@ -179,7 +205,7 @@ Says formats.Edges wanted text events = TableSays forms.Edges wanted text events
 Says formats.Gpiomon wanted text events = Unit {0}
 Says formats.Bits wanted text events = BitsSay wanted text events
 Says formats.Sixteen wanted text events = SixteenSay 1 wanted.rate wanted text events
-Says formats.Wav wanted text events = Unit {0}
+Says formats.Wav wanted text events = (samples : Samples) × IsWav text samples × WavSays wanted samples events
 
 -- what a reader that has read nothing says after what was said already is what the recording says
 abbrev pub Begins : Format → Wanted → Reader → List Event → Type 0

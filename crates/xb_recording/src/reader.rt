@@ -3,7 +3,8 @@ ghost use Rattle.std.specs.Prelude.{◌≡◌, ◌++◌, [], ◌∷◌, ℕ, Som
 ghost use Rattle.xb_csv.specs.Tables.{table_says, table_state};
 ghost use Rattle.xb_vcd.specs.declared.event.Event.{Event as EventTaken};
 ghost use Rattle.xb_vcd.specs.VcdTexts.{VcdSays, vcd_state};
-ghost use Rattle.xb_recording.specs.Says.{Begins, BytesSay, IsOfFormat, LinesSay, RestSays, Takes, TakesBytes, TakesText, is_in_first, is_text, line_so_far, plain_line};
+ghost use Rattle.xb_recording.specs.declared.wanted.Wanted.{Wanted as WantedHere};
+ghost use Rattle.xb_recording.specs.Says.{Begins, BytesSay, IsOfFormat, LinesSay, RestSays, Takes, TakesBytes, TakesSamples, TakesText, is_in_first, is_text, line_so_far, plain_line};
 
 use crate::format::{BYTE_ORDER_MARK, Format};
 use crate::gpiomon::Gpiomon;
@@ -117,7 +118,7 @@ fn end_table(table: &mut Columns<'_>, line: &[u8], events: &mut Vec<Event>) -> R
 fn end_source(source: &mut Source<'_>, line: &[u8], events: &mut Vec<Event>) -> Result<(), Refusal>
     requires { events.old.items ≡ [] }
     ensures lines { OnOk result (LinesSay source.old (line.now ∷ []) events.new.items) }
-    ensures bytes { OnOk result (BytesSay source.old [] events.new.items) }
+    ensures bytes { OnOk result ((wanted : WantedHere) → BytesSay wanted source.old [] events.new.items) }
 {
     match source {
         Source::Vcd(vcd) => end_vcd(vcd, line, events),
@@ -224,27 +225,27 @@ impl<'a> Reader<'a> {
         format: WavFormat,
         bytes: &[u8],
         events: &mut Vec<Event>,
-    ) -> Result<(), Refusal> {
+    ) -> Result<(), Refusal>
+        requires { events.old.items ≡ [] }
+        ensures { OnOk result (TakesSamples format self.old self.new bytes.now events.new.items) }
+    {
+        let WavFormat {
+            channels,
+            rate,
+            length,
+        } = format;
         let (names, threshold) = (self.wanted.wires.as_slice(), self.wanted.threshold);
-        let rate = Some(format.rate);
-        let (channels, length) = (format.channels, format.length);
-        let mut sound = Sound::new(self.alloc, names, channels, rate, threshold, length, events)?;
-        let taken = sound.take(bytes, events);
+        let mut sound = Sound::new(
+            self.alloc,
+            names,
+            channels,
+            Some(rate),
+            threshold,
+            length,
+            events,
+        )?;
+        sound.take(bytes, events)?;
         self.source = Source::Sound(sound);
-        taken
-    }
-
-    // Bytes that begin in the head of a WAV file.
-    fn take_head(&mut self, bytes: &[u8], events: &mut Vec<Event>) -> Result<(), Refusal> {
-        for (i, byte) in bytes.iter().enumerate() {
-            let found = match &mut self.source {
-                Source::WavHead(head) => head.take(*byte)?,
-                _ => None,
-            };
-            if let Some(format) = found {
-                return self.begin_sound(format, &bytes[i + 1..], events);
-            }
-        }
         Ok(())
     }
 
@@ -252,12 +253,15 @@ impl<'a> Reader<'a> {
     fn take_values(&mut self, bytes: &[u8], events: &mut Vec<Event>) -> Result<(), Refusal>
         requires none { events.old.items ≡ [] }
         requires samples { is_text self.old.source ≡ false }
-        ensures { OnOk result (TakesBytes self.old.source self.new.source bytes.now events.new.items) }
+        ensures { OnOk result (TakesBytes self.old self.new bytes.now events.new.items) }
     {
         match &mut self.source {
             Source::Bits(bits) => bits.take(bytes, events),
             Source::Sound(sound) => sound.take(bytes, events),
-            Source::WavHead(_) => self.take_head(bytes, events),
+            Source::WavHead(head) => match head.take(bytes)? {
+                Some((format, count)) => self.begin_sound(format, &bytes[count..], events),
+                None => Ok(()),
+            },
             Source::Vcd(_) | Source::Columns(_) | Source::Gpiomon(_) => Ok(()),
         }
     }

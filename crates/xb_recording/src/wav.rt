@@ -1,5 +1,6 @@
 // The head of a WAV file.
-ghost use Rattle.std.specs.Prelude.{◌≤◌, length};
+ghost use Rattle.std.specs.Prelude.{◌≡◌, ◌<◌, ◌^◌, ◌∷◌, [], ◌≤◌, IfOk, IfSome, None, length};
+ghost use Rattle.xb_recording.specs.Wavs.{AfterPart, RestIsWhole, TakesByte, TakesHead, TakesPart, byte_at, format_of, is_riff, is_sixteen, length_of, long_at, part_length, short_at};
 
 use std::alloc::{AllocError, Global};
 use xb_vcd::Refusal;
@@ -18,9 +19,9 @@ enum Place {
     // In the name and the length of a chunk.
     Chunk,
     // In the chunk that says how the samples are, of so many bytes.
-    Format(u32),
+    Format(u64),
     // In a chunk that is passed over, of which so many bytes are left.
-    Passed(u32),
+    Passed(u64),
 }
 
 /// How the samples of a WAV file are.
@@ -42,41 +43,65 @@ pub struct WavHead {
     format: Option<WavFormat>,
 }
 
-// Two bytes as a number, the lower one first; 0 where they are not there.
-fn short_at(bytes: &[u8], at: usize) -> u16 {
-    match (bytes.get(at), bytes.get(at.saturating_add(1))) {
-        (Some(lower), Some(upper)) => u16::from_le_bytes([*lower, *upper]),
-        _ => 0,
+// A byte; 0 where none is.
+fn byte_at(bytes: &[u8], at: usize) -> u8
+    ensures { result ≡ byte_at bytes.now at }
+{
+    match bytes.get(at) {
+        Some(byte) => *byte,
+        None => 0,
     }
 }
 
-// Four bytes as a number, the lowest one first; 0 where they are not there.
-fn long_at(bytes: &[u8], at: usize) -> u32 {
-    let (lower, upper) = (short_at(bytes, at), short_at(bytes, at.saturating_add(2)));
-    u32::from(upper) * 65_536 + u32::from(lower)
+// Two bytes as a number, the lower one first.
+fn short_at(bytes: &[u8], at: usize) -> u16
+    requires { at < 2 ^ 32 }
+    ensures { result ≡ short_at bytes.now at }
+{
+    u16::from_le_bytes([byte_at(bytes, at), byte_at(bytes, at + 1)])
 }
 
-// What the chunk says, if the samples are of 16 bits: plain, or extended and then plain.
-fn format_of(bytes: &[u8]) -> Option<WavFormat> {
-    let kind = short_at(bytes, 0);
-    let is_plain = kind == 1 || (kind == 0xfffe && short_at(bytes, 24) == 1);
-    if !is_plain || short_at(bytes, 14) != 16 {
+// Four bytes as a number, the lowest one first.
+fn long_at(bytes: &[u8], at: usize) -> u32
+    requires { at < 2 ^ 32 }
+    ensures { result ≡ long_at bytes.now at }
+{
+    u32::from_le_bytes([
+        byte_at(bytes, at),
+        byte_at(bytes, at + 1),
+        byte_at(bytes, at + 2),
+        byte_at(bytes, at + 3),
+    ])
+}
+
+// Whether samples have 16 bits: plain, or extended and then plain.
+fn is_sixteen(chunk: &[u8]) -> bool
+    ensures { result ≡ is_sixteen chunk.now }
+{
+    let kind = short_at(chunk, 0);
+    let is_plain = kind == 1 || (kind == 0xfffe && short_at(chunk, 24) == 1);
+    is_plain && short_at(chunk, 14) == 16
+}
+
+// What the chunk says, if the samples are of 16 bits.
+fn format_of(chunk: &[u8]) -> Option<WavFormat>
+    ensures { result ≡ format_of chunk.now }
+{
+    let channels = short_at(chunk, 2);
+    if !is_sixteen(chunk) || channels < 1 || channels > 8 {
         return None;
     }
-    let channels = match short_at(bytes, 2) {
-        channels @ 1..=8 => channels as u8,
-        _ => return None,
-    };
-    let rate = u64::from(long_at(bytes, 4));
     Some(WavFormat {
-        channels,
-        rate,
+        channels: channels as u8,
+        rate: u64::from(long_at(chunk, 4)),
         length: None,
     })
 }
 
 // The bytes of the samples, where a head says them: a program that writes to a pipe says 2 GB and more.
-fn length_of(length: u32) -> Option<u64> {
+fn length_of(length: u32) -> Option<u64>
+    ensures { result ≡ length_of length }
+{
     if length >= LENGTH_IS_NOT_KNOWN {
         None
     } else {
@@ -84,9 +109,104 @@ fn length_of(length: u32) -> Option<u64> {
     }
 }
 
+// A file begins with RIFF, a length and WAVE.
+fn is_riff(head: &[u8]) -> bool
+    ensures { result ≡ is_riff head.now }
+{
+    head.starts_with(b"RIFF") && head.ends_with(b"WAVE")
+}
+
+// What follows a part of a head.
+#[derive(Clone, Copy)]
+enum After {
+    // Samples that are so.
+    Samples(WavFormat),
+    // Another part; how the samples are, if it is known, and its place.
+    Part(Option<WavFormat>, Place),
+}
+
+// What follows the first 12 bytes.
+fn after_beginning(head: &[u8], found: Option<WavFormat>) -> Result<After, Refusal>
+    ensures { IfOk result (AfterPart Place.Beginning found head.now) }
+{
+    if is_riff(head) {
+        Ok(After::Part(found, Place::Chunk))
+    } else {
+        Err(Refusal::Wav)
+    }
+}
+
+// What follows the name and the length of a chunk.
+fn after_chunk(chunk: &[u8], found: Option<WavFormat>) -> Result<After, Refusal>
+    ensures { IfOk result (AfterPart Place.Chunk found chunk.now) }
+{
+    let length = long_at(chunk, 4);
+    if chunk.starts_with(b"data") {
+        return match found {
+            Some(format) => Ok(After::Samples(WavFormat {
+                length: length_of(length),
+                ..format
+            })),
+            None => Err(Refusal::Wav),
+        };
+    }
+    // a chunk of an odd length has a byte more
+    let padded = u64::from(length) + u64::from(length % 2);
+    if !chunk.starts_with(b"fmt ") {
+        let next = if padded > 0 {
+            Place::Passed(padded)
+        } else {
+            Place::Chunk
+        };
+        return Ok(After::Part(found, next));
+    }
+    if length < 16 || length > MOST_FORMAT_BYTES {
+        return Err(Refusal::Wav);
+    }
+    Ok(After::Part(found, Place::Format(padded)))
+}
+
+// What follows the chunk that says how the samples are.
+fn after_format(chunk: &[u8], length: u64, found: Option<WavFormat>) -> Result<After, Refusal>
+    ensures { IfOk result (AfterPart (Place.Format length) found chunk.now) }
+{
+    match format_of(chunk) {
+        Some(format) => Ok(After::Part(Some(format), Place::Chunk)),
+        None => Err(Refusal::Wav),
+    }
+}
+
+// What follows a part.
+fn after_part(part: &[u8], place: Place, found: Option<WavFormat>) -> Result<After, Refusal>
+    ensures { IfOk result (AfterPart place found part.now) }
+{
+    match place {
+        Place::Beginning => after_beginning(part, found),
+        Place::Chunk => after_chunk(part, found),
+        Place::Format(length) => after_format(part, length, found),
+        Place::Passed(_) => Ok(After::Part(found, place)),
+    }
+}
+
+// How many bytes a part has.
+fn part_length(place: Place) -> u64
+    ensures { result ≡ part_length place }
+{
+    match place {
+        Place::Beginning => 12,
+        Place::Chunk => 8,
+        Place::Format(length) => length,
+        Place::Passed(left) => left,
+    }
+}
+
 impl WavHead {
     /// A reader that has read nothing.
-    pub fn new(alloc: Global) -> WavHead {
+    pub fn new(alloc: Global) -> WavHead
+        ensures place { result.place ≡ Place.Beginning }
+        ensures format { result.format ≡ None }
+        ensures bytes { result.bytes.items ≡ [] }
+    {
         WavHead {
             bytes: Vec::new(alloc),
             place: Place::Beginning,
@@ -94,85 +214,71 @@ impl WavHead {
         }
     }
 
-    // How many bytes are gathered before they are read.
-    fn wanted(&self) -> usize {
-        match self.place {
-            Place::Beginning => 12,
-            Place::Chunk => 8,
-            Place::Format(length) => length as usize,
-            Place::Passed(_) => 0,
-        }
-    }
-
-    // The name and the length of a chunk. Samples follow where it says what they are.
-    fn take_chunk(&mut self) -> Result<Option<WavFormat>, Refusal> {
-        let length = long_at(&self.bytes, 4);
-        // a chunk of an odd length has a byte more
-        let padded = length.saturating_add(length % 2);
-        if self.bytes.starts_with(b"data") {
-            return match self.format {
-                Some(format) => Ok(Some(WavFormat {
-                    length: length_of(length),
-                    ..format
-                })),
-                None => Err(Refusal::Wav),
-            };
-        }
-        if !self.bytes.starts_with(b"fmt ") {
-            self.place = if padded > 0 {
-                Place::Passed(padded)
-            } else {
-                Place::Chunk
-            };
-            return Ok(None);
-        }
-        if !(16..=MOST_FORMAT_BYTES).contains(&length) {
-            return Err(Refusal::Wav);
-        }
-        self.place = Place::Format(padded);
-        Ok(None)
-    }
-
     // All bytes of a part.
-    fn take_part(&mut self) -> Result<Option<WavFormat>, Refusal> {
-        let found = match self.place {
-            Place::Beginning => {
-                let is_wav = self.bytes.starts_with(b"RIFF") && self.bytes.ends_with(b"WAVE");
-                if !is_wav {
-                    return Err(Refusal::Wav);
-                }
-                self.place = Place::Chunk;
-                None
-            }
-            Place::Chunk => self.take_chunk()?,
-            Place::Format(_) => {
-                match format_of(&self.bytes) {
-                    Some(format) => self.format = Some(format),
-                    None => return Err(Refusal::Wav),
-                }
-                self.place = Place::Chunk;
-                None
-            }
-            Place::Passed(_) => None,
-        };
+    fn take_part(&mut self) -> Result<Option<WavFormat>, Refusal>
+        ensures { IfOk result (λ found. TakesPart self.old found self.new) }
+    {
+        let after = after_part(&self.bytes, self.place, self.format)?;
         self.bytes.clear();
-        Ok(found)
+        match after {
+            After::Samples(format) => Ok(Some(format)),
+            After::Part(format, place) => {
+                self.format = format;
+                self.place = place;
+                Ok(None)
+            }
+        }
     }
 
-    /// Takes a byte. How the samples are is returned with the last byte before them.
-    pub fn take(&mut self, byte: u8) -> Result<Option<WavFormat>, Refusal> {
-        if let Place::Passed(left) = self.place {
-            self.place = if left > 1 {
-                Place::Passed(left - 1)
-            } else {
-                Place::Chunk
-            };
-            return Ok(None);
-        }
+    // A byte of a part that is read.
+    fn gather(&mut self, byte: u8) -> Result<Option<WavFormat>, Refusal>
+        requires { RestIsWhole self.old.place }
+        ensures { IfOk result (λ found. TakesByte self.old byte found self.new) }
+    {
         self.bytes.push(byte).map_err(AllocError::from)?;
-        if self.bytes.len() < self.wanted() {
+        if (self.bytes.len() as u64) < part_length(self.place) {
             return Ok(None);
         }
         self.take_part()
+    }
+
+    // A byte that is passed over, of so many.
+    fn pass_over(&mut self, left: u64, byte: u8)
+        requires { self.old.place ≡ Place.Passed left }
+        ensures { TakesByte self.old byte None self.new }
+    {
+        self.place = if left > 1 {
+            Place::Passed(left - 1)
+        } else {
+            Place::Chunk
+        };
+        self.bytes.clear();
+    }
+
+    // A byte. How the samples are is returned with the last byte before them.
+    fn take_byte(&mut self, byte: u8) -> Result<Option<WavFormat>, Refusal>
+        ensures { IfOk result (λ found. TakesByte self.old byte found self.new) }
+    {
+        match self.place {
+            Place::Passed(left) => {
+                self.pass_over(left, byte);
+                Ok(None)
+            }
+            Place::Beginning | Place::Chunk | Place::Format(_) => self.gather(byte),
+        }
+    }
+
+    /// Takes bytes. Where the samples begin among them, it returns how they are, and how many bytes stand before
+    /// them. After an `Err` the reader is not to be used again.
+    pub fn take(&mut self, bytes: &[u8]) -> Result<Option<(WavFormat, usize)>, Refusal>
+        ensures taken { IfOk result (λ found. TakesHead self.old bytes.now found self.new) }
+        ensures within { IfOk result (λ found. IfSome found (λ samples. samples.1 ≤ length bytes.now)) }
+    {
+        for (i, byte) in bytes.iter().enumerate() {
+            if let Some(format) = self.take_byte(*byte)? {
+                return Ok(Some((format, i + 1)));
+            }
+        }
+        Ok(None)
     }
 }
