@@ -1,9 +1,9 @@
 -- What a recording says.
-use Rattle.std.proofs.Common.{◌≡◌, ℕ, ℤ, List, [], ◌∷◌, ◌++◌, true, false, Option, Some, None, refl, ap, sym, subst, ◌∙◌, append_assoc, drop}
+use Rattle.std.proofs.Common.{◌≡◌, ℕ, ℤ, List, [], ◌∷◌, ◌++◌, true, false, Option, Some, None, refl, ap, sym, subst, ◌∙◌, append_assoc, append-nil, drop}
 use Rattle.std.specs.Prelude.{option_map, unwrap_or}
 use Rattle.std.specs.Option.{option_and_then}
 use Rattle.xb_vcd.specs.declared.event.Event.{Event}
-use Rattle.xb_vcd.specs.Steps.{Adds}
+use Rattle.xb_vcd.specs.Steps.{Adds, said_before}
 use Rattle.xb_vcd.specs.VcdTexts.{VcdSays, VcdState, begun_vcd, vcd_state}
 use Rattle.xb_csv.specs.declared.columns.Form.{Form}
 use Rattle.xb_csv.specs.declared.columns.Form.TheVariants as forms
@@ -17,12 +17,13 @@ use Rattle.xb_recording.specs.declared.sound.Sound.{Sound}
 use Rattle.xb_recording.specs.declared.wav.WavFormat.{WavFormat}
 use Rattle.xb_recording.specs.declared.wav.WavHead.{WavHead}
 use Rattle.xb_recording.specs.Wavs.{TakesHead}
+use Rattle.xb_recording.specs.Gpiomons.{GpiomonSays, GpiomonState, gpiomon_line_says, gpiomon_state, gpiomon_with}
 use Rattle.xb_recording.specs.declared.wanted.Wanted.{Wanted}
 use Rattle.xb_csv.specs.Tables.{AddsAll, TableState, table_ends, table_line_says, table_says}
 use Rattle.xb_recording.specs.Pieces.{SamplesSay, samples_events}
 use Rattle.xb_recording.specs.Samples.{BitsState, bits_of, bits_reading, bits_say, bits_state, masks_of, rate_says}
 use Rattle.xb_recording.specs.Sounds.{SoundSays, SoundState, begun_sound, high_of, own_bytes, samples_after, samples_left, samples_of, sound_begins, sound_reading, sound_says, sound_state, wires_of}
-use Rattle.xb_recording.specs.Says.{BitsSay, BytesSay, IsBegunBits, IsBegunSound, IsBegunTable, IsBegunVcd, IsBegunWav, IsOfFormat, LinesSay, Says, SixteenSay, TableSays, Takes, TakesBytes, TakesText, WavSays, is_text, lines_in, lines_left, names_in, plain_lines, text_lines}
+use Rattle.xb_recording.specs.Says.{BitsSay, BytesSay, IsBegunBits, IsBegunGpiomon, IsBegunSound, IsBegunTable, IsBegunVcd, IsBegunWav, IsOfFormat, LinesSay, Says, SixteenSay, TableSays, Takes, TakesBytes, TakesText, WavSays, is_text, lines_in, lines_left, names_in, plain_lines, text_lines}
 use Rattle.xb_recording.proofs.WaitLemmas.{same-after}
 use Rattle.xb_recording.proofs.WavLemmas.{wav_is}
 
@@ -108,6 +109,38 @@ table_begins form wanted (sources.Gpiomon gpiomon) said h text later k = elim h 
 table_begins form wanted (sources.Bits bits) said h text later k = elim h [ ]
 table_begins form wanted (sources.WavHead head) said h text later k = elim h [ ]
 table_begins form wanted (sources.Sound sound) said h text later k = elim h [ ]
+
+-- the beginning of what gpiomon writes
+gpiomon_begins :
+    (wanted : Wanted) (source : Source) (said : List Event) → IsBegunGpiomon (names_in wanted) source said
+    → (text : List ℕ) (later : List Event) → LinesSay source (text_lines text) later
+    → GpiomonSays (gpiomon_with (names_in wanted) None) (text_lines text) (said ++ later)
+gpiomon_begins wanted (sources.Gpiomon gpiomon) said h text later k =
+    let P : GpiomonState → Type 0 = λ s. GpiomonSays s (text_lines text) (said ++ later) in
+    let Q : List Event → Type 0 = λ m. GpiomonSays (gpiomon_state gpiomon) (text_lines text) (m ++ later) in
+    subst P h.0 (subst Q (sym h.1) k)
+gpiomon_begins wanted (sources.Vcd vcd) said h text later k = elim h [ ]
+gpiomon_begins wanted (sources.Columns table) said h text later k = elim h [ ]
+gpiomon_begins wanted (sources.Bits bits) said h text later k = elim h [ ]
+gpiomon_begins wanted (sources.WavHead head) said h text later k = elim h [ ]
+gpiomon_begins wanted (sources.Sound sound) said h text later k = elim h [ ]
+
+-- the last line of it
+pub gpiomon_ended :
+    (before now : GpiomonState) (line : List ℕ) (old new : List Event) → old ≡ []
+    → Adds (gpiomon_line_says before line) old new now → GpiomonSays before (line ∷ []) new
+gpiomon_ended before now line old new none h = at (gpiomon_line_says before line) refl h
+  where
+    at :
+        (first : Option (List Event × GpiomonState)) → gpiomon_line_says before line ≡ first → Adds first old new now
+        → GpiomonSays before (line ∷ []) new
+    at None e f = elim f [ ]
+    at (Some said) e f =
+        let events : new ≡ said.0 ++ [] = f.0 ∙ ap (λ o. o ++ said.0) none ∙ sym (append-nil said.0) in (
+          said.1,
+          ap (option_and_then (λ s. said_before s.0 (Some ([], s.1)))) e
+              ∙ ap (λ m. Some (m, said.1)) (sym events),
+        )
 
 -- the beginning of samples
 all-added : (told : Option (List Event)) (said : List Event) → AddsAll told [] said → told ≡ Some said
@@ -226,7 +259,7 @@ begins formats.Vcd wanted source said h text later k = at source h k.0
 begins formats.Sigrok wanted source said h text later k = table_begins forms.Sigrok wanted source said h text later k.0
 begins formats.Saleae wanted source said h text later k = table_begins forms.Saleae wanted source said h text later k.0
 begins formats.Edges wanted source said h text later k = table_begins forms.Edges wanted source said h text later k.0
-begins formats.Gpiomon wanted source said h text later k = tt
+begins formats.Gpiomon wanted source said h text later k = gpiomon_begins wanted source said h text later k.0
 begins formats.Bits wanted source said h text later k = bits_begin wanted source said h text later k.1
 begins formats.Sixteen wanted source said h text later k = sound_begin 1 wanted.rate None wanted source said h text later k.1
 begins formats.Wav wanted source said h text later k = wav_begin wanted source said h text later k.1

@@ -3,6 +3,7 @@ pub mod Pieces
 pub mod Samples
 pub mod Sounds
 pub mod Wavs
+pub mod Gpiomons
 pub mod Says
 pub mod WrittenVcd
 pub mod Formats

@@ -17,6 +17,7 @@ use Rattle.xb_recording.specs.Pieces.{SamplesSay, SayTheSame}
 use Rattle.xb_recording.specs.Samples.{bits_of, bits_reading, bits_say, bits_state, masks_of, rate_says}
 use Rattle.xb_recording.specs.declared.wav.Place.TheVariants as places
 use Rattle.xb_recording.specs.declared.wav.WavFormat.{WavFormat}
+use Rattle.xb_recording.specs.Gpiomons.{GpiomonSays, gpiomon_state, gpiomon_with}
 use Rattle.xb_recording.specs.Wavs.{HeadBegins, IsWav, Samples}
 use Rattle.xb_recording.specs.Sounds.{SoundSays, begun_sound, high_of, own_bytes, samples_of, sound_begins, sound_says, sound_state, wires_of}
 use Rattle.xb_csv.specs.Tables.{AddsAll, begun_table, table_says, table_state}
@@ -38,12 +39,11 @@ abbrev pub plain_lines : Bool → List (List ℕ) → List (List ℕ)
 plain_lines is_first [] = []
 plain_lines is_first (line ∷ rest) = plain_line is_first line ∷ rest
 
--- what is read says these events of further lines: exact for a VCD and for tables, and nothing is said of the other
--- forms
+-- what is read says these events of further lines; samples have none
 abbrev pub LinesSay : Source → List (List ℕ) → List Event → Type 0
 LinesSay (sources.Vcd vcd) lines events = VcdSays (vcd_state vcd) lines events
 LinesSay (sources.Columns table) lines events = table_says (table_state table) lines ≡ Some events
-LinesSay (sources.Gpiomon gpiomon) lines events = Unit {0}
+LinesSay (sources.Gpiomon gpiomon) lines events = GpiomonSays (gpiomon_state gpiomon) lines events
 LinesSay (sources.Bits bits) lines events = Unit {0}
 LinesSay (sources.WavHead head) lines events = Unit {0}
 LinesSay (sources.Sound sound) lines events = Unit {0}
@@ -102,6 +102,16 @@ IsBegunTable form names rate (sources.Bits bits) said = ⊥
 IsBegunTable form names rate (sources.WavHead head) said = ⊥
 IsBegunTable form names rate (sources.Sound sound) said = ⊥
 
+-- and of what gpiomon writes
+abbrev pub IsBegunGpiomon : List (List ℕ) → Source → List Event → Type 0
+IsBegunGpiomon names (sources.Gpiomon gpiomon) said =
+    (gpiomon_state gpiomon ≡ gpiomon_with names None) × (said ≡ [])
+IsBegunGpiomon names (sources.Vcd vcd) said = ⊥
+IsBegunGpiomon names (sources.Columns table) said = ⊥
+IsBegunGpiomon names (sources.Bits bits) said = ⊥
+IsBegunGpiomon names (sources.WavHead head) said = ⊥
+IsBegunGpiomon names (sources.Sound sound) said = ⊥
+
 -- and of samples, of which the rate was said
 abbrev pub IsBegunBits : List (List ℕ) → Option ℕ → Source → List Event → Type 0
 IsBegunBits names rate (sources.Bits bits) said =
@@ -140,7 +150,7 @@ IsOfFormat formats.Vcd wanted source said = IsBegunVcd (names_in wanted) source 
 IsOfFormat formats.Sigrok wanted source said = IsBegunTable forms.Sigrok (names_in wanted) wanted.rate source said
 IsOfFormat formats.Saleae wanted source said = IsBegunTable forms.Saleae (names_in wanted) wanted.rate source said
 IsOfFormat formats.Edges wanted source said = IsBegunTable forms.Edges (names_in wanted) wanted.rate source said
-IsOfFormat formats.Gpiomon wanted source said = Unit {0}
+IsOfFormat formats.Gpiomon wanted source said = IsBegunGpiomon (names_in wanted) source said
 IsOfFormat formats.Bits wanted source said = IsBegunBits (names_in wanted) wanted.rate source said
 IsOfFormat formats.Sixteen wanted source said =
     IsBegunSound 1 wanted.rate None (high_of wanted.threshold) (names_in wanted) source said
@@ -195,14 +205,14 @@ abbrev pub BitsSay : Wanted → List ℕ → List Event → Type 0
 BitsSay wanted samples events =
     (all : List Event) × (bits_say (names_in wanted) wanted.rate samples ≡ Some all) × SayTheSame events all
 
--- a recording of a form says these events of the wires that are wanted: exact for a VCD, for tables and for samples,
--- where pieces may end in waits
+-- a recording of a form says these events of the wires that are wanted: exactly, but that pieces of samples may end in
+-- waits
 abbrev pub Says : Format → Wanted → List ℕ → List Event → Type 0
 Says formats.Vcd wanted text events = VcdSays (begun_vcd (names_in wanted)) (text_lines text) events
 Says formats.Sigrok wanted text events = TableSays forms.Sigrok wanted text events
 Says formats.Saleae wanted text events = TableSays forms.Saleae wanted text events
 Says formats.Edges wanted text events = TableSays forms.Edges wanted text events
-Says formats.Gpiomon wanted text events = Unit {0}
+Says formats.Gpiomon wanted text events = GpiomonSays (gpiomon_with (names_in wanted) None) (text_lines text) events
 Says formats.Bits wanted text events = BitsSay wanted text events
 Says formats.Sixteen wanted text events = SixteenSay 1 wanted.rate wanted text events
 Says formats.Wav wanted text events = (samples : Samples) × IsWav text samples × WavSays wanted samples events

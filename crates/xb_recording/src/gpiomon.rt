@@ -1,4 +1,9 @@
 // The lines that gpiomon writes.
+ghost use Rattle.std.specs.Prelude.{◌≡◌, ◌++◌, ◌<◌, IfSome, OnOk, length, map, option_copied, option_map};
+ghost use Rattle.std.specs.List.{position};
+ghost use Rattle.xb_vcd.specs.Steps.{Adds};
+ghost use Rattle.xb_recording.specs.Gpiomons.{between, edge_line_says, edge_of, edge_said, edge_says, first_kind, first_word, gpiomon_line_says, gpiomon_state, gpiomon_with, is_gap, named_levels, rises, second_kind, time_said, wire_of};
+ghost use Rattle.xb_csv.specs.Tables.{AddsAll};
 
 use xb_contact::NANOSECONDS;
 use xb_csv::{nanoseconds_of, trimmed};
@@ -20,34 +25,64 @@ struct Edge<'b> {
     wire: &'b [u8],
 }
 
+// Whether words are parted by a byte.
+fn is_gap(byte: u8) -> bool
+    ensures { result ≡ is_gap byte }
+{
+    byte == b' ' || byte == b'\t'
+}
+
+// Where the first word of a text ends, if something follows it.
+fn gap_in(text: &[u8]) -> Option<usize>
+    ensures first { result ≡ position is_gap text.now }
+    ensures within { IfSome result (λ end. end < length text.now) }
+{
+    text.iter().position(|byte| is_gap(*byte))
+}
+
 // The first word of a text, and what follows it.
-fn first_word(text: &[u8]) -> (&[u8], &[u8]) {
+#[tactic(auto, unfolding(crate::specs::Gpiomons::first_word))]
+fn first_word(text: &[u8]) -> (&[u8], &[u8])
+    ensures word { result.0.now ≡ (first_word text.now).0 }
+    ensures rest { result.1.now ≡ (first_word text.now).1 }
+{
     let text = trimmed(text);
-    match text.iter().position(|byte| *byte == b' ' || *byte == b'\t') {
+    match gap_in(text) {
         Some(end) => (&text[..end], trimmed(&text[end..])),
         None => (text, b"".as_slice()),
     }
 }
 
 // A text without a byte before it and one after it, if they are there.
-fn between(text: &[u8], before: u8, after: u8) -> Option<&[u8]> {
-    match text {
-        [first, inner @ .., last] if *first == before && *last == after => Some(trimmed(inner)),
-        _ => None,
+#[tactic(auto, unfolding(crate::specs::Gpiomons::between))]
+fn between(text: &[u8], before: u8, after: u8) -> Option<&[u8]>
+    ensures { option_copied result ≡ between before after text.now }
+{
+    let count = text.len();
+    if count < 2 || text[0] != before || text[count - 1] != after {
+        return None;
     }
+    Some(trimmed(&text[1..count - 1]))
 }
 
 // Whether a word says that a wire rises.
-fn rises(word: &[u8]) -> Option<bool> {
-    match word {
-        b"RISING" | b"rising" => Some(true),
-        b"FALLING" | b"falling" => Some(false),
-        _ => None,
+fn rises(word: &[u8]) -> Option<bool>
+    ensures { result ≡ rises word.now }
+{
+    if word == b"RISING".as_slice() || word == b"rising".as_slice() {
+        Some(true)
+    } else if word == b"FALLING".as_slice() || word == b"falling".as_slice() {
+        Some(false)
+    } else {
+        None
     }
 }
 
 // `event: RISING EDGE offset: 17 timestamp: [ 123.456789012]`
-fn edge_of_first_kind(line: &[u8]) -> Option<Edge<'_>> {
+#[tactic(auto, unfolding(crate::specs::Gpiomons::first_kind))]
+fn edge_of_first_kind(line: &[u8]) -> Option<Edge<'_>>
+    ensures { option_map edge_said result ≡ first_kind line.now }
+{
     let (_, rest) = first_word(line);
     let (kind, rest) = first_word(rest);
     let (edge, rest) = first_word(rest);
@@ -71,7 +106,9 @@ fn edge_of_first_kind(line: &[u8]) -> Option<Edge<'_>> {
 }
 
 // The line of a chip, by its number, or the name that stands between quotes.
-fn wire_of(text: &[u8]) -> &[u8] {
+fn wire_of(text: &[u8]) -> &[u8]
+    ensures { result.now ≡ wire_of text.now }
+{
     if let Some(name) = between(text, b'"', b'"') {
         return name;
     }
@@ -80,7 +117,10 @@ fn wire_of(text: &[u8]) -> &[u8] {
 }
 
 // `123.456789012 rising gpiochip0 17`, or with a name in place of a chip and a number.
-fn edge_of_second_kind(line: &[u8]) -> Option<Edge<'_>> {
+#[tactic(auto, unfolding(crate::specs::Gpiomons::second_kind))]
+fn edge_of_second_kind(line: &[u8]) -> Option<Edge<'_>>
+    ensures { option_map edge_said result ≡ second_kind line.now }
+{
     let (time, rest) = first_word(line);
     let (kind, rest) = first_word(rest);
     match rises(kind) {
@@ -94,7 +134,9 @@ fn edge_of_second_kind(line: &[u8]) -> Option<Edge<'_>> {
 }
 
 // What a line says.
-fn edge_of(line: &[u8]) -> Option<Edge<'_>> {
+fn edge_of(line: &[u8]) -> Option<Edge<'_>>
+    ensures { option_map edge_said result ≡ edge_of line.now }
+{
     if line.starts_with(b"event:") {
         edge_of_first_kind(line)
     } else {
@@ -107,46 +149,82 @@ pub(crate) fn is_of_gpiomon(line: &[u8]) -> bool {
     edge_of(line).is_some()
 }
 
+// Says the levels of the wires of this name.
+fn say_named(
+    names: &[&str],
+    wire: &[u8],
+    is_high: bool,
+    events: &mut Vec<Event>,
+) -> Result<(), Refusal>
+    ensures { OnOk result (events.new.items ≡ events.old.items
+        ++ named_levels 0 wire.now is_high (map (λ name. name.now) names.now)) }
+{
+    for (i, name) in names.iter().enumerate() {
+        if name.as_bytes() == wire {
+            say_level(events, i, is_high)?;
+        }
+    }
+    Ok(())
+}
+
+// Says a time, which is not before the last one.
+fn say_time(last: Option<u64>, time: u64, events: &mut Vec<Event>) -> Result<(), Refusal>
+    ensures { OnOk result (AddsAll (time_said last time) events.old.items events.new.items) }
+{
+    match last {
+        None => say(events, Event::Ticks(NANOSECONDS))?,
+        Some(last) if time < last => return Err(Refusal::Backwards),
+        Some(_) => {}
+    }
+    say(events, Event::At(time))
+}
+
 impl<'a> Gpiomon<'a> {
     /// A reader that has read nothing. The wires are those of these names.
-    pub fn new(names: &'a [&'a str]) -> Gpiomon<'a> {
+    pub fn new(names: &'a [&'a str]) -> Gpiomon<'a>
+        ensures { gpiomon_state result ≡ gpiomon_with (map (λ name. name.now) names.now) None }
+    {
         Gpiomon { names, last: None }
     }
 
     // An edge at this time.
     fn take_edge(
         &mut self,
+        edge: Edge<'_>,
         time: u64,
-        edge: &Edge<'_>,
         events: &mut Vec<Event>,
-    ) -> Result<(), Refusal> {
-        match self.last {
-            None => say(events, Event::Ticks(NANOSECONDS))?,
-            Some(last) if time < last => return Err(Refusal::Backwards),
-            Some(_) => {}
-        }
+    ) -> Result<(), Refusal>
+        ensures { OnOk result (Adds (edge_says (gpiomon_state self.old) (edge_said edge.entry) time)
+            events.old.items events.new.items (gpiomon_state self.new)) }
+    {
+        say_time(self.last, time, events)?;
         self.last = Some(time);
-        say(events, Event::At(time))?;
-        for (i, name) in self.names.iter().enumerate() {
-            if name.as_bytes() == edge.wire {
-                say_level(events, i, edge.is_rising)?;
-            }
-        }
-        Ok(())
+        say_named(self.names, edge.wire, edge.is_rising, events)
     }
 
-    /// Takes a line, and adds what it says to `events`. After an `Err` the reader is not to be used again.
-    pub fn take_line(&mut self, line: &[u8], events: &mut Vec<Event>) -> Result<(), Refusal> {
-        let line = trimmed(line);
-        if line.is_empty() {
-            return Ok(());
-        }
+    // A line that is not empty.
+    fn take_edge_line(&mut self, line: &[u8], events: &mut Vec<Event>) -> Result<(), Refusal>
+        ensures { OnOk result (Adds (edge_line_says (gpiomon_state self.old) line.now)
+            events.old.items events.new.items (gpiomon_state self.new)) }
+    {
         let Some(edge) = edge_of(line) else {
             return Err(Refusal::Edge);
         };
         match nanoseconds_of(edge.time) {
-            Some(time) => self.take_edge(time, &edge, events),
+            Some(time) => self.take_edge(edge, time, events),
             None => Err(Refusal::Time),
         }
+    }
+
+    /// Takes a line, and adds what it says to `events`. After an `Err` the reader is not to be used again.
+    pub fn take_line(&mut self, line: &[u8], events: &mut Vec<Event>) -> Result<(), Refusal>
+        ensures { OnOk result (Adds (gpiomon_line_says (gpiomon_state self.old) line.now)
+            events.old.items events.new.items (gpiomon_state self.new)) }
+    {
+        let line = trimmed(line);
+        if line.is_empty() {
+            return Ok(());
+        }
+        self.take_edge_line(line, events)
     }
 }

@@ -4,9 +4,9 @@
 //!
 //! - `Reader::take_byte`, `take_samples` and `end` (`Takes`, `RestSays`): exactly what the whole recording says of
 //!   these wires, in pieces of any length (`Says`): of a VCD (`xb_vcd`), of the CSV forms and of times with levels
-//!   (`xb_csv`), of raw samples (`Samples`), and of samples of 16 bits (`Sounds`), also of a WAV (`Wavs`), of which a
-//!   piece may also say up to when the levels hold.
-//! - What gpiomon says is not defined: of this the reader is proved safe alone. Exact are the names of the forms.
+//!   (`xb_csv`), of what gpiomon writes (`Gpiomons`), of raw samples (`Samples`), and of samples of 16 bits (`Sounds`),
+//!   also of a WAV (`Wavs`). A piece of samples may also say up to when the levels hold.
+//! - Exact are the names of the forms; how a form is told by the beginning is not.
 //! - `vcd_of_changes` (`vcd_text`): the VCD of what wires do. It is read back: it says exactly that.
 //! - `laws::each_level_is_heard`: two thresholds hear each level of a sound that is disturbed by less than they differ.
 #![tactic(auto)]

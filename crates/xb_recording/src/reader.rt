@@ -4,6 +4,7 @@ ghost use Rattle.xb_csv.specs.Tables.{table_says, table_state};
 ghost use Rattle.xb_vcd.specs.declared.event.Event.{Event as EventTaken};
 ghost use Rattle.xb_vcd.specs.VcdTexts.{VcdSays, vcd_state};
 ghost use Rattle.xb_recording.specs.declared.wanted.Wanted.{Wanted as WantedHere};
+ghost use Rattle.xb_recording.specs.Gpiomons.{GpiomonSays, gpiomon_state};
 ghost use Rattle.xb_recording.specs.Says.{Begins, BytesSay, IsOfFormat, LinesSay, RestSays, Takes, TakesBytes, TakesSamples, TakesText, is_in_first, is_text, line_so_far, plain_line};
 
 use crate::format::{BYTE_ORDER_MARK, Format};
@@ -114,6 +115,18 @@ fn end_table(table: &mut Columns<'_>, line: &[u8], events: &mut Vec<Event>) -> R
     table.end(events)
 }
 
+// The last line of gpiomon.
+fn end_gpiomon(
+    gpiomon: &mut Gpiomon<'_>,
+    line: &[u8],
+    events: &mut Vec<Event>,
+) -> Result<(), Refusal>
+    requires { events.old.items ≡ [] }
+    ensures { OnOk result (GpiomonSays (gpiomon_state gpiomon.old) (line.now ∷ []) events.new.items) }
+{
+    gpiomon.take_line(line, events)
+}
+
 // The last line of a text, and the end of a recording.
 fn end_source(source: &mut Source<'_>, line: &[u8], events: &mut Vec<Event>) -> Result<(), Refusal>
     requires { events.old.items ≡ [] }
@@ -123,7 +136,7 @@ fn end_source(source: &mut Source<'_>, line: &[u8], events: &mut Vec<Event>) -> 
     match source {
         Source::Vcd(vcd) => end_vcd(vcd, line, events),
         Source::Columns(table) => end_table(table, line, events),
-        Source::Gpiomon(gpiomon) => gpiomon.take_line(line, events),
+        Source::Gpiomon(gpiomon) => end_gpiomon(gpiomon, line, events),
         Source::Bits(bits) => bits.end(events),
         Source::WavHead(_) => Err(Refusal::Wav),
         Source::Sound(sound) => sound.end(events),

@@ -1,0 +1,132 @@
+-- What gpiomon writes, line by line.
+use Rattle.std.specs.Prelude.{◌≡◌, ℕ, ◌+◌, ◌-◌, List, [], ◌∷◌, ◌++◌, Bool, true, false, Option, Some, None, bytes_eq, codes, drop, length, map, nat_le, nat_lt, nat_eq, slice_index, take, ◌==◌, ◌&&◌, ◌||◌, if◌then◌else◌, option_map}
+use Rattle.std.specs.List.{position, starts_with}
+use Rattle.std.specs.Option.{option_and_then}
+use Rattle.xb_contact.specs.declared.scale.TheConstants.{NANOSECONDS}
+use Rattle.xb_csv.specs.Cells.{trimmed}
+use Rattle.xb_csv.specs.Seconds.{nanoseconds_of}
+use Rattle.xb_vcd.specs.declared.event.Event.{Event}
+use Rattle.xb_vcd.specs.declared.event.Event.TheVariants.{At, Ticks}
+use Rattle.xb_vcd.specs.Steps.{all_say}
+use Rattle.xb_vcd.specs.VcdChanges.{level_event}
+use Rattle.xb_recording.specs.declared.gpiomon.Edge.{Edge}
+use Rattle.xb_recording.specs.declared.gpiomon.Gpiomon.{Gpiomon}
+
+-- words are parted by spaces and tabs
+abbrev pub is_gap : ℕ → Bool
+is_gap byte = (byte == 32) || (byte == 9)
+
+abbrev pub cut_word : List ℕ → Option ℕ → List ℕ × List ℕ
+cut_word text None = (text, [])
+cut_word text (Some end) = (take end text, trimmed (drop end text))
+
+-- the first word of a text, and what follows it
+unfoldable pub first_word : List ℕ → List ℕ × List ℕ
+first_word text = cut_word (trimmed text) (position is_gap (trimmed text))
+
+-- a text without a byte before it and one after it, if they are there
+unfoldable pub between : ℕ → ℕ → List ℕ → Option (List ℕ)
+between before after text =
+    if nat_le 2 (length text) && (slice_index text 0 == before) && (slice_index text (length text - 1) == after)
+    then Some (trimmed (take (length text - 2) (drop 1 text))) else None
+
+-- whether a word says that a wire rises
+abbrev pub rises : List ℕ → Option Bool
+rises word =
+    if bytes_eq word (codes "RISING") || bytes_eq word (codes "rising") then Some true
+    else (if bytes_eq word (codes "FALLING") || bytes_eq word (codes "falling") then Some false else None)
+
+-- what a line says: a time in seconds, whether a wire rises or falls, and which
+pub record EdgeSaid : Type 0 where
+  pub time : List ℕ
+  pub is_rising : Bool
+  pub wire : List ℕ
+
+abbrev pub edge_with : List ℕ → List ℕ → Bool → EdgeSaid
+edge_with time wire is_rising = record { time = time; is_rising = is_rising; wire = wire }
+
+abbrev pub edge_said : Edge → EdgeSaid
+edge_said edge = edge_with edge.time.now edge.wire.now edge.is_rising
+
+-- the six words of libgpiod 1, the last of which is the time in brackets: `event:`, how it changes, `EDGE`, `offset:`,
+-- the line, `timestamp:`
+abbrev pub edge_by : List ℕ × List ℕ → List ℕ × List ℕ → List ℕ × List ℕ → List ℕ × List ℕ → List ℕ × List ℕ
+    → Option EdgeSaid
+edge_by kind edge offset wire stamp =
+    if bytes_eq edge.0 (codes "EDGE") && bytes_eq offset.0 (codes "offset:") && bytes_eq stamp.0 (codes "timestamp:")
+    then option_and_then (λ is_rising. option_map (λ time. edge_with time wire.0 is_rising) (between 91 93 stamp.1)) (rises kind.0)
+    else None
+
+abbrev pub word_after : List ℕ × List ℕ → List ℕ × List ℕ
+word_after word = first_word word.1
+
+unfoldable pub first_kind : List ℕ → Option EdgeSaid
+first_kind line =
+    let kind = word_after (first_word line) in
+    let edge = word_after kind in
+    let offset = word_after edge in
+    let wire = word_after offset in
+    edge_by kind edge offset wire (word_after wire)
+
+-- the wire is the number after the chip, or a name in quotes
+abbrev pub wire_by : List ℕ → Option (List ℕ) → List ℕ
+wire_by text (Some name) = name
+wire_by text None = if length (first_word text).1 == 0 then text else (first_word text).1
+
+abbrev pub wire_of : List ℕ → List ℕ
+wire_of text = wire_by text (between 34 34 text)
+
+-- what libgpiod 2 writes: the time, how it changes, and the wire
+unfoldable pub second_kind : List ℕ → Option EdgeSaid
+second_kind line =
+    let time = first_word line in
+    let kind = word_after time in
+    if length kind.1 == 0 then None
+    else option_map (λ is_rising. edge_with time.0 (wire_of kind.1) is_rising) (rises kind.0)
+
+abbrev pub edge_of : List ℕ → Option EdgeSaid
+edge_of line = if starts_with nat_eq line (codes "event:") then first_kind line else second_kind line
+
+-- the wires that are asked for, and the last time, if there is one
+pub record GpiomonState : Type 0 where
+  pub names : List (List ℕ)
+  pub last : Option ℕ
+
+abbrev pub gpiomon_with : List (List ℕ) → Option ℕ → GpiomonState
+gpiomon_with names last = record { names = names; last = last }
+
+abbrev pub gpiomon_state : Gpiomon → GpiomonState
+gpiomon_state gpiomon = gpiomon_with (map (λ name. name.now) gpiomon.names.now) gpiomon.last
+
+-- the wires of this name, from this one on, have a level
+abbrev pub named_levels : ℕ → List ℕ → Bool → List (List ℕ) → List Event
+named_levels wire name is_high [] = []
+named_levels wire name is_high (own ∷ rest) =
+    if bytes_eq own name then level_event wire is_high ∷ named_levels (wire + 1) name is_high rest
+    else named_levels (wire + 1) name is_high rest
+
+-- a time never falls; the first one says that ticks are nanoseconds
+abbrev pub time_said : Option ℕ → ℕ → Option (List Event)
+time_said None time = Some (Ticks NANOSECONDS ∷ At time ∷ [])
+time_said (Some last) time = if nat_lt time last then None else Some (At time ∷ [])
+
+abbrev pub edge_says : GpiomonState → EdgeSaid → ℕ → Option (List Event × GpiomonState)
+edge_says state edge time =
+    option_map
+    (λ said. (said ++ named_levels 0 edge.wire edge.is_rising state.names, gpiomon_with state.names (Some time)))
+    (time_said state.last time)
+
+-- a line that is not empty
+abbrev pub edge_line_says : GpiomonState → List ℕ → Option (List Event × GpiomonState)
+edge_line_says state line =
+    option_and_then (λ edge. option_and_then (λ time. edge_says state edge time) (nanoseconds_of edge.time)) (edge_of line)
+
+-- a line, without the blanks around it; an empty one says nothing
+abbrev pub gpiomon_line_says : GpiomonState → List ℕ → Option (List Event × GpiomonState)
+gpiomon_line_says state line =
+    if length (trimmed line) == 0 then Some ([], state) else edge_line_says state (trimmed line)
+
+-- lines from a state on
+abbrev pub GpiomonSays : GpiomonState → List (List ℕ) → List Event → Type 0
+GpiomonSays state lines events =
+    (last : GpiomonState) × (all_say gpiomon_line_says state lines ≡ Some (events, last))
