@@ -26,6 +26,13 @@ const CASES: &[Case<'static>] = &[
         rows: b"line,state,ms\n7,B,10\n7,M,20\n7,B,30\n",
         told: b"line 7: 6 bounces, the longest 1000 us\n",
     },
+    // a level that lasts no time is no bounce
+    Case {
+        words: &["--line", "7=1", "--said"],
+        recording: b"0,0\n0.010,1\n0.010,0\n0.020,1\n0.040,1\n",
+        rows: b"line,state,ms\n7,B,20\n7,M,20\n",
+        told: b"line 7: 0 bounces, the longest 0 us\n",
+    },
     // the last run is short, and nothing settles it
     Case {
         words: &["--line", "7=1"],

@@ -2,4 +2,6 @@ pub mod DayParts
 pub mod RowTexts
 pub mod HeardRows
 pub mod KeptTapes
+pub mod TallyLemmas
+pub mod ToldTexts
 pub mod Fed

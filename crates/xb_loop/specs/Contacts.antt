@@ -5,15 +5,18 @@ use Rattle.xb_contact.specs.declared.hold.Hold.{Hold}
 use Rattle.xb_contact.specs.Holds.{hold_of}
 use Rattle.xb_contact.specs.Machine.{pieces_of}
 use Rattle.xb_contact.specs.Listening.{Heard, CanTake, given_now, heard_after, now_of}
+use Rattle.xb_loop.specs.declared.tally.Tally.{Tally}
+use Rattle.xb_loop.specs.Tallies.{tally_after}
 
--- what is heard of it so far, the tick of its first level, and its level
+-- what is heard of it so far, the tick of its first level, its level, and what was counted of its short runs
 pub record Followed : Type 0 where
   pub heard : Heard
   pub start : ℕ
   pub level : Level
+  pub tally : Tally
 
-abbrev pub followed_of : Heard → ℕ → Level → Followed
-followed_of heard start level = record { heard = heard; start = start; level = level }
+abbrev pub followed_of : Heard → ℕ → Level → Tally → Followed
+followed_of heard start level tally = record { heard = heard; start = start; level = level; tally = tally }
 
 -- it may hold its level up to a tick
 abbrev pub CanHold : Followed → ℕ → Type 0
@@ -28,4 +31,8 @@ abbrev pub given_until : Followed → ℕ → List Hold
 given_until contact tick = pieces_of (given_now contact.heard (hold_to contact tick))
 
 abbrev pub held_until : Followed → ℕ → Followed
-held_until contact tick = record contact { heard = heard_after contact.heard (hold_to contact tick) }
+held_until contact tick =
+    record contact {
+      heard = heard_after contact.heard (hold_to contact tick);
+      tally = tally_after contact.tally (hold_to contact tick);
+    }

@@ -1,8 +1,10 @@
 pub mod RowsOfHolds
 pub mod HeardLaws
 pub mod TapeLaws
+pub mod Tallies
 pub mod Contacts
 pub mod Watching
+pub mod Told
 pub mod Watches
 pub mod Feeding
 pub mod Rules

@@ -13,6 +13,7 @@ use Rattle.xb_contact.specs.declared.scale.Scale.{Scale}
 use Rattle.xb_contact.specs.Listening.{begun_at, told_at_end}
 use Rattle.xb_loop.specs.Contacts.{Followed, CanHold, followed_of, given_until, held_until}
 use Rattle.xb_loop.specs.RowsOfHolds.{written_rows}
+use Rattle.xb_loop.specs.Tallies.{begun_tally}
 
 -- a line, and its contact from its first level on
 pub record Watched : Type 0 where
@@ -67,11 +68,12 @@ least_ticks scale ms = max 1 ((ms * scale.ticks + (scale.ms - 1)) / scale.ms)
 abbrev pub begun_contact : Manner → Scale → ℕ → Level → Followed
 begun_contact manner scale tick level =
     followed_of (begun_at (least_ticks scale manner.settle_ms) scale manner.most_ms level) tick level
+    (begun_tally (least_ticks scale manner.settle_ms) level)
 
 -- a contact that has a level from a tick on
 abbrev pub contact_changed : Manner → Scale → ℕ → Level → Option Followed → Followed
 contact_changed manner scale tick level None = begun_contact manner scale tick level
-contact_changed manner scale tick level (Some contact) = followed_of contact.heard contact.start level
+contact_changed manner scale tick level (Some contact) = record contact { level = level }
 
 abbrev pub line_changed : Manner → Scale → ℕ → Level → Watched → Watched
 line_changed manner scale tick level line =
@@ -126,6 +128,11 @@ heard_event watch (Low wire) = level_heard watch watch.scale wire false
 abbrev pub rows_of_events : Watch → List Event → List LoopRow
 rows_of_events watch [] = flat_map line_left watch.lines
 rows_of_events watch (event ∷ rest) = event_rows watch event ++ rows_of_events (heard_event watch event) rest
+
+-- what is known at its end
+abbrev pub watch_after : Watch → List Event → Watch
+watch_after watch [] = watch
+watch_after watch (event ∷ rest) = watch_after (heard_event watch event) rest
 
 -- their records
 abbrev pub text_of_events : Watch → List Event → List ℕ

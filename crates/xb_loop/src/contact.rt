@@ -6,27 +6,15 @@ ghost use Rattle.xb_loop.specs.Contacts.{CanHold, followed_of, given_until, held
 ghost use Rattle.xb_contact.specs.Listening.{begun_at, told_at_end};
 ghost use Rattle.xb_contact.specs.Machine.{pieces_of};
 ghost use Rattle.xb_loop.specs.RowsOfHolds.{written_rows};
+ghost use Rattle.xb_loop.specs.Tallies.{begun_tally};
 ghost use Rattle.xb_contact.specs.Times.{CanCount};
 
 use crate::rows::write_rows;
+use crate::tally::{Bounces, Tally};
 use std::alloc::AllocError;
 use std::marker::Model;
 use xb_contact::{Hold, Level, Listener, Scale, Settler};
 use xb_model::LineNo;
-
-/// How many short runs were taken away of a contact, and how many ticks the longest had.
-#[derive(Clone, Copy, Debug, PartialEq, Eq)]
-pub struct Bounces {
-    /// How many.
-    pub count: u64,
-    /// The longest.
-    pub longest: u64,
-}
-
-const NO_BOUNCES: Bounces = Bounces {
-    count: 0,
-    longest: 0,
-};
 
 /// A contact from its first level on.
 #[derive(Drop)]
@@ -34,11 +22,8 @@ pub(crate) struct Contact {
     listener: Listener,
     // The tick of the recording at which its first level came.
     start: u64,
-    // Its level, and the tick from which it has it.
     level: Level,
-    since: u64,
-    least: u64,
-    bounces: Bounces,
+    tally: Tally,
 }
 
 impl Model for Contact {
@@ -46,7 +31,7 @@ impl Model for Contact {
 
     ghost Value = { Followed };
 
-    ghost view = { λ s. followed_of s.listener s.start s.level };
+    ghost view = { λ s. followed_of s.listener s.start s.level s.tally };
 }
 
 // Adds the records of a hold, if there is one.
@@ -67,15 +52,14 @@ impl Contact {
         requires least { 0 < least }
         requires some { 0 < scale.ticks }
         requires fits { CanCount scale 0 }
-        ensures { result ≡ followed_of (begun_at least scale most level) start level }
+        ensures { result ≡ followed_of (begun_at least scale most level) start level
+            (begun_tally least level) }
     {
         Contact {
             listener: Listener::new(Settler::new(least), scale, u64::from(most), level),
             start,
             level,
-            since: start,
-            least,
-            bounces: NO_BOUNCES,
+            tally: Tally::new(least, level),
         }
     }
 
@@ -98,28 +82,25 @@ impl Contact {
             ≡ string_bytes rows.old ++ flat_map record_text (written_rows line (given_until self.old tick))) }
         ensures held { self.new ≡ held_until self.old tick }
     {
-        let given = self.listener.take_until(self.level, tick - self.start);
+        let (level, until) = (self.level, tick - self.start);
+        let ticks = until - self.listener.now();
+        self.tally = self.tally.take(Hold { level, ticks });
+        let given = self.listener.take_until(level, until);
         write_given(rows, line, given)
     }
 
-    /// It has a level from this tick on.
-    pub fn change(&mut self, tick: u64, level: Level)
-        ensures { self.new ≡ followed_of self.old.heard self.old.start level }
+    /// It has a level from then on.
+    pub fn change(&mut self, level: Level)
+        ensures { self.new ≡ record self.old { level = level } }
     {
-        if level != self.level {
-            let ticks = tick.saturating_sub(self.since);
-            if ticks < self.least {
-                self.bounces.count = self.bounces.count.saturating_add(1);
-                self.bounces.longest = self.bounces.longest.max(ticks);
-            }
-            self.level = level;
-            self.since = tick;
-        }
+        self.level = level;
     }
 
     /// The short runs that were taken away.
-    pub fn bounces(&self) -> Bounces {
-        self.bounces
+    pub fn bounces(&self) -> Bounces
+        ensures { result ≡ self.now.tally.bounces }
+    {
+        self.tally.bounces()
     }
 
     /// The recording ends, and the records of what is left are added.

@@ -4,6 +4,7 @@ ghost use Rattle.std.specs.Io.KnownBytes.{Appends, Consumes, IsAtEnd};
 ghost use Rattle.xb_vcd.specs.declared.event.Event.{Event as Saying};
 ghost use Rattle.xb_recording.specs.Says.{Begins, RestSays, is_text};
 ghost use Rattle.xb_loop.specs.Feeding.{Ends, Feeds, GoesOn, ListensTo, PutsDown, Starts, Writes};
+ghost use Rattle.xb_loop.specs.Told.{bounces_told};
 ghost use Rattle.xb_loop.specs.Watches.{watch_of};
 
 use crate::fault::LoopFault;
@@ -175,7 +176,9 @@ impl<'a> Intake<'a> {
     }
 
     // What is told of the bounces. Each line has to have had a level.
-    fn bounces(&self, said: bool) -> Result<String, LoopFault> {
+    fn bounces(&self, said: bool) -> Result<String, LoopFault>
+        ensures { IfOk result (λ text. string_bytes text ≡ bounces_told said (watch_of self.now.lines)) }
+    {
         let mut text = String::new(self.alloc);
         if said {
             self.lines.say_bounces(&mut text)?;
@@ -188,7 +191,8 @@ impl<'a> Intake<'a> {
 
     // Writes the rows that are left, and returns what is told of the bounces.
     fn end<W: Write>(mut self, said: bool, out: &mut W) -> Result<String, LoopFault>
-        ensures { IfOk result (λ _. Ends self.entry (W.contents out.old) (W.contents out.new)) }
+        ensures { IfOk result (λ text. Ends self.entry said (string_bytes text)
+            (W.contents out.old) (W.contents out.new)) }
     {
         self.take_end()?;
         let text = self.bounces(said)?;
@@ -323,10 +327,10 @@ fn begun<'a>(
 /// Writes the loop rows of a recording as it comes, after a text; memory does not grow with it. It returns the
 /// lines that tell of the bounces, if these are asked for.
 ///
-/// Where it returns `Ok`, exactly the rows of what the recording says were written; what that is, is defined of a VCD,
-/// of tables of levels and of raw samples. After an `Err` the rows stand that were written before it. What the contract
-/// says of bytes it says of readers whose bytes and writers whose contents are known to contracts (byte slices, lists),
-/// which those of a process are not.
+/// Where it returns `Ok`, exactly the rows of what the recording says were written, and what is told of the bounces is
+/// counted of that. After an `Err` the rows stand that were written before it. What the contract says of bytes it says
+/// of readers whose bytes and writers whose contents are known to contracts (byte slices, lists), which those of a
+/// process are not.
 pub fn listen<R: Read, W: Write>(
     alloc: Global,
     request: &Request<'_>,
@@ -334,8 +338,8 @@ pub fn listen<R: Read, W: Write>(
     input: &mut R,
     out: &mut W,
 ) -> Result<String, LoopFault>
-    ensures { IfOk result (λ _. ListensTo request.now before.now (R.remaining input.old)
-        (W.contents out.old) (W.contents out.new)) }
+    ensures { IfOk result (λ told. ListensTo request.now before.now (string_bytes told)
+        (R.remaining input.old) (W.contents out.old) (W.contents out.new)) }
 {
     let beginning = beginning_for(alloc, request.format, input)?;
     let format = form_of(request.format, &beginning)?;

@@ -1,6 +1,7 @@
 //! What the chain hears of a contact, as the contracts of functions that do nothing. The definitions are in `specs/`:
 //! `RowsOfHolds` (the rows that are written), and the statements in `HeardLaws` and `TapeLaws`.
 ghost use Rattle.xb_loop.specs.HeardLaws.{HearsEachCleanRun, HearsTheCleanRecord, HearsTheSettledRecord};
+ghost use Rattle.xb_loop.specs.Tallies.{CountsTheShortRuns};
 ghost use Rattle.xb_loop.specs.TapeLaws.{HearsNothingOtherwise, KeepsTheTape, LeavesLongRunsTheirTape};
 
 /// The record that the chain makes of a line's rows, neighbours joined, is the settled record of its contact in
@@ -24,4 +25,10 @@ pub fn the_tape_is_kept()
 /// of the limits), a record without shorter runs has the tape that it has unsettled.
 pub fn nothing_is_heard_otherwise()
     ensures { HearsNothingOtherwise }
+{}
+
+/// What is counted of a contact, hold by hold, are the runs of its record that are short, and the longest of them.
+/// The run that is under way where the recording ends is none of them.
+pub fn the_short_runs_are_counted()
+    ensures { CountsTheShortRuns }
 {}

@@ -2,9 +2,11 @@
 ghost use Rattle.std.specs.Prelude.{◌≡◌, ◌++◌, ◌<◌, ◌↔◌, IfSome, IsSome, IsTrue, None, OnOk, string_bytes, true};
 ghost use Rattle.std.specs.List.{flat_map};
 ghost use Rattle.xb_rows.specs.WrittenRows.{record_text};
+ghost use Rattle.xb_loop.specs.Told.{bounces_heard};
 ghost use Rattle.xb_loop.specs.Watching.{CanReach, begun_contact, least_ticks, line_changed, line_held, line_left, line_rows, watched_of};
 
-use crate::contact::{Bounces, Contact};
+use crate::contact::Contact;
+use crate::tally::Bounces;
 use std::alloc::AllocError;
 use std::marker::Model;
 use xb_contact::{Level, Scale};
@@ -101,7 +103,7 @@ impl Line {
         ensures { result ≡ true → self.new ≡ line_changed manner scale tick level self.old }
     {
         match &mut self.contact {
-            Some(contact) => contact.change(tick, level),
+            Some(contact) => contact.change(level),
             None => self.contact = begun(manner, scale, tick, level),
         }
         self.contact.is_some()
@@ -122,7 +124,9 @@ impl Line {
     }
 
     /// The short runs that were taken away.
-    pub fn bounces(&self) -> Option<Bounces> {
+    pub fn bounces(&self) -> Option<Bounces>
+        ensures { result ≡ bounces_heard self.now.contact }
+    {
         match &self.contact {
             Some(contact) => Some(contact.bounces()),
             None => None,

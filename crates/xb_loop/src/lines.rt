@@ -2,12 +2,13 @@
 ghost use Rattle.std.specs.Prelude.{◌≡◌, ◌++◌, ◌↔◌, IfOk, IsTrue, OnOk, string_bytes, true};
 ghost use Rattle.std.specs.List.{AllByRecursion, flat_map};
 ghost use Rattle.xb_rows.specs.WrittenRows.{record_text};
+ghost use Rattle.xb_loop.specs.Told.{lines_told};
 ghost use Rattle.xb_loop.specs.Watches.{watch_of};
 ghost use Rattle.xb_loop.specs.Watching.{CanReach, all_held, begun_watch, event_rows, heard_event, level_heard, level_of, line_left, rows_until, wire_changed};
 
-use crate::contact::Bounces;
 use crate::line::{Line, Manner};
 use crate::request::Request;
+use crate::told::say_lines;
 use std::alloc::{AllocError, Global};
 use xb_contact::{Level, Scale};
 use xb_vcd::Event;
@@ -150,21 +151,14 @@ impl Lines {
     }
 
     /// Adds, as lines, how many short runs were taken away of each line, and how long the longest was.
-    pub fn say_bounces(&self, said: &mut String) -> Result<(), AllocError> {
-        let Some(scale) = self.scale else {
-            return Ok(());
-        };
-        for line in self.lines.iter() {
-            if let Some(Bounces { count, longest }) = line.bounces() {
-                let number = line.number().get();
-                let micros = scale.micros_of(longest);
-                write!(
-                    said,
-                    "line {number}: {count} bounces, the longest {micros} us\n"
-                )?;
-            }
+    pub fn say_bounces(&self, said: &mut String) -> Result<(), AllocError>
+        ensures { OnOk result (string_bytes said.new ≡ string_bytes said.old
+            ++ lines_told (watch_of self.entry.now).scale (watch_of self.entry.now).lines) }
+    {
+        match self.scale {
+            Some(scale) => say_lines(said, scale, &self.lines),
+            None => Ok(()),
         }
-        Ok(())
     }
 
     /// The first line whose wire has had no level.

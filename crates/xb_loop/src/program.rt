@@ -1,5 +1,5 @@
 // The program: its words and a recording in, a status and rows out.
-ghost use Rattle.std.specs.Prelude.{◌≡◌, ℕ, [], IfOk, List, None};
+ghost use Rattle.std.specs.Prelude.{◌≡◌, ℕ, [], IfOk, List, None, string_bytes};
 ghost use Rattle.xb_command.specs.Programs.{streams};
 ghost use Rattle.xb_command.specs.Commands.{texts_of};
 ghost use Rattle.xb_loop.specs.Program.{AttendsLoop, PrintsDeck};
@@ -30,8 +30,8 @@ fn run<F: TableFiles, R: Read, W: Write>(
     recording: &mut R,
     out: &mut W,
 ) -> Result<String, LoopFault>
-    ensures { IfOk result (λ _. PrintsDeck (F.bytes files.now) request.now (R.remaining recording.old)
-        (W.contents out.old) (W.contents out.new)) }
+    ensures { IfOk result (λ told. PrintsDeck (F.bytes files.now) request.now (string_bytes told)
+        (R.remaining recording.old) (W.contents out.old) (W.contents out.new)) }
 {
     let before = beginning_of(alloc, files, request.table)?;
     listen(alloc, request, &before, recording, out)
@@ -41,7 +41,8 @@ fn run<F: TableFiles, R: Read, W: Write>(
 /// recording as it comes, as `listen` does, after a route table where one is named. It returns the status of the
 /// process:
 ///
-/// - `DONE`: the words ask for something, and `out` got the rows;
+/// - `DONE`: the words ask for something, `out` got the rows, and `err` what is told of the bounces, if that is
+///   asked for;
 /// - `FAULT`: the table or the recording has a fault, or memory ran out while the words were read; `err` gets the
 ///   fault as one line, and `out` got the rows before it;
 /// - `WORDS_REFUSED`: the words are refused, or ask for help; `err` gets the usage as one line, the recording

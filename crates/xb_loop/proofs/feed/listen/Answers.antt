@@ -1,6 +1,6 @@
 use Rattle.std.proofs.KnownBytes.{Appends-trans}
 use Rattle.std.proofs.lemmas.Result.{IfOk-weaker}
-use Rattle.std.specs.Prelude.{codes}
+use Rattle.std.specs.Prelude.{codes, string_bytes}
 use Rattle.xb_loop.proofs.Fed.{listened}
 use Rattle.xb_loop.proofs.feed.listen.Goals as goal
 
@@ -11,7 +11,7 @@ returns g c =
     let headed = g.W.Write.contents c.write_whole-2.new.out in
     IfOk-weaker c.end.result _ _
     (λ told ends. listened c.args.request.now c.in_ok-format.format c.in_ok-feed.feed c.take_and_write.new.self c.take_all.new.feed
-    c.args.before.now beginning c.deref-2.result.now (g.R.Read.remaining c.args.input.now)
+    c.args.before.now beginning c.deref-2.result.now (string_bytes told) (g.R.Read.remaining c.args.input.now)
     (g.R.Read.remaining c.beginning_for.new.input) (g.R.Read.remaining c.take_all.new.input) out headed
     (g.W.Write.contents c.take_and_write.new.out) (g.W.Write.contents c.take_all.new.out) (g.W.Write.contents c.end.new.out)
     c.in_ok-format.ensures c.in_ok-beginning.ensures c.in_ok-feed.ensures

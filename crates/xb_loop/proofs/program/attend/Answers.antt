@@ -1,4 +1,5 @@
-use Rattle.std.proofs.Common.{List, ap, subst, ◌∙◌, arith}
+use Rattle.std.proofs.Common.{ℕ, List, ap, subst, ◌∙◌, arith, string_bytes, take}
+use Rattle.std.specs.Io.KnownBytes.{Appends}
 use Rattle.std.proofs.KnownBytes.{Keeps-refl}
 use Rattle.clap.specs.Walk.{Text}
 use Rattle.xb_command.specs.Commands.{texts_of}
@@ -11,12 +12,15 @@ pub returns-in-Ok-run : goal.returns-in-Ok-run
 returns-in-Ok-run g c =
     let request = c.in-Ok-request_of_words.request in
     let P : List Text → Type 0 = λ plain. AsksPlainly plain request in
+    let W : List ℕ → Type 0 = λ text. (n : ℕ) × Appends (g.E.Write.contents c.args.err.now) (g.E.Write.contents c.write_whole.new.out) (take n text) in
     record {
       statuses = omega arith;
       done = λ e. record {
         request = request;
         asks = subst P (ap (λ words. texts_of words) c.deref.ensures.value ∙ c.in-Ok.ensures) c.in-Ok-request_of_words.ensures;
+        told = string_bytes c.in-Ok-run.said;
         rows = c.in-Ok-run.ensures;
+        errors = subst W c.as_bytes.ensures.value c.write_whole.ensures.beginning;
       };
       fault = λ e. absurd (omega (arith, e));
       refused = λ e. absurd (omega (arith, e));
