@@ -1,6 +1,6 @@
 // Tables of levels, row by row.
-ghost use Rattle.std.specs.Prelude.{◌≡◌, ◌+◌, ◌++◌, ◌≤◌, [], Some, OnOk, map, option_copied};
-ghost use Rattle.xb_vcd.specs.Steps.{Adds};
+ghost use Rattle.std.specs.Prelude.{◌≡◌, ◌+◌, ◌++◌, ◌≤◌, [], Some, IfErr, OnOk, map, option_copied};
+ghost use Rattle.xb_vcd.specs.Steps.{Adds, SaysNothing};
 ghost use Rattle.xb_vcd.specs.VcdChanges.{times_of};
 ghost use Rattle.xb_csv.specs.Cells.{cells_of};
 ghost use Rattle.xb_csv.specs.Tables.{AddsAll, begun_table, begins_rows, columns_before, comment_says, edges_row, ends_at, levels_from, line_of_form, names_say, no_header, row_at, row_says, row_time, saleae_begins, saleae_header, saleae_row, samples_begin, sigrok_by_unit, sigrok_header, sigrok_line, sigrok_row, table_ends, table_line_says, table_state, unit_of_label};
@@ -82,15 +82,17 @@ impl<'a> Columns<'a> {
 
     // The comment with the names of the wires.
     fn take_names(&mut self, names: &[u8]) -> Result<(), Refusal>
-        ensures { OnOk result (names_say (table_state self.old) names.now ≡ Some ([], table_state self.new)) }
+        ensures said { OnOk result (names_say (table_state self.old) names.now ≡ Some ([], table_state self.new)) }
+        ensures refused { IfErr result (SaysNothing (names_say (table_state self.old) names.now)) }
     {
         find_columns(names, self.names, &mut self.columns)
     }
 
     // A comment of sigrok.
     fn take_comment(&mut self, line: &[u8]) -> Result<(), Refusal>
-        ensures { OnOk result
+        ensures said { OnOk result
             (comment_says (table_state self.old) line.now ≡ Some ([], table_state self.new)) }
+        ensures refused { IfErr result (SaysNothing (comment_says (table_state self.old) line.now)) }
     {
         match after(line, b"; Channels (") {
             Some(names) => match cut_at(b':', names) {
@@ -114,8 +116,9 @@ impl<'a> Columns<'a> {
         scale: Scale,
         events: &mut Vec<Event>,
     ) -> Result<(), Refusal>
-        ensures { OnOk result (Adds (begins_rows (table_state self.old) clock scale)
+        ensures said { OnOk result (Adds (begins_rows (table_state self.old) clock scale)
             events.old.items events.new.items (table_state self.new)) }
+        ensures refused { IfErr result (SaysNothing (begins_rows (table_state self.old) clock scale)) }
     {
         self.clock = clock;
         say(events, Event::Ticks(scale))
@@ -123,8 +126,9 @@ impl<'a> Columns<'a> {
 
     // Rows begin, of which each is a sample.
     fn begin_samples(&mut self, events: &mut Vec<Event>) -> Result<(), Refusal>
-        ensures { OnOk result (Adds (samples_begin (table_state self.old) self.old.rate)
+        ensures said { OnOk result (Adds (samples_begin (table_state self.old) self.old.rate)
             events.old.items events.new.items (table_state self.new)) }
+        ensures refused { IfErr result (SaysNothing (samples_begin (table_state self.old) self.old.rate)) }
     {
         match self.rate {
             Some(ticks) if ticks > 0 => {
@@ -136,9 +140,11 @@ impl<'a> Columns<'a> {
 
     // The header of sigrok, whose first column has this label.
     fn take_label(&mut self, label: &[u8], events: &mut Vec<Event>) -> Result<(), Refusal>
-        ensures { OnOk result
+        ensures said { OnOk result
             (Adds (sigrok_by_unit (table_state self.old) label.now (unit_of_label label.now))
             events.old.items events.new.items (table_state self.new)) }
+        ensures refused { IfErr result (SaysNothing
+            (sigrok_by_unit (table_state self.old) label.now (unit_of_label label.now))) }
     {
         match unit_of_label(label) {
             Some(scale) => self.begin_rows(Clock::Ticks, scale, events),
@@ -152,8 +158,9 @@ impl<'a> Columns<'a> {
 
     // The header of sigrok: with a time column the wires stand one column further to the right.
     fn take_sigrok_header(&mut self, line: &[u8], events: &mut Vec<Event>) -> Result<(), Refusal>
-        ensures { OnOk result (Adds (sigrok_header (table_state self.old) line.now)
+        ensures said { OnOk result (Adds (sigrok_header (table_state self.old) line.now)
             events.old.items events.new.items (table_state self.new)) }
+        ensures refused { IfErr result (SaysNothing (sigrok_header (table_state self.old) line.now)) }
     {
         if self.columns.len() != self.names.len() {
             return Err(Refusal::Header);
@@ -166,8 +173,9 @@ impl<'a> Columns<'a> {
 
     // The wires of Saleae have their names in its header.
     fn begin_saleae(&mut self, line: &[u8], events: &mut Vec<Event>) -> Result<(), Refusal>
-        ensures { OnOk result (Adds (saleae_begins (table_state self.old) line.now)
+        ensures said { OnOk result (Adds (saleae_begins (table_state self.old) line.now)
             events.old.items events.new.items (table_state self.new)) }
+        ensures refused { IfErr result (SaysNothing (saleae_begins (table_state self.old) line.now)) }
     {
         find_columns(line, self.names, &mut self.columns)?;
         self.begin_rows(Clock::Seconds, NANOSECONDS, events)
@@ -175,8 +183,9 @@ impl<'a> Columns<'a> {
 
     // The header of Saleae.
     fn take_saleae_header(&mut self, line: &[u8], events: &mut Vec<Event>) -> Result<(), Refusal>
-        ensures { OnOk result (Adds (saleae_header (table_state self.old) line.now)
+        ensures said { OnOk result (Adds (saleae_header (table_state self.old) line.now)
             events.old.items events.new.items (table_state self.new)) }
+        ensures refused { IfErr result (SaysNothing (saleae_header (table_state self.old) line.now)) }
     {
         match cell_at(line, 0) {
             Some(label) if label == b"Time [s]".as_slice() => self.begin_saleae(line, events),
@@ -186,8 +195,9 @@ impl<'a> Columns<'a> {
 
     // Where no header comes, wires are numbered from 1.
     fn take_no_header(&mut self, events: &mut Vec<Event>) -> Result<(), Refusal>
-        ensures { OnOk result (Adds (no_header (table_state self.old))
+        ensures said { OnOk result (Adds (no_header (table_state self.old))
             events.old.items events.new.items (table_state self.new)) }
+        ensures refused { IfErr result (SaysNothing (no_header (table_state self.old))) }
     {
         number_columns(self.names, &mut self.columns)?;
         self.begin_rows(Clock::Seconds, NANOSECONDS, events)
@@ -208,9 +218,11 @@ impl<'a> Columns<'a> {
 
     // The levels of the wires in a row.
     fn say_levels(&self, line: &[u8], events: &mut Vec<Event>) -> Result<(), Refusal>
-        ensures { OnOk result (AddsAll
+        ensures said { OnOk result (AddsAll
             (levels_from 0 (columns_before self.now.clock) (cells_of line.now) self.now.columns.items)
             events.old.items events.new.items) }
+        ensures refused { IfErr result (SaysNothing
+            (levels_from 0 (columns_before self.now.clock) (cells_of line.now) self.now.columns.items)) }
     {
         let before = columns_before(self.clock);
         for (wire, column) in self.columns.iter().enumerate() {
@@ -232,8 +244,9 @@ impl<'a> Columns<'a> {
         time: u64,
         events: &mut Vec<Event>,
     ) -> Result<(), Refusal>
-        ensures { OnOk result (Adds (row_at (table_state self.old) (cells_of line.now) time)
+        ensures said { OnOk result (Adds (row_at (table_state self.old) (cells_of line.now) time)
             events.old.items events.new.items (table_state self.new)) }
+        ensures refused { IfErr result (SaysNothing (row_at (table_state self.old) (cells_of line.now) time)) }
     {
         if self.has_time && time < self.last {
             return Err(Refusal::Backwards);
@@ -246,8 +259,9 @@ impl<'a> Columns<'a> {
 
     // A row.
     fn take_row(&mut self, line: &[u8], events: &mut Vec<Event>) -> Result<(), Refusal>
-        ensures { OnOk result (Adds (row_says (table_state self.old) line.now)
+        ensures said { OnOk result (Adds (row_says (table_state self.old) line.now)
             events.old.items events.new.items (table_state self.new)) }
+        ensures refused { IfErr result (SaysNothing (row_says (table_state self.old) line.now)) }
     {
         let Some(cell) = cell_at(line, 0) else {
             return Err(Refusal::Columns);
@@ -260,8 +274,9 @@ impl<'a> Columns<'a> {
 
     // A line of sigrok that is no comment.
     fn take_sigrok_row(&mut self, line: &[u8], events: &mut Vec<Event>) -> Result<(), Refusal>
-        ensures { OnOk result (Adds (sigrok_row (table_state self.old) self.old.clock line.now)
+        ensures said { OnOk result (Adds (sigrok_row (table_state self.old) self.old.clock line.now)
             events.old.items events.new.items (table_state self.new)) }
+        ensures refused { IfErr result (SaysNothing (sigrok_row (table_state self.old) self.old.clock line.now)) }
     {
         match self.clock {
             Clock::Unknown => self.take_sigrok_header(line, events),
@@ -271,8 +286,9 @@ impl<'a> Columns<'a> {
 
     // A line of sigrok.
     fn take_sigrok(&mut self, line: &[u8], events: &mut Vec<Event>) -> Result<(), Refusal>
-        ensures { OnOk result (Adds (sigrok_line (table_state self.old) line.now)
+        ensures said { OnOk result (Adds (sigrok_line (table_state self.old) line.now)
             events.old.items events.new.items (table_state self.new)) }
+        ensures refused { IfErr result (SaysNothing (sigrok_line (table_state self.old) line.now)) }
     {
         if is_comment(line) {
             return self.take_comment(line);
@@ -282,8 +298,9 @@ impl<'a> Columns<'a> {
 
     // A line of Saleae.
     fn take_saleae(&mut self, line: &[u8], events: &mut Vec<Event>) -> Result<(), Refusal>
-        ensures { OnOk result (Adds (saleae_row (table_state self.old) self.old.clock line.now)
+        ensures said { OnOk result (Adds (saleae_row (table_state self.old) self.old.clock line.now)
             events.old.items events.new.items (table_state self.new)) }
+        ensures refused { IfErr result (SaysNothing (saleae_row (table_state self.old) self.old.clock line.now)) }
     {
         match self.clock {
             Clock::Unknown => self.take_saleae_header(line, events),
@@ -293,8 +310,9 @@ impl<'a> Columns<'a> {
 
     // A line of times and levels. The first one is a row too.
     fn take_edges(&mut self, line: &[u8], events: &mut Vec<Event>) -> Result<(), Refusal>
-        ensures { OnOk result (Adds (edges_row (table_state self.old) self.old.clock line.now)
+        ensures said { OnOk result (Adds (edges_row (table_state self.old) self.old.clock line.now)
             events.old.items events.new.items (table_state self.new)) }
+        ensures refused { IfErr result (SaysNothing (edges_row (table_state self.old) self.old.clock line.now)) }
     {
         match self.clock {
             Clock::Unknown => {
@@ -307,8 +325,10 @@ impl<'a> Columns<'a> {
 
     // A line that is not empty.
     fn take_by_form(&mut self, line: &[u8], events: &mut Vec<Event>) -> Result<(), Refusal>
-        ensures { OnOk result (Adds (line_of_form (table_state self.old) self.old.form line.now)
+        ensures said { OnOk result (Adds (line_of_form (table_state self.old) self.old.form line.now)
             events.old.items events.new.items (table_state self.new)) }
+        ensures refused { IfErr result (SaysNothing
+            (line_of_form (table_state self.old) self.old.form line.now)) }
     {
         match self.form {
             Form::Sigrok => self.take_sigrok(line, events),
@@ -319,8 +339,9 @@ impl<'a> Columns<'a> {
 
     /// Takes a line, and adds what it says to `events`. After an `Err` the reader is not to be used again.
     pub fn take_line(&mut self, line: &[u8], events: &mut Vec<Event>) -> Result<(), Refusal>
-        ensures { OnOk result (Adds (table_line_says (table_state self.old) line.now)
+        ensures said { OnOk result (Adds (table_line_says (table_state self.old) line.now)
             events.old.items events.new.items (table_state self.new)) }
+        ensures refused { IfErr result (SaysNothing (table_line_says (table_state self.old) line.now)) }
     {
         let line = trimmed(line);
         if line.is_empty() {
@@ -331,8 +352,9 @@ impl<'a> Columns<'a> {
 
     // The last row of samples lasts a tick too.
     fn end_samples(&self, events: &mut Vec<Event>) -> Result<(), Refusal>
-        ensures { OnOk result
+        ensures said { OnOk result
             (AddsAll (ends_at self.now.clock self.now.last) events.old.items events.new.items) }
+        ensures refused { IfErr result (SaysNothing (ends_at self.now.clock self.now.last)) }
     {
         match self.clock {
             Clock::Rows => match self.last.checked_add(1) {
@@ -345,8 +367,9 @@ impl<'a> Columns<'a> {
 
     /// The end of the file. Where each row is a tick, the last one lasts a tick too.
     pub fn end(&self, events: &mut Vec<Event>) -> Result<(), Refusal>
-        ensures { OnOk result
+        ensures said { OnOk result
             (AddsAll (table_ends (table_state self.now)) events.old.items events.new.items) }
+        ensures refused { IfErr result (SaysNothing (table_ends (table_state self.now))) }
     {
         if !self.has_time {
             return Err(Refusal::Header);

@@ -1,5 +1,6 @@
 // The columns of the wires, and their levels.
-ghost use Rattle.std.specs.Prelude.{◌≡◌, Some, OnOk, map};
+ghost use Rattle.std.specs.Prelude.{◌≡◌, Some, IfErr, OnOk, map};
+ghost use Rattle.xb_vcd.specs.Steps.{SaysNothing};
 ghost use Rattle.xb_csv.specs.Cells.{cells_of};
 ghost use Rattle.xb_csv.specs.Tables.{column_number, columns_in, level_of_cell, numbered_columns};
 
@@ -13,8 +14,10 @@ pub(crate) fn find_columns(
     names: &[&str],
     columns: &mut Vec<u16>,
 ) -> Result<(), Refusal>
-    ensures { OnOk result
+    ensures said { OnOk result
         (columns_in (cells_of line.now) (map (λ name. name.now) names.now) ≡ Some columns.new.items) }
+    ensures refused { IfErr result (SaysNothing
+        (columns_in (cells_of line.now) (map (λ name. name.now) names.now))) }
 {
     columns.clear();
     for name in names {
@@ -38,7 +41,8 @@ fn column_number(name: &str) -> Option<u16>
 
 // The columns of wires that are named by their numbers.
 pub(crate) fn number_columns(names: &[&str], columns: &mut Vec<u16>) -> Result<(), Refusal>
-    ensures { OnOk result (numbered_columns (map (λ name. name.now) names.now) ≡ Some columns.new.items) }
+    ensures said { OnOk result (numbered_columns (map (λ name. name.now) names.now) ≡ Some columns.new.items) }
+    ensures refused { IfErr result (SaysNothing (numbered_columns (map (λ name. name.now) names.now))) }
 {
     columns.clear();
     for name in names {

@@ -1,5 +1,5 @@
 -- The head of a WAV, part by part.
-use Rattle.std.proofs.Common.{◌≡◌, ℕ, suc, ◌+◌, ◌-◌, ◌<◌, ◌≤◌, max, List, [], ◌∷◌, ◌++◌, true, false, cond, Option, Some, None, nat_lt, drop, length, take, refl, ap, sym, subst, ◌∙◌, append_assoc, length-append, add-one, arith, codes, get_or, drop-cons}
+use Rattle.std.proofs.Common.{◌≡◌, ℕ, suc, ◌+◌, ◌-◌, ◌<◌, ◌≤◌, max, List, [], ◌∷◌, ◌++◌, false, cond, Option, Some, None, nat_lt, drop, length, take, ap, sym, subst, ◌∙◌, append_assoc, length-append, add-one, arith, codes, get_or, drop-cons}
 use Rattle.std.proofs.lemmas.Bool.Decides.{nat_tests}
 use Rattle.std.specs.Prelude.{nat_eq}
 use Rattle.std.specs.List.{starts_with}

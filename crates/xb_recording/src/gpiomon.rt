@@ -1,7 +1,7 @@
 // The lines that gpiomon writes.
-ghost use Rattle.std.specs.Prelude.{◌≡◌, ◌++◌, ◌<◌, IfSome, OnOk, length, map, option_copied, option_map};
+ghost use Rattle.std.specs.Prelude.{◌≡◌, ◌++◌, ◌<◌, IfErr, IfSome, OnOk, length, map, option_copied, option_map};
 ghost use Rattle.std.specs.List.{position};
-ghost use Rattle.xb_vcd.specs.Steps.{Adds};
+ghost use Rattle.xb_vcd.specs.Steps.{Adds, SaysNothing};
 ghost use Rattle.xb_recording.specs.Gpiomons.{between, edge_line_says, edge_of, edge_said, edge_says, first_kind, first_word, gpiomon_line_says, gpiomon_state, gpiomon_with, is_gap, named_levels, rises, second_kind, time_said, wire_of};
 ghost use Rattle.xb_csv.specs.Tables.{AddsAll};
 
@@ -156,8 +156,9 @@ fn say_named(
     is_high: bool,
     events: &mut Vec<Event>,
 ) -> Result<(), Refusal>
-    ensures { OnOk result (events.new.items ≡ events.old.items
+    ensures said { OnOk result (events.new.items ≡ events.old.items
         ++ named_levels 0 wire.now is_high (map (λ name. name.now) names.now)) }
+    ensures only { IfErr result (λ e. e ≡ Refusal.NoMemory) }
 {
     for (i, name) in names.iter().enumerate() {
         if name.as_bytes() == wire {
@@ -169,7 +170,8 @@ fn say_named(
 
 // Says a time, which is not before the last one.
 fn say_time(last: Option<u64>, time: u64, events: &mut Vec<Event>) -> Result<(), Refusal>
-    ensures { OnOk result (AddsAll (time_said last time) events.old.items events.new.items) }
+    ensures said { OnOk result (AddsAll (time_said last time) events.old.items events.new.items) }
+    ensures refused { IfErr result (SaysNothing (time_said last time)) }
 {
     match last {
         None => say(events, Event::Ticks(NANOSECONDS))?,
@@ -194,8 +196,10 @@ impl<'a> Gpiomon<'a> {
         time: u64,
         events: &mut Vec<Event>,
     ) -> Result<(), Refusal>
-        ensures { OnOk result (Adds (edge_says (gpiomon_state self.old) (edge_said edge.entry) time)
+        ensures said { OnOk result (Adds (edge_says (gpiomon_state self.old) (edge_said edge.entry) time)
             events.old.items events.new.items (gpiomon_state self.new)) }
+        ensures refused { IfErr result (SaysNothing
+            (edge_says (gpiomon_state self.old) (edge_said edge.entry) time)) }
     {
         say_time(self.last, time, events)?;
         self.last = Some(time);
@@ -204,8 +208,9 @@ impl<'a> Gpiomon<'a> {
 
     // A line that is not empty.
     fn take_edge_line(&mut self, line: &[u8], events: &mut Vec<Event>) -> Result<(), Refusal>
-        ensures { OnOk result (Adds (edge_line_says (gpiomon_state self.old) line.now)
+        ensures said { OnOk result (Adds (edge_line_says (gpiomon_state self.old) line.now)
             events.old.items events.new.items (gpiomon_state self.new)) }
+        ensures refused { IfErr result (SaysNothing (edge_line_says (gpiomon_state self.old) line.now)) }
     {
         let Some(edge) = edge_of(line) else {
             return Err(Refusal::Edge);
@@ -218,8 +223,9 @@ impl<'a> Gpiomon<'a> {
 
     /// Takes a line, and adds what it says to `events`. After an `Err` the reader is not to be used again.
     pub fn take_line(&mut self, line: &[u8], events: &mut Vec<Event>) -> Result<(), Refusal>
-        ensures { OnOk result (Adds (gpiomon_line_says (gpiomon_state self.old) line.now)
+        ensures said { OnOk result (Adds (gpiomon_line_says (gpiomon_state self.old) line.now)
             events.old.items events.new.items (gpiomon_state self.new)) }
+        ensures refused { IfErr result (SaysNothing (gpiomon_line_says (gpiomon_state self.old) line.now)) }
     {
         let line = trimmed(line);
         if line.is_empty() {

@@ -61,3 +61,47 @@ adds_after {S} says (part ∷ parts) rest old mid new before now state h k =
     at (Some said) e f =
         said_then said.0 old (old ++ said.0) new (all_say says said.1 (parts ++ rest)) state refl
         (f (old ++ said.0) said.1 (then_only said.0 old mid now (all_say says said.1 parts) e))
+
+-- parts of which one is refused
+before_none :
+    {S : Type 0} (said : List Event) (later : Option (List Event × S)) → said_before said later ≡ None → later ≡ None
+before_none said None e = refl
+before_none said (Some rest) e = cc
+
+pub none_first :
+    {S P : Type 0} (says : S → P → Option (List Event × S)) (parts rest : List P) (before : S)
+    → all_say says before parts ≡ None → all_say says before (parts ++ rest) ≡ None
+none_first says [] rest before e = cc
+none_first {S} says (part ∷ parts) rest before e = at (says before part) e (λ s f. none_first says parts rest s f)
+  where
+    at :
+        (first : Option (List Event × S))
+        → option_and_then (λ said. said_before said.0 (all_say says said.1 parts)) first ≡ None
+        → ((s : S) → all_say says s parts ≡ None → all_say says s (parts ++ rest) ≡ None)
+        → option_and_then (λ said. said_before said.0 (all_say says said.1 (parts ++ rest))) first ≡ None
+    at None e f = refl
+    at (Some said) e f = ap (said_before said.0) (f said.1 (before_none said.0 (all_say says said.1 parts) e))
+
+pub none_after :
+    {S P : Type 0} (says : S → P → Option (List Event × S)) (parts rest : List P) (old mid : List Event) (before now : S)
+    → Adds (all_say says before parts) old mid now → all_say says now rest ≡ None
+    → all_say says before (parts ++ rest) ≡ None
+none_after {S} says [] rest old mid before now h k =
+    let P : S → Type 0 = λ s. all_say says s rest ≡ None in
+    subst P h.1 k
+none_after {S} says (part ∷ parts) rest old mid before now h k =
+    at (says before part) h (λ start s m. none_after says parts rest start mid s now m k)
+  where
+    at :
+        (first : Option (List Event × S))
+        → Adds (option_and_then (λ said. said_before said.0 (all_say says said.1 parts)) first) old mid now
+        → ((start : List Event) (s : S) → Adds (all_say says s parts) start mid now → all_say says s (parts ++ rest) ≡ None)
+        → option_and_then (λ said. said_before said.0 (all_say says said.1 (parts ++ rest))) first ≡ None
+    at None e f = elim e [ ]
+    at (Some said) e f =
+        ap (said_before said.0) (f (old ++ said.0) said.1 (then_only said.0 old mid now (all_say says said.1 parts) e))
+
+pub none_next :
+    {S P : Type 0} (says : S → P → Option (List Event × S)) (part : P) (rest : List P) (before : S)
+    → says before part ≡ None → all_say says before (part ∷ rest) ≡ None
+none_next says part rest before e = ap (option_and_then (λ said. said_before said.0 (all_say says said.1 rest))) e

@@ -1,7 +1,9 @@
 -- What is said step by step.
-use Rattle.std.specs.Prelude.{◌≡◌, List, [], ◌∷◌, ◌++◌, Option, Some, None, option_map}
+use Rattle.std.specs.Prelude.{◌≡◌, ◌≢◌, List, [], ◌∷◌, ◌++◌, Option, Some, None, option_map}
 use Rattle.std.specs.Option.{option_and_then}
 use Rattle.xb_vcd.specs.declared.event.Event.{Event}
+use Rattle.xb_vcd.specs.declared.event.Refusal.{Refusal}
+use Rattle.xb_vcd.specs.declared.event.Refusal.TheVariants.{NoMemory}
 
 -- what was said before what is said later, of which the state at the end is kept
 abbrev pub said_before : {S : Type 0} → List Event → Option (List Event × S) → Option (List Event × S)
@@ -17,3 +19,7 @@ all_say {S} {P} says state (part ∷ rest) =
 abbrev pub Adds : {S : Type 0} → Option (List Event × S) → List Event → List Event → S → Type 0
 Adds {S} None old new state = ⊥
 Adds {S} (Some said) old new state = (new ≡ old ++ said.0) × (state ≡ said.1)
+
+-- it was refused: unless memory ran out, nothing stands there that says anything
+abbrev pub SaysNothing : {A : Type 0} → Option A → Refusal → Type 0
+SaysNothing {A} said refusal = refusal ≢ NoMemory → said ≡ None

@@ -1,7 +1,7 @@
 // A value change dump, line by line.
-ghost use Rattle.std.specs.Prelude.{◌≡◌, ◌≤◌, ◌++◌, ◌↔◌, [], Some, IfErr, IfOk, IfSome, IsErr, IsTrue, OnOk, is_some, map, drop, length, take};
+ghost use Rattle.std.specs.Prelude.{◌≡◌, ◌≢◌, ◌≤◌, ◌++◌, ◌↔◌, [], Some, IfErr, IfOk, IfSome, IsErr, IsTrue, OnErr, OnOk, is_some, map, drop, length, take};
 ghost use Rattle.std.specs.List.{list_all, list_any};
-ghost use Rattle.xb_vcd.specs.Steps.{Adds, all_say};
+ghost use Rattle.xb_vcd.specs.Steps.{Adds, SaysNothing, all_say};
 ghost use Rattle.xb_vcd.specs.VcdChanges.{IsRefused, IsSaid, change_taken, code_taken, has_code, level_events, time_taken, times_of};
 ghost use Rattle.xb_vcd.specs.VcdTexts.{after_digits, begun_vcd, declared_code, declared_codes, found_code, header_taken, is_blank, is_header, leading_digits, scale_of, scale_said, scale_taken, unit_of, var_taken, vcd_line_says, vcd_state, word_before, word_says, words_of};
 
@@ -133,7 +133,8 @@ fn cut_digits(word: &[u8]) -> (&[u8], &[u8])
 
 // The code of a wire that is declared, which had none.
 fn found_code(words: VarWords, own: Option<u64>) -> Result<Option<u64>, Refusal>
-    ensures { IfOk result (λ code. found_code words own ≡ Some code) }
+    ensures said { IfOk result (λ code. found_code words own ≡ Some code) }
+    ensures refused { IfErr result (SaysNothing (found_code words own)) }
 {
     match own {
         _ if !words.is_bit => Err(Refusal::Bits),
@@ -149,7 +150,8 @@ fn declared_code(
     wanted: &str,
     own: Option<u64>,
 ) -> Result<Option<u64>, Refusal>
-    ensures { IfOk result (λ code. declared_code words name.now wanted.now own ≡ Some code) }
+    ensures said { IfOk result (λ code. declared_code words name.now wanted.now own ≡ Some code) }
+    ensures refused { IfErr result (SaysNothing (declared_code words name.now wanted.now own)) }
 {
     if wanted.as_bytes() == name {
         found_code(words, own)
@@ -165,8 +167,10 @@ fn declare(
     names: &[&str],
     codes: &mut [Option<u64>],
 ) -> Result<(), Refusal>
-    ensures { OnOk result
+    ensures said { OnOk result
         (declared_codes words name.now (map (λ wanted. wanted.now) names.now) codes.old ≡ Some codes.new) }
+    ensures refused { IfErr result (SaysNothing
+        (declared_codes words name.now (map (λ wanted. wanted.now) names.now) codes.old)) }
 {
     for (i, code) in codes.iter_mut().enumerate() {
         match names.get(i) {
@@ -180,7 +184,8 @@ fn declare(
 impl<'a> Vcd<'a> {
     /// A reader that has read nothing. The wires are those of these names.
     pub fn new(alloc: Global, names: &'a [&'a str]) -> Result<Vcd<'a>, Refusal>
-        ensures { IfOk result (λ vcd. vcd_state vcd ≡ begun_vcd (map (λ name. name.now) names.now)) }
+        ensures begun { IfOk result (λ vcd. vcd_state vcd ≡ begun_vcd (map (λ name. name.now) names.now)) }
+        ensures only { IfErr result (λ e. e ≡ Refusal.NoMemory) }
     {
         let mut codes = Vec::new(alloc);
         for _name in names {
@@ -260,8 +265,9 @@ impl<'a> Vcd<'a> {
         unit: &[u8],
         events: &mut Vec<Event>,
     ) -> Result<(), Refusal>
-        ensures { OnOk result (Adds (scale_said (vcd_state self.old) number unit.now)
+        ensures said { OnOk result (Adds (scale_said (vcd_state self.old) number unit.now)
             events.old.items events.new.items (vcd_state self.new)) }
+        ensures refused { IfErr result (SaysNothing (scale_said (vcd_state self.old) number unit.now)) }
     {
         if unit.is_empty() {
             self.place = Place::Timescale(Some(number));
@@ -285,8 +291,9 @@ impl<'a> Vcd<'a> {
         word: &[u8],
         events: &mut Vec<Event>,
     ) -> Result<(), Refusal>
-        ensures { OnOk result (Adds (scale_taken (vcd_state self.old) number word.now)
+        ensures said { OnOk result (Adds (scale_taken (vcd_state self.old) number word.now)
             events.old.items events.new.items (vcd_state self.new)) }
+        ensures refused { IfErr result (SaysNothing (scale_taken (vcd_state self.old) number word.now)) }
     {
         if let Some(number) = number {
             return self.say_scale(number, word, events);
@@ -300,7 +307,8 @@ impl<'a> Vcd<'a> {
 
     // A word of a declaration: kind, size, code and name.
     fn take_var(&mut self, words: VarWords, word: &[u8]) -> Result<(), Refusal>
-        ensures { OnOk result (var_taken (vcd_state self.old) words word.now ≡ Some ([], vcd_state self.new)) }
+        ensures said { OnOk result (var_taken (vcd_state self.old) words word.now ≡ Some ([], vcd_state self.new)) }
+        ensures refused { IfErr result (SaysNothing (var_taken (vcd_state self.old) words word.now)) }
     {
         let VarWords {
             count,
@@ -339,7 +347,8 @@ impl<'a> Vcd<'a> {
 
     // A word of the header.
     fn take_header(&mut self, word: &[u8]) -> Result<(), Refusal>
-        ensures { OnOk result (header_taken (vcd_state self.old) word.now ≡ Some ([], vcd_state self.new)) }
+        ensures said { OnOk result (header_taken (vcd_state self.old) word.now ≡ Some ([], vcd_state self.new)) }
+        ensures refused { IfErr result (SaysNothing (header_taken (vcd_state self.old) word.now)) }
     {
         match word_of(word) {
             Word::Timescale if self.has_scale => Err(Refusal::Timescale),
@@ -427,8 +436,9 @@ impl<'a> Vcd<'a> {
 
     // A word.
     fn take_word(&mut self, word: &[u8], events: &mut Vec<Event>) -> Result<(), Refusal>
-        ensures { OnOk result (Adds (word_says (vcd_state self.old) word.now)
+        ensures said { OnOk result (Adds (word_says (vcd_state self.old) word.now)
             events.old.items events.new.items (vcd_state self.new)) }
+        ensures refused { IfErr result (SaysNothing (word_says (vcd_state self.old) word.now)) }
     {
         match self.place {
             Place::Header => self.take_header(word),
@@ -451,8 +461,10 @@ impl<'a> Vcd<'a> {
 
     // What stands between two blanks, if it is a word.
     fn take_piece(&mut self, piece: &[u8], events: &mut Vec<Event>) -> Result<(), Refusal>
-        ensures { OnOk result (Adds (all_say word_says (vcd_state self.old) (word_before piece.now))
+        ensures said { OnOk result (Adds (all_say word_says (vcd_state self.old) (word_before piece.now))
             events.old.items events.new.items (vcd_state self.new)) }
+        ensures refused { IfErr result (SaysNothing
+            (all_say word_says (vcd_state self.old) (word_before piece.now))) }
     {
         if piece.is_empty() {
             return Ok(());
@@ -462,8 +474,10 @@ impl<'a> Vcd<'a> {
 
     // The words of a line.
     fn take_words(&mut self, line: &[u8], events: &mut Vec<Event>) -> Result<(), Refusal>
-        ensures { OnOk result (Adds (all_say word_says (vcd_state self.old) (words_of line.now))
+        ensures said { OnOk result (Adds (all_say word_says (vcd_state self.old) (words_of line.now))
             events.old.items events.new.items (vcd_state self.new)) }
+        ensures refused { IfErr result (SaysNothing
+            (all_say word_says (vcd_state self.old) (words_of line.now))) }
     {
         let mut start = 0;
         for end in 0..line.len() {
@@ -477,8 +491,9 @@ impl<'a> Vcd<'a> {
 
     /// Takes a line, and adds what it says to `events`. After an `Err` the reader is not to be used again.
     pub fn take_line(&mut self, line: &[u8], events: &mut Vec<Event>) -> Result<(), Refusal>
-        ensures { OnOk result (Adds (vcd_line_says (vcd_state self.old) line.now)
+        ensures said { OnOk result (Adds (vcd_line_says (vcd_state self.old) line.now)
             events.old.items events.new.items (vcd_state self.new)) }
+        ensures refused { IfErr result (SaysNothing (vcd_line_says (vcd_state self.old) line.now)) }
     {
         if line.starts_with(b"META ") && is_header(self.place) {
             return Ok(());
@@ -488,7 +503,8 @@ impl<'a> Vcd<'a> {
 
     /// The end of the file: it is refused where the header had not ended.
     pub fn end(&self) -> Result<(), Refusal>
-        ensures { OnOk result (self.now.place ≡ Place.Changes) }
+        ensures ended { OnOk result (self.now.place ≡ Place.Changes) }
+        ensures refused { OnErr result (self.now.place ≢ Place.Changes) }
     {
         match self.place {
             Place::Changes => Ok(()),

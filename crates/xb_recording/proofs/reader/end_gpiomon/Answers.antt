@@ -9,4 +9,4 @@ returns c =
     on_ok_weaker c.take_line.result
     (gpiomon_ended (gpiomon_state c.args.gpiomon.now) (gpiomon_state new.self) c.args.line.now c.args.events.now.items
     new.events.items c.requires)
-    c.take_line.ensures
+    c.take_line.ensures.said

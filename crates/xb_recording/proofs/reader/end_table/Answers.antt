@@ -10,5 +10,5 @@ returns c =
     on_ok_weaker c.end.result
     (λ (ended : AddsAll (table_ends (table_state c.take_line.new.self)) said all).
     table_ended (table_state c.args.table.now) (table_state c.take_line.new.self) c.args.line.now c.args.events.now.items
-    said all c.requires c.in_ok-take_line.ensures ended)
-    c.end.ensures
+    said all c.requires c.in_ok-take_line.ensures.said ended)
+    c.end.ensures.said

@@ -10,5 +10,5 @@ returns c =
     on_ok_weaker c.end.result
     (λ (ended : c.take_line.new.self.place ≡ places.Changes).
     vcd_ends (vcd_state c.args.vcd.now) (vcd_state c.take_line.new.self) c.args.line.now c.args.events.now.items
-    c.take_line.new.events.items c.requires c.in_ok-take_line.ensures ended)
-    c.end.ensures
+    c.take_line.new.events.items c.requires c.in_ok-take_line.ensures.said ended)
+    c.end.ensures.ended

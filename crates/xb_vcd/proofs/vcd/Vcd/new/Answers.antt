@@ -4,8 +4,8 @@ use Rattle.std.specs.Borrow.{Bor}
 use Rattle.xb_vcd.specs.VcdTexts.{begun_vcd}
 use Rattle.xb_vcd.proofs.vcd.Vcd.new.Goals as goal
 
-pub returns : goal.returns
-returns c =
+pub returns-clause-begun : goal.returns-clause-begun
+returns-clause-begun c =
     let names : List (List ℕ) = map (λ (name : Bor (List ℕ)). name.now) c.args.names.now in
     let all : c.loop-name._name-index ≡ length names =
     omega (arith, length-map c.args.names.now (λ (name : Bor (List ℕ)). name.now)) in

@@ -4,9 +4,9 @@ use Rattle.xb_vcd.specs.VcdTexts.{vcd_state}
 use Rattle.xb_vcd.proofs.VcdLemmas.{piece_adds}
 use Rattle.xb_vcd.proofs.vcd.Vcd.take_piece.Goals as goal
 
-pub returns : goal.returns
-returns c =
+pub returns-clause-said : goal.returns-clause-said
+returns-clause-said c =
     on_ok_weaker c.take_word.result
     (piece_adds (vcd_state c.args.self.now) (vcd_state c.take_word.new.self) c.args.piece.now c.args.events.now.items
     c.take_word.new.events.items (sym c.is_empty.ensures ∙ c.if-is_empty.false))
-    c.take_word.ensures
+    c.take_word.ensures.said

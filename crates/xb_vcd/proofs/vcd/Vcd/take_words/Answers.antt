@@ -1,6 +1,8 @@
-use Rattle.std.proofs.Common.{ap, sym, ◌∙◌, arith}
-use Rattle.xb_vcd.specs.VcdTexts.{vcd_state}
+use Rattle.std.proofs.Common.{ap, sym, ◌∙◌, arith, rules}
+use Rattle.xb_vcd.specs.Steps.{SaysNothing, all_say}
+use Rattle.xb_vcd.specs.VcdTexts.{vcd_state, word_says, words_of}
 use Rattle.xb_vcd.proofs.VcdLemmas.{blank_adds, byte_adds}
+use Rattle.xb_vcd.proofs.WordLemmas.{blank_refused, blank_silent, byte_silent}
 use Rattle.xb_vcd.proofs.vcd.Vcd.take_words.Goals as goal
 use Rattle.xb_vcd.proofs.vcd.Vcd.take_words.Goals.{then-is_blank+in_ok-take_piece, else-is_blank}
 
@@ -13,7 +15,12 @@ loop-end-preserved c =
             (blank_adds c.args.line.now c.loop-end.start c.loop-end.end c.if-is_blank.start (vcd_state c.loop-end.self)
             (vcd_state c.if-is_blank.self) (vcd_state w.take_piece.new.self) state c.loop-end.events.items c.if-is_blank.events.items
             w.take_piece.new.events.items new c.loop-end-test.true (sym c.is_blank.ensures ∙ w.if-is_blank.true)
-            (ap vcd_state w.self-is) (ap (λ events. events.items) w.events-is) w.start-is w.in_ok-take_piece.ensures h);
+            (ap vcd_state w.self-is) (ap (λ events. events.items) w.events-is) w.start-is w.in_ok-take_piece.ensures.said h);
+        nothing = λ rest. c.loop-end.invariant.nothing
+            (blank_silent c.args.line.now c.loop-end.start c.loop-end.end c.if-is_blank.start (vcd_state c.loop-end.self)
+            (vcd_state c.if-is_blank.self) (vcd_state w.take_piece.new.self) c.loop-end.events.items
+            w.take_piece.new.events.items c.loop-end-test.true (sym c.is_blank.ensures ∙ w.if-is_blank.true)
+            (ap vcd_state w.self-is) w.start-is w.in_ok-take_piece.ensures.said rest);
       }
       | else-is_blank w ↦ record {
         places = omega (arith, w.start-is, c.loop-end.invariant.places);
@@ -22,5 +29,17 @@ loop-end-preserved c =
             (vcd_state c.if-is_blank.self) state c.loop-end.events.items c.if-is_blank.events.items new c.loop-end.invariant.places
             c.loop-end-test.true (sym c.is_blank.ensures ∙ w.if-is_blank.false) (ap vcd_state w.self-is)
             (ap (λ events. events.items) w.events-is) w.start-is h);
+        nothing = λ rest. c.loop-end.invariant.nothing
+            (byte_silent c.args.line.now c.loop-end.start c.loop-end.end c.if-is_blank.start (vcd_state c.loop-end.self)
+            (vcd_state c.if-is_blank.self) c.loop-end.invariant.places c.loop-end-test.true
+            (sym c.is_blank.ensures ∙ w.if-is_blank.false) (ap vcd_state w.self-is) w.start-is rest);
       }
     ]
+
+pub returns-in_err-take_piece-clause-refused : goal.returns-in_err-take_piece-clause-refused
+returns-in_err-take_piece-clause-refused c =
+    let silent : SaysNothing (all_say word_says (vcd_state c.args.self.now) (words_of c.args.line.now)) c.in_err-take_piece.field-0.0 =
+    λ other. c.loop-end.invariant.nothing
+    (blank_refused c.args.line.now c.loop-end.start c.loop-end.end (vcd_state c.loop-end.self) c.loop-end-test.true
+    (sym c.is_blank.ensures ∙ c.if-is_blank.true) (c.in_err-take_piece.ensures.refused other)) in
+    search rules

@@ -1,4 +1,4 @@
-use Rattle.std.proofs.Common.{◌≤◌, List, [], drop}
+use Rattle.std.proofs.Common.{◌≡◌, ◌≤◌, List, [], None, drop}
 use Rattle.std.specs.Prelude.{slice_range}
 use Rattle.xb_vcd.specs.declared.event.Event.{Event}
 use Rattle.xb_vcd.specs.Steps.{Adds, all_say}
@@ -12,4 +12,6 @@ invariant-loop-end l = record {
       → Adds (all_say word_says (vcd_state l.self) (words_in (slice_range l.line l.start l.end) (drop l.end l.line)))
       l.events.items new state
       → Adds (all_say word_says (vcd_state l.initial.self) (words_in [] l.line)) l.initial.events.items new state;
+  nothing : all_say word_says (vcd_state l.self) (words_in (slice_range l.line l.start l.end) (drop l.end l.line)) ≡ None
+      → all_say word_says (vcd_state l.initial.self) (words_in [] l.line) ≡ None;
 }
