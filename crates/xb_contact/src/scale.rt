@@ -21,14 +21,6 @@ impl Scale {
         (tick * self.ms + self.ticks / 2) / self.ticks
     }
 
-    /// So many ticks in microseconds, rounded down.
-    pub fn micros_of(self, ticks: u64) -> u64 {
-        if self.ticks == 0 {
-            return 0;
-        }
-        ticks.saturating_mul(self.ms).saturating_mul(1_000) / self.ticks
-    }
-
     /// Whether a tick's time can be counted.
     pub fn can_count(self, tick: u64) -> bool
         ensures { IsTrue result ↔ CanCount self tick }
