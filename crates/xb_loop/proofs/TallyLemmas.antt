@@ -1,17 +1,16 @@
 -- The short runs of a record, counted hold by hold.
-use Rattle.std.proofs.Common.{◌≡◌, ℕ, ◌+◌, ◌-◌, ◌^◌, ◌<◌, ◌≤◌, max, min, List, [], ◌∷◌, Bool, true, false, cond, ◌||◌, ◌==◌, nat_le, length, refl, ap, sym, ◌∙◌, arith}
+use Rattle.std.proofs.Common.{◌≡◌, ℕ, ◌+◌, ◌^◌, ◌<◌, ◌≤◌, max, List, [], ◌∷◌, Bool, true, false, cond, ◌||◌, ◌==◌, nat_le, length, refl, ap, sym, ◌∙◌, arith}
 use Rattle.std.specs.Prelude.{nat_lt}
-use Rattle.std.proofs.lemmas.Bool.{eqb-false, ne_eqb}
+use Rattle.std.proofs.lemmas.Bool.{eqb-false}
 use Rattle.std.proofs.lemmas.Bool.Decides.{nat_tests}
 use Rattle.xb_contact.specs.declared.level.Level.{Level}
 use Rattle.xb_contact.specs.declared.level.Level.TheVariants.{Open, Closed}
 use Rattle.xb_contact.specs.declared.hold.Hold.{Hold}
-use Rattle.xb_contact.specs.Holds.{differs_from_first, hold_of, join, runs_of, same_level, total_of}
+use Rattle.xb_contact.specs.Holds.{hold_of, join, runs_of, same_level, total_of}
 use Rattle.xb_contact.proofs.JoinedHolds.{join-differs, join_is, join_sum, left, same_level-eq, taken_in}
 use Rattle.xb_contact.proofs.JoinedRuns.{runs_of-cons}
 use Rattle.xb_loop.specs.declared.tally.Bounces.{Bounces}
-use Rattle.xb_loop.specs.declared.tally.Tally.{Tally}
-use Rattle.xb_loop.specs.Tallies.{CountsTheShortRuns, begun_tally, bounces_of, longest_of, short_runs, tally_after, tally_at_end, tally_of, up_to_most, with_run}
+use Rattle.xb_loop.specs.Tallies.{CountsTheShortRuns, begun_tally, bounces_of, longest_of, short_runs, tally_at_end, tally_of, up_to_most, with_run}
 
 -- bounces with more of them
 abbrev with_all : Bounces → List ℕ → Bounces
