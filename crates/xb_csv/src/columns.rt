@@ -82,7 +82,8 @@ impl<'a> Columns<'a> {
 
     // The comment with the names of the wires.
     fn take_names(&mut self, names: &[u8]) -> Result<(), Refusal>
-        ensures said { OnOk result (names_say (table_state self.old) names.now ≡ Some ([], table_state self.new)) }
+        ensures said { OnOk result
+            (names_say (table_state self.old) names.now ≡ Some ([], table_state self.new)) }
         ensures refused { IfErr result (SaysNothing (names_say (table_state self.old) names.now)) }
     {
         find_columns(names, self.names, &mut self.columns)
@@ -276,7 +277,8 @@ impl<'a> Columns<'a> {
     fn take_sigrok_row(&mut self, line: &[u8], events: &mut Vec<Event>) -> Result<(), Refusal>
         ensures said { OnOk result (Adds (sigrok_row (table_state self.old) self.old.clock line.now)
             events.old.items events.new.items (table_state self.new)) }
-        ensures refused { IfErr result (SaysNothing (sigrok_row (table_state self.old) self.old.clock line.now)) }
+        ensures refused { IfErr result (SaysNothing
+            (sigrok_row (table_state self.old) self.old.clock line.now)) }
     {
         match self.clock {
             Clock::Unknown => self.take_sigrok_header(line, events),
@@ -300,7 +302,8 @@ impl<'a> Columns<'a> {
     fn take_saleae(&mut self, line: &[u8], events: &mut Vec<Event>) -> Result<(), Refusal>
         ensures said { OnOk result (Adds (saleae_row (table_state self.old) self.old.clock line.now)
             events.old.items events.new.items (table_state self.new)) }
-        ensures refused { IfErr result (SaysNothing (saleae_row (table_state self.old) self.old.clock line.now)) }
+        ensures refused { IfErr result (SaysNothing
+            (saleae_row (table_state self.old) self.old.clock line.now)) }
     {
         match self.clock {
             Clock::Unknown => self.take_saleae_header(line, events),
@@ -312,7 +315,8 @@ impl<'a> Columns<'a> {
     fn take_edges(&mut self, line: &[u8], events: &mut Vec<Event>) -> Result<(), Refusal>
         ensures said { OnOk result (Adds (edges_row (table_state self.old) self.old.clock line.now)
             events.old.items events.new.items (table_state self.new)) }
-        ensures refused { IfErr result (SaysNothing (edges_row (table_state self.old) self.old.clock line.now)) }
+        ensures refused { IfErr result (SaysNothing
+            (edges_row (table_state self.old) self.old.clock line.now)) }
     {
         match self.clock {
             Clock::Unknown => {

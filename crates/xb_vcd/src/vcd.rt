@@ -307,7 +307,8 @@ impl<'a> Vcd<'a> {
 
     // A word of a declaration: kind, size, code and name.
     fn take_var(&mut self, words: VarWords, word: &[u8]) -> Result<(), Refusal>
-        ensures said { OnOk result (var_taken (vcd_state self.old) words word.now ≡ Some ([], vcd_state self.new)) }
+        ensures said { OnOk result
+            (var_taken (vcd_state self.old) words word.now ≡ Some ([], vcd_state self.new)) }
         ensures refused { IfErr result (SaysNothing (var_taken (vcd_state self.old) words word.now)) }
     {
         let VarWords {
@@ -347,7 +348,8 @@ impl<'a> Vcd<'a> {
 
     // A word of the header.
     fn take_header(&mut self, word: &[u8]) -> Result<(), Refusal>
-        ensures said { OnOk result (header_taken (vcd_state self.old) word.now ≡ Some ([], vcd_state self.new)) }
+        ensures said { OnOk result
+            (header_taken (vcd_state self.old) word.now ≡ Some ([], vcd_state self.new)) }
         ensures refused { IfErr result (SaysNothing (header_taken (vcd_state self.old) word.now)) }
     {
         match word_of(word) {
