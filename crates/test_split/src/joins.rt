@@ -24,7 +24,8 @@ const LIST: &[u8] = b"0000-4999.deck 0 4999 30\n5000-9999.deck 5000 9999 20\n";
 const USAGE: &[u8] = b"mfjoin: usage: mfjoin [--list FILE] PAGE...\n";
 
 // The last page, with CR LF at the end of some lines.
-const LAST_OF_WINDOWS: &[u8] = b"9999 1 KEYED 0003 KP:1100+1700 4:700+1300 1:700+900 1:700+900 ST:1500+1700\r\n\
+const LAST_OF_WINDOWS: &[u8] =
+    b"9999 1 KEYED 0003 KP:1100+1700 4:700+1300 1:700+900 1:700+900 ST:1500+1700\r\n\
 KEYED 1 REFUSED 0\n";
 
 // The files that there are.
