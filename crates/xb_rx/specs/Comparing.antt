@@ -5,6 +5,7 @@ use Rattle.xb_text.specs.Writing.{AppendsBeginning}
 use Rattle.xb_compared.specs.Differences.{differences}
 use Rattle.xb_compared.specs.Entries.{KeyedEntry}
 use Rattle.xb_compared.specs.Pages.{IsFaultOf, IsKeyed}
+use Rattle.xb_page.specs.LineEnds.{lf_ended}
 use Rattle.xb_ear.specs.Receivers.{keys_of_sound}
 use Rattle.xb_rx.specs.declared.comparing.CompareProgramFault.{CompareProgramFault}
 use Rattle.xb_rx.specs.declared.comparing.CompareProgramFault.TheVariants as fault
@@ -15,9 +16,9 @@ use Rattle.xb_rx.specs.Hearing.{Delivers, Outputs, outputs, sound_by}
 use Rattle.xb_rx.specs.Pages.{loose_text, page_of}
 use Rattle.xb_rx.specs.Samples.{Sound}
 
--- the keyed entries of the page in a file, where its bytes are known
+-- the keyed entries of the page in a file, whose lines end at LF or at CR LF, where its bytes are known
 abbrev pub HasKeyed : Option (List ℕ) → List KeyedEntry → Type 0
-HasKeyed file keyed = IfSome file (λ page. IsKeyed page keyed)
+HasKeyed file keyed = IfSome file (λ page. IsKeyed (lf_ended page) keyed)
 
 -- a sound whose page has this is heard to its end, where its bytes are known, and its keys without a keying are told
 abbrev pub HasHeard : Input → Option (List ℕ) → (List ℕ → Type 0) → Option (List ℕ) → Option (List ℕ) → Type 0
@@ -33,7 +34,7 @@ IsHeardPage how bytes keyed old new = HasHeard how bytes (λ page. IsKeyed page 
 -- why a file gives no keyed entries
 abbrev pub IsFileFault : Option (List ℕ) → CompareProgramFault → Type 0
 IsFileFault file (fault.File e) = Unit {0}
-IsFileFault file (fault.Keyed f) = IfSome file (λ page. IsFaultOf page f)
+IsFileFault file (fault.Keyed f) = IfSome file (λ page. IsFaultOf (lf_ended page) f)
 IsFileFault file fault.NoMemory = Unit {0}
 IsFileFault file f = ⊥
 

@@ -1,5 +1,6 @@
 // What was keyed, beside what is heard.
-ghost use Rattle.std.specs.Prelude.{IfErr, IfOk};
+ghost use Rattle.std.specs.Prelude.{◌≡◌, IfErr, IfOk, IfSome};
+ghost use Rattle.xb_page.specs.LineEnds.{lf_ended};
 ghost use Rattle.xb_rx.specs.Comparing.{Compares, HasKeyed, IsFileFault, IsHeardPage, IsSoundFault};
 ghost use Rattle.xb_rx.specs.Hearing.{HasForm, outputs};
 
@@ -12,6 +13,7 @@ use std::io::{self, Read, Write};
 use thiserror::Error;
 use xb_compared::{CompareFault, Keyed, differences, keyed_of_page};
 use xb_model::{LineNo, Trunk};
+use xb_page::end_lines_at_lf;
 use xb_text::write_whole;
 
 /// Why what was keyed is not what is heard. On `Differ` the differences were written, on `Write` their beginning; else
@@ -52,6 +54,15 @@ impl From<AllocError> for CompareProgramFault {
     }
 }
 
+// The page of a file, each line ended by LF.
+fn page_of_file<F: PageFiles>(alloc: Global, files: &F, name: &str) -> io::Result<Vec<u8>>
+    ensures { IfOk result (λ page. IfSome (F.bytes files.now name.now) (λ known. page.items ≡ lf_ended known)) }
+{
+    let mut page = files.read(alloc, name)?;
+    end_lines_at_lf(&mut page);
+    Ok(page)
+}
+
 // The keyed entries of the page in a file.
 fn keyed_in<F: PageFiles>(
     alloc: Global,
@@ -61,7 +72,7 @@ fn keyed_in<F: PageFiles>(
     ensures keyed { IfOk result (λ keyed. HasKeyed (F.bytes files.now name.now) keyed.items) }
     ensures fault { IfErr result (IsFileFault (F.bytes files.now name.now)) }
 {
-    let page = match files.read(alloc, name) {
+    let page = match page_of_file(alloc, files, name) {
         Ok(page) => page,
         Err(error) => return Err(CompareProgramFault::File(error)),
     };
