@@ -56,7 +56,8 @@ impl From<AllocError> for CompareProgramFault {
 
 // The page of a file, each line ended by LF.
 fn page_of_file<F: PageFiles>(alloc: Global, files: &F, name: &str) -> io::Result<Vec<u8>>
-    ensures { IfOk result (λ page. IfSome (F.bytes files.now name.now) (λ known. page.items ≡ lf_ended known)) }
+    ensures { IfOk result (λ page. IfSome (F.bytes files.now name.now)
+        (λ known. page.items ≡ lf_ended known)) }
 {
     let mut page = files.read(alloc, name)?;
     end_lines_at_lf(&mut page);

@@ -157,7 +157,8 @@ impl Page {
 
     // Keeps a key of the keying.
     fn keep(&mut self, key: Heard) -> Result<(), PageFault>
-        ensures kept { OnOk result (paged self.new ≡ record (paged self.old) { begun = self.old.begun.items ++ key ∷ [] }) }
+        ensures kept { OnOk result (paged self.new
+            ≡ record (paged self.old) { begun = self.old.begun.items ++ key ∷ [] }) }
         ensures same { OnErr result (paged self.new ≡ paged self.old) }
     {
         match self.begun.push(key) {
@@ -186,10 +187,13 @@ impl Page {
     fn complete<W: Write>(&mut self, alloc: Global, out: &mut W) -> Result<(), PageFault>
         requires { self.old.count + 1 < 2 ^ 64 }
         ensures whole { OnOk result (Appends (W.contents out.old) (W.contents out.new)
-            (entry_text self.old.line (self.old.count + 1) (keying self.old.trunk (digits_in (drop 1 self.old.begun.items))))) }
+            (entry_text self.old.line (self.old.count + 1)
+            (keying self.old.trunk (digits_in (drop 1 self.old.begun.items))))) }
         ensures beginning { IfErr result (λ _. AppendsBeginning (W.contents out.old) (W.contents out.new)
-            (entry_text self.old.line (self.old.count + 1) (keying self.old.trunk (digits_in (drop 1 self.old.begun.items))))) }
-        ensures after { OnOk result (paged self.new ≡ record (paged self.old) { count = self.old.count + 1; begun = [] }) }
+            (entry_text self.old.line (self.old.count + 1)
+            (keying self.old.trunk (digits_in (drop 1 self.old.begun.items))))) }
+        ensures after { OnOk result (paged self.new
+            ≡ record (paged self.old) { count = self.old.count + 1; begun = [] }) }
         ensures same { OnErr result (self.new.count ≡ self.old.count) }
     {
         let text = self.entry(alloc)?;
@@ -247,9 +251,11 @@ impl Page {
     ) -> Result<(), PageFault>
         requires begun { IsBegun self.old.begun.items }
         requires count { self.old.count + 1 < 2 ^ 64 }
-        ensures page { Writes (λ later. page_rest (paged self.old) (key ∷ later)) (page_rest (paged self.new)) result
+        ensures page { Writes (λ later. page_rest (paged self.old) (key ∷ later))
+            (page_rest (paged self.new)) result
             (W.contents out.old) (W.contents out.new) }
-        ensures loose { Writes (λ later. loose_rest (paged self.old) (key ∷ later)) (loose_rest (paged self.new)) result
+        ensures loose { Writes (λ later. loose_rest (paged self.old) (key ∷ later))
+            (loose_rest (paged self.new)) result
             (E.contents err.old) (E.contents err.new) }
         ensures count { self.new.count ≤ self.old.count + 1 }
         ensures begun { OnOk result (IsBegun self.new.begun.items) }
@@ -272,9 +278,11 @@ impl Page {
     ) -> Result<(), PageFault>
         requires begun { IsBegun self.old.begun.items }
         requires count { self.old.count + 1 < 2 ^ 64 }
-        ensures page { Writes (λ later. page_rest (paged self.old) (listed key ++ later)) (page_rest (paged self.new)) result
+        ensures page { Writes (λ later. page_rest (paged self.old) (listed key ++ later))
+            (page_rest (paged self.new)) result
             (W.contents out.old) (W.contents out.new) }
-        ensures loose { Writes (λ later. loose_rest (paged self.old) (listed key ++ later)) (loose_rest (paged self.new)) result
+        ensures loose { Writes (λ later. loose_rest (paged self.old) (listed key ++ later))
+            (loose_rest (paged self.new)) result
             (E.contents err.old) (E.contents err.new) }
         ensures count { self.new.count ≤ self.old.count + 1 }
         ensures begun { OnOk result (IsBegun self.new.begun.items) }
@@ -295,7 +303,8 @@ impl Page {
     ) -> Result<(), PageFault>
         requires { IsBegun self.now.begun.items }
         ensures page { Ends (page_rest (paged self.now) []) result (W.contents out.old) (W.contents out.new) }
-        ensures loose { Ends (loose_rest (paged self.now) []) result (E.contents err.old) (E.contents err.new) }
+        ensures loose { Ends (loose_rest (paged self.now) []) result
+            (E.contents err.old) (E.contents err.new) }
     {
         let text = loose_lines(alloc, &self.begun)?;
         let totals = totals(alloc, self.count)?;
@@ -318,8 +327,10 @@ impl Page {
     ) -> Result<(), PageFault>
         requires begun { IsBegun self.old.begun.items }
         requires count { self.old.count + 1 < 2 ^ 64 }
-        ensures page { Ends (page_rest (paged self.old) (listed key)) result (W.contents out.old) (W.contents out.new) }
-        ensures loose { Ends (loose_rest (paged self.old) (listed key)) result (E.contents err.old) (E.contents err.new) }
+        ensures page { Ends (page_rest (paged self.old) (listed key)) result
+            (W.contents out.old) (W.contents out.new) }
+        ensures loose { Ends (loose_rest (paged self.old) (listed key)) result
+            (E.contents err.old) (E.contents err.new) }
     {
         self.take(alloc, key, out, err)?;
         self.close(alloc, out, err)

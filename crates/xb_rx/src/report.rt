@@ -45,9 +45,11 @@ impl Report {
     ) -> Result<(), PageFault>
         requires ready { IsReady (reported self.old) }
         requires count { count_of (reported self.old) + 1 < 2 ^ 64 }
-        ensures page { Writes (λ later. report_rest (reported self.old) (listed key ++ later)) (report_rest (reported self.new))
+        ensures page { Writes (λ later. report_rest (reported self.old) (listed key ++ later))
+            (report_rest (reported self.new))
             result (W.contents out.old) (W.contents out.new) }
-        ensures loose { Writes (λ later. told_rest (reported self.old) (listed key ++ later)) (told_rest (reported self.new))
+        ensures loose { Writes (λ later. told_rest (reported self.old) (listed key ++ later))
+            (told_rest (reported self.new))
             result (E.contents err.old) (E.contents err.new) }
         ensures count { count_of (reported self.new) ≤ count_of (reported self.old) + 1 }
         ensures ready { OnOk result (IsReady (reported self.new)) }
@@ -69,8 +71,10 @@ impl Report {
     ) -> Result<(), PageFault>
         requires ready { IsReady (reported self.old) }
         requires count { count_of (reported self.old) + 1 < 2 ^ 64 }
-        ensures page { Ends (report_rest (reported self.old) (listed key)) result (W.contents out.old) (W.contents out.new) }
-        ensures loose { Ends (told_rest (reported self.old) (listed key)) result (E.contents err.old) (E.contents err.new) }
+        ensures page { Ends (report_rest (reported self.old) (listed key)) result
+            (W.contents out.old) (W.contents out.new) }
+        ensures loose { Ends (told_rest (reported self.old) (listed key)) result
+            (E.contents err.old) (E.contents err.new) }
     {
         match self {
             Report::Page(page) => page.end(alloc, key, out, err),

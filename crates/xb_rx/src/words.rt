@@ -163,7 +163,8 @@ fn request_against(options: Options, against: bool) -> Option<Request>
 /// What the words ask for: the page of a line, by a trunk group, or a line for each key, of a WAV file or of samples
 /// alone, or that it is compared with a page.
 pub fn asked_by_words<'a>(alloc: Global, words: &'a [String]) -> Result<Asked<'a>, WordsFault>
-    ensures asks { IfOk result (λ asked. Asks (texts_of words.entry.now) asked.request (named asked.against)) }
+    ensures asks { IfOk result (λ asked. Asks (texts_of words.entry.now) asked.request
+        (named asked.against)) }
     ensures form { IfOk result (λ asked. HasForm asked.request.input) }
     ensures refused { IfErr result (λ f. f ≡ WordsFault.Refused → AreRefused (texts_of words.entry.now)) }
 {
