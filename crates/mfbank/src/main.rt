@@ -3,6 +3,7 @@
 
 use std::process::ExitCode;
 use std::{env, io};
+use xb_command::Pipe;
 use xb_office::attend;
 
 // The words of the command line, the program's name first.
@@ -13,10 +14,13 @@ fn words(rt: &HostRuntime) -> io::Result<Vec<String>> {
 /// Reads the deck on standard input, and prints its page, or one line on standard error, as `attend`
 /// does.
 fn main(rt: HostRuntime) -> ExitCode {
-    let (mut deck, mut page, mut err) = (rt.stdin(), io::writer(&rt), rt.stderr());
+    let pipe = Pipe::default();
+    let (mut deck, mut page) = (rt.stdin(), pipe.output(io::writer(&rt)));
+    let mut err = pipe.errors(rt.stderr());
     match words(&rt) {
         Ok(words) => {
-            ExitCode::from(attend(&rt, rt.alloc(), words, &mut deck, &mut page, &mut err))
+            let status = attend(&rt, rt.alloc(), words, &mut deck, &mut page, &mut err);
+            ExitCode::from(pipe.status(status))
         }
         Err(fault) => {
             let _ = eprintln!(rt; "mfbank: {fault}");

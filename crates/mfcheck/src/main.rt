@@ -4,6 +4,7 @@
 use std::process::ExitCode;
 use std::{env, io};
 use xb_check::attend;
+use xb_command::Pipe;
 
 // The words of the command line, the program's name first.
 fn words(rt: &HostRuntime) -> io::Result<Vec<String>> {
@@ -13,10 +14,14 @@ fn words(rt: &HostRuntime) -> io::Result<Vec<String>> {
 /// Reads the deck on standard input, and writes a line for each text line that is wrong on standard output, or one line
 /// on standard error, as `attend` does.
 fn main(rt: HostRuntime) -> ExitCode {
-    let (mut deck, mut lines, errors) = (rt.stdin(), io::writer(&rt), rt.stderr());
-    let mut err = io::writer(&errors);
+    let (pipe, errors) = (Pipe::default(), rt.stderr());
+    let (mut deck, mut lines) = (rt.stdin(), pipe.output(io::writer(&rt)));
+    let mut err = pipe.errors(io::writer(&errors));
     match words(&rt) {
-        Ok(words) => ExitCode::from(attend(rt.alloc(), &words, &mut deck, &mut lines, &mut err)),
+        Ok(words) => {
+            let status = attend(rt.alloc(), &words, &mut deck, &mut lines, &mut err);
+            ExitCode::from(pipe.status(status))
+        }
         Err(fault) => {
             let _ = eprintln!(rt; "mfcheck: {fault}");
             ExitCode::FAILURE

@@ -3,6 +3,7 @@
 
 use std::process::ExitCode;
 use std::{env, io};
+use xb_command::Pipe;
 use xb_dial::attend;
 
 // The words of the command line, the program's name first.
@@ -13,10 +14,14 @@ fn words(rt: &HostRuntime) -> io::Result<Vec<String>> {
 /// Reads the calls on standard input, and prints the rows that dial them, or one line on standard error,
 /// as `attend` does.
 fn main(rt: HostRuntime) -> ExitCode {
-    let (mut calls, mut rows, errors) = (rt.stdin(), io::writer(&rt), rt.stderr());
-    let mut err = io::writer(&errors);
+    let (pipe, errors) = (Pipe::default(), rt.stderr());
+    let (mut calls, mut rows) = (rt.stdin(), pipe.output(io::writer(&rt)));
+    let mut err = pipe.errors(io::writer(&errors));
     match words(&rt) {
-        Ok(words) => ExitCode::from(attend(rt.alloc(), &words, &mut calls, &mut rows, &mut err)),
+        Ok(words) => {
+            let status = attend(rt.alloc(), &words, &mut calls, &mut rows, &mut err);
+            ExitCode::from(pipe.status(status))
+        }
         Err(fault) => {
             let _ = eprintln!(rt; "mfdial: {fault}");
             ExitCode::FAILURE

@@ -4,6 +4,7 @@
 use std::alloc::Global;
 use std::process::ExitCode;
 use std::{env, fs, io};
+use xb_command::Pipe;
 use xb_join::{PageFiles, attend};
 
 // The files of the system.
@@ -26,11 +27,15 @@ fn words(rt: &HostRuntime) -> io::Result<Vec<String>> {
 /// Reads the pages in files, and prints the page that they make together, or one line on standard error, as
 /// `attend` does.
 fn main(rt: HostRuntime) -> ExitCode {
-    let (mut page, errors) = (io::writer(&rt), rt.stderr());
-    let mut err = io::writer(&errors);
+    let (pipe, errors) = (Pipe::default(), rt.stderr());
+    let mut page = pipe.output(io::writer(&rt));
+    let mut err = pipe.errors(io::writer(&errors));
     let files = SystemFiles { rt: &rt };
     match words(&rt) {
-        Ok(words) => ExitCode::from(attend(rt.alloc(), &words, &files, &mut page, &mut err)),
+        Ok(words) => {
+            let status = attend(rt.alloc(), &words, &files, &mut page, &mut err);
+            ExitCode::from(pipe.status(status))
+        }
         Err(fault) => {
             let _ = eprintln!(rt; "mfjoin: {fault}");
             ExitCode::FAILURE

@@ -4,6 +4,7 @@
 use std::alloc::Global;
 use std::process::ExitCode;
 use std::{env, fs, io};
+use xb_command::Pipe;
 use xb_loop::{TableFiles, attend};
 
 // The files of the system.
@@ -26,18 +27,22 @@ fn words(rt: &HostRuntime) -> io::Result<Vec<String>> {
 /// Reads a recording on standard input, and prints its loop rows as it comes, or one line on standard error,
 /// as `attend` does.
 fn main(rt: HostRuntime) -> ExitCode {
-    let (mut recording, mut rows, errors) = (rt.stdin(), io::writer(&rt), rt.stderr());
-    let mut err = io::writer(&errors);
+    let (pipe, errors) = (Pipe::default(), rt.stderr());
+    let (mut recording, mut rows) = (rt.stdin(), pipe.output(io::writer(&rt)));
+    let mut err = pipe.errors(io::writer(&errors));
     let files = SystemFiles { rt: &rt };
     match words(&rt) {
-        Ok(words) => ExitCode::from(attend(
-            rt.alloc(),
-            &words,
-            &files,
-            &mut recording,
-            &mut rows,
-            &mut err,
-        )),
+        Ok(words) => {
+            let status = attend(
+                rt.alloc(),
+                &words,
+                &files,
+                &mut recording,
+                &mut rows,
+                &mut err,
+            );
+            ExitCode::from(pipe.status(status))
+        }
         Err(fault) => {
             let _ = eprintln!(rt; "mfloop: {fault}");
             ExitCode::FAILURE

@@ -4,6 +4,7 @@
 use std::alloc::Global;
 use std::process::ExitCode;
 use std::{env, fs, io};
+use xb_command::Pipe;
 use xb_route::{TableFiles, attend};
 
 // The files of the system.
@@ -26,8 +27,9 @@ fn words(rt: &HostRuntime) -> io::Result<Vec<String>> {
 /// Reads the table in a file, and the numbers among the words or on standard input, and prints what is done
 /// with each number, or one line on standard error, as `attend` does.
 fn main(rt: HostRuntime) -> ExitCode {
-    let (mut numbers, mut lines, errors) = (rt.stdin(), io::writer(&rt), rt.stderr());
-    let mut err = io::writer(&errors);
+    let (pipe, errors) = (Pipe::default(), rt.stderr());
+    let (mut numbers, mut lines) = (rt.stdin(), pipe.output(io::writer(&rt)));
+    let mut err = pipe.errors(io::writer(&errors));
     let files = SystemFiles { rt: &rt };
     match words(&rt) {
         Ok(words) => {
@@ -39,7 +41,7 @@ fn main(rt: HostRuntime) -> ExitCode {
                 &mut lines,
                 &mut err,
             );
-            ExitCode::from(status)
+            ExitCode::from(pipe.status(status))
         }
         Err(fault) => {
             let _ = eprintln!(rt; "mfroute: {fault}");

@@ -5,6 +5,7 @@ use std::alloc::Global;
 use std::io::BufReader;
 use std::process::ExitCode;
 use std::{env, fs, io};
+use xb_command::Pipe;
 use xb_rx::{PageFiles, attend};
 
 // The files of the system.
@@ -28,10 +29,12 @@ fn words(rt: &HostRuntime) -> io::Result<Vec<String>> {
 fn run(rt: &HostRuntime) -> io::Result<u8> {
     let words = words(rt)?;
     let mut sound = BufReader::new(rt.alloc(), rt.stdin())?;
-    let (mut page, errors) = (io::writer(rt), rt.stderr());
-    let mut err = io::writer(&errors);
+    let (pipe, errors) = (Pipe::default(), rt.stderr());
+    let mut page = pipe.output(io::writer(rt));
+    let mut err = pipe.errors(io::writer(&errors));
     let files = SystemFiles { rt };
-    Ok(attend(rt.alloc(), &words, &files, &mut sound, &mut page, &mut err))
+    let status = attend(rt.alloc(), &words, &files, &mut sound, &mut page, &mut err);
+    Ok(pipe.status(status))
 }
 
 /// Reads the sound on standard input, and writes the page of its keyings on standard output, or its keys, or its

@@ -3,6 +3,7 @@
 
 use std::process::ExitCode;
 use std::{env, io};
+use xb_command::Pipe;
 use xb_tone::attend;
 
 // The words of the command line, the program's name first.
@@ -13,10 +14,14 @@ fn words(rt: &HostRuntime) -> io::Result<Vec<String>> {
 /// Reads the page on standard input, and writes its sound on standard output, or one line on standard
 /// error, as `attend` does.
 fn main(rt: HostRuntime) -> ExitCode {
-    let (mut page, mut sound, errors) = (rt.stdin(), io::writer(&rt), rt.stderr());
-    let mut err = io::writer(&errors);
+    let (pipe, errors) = (Pipe::default(), rt.stderr());
+    let (mut page, mut sound) = (rt.stdin(), pipe.output(io::writer(&rt)));
+    let mut err = pipe.errors(io::writer(&errors));
     match words(&rt) {
-        Ok(words) => ExitCode::from(attend(rt.alloc(), &words, &mut page, &mut sound, &mut err)),
+        Ok(words) => {
+            let status = attend(rt.alloc(), &words, &mut page, &mut sound, &mut err);
+            ExitCode::from(pipe.status(status))
+        }
         Err(fault) => {
             let _ = eprintln!(rt; "mftone: {fault}");
             ExitCode::FAILURE

@@ -1,7 +1,9 @@
 // Words, calls and streams in; a status, rows and lines of faults out.
+use std::alloc::{AllocError, Global};
 use std::io::ErrorKind;
 use std::test::Fail;
 use test_kit::{Halting, Short, words_of};
+use xb_command::{Pipe, READER_GONE};
 use xb_dial::attend;
 
 // The words after the program's name, the calls, the status, and what stands on standard output and on
@@ -192,5 +194,33 @@ fn writes_the_beginning_where_the_rows_fail(rt: HostRuntime) -> Result<(), Fail>
         let line = b"mfdial: the rows could not be written\n".as_slice();
         assert!(rt; err.as_slice() == line, "{room}");
     }
+    Ok(())
+}
+
+// Dials while the rows fail so after 20 bytes, and returns the status of the process and what is told.
+fn told_where_rows_fail(alloc: Global, kind: ErrorKind) -> Result<(u8, Vec<u8>), AllocError> {
+    let words = words_of(alloc, "mfdial", &[])?;
+    let mut calls = b"7 212-5551".as_slice();
+    let mut err = Vec::new(alloc);
+    let pipe = Pipe::default();
+    let mut out = pipe.output(Short::new(alloc, 20, Some(kind)));
+    let status = attend(
+        alloc,
+        &words,
+        &mut calls,
+        &mut out,
+        &mut pipe.errors(&mut err),
+    );
+    Ok((pipe.status(status), err))
+}
+
+#[test]
+fn is_silent_where_the_reader_goes_away(rt: HostRuntime) -> Result<(), Fail> {
+    let (status, told) = told_where_rows_fail(rt.alloc(), ErrorKind::BrokenPipe)?;
+    assert_eq!(rt; status, READER_GONE);
+    assert!(rt; told.is_empty());
+    let (status, told) = told_where_rows_fail(rt.alloc(), ErrorKind::StorageFull)?;
+    assert_eq!(rt; status, 1);
+    assert!(rt; told.as_slice() == b"mfdial: the rows could not be written\n".as_slice());
     Ok(())
 }

@@ -1,5 +1,6 @@
 -- The statuses of the programs, each as it is.
 use Rattle.std.specs.Prelude.{◌≡◌}
+use Rattle.xb_command.specs.declared.pipe.TheConstants.{READER_GONE}
 use Rattle.xb_command.specs.declared.telling.TheConstants.{DONE, FAULT, WORDS_REFUSED}
 
 -- a definition that cites a constant means this number
@@ -7,3 +8,4 @@ pub record AreConstants : Type 0 where
   pub done : DONE ≡ 0
   pub fault : FAULT ≡ 1
   pub words_refused : WORDS_REFUSED ≡ 2
+  pub reader_gone : READER_GONE ≡ 141

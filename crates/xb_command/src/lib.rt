@@ -1,6 +1,6 @@
-//! What a program does with its words and its stream of errors: the words of a command line as `clap` takes
-//! them (options with numbers or texts, flags, and words that stand alone), the line of a fault or of
-//! refused words, and the status of the process.
+//! What a program does with its words and its streams: the words of a command line as `clap` takes them
+//! (options with numbers or texts, flags, and words that stand alone), the line of a fault or of refused
+//! words, the status of the process, and its end where the reader of its output goes away.
 //!
 //! - `read_words`: what is returned is what `clap` matches by the command that the list of options makes.
 //!   The words are refused only where `clap` refuses them.
@@ -11,6 +11,9 @@
 //!   made.
 //! - `tell_words`: of refused words the status is 2 and the line is the usage, exactly; where memory ran
 //!   out while they were read, the status is 1 and the line says so.
+//! - `Pipe`: an output and a stream of errors that hold what the streams below them hold, whose status is the
+//!   one that is given, or `READER_GONE`. That is where a write of the output failed with `BrokenPipe`; from
+//!   then on the stream of errors gets nothing. No contract can say when, and tests and tries show it.
 //! - `Attends` (`specs/Programs.antt`) is the form of every program's contract, by its status: 0 where what
 //!   was asked for was done; 1 on a fault, or where memory ran out and nothing was read or written but the
 //!   line that says so; 2 where the words are refused, and nothing was read or written but the usage.
@@ -18,9 +21,11 @@
 
 mod command;
 pub mod laws;
+mod pipe;
 mod reading;
 mod telling;
 
 pub use command::Takes;
+pub use pipe::{Errors, Output, Pipe, READER_GONE};
 pub use reading::{Words, read_words};
 pub use telling::{DONE, FAULT, WORDS_REFUSED, WordsFault, tell_fault, tell_words};
