@@ -19,5 +19,5 @@ mod verdicts;
 
 pub use figures::{Figures, figures_of, start_ms};
 pub use lines::{Telling, key_line};
-pub use names::{digit_of, is_same_pair, write_name};
+pub use names::{digit_of, write_name};
 pub use verdicts::{Verdict, verdict_of};

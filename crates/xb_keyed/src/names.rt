@@ -1,9 +1,9 @@
 // What a pair of tones stands for.
 ghost use Rattle.std.specs.Prelude.{◌≡◌, ◌++◌, OnOk, string_bytes};
-ghost use Rattle.xb_ear.specs.Hearings.{is_same_pair};
 ghost use Rattle.xb_keyed.specs.Names.{digit_of_pair, name_text, signal_name};
 
 use std::alloc::AllocError;
+use xb_ear::is_same_pair;
 use xb_model::{Digit, Tone};
 
 // The pairs of the digits, from 0 on.
@@ -49,13 +49,6 @@ static DIGIT_PAIRS: [Tone; 10] = [
         high: 1500,
     },
 ];
-
-/// Whether two pairs are the same.
-pub fn is_same_pair(a: Tone, b: Tone) -> bool
-    ensures { result ≡ is_same_pair a b }
-{
-    a.low == b.low && a.high == b.high
-}
 
 // The place of a pair among those of the digits.
 fn place_of(pair: Tone) -> Option<usize>
