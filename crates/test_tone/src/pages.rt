@@ -1,6 +1,6 @@
 // Pages read back, and pages that are damaged.
 use std::test::Fail;
-use xb_model::{Key, Mark, Reason, Tone};
+use xb_model::{Digit, Key, Mark, Reason, Tone};
 use xb_page::{MOST_PAGE_BYTES, PageFault, page_entries};
 
 // The line, the number, the refusal and how many marks each entry of a page has.
@@ -70,6 +70,13 @@ const FAULTS: &[(&[u8], PageFault)] = &[
     (b"0007 1 KEYED 001\n", PageFault::Key(1)),
     (b"0007 1 KEYED 0001 KX:1100+1700\n", PageFault::Key(1)),
     (b"0007 1 KEYED 0001 KP:1100+4000\n", PageFault::Key(1)),
+    (b"0007 1 KEYED 0001 KP:1111+1701\n", PageFault::Key(1)),
+    (b"0007 1 KEYED 0001 6:900+1300\n", PageFault::Key(1)),
+    (b"0007 1 KEYED 0001 6:1300+1100\n", PageFault::Key(1)),
+    (
+        b"0007 1 KEYED 0001\n0007 2 KEYED 0001 1:1501+900\n",
+        PageFault::Key(2),
+    ),
     (b"0007 1 KEYED 0001  KP:1100+1700\n", PageFault::Key(1)),
     (b"0007 1 REFUSED UNKNOWN\n", PageFault::Refusal(1)),
     (b"0007 1 REFUSED NOTHING 3\n", PageFault::Refusal(1)),
@@ -100,16 +107,18 @@ fn names_each_damage(rt: HostRuntime) {
 }
 
 #[test]
-fn reads_mistuned_keys(rt: HostRuntime) -> Result<(), Fail> {
-    let page = b"0001 1 KEYED 0002 KP:1111+1701 ST:1500+1700\nKEYED 1 REFUSED 0\n";
+fn reads_leading_zeros(rt: HostRuntime) -> Result<(), Fail> {
+    let page =
+        b"0001 1 KEYED 0002 KP:1100+1700 6:1100+1300 1:0700+0900 ST:1500+1700\nKEYED 1 REFUSED 0\n";
     let entries = page_entries(rt.alloc(), page)?;
     for entry in &entries {
-        let mark = entry.marks().get(1).copied();
+        let mark = entry.marks().get(3).copied();
+        let key = Key::Digit(Digit::new(1).ok_or("a digit")?);
         let tone = Tone {
-            low: 1111,
-            high: 1701,
+            low: 700,
+            high: 900,
         };
-        assert_eq!(rt; mark, Some(Mark::Tone(Key::Kp, tone)));
+        assert_eq!(rt; mark, Some(Mark::Tone(key, tone)));
     }
     Ok(())
 }

@@ -1,8 +1,8 @@
--- The marks of tapes are as there are: each number in its range.
+-- The marks of tapes are as there are: each number in its range, each key with its own pair.
 use Rattle.std.proofs.Common.{◌≡◌, ◌∙◌, ◌<◌, ◌≤◌, ◌%◌, ◌==◌, ℕ, zero, suc, Bool, true, false, cond, List, [], ◌∷◌, ◌++◌, drop, length, map, Option, Some, None, refl, sym, subst, arith, append_assoc, append-nil, nat_le}
-use Rattle.std.specs.Prelude.{IfSome, ◌&&◌, is_none, nat_lt}
-use Rattle.std.specs.List.{AllByRecursion, flat_map, list_all, list_any, range_with_len}
-use Rattle.std.proofs.lemmas.Bool.{and_parts, cond_both, eqb-true, ltb-true}
+use Rattle.std.specs.Prelude.{IfSome, is_none}
+use Rattle.std.specs.List.{AllByRecursion, flat_map, list_any}
+use Rattle.std.proofs.lemmas.Bool.{cond_both, eqb-true}
 use Rattle.std.proofs.lemmas.Bool.Decides.{nat_tests}
 use Rattle.std.proofs.lemmas.List.Elements.{All-filter, All-from_recursion, recursion_from_All}
 use Rattle.xb_model.specs.declared.dialled.Dialled.{Dialled}
@@ -14,7 +14,6 @@ use Rattle.xb_model.specs.declared.plan.Plan.{Plan}
 use Rattle.xb_model.specs.declared.plan.Plan.TheVariants.{Seven, Ten}
 use Rattle.xb_model.specs.declared.signal.TheConstants.{MOST_PULSES}
 use Rattle.xb_model.specs.Keyings.{keying, marks_of, tone}
-use Rattle.xb_model.specs.MfPairs.{mf_pair}
 use Rattle.xb_model.specs.Numbers.{before_mutilated, digit_of_count, digit_of_train, good_digits, has_length, is_complete, number_of, or_refused, outcome_of, reaches, shortest_complete, train_digits, without_number}
 use Rattle.xb_model.specs.Plans.{length_after_three}
 use Rattle.xb_model.specs.Records.{Attempt, Run, Train, attempts_of, is_timed, record_of, trains_of}
@@ -25,7 +24,6 @@ use Rattle.xb_model.specs.Tapes.{joined_tape}
 use Rattle.xb_model.proofs.Completed.{completed_number, shortest_complete-completed}
 use Rattle.xb_model.proofs.Pending.{IsPending, one, reaches-pending}
 use Rattle.xb_page.specs.ReadBack.{AreMarks, IsMark}
-use Rattle.xb_page.proofs.NumbersBack.{holds_below}
 
 abbrev AreDigits : List ℕ → Type 0
 AreDigits digits = AllByRecursion (λ d. d < DIGITS) digits
@@ -165,28 +163,16 @@ found-is : (routes : List CodedRoute) (digits : List ℕ) → AreRoutes routes �
 found-is routes digits are =
     longest-is _ (recursion_from_All IsRoute _ (All-filter _ IsRoute routes (All-from_recursion IsRoute routes are)))
 
--- the two frequencies of a digit
-abbrev are_low : ℕ → Bool
-are_low d = nat_lt (mf_pair (Digit d)).low 4000 && nat_lt (mf_pair (Digit d)).high 4000
-
-all_are_low : list_all are_low (range_with_len 0 10) ≡ true
-all_are_low = refl
-
-digit-mark : (d : ℕ) → d < DIGITS → IsMark (tone (Digit d))
-digit-mark d below =
-    let low = and_parts _ _ (holds_below are_low 10 0 all_are_low d (omega arith) (omega arith)) in
-    (below, ltb-true _ _ low.0, ltb-true _ _ low.1)
-
 digit-marks : (digits : List ℕ) → AreDigits digits → AllByRecursion IsMark (map (λ d. tone (Digit d)) digits)
 digit-marks [] are = tt
-digit-marks (d ∷ digits) are = (digit-mark d are.0, digit-marks digits are.1)
+digit-marks (d ∷ digits) are = ((are.0, refl), digit-marks digits are.1)
 
 keying-marks : (trunk : ℕ) (digits : List ℕ) → trunk < 10000 → AreDigits digits → AllByRecursion IsMark (keying trunk digits)
 keying-marks trunk digits below are = (
   omega arith,
   (
-    (tt, omega arith, omega arith),
-    all-append IsMark (map (λ d. tone (Digit d)) digits) _ (digit-marks digits are) ((tt, omega arith, omega arith), tt),
+    (tt, refl),
+    all-append IsMark (map (λ d. tone (Digit d)) digits) _ (digit-marks digits are) ((tt, refl), tt),
   ),
 )
 

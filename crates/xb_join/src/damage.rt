@@ -16,7 +16,7 @@ pub enum Damage {
     /// A text line is neither an entry nor the totals.
     #[error("line {0} is no entry")]
     NoEntry(usize),
-    /// What a text line has after KEYED is not a trunk group and its keys.
+    /// What a text line has after KEYED is not a trunk group and its keys, each with its own two frequencies.
     #[error("line {0} has a wrong trunk group or key")]
     WrongKey(usize),
     /// What a text line has after REFUSED is not a reason and its count.

@@ -1,6 +1,6 @@
 -- An entry is judged as it is read: by its head, and by what follows.
 use Rattle.std.proofs.Common.{◌≡◌, ◌∙◌, ℕ, suc, ◌-◌, Bool, true, false, List, [], ◌∷◌, length, Option, Some, None, Ok, Err, Result, refl, sym, ap, arith}
-use Rattle.std.specs.Prelude.{is_some, option_and_then, option_map, slice_get}
+use Rattle.std.specs.Prelude.{if◌then◌else◌, is_some, option_and_then, option_map, slice_get}
 use Rattle.xb_model.specs.declared.key.Key.{Key}
 use Rattle.xb_model.specs.declared.key.Tone.{Tone as Pair}
 use Rattle.xb_model.specs.declared.mark.Mark.{Mark}
@@ -12,7 +12,7 @@ use Rattle.xb_page.specs.declared.fault.PageFault.TheVariants as fault
 use Rattle.xb_page.specs.declared.place.Place.{Place}
 use Rattle.xb_page.specs.Entries.{entry_with}
 use Rattle.xb_page.specs.Places.{Head, four_digits_of, head_and, head_of_fields, head_with, next_place, or_fault, place_after, text_line}
-use Rattle.xb_page.specs.ReadPages.{after_entry, before, check_rest, colon, entry_and, entry_of_head, if_there, heard_of, key_of, mark_of, mark_of_two, marks_of, pair_of, reason_of, refusal_of_fields, refusal_of_two, tone_of_two, two_of}
+use Rattle.xb_page.specs.ReadPages.{after_entry, are_own, before, check_rest, colon, entry_and, entry_of_head, if_there, heard_of, key_of, mark_of, mark_of_two, marks_of, pair_of, reason_of, refusal_of_fields, refusal_of_two, tone_of_two, two_of}
 use Rattle.xb_text.specs.Pieces.{pieces}
 
 -- the last of two or more marks
@@ -25,7 +25,11 @@ last_refusal-more m k ms =
 keys-refuse_none : (key : Option Key) (pair : Option Pair) (m : Mark) → tone_of_two key pair ≡ Some m → refusal_of m ≡ None
 keys-refuse_none None pair m e = absurd (let no : ⊥ = cc in no)
 keys-refuse_none (Some k) None m e = absurd (let no : ⊥ = cc in no)
-keys-refuse_none (Some k) (Some p) m e = let same : m ≡ Tone k p = cc in ap refusal_of same
+keys-refuse_none (Some k) (Some p) m e = by (are_own k p) e
+  where
+    by : (own : Bool) → (if own then Some (Tone k p) else None) ≡ Some m → refusal_of m ≡ None
+    by true e = let same : m ≡ Tone k p = cc in ap refusal_of same
+    by false e = absurd (let no : ⊥ = cc in no)
 
 trunks-refuse_none : (trunk : Option ℕ) (m : Mark) → option_map (λ t. Trunk t) trunk ≡ Some m → refusal_of m ≡ None
 trunks-refuse_none None m e = absurd (let no : ⊥ = cc in no)

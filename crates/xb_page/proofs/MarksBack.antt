@@ -1,23 +1,23 @@
 -- Marks that are printed are read.
-use Rattle.std.proofs.Common.{◌≡◌, ◌≢◌, ◌∙◌, ℕ, ◌≤◌, ◌<◌, ◌+◌, true, List, [], ◌∷◌, ◌++◌, map, Option, Some, ap, append_assoc, append-nil, arith, refl, codes, eqb}
-use Rattle.std.specs.Prelude.{decimal, option_and_then, option_map, nat_lt}
-use Rattle.std.specs.List.{AllByRecursion}
+use Rattle.std.proofs.Common.{◌≡◌, ◌≢◌, ◌∙◌, ℕ, ◌≤◌, ◌<◌, ◌+◌, true, List, [], ◌∷◌, ◌++◌, map, Option, Some, ap, append_assoc, append-nil, arith, refl, sym, subst, codes, eqb, eq-eqb, Bool, ◌&&◌}
+use Rattle.std.specs.Prelude.{◌==◌, decimal, option_and_then, option_map, nat_lt}
+use Rattle.std.specs.List.{AllByRecursion, list_all, range_with_len}
 use Rattle.xb_model.specs.declared.key.Key.{Key}
 use Rattle.xb_model.specs.declared.key.Key.TheVariants.{Digit, Kp, St}
 use Rattle.xb_model.specs.declared.key.Tone.{Tone as Pair}
 use Rattle.xb_model.specs.declared.mark.Mark.{Mark}
 use Rattle.xb_model.specs.declared.mark.Mark.TheVariants.{Trunk, Tone, Refused}
+use Rattle.xb_model.specs.MfPairs.{mf_pair}
 use Rattle.xb_model.specs.Page.{four_digits, key_text, mark_text, marks_text, pair_text}
-use Rattle.xb_model.specs.Fields.{field_number}
 use Rattle.xb_model.proofs.WrittenFields.{field_number-decimal}
 use Rattle.std.proofs.Math.Bool.{and-false}
-use Rattle.std.proofs.lemmas.Bool.{lt-ltb}
+use Rattle.std.proofs.lemmas.Bool.{ltb-true}
 use Rattle.std.proofs.lemmas.Fmt.{decimal_digit}
 use Rattle.xb_page.specs.ReadBack.{IsKey, IsMark}
-use Rattle.xb_page.specs.ReadPages.{before, hz_of, key_of, mark_of, mark_of_two, marks_of, pair_of, pair_of_two, tone_of_two, two_of}
+use Rattle.xb_page.specs.ReadPages.{before, hz_of, key_of, mark_of, mark_of_two, marks_of, pair_of, pair_of_two, tone_of, tone_of_two, two_of}
 use Rattle.xb_text.specs.Pieces.{pieces}
 use Rattle.xb_page.proofs.Avoiding.{Avoids, both, pieces-cut, pieces-whole, weaker}
-use Rattle.xb_page.proofs.NumbersBack.{IsDigitByte, avoids-colon, avoids-plus, decimal-bytes, four_digits-back, four_digits-bytes}
+use Rattle.xb_page.proofs.NumbersBack.{IsDigitByte, and-both, avoids-colon, avoids-plus, decimal-bytes, four_digits-back, four_digits-bytes, holds_below}
 
 -- a mark of a keyed entry
 abbrev pub IsKeyMark : Mark → Type 0
@@ -54,49 +54,74 @@ key-bytes (Digit d) is = weaker IsDigitByte IsWordByte digit-word (decimal d) (d
 key-bytes Kp is = ((omega arith, λ e. absurd (omega arith)), ((omega arith, λ e. absurd (omega arith)), tt))
 key-bytes St is = ((omega arith, λ e. absurd (omega arith)), ((omega arith, λ e. absurd (omega arith)), tt))
 
-hz-back : (hz : ℕ) → hz < 4000 → hz_of (decimal hz) ≡ Some hz
-hz-back hz below =
-    let read : field_number 4 (decimal hz) ≡ Some hz =
-    field_number-decimal 4 hz (omega arith) (omega arith) (omega arith) in
-    let low : nat_lt hz 4000 ≡ true = lt-ltb hz 4000 below in
-    rw (read, low) refl
+-- the two frequencies of a key have at most four digits
+abbrev IsShort : Pair → Type 0
+IsShort pair = (pair.low < 10000) × (pair.high < 10000)
 
-pair-back : (pair : Pair) → pair.low < 4000 → pair.high < 4000 → pair_of (pair_text pair) ≡ Some pair
-pair-back pair low high =
-    let low_bytes = decimal-bytes pair.low (omega arith) in
-    let high_bytes = decimal-bytes pair.high (omega arith) in
+abbrev are_short : ℕ → Bool
+are_short d = nat_lt (mf_pair (Digit d)).low 10000 && nat_lt (mf_pair (Digit d)).high 10000
+
+all_are_short : list_all are_short (range_with_len 0 10) ≡ true
+all_are_short = refl
+
+own-short : (key : Key) → IsKey key → IsShort (mf_pair key)
+own-short (Digit d) is =
+    let short = and-both _ _ (holds_below are_short 10 0 all_are_short d (omega arith) (omega arith)) in
+    (ltb-true _ _ short.0, ltb-true _ _ short.1)
+own-short Kp is = (omega arith, omega arith)
+own-short St is = (omega arith, omega arith)
+
+key_pair-short : (key : Key) (pair : Pair) → IsMark (Tone key pair) → IsShort pair
+key_pair-short key pair is = subst IsShort (sym is.1) (own-short key is.0)
+
+hz-back : (hz : ℕ) → hz < 10000 → hz_of (decimal hz) ≡ Some hz
+hz-back hz below = field_number-decimal 4 hz (omega arith) (omega arith) (omega arith)
+
+pair-back : (pair : Pair) → IsShort pair → pair_of (pair_text pair) ≡ Some pair
+pair-back pair short =
+    let low_bytes = decimal-bytes pair.low (omega (arith, short.0)) in
+    let high_bytes = decimal-bytes pair.high (omega (arith, short.1)) in
     let cut : pieces 43 (pair_text pair) ≡ decimal pair.low ∷ decimal pair.high ∷ [] =
     ap (λ (text : List ℕ). pieces 43 text) (append_assoc (decimal pair.low) (codes "+") (decimal pair.high))
     ∙ pieces-cut 43 (decimal pair.low) (decimal pair.high) (avoids-plus (decimal pair.low) low_bytes)
     ∙ ap (λ (rest : List (List ℕ)). decimal pair.low ∷ rest)
     (pieces-whole 43 (decimal pair.high) (avoids-plus (decimal pair.high) high_bytes)) in
     ap (λ (parts : List (List ℕ)). option_and_then (λ (two : List ℕ × List ℕ). pair_of_two (hz_of two.0) (hz_of two.1)) (two_of parts)) cut
-    ∙ ap (λ (l : Option ℕ). pair_of_two l (hz_of (decimal pair.high))) (hz-back pair.low low)
-    ∙ ap (λ (h : Option ℕ). pair_of_two (Some pair.low) h) (hz-back pair.high high)
+    ∙ ap (λ (l : Option ℕ). pair_of_two l (hz_of (decimal pair.high))) (hz-back pair.low short.0)
+    ∙ ap (λ (h : Option ℕ). pair_of_two (Some pair.low) h) (hz-back pair.high short.1)
 
-pair-field : (pair : Pair) → pair.low < 4000 → pair.high < 4000 → AllByRecursion (λ x. (43 ≤ x) × (x ≢ 58)) (pair_text pair)
-pair-field pair low high =
+pair-field : (pair : Pair) → IsShort pair → AllByRecursion (λ x. (43 ≤ x) × (x ≢ 58)) (pair_text pair)
+pair-field pair short =
     let P : ℕ → Type 0 = λ x. (43 ≤ x) × (x ≢ 58) in
     let digits_are : (x : ℕ) → IsDigitByte x → P x = λ x digit. (omega arith, λ e. absurd (omega arith)) in
     both P (decimal pair.low ++ codes "+") (decimal pair.high)
     (both P (decimal pair.low) (codes "+")
-    (weaker IsDigitByte P digits_are (decimal pair.low) (decimal-bytes pair.low (omega arith)))
+    (weaker IsDigitByte P digits_are (decimal pair.low) (decimal-bytes pair.low (omega (arith, short.0))))
     ((omega arith, λ e. absurd (omega arith)), tt))
-    (weaker IsDigitByte P digits_are (decimal pair.high) (decimal-bytes pair.high (omega arith)))
+    (weaker IsDigitByte P digits_are (decimal pair.high) (decimal-bytes pair.high (omega (arith, short.1))))
 
-tone-back : (key : Key) (pair : Pair) → IsKey key → pair.low < 4000 → pair.high < 4000
+-- the pair of a key is taken for it
+own-taken : (key : Key) (pair : Pair) → pair ≡ mf_pair key → tone_of key pair ≡ Some (Tone key pair)
+own-taken key pair own =
+    let low : (pair.low == (mf_pair key).low) ≡ true = eq-eqb _ _ (ap (λ (p : Pair). p.low) own) in
+    let high : (pair.high == (mf_pair key).high) ≡ true = eq-eqb _ _ (ap (λ (p : Pair). p.high) own) in
+    rw (low, high) refl
+
+tone-back : (key : Key) (pair : Pair) → IsMark (Tone key pair)
     → mark_of (key_text key ++ codes ":" ++ pair_text pair) ≡ Some (Tone key pair)
-tone-back key pair is low high =
-    let key_avoids = weaker IsWordByte (λ x. x ≢ 58) (λ x word. word.1) (key_text key) (key-bytes key is) in
+tone-back key pair is =
+    let short = key_pair-short key pair is in
+    let key_avoids = weaker IsWordByte (λ x. x ≢ 58) (λ x word. word.1) (key_text key) (key-bytes key is.0) in
     let pair_avoids = weaker (λ x. (43 ≤ x) × (x ≢ 58)) (λ x. x ≢ 58) (λ x word. word.1) (pair_text pair)
-    (pair-field pair low high) in
+    (pair-field pair short) in
     let cut : pieces 58 (key_text key ++ codes ":" ++ pair_text pair) ≡ key_text key ∷ pair_text pair ∷ [] =
     ap (λ (text : List ℕ). pieces 58 text) (append_assoc (key_text key) (codes ":") (pair_text pair))
     ∙ pieces-cut 58 (key_text key) (pair_text pair) key_avoids
     ∙ ap (λ (rest : List (List ℕ)). key_text key ∷ rest) (pieces-whole 58 (pair_text pair) pair_avoids) in
     ap (λ (parts : List (List ℕ)). mark_of_two (key_text key ++ codes ":" ++ pair_text pair) (two_of parts)) cut
-    ∙ ap (λ (k : Option Key). tone_of_two k (pair_of (pair_text pair))) (key-back key is)
-    ∙ ap (λ (p : Option Pair). tone_of_two (Some key) p) (pair-back pair low high)
+    ∙ ap (λ (k : Option Key). tone_of_two k (pair_of (pair_text pair))) (key-back key is.0)
+    ∙ ap (λ (p : Option Pair). tone_of_two (Some key) p) (pair-back pair short)
+    ∙ own-taken key pair is.1
 
 trunk-back : (t : ℕ) → t < 10000 → mark_of (four_digits t) ≡ Some (Trunk t)
 trunk-back t below =
@@ -107,7 +132,7 @@ trunk-back t below =
 -- a mark is read back
 pub mark-back : (mark : Mark) → IsKeyMark mark → mark_of (mark_field mark) ≡ Some mark
 mark-back (Trunk t) is = trunk-back t is
-mark-back (Tone key pair) is = tone-back key pair is.0 is.1 is.2
+mark-back (Tone key pair) is = tone-back key pair is
 mark-back (Refused reason heard) is = absurd is
 
 pub marks-back : (marks : List Mark) → AllByRecursion IsKeyMark marks → marks_of (map mark_field marks) ≡ Some marks
@@ -125,7 +150,7 @@ field-bytes (Tone key pair) is =
     (both IsFieldByte (key_text key) (codes ":")
     (weaker IsWordByte IsFieldByte (λ x word. omega (arith, word.0)) (key_text key) (key-bytes key is.0))
     (omega arith, tt))
-    (weaker (λ x. (43 ≤ x) × (x ≢ 58)) IsFieldByte (λ x word. word.0) (pair_text pair) (pair-field pair is.1 is.2))
+    (weaker (λ x. (43 ≤ x) × (x ≢ 58)) IsFieldByte (λ x word. word.0) (pair_text pair) (pair-field pair (key_pair-short key pair is)))
 field-bytes (Refused reason heard) is = absurd is
 
 mark_text-field : (mark : Mark) → IsKeyMark mark → mark_text mark ≡ 32 ∷ mark_field mark

@@ -9,6 +9,7 @@ use Rattle.xb_model.specs.declared.mark.Mark.{Mark}
 use Rattle.xb_model.specs.declared.mark.Mark.TheVariants.{Trunk, Tone, Refused}
 use Rattle.xb_model.specs.declared.trunk.TheConstants.{TRUNKS}
 use Rattle.xb_model.specs.declared.reason.Reason.{Reason}
+use Rattle.xb_model.specs.MfPairs.{mf_pair}
 use Rattle.xb_model.specs.Page.{last_refusal, page_text}
 use Rattle.xb_model.specs.Tapes.{entries_of}
 use Rattle.xb_page.specs.Entries.{Entry, entry_with}
@@ -20,10 +21,10 @@ IsKey (Digit d) = d < DIGITS
 IsKey Kp = Unit {0}
 IsKey St = Unit {0}
 
--- a mark as there are: its numbers are in their ranges
+-- a mark as there are: its numbers are in their ranges, and the pair of a key is its own
 abbrev pub IsMark : Mark → Type 0
 IsMark (Trunk t) = t < TRUNKS
-IsMark (Tone key pair) = IsKey key × (pair.low < 4000) × (pair.high < 4000)
+IsMark (Tone key pair) = IsKey key × (pair ≡ mf_pair key)
 IsMark (Refused reason heard) = heard < 256
 
 abbrev pub AreMarks : List Mark → Type 0

@@ -1,5 +1,5 @@
 -- How a page is read back (own format).
-use Rattle.std.specs.Prelude.{◌≡◌, ◌⊎◌, ℕ, ◌&&◌, if◌then◌else◌, nat_lt, List, [], ◌∷◌, ◌++◌, codes, decimal, Bool, true, false, Option, Some, None, option_and_then, option_map, Result, Ok, Err, bytes_eq}
+use Rattle.std.specs.Prelude.{◌≡◌, ◌⊎◌, ℕ, ◌==◌, ◌&&◌, if◌then◌else◌, nat_lt, List, [], ◌∷◌, ◌++◌, codes, decimal, Bool, true, false, Option, Some, None, option_and_then, option_map, Result, Ok, Err, bytes_eq}
 use Rattle.xb_model.specs.declared.key.Key.{Key}
 use Rattle.xb_model.specs.declared.key.Key.TheVariants.{Digit, Kp, St}
 use Rattle.xb_model.specs.declared.key.Tone.{Tone as Pair}
@@ -7,7 +7,7 @@ use Rattle.xb_model.specs.declared.mark.Mark.{Mark}
 use Rattle.xb_model.specs.declared.mark.Mark.TheVariants.{Trunk, Tone, Refused}
 use Rattle.xb_model.specs.declared.reason.Reason.{Reason}
 use Rattle.xb_model.specs.declared.reason.Reason.TheVariants.{Mutilated, Unknown, Abandoned, TimedOut}
-use Rattle.xb_model.specs.MfPairs.{pair}
+use Rattle.xb_model.specs.MfPairs.{mf_pair, pair}
 use Rattle.xb_text.specs.Pieces.{pieces}
 use Rattle.xb_model.specs.Fields.{field_number}
 use Rattle.xb_page.specs.Entries.{Entry, entry_with}
@@ -29,9 +29,9 @@ key_of text =
     if bytes_eq text (codes "KP") then Some Kp
     else (if bytes_eq text (codes "ST") then Some St else option_map (λ d. Digit d) (field_number 1 text))
 
--- the frequency that a text writes, below half of 8,000 samples a second
+-- the frequency that a text writes
 abbrev pub hz_of : List ℕ → Option ℕ
-hz_of text = option_and_then (λ hz. if nat_lt hz 4000 then Some hz else None) (field_number 4 text)
+hz_of text = field_number 4 text
 
 abbrev pub pair_of_two : Option ℕ → Option ℕ → Option Pair
 pair_of_two low high = option_and_then (λ l. option_map (λ h. pair l h) high) low
@@ -45,8 +45,16 @@ two_of other = None
 abbrev pub pair_of : List ℕ → Option Pair
 pair_of text = option_and_then (λ two. pair_of_two (hz_of two.0) (hz_of two.1)) (two_of (pieces plus text))
 
+-- whether a key sounds by these tones
+abbrev pub are_own : Key → Pair → Bool
+are_own key tones = tones.low == (mf_pair key).low && tones.high == (mf_pair key).high
+
+-- the mark of a key, if the tones are its own
+abbrev pub tone_of : Key → Pair → Option Mark
+tone_of key tones = if are_own key tones then Some (Tone key tones) else None
+
 abbrev pub tone_of_two : Option Key → Option Pair → Option Mark
-tone_of_two key tones = option_and_then (λ k. option_map (λ p. Tone k p) tones) key
+tone_of_two key tones = option_and_then (λ k. option_and_then (λ p. tone_of k p) tones) key
 
 -- a trunk group is four digits
 abbrev pub trunk_of : List ℕ → Option Mark

@@ -19,8 +19,8 @@ pub enum PageFault {
     /// The third field is neither KEYED nor REFUSED.
     #[error("text line {0} is neither KEYED nor REFUSED")]
     Kind(usize),
-    /// A field after KEYED is neither a trunk group of four digits nor a key with two frequencies below
-    /// 4,000 Hz.
+    /// A field after KEYED is neither a trunk group of four digits nor a key with its own two frequencies,
+    /// the lower first.
     #[error("text line {0} has a wrong trunk group or key")]
     Key(usize),
     /// After REFUSED stand no reason and count.

@@ -1,15 +1,12 @@
 // What the fields of a text line write.
 ghost use Rattle.std.specs.Prelude.{◌≡◌, ◌<◌, ◌^◌, IfSome, option_copied, bytes_eq, decimal};
 ghost use Rattle.xb_page.specs.Places.{four_digits_of, is_refusal, space};
-ghost use Rattle.xb_page.specs.ReadPages.{heard_of, hz_of, key_of, mark_of, pair_of, reason_of, refusal_of_fields, trunk_of};
+ghost use Rattle.xb_page.specs.ReadPages.{heard_of, hz_of, key_of, mark_of, pair_of, reason_of, refusal_of_fields, tone_of, trunk_of};
 ghost use Rattle.xb_text.specs.Pieces.{pieces_left};
 
 use crate::pieces::two_pieces;
 use itoa::Buffer;
-use xb_model::{Digit, Key, Mark, Reason, Tone, Trunk, field_number};
-
-// Frequencies lie below half of 8,000 samples a second.
-const TOO_HIGH_HZ: u32 = 4_000;
+use xb_model::{Digit, Key, Mark, Reason, Tone, Trunk, field_number, mf};
 
 // How many digits a line has, and a trunk group.
 const DIGITS_OF_FOUR: usize = 4;
@@ -61,12 +58,7 @@ fn key_of(text: &[u8]) -> Option<Key>
 fn hz_of(text: &[u8]) -> Option<u16>
     ensures { result ≡ hz_of text.now }
 {
-    let hz = field_number(4, text)?;
-    if hz < TOO_HIGH_HZ {
-        Some(hz as u16)
-    } else {
-        None
-    }
+    Some(field_number(4, text)? as u16)
 }
 
 // The pair that a text writes, as `1100+1700`.
@@ -77,6 +69,18 @@ fn pair_of(text: &[u8]) -> Option<Tone>
     let low = hz_of(low)?;
     let high = hz_of(high)?;
     Some(Tone { low, high })
+}
+
+// The mark of a key, if the tones are its own.
+fn tone_of(key: &Key, tones: Tone) -> Option<Mark>
+    ensures { result ≡ tone_of key.now tones }
+{
+    let own = mf(*key);
+    if tones.low == own.low && tones.high == own.high {
+        Some(Mark::Tone(*key, tones))
+    } else {
+        None
+    }
 }
 
 // The mark of the trunk group that four digits write.
@@ -91,7 +95,7 @@ pub(crate) fn mark_of(field: &[u8]) -> Option<Mark>
     ensures { result ≡ mark_of field.now }
 {
     match two_pieces(b':', field) {
-        Some((key, pair)) => Some(Mark::Tone(key_of(key)?, pair_of(pair)?)),
+        Some((key, pair)) => tone_of(&key_of(key)?, pair_of(pair)?),
         None => trunk_of(field),
     }
 }

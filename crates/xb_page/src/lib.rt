@@ -3,7 +3,8 @@
 //! - `page_entries`: exactly what `entries_of_page` says of the text, the entries in their order, or its
 //!   first fault, unless memory ran out: a line that is no four digits or comes before that of the entry
 //!   above, a number that is not the next of its line, neither KEYED nor REFUSED, a wrong trunk group or
-//!   key, a wrong refusal, totals that are not those of the entries, no totals, text after them.
+//!   key (also one beside tones of another), a wrong refusal, totals that are not those of the entries, no
+//!   totals, text after them.
 //! - `PageEntry`: its line, its number, its marks, and by its last mark whether and why it is refused.
 //! - `read_page`: of a page of lines from a first one on, the text of its entries and how many are keyed and
 //!   refused, or the first fault. Each text line is judged by the same definition (`entry_of_fields`), and
@@ -13,8 +14,8 @@
 //! - `laws::pages_are_read_back`: what is read of the page of tapes, of at most 10,000 lines, are exactly the
 //!   entries that it was printed from.
 //!
-//! Not said: that a text that is read is a page, byte for byte. Frequencies (below 4,000 Hz) and counts may
-//! have leading zeros, and the marks of a keyed entry stand in any order.
+//! Not said: that a text that is read is a page, byte for byte. Frequencies and counts may have leading
+//! zeros, and the marks of a keyed entry stand in any order.
 #![tactic(auto)]
 
 mod checking;

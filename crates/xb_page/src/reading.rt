@@ -142,7 +142,7 @@ fn end(place: &Place, totals: &[u8], left: Option<&[u8]>) -> Result<(), PageFaul
 }
 
 /// The entries of a page, in its order, or its first fault. Each text line ends at LF (`end_lines_at_lf`), and
-/// the last one has the totals. Of a key the two frequencies are taken as printed.
+/// the last one has the totals. A key has its own two frequencies.
 pub fn page_entries(alloc: Global, page: &[u8]) -> Result<Vec<PageEntry>, PageFault>
     requires { length page.now ≤ MOST_PAGE_BYTES }
     ensures entries { IfOk result (λ entries. entries_of_page page.now ≡ Ok entries.items) }
