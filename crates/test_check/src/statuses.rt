@@ -65,6 +65,40 @@ const BOUNCES: &[u8] =
     b"deck:4:5: a break of 1 to 4 ms may be a bounce; mfloop settles those of a recording: 7,B,1
 deck:7:10: a break of 1 to 4 ms may be a bounce; mfloop settles those of a recording: \"0009\",B,4
 deck:9:1: this record is ignored; its line was closed in text line 8: 9,B,2
+deck:7:1: no make of this line is heard, so no number is dialled on it: \"0009\",B,4
+";
+
+// A deck that `mfbank` takes, with lines on which no make is heard, all but 11.
+const QUIET: &[u8] =
+    b"---\nline,state,ms\n7,B,60\n8,C,0\n9,M,0\n7,M,0\n10,C,0\n8,B,1\n10,M,500\n7,B,60\n11,M,1\n";
+
+const QUIET_LINES: &[u8] =
+    b"deck:8:1: this record is ignored; its line was closed in text line 4: 8,B,1
+deck:9:1: this record is ignored; its line was closed in text line 7: 10,M,500
+deck:3:1: no make of this line is heard, so no number is dialled on it: 7,B,60
+deck:4:1: no make of this line is heard, so no number is dialled on it: 8,C,0
+deck:5:1: no make of this line is heard, so no number is dialled on it: 9,M,0
+deck:7:1: no make of this line is heard, so no number is dialled on it: 10,C,0
+";
+
+// Decks that `mfbank` takes, of ten breaks and of nine: in seconds, and in microseconds.
+const SECONDS: &[u8] = b"---\nline,state,ms\n7,M,1\n7,B,0\n7,B,0\n7,B,0\n7,B,0\n7,B,0\n7,B,0\n7,B,0\n7,B,0\n7,B,0\n7,B,0\n";
+
+const FEW_BREAKS: &[u8] =
+    b"---\nline,state,ms\n7,M,1\n7,B,0\n7,B,0\n7,B,0\n7,B,0\n7,B,0\n7,B,0\n7,B,0\n7,B,0\n7,B,0\n";
+
+const MICROSECONDS: &[u8] = b"---\n\nline,state,ms\n7,M,15000\n7,B,60000\n7,B,60000\n7,B,60000\n7,B,60000\n\
+7,B,60000\n7,B,60000\n7,B,60000\n7,B,60000\n7,B,60000\n7,B,20000\n";
+
+const MISREAD: &[u8] =
+    b"deck:3:12: every time of the deck is at least a thousand times a pulse's; are they microseconds?: line,state,ms\n";
+
+// A route table alone.
+const TABLE: &[u8] = b"[[route]]\ncode = \"2345\"\ntrunk = 17\nplan = 10\n";
+
+const WRONG_CODE: &[u8] =
+    b"deck:4:1: no rule names this key; here are code, trunk, delete and prefix: plan = 10
+deck:2:1: the code is not 0, NNX or N11, nor one of plan 10: code = \"2345\"
 ";
 
 const USAGE: &[u8] = b"mfcheck: usage: mfcheck [--name NAME]\n";
@@ -88,13 +122,52 @@ const CASES: &[(&[&str], &[u8], u8, &[u8], &[u8])] = &[
         b"deck:3:1: the first record is not line,state,ms: line,state\n",
         b"mfcheck: loop rows: the header is not line,state,ms\n",
     ),
+    (&[], QUIET, 0, QUIET_LINES, b""),
+    (
+        &[],
+        SECONDS,
+        0,
+        b"deck:2:12: every break of the deck has 0 ms; are its times seconds?: line,state,ms\n",
+        b"",
+    ),
+    (&[], FEW_BREAKS, 0, b"", b""),
+    (&[], MICROSECONDS, 0, MISREAD, b""),
+    (
+        &[],
+        TABLE,
+        1,
+        WRONG_CODE,
+        b"mfcheck: route table: route 1 has a wrong code\n",
+    ),
     (
         &[],
         b"[[routes]]\ncode = \"0\"\n",
-        1,
+        0,
         b"deck:1:1: no rule names this heading; there are [limits] and [[route]]: [[routes]]\n",
+        b"",
+    ),
+    (
+        &[],
+        b"[[route]\ncode = \"0\"\n",
+        1,
+        b"",
+        b"mfcheck: route table: not TOML\n",
+    ),
+    (
+        &[],
+        b"plan = 10\n--- \nline,state,ms\n7,M,500\n",
+        1,
+        b"",
         b"mfcheck: the deck has no line ---\n",
     ),
+    (
+        &[],
+        b"7 234-5678\n",
+        1,
+        b"",
+        b"mfcheck: the deck has no line ---\n",
+    ),
+    (&[], b"", 1, b"", b"mfcheck: the deck has no line ---\n"),
     (
         &[],
         b"plan = 8\n---\n",

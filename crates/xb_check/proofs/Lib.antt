@@ -1,2 +1,4 @@
 mod TakenLines
 mod FaultLines
+mod RowActivities
+mod Doubtful

@@ -65,6 +65,9 @@ what_text what.State = codes "the state is not M, B or C"
 what_text what.Ms = codes "the ms are not 0 to 86400000, or not 0 in a close"
 what_text (what.Ignored n) = codes "this record is ignored; its line was closed in text line"
 what_text what.Short = codes "a break of 1 to 4 ms may be a bounce; mfloop settles those of a recording"
+what_text what.Quiet = codes "no make of this line is heard, so no number is dialled on it"
+what_text what.Seconds = codes "every break of the deck has 0 ms; are its times seconds?"
+what_text what.Microseconds = codes "every time of the deck is at least a thousand times a pulse's; are they microseconds?"
 
 -- the text line that closed the line of an ignored record
 abbrev pub closed_text : What → List ℕ

@@ -3,7 +3,15 @@ pub mod Findings
 pub mod Table
 pub mod Records
 pub mod Sites
+pub mod Alone
+pub mod Judged
 pub mod Steps
 pub mod Reports
 pub mod Options
 pub mod Program
+pub mod Activities
+pub mod RowSteps
+pub mod Units
+pub mod Doubts
+pub mod DoubtSteps
+pub mod Told

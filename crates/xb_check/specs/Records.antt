@@ -116,6 +116,9 @@ from_field what.State line = after_comma line
 from_field what.Ms line = after_comma (after_comma line)
 from_field (what.Ignored n) line = line
 from_field what.Short line = after_comma (after_comma line)
+from_field what.Quiet line = line
+from_field what.Seconds line = after_comma (after_comma line)
+from_field what.Microseconds line = after_comma (after_comma line)
 
 -- the byte of a text line, from 1, at which what is wrong begins
 abbrev pub column_of : What → List ℕ → ℕ

@@ -1,5 +1,5 @@
 -- Which text line the fault of a route table is about.
-use Rattle.std.specs.Prelude.{ℕ, ◌+◌, ◌==◌, ◌&&◌, List, [], ◌∷◌, Bool, true, false, if◌then◌else◌, nat_lt, is_some, Option, Some, None, option_and_then}
+use Rattle.std.specs.Prelude.{ℕ, ◌+◌, ◌==◌, ◌&&◌, List, [], ◌∷◌, Bool, true, false, if◌then◌else◌, nat_lt, is_some, Option, Some, None}
 use Rattle.xb_deck.specs.Deck.{is_cut}
 use Rattle.xb_deck.specs.declared.fault.DeckFault.{DeckFault}
 use Rattle.xb_deck.specs.declared.fault.DeckFault.TheVariants as deck_fault
@@ -121,7 +121,3 @@ fault_of_table deck_fault.NoMemory = None
 abbrev pub told_of_table : Option RouteFault → List ℕ → List Found
 told_of_table None deck = []
 told_of_table (Some f) deck = listed (first_about f section.Top 0 1 (pieces 10 deck))
-
--- what is told of the fault by which `mfbank` refuses a deck, if it does
-abbrev pub told_of : Option DeckFault → List ℕ → List Found
-told_of f deck = told_of_table (option_and_then fault_of_table f) deck

@@ -32,6 +32,12 @@ pub enum What {
     Ignored(usize),
     /// A break so short may be a bounce.
     Short,
+    /// No make of the line is heard, so no attempt begins on it.
+    Quiet,
+    /// All breaks have 0 ms.
+    Seconds,
+    /// All breaks and makes are at least a thousand times the least of a pulse.
+    Microseconds,
 }
 
 /// What is wrong, and where.
@@ -111,6 +117,11 @@ impl What {
             What::Ignored(_) => "this record is ignored; its line was closed in text line",
             What::Short =>
                 "a break of 1 to 4 ms may be a bounce; mfloop settles those of a recording",
+            What::Quiet => "no make of this line is heard, so no number is dialled on it",
+            What::Seconds => "every break of the deck has 0 ms; are its times seconds?",
+            What::Microseconds => {
+                "every time of the deck is at least a thousand times a pulse's; are they microseconds?"
+            }
         }
     }
 }

@@ -8,20 +8,27 @@
 //!   that is a break of 1 to 4 ms (`is_short`).
 //!   A key that no rule names is told with the key of its section that one edit makes of it, or else two
 //!   (`nearest`, `specs/Keys.antt`).
-//! - `report`: the lines of what was found, and then of the text line that the fault of the route table is
-//!   about, if `mfbank` refuses it by one (`told_of`, `specs/Sites.antt`). That fault is sought where keys and
-//!   headings stand bare in text lines of their own.
 //! - `verdict`: nothing exactly where `mfbank` takes the deck, and else the fault by which it refuses, the
-//!   first in its order (`contents_of` of `xb_deck`, by which `mfbank` goes too).
-//! - `check`, of readers and writers whose bytes contracts know: it is `Ok` exactly where `mfbank` takes the
-//!   deck, and `Refused` has its first fault; of both the writer got exactly the lines of what was found.
+//!   first in its order (`contents_of` of `xb_deck`, by which `mfbank` goes too). A text that no line cuts may be a
+//!   route table alone (`is_table`, `specs/Alone.antt`), which is read as that of a deck (`judged`).
+//! - After its text lines a deck that is taken is told of as a whole (`doubts_of`, `specs/Doubts.antt`): each line of
+//!   the office that has rows and no make that is heard, at its first record, and times that look as if they
+//!   were seconds or microseconds (`wrong_unit`). Of one that is refused by its route table the text line is
+//!   told that the fault is about (`told_of_table`, `specs/Sites.antt`), where keys and headings stand bare in text
+//!   lines of their own.
+//! - `check`, of readers and writers whose bytes contracts know: it is `Ok` exactly where the text is taken, and
+//!   `Refused` has its first fault; of both the writer got exactly the lines of what was told (`report_text`).
 //! - `attend`: the status 0, 1 or 2, with what was written (`Attends` of `xb_command`).
 #![tactic(auto)]
 
+mod activities;
+mod alone;
 mod checking;
 mod closes;
+mod doubts;
 mod fault;
 mod finding;
+mod judging;
 mod key;
 pub mod laws;
 mod lines;
@@ -30,13 +37,16 @@ mod records;
 mod sites;
 mod table;
 mod telling;
+mod told;
+mod units;
 mod words;
 
-pub use checking::{check, verdict};
+pub use checking::check;
 pub use fault::CheckFault;
 pub use finding::{Finding, What};
+pub use judging::verdict;
 pub use key::Key;
 pub use lines::findings;
 pub use program::attend;
 pub use table::Section;
-pub use telling::{MOST_SHOWN_BYTES, report};
+pub use telling::MOST_SHOWN_BYTES;

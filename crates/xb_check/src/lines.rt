@@ -35,8 +35,8 @@ pub(crate) fn is_cut(line: &[u8]) -> bool
     line == b"---".as_slice() || line == b"---\r".as_slice()
 }
 
-// Whether nothing is written in a text line.
-fn is_empty(line: &[u8]) -> bool
+/// Whether nothing is written in a text line.
+pub(crate) fn is_empty(line: &[u8]) -> bool
     ensures { result ≡ is_empty line.now }
 {
     line == b"".as_slice() || line == b"\r".as_slice()

@@ -133,9 +133,12 @@ fn from_field(what: What, line: &[u8]) -> &[u8]
         | What::Header
         | What::Fields
         | What::Line
-        | What::Ignored(_) => line,
+        | What::Ignored(_)
+        | What::Quiet => line,
         What::State => after_comma(line),
-        What::Ms | What::Short => after_comma(after_comma(line)),
+        What::Ms | What::Short | What::Seconds | What::Microseconds => {
+            after_comma(after_comma(line))
+        }
     }
 }
 

@@ -3,7 +3,7 @@ ghost use Rattle.std.specs.Prelude.{◌≡◌, ◌≤◌, ◌<◌, ◌+◌, ◌^
 ghost use Rattle.xb_deck.specs.declared.deck.TheConstants.{MOST_DECK_BYTES};
 ghost use Rattle.xb_check.specs.declared.table.Section.TheVariants.{Top};
 ghost use Rattle.xb_check.specs.Findings.{found_of};
-ghost use Rattle.xb_check.specs.Sites.{fault_of_table, first_about, is_about, is_about_heading, is_about_key, keys_about, limits_about, route_about, route_here, routes_after, told_of, told_of_table};
+ghost use Rattle.xb_check.specs.Sites.{fault_of_table, first_about, is_about, is_about_heading, is_about_key, keys_about, limits_about, route_about, route_here, routes_after, told_of_table};
 ghost use Rattle.xb_text.specs.Pieces.{cut_at, pieces};
 
 use crate::finding::{Finding, What};
@@ -169,7 +169,7 @@ fn first_about<'a>(
     Ok(None)
 }
 
-// The fault of the route table, if it is by one that `mfbank` refuses a deck.
+// The fault of the route table, if it is by one that a text is refused.
 fn fault_of_table(fault: DeckFault) -> Option<RouteFault>
     ensures { result ≡ fault_of_table fault }
 {
@@ -200,20 +200,17 @@ fn push_told_of_table<'a>(
     Ok(())
 }
 
-/// Puts what is told of the fault by which `mfbank` refuses a deck after what was found.
-pub(crate) fn push_told<'a>(
+/// Puts what is told of the fault by which a text is refused after what was found.
+pub(crate) fn push_fault<'a>(
     alloc: Global,
     found: &mut Vec<Finding<'a>>,
-    fault: Option<DeckFault>,
+    fault: DeckFault,
     deck: &'a [u8],
 ) -> Result<(), AllocError>
     requires { length deck.now ≤ MOST_DECK_BYTES }
     ensures { OnOk result (map found_of found.new.items
-        ≡ map found_of found.old.items ++ told_of fault deck.now) }
+        ≡ map found_of found.old.items ++ told_of_table (fault_of_table fault) deck.now) }
 {
-    let Some(fault) = fault else {
-        return Ok(());
-    };
     match fault_of_table(fault) {
         Some(fault) => push_told_of_table(alloc, found, fault, deck),
         None => Ok(()),

@@ -53,8 +53,8 @@ fn is_bare_byte(byte: u8) -> bool
         || byte == b'-'
 }
 
-// Whether all bytes do.
-fn is_bare(key: &[u8]) -> bool
+/// Whether all bytes do.
+pub(crate) fn is_bare(key: &[u8]) -> bool
     ensures { result ≡ list_all is_bare key.now }
 {
     for byte in key {

@@ -4,12 +4,14 @@ ghost use Rattle.xb_deck.specs.declared.deck.TheConstants.{MOST_DECK_BYTES};
 ghost use Rattle.std.specs.List.{flat_map};
 ghost use Rattle.xb_check.specs.declared.finding.What.TheVariants as what;
 ghost use Rattle.xb_check.specs.Findings.{closed_text, found_of, meant_text, note_text};
+ghost use Rattle.xb_check.specs.Judged.{judged};
 ghost use Rattle.xb_check.specs.Reports.{found_text, place_text, report_text, shown, visible};
 
 use crate::finding::{Finding, What};
+use crate::judging::Contents;
 use crate::key::Key;
 use crate::lines::findings;
-use crate::sites::push_told;
+use crate::told::push_told;
 use std::alloc::{AllocError, Global};
 use xb_deck::DeckFault;
 
@@ -127,18 +129,19 @@ fn text_of(alloc: Global, name: &str, found: &[Finding]) -> Result<Vec<u8>, Allo
     Ok(out)
 }
 
-/// What is told of a deck in a file of this name, which `mfbank` takes, or refuses by this fault: a line for each
-/// text line that is wrong, in order, and then one for the text line that the fault of the route table is about.
-pub fn report(
+/// What is told of a text in a file of this name, of which this was judged: a line for each text line that is wrong,
+/// in order, and then for what was judged.
+pub(crate) fn report(
     alloc: Global,
     name: &str,
     deck: &[u8],
-    fault: Option<DeckFault>,
+    said: &Result<Option<Contents>, DeckFault>,
 ) -> Result<Vec<u8>, AllocError>
-    requires { length deck.now ≤ MOST_DECK_BYTES }
-    ensures { IfOk result (λ text. text.items ≡ report_text name.now fault deck.now) }
+    requires short { length deck.now ≤ MOST_DECK_BYTES }
+    requires judged { said.now ≡ judged deck.now }
+    ensures { IfOk result (λ text. text.items ≡ report_text name.now deck.now) }
 {
     let mut found = findings(alloc, deck)?;
-    push_told(alloc, &mut found, fault, deck)?;
+    push_told(alloc, &mut found, said, deck)?;
     text_of(alloc, name, &found)
 }
