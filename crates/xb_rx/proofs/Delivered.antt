@@ -6,14 +6,14 @@ use Rattle.xb_rx.specs.declared.fault.RxFault.TheVariants as fault
 use Rattle.xb_rx.specs.declared.request.Request.{Request}
 use Rattle.xb_rx.specs.declared.request.Written.{Written}
 use Rattle.xb_rx.specs.declared.request.Written.TheVariants as written
-use Rattle.xb_rx.specs.declared.wav_start.OpenFault.{OpenFault}
-use Rattle.xb_rx.specs.declared.wav_start.OpenFault.TheVariants as open_fault
-use Rattle.xb_rx.specs.declared.wav_start.Start.{Start}
+use Rattle.xb_wav.specs.declared.wav_start.OpenFault.{OpenFault}
+use Rattle.xb_wav.specs.declared.wav_start.OpenFault.TheVariants as open_fault
+use Rattle.xb_wav.specs.declared.wav_start.Start.{Start}
 use Rattle.xb_rx.specs.Faults.{of_open}
 use Rattle.xb_rx.specs.Hearing.{Delivers, Hears, HearsSound, Outputs, outputs, sound_after, sound_by, start_by}
 use Rattle.xb_rx.specs.Reports.{fresh_report}
-use Rattle.xb_rx.specs.Samples.{Sound, sound_of}
-use Rattle.xb_rx.specs.Starts.{Opens}
+use Rattle.xb_wav.specs.Samples.{Sound, sound_of}
+use Rattle.xb_wav.specs.Starts.{Opens}
 
 -- before the first key all is still to be written
 hears-written : (w : Written) (sound : Sound) (result : Result (Unit {0}) RxFault) (outs : Outputs)

@@ -4,13 +4,8 @@ pub mod WrittenText
 pub mod Listings
 pub mod KeySteps
 pub mod LastSteps
-pub mod Samples
 pub mod SoFar
 pub mod PagedKeys
-pub mod Walks
-pub mod Sounds
-pub mod Skipping
-pub mod Starts
 pub mod Delivered
 pub mod Compared
 pub mod Answered

@@ -11,14 +11,14 @@ use Rattle.xb_ear.specs.Receivers.{HasReceived, Receiving, keys_of_sound}
 use Rattle.xb_ear.proofs.WholeSounds.{hears_so_far}
 use Rattle.xb_rx.specs.declared.page.PageFault.{PageFault}
 use Rattle.xb_rx.specs.declared.page.PageFault.TheVariants as page_fault
-use Rattle.xb_rx.specs.declared.source.StreamFault.{StreamFault}
-use Rattle.xb_rx.specs.declared.source.StreamFault.TheVariants as stream_fault
+use Rattle.xb_wav.specs.declared.source.StreamFault.{StreamFault}
+use Rattle.xb_wav.specs.declared.source.StreamFault.TheVariants as stream_fault
 use Rattle.xb_rx.specs.Faults.{of_page, of_stream}
 use Rattle.xb_rx.specs.Pages.{Writes}
 use Rattle.xb_rx.specs.Reports.{Reported, report_rest, told_rest}
 use Rattle.xb_rx.specs.Hearing.{Hears, IsFaultOf, Outputs, outputs}
-use Rattle.xb_rx.specs.Samples.{Sound, sound_with}
-use Rattle.xb_rx.specs.Streams.{GivesSample}
+use Rattle.xb_wav.specs.Samples.{Sound, sound_with}
+use Rattle.xb_wav.specs.Streams.{GivesSample}
 
 -- the keys of samples are those that ended in the first of them, and more
 pub keys-begin : (earlier later : List ℤ)

@@ -1,6 +1,3 @@
-pub mod Samples
-pub mod Streams
-pub mod Starts
 pub mod Faults
 pub mod Keyings
 pub mod Begun

@@ -7,8 +7,8 @@ use Rattle.xb_model.specs.declared.line.TheConstants.{LINES}
 use Rattle.xb_model.specs.declared.trunk.TheConstants.{TRUNKS}
 use Rattle.xb_keyed.specs.declared.lines.Telling.{Telling}
 use Rattle.xb_keyed.specs.declared.lines.Telling.TheVariants as telling
-use Rattle.xb_rx.specs.declared.coding.Coding.{Coding}
-use Rattle.xb_rx.specs.declared.coding.Coding.TheVariants as coding
+use Rattle.xb_wav.specs.declared.coding.Coding.{Coding}
+use Rattle.xb_wav.specs.declared.coding.Coding.TheVariants as coding
 use Rattle.xb_rx.specs.declared.request.Input.{Input}
 use Rattle.xb_rx.specs.declared.request.Input.TheVariants as input
 use Rattle.xb_rx.specs.declared.request.Request.{Request}
@@ -16,7 +16,7 @@ use Rattle.xb_rx.specs.declared.request.Written.{Written}
 use Rattle.xb_rx.specs.declared.request.Written.TheVariants as written
 use Rattle.xb_rx.specs.declared.words.Options.{Options}
 use Rattle.xb_rx.specs.Rules.{command_of_words}
-use Rattle.xb_rx.specs.Starts.{form_with, frames_of}
+use Rattle.xb_wav.specs.Starts.{form_with, frames_of}
 
 -- what clap matched says these options
 pub record Say (rows : List Row) (options : Options) : Type 0 where

@@ -1,8 +1,7 @@
 // Why a sound is not heard to its end.
 use crate::page::PageFault;
-use crate::source::StreamFault;
-use crate::wav_start::{OpenFault, WavFault};
 use thiserror::Error;
+use xb_wav::{OpenFault, StreamFault, WavFault};
 
 /// Why a sound is not heard to its end. What was written before stands; on `Wav` that is nothing.
 #[derive(Clone, Copy, Debug, PartialEq, Eq, Error)]

@@ -10,10 +10,9 @@
 //! - `laws::keyed_is_paged`: of the sound of keyings, disturbed too, the page has an entry for each, in order.
 //! - `attend`: `Attends` of this. `laws::usage_names_each_option`.
 //!
-//! What a receiver hears of a sound is the matter of `xb_ear`.
+//! Which samples a file or a stream has is the matter of `xb_wav`, and what is heard of them that of `xb_ear`.
 #![tactic(auto)]
 
-mod coding;
 mod comparing;
 mod fault;
 mod files;
@@ -25,11 +24,8 @@ mod program;
 mod receiving;
 mod report;
 mod request;
-mod source;
-mod wav_start;
 mod words;
 
-pub use coding::{Coding, Form, MOST_CHANNELS, MOST_FRAMES};
 pub use comparing::{CompareProgramFault, compare};
 pub use fault::RxFault;
 pub use files::PageFiles;
@@ -37,4 +33,3 @@ pub use keys::MOST_DIGITS;
 pub use program::attend;
 pub use receiving::receive;
 pub use request::{Asked, Input, Request, Written};
-pub use wav_start::{MOST_CHUNKS, Start, UNKNOWN_BYTES, UNKNOWN_SAMPLES, WavFault};

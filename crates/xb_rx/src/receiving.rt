@@ -2,19 +2,18 @@
 ghost use Rattle.std.specs.Prelude.{◌≡◌, ◌≤◌, IfOk};
 ghost use Rattle.xb_rx.specs.Hearing.{Delivers, HasForm, Hears, outputs, start_by};
 ghost use Rattle.xb_rx.specs.Reports.{IsReady, count_of, reported};
-ghost use Rattle.xb_rx.specs.Samples.{IsForm};
-ghost use Rattle.xb_rx.specs.Starts.{Opens};
-ghost use Rattle.xb_rx.specs.Streams.{sound_left};
-ghost use Rattle.xb_rx.specs.declared.wav_start.TheConstants.{UNKNOWN_SAMPLES};
+ghost use Rattle.xb_wav.specs.Samples.{IsForm};
+ghost use Rattle.xb_wav.specs.Starts.{Opens};
+ghost use Rattle.xb_wav.specs.Streams.{sound_left};
+ghost use Rattle.xb_wav.specs.declared.wav_start.TheConstants.{UNKNOWN_SAMPLES};
 
 use crate::fault::RxFault;
 use crate::report::Report;
 use crate::request::{Input, Request};
-use crate::source::Source;
-use crate::wav_start::{OpenFault, Start, UNKNOWN_SAMPLES, open_wav};
 use std::alloc::Global;
 use std::io::{Read, Write};
 use xb_ear::Receiver;
+use xb_wav::{OpenFault, Source, Start, UNKNOWN_SAMPLES, open_wav};
 
 // Takes the samples of a source to their end.
 fn hear<R: Read, W: Write, E: Write>(

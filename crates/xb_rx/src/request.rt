@@ -1,7 +1,7 @@
 // What is asked for.
-use crate::coding::Form;
 use xb_keyed::Telling;
 use xb_model::{LineNo, Trunk};
+use xb_wav::Form;
 
 /// How a sound is given.
 #[derive(Clone, Copy, Debug, PartialEq, Eq)]

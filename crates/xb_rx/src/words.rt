@@ -4,14 +4,13 @@ ghost use Rattle.xb_command.specs.Commands.{texts_of};
 ghost use Rattle.xb_rx.specs.Hearing.{HasForm};
 ghost use Rattle.xb_rx.specs.Options.{AreRefused, Asks, Say, input_of, is_plain, line_of, named, raw_coding, request_against, request_of, telling_of, trunk_of, written_of};
 
-use crate::coding::{Coding, Form};
 use crate::program::PROGRAM;
 use crate::request::{Asked, Input, Request, Written};
-use crate::wav_start::frames_of;
 use std::alloc::Global;
 use xb_command::{Takes, Words, WordsFault, read_words};
 use xb_keyed::Telling;
 use xb_model::{LINES, LineNo, TRUNKS, Trunk};
+use xb_wav::{Coding, Form, frames_of};
 
 // What the options of the command line say.
 #[derive(Clone, Copy)]

@@ -1,7 +1,7 @@
 use Rattle.std.proofs.Common.{option_map, subst}
 use Rattle.xb_rx.specs.Hearing.{Hears, outputs}
 use Rattle.xb_rx.specs.Reports.{Reported}
-use Rattle.xb_rx.specs.Samples.{sound_of}
+use Rattle.xb_wav.specs.Samples.{sound_of}
 use Rattle.xb_rx.proofs.Delivered.{delivered}
 use Rattle.xb_rx.proofs.receiving.receive.Goals as goal
 

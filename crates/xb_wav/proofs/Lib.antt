@@ -1,0 +1,5 @@
+pub mod Samples
+pub mod Walks
+pub mod Sounds
+pub mod Skipping
+pub mod Starts

@@ -1,0 +1,107 @@
+-- What one call gives of the sound that is left.
+use Rattle.std.proofs.Common.{◌≡◌, ◌∙◌, ℕ, zero, suc, ◌+◌, ◌*◌, ◌<◌, ◌≤◌, Bool, true, false, List, [], ◌∷◌, ◌++◌, length, drop, Option, Some, None, Ok, Err, option_map, sym, ap, ap₂, refl, arith, length-append, length-drop, mul_comm, suc-mul, ℤ}
+use Rattle.std.specs.Prelude.{◌/◌, ◌-ℤ◌, if◌then◌else◌, pos}
+use Rattle.std.proofs.lemmas.List.{drop-append-le, take_all}
+use Rattle.std.proofs.Math.Seq.{drop-append_seam}
+use Rattle.xb_wav.specs.declared.coding.Coding.{Coding}
+use Rattle.xb_wav.specs.declared.coding.Coding.TheVariants as coding
+use Rattle.xb_wav.specs.declared.coding.Form.{Form}
+use Rattle.xb_wav.specs.declared.source.StreamFault.TheVariants as stream_fault
+use Rattle.xb_wav.specs.Samples.{IsForm, Sound, frame_bytes, group_bytes, height, mean_sample, sample_at, sound_of, sound_with, sum_of, width}
+use Rattle.xb_wav.specs.Streams.{FillsUp, GivesSample}
+use Rattle.xb_wav.proofs.Samples.{next-sound, none-said, too-few}
+use Rattle.xb_wav.proofs.Walks.{few-bytes}
+
+-- a sample is written by the first of its bytes
+same-sample : (how : Coding) (bytes left : List ℕ) → width how ≤ length bytes
+    → sample_at how (bytes ++ left) ≡ sample_at how bytes
+same-sample coding.Unsigned8 [] left enough = absurd (omega (arith, enough))
+same-sample coding.Unsigned8 (x ∷ bytes) left enough = refl
+same-sample coding.Signed16 [] left enough = absurd (omega (arith, enough))
+same-sample coding.Signed16 (x ∷ []) left enough = absurd (omega (arith, enough))
+same-sample coding.Signed16 (x ∷ y ∷ bytes) left enough = refl
+same-sample coding.MuLaw [] left enough = absurd (omega (arith, enough))
+same-sample coding.MuLaw (x ∷ bytes) left enough = refl
+
+a-frame : (how : Coding) (channels : ℕ) → 1 ≤ channels → width how ≤ width how * channels
+a-frame coding.Unsigned8 channels some = omega (arith, some)
+a-frame coding.Signed16 channels some = omega (arith, some)
+a-frame coding.MuLaw channels some = omega (arith, some)
+
+-- the frames of a buffer are the first ones of all bytes
+same-sum : (form : Form) (n : ℕ) (bytes left : List ℕ) → IsForm form → n * frame_bytes form ≤ length bytes
+    → sum_of form n (bytes ++ left) ≡ sum_of form n bytes
+unfolding sum_of
+same-sum form zero bytes left is enough = refl
+same-sum form (suc n) bytes left is enough =
+    let frame : width form.coding ≤ frame_bytes form = a-frame form.coding form.channels is.one_channel in
+    let more = suc-mul n (frame_bytes form) in
+    let size = length-drop (n * frame_bytes form) bytes in
+    let first : n * frame_bytes form ≤ length bytes = omega (arith, more, enough) in
+    let long : width form.coding ≤ length (drop (n * frame_bytes form) bytes) = omega (arith, more, enough, size, frame) in
+    ap₂ (λ (a b : ℕ). a + b) (same-sum form n bytes left is first)
+    (ap (λ xs. height (sample_at form.coding xs)) (drop-append-le (n * frame_bytes form) bytes left first)
+    ∙ ap height (same-sample form.coding (drop (n * frame_bytes form) bytes) left long))
+
+same-mean : (form : Form) (bytes left : List ℕ) → IsForm form → length bytes ≡ group_bytes form
+    → mean_sample form (bytes ++ left) ≡ mean_sample form bytes
+same-mean form bytes left is size =
+    let enough : form.frames * frame_bytes form ≤ length bytes = omega (arith, size, mul_comm form.frames (frame_bytes form)) in
+    ap (λ (n : ℕ). pos (n / form.frames) -ℤ pos 32768) (same-sum form form.frames bytes left is enough)
+
+-- no sample more is said to come
+pub gives-none : (form : Form) (said : ℕ) (counted : Bool) (old new : Option (List ℕ)) → said ≡ 0
+    → GivesSample (option_map (sound_of form said counted) old) (Ok None) (option_map (sound_of form said counted) new)
+gives-none form said counted None new is = tt
+gives-none form said counted (Some bytes) new is =
+    ap (λ (m : ℕ). sound_of form m counted bytes) is ∙ none-said form counted bytes
+
+module _ (form : Form) (buffer : List ℕ) (n : ℕ) (some : 0 < group_bytes form) (size : length buffer ≡ group_bytes form) where
+  -- the bytes of a sample were read
+  pub gives-next : (said less : ℕ) (counted : Bool) (x : ℤ) (old mid : Option (List ℕ)) → IsForm form
+      → FillsUp old mid buffer n → length buffer ≤ n → said ≡ less + 1 → x ≡ mean_sample form buffer
+      → GivesSample (option_map (sound_of form said counted) old) (Ok (Some x)) (option_map (sound_of form less counted) mid)
+  gives-next said less counted x None mid is fills whole one mean = tt
+  gives-next said less counted x (Some bytes) None is fills whole one mean = absurd fills.bytes
+  gives-next said less counted x (Some bytes) (Some left) is fills whole one mean =
+      let parts : bytes ≡ buffer ++ left = fills.bytes ∙ ap (λ xs. xs ++ left) (take_all n buffer whole) in
+      let rest : drop (group_bytes form) bytes ≡ left =
+      ap (drop (group_bytes form)) parts
+      ∙ ap (λ (k : ℕ). drop k (buffer ++ left)) (sym size)
+      ∙ drop-append_seam buffer left in
+      let enough : group_bytes form ≤ length bytes = omega (arith, ap length parts, length-append buffer left, size) in
+      let first : mean_sample form bytes ≡ x =
+      ap (mean_sample form) parts ∙ same-mean form buffer left is size ∙ sym mean in
+      ap (λ (m : ℕ). sound_of form m counted bytes) one
+      ∙ next-sound form some less counted bytes enough
+      ∙ ap₂ (λ (y : ℤ) (xs : List ℕ). sound_with (y ∷ (sound_of form less counted xs).samples)
+      (sound_of form less counted xs).lacking) first rest
+
+  -- too few bytes were left
+  module _ (said : ℕ) (counted : Bool) (old mid : Option (List ℕ)) (new : Option Sound) (fills : FillsUp old mid buffer n)
+      (short : n < length buffer) where
+    few : (bytes left : List ℕ) → FillsUp (Some bytes) (Some left) buffer n
+        → sound_of form said counted bytes ≡ sound_with [] (if counted then said else 0)
+    few bytes left fills =
+        let less = few-bytes bytes left buffer n fills.bytes (fills.end short) short in
+        too-few form some said counted bytes (omega (arith, less, size))
+
+    pub gives-cut : counted ≡ true → 0 < said → GivesSample (option_map (sound_of form said counted) old) (Err (stream_fault.Cut said)) new
+    gives-cut counts more = by old mid fills
+      where
+        by : (old mid : Option (List ℕ)) → FillsUp old mid buffer n
+            → GivesSample (option_map (sound_of form said counted) old) (Err (stream_fault.Cut said)) new
+        by None mid fills = tt
+        by (Some bytes) None fills = absurd fills.bytes
+        by (Some bytes) (Some left) fills =
+            (few bytes left fills ∙ ap (λ (b : Bool). sound_with [] (if b then said else 0)) counts, more)
+
+    pub gives-end : counted ≡ false → GivesSample (option_map (sound_of form said counted) old) (Ok None) new
+    gives-end counts = by old mid fills
+      where
+        by : (old mid : Option (List ℕ)) → FillsUp old mid buffer n
+            → GivesSample (option_map (sound_of form said counted) old) (Ok None) new
+        by None mid fills = tt
+        by (Some bytes) None fills = absurd fills.bytes
+        by (Some bytes) (Some left) fills =
+            few bytes left fills ∙ ap (λ (b : Bool). sound_with [] (if b then said else 0)) counts

@@ -1,0 +1,95 @@
+// The samples of a stream, one at a time.
+ghost use Rattle.std.specs.Prelude.{◌≡◌, ◌+◌, length, IfOk, IfSome};
+ghost use Rattle.xb_wav.specs.Samples.{IsForm, sound_of};
+ghost use Rattle.xb_wav.specs.Streams.{FillsUp, GivesSample, Skips, sound_left};
+
+use crate::coding::{Form, MOST_GROUP_BYTES};
+use std::io::Read;
+
+/// Why a stream gives no more.
+#[derive(Clone, Copy, Debug, PartialEq, Eq)]
+pub enum StreamFault {
+    /// A read failed, an interrupted one too.
+    Read,
+    /// So many samples of 8,000 a second were to come, and did not.
+    Cut(u64),
+}
+
+// A read failed.
+#[derive(Clone, Copy, Debug, PartialEq, Eq)]
+pub(crate) struct ReadFailed;
+
+// Reads until a buffer is full, or the stream ends, and says how many bytes it then has.
+pub(crate) fn fill<R: Read>(reader: &mut R, buffer: &mut [u8]) -> Result<usize, ReadFailed>
+    ensures length { length buffer.new ≡ length buffer.old }
+    ensures bytes { IfOk result (FillsUp (R.remaining reader.old) (R.remaining reader.new) buffer.new) }
+{
+    let mut at = 0;
+    while at < buffer.len() {
+        match reader.read(&mut buffer[at..]) {
+            Ok(0) => return Ok(at),
+            Ok(n) => at += n,
+            Err(_) => return Err(ReadFailed),
+        }
+    }
+    Ok(at)
+}
+
+// How many bytes are passed over by one read.
+const SCRATCH_BYTES: usize = 512;
+
+// Passes over so many bytes, or all that there are.
+pub(crate) fn skip<R: Read>(reader: &mut R, count: u64) -> Result<(), ReadFailed>
+    ensures { IfOk result (λ _. Skips count (R.remaining reader.old) (R.remaining reader.new)) }
+{
+    let mut scratch = [0u8; SCRATCH_BYTES];
+    let mut left = count;
+    while left > 0 {
+        let room = left.min(SCRATCH_BYTES as u64) as usize;
+        if fill(reader, &mut scratch[..room])? < room {
+            return Ok(());
+        }
+        left -= room as u64;
+    }
+    Ok(())
+}
+
+/// The samples of a stream that is open: 8,000 a second, of the first channel.
+#[derive(Drop)]
+pub struct Source<R: Read> {
+    /// The stream, which stands at its samples. It is read a few bytes at a time.
+    pub reader: R,
+    /// How they are written.
+    pub form: Form,
+    /// How many of 8,000 a second are said to come.
+    pub said: u64,
+    /// Whether each of them has to.
+    pub counted: bool,
+}
+
+impl<R: Read> Source<R> {
+    /// The next sample, `None` at the end. `Cut` says how many are missing there. What is given after an `Err` is not
+    /// said.
+    pub fn next_sample(&mut self) -> Result<Option<i16>, StreamFault>
+        requires { IsForm self.old.form }
+        ensures sample { GivesSample (sound_left R.remaining self.old) result (sound_left R.remaining self.new) }
+        ensures form { self.new.form ≡ self.old.form }
+        ensures said { IfOk result (λ sample. IfSome sample (λ _. self.new.said + 1 ≡ self.old.said)) }
+    {
+        if self.said == 0 {
+            return Ok(None);
+        }
+        let size = self.form.group_bytes();
+        let mut buffer = [0u8; MOST_GROUP_BYTES];
+        let group = &mut buffer[..size];
+        match fill(&mut self.reader, group) {
+            Ok(count) if count == size => {
+                self.said -= 1;
+                Ok(Some(self.form.sample_of(&*group)))
+            }
+            Ok(_) if self.counted => Err(StreamFault::Cut(self.said)),
+            Ok(_) => Ok(None),
+            Err(_) => Err(StreamFault::Read),
+        }
+    }
+}
