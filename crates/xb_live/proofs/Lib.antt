@@ -17,5 +17,6 @@ pub mod ToldRows
 pub mod HeardLines
 pub mod ObjectValues
 pub mod PutTexts
+pub mod SentDigits
 pub mod ObjectLines
 pub mod AscendingTimes

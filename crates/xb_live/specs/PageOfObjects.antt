@@ -1,18 +1,16 @@
 -- The page's line of an entry, made of the entry's object alone.
-use Rattle.std.specs.Prelude.{◌≡◌, ◌<◌, ◌-◌, ℕ, List, [], ◌∷◌, ◌++◌, codes, decimal, slice_index_or, bytes_eq, if◌then◌else◌, Option, Some, None}
+use Rattle.std.specs.Prelude.{◌≡◌, ◌-◌, ℕ, List, [], ◌∷◌, ◌++◌, codes, decimal, slice_index_or, bytes_eq, if◌then◌else◌, Option, Some, None}
 use Rattle.std.specs.List.{AllByRecursion, flat_map}
 use Rattle.serde_json.specs.Data.{Data, Items, array, boolean, item, no_items, null, number, object, string, unsigned}
 use Rattle.serde_json.specs.Find.{get}
-use Rattle.xb_model.specs.declared.digit.TheConstants.{DIGITS}
 use Rattle.xb_model.specs.declared.key.Key.{Key}
 use Rattle.xb_model.specs.declared.key.Key.TheVariants.{Digit, Kp, St}
-use Rattle.xb_model.specs.declared.order.Order.{Order}
-use Rattle.xb_model.specs.declared.order.Order.TheVariants as orders
-use Rattle.xb_model.specs.Keyings.{marks_of}
 use Rattle.xb_model.specs.MfPairs.{mf_pair}
 use Rattle.xb_model.specs.Page.{entry_head, entry_text, four_digits, pair_text, zero_byte}
-use Rattle.xb_live.specs.Objects.{object_of}
-use Rattle.xb_live.specs.Told.{Told}
+use Rattle.xb_model.specs.Rows.{LoopRow}
+use Rattle.xb_routes.specs.Table.{Table}
+use Rattle.xb_live.specs.Objects.{timed_object}
+use Rattle.xb_live.specs.Told.{Told, told_of_rows}
 
 -- the count that a value is
 abbrev pub count_in : Option Data → ℕ
@@ -74,13 +72,9 @@ page_line_of value =
     if bytes_eq (text_at (get (codes "outcome") value)) (codes "KEYED") then keyed_line head value
     else refused_line head value
 
--- what an order sends are digits
-abbrev pub SendsDigits : Order → Type 0
-SendsDigits (orders.Key trunk sent) = AllByRecursion (λ digit. digit < DIGITS) sent
-SendsDigits (orders.Refused reason heard) = Unit {0}
-
--- of the object of an order's entry this is its line on the page
-abbrev pub ObjectsAreLines : Type 0
-ObjectsAreLines =
-    (told : Told) (order : Order) → told.marks ≡ marks_of order → SendsDigits order
-    → page_line_of (object_of told) ≡ entry_text told.line told.number told.marks
+-- the page's line of each entry that rows complete is made of its object alone, with its times of day or without them
+abbrev pub ObjectsAreLines : Table → List LoopRow → Type 0
+ObjectsAreLines table rows = (from till : Option (List ℕ)) →
+    AllByRecursion
+    (λ (told : Told). page_line_of (timed_object from till told) ≡ entry_text told.line told.number told.marks)
+    (told_of_rows table rows)

@@ -1,10 +1,11 @@
 // A live office that counts its entries.
-ghost use Rattle.std.specs.Prelude.{◌≡◌, ◌+◌, ◌≤◌, length, vec_capacity};
+ghost use Rattle.std.specs.Prelude.{◌≡◌, ◌+◌, ◌<◌, ◌≤◌, length, slice_index_or, slice_set, vec_capacity};
+ghost use Rattle.xb_model.specs.declared.line.TheConstants.{LINES};
 ghost use Rattle.xb_tape.specs.GatheredMarks.{whats_of};
 
 use std::alloc::{AllocError, Global};
 use std::marker::Model;
-use xb_model::{Mark, On, PerLine, Row};
+use xb_model::{LineNo, Mark, On, PerLine, Row};
 use xb_routes::RouteTable;
 use xb_serial::{Live, MOST_MARKS};
 use xb_tape::is_refused;
@@ -56,8 +57,21 @@ fn keep_marks(given: &[On<Mark>], entry: &mut Vec<Mark>)
     }
 }
 
+// Counts an entry more of a line: its number among them.
+fn count_on(numbers: &mut PerLine<usize>, line: LineNo) -> usize
+    requires { slice_index_or numbers.old line 0 < usize.MAX }
+    ensures number { result ≡ slice_index_or numbers.old line 0 + 1 }
+    ensures numbers { numbers.new ≡ slice_set numbers.old line result }
+    ensures lines { length numbers.old ≡ LINES }
+    ensures below { line < LINES }
+{
+    let number = numbers.get_mut(line);
+    *number += 1;
+    *number
+}
+
 impl Counting {
-    ghost use Rattle.std.specs.Prelude.{◌≡◌, ◌<◌, ◌≤◌, ◌+◌, [], ◌∷◌, ◌++◌, List, IfOk};
+    ghost use Rattle.std.specs.Prelude.{[], ◌∷◌, ◌++◌, List, IfOk};
     ghost use Rattle.xb_model.specs.Rows.{LoopRow};
     ghost use Rattle.xb_live.specs.Entries.{entries_of_rows, numbered_after};
     ghost use Rattle.xb_live.specs.Counting.{HasCounted, entry_of, numbered_by};
@@ -100,9 +114,7 @@ impl Counting {
         if self.entry.is_empty() {
             return None;
         }
-        let number = self.numbers.get_mut(row.line());
-        *number += 1;
-        let number = *number;
+        let number = count_on(&mut self.numbers, row.line());
         if is_refused(&self.entry) {
             self.refused += 1;
             Some(number)

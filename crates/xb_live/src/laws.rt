@@ -1,7 +1,8 @@
 //! What the definitions give: each law is the contract of a function that does nothing.
-ghost use Rattle.std.specs.Prelude.{List};
+ghost use Rattle.std.specs.Prelude.{◌≡◌, ℕ, List, Ok};
 ghost use Rattle.xb_model.specs.Rows.{LoopRow};
 ghost use Rattle.xb_routes.specs.Table.{Table};
+ghost use Rattle.xb_routes.specs.Text.{table_of_text};
 ghost use Rattle.xb_live.specs.Ascending.{TimesAscend};
 ghost use Rattle.xb_live.specs.Decks.{AcceptedRowsAreAll};
 ghost use Rattle.xb_live.specs.PageOfObjects.{ObjectsAreLines};
@@ -20,9 +21,11 @@ pub fn accepted_rows_are_all()
     ensures { AcceptedRowsAreAll }
 {}
 
-/// The page's line of an entry is made of its object alone, whatever its number, its times and its digits.
+/// The page's line of an entry is made of its object alone, with its times of day or without them: of each entry that
+/// rows complete by a table that was read, whatever the rows.
 pub fn objects_are_lines()
-    ensures { ObjectsAreLines }
+    ensures { (text : List ℕ) (table : Table) → table_of_text text ≡ Ok table →
+        (rows : List LoopRow) → ObjectsAreLines table rows }
 {}
 
 /// Whatever the rows, an attempt begins no later than its entry is completed, and the entries of a line are told in

@@ -7,8 +7,9 @@
 //!   `SortsIntoPage` (`specs/Pages.antt`): sorted by line and number, what is printed of rows that end is
 //!   their page.
 //! - As JSON an entry has the times of its line, and what was dialled: those of the line's record so far
-//!   (`told_of_rows`, `specs/Told.antt`). `Hearings` keeps them, row by row. Its line of the page is made of
-//!   its object alone (`laws::objects_are_lines`), and the times of a line ascend (`laws::times_ascend`).
+//!   (`told_of_rows`, `specs/Told.antt`). `Hearings` keeps them, row by row. By a table that was read its line
+//!   of the page is made of its object alone (`laws::objects_are_lines`), and the times of a line ascend
+//!   (`laws::times_ascend`).
 //! - Counted from a time of day, an object has its times as such too (`specs/Clocks.antt`), as any clock tells them that
 //!   tells the times of `jiff_core`. One past the last of these is a fault.
 //! - `run_deck` (`Runs`, `specs/Runs.antt`): what was written of a deck is what its table and its rows say,

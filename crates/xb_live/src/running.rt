@@ -1,5 +1,6 @@
 // From a deck as it comes to the entries of its rows.
-ghost use Rattle.std.specs.Prelude.{◌≡◌, ◌+◌, []};
+ghost use Rattle.std.specs.Prelude.{◌≡◌, ◌+◌, [], option_map};
+ghost use Rattle.xb_rows.specs.Streams.{rest_of_stream};
 ghost use Rattle.xb_live.specs.Clocks.{Clock, IsClockOf, styled};
 ghost use Rattle.xb_live.specs.Counting.{HasCounted};
 ghost use Rattle.xb_live.specs.Hearings.{HasHeard};
@@ -48,6 +49,13 @@ fn print_rows<R: Read, W: Write>(
     Err(LiveFault::TooMany)
 }
 
+// The rows after a table, however many there may be.
+fn rows_after<R: Read>(deck: R) -> RowReader<R>
+    ensures { result ≡ option_map (rest_of_stream u64.MAX) (R.remaining deck) }
+{
+    RowReader::new(deck, u64::MAX)
+}
+
 /// Reads a deck as it comes, and writes each entry of its rows in the row that completes it; `out` is flushed
 /// after each. At the end the lines are closed, ascending, and the totals come last. Memory does not grow
 /// with the rows.
@@ -69,6 +77,6 @@ pub fn run_deck<R: Read, W: Write>(
     let table = RouteTable::read(alloc, &text)?;
     let mut hearings = Hearings::new(alloc, &table)?;
     let mut office = Counting::new(alloc, table)?;
-    let mut rows = RowReader::new(deck, u64::MAX);
+    let mut rows = rows_after(deck);
     print_rows(alloc, form, &mut office, &mut hearings, &mut rows, out)
 }

@@ -22,6 +22,6 @@ pub returns : goal.returns
 returns g c = λ clock tells.
     deck-run (styled c.args.form clock) c.in_ok-table.table c.in_ok-text.text.items _ _ c.print_rows.result _ _ c.in_ok-text.ensures.table
     (subst (λ text. table_of_text text ≡ Ok c.in_ok-table.table) c.deref.ensures.value c.in_ok-table.ensures.ok)
-    (subst (λ rows. PrintsRows (styled c.args.form clock) c.in_ok-table.table rows c.print_rows.result (g.W.Write.contents c.args.out.now) (g.W.Write.contents c.print_rows.new.out)) c.new-rows.ensures
-    (subst (λ table. PrintsRows (styled c.args.form clock) table c.new-rows.result c.print_rows.result (g.W.Write.contents c.args.out.now) (g.W.Write.contents c.print_rows.new.out)) c.in_ok-office.ensures.table
+    (subst (λ rows. PrintsRows (styled c.args.form clock) c.in_ok-table.table rows c.print_rows.result (g.W.Write.contents c.args.out.now) (g.W.Write.contents c.print_rows.new.out)) c.rows_after-rows.ensures
+    (subst (λ table. PrintsRows (styled c.args.form clock) table c.rows_after-rows.result c.print_rows.result (g.W.Write.contents c.args.out.now) (g.W.Write.contents c.print_rows.new.out)) c.in_ok-office.ensures.table
     (c.print_rows.ensures clock tells)))

@@ -37,20 +37,20 @@ pub returns-then-is_refused-clause-counted : goal.returns-then-is_refused-clause
 returns-then-is_refused-clause-counted c = λ rows counted.
     let office : Counted = record { live = c.self.inside.live; numbers = c.self.inside.numbers; keyed = c.self.inside.keyed; refused = c.self.inside.refused; entry = c.self.inside.entry.items } in
     let before : HasCounted office rows = subst (λ (o : Counted). HasCounted o rows) (sym c.self.view_is) counted in
-    let after : Counted = record { live = c.take.new.self; numbers = set c.self.inside.numbers c.line.result (c.get_mut-number.result.now + 1); keyed = c.self.inside.keyed; refused = c.self.inside.refused + 1; entry = c.keep_marks.new.entry.items } in
+    let after : Counted = record { live = c.take.new.self; numbers = c.count_on-number.new.numbers; keyed = c.self.inside.keyed; refused = c.self.inside.refused + 1; entry = c.keep_marks.new.entry.items } in
     row-spoken office after c.args.row c.take.ensures.table c.take.ensures.taken c.take.ensures.line c.take.ensures.entry
-    (c.keep_marks.ensures.marks ∙ ap whats_of c.given.ensures.value) rows before (some_items c.keep_marks.new.entry (sym c.if-is_empty.false ∙ c.is_empty.ensures)) (c.get_mut-number.result.now + 1)
-    (next_is office rows before c.args.row.line c.line.result c.get_mut-number.result.now c.line.ensures c.get_mut-number.ensures.below (c.get_mut-number.ensures.value 0))
+    (c.keep_marks.ensures.marks ∙ ap whats_of c.given.ensures.value) rows before (some_items c.keep_marks.new.entry (sym c.if-is_empty.false ∙ c.is_empty.ensures)) c.count_on-number.result
+    (c.count_on-number.ensures.number ∙ next_is office rows before c.args.row.line c.line.result _ c.line.ensures c.count_on-number.ensures.below refl)
     true (ap is_refused (sym c.deref.ensures.value) ∙ sym c.is_refused.ensures ∙ c.if-is_refused.true)
-    c.get_mut-number.ensures.lines (subst (λ l. l < LINES) c.line.ensures c.get_mut-number.ensures.below)
-    (ap (λ l. set c.self.inside.numbers l (c.get_mut-number.result.now + 1)) c.line.ensures)
+    c.count_on-number.ensures.lines (subst (λ l. l < LINES) c.line.ensures c.count_on-number.ensures.below)
+    (c.count_on-number.ensures.numbers ∙ ap (λ l. set c.self.inside.numbers l c.count_on-number.result) c.line.ensures)
     (sym (add-zero _)) refl
 
 pub returns-then-is_refused-clause-completed : goal.returns-then-is_refused-clause-completed
 returns-then-is_refused-clause-completed c = λ rows counted.
     let office : Counted = record { live = c.self.inside.live; numbers = c.self.inside.numbers; keyed = c.self.inside.keyed; refused = c.self.inside.refused; entry = c.self.inside.entry.items } in
     let before : HasCounted office rows = subst (λ (o : Counted). HasCounted o rows) (sym c.self.view_is) counted in
-    let after : Counted = record { live = c.take.new.self; numbers = set c.self.inside.numbers c.line.result (c.get_mut-number.result.now + 1); keyed = c.self.inside.keyed; refused = c.self.inside.refused + 1; entry = c.keep_marks.new.entry.items } in
+    let after : Counted = record { live = c.take.new.self; numbers = c.count_on-number.new.numbers; keyed = c.self.inside.keyed; refused = c.self.inside.refused + 1; entry = c.keep_marks.new.entry.items } in
     subst (λ (o : Counted). entries_of_rows o.live.table (rows ++ c.args.row ∷ []) ≡ entries_of_rows o.live.table rows ++ entry_of c.args.row.line c.keep_marks.new.entry.items) c.self.view_is
     (row-completes office after c.args.row c.take.ensures.table c.take.ensures.taken c.take.ensures.line c.take.ensures.entry
     (c.keep_marks.ensures.marks ∙ ap whats_of c.given.ensures.value) rows before)
@@ -59,30 +59,30 @@ pub returns-then-is_refused-clause-number : goal.returns-then-is_refused-clause-
 returns-then-is_refused-clause-number c = λ rows counted.
     let office : Counted = record { live = c.self.inside.live; numbers = c.self.inside.numbers; keyed = c.self.inside.keyed; refused = c.self.inside.refused; entry = c.self.inside.entry.items } in
     let before : HasCounted office rows = subst (λ (o : Counted). HasCounted o rows) (sym c.self.view_is) counted in
-    let after : Counted = record { live = c.take.new.self; numbers = set c.self.inside.numbers c.line.result (c.get_mut-number.result.now + 1); keyed = c.self.inside.keyed; refused = c.self.inside.refused + 1; entry = c.keep_marks.new.entry.items } in
-    subst (λ (o : Counted). numbered_after (entries_of_rows o.live.table rows) (entry_of c.args.row.line c.keep_marks.new.entry.items) ≡ numbered_by c.args.row.line c.keep_marks.new.entry.items (Some (c.get_mut-number.result.now + 1))) c.self.view_is
+    let after : Counted = record { live = c.take.new.self; numbers = c.count_on-number.new.numbers; keyed = c.self.inside.keyed; refused = c.self.inside.refused + 1; entry = c.keep_marks.new.entry.items } in
+    subst (λ (o : Counted). numbered_after (entries_of_rows o.live.table rows) (entry_of c.args.row.line c.keep_marks.new.entry.items) ≡ numbered_by c.args.row.line c.keep_marks.new.entry.items (Some c.count_on-number.result)) c.self.view_is
     (row-numbered office after c.args.row c.take.ensures.table c.take.ensures.taken c.take.ensures.line c.take.ensures.entry
-    (c.keep_marks.ensures.marks ∙ ap whats_of c.given.ensures.value) rows before (some_items c.keep_marks.new.entry (sym c.if-is_empty.false ∙ c.is_empty.ensures)) (c.get_mut-number.result.now + 1)
-    (next_is office rows before c.args.row.line c.line.result c.get_mut-number.result.now c.line.ensures c.get_mut-number.ensures.below (c.get_mut-number.ensures.value 0)))
+    (c.keep_marks.ensures.marks ∙ ap whats_of c.given.ensures.value) rows before (some_items c.keep_marks.new.entry (sym c.if-is_empty.false ∙ c.is_empty.ensures)) c.count_on-number.result
+    (c.count_on-number.ensures.number ∙ next_is office rows before c.args.row.line c.line.result _ c.line.ensures c.count_on-number.ensures.below refl))
 
 pub returns-else-is_refused-clause-counted : goal.returns-else-is_refused-clause-counted
 returns-else-is_refused-clause-counted c = λ rows counted.
     let office : Counted = record { live = c.self.inside.live; numbers = c.self.inside.numbers; keyed = c.self.inside.keyed; refused = c.self.inside.refused; entry = c.self.inside.entry.items } in
     let before : HasCounted office rows = subst (λ (o : Counted). HasCounted o rows) (sym c.self.view_is) counted in
-    let after : Counted = record { live = c.take.new.self; numbers = set c.self.inside.numbers c.line.result (c.get_mut-number.result.now + 1); keyed = c.self.inside.keyed + 1; refused = c.self.inside.refused; entry = c.keep_marks.new.entry.items } in
+    let after : Counted = record { live = c.take.new.self; numbers = c.count_on-number.new.numbers; keyed = c.self.inside.keyed + 1; refused = c.self.inside.refused; entry = c.keep_marks.new.entry.items } in
     row-spoken office after c.args.row c.take.ensures.table c.take.ensures.taken c.take.ensures.line c.take.ensures.entry
-    (c.keep_marks.ensures.marks ∙ ap whats_of c.given.ensures.value) rows before (some_items c.keep_marks.new.entry (sym c.if-is_empty.false ∙ c.is_empty.ensures)) (c.get_mut-number.result.now + 1)
-    (next_is office rows before c.args.row.line c.line.result c.get_mut-number.result.now c.line.ensures c.get_mut-number.ensures.below (c.get_mut-number.ensures.value 0))
+    (c.keep_marks.ensures.marks ∙ ap whats_of c.given.ensures.value) rows before (some_items c.keep_marks.new.entry (sym c.if-is_empty.false ∙ c.is_empty.ensures)) c.count_on-number.result
+    (c.count_on-number.ensures.number ∙ next_is office rows before c.args.row.line c.line.result _ c.line.ensures c.count_on-number.ensures.below refl)
     false (ap is_refused (sym c.deref.ensures.value) ∙ sym c.is_refused.ensures ∙ c.if-is_refused.false)
-    c.get_mut-number.ensures.lines (subst (λ l. l < LINES) c.line.ensures c.get_mut-number.ensures.below)
-    (ap (λ l. set c.self.inside.numbers l (c.get_mut-number.result.now + 1)) c.line.ensures)
+    c.count_on-number.ensures.lines (subst (λ l. l < LINES) c.line.ensures c.count_on-number.ensures.below)
+    (c.count_on-number.ensures.numbers ∙ ap (λ l. set c.self.inside.numbers l c.count_on-number.result) c.line.ensures)
     refl (sym (add-zero _))
 
 pub returns-else-is_refused-clause-completed : goal.returns-else-is_refused-clause-completed
 returns-else-is_refused-clause-completed c = λ rows counted.
     let office : Counted = record { live = c.self.inside.live; numbers = c.self.inside.numbers; keyed = c.self.inside.keyed; refused = c.self.inside.refused; entry = c.self.inside.entry.items } in
     let before : HasCounted office rows = subst (λ (o : Counted). HasCounted o rows) (sym c.self.view_is) counted in
-    let after : Counted = record { live = c.take.new.self; numbers = set c.self.inside.numbers c.line.result (c.get_mut-number.result.now + 1); keyed = c.self.inside.keyed + 1; refused = c.self.inside.refused; entry = c.keep_marks.new.entry.items } in
+    let after : Counted = record { live = c.take.new.self; numbers = c.count_on-number.new.numbers; keyed = c.self.inside.keyed + 1; refused = c.self.inside.refused; entry = c.keep_marks.new.entry.items } in
     subst (λ (o : Counted). entries_of_rows o.live.table (rows ++ c.args.row ∷ []) ≡ entries_of_rows o.live.table rows ++ entry_of c.args.row.line c.keep_marks.new.entry.items) c.self.view_is
     (row-completes office after c.args.row c.take.ensures.table c.take.ensures.taken c.take.ensures.line c.take.ensures.entry
     (c.keep_marks.ensures.marks ∙ ap whats_of c.given.ensures.value) rows before)
@@ -91,8 +91,8 @@ pub returns-else-is_refused-clause-number : goal.returns-else-is_refused-clause-
 returns-else-is_refused-clause-number c = λ rows counted.
     let office : Counted = record { live = c.self.inside.live; numbers = c.self.inside.numbers; keyed = c.self.inside.keyed; refused = c.self.inside.refused; entry = c.self.inside.entry.items } in
     let before : HasCounted office rows = subst (λ (o : Counted). HasCounted o rows) (sym c.self.view_is) counted in
-    let after : Counted = record { live = c.take.new.self; numbers = set c.self.inside.numbers c.line.result (c.get_mut-number.result.now + 1); keyed = c.self.inside.keyed + 1; refused = c.self.inside.refused; entry = c.keep_marks.new.entry.items } in
-    subst (λ (o : Counted). numbered_after (entries_of_rows o.live.table rows) (entry_of c.args.row.line c.keep_marks.new.entry.items) ≡ numbered_by c.args.row.line c.keep_marks.new.entry.items (Some (c.get_mut-number.result.now + 1))) c.self.view_is
+    let after : Counted = record { live = c.take.new.self; numbers = c.count_on-number.new.numbers; keyed = c.self.inside.keyed + 1; refused = c.self.inside.refused; entry = c.keep_marks.new.entry.items } in
+    subst (λ (o : Counted). numbered_after (entries_of_rows o.live.table rows) (entry_of c.args.row.line c.keep_marks.new.entry.items) ≡ numbered_by c.args.row.line c.keep_marks.new.entry.items (Some c.count_on-number.result)) c.self.view_is
     (row-numbered office after c.args.row c.take.ensures.table c.take.ensures.taken c.take.ensures.line c.take.ensures.entry
-    (c.keep_marks.ensures.marks ∙ ap whats_of c.given.ensures.value) rows before (some_items c.keep_marks.new.entry (sym c.if-is_empty.false ∙ c.is_empty.ensures)) (c.get_mut-number.result.now + 1)
-    (next_is office rows before c.args.row.line c.line.result c.get_mut-number.result.now c.line.ensures c.get_mut-number.ensures.below (c.get_mut-number.ensures.value 0)))
+    (c.keep_marks.ensures.marks ∙ ap whats_of c.given.ensures.value) rows before (some_items c.keep_marks.new.entry (sym c.if-is_empty.false ∙ c.is_empty.ensures)) c.count_on-number.result
+    (c.count_on-number.ensures.number ∙ next_is office rows before c.args.row.line c.line.result _ c.line.ensures c.count_on-number.ensures.below refl))
