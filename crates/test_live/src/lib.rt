@@ -1,11 +1,9 @@
-//! The chain on one thread: its pages, a live office row by row beside it, what `mflive` prints of decks and on
-//! streams that fail, and rows and signals in structs of numbers.
+//! The chain on one thread: its pages, in which row a live office gives an entry, what `mflive` prints of decks and
+//! on streams that fail, and rows and signals in structs of numbers.
 //!
 //! Tests alone.
 #![tactic(auto)]
 
-#[cfg(test)]
-mod decks;
 #[cfg(test)]
 mod faults;
 #[cfg(test)]
@@ -24,7 +22,5 @@ mod statuses;
 mod structs;
 #[cfg(test)]
 mod told;
-#[cfg(test)]
-mod watched;
 #[cfg(test)]
 mod words;

@@ -61,27 +61,35 @@ pub fn take_and_give(
     Ok(())
 }
 
-/// Until the row that reaches the last digit's pause there is no mark, and then there are nine.
-#[test]
-fn keyed_in_the_row_of_the_pause(rt: HostRuntime) -> Result<(), Fail> {
-    let mut live = usual_office(rt.alloc())?;
-    let wanted = keying(rt.alloc(), 17, &[5, 6, 5, 6, 7, 8])?;
+// Until the row that reaches the last digit's pause there is no mark, and then there are nine.
+fn check_keyed(
+    rt: &impl Abort,
+    alloc: Global,
+    live: &mut Live,
+    wanted: &[Mark],
+) -> Result<(), Fail> {
     let dialled = "M500 #2 #3 #4 #5 #6 #7 *8/100 M79";
-    take_in_silence(&rt, rt.alloc(), &mut live, 7, dialled)?;
-    take_and_give(&rt, rt.alloc(), &mut live, 7, "M1", &wanted)?;
-    take_in_silence(&rt, rt.alloc(), &mut live, 7, "M1 M86400000 #9 B400 C")
+    take_in_silence(rt, alloc, live, 7, dialled)?;
+    take_and_give(rt, alloc, live, 7, "M1", wanted)?;
+    take_in_silence(rt, alloc, live, 7, "M1 M86400000 #9 B400 C")
 }
 
-/// A refusal comes with the row that hangs up, with the row that reaches the time-out, and with the close.
-#[test]
-fn refused_in_the_row_that_ends_the_attempt(rt: HostRuntime) -> Result<(), Fail> {
-    let mut live = usual_office(rt.alloc())?;
+// A refusal comes with the row that hangs up, with the row that reaches the time-out, and with the close.
+fn check_refused(rt: &impl Abort, alloc: Global, live: &mut Live) -> Result<(), Fail> {
     let abandoned = [Mark::Refused(Reason::Abandoned, 0)];
     let timed_out = [Mark::Refused(Reason::TimedOut, 1)];
-    take_in_silence(&rt, rt.alloc(), &mut live, 9999, "M500 B299")?;
-    take_and_give(&rt, rt.alloc(), &mut live, 9999, "B1", &abandoned)?;
-    take_in_silence(&rt, rt.alloc(), &mut live, 0, "M500 *2/19999")?;
-    take_and_give(&rt, rt.alloc(), &mut live, 0, "M1", &timed_out)?;
-    take_in_silence(&rt, rt.alloc(), &mut live, 0, "M20000 B400 M500")?;
-    take_and_give(&rt, rt.alloc(), &mut live, 0, "C", &abandoned)
+    take_in_silence(rt, alloc, live, 9999, "M500 B299")?;
+    take_and_give(rt, alloc, live, 9999, "B1", &abandoned)?;
+    take_in_silence(rt, alloc, live, 0, "M500 *2/19999")?;
+    take_and_give(rt, alloc, live, 0, "M1", &timed_out)?;
+    take_in_silence(rt, alloc, live, 0, "M20000 B400 M500")?;
+    take_and_give(rt, alloc, live, 0, "C", &abandoned)
+}
+
+#[test]
+fn each_entry_comes_in_its_row(rt: HostRuntime) -> Result<(), Fail> {
+    let mut live = usual_office(rt.alloc())?;
+    let wanted = keying(rt.alloc(), 17, &[5, 6, 5, 6, 7, 8])?;
+    check_keyed(&rt, rt.alloc(), &mut live, &wanted)?;
+    check_refused(&rt, rt.alloc(), &mut live)
 }

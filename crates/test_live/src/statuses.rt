@@ -2,10 +2,31 @@
 use crate::reckoned::{
     BEGINNING, END, KEYED, LAST, MARK_OBJECTS, MARKS, OBJECTS, REFUSED, TIMED_OBJECTS, joined,
 };
+use std::alloc::Global;
 use std::test::Fail;
-use test_kit::words_of;
-use xb_live::{Form, LiveFault, attend, run_deck};
-use xb_model::RowFault;
+use test_kit::{Gives, Halting, Program, Short, check_status};
+use xb_live::attend;
+
+/// The program `mflive`.
+#[derive(Clone, Copy)]
+pub struct Mflive;
+
+impl Program for Mflive {
+    fn name(&self) -> &'static str {
+        "mflive"
+    }
+
+    fn attend(
+        &self,
+        alloc: Global,
+        words: &[String],
+        reader: &mut Halting<'_>,
+        out: &mut Short,
+        err: &mut Vec<u8>,
+    ) -> u8 {
+        attend(alloc, words, reader, out, err)
+    }
+}
 
 const USAGE: &[u8] = b"mflive: usage: mflive [--json [--since TIME]] [--marks]\n";
 
@@ -91,35 +112,23 @@ const CASES: &[Case] = &[
     (&["deck"], &[BEGINNING], 2, &[], USAGE),
 ];
 
-#[test]
-fn prints_what_is_reckoned(rt: HostRuntime) -> Result<(), Fail> {
-    for (words, parts, status, printed, line) in CASES {
-        let all = words_of(rt.alloc(), "mflive", words)?;
-        let deck = joined(rt.alloc(), parts)?;
-        let want = joined(rt.alloc(), printed)?;
-        let mut reader = deck.as_slice();
-        let mut out = Vec::new(rt.alloc());
-        let mut err = Vec::new(rt.alloc());
-        let got = attend(rt.alloc(), &all, &mut reader, &mut out, &mut err);
-        assert_eq!(rt; got, *status, "{words:?}");
-        assert!(rt; out.as_slice() == want.as_slice(), "{words:?}");
-        assert!(rt; err.as_slice() == *line, "{words:?}");
-    }
-    Ok(())
+// Checks what is printed of the parts of a deck.
+fn check_case(alloc: Global, case: &Case) -> Result<(), Fail> {
+    let (words, parts, status, printed, line) = *case;
+    let deck = joined(alloc, parts)?;
+    let written = joined(alloc, printed)?;
+    let wanted = Gives {
+        status,
+        written: &written,
+        line,
+    };
+    check_status(alloc, &Mflive, words, &deck, wanted)
 }
 
 #[test]
-fn runs_a_deck(rt: HostRuntime) -> Result<(), Fail> {
-    let deck = joined(rt.alloc(), &[BEGINNING, END])?;
-    let want = joined(rt.alloc(), &[MARKS, REFUSED, LAST])?;
-    let mut reader = deck.as_slice();
-    let mut out = Vec::new(rt.alloc());
-    let got = run_deck(rt.alloc(), Form::Marks, &mut reader, &mut out);
-    assert_eq!(rt; got, Ok(()));
-    assert!(rt; out.as_slice() == want.as_slice());
-    let mut faulty: &[u8] = b"---\nline,state,ms\n7,M,x\n";
-    let got = run_deck(rt.alloc(), Form::Marks, &mut faulty, &mut out);
-    assert_eq!(rt; got, Err(LiveFault::Rows(RowFault::Ms(1))));
-    assert!(rt; out.as_slice() == want.as_slice());
+fn prints_what_is_reckoned(rt: HostRuntime) -> Result<(), Fail> {
+    for case in CASES {
+        check_case(rt.alloc(), case)?;
+    }
     Ok(())
 }

@@ -1,8 +1,30 @@
 // Words, tables and numbers in; a status, lines and lines of faults out.
 use crate::tables::Folder;
+use std::alloc::Global;
 use std::test::Fail;
-use test_kit::words_of;
+use test_kit::{Gives, Halting, Program, Short, check_status};
 use xb_route::attend;
+
+/// The program `mfroute`.
+#[derive(Clone, Copy)]
+pub(crate) struct Mfroute;
+
+impl Program for Mfroute {
+    fn name(&self) -> &'static str {
+        "mfroute"
+    }
+
+    fn attend(
+        &self,
+        alloc: Global,
+        words: &[String],
+        reader: &mut Halting<'_>,
+        out: &mut Short,
+        err: &mut Vec<u8>,
+    ) -> u8 {
+        attend(alloc, words, &Folder, reader, out, err)
+    }
+}
 
 // The words after the program's name, the numbers on standard input, the status, and what stands on standard
 // output and on standard error.
@@ -122,21 +144,12 @@ const CASES: &[Case] = &[
 #[test]
 fn gives_each_status(rt: HostRuntime) -> Result<(), Fail> {
     for (words, numbers, status, lines, line) in CASES {
-        let words = words_of(rt.alloc(), "mfroute", words)?;
-        let mut reader = *numbers;
-        let (mut out, mut err) = (Vec::new(rt.alloc()), Vec::new(rt.alloc()));
-        let got = attend(rt.alloc(), &words, &Folder, &mut reader, &mut out, &mut err);
-        assert_eq!(rt; got, *status, "{words:?}");
-        assert!(rt;
-            out.as_slice() == *lines,
-            "{words:?}, {}",
-            out.escape_ascii()
-        );
-        assert!(rt;
-            err.as_slice() == *line,
-            "{words:?}, {}",
-            err.escape_ascii()
-        );
+        let wanted = Gives {
+            status: *status,
+            written: lines,
+            line,
+        };
+        check_status(rt.alloc(), &Mfroute, words, numbers, wanted)?;
     }
     Ok(())
 }
