@@ -10,7 +10,7 @@ use Rattle.xb_vcd.specs.declared.event.Event.{Event}
 use Rattle.xb_vcd.specs.declared.event.Event.TheVariants.{At, Ticks}
 use Rattle.xb_vcd.specs.declared.event.Refusal.TheVariants as refusals
 use Rattle.xb_vcd.specs.declared.vcd.Place.TheVariants as places
-use Rattle.xb_vcd.specs.declared.vcd.VarWords.{VarWords}
+use Rattle.xb_vcd.specs.declared.declaration.VarWords.{VarWords}
 use Rattle.xb_vcd.specs.Steps.{all_say, said_before}
 use Rattle.xb_vcd.specs.VcdChanges.{change_by_word, level_event, level_events, refused, says, times_of}
 use Rattle.xb_vcd.specs.VcdTexts.{VcdSays, VcdState, begun_vcd, by_changes, declared_codes, found_code, goes_to, scale_by, var_words, vcd_line_says, word_says, words_in}

@@ -9,7 +9,7 @@ use Rattle.xb_vcd.specs.declared.word.Word.{Word}
 use Rattle.xb_vcd.specs.declared.word.Word.TheVariants as words
 use Rattle.xb_vcd.specs.declared.vcd.Place.{Place}
 use Rattle.xb_vcd.specs.declared.vcd.Place.TheVariants as places
-use Rattle.xb_vcd.specs.declared.vcd.VarWords.{VarWords}
+use Rattle.xb_vcd.specs.declared.declaration.VarWords.{VarWords}
 use Rattle.xb_vcd.specs.declared.vcd.Vcd.{Vcd}
 use Rattle.xb_vcd.specs.Numbers.{number_of}
 use Rattle.xb_vcd.specs.Steps.{all_say}

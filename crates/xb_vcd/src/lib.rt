@@ -6,9 +6,11 @@
 //! - `Event` and `Refusal` are those of all forms, and so are the steps by which lines say them (`Steps`).
 #![tactic(auto)]
 
+mod declaration;
 mod event;
 pub mod laws;
 mod number;
+mod timescale;
 mod vcd;
 mod wire;
 mod word;

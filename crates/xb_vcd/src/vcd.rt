@@ -1,16 +1,17 @@
 // A value change dump, line by line.
-ghost use Rattle.std.specs.Prelude.{◌≡◌, ◌≢◌, ◌≤◌, ◌++◌, ◌↔◌, [], Some, IfErr, IfOk, IfSome, IsErr, IsTrue, OnErr, OnOk, is_some, map, drop, length, take};
+ghost use Rattle.std.specs.Prelude.{◌≡◌, ◌≢◌, ◌++◌, ◌↔◌, [], Some, IfErr, IfOk, IsErr, IsTrue, OnErr, OnOk, is_some, map};
 ghost use Rattle.std.specs.List.{list_all, list_any};
 ghost use Rattle.xb_vcd.specs.Steps.{Adds, SaysNothing, all_say};
 ghost use Rattle.xb_vcd.specs.VcdChanges.{IsRefused, IsSaid, change_taken, code_taken, has_code, level_events, time_taken, times_of};
-ghost use Rattle.xb_vcd.specs.VcdTexts.{after_digits, begun_vcd, declared_code, declared_codes, found_code, header_taken, is_blank, is_header, leading_digits, scale_of, scale_said, scale_taken, unit_of, var_taken, vcd_line_says, vcd_state, word_before, word_says, words_of};
+ghost use Rattle.xb_vcd.specs.VcdTexts.{begun_vcd, header_taken, is_blank, is_header, scale_said, scale_taken, var_taken, vcd_line_says, vcd_state, word_before, word_says, words_of};
 
+use crate::declaration::{NO_WORDS, VarWords, declare};
 use crate::event::{Event, Refusal, say};
 use crate::number::number_of;
+use crate::timescale::{cut_digits, scale_of};
 use crate::wire::say_level;
 use crate::word::{Word, code_of, word_of};
 use std::alloc::Global;
-use xb_contact::Scale;
 
 // Where a VCD stands.
 #[derive(Clone, Copy, Debug, PartialEq, Eq)]
@@ -29,20 +30,6 @@ enum Place {
     AfterVector(Option<bool>),
 }
 
-// What the words of a declaration said so far: how many they are, whether the wire has one bit, and its code.
-#[derive(Clone, Copy, Debug, PartialEq, Eq)]
-struct VarWords {
-    count: u8,
-    is_bit: bool,
-    code: u64,
-}
-
-const NO_WORDS: VarWords = VarWords {
-    count: 0,
-    is_bit: false,
-    code: 0,
-};
-
 /// The reader of a VCD. Its wires are found by their names, and numbered as these are given.
 #[derive(Drop)]
 pub struct Vcd<'a> {
@@ -52,39 +39,6 @@ pub struct Vcd<'a> {
     has_scale: bool,
     last: u64,
     has_time: bool,
-}
-
-// The unit of a timescale: how many ms are how many units.
-fn unit_of(word: &[u8]) -> Option<Scale>
-    ensures value { result ≡ unit_of word.now }
-    ensures few { IfSome result (λ scale. scale.ms ≤ 1000) }
-{
-    let (ms, ticks) = match word {
-        b"s" => (1_000, 1),
-        b"ms" => (1, 1),
-        b"us" => (1, 1_000),
-        b"ns" => (1, 1_000_000),
-        b"ps" => (1, 1_000_000_000),
-        b"fs" => (1, 1_000_000_000_000),
-        _ => return None,
-    };
-    Some(Scale { ms, ticks })
-}
-
-// The scale of so many units, which are 1, 10 or 100.
-fn scale_of(number: u64, word: &[u8]) -> Option<Scale>
-    ensures { result ≡ scale_of number word.now }
-{
-    let Scale { ms, ticks } = unit_of(word)?;
-    match number {
-        1 => Some(Scale { ms, ticks }),
-        10 => Some(Scale { ms: ms * 10, ticks }),
-        100 => Some(Scale {
-            ms: ms * 100,
-            ticks,
-        }),
-        _ => None,
-    }
 }
 
 // Whether words are parted by a byte.
@@ -106,79 +60,6 @@ fn is_header(place: Place) -> bool
         | Place::Changes
         | Place::AfterVector(_) => false,
     }
-}
-
-// How many digits a word begins with.
-fn digits_before(word: &[u8]) -> usize
-    ensures within { result ≤ length word.now }
-    ensures digits { take result word.now ≡ leading_digits word.now }
-    ensures rest { drop result word.now ≡ after_digits word.now }
-{
-    for (i, byte) in word.iter().enumerate() {
-        if *byte < b'0' || *byte > b'9' {
-            return i;
-        }
-    }
-    word.len()
-}
-
-// The digits that a word begins with, and what follows them.
-fn cut_digits(word: &[u8]) -> (&[u8], &[u8])
-    ensures digits { result.0.now ≡ leading_digits word.now }
-    ensures rest { result.1.now ≡ after_digits word.now }
-{
-    let length = digits_before(word);
-    (&word[..length], &word[length..])
-}
-
-// The code of a wire that is declared, which had none.
-fn found_code(words: VarWords, own: Option<u64>) -> Result<Option<u64>, Refusal>
-    ensures said { IfOk result (λ code. found_code words own ≡ Some code) }
-    ensures refused { IfErr result (SaysNothing (found_code words own)) }
-{
-    match own {
-        _ if !words.is_bit => Err(Refusal::Bits),
-        Some(_) => Err(Refusal::Twice),
-        None => Ok(Some(words.code)),
-    }
-}
-
-// The code of a wire after a declaration of this name.
-fn declared_code(
-    words: VarWords,
-    name: &[u8],
-    wanted: &str,
-    own: Option<u64>,
-) -> Result<Option<u64>, Refusal>
-    ensures said { IfOk result (λ code. declared_code words name.now wanted.now own ≡ Some code) }
-    ensures refused { IfErr result (SaysNothing (declared_code words name.now wanted.now own)) }
-{
-    if wanted.as_bytes() == name {
-        found_code(words, own)
-    } else {
-        Ok(own)
-    }
-}
-
-// A wire of this name is declared: those that are asked for by the name have its code.
-fn declare(
-    words: VarWords,
-    name: &[u8],
-    names: &[&str],
-    codes: &mut [Option<u64>],
-) -> Result<(), Refusal>
-    ensures said { OnOk result
-        (declared_codes words name.now (map (λ wanted. wanted.now) names.now) codes.old ≡ Some codes.new) }
-    ensures refused { IfErr result (SaysNothing
-        (declared_codes words name.now (map (λ wanted. wanted.now) names.now) codes.old)) }
-{
-    for (i, code) in codes.iter_mut().enumerate() {
-        match names.get(i) {
-            Some(wanted) => *code = declared_code(words, name, wanted, *code)?,
-            None => return Ok(()),
-        }
-    }
-    Ok(())
 }
 
 impl<'a> Vcd<'a> {

@@ -1,7 +1,7 @@
 use Rattle.std.proofs.Common.{◌≡◌, ◌++◌, drop, map, take}
 use Rattle.std.specs.Prelude.{option_map}
 use Rattle.xb_vcd.specs.VcdTexts.{declared_codes}
-use Rattle.xb_vcd.proofs.vcd.declare.Given as goal
+use Rattle.xb_vcd.proofs.declaration.declare.Given as goal
 
 abbrev pub invariant-loop-i : goal.invariant-loop-i
 invariant-loop-i l =

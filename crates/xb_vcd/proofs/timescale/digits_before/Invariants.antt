@@ -1,6 +1,6 @@
 use Rattle.std.proofs.Common.{◌≡◌, ◌++◌, drop, take}
 use Rattle.xb_vcd.specs.VcdTexts.{after_digits, leading_digits}
-use Rattle.xb_vcd.proofs.vcd.digits_before.Given as goal
+use Rattle.xb_vcd.proofs.timescale.digits_before.Given as goal
 
 abbrev pub invariant-loop-i : goal.invariant-loop-i
 invariant-loop-i l = record {

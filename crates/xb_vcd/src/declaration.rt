@@ -1,0 +1,74 @@
+// The declarations of wires in a VCD.
+ghost use Rattle.std.specs.Prelude.{◌≡◌, Some, IfErr, IfOk, OnOk, map};
+ghost use Rattle.xb_vcd.specs.Steps.{SaysNothing};
+ghost use Rattle.xb_vcd.specs.VcdTexts.{declared_code, declared_codes, found_code};
+
+use crate::event::Refusal;
+
+/// What the words of a declaration said so far.
+#[derive(Clone, Copy, Debug, PartialEq, Eq)]
+pub struct VarWords {
+    /// How many they are.
+    pub count: u8,
+    /// Whether the wire has one bit.
+    pub is_bit: bool,
+    /// The code of the wire.
+    pub code: u64,
+}
+
+/// Those of a declaration of which none has come.
+pub const NO_WORDS: VarWords = VarWords {
+    count: 0,
+    is_bit: false,
+    code: 0,
+};
+
+// The code of a wire that is declared, which had none.
+fn found_code(words: VarWords, own: Option<u64>) -> Result<Option<u64>, Refusal>
+    ensures said { IfOk result (λ code. found_code words own ≡ Some code) }
+    ensures refused { IfErr result (SaysNothing (found_code words own)) }
+{
+    match own {
+        _ if !words.is_bit => Err(Refusal::Bits),
+        Some(_) => Err(Refusal::Twice),
+        None => Ok(Some(words.code)),
+    }
+}
+
+// The code of a wire after a declaration of this name.
+fn declared_code(
+    words: VarWords,
+    name: &[u8],
+    wanted: &str,
+    own: Option<u64>,
+) -> Result<Option<u64>, Refusal>
+    ensures said { IfOk result (λ code. declared_code words name.now wanted.now own ≡ Some code) }
+    ensures refused { IfErr result (SaysNothing (declared_code words name.now wanted.now own)) }
+{
+    if wanted.as_bytes() == name {
+        found_code(words, own)
+    } else {
+        Ok(own)
+    }
+}
+
+/// A wire of this name is declared: those that are asked for by the name have its code.
+pub(crate) fn declare(
+    words: VarWords,
+    name: &[u8],
+    names: &[&str],
+    codes: &mut [Option<u64>],
+) -> Result<(), Refusal>
+    ensures said { OnOk result
+        (declared_codes words name.now (map (λ wanted. wanted.now) names.now) codes.old ≡ Some codes.new) }
+    ensures refused { IfErr result (SaysNothing
+        (declared_codes words name.now (map (λ wanted. wanted.now) names.now) codes.old)) }
+{
+    for (i, code) in codes.iter_mut().enumerate() {
+        match names.get(i) {
+            Some(wanted) => *code = declared_code(words, name, wanted, *code)?,
+            None => return Ok(()),
+        }
+    }
+    Ok(())
+}
