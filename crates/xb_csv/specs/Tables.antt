@@ -249,8 +249,3 @@ table_says state [] = table_ends state
 table_says state (line ∷ rest) =
     option_and_then (λ said. option_map (λ later. said.0 ++ later) (table_says said.1 rest))
     (table_line_says state line)
-
--- it was said: these events were added
-abbrev pub AddsAll : Option (List Event) → List Event → List Event → Type 0
-AddsAll None old new = ⊥
-AddsAll (Some said) old new = new ≡ old ++ said

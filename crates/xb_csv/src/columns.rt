@@ -1,9 +1,9 @@
 // Tables of levels, row by row.
 ghost use Rattle.std.specs.Prelude.{◌≡◌, ◌+◌, ◌++◌, ◌≤◌, [], Some, IfErr, OnOk, map, option_copied};
-ghost use Rattle.xb_vcd.specs.Steps.{Adds, SaysNothing};
+ghost use Rattle.xb_vcd.specs.Steps.{Adds, AddsAll, SaysNothing};
 ghost use Rattle.xb_vcd.specs.VcdChanges.{times_of};
 ghost use Rattle.xb_csv.specs.Cells.{cells_of};
-ghost use Rattle.xb_csv.specs.Tables.{AddsAll, begun_table, begins_rows, columns_before, comment_says, edges_row, ends_at, levels_from, line_of_form, names_say, no_header, row_at, row_says, row_time, saleae_begins, saleae_header, saleae_row, samples_begin, sigrok_by_unit, sigrok_header, sigrok_line, sigrok_row, table_ends, table_line_says, table_state, unit_of_label};
+ghost use Rattle.xb_csv.specs.Tables.{begun_table, begins_rows, columns_before, comment_says, edges_row, ends_at, levels_from, line_of_form, names_say, no_header, row_at, row_says, row_time, saleae_begins, saleae_header, saleae_row, samples_begin, sigrok_by_unit, sigrok_header, sigrok_line, sigrok_row, table_ends, table_line_says, table_state, unit_of_label};
 
 use crate::cells::{after, cell_at, trimmed};
 use crate::labels::{is_comment, rate_in, unit_of_label};

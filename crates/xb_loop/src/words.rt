@@ -10,7 +10,8 @@ use crate::request::Request;
 use std::alloc::{AllocError, Global};
 use xb_command::{Takes, Words, WordsFault, read_words};
 use xb_model::LineNo;
-use xb_recording::{Format, Threshold, Wanted, format_of};
+use xb_recording::{Format, Wanted, format_of};
+use xb_samples::Threshold;
 use xb_vcd::number_of;
 
 // 5 ms settle all contacts of a dial.

@@ -1,10 +1,7 @@
-pub mod HeardLevels
-pub mod WaitLemmas
-pub mod BitLemmas
-pub mod SoundLemmas
-pub mod WavLemmas
 pub mod SaidLemmas
 pub mod WrittenTexts
 pub mod WrittenWords
 pub mod WrittenLines
 pub mod WrittenBack
+pub mod RefusedLemmas
+pub mod ToldLemmas

@@ -3,7 +3,7 @@ use Rattle.std.proofs.Common.{◌≡◌, ℕ, ℤ, List, [], ◌∷◌, ◌++◌
 use Rattle.std.specs.Prelude.{option_map, unwrap_or}
 use Rattle.std.specs.Option.{option_and_then}
 use Rattle.xb_vcd.specs.declared.event.Event.{Event}
-use Rattle.xb_vcd.specs.Steps.{Adds, said_before}
+use Rattle.xb_vcd.specs.Steps.{Adds, AddsAll, said_before}
 use Rattle.xb_vcd.specs.VcdTexts.{VcdSays, VcdState, begun_vcd, vcd_state}
 use Rattle.xb_csv.specs.declared.columns.Form.{Form}
 use Rattle.xb_csv.specs.declared.columns.Form.TheVariants as forms
@@ -12,20 +12,20 @@ use Rattle.xb_recording.specs.declared.format.Format.TheVariants as formats
 use Rattle.xb_recording.specs.declared.reader.Reader.{Reader}
 use Rattle.xb_recording.specs.declared.reader.Source.{Source}
 use Rattle.xb_recording.specs.declared.reader.Source.TheVariants as sources
-use Rattle.xb_recording.specs.declared.sound.Channel.{Channel}
-use Rattle.xb_recording.specs.declared.sound.Sound.{Sound}
-use Rattle.xb_recording.specs.declared.wav.WavFormat.{WavFormat}
-use Rattle.xb_recording.specs.declared.wav.WavHead.{WavHead}
-use Rattle.xb_recording.specs.Wavs.{TakesHead}
+use Rattle.xb_samples.specs.declared.sound.Channel.{Channel}
+use Rattle.xb_samples.specs.declared.sound.Sound.{Sound}
+use Rattle.xb_samples.specs.declared.wav.WavFormat.{WavFormat}
+use Rattle.xb_samples.specs.declared.wav.WavHead.{WavHead}
+use Rattle.xb_samples.specs.Wavs.{Samples, TakesHead}
 use Rattle.xb_recording.specs.Gpiomons.{GpiomonSays, GpiomonState, gpiomon_line_says, gpiomon_state, gpiomon_with}
 use Rattle.xb_recording.specs.declared.wanted.Wanted.{Wanted}
-use Rattle.xb_csv.specs.Tables.{AddsAll, TableState, table_ends, table_line_says, table_says}
-use Rattle.xb_recording.specs.Pieces.{SamplesSay, samples_events}
-use Rattle.xb_recording.specs.Samples.{BitsState, bits_of, bits_reading, bits_say, bits_state, masks_of, rate_says}
-use Rattle.xb_recording.specs.Sounds.{SoundSays, SoundState, begun_sound, high_of, own_bytes, samples_after, samples_left, samples_of, sound_begins, sound_reading, sound_says, sound_state, wires_of}
+use Rattle.xb_csv.specs.Tables.{TableState, table_ends, table_line_says, table_says}
+use Rattle.xb_samples.specs.Pieces.{SamplesSay, samples_events}
+use Rattle.xb_samples.specs.Samples.{BitsState, bits_of, bits_reading, bits_say, bits_state, masks_of, rate_says}
+use Rattle.xb_samples.specs.Sounds.{SoundSays, SoundState, begun_sound, high_of, own_bytes, samples_after, samples_left, samples_of, sound_begins, sound_reading, sound_says, sound_state, wires_of}
 use Rattle.xb_recording.specs.Says.{BitsSay, BytesSay, IsBegunBits, IsBegunGpiomon, IsBegunSound, IsBegunTable, IsBegunVcd, IsBegunWav, IsOfFormat, LinesSay, Says, SixteenSay, TableSays, Takes, TakesBytes, TakesText, WavSays, is_text, lines_in, lines_left, names_in, plain_lines, text_lines}
-use Rattle.xb_recording.proofs.WaitLemmas.{same-after}
-use Rattle.xb_recording.proofs.WavLemmas.{wav_is}
+use Rattle.xb_samples.proofs.WaitLemmas.{same-after}
+use Rattle.xb_samples.proofs.WavLemmas.{wav_is}
 
 some_is : {A : Type 0} {x y : A} → Some x ≡ Some y → x ≡ y
 some_is {A} {x} {y} e = ap (λ o. unwrap_or o x) e
@@ -178,7 +178,7 @@ sound_begin :
     → (text : List ℕ) (later : List Event) → BytesSay wanted source text later
     → SixteenSay channels rate wanted (own_bytes length text) (said ++ later)
 sound_begin channels rate length wanted (sources.Sound sound) said h text later k =
-    at (wires_of channels (names_in wanted)) refl h.0 h.3
+    at (wires_of channels (names_in wanted)) refl h.0.0 h.1
   where
     high : ℤ
     high = high_of wanted.threshold
@@ -197,8 +197,8 @@ sound_begin channels rate length wanted (sources.Sound sound) said h text later 
         ap (option_and_then (λ found. option_map (λ told. told ++ samples_events sound_reading (begun_sound channels high found) samples) (sound_begins rate found))) e
         ∙ ap (option_map (λ told. told ++ more)) (all-added (sound_begins rate wires) said g) in
         let same : samples_left sound text ≡ samples =
-        ap (λ lower. samples_after lower (own_bytes sound.left text)) h.1
-        ∙ ap (λ left. samples_after None (own_bytes left text)) h.2 in
+        ap (λ lower. samples_after lower (own_bytes sound.left text)) h.0.1
+        ∙ ap (λ left. samples_after None (own_bytes left text)) h.0.2 in
         let P : SoundState → Type 0 = λ s. SamplesSay sound_reading s samples later in
         let Q : List ℤ → Type 0 = λ s. SamplesSay sound_reading (sound_state sound) s later in
         (said ++ more, whole, same-after said later more (subst P (sym state) (subst Q same k)))
@@ -214,7 +214,7 @@ wav_begin :
     → (text : List ℕ) (later : List Event) → BytesSay wanted source text later → Says formats.Wav wanted text (said ++ later)
 wav_begin wanted (sources.WavHead head) said h text later k =
     let P : List Event → Type 0 = λ m. WavSays wanted k.0 (m ++ later) in
-    (k.0, wav_is head text k.0 h.0 h.1 h.2 k.1, subst P (sym h.3) k.2)
+    (k.0, (wav_is head text k.0 h.0).0 k.1, subst P (sym h.1) k.2)
 wav_begin wanted (sources.Vcd vcd) said h text later k = elim h [ ]
 wav_begin wanted (sources.Columns table) said h text later k = elim h [ ]
 wav_begin wanted (sources.Gpiomon gpiomon) said h text later k = elim h [ ]
@@ -282,4 +282,5 @@ pub head_then :
     → WavSays wanted (found.0, drop found.1 bytes ++ text) events → BytesSay wanted source (bytes ++ text) events
 head_then wanted source head after bytes text found events is taken said =
     let P : Source → Type 0 = λ s. BytesSay wanted s (bytes ++ text) events in
-    subst P (sym is) ((found.0, drop found.1 bytes ++ text), taken text, said)
+    let samples : Samples = (found.0, drop found.1 bytes ++ text) in
+    subst P (sym is) (samples, (taken text samples).0 refl, said)

@@ -1,9 +1,5 @@
-pub mod Hysteresis
-pub mod Pieces
-pub mod Samples
-pub mod Sounds
-pub mod Wavs
 pub mod Gpiomons
 pub mod Says
 pub mod WrittenVcd
 pub mod Formats
+pub mod Beginnings

@@ -1,5 +1,5 @@
 -- What a recording says, whatever its form.
-use Rattle.std.specs.Prelude.{◌≡◌, ℕ, ℤ, Option, List, [], ◌∷◌, ◌++◌, Bool, true, false, ◌==◌, if◌then◌else◌, None, Some, drop, length, map, nat_eq, option_map}
+use Rattle.std.specs.Prelude.{◌≡◌, ◌≢◌, ◌+◌, ◌^◌, ◌≤◌, ◌<◌, ℕ, ℤ, Option, List, [], ◌∷◌, ◌++◌, Bool, true, false, ◌==◌, if◌then◌else◌, None, Some, drop, length, map, nat_eq, option_map}
 use Rattle.std.specs.List.{starts_with}
 use Rattle.std.specs.Option.{option_and_then}
 use Rattle.xb_vcd.specs.declared.event.Event.{Event}
@@ -9,18 +9,21 @@ use Rattle.xb_recording.specs.declared.format.TheConstants.{BYTE_ORDER_MARK}
 use Rattle.xb_recording.specs.declared.format.Format.{Format}
 use Rattle.xb_recording.specs.declared.format.Format.TheVariants as formats
 use Rattle.xb_recording.specs.declared.reader.Reader.{Reader}
+use Rattle.xb_recording.specs.declared.reader.TheConstants.{MOST_LINE_BYTES}
 use Rattle.xb_recording.specs.declared.reader.Source.{Source}
 use Rattle.xb_recording.specs.declared.reader.Source.TheVariants as sources
 use Rattle.xb_recording.specs.declared.wanted.Wanted.{Wanted}
+use Rattle.xb_vcd.specs.declared.event.Refusal.{Refusal}
+use Rattle.xb_vcd.specs.declared.event.Refusal.TheVariants.{NoMemory}
+use Rattle.xb_vcd.specs.Steps.{AddsAll}
 use Rattle.xb_vcd.specs.VcdTexts.{VcdSays, begun_vcd, vcd_state}
-use Rattle.xb_recording.specs.Pieces.{SamplesSay, SayTheSame}
-use Rattle.xb_recording.specs.Samples.{bits_of, bits_reading, bits_say, bits_state, masks_of, rate_says}
-use Rattle.xb_recording.specs.declared.wav.Place.TheVariants as places
-use Rattle.xb_recording.specs.declared.wav.WavFormat.{WavFormat}
+use Rattle.xb_samples.specs.Pieces.{SamplesSay, SayTheSame}
+use Rattle.xb_samples.specs.Samples.{IsNewBits, bits_reading, bits_say, bits_state, rate_says}
+use Rattle.xb_samples.specs.declared.wav.WavFormat.{WavFormat}
 use Rattle.xb_recording.specs.Gpiomons.{GpiomonSays, gpiomon_state, gpiomon_with}
-use Rattle.xb_recording.specs.Wavs.{HeadBegins, IsWav, Samples}
-use Rattle.xb_recording.specs.Sounds.{SoundSays, begun_sound, high_of, own_bytes, samples_of, sound_begins, sound_says, sound_state, wires_of}
-use Rattle.xb_csv.specs.Tables.{AddsAll, begun_table, table_says, table_state}
+use Rattle.xb_samples.specs.Wavs.{HeadBegins, IsNewHead, IsWav, Samples}
+use Rattle.xb_samples.specs.Sounds.{IsNewSound, SoundSays, high_of, own_bytes, samples_of, sound_begins, sound_says, sound_state, wires_of}
+use Rattle.xb_csv.specs.Tables.{begun_table, table_says, table_state}
 
 -- the lines of a text, of whose first line this has come
 abbrev pub lines_in : List ℕ → List ℕ → List (List ℕ)
@@ -115,8 +118,7 @@ IsBegunGpiomon names (sources.Sound sound) said = ⊥
 -- and of samples, of which the rate was said
 abbrev pub IsBegunBits : List (List ℕ) → Option ℕ → Source → List Event → Type 0
 IsBegunBits names rate (sources.Bits bits) said =
-    (option_map (λ masks. bits_of masks None 0) (masks_of names) ≡ Some (bits_state bits))
-    × AddsAll (rate_says rate) [] said
+    IsNewBits names bits × AddsAll (rate_says rate) [] said
 IsBegunBits names rate (sources.Vcd vcd) said = ⊥
 IsBegunBits names rate (sources.Columns table) said = ⊥
 IsBegunBits names rate (sources.Gpiomon gpiomon) said = ⊥
@@ -126,8 +128,7 @@ IsBegunBits names rate (sources.Sound sound) said = ⊥
 -- and of sound of so many channels and samples a second, and of so many bytes, where that is known
 abbrev pub IsBegunSound : ℕ → Option ℕ → Option ℕ → ℤ → List (List ℕ) → Source → List Event → Type 0
 IsBegunSound channels rate length high names (sources.Sound sound) said =
-    (option_map (begun_sound channels high) (wires_of channels names) ≡ Some (sound_state sound))
-    × (sound.lower ≡ None) × (sound.left ≡ length)
+    IsNewSound channels high names length sound
     × AddsAll (option_and_then (sound_begins rate) (wires_of channels names)) [] said
 IsBegunSound channels rate length high names (sources.Vcd vcd) said = ⊥
 IsBegunSound channels rate length high names (sources.Columns table) said = ⊥
@@ -138,7 +139,7 @@ IsBegunSound channels rate length high names (sources.WavHead head) said = ⊥
 -- and of a WAV, of which nothing was read
 abbrev pub IsBegunWav : Source → List Event → Type 0
 IsBegunWav (sources.WavHead head) said =
-    (head.place ≡ places.Beginning) × (head.format ≡ None) × (head.bytes.items ≡ []) × (said ≡ [])
+    IsNewHead head × (said ≡ [])
 IsBegunWav (sources.Vcd vcd) said = ⊥
 IsBegunWav (sources.Columns table) said = ⊥
 IsBegunWav (sources.Gpiomon gpiomon) said = ⊥
@@ -221,3 +222,52 @@ Says formats.Wav wanted text events = (samples : Samples) × IsWav text samples 
 abbrev pub Begins : Format → Wanted → Reader → List Event → Type 0
 Begins format wanted reader said =
     (text : List ℕ) (later : List Event) → RestSays reader text later → Says format wanted text (said ++ later)
+
+-- it was refused, unless memory ran out: a form, where no recording of it says anything of these wires
+abbrev pub RefusesForm : Format → Wanted → Refusal → Type 0
+RefusesForm format wanted refusal =
+    refusal ≢ NoMemory → (text : List ℕ) (events : List Event) → Says format wanted text events → ⊥
+
+-- a line, after which nothing is said, whatever follows
+abbrev pub RefusesLine : Source → List ℕ → Refusal → Type 0
+RefusesLine source line refusal =
+    refusal ≢ NoMemory → (lines : List (List ℕ)) (events : List Event) → LinesSay source (line ∷ lines) events → ⊥
+
+-- the first samples of a WAV
+abbrev pub RefusesSamples : WavFormat → Reader → List ℕ → Refusal → Type 0
+RefusesSamples format reader bytes refusal =
+    refusal ≢ NoMemory → (text : List ℕ) (events : List Event)
+    → WavSays reader.wanted.now (format, bytes ++ text) events → ⊥
+
+-- what is longer than a reader goes: a text line of more than 65,536 bytes, and samples of 2^64 ticks
+abbrev pub IsLongText : Reader → List ℕ → Type 0
+IsLongText reader bytes = MOST_LINE_BYTES < length (line_so_far reader ++ bytes)
+
+abbrev pub IsTooLong : Reader → Source → List ℕ → Type 0
+IsTooLong reader (sources.Vcd vcd) bytes = IsLongText reader bytes
+IsTooLong reader (sources.Columns table) bytes = IsLongText reader bytes
+IsTooLong reader (sources.Gpiomon gpiomon) bytes = IsLongText reader bytes
+IsTooLong reader (sources.Bits bits) bytes = 2 ^ 64 ≤ (bits_state bits).count + length bytes
+IsTooLong reader (sources.WavHead head) bytes = ⊥
+IsTooLong reader (sources.Sound sound) bytes = 2 ^ 64 ≤ (sound_state sound).count + length bytes
+
+-- further bytes were refused, unless memory ran out: nothing is said, whatever follows, or they are too long
+abbrev pub Refuses : Reader → List ℕ → Refusal → Type 0
+Refuses reader bytes refusal =
+    refusal ≢ NoMemory → (text : List ℕ) (events : List Event) → RestSays reader (bytes ++ text) events
+    → IsTooLong reader reader.source bytes
+
+-- as a text, and as samples
+abbrev pub RefusesText : Reader → List ℕ → Refusal → Type 0
+RefusesText reader bytes refusal =
+    refusal ≢ NoMemory → (text : List ℕ) (events : List Event)
+    → LinesSay reader.source (lines_left reader (bytes ++ text)) events → IsLongText reader bytes
+
+abbrev pub RefusesBytes : Reader → List ℕ → Refusal → Type 0
+RefusesBytes reader bytes refusal =
+    refusal ≢ NoMemory → (text : List ℕ) (events : List Event)
+    → BytesSay reader.wanted.now reader.source (bytes ++ text) events → IsTooLong reader reader.source bytes
+
+-- the end was refused, unless memory ran out: the recording says nothing that ends here
+abbrev pub RefusesEnd : Reader → Refusal → Type 0
+RefusesEnd reader refusal = refusal ≢ NoMemory → (events : List Event) → RestSays reader [] events → ⊥

@@ -1,10 +1,7 @@
-// The forms of recordings, and how they are told from each other.
+// The forms of recordings.
 ghost use Rattle.std.specs.Prelude.{◌≡◌};
 ghost use Rattle.xb_recording.specs.Formats.{format_of};
-
-use crate::gpiomon::is_of_gpiomon;
-use xb_csv::{cell_at, nanoseconds_of, trimmed};
-use xb_text::cut_at;
+ghost use Rattle.xb_recording.specs.Says.{plain_line};
 
 /// The mark that some programs write before a text.
 pub(crate) const BYTE_ORDER_MARK: &[u8] = b"\xef\xbb\xbf";
@@ -47,72 +44,12 @@ pub fn format_of(name: &str) -> Option<Format>
     }
 }
 
-/// The form of a text whose first line is this, if it tells it.
-pub(crate) fn format_of_line(line: &[u8]) -> Option<Format> {
-    let line = trimmed(line);
-    if line.starts_with(b"$") {
-        return Some(Format::Vcd);
+/// A line without the mark that the first one may begin with.
+pub(crate) fn without_mark(line: &[u8], is_first: bool) -> &[u8]
+    ensures { result.now ≡ plain_line is_first line.now }
+{
+    if is_first && line.starts_with(BYTE_ORDER_MARK) {
+        return &line[BYTE_ORDER_MARK.len()..];
     }
-    if line.starts_with(b";") {
-        return Some(Format::Sigrok);
-    }
-    if cell_at(line, 0) == Some(b"Time [s]".as_slice()) {
-        return Some(Format::Saleae);
-    }
-    if is_of_gpiomon(line) {
-        return Some(Format::Gpiomon);
-    }
-    match (cell_at(line, 0), cell_at(line, 1)) {
-        (Some(time), Some(_)) if nanoseconds_of(time).is_some() => Some(Format::Edges),
-        _ => None,
-    }
-}
-
-/// What the beginning of a recording tells of its form.
-#[derive(Clone, Copy, Debug, PartialEq, Eq)]
-pub enum Told {
-    /// It is this one.
-    Form(Format),
-    /// None that can be told.
-    Nothing,
-    /// More of it is wanted.
-    More,
-}
-
-// A line that says nothing of the form.
-fn is_passed_over(line: &[u8]) -> bool {
-    trimmed(line).is_empty() || line.starts_with(b"META ")
-}
-
-// What a line tells.
-fn told_by_line(line: &[u8]) -> Told {
-    match format_of_line(line) {
-        Some(format) => Told::Form(format),
-        None => Told::Nothing,
-    }
-}
-
-/// What the beginning of a recording tells of its form: the first line that says anything, once it is there
-/// whole. At the end of the recording it has no line end.
-pub fn told_format(beginning: &[u8], is_end: bool) -> Told {
-    if beginning.starts_with(b"RIFF") {
-        return Told::Form(Format::Wav);
-    }
-    let mut rest = match beginning.strip_prefix(BYTE_ORDER_MARK) {
-        Some(text) => text,
-        None => beginning,
-    };
-    for _ in 0..beginning.len() {
-        match cut_at(b'\n', rest) {
-            Some((line, later)) => {
-                if !is_passed_over(line) {
-                    return told_by_line(line);
-                }
-                rest = later;
-            }
-            None if is_end => return told_by_line(rest),
-            None => return Told::More,
-        }
-    }
-    if is_end { Told::Nothing } else { Told::More }
+    line
 }

@@ -1,9 +1,8 @@
 // The lines that gpiomon writes.
-ghost use Rattle.std.specs.Prelude.{◌≡◌, ◌++◌, ◌<◌, IfErr, IfSome, OnOk, length, map, option_copied, option_map};
+ghost use Rattle.std.specs.Prelude.{◌≡◌, ◌++◌, ◌<◌, IfErr, IfSome, OnOk, is_some, length, map, option_copied, option_map};
 ghost use Rattle.std.specs.List.{position};
-ghost use Rattle.xb_vcd.specs.Steps.{Adds, SaysNothing};
+ghost use Rattle.xb_vcd.specs.Steps.{Adds, AddsAll, SaysNothing};
 ghost use Rattle.xb_recording.specs.Gpiomons.{between, edge_line_says, edge_of, edge_said, edge_says, first_kind, first_word, gpiomon_line_says, gpiomon_state, gpiomon_with, is_gap, named_levels, rises, second_kind, time_said, wire_of};
-ghost use Rattle.xb_csv.specs.Tables.{AddsAll};
 
 use xb_contact::NANOSECONDS;
 use xb_csv::{nanoseconds_of, trimmed};
@@ -145,7 +144,9 @@ fn edge_of(line: &[u8]) -> Option<Edge<'_>>
 }
 
 /// Whether gpiomon writes such a line.
-pub(crate) fn is_of_gpiomon(line: &[u8]) -> bool {
+pub(crate) fn is_of_gpiomon(line: &[u8]) -> bool
+    ensures { result ≡ is_some (edge_of line.now) }
+{
     edge_of(line).is_some()
 }
 

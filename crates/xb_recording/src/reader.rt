@@ -1,20 +1,20 @@
 // The reader of a recording, whatever its form.
-ghost use Rattle.std.specs.Prelude.{◌≡◌, ◌++◌, [], ◌∷◌, ℕ, Some, true, false, IfOk, OnOk, List};
+ghost use Rattle.std.specs.Prelude.{◌≡◌, ◌≢◌, ◌≤◌, ◌++◌, [], ◌∷◌, ℕ, Some, true, false, IfErr, IfOk, OnOk, List, length};
 ghost use Rattle.xb_csv.specs.Tables.{table_says, table_state};
 ghost use Rattle.xb_vcd.specs.declared.event.Event.{Event as EventTaken};
+ghost use Rattle.xb_vcd.specs.declared.event.Refusal.TheVariants.{NoMemory};
+ghost use Rattle.xb_vcd.specs.Steps.{SaysNothing};
 ghost use Rattle.xb_vcd.specs.VcdTexts.{VcdSays, vcd_state};
 ghost use Rattle.xb_recording.specs.declared.wanted.Wanted.{Wanted as WantedHere};
 ghost use Rattle.xb_recording.specs.Gpiomons.{GpiomonSays, gpiomon_state};
-ghost use Rattle.xb_recording.specs.Says.{Begins, BytesSay, IsOfFormat, LinesSay, RestSays, Takes, TakesBytes, TakesSamples, TakesText, is_in_first, is_text, line_so_far, plain_line};
+ghost use Rattle.xb_recording.specs.Says.{Begins, BytesSay, IsOfFormat, LinesSay, Refuses, RefusesBytes, RefusesEnd, RefusesForm, RefusesLine, RefusesSamples, RefusesText, RestSays, Takes, TakesBytes, TakesSamples, TakesText, is_in_first, is_text, line_so_far, plain_line};
 
-use crate::format::{BYTE_ORDER_MARK, Format};
+use crate::format::{Format, without_mark};
 use crate::gpiomon::Gpiomon;
-use crate::samples::Bits;
-use crate::sound::Sound;
 use crate::wanted::Wanted;
-use crate::wav::{WavFormat, WavHead};
 use std::alloc::{AllocError, Global};
 use xb_csv::{Columns, Form};
+use xb_samples::{Bits, Sound, WavFormat, WavHead};
 use xb_vcd::{Event, Refusal, Vcd};
 
 // The longest line of a recording.
@@ -52,7 +52,8 @@ fn source_of<'a>(
     events: &mut Vec<Event>,
 ) -> Result<Source<'a>, Refusal>
     requires { events.old.items ≡ [] }
-    ensures { IfOk result (λ source. IsOfFormat format wanted.now source events.new.items) }
+    ensures begun { IfOk result (λ source. IsOfFormat format wanted.now source events.new.items) }
+    ensures refused { IfErr result (RefusesForm format wanted.now) }
 {
     let (names, rate) = (wanted.wires.as_slice(), wanted.rate);
     Ok(match format {
@@ -69,16 +70,6 @@ fn source_of<'a>(
     })
 }
 
-// A line without the mark that the first one may begin with.
-fn without_mark(line: &[u8], is_first: bool) -> &[u8]
-    ensures { result.now ≡ plain_line is_first line.now }
-{
-    if is_first && line.starts_with(BYTE_ORDER_MARK) {
-        return &line[BYTE_ORDER_MARK.len()..];
-    }
-    line
-}
-
 // A line of a text.
 fn take_line_of(
     source: &mut Source<'_>,
@@ -86,8 +77,10 @@ fn take_line_of(
     events: &mut Vec<Event>,
 ) -> Result<(), Refusal>
     requires { events.old.items ≡ [] }
-    ensures { OnOk result ((lines : List (List ℕ)) (later : List EventTaken) → LinesSay source.new lines later
+    ensures said { OnOk result ((lines : List (List ℕ)) (later : List EventTaken)
+        → LinesSay source.new lines later
         → LinesSay source.old (line.now ∷ lines) (events.new.items ++ later)) }
+    ensures refused { IfErr result (RefusesLine source.old line.now) }
 {
     match source {
         Source::Vcd(vcd) => vcd.take_line(line, events),
@@ -100,7 +93,9 @@ fn take_line_of(
 // The last line of a VCD, and its end.
 fn end_vcd(vcd: &mut Vcd<'_>, line: &[u8], events: &mut Vec<Event>) -> Result<(), Refusal>
     requires { events.old.items ≡ [] }
-    ensures { OnOk result (VcdSays (vcd_state vcd.old) (line.now ∷ []) events.new.items) }
+    ensures said { OnOk result (VcdSays (vcd_state vcd.old) (line.now ∷ []) events.new.items) }
+    ensures refused { IfErr result (λ e. e ≢ NoMemory → (all : List EventTaken)
+        → VcdSays (vcd_state vcd.old) (line.now ∷ []) all → ⊥) }
 {
     vcd.take_line(line, events)?;
     vcd.end()
@@ -109,7 +104,8 @@ fn end_vcd(vcd: &mut Vcd<'_>, line: &[u8], events: &mut Vec<Event>) -> Result<()
 // The last line of a table, and its end.
 fn end_table(table: &mut Columns<'_>, line: &[u8], events: &mut Vec<Event>) -> Result<(), Refusal>
     requires { events.old.items ≡ [] }
-    ensures { OnOk result (table_says (table_state table.old) (line.now ∷ []) ≡ Some events.new.items) }
+    ensures said { OnOk result (table_says (table_state table.old) (line.now ∷ []) ≡ Some events.new.items) }
+    ensures refused { IfErr result (SaysNothing (table_says (table_state table.old) (line.now ∷ []))) }
 {
     table.take_line(line, events)?;
     table.end(events)
@@ -122,7 +118,9 @@ fn end_gpiomon(
     events: &mut Vec<Event>,
 ) -> Result<(), Refusal>
     requires { events.old.items ≡ [] }
-    ensures { OnOk result (GpiomonSays (gpiomon_state gpiomon.old) (line.now ∷ []) events.new.items) }
+    ensures said { OnOk result (GpiomonSays (gpiomon_state gpiomon.old) (line.now ∷ []) events.new.items) }
+    ensures refused { IfErr result (λ e. e ≢ NoMemory → (all : List EventTaken)
+        → GpiomonSays (gpiomon_state gpiomon.old) (line.now ∷ []) all → ⊥) }
 {
     gpiomon.take_line(line, events)
 }
@@ -132,6 +130,8 @@ fn end_source(source: &mut Source<'_>, line: &[u8], events: &mut Vec<Event>) -> 
     requires { events.old.items ≡ [] }
     ensures lines { OnOk result (LinesSay source.old (line.now ∷ []) events.new.items) }
     ensures bytes { OnOk result ((wanted : WantedHere) → BytesSay wanted source.old [] events.new.items) }
+    ensures refused { IfErr result (λ e. e ≢ NoMemory → (wanted : WantedHere) (all : List EventTaken)
+        → LinesSay source.old (line.now ∷ []) all → BytesSay wanted source.old [] all → ⊥) }
 {
     match source {
         Source::Vcd(vcd) => end_vcd(vcd, line, events),
@@ -144,14 +144,16 @@ fn end_source(source: &mut Source<'_>, line: &[u8], events: &mut Vec<Event>) -> 
 }
 
 impl<'a> Reader<'a> {
-    /// The reader of a recording of this form. `events` has then what it says before anything is read.
+    /// The reader of a recording of this form. `events` has then what it says before anything is read. Where no
+    /// recording of the form says anything of these wires, it is refused.
     pub fn new(
         alloc: Global,
         wanted: &'a Wanted<'a>,
         format: Format,
         events: &mut Vec<Event>,
     ) -> Result<Reader<'a>, Refusal>
-        ensures { IfOk result (λ reader. Begins format wanted.now reader events.new.items) }
+        ensures begun { IfOk result (λ reader. Begins format wanted.now reader events.new.items) }
+        ensures refused { IfErr result (RefusesForm format wanted.now) }
     {
         events.clear();
         let source = source_of(alloc, wanted, format, events)?;
@@ -184,6 +186,8 @@ impl<'a> Reader<'a> {
             → LinesSay self.old.source (plain_line self.old.is_first self.old.line.items ∷ lines)
             (events.new.items ++ later)) }
         ensures whole { OnOk result (self.new.is_whole ≡ true) }
+        ensures refused { IfErr result (RefusesLine self.old.source
+            (plain_line self.old.is_first self.old.line.items)) }
     {
         self.is_whole = true;
         let line = without_mark(&self.line, self.is_first);
@@ -208,7 +212,9 @@ impl<'a> Reader<'a> {
     // The next byte of a text.
     fn take_letter(&mut self, byte: u8, events: &mut Vec<Event>) -> Result<(), Refusal>
         requires { events.old.items ≡ [] }
-        ensures { OnOk result (TakesText self.old self.new (byte ∷ []) events.new.items) }
+        ensures said { OnOk result (TakesText self.old self.new (byte ∷ []) events.new.items) }
+        ensures short { OnOk result (length (line_so_far self.new) ≤ MOST_LINE_BYTES) }
+        ensures refused { IfErr result (RefusesText self.old (byte ∷ [])) }
     {
         self.begin_line();
         if byte == b'\n' {
@@ -221,9 +227,14 @@ impl<'a> Reader<'a> {
         Ok(())
     }
 
-    /// The next byte. `events` has then what it says, in place of what was there.
+    /// The next byte. `events` has then what it says, in place of what was there. It is refused where nothing that
+    /// begins so says anything, and where a text line has more than 65,536 bytes. After an `Err` the reader is not to
+    /// be used again.
     pub fn take_byte(&mut self, byte: u8, events: &mut Vec<Event>) -> Result<(), Refusal>
-        ensures { OnOk result (Takes self.old self.new (byte ∷ []) events.new.items) }
+        ensures said { OnOk result (Takes self.old self.new (byte ∷ []) events.new.items) }
+        ensures short { OnOk result (is_text self.old.source ≡ true
+            → length (line_so_far self.new) ≤ MOST_LINE_BYTES) }
+        ensures refused { IfErr result (Refuses self.old (byte ∷ [])) }
     {
         if !self.is_text() {
             return self.take_samples(&[byte], events);
@@ -240,7 +251,8 @@ impl<'a> Reader<'a> {
         events: &mut Vec<Event>,
     ) -> Result<(), Refusal>
         requires { events.old.items ≡ [] }
-        ensures { OnOk result (TakesSamples format self.old self.new bytes.now events.new.items) }
+        ensures said { OnOk result (TakesSamples format self.old self.new bytes.now events.new.items) }
+        ensures refused { IfErr result (RefusesSamples format self.old bytes.now) }
     {
         let WavFormat {
             channels,
@@ -266,7 +278,8 @@ impl<'a> Reader<'a> {
     fn take_values(&mut self, bytes: &[u8], events: &mut Vec<Event>) -> Result<(), Refusal>
         requires none { events.old.items ≡ [] }
         requires samples { is_text self.old.source ≡ false }
-        ensures { OnOk result (TakesBytes self.old self.new bytes.now events.new.items) }
+        ensures said { OnOk result (TakesBytes self.old self.new bytes.now events.new.items) }
+        ensures refused { IfErr result (RefusesBytes self.old bytes.now) }
     {
         match &mut self.source {
             Source::Bits(bits) => bits.take(bytes, events),
@@ -279,18 +292,22 @@ impl<'a> Reader<'a> {
         }
     }
 
-    /// The next bytes of samples. `events` has then what they say, in place of what was there.
+    /// The next bytes of samples. `events` has then what they say, in place of what was there. They are refused where
+    /// nothing that begins so says anything, and at 2^64 ticks. After an `Err` the reader is not to be used again.
     pub fn take_samples(&mut self, bytes: &[u8], events: &mut Vec<Event>) -> Result<(), Refusal>
         requires { is_text self.old.source ≡ false }
-        ensures { OnOk result (Takes self.old self.new bytes.now events.new.items) }
+        ensures said { OnOk result (Takes self.old self.new bytes.now events.new.items) }
+        ensures refused { IfErr result (Refuses self.old bytes.now) }
     {
         events.clear();
         self.take_values(bytes, events)
     }
 
-    /// The end. `events` has then what was left to be said, in place of what was there.
+    /// The end. `events` has then what was left to be said, in place of what was there. It is refused where nothing
+    /// that ends here says anything. After an `Err` the reader is not to be used again.
     pub fn end(&mut self, events: &mut Vec<Event>) -> Result<(), Refusal>
-        ensures { OnOk result (RestSays self.old [] events.new.items) }
+        ensures said { OnOk result (RestSays self.old [] events.new.items) }
+        ensures refused { IfErr result (RefusesEnd self.old) }
     {
         events.clear();
         self.begin_line();

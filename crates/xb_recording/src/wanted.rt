@@ -1,6 +1,6 @@
 // What is wanted of a recording.
 
-use crate::sound::Threshold;
+use xb_samples::Threshold;
 
 /// What is wanted of a recording.
 #[derive(Drop)]

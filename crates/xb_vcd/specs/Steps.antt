@@ -20,6 +20,11 @@ abbrev pub Adds : {S : Type 0} → Option (List Event × S) → List Event → L
 Adds {S} None old new state = ⊥
 Adds {S} (Some said) old new state = (new ≡ old ++ said.0) × (state ≡ said.1)
 
+-- where no state is kept
+abbrev pub AddsAll : Option (List Event) → List Event → List Event → Type 0
+AddsAll None old new = ⊥
+AddsAll (Some said) old new = new ≡ old ++ said
+
 -- it was refused: unless memory ran out, nothing stands there that says anything
 abbrev pub SaysNothing : {A : Type 0} → Option A → Refusal → Type 0
 SaysNothing {A} said refusal = refusal ≢ NoMemory → said ≡ None

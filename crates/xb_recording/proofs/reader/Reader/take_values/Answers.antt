@@ -1,15 +1,16 @@
-use Rattle.std.proofs.Common.{◌≡◌, ℕ, List, ◌++◌, ◌-◌, Option, drop, length, take, subst, length-drop, arith}
+use Rattle.std.proofs.Common.{◌≡◌, ℕ, List, ◌++◌, ◌-◌, Option, drop, length, take, subst, sym, length-drop, arith}
 use Rattle.std.proofs.lemmas.List.{take_all}
-use Rattle.std.proofs.lemmas.Result.{on_ok_weaker}
+use Rattle.std.proofs.lemmas.Result.{IfErr-weaker, on_ok_weaker}
 use Rattle.xb_recording.specs.declared.reader.Source.TheVariants as sources
-use Rattle.xb_recording.specs.declared.wav.WavFormat.{WavFormat}
+use Rattle.xb_samples.specs.declared.wav.WavFormat.{WavFormat}
 use Rattle.xb_recording.specs.Says.{TakesSamples, WavSays}
-use Rattle.xb_recording.specs.Wavs.{TakesHead}
+use Rattle.xb_samples.specs.Wavs.{TakesHead}
+use Rattle.xb_recording.proofs.RefusedLemmas.{samples_silent}
 use Rattle.xb_recording.proofs.SaidLemmas.{head_then}
 use Rattle.xb_recording.proofs.reader.Reader.take_values.Goals as goal
 
-pub returns-in-Some : goal.returns-in-Some
-returns-in-Some c =
+pub returns-in-Some-clause-said : goal.returns-in-Some-clause-said
+returns-in-Some-clause-said c =
     let old = c.args.self.now in
     let bytes : List ℕ = c.args.bytes.now in
     let format = c.in-Some.format in
@@ -28,4 +29,23 @@ returns-in-Some c =
     let Q : List ℕ → Type 0 = λ piece. WavSays old.wanted.now (format, piece ++ text) (events ++ later) in
     head_then old.wanted.now old.source head after bytes text (format, count) (events ++ later) c.in-WavHead.is taken
     (subst Q rest (begun text later k)))
-    c.begin_sound.ensures
+    c.begin_sound.ensures.said
+
+pub returns-in-Some-clause-refused : goal.returns-in-Some-clause-refused
+returns-in-Some-clause-refused c =
+    let old = c.args.self.now in
+    let bytes : List ℕ = c.args.bytes.now in
+    let format = c.in-Some.format in
+    let count = c.in-Some.count in
+    let head = c.in-WavHead.head in
+    let after = c.take-in-WavHead.new.self in
+    let P : Option (WavFormat × ℕ) → Type 0 = λ found. TakesHead head bytes found after in
+    let taken = subst P c.in-Some.is c.in_ok-format-in-WavHead.ensures.taken in
+    let rest : take (length bytes - count) (drop count bytes) ≡ drop count bytes =
+    take_all (length bytes - count) (drop count bytes) (omega (arith, length-drop count bytes)) in
+    IfErr-weaker c.begin_sound.result _ _
+    (λ refusal refused other text events h.
+    let Q : List ℕ → Type 0 = λ piece. WavSays old.wanted.now (format, piece ++ text) events in
+    absurd (samples_silent old.wanted.now old.source head after bytes text (format, count) events c.in-WavHead.is taken
+    (λ (k : Q (drop count bytes)). refused other text events (subst Q (sym rest) k)) h))
+    c.begin_sound.ensures.refused

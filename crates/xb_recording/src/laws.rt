@@ -1,8 +1,0 @@
-//! What the definitions of `specs/` come to: each law is the contract of a function that does nothing.
-ghost use Rattle.xb_recording.specs.Hysteresis.{HearsEachLevel};
-
-/// Where samples differ from the values of their two levels by less than the thresholds do, what is heard of
-/// them are the levels.
-pub fn each_level_is_heard()
-    ensures { HearsEachLevel }
-{}

@@ -1,0 +1,5 @@
+pub mod HeardLevels
+pub mod WaitLemmas
+pub mod BitLemmas
+pub mod SoundLemmas
+pub mod WavLemmas

@@ -1,0 +1,113 @@
+-- What samples say in pieces.
+use Rattle.std.proofs.Common.{◌≡◌, ℕ, List, [], ◌∷◌, ◌++◌, Bool, true, false, cond, refl, ap, sym, subst, ◌∙◌, append_assoc}
+use Rattle.xb_vcd.specs.declared.event.Event.{Event}
+use Rattle.xb_vcd.specs.declared.event.Event.TheVariants.{At, High, Low, Ticks}
+use Rattle.xb_samples.specs.Pieces.{Reading, SamplesSay, SayTheSame, after_piece, begins_later, piece_events, samples_events, without_waits}
+
+-- the beginning stays
+begins-without : (events : List Event) → begins_later (without_waits events) ≡ begins_later events
+begins-without [] = refl
+begins-without (At tick ∷ rest) = at (begins_later rest) refl (begins-without rest)
+  where
+    at :
+        (later : Bool) → begins_later rest ≡ later → begins_later (without_waits rest) ≡ begins_later rest
+        → begins_later (cond later (without_waits rest) (At tick ∷ without_waits rest)) ≡ true
+    at true e same = same ∙ e
+    at false e same = refl
+begins-without (High wire ∷ rest) = refl
+begins-without (Low wire ∷ rest) = refl
+begins-without (Ticks scale ∷ rest) = refl
+
+begins-same : (a b : List Event) → SayTheSame a b → begins_later a ≡ begins_later b
+begins-same a b h = sym (begins-without a) ∙ ap begins_later h ∙ begins-without b
+
+-- what stands before does not matter
+at-same :
+    (tick : ℕ) (a b : List Event) → SayTheSame a b
+    → without_waits (At tick ∷ a) ≡ without_waits (At tick ∷ b)
+at-same tick a b h =
+    ap (λ later. cond later (without_waits a) (At tick ∷ without_waits a)) (begins-same a b h)
+    ∙ ap (λ said. cond (begins_later b) said (At tick ∷ said)) h
+
+pub same-after : (said a b : List Event) → SayTheSame a b → SayTheSame (said ++ a) (said ++ b)
+same-after [] a b h = h
+same-after (At tick ∷ rest) a b h = at-same tick (rest ++ a) (rest ++ b) (same-after rest a b h)
+same-after (High wire ∷ rest) a b h = ap (λ said. High wire ∷ said) (same-after rest a b h)
+same-after (Low wire ∷ rest) a b h = ap (λ said. Low wire ∷ said) (same-after rest a b h)
+same-after (Ticks scale ∷ rest) a b h = ap (λ said. Ticks scale ∷ said) (same-after rest a b h)
+
+-- each sample says nothing, or first up to when something held
+abbrev pub SayWhen : {S A : Type 0} → Reading S A → Type 0
+SayWhen {S} {A} reading =
+    (state : S) (sample : A) (later : List Event) → begins_later later ≡ true
+    → begins_later (reading.says state sample ++ later) ≡ true
+
+-- so samples do
+samples-begin :
+    {S A : Type 0} (reading : Reading S A) (state : S) (samples : List A) → SayWhen reading
+    → begins_later (samples_events reading state samples) ≡ true
+samples-begin reading state [] when = refl
+samples-begin reading state (sample ∷ rest) when =
+    let whole = append_assoc (reading.says state sample) (piece_events reading (reading.next state sample) rest)
+    (At (reading.now (after_piece reading (reading.next state sample) rest)) ∷ []) in
+    ap begins_later whole
+    ∙ when state sample (samples_events reading (reading.next state sample) rest) (samples-begin reading (reading.next state sample) rest when)
+
+-- and a wait before them says nothing more
+waits :
+    {S A : Type 0} (reading : Reading S A) (state : S) (tick : ℕ) (samples : List A) (later : List Event) → SayWhen reading
+    → SamplesSay reading state samples later → SamplesSay reading state samples (At tick ∷ later)
+waits reading state tick samples later when h =
+    ap (λ b. cond b (without_waits later) (At tick ∷ without_waits later))
+    (begins-same later (samples_events reading state samples) h ∙ samples-begin reading state samples when)
+    ∙ h
+
+-- a piece, and then the rest
+after-piece :
+    {S A : Type 0} (reading : Reading S A) (state : S) (piece text : List A)
+    → after_piece reading state (piece ++ text) ≡ after_piece reading (after_piece reading state piece) text
+after-piece reading state [] text = refl
+after-piece reading state (sample ∷ rest) text = after-piece reading (reading.next state sample) rest text
+
+piece-piece :
+    {S A : Type 0} (reading : Reading S A) (state : S) (piece text : List A)
+    → piece_events reading state (piece ++ text)
+    ≡ piece_events reading state piece ++ piece_events reading (after_piece reading state piece) text
+piece-piece reading state [] text = refl
+piece-piece reading state (sample ∷ rest) text =
+    ap (λ later. reading.says state sample ++ later) (piece-piece reading (reading.next state sample) rest text)
+    ∙ sym (append_assoc (reading.says state sample) (piece_events reading (reading.next state sample) rest)
+    (piece_events reading (after_piece reading (reading.next state sample) rest) text))
+
+samples-piece :
+    {S A : Type 0} (reading : Reading S A) (state : S) (piece text : List A)
+    → samples_events reading state (piece ++ text)
+    ≡ piece_events reading state piece ++ samples_events reading (after_piece reading state piece) text
+samples-piece {S} {A} reading state piece text =
+    let mid : S = after_piece reading state piece in
+    ap (λ said. said ++ At (reading.now (after_piece reading state (piece ++ text))) ∷ []) (piece-piece reading state piece text)
+    ∙ append_assoc (piece_events reading state piece) (piece_events reading mid text)
+    (At (reading.now (after_piece reading state (piece ++ text))) ∷ [])
+    ∙ ap (λ s. piece_events reading state piece ++ (piece_events reading mid text ++ At (reading.now s) ∷ []))
+    (after-piece reading state piece text)
+
+-- so a piece that ends in a wait says what its samples do
+pub piece_says :
+    {S A : Type 0} (reading : Reading S A) (old new : S) (piece text : List A) (mid said later : List Event) → SayWhen reading
+    → mid ≡ piece_events reading old piece → new ≡ after_piece reading old piece → said ≡ mid ++ At (reading.now new) ∷ []
+    → SamplesSay reading new text later → SamplesSay reading old (piece ++ text) (said ++ later)
+piece_says {S} reading old new piece text mid said later when e f g h =
+    let before : List Event = piece_events reading old piece in
+    let waiting : List Event = At (reading.now new) ∷ later in
+    let Q : S → Type 0 = λ s. SayTheSame (before ++ waiting) (before ++ samples_events reading s text) in
+    let R : List Event → Type 0 = λ m. SayTheSame m (samples_events reading old (piece ++ text)) in
+    let here : SayTheSame (before ++ waiting) (before ++ samples_events reading new text) =
+    same-after before waiting (samples_events reading new text) (waits reading new (reading.now new) text later when h) in
+    let there : SayTheSame (before ++ waiting) (before ++ samples_events reading (after_piece reading old piece) text) =
+    subst Q f here in
+    let whole : SayTheSame (before ++ waiting) (samples_events reading old (piece ++ text)) =
+    there ∙ ap without_waits (sym (samples-piece reading old piece text)) in
+    let told : said ++ later ≡ before ++ waiting =
+    ap (λ m. m ++ later) (g ∙ ap (λ m. m ++ At (reading.now new) ∷ []) e)
+    ∙ append_assoc before (At (reading.now new) ∷ []) later in
+    subst R (sym told) whole

@@ -1,0 +1,27 @@
+use Rattle.std.proofs.Common.{◌≡◌, ◌∷◌, ◌++◌, [], subst}
+use Rattle.std.proofs.lemmas.Result.{on_ok_weaker}
+use Rattle.xb_vcd.specs.declared.event.Event.TheVariants.{At}
+use Rattle.xb_samples.specs.declared.sound.Sound.{Sound}
+use Rattle.xb_samples.specs.Pieces.{after_piece, piece_events}
+use Rattle.xb_samples.specs.Sounds.{left_after, lower_left, samples_after, sound_reading, sound_state}
+use Rattle.xb_samples.proofs.SoundLemmas.{sound_takes}
+use Rattle.xb_samples.proofs.sound.Sound.take.Goals as goal
+
+pub returns-clause-said : goal.returns-clause-said
+returns-clause-said c =
+    let old = c.args.self.now in
+    let new = c.take_bytes.new.self in
+    let own = c.own-own.result.now in
+    let before = c.args.events.now.items in
+    let mid = c.take_bytes.new.events.items in
+    let said = c.in_ok-take_bytes.ensures in
+    let P : Sound → Type 0 =
+    λ s. (mid ≡ before ++ piece_events sound_reading (sound_state s) (samples_after s.lower own))
+    × (sound_state new ≡ after_piece sound_reading (sound_state s) (samples_after s.lower own))
+    × (new.lower ≡ lower_left s.lower own) × (new.left ≡ s.left) in
+    let now : P (record old { left = left_after old.left c.args.bytes.now }) =
+    subst P c.own-own.ensures.left (said.events, said.state, said.lower, c.take_bytes.ensures.left) in
+    on_ok_weaker c.say.result
+    (λ (told : c.say.new.events.items ≡ mid ++ At new.count ∷ []).
+    sound_takes old new c.args.bytes.now own before mid c.say.new.events.items c.own-own.ensures.own now.0 now.1 now.2 now.3 told)
+    c.say.ensures.said

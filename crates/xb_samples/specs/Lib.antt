@@ -1,0 +1,5 @@
+pub mod Hysteresis
+pub mod Pieces
+pub mod Samples
+pub mod Sounds
+pub mod Wavs

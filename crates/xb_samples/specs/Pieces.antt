@@ -1,0 +1,53 @@
+-- What samples say, in pieces as they come.
+use Rattle.std.specs.Prelude.{◌≡◌, ◌≢◌, ℕ, ◌+◌, ◌^◌, ◌≤◌, List, [], ◌∷◌, ◌++◌, Bool, true, false, if◌then◌else◌}
+use Rattle.xb_vcd.specs.declared.event.Event.{Event}
+use Rattle.xb_vcd.specs.declared.event.Event.TheVariants.{At, High, Low, Ticks}
+use Rattle.xb_vcd.specs.declared.event.Refusal.{Refusal}
+use Rattle.xb_vcd.specs.declared.event.Refusal.TheVariants.{NoMemory}
+
+-- how samples are read: what each says, what is known after it, and how many ticks have gone by
+pub record Reading (S A : Type 0) : Type 0 where
+  pub says : S → A → List Event
+  pub next : S → A → S
+  pub now : S → ℕ
+
+-- what samples say, one after the other, and what is known after them
+abbrev pub piece_events : {S A : Type 0} → Reading S A → S → List A → List Event
+piece_events {S} {A} reading state [] = []
+piece_events {S} {A} reading state (sample ∷ rest) =
+    reading.says state sample ++ piece_events reading (reading.next state sample) rest
+
+abbrev pub after_piece : {S A : Type 0} → Reading S A → S → List A → S
+after_piece {S} {A} reading state [] = state
+after_piece {S} {A} reading state (sample ∷ rest) = after_piece reading (reading.next state sample) rest
+
+-- all samples, up to where they go
+abbrev pub samples_events : {S A : Type 0} → Reading S A → S → List A → List Event
+samples_events {S} {A} reading state samples =
+    piece_events reading state samples ++ At (reading.now (after_piece reading state samples)) ∷ []
+
+-- that the levels hold up to a tick says nothing where they hold up to a later one: a reader says it where a piece ends
+abbrev pub begins_later : List Event → Bool
+begins_later [] = false
+begins_later (At tick ∷ rest) = true
+begins_later (High wire ∷ rest) = false
+begins_later (Low wire ∷ rest) = false
+begins_later (Ticks scale ∷ rest) = false
+
+abbrev pub without_waits : List Event → List Event
+without_waits [] = []
+without_waits (At tick ∷ rest) = if begins_later rest then without_waits rest else At tick ∷ without_waits rest
+without_waits (High wire ∷ rest) = High wire ∷ without_waits rest
+without_waits (Low wire ∷ rest) = Low wire ∷ without_waits rest
+without_waits (Ticks scale ∷ rest) = Ticks scale ∷ without_waits rest
+
+abbrev pub SayTheSame : List Event → List Event → Type 0
+SayTheSame events others = without_waits events ≡ without_waits others
+
+-- further samples say these events
+abbrev pub SamplesSay : {S A : Type 0} → Reading S A → S → List A → List Event → Type 0
+SamplesSay {S} {A} reading state samples events = SayTheSame events (samples_events reading state samples)
+
+-- it was refused: unless memory ran out, so many ticks more cannot be counted below 2^64
+abbrev pub RunsOver : ℕ → ℕ → Refusal → Type 0
+RunsOver count more refusal = refusal ≢ NoMemory → 2 ^ 64 ≤ count + more

@@ -1,0 +1,69 @@
+-- Raw samples, a byte for eight wires.
+use Rattle.std.specs.Prelude.{◌≡◌, ℕ, ◌+◌, ◌^◌, List, [], ◌∷◌, ◌++◌, Bool, false, Option, Some, None, bit_and, nat_eq, nat_lt, not, ◌==◌, if◌then◌else◌, option_map}
+use Rattle.std.specs.Option.{option_and_then}
+use Rattle.xb_vcd.specs.declared.event.Event.{Event}
+use Rattle.xb_vcd.specs.declared.event.Event.TheVariants.{At, Ticks}
+use Rattle.xb_vcd.specs.Numbers.{number_of}
+use Rattle.xb_vcd.specs.VcdChanges.{level_event}
+use Rattle.xb_vcd.specs.VcdTexts.{scale_by}
+use Rattle.xb_samples.specs.declared.bits.Bits.{Bits}
+use Rattle.xb_samples.specs.Pieces.{Reading, samples_events}
+
+-- a wire is a bit of a sample, 0 to 7
+abbrev pub mask_of : List ℕ → Option ℕ
+mask_of name = option_and_then (λ bit. if nat_lt bit 8 then Some (2 ^ bit) else None) (number_of name)
+
+abbrev pub masks_of : List (List ℕ) → Option (List ℕ)
+masks_of [] = Some []
+masks_of (name ∷ names) = option_and_then (λ mask. option_map (λ rest. mask ∷ rest) (masks_of names)) (mask_of name)
+
+abbrev pub is_set : ℕ → ℕ → Bool
+is_set sample mask = not (bit_and sample mask == 0)
+
+-- the levels of the wires in a sample
+abbrev pub sample_levels : ℕ → List ℕ → ℕ → List Event
+sample_levels wire [] sample = []
+sample_levels wire (mask ∷ masks) sample = level_event wire (is_set sample mask) ∷ sample_levels (wire + 1) masks sample
+
+-- the wires, the last sample, and how many have come
+pub record BitsState : Type 0 where
+  pub masks : List ℕ
+  pub last : Option ℕ
+  pub count : ℕ
+
+abbrev pub bits_of : List ℕ → Option ℕ → ℕ → BitsState
+bits_of masks last count = record { masks = masks; last = last; count = count }
+
+abbrev pub bits_state : Bits → BitsState
+bits_state bits = bits_of bits.masks.items bits.last bits.count
+
+-- nothing was taken of the wires of these names
+abbrev pub IsNewBits : List (List ℕ) → Bits → Type 0
+IsNewBits names bits = option_map (λ masks. bits_of masks None 0) (masks_of names) ≡ Some (bits_state bits)
+
+abbrev pub is_same : Option ℕ → ℕ → Bool
+is_same None sample = false
+is_same (Some last) sample = nat_eq last sample
+
+-- each sample is a tick: one that differs from that before says its levels
+abbrev pub sample_events : BitsState → ℕ → List Event
+sample_events state sample =
+    if is_same state.last sample then [] else At state.count ∷ sample_levels 0 state.masks sample
+
+abbrev pub after_sample : BitsState → ℕ → BitsState
+after_sample state sample = bits_of state.masks (Some sample) (state.count + 1)
+
+abbrev pub bits_reading : Reading BitsState ℕ
+bits_reading = record { says = sample_events; next = after_sample; now = λ state. state.count }
+
+-- how long a tick is where a second has so many samples
+abbrev pub rate_says : Option ℕ → Option (List Event)
+rate_says None = None
+rate_says (Some rate) = if rate == 0 then None else Some (Ticks (scale_by 1000 rate) ∷ [])
+
+-- all samples
+abbrev pub bits_say : List (List ℕ) → Option ℕ → List ℕ → Option (List Event)
+bits_say names rate samples =
+    option_and_then
+    (λ masks. option_map (λ said. said ++ samples_events bits_reading (bits_of masks None 0) samples) (rate_says rate))
+    (masks_of names)

@@ -1,0 +1,145 @@
+-- What sound says: samples of 16 bits, each channel's in turn.
+use Rattle.std.specs.Prelude.{◌≡◌, ℕ, ◌+◌, ◌-◌, ◌*◌, ℤ, pos, neg_ℤ, int_le, max, min, List, [], ◌∷◌, ◌++◌, Bool, true, false, Option, Some, None, length, map, nat_le, nat_lt, take, ◌==◌, ◌&&◌, if◌then◌else◌, option_map}
+use Rattle.std.specs.Int.{cast_signed, from_le_bytes, w16}
+use Rattle.std.specs.Option.{option_and_then}
+use Rattle.xb_vcd.specs.declared.event.Event.{Event}
+use Rattle.xb_vcd.specs.declared.event.Event.TheVariants.{At}
+use Rattle.xb_vcd.specs.Numbers.{number_of}
+use Rattle.xb_vcd.specs.VcdChanges.{level_event}
+use Rattle.xb_samples.specs.declared.sound.Channel.{Channel}
+use Rattle.xb_samples.specs.declared.sound.Sound.{Sound}
+use Rattle.xb_samples.specs.declared.sound.Threshold.{Threshold}
+use Rattle.xb_samples.specs.Pieces.{Reading, SamplesSay, samples_events}
+use Rattle.xb_samples.specs.Samples.{rate_says}
+
+-- a sample: the lower byte first, and below 0 from 32,768 on
+abbrev pub sample_of : ℕ → ℕ → ℤ
+sample_of lower upper = cast_signed w16 (from_le_bytes w16 (lower ∷ upper ∷ []))
+
+-- the samples of bytes, of whose first one the lower byte may have come; a last byte by itself is none
+abbrev pub samples_after : Option ℕ → List ℕ → List ℤ
+samples_after lower [] = []
+samples_after None (byte ∷ rest) = samples_after (Some byte) rest
+samples_after (Some lower) (byte ∷ rest) = sample_of lower byte ∷ samples_after None rest
+
+abbrev pub samples_of : List ℕ → List ℤ
+samples_of bytes = samples_after None bytes
+
+-- the lower byte of a sample whose upper one has not come
+abbrev pub lower_left : Option ℕ → List ℕ → Option ℕ
+lower_left lower [] = lower
+lower_left None (byte ∷ rest) = lower_left (Some byte) rest
+lower_left (Some lower) (byte ∷ rest) = lower_left None rest
+
+-- bytes up to a length, where that is known, and how many are wanted then
+abbrev pub own_bytes : Option ℕ → List ℕ → List ℕ
+own_bytes None bytes = bytes
+own_bytes (Some left) bytes = take left bytes
+
+abbrev pub left_after : Option ℕ → List ℕ → Option ℕ
+left_after left bytes = option_map (λ n. n - length bytes) left
+
+-- the least sample that is high: so many hundredths of the greatest one
+abbrev pub high_of : Threshold → ℤ
+high_of threshold = pos (max 1 (min threshold.percent 99) * 327)
+
+-- a channel is high from a threshold on, low from its opposite on, and between them as before
+abbrev pub level_by : ℤ → Bool → ℤ → Bool
+level_by high was sample = if int_le high sample then true else (if int_le sample (neg_ℤ high) then false else was)
+
+-- a wire after a sample of a channel
+abbrev pub wire_after : ℕ → ℤ → ℤ → Channel → Channel
+wire_after channel high sample wire =
+    if wire.number == channel then record wire { is_high = level_by high wire.is_high sample } else wire
+
+-- a change is said, with the tick up to which the old level held
+abbrev pub change_said : ℕ → ℕ → Bool → Bool → List Event
+change_said tick wire false false = []
+change_said tick wire true true = []
+change_said tick wire was is_high = At tick ∷ level_event wire is_high ∷ []
+
+-- the changes of the wires from this one on
+abbrev pub changes_said : ℕ → ℤ → ℕ → ℤ → ℕ → List Channel → List Event
+changes_said channel high tick sample wire [] = []
+changes_said channel high tick sample wire (own ∷ rest) =
+    change_said tick wire own.is_high (wire_after channel high sample own).is_high
+    ++ changes_said channel high tick sample (wire + 1) rest
+
+-- the wires with their levels, how many channels there are, the least sample that is high, whose turn it is, and how
+-- many ticks have gone by
+pub record SoundState : Type 0 where
+  pub wires : List Channel
+  pub channels : ℕ
+  pub high : ℤ
+  pub channel : ℕ
+  pub count : ℕ
+
+abbrev pub sound_state : Sound → SoundState
+sound_state sound = record {
+  wires = sound.wires.items;
+  channels = sound.channels;
+  high = high_of sound.threshold;
+  channel = sound.channel;
+  count = sound.count;
+}
+
+-- the first channel's turn, before any tick
+abbrev pub begun_sound : ℕ → ℤ → List Channel → SoundState
+begun_sound channels high wires =
+    record { wires = wires; channels = channels; high = high; channel = 1; count = 0 }
+
+-- the samples of all channels are a tick
+abbrev pub turned : SoundState → SoundState
+turned state =
+    if nat_lt state.channel state.channels then record state { channel = state.channel + 1 }
+    else record state { channel = 1; count = state.count + 1 }
+
+abbrev pub sound_reading : Reading SoundState ℤ
+sound_reading = record {
+  says = λ state sample. changes_said state.channel state.high state.count sample 0 state.wires;
+  next = λ state sample. turned (record state { wires = map (wire_after state.channel state.high sample) state.wires });
+  now = λ state. state.count;
+}
+
+-- further bytes of a sound say these events
+abbrev pub samples_left : Sound → List ℕ → List ℤ
+samples_left sound bytes = samples_after sound.lower (own_bytes sound.left bytes)
+
+abbrev pub SoundSays : Sound → List ℕ → List Event → Type 0
+SoundSays sound bytes events = SamplesSay sound_reading (sound_state sound) (samples_left sound bytes) events
+
+-- a wire is a channel, by its number from 1 on, and low at the beginning
+abbrev pub channel_of : ℕ → List ℕ → Option ℕ
+channel_of channels name =
+    option_and_then (λ n. if nat_le 1 n && nat_le n channels then Some n else None) (number_of name)
+
+abbrev pub low_wire : ℕ → Channel
+low_wire number = record { number = number; is_high = false }
+
+abbrev pub wires_of : ℕ → List (List ℕ) → Option (List Channel)
+wires_of channels [] = Some []
+wires_of channels (name ∷ names) =
+    option_and_then (λ number. option_map (λ rest. low_wire number ∷ rest) (wires_of channels names))
+    (channel_of channels name)
+
+-- nothing was taken of a sound of so many channels and bytes, where these are known
+abbrev pub IsNewSound : ℕ → ℤ → List (List ℕ) → Option ℕ → Sound → Type 0
+IsNewSound channels high names length sound =
+    (option_map (begun_sound channels high) (wires_of channels names) ≡ Some (sound_state sound))
+    × (sound.lower ≡ None) × (sound.left ≡ length)
+
+abbrev pub levels_said : ℕ → List Channel → List Event
+levels_said wire [] = []
+levels_said wire (own ∷ rest) = level_event wire own.is_high ∷ levels_said (wire + 1) rest
+
+-- what is said before the first sample: how long a tick is, and the levels of the wires
+abbrev pub sound_begins : Option ℕ → List Channel → Option (List Event)
+sound_begins rate wires = option_map (λ said. said ++ At 0 ∷ levels_said 0 wires) (rate_says rate)
+
+-- all samples of so many channels
+abbrev pub sound_says : ℕ → ℤ → List (List ℕ) → Option ℕ → List ℤ → Option (List Event)
+sound_says channels high names rate samples =
+    option_and_then
+    (λ wires. option_map (λ said. said ++ samples_events sound_reading (begun_sound channels high wires) samples)
+    (sound_begins rate wires))
+    (wires_of channels names)

@@ -1,0 +1,332 @@
+// Sound of 16 bits a sample: a contact on a sound card.
+ghost use Rattle.std.specs.Prelude.{◌≡◌, ◌<ℤ◌, ◌≤◌, ◌+◌, ◌++◌, ◌∷◌, ◌↔◌, [], ℕ, ℤ, IfErr, IfOk, IfSome, IsSome, List, Some, OnOk, length, map, pos};
+ghost use Rattle.std.specs.Option.{option_and_then};
+ghost use Rattle.xb_vcd.specs.Steps.{AddsAll, SaysNothing};
+ghost use Rattle.xb_vcd.specs.declared.event.Event.{Event as Saying};
+ghost use Rattle.xb_samples.specs.Hysteresis.{IsHeard};
+ghost use Rattle.xb_samples.specs.Pieces.{RunsOver, after_piece, piece_events};
+ghost use Rattle.xb_samples.specs.Sounds.{IsNewSound, SoundSays, change_said, changes_said, channel_of, high_of, left_after, levels_said, lower_left, own_bytes, samples_after, sound_begins, sound_reading, sound_says, sound_state, turned, wire_after, wires_of};
+
+use crate::bits::say_rate;
+use std::alloc::{AllocError, Global};
+use xb_vcd::{Event, Refusal, number_of, say, say_level};
+
+/// The most channels of a sound.
+pub const MOST_CHANNELS: u8 = 8;
+
+/// How far from 0 a sample has to be, in parts of a hundred of the greatest one.
+#[derive(Clone, Copy, Debug, PartialEq, Eq)]
+pub struct Threshold {
+    percent: u8,
+}
+
+impl Threshold {
+    /// So many parts of a hundred, 1 to 99; `None` for any other number.
+    pub fn new(percent: u32) -> Option<Threshold>
+        ensures valid { IsSome result ↔ ((1 ≤ percent) × (percent ≤ 99)) }
+        ensures value { IfSome result (λ threshold. threshold.percent ≡ percent) }
+    {
+        match percent {
+            1..=99 => Some(Threshold {
+                percent: percent as u8,
+            }),
+            _ => None,
+        }
+    }
+}
+
+// The least sample that is high.
+fn high_of(threshold: Threshold) -> i16
+    ensures high { result ≡ high_of threshold }
+    ensures some { pos 0 <ℤ result }
+{
+    let percent = threshold.percent.clamp(1, 99);
+    i16::from(percent) * 327
+}
+
+/// The level of a sample after another one: high from `high` on, low up to `low`, and between them as before.
+pub fn heard_level(low: i16, high: i16, was_high: bool, sample: i16) -> bool
+    requires { low <ℤ high }
+    ensures { IsHeard low high was_high sample result }
+{
+    if was_high {
+        sample > low
+    } else {
+        sample >= high
+    }
+}
+
+// A wire that is a channel of the sound.
+#[derive(Clone, Copy)]
+struct Channel {
+    number: u8,
+    is_high: bool,
+}
+
+// The channel that a wire is, by its number.
+fn channel_of(name: &str, channels: u8) -> Option<u8>
+    ensures { result ≡ channel_of channels name.now }
+{
+    match number_of(name.as_bytes()) {
+        Some(number) if number >= 1 && number <= u64::from(channels) => Some(number as u8),
+        _ => None,
+    }
+}
+
+// The wires of these names, all low.
+fn wires_of(alloc: Global, names: &[&str], channels: u8) -> Result<Vec<Channel>, Refusal>
+    ensures said { IfOk result (λ wires.
+        wires_of channels (map (λ name. name.now) names.now) ≡ Some wires.items) }
+    ensures refused { IfErr result (SaysNothing (wires_of channels (map (λ name. name.now) names.now))) }
+{
+    let mut wires = Vec::new(alloc);
+    for name in names {
+        match channel_of(name, channels) {
+            Some(number) => {
+                let is_high = false;
+                wires
+                    .push(Channel { number, is_high })
+                    .map_err(AllocError::from)?
+            }
+            None => return Err(Refusal::NoWire),
+        }
+    }
+    Ok(wires)
+}
+
+// Says the levels of wires.
+fn say_levels(wires: &[Channel], events: &mut Vec<Event>) -> Result<(), Refusal>
+    ensures said { OnOk result (events.new.items ≡ events.old.items ++ levels_said 0 wires.now) }
+    ensures only { IfErr result (λ e. e ≡ Refusal.NoMemory) }
+{
+    for (i, wire) in wires.iter().enumerate() {
+        say_level(events, i, wire.is_high)?;
+    }
+    Ok(())
+}
+
+// A wire after a sample of a channel.
+fn wire_after(channel: u8, high: i16, sample: i16, wire: Channel) -> Channel
+    requires { pos 0 <ℤ high }
+    ensures { result ≡ wire_after channel high sample wire }
+{
+    let Channel { number, is_high } = wire;
+    if number != channel {
+        return wire;
+    }
+    Channel {
+        number,
+        is_high: heard_level(-high, high, is_high, sample),
+    }
+}
+
+// Says the level of a wire, if it is another one.
+fn say_change(
+    tick: u64,
+    wire: usize,
+    was_high: bool,
+    is_high: bool,
+    events: &mut Vec<Event>,
+) -> Result<(), Refusal>
+    ensures said { OnOk result
+        (events.new.items ≡ events.old.items ++ change_said tick wire was_high is_high) }
+    ensures only { IfErr result (λ e. e ≡ Refusal.NoMemory) }
+{
+    if was_high == is_high {
+        return Ok(());
+    }
+    say(events, Event::At(tick))?;
+    say_level(events, wire, is_high)
+}
+
+// All wires hear a sample of a channel.
+fn hear_sample(
+    wires: &mut [Channel],
+    channel: u8,
+    high: i16,
+    tick: u64,
+    sample: i16,
+    events: &mut Vec<Event>,
+) -> Result<(), Refusal>
+    requires { pos 0 <ℤ high }
+    ensures events { OnOk result
+        (events.new.items ≡ events.old.items ++ changes_said channel high tick sample 0 wires.old) }
+    ensures wires { OnOk result (wires.new ≡ map (wire_after channel high sample) wires.old) }
+    ensures only { IfErr result (λ e. e ≡ Refusal.NoMemory) }
+{
+    for (i, wire) in wires.iter_mut().enumerate() {
+        let after = wire_after(channel, high, sample, *wire);
+        say_change(tick, i, wire.is_high, after.is_high, events)?;
+        *wire = after;
+    }
+    Ok(())
+}
+
+/// The reader of samples, the lower byte first, each channel's in turn. The samples of all channels are a tick.
+/// A channel is high from a threshold on, low from its opposite on, and between them as before; it begins low.
+#[derive(Drop)]
+pub struct Sound {
+    wires: Vec<Channel>,
+    channels: u8,
+    threshold: Threshold,
+    // The channel of the next sample, from 1 on, and its lower byte, if that has come.
+    channel: u8,
+    lower: Option<u8>,
+    count: u64,
+    // How many bytes are left, where that is known.
+    left: Option<u64>,
+}
+
+impl Sound {
+    /// A reader of the wires of these names, which are their channels' numbers, 1 and so on. The sound has so many
+    /// bytes, where that is known. Without a rate, or with another name, it is refused, and so is any such sound.
+    pub fn new(
+        alloc: Global,
+        names: &[&str],
+        channels: u8,
+        rate: Option<u64>,
+        threshold: Threshold,
+        length: Option<u64>,
+        events: &mut Vec<Event>,
+    ) -> Result<Sound, Refusal>
+        ensures begun { IfOk result
+            (IsNewSound channels (high_of threshold) (map (λ name. name.now) names.now) length) }
+        ensures said { OnOk result (AddsAll (option_and_then (sound_begins rate)
+            (wires_of channels (map (λ name. name.now) names.now))) events.old.items events.new.items) }
+        ensures refused { IfErr result (λ e. (samples : List ℤ) → SaysNothing
+            (sound_says channels (high_of threshold) (map (λ name. name.now) names.now) rate samples) e) }
+    {
+        let wires = wires_of(alloc, names, channels)?;
+        say_rate(events, rate)?;
+        say(events, Event::At(0))?;
+        say_levels(&wires, events)?;
+        Ok(Sound {
+            wires,
+            channels,
+            threshold,
+            channel: 1,
+            lower: None,
+            count: 0,
+            left: length,
+        })
+    }
+
+    // Those of further bytes that are its own.
+    fn own<'b>(&mut self, bytes: &'b [u8]) -> &'b [u8]
+        ensures own { result.now ≡ own_bytes self.old.left bytes.now }
+        ensures left { self.new ≡ record self.old { left = left_after self.old.left bytes.now } }
+    {
+        let Some(left) = self.left else {
+            return bytes;
+        };
+        self.left = Some(left.saturating_sub(bytes.len() as u64));
+        if left < bytes.len() as u64 {
+            &bytes[..left as usize]
+        } else {
+            bytes
+        }
+    }
+
+    // The next channel's turn; after the last one a tick has gone by.
+    fn turn(&mut self) -> Result<(), Refusal>
+        ensures state { OnOk result (sound_state self.new ≡ turned (sound_state self.old)) }
+        ensures lower { self.new.lower ≡ self.old.lower }
+        ensures left { self.new.left ≡ self.old.left }
+        ensures count { OnOk result (self.new.count ≤ self.old.count + 1) }
+        ensures over { IfErr result (RunsOver self.old.count 1) }
+    {
+        if self.channel < self.channels {
+            self.channel += 1;
+            return Ok(());
+        }
+        self.channel = 1;
+        match self.count.checked_add(1) {
+            Some(count) => self.count = count,
+            None => return Err(Refusal::TooLate),
+        }
+        Ok(())
+    }
+
+    // A sample of the channel whose turn it is.
+    fn take_sample(&mut self, sample: i16, events: &mut Vec<Event>) -> Result<(), Refusal>
+        ensures events { OnOk result (events.new.items ≡ events.old.items
+            ++ sound_reading.says (sound_state self.old) sample) }
+        ensures state { OnOk result
+            (sound_state self.new ≡ sound_reading.next (sound_state self.old) sample) }
+        ensures lower { self.new.lower ≡ self.old.lower }
+        ensures left { self.new.left ≡ self.old.left }
+        ensures count { OnOk result (self.new.count ≤ self.old.count + 1) }
+        ensures over { IfErr result (RunsOver self.old.count 1) }
+    {
+        let (channel, count) = (self.channel, self.count);
+        let high = high_of(self.threshold);
+        hear_sample(&mut self.wires, channel, high, count, sample, events)?;
+        self.turn()
+    }
+
+    // A byte.
+    fn take_byte(&mut self, byte: u8, events: &mut Vec<Event>) -> Result<(), Refusal>
+        ensures events { OnOk result (events.new.items ≡ events.old.items
+            ++ piece_events sound_reading (sound_state self.old) (samples_after self.old.lower (byte ∷ []))) }
+        ensures state { OnOk result (sound_state self.new
+            ≡ after_piece sound_reading (sound_state self.old) (samples_after self.old.lower (byte ∷ []))) }
+        ensures lower { OnOk result (self.new.lower ≡ lower_left self.old.lower (byte ∷ [])) }
+        ensures left { self.new.left ≡ self.old.left }
+        ensures count { OnOk result (self.new.count ≤ self.old.count + 1) }
+        ensures over { IfErr result (RunsOver self.old.count 1) }
+    {
+        match self.lower {
+            None => {
+                self.lower = Some(byte);
+                Ok(())
+            }
+            Some(lower) => {
+                self.lower = None;
+                self.take_sample(i16::from_le_bytes([lower, byte]), events)
+            }
+        }
+    }
+
+    // Bytes, one after the other.
+    fn take_bytes(&mut self, bytes: &[u8], events: &mut Vec<Event>) -> Result<(), Refusal>
+        ensures events { OnOk result (events.new.items ≡ events.old.items
+            ++ piece_events sound_reading (sound_state self.old) (samples_after self.old.lower bytes.now)) }
+        ensures state { OnOk result (sound_state self.new
+            ≡ after_piece sound_reading (sound_state self.old) (samples_after self.old.lower bytes.now)) }
+        ensures lower { OnOk result (self.new.lower ≡ lower_left self.old.lower bytes.now) }
+        ensures left { self.new.left ≡ self.old.left }
+        ensures over { IfErr result (RunsOver self.old.count (length bytes.now)) }
+    {
+        for byte in bytes {
+            self.take_byte(*byte, events)?;
+        }
+        Ok(())
+    }
+
+    /// Takes bytes of samples, and adds what they say to `events`, also up to where they go. More than 2^64 - 1 ticks
+    /// are refused. After an `Err` the reader is not to be used again.
+    pub fn take(&mut self, bytes: &[u8], events: &mut Vec<Event>) -> Result<(), Refusal>
+        ensures said { OnOk result ((said : List Saying) × (events.new.items ≡ events.old.items ++ said)
+            × ((text : List ℕ) (later : List Saying) → SoundSays self.new text later
+            → SoundSays self.old (bytes.now ++ text) (said ++ later))) }
+        ensures over { IfErr result (RunsOver (sound_state self.old).count (length bytes.now)) }
+    {
+        let own = self.own(bytes);
+        self.take_bytes(own, events)?;
+        say(events, Event::At(self.count))
+    }
+
+    /// The end: the wires hold their levels up to where the samples go.
+    pub fn end(&self, events: &mut Vec<Event>) -> Result<(), Refusal>
+        requires { events.old.items ≡ [] }
+        ensures said { OnOk result (SoundSays self.now [] events.new.items) }
+        ensures only { IfErr result (λ e. e ≡ Refusal.NoMemory) }
+    {
+        say(events, Event::At(self.count))
+    }
+
+    /// How many ticks have gone by.
+    pub fn count(&self) -> u64 {
+        self.count
+    }
+}
