@@ -1,6 +1,6 @@
 -- What was put down of a recording, and written.
-use Rattle.std.proofs.Common.{◌≡◌, ℕ, List, [], ◌∷◌, ◌++◌, Bool, Option, refl, ap, sym, subst, ◌∙◌, append_assoc, append-nil, string_bytes}
-use Rattle.std.specs.Prelude.{IfSome, codes}
+use Rattle.std.proofs.Common.{◌≡◌, ℕ, List, [], ◌∷◌, ◌++◌, Bool, Option, Some, None, true, refl, ap, sym, subst, ◌∙◌, append_assoc, append-nil, string_bytes}
+use Rattle.std.specs.Prelude.{IfNone, IfSome, codes}
 use Rattle.std.specs.List.{flat_map}
 use Rattle.std.specs.Io.KnownBytes.{Appends, Consumes, IsAtEnd}
 use Rattle.std.proofs.KnownBytes.{Appends-nil, Appends-trans, Consumes-nil, Consumes-trans, Consumes-whole}
@@ -9,6 +9,7 @@ use Rattle.xb_rows.specs.WrittenRows.{record_text}
 use Rattle.xb_vcd.specs.declared.event.Event.{Event}
 use Rattle.xb_recording.specs.declared.format.Format.{Format}
 use Rattle.xb_recording.specs.declared.reader.Reader.{Reader}
+use Rattle.xb_recording.specs.Beginnings.{form_told}
 use Rattle.xb_recording.specs.Says.{Begins, RestSays, Takes}
 use Rattle.xb_loop.specs.declared.feed.Intake.{Intake}
 use Rattle.xb_loop.specs.declared.request.Request.{Request}
@@ -143,15 +144,31 @@ ends intake after events said told rows written out got says down left same wrot
   };
 }
 
+-- what the beginning of known bytes tells, they tell
+pub form_is_told :
+    (input left : Option (List ℕ)) (bytes : List ℕ) (is_end : Bool) (format : Format) → Consumes input left bytes
+    → (is_end ≡ true → IsAtEnd left)
+    → ((later : List ℕ) → (is_end ≡ true → later ≡ []) → form_told (bytes ++ later) ≡ Some format)
+    → IfSome input (λ text. form_told text ≡ Some format)
+form_is_told None left bytes is_end format read end told = tt
+form_is_told (Some text) None bytes is_end format read end told = elim read [ ]
+form_is_told (Some text) (Some later) bytes is_end format read end told = ap form_told read ∙ told later end
+
+both-known :
+    (input : Option (List ℕ)) (P Q : List ℕ → Type 0) → IfSome input P → IfSome input (λ text. P text → Q text)
+    → IfSome input Q
+both-known None P Q p f = tt
+both-known (Some text) P Q p f = f p
+
 -- the whole of a recording: what was read of it to tell its form, all later bytes, and its end
 pub listened :
     (request : Request) (format : Format) (a b c : Intake) (before beginning piece told : List ℕ)
     (input i left out headed begun fed ended : Option (List ℕ)) (named : IfSome request.format (λ named. format ≡ named))
-    → Consumes input i beginning → Starts format request a → Appends out headed (before ++ codes "line,state,ms\n")
+    → IfSome input (λ text. IfNone request.format (form_told text ≡ Some format)) → Consumes input i beginning → Starts format request a → Appends out headed (before ++ codes "line,state,ms\n")
     → Writes a piece b headed begun → piece ≡ beginning → Feeds b c i left begun fed → IsAtEnd left
     → Ends c request.said told fed ended
     → IfSome input (λ text. (rows : List ℕ) × Listens request text rows told × Appends out ended (before ++ rows))
-listened request format a b c before beginning piece told input i left out headed begun fed ended named read starts header written same feeds end ends =
+listened request format a b c before beginning piece told input i left out headed begun fed ended named told_it read starts header written same feeds end ends =
     let B : List ℕ → Type 0 = λ taken. Writes a taken b headed begun in
     let wrote : Writes a beginning b headed begun = subst B same written in
     let all : List ℕ = wrote.written ++ (feeds.written ++ ends.written) in
@@ -162,9 +179,12 @@ listened request format a b c before beginning piece told input i left out heade
     let P : List ℕ → Type 0 = λ t. Delivers a (beginning ++ t) all ends.last in
     let said = starts text all ends.last (subst P (append-nil feeds.bytes) whole) in
     let rows : List ℕ = codes "line,state,ms\n" ++ all in
-    let listens : Listens request text rows told = record {
+    let Form : List ℕ → Type 0 = λ t. IfNone request.format (form_told t ≡ Some format) in
+    let Heard : List ℕ → Type 0 = λ t. (rows : List ℕ) × Listens request t rows told × Appends out ended (before ++ rows) in
+    let listens : Form text → Listens request text rows told = λ form. record {
       format = format;
       asked = named;
+      form = form;
       events = said.0;
       said = said.1;
       printed = ap (λ r. codes "line,state,ms\n" ++ r) said.2;
@@ -175,6 +195,7 @@ listened request format a b c before beginning piece told input i left out heade
     (Appends-trans headed begun ended wrote.written (feeds.written ++ ends.written) wrote.wrote
     (Appends-trans begun fed ended feeds.written ends.written feeds.wrote ends.wrote)) in
     let W : List ℕ → Type 0 = λ w. Appends out ended w in
-    Consumes-whole input left text (λ t. (rows : List ℕ) × Listens request t rows told × Appends out ended (before ++ rows))
+    both-known input Form Heard told_it
+    (Consumes-whole input left text (λ t. Form t → Heard t)
     (Consumes-trans input i left beginning feeds.bytes read feeds.read) end
-    (rows, listens, subst W (append_assoc before (codes "line,state,ms\n") all) appended)
+    (λ form. (rows, listens form, subst W (append_assoc before (codes "line,state,ms\n") all) appended)))

@@ -1,9 +1,10 @@
 -- What is written of a recording as it comes.
-use Rattle.std.specs.Prelude.{◌≡◌, ℕ, List, [], ◌++◌, Bool, Option, IfSome, string_bytes}
+use Rattle.std.specs.Prelude.{◌≡◌, ℕ, List, [], ◌++◌, Bool, Option, Some, IfNone, IfSome, string_bytes}
 use Rattle.std.specs.Io.KnownBytes.{Appends, Consumes}
 use Rattle.xb_rows.specs.WrittenRows.{text_of_rows}
 use Rattle.xb_vcd.specs.declared.event.Event.{Event}
 use Rattle.xb_recording.specs.declared.format.Format.{Format}
+use Rattle.xb_recording.specs.Beginnings.{form_told}
 use Rattle.xb_recording.specs.Says.{RestSays, Says}
 use Rattle.xb_loop.specs.declared.feed.Intake.{Intake}
 use Rattle.xb_loop.specs.declared.request.Request.{Request}
@@ -54,11 +55,12 @@ pub record Feeds (old new : Intake) (input left output after : Option (List ℕ)
   pub wrote : Appends output after written
   pub goes_on : GoesOn old bytes new written
 
--- the rows of a recording: of the form that is asked for, or else of one, exactly those of what the recording
--- says of the wires that are asked for; and what is told of the bounces
+-- the rows of a recording: of the form that is asked for, or else of that which it tells, exactly those of what the
+-- recording says of the wires that are asked for; and what is told of the bounces
 pub record Listens (request : Request) (text rows told : List ℕ) : Type 0 where
   pub format : Format
   pub asked : IfSome request.format (λ asked. format ≡ asked)
+  pub form : IfNone request.format (form_told text ≡ Some format)
   pub events : List Event
   pub said : Says format request.wanted text events
   pub printed : rows ≡ text_of_rows (rows_of_events (begun_watch request.manner request.lines.items) events)

@@ -1,7 +1,8 @@
 // From a recording to rows, as it comes.
-ghost use Rattle.std.specs.Prelude.{◌≡◌, ◌<◌, ◌≤◌, ◌++◌, ◌∷◌, [], ℕ, Ok, IfOk, IfSome, List, OnOk, false, length, string_bytes, take, true};
+ghost use Rattle.std.specs.Prelude.{◌≡◌, ◌<◌, ◌≤◌, ◌++◌, ◌∷◌, [], ℕ, Ok, Some, IfNone, IfOk, IfSome, List, OnOk, false, length, string_bytes, take, true};
 ghost use Rattle.std.specs.Io.KnownBytes.{Appends, Consumes, IsAtEnd};
 ghost use Rattle.xb_vcd.specs.declared.event.Event.{Event as Saying};
+ghost use Rattle.xb_recording.specs.Beginnings.{form_told};
 ghost use Rattle.xb_recording.specs.Says.{Begins, RestSays, is_text};
 ghost use Rattle.xb_loop.specs.Feeding.{Ends, Feeds, GoesOn, ListensTo, PutsDown, Starts, Writes};
 ghost use Rattle.xb_loop.specs.Told.{bounces_told};
@@ -220,9 +221,12 @@ fn read_once<R: Read>(input: &mut R, buffer: &mut [u8]) -> Result<usize, LoopFau
     }
 }
 
-// The beginning of a recording, as far as it tells its form.
-fn beginning_of<R: Read>(alloc: Global, input: &mut R) -> Result<Vec<u8>, LoopFault>
-    ensures { IfOk result (λ bytes. Consumes (R.remaining input.old) (R.remaining input.new) bytes.items) }
+// The beginning of a recording, as far as it tells its form, and that form.
+fn told_beginning<R: Read>(alloc: Global, input: &mut R) -> Result<(Vec<u8>, Format), LoopFault>
+    ensures read { IfOk result (λ begun.
+        Consumes (R.remaining input.old) (R.remaining input.new) begun.0.items) }
+    ensures told { IfOk result (λ begun.
+        IfSome (R.remaining input.old) (λ text. form_told text ≡ Some begun.1)) }
 {
     let mut bytes = Vec::new(alloc);
     let mut buffer = [0u8; BUFFER_BYTES];
@@ -231,24 +235,30 @@ fn beginning_of<R: Read>(alloc: Global, input: &mut R) -> Result<Vec<u8>, LoopFa
         bytes
             .extend_from_slice(&buffer[..n])
             .map_err(AllocError::from)?;
-        if n == 0 || told_format(&bytes, false) != Told::More {
-            return Ok(bytes);
+        match told_format(&bytes, n == 0) {
+            Told::Form(format) => return Ok((bytes, format)),
+            Told::Nothing => return Err(LoopFault::Beginning(Refusal::Form)),
+            Told::More => {}
         }
     }
-    Ok(bytes)
+    Err(LoopFault::Beginning(Refusal::Form))
 }
 
-// The beginning, where the form has to be told by it.
-fn beginning_for<R: Read>(
+// The form of a recording, and what was read of it to tell that.
+fn beginning_of<R: Read>(
     alloc: Global,
     asked: Option<Format>,
     input: &mut R,
-) -> Result<Vec<u8>, LoopFault>
-    ensures { IfOk result (λ bytes. Consumes (R.remaining input.old) (R.remaining input.new) bytes.items) }
+) -> Result<(Vec<u8>, Format), LoopFault>
+    ensures read { IfOk result (λ begun.
+        Consumes (R.remaining input.old) (R.remaining input.new) begun.0.items) }
+    ensures asked { IfOk result (λ begun. IfSome asked (λ named. begun.1 ≡ named)) }
+    ensures told { IfOk result (λ begun.
+        IfSome (R.remaining input.old) (λ text. IfNone asked (form_told text ≡ Some begun.1))) }
 {
     match asked {
-        Some(_) => Ok(Vec::new(alloc)),
-        None => beginning_of(alloc, input),
+        Some(format) => Ok((Vec::new(alloc), format)),
+        None => told_beginning(alloc, input),
     }
 }
 
@@ -271,19 +281,6 @@ fn take_all<R: Read, W: Write>(
         feed.take_and_write(&buffer[..n], out)?;
     }
     Err(LoopFault::Read)
-}
-
-// The form that is asked for, or else the one that the beginning tells.
-fn form_of(asked: Option<Format>, beginning: &[u8]) -> Result<Format, LoopFault>
-    ensures { IfOk result (λ format. IfSome asked (λ named. format ≡ named)) }
-{
-    match asked {
-        Some(format) => Ok(format),
-        None => match told_format(beginning, true) {
-            Told::Form(format) => Ok(format),
-            Told::Nothing | Told::More => Err(LoopFault::Beginning(Refusal::Form)),
-        },
-    }
 }
 
 // A reader of a recording of this form, that has taken nothing, and what it says already.
@@ -327,8 +324,8 @@ fn begun<'a>(
 /// Writes the loop rows of a recording as it comes, after a text; memory does not grow with it. It returns the
 /// lines that tell of the bounces, if these are asked for.
 ///
-/// Where it returns `Ok`, exactly the rows of what the recording says were written, and what is told of the bounces is
-/// counted of that. After an `Err` the rows stand that were written before it. What the contract says of bytes it says
+/// Where it returns `Ok`, exactly the rows of what the recording says were written, of the form that is asked for or else
+/// of that which its beginning tells, and what is told of the bounces is counted of that. After an `Err` the rows stand that were written before it. What the contract says of bytes it says
 /// of readers whose bytes and writers whose contents are known to contracts (byte slices, lists), which those of a
 /// process are not.
 pub fn listen<R: Read, W: Write>(
@@ -341,8 +338,7 @@ pub fn listen<R: Read, W: Write>(
     ensures { IfOk result (λ told. ListensTo request.now before.now (string_bytes told)
         (R.remaining input.old) (W.contents out.old) (W.contents out.new)) }
 {
-    let beginning = beginning_for(alloc, request.format, input)?;
-    let format = form_of(request.format, &beginning)?;
+    let (beginning, format) = beginning_of(alloc, request.format, input)?;
     let mut feed = begun(alloc, request, format)?;
     write_whole(out, before)?;
     write_whole(out, b"line,state,ms\n")?;

@@ -5,7 +5,8 @@
 //!   the settled record, in ms.
 //! - `listen` (`ListensTo`): on `Ok` exactly the rows of what the recording says of the wires that are asked for, after
 //!   the text that comes before them (`Watching`: the rows of what a recording says; `Says` of `xb_recording`: what it
-//!   says), and, where it is asked for, what is told of the bounces (`Told`).
+//!   says), of the form that is asked for, or else of that which it tells (`form_told`); and, where it is asked for, what
+//!   is told of the bounces (`Told`).
 //!   `laws::the_short_runs_are_counted`: that is how many runs of a contact's record are short, and the longest.
 //! - `attend` (`AttendsLoop`): the words, the table and the recording in; on status 0 exactly the rows that they ask
 //!   for.
