@@ -94,26 +94,8 @@ fn case_of<'a>(words: &'a [&'a str], recording: &'a [u8]) -> Case<'a> {
 }
 
 #[test]
-fn gives_the_rows_of_each_text(rt: HostRuntime) -> Result<(), Fail> {
-    for (words, recording) in TEXTS {
-        let mut reader = *recording;
-        check_reader(&rt, rt.alloc(), &mut reader, &case_of(words, recording), 0)?;
-    }
-    Ok(())
-}
-
-#[test]
-fn gives_the_rows_of_samples(rt: HostRuntime) -> Result<(), Fail> {
-    for (words, recording) in SAMPLES {
-        let mut reader = *recording;
-        check_reader(&rt, rt.alloc(), &mut reader, &case_of(words, recording), 0)?;
-    }
-    Ok(())
-}
-
-#[test]
-fn takes_a_recording_in_any_pieces(rt: HostRuntime) -> Result<(), Fail> {
-    for step in [1, 3] {
+fn gives_the_rows_in_any_pieces(rt: HostRuntime) -> Result<(), Fail> {
+    for step in [1, 3, 8_192] {
         for (words, recording) in TEXTS.iter().chain(SAMPLES) {
             let mut reader = Halting::new(recording, step);
             check_reader(&rt, rt.alloc(), &mut reader, &case_of(words, recording), 0)?;

@@ -133,46 +133,18 @@ const OTHERS: &[Refused] = &[
 ];
 
 #[test]
-fn names_the_place_in_a_vcd(rt: HostRuntime) -> Result<(), Fail> {
-    for (words, recording, told) in VCDS {
-        let mut reader = *recording;
-        let case = Case {
-            words,
-            recording,
-            rows: HEADER,
-            told,
-        };
-        check_reader(&rt, rt.alloc(), &mut reader, &case, 1)?;
-    }
-    Ok(())
-}
-
-#[test]
-fn names_the_place_in_a_table(rt: HostRuntime) -> Result<(), Fail> {
-    for (words, recording, told) in TABLES {
-        let mut reader = *recording;
-        let case = Case {
-            words,
-            recording,
-            rows: HEADER,
-            told,
-        };
-        check_reader(&rt, rt.alloc(), &mut reader, &case, 1)?;
-    }
-    Ok(())
-}
-
-#[test]
-fn names_what_cannot_be_told(rt: HostRuntime) -> Result<(), Fail> {
-    for (words, recording, told) in OTHERS {
-        let mut reader = *recording;
-        let case = Case {
-            words,
-            recording,
-            rows: b"",
-            told,
-        };
-        check_reader(&rt, rt.alloc(), &mut reader, &case, 1)?;
+fn names_the_place_of_each_refusal(rt: HostRuntime) -> Result<(), Fail> {
+    for (refused, rows) in [(VCDS, HEADER), (TABLES, HEADER), (OTHERS, b"")] {
+        for (words, recording, told) in refused {
+            let mut reader = *recording;
+            let case = Case {
+                words,
+                recording,
+                rows,
+                told,
+            };
+            check_reader(&rt, rt.alloc(), &mut reader, &case, 1)?;
+        }
     }
     Ok(())
 }

@@ -29,22 +29,6 @@ const REFUSED: &[&[&str]] = &[
 ];
 
 #[test]
-fn refuses_words(rt: HostRuntime) -> Result<(), Fail> {
-    for words in REFUSED {
-        let case = Case {
-            words,
-            recording: RECORDING,
-            rows: b"",
-            told: USAGE,
-        };
-        let mut reader = RECORDING;
-        check_reader(&rt, rt.alloc(), &mut reader, &case, 2)?;
-        assert!(rt; reader == RECORDING);
-    }
-    Ok(())
-}
-
-#[test]
 fn fails_where_the_recording_fails(rt: HostRuntime) -> Result<(), Fail> {
     let words = words_of(rt.alloc(), "mfloop", &["--line", "7=1"])?;
     for place in 0..=RECORDING.len() {
@@ -76,24 +60,37 @@ fn writes_the_beginning_where_the_rows_fail(rt: HostRuntime) -> Result<(), Fail>
     Ok(())
 }
 
+// The name of a route table, the status, the deck, and what is told.
+const DECKS: [(&str, u8, &[u8], &[u8]); 3] = [
+    (
+        "good.toml",
+        0,
+        b"route = []\n---\nline,state,ms\n7,B,10\n7,M,20\n",
+        b"",
+    ),
+    (
+        "none.toml",
+        1,
+        b"",
+        b"mfloop: the route table could not be read\n",
+    ),
+    ("wrong.toml", 1, b"", b"mfloop: route table: not TOML\n"),
+];
+
 #[test]
-fn writes_a_deck(rt: HostRuntime) -> Result<(), Fail> {
-    let cases: [(&str, u8, &[u8], &[u8]); 3] = [
-        (
-            "good.toml",
-            0,
-            b"route = []\n---\nline,state,ms\n7,B,10\n7,M,20\n",
-            b"",
-        ),
-        (
-            "none.toml",
-            1,
-            b"",
-            b"mfloop: the route table could not be read\n",
-        ),
-        ("wrong.toml", 1, b"", b"mfloop: route table: not TOML\n"),
-    ];
-    for (name, status, rows, told) in cases {
+fn ends_with_each_status(rt: HostRuntime) -> Result<(), Fail> {
+    for words in REFUSED {
+        let case = Case {
+            words,
+            recording: RECORDING,
+            rows: b"",
+            told: USAGE,
+        };
+        let mut reader = RECORDING;
+        check_reader(&rt, rt.alloc(), &mut reader, &case, 2)?;
+        assert!(rt; reader == RECORDING);
+    }
+    for (name, status, rows, told) in DECKS {
         let case = Case {
             words: &["--line", "7=1", "--table", name],
             recording: RECORDING,

@@ -37,14 +37,9 @@ const VCD: &str =
 #0\n0!\n#0\n0\"\n#10000\n1!\n#15000\n1\"\n#30000\n0!\n#60000\n";
 
 #[test]
-fn writes_a_vcd(rt: HostRuntime) -> Result<(), Fail> {
+fn hears_a_vcd_that_was_written(rt: HostRuntime) -> Result<(), Fail> {
     let text = vcd_of_changes(rt.alloc(), &["LOOP", "BUSY"], CHANGES, 60_000)?;
     assert_eq!(rt; text.as_str(), VCD);
-    Ok(())
-}
-
-#[test]
-fn hears_a_vcd_that_was_written(rt: HostRuntime) -> Result<(), Fail> {
     let mut reader = VCD.as_bytes();
     let case = Case {
         words: &["--line", "7=LOOP"],
