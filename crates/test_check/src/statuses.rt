@@ -82,12 +82,14 @@ deck:7:1: no make of this line is heard, so no number is dialled on it: 10,C,0
 ";
 
 // Decks that `mfbank` takes, of ten breaks and of nine: in seconds, and in microseconds.
-const SECONDS: &[u8] = b"---\nline,state,ms\n7,M,1\n7,B,0\n7,B,0\n7,B,0\n7,B,0\n7,B,0\n7,B,0\n7,B,0\n7,B,0\n7,B,0\n7,B,0\n";
+const SECONDS: &[u8] =
+    b"---\nline,state,ms\n7,M,1\n7,B,0\n7,B,0\n7,B,0\n7,B,0\n7,B,0\n7,B,0\n7,B,0\n7,B,0\n7,B,0\n7,B,0\n";
 
 const FEW_BREAKS: &[u8] =
     b"---\nline,state,ms\n7,M,1\n7,B,0\n7,B,0\n7,B,0\n7,B,0\n7,B,0\n7,B,0\n7,B,0\n7,B,0\n7,B,0\n";
 
-const MICROSECONDS: &[u8] = b"---\n\nline,state,ms\n7,M,15000\n7,B,60000\n7,B,60000\n7,B,60000\n7,B,60000\n\
+const MICROSECONDS: &[u8] =
+    b"---\n\nline,state,ms\n7,M,15000\n7,B,60000\n7,B,60000\n7,B,60000\n7,B,60000\n\
 7,B,60000\n7,B,60000\n7,B,60000\n7,B,60000\n7,B,60000\n7,B,20000\n";
 
 const MISREAD: &[u8] =
