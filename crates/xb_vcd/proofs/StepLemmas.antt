@@ -1,37 +1,38 @@
 -- What is said step by step.
-use Rattle.std.proofs.Common.{◌≡◌, List, [], ◌∷◌, ◌++◌, Option, Some, None, refl, ap, sym, subst, ◌∙◌, append_assoc, append-nil}
-use Rattle.std.specs.Option.{option_and_then}
+use Rattle.std.proofs.Common.{◌≡◌, List, [], ◌∷◌, ◌++◌, refl, ap, sym, subst, ◌∙◌, append_assoc, append-nil}
+use Rattle.std.specs.Prelude.{Result, Ok, Err}
 use Rattle.xb_vcd.specs.declared.event.Event.{Event}
-use Rattle.xb_vcd.specs.Steps.{Adds, all_say, said_before}
+use Rattle.xb_vcd.specs.declared.event.Refusal.{Refusal}
+use Rattle.xb_vcd.specs.Steps.{Adds, AddsAll, Said, all_say, result_and_then, said_before, say_to_end, then_later}
 
 -- what was said, and then the rest
 said_then :
-    {S : Type 0} (said old mid new : List Event) (rest : Option (List Event × S)) (state : S)
+    {S : Type 0} (said old mid new : List Event) (rest : Said S) (state : S)
     → mid ≡ old ++ said → Adds rest mid new state → Adds (said_before said rest) old new state
-said_then said old mid new None state e h = h
-said_then said old mid new (Some later) state e h =
+said_then said old mid new (Err refusal) state e h = h
+said_then said old mid new (Ok later) state e h =
     (h.0 ∙ ap (λ m. m ++ later.0) e ∙ append_assoc old said later.0, h.1)
 
 -- the rest of what was said
 then_only :
-    {S : Type 0} (said old mid : List Event) (now : S) (later : Option (List Event × S))
+    {S : Type 0} (said old mid : List Event) (now : S) (later : Said S)
     → Adds (said_before said later) old mid now → Adds later (old ++ said) mid now
-then_only said old mid now None e = e
-then_only said old mid now (Some later) e = (e.0 ∙ sym (append_assoc old said later.0), e.1)
+then_only said old mid now (Err refusal) e = e
+then_only said old mid now (Ok later) e = (e.0 ∙ sym (append_assoc old said later.0), e.1)
 
 -- a part that was said, and then the rest
 adds_then :
-    {S P : Type 0} (says : S → P → Option (List Event × S)) (rest : List P) (first : Option (List Event × S))
+    {S P : Type 0} (says : S → P → Said S) (rest : List P) (first : Said S)
     (old mid new : List Event) (now state : S)
     → Adds first old mid now → Adds (all_say says now rest) mid new state
-    → Adds (option_and_then (λ said. said_before said.0 (all_say says said.1 rest)) first) old new state
-adds_then says rest None old mid new now state h k = elim h [ ]
-adds_then {S} says rest (Some said) old mid new now state h k =
+    → Adds (result_and_then (λ said. said_before said.0 (all_say says said.1 rest)) first) old new state
+adds_then says rest (Err refusal) old mid new now state h k = elim h [ ]
+adds_then {S} says rest (Ok said) old mid new now state h k =
     let P : S → Type 0 = λ s. Adds (all_say says s rest) mid new state in
     said_then said.0 old mid new (all_say says said.1 rest) state h.0 (subst P h.1 k)
 
 pub adds_next :
-    {S P : Type 0} (says : S → P → Option (List Event × S)) (part : P) (rest : List P) (old mid new : List Event)
+    {S P : Type 0} (says : S → P → Said S) (part : P) (rest : List P) (old mid new : List Event)
     (before now state : S)
     → Adds (says before part) old mid now → Adds (all_say says now rest) mid new state
     → Adds (all_say says before (part ∷ rest)) old new state
@@ -40,7 +41,7 @@ adds_next says part rest old mid new before now state h k =
 
 -- parts that were said, and then the rest
 pub adds_after :
-    {S P : Type 0} (says : S → P → Option (List Event × S)) (parts rest : List P) (old mid new : List Event)
+    {S P : Type 0} (says : S → P → Said S) (parts rest : List P) (old mid new : List Event)
     (before now state : S)
     → Adds (all_say says before parts) old mid now → Adds (all_say says now rest) mid new state
     → Adds (all_say says before (parts ++ rest)) old new state
@@ -52,56 +53,103 @@ adds_after {S} says (part ∷ parts) rest old mid new before now state h k =
     at (says before part) h (λ start s m. adds_after says parts rest start mid new s now state m k)
   where
     at :
-        (first : Option (List Event × S))
-        → Adds (option_and_then (λ said. said_before said.0 (all_say says said.1 parts)) first) old mid now
+        (first : Said S)
+        → Adds (result_and_then (λ said. said_before said.0 (all_say says said.1 parts)) first) old mid now
         → ((start : List Event) (s : S) → Adds (all_say says s parts) start mid now
         → Adds (all_say says s (parts ++ rest)) start new state)
-        → Adds (option_and_then (λ said. said_before said.0 (all_say says said.1 (parts ++ rest))) first) old new state
-    at None e f = elim e [ ]
-    at (Some said) e f =
+        → Adds (result_and_then (λ said. said_before said.0 (all_say says said.1 (parts ++ rest))) first) old new state
+    at (Err refusal) e f = elim e [ ]
+    at (Ok said) e f =
         said_then said.0 old (old ++ said.0) new (all_say says said.1 (parts ++ rest)) state refl
         (f (old ++ said.0) said.1 (then_only said.0 old mid now (all_say says said.1 parts) e))
 
 -- parts of which one is refused
-before_none :
-    {S : Type 0} (said : List Event) (later : Option (List Event × S)) → said_before said later ≡ None → later ≡ None
-before_none said None e = refl
-before_none said (Some rest) e = cc
+before_refused :
+    {S : Type 0} (said : List Event) (refusal : Refusal) (later : Said S)
+    → said_before said later ≡ Err refusal → later ≡ Err refusal
+before_refused said refusal (Err own) e = cc
+before_refused said refusal (Ok rest) e = cc
 
-pub none_first :
-    {S P : Type 0} (says : S → P → Option (List Event × S)) (parts rest : List P) (before : S)
-    → all_say says before parts ≡ None → all_say says before (parts ++ rest) ≡ None
-none_first says [] rest before e = cc
-none_first {S} says (part ∷ parts) rest before e = at (says before part) e (λ s f. none_first says parts rest s f)
+pub refused_first :
+    {S P : Type 0} (says : S → P → Said S) (parts rest : List P) (before : S) (refusal : Refusal)
+    → all_say says before parts ≡ Err refusal → all_say says before (parts ++ rest) ≡ Err refusal
+refused_first says [] rest before refusal e = cc
+refused_first {S} says (part ∷ parts) rest before refusal e =
+    at (says before part) e (λ s f. refused_first says parts rest s refusal f)
   where
     at :
-        (first : Option (List Event × S))
-        → option_and_then (λ said. said_before said.0 (all_say says said.1 parts)) first ≡ None
-        → ((s : S) → all_say says s parts ≡ None → all_say says s (parts ++ rest) ≡ None)
-        → option_and_then (λ said. said_before said.0 (all_say says said.1 (parts ++ rest))) first ≡ None
-    at None e f = refl
-    at (Some said) e f = ap (said_before said.0) (f said.1 (before_none said.0 (all_say says said.1 parts) e))
+        (first : Said S)
+        → result_and_then (λ said. said_before said.0 (all_say says said.1 parts)) first ≡ Err refusal
+        → ((s : S) → all_say says s parts ≡ Err refusal → all_say says s (parts ++ rest) ≡ Err refusal)
+        → result_and_then (λ said. said_before said.0 (all_say says said.1 (parts ++ rest))) first ≡ Err refusal
+    at (Err own) e f = cc
+    at (Ok said) e f =
+        ap (said_before said.0) (f said.1 (before_refused said.0 refusal (all_say says said.1 parts) e))
 
-pub none_after :
-    {S P : Type 0} (says : S → P → Option (List Event × S)) (parts rest : List P) (old mid : List Event) (before now : S)
-    → Adds (all_say says before parts) old mid now → all_say says now rest ≡ None
-    → all_say says before (parts ++ rest) ≡ None
-none_after {S} says [] rest old mid before now h k =
-    let P : S → Type 0 = λ s. all_say says s rest ≡ None in
+pub refused_after :
+    {S P : Type 0} (says : S → P → Said S) (parts rest : List P) (old mid : List Event) (before now : S)
+    (refusal : Refusal)
+    → Adds (all_say says before parts) old mid now → all_say says now rest ≡ Err refusal
+    → all_say says before (parts ++ rest) ≡ Err refusal
+refused_after {S} says [] rest old mid before now refusal h k =
+    let P : S → Type 0 = λ s. all_say says s rest ≡ Err refusal in
     subst P h.1 k
-none_after {S} says (part ∷ parts) rest old mid before now h k =
-    at (says before part) h (λ start s m. none_after says parts rest start mid s now m k)
+refused_after {S} says (part ∷ parts) rest old mid before now refusal h k =
+    at (says before part) h (λ start s m. refused_after says parts rest start mid s now refusal m k)
   where
     at :
-        (first : Option (List Event × S))
-        → Adds (option_and_then (λ said. said_before said.0 (all_say says said.1 parts)) first) old mid now
-        → ((start : List Event) (s : S) → Adds (all_say says s parts) start mid now → all_say says s (parts ++ rest) ≡ None)
-        → option_and_then (λ said. said_before said.0 (all_say says said.1 (parts ++ rest))) first ≡ None
-    at None e f = elim e [ ]
-    at (Some said) e f =
+        (first : Said S)
+        → Adds (result_and_then (λ said. said_before said.0 (all_say says said.1 parts)) first) old mid now
+        → ((start : List Event) (s : S) → Adds (all_say says s parts) start mid now
+        → all_say says s (parts ++ rest) ≡ Err refusal)
+        → result_and_then (λ said. said_before said.0 (all_say says said.1 (parts ++ rest))) first ≡ Err refusal
+    at (Err own) e f = elim e [ ]
+    at (Ok said) e f =
         ap (said_before said.0) (f (old ++ said.0) said.1 (then_only said.0 old mid now (all_say says said.1 parts) e))
 
-pub none_next :
-    {S P : Type 0} (says : S → P → Option (List Event × S)) (part : P) (rest : List P) (before : S)
-    → says before part ≡ None → all_say says before (part ∷ rest) ≡ None
-none_next says part rest before e = ap (option_and_then (λ said. said_before said.0 (all_say says said.1 rest))) e
+-- a part that was said after nothing, and then the rest up to the end
+pub said_to_end :
+    {S P : Type 0} (says : S → P → Said S) (ends : S → Result (List Event) Refusal) (part : P) (rest : List P)
+    (old new : List Event) (before now : S) (later : Result (List Event) Refusal)
+    → old ≡ [] → Adds (says before part) old new now → say_to_end says ends now rest ≡ later
+    → say_to_end says ends before (part ∷ rest) ≡ then_later new later
+said_to_end {S} says ends part rest old new before now later none h k = at (says before part) h
+  where
+    at :
+        (first : Said S) → Adds first old new now
+        → result_and_then (λ said. then_later said.0 (say_to_end says ends said.1 rest)) first ≡ then_later new later
+    at (Err own) f = elim f [ ]
+    at (Ok said) f =
+        ap (λ m. then_later m (say_to_end says ends said.1 rest)) (sym (f.0 ∙ ap (λ o. o ++ said.0) none))
+        ∙ ap (λ s. then_later new (say_to_end says ends s rest)) (sym f.1)
+        ∙ ap (then_later new) k
+
+-- a part that was refused
+pub refused_to_end :
+    {S P : Type 0} (says : S → P → Said S) (ends : S → Result (List Event) Refusal) (part : P) (rest : List P)
+    (before : S) (refusal : Refusal)
+    → says before part ≡ Err refusal → say_to_end says ends before (part ∷ rest) ≡ Err refusal
+refused_to_end says ends part rest before refusal e =
+    ap (result_and_then (λ said. then_later said.0 (say_to_end says ends said.1 rest))) e
+
+-- the last part, and what is said at the end
+pub ends_after :
+    {S P : Type 0} (says : S → P → Said S) (ends : S → Result (List Event) Refusal) (part : P)
+    (old mid new : List Event) (before now : S)
+    → old ≡ [] → Adds (says before part) old mid now → AddsAll (ends now) mid new
+    → say_to_end says ends before (part ∷ []) ≡ Ok new
+ends_after says ends part old mid new before now none h k =
+    said_to_end says ends part [] old mid before now (ends now) none h refl ∙ at (ends now) k
+  where
+    at : (left : Result (List Event) Refusal) → AddsAll left mid new → then_later mid left ≡ Ok new
+    at (Err own) f = elim f [ ]
+    at (Ok left) f = ap Ok (sym f)
+
+-- the last part, after which the end is refused
+pub refused_at_end :
+    {S P : Type 0} (says : S → P → Said S) (ends : S → Result (List Event) Refusal) (part : P)
+    (old mid : List Event) (before now : S) (refusal : Refusal)
+    → old ≡ [] → Adds (says before part) old mid now → ends now ≡ Err refusal
+    → say_to_end says ends before (part ∷ []) ≡ Err refusal
+refused_at_end says ends part old mid before now refusal none h e =
+    said_to_end says ends part [] old mid before now (Err refusal) none h e

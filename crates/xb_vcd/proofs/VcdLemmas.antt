@@ -1,48 +1,12 @@
 -- What the words of a VCD say.
-use Rattle.std.proofs.Common.{◌≡◌, ℕ, ◌+◌, ◌<◌, ◌≤◌, ◌==◌, List, [], ◌∷◌, Bool, true, false, cond, length, get_or, drop, refl, ap, sym, subst, ◌∙◌, append-nil}
+use Rattle.std.proofs.Common.{◌≡◌, ℕ, ◌+◌, ◌<◌, ◌≤◌, ◌==◌, List, [], ◌∷◌, Bool, true, false, cond, length, get_or, drop, refl, sym, subst, append-nil}
 use Rattle.std.specs.Prelude.{slice_range}
 use Rattle.xb_vcd.specs.declared.event.Event.{Event}
-use Rattle.xb_vcd.specs.declared.vcd.Place.{Place}
-use Rattle.xb_vcd.specs.declared.vcd.Place.TheVariants as places
-use Rattle.xb_vcd.specs.declared.event.Refusal.{Refusal}
-use Rattle.xb_vcd.specs.Steps.{Adds, SaysNothing, all_say}
-use Rattle.xb_vcd.specs.VcdChanges.{IsRefused, IsSaid, Taken, Times, change_taken, refused, says}
-use Rattle.xb_vcd.specs.VcdTexts.{VcdState, by_changes, is_blank, word_at, word_before, word_says, words_in}
+use Rattle.xb_vcd.specs.Steps.{Adds, all_say}
+use Rattle.xb_vcd.specs.VcdChanges.{VcdState}
+use Rattle.xb_vcd.specs.VcdTexts.{is_blank, word_before, word_says, words_in}
 use Rattle.xb_vcd.proofs.StepLemmas.{adds_next}
 use Rattle.xb_vcd.proofs.WordLemmas.{words_after_blank, words_after_byte}
-
-adds_by_changes :
-    (state now : VcdState) (taken : Taken) (old new : List Event) (place : Place) (times : Times)
-    → now ≡ record state { place = place; times = times } → IsSaid taken old new place times
-    → Adds (by_changes state taken) old new now
-adds_by_changes state now (refused refusal) old new place times e h = h
-adds_by_changes state now (says said at then_on) old new place times e h = (
-  h.0,
-  e ∙ ap (λ p. record state { place = p; times = times }) h.1
-      ∙ ap (λ t. record state { place = at; times = t }) h.2,
-)
-
--- a word among the changes
-pub changes_add :
-    (state now : VcdState) (word : List ℕ) (old new : List Event) (place : Place) (times : Times)
-    → state.place ≡ places.Changes → now ≡ record state { place = place; times = times }
-    → IsSaid (change_taken state.codes state.times word) old new place times
-    → Adds (word_says state word) old new now
-changes_add state now word old new place times here e h =
-    let P : Place → Type 0 = λ p. Adds (word_at state p word) old new now in
-    subst P (sym here) (adds_by_changes state now (change_taken state.codes state.times word) old new place times e h)
-
-none_by_changes :
-    (state : VcdState) (taken : Taken) (fault : Refusal) → IsRefused taken fault → SaysNothing (by_changes state taken) fault
-none_by_changes state (refused refusal) fault h = λ other. refl
-none_by_changes state (says said at then_on) fault h = λ other. absurd (other h)
-
-pub changes_refuse :
-    (state : VcdState) (word : List ℕ) (fault : Refusal) → state.place ≡ places.Changes
-    → IsRefused (change_taken state.codes state.times word) fault → SaysNothing (word_says state word) fault
-changes_refuse state word fault here h =
-    let P : Place → Type 0 = λ p. SaysNothing (word_at state p word) fault in
-    subst P (sym here) (none_by_changes state (change_taken state.codes state.times word) fault h)
 
 -- a piece that is a word
 pub piece_adds :

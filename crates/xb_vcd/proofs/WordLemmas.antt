@@ -1,12 +1,14 @@
 -- The words of a line, byte by byte.
-use Rattle.std.proofs.Common.{◌≡◌, ℕ, suc, ◌+◌, ◌-◌, ◌<◌, ◌≤◌, List, [], ◌∷◌, ◌++◌, true, false, cond, length, get_or, take, drop, None, ap, sym, subst, ◌∙◌, add-one, arith}
-use Rattle.std.specs.Prelude.{slice_range}
+use Rattle.std.proofs.Common.{◌≡◌, ℕ, suc, ◌+◌, ◌-◌, ◌<◌, ◌≤◌, List, [], ◌∷◌, ◌++◌, true, false, cond, length, get_or, take, drop, ap, sym, subst, ◌∙◌, add-one, arith}
+use Rattle.std.specs.Prelude.{Err, slice_range}
 use Rattle.std.proofs.Math.Seq.{drop-cons, drop-length, take-suc}
 use Rattle.std.proofs.lemmas.List.{get_or-drop, length-drop, take_rest}
 use Rattle.xb_vcd.specs.declared.event.Event.{Event}
+use Rattle.xb_vcd.specs.declared.event.Refusal.{Refusal}
 use Rattle.xb_vcd.specs.Steps.{Adds, all_say}
-use Rattle.xb_vcd.specs.VcdTexts.{VcdState, is_blank, word_before, word_says, words_in}
-use Rattle.xb_vcd.proofs.StepLemmas.{adds_after, none_after, none_first}
+use Rattle.xb_vcd.specs.VcdChanges.{VcdState}
+use Rattle.xb_vcd.specs.VcdTexts.{is_blank, word_before, word_says, words_in}
+use Rattle.xb_vcd.proofs.StepLemmas.{adds_after, refused_after, refused_first}
 
 -- a blank ends the word before it
 words-at_blank :
@@ -80,37 +82,38 @@ pub words_at_end :
 words_at_end line start =
     ap (words_in (slice_range line start (length line))) (drop-length line) ∙ ap word_before (all_left line start)
 
--- where the word before a blank says nothing, or what follows it
+-- where the word before a blank is refused, or what follows it
 pub blank_refused :
-    (line : List ℕ) (start end : ℕ) (before : VcdState) → end < length line → is_blank (get_or line end 0) ≡ true
-    → all_say word_says before (word_before (slice_range line start end)) ≡ None
-    → all_say word_says before (words_in (slice_range line start end) (drop end line)) ≡ None
-blank_refused line start end before h b e =
+    (line : List ℕ) (start end : ℕ) (before : VcdState) (refusal : Refusal)
+    → end < length line → is_blank (get_or line end 0) ≡ true
+    → all_say word_says before (word_before (slice_range line start end)) ≡ Err refusal
+    → all_say word_says before (words_in (slice_range line start end) (drop end line)) ≡ Err refusal
+blank_refused line start end before refusal h b e =
     ap (all_say word_says before) (words-at_blank line (slice_range line start end) end h b)
-    ∙ none_first word_says (word_before (slice_range line start end)) (words_in [] (drop (end + 1) line)) before e
+    ∙ refused_first word_says (word_before (slice_range line start end)) (words_in [] (drop (end + 1) line)) before refusal e
 
-pub blank_silent :
-    (line : List ℕ) (start end begin : ℕ) (before now taken : VcdState) (old mid : List Event)
+pub refused_after_blank :
+    (line : List ℕ) (start end begin : ℕ) (before now taken : VcdState) (old mid : List Event) (refusal : Refusal)
     → end < length line → is_blank (get_or line end 0) ≡ true → now ≡ taken → begin ≡ end + 1
     → Adds (all_say word_says before (word_before (slice_range line start end))) old mid taken
-    → all_say word_says now (words_in (slice_range line begin (end + 1)) (drop (end + 1) line)) ≡ None
-    → all_say word_says before (words_in (slice_range line start end) (drop end line)) ≡ None
-blank_silent line start end begin before now taken old mid h b e g first rest =
-    let Q : ℕ → Type 0 = λ n. all_say word_says now (words_in (slice_range line n (end + 1)) (drop (end + 1) line)) ≡ None in
-    let R : List ℕ → Type 0 = λ word. all_say word_says now (words_in word (drop (end + 1) line)) ≡ None in
-    let S : VcdState → Type 0 = λ s. all_say word_says s (words_in [] (drop (end + 1) line)) ≡ None in
+    → all_say word_says now (words_in (slice_range line begin (end + 1)) (drop (end + 1) line)) ≡ Err refusal
+    → all_say word_says before (words_in (slice_range line start end) (drop end line)) ≡ Err refusal
+refused_after_blank line start end begin before now taken old mid refusal h b e g first rest =
+    let Q : ℕ → Type 0 = λ n. all_say word_says now (words_in (slice_range line n (end + 1)) (drop (end + 1) line)) ≡ Err refusal in
+    let R : List ℕ → Type 0 = λ word. all_say word_says now (words_in word (drop (end + 1) line)) ≡ Err refusal in
+    let S : VcdState → Type 0 = λ s. all_say word_says s (words_in [] (drop (end + 1) line)) ≡ Err refusal in
     ap (all_say word_says before) (words-at_blank line (slice_range line start end) end h b)
-    ∙ none_after word_says (word_before (slice_range line start end)) (words_in [] (drop (end + 1) line)) old mid before taken
-    first (subst S e (subst R (slice_range-none line (end + 1)) (subst Q g rest)))
+    ∙ refused_after word_says (word_before (slice_range line start end)) (words_in [] (drop (end + 1) line)) old mid before taken
+    refusal first (subst S e (subst R (slice_range-none line (end + 1)) (subst Q g rest)))
 
-pub byte_silent :
-    (line : List ℕ) (start end begin : ℕ) (before now : VcdState) → start ≤ end → end < length line
+pub refused_after_byte :
+    (line : List ℕ) (start end begin : ℕ) (before now : VcdState) (refusal : Refusal) → start ≤ end → end < length line
     → is_blank (get_or line end 0) ≡ false → now ≡ before → begin ≡ start
-    → all_say word_says now (words_in (slice_range line begin (end + 1)) (drop (end + 1) line)) ≡ None
-    → all_say word_says before (words_in (slice_range line start end) (drop end line)) ≡ None
-byte_silent line start end begin before now h k b e g rest =
-    let Q : ℕ → Type 0 = λ n. all_say word_says now (words_in (slice_range line n (end + 1)) (drop (end + 1) line)) ≡ None in
-    let S : VcdState → Type 0 = λ s. all_say word_says s (words_in (slice_range line start (end + 1)) (drop (end + 1) line)) ≡ None in
-    let R : List ℕ → Type 0 = λ word. all_say word_says before (words_in word (drop (end + 1) line)) ≡ None in
+    → all_say word_says now (words_in (slice_range line begin (end + 1)) (drop (end + 1) line)) ≡ Err refusal
+    → all_say word_says before (words_in (slice_range line start end) (drop end line)) ≡ Err refusal
+refused_after_byte line start end begin before now refusal h k b e g rest =
+    let Q : ℕ → Type 0 = λ n. all_say word_says now (words_in (slice_range line n (end + 1)) (drop (end + 1) line)) ≡ Err refusal in
+    let S : VcdState → Type 0 = λ s. all_say word_says s (words_in (slice_range line start (end + 1)) (drop (end + 1) line)) ≡ Err refusal in
+    let R : List ℕ → Type 0 = λ word. all_say word_says before (words_in word (drop (end + 1) line)) ≡ Err refusal in
     ap (all_say word_says before) (words-at_byte line (slice_range line start end) end k b)
     ∙ subst R (slice_range-next line start end h k) (subst S e (subst Q g rest))

@@ -1,30 +1,57 @@
 -- What is said step by step.
-use Rattle.std.specs.Prelude.{◌≡◌, ◌≢◌, List, [], ◌∷◌, ◌++◌, Option, Some, None, option_map}
-use Rattle.std.specs.Option.{option_and_then}
+use Rattle.std.specs.Prelude.{◌≡◌, ◌≢◌, List, [], ◌∷◌, ◌++◌, Result, Ok, Err}
 use Rattle.xb_vcd.specs.declared.event.Event.{Event}
 use Rattle.xb_vcd.specs.declared.event.Refusal.{Refusal}
 use Rattle.xb_vcd.specs.declared.event.Refusal.TheVariants.{NoMemory}
 
--- what was said before what is said later, of which the state at the end is kept
-abbrev pub said_before : {S : Type 0} → List Event → Option (List Event × S) → Option (List Event × S)
-said_before {S} said later = option_map (λ rest. (said ++ rest.0, rest.1)) later
+-- the events that are said and the state then, or why it is refused
+abbrev pub Said : Type 0 → Type 0
+Said S = Result (List Event × S) Refusal
 
--- what parts say one after the other, where none is refused, and the state at the end
-abbrev pub all_say : {S P : Type 0} → (S → P → Option (List Event × S)) → S → List P → Option (List Event × S)
-all_say {S} {P} says state [] = Some ([], state)
+-- what follows from a value, or the first refusal
+abbrev pub result_and_then : {T U E : Type 0} → (T → Result U E) → Result T E → Result U E
+result_and_then {T} {U} {E} next (Ok value) = next value
+result_and_then {T} {U} {E} next (Err refusal) = Err refusal
+
+abbrev pub result_map : {T U E : Type 0} → (T → U) → Result T E → Result U E
+result_map {T} {U} {E} f (Ok value) = Ok (f value)
+result_map {T} {U} {E} f (Err refusal) = Err refusal
+
+-- what was said before what is said later, of which the state at the end is kept
+abbrev pub said_before : {S : Type 0} → List Event → Said S → Said S
+said_before {S} said later = result_map (λ rest. (said ++ rest.0, rest.1)) later
+
+-- what parts say one after the other, and the state at the end, or the refusal of the first that is refused
+abbrev pub all_say : {S P : Type 0} → (S → P → Said S) → S → List P → Said S
+all_say {S} {P} says state [] = Ok ([], state)
 all_say {S} {P} says state (part ∷ rest) =
-    option_and_then (λ said. said_before said.0 (all_say says said.1 rest)) (says state part)
+    result_and_then (λ said. said_before said.0 (all_say says said.1 rest)) (says state part)
+
+-- events, and what is said later
+abbrev pub then_later : List Event → Result (List Event) Refusal → Result (List Event) Refusal
+then_later said later = result_map (λ more. said ++ more) later
+
+-- what parts say one after the other and then at the end, or the first refusal
+abbrev pub say_to_end : {S P : Type 0} → (S → P → Said S) → (S → Result (List Event) Refusal) → S → List P
+    → Result (List Event) Refusal
+say_to_end {S} {P} says ends state [] = ends state
+say_to_end {S} {P} says ends state (part ∷ rest) =
+    result_and_then (λ said. then_later said.0 (say_to_end says ends said.1 rest)) (says state part)
 
 -- it was said: these events were added, and this is the state then
-abbrev pub Adds : {S : Type 0} → Option (List Event × S) → List Event → List Event → S → Type 0
-Adds {S} None old new state = ⊥
-Adds {S} (Some said) old new state = (new ≡ old ++ said.0) × (state ≡ said.1)
+abbrev pub Adds : {S : Type 0} → Said S → List Event → List Event → S → Type 0
+Adds {S} (Err refusal) old new state = ⊥
+Adds {S} (Ok said) old new state = (new ≡ old ++ said.0) × (state ≡ said.1)
 
 -- where no state is kept
-abbrev pub AddsAll : Option (List Event) → List Event → List Event → Type 0
-AddsAll None old new = ⊥
-AddsAll (Some said) old new = new ≡ old ++ said
+abbrev pub AddsAll : Result (List Event) Refusal → List Event → List Event → Type 0
+AddsAll (Err refusal) old new = ⊥
+AddsAll (Ok said) old new = new ≡ old ++ said
 
--- it was refused: unless memory ran out, nothing stands there that says anything
-abbrev pub SaysNothing : {A : Type 0} → Option A → Refusal → Type 0
-SaysNothing {A} said refusal = refusal ≢ NoMemory → said ≡ None
+-- it was refused, and for this reason, unless memory ran out
+abbrev pub IsRefusedBy : {T : Type 0} → Result T Refusal → Refusal → Type 0
+IsRefusedBy {T} said refusal = refusal ≢ NoMemory → said ≡ Err refusal
+
+-- there is no other reason, unless memory ran out
+abbrev pub IsOnly : Refusal → Refusal → Type 0
+IsOnly reason refusal = refusal ≢ NoMemory → refusal ≡ reason

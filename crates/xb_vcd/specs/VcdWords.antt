@@ -5,7 +5,7 @@ use Rattle.xb_vcd.specs.declared.word.Word.{Word}
 use Rattle.xb_vcd.specs.declared.word.Word.TheVariants.{Time, High, Low, Unknown, Vector, End, Timescale, Var, EndDefinitions, Dump, Section, Other}
 use Rattle.xb_vcd.specs.Numbers.{digit_after, number_of}
 
--- the number that further bytes of a name are written behind, each a digit to the base 256
+-- the number of a name with further bytes after it, each a digit to the base 256
 abbrev pub code_in : ℕ → List ℕ → Option ℕ
 code_in code [] = Some code
 code_in code (byte ∷ rest) =

@@ -1,11 +1,11 @@
 -- Words of a VCD, each with what it says.
-use Rattle.std.specs.Prelude.{◌≡◌, ℕ, List, [], ◌∷◌, true, Option, Some, None, codes}
+use Rattle.std.specs.Prelude.{◌≡◌, ℕ, [], ◌∷◌, Bool, true, Option, Some, None, Ok, Err, codes}
 use Rattle.xb_vcd.specs.declared.event.Event.TheVariants.{At, High, Low}
 use Rattle.xb_vcd.specs.declared.event.Refusal.TheVariants as refusals
 use Rattle.xb_vcd.specs.declared.word.Word.TheVariants as words
 use Rattle.xb_vcd.specs.declared.vcd.Place.TheVariants as places
 use Rattle.xb_vcd.specs.VcdWords.{word_of}
-use Rattle.xb_vcd.specs.VcdChanges.{refused, says, times_of, change_taken, code_taken}
+use Rattle.xb_vcd.specs.VcdChanges.{VcdState, at_place, change_taken, code_taken, times_of}
 
 pub record WordsAreRead : Type 0 where
   pub time : word_of (codes "#8000") ≡ words.Time 8000
@@ -26,21 +26,34 @@ pub record WordsAreRead : Type 0 where
   pub comment : word_of (codes "$comment") ≡ words.Section
   pub other : word_of (codes "0.5,1") ≡ words.Low 775236657
 
--- two wires: the first has the code `!`, the second `"`
-abbrev pub two_wires : List (Option ℕ)
-two_wires = Some 33 ∷ Some 34 ∷ []
+-- among the changes, at a time: the first wire has this code, the second the code `"`
+abbrev pub of_wires : ℕ → ℕ → VcdState
+of_wires first time = record {
+  names = codes "a" ∷ codes "b" ∷ [];
+  codes = Some first ∷ Some 34 ∷ [];
+  place = places.Changes;
+  has_scale = true;
+  times = times_of time true;
+}
+
+-- the code of the first is `!`
+abbrev pub at_time : ℕ → VcdState
+at_time time = of_wires 33 time
+
+-- after the value of a vector
+abbrev pub after_vector : Option Bool → VcdState
+after_vector value = at_place (at_time 7) (places.AfterVector value)
 
 pub record ChangesAreTaken : Type 0 where
-  pub time : change_taken two_wires (times_of 7 true) (codes "#8") ≡ says (At 8 ∷ []) places.Changes (times_of 8 true)
-  pub same_time : change_taken two_wires (times_of 7 true) (codes "#7") ≡ says (At 7 ∷ []) places.Changes (times_of 7 true)
-  pub backwards : change_taken two_wires (times_of 7 true) (codes "#6") ≡ refused refusals.Backwards
-  pub high : change_taken two_wires (times_of 7 true) (codes "1\"") ≡ says (High 1 ∷ []) places.Changes (times_of 7 true)
-  pub both : change_taken (Some 33 ∷ Some 33 ∷ []) (times_of 7 true) (codes "0!")
-      ≡ says (Low 0 ∷ Low 1 ∷ []) places.Changes (times_of 7 true)
-  pub another : change_taken two_wires (times_of 7 true) (codes "1#") ≡ says [] places.Changes (times_of 7 true)
-  pub unknown : change_taken two_wires (times_of 7 true) (codes "z!") ≡ refused refusals.Level
-  pub unknown_other : change_taken two_wires (times_of 7 true) (codes "z#") ≡ says [] places.Changes (times_of 7 true)
-  pub vector : code_taken two_wires (times_of 7 true) (Some true) (codes "!") ≡ says (High 0 ∷ []) places.Changes (times_of 7 true)
-  pub long_vector : code_taken two_wires (times_of 7 true) None (codes "!") ≡ refused refusals.Level
-  pub declaration : change_taken two_wires (times_of 7 true) (codes "$var") ≡ refused refusals.Word
-  pub a_row : change_taken two_wires (times_of 7 true) (codes "7,M,61") ≡ refused refusals.Word
+  pub time : change_taken (at_time 7) (codes "#8") ≡ Ok (At 8 ∷ [], at_time 8)
+  pub same_time : change_taken (at_time 7) (codes "#7") ≡ Ok (At 7 ∷ [], at_time 7)
+  pub backwards : change_taken (at_time 7) (codes "#6") ≡ Err refusals.Backwards
+  pub high : change_taken (at_time 7) (codes "1\"") ≡ Ok (High 1 ∷ [], at_time 7)
+  pub both : change_taken (of_wires 34 7) (codes "0\"") ≡ Ok (Low 0 ∷ Low 1 ∷ [], of_wires 34 7)
+  pub another : change_taken (at_time 7) (codes "1#") ≡ Ok ([], at_time 7)
+  pub unknown : change_taken (at_time 7) (codes "z!") ≡ Err refusals.Level
+  pub unknown_other : change_taken (at_time 7) (codes "z#") ≡ Ok ([], at_time 7)
+  pub vector : code_taken (after_vector (Some true)) (Some true) (codes "!") ≡ Ok (High 0 ∷ [], at_time 7)
+  pub long_vector : code_taken (after_vector None) None (codes "!") ≡ Err refusals.Level
+  pub declaration : change_taken (at_time 7) (codes "$var") ≡ Err refusals.Word
+  pub a_row : change_taken (at_time 7) (codes "7,M,61") ≡ Err refusals.Word

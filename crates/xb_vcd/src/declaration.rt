@@ -1,6 +1,6 @@
 // The declarations of wires in a VCD.
-ghost use Rattle.std.specs.Prelude.{◌≡◌, Some, IfErr, IfOk, OnOk, map};
-ghost use Rattle.xb_vcd.specs.Steps.{SaysNothing};
+ghost use Rattle.std.specs.Prelude.{◌≡◌, Ok, IfErr, IfOk, OnOk, map};
+ghost use Rattle.xb_vcd.specs.Steps.{IsRefusedBy};
 ghost use Rattle.xb_vcd.specs.VcdTexts.{declared_code, declared_codes, found_code};
 
 use crate::event::Refusal;
@@ -25,8 +25,8 @@ pub const NO_WORDS: VarWords = VarWords {
 
 // The code of a wire that is declared, which had none.
 fn found_code(words: VarWords, own: Option<u64>) -> Result<Option<u64>, Refusal>
-    ensures said { IfOk result (λ code. found_code words own ≡ Some code) }
-    ensures refused { IfErr result (SaysNothing (found_code words own)) }
+    ensures said { IfOk result (λ code. found_code words own ≡ Ok code) }
+    ensures refused { IfErr result (IsRefusedBy (found_code words own)) }
 {
     match own {
         _ if !words.is_bit => Err(Refusal::Bits),
@@ -42,8 +42,8 @@ fn declared_code(
     wanted: &str,
     own: Option<u64>,
 ) -> Result<Option<u64>, Refusal>
-    ensures said { IfOk result (λ code. declared_code words name.now wanted.now own ≡ Some code) }
-    ensures refused { IfErr result (SaysNothing (declared_code words name.now wanted.now own)) }
+    ensures said { IfOk result (λ code. declared_code words name.now wanted.now own ≡ Ok code) }
+    ensures refused { IfErr result (IsRefusedBy (declared_code words name.now wanted.now own)) }
 {
     if wanted.as_bytes() == name {
         found_code(words, own)
@@ -60,8 +60,8 @@ pub(crate) fn declare(
     codes: &mut [Option<u64>],
 ) -> Result<(), Refusal>
     ensures said { OnOk result
-        (declared_codes words name.now (map (λ wanted. wanted.now) names.now) codes.old ≡ Some codes.new) }
-    ensures refused { IfErr result (SaysNothing
+        (declared_codes words name.now (map (λ wanted. wanted.now) names.now) codes.old ≡ Ok codes.new) }
+    ensures refused { IfErr result (IsRefusedBy
         (declared_codes words name.now (map (λ wanted. wanted.now) names.now) codes.old)) }
 {
     for (i, code) in codes.iter_mut().enumerate() {

@@ -1,8 +1,9 @@
 //! What a recording of contacts says, event by event, and the reader of one of its forms: value change dumps.
 //!
-//! - `Vcd::take_line` (`vcd_line_says`): exactly what the words of a line say of the wires that are asked for, or a
-//!   refusal, which comes only where they say nothing (`SaysNothing`) or memory ran out. A text is a VCD where each of
-//!   its words may stand where it stands, and it ends among its changes (`VcdSays`; `VcdTexts` has its lines and words).
+//! - `Vcd::take_line` (`vcd_line_says`): exactly what the words of a line say of the wires that are asked for, or why
+//!   they are refused: the reason of the first word that is (`IsRefusedBy`), unless memory ran out. A text is a VCD where
+//!   each of its words may stand where it stands, and it ends among its changes (`vcd_says`; `VcdTexts` has its lines and
+//!   words).
 //! - `Event` and `Refusal` are those of all forms, and so are the steps by which lines say them (`Steps`).
 #![tactic(auto)]
 

@@ -2,7 +2,7 @@
 ghost use Rattle.std.specs.Prelude.{◌≡◌};
 ghost use Rattle.xb_vcd.specs.Numbers.{number_in, number_of, digit_after};
 
-/// The number that a digit is written behind, in this base; `None` for 2^64 and more.
+/// A number with one more digit after it, in this base; `None` for 2^64 and more.
 pub fn digit_after(base: u64, number: u64, digit: u8) -> Option<u64>
     ensures { result ≡ digit_after base number digit }
 {

@@ -1,9 +1,9 @@
 // A value change dump, line by line.
-ghost use Rattle.std.specs.Prelude.{◌≡◌, ◌≢◌, ◌++◌, ◌↔◌, [], Some, IfErr, IfOk, IsErr, IsTrue, OnErr, OnOk, is_some, map};
+ghost use Rattle.std.specs.Prelude.{◌≡◌, ◌≢◌, ◌++◌, ◌↔◌, [], Ok, IfErr, IfOk, IsErr, IsTrue, OnErr, OnOk, is_some, map};
 ghost use Rattle.std.specs.List.{list_all, list_any};
-ghost use Rattle.xb_vcd.specs.Steps.{Adds, SaysNothing, all_say};
-ghost use Rattle.xb_vcd.specs.VcdChanges.{IsRefused, IsSaid, change_taken, code_taken, has_code, level_events, time_taken, times_of};
-ghost use Rattle.xb_vcd.specs.VcdTexts.{begun_vcd, header_taken, is_blank, is_header, scale_said, scale_taken, var_taken, vcd_line_says, vcd_state, word_before, word_says, words_of};
+ghost use Rattle.xb_vcd.specs.Steps.{Adds, IsRefusedBy, all_say};
+ghost use Rattle.xb_vcd.specs.VcdChanges.{change_taken, code_taken, has_code, level_events, time_taken, vcd_state};
+ghost use Rattle.xb_vcd.specs.VcdTexts.{begun_vcd, header_taken, is_blank, is_header, scale_said, scale_taken, var_taken, vcd_line_says, word_before, word_says, words_of};
 
 use crate::declaration::{NO_WORDS, VarWords, declare};
 use crate::event::{Event, Refusal, say};
@@ -120,10 +120,9 @@ impl<'a> Vcd<'a> {
 
     // A time.
     fn go_to(&mut self, time: u64, events: &mut Vec<Event>) -> Result<(), Refusal>
-        requires { self.old.place ≡ Place.Changes }
-        ensures said { OnOk result (IsSaid (time_taken (times_of self.old.last self.old.has_time) time)
-            events.old.items events.new.items self.new.place (times_of self.new.last self.new.has_time)) }
-        ensures refused { IfErr result (IsRefused (time_taken (times_of self.old.last self.old.has_time) time)) }
+        ensures said { OnOk result (Adds (time_taken (vcd_state self.old) time)
+            events.old.items events.new.items (vcd_state self.new)) }
+        ensures refused { IfErr result (IsRefusedBy (time_taken (vcd_state self.old) time)) }
         ensures kept { self.new ≡ record self.old {
           place = self.new.place;
           last = self.new.last;
@@ -148,7 +147,7 @@ impl<'a> Vcd<'a> {
     ) -> Result<(), Refusal>
         ensures said { OnOk result (Adds (scale_said (vcd_state self.old) number unit.now)
             events.old.items events.new.items (vcd_state self.new)) }
-        ensures refused { IfErr result (SaysNothing (scale_said (vcd_state self.old) number unit.now)) }
+        ensures refused { IfErr result (IsRefusedBy (scale_said (vcd_state self.old) number unit.now)) }
     {
         if unit.is_empty() {
             self.place = Place::Timescale(Some(number));
@@ -174,7 +173,7 @@ impl<'a> Vcd<'a> {
     ) -> Result<(), Refusal>
         ensures said { OnOk result (Adds (scale_taken (vcd_state self.old) number word.now)
             events.old.items events.new.items (vcd_state self.new)) }
-        ensures refused { IfErr result (SaysNothing (scale_taken (vcd_state self.old) number word.now)) }
+        ensures refused { IfErr result (IsRefusedBy (scale_taken (vcd_state self.old) number word.now)) }
     {
         if let Some(number) = number {
             return self.say_scale(number, word, events);
@@ -189,8 +188,8 @@ impl<'a> Vcd<'a> {
     // A word of a declaration: kind, size, code and name.
     fn take_var(&mut self, words: VarWords, word: &[u8]) -> Result<(), Refusal>
         ensures said { OnOk result
-            (var_taken (vcd_state self.old) words word.now ≡ Some ([], vcd_state self.new)) }
-        ensures refused { IfErr result (SaysNothing (var_taken (vcd_state self.old) words word.now)) }
+            (var_taken (vcd_state self.old) words word.now ≡ Ok ([], vcd_state self.new)) }
+        ensures refused { IfErr result (IsRefusedBy (var_taken (vcd_state self.old) words word.now)) }
     {
         let VarWords {
             count,
@@ -230,8 +229,8 @@ impl<'a> Vcd<'a> {
     // A word of the header.
     fn take_header(&mut self, word: &[u8]) -> Result<(), Refusal>
         ensures said { OnOk result
-            (header_taken (vcd_state self.old) word.now ≡ Some ([], vcd_state self.new)) }
-        ensures refused { IfErr result (SaysNothing (header_taken (vcd_state self.old) word.now)) }
+            (header_taken (vcd_state self.old) word.now ≡ Ok ([], vcd_state self.new)) }
+        ensures refused { IfErr result (IsRefusedBy (header_taken (vcd_state self.old) word.now)) }
     {
         match word_of(word) {
             Word::Timescale if self.has_scale => Err(Refusal::Timescale),
@@ -259,12 +258,9 @@ impl<'a> Vcd<'a> {
 
     // A word among the changes.
     fn take_change(&mut self, word: &[u8], events: &mut Vec<Event>) -> Result<(), Refusal>
-        requires { self.old.place ≡ Place.Changes }
-        ensures said { OnOk result (IsSaid
-            (change_taken self.old.codes.items (times_of self.old.last self.old.has_time) word.now)
-            events.old.items events.new.items self.new.place (times_of self.new.last self.new.has_time)) }
-        ensures refused { IfErr result (IsRefused
-            (change_taken self.old.codes.items (times_of self.old.last self.old.has_time) word.now)) }
+        ensures said { OnOk result (Adds (change_taken (vcd_state self.old) word.now)
+            events.old.items events.new.items (vcd_state self.new)) }
+        ensures refused { IfErr result (IsRefusedBy (change_taken (vcd_state self.old) word.now)) }
         ensures kept { self.new ≡ record self.old {
           place = self.new.place;
           last = self.new.last;
@@ -296,11 +292,9 @@ impl<'a> Vcd<'a> {
         word: &[u8],
         events: &mut Vec<Event>,
     ) -> Result<(), Refusal>
-        ensures said { OnOk result (IsSaid
-            (code_taken self.old.codes.items (times_of self.old.last self.old.has_time) value word.now)
-            events.old.items events.new.items self.new.place (times_of self.new.last self.new.has_time)) }
-        ensures refused { IfErr result (IsRefused
-            (code_taken self.old.codes.items (times_of self.old.last self.old.has_time) value word.now)) }
+        ensures said { OnOk result (Adds (code_taken (vcd_state self.old) value word.now)
+            events.old.items events.new.items (vcd_state self.new)) }
+        ensures refused { IfErr result (IsRefusedBy (code_taken (vcd_state self.old) value word.now)) }
         ensures kept { self.new ≡ record self.old {
           place = self.new.place;
           last = self.new.last;
@@ -321,7 +315,7 @@ impl<'a> Vcd<'a> {
     fn take_word(&mut self, word: &[u8], events: &mut Vec<Event>) -> Result<(), Refusal>
         ensures said { OnOk result (Adds (word_says (vcd_state self.old) word.now)
             events.old.items events.new.items (vcd_state self.new)) }
-        ensures refused { IfErr result (SaysNothing (word_says (vcd_state self.old) word.now)) }
+        ensures refused { IfErr result (IsRefusedBy (word_says (vcd_state self.old) word.now)) }
     {
         match self.place {
             Place::Header => self.take_header(word),
@@ -346,7 +340,7 @@ impl<'a> Vcd<'a> {
     fn take_piece(&mut self, piece: &[u8], events: &mut Vec<Event>) -> Result<(), Refusal>
         ensures said { OnOk result (Adds (all_say word_says (vcd_state self.old) (word_before piece.now))
             events.old.items events.new.items (vcd_state self.new)) }
-        ensures refused { IfErr result (SaysNothing
+        ensures refused { IfErr result (IsRefusedBy
             (all_say word_says (vcd_state self.old) (word_before piece.now))) }
     {
         if piece.is_empty() {
@@ -359,7 +353,7 @@ impl<'a> Vcd<'a> {
     fn take_words(&mut self, line: &[u8], events: &mut Vec<Event>) -> Result<(), Refusal>
         ensures said { OnOk result (Adds (all_say word_says (vcd_state self.old) (words_of line.now))
             events.old.items events.new.items (vcd_state self.new)) }
-        ensures refused { IfErr result (SaysNothing
+        ensures refused { IfErr result (IsRefusedBy
             (all_say word_says (vcd_state self.old) (words_of line.now))) }
     {
         let mut start = 0;
@@ -376,7 +370,7 @@ impl<'a> Vcd<'a> {
     pub fn take_line(&mut self, line: &[u8], events: &mut Vec<Event>) -> Result<(), Refusal>
         ensures said { OnOk result (Adds (vcd_line_says (vcd_state self.old) line.now)
             events.old.items events.new.items (vcd_state self.new)) }
-        ensures refused { IfErr result (SaysNothing (vcd_line_says (vcd_state self.old) line.now)) }
+        ensures refused { IfErr result (IsRefusedBy (vcd_line_says (vcd_state self.old) line.now)) }
     {
         if line.starts_with(b"META ") && is_header(self.place) {
             return Ok(());
@@ -388,6 +382,7 @@ impl<'a> Vcd<'a> {
     pub fn end(&self) -> Result<(), Refusal>
         ensures ended { OnOk result (self.now.place ≡ Place.Changes) }
         ensures refused { OnErr result (self.now.place ≢ Place.Changes) }
+        ensures reason { IfErr result (λ e. e ≡ Refusal.Header) }
     {
         match self.place {
             Place::Changes => Ok(()),

@@ -1,10 +1,10 @@
 use Rattle.std.proofs.Common.{◌≡◌, ◌++◌, drop, map, take}
-use Rattle.std.specs.Prelude.{option_map}
+use Rattle.xb_vcd.specs.Steps.{result_map}
 use Rattle.xb_vcd.specs.VcdTexts.{declared_codes}
 use Rattle.xb_vcd.proofs.declaration.declare.Given as goal
 
 abbrev pub invariant-loop-i : goal.invariant-loop-i
 invariant-loop-i l =
-    option_map (λ later. take l.i l.codes ++ later)
+    result_map (λ later. take l.i l.codes ++ later)
     (declared_codes l.words l.name (map (λ wanted. wanted.now) (drop l.i l.names)) (drop l.i l.codes))
     ≡ declared_codes l.words l.name (map (λ wanted. wanted.now) l.names) l.initial.codes

@@ -1,6 +1,6 @@
 use Rattle.std.proofs.Common.{sym, ◌∙◌}
 use Rattle.std.proofs.lemmas.Result.{on_ok_weaker}
-use Rattle.xb_vcd.specs.VcdTexts.{vcd_state}
+use Rattle.xb_vcd.specs.VcdChanges.{vcd_state}
 use Rattle.xb_vcd.proofs.VcdLemmas.{piece_adds}
 use Rattle.xb_vcd.proofs.vcd.Vcd.take_piece.Goals as goal
 

@@ -1,8 +1,10 @@
-use Rattle.std.proofs.Common.{◌≡◌, ◌≤◌, List, [], None, drop}
-use Rattle.std.specs.Prelude.{slice_range}
+use Rattle.std.proofs.Common.{◌≡◌, ◌≤◌, List, [], drop}
+use Rattle.std.specs.Prelude.{Err, slice_range}
 use Rattle.xb_vcd.specs.declared.event.Event.{Event}
+use Rattle.xb_vcd.specs.declared.event.Refusal.{Refusal}
 use Rattle.xb_vcd.specs.Steps.{Adds, all_say}
-use Rattle.xb_vcd.specs.VcdTexts.{VcdState, vcd_state, word_says, words_in}
+use Rattle.xb_vcd.specs.VcdChanges.{VcdState, vcd_state}
+use Rattle.xb_vcd.specs.VcdTexts.{word_says, words_in}
 use Rattle.xb_vcd.proofs.vcd.Vcd.take_words.Given as goal
 
 abbrev pub invariant-loop-end : goal.invariant-loop-end
@@ -12,6 +14,7 @@ invariant-loop-end l = record {
       → Adds (all_say word_says (vcd_state l.self) (words_in (slice_range l.line l.start l.end) (drop l.end l.line)))
       l.events.items new state
       → Adds (all_say word_says (vcd_state l.initial.self) (words_in [] l.line)) l.initial.events.items new state;
-  nothing : all_say word_says (vcd_state l.self) (words_in (slice_range l.line l.start l.end) (drop l.end l.line)) ≡ None
-      → all_say word_says (vcd_state l.initial.self) (words_in [] l.line) ≡ None;
+  refused : (refusal : Refusal)
+      → all_say word_says (vcd_state l.self) (words_in (slice_range l.line l.start l.end) (drop l.end l.line)) ≡ Err refusal
+      → all_say word_says (vcd_state l.initial.self) (words_in [] l.line) ≡ Err refusal;
 }
