@@ -1,14 +1,16 @@
 -- Tables of levels, line by line.
-use Rattle.std.specs.Prelude.{◌≡◌, ℕ, ◌+◌, ◌*◌, List, [], ◌∷◌, ◌++◌, Bool, true, false, Option, Some, None, bytes_eq, codes, length, map, nat_eq, nat_lt, ◌==◌, ◌&&◌, ◌||◌, if◌then◌else◌, option_map, slice_get}
+use Rattle.std.specs.Prelude.{ℕ, ◌+◌, ◌*◌, List, [], ◌∷◌, Bool, true, false, Option, Some, None, Result, Ok, Err, bytes_eq, codes, length, map, nat_eq, nat_lt, ◌==◌, ◌&&◌, ◌||◌, if◌then◌else◌, slice_get}
 use Rattle.std.specs.List.{starts_with}
-use Rattle.std.specs.Option.{option_and_then}
+use Rattle.std.specs.Option.{ok_or, option_and_then}
 use Rattle.xb_contact.specs.declared.scale.Scale.{Scale}
 use Rattle.xb_contact.specs.declared.scale.TheConstants.{NANOSECONDS}
 use Rattle.xb_text.specs.Pieces.{cut_at}
 use Rattle.xb_vcd.specs.declared.event.Event.{Event}
 use Rattle.xb_vcd.specs.declared.event.Event.TheVariants.{At, Ticks}
+use Rattle.xb_vcd.specs.declared.event.Refusal.{Refusal}
+use Rattle.xb_vcd.specs.declared.event.Refusal.TheVariants as refusals
 use Rattle.xb_vcd.specs.Numbers.{number_of}
-use Rattle.xb_vcd.specs.Steps.{said_before}
+use Rattle.xb_vcd.specs.Steps.{Said, result_and_then, result_map, said_before, say_to_end}
 use Rattle.xb_vcd.specs.VcdChanges.{Times, level_event, times_of}
 use Rattle.xb_vcd.specs.VcdTexts.{scale_by}
 use Rattle.xb_csv.specs.declared.columns.Clock.{Clock}
@@ -52,10 +54,11 @@ begun_table form names rate = record {
 }
 
 -- the columns of wires: each is the first cell that is the wire's name
-abbrev pub columns_in : List (List ℕ) → List (List ℕ) → Option (List ℕ)
-columns_in cells [] = Some []
+abbrev pub columns_in : List (List ℕ) → List (List ℕ) → Result (List ℕ) Refusal
+columns_in cells [] = Ok []
 columns_in cells (name ∷ names) =
-    option_and_then (λ column. option_map (λ rest. column ∷ rest) (columns_in cells names)) (cell_number name cells)
+    result_and_then (λ column. result_map (λ rest. column ∷ rest) (columns_in cells names))
+    (ok_or (cell_number name cells) refusals.NoWire)
 
 -- a rate as `10 kHz` or `10000`
 abbrev pub hertz_of : List ℕ → Option ℕ
@@ -91,28 +94,30 @@ rate_known (Some rate) line = Some rate
 rate_known None line = rate_in line
 
 -- a comment of sigrok: the names of the wires follow a colon, and another may say the rate
-abbrev pub names_say : TableState → List ℕ → Option (List Event × TableState)
+abbrev pub names_say : TableState → List ℕ → Said TableState
 names_say state names =
-    option_map (λ columns. ([], record state { columns = columns })) (columns_in (cells_of names) state.names)
+    result_map (λ columns. ([], record state { columns = columns })) (columns_in (cells_of names) state.names)
 
-abbrev pub comment_by : TableState → List ℕ → Option (List ℕ) → Option (List Event × TableState)
-comment_by state line (Some names) = option_and_then (λ parts. names_say state parts.1) (cut_at 58 names)
-comment_by state line None = Some ([], record state { rate = rate_known state.rate line })
+abbrev pub comment_by : TableState → List ℕ → Option (List ℕ) → Said TableState
+comment_by state line (Some names) =
+    result_and_then (λ parts. names_say state parts.1) (ok_or (cut_at 58 names) refusals.Header)
+comment_by state line None = Ok ([], record state { rate = rate_known state.rate line })
 
-abbrev pub comment_says : TableState → List ℕ → Option (List Event × TableState)
+abbrev pub comment_says : TableState → List ℕ → Said TableState
 comment_says state line = comment_by state line (after (codes "; Channels (") line)
 
 abbrev pub is_comment : List ℕ → Bool
 is_comment line = starts_with nat_eq line (codes ";") || starts_with nat_eq line (codes "META ")
 
 -- a header says how long a tick is, and when a row is
-abbrev pub begins_rows : TableState → Clock → Scale → Option (List Event × TableState)
-begins_rows state clock scale = Some (Ticks scale ∷ [], record state { clock = clock })
+abbrev pub begins_rows : TableState → Clock → Scale → Said TableState
+begins_rows state clock scale = Ok (Ticks scale ∷ [], record state { clock = clock })
 
 -- where it has no time column, each row is a sample
-abbrev pub samples_begin : TableState → Option ℕ → Option (List Event × TableState)
-samples_begin state None = None
-samples_begin state (Some rate) = if rate == 0 then None else begins_rows state clocks.Rows (scale_by 1000 rate)
+abbrev pub samples_begin : TableState → Option ℕ → Said TableState
+samples_begin state None = Err refusals.NoRate
+samples_begin state (Some rate) =
+    if rate == 0 then Err refusals.NoRate else begins_rows state clocks.Rows (scale_by 1000 rate)
 
 -- the unit of a time column, by its label
 abbrev pub unit_of_label : List ℕ → Option Scale
@@ -123,42 +128,50 @@ unit_of_label label =
     else (if bytes_eq label (codes "nanoseconds") then Some (scale_by 1 1000000)
     else (if bytes_eq label (codes "picoseconds") then Some (scale_by 1 1000000000) else None))))
 
-abbrev pub sigrok_by_unit : TableState → List ℕ → Option Scale → Option (List Event × TableState)
+-- a label that is no unit: sigrok has written it where the time counts nothing
+abbrev pub label_refused : List ℕ → Refusal
+label_refused label =
+    if bytes_eq label (codes "samples") || bytes_eq label (codes "Time") then refusals.NoUnit else refusals.Header
+
+abbrev pub sigrok_by_unit : TableState → List ℕ → Option Scale → Said TableState
 sigrok_by_unit state label (Some scale) = begins_rows state clocks.Ticks scale
 sigrok_by_unit state label None =
-    if bytes_eq label (codes "logic") then samples_begin state state.rate else None
+    if bytes_eq label (codes "logic") then samples_begin state state.rate else Err (label_refused label)
 
 -- the header of sigrok, after the comment with the names
-abbrev pub sigrok_header : TableState → List ℕ → Option (List Event × TableState)
+abbrev pub sigrok_header : TableState → List ℕ → Said TableState
 sigrok_header state line =
     if length state.columns == length state.names
-    then option_and_then (λ label. sigrok_by_unit state label (unit_of_label label)) (slice_get (cells_of line) 0)
-    else None
+    then result_and_then (λ label. sigrok_by_unit state label (unit_of_label label))
+    (ok_or (slice_get (cells_of line) 0) refusals.Header)
+    else Err refusals.Header
 
 -- the header of Saleae has the names of the wires after the label of the time
-abbrev pub saleae_begins : TableState → List ℕ → Option (List Event × TableState)
+abbrev pub saleae_begins : TableState → List ℕ → Said TableState
 saleae_begins state line =
-    option_and_then (λ columns. begins_rows (record state { columns = columns }) clocks.Seconds NANOSECONDS)
+    result_and_then (λ columns. begins_rows (record state { columns = columns }) clocks.Seconds NANOSECONDS)
     (columns_in (cells_of line) state.names)
 
-abbrev pub saleae_header : TableState → List ℕ → Option (List Event × TableState)
+abbrev pub saleae_header : TableState → List ℕ → Said TableState
 saleae_header state line =
-    option_and_then (λ label. if bytes_eq label (codes "Time [s]") then saleae_begins state line else None)
-    (slice_get (cells_of line) 0)
+    result_and_then
+    (λ label. if bytes_eq label (codes "Time [s]") then saleae_begins state line else Err refusals.Header)
+    (ok_or (slice_get (cells_of line) 0) refusals.Header)
 
 -- where no header comes, wires have the numbers of their columns, 1 to 65,535
 abbrev pub column_number : List ℕ → Option ℕ
 column_number name =
     option_and_then (λ n. if nat_lt 0 n && nat_lt n 65536 then Some n else None) (number_of name)
 
-abbrev pub numbered_columns : List (List ℕ) → Option (List ℕ)
-numbered_columns [] = Some []
+abbrev pub numbered_columns : List (List ℕ) → Result (List ℕ) Refusal
+numbered_columns [] = Ok []
 numbered_columns (name ∷ names) =
-    option_and_then (λ column. option_map (λ rest. column ∷ rest) (numbered_columns names)) (column_number name)
+    result_and_then (λ column. result_map (λ rest. column ∷ rest) (numbered_columns names))
+    (ok_or (column_number name) refusals.NoWire)
 
-abbrev pub no_header : TableState → Option (List Event × TableState)
+abbrev pub no_header : TableState → Said TableState
 no_header state =
-    option_and_then (λ columns. begins_rows (record state { columns = columns }) clocks.Seconds NANOSECONDS)
+    result_and_then (λ columns. begins_rows (record state { columns = columns }) clocks.Seconds NANOSECONDS)
     (numbered_columns state.names)
 
 -- when a row is: its first cell says it, or each row is a tick
@@ -173,12 +186,17 @@ abbrev pub level_of_cell : List ℕ → Option Bool
 level_of_cell cell =
     if bytes_eq cell (codes "0") then Some false else (if bytes_eq cell (codes "1") then Some true else None)
 
-abbrev pub levels_from : ℕ → ℕ → List (List ℕ) → List ℕ → Option (List Event)
-levels_from wire before cells [] = Some []
+-- that of a wire, in its column
+abbrev pub level_in : Option (List ℕ) → Result Bool Refusal
+level_in None = Err refusals.Columns
+level_in (Some cell) = ok_or (level_of_cell cell) refusals.Level
+
+abbrev pub levels_from : ℕ → ℕ → List (List ℕ) → List ℕ → Result (List Event) Refusal
+levels_from wire before cells [] = Ok []
 levels_from wire before cells (column ∷ columns) =
-    option_and_then
-    (λ is_high. option_map (λ rest. level_event wire is_high ∷ rest) (levels_from (wire + 1) before cells columns))
-    (option_and_then level_of_cell (slice_get cells (before + column)))
+    result_and_then
+    (λ is_high. result_map (λ rest. level_event wire is_high ∷ rest) (levels_from (wire + 1) before cells columns))
+    (level_in (slice_get cells (before + column)))
 
 -- the columns before those that sigrok names: that of the time
 abbrev pub columns_before : Clock → ℕ
@@ -188,64 +206,62 @@ columns_before clocks.Seconds = 0
 columns_before clocks.Rows = 0
 
 -- a row: its time, not before the last one, and the levels of the wires
-abbrev pub row_at : TableState → List (List ℕ) → ℕ → Option (List Event × TableState)
+abbrev pub row_at : TableState → List (List ℕ) → ℕ → Said TableState
 row_at state cells time =
-    if state.times.has_time && nat_lt time state.times.last then None
-    else option_map (λ levels. (At time ∷ levels, record state { times = times_of time true }))
+    if state.times.has_time && nat_lt time state.times.last then Err refusals.Backwards
+    else result_map (λ levels. (At time ∷ levels, record state { times = times_of time true }))
     (levels_from 0 (columns_before state.clock) cells state.columns)
 
-abbrev pub row_says : TableState → List ℕ → Option (List Event × TableState)
+abbrev pub row_says : TableState → List ℕ → Said TableState
 row_says state line =
-    option_and_then
-    (λ cell. option_and_then (row_at state (cells_of line)) (row_time state.clock state.times cell))
-    (slice_get (cells_of line) 0)
+    result_and_then
+    (λ cell. result_and_then (row_at state (cells_of line))
+    (ok_or (row_time state.clock state.times cell) refusals.Time))
+    (ok_or (slice_get (cells_of line) 0) refusals.Columns)
 
 -- a line of each form, by whether its header has come
-abbrev pub sigrok_row : TableState → Clock → List ℕ → Option (List Event × TableState)
+abbrev pub sigrok_row : TableState → Clock → List ℕ → Said TableState
 sigrok_row state clocks.Unknown line = sigrok_header state line
 sigrok_row state clocks.Ticks line = row_says state line
 sigrok_row state clocks.Seconds line = row_says state line
 sigrok_row state clocks.Rows line = row_says state line
 
-abbrev pub sigrok_line : TableState → List ℕ → Option (List Event × TableState)
+abbrev pub sigrok_line : TableState → List ℕ → Said TableState
 sigrok_line state line = if is_comment line then comment_says state line else sigrok_row state state.clock line
 
-abbrev pub saleae_row : TableState → Clock → List ℕ → Option (List Event × TableState)
+abbrev pub saleae_row : TableState → Clock → List ℕ → Said TableState
 saleae_row state clocks.Unknown line = saleae_header state line
 saleae_row state clocks.Ticks line = row_says state line
 saleae_row state clocks.Seconds line = row_says state line
 saleae_row state clocks.Rows line = row_says state line
 
-abbrev pub edges_row : TableState → Clock → List ℕ → Option (List Event × TableState)
+abbrev pub edges_row : TableState → Clock → List ℕ → Said TableState
 edges_row state clocks.Unknown line =
-    option_and_then (λ said. said_before said.0 (row_says said.1 line)) (no_header state)
+    result_and_then (λ said. said_before said.0 (row_says said.1 line)) (no_header state)
 edges_row state clocks.Ticks line = row_says state line
 edges_row state clocks.Seconds line = row_says state line
 edges_row state clocks.Rows line = row_says state line
 
-abbrev pub line_of_form : TableState → Form → List ℕ → Option (List Event × TableState)
+abbrev pub line_of_form : TableState → Form → List ℕ → Said TableState
 line_of_form state forms.Sigrok line = sigrok_line state line
 line_of_form state forms.Saleae line = saleae_row state state.clock line
 line_of_form state forms.Edges line = edges_row state state.clock line
 
 -- a line, without the blanks around it; an empty one says nothing
-abbrev pub table_line_says : TableState → List ℕ → Option (List Event × TableState)
+abbrev pub table_line_says : TableState → List ℕ → Said TableState
 table_line_says state line =
-    if length (trimmed line) == 0 then Some ([], state) else line_of_form state state.form (trimmed line)
+    if length (trimmed line) == 0 then Ok ([], state) else line_of_form state state.form (trimmed line)
 
 -- the end: there has to be a row, and where each row is a tick, the last one lasts a tick too
-abbrev pub ends_at : Clock → ℕ → Option (List Event)
-ends_at clocks.Unknown last = Some []
-ends_at clocks.Ticks last = Some []
-ends_at clocks.Seconds last = Some []
-ends_at clocks.Rows last = option_map (λ time. At time ∷ []) (fitting (last + 1))
+abbrev pub ends_at : Clock → ℕ → Result (List Event) Refusal
+ends_at clocks.Unknown last = Ok []
+ends_at clocks.Ticks last = Ok []
+ends_at clocks.Seconds last = Ok []
+ends_at clocks.Rows last = result_map (λ time. At time ∷ []) (ok_or (fitting (last + 1)) refusals.Time)
 
-abbrev pub table_ends : TableState → Option (List Event)
-table_ends state = if state.times.has_time then ends_at state.clock state.times.last else None
+abbrev pub table_ends : TableState → Result (List Event) Refusal
+table_ends state = if state.times.has_time then ends_at state.clock state.times.last else Err refusals.Header
 
 -- the lines of a table from a state on, and its end
-abbrev pub table_says : TableState → List (List ℕ) → Option (List Event)
-table_says state [] = table_ends state
-table_says state (line ∷ rest) =
-    option_and_then (λ said. option_map (λ later. said.0 ++ later) (table_says said.1 rest))
-    (table_line_says state line)
+abbrev pub table_says : TableState → List (List ℕ) → Result (List Event) Refusal
+table_says state lines = say_to_end table_line_says table_ends state lines

@@ -1,12 +1,12 @@
 // Tables of levels, row by row.
-ghost use Rattle.std.specs.Prelude.{◌≡◌, ◌+◌, ◌++◌, ◌≤◌, [], Some, IfErr, OnOk, map, option_copied};
-ghost use Rattle.xb_vcd.specs.Steps.{Adds, AddsAll, SaysNothing};
+ghost use Rattle.std.specs.Prelude.{◌≡◌, ◌+◌, ◌≤◌, [], Ok, IfErr, OnOk, map};
+ghost use Rattle.xb_vcd.specs.Steps.{Adds, AddsAll, IsRefusedBy};
 ghost use Rattle.xb_vcd.specs.VcdChanges.{times_of};
 ghost use Rattle.xb_csv.specs.Cells.{cells_of};
 ghost use Rattle.xb_csv.specs.Tables.{begun_table, begins_rows, columns_before, comment_says, edges_row, ends_at, levels_from, line_of_form, names_say, no_header, row_at, row_says, row_time, saleae_begins, saleae_header, saleae_row, samples_begin, sigrok_by_unit, sigrok_header, sigrok_line, sigrok_row, table_ends, table_line_says, table_state, unit_of_label};
 
 use crate::cells::{after, cell_at, trimmed};
-use crate::labels::{is_comment, rate_in, unit_of_label};
+use crate::labels::{is_comment, rate_in, refusal_of_label, unit_of_label};
 use crate::seconds::nanoseconds_of;
 use crate::wires::{find_columns, level_of_cell, number_columns};
 use std::alloc::Global;
@@ -83,8 +83,8 @@ impl<'a> Columns<'a> {
     // The comment with the names of the wires.
     fn take_names(&mut self, names: &[u8]) -> Result<(), Refusal>
         ensures said { OnOk result
-            (names_say (table_state self.old) names.now ≡ Some ([], table_state self.new)) }
-        ensures refused { IfErr result (SaysNothing (names_say (table_state self.old) names.now)) }
+            (names_say (table_state self.old) names.now ≡ Ok ([], table_state self.new)) }
+        ensures refused { IfErr result (IsRefusedBy (names_say (table_state self.old) names.now)) }
     {
         find_columns(names, self.names, &mut self.columns)
     }
@@ -92,8 +92,8 @@ impl<'a> Columns<'a> {
     // A comment of sigrok.
     fn take_comment(&mut self, line: &[u8]) -> Result<(), Refusal>
         ensures said { OnOk result
-            (comment_says (table_state self.old) line.now ≡ Some ([], table_state self.new)) }
-        ensures refused { IfErr result (SaysNothing (comment_says (table_state self.old) line.now)) }
+            (comment_says (table_state self.old) line.now ≡ Ok ([], table_state self.new)) }
+        ensures refused { IfErr result (IsRefusedBy (comment_says (table_state self.old) line.now)) }
     {
         match after(line, b"; Channels (") {
             Some(names) => match cut_at(b':', names) {
@@ -119,7 +119,7 @@ impl<'a> Columns<'a> {
     ) -> Result<(), Refusal>
         ensures said { OnOk result (Adds (begins_rows (table_state self.old) clock scale)
             events.old.items events.new.items (table_state self.new)) }
-        ensures refused { IfErr result (SaysNothing (begins_rows (table_state self.old) clock scale)) }
+        ensures refused { IfErr result (IsRefusedBy (begins_rows (table_state self.old) clock scale)) }
     {
         self.clock = clock;
         say(events, Event::Ticks(scale))
@@ -129,7 +129,7 @@ impl<'a> Columns<'a> {
     fn begin_samples(&mut self, events: &mut Vec<Event>) -> Result<(), Refusal>
         ensures said { OnOk result (Adds (samples_begin (table_state self.old) self.old.rate)
             events.old.items events.new.items (table_state self.new)) }
-        ensures refused { IfErr result (SaysNothing (samples_begin (table_state self.old) self.old.rate)) }
+        ensures refused { IfErr result (IsRefusedBy (samples_begin (table_state self.old) self.old.rate)) }
     {
         match self.rate {
             Some(ticks) if ticks > 0 => {
@@ -144,16 +144,13 @@ impl<'a> Columns<'a> {
         ensures said { OnOk result
             (Adds (sigrok_by_unit (table_state self.old) label.now (unit_of_label label.now))
             events.old.items events.new.items (table_state self.new)) }
-        ensures refused { IfErr result (SaysNothing
+        ensures refused { IfErr result (IsRefusedBy
             (sigrok_by_unit (table_state self.old) label.now (unit_of_label label.now))) }
     {
         match unit_of_label(label) {
             Some(scale) => self.begin_rows(Clock::Ticks, scale, events),
-            None => match label {
-                b"logic" => self.begin_samples(events),
-                b"samples" | b"Time" => Err(Refusal::NoUnit),
-                _ => Err(Refusal::Header),
-            },
+            None if label == b"logic".as_slice() => self.begin_samples(events),
+            None => Err(refusal_of_label(label)),
         }
     }
 
@@ -161,7 +158,7 @@ impl<'a> Columns<'a> {
     fn take_sigrok_header(&mut self, line: &[u8], events: &mut Vec<Event>) -> Result<(), Refusal>
         ensures said { OnOk result (Adds (sigrok_header (table_state self.old) line.now)
             events.old.items events.new.items (table_state self.new)) }
-        ensures refused { IfErr result (SaysNothing (sigrok_header (table_state self.old) line.now)) }
+        ensures refused { IfErr result (IsRefusedBy (sigrok_header (table_state self.old) line.now)) }
     {
         if self.columns.len() != self.names.len() {
             return Err(Refusal::Header);
@@ -176,7 +173,7 @@ impl<'a> Columns<'a> {
     fn begin_saleae(&mut self, line: &[u8], events: &mut Vec<Event>) -> Result<(), Refusal>
         ensures said { OnOk result (Adds (saleae_begins (table_state self.old) line.now)
             events.old.items events.new.items (table_state self.new)) }
-        ensures refused { IfErr result (SaysNothing (saleae_begins (table_state self.old) line.now)) }
+        ensures refused { IfErr result (IsRefusedBy (saleae_begins (table_state self.old) line.now)) }
     {
         find_columns(line, self.names, &mut self.columns)?;
         self.begin_rows(Clock::Seconds, NANOSECONDS, events)
@@ -186,7 +183,7 @@ impl<'a> Columns<'a> {
     fn take_saleae_header(&mut self, line: &[u8], events: &mut Vec<Event>) -> Result<(), Refusal>
         ensures said { OnOk result (Adds (saleae_header (table_state self.old) line.now)
             events.old.items events.new.items (table_state self.new)) }
-        ensures refused { IfErr result (SaysNothing (saleae_header (table_state self.old) line.now)) }
+        ensures refused { IfErr result (IsRefusedBy (saleae_header (table_state self.old) line.now)) }
     {
         match cell_at(line, 0) {
             Some(label) if label == b"Time [s]".as_slice() => self.begin_saleae(line, events),
@@ -198,7 +195,7 @@ impl<'a> Columns<'a> {
     fn take_no_header(&mut self, events: &mut Vec<Event>) -> Result<(), Refusal>
         ensures said { OnOk result (Adds (no_header (table_state self.old))
             events.old.items events.new.items (table_state self.new)) }
-        ensures refused { IfErr result (SaysNothing (no_header (table_state self.old))) }
+        ensures refused { IfErr result (IsRefusedBy (no_header (table_state self.old))) }
     {
         number_columns(self.names, &mut self.columns)?;
         self.begin_rows(Clock::Seconds, NANOSECONDS, events)
@@ -222,7 +219,7 @@ impl<'a> Columns<'a> {
         ensures said { OnOk result (AddsAll
             (levels_from 0 (columns_before self.now.clock) (cells_of line.now) self.now.columns.items)
             events.old.items events.new.items) }
-        ensures refused { IfErr result (SaysNothing
+        ensures refused { IfErr result (IsRefusedBy
             (levels_from 0 (columns_before self.now.clock) (cells_of line.now) self.now.columns.items)) }
     {
         let before = columns_before(self.clock);
@@ -247,7 +244,7 @@ impl<'a> Columns<'a> {
     ) -> Result<(), Refusal>
         ensures said { OnOk result (Adds (row_at (table_state self.old) (cells_of line.now) time)
             events.old.items events.new.items (table_state self.new)) }
-        ensures refused { IfErr result (SaysNothing (row_at (table_state self.old) (cells_of line.now) time)) }
+        ensures refused { IfErr result (IsRefusedBy (row_at (table_state self.old) (cells_of line.now) time)) }
     {
         if self.has_time && time < self.last {
             return Err(Refusal::Backwards);
@@ -262,7 +259,7 @@ impl<'a> Columns<'a> {
     fn take_row(&mut self, line: &[u8], events: &mut Vec<Event>) -> Result<(), Refusal>
         ensures said { OnOk result (Adds (row_says (table_state self.old) line.now)
             events.old.items events.new.items (table_state self.new)) }
-        ensures refused { IfErr result (SaysNothing (row_says (table_state self.old) line.now)) }
+        ensures refused { IfErr result (IsRefusedBy (row_says (table_state self.old) line.now)) }
     {
         let Some(cell) = cell_at(line, 0) else {
             return Err(Refusal::Columns);
@@ -277,7 +274,7 @@ impl<'a> Columns<'a> {
     fn take_sigrok_row(&mut self, line: &[u8], events: &mut Vec<Event>) -> Result<(), Refusal>
         ensures said { OnOk result (Adds (sigrok_row (table_state self.old) self.old.clock line.now)
             events.old.items events.new.items (table_state self.new)) }
-        ensures refused { IfErr result (SaysNothing
+        ensures refused { IfErr result (IsRefusedBy
             (sigrok_row (table_state self.old) self.old.clock line.now)) }
     {
         match self.clock {
@@ -290,7 +287,7 @@ impl<'a> Columns<'a> {
     fn take_sigrok(&mut self, line: &[u8], events: &mut Vec<Event>) -> Result<(), Refusal>
         ensures said { OnOk result (Adds (sigrok_line (table_state self.old) line.now)
             events.old.items events.new.items (table_state self.new)) }
-        ensures refused { IfErr result (SaysNothing (sigrok_line (table_state self.old) line.now)) }
+        ensures refused { IfErr result (IsRefusedBy (sigrok_line (table_state self.old) line.now)) }
     {
         if is_comment(line) {
             return self.take_comment(line);
@@ -302,7 +299,7 @@ impl<'a> Columns<'a> {
     fn take_saleae(&mut self, line: &[u8], events: &mut Vec<Event>) -> Result<(), Refusal>
         ensures said { OnOk result (Adds (saleae_row (table_state self.old) self.old.clock line.now)
             events.old.items events.new.items (table_state self.new)) }
-        ensures refused { IfErr result (SaysNothing
+        ensures refused { IfErr result (IsRefusedBy
             (saleae_row (table_state self.old) self.old.clock line.now)) }
     {
         match self.clock {
@@ -315,7 +312,7 @@ impl<'a> Columns<'a> {
     fn take_edges(&mut self, line: &[u8], events: &mut Vec<Event>) -> Result<(), Refusal>
         ensures said { OnOk result (Adds (edges_row (table_state self.old) self.old.clock line.now)
             events.old.items events.new.items (table_state self.new)) }
-        ensures refused { IfErr result (SaysNothing
+        ensures refused { IfErr result (IsRefusedBy
             (edges_row (table_state self.old) self.old.clock line.now)) }
     {
         match self.clock {
@@ -331,7 +328,7 @@ impl<'a> Columns<'a> {
     fn take_by_form(&mut self, line: &[u8], events: &mut Vec<Event>) -> Result<(), Refusal>
         ensures said { OnOk result (Adds (line_of_form (table_state self.old) self.old.form line.now)
             events.old.items events.new.items (table_state self.new)) }
-        ensures refused { IfErr result (SaysNothing
+        ensures refused { IfErr result (IsRefusedBy
             (line_of_form (table_state self.old) self.old.form line.now)) }
     {
         match self.form {
@@ -345,7 +342,7 @@ impl<'a> Columns<'a> {
     pub fn take_line(&mut self, line: &[u8], events: &mut Vec<Event>) -> Result<(), Refusal>
         ensures said { OnOk result (Adds (table_line_says (table_state self.old) line.now)
             events.old.items events.new.items (table_state self.new)) }
-        ensures refused { IfErr result (SaysNothing (table_line_says (table_state self.old) line.now)) }
+        ensures refused { IfErr result (IsRefusedBy (table_line_says (table_state self.old) line.now)) }
     {
         let line = trimmed(line);
         if line.is_empty() {
@@ -358,7 +355,7 @@ impl<'a> Columns<'a> {
     fn end_samples(&self, events: &mut Vec<Event>) -> Result<(), Refusal>
         ensures said { OnOk result
             (AddsAll (ends_at self.now.clock self.now.last) events.old.items events.new.items) }
-        ensures refused { IfErr result (SaysNothing (ends_at self.now.clock self.now.last)) }
+        ensures refused { IfErr result (IsRefusedBy (ends_at self.now.clock self.now.last)) }
     {
         match self.clock {
             Clock::Rows => match self.last.checked_add(1) {
@@ -373,7 +370,7 @@ impl<'a> Columns<'a> {
     pub fn end(&self, events: &mut Vec<Event>) -> Result<(), Refusal>
         ensures said { OnOk result
             (AddsAll (table_ends (table_state self.now)) events.old.items events.new.items) }
-        ensures refused { IfErr result (SaysNothing (table_ends (table_state self.now))) }
+        ensures refused { IfErr result (IsRefusedBy (table_ends (table_state self.now))) }
     {
         if !self.has_time {
             return Err(Refusal::Header);

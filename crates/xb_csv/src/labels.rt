@@ -1,12 +1,12 @@
 // What the words before the rows say: the unit of a time column, and the rate of the samples.
 ghost use Rattle.std.specs.Prelude.{◌≡◌};
 ghost use Rattle.xb_vcd.specs.VcdTexts.{scale_by};
-ghost use Rattle.xb_csv.specs.Tables.{hertz_of, is_comment, rate_by, rate_in, rate_of, unit_of_label};
+ghost use Rattle.xb_csv.specs.Tables.{hertz_of, is_comment, label_refused, rate_by, rate_in, rate_of, unit_of_label};
 
 use crate::cells::{after, trimmed};
 use xb_contact::Scale;
 use xb_text::cut_at;
-use xb_vcd::number_of;
+use xb_vcd::{Refusal, number_of};
 
 // So many ms are so many ticks.
 fn scale_by(ms: u64, ticks: u64) -> Scale
@@ -31,6 +31,17 @@ pub(crate) fn unit_of_label(label: &[u8]) -> Option<Scale>
         Some(scale_by(1, 1_000_000_000))
     } else {
         None
+    }
+}
+
+// Why a time column of this label is refused, which is no unit.
+pub(crate) fn refusal_of_label(label: &[u8]) -> Refusal
+    ensures { result ≡ label_refused label.now }
+{
+    if label == b"samples".as_slice() || label == b"Time".as_slice() {
+        Refusal::NoUnit
+    } else {
+        Refusal::Header
     }
 }
 

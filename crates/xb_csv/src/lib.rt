@@ -1,8 +1,8 @@
 //! Tables of levels, as recordings of contacts: the CSV of sigrok and of Saleae, and times with levels.
 //!
 //! - `Columns::take_line` and `Columns::end` (`table_line_says`, `table_ends`): exactly what a line and the end of a
-//!   table say of the wires that are asked for, or a refusal, which comes only where they say nothing (`SaysNothing`) or
-//!   memory ran out. What a whole table says is `table_says`.
+//!   table say of the wires that are asked for, or why they are refused (`IsRefusedBy`), unless memory ran out. What a
+//!   whole table says is `table_says`.
 //! - `trimmed` and `cell_at` (`Cells`): the cells of a line, without the blanks around them.
 //! - `nanoseconds_of` (`Seconds`): a time in seconds, with a sign where it is below 0, to the nanosecond.
 #![tactic(auto)]

@@ -30,7 +30,7 @@ fn digit_at(text: &[u8], place: usize) -> u8
     }
 }
 
-// The number that a further byte is written behind, if that is a digit.
+// A number with a further byte after it, if that is a digit.
 fn number_after(number: u64, byte: u8) -> Option<u64>
     ensures { result ≡ number_after number byte }
 {

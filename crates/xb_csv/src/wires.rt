@@ -1,6 +1,6 @@
 // The columns of the wires, and their levels.
-ghost use Rattle.std.specs.Prelude.{◌≡◌, Some, IfErr, OnOk, map};
-ghost use Rattle.xb_vcd.specs.Steps.{SaysNothing};
+ghost use Rattle.std.specs.Prelude.{◌≡◌, Ok, IfErr, OnOk, map};
+ghost use Rattle.xb_vcd.specs.Steps.{IsRefusedBy};
 ghost use Rattle.xb_csv.specs.Cells.{cells_of};
 ghost use Rattle.xb_csv.specs.Tables.{column_number, columns_in, level_of_cell, numbered_columns};
 
@@ -15,8 +15,8 @@ pub(crate) fn find_columns(
     columns: &mut Vec<u16>,
 ) -> Result<(), Refusal>
     ensures said { OnOk result
-        (columns_in (cells_of line.now) (map (λ name. name.now) names.now) ≡ Some columns.new.items) }
-    ensures refused { IfErr result (SaysNothing
+        (columns_in (cells_of line.now) (map (λ name. name.now) names.now) ≡ Ok columns.new.items) }
+    ensures refused { IfErr result (IsRefusedBy
         (columns_in (cells_of line.now) (map (λ name. name.now) names.now))) }
 {
     columns.clear();
@@ -41,8 +41,8 @@ fn column_number(name: &str) -> Option<u16>
 
 // The columns of wires that are named by their numbers.
 pub(crate) fn number_columns(names: &[&str], columns: &mut Vec<u16>) -> Result<(), Refusal>
-    ensures said { OnOk result (numbered_columns (map (λ name. name.now) names.now) ≡ Some columns.new.items) }
-    ensures refused { IfErr result (SaysNothing (numbered_columns (map (λ name. name.now) names.now))) }
+    ensures said { OnOk result (numbered_columns (map (λ name. name.now) names.now) ≡ Ok columns.new.items) }
+    ensures refused { IfErr result (IsRefusedBy (numbered_columns (map (λ name. name.now) names.now))) }
 {
     columns.clear();
     for name in names {

@@ -1,12 +1,12 @@
 use Rattle.std.proofs.Common.{◌≡◌, ◌++◌, drop}
-use Rattle.std.specs.Prelude.{option_map}
+use Rattle.xb_vcd.specs.Steps.{result_map}
 use Rattle.xb_csv.specs.Cells.{cells_of}
 use Rattle.xb_csv.specs.Tables.{columns_before, levels_from}
 use Rattle.xb_csv.proofs.columns.Columns.say_levels.Given as goal
 
 abbrev pub invariant-loop-wire : goal.invariant-loop-wire
 invariant-loop-wire l =
-    option_map (λ later. l.events.items ++ later)
+    result_map (λ later. l.events.items ++ later)
     (levels_from l.wire (columns_before l.self.clock) (cells_of l.line) (drop l.wire l.self.columns.items))
-    ≡ option_map (λ later. l.initial.events.items ++ later)
+    ≡ result_map (λ later. l.initial.events.items ++ later)
     (levels_from 0 (columns_before l.self.clock) (cells_of l.line) l.self.columns.items)

@@ -1,0 +1,33 @@
+use Rattle.std.proofs.Common.{◌≡◌, List, ap, sym, subst, ◌∙◌}
+use Rattle.std.proofs.lemmas.Result.{IfErr-weaker}
+use Rattle.std.specs.Prelude.{Ok, Err}
+use Rattle.xb_vcd.specs.declared.event.Event.{Event}
+use Rattle.xb_vcd.specs.declared.event.Refusal.{Refusal}
+use Rattle.xb_vcd.specs.Steps.{Adds, IsRefusedBy, Said, result_and_then, said_before}
+use Rattle.xb_csv.specs.declared.columns.Clock.{Clock}
+use Rattle.xb_csv.specs.Tables.{TableState, edges_row, no_header, row_says, table_state}
+use Rattle.xb_csv.proofs.columns.Columns.take_edges.Goals as goal
+
+-- a row that is refused after what was said before it
+then_refused :
+    (next : TableState → Said TableState) (first : Said TableState) (old mid : List Event) (now : TableState)
+    (refusal : Refusal) → Adds first old mid now → next now ≡ Err refusal
+    → result_and_then (λ said. said_before said.0 (next said.1)) first ≡ Err refusal
+then_refused next (Err own) old mid now refusal h e = elim h [ ]
+then_refused next (Ok said) old mid now refusal h e =
+    ap (λ s. said_before said.0 (next s)) (sym h.1) ∙ ap (said_before said.0) e
+
+pub returns-in_ok-take_no_header-in-Unknown-clause-refused :
+    goal.returns-in_ok-take_no_header-in-Unknown-clause-refused
+returns-in_ok-take_no_header-in-Unknown-clause-refused c =
+    let state = table_state c.args.self.now in
+    let now = table_state c.take_no_header.new.self in
+    let line = c.args.line.now in
+    IfErr-weaker c.take_row.result _ _
+    (λ refusal refused.
+    let P : Clock → Type 0 = λ clock. IsRefusedBy (edges_row state clock line) refusal in
+    let unknown : IsRefusedBy (result_and_then (λ said. said_before said.0 (row_says said.1 line)) (no_header state)) refusal =
+    λ other. then_refused (λ s. row_says s line) (no_header state) c.args.events.now.items c.take_no_header.new.events.items
+    now refusal c.in_ok-take_no_header-in-Unknown.ensures.said (refused other) in
+    subst P (sym c.in-Unknown.is) unknown)
+    c.take_row.ensures.refused
