@@ -1,9 +1,12 @@
 -- Raw samples, a byte for eight wires.
-use Rattle.std.specs.Prelude.{◌≡◌, ℕ, ◌+◌, ◌^◌, List, [], ◌∷◌, ◌++◌, Bool, false, Option, Some, None, bit_and, nat_eq, nat_lt, not, ◌==◌, if◌then◌else◌, option_map}
-use Rattle.std.specs.Option.{option_and_then}
+use Rattle.std.specs.Prelude.{◌≡◌, ℕ, ◌+◌, ◌^◌, List, [], ◌∷◌, ◌++◌, Bool, false, Option, Some, None, Result, Ok, Err, bit_and, nat_eq, nat_lt, not, ◌==◌, if◌then◌else◌}
+use Rattle.std.specs.Option.{ok_or, option_and_then}
 use Rattle.xb_vcd.specs.declared.event.Event.{Event}
 use Rattle.xb_vcd.specs.declared.event.Event.TheVariants.{At, Ticks}
+use Rattle.xb_vcd.specs.declared.event.Refusal.{Refusal}
+use Rattle.xb_vcd.specs.declared.event.Refusal.TheVariants as refusals
 use Rattle.xb_vcd.specs.Numbers.{number_of}
+use Rattle.xb_vcd.specs.Steps.{result_and_then, result_map}
 use Rattle.xb_vcd.specs.VcdChanges.{level_event}
 use Rattle.xb_vcd.specs.VcdTexts.{scale_by}
 use Rattle.xb_samples.specs.declared.bits.Bits.{Bits}
@@ -13,9 +16,10 @@ use Rattle.xb_samples.specs.Pieces.{Reading, samples_events}
 abbrev pub mask_of : List ℕ → Option ℕ
 mask_of name = option_and_then (λ bit. if nat_lt bit 8 then Some (2 ^ bit) else None) (number_of name)
 
-abbrev pub masks_of : List (List ℕ) → Option (List ℕ)
-masks_of [] = Some []
-masks_of (name ∷ names) = option_and_then (λ mask. option_map (λ rest. mask ∷ rest) (masks_of names)) (mask_of name)
+abbrev pub masks_of : List (List ℕ) → Result (List ℕ) Refusal
+masks_of [] = Ok []
+masks_of (name ∷ names) =
+    result_and_then (λ mask. result_map (λ rest. mask ∷ rest) (masks_of names)) (ok_or (mask_of name) refusals.NoWire)
 
 abbrev pub is_set : ℕ → ℕ → Bool
 is_set sample mask = not (bit_and sample mask == 0)
@@ -39,7 +43,7 @@ bits_state bits = bits_of bits.masks.items bits.last bits.count
 
 -- nothing was taken of the wires of these names
 abbrev pub IsNewBits : List (List ℕ) → Bits → Type 0
-IsNewBits names bits = option_map (λ masks. bits_of masks None 0) (masks_of names) ≡ Some (bits_state bits)
+IsNewBits names bits = result_map (λ masks. bits_of masks None 0) (masks_of names) ≡ Ok (bits_state bits)
 
 abbrev pub is_same : Option ℕ → ℕ → Bool
 is_same None sample = false
@@ -57,13 +61,13 @@ abbrev pub bits_reading : Reading BitsState ℕ
 bits_reading = record { says = sample_events; next = after_sample; now = λ state. state.count }
 
 -- how long a tick is where a second has so many samples
-abbrev pub rate_says : Option ℕ → Option (List Event)
-rate_says None = None
-rate_says (Some rate) = if rate == 0 then None else Some (Ticks (scale_by 1000 rate) ∷ [])
+abbrev pub rate_says : Option ℕ → Result (List Event) Refusal
+rate_says None = Err refusals.NoRate
+rate_says (Some rate) = if rate == 0 then Err refusals.NoRate else Ok (Ticks (scale_by 1000 rate) ∷ [])
 
 -- all samples
-abbrev pub bits_say : List (List ℕ) → Option ℕ → List ℕ → Option (List Event)
+abbrev pub bits_say : List (List ℕ) → Option ℕ → List ℕ → Result (List Event) Refusal
 bits_say names rate samples =
-    option_and_then
-    (λ masks. option_map (λ said. said ++ samples_events bits_reading (bits_of masks None 0) samples) (rate_says rate))
+    result_and_then
+    (λ masks. result_map (λ said. said ++ samples_events bits_reading (bits_of masks None 0) samples) (rate_says rate))
     (masks_of names)

@@ -1,10 +1,13 @@
 -- What sound says: samples of 16 bits, each channel's in turn.
-use Rattle.std.specs.Prelude.{◌≡◌, ℕ, ◌+◌, ◌-◌, ◌*◌, ℤ, pos, neg_ℤ, int_le, max, min, List, [], ◌∷◌, ◌++◌, Bool, true, false, Option, Some, None, length, map, nat_le, nat_lt, take, ◌==◌, ◌&&◌, if◌then◌else◌, option_map}
+use Rattle.std.specs.Prelude.{◌≡◌, ℕ, ◌+◌, ◌-◌, ◌*◌, ℤ, pos, neg_ℤ, int_le, max, min, List, [], ◌∷◌, ◌++◌, Bool, true, false, Option, Some, None, Result, Ok, length, map, nat_le, nat_lt, take, ◌==◌, ◌&&◌, if◌then◌else◌, option_map}
 use Rattle.std.specs.Int.{cast_signed, from_le_bytes, w16}
-use Rattle.std.specs.Option.{option_and_then}
+use Rattle.std.specs.Option.{ok_or, option_and_then}
 use Rattle.xb_vcd.specs.declared.event.Event.{Event}
 use Rattle.xb_vcd.specs.declared.event.Event.TheVariants.{At}
+use Rattle.xb_vcd.specs.declared.event.Refusal.{Refusal}
+use Rattle.xb_vcd.specs.declared.event.Refusal.TheVariants as refusals
 use Rattle.xb_vcd.specs.Numbers.{number_of}
+use Rattle.xb_vcd.specs.Steps.{result_and_then, result_map}
 use Rattle.xb_vcd.specs.VcdChanges.{level_event}
 use Rattle.xb_samples.specs.declared.sound.Channel.{Channel}
 use Rattle.xb_samples.specs.declared.sound.Sound.{Sound}
@@ -116,16 +119,16 @@ channel_of channels name =
 abbrev pub low_wire : ℕ → Channel
 low_wire number = record { number = number; is_high = false }
 
-abbrev pub wires_of : ℕ → List (List ℕ) → Option (List Channel)
-wires_of channels [] = Some []
+abbrev pub wires_of : ℕ → List (List ℕ) → Result (List Channel) Refusal
+wires_of channels [] = Ok []
 wires_of channels (name ∷ names) =
-    option_and_then (λ number. option_map (λ rest. low_wire number ∷ rest) (wires_of channels names))
-    (channel_of channels name)
+    result_and_then (λ number. result_map (λ rest. low_wire number ∷ rest) (wires_of channels names))
+    (ok_or (channel_of channels name) refusals.NoWire)
 
 -- nothing was taken of a sound of so many channels and bytes, where these are known
 abbrev pub IsNewSound : ℕ → ℤ → List (List ℕ) → Option ℕ → Sound → Type 0
 IsNewSound channels high names length sound =
-    (option_map (begun_sound channels high) (wires_of channels names) ≡ Some (sound_state sound))
+    (result_map (begun_sound channels high) (wires_of channels names) ≡ Ok (sound_state sound))
     × (sound.lower ≡ None) × (sound.left ≡ length)
 
 abbrev pub levels_said : ℕ → List Channel → List Event
@@ -133,13 +136,13 @@ levels_said wire [] = []
 levels_said wire (own ∷ rest) = level_event wire own.is_high ∷ levels_said (wire + 1) rest
 
 -- what is said before the first sample: how long a tick is, and the levels of the wires
-abbrev pub sound_begins : Option ℕ → List Channel → Option (List Event)
-sound_begins rate wires = option_map (λ said. said ++ At 0 ∷ levels_said 0 wires) (rate_says rate)
+abbrev pub sound_begins : Option ℕ → List Channel → Result (List Event) Refusal
+sound_begins rate wires = result_map (λ said. said ++ At 0 ∷ levels_said 0 wires) (rate_says rate)
 
 -- all samples of so many channels
-abbrev pub sound_says : ℕ → ℤ → List (List ℕ) → Option ℕ → List ℤ → Option (List Event)
+abbrev pub sound_says : ℕ → ℤ → List (List ℕ) → Option ℕ → List ℤ → Result (List Event) Refusal
 sound_says channels high names rate samples =
-    option_and_then
-    (λ wires. option_map (λ said. said ++ samples_events sound_reading (begun_sound channels high wires) samples)
+    result_and_then
+    (λ wires. result_map (λ said. said ++ samples_events sound_reading (begun_sound channels high wires) samples)
     (sound_begins rate wires))
     (wires_of channels names)

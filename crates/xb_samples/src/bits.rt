@@ -1,7 +1,7 @@
 // Raw samples.
-ghost use Rattle.std.specs.Prelude.{◌≡◌, ◌≤◌, ◌+◌, ◌++◌, [], ℕ, Some, IfErr, IfOk, List, OnOk, length, map};
+ghost use Rattle.std.specs.Prelude.{◌≡◌, ◌+◌, ◌++◌, [], ℕ, Ok, IfErr, IfOk, List, OnOk, length, map};
 ghost use Rattle.xb_vcd.specs.declared.event.Event.{Event as Saying};
-ghost use Rattle.xb_vcd.specs.Steps.{AddsAll, SaysNothing};
+ghost use Rattle.xb_vcd.specs.Steps.{AddsAll, IsOnly, IsRefusedBy};
 ghost use Rattle.xb_samples.specs.Pieces.{RunsOver, SamplesSay, after_piece, piece_events};
 ghost use Rattle.xb_samples.specs.Samples.{IsNewBits, after_sample, bits_reading, bits_say, bits_state, is_set, mask_of, masks_of, rate_says, sample_events, sample_levels};
 
@@ -12,7 +12,7 @@ use xb_vcd::{Event, Refusal, number_of, say, say_level};
 // How long a tick is where a second has so many samples.
 pub(crate) fn say_rate(events: &mut Vec<Event>, rate: Option<u64>) -> Result<(), Refusal>
     ensures said { OnOk result (AddsAll (rate_says rate) events.old.items events.new.items) }
-    ensures refused { IfErr result (SaysNothing (rate_says rate)) }
+    ensures refused { IfErr result (IsRefusedBy (rate_says rate)) }
 {
     match rate {
         Some(ticks) if ticks > 0 => say(events, Event::Ticks(Scale { ms: 1_000, ticks })),
@@ -49,8 +49,8 @@ fn mask_of(name: &str) -> Option<u8>
 
 // The bits of wires.
 fn masks_of(alloc: Global, names: &[&str]) -> Result<Vec<u8>, Refusal>
-    ensures said { IfOk result (λ masks. masks_of (map (λ name. name.now) names.now) ≡ Some masks.items) }
-    ensures refused { IfErr result (SaysNothing (masks_of (map (λ name. name.now) names.now))) }
+    ensures said { IfOk result (λ masks. masks_of (map (λ name. name.now) names.now) ≡ Ok masks.items) }
+    ensures refused { IfErr result (IsRefusedBy (masks_of (map (λ name. name.now) names.now))) }
 {
     let mut masks = Vec::new(alloc);
     for name in names {
@@ -81,7 +81,7 @@ impl Bits {
         ensures wires { IfOk result (IsNewBits (map (λ name. name.now) names.now)) }
         ensures rate { OnOk result (AddsAll (rate_says rate) events.old.items events.new.items) }
         ensures refused { IfErr result (λ e. (samples : List ℕ)
-            → SaysNothing (bits_say (map (λ name. name.now) names.now) rate samples) e) }
+            → IsRefusedBy (bits_say (map (λ name. name.now) names.now) rate samples) e) }
     {
         let masks = masks_of(alloc, names)?;
         say_rate(events, rate)?;
@@ -110,6 +110,7 @@ impl Bits {
             (events.new.items ≡ events.old.items ++ sample_events (bits_state self.old) sample) }
         ensures state { OnOk result (bits_state self.new ≡ after_sample (bits_state self.old) sample) }
         ensures over { IfErr result (RunsOver self.old.count 1) }
+        ensures only { IfErr result (IsOnly Refusal.TooLate) }
     {
         if self.last != Some(sample) {
             say(events, Event::At(self.count))?;
@@ -130,6 +131,7 @@ impl Bits {
         ensures state { OnOk result
             (bits_state self.new ≡ after_piece bits_reading (bits_state self.old) samples.now) }
         ensures over { IfErr result (RunsOver self.old.count (length samples.now)) }
+        ensures only { IfErr result (IsOnly Refusal.TooLate) }
     {
         for sample in samples {
             self.take_sample(*sample, events)?;
@@ -145,6 +147,7 @@ impl Bits {
             → SamplesSay bits_reading (bits_state self.new) text later
             → SamplesSay bits_reading (bits_state self.old) (samples.now ++ text) (events.new.items ++ later)) }
         ensures over { IfErr result (RunsOver (bits_state self.old).count (length samples.now)) }
+        ensures only { IfErr result (IsOnly Refusal.TooLate) }
     {
         self.take_samples(samples, events)?;
         say(events, Event::At(self.count))
@@ -160,7 +163,9 @@ impl Bits {
     }
 
     /// How many samples have come.
-    pub fn count(&self) -> u64 {
+    pub fn count(&self) -> u64
+        ensures { result ≡ (bits_state self.now).count }
+    {
         self.count
     }
 }

@@ -3,8 +3,8 @@
 //! - `Bits` (`Samples`): a byte for eight wires. `Sound` (`Sounds`): 16 bits a sample, each channel's in turn, heard by
 //!   two thresholds. `WavHead` (`Wavs`): where the samples of a WAV begin, and how they are.
 //! - `take` and `end` of each: exactly what the samples say, in pieces of any length (`Pieces`: a piece may also say up
-//!   to when the levels hold), or where the samples begin (`HeadBegins`). A refusal comes only where the whole says
-//!   nothing (`SaysNothing`, `RefusesHead`), 2^64 ticks have gone by (`RunsOver`), or memory ran out.
+//!   to when the levels hold), or where the samples begin (`HeadBegins`). A refusal comes only where the whole is refused,
+//!   and for its reason (`IsRefusedBy`, `RefusesHead`), 2^64 ticks have gone by (`RunsOver`), or memory ran out.
 //! - `laws::each_level_is_heard`: two thresholds hear each level of a sound that is disturbed by less than they differ.
 #![tactic(auto)]
 

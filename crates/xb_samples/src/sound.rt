@@ -1,7 +1,6 @@
 // Sound of 16 bits a sample: a contact on a sound card.
-ghost use Rattle.std.specs.Prelude.{◌≡◌, ◌<ℤ◌, ◌≤◌, ◌+◌, ◌++◌, ◌∷◌, ◌↔◌, [], ℕ, ℤ, IfErr, IfOk, IfSome, IsSome, List, Some, OnOk, length, map, pos};
-ghost use Rattle.std.specs.Option.{option_and_then};
-ghost use Rattle.xb_vcd.specs.Steps.{AddsAll, SaysNothing};
+ghost use Rattle.std.specs.Prelude.{◌≡◌, ◌<ℤ◌, ◌≤◌, ◌+◌, ◌++◌, ◌∷◌, ◌↔◌, [], ℕ, ℤ, IfErr, IfOk, IfSome, IsSome, List, Ok, OnOk, length, map, pos};
+ghost use Rattle.xb_vcd.specs.Steps.{AddsAll, IsOnly, IsRefusedBy, result_and_then};
 ghost use Rattle.xb_vcd.specs.declared.event.Event.{Event as Saying};
 ghost use Rattle.xb_samples.specs.Hysteresis.{IsHeard};
 ghost use Rattle.xb_samples.specs.Pieces.{RunsOver, after_piece, piece_events};
@@ -76,8 +75,8 @@ fn channel_of(name: &str, channels: u8) -> Option<u8>
 // The wires of these names, all low.
 fn wires_of(alloc: Global, names: &[&str], channels: u8) -> Result<Vec<Channel>, Refusal>
     ensures said { IfOk result (λ wires.
-        wires_of channels (map (λ name. name.now) names.now) ≡ Some wires.items) }
-    ensures refused { IfErr result (SaysNothing (wires_of channels (map (λ name. name.now) names.now))) }
+        wires_of channels (map (λ name. name.now) names.now) ≡ Ok wires.items) }
+    ensures refused { IfErr result (IsRefusedBy (wires_of channels (map (λ name. name.now) names.now))) }
 {
     let mut wires = Vec::new(alloc);
     for name in names {
@@ -191,9 +190,9 @@ impl Sound {
     ) -> Result<Sound, Refusal>
         ensures begun { IfOk result
             (IsNewSound channels (high_of threshold) (map (λ name. name.now) names.now) length) }
-        ensures said { OnOk result (AddsAll (option_and_then (sound_begins rate)
+        ensures said { OnOk result (AddsAll (result_and_then (sound_begins rate)
             (wires_of channels (map (λ name. name.now) names.now))) events.old.items events.new.items) }
-        ensures refused { IfErr result (λ e. (samples : List ℤ) → SaysNothing
+        ensures refused { IfErr result (λ e. (samples : List ℤ) → IsRefusedBy
             (sound_says channels (high_of threshold) (map (λ name. name.now) names.now) rate samples) e) }
     {
         let wires = wires_of(alloc, names, channels)?;
@@ -234,6 +233,7 @@ impl Sound {
         ensures left { self.new.left ≡ self.old.left }
         ensures count { OnOk result (self.new.count ≤ self.old.count + 1) }
         ensures over { IfErr result (RunsOver self.old.count 1) }
+        ensures only { IfErr result (IsOnly Refusal.TooLate) }
     {
         if self.channel < self.channels {
             self.channel += 1;
@@ -257,6 +257,7 @@ impl Sound {
         ensures left { self.new.left ≡ self.old.left }
         ensures count { OnOk result (self.new.count ≤ self.old.count + 1) }
         ensures over { IfErr result (RunsOver self.old.count 1) }
+        ensures only { IfErr result (IsOnly Refusal.TooLate) }
     {
         let (channel, count) = (self.channel, self.count);
         let high = high_of(self.threshold);
@@ -274,6 +275,7 @@ impl Sound {
         ensures left { self.new.left ≡ self.old.left }
         ensures count { OnOk result (self.new.count ≤ self.old.count + 1) }
         ensures over { IfErr result (RunsOver self.old.count 1) }
+        ensures only { IfErr result (IsOnly Refusal.TooLate) }
     {
         match self.lower {
             None => {
@@ -296,6 +298,7 @@ impl Sound {
         ensures lower { OnOk result (self.new.lower ≡ lower_left self.old.lower bytes.now) }
         ensures left { self.new.left ≡ self.old.left }
         ensures over { IfErr result (RunsOver self.old.count (length bytes.now)) }
+        ensures only { IfErr result (IsOnly Refusal.TooLate) }
     {
         for byte in bytes {
             self.take_byte(*byte, events)?;
@@ -310,6 +313,7 @@ impl Sound {
             × ((text : List ℕ) (later : List Saying) → SoundSays self.new text later
             → SoundSays self.old (bytes.now ++ text) (said ++ later))) }
         ensures over { IfErr result (RunsOver (sound_state self.old).count (length bytes.now)) }
+        ensures only { IfErr result (IsOnly Refusal.TooLate) }
     {
         let own = self.own(bytes);
         self.take_bytes(own, events)?;
@@ -326,7 +330,9 @@ impl Sound {
     }
 
     /// How many ticks have gone by.
-    pub fn count(&self) -> u64 {
+    pub fn count(&self) -> u64
+        ensures { result ≡ (sound_state self.now).count }
+    {
         self.count
     }
 }

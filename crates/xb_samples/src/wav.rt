@@ -1,5 +1,6 @@
 // The head of a WAV file.
 ghost use Rattle.std.specs.Prelude.{◌≡◌, ◌<◌, ◌^◌, ◌∷◌, [], ◌≤◌, IfErr, IfOk, IfSome, length};
+ghost use Rattle.xb_vcd.specs.Steps.{IsOnly};
 ghost use Rattle.xb_samples.specs.Wavs.{AfterPart, IsNewHead, RefusesHead, RefusesPart, RestIsWhole, TakesByte, TakesHead, TakesPart, byte_at, format_of, is_riff, is_sixteen, length_of, long_at, part_length, short_at};
 
 use std::alloc::{AllocError, Global};
@@ -129,6 +130,7 @@ enum After {
 fn after_beginning(head: &[u8], found: Option<WavFormat>) -> Result<After, Refusal>
     ensures taken { IfOk result (AfterPart Place.Beginning found head.now) }
     ensures refused { IfErr result (RefusesPart Place.Beginning found head.now) }
+    ensures only { IfErr result (IsOnly Refusal.Wav) }
 {
     if is_riff(head) {
         Ok(After::Part(found, Place::Chunk))
@@ -141,6 +143,7 @@ fn after_beginning(head: &[u8], found: Option<WavFormat>) -> Result<After, Refus
 fn after_chunk(chunk: &[u8], found: Option<WavFormat>) -> Result<After, Refusal>
     ensures taken { IfOk result (AfterPart Place.Chunk found chunk.now) }
     ensures refused { IfErr result (RefusesPart Place.Chunk found chunk.now) }
+    ensures only { IfErr result (IsOnly Refusal.Wav) }
 {
     let length = long_at(chunk, 4);
     if chunk.starts_with(b"data") {
@@ -172,6 +175,7 @@ fn after_chunk(chunk: &[u8], found: Option<WavFormat>) -> Result<After, Refusal>
 fn after_format(chunk: &[u8], length: u64, found: Option<WavFormat>) -> Result<After, Refusal>
     ensures taken { IfOk result (AfterPart (Place.Format length) found chunk.now) }
     ensures refused { IfErr result (RefusesPart (Place.Format length) found chunk.now) }
+    ensures only { IfErr result (IsOnly Refusal.Wav) }
 {
     match format_of(chunk) {
         Some(format) => Ok(After::Part(Some(format), Place::Chunk)),
@@ -183,6 +187,7 @@ fn after_format(chunk: &[u8], length: u64, found: Option<WavFormat>) -> Result<A
 fn after_part(part: &[u8], place: Place, found: Option<WavFormat>) -> Result<After, Refusal>
     ensures taken { IfOk result (AfterPart place found part.now) }
     ensures refused { IfErr result (RefusesPart place found part.now) }
+    ensures only { IfErr result (IsOnly Refusal.Wav) }
 {
     match place {
         Place::Beginning => after_beginning(part, found),
@@ -220,6 +225,7 @@ impl WavHead {
     fn take_part(&mut self) -> Result<Option<WavFormat>, Refusal>
         ensures taken { IfOk result (λ found. TakesPart self.old found self.new) }
         ensures refused { IfErr result (RefusesPart self.old.place self.old.format self.old.bytes.items) }
+        ensures only { IfErr result (IsOnly Refusal.Wav) }
     {
         let after = after_part(&self.bytes, self.place, self.format)?;
         self.bytes.clear();
@@ -238,6 +244,7 @@ impl WavHead {
         requires { RestIsWhole self.old.place }
         ensures taken { IfOk result (λ found. TakesByte self.old byte found self.new) }
         ensures refused { IfErr result (RefusesHead self.old (byte ∷ [])) }
+        ensures only { IfErr result (IsOnly Refusal.Wav) }
     {
         self.bytes.push(byte).map_err(AllocError::from)?;
         if (self.bytes.len() as u64) < part_length(self.place) {
@@ -263,6 +270,7 @@ impl WavHead {
     fn take_byte(&mut self, byte: u8) -> Result<Option<WavFormat>, Refusal>
         ensures taken { IfOk result (λ found. TakesByte self.old byte found self.new) }
         ensures refused { IfErr result (RefusesHead self.old (byte ∷ [])) }
+        ensures only { IfErr result (IsOnly Refusal.Wav) }
     {
         match self.place {
             Place::Passed(left) => {
@@ -279,6 +287,7 @@ impl WavHead {
         ensures taken { IfOk result (λ found. TakesHead self.old bytes.now found self.new) }
         ensures within { IfOk result (λ found. IfSome found (λ samples. samples.1 ≤ length bytes.now)) }
         ensures refused { IfErr result (RefusesHead self.old bytes.now) }
+        ensures only { IfErr result (IsOnly Refusal.Wav) }
     {
         for (i, byte) in bytes.iter().enumerate() {
             if let Some(format) = self.take_byte(*byte)? {

@@ -1,9 +1,9 @@
 use Rattle.std.proofs.Common.{◌≡◌, ◌++◌, drop, map}
-use Rattle.std.specs.Prelude.{option_map}
+use Rattle.xb_vcd.specs.Steps.{result_map}
 use Rattle.xb_samples.specs.Samples.{masks_of}
 use Rattle.xb_samples.proofs.bits.masks_of.Given as goal
 
 abbrev pub invariant-loop-name : goal.invariant-loop-name
 invariant-loop-name l =
-    option_map (λ later. l.masks.items ++ later) (masks_of (map (λ name. name.now) (drop l.name-index l.names)))
+    result_map (λ later. l.masks.items ++ later) (masks_of (map (λ name. name.now) (drop l.name-index l.names)))
     ≡ masks_of (map (λ name. name.now) l.names)
