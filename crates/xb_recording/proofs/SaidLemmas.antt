@@ -1,10 +1,12 @@
 -- What a recording says.
-use Rattle.std.proofs.Common.{◌≡◌, ℕ, ℤ, List, [], ◌∷◌, ◌++◌, true, false, Option, Some, None, refl, ap, sym, subst, ◌∙◌, append_assoc, append-nil, drop}
-use Rattle.std.specs.Prelude.{option_map, unwrap_or}
-use Rattle.std.specs.Option.{option_and_then}
+use Rattle.std.proofs.Common.{◌≡◌, ℕ, ℤ, List, [], ◌∷◌, ◌++◌, true, false, Option, None, Some, refl, ap, sym, subst, ◌∙◌, append_assoc, drop}
+use Rattle.std.specs.Prelude.{Result, Ok, Err}
+use Rattle.std.specs.Result.{result_unwrap_or}
 use Rattle.xb_vcd.specs.declared.event.Event.{Event}
-use Rattle.xb_vcd.specs.Steps.{Adds, AddsAll, said_before}
-use Rattle.xb_vcd.specs.VcdTexts.{VcdSays, VcdState, begun_vcd, vcd_state}
+use Rattle.xb_vcd.specs.declared.event.Refusal.{Refusal}
+use Rattle.xb_vcd.specs.Steps.{AddsAll, result_and_then, result_map}
+use Rattle.xb_vcd.specs.VcdChanges.{VcdState}
+use Rattle.xb_vcd.specs.VcdTexts.{begun_vcd, vcd_says}
 use Rattle.xb_csv.specs.declared.columns.Form.{Form}
 use Rattle.xb_csv.specs.declared.columns.Form.TheVariants as forms
 use Rattle.xb_recording.specs.declared.format.Format.{Format}
@@ -17,9 +19,9 @@ use Rattle.xb_samples.specs.declared.sound.Sound.{Sound}
 use Rattle.xb_samples.specs.declared.wav.WavFormat.{WavFormat}
 use Rattle.xb_samples.specs.declared.wav.WavHead.{WavHead}
 use Rattle.xb_samples.specs.Wavs.{Samples, TakesHead}
-use Rattle.xb_recording.specs.Gpiomons.{GpiomonSays, GpiomonState, gpiomon_line_says, gpiomon_state, gpiomon_with}
+use Rattle.xb_recording.specs.Gpiomons.{GpiomonState, gpiomon_says, gpiomon_with}
 use Rattle.xb_recording.specs.declared.wanted.Wanted.{Wanted}
-use Rattle.xb_csv.specs.Tables.{TableState, table_ends, table_line_says, table_says}
+use Rattle.xb_csv.specs.Tables.{table_says}
 use Rattle.xb_samples.specs.Pieces.{SamplesSay, samples_events}
 use Rattle.xb_samples.specs.Samples.{BitsState, bits_of, bits_reading, bits_say, bits_state, masks_of, rate_says}
 use Rattle.xb_samples.specs.Sounds.{SoundSays, SoundState, begun_sound, high_of, own_bytes, samples_after, samples_left, samples_of, sound_begins, sound_reading, sound_says, sound_state, wires_of}
@@ -27,11 +29,11 @@ use Rattle.xb_recording.specs.Says.{BitsSay, BytesSay, IsBegunBits, IsBegunGpiom
 use Rattle.xb_samples.proofs.WaitLemmas.{same-after}
 use Rattle.xb_samples.proofs.WavLemmas.{wav_is}
 
-some_is : {A : Type 0} {x y : A} → Some x ≡ Some y → x ≡ y
-some_is {A} {x} {y} e = ap (λ o. unwrap_or o x) e
+ok_is : {A : Type 0} {x y : A} → ◌≡◌ {A = Result A Refusal} (Ok x) (Ok y) → x ≡ y
+ok_is {A} {x} {y} e = ap (λ o. result_unwrap_or o x) e
 
-none_is : {A : Type 0} {x : A} → None ≡ Some x → ⊥
-none_is e = cc
+err_is : {A : Type 0} {x : A} {refusal : Refusal} → ◌≡◌ {A = Result A Refusal} (Err refusal) (Ok x) → ⊥
+err_is e = cc
 
 -- samples have no lines, and a text no samples
 lines_none : (source : Source) (lines : List (List ℕ)) (said : List Event) → is_text source ≡ false → LinesSay source lines said
@@ -56,7 +58,7 @@ pub takes_text :
     (old new : Reader) (bytes : List ℕ) (said : List Event) → is_text old.source ≡ true → TakesText old new bytes said
     → Takes old new bytes said
 takes_text old new bytes said h taken text later rest =
-    (taken text later rest.0, bytes_none old.wanted.now old.source (bytes ++ text) (said ++ later) h)
+    (taken text (Ok later) rest.0, bytes_none old.wanted.now old.source (bytes ++ text) (said ++ later) h)
 
 pub takes_bytes :
     (old new : Reader) (bytes : List ℕ) (said : List Event) → is_text old.source ≡ false
@@ -69,33 +71,6 @@ pub plain_lines-later : (lines : List (List ℕ)) → plain_lines false lines �
 plain_lines-later [] = refl
 plain_lines-later (line ∷ rest) = refl
 
--- a line of a table that was said, and then the rest
-pub table_line_then :
-    (before now : TableState) (line : List ℕ) (lines : List (List ℕ)) (old new later : List Event) → old ≡ []
-    → Adds (table_line_says before line) old new now → table_says now lines ≡ Some later
-    → table_says before (line ∷ lines) ≡ Some (new ++ later)
-table_line_then before now line lines old new later none h k = at (table_line_says before line) refl h
-  where
-    at :
-        (first : Option (List Event × TableState)) → table_line_says before line ≡ first → Adds first old new now
-        → table_says before (line ∷ lines) ≡ Some (new ++ later)
-    at None e f = elim f [ ]
-    at (Some said) e f =
-        let events : new ≡ said.0 = f.0 ∙ ap (λ o. o ++ said.0) none in
-        rw e (ap (λ s. option_map (λ more. said.0 ++ more) (table_says s lines)) (sym f.1)
-        ∙ ap (option_map (λ more. said.0 ++ more)) k ∙ ap (λ m. Some (m ++ later)) (sym events))
-
--- the last line of a table that was said, and its end
-pub table_ended :
-    (before now : TableState) (line : List ℕ) (old mid new : List Event) → old ≡ []
-    → Adds (table_line_says before line) old mid now → AddsAll (table_ends now) mid new
-    → table_says before (line ∷ []) ≡ Some new
-table_ended before now line old mid new none h k = at (table_ends now) refl k
-  where
-    at : (left : Option (List Event)) → table_ends now ≡ left → AddsAll left mid new → table_says before (line ∷ []) ≡ Some new
-    at None e f = elim f [ ]
-    at (Some left) e f = table_line_then before now line [] old mid left none h e ∙ ap Some (sym f)
-
 -- the beginning of a table
 table_begins :
     (form : Form) (wanted : Wanted) (source : Source) (said : List Event)
@@ -103,7 +78,7 @@ table_begins :
     → (text : List ℕ) (later : List Event) → LinesSay source (text_lines text) later
     → TableSays form wanted text (said ++ later)
 table_begins form wanted (sources.Columns table) said h text later k =
-    ap (λ s. table_says s (text_lines text)) (sym h.0) ∙ k ∙ ap (λ m. Some (m ++ later)) (sym h.1)
+    ap (λ s. table_says s (text_lines text)) (sym h.0) ∙ k ∙ ap (λ m. Ok (m ++ later)) (sym h.1)
 table_begins form wanted (sources.Vcd vcd) said h text later k = elim h [ ]
 table_begins form wanted (sources.Gpiomon gpiomon) said h text later k = elim h [ ]
 table_begins form wanted (sources.Bits bits) said h text later k = elim h [ ]
@@ -114,38 +89,19 @@ table_begins form wanted (sources.Sound sound) said h text later k = elim h [ ]
 gpiomon_begins :
     (wanted : Wanted) (source : Source) (said : List Event) → IsBegunGpiomon (names_in wanted) source said
     → (text : List ℕ) (later : List Event) → LinesSay source (text_lines text) later
-    → GpiomonSays (gpiomon_with (names_in wanted) None) (text_lines text) (said ++ later)
+    → gpiomon_says (gpiomon_with (names_in wanted) None) (text_lines text) ≡ Ok (said ++ later)
 gpiomon_begins wanted (sources.Gpiomon gpiomon) said h text later k =
-    let P : GpiomonState → Type 0 = λ s. GpiomonSays s (text_lines text) (said ++ later) in
-    let Q : List Event → Type 0 = λ m. GpiomonSays (gpiomon_state gpiomon) (text_lines text) (m ++ later) in
-    subst P h.0 (subst Q (sym h.1) k)
+    ap (λ (s : GpiomonState). gpiomon_says s (text_lines text)) (sym h.0) ∙ k ∙ ap (λ m. Ok (m ++ later)) (sym h.1)
 gpiomon_begins wanted (sources.Vcd vcd) said h text later k = elim h [ ]
 gpiomon_begins wanted (sources.Columns table) said h text later k = elim h [ ]
 gpiomon_begins wanted (sources.Bits bits) said h text later k = elim h [ ]
 gpiomon_begins wanted (sources.WavHead head) said h text later k = elim h [ ]
 gpiomon_begins wanted (sources.Sound sound) said h text later k = elim h [ ]
 
--- the last line of it
-pub gpiomon_ended :
-    (before now : GpiomonState) (line : List ℕ) (old new : List Event) → old ≡ []
-    → Adds (gpiomon_line_says before line) old new now → GpiomonSays before (line ∷ []) new
-gpiomon_ended before now line old new none h = at (gpiomon_line_says before line) refl h
-  where
-    at :
-        (first : Option (List Event × GpiomonState)) → gpiomon_line_says before line ≡ first → Adds first old new now
-        → GpiomonSays before (line ∷ []) new
-    at None e f = elim f [ ]
-    at (Some said) e f =
-        let events : new ≡ said.0 ++ [] = f.0 ∙ ap (λ o. o ++ said.0) none ∙ sym (append-nil said.0) in (
-          said.1,
-          ap (option_and_then (λ s. said_before s.0 (Some ([], s.1)))) e
-              ∙ ap (λ m. Some (m, said.1)) (sym events),
-        )
-
 -- the beginning of samples
-all-added : (told : Option (List Event)) (said : List Event) → AddsAll told [] said → told ≡ Some said
-all-added None said h = elim h [ ]
-all-added (Some told) said h = ap Some (sym h)
+all-added : (told : Result (List Event) Refusal) (said : List Event) → AddsAll told [] said → told ≡ Ok said
+all-added (Err refusal) said h = elim h [ ]
+all-added (Ok told) said h = ap Ok (sym h)
 
 bits_begin :
     (wanted : Wanted) (source : Source) (said : List Event) → IsBegunBits (names_in wanted) wanted.rate source said
@@ -153,16 +109,16 @@ bits_begin :
 bits_begin wanted (sources.Bits bits) said h text later k = at (masks_of (names_in wanted)) refl h.0
   where
     at :
-        (found : Option (List ℕ)) → masks_of (names_in wanted) ≡ found
-        → option_map (λ masks. bits_of masks None 0) found ≡ Some (bits_state bits)
+        (found : Result (List ℕ) Refusal) → masks_of (names_in wanted) ≡ found
+        → result_map (λ masks. bits_of masks None 0) found ≡ Ok (bits_state bits)
         → BitsSay wanted text (said ++ later)
-    at None e f = absurd (none_is f)
-    at (Some masks) e f =
-        let state : bits_of masks None 0 ≡ bits_state bits = some_is f in
+    at (Err refusal) e f = absurd (err_is f)
+    at (Ok masks) e f =
+        let state : bits_of masks None 0 ≡ bits_state bits = ok_is f in
         let all : List Event = said ++ samples_events bits_reading (bits_of masks None 0) text in
-        let whole : bits_say (names_in wanted) wanted.rate text ≡ Some all =
-        ap (option_and_then (λ found. option_map (λ told. told ++ samples_events bits_reading (bits_of found None 0) text) (rate_says wanted.rate))) e
-        ∙ ap (option_map (λ told. told ++ samples_events bits_reading (bits_of masks None 0) text)) (all-added (rate_says wanted.rate) said h.1) in
+        let whole : bits_say (names_in wanted) wanted.rate text ≡ Ok all =
+        ap (result_and_then (λ found. result_map (λ told. told ++ samples_events bits_reading (bits_of found None 0) text) (rate_says wanted.rate))) e
+        ∙ ap (result_map (λ told. told ++ samples_events bits_reading (bits_of masks None 0) text)) (all-added (rate_says wanted.rate) said h.1) in
         let P : BitsState → Type 0 = λ s. SamplesSay bits_reading s text later in
         (all, whole, same-after said later (samples_events bits_reading (bits_of masks None 0) text) (subst P (sym state) k))
 bits_begin wanted (sources.Vcd vcd) said h text later k = elim h [ ]
@@ -184,18 +140,18 @@ sound_begin channels rate length wanted (sources.Sound sound) said h text later 
     high = high_of wanted.threshold
 
     at :
-        (found : Option (List Channel)) → wires_of channels (names_in wanted) ≡ found
-        → option_map (begun_sound channels high) found ≡ Some (sound_state sound)
-        → AddsAll (option_and_then (sound_begins rate) found) [] said
+        (found : Result (List Channel) Refusal) → wires_of channels (names_in wanted) ≡ found
+        → result_map (begun_sound channels high) found ≡ Ok (sound_state sound)
+        → AddsAll (result_and_then (sound_begins rate) found) [] said
         → SixteenSay channels rate wanted (own_bytes length text) (said ++ later)
-    at None e f g = absurd (none_is f)
-    at (Some wires) e f g =
-        let state : begun_sound channels high wires ≡ sound_state sound = some_is f in
+    at (Err refusal) e f g = absurd (err_is f)
+    at (Ok wires) e f g =
+        let state : begun_sound channels high wires ≡ sound_state sound = ok_is f in
         let samples : List ℤ = samples_of (own_bytes length text) in
         let more : List Event = samples_events sound_reading (begun_sound channels high wires) samples in
-        let whole : sound_says channels high (names_in wanted) rate samples ≡ Some (said ++ more) =
-        ap (option_and_then (λ found. option_map (λ told. told ++ samples_events sound_reading (begun_sound channels high found) samples) (sound_begins rate found))) e
-        ∙ ap (option_map (λ told. told ++ more)) (all-added (sound_begins rate wires) said g) in
+        let whole : sound_says channels high (names_in wanted) rate samples ≡ Ok (said ++ more) =
+        ap (result_and_then (λ found. result_map (λ told. told ++ samples_events sound_reading (begun_sound channels high found) samples) (sound_begins rate found))) e
+        ∙ ap (result_map (λ told. told ++ more)) (all-added (sound_begins rate wires) said g) in
         let same : samples_left sound text ≡ samples =
         ap (λ lower. samples_after lower (own_bytes sound.left text)) h.0.1
         ∙ ap (λ left. samples_after None (own_bytes left text)) h.0.2 in
@@ -246,11 +202,9 @@ begins formats.Vcd wanted source said h text later k = at source h k.0
   where
     at :
         (source : Source) → IsBegunVcd (names_in wanted) source said → LinesSay source (text_lines text) later
-        → VcdSays (begun_vcd (names_in wanted)) (text_lines text) (said ++ later)
+        → vcd_says (begun_vcd (names_in wanted)) (text_lines text) ≡ Ok (said ++ later)
     at (sources.Vcd vcd) h k =
-        let P : VcdState → Type 0 = λ s. VcdSays s (text_lines text) (said ++ later) in
-        let Q : List Event → Type 0 = λ m. VcdSays (vcd_state vcd) (text_lines text) (m ++ later) in
-        subst P h.0 (subst Q (sym h.1) k)
+        ap (λ (s : VcdState). vcd_says s (text_lines text)) (sym h.0) ∙ k ∙ ap (λ m. Ok (m ++ later)) (sym h.1)
     at (sources.Columns columns) h k = elim h [ ]
     at (sources.Gpiomon gpiomon) h k = elim h [ ]
     at (sources.Bits bits) h k = elim h [ ]

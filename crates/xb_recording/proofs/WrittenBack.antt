@@ -1,19 +1,20 @@
 -- A VCD that is written is read back.
 use Rattle.std.proofs.Common.{◌≡◌, ℕ, ◌+◌, ◌^◌, ◌<◌, ◌≤◌, List, [], ◌∷◌, ◌++◌, Bool, true, false, cond, ◌&&◌, Option, Some, None, length, length-append, replicate, refl, ap, sym, subst, ◌∙◌, arith, append_assoc, codes, ne_eqb, eq-eqb, inl, inr}
-use Rattle.std.specs.Prelude.{bytes_eq, is_some, nat_lt, option_map}
+use Rattle.std.specs.Prelude.{Result, Ok, Err, bytes_eq, is_some, nat_lt}
 use Rattle.std.specs.List.{AllByRecursion, IsDistinct, list_all}
-use Rattle.std.specs.Option.{option_and_then}
+use Rattle.std.specs.Option.{ok_or}
 use Rattle.std.proofs.lemmas.Bool.{cases_lt}
 use Rattle.std.proofs.lemmas.Bool.Decides.{nat_tests}
 use Rattle.std.proofs.lemmas.Slice.Eq.{bytes_eq-Decides}
 use Rattle.xb_vcd.specs.declared.event.Event.{Event}
 use Rattle.xb_vcd.specs.declared.event.Event.TheVariants.{At, Ticks}
+use Rattle.xb_vcd.specs.declared.event.Refusal.{Refusal}
 use Rattle.xb_vcd.specs.declared.event.Refusal.TheVariants as refusals
 use Rattle.xb_vcd.specs.declared.vcd.Place.TheVariants as places
 use Rattle.xb_vcd.specs.declared.declaration.VarWords.{VarWords}
-use Rattle.xb_vcd.specs.Steps.{all_say, said_before}
-use Rattle.xb_vcd.specs.VcdChanges.{change_by_word, level_event, level_events, refused, says, times_of}
-use Rattle.xb_vcd.specs.VcdTexts.{VcdSays, VcdState, begun_vcd, by_changes, declared_codes, found_code, goes_to, scale_by, var_words, vcd_line_says, word_says, words_in}
+use Rattle.xb_vcd.specs.Steps.{Said, all_say, result_and_then, result_map, said_before, then_later}
+use Rattle.xb_vcd.specs.VcdChanges.{VcdState, change_by_word, goes_to, level_event, level_events, times_of}
+use Rattle.xb_vcd.specs.VcdTexts.{begun_vcd, declared_codes, found_code, scale_by, var_words, vcd_line_says, vcd_says, word_says, words_in}
 use Rattle.xb_vcd.specs.VcdWords.{change_by, time_by}
 use Rattle.xb_recording.specs.declared.written.Change.{Change}
 use Rattle.xb_recording.specs.Says.{lines_in, plain_lines}
@@ -21,22 +22,39 @@ use Rattle.xb_recording.specs.WrittenVcd.{AreInOrder, AreNames, IsName, IsReadBa
 use Rattle.xb_recording.proofs.WrittenLines.{lines_are_read, never_after_end}
 use Rattle.xb_recording.proofs.WrittenWords.{code_is_name, code_is_read, number_is_read, time_is_name, word_alone, word_and_more}
 
-said-none : {S : Type 0} (later : Option (List Event × S)) → said_before [] later ≡ later
-said-none None = refl
-said-none (Some later) = refl
+said-none : {S : Type 0} (later : Said S) → said_before [] later ≡ later
+said-none (Err refusal) = refl
+said-none (Ok later) = refl
 
 -- a part, and then the rest
 step :
-    {S P : Type 0} (tell : S → P → Option (List Event × S)) (before after : S) (part : P) (rest : List P)
-    (events : List Event) → tell before part ≡ Some (events, after)
+    {S P : Type 0} (tell : S → P → Said S) (before after : S) (part : P) (rest : List P)
+    (events : List Event) → tell before part ≡ Ok (events, after)
     → all_say tell before (part ∷ rest) ≡ said_before events (all_say tell after rest)
 step tell before after part rest events e =
-    ap (λ first. option_and_then (λ said. said_before said.0 (all_say tell said.1 rest)) first) e
+    ap (λ first. result_and_then (λ said. said_before said.0 (all_say tell said.1 rest)) first) e
 
 quiet :
-    {S P : Type 0} (tell : S → P → Option (List Event × S)) (before after : S) (part : P) (rest : List P)
-    → tell before part ≡ Some ([], after) → all_say tell before (part ∷ rest) ≡ all_say tell after rest
+    {S P : Type 0} (tell : S → P → Said S) (before after : S) (part : P) (rest : List P)
+    → tell before part ≡ Ok ([], after) → all_say tell before (part ∷ rest) ≡ all_say tell after rest
 quiet tell before after part rest e = step tell before after part rest [] e ∙ said-none (all_say tell after rest)
+
+-- a line, and then the rest up to the end
+nothing-more : (later : Result (List Event) Refusal) → then_later [] later ≡ later
+nothing-more (Err refusal) = refl
+nothing-more (Ok later) = refl
+
+line-step :
+    (before after : VcdState) (line : List ℕ) (rest : List (List ℕ)) (events : List Event)
+    → vcd_line_says before line ≡ Ok (events, after)
+    → vcd_says before (line ∷ rest) ≡ then_later events (vcd_says after rest)
+line-step before after line rest events e =
+    ap (λ first. result_and_then (λ said. then_later said.0 (vcd_says said.1 rest)) first) e
+
+line-quiet :
+    (before after : VcdState) (line : List ℕ) (rest : List (List ℕ)) → vcd_line_says before line ≡ Ok ([], after)
+    → vcd_says before (line ∷ rest) ≡ vcd_says after rest
+line-quiet before after line rest e = line-step before after line rest [] e ∙ nothing-more (vcd_says after rest)
 
 -- the codes of wires from the i-th on
 abbrev codes_from : ℕ → List (List ℕ) → List (Option ℕ)
@@ -51,6 +69,10 @@ all-found i (name ∷ names) = all-found (i + 1) names
 abbrev in_header : List (List ℕ) → List (Option ℕ) → VcdState
 in_header names own = record { names = names; codes = own; place = places.Header; has_scale = true; times = times_of 0 false }
 
+-- what is said, and the state then
+abbrev told : VcdState → List Event → Said VcdState
+told state events = Ok (events, state)
+
 -- among the changes
 abbrev among : List (List ℕ) → List (Option ℕ) → ℕ → Bool → VcdState
 among names own last has_time =
@@ -58,7 +80,7 @@ among names own last has_time =
 
 scale-says : (names : List (List ℕ))
     → vcd_line_says (begun_vcd names) (codes "$timescale 1 us $end")
-    ≡ Some (Ticks (scale_by 1 1000) ∷ [], in_header names (replicate (length names) None))
+    ≡ Ok (Ticks (scale_by 1 1000) ∷ [], in_header names (replicate (length names) None))
 scale-says names = refl
 
 -- a name among others
@@ -98,24 +120,24 @@ differ name (wanted ∷ done) rest distinct =
 -- a declaration says the code of its own wire alone
 declare-none :
     (found : VarWords) (name : List ℕ) (names : List (List ℕ)) (own : List (Option ℕ)) → Differ name names
-    → declared_codes found name names own ≡ Some own
+    → declared_codes found name names own ≡ Ok own
 declare-none found name [] [] all = refl
 declare-none found name (wanted ∷ names) [] all = refl
 declare-none found name [] (code ∷ own) all = refl
 declare-none found name (wanted ∷ names) (code ∷ own) all =
-    ap (λ t. option_and_then (λ c. option_map (λ later. c ∷ later) (declared_codes found name names own)) (cond t (found_code found code) (Some code))) all.0
-    ∙ ap (λ later. option_map (λ l. code ∷ l) later) (declare-none found name names own all.1)
+    ap (λ t. result_and_then (λ c. result_map (λ later. c ∷ later) (declared_codes found name names own)) (cond t (found_code found code) (Ok code))) all.0
+    ∙ ap (λ later. result_map (λ l. code ∷ l) later) (declare-none found name names own all.1)
 
 declare-here :
     (code : ℕ) (name : List ℕ) (done rest : List (List ℕ)) (own later : List (Option ℕ)) → length own ≡ length done
     → Differ name done → Differ name rest
-    → declared_codes (var_words 3 true code) name (done ++ name ∷ rest) (own ++ None ∷ later) ≡ Some (own ++ Some code ∷ later)
+    → declared_codes (var_words 3 true code) name (done ++ name ∷ rest) (own ++ None ∷ later) ≡ Ok (own ++ Some code ∷ later)
 declare-here code name [] rest [] later same before after =
-    ap (λ t. option_and_then (λ c. option_map (λ l. c ∷ l) (declared_codes (var_words 3 true code) name rest later)) (cond t (Some (Some code)) (Some None))) (bytes_eq-same name)
-    ∙ ap (λ l. option_map (λ l. Some code ∷ l) l) (declare-none (var_words 3 true code) name rest later after)
+    ap (λ t. result_and_then (λ c. result_map (λ l. c ∷ l) (declared_codes (var_words 3 true code) name rest later)) (cond t (Ok (Some code)) (Ok None))) (bytes_eq-same name)
+    ∙ ap (λ l. result_map (λ l. Some code ∷ l) l) (declare-none (var_words 3 true code) name rest later after)
 declare-here code name (wanted ∷ done) rest (first ∷ own) later same before after =
-    ap (λ t. option_and_then (λ c. option_map (λ l. c ∷ l) (declared_codes (var_words 3 true code) name (done ++ name ∷ rest) (own ++ None ∷ later))) (cond t (found_code (var_words 3 true code) first) (Some first))) before.0
-    ∙ ap (λ l. option_map (λ l. first ∷ l) l) (declare-here code name done rest own later (omega arith) before.1 after)
+    ap (λ t. result_and_then (λ c. result_map (λ l. c ∷ l) (declared_codes (var_words 3 true code) name (done ++ name ∷ rest) (own ++ None ∷ later))) (cond t (found_code (var_words 3 true code) first) (Ok first))) before.0
+    ∙ ap (λ l. result_map (λ l. first ∷ l) l) (declare-here code name done rest own later (omega arith) before.1 after)
 declare-here code name [] rest (first ∷ own) later same before after = absurd (omega arith)
 declare-here code name (wanted ∷ done) rest [] later same before after = absurd (omega arith)
 
@@ -137,14 +159,14 @@ abbrev after_var : List (List ℕ) → List (Option ℕ) → VcdState
 after_var names own = record { names = names; codes = own; place = places.Passed false; has_scale = true; times = times_of 0 false }
 
 code-said : (names : List (List ℕ)) (own : List (Option ℕ)) (wire : ℕ) → wire < 94
-    → word_says (in_var names own 2 true 0) (wire_code wire) ≡ Some ([], in_var names own 3 true (33 + wire))
+    → word_says (in_var names own 2 true 0) (wire_code wire) ≡ Ok ([], in_var names own 3 true (33 + wire))
 code-said names own wire few =
-    ap (λ read. option_and_then (λ code. goes_to (in_var names own 2 true 0) (places.Var (var_words 3 true code))) read) (code_is_read wire few)
+    ap (λ read. result_and_then (λ code. goes_to (in_var names own 2 true 0) (places.Var (var_words 3 true code))) (ok_or read refusals.Word)) (code_is_read wire few)
 
 var-says :
     (wire : ℕ) (name : List ℕ) (names : List (List ℕ)) (own new : List (Option ℕ)) → IsName name → wire < 94
-    → declared_codes (var_words 3 true (33 + wire)) name names own ≡ Some new
-    → vcd_line_says (in_header names own) (var_line wire name) ≡ Some ([], in_header names new)
+    → declared_codes (var_words 3 true (33 + wire)) name names own ≡ Ok new
+    → vcd_line_says (in_header names own) (var_line wire name) ≡ Ok ([], in_header names new)
 var-says wire name names own new is few declared =
     ap (all_say word_says (in_header names own)) (var-words wire name is)
     ∙ quiet word_says (in_header names own) (in_var names own 0 false 0) (codes "$var") (codes "wire" ∷ codes "1" ∷ wire_code wire ∷ name ∷ codes "$end" ∷ []) refl
@@ -152,14 +174,14 @@ var-says wire name names own new is few declared =
     ∙ quiet word_says (in_var names own 1 false 0) (in_var names own 2 true 0) (codes "1") (wire_code wire ∷ name ∷ codes "$end" ∷ []) refl
     ∙ quiet word_says (in_var names own 2 true 0) (in_var names own 3 true (33 + wire)) (wire_code wire) (name ∷ codes "$end" ∷ []) (code-said names own wire few)
     ∙ quiet word_says (in_var names own 3 true (33 + wire)) (after_var names new) name (codes "$end" ∷ [])
-    (ap (λ found. option_map (λ c. ([], after_var names c)) found) declared)
+    (ap (λ found. result_map (λ c. ([], after_var names c)) found) declared)
 
 -- the declarations that are left
 vars-say :
     (names done rest : List (List ℕ)) (own : List (Option ℕ)) (i : ℕ) (lines : List (List ℕ)) → names ≡ done ++ rest
     → i ≡ length done → i ≡ length own → AreNames names
-    → all_say vcd_line_says (in_header names (own ++ replicate (length rest) None)) (var_lines i rest ++ lines)
-    ≡ all_say vcd_line_says (in_header names (own ++ codes_from i rest)) lines
+    → vcd_says (in_header names (own ++ replicate (length rest) None)) (var_lines i rest ++ lines)
+    ≡ vcd_says (in_header names (own ++ codes_from i rest)) lines
 vars-say names done [] own i lines all at same lawful = refl
 vars-say names done (name ∷ rest) own i lines all at same lawful =
     let P : List (List ℕ) → Type 0 = λ them. AllByRecursion IsName them in
@@ -169,23 +191,23 @@ vars-say names done (name ∷ rest) own i lines all at same lawful =
     let few : length (done ++ name ∷ rest) ≤ 94 = subst (λ them. length them ≤ 94) all lawful.few in
     let within : i < 94 = omega (arith, length-append done (name ∷ rest)) in
     let later : List (Option ℕ) = replicate (length rest) None in
-    let declared : declared_codes (var_words 3 true (33 + i)) name names (own ++ None ∷ later) ≡ Some (own ++ Some (33 + i) ∷ later) =
-    subst (λ them. declared_codes (var_words 3 true (33 + i)) name them (own ++ None ∷ later) ≡ Some (own ++ Some (33 + i) ∷ later)) (sym all)
+    let declared : declared_codes (var_words 3 true (33 + i)) name names (own ++ None ∷ later) ≡ Ok (own ++ Some (33 + i) ∷ later) =
+    subst (λ them. declared_codes (var_words 3 true (33 + i)) name them (own ++ None ∷ later) ≡ Ok (own ++ Some (33 + i) ∷ later)) (sym all)
     (declare-here (33 + i) name done rest own later (sym same ∙ at) apart.0 apart.1) in
     let next = vars-say names (done ++ name ∷ []) rest (own ++ Some (33 + i) ∷ []) (i + 1) lines
     (all ∙ sym (append_assoc done (name ∷ []) rest)) (omega (arith, length-append done (name ∷ [])))
     (omega (arith, length-append own (Some (33 + i) ∷ []))) lawful in
-    quiet vcd_line_says (in_header names (own ++ None ∷ later)) (in_header names (own ++ Some (33 + i) ∷ later)) (var_line i name)
+    line-quiet (in_header names (own ++ None ∷ later)) (in_header names (own ++ Some (33 + i) ∷ later)) (var_line i name)
     (var_lines (i + 1) rest ++ lines) (var-says i name names (own ++ None ∷ later) (own ++ Some (33 + i) ∷ later) is within declared)
-    ∙ ap (λ found. all_say vcd_line_says (in_header names found) (var_lines (i + 1) rest ++ lines)) (sym (append_assoc own (Some (33 + i) ∷ []) later))
+    ∙ ap (λ found. vcd_says (in_header names found) (var_lines (i + 1) rest ++ lines)) (sym (append_assoc own (Some (33 + i) ∷ []) later))
     ∙ next
-    ∙ ap (λ found. all_say vcd_line_says (in_header names found) lines) (append_assoc own (Some (33 + i) ∷ []) (codes_from (i + 1) rest))
+    ∙ ap (λ found. vcd_says (in_header names found) lines) (append_assoc own (Some (33 + i) ∷ []) (codes_from (i + 1) rest))
 
 end-says : (names : List (List ℕ)) (own : List (Option ℕ)) → list_all is_some own ≡ true
-    → vcd_line_says (in_header names own) (codes "$enddefinitions $end") ≡ Some ([], among names own 0 false)
+    → vcd_line_says (in_header names own) (codes "$enddefinitions $end") ≡ Ok ([], among names own 0 false)
 end-says names own all =
-    ap (λ t. option_and_then (λ said. said_before said.0 (all_say word_says said.1 (codes "$end" ∷ [])))
-    (cond t (goes_to (in_header names own) (places.Passed true)) None)) all
+    ap (λ t. result_and_then (λ said. said_before said.0 (all_say word_says said.1 (codes "$end" ∷ [])))
+    (cond t (goes_to (in_header names own) (places.Passed true)) (Err refusals.NoWire))) all
 
 -- a time
 not-before : (has : Bool) (time last : ℕ) → last ≤ time → (has && nat_lt time last) ≡ false
@@ -193,14 +215,13 @@ not-before false time last order = refl
 not-before true time last order = grind (arith, nat_tests)
 
 time-said : (names : List (List ℕ)) (own : List (Option ℕ)) (last : ℕ) (has : Bool) (time : ℕ) → last ≤ time → time < 2 ^ 64
-    → word_says (among names own last has) (time_line time) ≡ Some (At time ∷ [], among names own time true)
+    → word_says (among names own last has) (time_line time) ≡ Ok (At time ∷ [], among names own time true)
 time-said names own last has time order small =
-    ap (λ read. by_changes (among names own last has) (change_by_word own (times_of last has) (time_by read))) (number_is_read time small)
-    ∙ ap (λ t. by_changes (among names own last has) (cond t (refused refusals.Backwards) (says (At time ∷ []) places.Changes (times_of time true))))
-    (not-before has time last order)
+    ap (λ read. change_by_word (among names own last has) (time_by read)) (number_is_read time small)
+    ∙ ap (λ t. cond t (Err refusals.Backwards) (told (among names own time true) (At time ∷ []))) (not-before has time last order)
 
 time-says : (names : List (List ℕ)) (own : List (Option ℕ)) (last : ℕ) (has : Bool) (time : ℕ) → last ≤ time → time < 2 ^ 64
-    → vcd_line_says (among names own last has) (time_line time) ≡ Some (At time ∷ [], among names own time true)
+    → vcd_line_says (among names own last has) (time_line time) ≡ Ok (At time ∷ [], among names own time true)
 time-says names own last has time order small =
     ap (all_say word_says (among names own last has)) (word_alone (time_line time) (time_is_name time small))
     ∙ step word_says (among names own last has) (among names own time true) (time_line time) [] (At time ∷ [])
@@ -237,13 +258,13 @@ level-is-name wire false = (omega arith, (code_is_name wire).1)
 level-said :
     (names : List (List ℕ)) (last wire : ℕ) (is_high : Bool) → wire < length names → length names ≤ 94
     → word_says (among names (codes_from 0 names) last true) (level_text is_high ++ wire_code wire)
-    ≡ Some (level_event wire is_high ∷ [], among names (codes_from 0 names) last true)
+    ≡ Ok (level_event wire is_high ∷ [], among names (codes_from 0 names) last true)
 level-said names last wire true within few =
-    ap (λ read. by_changes (among names (codes_from 0 names) last true) (change_by_word (codes_from 0 names) (times_of last true) (change_by 49 read))) (code_is_read wire (omega arith))
-    ∙ ap (λ events. by_changes (among names (codes_from 0 names) last true) (says events places.Changes (times_of last true))) (one-event wire 0 true names (omega arith) (omega arith))
+    ap (λ read. change_by_word (among names (codes_from 0 names) last true) (change_by 49 read)) (code_is_read wire (omega arith))
+    ∙ ap (told (among names (codes_from 0 names) last true)) (one-event wire 0 true names (omega arith) (omega arith))
 level-said names last wire false within few =
-    ap (λ read. by_changes (among names (codes_from 0 names) last true) (change_by_word (codes_from 0 names) (times_of last true) (change_by 48 read))) (code_is_read wire (omega arith))
-    ∙ ap (λ events. by_changes (among names (codes_from 0 names) last true) (says events places.Changes (times_of last true))) (one-event wire 0 false names (omega arith) (omega arith))
+    ap (λ read. change_by_word (among names (codes_from 0 names) last true) (change_by 48 read)) (code_is_read wire (omega arith))
+    ∙ ap (told (among names (codes_from 0 names) last true)) (one-event wire 0 false names (omega arith) (omega arith))
 
 level-line-says :
     (names : List (List ℕ)) (last wire : ℕ) (is_high : Bool)
@@ -255,63 +276,60 @@ level-line-says names last wire false = refl
 level-says :
     (names : List (List ℕ)) (last : ℕ) (change : Change) → change.wire < length names → length names ≤ 94
     → vcd_line_says (among names (codes_from 0 names) last true) (level_line change)
-    ≡ Some (level_event change.wire change.is_high ∷ [], among names (codes_from 0 names) last true)
+    ≡ Ok (level_event change.wire change.is_high ∷ [], among names (codes_from 0 names) last true)
 level-says names last change within few =
     level-line-says names last change.wire change.is_high
     ∙ ap (all_say word_says (among names (codes_from 0 names) last true)) (word_alone (level_line change) (level-is-name change.wire change.is_high))
     ∙ step word_says (among names (codes_from 0 names) last true) (among names (codes_from 0 names) last true) (level_line change) []
     (level_event change.wire change.is_high ∷ []) (level-said names last change.wire change.is_high within few)
 
--- the changes, the end, and the empty line behind it
+-- the changes, the end, and the empty line after it
 changes-say :
     (names : List (List ℕ)) (changes : List Change) (last : ℕ) (has : Bool) (end : ℕ) → AreInOrder (length names) last changes end
     → length names ≤ 94 → end < 2 ^ 64
-    → all_say vcd_line_says (among names (codes_from 0 names) last has) ((change_lines changes ++ time_line end ∷ []) ++ [] ∷ [])
-    ≡ Some (change_events changes ++ At end ∷ [], among names (codes_from 0 names) end true)
+    → vcd_says (among names (codes_from 0 names) last has) ((change_lines changes ++ time_line end ∷ []) ++ [] ∷ [])
+    ≡ Ok (change_events changes ++ At end ∷ [])
 changes-say names [] last has end order few small =
-    step vcd_line_says (among names (codes_from 0 names) last has) (among names (codes_from 0 names) end true) (time_line end) ([] ∷ [])
+    line-step (among names (codes_from 0 names) last has) (among names (codes_from 0 names) end true) (time_line end) ([] ∷ [])
     (At end ∷ []) (time-says names (codes_from 0 names) last has end order small)
 changes-say names (change ∷ rest) last has end order few small =
     let within : change.tick ≤ end = never_after_end (length names) change.tick rest end order.2 in
-    step vcd_line_says (among names (codes_from 0 names) last has) (among names (codes_from 0 names) change.tick true) (time_line change.tick)
+    line-step (among names (codes_from 0 names) last has) (among names (codes_from 0 names) change.tick true) (time_line change.tick)
     (level_line change ∷ ((change_lines rest ++ time_line end ∷ []) ++ [] ∷ [])) (At change.tick ∷ [])
     (time-says names (codes_from 0 names) last has change.tick order.1 (omega arith))
-    ∙ ap (said_before (At change.tick ∷ []))
-    (step vcd_line_says (among names (codes_from 0 names) change.tick true) (among names (codes_from 0 names) change.tick true) (level_line change)
+    ∙ ap (then_later (At change.tick ∷ []))
+    (line-step (among names (codes_from 0 names) change.tick true) (among names (codes_from 0 names) change.tick true) (level_line change)
     ((change_lines rest ++ time_line end ∷ []) ++ [] ∷ []) (level_event change.wire change.is_high ∷ [])
     (level-says names change.tick change order.0 few)
-    ∙ ap (said_before (level_event change.wire change.is_high ∷ [])) (changes-say names rest change.tick true end order.2 few small))
+    ∙ ap (then_later (level_event change.wire change.is_high ∷ [])) (changes-say names rest change.tick true end order.2 few small))
 
 -- all lines
-vcd-says :
+lines-say :
     (names : List (List ℕ)) (changes : List Change) (end : ℕ) → AreNames names → AreInOrder (length names) 0 changes end → end < 2 ^ 64
-    → all_say vcd_line_says (begun_vcd names)
+    → vcd_says (begun_vcd names)
     (codes "$timescale 1 us $end" ∷ ((var_lines 0 names ++ (codes "$enddefinitions $end" ∷ (change_lines changes ++ time_line end ∷ []))) ++ [] ∷ []))
-    ≡ Some (events_of changes end, among names (codes_from 0 names) end true)
-vcd-says names changes end lawful order small =
+    ≡ Ok (events_of changes end)
+lines-say names changes end lawful order small =
     let later : List (List ℕ) = codes "$enddefinitions $end" ∷ ((change_lines changes ++ time_line end ∷ []) ++ [] ∷ []) in
-    step vcd_line_says (begun_vcd names) (in_header names (replicate (length names) None)) (codes "$timescale 1 us $end")
+    line-step (begun_vcd names) (in_header names (replicate (length names) None)) (codes "$timescale 1 us $end")
     ((var_lines 0 names ++ (codes "$enddefinitions $end" ∷ (change_lines changes ++ time_line end ∷ []))) ++ [] ∷ [])
     (Ticks (scale_by 1 1000) ∷ []) (scale-says names)
-    ∙ ap (said_before (Ticks (scale_by 1 1000) ∷ []))
-    (ap (all_say vcd_line_says (in_header names (replicate (length names) None)))
+    ∙ ap (then_later (Ticks (scale_by 1 1000) ∷ []))
+    (ap (vcd_says (in_header names (replicate (length names) None)))
     (append_assoc (var_lines 0 names) (codes "$enddefinitions $end" ∷ (change_lines changes ++ time_line end ∷ [])) ([] ∷ []))
     ∙ vars-say names [] names [] 0 later refl refl refl lawful
-    ∙ quiet vcd_line_says (in_header names (codes_from 0 names)) (among names (codes_from 0 names) 0 false) (codes "$enddefinitions $end")
+    ∙ line-quiet (in_header names (codes_from 0 names)) (among names (codes_from 0 names) 0 false) (codes "$enddefinitions $end")
     ((change_lines changes ++ time_line end ∷ []) ++ [] ∷ []) (end-says names (codes_from 0 names) (all-found 0 names))
     ∙ changes-say names changes 0 false end order lawful.few small)
 
 -- what is written says what was written
 pub read_back :
     (names : List (List ℕ)) (changes : List Change) (end : ℕ) → AreNames names → AreInOrder (length names) 0 changes end → end < 2 ^ 64
-    → VcdSays (begun_vcd names) (plain_lines true (lines_in [] (vcd_text names changes end))) (events_of changes end)
-read_back names changes end lawful order small = (
-  among names (codes_from 0 names) end true,
-  ap (λ lines. all_say vcd_line_says (begun_vcd names) (plain_lines true lines))
-      (lines_are_read (length names) names changes end lawful.words order small)
-      ∙ vcd-says names changes end lawful order small,
-  refl,
-)
+    → vcd_says (begun_vcd names) (plain_lines true (lines_in [] (vcd_text names changes end))) ≡ Ok (events_of changes end)
+read_back names changes end lawful order small =
+    ap (λ lines. vcd_says (begun_vcd names) (plain_lines true lines))
+    (lines_are_read (length names) names changes end lawful.words order small)
+    ∙ lines-say names changes end lawful order small
 
 -- a text that was written
 pub is_read_back :
@@ -319,6 +337,6 @@ pub is_read_back :
     → AreInOrder wires 0 changes end → end < 2 ^ 64 → text ≡ vcd_text names changes end
     → IsReadBack names changes end text
 is_read_back names changes end wires text same lawful order small e wanted asked =
-    subst (λ n. VcdSays (begun_vcd n) (plain_lines true (lines_in [] text)) (events_of changes end)) (sym asked)
-    (subst (λ t. VcdSays (begun_vcd names) (plain_lines true (lines_in [] t)) (events_of changes end)) (sym e)
+    subst (λ n. vcd_says (begun_vcd n) (plain_lines true (lines_in [] text)) ≡ Ok (events_of changes end)) (sym asked)
+    (subst (λ t. vcd_says (begun_vcd names) (plain_lines true (lines_in [] t)) ≡ Ok (events_of changes end)) (sym e)
     (read_back names changes end lawful (subst (λ n. AreInOrder n 0 changes end) (sym same) order) small))

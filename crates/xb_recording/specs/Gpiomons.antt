@@ -1,13 +1,15 @@
 -- What gpiomon writes, line by line.
-use Rattle.std.specs.Prelude.{◌≡◌, ℕ, ◌+◌, ◌-◌, List, [], ◌∷◌, ◌++◌, Bool, true, false, Option, Some, None, bytes_eq, codes, drop, length, map, nat_le, nat_lt, nat_eq, slice_index, take, ◌==◌, ◌&&◌, ◌||◌, if◌then◌else◌, option_map}
+use Rattle.std.specs.Prelude.{ℕ, ◌+◌, ◌-◌, List, [], ◌∷◌, ◌++◌, Bool, true, false, Option, Some, None, Result, Ok, Err, bytes_eq, codes, drop, length, map, nat_le, nat_lt, nat_eq, slice_index, take, ◌==◌, ◌&&◌, ◌||◌, if◌then◌else◌, option_map}
 use Rattle.std.specs.List.{position, starts_with}
-use Rattle.std.specs.Option.{option_and_then}
+use Rattle.std.specs.Option.{ok_or, option_and_then}
 use Rattle.xb_contact.specs.declared.scale.TheConstants.{NANOSECONDS}
 use Rattle.xb_csv.specs.Cells.{trimmed}
 use Rattle.xb_csv.specs.Seconds.{nanoseconds_of}
 use Rattle.xb_vcd.specs.declared.event.Event.{Event}
 use Rattle.xb_vcd.specs.declared.event.Event.TheVariants.{At, Ticks}
-use Rattle.xb_vcd.specs.Steps.{all_say}
+use Rattle.xb_vcd.specs.declared.event.Refusal.{Refusal}
+use Rattle.xb_vcd.specs.declared.event.Refusal.TheVariants as refusals
+use Rattle.xb_vcd.specs.Steps.{Said, result_and_then, result_map, say_to_end}
 use Rattle.xb_vcd.specs.VcdChanges.{level_event}
 use Rattle.xb_recording.specs.declared.gpiomon.Edge.{Edge}
 use Rattle.xb_recording.specs.declared.gpiomon.Gpiomon.{Gpiomon}
@@ -106,27 +108,31 @@ named_levels wire name is_high (own ∷ rest) =
     else named_levels (wire + 1) name is_high rest
 
 -- a time never falls; the first one says that ticks are nanoseconds
-abbrev pub time_said : Option ℕ → ℕ → Option (List Event)
-time_said None time = Some (Ticks NANOSECONDS ∷ At time ∷ [])
-time_said (Some last) time = if nat_lt time last then None else Some (At time ∷ [])
+abbrev pub time_said : Option ℕ → ℕ → Result (List Event) Refusal
+time_said None time = Ok (Ticks NANOSECONDS ∷ At time ∷ [])
+time_said (Some last) time = if nat_lt time last then Err refusals.Backwards else Ok (At time ∷ [])
 
-abbrev pub edge_says : GpiomonState → EdgeSaid → ℕ → Option (List Event × GpiomonState)
+abbrev pub edge_says : GpiomonState → EdgeSaid → ℕ → Said GpiomonState
 edge_says state edge time =
-    option_map
+    result_map
     (λ said. (said ++ named_levels 0 edge.wire edge.is_rising state.names, gpiomon_with state.names (Some time)))
     (time_said state.last time)
 
 -- a line that is not empty
-abbrev pub edge_line_says : GpiomonState → List ℕ → Option (List Event × GpiomonState)
+abbrev pub edge_line_says : GpiomonState → List ℕ → Said GpiomonState
 edge_line_says state line =
-    option_and_then (λ edge. option_and_then (λ time. edge_says state edge time) (nanoseconds_of edge.time)) (edge_of line)
+    result_and_then
+    (λ edge. result_and_then (λ time. edge_says state edge time) (ok_or (nanoseconds_of edge.time) refusals.Time))
+    (ok_or (edge_of line) refusals.Edge)
 
 -- a line, without the blanks around it; an empty one says nothing
-abbrev pub gpiomon_line_says : GpiomonState → List ℕ → Option (List Event × GpiomonState)
+abbrev pub gpiomon_line_says : GpiomonState → List ℕ → Said GpiomonState
 gpiomon_line_says state line =
-    if length (trimmed line) == 0 then Some ([], state) else edge_line_says state (trimmed line)
+    if length (trimmed line) == 0 then Ok ([], state) else edge_line_says state (trimmed line)
 
--- lines from a state on
-abbrev pub GpiomonSays : GpiomonState → List (List ℕ) → List Event → Type 0
-GpiomonSays state lines events =
-    (last : GpiomonState) × (all_say gpiomon_line_says state lines ≡ Some (events, last))
+-- lines from a state on; after the last one nothing is left to be said
+abbrev pub gpiomon_ends : GpiomonState → Result (List Event) Refusal
+gpiomon_ends state = Ok []
+
+abbrev pub gpiomon_says : GpiomonState → List (List ℕ) → Result (List Event) Refusal
+gpiomon_says state lines = say_to_end gpiomon_line_says gpiomon_ends state lines

@@ -1,5 +1,6 @@
 pub mod Gpiomons
 pub mod Says
+pub mod Places
 pub mod WrittenVcd
 pub mod Formats
 pub mod Beginnings

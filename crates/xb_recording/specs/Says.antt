@@ -1,7 +1,6 @@
 -- What a recording says, whatever its form.
-use Rattle.std.specs.Prelude.{◌≡◌, ◌≢◌, ◌+◌, ◌^◌, ◌≤◌, ◌<◌, ℕ, ℤ, Option, List, [], ◌∷◌, ◌++◌, Bool, true, false, ◌==◌, if◌then◌else◌, None, Some, drop, length, map, nat_eq, option_map}
+use Rattle.std.specs.Prelude.{◌≡◌, ◌≢◌, ◌⊎◌, ◌+◌, ◌^◌, ◌≤◌, ◌<◌, ℕ, ℤ, Option, List, [], ◌∷◌, ◌++◌, Bool, true, false, ◌==◌, if◌then◌else◌, None, Some, Result, Ok, Err, drop, length, map, nat_eq}
 use Rattle.std.specs.List.{starts_with}
-use Rattle.std.specs.Option.{option_and_then}
 use Rattle.xb_vcd.specs.declared.event.Event.{Event}
 use Rattle.xb_csv.specs.declared.columns.Form.{Form}
 use Rattle.xb_csv.specs.declared.columns.Form.TheVariants as forms
@@ -14,13 +13,14 @@ use Rattle.xb_recording.specs.declared.reader.Source.{Source}
 use Rattle.xb_recording.specs.declared.reader.Source.TheVariants as sources
 use Rattle.xb_recording.specs.declared.wanted.Wanted.{Wanted}
 use Rattle.xb_vcd.specs.declared.event.Refusal.{Refusal}
-use Rattle.xb_vcd.specs.declared.event.Refusal.TheVariants.{NoMemory}
-use Rattle.xb_vcd.specs.Steps.{AddsAll}
-use Rattle.xb_vcd.specs.VcdTexts.{VcdSays, begun_vcd, vcd_state}
+use Rattle.xb_vcd.specs.declared.event.Refusal.TheVariants as refusals
+use Rattle.xb_vcd.specs.Steps.{AddsAll, result_and_then, then_later}
+use Rattle.xb_vcd.specs.VcdChanges.{vcd_state}
+use Rattle.xb_vcd.specs.VcdTexts.{begun_vcd, vcd_says}
 use Rattle.xb_samples.specs.Pieces.{SamplesSay, SayTheSame}
 use Rattle.xb_samples.specs.Samples.{IsNewBits, bits_reading, bits_say, bits_state, rate_says}
 use Rattle.xb_samples.specs.declared.wav.WavFormat.{WavFormat}
-use Rattle.xb_recording.specs.Gpiomons.{GpiomonSays, gpiomon_state, gpiomon_with}
+use Rattle.xb_recording.specs.Gpiomons.{gpiomon_says, gpiomon_state, gpiomon_with}
 use Rattle.xb_samples.specs.Wavs.{HeadBegins, IsNewHead, IsWav, Samples}
 use Rattle.xb_samples.specs.Sounds.{IsNewSound, SoundSays, high_of, own_bytes, samples_of, sound_begins, sound_says, sound_state, wires_of}
 use Rattle.xb_csv.specs.Tables.{begun_table, table_says, table_state}
@@ -42,14 +42,17 @@ abbrev pub plain_lines : Bool → List (List ℕ) → List (List ℕ)
 plain_lines is_first [] = []
 plain_lines is_first (line ∷ rest) = plain_line is_first line ∷ rest
 
--- what is read says these events of further lines; samples have none
+-- what is read comes to this of further lines: it says these events, or is refused for this reason; samples have none
+abbrev pub LinesComeTo : Source → List (List ℕ) → Result (List Event) Refusal → Type 0
+LinesComeTo (sources.Vcd vcd) lines outcome = vcd_says (vcd_state vcd) lines ≡ outcome
+LinesComeTo (sources.Columns table) lines outcome = table_says (table_state table) lines ≡ outcome
+LinesComeTo (sources.Gpiomon gpiomon) lines outcome = gpiomon_says (gpiomon_state gpiomon) lines ≡ outcome
+LinesComeTo (sources.Bits bits) lines outcome = Unit {0}
+LinesComeTo (sources.WavHead head) lines outcome = Unit {0}
+LinesComeTo (sources.Sound sound) lines outcome = Unit {0}
+
 abbrev pub LinesSay : Source → List (List ℕ) → List Event → Type 0
-LinesSay (sources.Vcd vcd) lines events = VcdSays (vcd_state vcd) lines events
-LinesSay (sources.Columns table) lines events = table_says (table_state table) lines ≡ Some events
-LinesSay (sources.Gpiomon gpiomon) lines events = GpiomonSays (gpiomon_state gpiomon) lines events
-LinesSay (sources.Bits bits) lines events = Unit {0}
-LinesSay (sources.WavHead head) lines events = Unit {0}
-LinesSay (sources.Sound sound) lines events = Unit {0}
+LinesSay source lines events = LinesComeTo source lines (Ok events)
 
 -- the names of the wires that are wanted
 abbrev pub names_in : Wanted → List (List ℕ)
@@ -59,13 +62,28 @@ names_in wanted = map (λ wire. wire.now) wanted.wires.items
 abbrev pub SixteenSay : ℕ → Option ℕ → Wanted → List ℕ → List Event → Type 0
 SixteenSay channels rate wanted bytes events =
     (all : List Event)
-    × (sound_says channels (high_of wanted.threshold) (names_in wanted) rate (samples_of bytes) ≡ Some all)
+    × (sound_says channels (high_of wanted.threshold) (names_in wanted) rate (samples_of bytes) ≡ Ok all)
     × SayTheSame events all
+
+-- they are refused for this reason
+abbrev pub SixteenRefused : ℕ → Option ℕ → Wanted → List ℕ → Refusal → Type 0
+SixteenRefused channels rate wanted bytes refusal =
+    sound_says channels (high_of wanted.threshold) (names_in wanted) rate (samples_of bytes) ≡ Err refusal
 
 -- those of a WAV
 abbrev pub WavSays : Wanted → Samples → List Event → Type 0
 WavSays wanted samples events =
     SixteenSay samples.0.channels (Some samples.0.rate) wanted (own_bytes samples.0.length samples.1) events
+
+abbrev pub SamplesRefused : Wanted → Samples → Refusal → Type 0
+SamplesRefused wanted samples refusal =
+    SixteenRefused samples.0.channels (Some samples.0.rate) wanted (own_bytes samples.0.length samples.1) refusal
+
+-- a WAV is refused for this reason: that of its samples, where any begin
+abbrev pub WavRefused : (Samples → Type 0) → Wanted → Refusal → Type 0
+WavRefused Begin wanted refusal =
+    ((samples : Samples) → Begin samples → SamplesRefused wanted samples refusal)
+    × (((samples : Samples) → Begin samples → ⊥) → refusal ≡ refusals.Wav)
 
 -- what is read says these events of further bytes: exact for samples, but for waits
 abbrev pub BytesSay : Wanted → Source → List ℕ → List Event → Type 0
@@ -129,7 +147,7 @@ IsBegunBits names rate (sources.Sound sound) said = ⊥
 abbrev pub IsBegunSound : ℕ → Option ℕ → Option ℕ → ℤ → List (List ℕ) → Source → List Event → Type 0
 IsBegunSound channels rate length high names (sources.Sound sound) said =
     IsNewSound channels high names length sound
-    × AddsAll (option_and_then (sound_begins rate) (wires_of channels names)) [] said
+    × AddsAll (result_and_then (sound_begins rate) (wires_of channels names)) [] said
 IsBegunSound channels rate length high names (sources.Vcd vcd) said = ⊥
 IsBegunSound channels rate length high names (sources.Columns table) said = ⊥
 IsBegunSound channels rate length high names (sources.Gpiomon gpiomon) said = ⊥
@@ -180,8 +198,8 @@ Takes old new bytes said =
 -- what it took as a text, and as samples
 abbrev pub TakesText : Reader → Reader → List ℕ → List Event → Type 0
 TakesText old new bytes said =
-    (text : List ℕ) (later : List Event) → LinesSay new.source (lines_left new text) later
-    → LinesSay old.source (lines_left old (bytes ++ text)) (said ++ later)
+    (text : List ℕ) (later : Result (List Event) Refusal) → LinesComeTo new.source (lines_left new text) later
+    → LinesComeTo old.source (lines_left old (bytes ++ text)) (then_later said later)
 
 abbrev pub TakesBytes : Reader → Reader → List ℕ → List Event → Type 0
 TakesBytes old new bytes said =
@@ -200,20 +218,21 @@ text_lines text = plain_lines true (lines_in [] text)
 
 abbrev pub TableSays : Form → Wanted → List ℕ → List Event → Type 0
 TableSays form wanted text events =
-    table_says (begun_table form (names_in wanted) wanted.rate) (text_lines text) ≡ Some events
+    table_says (begun_table form (names_in wanted) wanted.rate) (text_lines text) ≡ Ok events
 
 abbrev pub BitsSay : Wanted → List ℕ → List Event → Type 0
 BitsSay wanted samples events =
-    (all : List Event) × (bits_say (names_in wanted) wanted.rate samples ≡ Some all) × SayTheSame events all
+    (all : List Event) × (bits_say (names_in wanted) wanted.rate samples ≡ Ok all) × SayTheSame events all
 
 -- a recording of a form says these events of the wires that are wanted: exactly, but that pieces of samples may end in
 -- waits
 abbrev pub Says : Format → Wanted → List ℕ → List Event → Type 0
-Says formats.Vcd wanted text events = VcdSays (begun_vcd (names_in wanted)) (text_lines text) events
+Says formats.Vcd wanted text events = vcd_says (begun_vcd (names_in wanted)) (text_lines text) ≡ Ok events
 Says formats.Sigrok wanted text events = TableSays forms.Sigrok wanted text events
 Says formats.Saleae wanted text events = TableSays forms.Saleae wanted text events
 Says formats.Edges wanted text events = TableSays forms.Edges wanted text events
-Says formats.Gpiomon wanted text events = GpiomonSays (gpiomon_with (names_in wanted) None) (text_lines text) events
+Says formats.Gpiomon wanted text events =
+    gpiomon_says (gpiomon_with (names_in wanted) None) (text_lines text) ≡ Ok events
 Says formats.Bits wanted text events = BitsSay wanted text events
 Says formats.Sixteen wanted text events = SixteenSay 1 wanted.rate wanted text events
 Says formats.Wav wanted text events = (samples : Samples) × IsWav text samples × WavSays wanted samples events
@@ -223,51 +242,82 @@ abbrev pub Begins : Format → Wanted → Reader → List Event → Type 0
 Begins format wanted reader said =
     (text : List ℕ) (later : List Event) → RestSays reader text later → Says format wanted text (said ++ later)
 
--- it was refused, unless memory ran out: a form, where no recording of it says anything of these wires
-abbrev pub RefusesForm : Format → Wanted → Refusal → Type 0
-RefusesForm format wanted refusal =
-    refusal ≢ NoMemory → (text : List ℕ) (events : List Event) → Says format wanted text events → ⊥
+-- a recording of a form is refused for this reason
+abbrev pub TableRefused : Form → Wanted → List ℕ → Refusal → Type 0
+TableRefused form wanted text refusal =
+    table_says (begun_table form (names_in wanted) wanted.rate) (text_lines text) ≡ Err refusal
 
--- a line, after which nothing is said, whatever follows
+abbrev pub IsRefused : Format → Wanted → List ℕ → Refusal → Type 0
+IsRefused formats.Vcd wanted text refusal = vcd_says (begun_vcd (names_in wanted)) (text_lines text) ≡ Err refusal
+IsRefused formats.Sigrok wanted text refusal = TableRefused forms.Sigrok wanted text refusal
+IsRefused formats.Saleae wanted text refusal = TableRefused forms.Saleae wanted text refusal
+IsRefused formats.Edges wanted text refusal = TableRefused forms.Edges wanted text refusal
+IsRefused formats.Gpiomon wanted text refusal =
+    gpiomon_says (gpiomon_with (names_in wanted) None) (text_lines text) ≡ Err refusal
+IsRefused formats.Bits wanted text refusal = bits_say (names_in wanted) wanted.rate text ≡ Err refusal
+IsRefused formats.Sixteen wanted text refusal = SixteenRefused 1 wanted.rate wanted text refusal
+IsRefused formats.Wav wanted text refusal = WavRefused (IsWav text) wanted refusal
+
+-- it was refused, unless memory ran out: a form, for a reason that refuses each recording of it
+abbrev pub RefusesForm : Format → Wanted → Refusal → Type 0
+RefusesForm format wanted refusal = refusal ≢ refusals.NoMemory → (text : List ℕ) → IsRefused format wanted text refusal
+
+-- a line, for a reason that refuses the text, whatever follows
 abbrev pub RefusesLine : Source → List ℕ → Refusal → Type 0
 RefusesLine source line refusal =
-    refusal ≢ NoMemory → (lines : List (List ℕ)) (events : List Event) → LinesSay source (line ∷ lines) events → ⊥
+    refusal ≢ refusals.NoMemory → (lines : List (List ℕ)) → LinesComeTo source (line ∷ lines) (Err refusal)
 
 -- the first samples of a WAV
 abbrev pub RefusesSamples : WavFormat → Reader → List ℕ → Refusal → Type 0
 RefusesSamples format reader bytes refusal =
-    refusal ≢ NoMemory → (text : List ℕ) (events : List Event)
-    → WavSays reader.wanted.now (format, bytes ++ text) events → ⊥
+    refusal ≢ refusals.NoMemory → (text : List ℕ) → SamplesRefused reader.wanted.now (format, bytes ++ text) refusal
 
--- what is longer than a reader goes: a text line of more than 65,536 bytes, and samples of 2^64 ticks
-abbrev pub IsLongText : Reader → List ℕ → Type 0
-IsLongText reader bytes = MOST_LINE_BYTES < length (line_so_far reader ++ bytes)
+-- further lines of a text, or further bytes, are refused for this reason; samples that have begun never are
+abbrev pub SourceRefused : Wanted → Source → List (List ℕ) → List ℕ → Refusal → Type 0
+SourceRefused wanted (sources.Vcd vcd) lines bytes refusal = vcd_says (vcd_state vcd) lines ≡ Err refusal
+SourceRefused wanted (sources.Columns table) lines bytes refusal = table_says (table_state table) lines ≡ Err refusal
+SourceRefused wanted (sources.Gpiomon gpiomon) lines bytes refusal =
+    gpiomon_says (gpiomon_state gpiomon) lines ≡ Err refusal
+SourceRefused wanted (sources.WavHead head) lines bytes refusal = WavRefused (HeadBegins head bytes) wanted refusal
+SourceRefused wanted (sources.Bits bits) lines bytes refusal = ⊥
+SourceRefused wanted (sources.Sound sound) lines bytes refusal = ⊥
 
-abbrev pub IsTooLong : Reader → Source → List ℕ → Type 0
-IsTooLong reader (sources.Vcd vcd) bytes = IsLongText reader bytes
-IsTooLong reader (sources.Columns table) bytes = IsLongText reader bytes
-IsTooLong reader (sources.Gpiomon gpiomon) bytes = IsLongText reader bytes
-IsTooLong reader (sources.Bits bits) bytes = 2 ^ 64 ≤ (bits_state bits).count + length bytes
-IsTooLong reader (sources.WavHead head) bytes = ⊥
-IsTooLong reader (sources.Sound sound) bytes = 2 ^ 64 ≤ (sound_state sound).count + length bytes
+-- what a reader reads is refused for this reason, where these bytes follow
+abbrev pub RestRefused : Reader → List ℕ → Refusal → Type 0
+RestRefused reader text refusal =
+    SourceRefused reader.wanted.now reader.source (lines_left reader text) text refusal
 
--- further bytes were refused, unless memory ran out: nothing is said, whatever follows, or they are too long
+-- what is longer than a reader goes, and the reason: a text line of more than 65,536 bytes, and samples of 2^64 ticks
+abbrev pub IsLongText : Reader → List ℕ → Refusal → Type 0
+IsLongText reader bytes refusal =
+    (refusal ≡ refusals.TooLong) × (MOST_LINE_BYTES < length (line_so_far reader ++ bytes))
+
+abbrev pub IsLate : ℕ → List ℕ → Refusal → Type 0
+IsLate count bytes refusal = (refusal ≡ refusals.TooLate) × (2 ^ 64 ≤ count + length bytes)
+
+abbrev pub IsTooLong : Reader → Source → List ℕ → Refusal → Type 0
+IsTooLong reader (sources.Vcd vcd) bytes refusal = IsLongText reader bytes refusal
+IsTooLong reader (sources.Columns table) bytes refusal = IsLongText reader bytes refusal
+IsTooLong reader (sources.Gpiomon gpiomon) bytes refusal = IsLongText reader bytes refusal
+IsTooLong reader (sources.Bits bits) bytes refusal = IsLate (bits_state bits).count bytes refusal
+IsTooLong reader (sources.WavHead head) bytes refusal = ⊥
+IsTooLong reader (sources.Sound sound) bytes refusal = IsLate (sound_state sound).count bytes refusal
+
+-- further bytes were refused, unless memory ran out: for this reason what is read is refused, whatever follows, or they
+-- are too long
 abbrev pub Refuses : Reader → List ℕ → Refusal → Type 0
 Refuses reader bytes refusal =
-    refusal ≢ NoMemory → (text : List ℕ) (events : List Event) → RestSays reader (bytes ++ text) events
-    → IsTooLong reader reader.source bytes
+    refusal ≢ refusals.NoMemory
+    → ((text : List ℕ) → RestRefused reader (bytes ++ text) refusal)
+    ⊎ IsTooLong reader reader.source bytes refusal
 
--- as a text, and as samples
+-- as a text
 abbrev pub RefusesText : Reader → List ℕ → Refusal → Type 0
 RefusesText reader bytes refusal =
-    refusal ≢ NoMemory → (text : List ℕ) (events : List Event)
-    → LinesSay reader.source (lines_left reader (bytes ++ text)) events → IsLongText reader bytes
+    refusal ≢ refusals.NoMemory
+    → ((text : List ℕ) → LinesComeTo reader.source (lines_left reader (bytes ++ text)) (Err refusal))
+    ⊎ IsLongText reader bytes refusal
 
-abbrev pub RefusesBytes : Reader → List ℕ → Refusal → Type 0
-RefusesBytes reader bytes refusal =
-    refusal ≢ NoMemory → (text : List ℕ) (events : List Event)
-    → BytesSay reader.wanted.now reader.source (bytes ++ text) events → IsTooLong reader reader.source bytes
-
--- the end was refused, unless memory ran out: the recording says nothing that ends here
+-- the end was refused, unless memory ran out: for this reason what is read is refused
 abbrev pub RefusesEnd : Reader → Refusal → Type 0
-RefusesEnd reader refusal = refusal ≢ NoMemory → (events : List Event) → RestSays reader [] events → ⊥
+RefusesEnd reader refusal = refusal ≢ refusals.NoMemory → RestRefused reader [] refusal

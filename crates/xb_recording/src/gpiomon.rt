@@ -1,7 +1,7 @@
 // The lines that gpiomon writes.
 ghost use Rattle.std.specs.Prelude.{◌≡◌, ◌++◌, ◌<◌, IfErr, IfSome, OnOk, is_some, length, map, option_copied, option_map};
 ghost use Rattle.std.specs.List.{position};
-ghost use Rattle.xb_vcd.specs.Steps.{Adds, AddsAll, SaysNothing};
+ghost use Rattle.xb_vcd.specs.Steps.{Adds, AddsAll, IsRefusedBy};
 ghost use Rattle.xb_recording.specs.Gpiomons.{between, edge_line_says, edge_of, edge_said, edge_says, first_kind, first_word, gpiomon_line_says, gpiomon_state, gpiomon_with, is_gap, named_levels, rises, second_kind, time_said, wire_of};
 
 use xb_contact::NANOSECONDS;
@@ -172,7 +172,7 @@ fn say_named(
 // Says a time, which is not before the last one.
 fn say_time(last: Option<u64>, time: u64, events: &mut Vec<Event>) -> Result<(), Refusal>
     ensures said { OnOk result (AddsAll (time_said last time) events.old.items events.new.items) }
-    ensures refused { IfErr result (SaysNothing (time_said last time)) }
+    ensures refused { IfErr result (IsRefusedBy (time_said last time)) }
 {
     match last {
         None => say(events, Event::Ticks(NANOSECONDS))?,
@@ -199,7 +199,7 @@ impl<'a> Gpiomon<'a> {
     ) -> Result<(), Refusal>
         ensures said { OnOk result (Adds (edge_says (gpiomon_state self.old) (edge_said edge.entry) time)
             events.old.items events.new.items (gpiomon_state self.new)) }
-        ensures refused { IfErr result (SaysNothing
+        ensures refused { IfErr result (IsRefusedBy
             (edge_says (gpiomon_state self.old) (edge_said edge.entry) time)) }
     {
         say_time(self.last, time, events)?;
@@ -211,7 +211,7 @@ impl<'a> Gpiomon<'a> {
     fn take_edge_line(&mut self, line: &[u8], events: &mut Vec<Event>) -> Result<(), Refusal>
         ensures said { OnOk result (Adds (edge_line_says (gpiomon_state self.old) line.now)
             events.old.items events.new.items (gpiomon_state self.new)) }
-        ensures refused { IfErr result (SaysNothing (edge_line_says (gpiomon_state self.old) line.now)) }
+        ensures refused { IfErr result (IsRefusedBy (edge_line_says (gpiomon_state self.old) line.now)) }
     {
         let Some(edge) = edge_of(line) else {
             return Err(Refusal::Edge);
@@ -226,7 +226,7 @@ impl<'a> Gpiomon<'a> {
     pub fn take_line(&mut self, line: &[u8], events: &mut Vec<Event>) -> Result<(), Refusal>
         ensures said { OnOk result (Adds (gpiomon_line_says (gpiomon_state self.old) line.now)
             events.old.items events.new.items (gpiomon_state self.new)) }
-        ensures refused { IfErr result (SaysNothing (gpiomon_line_says (gpiomon_state self.old) line.now)) }
+        ensures refused { IfErr result (IsRefusedBy (gpiomon_line_says (gpiomon_state self.old) line.now)) }
     {
         let line = trimmed(line);
         if line.is_empty() {

@@ -1,13 +1,16 @@
 // The reader of a recording, whatever its form.
-ghost use Rattle.std.specs.Prelude.{◌≡◌, ◌≢◌, ◌≤◌, ◌++◌, [], ◌∷◌, ℕ, Some, true, false, IfErr, IfOk, OnOk, List, length};
+ghost use Rattle.std.specs.Prelude.{◌≡◌, ◌≢◌, ◌≤◌, [], ◌∷◌, ℕ, Ok, true, false, IfErr, IfOk, OnErr, OnOk, List, Result as Outcome, length};
 ghost use Rattle.xb_csv.specs.Tables.{table_says, table_state};
 ghost use Rattle.xb_vcd.specs.declared.event.Event.{Event as EventTaken};
+ghost use Rattle.xb_vcd.specs.declared.event.Refusal.{Refusal as Reason};
 ghost use Rattle.xb_vcd.specs.declared.event.Refusal.TheVariants.{NoMemory};
-ghost use Rattle.xb_vcd.specs.Steps.{SaysNothing};
-ghost use Rattle.xb_vcd.specs.VcdTexts.{VcdSays, vcd_state};
+ghost use Rattle.xb_vcd.specs.Steps.{IsRefusedBy, then_later};
+ghost use Rattle.xb_vcd.specs.VcdChanges.{vcd_state};
+ghost use Rattle.xb_vcd.specs.VcdTexts.{vcd_says};
 ghost use Rattle.xb_recording.specs.declared.wanted.Wanted.{Wanted as WantedHere};
-ghost use Rattle.xb_recording.specs.Gpiomons.{GpiomonSays, gpiomon_state};
-ghost use Rattle.xb_recording.specs.Says.{Begins, BytesSay, IsOfFormat, LinesSay, Refuses, RefusesBytes, RefusesEnd, RefusesForm, RefusesLine, RefusesSamples, RefusesText, RestSays, Takes, TakesBytes, TakesSamples, TakesText, is_in_first, is_text, line_so_far, plain_line};
+ghost use Rattle.xb_recording.specs.Gpiomons.{gpiomon_says, gpiomon_state};
+ghost use Rattle.xb_recording.specs.Places.{line_number, lines_ended, lines_ended_by, sample_number};
+ghost use Rattle.xb_recording.specs.Says.{Begins, BytesSay, IsOfFormat, LinesComeTo, LinesSay, Refuses, RefusesEnd, RefusesForm, RefusesLine, RefusesSamples, RefusesText, RestSays, SourceRefused, Takes, TakesBytes, TakesSamples, TakesText, is_in_first, is_text, line_so_far, plain_line};
 
 use crate::format::{Format, without_mark};
 use crate::gpiomon::Gpiomon;
@@ -77,10 +80,11 @@ fn take_line_of(
     events: &mut Vec<Event>,
 ) -> Result<(), Refusal>
     requires { events.old.items ≡ [] }
-    ensures said { OnOk result ((lines : List (List ℕ)) (later : List EventTaken)
-        → LinesSay source.new lines later
-        → LinesSay source.old (line.now ∷ lines) (events.new.items ++ later)) }
+    ensures said { OnOk result ((lines : List (List ℕ)) (later : Outcome (List EventTaken) Reason)
+        → LinesComeTo source.new lines later
+        → LinesComeTo source.old (line.now ∷ lines) (then_later events.new.items later)) }
     ensures refused { IfErr result (RefusesLine source.old line.now) }
+    ensures form { is_text source.new ≡ is_text source.old }
 {
     match source {
         Source::Vcd(vcd) => vcd.take_line(line, events),
@@ -93,9 +97,8 @@ fn take_line_of(
 // The last line of a VCD, and its end.
 fn end_vcd(vcd: &mut Vcd<'_>, line: &[u8], events: &mut Vec<Event>) -> Result<(), Refusal>
     requires { events.old.items ≡ [] }
-    ensures said { OnOk result (VcdSays (vcd_state vcd.old) (line.now ∷ []) events.new.items) }
-    ensures refused { IfErr result (λ e. e ≢ NoMemory → (all : List EventTaken)
-        → VcdSays (vcd_state vcd.old) (line.now ∷ []) all → ⊥) }
+    ensures said { OnOk result (vcd_says (vcd_state vcd.old) (line.now ∷ []) ≡ Ok events.new.items) }
+    ensures refused { IfErr result (IsRefusedBy (vcd_says (vcd_state vcd.old) (line.now ∷ []))) }
 {
     vcd.take_line(line, events)?;
     vcd.end()
@@ -104,8 +107,8 @@ fn end_vcd(vcd: &mut Vcd<'_>, line: &[u8], events: &mut Vec<Event>) -> Result<()
 // The last line of a table, and its end.
 fn end_table(table: &mut Columns<'_>, line: &[u8], events: &mut Vec<Event>) -> Result<(), Refusal>
     requires { events.old.items ≡ [] }
-    ensures said { OnOk result (table_says (table_state table.old) (line.now ∷ []) ≡ Some events.new.items) }
-    ensures refused { IfErr result (SaysNothing (table_says (table_state table.old) (line.now ∷ []))) }
+    ensures said { OnOk result (table_says (table_state table.old) (line.now ∷ []) ≡ Ok events.new.items) }
+    ensures refused { IfErr result (IsRefusedBy (table_says (table_state table.old) (line.now ∷ []))) }
 {
     table.take_line(line, events)?;
     table.end(events)
@@ -118,9 +121,10 @@ fn end_gpiomon(
     events: &mut Vec<Event>,
 ) -> Result<(), Refusal>
     requires { events.old.items ≡ [] }
-    ensures said { OnOk result (GpiomonSays (gpiomon_state gpiomon.old) (line.now ∷ []) events.new.items) }
-    ensures refused { IfErr result (λ e. e ≢ NoMemory → (all : List EventTaken)
-        → GpiomonSays (gpiomon_state gpiomon.old) (line.now ∷ []) all → ⊥) }
+    ensures said { OnOk result
+        (gpiomon_says (gpiomon_state gpiomon.old) (line.now ∷ []) ≡ Ok events.new.items) }
+    ensures refused { IfErr result (IsRefusedBy
+        (gpiomon_says (gpiomon_state gpiomon.old) (line.now ∷ []))) }
 {
     gpiomon.take_line(line, events)
 }
@@ -130,8 +134,8 @@ fn end_source(source: &mut Source<'_>, line: &[u8], events: &mut Vec<Event>) -> 
     requires { events.old.items ≡ [] }
     ensures lines { OnOk result (LinesSay source.old (line.now ∷ []) events.new.items) }
     ensures bytes { OnOk result ((wanted : WantedHere) → BytesSay wanted source.old [] events.new.items) }
-    ensures refused { IfErr result (λ e. e ≢ NoMemory → (wanted : WantedHere) (all : List EventTaken)
-        → LinesSay source.old (line.now ∷ []) all → BytesSay wanted source.old [] all → ⊥) }
+    ensures refused { IfErr result (λ e. e ≢ NoMemory → (wanted : WantedHere)
+        → SourceRefused wanted source.old (line.now ∷ []) [] e) }
 {
     match source {
         Source::Vcd(vcd) => end_vcd(vcd, line, events),
@@ -153,6 +157,7 @@ impl<'a> Reader<'a> {
         events: &mut Vec<Event>,
     ) -> Result<Reader<'a>, Refusal>
         ensures begun { IfOk result (λ reader. Begins format wanted.now reader events.new.items) }
+        ensures place { IfOk result (λ reader. lines_ended reader ≡ 0) }
         ensures refused { IfErr result (RefusesForm format wanted.now) }
     {
         events.clear();
@@ -181,13 +186,16 @@ impl<'a> Reader<'a> {
     // The line that has come. It stands there until the next one begins.
     fn take_line(&mut self, events: &mut Vec<Event>) -> Result<(), Refusal>
         requires none { events.old.items ≡ [] }
-        ensures said { OnOk result ((lines : List (List ℕ)) (later : List EventTaken)
-            → LinesSay self.new.source lines later
-            → LinesSay self.old.source (plain_line self.old.is_first self.old.line.items ∷ lines)
-            (events.new.items ++ later)) }
-        ensures whole { OnOk result (self.new.is_whole ≡ true) }
+        ensures said { OnOk result ((lines : List (List ℕ)) (later : Outcome (List EventTaken) Reason)
+            → LinesComeTo self.new.source lines later
+            → LinesComeTo self.old.source (plain_line self.old.is_first self.old.line.items ∷ lines)
+            (then_later events.new.items later)) }
+        ensures whole { self.new.is_whole ≡ true }
         ensures refused { IfErr result (RefusesLine self.old.source
             (plain_line self.old.is_first self.old.line.items)) }
+        ensures place { self.new.lines ≡ self.old.lines }
+        ensures line { self.new.line.items ≡ self.old.line.items }
+        ensures form { is_text self.new.source ≡ is_text self.old.source }
     {
         self.is_whole = true;
         let line = without_mark(&self.line, self.is_first);
@@ -200,6 +208,7 @@ impl<'a> Reader<'a> {
         ensures line { self.new.line.items ≡ line_so_far self.old }
         ensures first { self.new.is_first ≡ is_in_first self.old }
         ensures source { self.new.source ≡ self.old.source }
+        ensures place { self.new.lines ≡ lines_ended self.old }
     {
         if self.is_whole {
             self.line.clear();
@@ -215,6 +224,10 @@ impl<'a> Reader<'a> {
         ensures said { OnOk result (TakesText self.old self.new (byte ∷ []) events.new.items) }
         ensures short { OnOk result (length (line_so_far self.new) ≤ MOST_LINE_BYTES) }
         ensures refused { IfErr result (RefusesText self.old (byte ∷ [])) }
+        ensures place { self.new.lines ≡ lines_ended self.old }
+        ensures ended { OnOk result (lines_ended self.new ≡ lines_ended_by byte (lines_ended self.old)) }
+        ensures line { OnErr result (self.new.line.items ≡ line_so_far self.old) }
+        ensures form { is_text self.new.source ≡ is_text self.old.source }
     {
         self.begin_line();
         if byte == b'\n' {
@@ -228,13 +241,19 @@ impl<'a> Reader<'a> {
     }
 
     /// The next byte. `events` has then what it says, in place of what was there. It is refused where nothing that
-    /// begins so says anything, and where a text line has more than 65,536 bytes. After an `Err` the reader is not to
-    /// be used again.
+    /// begins so says anything, and where a text line has more than 65,536 bytes. A byte of a text belongs to the line
+    /// that `text_line` counts and `line` shows then. After an `Err` the reader is not to be used again.
     pub fn take_byte(&mut self, byte: u8, events: &mut Vec<Event>) -> Result<(), Refusal>
         ensures said { OnOk result (Takes self.old self.new (byte ∷ []) events.new.items) }
         ensures short { OnOk result (is_text self.old.source ≡ true
             → length (line_so_far self.new) ≤ MOST_LINE_BYTES) }
         ensures refused { IfErr result (Refuses self.old (byte ∷ [])) }
+        ensures place { is_text self.old.source ≡ true → self.new.lines ≡ lines_ended self.old }
+        ensures ended { OnOk result (is_text self.old.source ≡ true
+            → lines_ended self.new ≡ lines_ended_by byte (lines_ended self.old)) }
+        ensures line { OnErr result (is_text self.old.source ≡ true
+            → self.new.line.items ≡ line_so_far self.old) }
+        ensures form { is_text self.new.source ≡ is_text self.old.source }
     {
         if !self.is_text() {
             return self.take_samples(&[byte], events);
@@ -253,6 +272,7 @@ impl<'a> Reader<'a> {
         requires { events.old.items ≡ [] }
         ensures said { OnOk result (TakesSamples format self.old self.new bytes.now events.new.items) }
         ensures refused { IfErr result (RefusesSamples format self.old bytes.now) }
+        ensures form { is_text self.old.source ≡ false → is_text self.new.source ≡ false }
     {
         let WavFormat {
             channels,
@@ -279,7 +299,8 @@ impl<'a> Reader<'a> {
         requires none { events.old.items ≡ [] }
         requires samples { is_text self.old.source ≡ false }
         ensures said { OnOk result (TakesBytes self.old self.new bytes.now events.new.items) }
-        ensures refused { IfErr result (RefusesBytes self.old bytes.now) }
+        ensures refused { IfErr result (Refuses self.old bytes.now) }
+        ensures form { is_text self.new.source ≡ false }
     {
         match &mut self.source {
             Source::Bits(bits) => bits.take(bytes, events),
@@ -298,6 +319,7 @@ impl<'a> Reader<'a> {
         requires { is_text self.old.source ≡ false }
         ensures said { OnOk result (Takes self.old self.new bytes.now events.new.items) }
         ensures refused { IfErr result (Refuses self.old bytes.now) }
+        ensures form { is_text self.new.source ≡ false }
     {
         events.clear();
         self.take_values(bytes, events)
@@ -308,6 +330,7 @@ impl<'a> Reader<'a> {
     pub fn end(&mut self, events: &mut Vec<Event>) -> Result<(), Refusal>
         ensures said { OnOk result (RestSays self.old [] events.new.items) }
         ensures refused { IfErr result (RefusesEnd self.old) }
+        ensures place { self.new.lines ≡ lines_ended self.old }
     {
         events.clear();
         self.begin_line();
@@ -315,22 +338,28 @@ impl<'a> Reader<'a> {
         end_source(&mut self.source, line, events)
     }
 
-    /// The text line that is read, counted from 1.
-    pub fn text_line(&self) -> u64 {
-        self.lines.wrapping_add(1)
+    /// The text line that is read, counted from 1 up to 2^64 - 1.
+    pub fn text_line(&self) -> u64
+        ensures { result ≡ line_number self.now }
+    {
+        self.lines.saturating_add(1)
     }
 
     /// The sample that is read, counted from 1; `None` before the first.
-    pub fn sample(&self) -> Option<u64> {
+    pub fn sample(&self) -> Option<u64>
+        ensures { result ≡ sample_number self.now.source }
+    {
         match &self.source {
-            Source::Bits(bits) => Some(bits.count().wrapping_add(1)),
-            Source::Sound(sound) => Some(sound.count().wrapping_add(1)),
+            Source::Bits(bits) => Some(bits.count().saturating_add(1)),
+            Source::Sound(sound) => Some(sound.count().saturating_add(1)),
             _ => None,
         }
     }
 
     /// What has come of the text line.
-    pub fn line(&self) -> &[u8] {
+    pub fn line(&self) -> &[u8]
+        ensures { result.now ≡ self.now.line.items }
+    {
         self.line.as_slice()
     }
 }

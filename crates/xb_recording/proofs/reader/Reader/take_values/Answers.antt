@@ -1,11 +1,11 @@
-use Rattle.std.proofs.Common.{◌≡◌, ℕ, List, ◌++◌, ◌-◌, Option, drop, length, take, subst, sym, length-drop, arith}
+use Rattle.std.proofs.Common.{◌≡◌, ℕ, List, ◌++◌, ◌-◌, Option, drop, length, take, subst, length-drop, arith}
 use Rattle.std.proofs.lemmas.List.{take_all}
 use Rattle.std.proofs.lemmas.Result.{IfErr-weaker, on_ok_weaker}
 use Rattle.xb_recording.specs.declared.reader.Source.TheVariants as sources
 use Rattle.xb_samples.specs.declared.wav.WavFormat.{WavFormat}
-use Rattle.xb_recording.specs.Says.{TakesSamples, WavSays}
+use Rattle.xb_recording.specs.Says.{RefusesSamples, TakesSamples, WavSays}
 use Rattle.xb_samples.specs.Wavs.{TakesHead}
-use Rattle.xb_recording.proofs.RefusedLemmas.{samples_silent}
+use Rattle.xb_recording.proofs.RefusedLemmas.{samples_are_refused}
 use Rattle.xb_recording.proofs.SaidLemmas.{head_then}
 use Rattle.xb_recording.proofs.reader.Reader.take_values.Goals as goal
 
@@ -44,8 +44,7 @@ returns-in-Some-clause-refused c =
     let rest : take (length bytes - count) (drop count bytes) ≡ drop count bytes =
     take_all (length bytes - count) (drop count bytes) (omega (arith, length-drop count bytes)) in
     IfErr-weaker c.begin_sound.result _ _
-    (λ refusal refused other text events h.
-    let Q : List ℕ → Type 0 = λ piece. WavSays old.wanted.now (format, piece ++ text) events in
-    absurd (samples_silent old.wanted.now old.source head after bytes text (format, count) events c.in-WavHead.is taken
-    (λ (k : Q (drop count bytes)). refused other text events (subst Q (sym rest) k)) h))
+    (λ refusal refused.
+    let Q : List ℕ → Type 0 = λ piece. RefusesSamples format old piece refusal in
+    samples_are_refused old head after bytes (format, count) refusal c.in-WavHead.is taken (subst Q rest refused))
     c.begin_sound.ensures.refused
