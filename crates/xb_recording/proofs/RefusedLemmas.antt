@@ -1,6 +1,11 @@
 -- Why a recording is refused.
-use Rattle.std.proofs.Common.{◌≡◌, ℕ, List, [], ◌++◌, true, Some, drop, inl, inr, refl, sym, subst}
+use Rattle.std.proofs.Common.{◌≡◌, ℕ, List, [], ◌++◌, true, None, Some, drop, ap, inl, inr, refl, sym, subst, ◌∙◌}
 use Rattle.std.specs.Prelude.{Result, Ok, Err, IfErr, length}
+use Rattle.xb_csv.specs.Tables.{table_says}
+use Rattle.xb_csv.specs.declared.columns.Form.{Form}
+use Rattle.xb_csv.specs.declared.columns.Form.TheVariants as forms
+use Rattle.xb_vcd.specs.VcdTexts.{vcd_says}
+use Rattle.xb_vcd.specs.declared.event.Event.{Event}
 use Rattle.xb_vcd.specs.declared.event.Refusal.{Refusal}
 use Rattle.xb_vcd.specs.declared.event.Refusal.TheVariants as refusals
 use Rattle.xb_vcd.specs.Steps.{IsOnly}
@@ -10,14 +15,17 @@ use Rattle.xb_samples.specs.declared.wav.WavFormat.{WavFormat}
 use Rattle.xb_samples.specs.declared.wav.WavHead.{WavHead}
 use Rattle.xb_samples.specs.Pieces.{RunsOver}
 use Rattle.xb_samples.specs.Samples.{bits_state}
-use Rattle.xb_samples.specs.Sounds.{sound_state}
+use Rattle.xb_samples.specs.Sounds.{high_of, sound_state}
 use Rattle.xb_samples.specs.Wavs.{HeadBegins, RefusesHead, Samples, TakesHead}
-use Rattle.xb_samples.proofs.WavLemmas.{head_nothing}
+use Rattle.xb_samples.proofs.WavLemmas.{head_nothing, wav_is}
+use Rattle.xb_recording.specs.declared.format.Format.{Format}
+use Rattle.xb_recording.specs.declared.format.Format.TheVariants as formats
 use Rattle.xb_recording.specs.declared.reader.Reader.{Reader}
 use Rattle.xb_recording.specs.declared.reader.Source.{Source}
 use Rattle.xb_recording.specs.declared.reader.Source.TheVariants as sources
 use Rattle.xb_recording.specs.declared.wanted.Wanted.{Wanted}
-use Rattle.xb_recording.specs.Says.{IsLongText, IsTooLong, LinesComeTo, RefusesSamples, RefusesText, Refuses, SamplesRefused, SourceRefused, WavRefused, is_text, lines_left}
+use Rattle.xb_recording.specs.Gpiomons.{gpiomon_says}
+use Rattle.xb_recording.specs.Says.{IsBegunBits, IsBegunGpiomon, IsBegunSound, IsBegunTable, IsBegunVcd, IsBegunWav, IsLongText, IsOfFormat, IsRefused, IsTooLong, KeepsRefusals, LinesComeTo, Refuses, RefusesSamples, RefusesText, SamplesRefused, SourceRefused, TableRefused, TakesText, WavRefused, is_text, lines_in, lines_left, names_in, plain_lines, text_lines}
 
 -- what follows from two facts about a refusal
 pub err_both :
@@ -95,6 +103,133 @@ samples_are_refused reader head after bytes found refusal is taken refused = λ 
     let all : WavRefused (HeadBegins head (bytes ++ text)) reader.wanted.now refusal =
     (λ samples k. subst Q (sym ((taken text samples).1 k)) (refused other text), λ none. absurd (none first ((taken text first).0 refl))) in
     subst P (sym is) all)
+
+-- what is refused later is refused: of a text
+refused_lines :
+    (wanted : Wanted) (source : Source) (lines : List (List ℕ)) (bytes : List ℕ) (refusal : Refusal)
+    → SourceRefused wanted source lines bytes refusal → LinesComeTo source lines (Err refusal)
+refused_lines wanted (sources.Vcd vcd) lines bytes refusal k = k
+refused_lines wanted (sources.Columns table) lines bytes refusal k = k
+refused_lines wanted (sources.Gpiomon gpiomon) lines bytes refusal k = k
+refused_lines wanted (sources.Bits bits) lines bytes refusal k = tt
+refused_lines wanted (sources.WavHead head) lines bytes refusal k = tt
+refused_lines wanted (sources.Sound sound) lines bytes refusal k = tt
+
+pub keeps_text :
+    (old new : Reader) (bytes : List ℕ) (said : List Event) → is_text old.source ≡ true → TakesText old new bytes said
+    → KeepsRefusals old new bytes
+keeps_text old new bytes said h taken text refusal k =
+    lines_refused old.wanted.now old.source (lines_left old (bytes ++ text)) (bytes ++ text) refusal h
+    (taken text (Err refusal) (refused_lines new.wanted.now new.source (lines_left new text) text refusal k))
+
+-- of a WAV whose samples have not begun
+pub keeps_head :
+    (reader : Reader) (head after : WavHead) (bytes : List ℕ) → reader.source ≡ sources.WavHead head
+    → TakesHead head bytes None after → KeepsRefusals reader (record reader { source = sources.WavHead after }) bytes
+keeps_head reader head after bytes is taken text refusal k =
+    let P : Source → Type 0 = λ s. SourceRefused reader.wanted.now s (lines_left reader (bytes ++ text)) (bytes ++ text) refusal in
+    let all : WavRefused (HeadBegins head (bytes ++ text)) reader.wanted.now refusal = (
+      λ samples b. k.0 samples ((taken text samples).1 b),
+      λ none. k.1 (λ samples b. none samples ((taken text samples).0 b)),
+    ) in
+    subst P (sym is) all
+
+-- what is refused from the beginning on is the recording
+table_refusals :
+    (form : Form) (wanted : Wanted) (source : Source) (said : List Event)
+    → IsBegunTable form (names_in wanted) wanted.rate source said
+    → (text : List ℕ) (refusal : Refusal) → SourceRefused wanted source (text_lines text) text refusal
+    → TableRefused form wanted text refusal
+table_refusals form wanted (sources.Columns table) said h text refusal k =
+    ap (λ s. table_says s (text_lines text)) (sym h.0) ∙ k
+table_refusals form wanted (sources.Vcd vcd) said h text refusal k = elim h [ ]
+table_refusals form wanted (sources.Gpiomon gpiomon) said h text refusal k = elim h [ ]
+table_refusals form wanted (sources.Bits bits) said h text refusal k = elim h [ ]
+table_refusals form wanted (sources.WavHead head) said h text refusal k = elim h [ ]
+table_refusals form wanted (sources.Sound sound) said h text refusal k = elim h [ ]
+
+vcd_refusals :
+    (wanted : Wanted) (source : Source) (said : List Event) → IsBegunVcd (names_in wanted) source said
+    → (text : List ℕ) (refusal : Refusal) → SourceRefused wanted source (text_lines text) text refusal
+    → IsRefused formats.Vcd wanted text refusal
+vcd_refusals wanted (sources.Vcd vcd) said h text refusal k = ap (λ s. vcd_says s (text_lines text)) (sym h.0) ∙ k
+vcd_refusals wanted (sources.Columns table) said h text refusal k = elim h [ ]
+vcd_refusals wanted (sources.Gpiomon gpiomon) said h text refusal k = elim h [ ]
+vcd_refusals wanted (sources.Bits bits) said h text refusal k = elim h [ ]
+vcd_refusals wanted (sources.WavHead head) said h text refusal k = elim h [ ]
+vcd_refusals wanted (sources.Sound sound) said h text refusal k = elim h [ ]
+
+gpiomon_refusals :
+    (wanted : Wanted) (source : Source) (said : List Event) → IsBegunGpiomon (names_in wanted) source said
+    → (text : List ℕ) (refusal : Refusal) → SourceRefused wanted source (text_lines text) text refusal
+    → IsRefused formats.Gpiomon wanted text refusal
+gpiomon_refusals wanted (sources.Gpiomon gpiomon) said h text refusal k =
+    ap (λ s. gpiomon_says s (text_lines text)) (sym h.0) ∙ k
+gpiomon_refusals wanted (sources.Vcd vcd) said h text refusal k = elim h [ ]
+gpiomon_refusals wanted (sources.Columns table) said h text refusal k = elim h [ ]
+gpiomon_refusals wanted (sources.Bits bits) said h text refusal k = elim h [ ]
+gpiomon_refusals wanted (sources.WavHead head) said h text refusal k = elim h [ ]
+gpiomon_refusals wanted (sources.Sound sound) said h text refusal k = elim h [ ]
+
+bits_refusals :
+    (wanted : Wanted) (source : Source) (said : List Event) → IsBegunBits (names_in wanted) wanted.rate source said
+    → (text : List ℕ) (refusal : Refusal) → SourceRefused wanted source (text_lines text) text refusal
+    → IsRefused formats.Bits wanted text refusal
+bits_refusals wanted (sources.Bits bits) said h text refusal k = elim k [ ]
+bits_refusals wanted (sources.Vcd vcd) said h text refusal k = elim h [ ]
+bits_refusals wanted (sources.Columns table) said h text refusal k = elim h [ ]
+bits_refusals wanted (sources.Gpiomon gpiomon) said h text refusal k = elim h [ ]
+bits_refusals wanted (sources.WavHead head) said h text refusal k = elim h [ ]
+bits_refusals wanted (sources.Sound sound) said h text refusal k = elim h [ ]
+
+sound_refusals :
+    (wanted : Wanted) (source : Source) (said : List Event)
+    → IsBegunSound 1 wanted.rate None (high_of wanted.threshold) (names_in wanted) source said
+    → (text : List ℕ) (refusal : Refusal) → SourceRefused wanted source (text_lines text) text refusal
+    → IsRefused formats.Sixteen wanted text refusal
+sound_refusals wanted (sources.Sound sound) said h text refusal k = elim k [ ]
+sound_refusals wanted (sources.Vcd vcd) said h text refusal k = elim h [ ]
+sound_refusals wanted (sources.Columns table) said h text refusal k = elim h [ ]
+sound_refusals wanted (sources.Gpiomon gpiomon) said h text refusal k = elim h [ ]
+sound_refusals wanted (sources.Bits bits) said h text refusal k = elim h [ ]
+sound_refusals wanted (sources.WavHead head) said h text refusal k = elim h [ ]
+
+wav_refusals :
+    (wanted : Wanted) (source : Source) (said : List Event) → IsBegunWav source said
+    → (text : List ℕ) (refusal : Refusal) → SourceRefused wanted source (text_lines text) text refusal
+    → IsRefused formats.Wav wanted text refusal
+wav_refusals wanted (sources.WavHead head) said h text refusal k = (
+  λ samples w. k.0 samples ((wav_is head text samples h.0).1 w),
+  λ none. k.1 (λ samples b. none samples ((wav_is head text samples h.0).0 b)),
+)
+wav_refusals wanted (sources.Vcd vcd) said h text refusal k = elim h [ ]
+wav_refusals wanted (sources.Columns table) said h text refusal k = elim h [ ]
+wav_refusals wanted (sources.Gpiomon gpiomon) said h text refusal k = elim h [ ]
+wav_refusals wanted (sources.Bits bits) said h text refusal k = elim h [ ]
+wav_refusals wanted (sources.Sound sound) said h text refusal k = elim h [ ]
+
+refusals_begin :
+    (format : Format) (wanted : Wanted) (source : Source) (said : List Event) → IsOfFormat format wanted source said
+    → (text : List ℕ) (refusal : Refusal) → SourceRefused wanted source (text_lines text) text refusal
+    → IsRefused format wanted text refusal
+refusals_begin formats.Vcd wanted source said h text refusal k = vcd_refusals wanted source said h text refusal k
+refusals_begin formats.Sigrok wanted source said h text refusal k = table_refusals forms.Sigrok wanted source said h text refusal k
+refusals_begin formats.Saleae wanted source said h text refusal k = table_refusals forms.Saleae wanted source said h text refusal k
+refusals_begin formats.Edges wanted source said h text refusal k = table_refusals forms.Edges wanted source said h text refusal k
+refusals_begin formats.Gpiomon wanted source said h text refusal k = gpiomon_refusals wanted source said h text refusal k
+refusals_begin formats.Bits wanted source said h text refusal k = bits_refusals wanted source said h text refusal k
+refusals_begin formats.Sixteen wanted source said h text refusal k = sound_refusals wanted source said h text refusal k
+refusals_begin formats.Wav wanted source said h text refusal k = wav_refusals wanted source said h text refusal k
+
+-- of a reader whose line is empty
+pub reader_refusals :
+    (format : Format) (wanted : Wanted) (source : Source) (said : List Event) (line : List ℕ) → line ≡ []
+    → IsOfFormat format wanted source said
+    → (text : List ℕ) (refusal : Refusal) → SourceRefused wanted source (plain_lines true (lines_in line text)) text refusal
+    → IsRefused format wanted text refusal
+reader_refusals format wanted source said line none is text refusal k =
+    refusals_begin format wanted source said is text refusal
+    (subst (λ l. SourceRefused wanted source (plain_lines true (lines_in l text)) text refusal) none k)
 
 -- a WAV that ends before its samples
 pub head_ends :

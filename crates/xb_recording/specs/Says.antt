@@ -287,6 +287,16 @@ abbrev pub RestRefused : Reader → List ℕ → Refusal → Type 0
 RestRefused reader text refusal =
     SourceRefused reader.wanted.now reader.source (lines_left reader text) text refusal
 
+-- what is refused after what a reader took is refused before it, for the same reason
+abbrev pub KeepsRefusals : Reader → Reader → List ℕ → Type 0
+KeepsRefusals old new bytes =
+    (text : List ℕ) (refusal : Refusal) → RestRefused new text refusal → RestRefused old (bytes ++ text) refusal
+
+-- what is refused after nothing is the recording
+abbrev pub BeginsRefusals : Format → Wanted → Reader → Type 0
+BeginsRefusals format wanted reader =
+    (text : List ℕ) (refusal : Refusal) → RestRefused reader text refusal → IsRefused format wanted text refusal
+
 -- what is longer than a reader goes, and the reason: a text line of more than 65,536 bytes, and samples of 2^64 ticks
 abbrev pub IsLongText : Reader → List ℕ → Refusal → Type 0
 IsLongText reader bytes refusal =

@@ -10,7 +10,7 @@ ghost use Rattle.xb_vcd.specs.VcdTexts.{vcd_says};
 ghost use Rattle.xb_recording.specs.declared.wanted.Wanted.{Wanted as WantedHere};
 ghost use Rattle.xb_recording.specs.Gpiomons.{gpiomon_says, gpiomon_state};
 ghost use Rattle.xb_recording.specs.Places.{line_number, lines_ended, lines_ended_by, sample_number};
-ghost use Rattle.xb_recording.specs.Says.{Begins, BytesSay, IsOfFormat, LinesComeTo, LinesSay, Refuses, RefusesEnd, RefusesForm, RefusesLine, RefusesSamples, RefusesText, RestSays, SourceRefused, Takes, TakesBytes, TakesSamples, TakesText, is_in_first, is_text, line_so_far, plain_line};
+ghost use Rattle.xb_recording.specs.Says.{Begins, BeginsRefusals, BytesSay, IsOfFormat, KeepsRefusals, LinesComeTo, LinesSay, Refuses, RefusesEnd, RefusesForm, RefusesLine, RefusesSamples, RefusesText, RestRefused, RestSays, SourceRefused, Takes, TakesBytes, TakesSamples, TakesText, is_in_first, is_text, line_so_far, plain_line};
 
 use crate::format::{Format, without_mark};
 use crate::gpiomon::Gpiomon;
@@ -148,8 +148,8 @@ fn end_source(source: &mut Source<'_>, line: &[u8], events: &mut Vec<Event>) -> 
 }
 
 impl<'a> Reader<'a> {
-    /// The reader of a recording of this form. `events` has then what it says before anything is read. Where no
-    /// recording of the form says anything of these wires, it is refused.
+    /// The reader of a recording of this form. `events` has then what it says before anything is read. Where each
+    /// recording of the form is refused for these wires, so is this, for the same reason.
     pub fn new(
         alloc: Global,
         wanted: &'a Wanted<'a>,
@@ -157,6 +157,7 @@ impl<'a> Reader<'a> {
         events: &mut Vec<Event>,
     ) -> Result<Reader<'a>, Refusal>
         ensures begun { IfOk result (λ reader. Begins format wanted.now reader events.new.items) }
+        ensures refusals { IfOk result (BeginsRefusals format wanted.now) }
         ensures place { IfOk result (λ reader. lines_ended reader ≡ 0) }
         ensures refused { IfErr result (RefusesForm format wanted.now) }
     {
@@ -240,11 +241,13 @@ impl<'a> Reader<'a> {
         Ok(())
     }
 
-    /// The next byte. `events` has then what it says, in place of what was there. It is refused where nothing that
-    /// begins so says anything, and where a text line has more than 65,536 bytes. A byte of a text belongs to the line
-    /// that `text_line` counts and `line` shows then. After an `Err` the reader is not to be used again.
+    /// The next byte. `events` has then what it says, in place of what was there. It is refused where the recording is,
+    /// whatever follows, and where a text line has more than 65,536 bytes. A byte of a text belongs to the line that
+    /// `text_line` counts then; where it is refused, `line` is what came before it. After an `Err` the reader is not to
+    /// be used to read again.
     pub fn take_byte(&mut self, byte: u8, events: &mut Vec<Event>) -> Result<(), Refusal>
         ensures said { OnOk result (Takes self.old self.new (byte ∷ []) events.new.items) }
+        ensures refusals { OnOk result (KeepsRefusals self.old self.new (byte ∷ [])) }
         ensures short { OnOk result (is_text self.old.source ≡ true
             → length (line_so_far self.new) ≤ MOST_LINE_BYTES) }
         ensures refused { IfErr result (Refuses self.old (byte ∷ [])) }
@@ -271,6 +274,7 @@ impl<'a> Reader<'a> {
     ) -> Result<(), Refusal>
         requires { events.old.items ≡ [] }
         ensures said { OnOk result (TakesSamples format self.old self.new bytes.now events.new.items) }
+        ensures begun { OnOk result ((text : List ℕ) (refusal : Reason) → RestRefused self.new text refusal → ⊥) }
         ensures refused { IfErr result (RefusesSamples format self.old bytes.now) }
         ensures form { is_text self.old.source ≡ false → is_text self.new.source ≡ false }
     {
@@ -299,6 +303,7 @@ impl<'a> Reader<'a> {
         requires none { events.old.items ≡ [] }
         requires samples { is_text self.old.source ≡ false }
         ensures said { OnOk result (TakesBytes self.old self.new bytes.now events.new.items) }
+        ensures refusals { OnOk result (KeepsRefusals self.old self.new bytes.now) }
         ensures refused { IfErr result (Refuses self.old bytes.now) }
         ensures form { is_text self.new.source ≡ false }
     {
@@ -314,10 +319,11 @@ impl<'a> Reader<'a> {
     }
 
     /// The next bytes of samples. `events` has then what they say, in place of what was there. They are refused where
-    /// nothing that begins so says anything, and at 2^64 ticks. After an `Err` the reader is not to be used again.
+    /// the recording is, whatever follows, and at 2^64 ticks. After an `Err` the reader is not to be used to read again.
     pub fn take_samples(&mut self, bytes: &[u8], events: &mut Vec<Event>) -> Result<(), Refusal>
         requires { is_text self.old.source ≡ false }
         ensures said { OnOk result (Takes self.old self.new bytes.now events.new.items) }
+        ensures refusals { OnOk result (KeepsRefusals self.old self.new bytes.now) }
         ensures refused { IfErr result (Refuses self.old bytes.now) }
         ensures form { is_text self.new.source ≡ false }
     {
@@ -325,8 +331,8 @@ impl<'a> Reader<'a> {
         self.take_values(bytes, events)
     }
 
-    /// The end. `events` has then what was left to be said, in place of what was there. It is refused where nothing
-    /// that ends here says anything. After an `Err` the reader is not to be used again.
+    /// The end. `events` has then what was left to be said, in place of what was there. It is refused where the
+    /// recording that ends here is. After an `Err` the reader is not to be used to read again.
     pub fn end(&mut self, events: &mut Vec<Event>) -> Result<(), Refusal>
         ensures said { OnOk result (RestSays self.old [] events.new.items) }
         ensures refused { IfErr result (RefusesEnd self.old) }
