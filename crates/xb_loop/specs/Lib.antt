@@ -6,6 +6,7 @@ pub mod Contacts
 pub mod Watching
 pub mod Told
 pub mod Watches
+pub mod Faults
 pub mod Feeding
 pub mod Rules
 pub mod Options

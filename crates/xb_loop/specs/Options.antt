@@ -12,7 +12,7 @@ use Rattle.xb_loop.specs.declared.request.Request.{Request}
 use Rattle.xb_loop.specs.declared.words.TheConstants.{SETTLE_MS, THRESHOLD_PERCENT}
 use Rattle.xb_loop.specs.Rules.{command_of_words}
 
--- the words without each `--line`, behind which the wire of a line stands
+-- the words without each `--line`, after which the wire of a line stands
 abbrev pub plain_words : List Text → List Text
 plain_words words = filter (λ word. not (bytes_eq word (codes "--line"))) words
 

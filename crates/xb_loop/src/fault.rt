@@ -1,4 +1,5 @@
 // Why no rows are made of a recording, or no further ones.
+ghost use Rattle.std.specs.Prelude.{◌≡◌};
 
 use std::alloc::AllocError;
 use thiserror::Error;
@@ -42,6 +43,10 @@ pub enum LoopFault {
 }
 
 impl From<AllocError> for LoopFault {
+    ghost use Rattle.xb_loop.specs.declared.fault.LoopFault.TheVariants.{NoMemory};
+
+    ghost from_gives = { λ _ e. e ≡ NoMemory };
+
     fn from(_error: AllocError) -> LoopFault {
         LoopFault::NoMemory
     }

@@ -1,9 +1,10 @@
 // From a recording to rows, as it comes.
-ghost use Rattle.std.specs.Prelude.{◌≡◌, ◌<◌, ◌≤◌, ◌++◌, ◌∷◌, [], ℕ, Ok, Some, IfNone, IfOk, IfSome, List, OnOk, false, length, string_bytes, take, true};
-ghost use Rattle.std.specs.Io.KnownBytes.{Appends, Consumes, IsAtEnd};
+ghost use Rattle.std.specs.Prelude.{◌≡◌, ◌<◌, ◌≤◌, ◌∷◌, [], Ok, Some, IfErr, IfNone, IfOk, IfSome, List, OnOk, false, length, string_bytes, take, true};
+ghost use Rattle.std.specs.Io.KnownBytes.{Consumes, IsAtEnd};
 ghost use Rattle.xb_vcd.specs.declared.event.Event.{Event as Saying};
 ghost use Rattle.xb_recording.specs.Beginnings.{form_told};
 ghost use Rattle.xb_recording.specs.Says.{Begins, RestSays, is_text};
+ghost use Rattle.xb_loop.specs.Faults.{IsFaultAfter, IsFaultOf, shown_byte, shown_text};
 ghost use Rattle.xb_loop.specs.Feeding.{Ends, Feeds, GoesOn, ListensTo, PutsDown, Starts, Writes};
 ghost use Rattle.xb_loop.specs.Told.{bounces_told};
 ghost use Rattle.xb_loop.specs.Watches.{watch_of};
@@ -35,16 +36,36 @@ struct Intake<'a> {
     rows: String,
 }
 
+// What is shown of a byte.
+fn shown_byte(byte: u8) -> char
+    ensures value { result ≡ shown_byte byte }
+    ensures ascii { result < 128 }
+{
+    if byte >= b' ' && byte <= b'~' {
+        char::from(byte)
+    } else {
+        '.'
+    }
+}
+
+// The bytes of a text that are shown.
+fn beginning_shown(text: &[u8]) -> &[u8]
+    ensures { result.now ≡ take 40 text.now }
+{
+    if text.len() <= MOST_SHOWN_BYTES {
+        return text;
+    }
+    &text[..MOST_SHOWN_BYTES]
+}
+
 // The beginning of a text, each byte that is not printed as `.`.
-fn shown(alloc: Global, text: &[u8]) -> Result<String, LoopFault> {
+fn shown(alloc: Global, text: &[u8]) -> Result<String, AllocError>
+    ensures { IfOk result (λ shown. string_bytes shown ≡ shown_text text.now) }
+{
     let mut shown = String::new(alloc);
-    for byte in text.iter().take(MOST_SHOWN_BYTES) {
-        let letter = if byte.is_ascii_graphic() || *byte == b' ' {
-            char::from(*byte)
-        } else {
-            '.'
-        };
-        shown.push(letter)?;
+    let beginning = beginning_shown(text);
+    for byte in beginning {
+        shown.push(shown_byte(*byte))?;
     }
     Ok(shown)
 }
@@ -68,7 +89,9 @@ fn take_all_events(
 
 impl<'a> Intake<'a> {
     // The fault of a refusal, where the reader stands.
-    fn fault_of(&self, refusal: Refusal) -> LoopFault {
+    fn fault_of(&self, refusal: Refusal) -> LoopFault
+        ensures { IsFaultOf self.now.reader refusal result }
+    {
         if refusal == Refusal::NoMemory {
             return LoopFault::NoMemory;
         }
@@ -80,7 +103,7 @@ impl<'a> Intake<'a> {
         }
         match shown(self.alloc, self.reader.line()) {
             Ok(line) => LoopFault::Line(self.reader.text_line(), refusal, line),
-            Err(fault) => fault,
+            Err(_) => LoopFault::NoMemory,
         }
     }
 
@@ -89,6 +112,7 @@ impl<'a> Intake<'a> {
         ensures reader { OnOk result (self.new.reader ≡ self.old.reader) }
         ensures rows { OnOk result (PutsDown (string_bytes self.old.rows) (watch_of self.old.lines)
             self.old.events.items (string_bytes self.new.rows) (watch_of self.new.lines)) }
+        ensures fault { IfErr result (IsFaultOf self.new.reader Refusal.TooLate) }
     {
         if take_all_events(&mut self.lines, &self.events, &mut self.rows)? {
             return Ok(());
@@ -98,7 +122,8 @@ impl<'a> Intake<'a> {
 
     // A byte of a text.
     fn take_byte(&mut self, byte: u8) -> Result<(), LoopFault>
-        ensures { OnOk result (GoesOn self.old (byte ∷ []) self.new []) }
+        ensures taken { OnOk result (GoesOn self.old (byte ∷ []) self.new []) }
+        ensures fault { IfErr result (IsFaultAfter self.old.reader (byte ∷ []) self.new.reader) }
     {
         if let Err(refusal) = self.reader.take_byte(byte, &mut self.events) {
             return Err(self.fault_of(refusal));
@@ -120,7 +145,8 @@ impl<'a> Intake<'a> {
     // A piece of samples.
     fn take_samples(&mut self, piece: &[u8]) -> Result<(), LoopFault>
         requires { is_text self.old.reader.source ≡ false }
-        ensures { OnOk result (GoesOn self.old piece.now self.new []) }
+        ensures taken { OnOk result (GoesOn self.old piece.now self.new []) }
+        ensures fault { IfErr result (IsFaultAfter self.old.reader piece.now self.new.reader) }
     {
         if let Err(refusal) = self.reader.take_samples(piece, &mut self.events) {
             return Err(self.fault_of(refusal));

@@ -33,7 +33,7 @@ const OPTIONS: [(&str, Takes); 9] = [
     ("line", Takes::AllThatFollow),
 ];
 
-/// The words of the command line, of which `--line` is taken away: the wire of a line stands behind it, and is
+/// The words of the command line, of which `--line` is taken away: the wire of a line stands after it, and is
 /// a word that stands alone.
 pub fn plain_words(alloc: Global, words: &[String]) -> Result<Vec<String>, AllocError>
     ensures { IfOk result (λ plain. texts_of plain.items ≡ plain_words (texts_of words.now)) }

@@ -3,8 +3,8 @@ use Rattle.xb_recording.specs.Says.{Takes}
 use Rattle.xb_loop.proofs.Fed.{goes_on}
 use Rattle.xb_loop.proofs.feed.Intake.take_samples.Goals as goal
 
-pub returns : goal.returns
-returns c =
+pub returns-clause-taken : goal.returns-clause-taken
+returns-clause-taken c =
     let reader = c.take_samples.new.self in
     let said = c.take_samples.new.events.items in
     let taken : Takes c.args.self.now.reader reader c.args.piece.now said = search rules in
