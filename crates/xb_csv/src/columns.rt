@@ -244,7 +244,8 @@ impl<'a> Columns<'a> {
     ) -> Result<(), Refusal>
         ensures said { OnOk result (Adds (row_at (table_state self.old) (cells_of line.now) time)
             events.old.items events.new.items (table_state self.new)) }
-        ensures refused { IfErr result (IsRefusedBy (row_at (table_state self.old) (cells_of line.now) time)) }
+        ensures refused { IfErr result (IsRefusedBy
+            (row_at (table_state self.old) (cells_of line.now) time)) }
     {
         if self.has_time && time < self.last {
             return Err(Refusal::Backwards);

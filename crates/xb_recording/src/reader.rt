@@ -274,7 +274,8 @@ impl<'a> Reader<'a> {
     ) -> Result<(), Refusal>
         requires { events.old.items ≡ [] }
         ensures said { OnOk result (TakesSamples format self.old self.new bytes.now events.new.items) }
-        ensures begun { OnOk result ((text : List ℕ) (refusal : Reason) → RestRefused self.new text refusal → ⊥) }
+        ensures begun { OnOk result ((text : List ℕ) (refusal : Reason)
+            → RestRefused self.new text refusal → ⊥) }
         ensures refused { IfErr result (RefusesSamples format self.old bytes.now) }
         ensures form { is_text self.old.source ≡ false → is_text self.new.source ≡ false }
     {
