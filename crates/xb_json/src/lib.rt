@@ -8,6 +8,8 @@
 
 mod keys;
 mod line;
+mod object;
 
 pub use keys::{keys_of, text_of_digits};
 pub use line::line_of;
+pub use object::{Member, object_of};

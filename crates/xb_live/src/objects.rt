@@ -7,10 +7,10 @@ ghost use Rattle.xb_live.specs.Objects.{digits_in, mark_object, object_by, objec
 ghost use Rattle.xb_live.specs.Told.{told_with};
 
 use crate::hearing::Hearing;
-use serde_json::{Value, json};
+use serde_json::Value;
 use std::alloc::{AllocError, Global};
-use xb_json::{keys_of, text_of_digits};
-use xb_model::{Digit, Key, LineNo, Mark, Reason, Tone};
+use xb_json::{Member, object_of as object_with};
+use xb_model::{Digit, Key, LineNo, Mark, Reason};
 
 // The digits that marks key.
 fn digits_in(alloc: Global, marks: &[Mark]) -> Result<Vec<Digit>, AllocError>
@@ -36,34 +36,29 @@ fn trunk_in(marks: &[Mark]) -> u16
 }
 
 // The object of an entry that is keyed on a trunk group.
-fn keyed_object(
+fn keyed_object<'a>(
     alloc: Global,
     line: LineNo,
     number: usize,
     trunk: u16,
-    sent: &[Digit],
-    heard: &Hearing,
+    sent: &'a [Digit],
+    heard: &'a Hearing,
 ) -> Result<Value, AllocError>
     ensures { IfOk result (λ value. view value
         ≡ object_by (told_with line number [] heard.now) (orders.Key trunk sent.now)) }
 {
-    let dialled = text_of_digits(alloc, heard.dialled.digits())?;
-    let keys = keys_of(alloc, sent)?;
-    let sent = text_of_digits(alloc, sent)?;
-    let line = line.get();
-    let from = heard.began;
-    let at = heard.at;
-    json!(in alloc; {
-        "at_ms": at,
-        "dialled": dialled,
-        "entry": number,
-        "from_ms": from,
-        "keys": keys,
-        "line": line,
-        "outcome": "KEYED",
-        "sent": sent,
-        "trunk": trunk
-    })
+    let members = [
+        ("at_ms", Member::Number(heard.at)),
+        ("dialled", Member::Digits(heard.dialled.digits())),
+        ("entry", Member::Number(number as u64)),
+        ("from_ms", Member::Number(heard.began)),
+        ("keys", Member::Keys(sent)),
+        ("line", Member::Number(u64::from(line.get()))),
+        ("outcome", Member::Word("KEYED")),
+        ("sent", Member::Digits(sent)),
+        ("trunk", Member::Number(u64::from(trunk))),
+    ];
+    object_with(alloc, &members)
 }
 
 // The object of an entry that is refused.
@@ -78,21 +73,17 @@ fn refused_object(
     ensures { IfOk result (λ value. view value
         ≡ object_by (told_with line number [] heard.now) (orders.Refused reason count)) }
 {
-    let dialled = text_of_digits(alloc, heard.dialled.digits())?;
-    let line = line.get();
-    let reason = reason.word();
-    let from = heard.began;
-    let at = heard.at;
-    json!(in alloc; {
-        "at_ms": at,
-        "dialled": dialled,
-        "entry": number,
-        "from_ms": from,
-        "heard": count,
-        "line": line,
-        "outcome": "REFUSED",
-        "reason": reason
-    })
+    let members = [
+        ("at_ms", Member::Number(heard.at)),
+        ("dialled", Member::Digits(heard.dialled.digits())),
+        ("entry", Member::Number(number as u64)),
+        ("from_ms", Member::Number(heard.began)),
+        ("heard", Member::Number(u64::from(count))),
+        ("line", Member::Number(u64::from(line.get()))),
+        ("outcome", Member::Word("REFUSED")),
+        ("reason", Member::Word(reason.word())),
+    ];
+    object_with(alloc, &members)
 }
 
 /// The object of entry `number` of a line. `Err` says that memory ran out.
@@ -140,33 +131,25 @@ pub(crate) fn mark_object(
 ) -> Result<Value, AllocError>
     ensures { IfOk result (λ value. view value ≡ mark_object line number at mark.now) }
 {
-    let line = line.get();
+    let at = ("at_ms", Member::Number(at));
+    let entry = ("entry", Member::Number(number as u64));
+    let line = ("line", Member::Number(u64::from(line.get())));
     match mark {
         Mark::Trunk(trunk) => {
-            let trunk = trunk.get();
-            json!(in alloc; {"at_ms": at, "entry": number, "line": line, "trunk": trunk})
+            let trunk = ("trunk", Member::Number(u64::from(trunk.get())));
+            object_with(alloc, &[at, entry, line, trunk])
         }
         Mark::Tone(key, tone) => {
             let name = key_name(alloc, *key)?;
-            let Tone { low, high } = *tone;
-            json!(in alloc; {
-                "at_ms": at,
-                "entry": number,
-                "high_hz": high,
-                "key": name,
-                "line": line,
-                "low_hz": low
-            })
+            let high = ("high_hz", Member::Number(u64::from(tone.high)));
+            let key = ("key", Member::Text(&name));
+            let low = ("low_hz", Member::Number(u64::from(tone.low)));
+            object_with(alloc, &[at, entry, high, key, line, low])
         }
         Mark::Refused(reason, count) => {
-            let reason = reason.word();
-            json!(in alloc; {
-                "at_ms": at,
-                "entry": number,
-                "heard": *count,
-                "line": line,
-                "reason": reason
-            })
+            let heard = ("heard", Member::Number(u64::from(*count)));
+            let reason = ("reason", Member::Word(reason.word()));
+            object_with(alloc, &[at, entry, heard, line, reason])
         }
     }
 }
@@ -179,7 +162,9 @@ pub(crate) fn totals_object(
 ) -> Result<Value, AllocError>
     ensures { IfOk result (λ value. view value ≡ totals_object keyed refused) }
 {
-    json!(in alloc; {"keyed": keyed, "refused": refused})
+    let keyed = ("keyed", Member::Number(keyed as u64));
+    let refused = ("refused", Member::Number(refused as u64));
+    object_with(alloc, &[keyed, refused])
 }
 
 /// An object that also has a text under a name. `Err` says that memory ran out.

@@ -6,67 +6,64 @@ ghost use Rattle.xb_route.specs.declared.answer.Answer.TheVariants.{Incomplete};
 ghost use Rattle.xb_route.specs.Objects.{object_line, object_of, object_of_order};
 
 use crate::answer::{Answer, left_over};
-use serde_json::{Value, json};
+use serde_json::Value;
 use std::alloc::{AllocError, Global};
-use xb_json::{keys_of, line_of, text_of_digits};
+use xb_json::{Member, line_of, object_of as object_with};
 use xb_model::{Digit, Order, Reason, Trunk};
 
 // The object of a number that is keyed.
-fn keyed_object(
+fn keyed_object<'a>(
     alloc: Global,
-    number: &[Digit],
-    left: &[Digit],
+    number: &'a [Digit],
+    left: &'a [Digit],
     trunk: Trunk,
-    sent: &[Digit],
+    sent: &'a [Digit],
 ) -> Result<Value, AllocError>
     ensures { IfOk result (λ value.
         view value ≡ object_of_order number.now left.now (orders.Key trunk sent.now)) }
 {
-    let dialled = text_of_digits(alloc, number)?;
-    let ignored = text_of_digits(alloc, left)?;
-    let keys = keys_of(alloc, sent)?;
-    let sent = text_of_digits(alloc, sent)?;
-    let trunk = trunk.get();
-    json!(in alloc; {
-        "dialled": dialled,
-        "ignored": ignored,
-        "keys": keys,
-        "outcome": "KEYED",
-        "sent": sent,
-        "trunk": trunk
-    })
+    let members = [
+        ("dialled", Member::Digits(number)),
+        ("ignored", Member::Digits(left)),
+        ("keys", Member::Keys(sent)),
+        ("outcome", Member::Word("KEYED")),
+        ("sent", Member::Digits(sent)),
+        ("trunk", Member::Number(u64::from(trunk.get()))),
+    ];
+    object_with(alloc, &members)
 }
 
 // The object of a number that is refused.
-fn refused_object(
+fn refused_object<'a>(
     alloc: Global,
-    number: &[Digit],
-    left: &[Digit],
+    number: &'a [Digit],
+    left: &'a [Digit],
     reason: Reason,
     heard: u8,
 ) -> Result<Value, AllocError>
     ensures { IfOk result (λ value.
         view value ≡ object_of_order number.now left.now (orders.Refused reason heard)) }
 {
-    let dialled = text_of_digits(alloc, number)?;
-    let ignored = text_of_digits(alloc, left)?;
-    let reason = reason.word();
-    json!(in alloc; {
-        "dialled": dialled,
-        "heard": heard,
-        "ignored": ignored,
-        "outcome": "REFUSED",
-        "reason": reason
-    })
+    let members = [
+        ("dialled", Member::Digits(number)),
+        ("heard", Member::Number(u64::from(heard))),
+        ("ignored", Member::Digits(left)),
+        ("outcome", Member::Word("REFUSED")),
+        ("reason", Member::Word(reason.word())),
+    ];
+    object_with(alloc, &members)
 }
 
 // The object of digits that complete no number.
 fn incomplete_object(alloc: Global, digits: &[Digit]) -> Result<Value, AllocError>
     ensures { IfOk result (λ value. view value ≡ object_of digits.now Incomplete) }
 {
-    let dialled = text_of_digits(alloc, digits)?;
-    let heard = digits.len();
-    json!(in alloc; {"dialled": dialled, "heard": heard, "outcome": "INCOMPLETE"})
+    let members = [
+        ("dialled", Member::Digits(digits)),
+        ("heard", Member::Number(digits.len() as u64)),
+        ("outcome", Member::Word("INCOMPLETE")),
+    ];
+    object_with(alloc, &members)
 }
 
 // The object of digits, by what is done with them.
