@@ -79,19 +79,25 @@ fault_object before limits spoiler = object
     (member (codes "record") (number (unsigned spoiler.run.first_record))
     (member (codes "text_line") (text_line before spoiler.run) no_members))))))
 
--- a digit that the register took, or did not, by its row and its whole periods, of which the last break is none
-abbrev pub object_of_row : Option ℕ → Limits → Bool → DigitRow → Times → Option Spoiler → Data
-object_of_row before limits taken row periods spoiler = object
-    (member (codes "breaks_ms") (or_null extent_object row.breaks)
+-- a digit that the register took, or did not, by its row, with what has an object of its own
+abbrev pub digit_of_parts : Bool → DigitRow → Data → Data → Data → Data → Data
+digit_of_parts taken row breaks fault makes periods = object
+    (member (codes "breaks_ms") breaks
     (member (codes "digit") (or_null (λ digit. number (unsigned digit)) row.name)
-    (member (codes "fault") (or_null (fault_object before limits) spoiler)
-    (member (codes "makes_ms") (or_null extent_object row.makes)
+    (member (codes "fault") fault
+    (member (codes "makes_ms") makes
     (member (codes "open_permille") (or_null count_value row.share)
     (member (codes "pause_ms") (number (unsigned row.pause))
-    (member (codes "periods") (times_object periods)
+    (member (codes "periods") periods
     (member (codes "pulses") (number (unsigned row.pulses))
     (member (codes "speed_tenths") (or_null count_value row.speed)
     (member (codes "taken") (boolean taken) no_members))))))))))
+
+-- and with its whole periods, of which the last break is none
+abbrev pub object_of_row : Option ℕ → Limits → Bool → DigitRow → Times → Option Spoiler → Data
+object_of_row before limits taken row periods spoiler =
+    digit_of_parts taken row (or_null extent_object row.breaks) (or_null (fault_object before limits) spoiler)
+    (or_null extent_object row.makes) (times_object periods)
 
 abbrev pub digit_object : Option ℕ → Limits → Bool → DigitOfRuns → Data
 digit_object before limits taken digit =
@@ -127,25 +133,35 @@ first_run before (run ∷ rest) = run_object before run
 
 -- how an attempt ended: the break that hung up, the make after which nothing is heard, the first of the pulses that no
 -- pause ended, and how many they are
+abbrev pub end_of_parts : ℕ → Data → Data → Data → Data
+end_of_parts pulses released timeout unfinished = object
+    (member (codes "released") released
+    (member (codes "timeout") timeout
+    (member (codes "unfinished") unfinished
+    (member (codes "unfinished_pulses") (number (unsigned pulses)) no_members))))
+
 abbrev pub end_object : Option ℕ → AttemptOfRuns → Data
-end_object before attempt = object
-    (member (codes "released") (or_null (run_object before) attempt.release)
-    (member (codes "timeout") (or_null (run_object before) attempt.timeout)
-    (member (codes "unfinished") (first_run before attempt.unfinished)
-    (member (codes "unfinished_pulses") (number (unsigned (times_of attempt.unfinished).breaks)) no_members))))
+end_object before attempt =
+    end_of_parts (times_of attempt.unfinished).breaks (or_null (run_object before) attempt.release)
+    (or_null (run_object before) attempt.timeout) (first_run before attempt.unfinished)
 
 -- attempt n of a line: the make with which it begins, its digits, how it ended, and what came of it
-abbrev pub attempt_object : Option ℕ → Limits → ℕ → ℕ → AttemptOfRuns → Data
-attempt_object before limits line n attempt = object
+abbrev pub attempt_of_parts : ℕ → ℕ → Dialled → Data → Data → Data → Data
+attempt_of_parts line n outcome begins digits end = object
     (member (codes "attempt") (number (unsigned n))
-    (member (codes "begins") (first_run before attempt.runs)
-    (member (codes "digits") (array (items_of (digits_from before limits attempt.outcome 0 attempt.digits)))
-    (member (codes "end") (end_object before attempt)
-    (member (codes "heard") (number (unsigned (heard_in attempt.outcome)))
+    (member (codes "begins") begins
+    (member (codes "digits") digits
+    (member (codes "end") end
+    (member (codes "heard") (number (unsigned (heard_in outcome)))
     (member (codes "line") (number (unsigned line))
-    (member (codes "number") (number_in attempt.outcome)
-    (member (codes "outcome") (string (outcome_name attempt.outcome))
-    (member (codes "reason") (reason_in attempt.outcome) no_members)))))))))
+    (member (codes "number") (number_in outcome)
+    (member (codes "outcome") (string (outcome_name outcome))
+    (member (codes "reason") (reason_in outcome) no_members)))))))))
+
+abbrev pub attempt_object : Option ℕ → Limits → ℕ → ℕ → AttemptOfRuns → Data
+attempt_object before limits line n attempt =
+    attempt_of_parts line n attempt.outcome (first_run before attempt.runs)
+    (array (items_of (digits_from before limits attempt.outcome 0 attempt.digits))) (end_object before attempt)
 
 -- the objects of the attempts of a line, from attempt n on, each a text line
 abbrev pub objects_from : Option ℕ → Limits → ℕ → ℕ → List AttemptOfRuns → List ℕ

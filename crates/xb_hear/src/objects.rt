@@ -6,44 +6,47 @@ ghost use Rattle.serde_json.specs.Written.{compact_text};
 ghost use Rattle.xb_heard.specs.Attempts.{attempt_in};
 ghost use Rattle.xb_heard.specs.Digits.{digit_in};
 ghost use Rattle.xb_heard.specs.Figures.{times_of, whole_periods};
-ghost use Rattle.xb_hear.specs.Objects.{attempt_object, count_value, digit_object, digits_from, end_object, extent_object};
-ghost use Rattle.xb_hear.specs.Objects.{fault_name, fault_object, first_run, heard_in, limit_of, number_in};
-ghost use Rattle.xb_hear.specs.Objects.{objects_from, or_null, outcome_name, reason_in, run_object, text_line, times_object};
+ghost use Rattle.xb_json.specs.Objects.{data_of};
+ghost use Rattle.xb_hear.specs.Objects.{attempt_object, attempt_of_parts, count_value, digit_object, digit_of_parts, digits_from};
+ghost use Rattle.xb_hear.specs.Objects.{end_object, end_of_parts, extent_object, fault_name, fault_object, first_run, heard_in};
+ghost use Rattle.xb_hear.specs.Objects.{limit_of, number_in, objects_from, or_null, outcome_name, reason_in, run_object, text_line};
+ghost use Rattle.xb_hear.specs.Objects.{times_object};
 
-use serde_json::{Value, json};
+use serde_json::Value;
 use std::alloc::{AllocError, Global};
 use xb_heard::{
-    Extent, HeardAttempt, HeardDigit, PlacedRun, PulseFault, Spoiler, Times, row_of, times_of,
+    DigitRow, Extent, HeardAttempt, HeardDigit, PlacedRun, PulseFault, Spoiler, Times, row_of,
+    times_of,
 };
-use xb_json::{line_of, text_of_digits};
+use xb_json::{Member, line_of, object_of};
 use xb_model::{Dialled, Limits, LineNo, MOST_PULSES};
 use xb_report::is_taken;
 
 // A count, which stops at 2^64 - 1.
-fn count_value(count: u128) -> Value
-    ensures { view result ≡ count_value count }
+fn count_of(count: u128) -> Member<'static>
+    ensures { data_of result ≡ count_value count }
 {
     let most = u128::from(u64::MAX);
-    Value::from(count.min(most) as u64)
+    Member::Number(count.min(most) as u64)
 }
 
 // A figure, or null where there is none.
-fn figure_or_null(figure: Option<u128>) -> Value
-    ensures { view result ≡ or_null count_value figure }
+fn figure_or_null(figure: Option<u128>) -> Member<'static>
+    ensures { data_of result ≡ or_null count_value figure }
 {
     match figure {
-        Some(figure) => count_value(figure),
-        None => Value::Null,
+        Some(figure) => count_of(figure),
+        None => Member::Null,
     }
 }
 
 // The text line in which a run begins, where so many stand before the first record.
-fn text_line(before: Option<u64>, run: &PlacedRun) -> Value
-    ensures { view result ≡ text_line before run.now }
+fn text_line(before: Option<u64>, run: &PlacedRun) -> Member<'static>
+    ensures { data_of result ≡ text_line before run.now }
 {
     match before {
-        Some(lines) => count_value(u128::from(lines) + u128::from(run.first_record)),
-        None => Value::Null,
+        Some(lines) => count_of(u128::from(lines) + u128::from(run.first_record)),
+        None => Member::Null,
     }
 }
 
@@ -51,11 +54,13 @@ fn text_line(before: Option<u64>, run: &PlacedRun) -> Value
 fn run_object(alloc: Global, before: Option<u64>, run: &PlacedRun) -> Result<Value, AllocError>
     ensures { IfOk result (λ value. view value ≡ run_object before run.now) }
 {
-    let text_line = text_line(before, run);
-    let from = run.start;
-    let ms = run.ms;
-    let record = run.first_record;
-    json!(in alloc; {"from_ms": from, "ms": ms, "record": record, "text_line": text_line})
+    let members = [
+        ("from_ms", Member::Number(run.start)),
+        ("ms", Member::Number(run.ms)),
+        ("record", Member::Number(u64::from(run.first_record))),
+        ("text_line", text_line(before, run)),
+    ];
+    object_of(alloc, &members)
 }
 
 // A run with its place, or null.
@@ -87,7 +92,11 @@ fn extent_or_null(alloc: Global, extent: Option<Extent>) -> Result<Value, AllocE
     ensures { IfOk result (λ value. view value ≡ or_null extent_object extent) }
 {
     match extent {
-        Some(Extent { least, most }) => json!(in alloc; {"least": least, "most": most}),
+        Some(Extent { least, most }) => {
+            let least = ("least", Member::Number(least));
+            let most = ("most", Member::Number(most));
+            object_of(alloc, &[least, most])
+        }
         None => Ok(Value::Null),
     }
 }
@@ -96,10 +105,12 @@ fn extent_or_null(alloc: Global, extent: Option<Extent>) -> Result<Value, AllocE
 fn times_object(alloc: Global, times: Times) -> Result<Value, AllocError>
     ensures { IfOk result (λ value. view value ≡ times_object times) }
 {
-    let breaks = times.breaks;
-    let ms = count_value(times.all_ms);
-    let open = count_value(times.open_ms);
-    json!(in alloc; {"count": breaks, "ms": ms, "open_ms": open})
+    let members = [
+        ("count", Member::Number(times.breaks)),
+        ("ms", count_of(times.all_ms)),
+        ("open_ms", count_of(times.open_ms)),
+    ];
+    object_of(alloc, &members)
 }
 
 // The name of a fault.
@@ -126,32 +137,6 @@ fn limit_of(limits: Limits, fault: PulseFault) -> u32
     }
 }
 
-// What spoils a digit, and where.
-fn fault_object(
-    alloc: Global,
-    before: Option<u64>,
-    limits: Limits,
-    spoiler: Spoiler,
-) -> Result<Value, AllocError>
-    ensures { IfOk result (λ value. view value ≡ fault_object before limits spoiler) }
-{
-    let Spoiler { fault, run } = spoiler;
-    let text_line = text_line(before, &run);
-    let kind = fault_name(fault);
-    let limit = limit_of(limits, fault);
-    let from = run.start;
-    let ms = run.ms;
-    let record = run.first_record;
-    json!(in alloc; {
-        "from_ms": from,
-        "kind": kind,
-        "limit": limit,
-        "ms": ms,
-        "record": record,
-        "text_line": text_line
-    })
-}
-
 // What spoils a digit, and where, or null.
 fn fault_or_null(
     alloc: Global,
@@ -161,10 +146,18 @@ fn fault_or_null(
 ) -> Result<Value, AllocError>
     ensures { IfOk result (λ value. view value ≡ or_null (fault_object before limits) spoiler) }
 {
-    match spoiler {
-        Some(spoiler) => fault_object(alloc, before, limits, spoiler),
-        None => Ok(Value::Null),
-    }
+    let Some(Spoiler { fault, run }) = spoiler else {
+        return Ok(Value::Null);
+    };
+    let members = [
+        ("from_ms", Member::Number(run.start)),
+        ("kind", Member::Word(fault_name(fault))),
+        ("limit", Member::Number(u64::from(limit_of(limits, fault)))),
+        ("ms", Member::Number(run.ms)),
+        ("record", Member::Number(u64::from(run.first_record))),
+        ("text_line", text_line(before, &run)),
+    ];
+    object_of(alloc, &members)
 }
 
 // The times of the whole periods of a train: the runs before its last break.
@@ -175,13 +168,47 @@ fn periods_of(train: &[PlacedRun]) -> Times
 }
 
 // The name of a digit, or null where it is spoiled.
-fn name_or_null(name: Option<u64>) -> Value
-    ensures { view result ≡ or_null (λ digit. number (unsigned digit)) name }
+fn name_or_null(name: Option<u64>) -> Member<'static>
+    ensures { data_of result ≡ or_null (λ digit. number (unsigned digit)) name }
 {
     match name {
-        Some(digit) => Value::from(digit),
-        None => Value::Null,
+        Some(digit) => Member::Number(digit),
+        None => Member::Null,
     }
+}
+
+// What stands in the object of a digit as an object of its own, or null.
+#[derive(Drop)]
+struct DigitParts {
+    breaks: Value,
+    fault: Value,
+    makes: Value,
+    periods: Value,
+}
+
+// The object of a digit with these parts.
+fn digit_of_parts(
+    alloc: Global,
+    taken: bool,
+    row: DigitRow,
+    parts: &DigitParts,
+) -> Result<Value, AllocError>
+    ensures { IfOk result (λ value. view value ≡ digit_of_parts taken row
+        (view parts.now.breaks) (view parts.now.fault) (view parts.now.makes) (view parts.now.periods)) }
+{
+    let members = [
+        ("breaks_ms", Member::Value(&parts.breaks)),
+        ("digit", name_or_null(row.name)),
+        ("fault", Member::Value(&parts.fault)),
+        ("makes_ms", Member::Value(&parts.makes)),
+        ("open_permille", figure_or_null(row.share)),
+        ("pause_ms", Member::Number(row.pause)),
+        ("periods", Member::Value(&parts.periods)),
+        ("pulses", Member::Number(row.pulses)),
+        ("speed_tenths", figure_or_null(row.speed)),
+        ("taken", Member::Bool(taken)),
+    ];
+    object_of(alloc, &members)
 }
 
 // A digit that the register took, or did not.
@@ -195,27 +222,13 @@ fn digit_object(
     ensures { IfOk result (λ value. view value ≡ digit_object before limits taken (digit_in digit.now)) }
 {
     let row = row_of(digit, taken);
-    let breaks = extent_or_null(alloc, row.breaks)?;
-    let name = name_or_null(row.name);
-    let fault = fault_or_null(alloc, before, limits, digit.spoiler)?;
-    let makes = extent_or_null(alloc, row.makes)?;
-    let share = figure_or_null(row.share);
-    let pause = row.pause;
-    let periods = times_object(alloc, periods_of(digit.pulses))?;
-    let pulses = row.pulses;
-    let speed = figure_or_null(row.speed);
-    json!(in alloc; {
-        "breaks_ms": breaks,
-        "digit": name,
-        "fault": fault,
-        "makes_ms": makes,
-        "open_permille": share,
-        "pause_ms": pause,
-        "periods": periods,
-        "pulses": pulses,
-        "speed_tenths": speed,
-        "taken": taken
-    })
+    let parts = DigitParts {
+        breaks: extent_or_null(alloc, row.breaks)?,
+        fault: fault_or_null(alloc, before, limits, digit.spoiler)?,
+        makes: extent_or_null(alloc, row.makes)?,
+        periods: times_object(alloc, periods_of(digit.pulses))?,
+    };
+    digit_of_parts(alloc, taken, row, &parts)
 }
 
 // Puts a digit after the others.
@@ -270,22 +283,22 @@ fn outcome_name(outcome: &Dialled) -> &'static str
 }
 
 // The number of an outcome, or null.
-fn number_in(alloc: Global, outcome: &Dialled) -> Result<Value, AllocError>
-    ensures { IfOk result (λ value. view value ≡ number_in outcome.now) }
+fn number_in(outcome: &Dialled) -> Member<'_>
+    ensures { data_of result ≡ number_in outcome.now }
 {
     match outcome {
-        Dialled::Number(number) => Ok(Value::from(text_of_digits(alloc, number.digits())?)),
-        Dialled::Refused(_, _) => Ok(Value::Null),
+        Dialled::Number(number) => Member::Digits(number.digits()),
+        Dialled::Refused(_, _) => Member::Null,
     }
 }
 
 // Why an outcome is no number, or null.
-fn reason_in(alloc: Global, outcome: &Dialled) -> Result<Value, AllocError>
-    ensures { IfOk result (λ value. view value ≡ reason_in outcome.now) }
+fn reason_in(outcome: &Dialled) -> Member<'static>
+    ensures { data_of result ≡ reason_in outcome.now }
 {
     match outcome {
-        Dialled::Number(_) => Ok(Value::Null),
-        Dialled::Refused(reason, _) => Value::try_from_str(alloc, reason.word()),
+        Dialled::Number(_) => Member::Null,
+        Dialled::Refused(reason, _) => Member::Word(reason.word()),
     }
 }
 
@@ -299,6 +312,28 @@ fn heard_in(outcome: &Dialled) -> usize
     }
 }
 
+// How an attempt ended, by runs with their places, or null.
+#[derive(Drop)]
+struct EndParts {
+    released: Value,
+    timeout: Value,
+    unfinished: Value,
+}
+
+// How an attempt ended, where so many pulses had no pause.
+fn end_of_parts(alloc: Global, pulses: u64, parts: &EndParts) -> Result<Value, AllocError>
+    ensures { IfOk result (λ value. view value ≡ end_of_parts pulses
+        (view parts.now.released) (view parts.now.timeout) (view parts.now.unfinished)) }
+{
+    let members = [
+        ("released", Member::Value(&parts.released)),
+        ("timeout", Member::Value(&parts.timeout)),
+        ("unfinished", Member::Value(&parts.unfinished)),
+        ("unfinished_pulses", Member::Number(pulses)),
+    ];
+    object_of(alloc, &members)
+}
+
 // How an attempt ended.
 fn end_object(
     alloc: Global,
@@ -307,16 +342,45 @@ fn end_object(
 ) -> Result<Value, AllocError>
     ensures { IfOk result (λ value. view value ≡ end_object before (attempt_in attempt.now)) }
 {
-    let released = run_or_null(alloc, before, attempt.release)?;
-    let timeout = run_or_null(alloc, before, attempt.timeout)?;
-    let unfinished = first_run(alloc, before, attempt.unfinished)?;
-    let pulses = times_of(attempt.unfinished).breaks;
-    json!(in alloc; {
-        "released": released,
-        "timeout": timeout,
-        "unfinished": unfinished,
-        "unfinished_pulses": pulses
-    })
+    let parts = EndParts {
+        released: run_or_null(alloc, before, attempt.release)?,
+        timeout: run_or_null(alloc, before, attempt.timeout)?,
+        unfinished: first_run(alloc, before, attempt.unfinished)?,
+    };
+    end_of_parts(alloc, times_of(attempt.unfinished).breaks, &parts)
+}
+
+// What stands in the object of an attempt as an object of its own, as a list, or null.
+#[derive(Drop)]
+struct AttemptParts {
+    begins: Value,
+    digits: Value,
+    end: Value,
+}
+
+// The object of attempt `number` of a line with this outcome and these parts.
+fn attempt_of_parts<'a>(
+    alloc: Global,
+    line: LineNo,
+    number: usize,
+    outcome: &'a Dialled,
+    parts: &'a AttemptParts,
+) -> Result<Value, AllocError>
+    ensures { IfOk result (λ value. view value ≡ attempt_of_parts line number outcome.now
+        (view parts.now.begins) (view parts.now.digits) (view parts.now.end)) }
+{
+    let members = [
+        ("attempt", Member::Number(number as u64)),
+        ("begins", Member::Value(&parts.begins)),
+        ("digits", Member::Value(&parts.digits)),
+        ("end", Member::Value(&parts.end)),
+        ("heard", Member::Number(heard_in(outcome) as u64)),
+        ("line", Member::Number(u64::from(line.get()))),
+        ("number", number_in(outcome)),
+        ("outcome", Member::Word(outcome_name(outcome))),
+        ("reason", reason_in(outcome)),
+    ];
+    object_of(alloc, &members)
 }
 
 // Attempt `number` of a line.
@@ -331,25 +395,12 @@ fn attempt_object(
     ensures { IfOk result (λ value.
         view value ≡ attempt_object before limits line number (attempt_in attempt.now)) }
 {
-    let begins = first_run(alloc, before, attempt.runs)?;
-    let digits = digits_array(alloc, before, limits, &attempt.outcome, &attempt.digits)?;
-    let heard = heard_in(&attempt.outcome);
-    let line = line.get();
-    let dialled = number_in(alloc, &attempt.outcome)?;
-    let outcome = outcome_name(&attempt.outcome);
-    let reason = reason_in(alloc, &attempt.outcome)?;
-    let end = end_object(alloc, before, attempt)?;
-    json!(in alloc; {
-        "attempt": number,
-        "begins": begins,
-        "digits": digits,
-        "end": end,
-        "heard": heard,
-        "line": line,
-        "number": dialled,
-        "outcome": outcome,
-        "reason": reason
-    })
+    let parts = AttemptParts {
+        begins: first_run(alloc, before, attempt.runs)?,
+        digits: digits_array(alloc, before, limits, &attempt.outcome, &attempt.digits)?,
+        end: end_object(alloc, before, attempt)?,
+    };
+    attempt_of_parts(alloc, line, number, &attempt.outcome, &parts)
 }
 
 // Attempt `number` of a line, as a text line.
