@@ -2,7 +2,7 @@ use Rattle.std.proofs.Common.{◌≡◌, ◌++◌, drop, map}
 use Rattle.serde_json.specs.View.{view}
 use Rattle.xb_heard.specs.Digits.{digit_in}
 use Rattle.xb_hear.specs.Objects.{digits_from}
-use Rattle.xb_hear.proofs.objects.digits_array.Given as goal
+use Rattle.xb_hear.proofs.digit_objects.digits_array.Given as goal
 
 abbrev pub invariant-loop-index : goal.invariant-loop-index
 invariant-loop-index l =
