@@ -1,5 +1,5 @@
 -- What is wrong in the text lines of a deck, each read by itself.
-use Rattle.std.specs.Prelude.{ℕ, ◌+◌, ◌-◌, ◌==◌, ◌||◌, ◌&&◌, nat_lt, List, [], ◌∷◌, ◌++◌, codes, length, Bool, false, if◌then◌else◌, bytes_eq, Option, Some, None, unwrap_or, slice_index_or}
+use Rattle.std.specs.Prelude.{ℕ, ◌+◌, ◌-◌, ◌==◌, ◌||◌, ◌&&◌, nat_lt, List, [], ◌∷◌, ◌++◌, codes, length, Bool, false, if◌then◌else◌, bytes_eq, Option, Some, None, Result, Ok, Err, unwrap_or, slice_index_or}
 use Rattle.xb_deck.specs.declared.deck.TheConstants.{MOST_DECK_BYTES}
 use Rattle.xb_deck.specs.Deck.{is_cut}
 use Rattle.xb_model.specs.declared.fault.RowFault.{RowFault}
@@ -29,6 +29,12 @@ record_of_fault (fault.Contact n) = read.Wrong what.State
 record_of_fault (fault.Ms n) = read.Wrong what.Ms
 record_of_fault fault.TooMany = read.Empty
 record_of_fault fault.NoMemory = read.Empty
+
+-- a text of which this is read first: a row, or why there is none
+abbrev pub record_read : Result (Option LoopRow) RowFault → Record
+record_read (Ok (Some row)) = read.Row row
+record_read (Ok None) = read.Empty
+record_read (Err f) = record_of_fault f
 
 -- the first record of a text
 abbrev pub first_record : List LoopRow → Option RowFault → Record

@@ -1,8 +1,9 @@
 // Text lines of the rows, read by themselves: what they are, what is wrong with them, and where.
-ghost use Rattle.std.specs.Prelude.{◌≡◌, ◌++◌, IfOk, None, OnOk, map};
+ghost use Rattle.std.specs.Prelude.{◌≡◌, ◌≢◌, ◌++◌, Err, IfOk, None, OnOk, map};
+ghost use Rattle.xb_model.specs.declared.fault.RowFault.TheVariants.{NoMemory};
 ghost use Rattle.xb_rows.specs.RowTexts.{rest_of_text};
 ghost use Rattle.xb_check.specs.Findings.{found_of};
-ghost use Rattle.xb_check.specs.Records.{after_comma, closed_of, column_of, first_record, found_at, from_field, is_short, record_of_fault, record_of_line, what_of_record, what_of_row, wrong_header, wrong_in};
+ghost use Rattle.xb_check.specs.Records.{after_comma, closed_of, column_of, first_record, found_at, from_field, is_short, record_of_fault, record_of_line, record_read, what_of_record, what_of_row, wrong_header, wrong_in};
 ghost use Rattle.xb_check.specs.Table.{with_meant};
 
 use crate::closes::Closes;
@@ -44,18 +45,25 @@ fn record_of_fault(fault: RowFault) -> Record
     }
 }
 
+// What a text is of which this is read first.
+fn record_read(first: Result<Option<Row>, RowFault>) -> Result<Record, AllocError>
+    ensures { IfOk result (λ read. first ≢ Err NoMemory × (read ≡ record_read first)) }
+{
+    match first {
+        Ok(Some(row)) => Ok(Record::Row(row)),
+        Ok(None) => Ok(Record::Empty),
+        Err(RowFault::NoMemory) => Err(AllocError),
+        Err(fault) => Ok(record_of_fault(fault)),
+    }
+}
+
 // The first record of a text.
 fn first_record(alloc: Global, text: &[u8]) -> Result<Record, AllocError>
     ensures { let rest = rest_of_text text.now in
         IfOk result (λ read. read ≡ first_record rest.rows rest.stop) }
 {
     let mut scan = Scan::new(alloc, text);
-    match scan.next_row() {
-        Ok(Some(row)) => Ok(Record::Row(row)),
-        Ok(None) => Ok(Record::Empty),
-        Err(RowFault::NoMemory) => Err(AllocError),
-        Err(fault) => Ok(record_of_fault(fault)),
-    }
+    record_read(scan.next_row())
 }
 
 /// A text line after the header, read as a record by itself.

@@ -48,10 +48,11 @@ fn value_of(alloc: Global, member: Member<'_>) -> Result<Value, AllocError>
     }
 }
 
-/// The object of these members, each by its name; of two of one name it has the later. `Err` says that memory ran out.
+/// The object of these members, each by its name; of two of one name it has the later. `Err` says that memory
+/// ran out.
 ///
-/// `json!` would return early at each member, and whoever calls it then ends all that it owns at each: a proof of ten
-/// members takes a minute that way, and some seconds by this call.
+/// `json!` would return early at each member, and whoever calls it then ends all that it owns at each: a proof
+/// of ten members takes a minute that way, and some seconds by this call.
 pub fn object_of(alloc: Global, members: &[(&str, Member<'_>)]) -> Result<Value, AllocError>
     ensures { IfOk result (λ value. view value ≡ object_of members.now) }
 {
