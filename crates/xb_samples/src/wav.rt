@@ -13,7 +13,7 @@ const MOST_FORMAT_BYTES: u32 = 64;
 const LENGTH_IS_NOT_KNOWN: u32 = 0x7fff_0000;
 
 // Where a head stands.
-#[derive(Clone, Copy, Debug, PartialEq, Eq)]
+#[derive(Clone, Copy)]
 enum Place {
     // In the first 12 bytes.
     Beginning,
