@@ -1,14 +1,20 @@
 -- What sound says.
-use Rattle.std.proofs.Common.{◌≡◌, ℕ, zero, suc, ◌-◌, ◌+◌, ℤ, pos, neg_ℤ, ◌<ℤ◌, int_le, List, [], ◌∷◌, ◌++◌, Bool, true, false, Option, Some, None, cond, length, take, refl, ap, sym, subst, ◌∙◌, append_assoc, arith}
+use Rattle.std.proofs.Common.{◌≡◌, ℕ, zero, suc, ◌-◌, ◌+◌, ◌<◌, ◌≤◌, ℤ, pos, neg_ℤ, ◌<ℤ◌, int_le, List, [], ◌∷◌, ◌++◌, Bool, true, false, Option, Some, None, cond, drop, get_or, length, map, set, take, refl, ap, sym, subst, ◌∙◌, append_assoc, append-nil, arith}
+use Rattle.std.proofs.lemmas.List.{at_drop_all, at_drop_more, drop-set-lt, take_all, take_more_set}
 use Rattle.std.proofs.lemmas.Int.{ints}
+use Rattle.std.specs.Prelude.{Err, Ok, Result}
 use Rattle.xb_vcd.specs.declared.event.Event.{Event}
 use Rattle.xb_vcd.specs.declared.event.Event.TheVariants.{At}
+use Rattle.xb_vcd.specs.declared.event.Refusal.{Refusal}
+use Rattle.xb_vcd.specs.Steps.{AddsAll, IsRefusedBy, result_and_then, result_map}
+use Rattle.xb_vcd.specs.VcdChanges.{level_event}
 use Rattle.xb_samples.specs.declared.sound.Channel.{Channel}
 use Rattle.xb_samples.specs.declared.sound.Sound.{Sound}
 use Rattle.xb_samples.specs.Hysteresis.{IsHeard}
-use Rattle.xb_samples.specs.Pieces.{SamplesSay, after_piece, begins_later, piece_events}
-use Rattle.xb_samples.specs.Sounds.{SoundSays, change_said, changes_said, left_after, level_by, lower_left, own_bytes, samples_after, sample_of, samples_left, sound_reading, sound_state, wire_after}
-use Rattle.xb_samples.proofs.WaitLemmas.{SayWhen, piece_says}
+use Rattle.xb_samples.specs.Pieces.{SamplesSay, after_piece, begins_later, piece_events, samples_events}
+use Rattle.xb_samples.specs.Samples.{rate_says}
+use Rattle.xb_samples.specs.Sounds.{SoundSays, SoundState, begun_sound, change_said, changes_said, left_after, level_by, levels_said, lower_left, own_bytes, samples_after, sample_of, samples_left, sound_begins, sound_reading, sound_says, sound_state, wire_after, wires_of}
+use Rattle.xb_samples.proofs.WaitLemmas.{SayWhen, after-piece, piece-piece, piece_says}
 
 -- what is heard of a sample
 level-by :
@@ -109,3 +115,208 @@ sound_takes old new bytes own before mid all is said state lower left waits =
           (piece_says sound_reading (sound_state old) (sound_state new) piece (samples_left new text) events
           (events ++ At new.count ∷ []) later sound_say_when refl now refl rest),
     )
+
+-- one more byte of a piece, of which these are left
+byte-left :
+    (low lower : Option ℕ) (byte : ℕ) (rest : List ℕ) → lower ≡ lower_left low (byte ∷ [])
+    → samples_after low (byte ∷ rest) ≡ samples_after low (byte ∷ []) ++ samples_after lower rest
+byte-left low lower byte rest e =
+    samples-append low (byte ∷ []) rest
+    ∙ ap (λ (l : Option ℕ). samples_after low (byte ∷ []) ++ samples_after l rest) (sym e)
+
+lower-left :
+    (low : Option ℕ) (byte : ℕ) (rest : List ℕ)
+    → lower_left (lower_left low (byte ∷ [])) rest ≡ lower_left low (byte ∷ rest)
+lower-left None byte rest = refl
+lower-left (Some lower) byte rest = refl
+
+pub byte_events :
+    (old new : SoundState) (low lower : Option ℕ) (bytes : List ℕ) (i : ℕ) (mid now all : List Event) → i < length bytes
+    → now ≡ mid ++ piece_events sound_reading old (samples_after low (get_or bytes i 0 ∷ []))
+    → new ≡ after_piece sound_reading old (samples_after low (get_or bytes i 0 ∷ []))
+    → lower ≡ lower_left low (get_or bytes i 0 ∷ [])
+    → mid ++ piece_events sound_reading old (samples_after low (drop i bytes)) ≡ all
+    → now ++ piece_events sound_reading new (samples_after lower (drop (i + 1) bytes)) ≡ all
+byte_events old new low lower bytes i mid now all h e is l so_far =
+    let byte : ℕ = get_or bytes i 0 in
+    let one : List ℤ = samples_after low (byte ∷ []) in
+    let rest : List ℕ = drop (i + 1) bytes in
+    let later : List ℤ = samples_after lower rest in
+    ap (λ (n : List Event). n ++ piece_events sound_reading new later) e
+    ∙ append_assoc mid (piece_events sound_reading old one) (piece_events sound_reading new later)
+    ∙ ap (λ (s : SoundState). mid ++ (piece_events sound_reading old one ++ piece_events sound_reading s later)) is
+    ∙ ap (λ (n : List Event). mid ++ n) (sym (piece-piece sound_reading old one later))
+    ∙ ap (λ (k : List ℤ). mid ++ piece_events sound_reading old k) (sym (byte-left low lower byte rest l))
+    ∙ sym (at_drop_more (λ (k : List ℕ). mid ++ piece_events sound_reading old (samples_after low k)) bytes i 0 h)
+    ∙ so_far
+
+pub byte_state :
+    (old new all : SoundState) (low lower : Option ℕ) (bytes : List ℕ) (i : ℕ) → i < length bytes
+    → new ≡ after_piece sound_reading old (samples_after low (get_or bytes i 0 ∷ []))
+    → lower ≡ lower_left low (get_or bytes i 0 ∷ [])
+    → after_piece sound_reading old (samples_after low (drop i bytes)) ≡ all
+    → after_piece sound_reading new (samples_after lower (drop (i + 1) bytes)) ≡ all
+byte_state old new all low lower bytes i h is l so_far =
+    let byte : ℕ = get_or bytes i 0 in
+    let one : List ℤ = samples_after low (byte ∷ []) in
+    let rest : List ℕ = drop (i + 1) bytes in
+    let later : List ℤ = samples_after lower rest in
+    ap (λ (s : SoundState). after_piece sound_reading s later) is
+    ∙ sym (after-piece sound_reading old one later)
+    ∙ ap (after_piece sound_reading old) (sym (byte-left low lower byte rest l))
+    ∙ sym (at_drop_more (λ (k : List ℕ). after_piece sound_reading old (samples_after low k)) bytes i 0 h) ∙ so_far
+
+pub byte_lower :
+    (low lower all : Option ℕ) (bytes : List ℕ) (i : ℕ) → i < length bytes
+    → lower ≡ lower_left low (get_or bytes i 0 ∷ []) → lower_left low (drop i bytes) ≡ all
+    → lower_left lower (drop (i + 1) bytes) ≡ all
+byte_lower low lower all bytes i h l so_far =
+    ap (λ (k : Option ℕ). lower_left k (drop (i + 1) bytes)) l ∙ lower-left low (get_or bytes i 0) (drop (i + 1) bytes)
+    ∙ sym (at_drop_more (lower_left low) bytes i 0 h) ∙ so_far
+
+-- all of it
+pub bytes_events :
+    (state : SoundState) (lower : Option ℕ) (bytes : List ℕ) (i : ℕ) (now all : List Event) → length bytes ≤ i
+    → now ++ piece_events sound_reading state (samples_after lower (drop i bytes)) ≡ all → now ≡ all
+bytes_events state lower bytes i now all h so_far =
+    sym (append-nil now)
+    ∙ sym (at_drop_all (λ (k : List ℕ). now ++ piece_events sound_reading state (samples_after lower k)) bytes i h)
+    ∙ so_far
+
+pub bytes_state :
+    (state all : SoundState) (lower : Option ℕ) (bytes : List ℕ) (i : ℕ) → length bytes ≤ i
+    → after_piece sound_reading state (samples_after lower (drop i bytes)) ≡ all → state ≡ all
+bytes_state state all lower bytes i h so_far =
+    sym (at_drop_all (λ (k : List ℕ). after_piece sound_reading state (samples_after lower k)) bytes i h) ∙ so_far
+
+pub bytes_lower :
+    (lower all : Option ℕ) (bytes : List ℕ) (i : ℕ) → length bytes ≤ i → lower_left lower (drop i bytes) ≡ all
+    → lower ≡ all
+bytes_lower lower all bytes i h so_far = sym (at_drop_all (lower_left lower) bytes i h) ∙ so_far
+
+-- a sample that one more wire has heard
+pub wire_heard :
+    (f : Channel → Channel) (wires : List Channel) (i : ℕ) (none wire : Channel) (all : List Channel) → i < length wires
+    → wire ≡ f (get_or wires i none) → take i wires ++ map f (drop i wires) ≡ all
+    → take (i + 1) (set wires i wire) ++ map f (drop (i + 1) (set wires i wire)) ≡ all
+wire_heard f wires i none wire all h is so_far =
+    let rest : List Channel = drop (i + 1) wires in
+    ap (λ (k : List Channel). take (i + 1) (set wires i wire) ++ map f k) (drop-set-lt (i + 1) wires i wire (omega arith))
+    ∙ ap (λ (k : List Channel). k ++ map f rest) (take_more_set wires i wire h)
+    ∙ append_assoc (take i wires) (wire ∷ []) (map f rest)
+    ∙ ap (λ (w : Channel). take i wires ++ (w ∷ map f rest)) is
+    ∙ sym (at_drop_more (λ (k : List Channel). take i wires ++ map f k) wires i none h) ∙ so_far
+
+-- and what is said of it
+pub change_heard :
+    (channel : ℕ) (high : ℤ) (tick : ℕ) (sample : ℤ) (wires : List Channel) (i : ℕ) (none wire : Channel)
+    (mid now all : List Event)
+    → i < length wires → wire ≡ wire_after channel high sample (get_or wires i none)
+    → now ≡ mid ++ change_said tick i (get_or wires i none).is_high wire.is_high
+    → mid ++ changes_said channel high tick sample i (drop i wires) ≡ all
+    → now ++ changes_said channel high tick sample (i + 1) (drop (i + 1) (set wires i wire)) ≡ all
+change_heard channel high tick sample wires i none wire mid now all h is e so_far =
+    let was : Bool = (get_or wires i none).is_high in
+    let more : List Event = changes_said channel high tick sample (i + 1) (drop (i + 1) wires) in
+    ap (λ (k : List Channel). now ++ changes_said channel high tick sample (i + 1) k)
+    (drop-set-lt (i + 1) wires i wire (omega arith))
+    ∙ ap (λ (n : List Event). n ++ more) e ∙ append_assoc mid (change_said tick i was wire.is_high) more
+    ∙ ap (λ (w : Channel). mid ++ (change_said tick i was w.is_high ++ more)) is
+    ∙ sym (at_drop_more (λ (k : List Channel). mid ++ changes_said channel high tick sample i k) wires i none h)
+    ∙ so_far
+
+-- the same numbers, read back, and the same wires
+pub changes_same :
+    (channel : ℕ) (own high : ℤ) (tick : ℕ) (heard sample : ℤ) (wires old : List Channel) (before : List Event)
+    → own ≡ high → heard ≡ sample → wires ≡ old
+    → before ++ changes_said channel own tick heard 0 wires ≡ before ++ changes_said channel high tick sample 0 old
+changes_same channel own high tick heard sample wires old before e f g =
+    ap (λ (x : ℤ). before ++ changes_said channel x tick heard 0 wires) e
+    ∙ ap (λ (x : ℤ). before ++ changes_said channel high tick x 0 wires) f
+    ∙ ap (λ (w : List Channel). before ++ changes_said channel high tick sample 0 w) g
+
+pub wires_same :
+    (channel : ℕ) (own high heard sample : ℤ) (wires old : List Channel) → own ≡ high → heard ≡ sample → wires ≡ old
+    → map (wire_after channel own heard) wires ≡ map (wire_after channel high sample) old
+wires_same channel own high heard sample wires old e f g =
+    ap (λ (x : ℤ). map (wire_after channel x heard) wires) e
+    ∙ ap (λ (x : ℤ). map (wire_after channel high x) wires) f
+    ∙ ap (λ (w : List Channel). map (wire_after channel high sample) w) g
+
+pub wires_heard :
+    (channel : ℕ) (high own sample heard : ℤ) (wires old : List Channel) (i : ℕ) → length wires ≤ i → own ≡ high
+    → heard ≡ sample
+    → take i wires ++ map (wire_after channel own heard) (drop i wires) ≡ map (wire_after channel own heard) old
+    → wires ≡ map (wire_after channel high sample) old
+wires_heard channel high own sample heard wires old i h e f so_far =
+    sym (append-nil wires) ∙ ap (λ (k : List Channel). k ++ []) (sym (take_all i wires h))
+    ∙ sym (at_drop_all (λ (k : List Channel). take i wires ++ map (wire_after channel own heard) k) wires i h) ∙ so_far
+    ∙ wires_same channel own high heard sample old old e f refl
+
+pub changes_heard :
+    (channel : ℕ) (high own : ℤ) (tick : ℕ) (sample heard : ℤ) (wires old : List Channel) (i : ℕ) (now before : List Event)
+    → length wires ≤ i → own ≡ high → heard ≡ sample
+    → now ++ changes_said channel own tick heard i (drop i wires) ≡ before ++ changes_said channel own tick heard 0 old
+    → now ≡ before ++ changes_said channel high tick sample 0 old
+changes_heard channel high own tick sample heard wires old i now before h e f so_far =
+    sym (append-nil now)
+    ∙ sym (at_drop_all (λ (k : List Channel). now ++ changes_said channel own tick heard i k) wires i h) ∙ so_far
+    ∙ changes_same channel own high tick heard sample old old before e f refl
+
+-- the level of one more wire
+pub level_said :
+    (wires : List Channel) (i : ℕ) (none : Channel) (mid now all : List Event) → i < length wires
+    → now ≡ mid ++ level_event i (get_or wires i none).is_high ∷ [] → mid ++ levels_said i (drop i wires) ≡ all
+    → now ++ levels_said (i + 1) (drop (i + 1) wires) ≡ all
+level_said wires i none mid now all h e so_far =
+    let rest : List Event = levels_said (i + 1) (drop (i + 1) wires) in
+    ap (λ (n : List Event). n ++ rest) e
+    ∙ append_assoc mid (level_event i (get_or wires i none).is_high ∷ []) rest
+    ∙ sym (at_drop_more (λ (k : List Channel). mid ++ levels_said i k) wires i none h) ∙ so_far
+
+pub all_said :
+    (wires : List Channel) (i : ℕ) (now all : List Event) → length wires ≤ i → now ++ levels_said i (drop i wires) ≡ all
+    → now ≡ all
+all_said wires i now all h so_far =
+    sym (append-nil now) ∙ sym (at_drop_all (λ (k : List Channel). now ++ levels_said i k) wires i h) ∙ so_far
+
+-- what is said before the first sample
+pub sound_begun :
+    (rate : Option ℕ) (all : Result (List Channel) Refusal) (wires said : List Channel) (old told waits new : List Event)
+    → all ≡ Ok wires → AddsAll (rate_says rate) old told → waits ≡ told ++ At 0 ∷ [] → said ≡ wires
+    → new ≡ waits ++ levels_said 0 said → AddsAll (result_and_then (sound_begins rate) all) old new
+sound_begun rate all wires said old told waits new is h e f g =
+    let P : Result (List Channel) Refusal → Type 0 = λ r. AddsAll (result_and_then (sound_begins rate) r) old new in
+    subst P (sym is) (at (rate_says rate) h)
+  where
+    at :
+        (first : Result (List Event) Refusal) → AddsAll first old told
+        → AddsAll (result_map (λ s. s ++ At 0 ∷ levels_said 0 wires) first) old new
+    at (Err refusal) k = elim k [ ]
+    at (Ok own) k =
+        g ∙ ap (λ (w : List Event). w ++ levels_said 0 said) e
+        ∙ append_assoc told (At 0 ∷ []) (levels_said 0 said)
+        ∙ ap (λ (w : List Channel). told ++ (At 0 ∷ levels_said 0 w)) f
+        ∙ ap (λ (t : List Event). t ++ (At 0 ∷ levels_said 0 wires)) k
+        ∙ append_assoc old own (At 0 ∷ levels_said 0 wires)
+
+-- a sound whose wires or rate are refused
+pub wires_refuse :
+    (channels : ℕ) (high : ℤ) (names : List (List ℕ)) (rate : Option ℕ) (refusal : Refusal)
+    → IsRefusedBy (wires_of channels names) refusal → (samples : List ℤ)
+    → IsRefusedBy (sound_says channels high names rate samples) refusal
+wires_refuse channels high names rate refusal h = λ samples other.
+    ap (result_and_then
+    (λ wires. result_map (λ said. said ++ samples_events sound_reading (begun_sound channels high wires) samples)
+    (sound_begins rate wires))) (h other)
+
+pub rate_refuses :
+    (channels : ℕ) (high : ℤ) (names : List (List ℕ)) (wires : List Channel) (rate : Option ℕ) (refusal : Refusal)
+    → wires_of channels names ≡ Ok wires → IsRefusedBy (rate_says rate) refusal → (samples : List ℤ)
+    → IsRefusedBy (sound_says channels high names rate samples) refusal
+rate_refuses channels high names wires rate refusal is h = λ samples other.
+    ap (result_and_then
+    (λ own. result_map (λ said. said ++ samples_events sound_reading (begun_sound channels high own) samples)
+    (sound_begins rate own))) is
+    ∙ ap (λ r. result_map (λ said. said ++ samples_events sound_reading (begun_sound channels high wires) samples)
+    (result_map (λ said. said ++ At 0 ∷ levels_said 0 wires) r)) (h other)

@@ -1,5 +1,6 @@
 -- What samples say in pieces.
-use Rattle.std.proofs.Common.{◌≡◌, ℕ, List, [], ◌∷◌, ◌++◌, Bool, true, false, cond, refl, ap, sym, subst, ◌∙◌, append_assoc}
+use Rattle.std.proofs.Common.{◌≡◌, ℕ, ◌+◌, ◌<◌, ◌≤◌, List, [], ◌∷◌, ◌++◌, Bool, true, false, cond, drop, get_or, length, refl, ap, sym, subst, ◌∙◌, append_assoc, append-nil}
+use Rattle.std.proofs.lemmas.List.{at_drop_all, at_drop_more}
 use Rattle.xb_vcd.specs.declared.event.Event.{Event}
 use Rattle.xb_vcd.specs.declared.event.Event.TheVariants.{At, High, Low, Ticks}
 use Rattle.xb_samples.specs.Pieces.{Reading, SamplesSay, SayTheSame, after_piece, begins_later, piece_events, samples_events, without_waits}
@@ -63,13 +64,13 @@ waits reading state tick samples later when h =
     ∙ h
 
 -- a piece, and then the rest
-after-piece :
+pub after-piece :
     {S A : Type 0} (reading : Reading S A) (state : S) (piece text : List A)
     → after_piece reading state (piece ++ text) ≡ after_piece reading (after_piece reading state piece) text
 after-piece reading state [] text = refl
 after-piece reading state (sample ∷ rest) text = after-piece reading (reading.next state sample) rest text
 
-piece-piece :
+pub piece-piece :
     {S A : Type 0} (reading : Reading S A) (state : S) (piece text : List A)
     → piece_events reading state (piece ++ text)
     ≡ piece_events reading state piece ++ piece_events reading (after_piece reading state piece) text
@@ -111,3 +112,38 @@ piece_says {S} reading old new piece text mid said later when e f g h =
     ap (λ m. m ++ later) (g ∙ ap (λ m. m ++ At (reading.now new) ∷ []) e)
     ∙ append_assoc before (At (reading.now new) ∷ []) later in
     subst R (sym told) whole
+
+-- one more sample of a piece
+pub events_more :
+    {S A : Type 0} (reading : Reading S A) (old new : S) (samples : List A) (i : ℕ) (none : A) (mid now all : List Event)
+    → i < length samples → new ≡ reading.next old (get_or samples i none)
+    → now ≡ mid ++ reading.says old (get_or samples i none)
+    → mid ++ piece_events reading old (drop i samples) ≡ all
+    → now ++ piece_events reading new (drop (i + 1) samples) ≡ all
+events_more {S} {A} reading old new samples i none mid now all h is e so_far =
+    let says : List Event = reading.says old (get_or samples i none) in
+    let rest : List A = drop (i + 1) samples in
+    ap (λ (n : List Event). n ++ piece_events reading new rest) e ∙ append_assoc mid says (piece_events reading new rest)
+    ∙ ap (λ (s : S). mid ++ (says ++ piece_events reading s rest)) is
+    ∙ sym (at_drop_more (λ (k : List A). mid ++ piece_events reading old k) samples i none h) ∙ so_far
+
+pub state_more :
+    {S A : Type 0} (reading : Reading S A) (old new all : S) (samples : List A) (i : ℕ) (none : A)
+    → i < length samples → new ≡ reading.next old (get_or samples i none)
+    → after_piece reading old (drop i samples) ≡ all → after_piece reading new (drop (i + 1) samples) ≡ all
+state_more {S} {A} reading old new all samples i none h is so_far =
+    ap (λ (s : S). after_piece reading s (drop (i + 1) samples)) is
+    ∙ sym (at_drop_more (λ (k : List A). after_piece reading old k) samples i none h) ∙ so_far
+
+-- all of it
+pub events_whole :
+    {S A : Type 0} (reading : Reading S A) (state : S) (samples : List A) (i : ℕ) (now all : List Event)
+    → length samples ≤ i → now ++ piece_events reading state (drop i samples) ≡ all → now ≡ all
+events_whole {S} {A} reading state samples i now all h so_far =
+    sym (append-nil now) ∙ sym (at_drop_all (λ (k : List A). now ++ piece_events reading state k) samples i h) ∙ so_far
+
+pub state_whole :
+    {S A : Type 0} (reading : Reading S A) (state all : S) (samples : List A) (i : ℕ)
+    → length samples ≤ i → after_piece reading state (drop i samples) ≡ all → state ≡ all
+state_whole {S} {A} reading state all samples i h so_far =
+    sym (at_drop_all (λ (k : List A). after_piece reading state k) samples i h) ∙ so_far

@@ -1,17 +1,19 @@
 -- The head of a WAV, part by part.
-use Rattle.std.proofs.Common.{◌≡◌, ℕ, zero, suc, ◌+◌, ◌-◌, ◌<◌, ◌≤◌, max, List, [], ◌∷◌, ◌++◌, Bool, true, false, cond, Option, Some, None, nat_lt, drop, length, take, ap, refl, sym, subst, ◌∙◌, append_assoc, length-append, length-drop, add-one, arith, codes, get_or, drop-cons}
+use Rattle.std.proofs.Common.{◌≡◌, ℕ, zero, suc, ◌+◌, ◌-◌, ◌%◌, ◌<◌, ◌≤◌, max, List, [], ◌∷◌, ◌++◌, Bool, true, false, cond, Option, Some, None, nat_lt, drop, length, take, ap, refl, sym, subst, ◌∙◌, append_assoc, length-append, length-drop, add-one, arith, codes, get_or, drop-cons}
 use Rattle.std.proofs.lemmas.Bool.Decides.{nat_tests}
-use Rattle.std.specs.Prelude.{◌↔◌, nat_eq, nat_le, ◌&&◌, unwrap_or}
+use Rattle.std.specs.Prelude.{◌↔◌, nat_eq, nat_le, ◌&&◌, option_map, unwrap_or}
 use Rattle.std.specs.List.{starts_with}
 use Rattle.std.specs.Option.{option_and_then}
-use Rattle.std.proofs.lemmas.List.{take-append-drop}
+use Rattle.std.proofs.lemmas.List.{take-append-drop, take_all, take_more}
 use Rattle.std.proofs.Math.Seq.{drop-append_seam, take-append_seam}
 use Rattle.xb_vcd.specs.declared.event.Refusal.{Refusal}
+use Rattle.xb_samples.specs.declared.wav.After.{After}
+use Rattle.xb_samples.specs.declared.wav.After.TheVariants as afters
 use Rattle.xb_samples.specs.declared.wav.Place.{Place}
 use Rattle.xb_samples.specs.declared.wav.Place.TheVariants as places
 use Rattle.xb_samples.specs.declared.wav.WavFormat.{WavFormat}
 use Rattle.xb_samples.specs.declared.wav.WavHead.{WavHead}
-use Rattle.xb_samples.specs.Wavs.{HeadBegins, IsNewHead, IsWav, PartBegins, RefusesHead, RefusesPart, RestBegins, RestIsWhole, Samples, SamplesBegin, TakesByte, TakesHead, TakesPart, WholeBegins, after_chunk, format_of, long_at, padded, part_end, part_length, samples_in}
+use Rattle.xb_samples.specs.Wavs.{AfterPart, HeadBegins, IsNewHead, IsWav, PartBegins, RefusesHead, RefusesPart, RestBegins, RestIsWhole, Samples, SamplesBegin, TakesByte, TakesHead, TakesPart, WholeBegins, after_chunk, format_of, length_of, long_at, padded, part_end, part_length, samples_in}
 
 none_is : {A : Type 0} {x : A} → None ≡ Some x → ⊥
 none_is e = cc
@@ -246,6 +248,67 @@ pub byte_refused :
 byte_refused old mid byte refusal is place format more h refused = λ other rest samples k.
     refused other rest samples ((part_then old mid byte rest samples is place format more h).1 k)
 
+-- the part that was taken, and then nothing of the next one
+pub part_taken :
+    (place next : Place) (found known : Option WavFormat) (bytes part cleared : List ℕ) (after : After) → part ≡ bytes
+    → cleared ≡ [] → after ≡ afters.Part known next → AfterPart place found part after → (rest : List ℕ) (samples : Samples)
+    → RestBegins next known cleared rest samples ↔ PartBegins place found bytes rest samples
+part_taken place next found known bytes part cleared after is none then taken = λ rest samples.
+    let A : After → Type 0 = λ a. AfterPart place found part a in
+    let B : List ℕ → Type 0 = λ p. RestBegins next known [] rest samples ↔ PartBegins place found p rest samples in
+    let C : List ℕ → Type 0 = λ g. RestBegins next known g rest samples ↔ PartBegins place found bytes rest samples in
+    subst C (sym none) (subst B is (subst A then taken rest samples))
+
+pub samples_taken :
+    (place : Place) (found : Option WavFormat) (format : WavFormat) (bytes part : List ℕ) (after : After) → part ≡ bytes
+    → after ≡ afters.Samples format → AfterPart place found part after → (rest : List ℕ) (samples : Samples)
+    → samples ≡ (format, rest) ↔ PartBegins place found bytes rest samples
+samples_taken place found format bytes part after is then taken = λ rest samples.
+    let A : After → Type 0 = λ a. AfterPart place found part a in
+    let B : List ℕ → Type 0 = λ p. samples ≡ (format, rest) ↔ PartBegins place found p rest samples in
+    subst B is (subst A then taken rest samples)
+
+some_is : {A : Type 0} {x y : A} → Some x ≡ Some y → x ≡ y
+some_is {A} {x} {y} e = ap (λ o. unwrap_or o x) e
+
+-- the chunk of the samples
+after-data :
+    (next : Option WavFormat → List ℕ → Option Samples) (found : Option WavFormat) (chunk rest : List ℕ)
+    → starts_with nat_eq chunk (codes "data") ≡ true
+    → after_chunk next found chunk rest
+    ≡ option_map (λ format. (record format { length = length_of (long_at chunk 4) }, rest)) found
+after-data next found chunk rest is = rw is
+
+pub data_follows :
+    (found : Option WavFormat) (format : WavFormat) (chunk : List ℕ) (size : ℕ) (length : Option ℕ)
+    → starts_with nat_eq chunk (codes "data") ≡ true → found ≡ Some format → size ≡ long_at chunk 4
+    → length ≡ length_of size → (rest : List ℕ) (samples : Samples)
+    → samples ≡ (record format { length = length }, rest) ↔ PartBegins places.Chunk found chunk rest samples
+data_follows found format chunk size length is known long e = λ rest samples.
+    let all : Option WavFormat → Option Samples =
+    λ f. option_map (λ own. (record own { length = length_of (long_at chunk 4) }, rest)) f in
+    let whole : length ≡ length_of (long_at chunk 4) = e ∙ ap length_of long in
+    let P : Option ℕ → Type 0 = λ l. all found ≡ Some (record format { length = l }, rest) in
+    let said : P length = subst P (sym whole) (ap all known) in
+    let next : ℕ → Option WavFormat → List ℕ → Option Samples = λ n own more. samples_in n own more in (
+      λ h. (0, after-data (next 0) found chunk rest is ∙ said ∙ ap Some (sym h)),
+      λ h. some_is (sym h.1 ∙ after-data (next h.0) found chunk rest is ∙ said),
+    )
+
+pub data_unknown :
+    (found : Option WavFormat) (chunk : List ℕ) → starts_with nat_eq chunk (codes "data") ≡ true → found ≡ None
+    → (rest : List ℕ) (samples : Samples) → PartBegins places.Chunk found chunk rest samples → ⊥
+data_unknown found chunk is none = λ rest samples h.
+    let all : Option WavFormat → Option Samples =
+    λ f. option_map (λ own. (record own { length = length_of (long_at chunk 4) }, rest)) f in
+    none_is (sym (ap all none) ∙ sym (after-data (λ own more. samples_in h.0 own more) found chunk rest is) ∙ h.1)
+
+-- with the byte more
+pub padded_is :
+    (length own odd n : ℕ) → length ≡ n → own ≡ length → odd ≡ length % 2 → padded n ≡ own + odd
+padded_is length own odd n e f g =
+    sym (ap padded e) ∙ ap (λ m. m + length % 2) (sym f) ∙ ap (λ m. own + m) (sym g)
+
 -- a chunk that is neither of the two
 after-other :
     (next : Option WavFormat → List ℕ → Option Samples) (found : Option WavFormat) (chunk rest : List ℕ)
@@ -267,6 +330,22 @@ other_follows found chunk rest samples no_data no_format none =
           (k.0, after-other (λ format more. samples_in k.0 format more) found chunk rest no_data no_format ∙ k.1),
       λ h. both.1 (subst P none
           (h.0, sym (after-other (λ format more. samples_in h.0 format more) found chunk rest no_data no_format) ∙ h.1)),
+    )
+
+-- one that is passed over
+pub passed_follows :
+    (found : Option WavFormat) (chunk : List ℕ) (size : ℕ) → starts_with nat_eq chunk (codes "data") ≡ false
+    → starts_with nat_eq chunk (codes "fmt ") ≡ false → padded (long_at chunk 4) ≡ size → 0 < size → (rest : List ℕ)
+    (samples : Samples)
+    → RestBegins (places.Passed size) found [] rest samples ↔ PartBegins places.Chunk found chunk rest samples
+passed_follows found chunk size no_data no_format long some = λ rest samples.
+    let one : max size 1 ≡ padded (long_at chunk 4) = omega (arith, long) in
+    let P : ℕ → Type 0 = λ n. SamplesBegin found (drop n rest) samples in
+    let next : ℕ → Option WavFormat → List ℕ → Option Samples = λ n own more. samples_in n own more in (
+      λ h.
+          let k = subst P one h in
+          (k.0, after-other (next k.0) found chunk rest no_data no_format ∙ k.1),
+      λ h. subst P (sym one) (h.0, sym (after-other (next h.0) found chunk rest no_data no_format) ∙ h.1),
     )
 
 -- the chunk that says how the samples are
@@ -311,9 +390,6 @@ format_follows found chunk size rest samples no_data is least most padded_is som
           record { whole = k.0; begins = k.1 },
     )
 
-some_is : {A : Type 0} {x y : A} → Some x ≡ Some y → x ≡ y
-some_is {A} {x} {y} e = ap (λ o. unwrap_or o x) e
-
 -- the samples are so from there on
 pub format_known :
     (chunk : List ℕ) (format : WavFormat) (rest : List ℕ) (samples : Samples) → format_of chunk ≡ Some format
@@ -333,6 +409,27 @@ place-cut bytes rest i byte h e =
     sym (append_assoc (take i bytes) (byte ∷ drop (i + 1) bytes) rest)
     ∙ ap (λ later. (take i bytes ++ later) ++ rest) (sym here)
     ∙ ap (λ all. all ++ rest) (take-append-drop i bytes)
+
+-- one byte more that was taken, and all of them
+pub head_more :
+    (old mid new : WavHead) (bytes : List ℕ) (i : ℕ) (found : Option WavFormat) → i < length bytes → found ≡ None
+    → TakesHead old (take i bytes) None mid → TakesByte mid (get_or bytes i 0) found new
+    → TakesHead old (take (i + 1) bytes) None new
+head_more old mid new bytes i found h none taken more = λ rest samples.
+    let byte : ℕ = get_or bytes i 0 in
+    let F : Option WavFormat → Type 0 = λ f. TakesByte mid byte f new in
+    let P : List ℕ → Type 0 = λ all. HeadBegins new rest samples ↔ HeadBegins old all samples in
+    let one : TakesByte mid byte None new = subst F none more in
+    let all : take i bytes ++ (byte ∷ rest) ≡ take (i + 1) bytes ++ rest =
+    sym (append_assoc (take i bytes) (byte ∷ []) rest) ∙ ap (λ some. some ++ rest) (sym (take_more bytes i 0 h)) in
+    subst P all (both_then (one rest samples) (taken (byte ∷ rest) samples))
+
+pub head_whole :
+    (old new : WavHead) (bytes : List ℕ) (i : ℕ) → length bytes ≤ i → TakesHead old (take i bytes) None new
+    → TakesHead old bytes None new
+head_whole old new bytes i h taken =
+    let P : List ℕ → Type 0 = λ all. TakesHead old all None new in
+    subst P (take_all i bytes h) taken
 
 -- bytes that were refused after others
 pub head_refused :

@@ -4,5 +4,5 @@ use Rattle.xb_samples.proofs.bits.Bits.say_sample.Given as goal
 
 abbrev pub invariant-loop-wire : goal.invariant-loop-wire
 invariant-loop-wire l =
-    l.events.items ++ sample_levels l.wire (drop l.wire l.self.masks.items) l.sample
-    ≡ l.initial.events.items ++ sample_levels 0 l.self.masks.items l.sample
+    l.events.items ++ sample_levels l.wire (drop l.wire l.mask-items) l.sample
+    ≡ l.initial.events.items ++ sample_levels 0 l.mask-items l.sample

@@ -1,0 +1,50 @@
+use Rattle.std.proofs.Common.{length, refl, ◌∙◌, arith}
+use Rattle.xb_samples.specs.Pieces.{RunsOver}
+use Rattle.xb_samples.specs.Sounds.{sound_state}
+use Rattle.xb_samples.proofs.SoundLemmas.{byte_events, byte_lower, byte_state, bytes_events, bytes_lower, bytes_state}
+use Rattle.xb_samples.proofs.RefusedLemmas.{over_later, refused_with}
+use Rattle.xb_samples.proofs.sound.Sound.take_bytes.Goals as goal
+
+pub loop-byte-preserved : goal.loop-byte-preserved
+loop-byte-preserved c =
+    let old = c.loop-byte.self in
+    let new = c.take_byte.new.self in
+    let bytes = c.args.bytes.now in
+    let i = c.loop-byte.byte-index in
+    let inside = c.loop-byte-test.true in
+    let took = c.in_ok-take_byte.ensures in
+    let so_far = c.loop-byte.invariant in
+    record {
+      events = byte_events (sound_state old) (sound_state new) old.lower new.lower bytes i c.loop-byte.events.items
+          c.take_byte.new.events.items _ inside took.events took.state took.lower so_far.events;
+      state = byte_state (sound_state old) (sound_state new) _ old.lower new.lower bytes i inside took.state took.lower so_far.state;
+      lower = byte_lower old.lower new.lower _ bytes i inside took.lower so_far.lower;
+      left = took.left ∙ so_far.left;
+      count = omega (arith, took.count, so_far.count);
+    }
+
+pub returns-clause-events : goal.returns-clause-events
+returns-clause-events c =
+    bytes_events (sound_state c.loop-byte.self) c.loop-byte.self.lower c.args.bytes.now c.loop-byte.byte-index
+    c.loop-byte.events.items _ c.loop-byte-test.false c.loop-byte.invariant.events
+
+pub returns-clause-state : goal.returns-clause-state
+returns-clause-state c =
+    bytes_state (sound_state c.loop-byte.self) _ c.loop-byte.self.lower c.args.bytes.now c.loop-byte.byte-index
+    c.loop-byte-test.false c.loop-byte.invariant.state
+
+pub returns-clause-lower : goal.returns-clause-lower
+returns-clause-lower c =
+    bytes_lower c.loop-byte.self.lower _ c.args.bytes.now c.loop-byte.byte-index c.loop-byte-test.false
+    c.loop-byte.invariant.lower
+
+pub loop-byte-init : goal.loop-byte-init
+loop-byte-init c = record { events = refl; state = refl; lower = refl; left = refl; count = omega arith }
+
+pub returns-in_err-take_byte-clause-over : goal.returns-in_err-take_byte-clause-over
+returns-in_err-take_byte-clause-over c =
+    let refusal = c.in_err-take_byte.field-0.0 in
+    refused_with c.from_residual.result refusal (RunsOver c.args.self.now.count (length c.args.bytes.now))
+    c.from_residual.ensures.1
+    (over_later c.args.self.now.count c.loop-byte.self.count c.loop-byte.byte-index (length c.args.bytes.now) refusal
+    c.loop-byte.invariant.count c.loop-byte-test.true c.in_err-take_byte.ensures.over)
