@@ -1,8 +1,9 @@
 -- What sound says.
-use Rattle.std.proofs.Common.{◌≡◌, ℕ, zero, suc, ◌-◌, ◌+◌, ◌<◌, ◌≤◌, ℤ, pos, neg_ℤ, ◌<ℤ◌, int_le, List, [], ◌∷◌, ◌++◌, Bool, true, false, Option, Some, None, cond, drop, get_or, length, map, set, take, refl, ap, sym, subst, ◌∙◌, append_assoc, append-nil, arith}
+use Rattle.std.proofs.Common.{◌≡◌, ℕ, zero, suc, ◌-◌, ◌+◌, ◌<◌, ◌≤◌, ℤ, pos, neg_ℤ, ◌<ℤ◌, int_le, List, [], ◌∷◌, ◌++◌, Bool, true, false, Option, Some, None, cond, drop, get_or, length, map, set, take, refl, ap, sym, subst, ◌∙◌, append_assoc, append-nil, length-take, arith}
 use Rattle.std.proofs.lemmas.List.{at_drop_all, at_drop_more, drop-set-lt, take_all, take_more_set}
+use Rattle.std.proofs.lemmas.Bool.Decides.{nat_tests}
 use Rattle.std.proofs.lemmas.Int.{ints}
-use Rattle.std.specs.Prelude.{Err, Ok, Result}
+use Rattle.std.specs.Prelude.{Err, Ok, Result, nat_lt}
 use Rattle.xb_vcd.specs.declared.event.Event.{Event}
 use Rattle.xb_vcd.specs.declared.event.Event.TheVariants.{At}
 use Rattle.xb_vcd.specs.declared.event.Refusal.{Refusal}
@@ -11,9 +12,9 @@ use Rattle.xb_vcd.specs.VcdChanges.{level_event}
 use Rattle.xb_samples.specs.declared.sound.Channel.{Channel}
 use Rattle.xb_samples.specs.declared.sound.Sound.{Sound}
 use Rattle.xb_samples.specs.Hysteresis.{IsHeard}
-use Rattle.xb_samples.specs.Pieces.{SamplesSay, after_piece, begins_later, piece_events, samples_events}
+use Rattle.xb_samples.specs.Pieces.{RunsOver, SamplesSay, after_piece, begins_later, piece_events, samples_events}
 use Rattle.xb_samples.specs.Samples.{rate_says}
-use Rattle.xb_samples.specs.Sounds.{SoundSays, SoundState, begun_sound, change_said, changes_said, left_after, level_by, levels_said, lower_left, own_bytes, samples_after, sample_of, samples_left, sound_begins, sound_reading, sound_says, sound_state, wire_after, wires_of}
+use Rattle.xb_samples.specs.Sounds.{SoundSays, SoundState, begun_sound, change_said, changes_said, left_after, level_by, levels_said, lower_left, own_bytes, samples_after, sample_of, samples_left, sound_begins, sound_reading, sound_says, sound_state, turned, wire_after, wires_of}
 use Rattle.xb_samples.proofs.WaitLemmas.{SayWhen, after-piece, piece-piece, piece_says}
 
 -- what is heard of a sample
@@ -320,3 +321,51 @@ rate_refuses channels high names wires rate refusal is h = λ samples other.
     (sound_begins rate own))) is
     ∙ ap (λ r. result_map (λ said. said ++ samples_events sound_reading (begun_sound channels high wires) samples)
     (result_map (λ said. said ++ At 0 ∷ levels_said 0 wires) r)) (h other)
+
+-- the own bytes of a sound are no more than all of them
+own-length : (left : Option ℕ) (bytes : List ℕ) → length (own_bytes left bytes) ≤ length bytes
+own-length None bytes = omega arith
+own-length (Some left) bytes = omega (arith, length-take left bytes)
+
+pub own_over :
+    (old new : Sound) (bytes own : List ℕ) (refusal : Refusal) → new ≡ record old { left = left_after old.left bytes }
+    → own ≡ own_bytes old.left bytes → RunsOver new.count (length own) refusal
+    → RunsOver old.count (length bytes) refusal
+own_over old new bytes own refusal is e over = λ other.
+    let ticks : new.count ≡ old.count = ap (λ (sound : Sound). sound.count) is in
+    let few : length own ≡ length (own_bytes old.left bytes) = ap length e in
+    omega (arith, over other, ticks, few, own-length old.left bytes)
+
+-- the next channel's turn, and the first one's
+pub next_turn :
+    (state : SoundState) → state.channel < state.channels → record state { channel = state.channel + 1 } ≡ turned state
+next_turn state h =
+    let yes : nat_lt state.channel state.channels ≡ true = grind (arith, nat_tests) in
+    ap (λ (b : Bool). cond b (record state { channel = state.channel + 1 }) (record state { channel = 1; count = state.count + 1 }))
+    (sym yes)
+
+pub first_turn :
+    (state : SoundState) (count : ℕ) → state.channels ≤ state.channel → count ≡ state.count + 1
+    → record state { channel = 1; count = count } ≡ turned state
+first_turn state count h e =
+    let no : nat_lt state.channel state.channels ≡ false = grind (arith, nat_tests) in
+    ap (λ (n : ℕ). record state { channel = 1; count = n }) e
+    ∙ ap (λ (b : Bool). cond b (record state { channel = state.channel + 1 }) (record state { channel = 1; count = state.count + 1 }))
+    (sym no)
+
+-- a lower byte, which says nothing yet
+pub lower_events :
+    (state : SoundState) (lower : Option ℕ) (byte : ℕ) (events : List Event) → lower ≡ None
+    → events ≡ events ++ piece_events sound_reading state (samples_after lower (byte ∷ []))
+lower_events state lower byte events is =
+    sym (append-nil events)
+    ∙ ap (λ (l : Option ℕ). events ++ piece_events sound_reading state (samples_after l (byte ∷ []))) (sym is)
+
+pub lower_state :
+    (state : SoundState) (lower : Option ℕ) (byte : ℕ) → lower ≡ None
+    → state ≡ after_piece sound_reading state (samples_after lower (byte ∷ []))
+lower_state state lower byte is =
+    ap (λ (l : Option ℕ). after_piece sound_reading state (samples_after l (byte ∷ []))) (sym is)
+
+pub lower_kept : (lower : Option ℕ) (byte : ℕ) → lower ≡ None → Some byte ≡ lower_left lower (byte ∷ [])
+lower_kept lower byte is = ap (λ (l : Option ℕ). lower_left l (byte ∷ [])) (sym is)

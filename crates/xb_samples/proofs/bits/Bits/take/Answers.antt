@@ -1,9 +1,11 @@
-use Rattle.std.proofs.Common.{◌≡◌, [], ◌∷◌, ◌++◌, ap, ◌∙◌}
+use Rattle.std.proofs.Common.{◌≡◌, ◌≤◌, ◌+◌, ◌^◌, [], ◌∷◌, ◌++◌, ap, length, ◌∙◌}
 use Rattle.std.proofs.lemmas.Result.{on_ok_weaker}
 use Rattle.xb_vcd.specs.declared.event.Event.TheVariants.{At}
-use Rattle.xb_samples.specs.Pieces.{piece_events}
+use Rattle.xb_vcd.specs.declared.event.Refusal.TheVariants.{TooLate}
+use Rattle.xb_samples.specs.Pieces.{RunsOver, piece_events}
 use Rattle.xb_samples.specs.Samples.{bits_reading, bits_state}
 use Rattle.xb_samples.proofs.BitLemmas.{bits_say_when}
+use Rattle.xb_samples.proofs.RefusedLemmas.{out_of_memory, refused_with}
 use Rattle.xb_samples.proofs.WaitLemmas.{piece_says}
 use Rattle.xb_samples.proofs.bits.Bits.take.Goals as goal
 
@@ -18,3 +20,16 @@ returns-clause-said c =
     (c.in_ok-take_samples.ensures.events ∙ ap (λ before. before ++ piece_events bits_reading old c.args.samples.now) c.requires)
     c.in_ok-take_samples.ensures.state told rest)
     c.say.ensures.said
+
+pub returns-clause-over : goal.returns-clause-over
+returns-clause-over c =
+    out_of_memory c.say.result (λ refusal. 2 ^ 64 ≤ c.args.self.now.count + length c.args.samples.now) c.say.ensures.only
+
+pub returns-clause-only : goal.returns-clause-only
+returns-clause-only c = out_of_memory c.say.result (λ refusal. refusal ≡ TooLate) c.say.ensures.only
+
+pub returns-in_err-take_samples-clause-over : goal.returns-in_err-take_samples-clause-over
+returns-in_err-take_samples-clause-over c =
+    refused_with c.from_residual.result c.in_err-take_samples.field-0.0
+    (RunsOver c.args.self.now.count (length c.args.samples.now)) c.from_residual.ensures.1
+    c.in_err-take_samples.ensures.over

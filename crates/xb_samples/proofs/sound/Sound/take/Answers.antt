@@ -1,10 +1,12 @@
-use Rattle.std.proofs.Common.{◌≡◌, ◌∷◌, ◌++◌, [], subst}
+use Rattle.std.proofs.Common.{◌≡◌, ◌≤◌, ◌+◌, ◌^◌, ◌∷◌, ◌++◌, [], length, subst}
 use Rattle.std.proofs.lemmas.Result.{on_ok_weaker}
 use Rattle.xb_vcd.specs.declared.event.Event.TheVariants.{At}
+use Rattle.xb_vcd.specs.declared.event.Refusal.TheVariants.{TooLate}
 use Rattle.xb_samples.specs.declared.sound.Sound.{Sound}
-use Rattle.xb_samples.specs.Pieces.{after_piece, piece_events}
+use Rattle.xb_samples.specs.Pieces.{RunsOver, after_piece, piece_events}
 use Rattle.xb_samples.specs.Sounds.{left_after, lower_left, samples_after, sound_reading, sound_state}
-use Rattle.xb_samples.proofs.SoundLemmas.{sound_takes}
+use Rattle.xb_samples.proofs.SoundLemmas.{own_over, sound_takes}
+use Rattle.xb_samples.proofs.RefusedLemmas.{out_of_memory, refused_with}
 use Rattle.xb_samples.proofs.sound.Sound.take.Goals as goal
 
 pub returns-clause-said : goal.returns-clause-said
@@ -25,3 +27,19 @@ returns-clause-said c =
     (λ (told : c.say.new.events.items ≡ mid ++ At new.count ∷ []).
     sound_takes old new c.args.bytes.now own before mid c.say.new.events.items c.own-own.ensures.own now.0 now.1 now.2 now.3 told)
     c.say.ensures.said
+
+pub returns-clause-over : goal.returns-clause-over
+returns-clause-over c =
+    out_of_memory c.say.result (λ refusal. 2 ^ 64 ≤ c.args.self.now.count + length c.args.bytes.now) c.say.ensures.only
+
+pub returns-clause-only : goal.returns-clause-only
+returns-clause-only c = out_of_memory c.say.result (λ refusal. refusal ≡ TooLate) c.say.ensures.only
+
+pub returns-in_err-take_bytes-clause-over : goal.returns-in_err-take_bytes-clause-over
+returns-in_err-take_bytes-clause-over c =
+    let old = c.args.self.now in
+    let bytes = c.args.bytes.now in
+    let refusal = c.in_err-take_bytes.field-0.0 in
+    refused_with c.from_residual.result refusal (RunsOver old.count (length bytes)) c.from_residual.ensures.1
+    (own_over old c.own-own.new.self bytes c.own-own.result.now refusal c.own-own.ensures.left c.own-own.ensures.own
+    c.in_err-take_bytes.ensures.over)
