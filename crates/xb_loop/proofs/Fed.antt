@@ -16,7 +16,7 @@ use Rattle.xb_loop.specs.declared.request.Request.{Request}
 use Rattle.xb_loop.specs.Feeding.{Delivers, Ends, Feeds, GoesOn, Listens, PutsDown, Starts, Writes}
 use Rattle.xb_loop.specs.Told.{bounces_told}
 use Rattle.xb_loop.specs.Watches.{watch_of}
-use Rattle.xb_loop.specs.Watching.{Watch, begun_watch, event_rows, heard_event, line_left, rows_of_events, text_of_events, watch_after}
+use Rattle.xb_loop.specs.Watching.{Watch, begun_watch, event_rows, heard_event, line_left, rows_of_events, silent_line, text_of_events, watch_after}
 
 -- one thing more that a recording says
 pub puts_next :
@@ -123,22 +123,23 @@ feeds_piece a b c input left rest output after further bytes piece fed read wrot
 
 -- the end of a recording, of which the rows that were left were written
 pub ends :
-    (intake after : Intake) (events : List Event) (said : Bool) (told rows written : List ℕ) (out got : Option (List ℕ))
+    (intake after : Intake) (events : List Event) (said : Bool) (told : List ℕ) (out got : Option (List ℕ))
     → RestSays intake.reader [] events
     → PutsDown (string_bytes intake.rows) (watch_of intake.lines) events (string_bytes after.rows) (watch_of after.lines)
-    → rows ≡ string_bytes after.rows ++ flat_map record_text (flat_map line_left (watch_of after.lines).lines)
-    → written ≡ rows → Appends out got written → told ≡ bounces_told said (watch_of after.lines)
+    → Appends out got (string_bytes after.rows ++ flat_map record_text (flat_map line_left (watch_of after.lines).lines))
+    → told ≡ bounces_told said (watch_of after.lines) → silent_line (watch_of after.lines).lines ≡ None
     → Ends intake said told out got
-ends intake after events said told rows written out got says down left same wrote heard = record {
+ends intake after events said told out got says down wrote heard levels = record {
   last = watch_of after.lines;
   heard = heard;
-  written = written;
+  levels = levels;
+  written = string_bytes after.rows ++ flat_map record_text (flat_map line_left (watch_of after.lines).lines);
   wrote = wrote;
   delivers = record {
     events = events;
     said = says;
     records =
-        same ∙ left ∙ down.0 []
+        down.0 []
         ∙ ap (λ them. string_bytes intake.rows ++ text_of_events (watch_of intake.lines) them) (append-nil events);
     known = down.1;
   };
@@ -188,6 +189,7 @@ listened request format a b c before beginning piece told input i left out heade
       events = said.0;
       said = said.1;
       printed = ap (λ r. codes "line,state,ms\n" ++ r) said.2;
+      levels = ap (λ w. silent_line w.lines) (sym said.3) ∙ ends.levels;
       heard = ends.heard ∙ ap (bounces_told request.said) said.3;
     } in
     let appended : Appends out ended ((before ++ codes "line,state,ms\n") ++ all) =

@@ -5,3 +5,4 @@ pub mod KeptTapes
 pub mod TallyLemmas
 pub mod ToldTexts
 pub mod Fed
+pub mod WordWires

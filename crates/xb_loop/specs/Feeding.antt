@@ -1,5 +1,5 @@
 -- What is written of a recording as it comes.
-use Rattle.std.specs.Prelude.{◌≡◌, ℕ, List, [], ◌++◌, Bool, Option, Some, IfNone, IfSome, string_bytes}
+use Rattle.std.specs.Prelude.{◌≡◌, ℕ, List, [], ◌++◌, Bool, Option, Some, None, IfNone, IfSome, string_bytes}
 use Rattle.std.specs.Io.KnownBytes.{Appends, Consumes}
 use Rattle.xb_rows.specs.WrittenRows.{text_of_rows}
 use Rattle.xb_vcd.specs.declared.event.Event.{Event}
@@ -10,7 +10,7 @@ use Rattle.xb_loop.specs.declared.feed.Intake.{Intake}
 use Rattle.xb_loop.specs.declared.request.Request.{Request}
 use Rattle.xb_loop.specs.Watches.{watch_of}
 use Rattle.xb_loop.specs.Told.{bounces_told}
-use Rattle.xb_loop.specs.Watching.{Watch, begun_watch, rows_of_events, text_of_events, watch_after}
+use Rattle.xb_loop.specs.Watching.{Watch, begun_watch, rows_of_events, silent_line, text_of_events, watch_after}
 
 -- of the bytes that follow, up to the end of the recording, these are written: the records of what they say; and
 -- this is known at the end
@@ -39,10 +39,11 @@ pub record Writes (old : Intake) (bytes : List ℕ) (new : Intake) (output after
   pub wrote : Appends output after written
   pub goes_on : GoesOn old bytes new written
 
--- a writer got all that was left, and this is told of the bounces
+-- a writer got all that was left, each wire has had a level, and this is told of the bounces
 pub record Ends (intake : Intake) (said : Bool) (told : List ℕ) (output after : Option (List ℕ)) : Type 0 where
   pub last : Watch
   pub heard : told ≡ bounces_told said last
+  pub levels : silent_line last.lines ≡ None
   pub written : List ℕ
   pub wrote : Appends output after written
   pub delivers : Delivers intake [] written last
@@ -56,7 +57,7 @@ pub record Feeds (old new : Intake) (input left output after : Option (List ℕ)
   pub goes_on : GoesOn old bytes new written
 
 -- the rows of a recording: of the form that is asked for, or else of that which it tells, exactly those of what the
--- recording says of the wires that are asked for; and what is told of the bounces
+-- recording says of the wires that are asked for, of which each has had a level; and what is told of the bounces
 pub record Listens (request : Request) (text rows told : List ℕ) : Type 0 where
   pub format : Format
   pub asked : IfSome request.format (λ asked. format ≡ asked)
@@ -64,6 +65,7 @@ pub record Listens (request : Request) (text rows told : List ℕ) : Type 0 wher
   pub events : List Event
   pub said : Says format request.wanted text events
   pub printed : rows ≡ text_of_rows (rows_of_events (begun_watch request.manner request.lines.items) events)
+  pub levels : silent_line (watch_after (begun_watch request.manner request.lines.items) events).lines ≡ None
   pub heard : told ≡ bounces_told request.said (watch_after (begun_watch request.manner request.lines.items) events)
 
 -- nothing has been read of a recording of this form

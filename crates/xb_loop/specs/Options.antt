@@ -1,15 +1,18 @@
 -- What the words of the command line ask for, as clap reads them.
-use Rattle.std.specs.Prelude.{ℕ, ◌≡◌, ◌==◌, ◌^◌, ◌-◌, ◌&&◌, List, [], ◌∷◌, Option, Some, None, bytes_eq, codes, length, nat_lt, not, option_and_then, option_map, if◌then◌else◌}
-use Rattle.std.specs.List.{after_first, before_first, filter}
+use Rattle.std.specs.Prelude.{ℕ, ◌≡◌, ◌≢◌, ◌⊎◌, ◌≤◌, ◌==◌, ◌^◌, ◌-◌, ◌&&◌, List, [], ◌∷◌, ◌++◌, Option, Some, None, bytes_eq, codes, length, map, nat_lt, not, option_and_then, option_map, if◌then◌else◌}
+use Rattle.std.specs.List.{after_first, before_first, filter, list_any}
 use Rattle.std.specs.Option.{unwrap_or}
+use Rattle.clap.specs.Faults.{fault_of}
 use Rattle.clap.specs.Simple.{matches_of}
 use Rattle.clap.specs.Walk.{Row, Text, all_of, first_of}
 use Rattle.xb_command.specs.Given.{IsTaken, ReadsFlag, ReadsNumber, given_by}
+use Rattle.xb_recording.specs.declared.format.Format.{Format}
 use Rattle.xb_recording.specs.Formats.{format_of}
 use Rattle.xb_recording.specs.Says.{names_in}
 use Rattle.xb_vcd.specs.Numbers.{number_of}
 use Rattle.xb_loop.specs.declared.request.Request.{Request}
 use Rattle.xb_loop.specs.declared.words.TheConstants.{SETTLE_MS, THRESHOLD_PERCENT}
+use Rattle.xb_loop.specs.declared.words.Wires.{Wires}
 use Rattle.xb_loop.specs.Rules.{command_of_words}
 
 -- the words without each `--line`, after which the wire of a line stands
@@ -25,14 +28,28 @@ wire_by number name =
 abbrev pub wire_of : Text → Option (ℕ × Text)
 wire_of word = wire_by (before_first (λ byte. byte == 61) word) (after_first (λ byte. byte == 61) word)
 
--- words name these lines and their wires, in order
-abbrev pub NameWires : List Text → List ℕ → List Text → Type 0
-NameWires [] [] [] = Unit {0}
-NameWires (word ∷ words) (line ∷ lines) (wire ∷ wires) = (wire_of word ≡ Some (line, wire)) × NameWires words lines wires
-NameWires [] [] (wire ∷ wires) = ⊥
-NameWires [] (line ∷ lines) wires = ⊥
-NameWires (word ∷ words) [] wires = ⊥
-NameWires (word ∷ words) (line ∷ lines) [] = ⊥
+-- the lines that are named and the names of their wires, in one order, after a word more; None where it is no wire, or
+-- its line is among them
+abbrev pub wire_added : List ℕ × List Text → Text → Option (List ℕ × List Text)
+wire_added wires word =
+    option_and_then (λ wire. if list_any (λ line. line == wire.0) wires.0 then None
+    else Some (wires.0 ++ wire.0 ∷ [], wires.1 ++ wire.1 ∷ [])) (wire_of word)
+
+abbrev pub wires_after : List ℕ × List Text → List Text → Option (List ℕ × List Text)
+wires_after wires [] = Some wires
+wires_after wires (word ∷ words) = option_and_then (λ more. wires_after more words) (wire_added wires word)
+
+abbrev pub wires_in : Wires → List ℕ × List Text
+wires_in wires = (wires.lines.items, map (λ name. name.now) wires.names.items)
+
+-- the form that is named, if one is; None where there is no such form
+abbrev pub form_named : Option Text → Option (Option Format)
+form_named None = Some None
+form_named (Some name) = option_map (λ format. Some format) (format_of name)
+
+-- so many parts of a hundred make a threshold
+abbrev pub IsPercent : ℕ → Type 0
+IsPercent percent = (1 ≤ percent) × (percent ≤ 99)
 
 -- the words that stand alone
 abbrev pub lone_words : List Row → List Text
@@ -45,14 +62,22 @@ ReadsOr text standard number = (given : Option ℕ) × ReadsNumber text given ×
 -- what clap matched says this
 pub record Say (rows : List Row) (request : Request) : Type 0 where
   pub table : option_map (λ name. name.now) request.table ≡ first_of (codes "table") rows
-  pub format : request.format ≡ option_and_then format_of (first_of (codes "format") rows)
+  pub format : form_named (first_of (codes "format") rows) ≡ Some request.format
   pub rate : ReadsNumber (given_by rows (codes "rate")) request.wanted.rate
   pub settle : ReadsOr (given_by rows (codes "settle")) SETTLE_MS request.manner.settle_ms
   pub tick : ReadsOr (given_by rows (codes "tick")) (2 ^ 32 - 1) request.manner.most_ms
   pub threshold : ReadsOr (given_by rows (codes "threshold")) THRESHOLD_PERCENT request.wanted.threshold.percent
   pub inverted : ReadsFlag (given_by rows (codes "inverted")) request.manner.inverted
   pub said : ReadsFlag (given_by rows (codes "said")) request.said
-  pub wires : NameWires (lone_words rows) request.lines.items (names_in request.wanted)
+  pub wires : wires_after ([], []) (lone_words rows) ≡ Some (request.lines.items, names_in request.wanted)
+
+-- what clap matched says nothing that there is: another form, a threshold that is none, a word that is no wire, or a
+-- line twice
+abbrev pub SayNothing : List Row → Type 0
+SayNothing rows =
+    (form_named (first_of (codes "format") rows) ≡ None)
+    ⊎ (((percent : ℕ) × ReadsOr (given_by rows (codes "threshold")) THRESHOLD_PERCENT percent × (IsPercent percent → ⊥))
+    ⊎ (wires_after ([], []) (lone_words rows) ≡ None))
 
 -- clap takes plain words, and they ask for this
 abbrev pub AsksPlainly : List Text → Request → Type 0
@@ -60,3 +85,10 @@ AsksPlainly words request = IsTaken command_of_words words × Say (matches_of co
 
 abbrev pub Asks : List Text → Request → Type 0
 Asks words request = AsksPlainly (plain_words words) request
+
+-- clap refuses plain words, a request for help too, or they say nothing that there is
+abbrev pub ArePlainlyRefused : List Text → Type 0
+ArePlainlyRefused words = (fault_of command_of_words words ≢ []) ⊎ SayNothing (matches_of command_of_words words)
+
+abbrev pub AreRefused : List Text → Type 0
+AreRefused words = ArePlainlyRefused (plain_words words)

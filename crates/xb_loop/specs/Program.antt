@@ -6,7 +6,7 @@ use Rattle.xb_command.specs.Telling.{Tells}
 use Rattle.xb_text.specs.Writing.{AppendsBeginning}
 use Rattle.xb_loop.specs.declared.request.Request.{Request}
 use Rattle.xb_loop.specs.Feeding.{ListensTo}
-use Rattle.xb_loop.specs.Options.{Asks}
+use Rattle.xb_loop.specs.Options.{AreRefused, Asks}
 use Rattle.xb_loop.specs.Tables.{IsBeforeRows}
 
 -- the program's name
@@ -38,5 +38,5 @@ pub record WritesRows (files : List ℕ → Option (List ℕ)) (words : List Tex
 -- what the program did with its words and its streams
 abbrev pub AttendsLoop : (List ℕ → Option (List ℕ)) → List Text → Streams → Streams → ℕ → Type 0
 AttendsLoop files words old new status =
-    Attends program usage_line (WritesRows files words old new) (Tells program None old.errors new.errors) (Unit {0})
-    old new status
+    Attends program usage_line (WritesRows files words old new) (Tells program None old.errors new.errors)
+    (AreRefused words) old new status

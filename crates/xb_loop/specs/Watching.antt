@@ -1,6 +1,6 @@
 -- The lines that are listened to, and the rows that a recording gives of them.
-use Rattle.std.specs.Prelude.{ℕ, ◌+◌, ◌-◌, ◌*◌, ◌/◌, max, List, [], ◌∷◌, ◌++◌, Bool, true, false, Option, Some, None, map, slice_get, slice_set}
-use Rattle.std.specs.List.{flat_map}
+use Rattle.std.specs.Prelude.{ℕ, ◌≡◌, ◌+◌, ◌-◌, ◌*◌, ◌/◌, ◌^◌, ◌<◌, max, List, [], ◌∷◌, ◌++◌, Bool, true, false, Option, Some, None, is_some, map, slice_get, slice_set, if◌then◌else◌}
+use Rattle.std.specs.List.{AllByRecursion, flat_map}
 use Rattle.std.specs.Option.{option_map_or}
 use Rattle.xb_model.specs.Rows.{LoopRow}
 use Rattle.xb_rows.specs.WrittenRows.{record_text}
@@ -11,6 +11,7 @@ use Rattle.xb_contact.specs.declared.level.Level.TheVariants.{Open, Closed}
 use Rattle.xb_loop.specs.declared.line.Manner.{Manner}
 use Rattle.xb_contact.specs.declared.scale.Scale.{Scale}
 use Rattle.xb_contact.specs.Listening.{begun_at, told_at_end}
+use Rattle.xb_contact.specs.Times.{CanCount}
 use Rattle.xb_loop.specs.Contacts.{Followed, CanHold, followed_of, given_until, held_until}
 use Rattle.xb_loop.specs.RowsOfHolds.{written_rows}
 use Rattle.xb_loop.specs.Tallies.{begun_tally}
@@ -79,6 +80,24 @@ abbrev pub line_changed : Manner → Scale → ℕ → Level → Watched → Wat
 line_changed manner scale tick level line =
     watched_of line.number (Some (contact_changed manner scale tick level line.contact))
 
+-- whether a contact can have its first level: its settle can be counted in ticks of 64 bits, and its ticks in ms
+abbrev pub CanBegin : Manner → Scale → Type 0
+CanBegin manner scale =
+    (0 < scale.ms) × (0 < scale.ticks) × (manner.settle_ms * scale.ticks + (scale.ms - 1) < 2 ^ 64) × CanCount scale 0
+
+abbrev pub ContactCanChange : Manner → Scale → Option Followed → Type 0
+ContactCanChange manner scale None = CanBegin manner scale
+ContactCanChange manner scale (Some contact) = Unit {0}
+
+abbrev pub CanChange : Manner → Scale → Watched → Type 0
+CanChange manner scale line = ContactCanChange manner scale line.contact
+
+-- whether the wire of a line can have a level: a tick is known to last some time
+abbrev pub CanChangeWire : Manner → Option Scale → ℕ → List Watched → Type 0
+CanChangeWire manner None wire lines = ⊥
+CanChangeWire manner (Some scale) wire lines =
+    (line : Watched) × (slice_get lines wire ≡ Some line) × CanChange manner scale line
+
 -- the level of a wire: a low one is a closed loop where it is inverted
 abbrev pub level_of : Bool → Bool → Level
 level_of true true = Open
@@ -123,6 +142,22 @@ heard_event watch (Ticks scale) = record watch { scale = Some scale }
 heard_event watch (At tick) = record watch { lines = all_held tick watch.lines; now = tick }
 heard_event watch (High wire) = level_heard watch watch.scale wire true
 heard_event watch (Low wire) = level_heard watch watch.scale wire false
+
+-- whether its time can be counted
+abbrev pub CanHear : Watch → Event → Type 0
+CanHear watch (Ticks scale) = Unit {0}
+CanHear watch (At tick) = AllByRecursion (CanReach tick) watch.lines
+CanHear watch (High wire) = CanChangeWire watch.manner watch.scale wire watch.lines
+CanHear watch (Low wire) = CanChangeWire watch.manner watch.scale wire watch.lines
+
+abbrev pub CanHearAll : Watch → List Event → Type 0
+CanHearAll watch [] = Unit {0}
+CanHearAll watch (event ∷ rest) = CanHear watch event × CanHearAll (heard_event watch event) rest
+
+-- the first line whose wire has had no level
+abbrev pub silent_line : List Watched → Option ℕ
+silent_line [] = None
+silent_line (line ∷ rest) = if is_some line.contact then silent_line rest else Some line.number
 
 -- the rows of what a recording says up to its end
 abbrev pub rows_of_events : Watch → List Event → List LoopRow

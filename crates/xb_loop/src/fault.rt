@@ -9,13 +9,7 @@ use xb_vcd::Refusal;
 
 /// Why no rows are made of a recording, or no further ones. What was written before stands.
 #[derive(Debug, Drop, Error)]
-pub enum LoopFault {
-    /// The file of the route table could not be read.
-    #[error("the route table could not be read")]
-    Table,
-    /// The route table is refused.
-    #[error("route table: {0}")]
-    Routes(RouteFault),
+pub enum RecordingFault {
     /// A text line, counted from 1, is refused; what it begins with.
     #[error("text line {0}: {1}: {2}")]
     Line(u64, Refusal, String),
@@ -42,6 +36,53 @@ pub enum LoopFault {
     NoMemory,
 }
 
+/// Why the program writes no deck, or no further rows of it.
+#[derive(Debug, Drop, Error)]
+pub enum LoopFault {
+    /// The file of the route table could not be read.
+    #[error("the route table could not be read")]
+    Table,
+    /// The route table is refused.
+    #[error("route table: {0}")]
+    Routes(RouteFault),
+    /// The rows of the recording have a fault.
+    #[error("{0}")]
+    Recording(RecordingFault),
+    /// Memory ran out.
+    #[error("out of memory")]
+    NoMemory,
+}
+
+impl From<AllocError> for RecordingFault {
+    ghost use Rattle.xb_loop.specs.declared.fault.RecordingFault.TheVariants.{NoMemory};
+
+    ghost from_gives = { λ _ e. e ≡ NoMemory };
+
+    fn from(_error: AllocError) -> RecordingFault {
+        RecordingFault::NoMemory
+    }
+}
+
+impl From<WriteFault> for RecordingFault {
+    ghost use Rattle.xb_loop.specs.declared.fault.RecordingFault.TheVariants.{Write};
+
+    ghost from_gives = { λ _ e. e ≡ Write };
+
+    fn from(_fault: WriteFault) -> RecordingFault {
+        RecordingFault::Write
+    }
+}
+
+impl From<RecordingFault> for LoopFault {
+    ghost use Rattle.xb_loop.specs.declared.fault.LoopFault.TheVariants.{Recording};
+
+    ghost from_gives = { λ fault e. e ≡ Recording fault };
+
+    fn from(fault: RecordingFault) -> LoopFault {
+        LoopFault::Recording(fault)
+    }
+}
+
 impl From<AllocError> for LoopFault {
     ghost use Rattle.xb_loop.specs.declared.fault.LoopFault.TheVariants.{NoMemory};
 
@@ -49,11 +90,5 @@ impl From<AllocError> for LoopFault {
 
     fn from(_error: AllocError) -> LoopFault {
         LoopFault::NoMemory
-    }
-}
-
-impl From<WriteFault> for LoopFault {
-    fn from(_fault: WriteFault) -> LoopFault {
-        LoopFault::Write
     }
 }

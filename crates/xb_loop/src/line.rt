@@ -1,9 +1,9 @@
 // A line that is listened to.
-ghost use Rattle.std.specs.Prelude.{◌≡◌, ◌++◌, ◌<◌, ◌↔◌, IfSome, IsSome, IsTrue, None, OnOk, string_bytes, true};
+ghost use Rattle.std.specs.Prelude.{◌≡◌, ◌++◌, ◌+◌, ◌-◌, ◌*◌, ◌^◌, ◌<◌, ◌↔◌, IfSome, IsSome, IsTrue, None, OnOk, string_bytes, true};
 ghost use Rattle.std.specs.List.{flat_map};
 ghost use Rattle.xb_rows.specs.WrittenRows.{record_text};
 ghost use Rattle.xb_loop.specs.Told.{bounces_heard};
-ghost use Rattle.xb_loop.specs.Watching.{CanReach, begun_contact, least_ticks, line_changed, line_held, line_left, line_rows, watched_of};
+ghost use Rattle.xb_loop.specs.Watching.{CanBegin, CanChange, CanReach, begun_contact, least_ticks, line_changed, line_held, line_left, line_rows, watched_of};
 
 use crate::contact::Contact;
 use crate::tally::Bounces;
@@ -43,6 +43,7 @@ impl Model for Line {
 fn ticks_of(scale: Scale, ms: u32) -> Option<u64>
     ensures value { IfSome result (λ ticks. ticks ≡ least_ticks scale ms) }
     ensures some { IfSome result (λ ticks. 0 < ticks) }
+    ensures can { 0 < scale.ms → ms * scale.ticks + (scale.ms - 1) < 2 ^ 64 → IsSome result }
 {
     if scale.ms == 0 {
         return None;
@@ -54,7 +55,8 @@ fn ticks_of(scale: Scale, ms: u32) -> Option<u64>
 
 // A contact that has its first level at this tick; `None` where no time can be counted.
 fn begun(manner: Manner, scale: Scale, tick: u64, level: Level) -> Option<Contact>
-    ensures { IfSome result (λ contact. contact ≡ begun_contact manner scale tick level) }
+    ensures contact { IfSome result (λ contact. contact ≡ begun_contact manner scale tick level) }
+    ensures can { CanBegin manner scale → IsSome result }
 {
     let least = ticks_of(scale, manner.settle_ms)?;
     if scale.ticks == 0 || !scale.can_count(0) {
@@ -100,7 +102,8 @@ impl Line {
 
     /// Its wire has a level from now on. It says false where no time can be counted.
     pub fn change(&mut self, manner: Manner, scale: Scale, tick: u64, level: Level) -> bool
-        ensures { result ≡ true → self.new ≡ line_changed manner scale tick level self.old }
+        ensures changed { result ≡ true → self.new ≡ line_changed manner scale tick level self.old }
+        ensures can { CanChange manner scale self.old → result ≡ true }
     {
         match &mut self.contact {
             Some(contact) => contact.change(level),

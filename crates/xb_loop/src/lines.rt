@@ -1,10 +1,10 @@
 // The lines that are listened to, and their rows.
-ghost use Rattle.std.specs.Prelude.{◌≡◌, ◌++◌, ◌↔◌, IfOk, IsTrue, OnOk, string_bytes, true};
+ghost use Rattle.std.specs.Prelude.{◌≡◌, ◌++◌, ◌↔◌, IfOk, IsTrue, OnOk, Some, string_bytes, true};
 ghost use Rattle.std.specs.List.{AllByRecursion, flat_map};
 ghost use Rattle.xb_rows.specs.WrittenRows.{record_text};
 ghost use Rattle.xb_loop.specs.Told.{lines_told};
 ghost use Rattle.xb_loop.specs.Watches.{watch_of};
-ghost use Rattle.xb_loop.specs.Watching.{CanReach, all_held, begun_watch, event_rows, heard_event, level_heard, level_of, line_left, rows_until, wire_changed};
+ghost use Rattle.xb_loop.specs.Watching.{CanChangeWire, CanHear, CanReach, all_held, begun_watch, event_rows, heard_event, level_heard, level_of, line_left, rows_until, silent_line, wire_changed};
 
 use crate::line::{Line, Manner};
 use crate::request::Request;
@@ -57,7 +57,8 @@ fn change_line(
     now: u64,
     level: Level,
 ) -> bool
-    ensures { result ≡ true → lines.new ≡ wire_changed manner scale now level wire lines.old }
+    ensures changed { result ≡ true → lines.new ≡ wire_changed manner scale now level wire lines.old }
+    ensures can { CanChangeWire manner (Some scale) wire lines.old → result ≡ true }
 {
     if wire >= lines.len() {
         return false;
@@ -111,6 +112,8 @@ impl Lines {
             ≡ string_bytes rows.old ++ flat_map record_text (rows_until tick (watch_of self.old).lines)) }
         ensures held { IfOk result (λ taken. taken ≡ true → watch_of self.new
             ≡ record (watch_of self.old) { lines = all_held tick (watch_of self.old).lines; now = tick }) }
+        ensures can { IfOk result (λ taken.
+            AllByRecursion (CanReach tick) (watch_of self.old).lines → taken ≡ true) }
     {
         if !can_all_reach(&self.lines, tick) {
             return Ok(false);
@@ -122,8 +125,10 @@ impl Lines {
 
     // A wire has a level from now on. It says false where the time cannot be counted.
     fn change(&mut self, wire: usize, is_high: bool) -> bool
-        ensures { result ≡ true → watch_of self.new
+        ensures changed { result ≡ true → watch_of self.new
             ≡ level_heard (watch_of self.old) (watch_of self.old).scale wire is_high }
+        ensures can { CanChangeWire (watch_of self.old).manner (watch_of self.old).scale wire
+            (watch_of self.old).lines → result ≡ true }
     {
         let Some(scale) = self.scale else {
             return false;
@@ -138,6 +143,7 @@ impl Lines {
             ≡ string_bytes rows.old ++ flat_map record_text (event_rows (watch_of self.old) event)) }
         ensures heard { IfOk result (λ taken. taken ≡ true
             → watch_of self.new ≡ heard_event (watch_of self.old) event) }
+        ensures can { IfOk result (λ taken. CanHear (watch_of self.old) event → taken ≡ true) }
     {
         match event {
             Event::Ticks(scale) => {
@@ -162,7 +168,9 @@ impl Lines {
     }
 
     /// The first line whose wire has had no level.
-    pub fn silent(&self) -> Option<u16> {
+    pub fn silent(&self) -> Option<u16>
+        ensures { result ≡ silent_line (watch_of self.entry.now).lines }
+    {
         for line in self.lines.iter() {
             if !line.has_level() {
                 return Some(line.number().get());
@@ -172,9 +180,9 @@ impl Lines {
     }
 
     /// The recording ends, and the records that are left of all lines are added.
-    pub fn end(mut self, rows: &mut String) -> Result<(), AllocError>
+    pub fn end(&mut self, rows: &mut String) -> Result<(), AllocError>
         ensures { OnOk result (string_bytes rows.new
-            ≡ string_bytes rows.old ++ flat_map record_text (flat_map line_left (watch_of self).lines)) }
+            ≡ string_bytes rows.old ++ flat_map record_text (flat_map line_left (watch_of self.old).lines)) }
     {
         end_all(&mut self.lines, rows)
     }

@@ -34,7 +34,7 @@ fn run<F: TableFiles, R: Read, W: Write>(
         (R.remaining recording.old) (W.contents out.old) (W.contents out.new)) }
 {
     let before = beginning_of(alloc, files, request.table)?;
-    listen(alloc, request, &before, recording, out)
+    listen(alloc, request, &before, recording, out).map_err(LoopFault::Recording)
 }
 
 /// Reads the words of the command line, the program's name first, and by them writes the loop rows of a

@@ -30,7 +30,8 @@ fn end_table(text: &mut Vec<u8>) -> Result<(), AllocError>
 
 // The beginning of a deck: a route table, which is judged, and the line that cuts it off.
 fn deck_beginning<F: TableFiles>(alloc: Global, files: &F, name: &str) -> Result<Vec<u8>, LoopFault>
-    ensures { IfOk result (λ text. IfSome (F.bytes files.now name.now) (λ table. text.items ≡ table_ended table)) }
+    ensures { IfOk result (λ text.
+        IfSome (F.bytes files.now name.now) (λ table. text.items ≡ table_ended table)) }
 {
     let Ok(mut text) = files.read(alloc, name) else {
         return Err(LoopFault::Table);

@@ -6,7 +6,7 @@ ghost use Rattle.xb_loop.specs.Tallies.{begun_tally, tally_after, with_run};
 use xb_contact::{Hold, Level};
 
 /// How many short runs were taken away of a contact, and how many ticks the longest had.
-#[derive(Clone, Copy, Debug, PartialEq, Eq)]
+#[derive(Clone, Copy)]
 pub struct Bounces {
     /// How many.
     pub count: u64,
@@ -20,7 +20,7 @@ const NO_BOUNCES: Bounces = Bounces {
 };
 
 /// The short runs of a contact that have ended, and its run under way.
-#[derive(Clone, Copy, Debug, PartialEq, Eq)]
+#[derive(Clone, Copy)]
 pub(crate) struct Tally {
     // From how many ticks on a run is none of them.
     least: u64,

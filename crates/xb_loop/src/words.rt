@@ -1,8 +1,8 @@
 // What the words of the command line ask for.
-ghost use Rattle.std.specs.Prelude.{◌≡◌, [], Some, IfOk, IfSome, OnOk, map, option_and_then, option_map};
+ghost use Rattle.std.specs.Prelude.{◌≡◌, [], IfErr, IfOk, None, OnOk, Some, map, option_map, unwrap_or};
 ghost use Rattle.xb_command.specs.Commands.{texts_of};
-ghost use Rattle.xb_recording.specs.Formats.{format_of};
-ghost use Rattle.xb_loop.specs.Options.{AsksPlainly, NameWires, Say, lone_words, plain_words, wire_of};
+ghost use Rattle.xb_loop.specs.declared.words.TheConstants.{THRESHOLD_PERCENT};
+ghost use Rattle.xb_loop.specs.Options.{ArePlainlyRefused, AsksPlainly, IsPercent, Say, SayNothing, form_named, plain_words, wire_added, wire_of, wires_after, wires_in};
 
 use crate::line::Manner;
 use crate::program::PROGRAM;
@@ -33,6 +33,13 @@ const OPTIONS: [(&str, Takes); 9] = [
     ("line", Takes::AllThatFollow),
 ];
 
+// The lines of the office that are listened to, and the names of their wires, in one order.
+#[derive(Drop)]
+struct Wires<'a> {
+    lines: Vec<LineNo>,
+    names: Vec<&'a str>,
+}
+
 /// The words of the command line, of which `--line` is taken away: the wire of a line stands after it, and is
 /// a word that stands alone.
 pub fn plain_words(alloc: Global, words: &[String]) -> Result<Vec<String>, AllocError>
@@ -49,7 +56,7 @@ pub fn plain_words(alloc: Global, words: &[String]) -> Result<Vec<String>, Alloc
 
 // The line of a word as `7=D0`, and the name of its wire.
 fn wire_of(word: &str) -> Option<(LineNo, &str)>
-    ensures { IfSome result (λ wire. wire_of word.now ≡ Some (wire.0, wire.1.now)) }
+    ensures { option_map (λ wire. (wire.0, wire.1.now)) result ≡ wire_of word.now }
 {
     let (number, name) = word.split_once('=')?;
     let number = number_of(number.as_bytes())?;
@@ -59,32 +66,48 @@ fn wire_of(word: &str) -> Option<(LineNo, &str)>
     Some((LineNo::new(number as u16)?, name))
 }
 
-// The lines of words and their wires, in order. No line may stand twice.
-fn add_wires<'a>(
-    words: &[&'a str],
-    lines: &mut Vec<LineNo>,
-    wires: &mut Vec<&'a str>,
-) -> Result<(), WordsFault>
-    ensures { lines.old.items ≡ [] → wires.old.items ≡ [] → OnOk result (NameWires
-        (map (λ word. word.now) words.now) lines.new.items (map (λ wire. wire.now) wires.new.items)) }
-{
-    for word in words {
+impl<'a> Wires<'a> {
+    // The wire of a word more. No line may stand twice.
+    fn add(&mut self, word: &'a str) -> Result<(), WordsFault>
+        ensures added { OnOk result (wire_added (wires_in self.old) word.now ≡ Some (wires_in self.new)) }
+        ensures refused { IfErr result (λ f. f ≡ WordsFault.Refused
+            → wire_added (wires_in self.old) word.now ≡ None) }
+    {
         let Some((line, name)) = wire_of(word) else {
             return Err(WordsFault::Refused);
         };
-        if lines.iter().any(|other| *other == line) {
+        if self.lines.contains(&line) {
             return Err(WordsFault::Refused);
         }
-        if lines.push(line).is_err() || wires.push(name).is_err() {
+        if self.lines.push(line).is_err() || self.names.push(name).is_err() {
             return Err(WordsFault::NoMemory);
         }
+        Ok(())
     }
-    Ok(())
+}
+
+// The lines of words and the names of their wires.
+fn wires_of<'a>(alloc: Global, words: &[&'a str]) -> Result<Wires<'a>, WordsFault>
+    ensures named { IfOk result (λ wires.
+        wires_after ([], []) (map (λ word. word.now) words.now) ≡ Some (wires_in wires)) }
+    ensures refused { IfErr result (λ f. f ≡ WordsFault.Refused
+        → wires_after ([], []) (map (λ word. word.now) words.now) ≡ None) }
+{
+    let mut wires = Wires {
+        lines: Vec::new(alloc),
+        names: Vec::new(alloc),
+    };
+    for word in words {
+        wires.add(word)?;
+    }
+    Ok(wires)
 }
 
 // The form that is named, if one is.
 fn asked_format(name: Option<&str>) -> Result<Option<Format>, WordsFault>
-    ensures { IfOk result (λ format. format ≡ option_and_then format_of (option_map (λ text. text.now) name.entry)) }
+    ensures named { IfOk result (λ format.
+        form_named (option_map (λ text. text.now) name.entry) ≡ Some format) }
+    ensures refused { IfErr result (λ f. form_named (option_map (λ text. text.now) name.entry) ≡ None) }
 {
     match name {
         None => Ok(None),
@@ -95,26 +118,29 @@ fn asked_format(name: Option<&str>) -> Result<Option<Format>, WordsFault>
     }
 }
 
-// What the words ask for, beside lines and wires.
-fn request_of<'a>(
-    words: &Words<'a>,
-    lines: Vec<LineNo>,
-    wires: Vec<&'a str>,
-) -> Result<Request<'a>, WordsFault>
-    requires { NameWires (lone_words words.now) lines.items (map (λ wire. wire.now) wires.items) }
-    ensures { IfOk result (λ request. Say words.now request) }
+// The threshold that is given, if one is.
+fn asked_threshold(percent: Option<u32>) -> Result<Threshold, WordsFault>
+    ensures given { IfOk result (λ threshold.
+        threshold.percent ≡ unwrap_or percent THRESHOLD_PERCENT) }
+    ensures refused { IfErr result (λ f. IsPercent (unwrap_or percent THRESHOLD_PERCENT) → ⊥) }
+{
+    Threshold::new(percent.unwrap_or(THRESHOLD_PERCENT)).ok_or(WordsFault::Refused)
+}
+
+// What the words ask for.
+fn request_of<'a>(alloc: Global, words: &Words<'a>) -> Result<Request<'a>, WordsFault>
+    ensures says { IfOk result (λ request. Say words.now request) }
+    ensures nothing { IfErr result (λ f. f ≡ WordsFault.Refused → SayNothing words.now) }
 {
     let format = asked_format(words.text("format"))?;
-    let percent = words.number("threshold").unwrap_or(THRESHOLD_PERCENT);
-    let Some(threshold) = Threshold::new(percent) else {
-        return Err(WordsFault::Refused);
-    };
+    let threshold = asked_threshold(words.number("threshold"))?;
+    let Wires { lines, names } = wires_of(alloc, words.texts("line").unwrap_or(&[]))?;
     Ok(Request {
         table: words.text("table"),
         format,
         lines,
         wanted: Wanted {
-            wires,
+            wires: names,
             rate: words.number("rate").map(|rate| u64::from(rate)),
             threshold,
         },
@@ -127,15 +153,13 @@ fn request_of<'a>(
     })
 }
 
-/// What the words ask for, the program's name first. Runs are given whole, unless a tick is given.
+/// What the words ask for, the program's name first. Runs are given whole, unless a tick is given. The words are
+/// refused where `clap` refuses them, there is no such form or threshold, or a word is no wire or names a line again.
 pub fn request_of_words<'a>(alloc: Global, words: &'a [String]) -> Result<Request<'a>, WordsFault>
-    ensures { IfOk result (λ request. AsksPlainly (texts_of words.entry.now) request) }
+    ensures asks { IfOk result (λ request. AsksPlainly (texts_of words.entry.now) request) }
+    ensures refused { IfErr result (λ f. f ≡ WordsFault.Refused
+        → ArePlainlyRefused (texts_of words.entry.now)) }
 {
     let words = read_words(alloc, PROGRAM, &OPTIONS, words)?;
-    let (mut lines, mut wires) = (Vec::new(alloc), Vec::new(alloc));
-    match words.texts("line") {
-        Some(given) => add_wires(given, &mut lines, &mut wires)?,
-        None => return Err(WordsFault::Refused),
-    }
-    request_of(&words, lines, wires)
+    request_of(alloc, &words)
 }

@@ -113,7 +113,7 @@ fn keyed_heard<R: Read, E: Write>(
 }
 
 /// Hears a sound, and compares its keyings with the keyed entries of the page in a file, entry by entry: `out` gets a
-/// line for each that was keyed and not heard, or heard and not keyed, and `err` one for each key that stands in no
+/// line for each that was keyed and not heard, or heard and not keyed, and `err` one for each key that is in no
 /// keying. `Ok` says that there is no difference. The page of what is heard is held until the end.
 pub fn compare<F: PageFiles, R: Read, W: Write, E: Write>(
     alloc: Global,

@@ -3,7 +3,7 @@ use crate::page::PageFault;
 use thiserror::Error;
 use xb_wav::{OpenFault, StreamFault, WavFault};
 
-/// Why a sound is not heard to its end. What was written before stands; on `Wav` that is nothing.
+/// Why a sound is not heard to its end. What was written before stays; on `Wav` that is nothing.
 #[derive(Clone, Copy, Debug, PartialEq, Eq, Error)]
 pub enum RxFault {
     /// A read of the sound failed, an interrupted one too.
@@ -21,7 +21,7 @@ pub enum RxFault {
     /// A write or the flush failed, or a write took no byte. The beginning of the page or of the lines was written.
     #[error("what was heard could not be written")]
     Write,
-    /// A key that stands in no keying could not be told of.
+    /// A key that is in no keying could not be told of.
     #[error("a key that belongs to no keying could not be told of")]
     Tell,
 }

@@ -23,7 +23,7 @@ pub(crate) fn is_st(key: Heard) -> bool
     is_same_pair(key.sight.pair, mf(Key::St))
 }
 
-/// Appends the line that tells of a key that stands in no keying.
+/// Appends the line that tells of a key that is in no keying.
 pub(crate) fn write_loose(out: &mut String, key: Heard) -> Result<(), AllocError>
     ensures { OnOk result (string_bytes out.new ≡ string_bytes out.old ++ loose_line key) }
 {

@@ -8,7 +8,7 @@ pub fn usage_names_each_option()
     ensures { UsageNamesEachOption }
 {}
 
-/// What is keyed is the page of what is heard, disturbed too: an entry for each keying, in order, and no key that stands
+/// What is keyed is the page of what is heard, disturbed too: an entry for each keying, in order, and no key that is
 /// in none.
 pub fn keyed_is_paged()
     ensures { KeyedIsPaged }

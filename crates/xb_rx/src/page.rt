@@ -22,7 +22,7 @@ pub(crate) enum PageFault {
     NoMemory,
     // The page could not be written.
     Write,
-    // A key that stands in no keying could not be told of.
+    // A key that is in no keying could not be told of.
     Tell,
 }
 
@@ -37,7 +37,7 @@ impl From<AllocError> for PageFault {
     }
 }
 
-/// A page that is written as keys end: of each keying its entry, and a line of errors for each key that stands in
+/// A page that is written as keys end: of each keying its entry, and a line of errors for each key that is in
 /// none. It holds the keys of one keying, up to `MOST_DIGITS` digits.
 #[derive(Drop)]
 pub(crate) struct Page {
@@ -123,7 +123,7 @@ impl Page {
     ghost use Rattle.xb_rx.specs.Begun.{IsBegun, broken, kept_after, step_of};
     ghost use Rattle.xb_rx.specs.Pages.{Ends, Writes, fresh_page, loose_lines, loose_rest, page_rest, paged};
 
-    /// A page on which nothing stands.
+    /// An empty page.
     pub(crate) fn new(alloc: Global, line: LineNo, trunk: Trunk) -> Page
         ensures { paged result ≡ fresh_page line trunk }
     {

@@ -53,7 +53,7 @@ fn answer<F: PageFiles, R: Read, W: Write, E: Write>(
 /// process:
 ///
 /// - `DONE`: the words ask for something, `out` got exactly the page of the sound's keyings, and `err` a line for each
-///   key that stands in none; or `out` got exactly a line for each key; or nothing, since there is no difference;
+///   key that is in none; or `out` got exactly a line for each key; or nothing, since there is no difference;
 /// - `FAULT`: `receive` or `compare` has a fault, which a difference is too, or memory ran out while the words were
 ///   read; `err` gets the fault as one line after such keys, and `out` got nothing, the beginning of the page or of the
 ///   lines, or the differences;

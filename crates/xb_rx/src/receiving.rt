@@ -58,7 +58,7 @@ fn start_of<R: Read>(input: Input, reader: &mut R) -> Result<Start, OpenFault>
 }
 
 /// Hears a sound, and writes what is asked for: the page of its keyings, an entry for each, from KP to ST, as it ends,
-/// and the totals, and to `err` a line for each key that stands in none; or a line for each key, as it ends. Memory
+/// and the totals, and to `err` a line for each key that is in none; or a line for each key, as it ends. Memory
 /// does not grow with the sound, which is read a few bytes at a time: hand it a reader with a buffer.
 ///
 /// On an `Err` the beginning of this was written.

@@ -1,10 +1,10 @@
-use Rattle.std.proofs.Common.{ℕ, List, ap, subst, ◌∙◌, arith, string_bytes, take}
+use Rattle.std.proofs.Common.{◌≡◌, ℕ, List, ap, subst, ◌∙◌, arith, string_bytes, take}
 use Rattle.std.specs.Io.KnownBytes.{Appends}
 use Rattle.std.proofs.KnownBytes.{Keeps-refl}
 use Rattle.clap.specs.Walk.{Text}
 use Rattle.xb_command.specs.Commands.{texts_of}
 use Rattle.xb_command.proofs.WordsTold.{TellsOfWords-attends}
-use Rattle.xb_loop.specs.Options.{AsksPlainly}
+use Rattle.xb_loop.specs.Options.{ArePlainlyRefused, AsksPlainly, plain_words}
 use Rattle.xb_loop.specs.Program.{program, usage_line}
 use Rattle.xb_loop.proofs.program.attend.Goals as goal
 
@@ -17,7 +17,7 @@ returns-in-Ok-run g c =
       statuses = omega arith;
       done = λ e. record {
         request = request;
-        asks = subst P (ap (λ words. texts_of words) c.deref.ensures.value ∙ c.in-Ok.ensures) c.in-Ok-request_of_words.ensures;
+        asks = subst P (ap (λ words. texts_of words) c.deref.ensures.value ∙ c.in-Ok.ensures) c.in-Ok-request_of_words.ensures.asks;
         told = string_bytes c.in-Ok-run.said;
         rows = c.in-Ok-run.ensures;
         errors = subst W c.as_bytes.ensures.value c.write_whole.ensures.beginning;
@@ -28,5 +28,7 @@ returns-in-Ok-run g c =
 
 pub returns : goal.returns
 returns g c =
-    TellsOfWords-attends program usage_line c.in-Err.fault _ _ _ (Keeps-refl _) (Keeps-refl _) (λ e. tt)
-    c.tell_words-in-Err.ensures
+    let plain : texts_of c.deref.result.now ≡ plain_words (texts_of c.args.words.now) =
+    ap (λ words. texts_of words) c.deref.ensures.value ∙ c.in-Ok.ensures in
+    TellsOfWords-attends program usage_line c.in-Err.fault _ _ _ (Keeps-refl _) (Keeps-refl _)
+    (λ refused. subst ArePlainlyRefused plain (c.in-Err.ensures.refused refused)) c.tell_words-in-Err.ensures

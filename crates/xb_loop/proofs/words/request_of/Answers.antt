@@ -1,17 +1,26 @@
-use Rattle.std.proofs.Common.{rules, ap, ◌∙◌}
-use Rattle.std.specs.Option.{option_and_then}
-use Rattle.xb_recording.specs.Formats.{format_of}
+use Rattle.std.proofs.Common.{rules, ap, inl, inr, refl, sym, ◌∙◌}
+use Rattle.std.proofs.lemmas.Result.{err_from_is_err_and}
+use Rattle.std.specs.Prelude.{unwrap_or}
+use Rattle.xb_loop.specs.declared.words.TheConstants.{THRESHOLD_PERCENT}
+use Rattle.xb_loop.specs.Options.{form_named}
 use Rattle.xb_loop.proofs.words.request_of.Goals as goal
 
-pub returns : goal.returns
-returns c = record {
+pub returns-in_err-threshold-clause-nothing : goal.returns-in_err-threshold-clause-nothing
+returns-in_err-threshold-clause-nothing c =
+    let p = err_from_is_err_and c.from_residual-in_err-threshold.result c.from_residual-in_err-threshold.ensures.1 in
+    let given = c.number.result in
+    rw p.1 (λ refused.
+    inr (inl (unwrap_or given THRESHOLD_PERCENT, (given, c.number.ensures, refl), c.in_err-threshold.ensures.refused)))
+
+pub returns-clause-says : goal.returns-clause-says
+returns-clause-says c = record {
   table = c.text-2.ensures;
-  format = c.in_ok-format.ensures ∙ ap (option_and_then format_of) c.text.ensures;
+  format = ap form_named (sym c.text.ensures) ∙ c.in_ok-format.ensures.named;
   rate = search rules;
-  settle = (c.number-3.result, c.number-3.ensures, c.unwrap_or.ensures);
-  tick = (c.number-4.result, c.number-4.ensures, c.unwrap_or-2.ensures);
-  threshold = (c.number.result, c.number.ensures, c.in-Some.ensures.value ∙ c.unwrap_or-percent.ensures);
+  settle = (c.number-3.result, c.number-3.ensures, c.unwrap_or-2.ensures);
+  tick = (c.number-4.result, c.number-4.ensures, c.unwrap_or-3.ensures);
+  threshold = (c.number.result, c.number.ensures, c.in_ok-threshold.ensures.given);
   inverted = c.flag.ensures;
   said = c.flag-2.ensures;
-  wires = c.requires;
+  wires = search rules;
 }

@@ -1,16 +1,21 @@
-use Rattle.std.proofs.Common.{List, subst}
-use Rattle.std.proofs.lemmas.Result.{IfOk-weaker}
-use Rattle.clap.specs.Walk.{Row}
-use Rattle.xb_command.specs.Commands.{texts_of}
-use Rattle.xb_loop.specs.Options.{AsksPlainly, Say}
+use Rattle.std.proofs.Common.{inl, inr, subst}
+use Rattle.std.proofs.lemmas.Result.{IfErr-weaker, IfOk-weaker, err_from_is_err_and}
+use Rattle.xb_loop.specs.Options.{Say, SayNothing}
 use Rattle.xb_loop.proofs.words.request_of_words.Goals as goal
 
-pub returns : goal.returns
-returns c =
-    let rows = c.in_ok-words.words in
-    IfOk-weaker c.request_of.result (Say rows) (AsksPlainly (texts_of c.args.words.now))
-    (λ request said. (
-      c.in_ok-words.ensures.taken,
-      (let P : List Row → Type 0 = λ given. Say given request in subst P c.in_ok-words.ensures.words said),
-    ))
-    c.request_of.ensures
+pub returns-in_err-words-clause-refused : goal.returns-in_err-words-clause-refused
+returns-in_err-words-clause-refused c =
+    let p = err_from_is_err_and c.from_residual.result c.from_residual.ensures.1 in
+    rw p.1 (λ refused. inl (c.in_err-words.ensures.refused (rw p.2 at refused)))
+
+pub returns-clause-asks : goal.returns-clause-asks
+returns-clause-asks c =
+    IfOk-weaker c.request_of.result _ _
+    (λ request says. (c.in_ok-words.ensures.taken, subst (λ rows. Say rows request) c.in_ok-words.ensures.words says))
+    c.request_of.ensures.says
+
+pub returns-clause-refused : goal.returns-clause-refused
+returns-clause-refused c =
+    IfErr-weaker c.request_of.result _ _
+    (λ fault none. λ refused. inr (subst SayNothing c.in_ok-words.ensures.words (none refused)))
+    c.request_of.ensures.nothing
