@@ -1,7 +1,7 @@
 // What the program makes of a recording.
 use std::alloc::Global;
 use std::io;
-use std::io::{ErrorKind, Read};
+use std::io::{ErrorKind, Read, Write};
 use std::process::Abort;
 use std::test::Fail;
 use test_kit::words_of;
@@ -36,6 +36,27 @@ pub struct Case<'a> {
     pub told: &'a [u8],
 }
 
+/// The status of the program for the words after its name and a recording, and what it tells.
+pub fn attended<R: Read, W: Write>(
+    alloc: Global,
+    words: &[&str],
+    reader: &mut R,
+    out: &mut W,
+) -> Result<(u8, Vec<u8>), Fail> {
+    let words = words_of(alloc, "mfloop", words)?;
+    let mut told = Vec::new(alloc);
+    let status = attend(alloc, &words, &Tables, reader, out, &mut told);
+    Ok((status, told))
+}
+
+/// Checks a status, and what is told.
+pub fn check_told(rt: &impl Abort, got: (u8, &[u8]), status: u8, told: &[u8], of: &[u8]) {
+    let (got_status, got_told) = got;
+    let (of, text) = (of.escape_ascii(), got_told.escape_ascii());
+    assert_eq!(rt; got_status, status, "{of}: {text}");
+    assert!(rt; got_told == told, "{of}: {text}");
+}
+
 /// Checks the status of a recording that is read so, what is printed of it, and what is told.
 pub fn check_reader<R: Read>(
     rt: &impl Abort,
@@ -44,26 +65,15 @@ pub fn check_reader<R: Read>(
     case: &Case<'_>,
     status: u8,
 ) -> Result<(), Fail> {
-    let words = words_of(alloc, "mfloop", case.words)?;
     let mut out = Vec::new(alloc);
-    let mut err = Vec::new(alloc);
-    let got = attend(alloc, &words, &Tables, reader, &mut out, &mut err);
-    let recording = case.recording.escape_ascii();
-    assert_eq!(rt;
-        got,
-        status,
-        "{words:?}, {recording}: {}",
-        err.escape_ascii()
-    );
-    assert!(rt;
-        out.as_slice() == case.rows,
-        "{words:?}: {}",
-        out.escape_ascii()
-    );
-    assert!(rt;
-        err.as_slice() == case.told,
-        "{words:?}: {}",
-        err.escape_ascii()
-    );
+    let (got, told) = attended(alloc, case.words, reader, &mut out)?;
+    check_told(rt, (got, &told), status, case.told, case.recording);
+    check_rows(rt, &out, case);
     Ok(())
+}
+
+// Checks what is printed.
+fn check_rows(rt: &impl Abort, out: &[u8], case: &Case<'_>) {
+    let of = case.recording.escape_ascii();
+    assert!(rt; out == case.rows, "{of}: {}", out.escape_ascii());
 }

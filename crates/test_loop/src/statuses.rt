@@ -1,13 +1,14 @@
 // Words that are refused, and streams that fail.
-use crate::attending::{Case, Tables, check_reader};
+use crate::attending::{Case, attended, check_reader, check_told};
 use std::io::ErrorKind;
 use std::test::Fail;
-use test_kit::{Halting, Short, words_of};
-use xb_loop::attend;
+use test_kit::{Halting, Short};
 
 const USAGE: &[u8] = b"mfloop: usage: mfloop [--line N=WIRE]... [--table FILE] \
 [--format vcd|sigrok|saleae|edges|gpiomon|bits|s16|wav] [--rate HZ] [--settle MS] [--tick MS] \
 [--threshold PERCENT] [--inverted] [--said]\n";
+
+const WORDS: &[&str] = &["--line", "7=1"];
 
 const RECORDING: &[u8] = b"0,0\n0.010,1\n0.030,1\n";
 
@@ -30,32 +31,26 @@ const REFUSED: &[&[&str]] = &[
 
 #[test]
 fn fails_where_the_recording_fails(rt: HostRuntime) -> Result<(), Fail> {
-    let words = words_of(rt.alloc(), "mfloop", &["--line", "7=1"])?;
     for place in 0..=RECORDING.len() {
         let mut reader = Halting::failing(RECORDING, 4, place, ErrorKind::Interrupted);
         let mut out = Vec::new(rt.alloc());
-        let mut err = Vec::new(rt.alloc());
-        let got = attend(rt.alloc(), &words, &Tables, &mut reader, &mut out, &mut err);
-        assert_eq!(rt; got, 1, "{place}");
+        let (got, told) = attended(rt.alloc(), WORDS, &mut reader, &mut out)?;
+        let line = b"mfloop: the recording could not be read\n";
+        check_told(&rt, (got, &told), 1, line, RECORDING);
         assert!(rt; ROWS.starts_with(&out), "{place}");
-        let line = b"mfloop: the recording could not be read\n".as_slice();
-        assert!(rt; err.as_slice() == line, "{place}");
     }
     Ok(())
 }
 
 #[test]
 fn writes_the_beginning_where_the_rows_fail(rt: HostRuntime) -> Result<(), Fail> {
-    let words = words_of(rt.alloc(), "mfloop", &["--line", "7=1"])?;
     for room in 0..ROWS.len() {
         let mut reader = RECORDING;
         let mut out = Short::new(rt.alloc(), room, Some(ErrorKind::Other));
-        let mut err = Vec::new(rt.alloc());
-        let got = attend(rt.alloc(), &words, &Tables, &mut reader, &mut out, &mut err);
-        assert_eq!(rt; got, 1, "{room}");
+        let (got, told) = attended(rt.alloc(), WORDS, &mut reader, &mut out)?;
+        let line = b"mfloop: the rows could not be written\n";
+        check_told(&rt, (got, &told), 1, line, RECORDING);
         assert!(rt; out.taken.as_slice() == &ROWS[..room], "{room}");
-        let line = b"mfloop: the rows could not be written\n".as_slice();
-        assert!(rt; err.as_slice() == line, "{room}");
     }
     Ok(())
 }
