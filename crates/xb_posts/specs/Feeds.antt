@@ -1,5 +1,5 @@
 -- What a feed holds, and what one turn of it does.
-use Rattle.std.specs.Prelude.{◌≡◌, ◌⊎◌, ℕ, ◌≤◌, Bool, true, false, if◌then◌else◌, List, [], ◌++◌, length, map, Option, Some, None, Result, Ok, Err, vec_len, vec_capacity}
+use Rattle.std.specs.Prelude.{◌≡◌, ◌⊎◌, ℕ, ◌<◌, ◌≤◌, Bool, true, false, if◌then◌else◌, List, [], ◌++◌, length, map, Option, Some, None, Result, Ok, Err, vec_len, vec_capacity}
 use Rattle.std.specs.declared.vec.Vec.{Vec}
 use Rattle.rtrb.specs.declared.producer.Producer.{Producer}
 use Rattle.rtrb.specs.Ring.{sent, known_free, ProducerLooked}
@@ -98,6 +98,10 @@ module _ {A P : Type 0} where
         (all : List LoopRow) × MayGive old.rest all stop
         × (sent new.producer ++ to_come new rows stop ≡ sent old.producer ++ to_come old all stop)
 
+  -- what is still held has not room for all of it
+  abbrev pub HoldsWhatDoesNotFit : FeedOf A P → Type 0
+  HoldsWhatDoesNotFit feed = (feed.held ≡ []) ⊎ (known_free feed.producer < length feed.held)
+
   -- the source gave these rows, and then met its stop
   abbrev pub MeetsStop : FeedOf A P → List LoopRow → Option RowFault → FeedOf A P → Type 0
   MeetsStop old taken stop new =
@@ -121,6 +125,7 @@ module _ {A P : Type 0} where
     pub sends : sent new.producer ≡ sent old.producer ++ items
     pub event : IsOnePush items
     pub held : SendsHeld old.held items new.held
+    pub fits : HoldsWhatDoesNotFit new
     pub rest : new.rest ≡ old.rest
     pub met : new.met ≡ old.met
     pub feeds_on : FeedsOn old new

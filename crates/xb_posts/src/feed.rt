@@ -56,10 +56,10 @@ impl<S: RowSource> Feed<S> {
     ghost use Rattle.xb_model.specs.Sources.{told};
     ghost use Rattle.xb_model.specs.declared.fault.RowFault.{RowFault as Fault};
     ghost use Rattle.xb_flow.specs.Flows.{flow_of};
-    ghost use Rattle.xb_flow.specs.declared.turn.Turn.TheVariants.{Ended};
+    ghost use Rattle.xb_flow.specs.declared.turn.Turn.TheVariants.{Moved, Ended};
     ghost use Rattle.xb_closes.specs.Fed.{fed};
     ghost use Rattle.xb_posts.specs.Fillings.{held_with};
-    ghost use Rattle.xb_posts.specs.Feeds.{FeedsOn, TakesAhead, MeetsStop, SendsOne, IsFeedTurn, HasFed, has_fed, to_come, result_of};
+    ghost use Rattle.xb_posts.specs.Feeds.{FeedsOn, TakesAhead, MeetsStop, HoldsWhatDoesNotFit, SendsOne, IsFeedTurn, HasFed, has_fed, to_come, result_of};
 
     /// A feed of this source, on an end that has sent nothing. It takes the room for the rows that it
     /// holds, and for what it knows of each line; `Err` where memory ran out.
@@ -160,14 +160,15 @@ impl<S: RowSource> Feed<S> {
     }
 
     /// Makes at most one event: sends a row, a close or the End, or all rows that it holds where they
-    /// are two or more and all fit. Before that it takes rows ahead from its source, but only where it
-    /// finds room. At the source's fault it returns that fault, once, and makes no event; later turns
-    /// send the rows that were taken before, and the End. It neither waits nor, but for its source,
-    /// takes memory.
+    /// are two or more and all fit. So the rows that it holds after an event do not all fit. Before an
+    /// event it takes rows ahead from its source, but only where it finds room. At the source's fault it
+    /// returns that fault, once, and makes no event; later turns send the rows that were taken before,
+    /// and the End. It neither waits nor, but for its source, takes memory.
     pub fn turn(&mut self) -> Result<Turn, RowFault>
         ensures end { SameProducer self.old.producer self.new.producer }
         ensures feeds_on { FeedsOn self.old self.new }
         ensures event { IsFeedTurn self.old result self.new }
+        ensures fits { (result ≡ Ok Moved) → HoldsWhatDoesNotFit self.new }
         ensures ended { (result ≡ Ok Ended) ↔ (has_fed self.old ≡ true) }
     {
         if let Course::Over(_) = self.course {

@@ -1,5 +1,5 @@
-use Rattle.std.proofs.Common.{rules, ◌≡◌, ◌≢◌, ◌≤◌, ◌+◌, ◌-◌, ◌^◌, min, ◌++◌, ◌∷◌, [], false, refl, sym, ap, ◌∙◌, inl, subst, length, append-nil, arith}
-use Rattle.rtrb.specs.Ring.{sent}
+use Rattle.std.proofs.Common.{rules, ◌≡◌, ◌≢◌, ◌<◌, ◌≤◌, ◌+◌, ◌-◌, ◌^◌, min, ◌++◌, ◌∷◌, [], false, refl, sym, ap, ◌∙◌, inl, inr, subst, length, append-nil, arith}
+use Rattle.rtrb.specs.Ring.{sent, known_free}
 use Rattle.xb_flow.specs.Flows.{has_end}
 use Rattle.xb_posts.specs.declared.filling.TheConstants.{AHEAD}
 use Rattle.xb_posts.specs.Feeds.{AreRows, has_fed}
@@ -43,6 +43,7 @@ returns-in-Ok-clause-sends g c =
       sends = e;
       event = one_push rows some few v.rows;
       held = inl (split, λ two. c.clear.ensures.items);
+      fits = inl c.clear.ensures.items;
       rest = refl;
       met = refl;
       feeds_on = feeds_on-sent _ _ going rows v.rows e split refl refl;
@@ -84,11 +85,15 @@ returns-in-Err-clause-sends g c =
     let are = rows_first x c.remove-first.new.self.items (subst AreRows split c.self.invariant.rows) in
     let e : sent c.push_reserved.new.self ≡ sent i.producer ++ x ∷ [] =
     c.push_reserved.ensures.sent.0 ∙ ap (λ zs. zs ++ x ∷ []) c.in-Err.ensures.full.0.1 in
+    let less : known_free c.push_entire_slice.new.self < length i.held.items = rw c.as_slice.ensures.value at c.in-Err.ensures.full.2 in
+    let full : known_free c.push_reserved.new.self < length c.remove-first.new.self.items =
+    omega (arith, less, c.push_reserved.ensures.sent.1, ap length split) in
     rw (← c.self.view_is) (record {
       items = x ∷ [];
       sends = e;
       event = inl refl;
       held = inl (split, λ two. absurd (omega (arith, two)));
+      fits = inr full;
       rest = refl;
       met = refl;
       feeds_on = feeds_on-sent _ _ going (x ∷ []) are.0 e split refl refl;

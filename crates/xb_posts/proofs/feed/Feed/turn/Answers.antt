@@ -8,6 +8,7 @@ returns-then-is_full g c = record {
   end = search rules;
   feeds_on = rw (← c.self.view_is) (feeds_on-looked _ _ refl c.is_full.ensures.looked.1);
   event = search rules;
+  fits = search rules;
   ended = search rules;
 }
 
@@ -16,6 +17,7 @@ returns-in_err-take_ahead g c = record {
   end = search rules;
   feeds_on = rw (← c.self.view_is) (feeds_on-after _ _ _ c.take_ahead.ensures.feeds_on refl c.is_full.ensures.looked.1);
   event = search rules;
+  fits = search rules;
   ended = search rules;
 }
 
@@ -28,6 +30,7 @@ returns-then-is_empty g c =
       end = search rules;
       feeds_on = rw (← c.self.view_is) (feeds_on-after _ _ _ (feeds_on-then _ _ _ c.take_ahead.ensures.feeds_on sends.feeds_on) refl c.is_full.ensures.looked.1);
       event = rw (← c.self.view_is) (moved _ now c.send_after_rows.new.self t.0 (ap sent c.take_ahead.ensures.producer ∙ c.is_full.ensures.looked.1) t.2 t.1 sends);
+      fits = λ moved. sends.fits;
       ended = search rules;
     }
 
@@ -40,5 +43,6 @@ returns-else-is_empty g c =
       end = search rules;
       feeds_on = rw (← c.self.view_is) (feeds_on-after _ _ _ (feeds_on-then _ _ _ c.take_ahead.ensures.feeds_on sends.feeds_on) refl c.is_full.ensures.looked.1);
       event = rw (← c.self.view_is) (moved _ now c.send_rows.new.self t.0 (ap sent c.take_ahead.ensures.producer ∙ c.is_full.ensures.looked.1) t.2 t.1 sends);
+      fits = λ moved. sends.fits;
       ended = search rules;
     }
