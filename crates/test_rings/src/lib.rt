@@ -13,6 +13,8 @@ mod gates;
 #[cfg(test)]
 mod gathers;
 #[cfg(test)]
+mod items;
+#[cfg(test)]
 mod looks;
 #[cfg(test)]
 mod numbered;

@@ -2,7 +2,8 @@
 ghost use Rattle.std.specs.Prelude.{◌≡◌, [], IfOk};
 ghost use Rattle.rtrb.specs.Ring.{received, IsPair};
 
-use crate::numbered::{Numbered, push};
+use crate::items::push;
+use crate::numbered::{Numbered, on};
 use crate::stages::Pairs;
 use rtrb::Consumer;
 use std::alloc::{AllocError, Global};
@@ -20,7 +21,7 @@ fn sent_one(
     let (mut items, orders) = link(alloc, 1)?;
     let (marks, sent) = link(alloc, 1)?;
     let mut station = Station::new(alloc, Pairs, orders, marks)?;
-    push(rt, &mut items, &[(5, 1)]);
+    push(rt, &mut items, Flow::Item(on(rt, 5, 1)));
     assert_eq!(rt; station.turn(), Turn::Moved);
     assert_eq!(rt; station.turn(), Turn::Moved);
     assert_eq!(rt; sent.cached_slots(), 0);

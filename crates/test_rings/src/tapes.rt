@@ -41,3 +41,20 @@ fn each_line_has_its_marks(rt: HostRuntime) -> Result<(), Fail> {
     assert_eq!(rt; tapes.marks(five), [refusal(1), refusal(3)].as_slice());
     Ok(())
 }
+
+// The End alone: nothing stands on any line, and a station that has ended serves no more.
+#[test]
+fn empty_tape(rt: HostRuntime) -> Result<(), Fail> {
+    let (mut marks, ring) = link(rt.alloc(), 1)?;
+    assert!(rt; marks.push(Flow::End).is_ok(), "room for the End");
+    let mut tape = TapeStation::new(rt.alloc(), ring)?;
+    moves(&rt, &mut tape);
+    assert_eq!(rt; tape.turn(), Ok(Turn::Ended));
+    assert!(rt; tape.serve(&rt, &NoGate).is_ok());
+    let (_ring, tapes) = tape.into_parts();
+    for number in 0..10_000 {
+        let line = LineNo::new(number).ok_or("a line")?;
+        assert!(rt; tapes.marks(line).is_empty(), "line {number}");
+    }
+    Ok(())
+}
