@@ -85,7 +85,7 @@ fn assert_outcomes(
 }
 
 // Signals of the one line, and what comes of their attempts.
-const RECORDS: [(&str, &[Signal], &[Outcome]); 7] = [
+const RECORDS: [(&str, &[Signal], &[Outcome]); 8] = [
     (
         "a number, a conversation, and a seizure that the close ends",
         &[
@@ -169,6 +169,7 @@ const RECORDS: [(&str, &[Signal], &[Outcome]); 7] = [
         &[Signal::Digit(10, false), TIME_OUT, RELEASE, CLOSE],
         &[],
     ),
+    ("a close alone", &[CLOSE], &[]),
 ];
 
 #[test]

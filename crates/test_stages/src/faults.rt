@@ -3,7 +3,7 @@ use crate::tables::check_fault;
 use std::alloc::{AllocError, Global};
 use std::process::Abort;
 use std::test::Fail;
-use test_kit::decks::joined;
+use test_kit::decks::{TABLE, joined};
 use xb_routes::{RouteFault, RouteTable};
 
 #[test]
@@ -63,14 +63,26 @@ const FAULTS: &[(&str, RouteFault)] = &[
         "[[route]]\ncode = \"23\"\ntrunk = 10000",
         RouteFault::Code(1),
     ),
+    (
+        "[[route]]\ncode = \"234\"\ntrunk = 10000\ndelete = 9",
+        RouteFault::Trunk(1),
+    ),
     ("[[route]]\ncode = \"0\"\ntrunk = -1", RouteFault::Trunk(1)),
     (
         "[[route]]\ncode = \"0\"\ntrunk = 9223372036854775807",
         RouteFault::Trunk(1),
     ),
     (
+        "[[route]]\ncode = \"234\"\ntrunk = 17\ndelete = 8",
+        RouteFault::Delete(1),
+    ),
+    (
         "[[route]]\ncode = \"0\"\ntrunk = 0\ndelete = 256",
         RouteFault::Delete(1),
+    ),
+    (
+        "[[route]]\ncode = \"0\"\ntrunk = 1\nprefix = \"123456789\"",
+        RouteFault::Prefix(1),
     ),
     (
         "[[route]]\ncode = \"0\"\ntrunk = 1\nprefix = \"12345678\\n\"",
@@ -91,10 +103,14 @@ const FAULTS: &[(&str, RouteFault)] = &[
 ];
 
 #[test]
-fn faults_of_tables(rt: HostRuntime) {
+fn faults_of_tables(rt: HostRuntime) -> Result<(), Fail> {
     for (text, fault) in FAULTS {
         check_fault(&rt, rt.alloc(), text, *fault);
     }
+    let fourth = "[[route]]\ncode = \"234\"\ntrunk = 5\n";
+    let text = joined(rt.alloc(), &[TABLE, fourth])?;
+    check_fault(&rt, rt.alloc(), &text, RouteFault::Twice(4));
+    Ok(())
 }
 
 // Checks that a route whose last key has this value has a wrong shape.

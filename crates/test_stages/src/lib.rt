@@ -7,6 +7,8 @@
 #[cfg(test)]
 mod attempts;
 #[cfg(test)]
+mod codes;
+#[cfg(test)]
 mod faults;
 #[cfg(test)]
 mod keyings;

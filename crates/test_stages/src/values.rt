@@ -81,6 +81,9 @@ fn patterns_of_digits(rt: HostRuntime) -> Result<(), Fail> {
     for count in [0, 11] {
         assert!(rt; !Relays::of_count(count, false).check(), "{count} pulses");
     }
+    let three = Relays::of_bits([true, true, true, false, false]);
+    assert!(rt; !three.check(), "three elements");
+    assert_eq!(rt; three.digit(), None, "three elements");
     Ok(())
 }
 
