@@ -15,7 +15,7 @@ const ONCE_MORE: Part = Part::Bytes(b"[[route]]\ncode = \"234\"\ntrunk = 5\n");
 
 // A code of six digits, and one with which it begins.
 const LONG_CODES: Part = Part::Bytes(
-    b"[[route]]\ncode = \"212555\"\ntrunk = 40\n[[route]]\ncode = \"212\"\ntrunk = 41\n",
+    b"[[route]]\ncode = \"212555\"\ntrunk = 40\ndelete = 3\n[[route]]\ncode = \"212\"\ntrunk = 41\n",
 );
 
 // A make of a day and one millisecond.

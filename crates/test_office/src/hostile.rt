@@ -27,8 +27,8 @@ fn push_part(deck: &mut Vec<u8>, part: Part, call: &[u8]) -> Result<(), AllocErr
     }
 }
 
-// The deck of its parts; `call` stands after the table of the operator call's deck.
-fn deck_of_parts(alloc: Global, parts: &[Part], call: &[u8]) -> Result<Vec<u8>, AllocError> {
+/// The deck of its parts; `call` stands after the table of the operator call's deck.
+pub fn deck_of_parts(alloc: Global, parts: &[Part], call: &[u8]) -> Result<Vec<u8>, AllocError> {
     let mut deck = Vec::new(alloc);
     for part in parts {
         push_part(&mut deck, *part, call)?;

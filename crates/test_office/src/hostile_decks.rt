@@ -181,6 +181,14 @@ pub const LONG: &[Hostile] = &[
 /// Bytes that stand where they should not, or where they may.
 pub const ODD: &[Hostile] = &[
     Hostile {
+        name: "one route, and no record",
+        deck: &[
+            Part::Bytes(b"[[route]]\ncode = \"234\"\ntrunk = 17\ndelete = 3\nprefix = \"56\"\n"),
+            HEADER,
+        ],
+        gives: NO_ENTRIES,
+    },
+    Hostile {
         name: "a contact after the close",
         deck: &[Part::Table, HEADER, Part::Bytes(b"7,C,0\n7,X,1\n")],
         gives: Err(OfficeFault::Rows(RowFault::Contact(2))),
