@@ -1,5 +1,5 @@
 /* Gives the library a deck, from standard input, row by row, and prints the page: the entries of each line, as
-   ./mfbank does. It takes plain decks: at most 16,777,216 bytes and 1,000,000 records, no CR, and after the line ---
+   mfbank does. It takes plain decks: at most 16,777,216 bytes and 1,000,000 records, no CR, and after the line ---
    no quotes, no empty lines and no byte order mark. Any other deck is refused by one line and status 1.
    Reads whole files only because a deck is one; the library has no need of it. */
 #include "mfchain.h"

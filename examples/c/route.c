@@ -1,4 +1,4 @@
-/* Prints what an office does with numbers, as ./mfroute does of those with no digits left over. Standard input has a
+/* Prints what an office does with numbers, as mfroute does of those with no digits left over. Standard input has a
    route table, a line ---, and after it a number in each line, of 1 to 10 digits and nothing else. Anything else is
    refused by one line and status 1. */
 #include "mfchain.h"

@@ -2,9 +2,9 @@
 
 usage: digits.py LIBRARY TABLE [--lamps] < CALLS
 
-TABLE is a file with a route table. CALLS are those of ./mfdial: a line and a number in each text line, as `7 234-5678`.
+TABLE is a file with a route table. CALLS are those of mfdial: a line and a number in each text line, as `7 234-5678`.
 Each call seizes its line, dials, and releases it. With --lamps, what the lamps of the line show is printed after each
-digit that an attempt keeps. The page is the one that ./mfdial and ./mfbank make of the same calls.
+digit that an attempt keeps. The page is the one that mfdial and mfbank make of the same calls.
 """
 import sys
 

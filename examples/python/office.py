@@ -4,7 +4,7 @@ usage: office.py LIBRARY          the dialling
        office.py LIBRARY DECK     the page of a deck
        office.py LIBRARY --time   how many nanoseconds a row takes
 
-The page is that of ./mfbank for plain decks, as of examples/c/deck.c: at most 16,777,216 bytes and 1,000,000 records,
+The page is that of mfbank for plain decks, as of examples/c/deck.c: at most 16,777,216 bytes and 1,000,000 records,
 no CR, and after the line --- no quotes, no empty lines and no byte order mark. Any other deck is refused by one line
 and status 1.
 """
