@@ -1,5 +1,5 @@
-// The chain on threads.
-use crate::decks::{are_marks, lines, table_and_rows};
+// The whole chain, on one thread and on several.
+use crate::decks::{PAGE, are_marks, lines, table_and_rows};
 use crate::outcome::Outcome;
 use crate::refusal::Aim;
 use std::alloc::Global;
@@ -11,7 +11,8 @@ use xb_ring::NoGate;
 use xb_routes::RouteTable;
 use xb_rows::{Scan, read_rows};
 use xb_run::{BankFault, run};
-use xb_tape::Tapes;
+use xb_serial::key_serial;
+use xb_tape::{Tapes, page};
 
 /// What a deck has.
 #[derive(Drop)]
@@ -42,6 +43,39 @@ fn rows_of_deck(alloc: Global) -> Option<Vec<Row>> {
 
 fn are_tapes(tapes: &Tapes) -> bool {
     lines().is_some_and(|(caller, seizing)| are_marks(tapes.marks(caller), tapes.marks(seizing)))
+}
+
+fn key_parts(alloc: Global, parts: &Parts, aim: Aim) -> Option<Outcome> {
+    aim.take(alloc)?;
+    Some(match key_serial(alloc, &parts.rows, &parts.table) {
+        Ok(tapes) => Outcome::ample_where(are_tapes(&tapes)),
+        Err(_) => Outcome::NoMemory,
+    })
+}
+
+/// Makes the tapes on one thread.
+pub fn try_serial(alloc: Global, aim: Aim) -> Option<Outcome> {
+    let parts = parts_of_deck(alloc)?;
+    key_parts(alloc, &parts, aim)
+}
+
+fn tapes_of_deck(alloc: Global) -> Option<Tapes> {
+    let parts = parts_of_deck(alloc)?;
+    key_serial(alloc, &parts.rows, &parts.table).ok()
+}
+
+fn print_tapes(alloc: Global, tapes: &Tapes, aim: Aim) -> Option<Outcome> {
+    aim.take(alloc)?;
+    Some(match page(alloc, tapes) {
+        Ok(text) => Outcome::ample_where(text.as_slice() == PAGE.as_bytes()),
+        Err(_) => Outcome::NoMemory,
+    })
+}
+
+/// Prints tapes.
+pub fn try_page(alloc: Global, aim: Aim) -> Option<Outcome> {
+    let tapes = tapes_of_deck(alloc)?;
+    print_tapes(alloc, &tapes, aim)
 }
 
 fn run_table<R: Threads + Wait + Clock + Sync>(

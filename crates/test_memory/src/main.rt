@@ -14,7 +14,9 @@ mod office;
 mod outcome;
 mod refusal;
 mod replays;
+mod rings;
 mod tapes;
+mod texts;
 
 use crate::calls::try_call;
 use crate::refusal::{Aim, asked_of, count_left};

@@ -1,5 +1,5 @@
 // A whole deck, and the program by its words.
-use crate::decks::{PAGE, deck};
+use crate::decks::{PAGE, deck, faulty_deck};
 use crate::held::Held;
 use crate::outcome::Outcome;
 use crate::refusal::Aim;
@@ -7,6 +7,7 @@ use std::alloc::{AllocError, Global};
 use std::sync::Wait;
 use std::thread::Threads;
 use std::time::Clock;
+use xb_model::RowFault;
 use xb_office::{DONE, FAULT, OfficeFault, attend, operate};
 
 /// Writes the page of the deck.
@@ -25,6 +26,24 @@ pub fn try_operate<R: Threads + Wait + Clock + Sync>(
         Err(OfficeFault::NoMemory) if is_empty => Outcome::NoMemory,
         Err(OfficeFault::Bank(_)) if is_empty => Outcome::NoThread,
         Err(_) => Outcome::Wrong,
+    })
+}
+
+/// Tells the fault of a deck.
+pub fn try_faulty<R: Threads + Wait + Clock + Sync>(
+    rt: &R,
+    alloc: Global,
+    aim: Aim,
+) -> Option<Outcome> {
+    aim.take(alloc)?;
+    let mut deck = faulty_deck();
+    let mut out = Held::new();
+    let operated = operate(rt, alloc, &mut deck, &mut out, 2, 4);
+    let is_empty = out.text().is_empty();
+    Some(match operated {
+        Err(OfficeFault::Rows(RowFault::Fields(3))) => Outcome::ample_where(is_empty),
+        Err(OfficeFault::NoMemory) => Outcome::no_memory_where(is_empty),
+        Ok(()) | Err(_) => Outcome::Wrong,
     })
 }
 

@@ -7,10 +7,12 @@ use crate::outcome::Outcome;
 use crate::refusal::Aim;
 use rtrb::{Consumer, Producer};
 use std::alloc::{AllocError, Global};
+use std::sync::Wait;
+use std::time::Clock;
 use test_kit::marks::{digit_tone, tone};
 use xb_model::{Key, LineNo, Mark, On, Trunk};
 use xb_posts::TapeStation;
-use xb_ring::{Flow, Turn, link};
+use xb_ring::{Flow, NoGate, Turn, link};
 
 // Room for all marks and the End.
 const RING: usize = 16;
@@ -111,6 +113,16 @@ fn turn_to_end(tape: &mut TapeStation) -> Option<bool> {
     None
 }
 
+/// Makes a tape station, which has no marks.
+pub fn try_new(alloc: Global, aim: Aim) -> Option<Outcome> {
+    let input = filled_ring(alloc)?;
+    aim.take(alloc)?;
+    Some(match TapeStation::new(alloc, input) {
+        Ok(tape) => Outcome::ample_where(count_marks(&tape) == 0 && !tape.has_ended()),
+        Err(_) => Outcome::NoMemory,
+    })
+}
+
 fn judge_turns(tape: &mut TapeStation, alloc: Global, aim: Aim) -> Option<Outcome> {
     aim.take(alloc)?;
     Some(match turn_to_end(tape) {
@@ -124,4 +136,33 @@ fn judge_turns(tape: &mut TapeStation, alloc: Global, aim: Aim) -> Option<Outcom
 pub fn try_turns(alloc: Global, aim: Aim) -> Option<Outcome> {
     let mut tape = filled_tape(alloc)?;
     judge_turns(&mut tape, alloc, aim)
+}
+
+fn judge_serve<R: Wait + Clock>(
+    rt: &R,
+    tape: &mut TapeStation,
+    alloc: Global,
+    aim: Aim,
+) -> Option<Outcome> {
+    aim.take(alloc)?;
+    Some(match tape.serve(rt, &NoGate) {
+        Ok(()) => Outcome::ample_where(has_all(tape)),
+        Err(_) => Outcome::no_memory_where(tape.has_ended()),
+    })
+}
+
+// Whether nothing is left in the ring of a tape station.
+fn is_drained(tape: TapeStation) -> bool {
+    let (mut input, _tapes) = tape.into_parts();
+    input.pop().is_err()
+}
+
+/// Serves a tape station, which also after a refusal takes all up to the End and the End.
+pub fn try_serve<R: Wait + Clock>(rt: &R, alloc: Global, aim: Aim) -> Option<Outcome> {
+    let mut tape = filled_tape(alloc)?;
+    let outcome = judge_serve(rt, &mut tape, alloc, aim);
+    match (outcome, is_drained(tape)) {
+        (Some(_), false) => Some(Outcome::Wrong),
+        (outcome, _) => outcome,
+    }
 }
