@@ -1,5 +1,6 @@
 -- The MF pairs, in Hz ("Notes on Distance Dialing").
-use Rattle.std.specs.Prelude.{ℕ, List, [], ◌∷◌, if◌then◌else◌, ◌==◌, slice_index_or}
+use Rattle.std.specs.Prelude.{ℕ, List, [], ◌∷◌, if◌then◌else◌, ◌==◌, ◌&&◌, slice_index_or, Option, Some, option_map}
+use Rattle.std.specs.List.{position}
 use Rattle.xb_model.specs.declared.key.Tone.{Tone}
 use Rattle.xb_model.specs.declared.key.Key.{Key}
 use Rattle.xb_model.specs.declared.key.Key.TheVariants.{Digit, Kp, St}
@@ -26,3 +27,15 @@ abbrev pub mf_pair : Key → Tone
 mf_pair (Digit d) = digit_pair d
 mf_pair Kp = pair 1100 1700
 mf_pair St = pair 1500 1700
+
+-- the digit of a pair
+abbrev pub digit_of_pair : Tone → Option ℕ
+digit_of_pair p =
+    position (λ d. ((digit_pair d).low == p.low) && ((digit_pair d).high == p.high))
+    (0 ∷ 1 ∷ 2 ∷ 3 ∷ 4 ∷ 5 ∷ 6 ∷ 7 ∷ 8 ∷ 9 ∷ [])
+
+-- the key of a pair
+abbrev pub key_of_pair : Tone → Option Key
+key_of_pair p =
+    if (p.low == 1100) && (p.high == 1700) then Some Kp
+    else (if (p.low == 1500) && (p.high == 1700) then Some St else option_map Digit (digit_of_pair p))

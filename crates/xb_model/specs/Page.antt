@@ -73,6 +73,14 @@ entry_text_by line n entry (Some refusal) = refused_text line n refusal.0 refusa
 abbrev pub entry_text : ℕ → ℕ → List Mark → List ℕ
 entry_text line n entry = entry_text_by line n entry (last_refusal entry)
 
+abbrev pub entry_body_by : List Mark → Option (Reason × ℕ) → List ℕ
+entry_body_by entry None = codes " KEYED" ++ marks_text entry
+entry_body_by entry (Some refusal) = codes " REFUSED " ++ reason_text refusal.0 ++ codes " " ++ decimal refusal.1
+
+-- what a line says of its entry after the line and the number
+abbrev pub entry_body : List Mark → List ℕ
+entry_body entry = entry_body_by entry (last_refusal entry)
+
 -- the entries of a line, from entry n on
 unfoldable pub entries_text : ℕ → ℕ → List (List Mark) → List ℕ
 entries_text line n [] = []

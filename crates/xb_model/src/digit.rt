@@ -1,5 +1,5 @@
 // Digits.
-ghost use Rattle.std.specs.Prelude.{◌≡◌, ℕ, ◌<◌, ◌↔◌, IsSome, IfSome};
+ghost use Rattle.std.specs.Prelude.{◌≡◌, ℕ, ◌<◌, ◌↔◌, IsSome, IfSome, decimal};
 ghost use Rattle.xb_model.specs.Digits.{digit_of_ascii};
 
 use std::marker::Model;
@@ -46,6 +46,24 @@ impl Digit {
         match byte {
             b'0'..=b'9' => Digit::new(byte - b'0'),
             _ => None,
+        }
+    }
+
+    /// The character that writes it, `0` to `9`.
+    pub fn name(self) -> &'static str
+        ensures { result.now ≡ decimal self }
+    {
+        match self.get() {
+            0 => "0",
+            1 => "1",
+            2 => "2",
+            3 => "3",
+            4 => "4",
+            5 => "5",
+            6 => "6",
+            7 => "7",
+            8 => "8",
+            _ => "9",
         }
     }
 

@@ -8,7 +8,8 @@
 //!   give what was put in. `Digit::from_ascii` gives a digit exactly of the characters 0 to 9.
 //! - `Relays::check` holds exactly where two elements operate, and `Relays::digit` is then their digit.
 //!   `Relays::of_count` gives the pattern of 1 to 10 good pulses, 10 being 0, and else no element.
-//! - `mf` is the pair of each key, `plan_len` the length of a number by its first digits.
+//! - `mf` is the pair of each key, `key_of` the key of a pair, `Key::name` the name that the page prints.
+//!   `plan_len` is the length of a number by its first digits.
 //!   `Limits::standard` are lawful limits, `Mark::ends` says where an entry ends, `Reason::word` is the
 //!   page's word.
 //! - `field_number` and `line_of` are the number and the line that a field of a text writes, and `None` for
@@ -57,7 +58,7 @@ pub use digits::{
 pub use fault::RowFault;
 pub use field::{FIELD_DIGITS, LINE_DIGITS, field_number, line_of};
 pub use image::image_of;
-pub use key::{Key, Tone, mf};
+pub use key::{Key, Tone, key_of, mf};
 pub use limits::{GREATEST_LIMIT, Limits};
 pub use line::{LINES, LineNo};
 pub use mark::{KEYING_MARKS, Mark};
