@@ -4,9 +4,9 @@
 //!   its entries. `push` puts a mark on its own line; where memory ran out, the tapes are as they were.
 //! - `page`: exactly the text of the page (`page_text`), whose totals count the entries that a refusal
 //!   ends, and the others.
-//! - The lines of a page by themselves: `write_entry` (`entry_text`), `write_totals` (`totals_text`), and
-//!   `write_mark_line` for a mark that is printed alone (`mark_line`). `is_refused` tells by which of the
-//!   two totals an entry is counted.
+//! - The lines of a page by themselves: `write_entry` (`entry_text`), what it writes after the line and the number
+//!   (`write_entry_body`), `write_totals` (`totals_text`), and `write_mark_line` for a mark that is printed alone
+//!   (`mark_line`). `is_refused` tells by which of the two totals an entry is counted.
 #![tactic(auto)]
 
 mod entries;
@@ -14,6 +14,8 @@ mod printing;
 mod tapes;
 mod tapes_iter;
 
-pub use printing::{is_refused, page, write_entry, write_mark_line, write_totals};
+pub use printing::{
+    is_refused, page, write_entry, write_entry_body, write_mark_line, write_totals,
+};
 pub use tapes::Tapes;
 pub use tapes_iter::EachTape;

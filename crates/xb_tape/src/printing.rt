@@ -1,6 +1,6 @@
 // The page: one line for each entry of the tapes, and the totals.
 ghost use Rattle.std.specs.Prelude.{◌≡◌, ◌<◌, ◌^◌, ◌++◌, OnOk, IfOk, count_by, string_bytes};
-ghost use Rattle.xb_model.specs.Page.{mark_text, marks_text, keyed_text, refused_text, entry_text};
+ghost use Rattle.xb_model.specs.Page.{mark_text, marks_text, entry_body, entry_text};
 ghost use Rattle.xb_model.specs.Page.{last_refusal, is_keyed, is_refused, tape_text, totals_text, page_text};
 ghost use Rattle.xb_model.specs.Tapes.{entries_of};
 ghost use Rattle.xb_tape.specs.MarkLines.{mark_line, word_before};
@@ -8,7 +8,7 @@ ghost use Rattle.xb_tape.specs.MarkLines.{mark_line, word_before};
 use crate::entries::entries;
 use crate::tapes::Tapes;
 use std::alloc::{AllocError, Global};
-use xb_model::{Key, LineNo, Mark, Reason, Tone};
+use xb_model::{LineNo, Mark, Reason, Tone};
 
 // How many entries of a line are keyed calls, and how many are refused ones.
 #[derive(Clone, Copy, Default)]
@@ -26,12 +26,10 @@ fn write_mark(out: &mut String, mark: &Mark) -> Result<(), AllocError>
             let number = trunk.get();
             write!(out, " {number:04}")
         }
-        Mark::Tone(Key::Digit(digit), Tone { low, high }) => {
-            let digit = digit.get();
-            write!(out, " {digit}:{low}+{high}")
+        Mark::Tone(key, Tone { low, high }) => {
+            let name = key.name();
+            write!(out, " {name}:{low}+{high}")
         }
-        Mark::Tone(Key::Kp, Tone { low, high }) => write!(out, " KP:{low}+{high}"),
-        Mark::Tone(Key::St, Tone { low, high }) => write!(out, " ST:{low}+{high}"),
         Mark::Refused(reason, heard) => {
             let word = reason.word();
             write!(out, " {word} {heard}")
@@ -59,43 +57,30 @@ fn last_refusal(entry: &[Mark]) -> Option<(Reason, u8)>
     }
 }
 
-// Writes entry `number` of a line, which refuses a call.
-fn write_refused(
-    out: &mut String,
-    line: LineNo,
-    number: usize,
-    reason: Reason,
-    heard: u8,
-) -> Result<(), AllocError>
-    ensures { OnOk result (string_bytes out.new
-        ≡ string_bytes out.old ++ refused_text line number reason heard) }
-{
-    let line = line.get();
-    let word = reason.word();
-    write!(out, "{line:04} {number} REFUSED {word} {heard}\n")
-}
-
-// Writes entry `number` of a line, a keyed call.
-fn write_keyed(
-    out: &mut String,
-    line: LineNo,
-    number: usize,
-    entry: &[Mark],
-) -> Result<(), AllocError>
-    ensures { OnOk result (string_bytes out.new
-        ≡ string_bytes out.old ++ keyed_text line number entry.now) }
-{
-    let line = line.get();
-    write!(out, "{line:04} {number} KEYED")?;
-    write_marks(out, entry)?;
-    out.push_str("\n")
-}
-
 /// Whether an entry is a refused call: a refusal is its last mark.
 pub fn is_refused(entry: &[Mark]) -> bool
     ensures { result ≡ is_refused entry.now }
 {
     last_refusal(entry).is_some()
+}
+
+/// Writes what the page says of an entry after the line and the number, as ` KEYED 0001 KP:1100+1700 ..` or
+/// ` REFUSED MUTILATED 1`, without the LF.
+///
+/// On an `Err`, which says that memory ran out, some of it may have been written.
+pub fn write_entry_body(out: &mut String, entry: &[Mark]) -> Result<(), AllocError>
+    ensures { OnOk result (string_bytes out.new ≡ string_bytes out.old ++ entry_body entry.now) }
+{
+    match last_refusal(entry) {
+        Some((reason, heard)) => {
+            let word = reason.word();
+            write!(out, " REFUSED {word} {heard}")
+        }
+        None => {
+            out.push_str(" KEYED")?;
+            write_marks(out, entry)
+        }
+    }
 }
 
 /// Writes entry `number` of a line, counted from 1, as the page has it: one printed line, ended by
@@ -111,10 +96,10 @@ pub fn write_entry(
     ensures { OnOk result (string_bytes out.new
         ≡ string_bytes out.old ++ entry_text line number entry.now) }
 {
-    match last_refusal(entry) {
-        Some((reason, heard)) => write_refused(out, line, number, reason, heard),
-        None => write_keyed(out, line, number, entry),
-    }
+    let line = line.get();
+    write!(out, "{line:04} {number}")?;
+    write_entry_body(out, entry)?;
+    out.push_str("\n")
 }
 
 // What stands before a mark that is printed by itself, and says what it begins.
