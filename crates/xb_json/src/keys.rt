@@ -6,7 +6,7 @@ ghost use Rattle.xb_json.specs.Keys.{digits_text, keys_of};
 
 use serde_json::Value;
 use std::alloc::{AllocError, Global};
-use xb_model::Digit;
+use xb_model::{Digit, Key};
 
 /// Digits, one after the other. `Err` says that memory ran out.
 pub fn text_of_digits(alloc: Global, digits: &[Digit]) -> Result<String, AllocError>
@@ -14,8 +14,7 @@ pub fn text_of_digits(alloc: Global, digits: &[Digit]) -> Result<String, AllocEr
 {
     let mut text = String::new(alloc);
     for digit in digits {
-        let value = digit.get();
-        write!(text, "{value}")?;
+        text.push_str(digit.name())?;
     }
     Ok(text)
 }
@@ -26,11 +25,10 @@ pub fn keys_of(alloc: Global, digits: &[Digit]) -> Result<Value, AllocError>
     ensures { IfOk result (λ keys. view keys ≡ array (items_of (keys_of digits.now))) }
 {
     let mut keys = Vec::new(alloc);
-    keys.push(Value::try_from_str(alloc, "KP")?)?;
+    keys.push(Value::try_from_str(alloc, Key::Kp.name())?)?;
     for digit in digits {
-        let value = digit.get();
-        keys.push(Value::from(format!(in alloc; "{value}")?))?;
+        keys.push(Value::try_from_str(alloc, digit.name())?)?;
     }
-    keys.push(Value::try_from_str(alloc, "ST")?)?;
+    keys.push(Value::try_from_str(alloc, Key::St.name())?)?;
     Ok(Value::from(keys))
 }

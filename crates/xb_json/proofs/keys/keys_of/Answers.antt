@@ -8,7 +8,7 @@ pub loop-digit-preserved : goal.loop-digit-preserved
 loop-digit-preserved c =
     let digits = c.args.digits.now in
     let i = c.loop-digit.digit-index in
-    let value = c.from.result in
+    let value = c.in_ok-try_from_str-2.field-0 in
     let items : c.push-in-loop-digit.new.self.items ≡ c.loop-digit.keys.items ++ value ∷ [] = search rules in
     let is : view value ≡ digit_key (get_or digits i c.digit-item.result) = search rules in
     ap (map view) items
@@ -17,12 +17,12 @@ loop-digit-preserved c =
 pub returns : goal.returns
 returns c =
     let digits = c.args.digits.now in
-    let value = c.in_ok-try_from_str-2.field-0 in
+    let value = c.in_ok-try_from_str-3.field-0 in
     let items : c.push-2.new.self.items ≡ c.loop-digit.keys.items ++ value ∷ [] = search rules in
-    let is : view value ≡ string (codes "ST") = c.in_ok-try_from_str-2.ensures in
+    let is : view value ≡ string (codes "ST") = search rules in
     let so_far : map view c.loop-digit.keys.items ≡ string (codes "KP") ∷ map digit_key digits
     = subst (λ front. map view c.loop-digit.keys.items ≡ string (codes "KP") ∷ map digit_key front)
     (take_all c.loop-digit.digit-index digits c.loop-digit-test.false) c.loop-digit.invariant in
     let keys = ap (λ keys. array (items_of keys))
     (ap (map view) items ∙ keys-end c.loop-digit.keys.items value digits so_far is) in
-    c.from-2.ensures ∙ keys
+    c.from.ensures ∙ keys
