@@ -1,14 +1,21 @@
 // The words of each fault, as the table of faults has them.
 use std::test::Fail;
+use xb_deck::TableFault;
 use xb_live::{EntriesFault, LiveFault};
 use xb_model::RowFault;
 use xb_routes::RouteFault;
 
 const WORDS: &[(LiveFault, &str)] = &[
-    (LiveFault::Read, "the deck could not be read"),
-    (LiveFault::NoCut, "the deck has no line ---"),
     (
-        LiveFault::TooLong,
+        LiveFault::Deck(TableFault::Read),
+        "the deck could not be read",
+    ),
+    (
+        LiveFault::Deck(TableFault::NoCut),
+        "the deck has no line ---",
+    ),
+    (
+        LiveFault::Deck(TableFault::TooLong(16_777_216)),
         "the route table is longer than 16777216 bytes",
     ),
     (
@@ -21,11 +28,14 @@ const WORDS: &[(LiveFault, &str)] = &[
     ),
     (LiveFault::TooMany, "more than 9223372036854775808 records"),
     (
-        LiveFault::Late(7, 3),
+        LiveFault::Entries(EntriesFault::Late(7, 3)),
         "line 7, entry 3: a time is past 9999-12-30T22:00:00.999999999Z",
     ),
-    (LiveFault::NoMemory, "out of memory"),
-    (LiveFault::Write, "the entries could not be written"),
+    (LiveFault::Deck(TableFault::NoMemory), "out of memory"),
+    (
+        LiveFault::Entries(EntriesFault::Write),
+        "the entries could not be written",
+    ),
 ];
 
 const OF_ENTRIES: &[(EntriesFault, &str)] = &[

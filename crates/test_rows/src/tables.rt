@@ -43,10 +43,11 @@ fn reads_no_byte_after_the_cut(rt: HostRuntime) {
 fn names_what_is_no_table(rt: HostRuntime) {
     let mut stream = DECK;
     assert!(rt;
-        read_table(rt.alloc(), &mut stream, TABLE.len() - 1).err() == Some(TableFault::TooLong)
+        read_table(rt.alloc(), &mut stream, TABLE.len() - 1).err()
+            == Some(TableFault::TooLong(TABLE.len() - 1))
     );
     let mut stream = b"a line that goes on beyond the limit".as_slice();
-    assert!(rt; read_table(rt.alloc(), &mut stream, 20).err() == Some(TableFault::TooLong));
+    assert!(rt; read_table(rt.alloc(), &mut stream, 20).err() == Some(TableFault::TooLong(20)));
     let mut stream = b"# no cut\n--".as_slice();
     assert!(rt; read_table(rt.alloc(), &mut stream, 20).err() == Some(TableFault::NoCut));
     let mut stream = b"---".as_slice();

@@ -3,7 +3,8 @@ use std::alloc::Global;
 use std::io::{self, ErrorKind};
 use std::test::Fail;
 use test_kit::words_of;
-use xb_join::{PageFiles, attend};
+use xb_command::Files;
+use xb_join::attend;
 
 const FIRST: &[u8] = b"0000 1 REFUSED UNKNOWN 3\n\
 0007 1 KEYED 0001 KP:1100+1700 0:1300+1500 ST:1500+1700\n\
@@ -45,7 +46,7 @@ const FILES: &[(&str, &[u8])] = &[
     ("no list", b"0000-4999.deck 0 4999 30\n5000-9999.deck 5000"),
 ];
 
-impl PageFiles for Folder {
+impl Files for Folder {
     fn read(&self, alloc: Global, name: &str) -> io::Result<Vec<u8>> {
         for (other, bytes) in FILES {
             if *other == name {

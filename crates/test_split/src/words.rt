@@ -1,6 +1,7 @@
 // The words of the faults of a split that no command line of `statuses.rt` has, as the table of faults has them.
 use std::alloc::{AllocError, Global};
 use std::test::Fail;
+use xb_deck::TableFault;
 use xb_model::LineNo;
 use xb_split::{PlanFault, PlanPartsFault, SplitFault};
 
@@ -18,7 +19,7 @@ fn words_of_faults(rt: HostRuntime) -> Result<(), Fail> {
     assert!(rt; says(alloc, &full, "line 9999 has more than a part may have")?);
     let no_room = SplitFault::Plan(PlanPartsFault::Table);
     assert!(rt; says(alloc, &no_room, "the route table is too long")?);
-    let long = SplitFault::LongTable;
+    let long = SplitFault::Table(TableFault::TooLong(16_777_216));
     assert!(rt;
         says(
             alloc,
@@ -26,7 +27,8 @@ fn words_of_faults(rt: HostRuntime) -> Result<(), Fail> {
             "the route table is longer than 16777216 bytes"
         )?
     );
-    assert!(rt; says(alloc, &SplitFault::Read, "the deck could not be read")?);
+    let read = SplitFault::Table(TableFault::Read);
+    assert!(rt; says(alloc, &read, "the deck could not be read")?);
     assert!(rt; says(alloc, &SplitFault::NoMemory, "out of memory")?);
     Ok(())
 }

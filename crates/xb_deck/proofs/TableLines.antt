@@ -174,10 +174,10 @@ long-line line rest no_end long = by (position ends_line (line ++ rest)) refl
 -- a table that goes on beyond the most bytes
 pub so_far-long : (most : ℕ) (deck : Option (List ℕ)) (table line : List ℕ) (left : Option (List ℕ))
     → IsReadSoFar deck table line left → HasNoEnd line → most + 4 < length table + length line
-    → IsTableFault most deck fault.TooLong
-so_far-long most None table line left h no_end long = tt
+    → IsTableFault most deck (fault.TooLong most)
+so_far-long most None table line left h no_end long = (refl, tt)
 so_far-long most (Some deck) table line None h no_end long = absurd h
-so_far-long most (Some deck) table line (Some rest) h no_end long = (omega (arith, h.1), subst IsOver (sym h.0) over)
+so_far-long most (Some deck) table line (Some rest) h no_end long = (refl, (omega (arith, h.1), subst IsOver (sym h.0) over))
   where
     IsOver : Option Parts → Type 0
     IsOver o = IfSome o (λ parts. most < length parts.table)
@@ -201,8 +201,8 @@ so_far-long most (Some deck) table line (Some rest) h no_end long = (omega (arit
 -- a cut after a table that is too long
 pub so_far-beyond : (most : ℕ) (deck : Option (List ℕ)) (table line : List ℕ) (old new : Option (List ℕ))
     → IsReadSoFar deck table line old → IsCutAfter table deck new → most < length table
-    → IsTableFault most deck fault.TooLong
-so_far-beyond most None table line old new h cut long = tt
+    → IsTableFault most deck (fault.TooLong most)
+so_far-beyond most None table line old new h cut long = (refl, tt)
 so_far-beyond most (Some deck) table line None new h cut long = absurd h
 so_far-beyond most (Some deck) table line (Some rest) None h cut long = absurd cut
-so_far-beyond most (Some deck) table line (Some rest) (Some left) h cut long = (omega (arith, h.1), rw cut long)
+so_far-beyond most (Some deck) table line (Some rest) (Some left) h cut long = (refl, (omega (arith, h.1), rw cut long))

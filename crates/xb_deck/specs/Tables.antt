@@ -21,7 +21,7 @@ IsCutAfter table (Some deck) (Some rows) = deck_parts deck ≡ Some (record { ta
 -- or a read failed, or memory ran out
 abbrev pub IsTableFault : ℕ → Option (List ℕ) → TableFault → Type 0
 IsTableFault most old fault.NoCut = IfSome old (λ deck. deck_parts deck ≡ None)
-IsTableFault most old fault.TooLong = IfSome old (λ deck.
+IsTableFault most old (fault.TooLong limit) = (limit ≡ most) × IfSome old (λ deck.
     (most < length deck) × IfSome (deck_parts deck) (λ parts. most < length parts.table))
 IsTableFault most old fault.Read = Unit {0}
 IsTableFault most old fault.NoMemory = Unit {0}

@@ -1,6 +1,7 @@
 // Why a deck has no contents.
 ghost use Rattle.std.specs.Prelude.{◌≡◌};
 
+use crate::table::TableFault;
 use thiserror::Error;
 use xb_model::RowFault;
 use xb_routes::RouteFault;
@@ -13,13 +14,13 @@ use xb_text::ReadFault;
 #[derive(Clone, Copy, Debug, PartialEq, Eq, Error)]
 pub enum DeckFault {
     /// A read of the deck failed, an interrupted one too.
-    #[error("the deck could not be read")]
+    #[error("{}", TableFault::Read)]
     Read,
     /// The deck has more than 16,777,216 bytes.
     #[error("the deck is longer than 16777216 bytes")]
     TooLong,
     /// No line of the deck is exactly `---`.
-    #[error("the deck has no line ---")]
+    #[error("{}", TableFault::NoCut)]
     NoCut,
     /// The route table is refused.
     #[error("route table: {0}")]
@@ -28,7 +29,7 @@ pub enum DeckFault {
     #[error("loop rows: {0}")]
     Rows(RowFault),
     /// Memory ran out.
-    #[error("out of memory")]
+    #[error("{}", RowFault::NoMemory)]
     NoMemory,
 }
 

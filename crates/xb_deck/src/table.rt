@@ -6,20 +6,26 @@ ghost use Rattle.xb_deck.specs.Tables.{IsCutAfter, IsTableFault, ReadsByte};
 use crate::deck::is_cut;
 use std::alloc::{AllocError, Global};
 use std::io::Read;
+use thiserror::Error;
+use xb_model::RowFault;
 
 // The most bytes of a line that is the cut.
 const CUT_BYTES: usize = 4;
 
 /// Why a stream gives no table.
-#[derive(Clone, Copy, Debug, PartialEq, Eq)]
+#[derive(Clone, Copy, Debug, PartialEq, Eq, Error)]
 pub enum TableFault {
     /// A read failed, an interrupted one too.
+    #[error("the deck could not be read")]
     Read,
-    /// The table is longer than the limit allows, or the stream is and has no line that cuts it.
-    TooLong,
+    /// The table is longer than so many bytes, the limit, or the stream is and has no line that cuts it.
+    #[error("the route table is longer than {0} bytes")]
+    TooLong(usize),
     /// No line of the stream is exactly `---`.
+    #[error("the deck has no line ---")]
     NoCut,
     /// Memory ran out.
+    #[error("{}", RowFault::NoMemory)]
     NoMemory,
 }
 
@@ -50,10 +56,10 @@ fn end_line(table: &mut Vec<u8>, line: &mut Vec<u8>) -> Result<(), AllocError>
 fn within(table: Vec<u8>, most: usize) -> Result<Vec<u8>, TableFault>
     ensures same { IfOk result (λ t. t.items ≡ table.items) }
     ensures most { IfOk result (λ t. length t.items ≤ most) }
-    ensures fault { IfErr result (λ f. (f ≡ TooLong) × (most < length table.items)) }
+    ensures fault { IfErr result (λ f. (f ≡ TooLong most) × (most < length table.items)) }
 {
     if table.len() > most {
-        Err(TableFault::TooLong)
+        Err(TableFault::TooLong(most))
     } else {
         Ok(table)
     }
@@ -102,5 +108,5 @@ pub fn read_table<R: Read>(
             }
         }
     }
-    Err(TableFault::TooLong)
+    Err(TableFault::TooLong(most))
 }

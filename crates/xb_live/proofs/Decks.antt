@@ -16,14 +16,14 @@ use Rattle.xb_live.specs.Clocks.{Style}
 use Rattle.xb_live.specs.declared.fault.LiveFault.{LiveFault}
 use Rattle.xb_live.specs.declared.fault.LiveFault.TheVariants as fault
 use Rattle.xb_live.specs.Decks.{Has}
-use Rattle.xb_live.specs.Faults.{IsOfRoutes, of_table}
+use Rattle.xb_live.specs.Faults.{IsOfRoutes}
 use Rattle.xb_live.specs.Runs.{EndsRows, Prints, PrintsRows, Runs}
 
 -- a deck that gives no table
 pub table-fault : (style : Style) (input out : Option (List ℕ)) (f : TableFault)
-    → IsTableFault MOST_DECK_BYTES input f → Runs style input (Err (of_table f)) out out
+    → IsTableFault MOST_DECK_BYTES input f → Runs style input (Err (fault.Deck f)) out out
 table-fault style input out table_fault.Read is = inl (Keeps-refl out)
-table-fault style input out table_fault.TooLong is = (Keeps-refl out, is)
+table-fault style input out (table_fault.TooLong most) is = (Keeps-refl out, is)
 table-fault style input out table_fault.NoCut is = (Keeps-refl out, is)
 table-fault style input out table_fault.NoMemory is = inl (Keeps-refl out)
 
@@ -41,41 +41,38 @@ routes-fault style input left out text f e cut is of =
 -- what is returned for rows of bytes that are not known
 of_unknown : (style : Style) (result : Result (Unit {0}) LiveFault) (old new : Option (List ℕ)) → EndsRows result → Runs style None result old new
 of_unknown style (Ok u) old new ends = tt
-of_unknown style (Err fault.Read) old new ends = inr tt
-of_unknown style (Err fault.NoCut) old new ends = absurd ends
-of_unknown style (Err fault.TooLong) old new ends = absurd ends
+of_unknown style (Err (fault.Deck table_fault.Read)) old new ends = inr tt
+of_unknown style (Err (fault.Deck table_fault.NoCut)) old new ends = absurd ends
+of_unknown style (Err (fault.Deck (table_fault.TooLong most))) old new ends = absurd ends
+of_unknown style (Err (fault.Deck table_fault.NoMemory)) old new ends = inr tt
 of_unknown style (Err (fault.Routes f)) old new ends = absurd ends
 of_unknown style (Err (fault.Rows f)) old new ends = tt
 of_unknown style (Err fault.TooMany) old new ends = tt
-of_unknown style (Err fault.NoMemory) old new ends = inr tt
-of_unknown style (Err (fault.Late line number)) old new ends = tt
-of_unknown style (Err fault.Write) old new ends = tt
+of_unknown style (Err (fault.Entries f)) old new ends = tt
 
 -- what is printed of rows ends them
 ends_rows : (style : Style) (table : Table) (rest : Rest) (result : Result (Unit {0}) LiveFault) (old new : Option (List ℕ)) → Prints style table rest result old new → EndsRows result
 ends_rows style table rest (Ok u) old new h = tt
-ends_rows style table rest (Err fault.Read) old new h = tt
-ends_rows style table rest (Err fault.NoCut) old new h = h
-ends_rows style table rest (Err fault.TooLong) old new h = h
+ends_rows style table rest (Err (fault.Deck table_fault.Read)) old new h = tt
+ends_rows style table rest (Err (fault.Deck table_fault.NoCut)) old new h = h
+ends_rows style table rest (Err (fault.Deck (table_fault.TooLong most))) old new h = h
+ends_rows style table rest (Err (fault.Deck table_fault.NoMemory)) old new h = tt
 ends_rows style table rest (Err (fault.Routes f)) old new h = h
 ends_rows style table rest (Err (fault.Rows f)) old new h = tt
 ends_rows style table rest (Err fault.TooMany) old new h = tt
-ends_rows style table rest (Err fault.NoMemory) old new h = tt
-ends_rows style table rest (Err (fault.Late line number)) old new h = tt
-ends_rows style table rest (Err fault.Write) old new h = tt
+ends_rows style table rest (Err (fault.Entries f)) old new h = tt
 
 -- what is returned for a deck that has these rows
 of_known : (style : Style) (deck : List ℕ) (table : Table) (rest : Rest) (result : Result (Unit {0}) LiveFault) (old new : Option (List ℕ)) → Has deck table rest → Prints style table rest result old new → Runs style (Some deck) result old new
 of_known style deck table rest (Ok u) old new has h = (table, (rest, has, h))
-of_known style deck table rest (Err fault.Read) old new has h = inr (table, (rest, has, h))
-of_known style deck table rest (Err fault.NoCut) old new has h = absurd h
-of_known style deck table rest (Err fault.TooLong) old new has h = absurd h
+of_known style deck table rest (Err (fault.Deck table_fault.Read)) old new has h = inr (table, (rest, has, h))
+of_known style deck table rest (Err (fault.Deck table_fault.NoCut)) old new has h = absurd h
+of_known style deck table rest (Err (fault.Deck (table_fault.TooLong most))) old new has h = absurd h
+of_known style deck table rest (Err (fault.Deck table_fault.NoMemory)) old new has h = inr (table, (rest, has, h))
 of_known style deck table rest (Err (fault.Routes f)) old new has h = absurd h
 of_known style deck table rest (Err (fault.Rows f)) old new has h = (table, (rest, has, h))
 of_known style deck table rest (Err fault.TooMany) old new has h = (table, (rest, has, h))
-of_known style deck table rest (Err fault.NoMemory) old new has h = inr (table, (rest, has, h))
-of_known style deck table rest (Err (fault.Late line number)) old new has h = (table, (rest, has, h))
-of_known style deck table rest (Err fault.Write) old new has h = (table, (rest, has, h))
+of_known style deck table rest (Err (fault.Entries f)) old new has h = (table, (rest, has, h))
 
 -- a deck whose table is read
 pub deck-run : (style : Style) (table : Table) (text : List ℕ) (input left : Option (List ℕ)) (result : Result (Unit {0}) LiveFault) (old new : Option (List ℕ))

@@ -24,7 +24,7 @@ use Rattle.xb_live.proofs.ToldRows.{told_of_rows-none}
 use Rattle.xb_live.proofs.Written.{first_of, first_of_first}
 use Rattle.xb_live.specs.declared.fault.LiveFault.{LiveFault}
 use Rattle.xb_live.specs.declared.fault.LiveFault.TheVariants as fault
-use Rattle.xb_live.specs.Faults.{IsOfRows, of_entries}
+use Rattle.xb_live.specs.Faults.{IsOfRows}
 use Rattle.xb_live.specs.Runs.{EndsRows, Prints, PrintsRows, rows_taken}
 
 -- of these rows some were taken, and what is left of them is still to come
@@ -87,7 +87,7 @@ module _ (count : ℕ) (style : Style) (office : Counted) (hearings : Hearings) 
   pub so_far-fault : (after : Counted) (heard : Hearings) (table : Table) (row : LoopRow) (new : Option (List ℕ)) (f : EntriesFault) (all now left : Option Rest)
       → after.live.table ≡ table → IsSoFar count style office hearings all now start out → GivesRead now (Ok (Some row)) left
       → ((rows : List LoopRow) → HasWritten style office hearings rows start out → Writes style after heard (rows ++ row ∷ []) (Err f) start new)
-      → IfSome all (λ rest. Prints style table rest (Err (of_entries f)) start new)
+      → IfSome all (λ rest. Prints style table rest (Err (fault.Entries f)) start new)
   so_far-fault after heard table row new f None now left same so gives more = tt
   so_far-fault after heard table row new f (Some rest) None left same so gives more = absurd so.1
   so_far-fault after heard table row new f (Some rest) (Some here) None same so gives more = absurd gives
@@ -99,7 +99,7 @@ module _ (count : ℕ) (style : Style) (office : Counted) (hearings : Hearings) 
       (λ g. absurd (cc (g.1)))
       gives
     where
-      at : (f : EntriesFault) → IsPrefix (taken ++ row ∷ []) (rows_taken rest.rows rest.stop) → Writes style after heard (taken ++ row ∷ []) (Err f) start new → Prints style table rest (Err (of_entries f)) start new
+      at : (f : EntriesFault) → IsPrefix (taken ++ row ∷ []) (rows_taken rest.rows rest.stop) → Writes style after heard (taken ++ row ∷ []) (Err f) start new → Prints style table rest (Err (fault.Entries f)) start new
       at entries_fault.NoMemory p got = subst (λ t. GotFirst style t (rows_taken rest.rows rest.stop) start new) same (got.0, first_along got.0 _ _ got.1 p, got.2)
       at (entries_fault.Late line number) p (earlier, (late, q, text, completes)) =
           subst (λ t. GotUntilLate style line number t (rows_taken rest.rows rest.stop) start new) same
@@ -111,12 +111,6 @@ module _ (count : ℕ) (style : Style) (office : Counted) (hearings : Hearings) 
   so_far-first rest table None same so = absurd so.1
   so_far-first rest table (Some left) same (taken, are, wrote, many) =
       (taken, (left.rows, sym are.0), subst (λ t. Appends start out (entries_text style t taken)) same wrote.text)
-
-  -- and they are the first of those that are taken
-  so_far-some : (rest : Rest) (table : Table) (now : Option Rest) → office.live.table ≡ table → IsSoFar count style office hearings (Some rest) now start out → GotFirst style table (rows_taken rest.rows rest.stop) start out
-  so_far-some rest table now same so =
-      let first = so_far-first rest table now same so in
-      (first.0, first_along first.0 rest.rows (rows_taken rest.rows rest.stop) first.1 (first_of_taken rest.rows rest.stop), first.2)
 
   -- there are as many rows as were taken, and maybe more
   pub so_far-many : (table : Table) (all now : Option Rest) → office.live.table ≡ table → 2 ^ 63 ≤ count → IsSoFar count style office hearings all now start out → IfSome all (λ rest. Prints style table rest (Err fault.TooMany) start out)
@@ -150,7 +144,7 @@ module _ (count : ℕ) (style : Style) (office : Counted) (hearings : Hearings) 
   so_far-stop table f e (Some rest) (Some here) None same so gives of = absurd gives
   so_far-stop table f e (Some rest) (Some here) (Some left) same (taken, are, wrote, many) gives of =
       ⊎_elim
-      (λ m. rw (m.1) (so_far-some rest table (Some here) same (taken, are, wrote, many)))
+      (λ m. rw (m.1) (so_far-first rest table (Some here) same (taken, are, wrote, many)))
       (λ other. ⊎_elim
       (λ r. rw (r.1) (so_far-first rest table (Some here) same (taken, are, wrote, many)))
       (λ o. rw (o.2) (stopped o.0 o.1 gives)) other)
@@ -170,7 +164,7 @@ module _ (count : ℕ) (style : Style) (office : Counted) (hearings : Hearings) 
 
 -- what the end gives is what is printed
 pub ends-printed : (style : Style) (table : Table) (start new : Option (List ℕ)) (f : EntriesFault) (all : Option Rest)
-    → IfSome all (λ rest. (rest.stop ≡ None) × Ends style table rest.rows (Err f) start new) → IfSome all (λ rest. Prints style table rest (Err (of_entries f)) start new)
+    → IfSome all (λ rest. (rest.stop ≡ None) × Ends style table rest.rows (Err f) start new) → IfSome all (λ rest. Prints style table rest (Err (fault.Entries f)) start new)
 ends-printed style table start new f None h = tt
 ends-printed style table start new entries_fault.NoMemory (Some rest) h =
     subst (λ stop. GotFirst style table (rows_taken rest.rows stop) start new) (sym h.0) h.1
@@ -188,11 +182,6 @@ pub known : (style : Style) (table : Table) (all : Option Rest) (result : Result
 known style table None result start out ends h = ends
 known style table (Some rest) result start out ends h = h
 
--- the faults of entries, and of rows, are such as end rows
-pub entries-end : (f : EntriesFault) → EndsRows (Err (of_entries f))
-entries-end entries_fault.NoMemory = tt
-entries-end (entries_fault.Late line number) = tt
-entries-end entries_fault.Write = tt
-
+-- the faults of rows are such as end rows
 pub rows-end : (f : RowFault) (e : LiveFault) → IsOfRows f e → EndsRows (Err e)
 rows-end f e of = ⊎_elim (λ m. rw (m.1) tt) (λ other. ⊎_elim (λ r. rw (r.1) tt) (λ o. rw (o.2) tt) other) of

@@ -4,7 +4,6 @@ use Rattle.xb_model.specs.declared.fault.RowFault.{RowFault}
 use Rattle.xb_model.specs.declared.fault.RowFault.TheVariants as row_fault
 use Rattle.xb_routes.specs.declared.fault.RouteFault.{RouteFault}
 use Rattle.xb_routes.specs.declared.fault.RouteFault.TheVariants as route_fault
-use Rattle.xb_deck.specs.declared.table.TableFault.{TableFault}
 use Rattle.xb_deck.specs.declared.table.TableFault.TheVariants as table_fault
 use Rattle.xb_live.specs.declared.fault.EntriesFault.{EntriesFault}
 use Rattle.xb_live.specs.declared.fault.EntriesFault.TheVariants as entries_fault
@@ -16,25 +15,14 @@ use Rattle.xb_live.specs.declared.fault.LiveFault.TheVariants as fault
 
 -- running out of memory is one fault, in whatever part
 abbrev pub IsOfRoutes : RouteFault → LiveFault → Type 0
-IsOfRoutes f e = ((f ≡ route_fault.NoMemory) × (e ≡ fault.NoMemory))
+IsOfRoutes f e = ((f ≡ route_fault.NoMemory) × (e ≡ fault.Deck table_fault.NoMemory))
     ⊎ ((f ≢ route_fault.NoMemory) × (e ≡ fault.Routes f))
 
 -- and so is a failed read
 abbrev pub IsOfRows : RowFault → LiveFault → Type 0
-IsOfRows f e = ((f ≡ row_fault.NoMemory) × (e ≡ fault.NoMemory))
-    ⊎ (((f ≡ row_fault.Read) × (e ≡ fault.Read))
+IsOfRows f e = ((f ≡ row_fault.NoMemory) × (e ≡ fault.Deck table_fault.NoMemory))
+    ⊎ (((f ≡ row_fault.Read) × (e ≡ fault.Deck table_fault.Read))
     ⊎ ((f ≢ row_fault.NoMemory) × (f ≢ row_fault.Read) × (e ≡ fault.Rows f)))
-
-abbrev pub of_entries : EntriesFault → LiveFault
-of_entries entries_fault.NoMemory = fault.NoMemory
-of_entries (entries_fault.Late line number) = fault.Late line number
-of_entries entries_fault.Write = fault.Write
-
-abbrev pub of_table : TableFault → LiveFault
-of_table table_fault.Read = fault.Read
-of_table table_fault.TooLong = fault.TooLong
-of_table table_fault.NoCut = fault.NoCut
-of_table table_fault.NoMemory = fault.NoMemory
 
 -- what is returned of an entry, where it is not printed: memory ran out, or one of its times is past the last instant
 abbrev pub IsOfEntry : Form → Told → EntriesFault → Type 0

@@ -14,6 +14,7 @@ use Rattle.xb_text.specs.Writing.{AppendsBeginning}
 use Rattle.xb_live.specs.Clocks.{Style}
 use Rattle.xb_live.specs.Texts.{entries_text, whole_text, with_closes}
 use Rattle.xb_live.specs.Writing.{GotAll, GotBeginning, GotFirst, GotUntilLate}
+use Rattle.xb_live.specs.declared.fault.EntriesFault.TheVariants as entries_fault
 use Rattle.xb_live.specs.declared.fault.LiveFault.{LiveFault}
 use Rattle.xb_live.specs.declared.fault.LiveFault.TheVariants as fault
 use Rattle.xb_live.specs.Decks.{Has}
@@ -31,22 +32,23 @@ abbrev pub Prints :
 Prints style table rest (Ok u) old new = (rest.stop ≡ None) × GotAll style table rest.rows old new
 Prints style table rest (Err (fault.Rows f)) old new =
     (rest.stop ≡ Some f) × Appends old new (entries_text style table rest.rows)
-Prints style table rest (Err fault.Write) old new =
+Prints style table rest (Err (fault.Entries entries_fault.Write)) old new =
     ((rest.stop ≡ None) × AppendsBeginning old new (whole_text style table rest.rows))
     ⊎ GotBeginning style table (rows_taken rest.rows rest.stop) old new
-Prints style table rest (Err fault.NoMemory) old new =
+Prints style table rest (Err (fault.Entries entries_fault.NoMemory)) old new =
     GotFirst style table (rows_taken rest.rows rest.stop) old new
-Prints style table rest (Err (fault.Late line number)) old new =
+Prints style table rest (Err (fault.Entries (entries_fault.Late line number))) old new =
     GotUntilLate style line number table (rows_taken rest.rows rest.stop) old new
-Prints style table rest (Err fault.Read) old new = GotFirst style table rest.rows old new
+Prints style table rest (Err (fault.Deck table_fault.Read)) old new = GotFirst style table rest.rows old new
+Prints style table rest (Err (fault.Deck table_fault.NoMemory)) old new = GotFirst style table rest.rows old new
 Prints style table rest (Err fault.TooMany) old new =
     (2 ^ 63 ≤ length rest.rows) × GotFirst style table rest.rows old new
 Prints style table rest (Err f) old new = ⊥
 
 -- what a run of rows may return: not what a deck without a table does
 abbrev pub EndsRows : Result (Unit {0}) LiveFault → Type 0
-EndsRows (Err fault.NoCut) = ⊥
-EndsRows (Err fault.TooLong) = ⊥
+EndsRows (Err (fault.Deck table_fault.NoCut)) = ⊥
+EndsRows (Err (fault.Deck (table_fault.TooLong most))) = ⊥
 EndsRows (Err (fault.Routes f)) = ⊥
 EndsRows result = Unit {0}
 
@@ -65,14 +67,12 @@ PrintsDeck style deck result old new =
 -- what is returned for a deck, and what the writer got of it
 abbrev pub Runs :
     Style → Option (List ℕ) → Result (Unit {0}) LiveFault → Option (List ℕ) → Option (List ℕ) → Type 0
-Runs style input (Err fault.NoCut) old new =
+Runs style input (Err (fault.Deck table_fault.NoCut)) old new =
     Keeps old new × IsTableFault MOST_DECK_BYTES input table_fault.NoCut
-Runs style input (Err fault.TooLong) old new =
-    Keeps old new × IsTableFault MOST_DECK_BYTES input table_fault.TooLong
+Runs style input (Err (fault.Deck (table_fault.TooLong most))) old new =
+    Keeps old new × IsTableFault MOST_DECK_BYTES input (table_fault.TooLong most)
+Runs style input (Err (fault.Deck f)) old new =
+    Keeps old new ⊎ IfSome input (λ deck. PrintsDeck style deck (Err (fault.Deck f)) old new)
 Runs style input (Err (fault.Routes f)) old new = Keeps old new × IfSome input (λ deck.
     (parts : Parts) × (deck_parts deck ≡ Some parts) × (table_of_text parts.table ≡ Err f))
-Runs style input (Err fault.NoMemory) old new =
-    Keeps old new ⊎ IfSome input (λ deck. PrintsDeck style deck (Err fault.NoMemory) old new)
-Runs style input (Err fault.Read) old new =
-    Keeps old new ⊎ IfSome input (λ deck. PrintsDeck style deck (Err fault.Read) old new)
 Runs style input result old new = IfSome input (λ deck. PrintsDeck style deck result old new)

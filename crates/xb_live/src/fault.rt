@@ -12,7 +12,7 @@ use xb_text::WriteFault;
 #[derive(Clone, Copy, Debug, PartialEq, Eq, Error)]
 pub enum EntriesFault {
     /// Memory ran out. Nothing was written of the entry.
-    #[error("out of memory")]
+    #[error("{}", RowFault::NoMemory)]
     NoMemory,
     /// A time of this entry of this line is past the last that there is, 9999-12-30T22:00:00.999999999Z. Nothing was
     /// written of the entry.
@@ -46,15 +46,9 @@ impl From<WriteFault> for EntriesFault {
 /// Why a run ends before its deck. What was written before stands.
 #[derive(Clone, Copy, Debug, PartialEq, Eq, Error)]
 pub enum LiveFault {
-    /// A read failed, an interrupted one too.
-    #[error("the deck could not be read")]
-    Read,
-    /// The deck ends, and no line of it is exactly `---`.
-    #[error("the deck has no line ---")]
-    NoCut,
-    /// The route table has more than 16,777,216 bytes, or the deck has and no line of it is exactly `---`.
-    #[error("the route table is longer than 16777216 bytes")]
-    TooLong,
+    /// The deck gives no text of a route table; or later too a read failed, or memory ran out.
+    #[error("{0}")]
+    Deck(TableFault),
     /// The route table is refused.
     #[error("route table: {0}")]
     Routes(RouteFault),
@@ -64,29 +58,18 @@ pub enum LiveFault {
     /// There are more rows than can be counted: more than 2^63.
     #[error("more than 9223372036854775808 records")]
     TooMany,
-    /// Memory ran out.
-    #[error("out of memory")]
-    NoMemory,
-    /// A time of this entry of this line is past the last that there is, 9999-12-30T22:00:00.999999999Z.
-    #[error("line {0}, entry {1}: a time is past 9999-12-30T22:00:00.999999999Z")]
-    Late(u16, usize),
-    /// A write or the flush failed, or a write took no byte.
-    #[error("the entries could not be written")]
-    Write,
+    /// Entries were not printed.
+    #[error("{0}")]
+    Entries(EntriesFault),
 }
 
 impl From<TableFault> for LiveFault {
-    ghost use Rattle.xb_live.specs.Faults.{of_table};
+    ghost use Rattle.xb_live.specs.declared.fault.LiveFault.TheVariants.{Deck};
 
-    ghost from_gives = { λ fault e. e ≡ of_table fault };
+    ghost from_gives = { λ fault e. e ≡ Deck fault };
 
     fn from(fault: TableFault) -> LiveFault {
-        match fault {
-            TableFault::Read => LiveFault::Read,
-            TableFault::TooLong => LiveFault::TooLong,
-            TableFault::NoCut => LiveFault::NoCut,
-            TableFault::NoMemory => LiveFault::NoMemory,
-        }
+        LiveFault::Deck(fault)
     }
 }
 
@@ -97,7 +80,7 @@ impl From<RouteFault> for LiveFault {
 
     fn from(fault: RouteFault) -> LiveFault {
         match fault {
-            RouteFault::NoMemory => LiveFault::NoMemory,
+            RouteFault::NoMemory => LiveFault::Deck(TableFault::NoMemory),
             fault => LiveFault::Routes(fault),
         }
     }
@@ -110,33 +93,30 @@ impl From<RowFault> for LiveFault {
 
     fn from(fault: RowFault) -> LiveFault {
         match fault {
-            RowFault::NoMemory => LiveFault::NoMemory,
-            RowFault::Read => LiveFault::Read,
+            RowFault::NoMemory => LiveFault::Deck(TableFault::NoMemory),
+            RowFault::Read => LiveFault::Deck(TableFault::Read),
             fault => LiveFault::Rows(fault),
         }
     }
 }
 
 impl From<EntriesFault> for LiveFault {
-    ghost use Rattle.xb_live.specs.Faults.{of_entries};
+    ghost use Rattle.xb_live.specs.declared.fault.LiveFault.TheVariants.{Entries};
 
-    ghost from_gives = { λ fault e. e ≡ of_entries fault };
+    ghost from_gives = { λ fault e. e ≡ Entries fault };
 
     fn from(fault: EntriesFault) -> LiveFault {
-        match fault {
-            EntriesFault::NoMemory => LiveFault::NoMemory,
-            EntriesFault::Late(line, number) => LiveFault::Late(line, number),
-            EntriesFault::Write => LiveFault::Write,
-        }
+        LiveFault::Entries(fault)
     }
 }
 
 impl From<AllocError> for LiveFault {
-    ghost use Rattle.xb_live.specs.declared.fault.LiveFault.TheVariants.{NoMemory};
+    ghost use Rattle.xb_deck.specs.declared.table.TableFault.TheVariants.{NoMemory};
+    ghost use Rattle.xb_live.specs.declared.fault.LiveFault.TheVariants.{Deck};
 
-    ghost from_gives = { λ _ e. e ≡ NoMemory };
+    ghost from_gives = { λ _ e. e ≡ Deck NoMemory };
 
     fn from(_error: AllocError) -> LiveFault {
-        LiveFault::NoMemory
+        LiveFault::Deck(TableFault::NoMemory)
     }
 }

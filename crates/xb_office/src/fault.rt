@@ -16,25 +16,25 @@ use xb_text::WriteFault;
 #[derive(Clone, Copy, Debug, PartialEq, Eq, Error)]
 pub enum OfficeFault {
     /// A read of the deck failed, an interrupted one too.
-    #[error("the deck could not be read")]
+    #[error("{}", DeckFault::Read)]
     Read,
     /// The deck has more than 16,777,216 bytes.
-    #[error("the deck is longer than 16777216 bytes")]
+    #[error("{}", DeckFault::TooLong)]
     DeckTooLong,
     /// No line of the deck is exactly `---`.
-    #[error("the deck has no line ---")]
+    #[error("{}", DeckFault::NoCut)]
     NoCut,
     /// The route table is refused.
-    #[error("route table: {0}")]
+    #[error("{}", DeckFault::Routes(*.0))]
     Routes(RouteFault),
     /// The loop rows are refused.
-    #[error("loop rows: {0}")]
+    #[error("{}", DeckFault::Rows(*.0))]
     Rows(RowFault),
     /// This post could not be started on a thread.
     #[error("the post {0} could not be started")]
     Bank(Post),
     /// Memory ran out.
-    #[error("out of memory")]
+    #[error("{}", DeckFault::NoMemory)]
     NoMemory,
     /// A write or the flush failed, or a write took no byte. The beginning of the page was written.
     #[error("the page could not be written")]

@@ -3,6 +3,7 @@ ghost use Rattle.std.specs.Prelude.{◌≡◌};
 
 use std::alloc::AllocError;
 use thiserror::Error;
+use xb_model::RowFault;
 
 /// Why a text is no page: the first fault, with its text line, counted from 1.
 #[derive(Clone, Copy, Debug, PartialEq, Eq, Error)]
@@ -36,7 +37,7 @@ pub enum PageFault {
     #[error("text stands after the totals of text line {0}")]
     GoesOn(usize),
     /// Memory ran out.
-    #[error("out of memory")]
+    #[error("{}", RowFault::NoMemory)]
     NoMemory,
 }
 

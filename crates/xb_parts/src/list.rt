@@ -6,7 +6,7 @@ ghost use Rattle.xb_text.specs.Pieces.{pieces, pieces_left};
 use crate::range::LineRange;
 use std::alloc::{AllocError, AllocFailed, Global};
 use thiserror::Error;
-use xb_model::line_of;
+use xb_model::{RowFault, line_of};
 use xb_text::first_piece;
 
 /// Why a text gives no ranges.
@@ -16,7 +16,7 @@ pub enum ListFault {
     #[error("it is no list of parts")]
     NoList,
     /// Memory ran out.
-    #[error("out of memory")]
+    #[error("{}", RowFault::NoMemory)]
     NoMemory,
 }
 

@@ -6,10 +6,10 @@ use Rattle.std.proofs.lemmas.Bool.Decides.{nat_tests}
 use Rattle.toml.specs.Data.{Data, Members, as_integer, as_table, get_member}
 use Rattle.xb_model.specs.declared.limits.Limits.{Limits}
 use Rattle.xb_model.specs.declared.limits.TheConstants.{GREATEST_LIMIT}
-use Rattle.xb_model.specs.LawfulLimits.{IsLimit, standard_limits}
-use Rattle.xb_routes.specs.declared.fault.RouteFault.{RouteFault}
-use Rattle.xb_routes.specs.declared.fault.RouteFault.TheVariants as fault
-use Rattle.xb_routes.specs.PlanAndLimits.{in_order, limit_at, limit_of_number, limits_of, limits_of_keys}
+use Rattle.xb_model.specs.LawfulLimits.{IsLawful, IsLimit, standard_limits}
+use Rattle.xb_routes.specs.declared.fault.LimitFault.{LimitFault}
+use Rattle.xb_routes.specs.declared.fault.LimitFault.TheVariants as broken
+use Rattle.xb_routes.specs.PlanAndLimits.{in_order, limit_at, limit_of_number, limits_by, limits_of, limits_of_keys}
 use Rattle.xb_routes.specs.Steps.{or_fault}
 use Rattle.xb_routes.specs.ByKey.{AreLimitsAt, AreLimitsOf, FirstOf, IsFaultOfKeys, IsFaultOfLimits, IsFaultOfOrder, IsLimitAt, IsWrong, StandInOrder}
 use Rattle.xb_routes.proofs.Steps.{both-option, either-option}
@@ -77,25 +77,25 @@ at-right held d right = by (limit_at held d) refl
     by (Some x) e = (x, e)
 
 -- a key that is wrong is the fault, or else a later one is
-module _ (k : ℕ) (held : Option Data) (d : ℕ) (next : ℕ → Result Limits RouteFault) (f : RouteFault) (Later : Type 0) where
+module _ (first : LimitFault) (held : Option Data) (d : ℕ) (next : ℕ → Result Limits LimitFault) (f : LimitFault) (Later : Type 0) where
   refused-at : ((x : ℕ) → limit_at held d ≡ Some x → next x ≡ Err f → Later)
-      → or_fault (fault.Limits k) (limit_at held d) next ≡ Err f → FirstOf f k (IsWrong held) Later
+      → or_fault first (limit_at held d) next ≡ Err f → FirstOf f first (IsWrong held) Later
   refused-at later e = by (limit_at held d) refl e
     where
-      by : (o : Option ℕ) → limit_at held d ≡ o → or_fault (fault.Limits k) o next ≡ Err f → FirstOf f k (IsWrong held) Later
+      by : (o : Option ℕ) → limit_at held d ≡ o → or_fault first o next ≡ Err f → FirstOf f first (IsWrong held) Later
       by None g h = inl (at-none held d g, cc)
       by (Some x) g h = inr ((λ w. absurd (cc (sym g ∙ at-wrong held d w))), later x g h)
 
   refuses-at : ((x : ℕ) → limit_at held d ≡ Some x → Later → next x ≡ Err f)
-      → FirstOf f k (IsWrong held) Later → or_fault (fault.Limits k) (limit_at held d) next ≡ Err f
+      → FirstOf f first (IsWrong held) Later → or_fault first (limit_at held d) next ≡ Err f
   refuses-at later (inl (wrong, same)) = rw (at-wrong held d wrong) (ap (λ g. Err g) (sym same))
   refuses-at later (inr (right, rest)) =
       let x = at-right held d right in
       rw x.1 (later x.0 x.1 rest)
 
 -- a test of two limits
-module _ (b : Bool) (g : RouteFault) (rest : Result Limits RouteFault) where
-  abbrev tested : Result Limits RouteFault
+module _ (b : Bool) (g : LimitFault) (rest : Result Limits LimitFault) where
+  abbrev tested : Result Limits LimitFault
   tested = if b then Err g else rest
 
   tested-ok : (limits : Limits) → tested ≡ Ok limits → (b ≡ false) × (rest ≡ Ok limits)
@@ -105,7 +105,7 @@ module _ (b : Bool) (g : RouteFault) (rest : Result Limits RouteFault) where
       by (inl t) = absurd (cc (sym (cond-true _ _ _ t) ∙ e))
       by (inr h) = (h, sym (cond-false _ _ _ h) ∙ e)
 
-  tested-err : (f : RouteFault) → tested ≡ Err f → ((b ≡ true) × (f ≡ g)) ⊎ ((b ≡ false) × (rest ≡ Err f))
+  tested-err : (f : LimitFault) → tested ≡ Err f → ((b ≡ true) × (f ≡ g)) ⊎ ((b ≡ false) × (rest ≡ Err f))
   tested-err f e = by (cases_Bool b)
     where
       by : (b ≡ true) ⊎ (b ≡ false) → ((b ≡ true) × (f ≡ g)) ⊎ ((b ≡ false) × (rest ≡ Err f))
@@ -161,31 +161,31 @@ in_order-ok l m e =
       },
     )
 
-in_order-err : (l : Limits) (f : RouteFault) → in_order l ≡ Err f → IsFaultOfOrder l f
+in_order-err : (l : Limits) (f : LimitFault) → in_order l ≡ Err f → IsFaultOfOrder l f
 in_order-err l f e = pulses (tested-err _ _ _ f e)
   where
-    last : (rest : Result Limits RouteFault) → ((nat_le l.timeout l.pause ≡ true) × (f ≡ fault.Limits 10)) ⊎ ((nat_le l.timeout l.pause ≡ false) × (Ok l ≡ Err f))
-        → (l.timeout ≤ l.pause) × (f ≡ fault.Limits 10)
+    last : (rest : Result Limits LimitFault) → ((nat_le l.timeout l.pause ≡ true) × (f ≡ broken.PauseNotUnderTimeout)) ⊎ ((nat_le l.timeout l.pause ≡ false) × (Ok l ≡ Err f))
+        → (l.timeout ≤ l.pause) × (f ≡ broken.PauseNotUnderTimeout)
     last rest (inl (t, same)) = (is_most _ _ t, same)
     last rest (inr (t, h)) = absurd (cc h)
 
-    makes : ((nat_lt l.pause l.make_min ≡ true) × (f ≡ fault.Limits 9))
-        ⊎ ((nat_lt l.pause l.make_min ≡ false) × ((if nat_le l.timeout l.pause then Err (fault.Limits 10) else Ok l) ≡ Err f))
-        → FirstOf f 9 (l.pause < l.make_min) ((l.timeout ≤ l.pause) × (f ≡ fault.Limits 10))
+    makes : ((nat_lt l.pause l.make_min ≡ true) × (f ≡ broken.MakeMinOverPause))
+        ⊎ ((nat_lt l.pause l.make_min ≡ false) × ((if nat_le l.timeout l.pause then Err broken.PauseNotUnderTimeout else Ok l) ≡ Err f))
+        → FirstOf f broken.MakeMinOverPause (l.pause < l.make_min) ((l.timeout ≤ l.pause) × (f ≡ broken.PauseNotUnderTimeout))
     makes (inl (t, same)) = inl (is_less _ _ t, same)
     makes (inr (t, h)) = inr ((λ less. absurd (omega (arith, is_less-not l.pause l.make_min t, less))), last (Ok l) (tested-err _ _ _ f h))
 
-    release : ((nat_le l.release l.pulse_max ≡ true) × (f ≡ fault.Limits 8))
+    release : ((nat_le l.release l.pulse_max ≡ true) × (f ≡ broken.PulseMaxNotUnderRelease))
         ⊎ ((nat_le l.release l.pulse_max ≡ false)
-        × ((if nat_lt l.pause l.make_min then Err (fault.Limits 9) else if nat_le l.timeout l.pause then Err (fault.Limits 10) else Ok l) ≡ Err f))
-        → FirstOf f 8 (l.release ≤ l.pulse_max) (FirstOf f 9 (l.pause < l.make_min) ((l.timeout ≤ l.pause) × (f ≡ fault.Limits 10)))
+        × ((if nat_lt l.pause l.make_min then Err broken.MakeMinOverPause else if nat_le l.timeout l.pause then Err broken.PauseNotUnderTimeout else Ok l) ≡ Err f))
+        → FirstOf f broken.PulseMaxNotUnderRelease (l.release ≤ l.pulse_max) (FirstOf f broken.MakeMinOverPause (l.pause < l.make_min) ((l.timeout ≤ l.pause) × (f ≡ broken.PauseNotUnderTimeout)))
     release (inl (t, same)) = inl (is_most _ _ t, same)
     release (inr (t, h)) = inr ((λ most. absurd (omega (arith, is_most-not l.release l.pulse_max t, most))), makes (tested-err _ _ _ f h))
 
-    pulses : ((nat_lt l.pulse_max l.pulse_min ≡ true) × (f ≡ fault.Limits 7))
+    pulses : ((nat_lt l.pulse_max l.pulse_min ≡ true) × (f ≡ broken.PulseMinOverPulseMax))
         ⊎ ((nat_lt l.pulse_max l.pulse_min ≡ false)
-        × ((if nat_le l.release l.pulse_max then Err (fault.Limits 8) else if nat_lt l.pause l.make_min then Err (fault.Limits 9)
-        else if nat_le l.timeout l.pause then Err (fault.Limits 10) else Ok l) ≡ Err f))
+        × ((if nat_le l.release l.pulse_max then Err broken.PulseMaxNotUnderRelease else if nat_lt l.pause l.make_min then Err broken.MakeMinOverPause
+        else if nat_le l.timeout l.pause then Err broken.PauseNotUnderTimeout else Ok l) ≡ Err f))
         → IsFaultOfOrder l f
     pulses (inl (t, same)) = inl (is_less _ _ t, same)
     pulses (inr (t, h)) = inr ((λ less. absurd (omega (arith, is_less-not l.pulse_max l.pulse_min t, less))), release (tested-err _ _ _ f h))
@@ -204,7 +204,7 @@ not_most a b h = by (cases_Bool (nat_le a b))
     by (inl t) = absurd (h (is_most a b t))
     by (inr f) = f
 
-in_order-refused : (l : Limits) (f : RouteFault) → IsFaultOfOrder l f → in_order l ≡ Err f
+in_order-refused : (l : Limits) (f : LimitFault) → IsFaultOfOrder l f → in_order l ≡ Err f
 in_order-refused l f (inl (h, same)) = rw (less l.pulse_max l.pulse_min h) (ap (λ g. Err g) (sym same))
 in_order-refused l f (inr (a, inl (h, same))) =
     rw (not_less l.pulse_max l.pulse_min a, most l.release l.pulse_max h) (ap (λ g. Err g) (sym same))
@@ -215,42 +215,60 @@ in_order-refused l f (inr (a, inr (b, inr (c, (h, same))))) =
     (ap (λ g. Err g) (sym same))
 
 -- the limits of six numbers
-abbrev limits_by : ℕ → ℕ → ℕ → ℕ → ℕ → ℕ → Limits
-limits_by a b c d e t = record { pulse_min = a; pulse_max = b; make_min = c; pause = d; release = e; timeout = t }
+abbrev limits_with : ℕ → ℕ → ℕ → ℕ → ℕ → ℕ → Limits
+limits_with a b c d e t = record { pulse_min = a; pulse_max = b; make_min = c; pause = d; release = e; timeout = t }
+
+-- lawful limits are taken by their numbers
+pub numbers-are : (limits : Limits) → IsLawful limits → limits_by limits ≡ Ok limits
+numbers-are limits h =
+    rw (
+      number-in limits.pulse_min h.each.pulse_min,
+      number-in limits.pulse_max h.each.pulse_max,
+      number-in limits.make_min h.each.make_min,
+      number-in limits.pause h.each.pause,
+      number-in limits.release h.each.release,
+      number-in limits.timeout h.each.timeout,
+    )
+    (in_order-is limits (record {
+      pulses_first = h.pulses_first;
+      pulses_under = h.pulses_under;
+      makes_under = h.makes_under;
+      pause_under = h.pause_under;
+    }))
 
 module _ (keys : Members) where
   abbrev key : List ℕ → Option Data
   key name = get_member name keys
 
-  abbrev after_release : ℕ → ℕ → ℕ → ℕ → ℕ → Result Limits RouteFault
+  abbrev after_release : ℕ → ℕ → ℕ → ℕ → ℕ → Result Limits LimitFault
   after_release a b c d e =
-      or_fault (fault.Limits 6) (limit_at (key (codes "timeout")) standard_limits.timeout) (λ t. in_order (limits_by a b c d e t))
+      or_fault broken.Timeout (limit_at (key (codes "timeout")) standard_limits.timeout) (λ t. in_order (limits_with a b c d e t))
 
-  abbrev after_pause : ℕ → ℕ → ℕ → ℕ → Result Limits RouteFault
+  abbrev after_pause : ℕ → ℕ → ℕ → ℕ → Result Limits LimitFault
   after_pause a b c d =
-      or_fault (fault.Limits 5) (limit_at (key (codes "release")) standard_limits.release) (after_release a b c d)
+      or_fault broken.Release (limit_at (key (codes "release")) standard_limits.release) (after_release a b c d)
 
-  abbrev after_make_min : ℕ → ℕ → ℕ → Result Limits RouteFault
+  abbrev after_make_min : ℕ → ℕ → ℕ → Result Limits LimitFault
   after_make_min a b c =
-      or_fault (fault.Limits 4) (limit_at (key (codes "pause")) standard_limits.pause) (after_pause a b c)
+      or_fault broken.Pause (limit_at (key (codes "pause")) standard_limits.pause) (after_pause a b c)
 
-  abbrev after_pulse_max : ℕ → ℕ → Result Limits RouteFault
+  abbrev after_pulse_max : ℕ → ℕ → Result Limits LimitFault
   after_pulse_max a b =
-      or_fault (fault.Limits 3) (limit_at (key (codes "make_min")) standard_limits.make_min) (after_make_min a b)
+      or_fault broken.MakeMin (limit_at (key (codes "make_min")) standard_limits.make_min) (after_make_min a b)
 
-  abbrev after_pulse_min : ℕ → Result Limits RouteFault
+  abbrev after_pulse_min : ℕ → Result Limits LimitFault
   after_pulse_min a =
-      or_fault (fault.Limits 2) (limit_at (key (codes "pulse_max")) standard_limits.pulse_max) (after_pulse_max a)
+      or_fault broken.PulseMax (limit_at (key (codes "pulse_max")) standard_limits.pulse_max) (after_pulse_max a)
 
   keys-ok : (limits : Limits) → limits_of_keys keys ≡ Ok limits → AreLimitsOf keys limits × StandInOrder limits
   keys-ok limits h =
-      let a = both-option ℕ Limits (fault.Limits 1) (limit_at (key (codes "pulse_min")) standard_limits.pulse_min) after_pulse_min limits h in
-      let b = both-option ℕ Limits (fault.Limits 2) (limit_at (key (codes "pulse_max")) standard_limits.pulse_max) (after_pulse_max a.0) limits a.2 in
-      let c = both-option ℕ Limits (fault.Limits 3) (limit_at (key (codes "make_min")) standard_limits.make_min) (after_make_min a.0 b.0) limits b.2 in
-      let d = both-option ℕ Limits (fault.Limits 4) (limit_at (key (codes "pause")) standard_limits.pause) (after_pause a.0 b.0 c.0) limits c.2 in
-      let e = both-option ℕ Limits (fault.Limits 5) (limit_at (key (codes "release")) standard_limits.release) (after_release a.0 b.0 c.0 d.0) limits d.2 in
-      let t = both-option ℕ Limits (fault.Limits 6) (limit_at (key (codes "timeout")) standard_limits.timeout) (λ t. in_order (limits_by a.0 b.0 c.0 d.0 e.0 t)) limits e.2 in
-      let ordered = in_order-ok (limits_by a.0 b.0 c.0 d.0 e.0 t.0) limits t.2 in
+      let a = both-option ℕ Limits broken.PulseMin (limit_at (key (codes "pulse_min")) standard_limits.pulse_min) after_pulse_min limits h in
+      let b = both-option ℕ Limits broken.PulseMax (limit_at (key (codes "pulse_max")) standard_limits.pulse_max) (after_pulse_max a.0) limits a.2 in
+      let c = both-option ℕ Limits broken.MakeMin (limit_at (key (codes "make_min")) standard_limits.make_min) (after_make_min a.0 b.0) limits b.2 in
+      let d = both-option ℕ Limits broken.Pause (limit_at (key (codes "pause")) standard_limits.pause) (after_pause a.0 b.0 c.0) limits c.2 in
+      let e = both-option ℕ Limits broken.Release (limit_at (key (codes "release")) standard_limits.release) (after_release a.0 b.0 c.0 d.0) limits d.2 in
+      let t = both-option ℕ Limits broken.Timeout (limit_at (key (codes "timeout")) standard_limits.timeout) (λ t. in_order (limits_with a.0 b.0 c.0 d.0 e.0 t)) limits e.2 in
+      let ordered = in_order-ok (limits_with a.0 b.0 c.0 d.0 e.0 t.0) limits t.2 in
       rw (← ordered.0) (
         record {
           pulse_min = at-some (key (codes "pulse_min")) standard_limits.pulse_min a.0 a.1;
@@ -275,15 +293,15 @@ module _ (keys : Members) where
       )
       (in_order-is limits ordered)
 
-  keys-err : (f : RouteFault) → limits_of_keys keys ≡ Err f → IsFaultOfKeys keys f
+  keys-err : (f : LimitFault) → limits_of_keys keys ≡ Err f → IsFaultOfKeys keys f
   keys-err f h =
-      refused-at 1 _ _ after_pulse_min f _ (λ a is_a h.
-      refused-at 2 _ _ (after_pulse_max a) f _ (λ b is_b h.
-      refused-at 3 _ _ (after_make_min a b) f _ (λ c is_c h.
-      refused-at 4 _ _ (after_pause a b c) f _ (λ d is_d h.
-      refused-at 5 _ _ (after_release a b c d) f _ (λ e is_e h.
-      refused-at 6 _ _ (λ t. in_order (limits_by a b c d e t)) f _ (λ t is_t h. (
-        limits_by a b c d e t,
+      refused-at broken.PulseMin _ _ after_pulse_min f _ (λ a is_a h.
+      refused-at broken.PulseMax _ _ (after_pulse_max a) f _ (λ b is_b h.
+      refused-at broken.MakeMin _ _ (after_make_min a b) f _ (λ c is_c h.
+      refused-at broken.Pause _ _ (after_pause a b c) f _ (λ d is_d h.
+      refused-at broken.Release _ _ (after_release a b c d) f _ (λ e is_e h.
+      refused-at broken.Timeout _ _ (λ t. in_order (limits_with a b c d e t)) f _ (λ t is_t h. (
+        limits_with a b c d e t,
         record {
           pulse_min = at-some (key (codes "pulse_min")) standard_limits.pulse_min a is_a;
           pulse_max = at-some (key (codes "pulse_max")) standard_limits.pulse_max b is_b;
@@ -292,18 +310,18 @@ module _ (keys : Members) where
           release = at-some (key (codes "release")) standard_limits.release e is_e;
           timeout = at-some (key (codes "timeout")) standard_limits.timeout t is_t;
         },
-        in_order-err (limits_by a b c d e t) f h,
+        in_order-err (limits_with a b c d e t) f h,
       )) h) h) h) h) h) h
 
-  keys-refused : (f : RouteFault) → IsFaultOfKeys keys f → limits_of_keys keys ≡ Err f
+  keys-refused : (f : LimitFault) → IsFaultOfKeys keys f → limits_of_keys keys ≡ Err f
   keys-refused f h =
-      refuses-at 1 _ _ after_pulse_min f _ (λ a is_a h.
-      refuses-at 2 _ _ (after_pulse_max a) f _ (λ b is_b h.
-      refuses-at 3 _ _ (after_make_min a b) f _ (λ c is_c h.
-      refuses-at 4 _ _ (after_pause a b c) f _ (λ d is_d h.
-      refuses-at 5 _ _ (after_release a b c d) f _ (λ e is_e h.
-      refuses-at 6 _ _ (λ t. in_order (limits_by a b c d e t)) f _ (λ t is_t (later : (limits : Limits) × AreLimitsOf keys limits × IsFaultOfOrder limits f).
-      let same : limits_by a b c d e t ≡ later.0 = all_same later.0 a b c d e t later.1 is_a is_b is_c is_d is_e is_t in
+      refuses-at broken.PulseMin _ _ after_pulse_min f _ (λ a is_a h.
+      refuses-at broken.PulseMax _ _ (after_pulse_max a) f _ (λ b is_b h.
+      refuses-at broken.MakeMin _ _ (after_make_min a b) f _ (λ c is_c h.
+      refuses-at broken.Pause _ _ (after_pause a b c) f _ (λ d is_d h.
+      refuses-at broken.Release _ _ (after_release a b c d) f _ (λ e is_e h.
+      refuses-at broken.Timeout _ _ (λ t. in_order (limits_with a b c d e t)) f _ (λ t is_t (later : (limits : Limits) × AreLimitsOf keys limits × IsFaultOfOrder limits f).
+      let same : limits_with a b c d e t ≡ later.0 = all_same later.0 a b c d e t later.1 is_a is_b is_c is_d is_e is_t in
       ap in_order same ∙ in_order-refused later.0 f later.2) h) h) h) h) h) h
     where
       all_same : (limits : Limits) (a b c d e t : ℕ) → AreLimitsOf keys limits
@@ -313,7 +331,7 @@ module _ (keys : Members) where
           → limit_at (key (codes "pause")) standard_limits.pause ≡ Some d
           → limit_at (key (codes "release")) standard_limits.release ≡ Some e
           → limit_at (key (codes "timeout")) standard_limits.timeout ≡ Some t
-          → limits_by a b c d e t ≡ limits
+          → limits_with a b c d e t ≡ limits
       all_same limits a b c d e t h is_a is_b is_c is_d is_e is_t =
           let a1 : a ≡ limits.pulse_min = cc (sym is_a ∙ at-is (key (codes "pulse_min")) standard_limits.pulse_min limits.pulse_min h.pulse_min) in
           let b1 : b ≡ limits.pulse_max = cc (sym is_b ∙ at-is (key (codes "pulse_max")) standard_limits.pulse_max limits.pulse_max h.pulse_max) in
@@ -330,7 +348,7 @@ limits-accepted (Some value) limits = (to, from)
   where
     to : limits_of (Some value) ≡ Ok limits → AreLimitsAt (Some value) limits
     to e =
-        let t = both-option Members Limits (fault.Limits 0) (as_table value) limits_of_keys limits e in
+        let t = both-option Members Limits broken.NotTable (as_table value) limits_of_keys limits e in
         let k = keys-ok t.0 limits t.2 in
         (t.0, t.1, k.0, k.1)
 
@@ -338,14 +356,14 @@ limits-accepted (Some value) limits = (to, from)
     from (keys, table, are, ordered) = rw table (keys-are keys limits are ordered)
 
 -- and they are refused by exactly their first fault
-pub limits-refused : (held : Option Data) (f : RouteFault) → (limits_of held ≡ Err f) ↔ IsFaultOfLimits held f
+pub limits-refused : (held : Option Data) (f : LimitFault) → (limits_of held ≡ Err f) ↔ IsFaultOfLimits held f
 limits-refused None f = ((λ e. absurd (cc)), (λ none. absurd none))
 limits-refused (Some value) f = (to, from)
   where
     to : limits_of (Some value) ≡ Err f → IsFaultOfLimits (Some value) f
-    to e = by (either-option Members Limits (fault.Limits 0) (as_table value) limits_of_keys f e)
+    to e = by (either-option Members Limits broken.NotTable (as_table value) limits_of_keys f e)
       where
-        by : ((as_table value ≡ None) × (f ≡ fault.Limits 0))
+        by : ((as_table value ≡ None) × (f ≡ broken.NotTable))
             ⊎ ((keys : Members) × (as_table value ≡ Some keys) × (limits_of_keys keys ≡ Err f)) → IsFaultOfLimits (Some value) f
         by (inl none) = inl none
         by (inr (keys, table, why)) = inr (keys, table, keys-err keys f why)

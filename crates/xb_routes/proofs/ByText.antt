@@ -1,16 +1,19 @@
 -- The table of a text, by its tree and its array of routes.
-use Rattle.std.proofs.Common.{◌≡◌, List, ℕ, Option, Some, None, Result, Ok, Err, refl, sym, ap, inl, inr, ◌⊎◌, ◌↔◌}
+use Rattle.std.proofs.Common.{◌≡◌, List, ℕ, Option, Some, None, Result, Ok, Err, refl, sym, ap, ◌∙◌, inl, inr, ◌⊎◌, ◌↔◌}
 use Rattle.std.specs.Prelude.{codes}
-use Rattle.toml.specs.Data.{Items, Members, get_member}
+use Rattle.toml.specs.Data.{Data, Items, Members, get_member}
 use Rattle.xb_model.specs.declared.limits.Limits.{Limits}
 use Rattle.xb_model.specs.declared.plan.Plan.{Plan}
 use Rattle.xb_model.specs.Routing.{CodedRoute}
+use Rattle.xb_routes.specs.declared.fault.LimitFault.{LimitFault}
 use Rattle.xb_routes.specs.declared.fault.RouteFault.{RouteFault}
 use Rattle.xb_routes.specs.declared.fault.RouteFault.TheVariants as fault
 use Rattle.xb_routes.specs.Table.{Table}
+use Rattle.xb_routes.specs.LimitFaults.{of_limits, told}
 use Rattle.xb_routes.specs.PlanAndLimits.{limits_of, plan_of}
 use Rattle.xb_routes.specs.Steps.{and_then}
 use Rattle.xb_routes.specs.Text.{route_items, routes_of_array, table_by, table_of_text, table_of_tree, tree_of}
+use Rattle.xb_routes.specs.ByKey.{AreLimitsAt, IsFaultOfLimits}
 use Rattle.xb_routes.specs.ByItem.{IsFaultAfterPlan, IsFaultOfRoutes, IsFaultOfText, IsFaultOfTree, Writes}
 use Rattle.xb_routes.proofs.ByItem.{accepted, refused-by}
 use Rattle.xb_routes.proofs.ByKey.{limits-accepted, limits-refused}
@@ -24,7 +27,35 @@ abbrev plan_at : Members → Option Plan
 plan_at tree = plan_of (get_member (codes "plan") tree)
 
 abbrev limits_at : Members → Result Limits RouteFault
-limits_at tree = limits_of (get_member (codes "limits") tree)
+limits_at tree = told (limits_of (get_member (codes "limits") tree))
+
+-- limits as they are told are exactly those that are found, and a fault of them is told by its number
+told-ok : (found : Result Limits LimitFault) (limits : Limits) → told found ≡ Ok limits → found ≡ Ok limits
+told-ok (Ok l) limits e = cc
+told-ok (Err rule) limits e = absurd (cc)
+
+told-err : (found : Result Limits LimitFault) (f : RouteFault) → told found ≡ Err f
+    → (rule : LimitFault) × (found ≡ Err rule) × (f ≡ of_limits rule)
+told-err (Ok l) f e = absurd (cc)
+told-err (Err rule) f e = (rule, refl, cc)
+
+module _ (tree : Members) where
+  abbrev held : Option Data
+  held = get_member (codes "limits") tree
+
+  limits-given : (limits : Limits) → AreLimitsAt held limits → limits_at tree ≡ Ok limits
+  limits-given limits are = ap told ((limits-accepted held limits).1 are)
+
+  are-limits : (limits : Limits) → limits_at tree ≡ Ok limits → AreLimitsAt held limits
+  are-limits limits e = (limits-accepted held limits).0 (told-ok (limits_of held) limits e)
+
+  limits-told : (f : RouteFault) → limits_at tree ≡ Err f → (rule : LimitFault) × IsFaultOfLimits held rule × (f ≡ of_limits rule)
+  limits-told f e =
+      let broken = told-err (limits_of held) f e in
+      (broken.0, (limits-refused held broken.0).0 broken.1, broken.2)
+
+  limits-wrong : (f : RouteFault) → (rule : LimitFault) × IsFaultOfLimits held rule × (f ≡ of_limits rule) → limits_at tree ≡ Err f
+  limits-wrong f (rule, is, same) = ap told ((limits-refused held rule).1 is) ∙ ap (λ g. Err g) (sym same)
 
 -- the routes of a tree by a plan, and the table of these routes
 abbrev routes_by : Plan → Members → Result (List CodedRoute) RouteFault
@@ -42,7 +73,7 @@ text-accepted text table = (to, from)
   where
     from : Writes text table → table_of_text text ≡ Ok table
     from w =
-        let limits = (limits-accepted (get_member (codes "limits") w.tree) table.limits).1 w.limits in
+        let limits = limits-given w.tree table.limits w.limits in
         let routes = (accepted table.plan w.items table.routes).1 w.routes in
         rw (w.toml, w.plan, limits, w.array, routes) refl
 
@@ -59,7 +90,7 @@ text-accepted text table = (to, from)
           items = i.0;
           toml = t.1;
           plan = p.1;
-          limits = (limits-accepted (get_member (codes "limits") t.0) l.0).0 l.1;
+          limits = are-limits t.0 l.0 l.1;
           array = i.1;
           routes = (accepted p.0 i.0 r.0).0 i.2;
         })
@@ -72,13 +103,12 @@ text-refused text f = (to, from)
     from (inl none) = rw none.0 (ap (λ g. Err g) (sym none.1))
     from (inr (tree, toml, inl none)) = rw (toml, none.0) (ap (λ g. Err g) (sym none.1))
     from (inr (tree, toml, inr (plan, is, inl limits))) =
-        let refused = (limits-refused (get_member (codes "limits") tree) f).1 limits in
-        rw (toml, is, refused) refl
+        rw (toml, is, limits-wrong tree f limits) refl
     from (inr (tree, toml, inr (plan, is, inr (limits, has, inl array)))) =
-        let given = (limits-accepted (get_member (codes "limits") tree) limits).1 has in
+        let given = limits-given tree limits has in
         rw (toml, is, given, array) refl
     from (inr (tree, toml, inr (plan, is, inr (limits, has, inr (items, array, why))))) =
-        let given = (limits-accepted (get_member (codes "limits") tree) limits).1 has in
+        let given = limits-given tree limits has in
         let routes = (refused-by plan items f).1 why in
         rw (toml, is, given, array, routes) refl
 
@@ -98,9 +128,9 @@ text-refused text f = (to, from)
     after-plan plan tree e = by (either Limits Table (limits_at tree) (with_limits plan tree) f e)
       where
         by : (limits_at tree ≡ Err f) ⊎ ((limits : Limits) × (limits_at tree ≡ Ok limits) × (with_limits plan tree limits ≡ Err f)) → IsFaultAfterPlan plan tree f
-        by (inl why) = inl ((limits-refused (get_member (codes "limits") tree) f).0 why)
+        by (inl why) = inl (limits-told tree f why)
         by (inr (limits, has, why)) =
-            inr (limits, (limits-accepted (get_member (codes "limits") tree) limits).0 has, of-routes plan tree limits why)
+            inr (limits, are-limits tree limits has, of-routes plan tree limits why)
 
     of-tree : (tree : Members) → table_of_tree tree ≡ Err f → IsFaultOfTree tree f
     of-tree tree e = by (either-option Plan Table fault.Plan (plan_at tree) (with_plan tree) f e)

@@ -5,11 +5,13 @@ use Rattle.toml.specs.Data.{Data, Items, no_items, item, Members, get_member}
 use Rattle.xb_model.specs.declared.plan.Plan.{Plan}
 use Rattle.xb_model.specs.declared.limits.Limits.{Limits}
 use Rattle.xb_model.specs.Routing.{CodedRoute}
+use Rattle.xb_routes.specs.declared.fault.LimitFault.{LimitFault}
 use Rattle.xb_routes.specs.declared.fault.RouteFault.{RouteFault}
 use Rattle.xb_routes.specs.declared.fault.RouteFault.TheVariants as fault
 use Rattle.xb_routes.specs.declared.table.TheConstants.{MOST_ROUTES}
 use Rattle.xb_routes.specs.Keys.{keys_of}
 use Rattle.xb_routes.specs.ByKey.{AreLimitsAt, IsFaultOfLimits}
+use Rattle.xb_routes.specs.LimitFaults.{of_limits}
 use Rattle.xb_routes.specs.PlanAndLimits.{plan_of}
 use Rattle.xb_routes.specs.Table.{Table}
 use Rattle.xb_routes.specs.Text.{count, route_items, route_of, tree_of}
@@ -81,7 +83,7 @@ IsFaultOfRoutes plan tree f =
 -- why a tree is refused whose plan is known: by its limits, or else by its routes
 abbrev pub IsFaultAfterPlan : Plan → Members → RouteFault → Type 0
 IsFaultAfterPlan plan tree f =
-    IsFaultOfLimits (get_member (codes "limits") tree) f
+    ((rule : LimitFault) × IsFaultOfLimits (get_member (codes "limits") tree) rule × (f ≡ of_limits rule))
     ⊎ ((limits : Limits) × AreLimitsAt (get_member (codes "limits") tree) limits
     × IsFaultOfRoutes plan tree f)
 

@@ -3,8 +3,8 @@ use Rattle.std.specs.Prelude.{◌≡◌, ◌≢◌, ◌⊎◌, ℕ, ◌<◌, ◌
 use Rattle.toml.specs.Data.{Data, Members, as_integer, as_table, get_member}
 use Rattle.xb_model.specs.declared.limits.Limits.{Limits}
 use Rattle.xb_model.specs.LawfulLimits.{IsLimit, standard_limits}
-use Rattle.xb_routes.specs.declared.fault.RouteFault.{RouteFault}
-use Rattle.xb_routes.specs.declared.fault.RouteFault.TheVariants as fault
+use Rattle.xb_routes.specs.declared.fault.LimitFault.{LimitFault}
+use Rattle.xb_routes.specs.declared.fault.LimitFault.TheVariants as broken
 
 -- a limit is the whole number at its key, in range; or the standard one, where the key is missing
 abbrev pub IsLimitAt : Option Data → ℕ → ℕ → Type 0
@@ -32,28 +32,28 @@ pub record StandInOrder (limits : Limits) : Type 0 where
   pub makes_under : limits.make_min ≤ limits.pause
   pub pause_under : limits.pause < limits.timeout
 
--- this holds, and is fault k of the limits; or it does not, and a later one is the fault
-abbrev pub FirstOf : RouteFault → ℕ → Type 0 → Type 0 → Type 0
-FirstOf f k holds later = (holds × (f ≡ fault.Limits k)) ⊎ (¬ holds × later)
+-- this holds, and is the fault; or it does not, and a later one is
+abbrev pub FirstOf : LimitFault → LimitFault → Type 0 → Type 0 → Type 0
+FirstOf f first holds later = (holds × (f ≡ first)) ⊎ (¬ holds × later)
 
 -- why limits that are each in range are refused
-abbrev pub IsFaultOfOrder : Limits → RouteFault → Type 0
+abbrev pub IsFaultOfOrder : Limits → LimitFault → Type 0
 IsFaultOfOrder limits f =
-    FirstOf f 7 (limits.pulse_max < limits.pulse_min) (
-    FirstOf f 8 (limits.release ≤ limits.pulse_max) (
-    FirstOf f 9 (limits.pause < limits.make_min) (
-    (limits.timeout ≤ limits.pause) × (f ≡ fault.Limits 10))))
+    FirstOf f broken.PulseMinOverPulseMax (limits.pulse_max < limits.pulse_min) (
+    FirstOf f broken.PulseMaxNotUnderRelease (limits.release ≤ limits.pulse_max) (
+    FirstOf f broken.MakeMinOverPause (limits.pause < limits.make_min) (
+    (limits.timeout ≤ limits.pause) × (f ≡ broken.PauseNotUnderTimeout))))
 
 -- why a table with these keys is refused: by the first of the six keys that is wrong, or else by the
 -- order of the limits
-abbrev pub IsFaultOfKeys : Members → RouteFault → Type 0
+abbrev pub IsFaultOfKeys : Members → LimitFault → Type 0
 IsFaultOfKeys keys f =
-    FirstOf f 1 (IsWrong (get_member (codes "pulse_min") keys)) (
-    FirstOf f 2 (IsWrong (get_member (codes "pulse_max") keys)) (
-    FirstOf f 3 (IsWrong (get_member (codes "make_min") keys)) (
-    FirstOf f 4 (IsWrong (get_member (codes "pause") keys)) (
-    FirstOf f 5 (IsWrong (get_member (codes "release") keys)) (
-    FirstOf f 6 (IsWrong (get_member (codes "timeout") keys)) (
+    FirstOf f broken.PulseMin (IsWrong (get_member (codes "pulse_min") keys)) (
+    FirstOf f broken.PulseMax (IsWrong (get_member (codes "pulse_max") keys)) (
+    FirstOf f broken.MakeMin (IsWrong (get_member (codes "make_min") keys)) (
+    FirstOf f broken.Pause (IsWrong (get_member (codes "pause") keys)) (
+    FirstOf f broken.Release (IsWrong (get_member (codes "release") keys)) (
+    FirstOf f broken.Timeout (IsWrong (get_member (codes "timeout") keys)) (
     (limits : Limits) × AreLimitsOf keys limits × IsFaultOfOrder limits f))))))
 
 -- the limits at the key `limits`: the standard ones where it is missing; else it holds a table, and the
@@ -64,8 +64,8 @@ AreLimitsAt (Some value) limits =
     (keys : Members) × (as_table value ≡ Some keys) × AreLimitsOf keys limits × StandInOrder limits
 
 -- why the limits at the key are refused: it holds no table, or else by the keys of the table
-abbrev pub IsFaultOfLimits : Option Data → RouteFault → Type 0
+abbrev pub IsFaultOfLimits : Option Data → LimitFault → Type 0
 IsFaultOfLimits None f = ⊥
 IsFaultOfLimits (Some value) f =
-    ((as_table value ≡ None) × (f ≡ fault.Limits 0))
+    ((as_table value ≡ None) × (f ≡ broken.NotTable))
     ⊎ ((keys : Members) × (as_table value ≡ Some keys) × IsFaultOfKeys keys f)

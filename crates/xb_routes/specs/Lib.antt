@@ -10,3 +10,4 @@ pub mod Machine
 pub mod ByKey
 pub mod ByItem
 pub mod Worked
+pub mod LimitFaults

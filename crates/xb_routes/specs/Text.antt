@@ -14,6 +14,7 @@ use Rattle.xb_routes.specs.declared.fault.RouteFault.TheVariants as fault
 use Rattle.xb_routes.specs.declared.table.TheConstants.{MOST_ROUTES}
 use Rattle.xb_routes.specs.Codes.{code_of, digits_within, number_length}
 use Rattle.xb_routes.specs.Keys.{FourKeys, keys_of}
+use Rattle.xb_routes.specs.LimitFaults.{told}
 use Rattle.xb_routes.specs.PlanAndLimits.{limits_of, plan_of}
 use Rattle.xb_routes.specs.Steps.{and_then, or_fault}
 use Rattle.xb_routes.specs.Table.{Table}
@@ -95,7 +96,7 @@ table_by routes plan limits = record { routes = routes; plan = plan; limits = li
 abbrev pub table_of_tree : Members → Result Table RouteFault
 table_of_tree tree =
     or_fault fault.Plan (plan_of (get_member (codes "plan") tree)) (λ plan.
-    and_then (limits_of (get_member (codes "limits") tree)) (λ limits.
+    and_then (told (limits_of (get_member (codes "limits") tree))) (λ limits.
     and_then (routes_of_key plan (get_member (codes "route") tree)) (λ routes.
     Ok (table_by routes plan limits))))
 

@@ -1,5 +1,69 @@
 // Faults of route tables.
+ghost use Rattle.std.specs.Prelude.{◌≡◌, IfSome, Some};
+ghost use Rattle.xb_routes.specs.LimitFaults.{limit_fault, limit_number};
+
 use thiserror::Error;
+use xb_model::RowFault;
+
+/// The rule that limits break, the first in this order.
+#[derive(Clone, Copy, Debug, PartialEq, Eq)]
+pub enum LimitFault {
+    /// `limits` is not a table.
+    NotTable,
+    /// `pulse_min` is not a whole number of 1 to 1,000,000 ms.
+    PulseMin,
+    /// `pulse_max` is none.
+    PulseMax,
+    /// `make_min` is none.
+    MakeMin,
+    /// `pause` is none.
+    Pause,
+    /// `release` is none.
+    Release,
+    /// `timeout` is none.
+    Timeout,
+    /// `pulse_min` is over `pulse_max`.
+    PulseMinOverPulseMax,
+    /// `pulse_max` is not under `release`.
+    PulseMaxNotUnderRelease,
+    /// `make_min` is over `pause`.
+    MakeMinOverPause,
+    /// `pause` is not under `timeout`.
+    PauseNotUnderTimeout,
+}
+
+// Each at its number.
+const LIMIT_FAULTS: [LimitFault; 11] = [
+    LimitFault::NotTable,
+    LimitFault::PulseMin,
+    LimitFault::PulseMax,
+    LimitFault::MakeMin,
+    LimitFault::Pause,
+    LimitFault::Release,
+    LimitFault::Timeout,
+    LimitFault::PulseMinOverPulseMax,
+    LimitFault::PulseMaxNotUnderRelease,
+    LimitFault::MakeMinOverPause,
+    LimitFault::PauseNotUnderTimeout,
+];
+
+impl LimitFault {
+    /// The number that `RouteFault::Limits` tells: 0 to 10, in the order of the rules.
+    pub fn number(self) -> u32
+        ensures value { result ≡ limit_number self }
+        ensures back { limit_fault result ≡ Some self }
+    {
+        self as u32
+    }
+
+    /// The rule of a number; `None` where it is over 10.
+    pub fn of_number(number: u32) -> Option<LimitFault>
+        ensures value { result ≡ limit_fault number }
+        ensures back { IfSome result (λ rule. limit_number rule ≡ number) }
+    {
+        LIMIT_FAULTS.get(number as usize).copied()
+    }
+}
 
 /// Why a route table is refused. A number is that of the route, the first being 1.
 ///
@@ -14,10 +78,7 @@ pub enum RouteFault {
     /// `plan` is neither 7 nor 10.
     #[error("plan is neither 7 nor 10")]
     Plan,
-    /// 0: `limits` is not a table. 1 to 6: the first of `pulse_min`, `pulse_max`, `make_min`, `pause`,
-    /// `release` and `timeout` that is not a whole number of 1 to 1,000,000 ms. Then the first of these:
-    /// 7, `pulse_min` is over `pulse_max`; 8, `pulse_max` is not under `release`; 9, `make_min` is over
-    /// `pause`; 10, `pause` is not under `timeout`.
+    /// The limits break the rule of this number (`LimitFault`).
     #[error("limit {0} is wrong")]
     Limits(u32),
     /// The array of routes has more than 1,000.
@@ -47,6 +108,16 @@ pub enum RouteFault {
     #[error("route {0} repeats a code")]
     Twice(u32),
     /// Memory ran out.
-    #[error("out of memory")]
+    #[error("{}", RowFault::NoMemory)]
     NoMemory,
+}
+
+impl From<LimitFault> for RouteFault {
+    ghost use Rattle.xb_routes.specs.LimitFaults.{of_limits};
+
+    ghost from_gives = { λ rule e. e ≡ of_limits rule };
+
+    fn from(rule: LimitFault) -> RouteFault {
+        RouteFault::Limits(rule.number())
+    }
 }

@@ -4,6 +4,7 @@ ghost use Rattle.toml.specs.Data.{Data, Items};
 ghost use Rattle.xb_model.specs.declared.limits.Limits.{Limits};
 ghost use Rattle.xb_model.specs.declared.plan.Plan.{Plan};
 ghost use Rattle.xb_model.specs.Routing.{CodedRoute};
+ghost use Rattle.xb_routes.specs.declared.fault.LimitFault.{LimitFault};
 ghost use Rattle.xb_routes.specs.declared.fault.RouteFault.{RouteFault};
 ghost use Rattle.xb_routes.specs.declared.fault.RouteFault.TheVariants.{TooMany};
 ghost use Rattle.xb_routes.specs.declared.table.TheConstants.{MOST_ROUTES};
@@ -34,7 +35,7 @@ pub fn routes_by_item()
 pub fn limits_by_key()
     ensures accepted { (held : Option Data) (limits : Limits) →
         (limits_of held ≡ Ok limits) ↔ AreLimitsAt held limits }
-    ensures refused { (held : Option Data) (fault : RouteFault) →
+    ensures refused { (held : Option Data) (fault : LimitFault) →
         (limits_of held ≡ Err fault) ↔ IsFaultOfLimits held fault }
 {}
 

@@ -13,6 +13,7 @@
 //! - `RouteTable::read`: an accepted table holds exactly what the text says; a refusal, unless memory ran
 //!   out, is the first fault in the text. `laws::tables_by_text`, `limits_by_key` and `routes_by_item` say
 //!   the same of all keys and routes at once, without an order of reading.
+//! - `LimitFault`: the rule that limits break, and its number in a `RouteFault`.
 //! - `limits_by`, `entry_of`: the limits and a route of a caller that reads no TOML, judged by the same
 //!   bodies in the same words. They take no memory.
 //! - `RouteTable::look`: the route of the longest code that the digits begin with, `None` exactly where no
@@ -32,7 +33,7 @@ mod table;
 mod translate;
 
 pub use code::{CODE_DIGITS, CODE_LENGTHS};
-pub use fault::RouteFault;
+pub use fault::{LimitFault, RouteFault};
 pub use keys::RouteWords;
 pub use limits::limits_by;
 pub use route::{Entry, Route, entry_of};

@@ -96,7 +96,7 @@ is_split deck wanted fresh made named table loads ranges list left ready are sam
 pub table_fault : (deck old : Option (List ℕ)) (f : TableFault) → IfSome deck (λ known. old ≡ Some known)
     → IsTableFault MOST_DECK_BYTES old f → IsTableFault MOST_DECK_BYTES deck f
 table_fault None old table.NoCut known is = tt
-table_fault None old table.TooLong known is = tt
+table_fault None old (table.TooLong limit) known is = (is.0, tt)
 table_fault None old table.Read known is = tt
 table_fault None old table.NoMemory known is = tt
 table_fault (Some text) old f known is = subst (λ o. IsTableFault MOST_DECK_BYTES o f) known is

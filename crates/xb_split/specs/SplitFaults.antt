@@ -4,7 +4,6 @@ use Rattle.std.specs.Io.KnownBytes.{Appends, Keeps}
 use Rattle.xb_deck.specs.Deck.{Parts, deck_parts}
 use Rattle.xb_deck.specs.Tables.{IsTableFault}
 use Rattle.xb_deck.specs.declared.deck.TheConstants.{MOST_DECK_BYTES}
-use Rattle.xb_deck.specs.declared.table.TableFault.TheVariants as table
 use Rattle.xb_routes.specs.Text.{table_of_text}
 use Rattle.xb_split.specs.declared.load.Load.{Load}
 use Rattle.xb_parts.specs.declared.range.LineRange.{LineRange}
@@ -33,9 +32,8 @@ HasTable deck = HasParts deck (λ cut. IsTable cut.table)
 -- why a deck is not split into so many parts: what the fault says of the deck holds
 abbrev pub IsFaultOf : Option (List ℕ) → Option ℕ → SplitFault → Type 0
 IsFaultOf deck parts fault.NoParts = parts ≡ Some 0
-IsFaultOf deck parts fault.NoCut = IsTableFault MOST_DECK_BYTES deck table.NoCut
-IsFaultOf deck parts fault.LongTable = IsTableFault MOST_DECK_BYTES deck table.TooLong
-IsFaultOf deck parts (fault.Table f) = HasParts deck (λ cut. table_of_text cut.table ≡ Err f)
+IsFaultOf deck parts (fault.Table f) = IsTableFault MOST_DECK_BYTES deck f
+IsFaultOf deck parts (fault.Routes f) = HasParts deck (λ cut. table_of_text cut.table ≡ Err f)
 IsFaultOf deck parts (fault.Rows f) =
     HasTable deck × HasParts deck (λ cut. StopsRows (rest_of_row_stream cut.rows) f)
 IsFaultOf deck parts (fault.Plan f) =

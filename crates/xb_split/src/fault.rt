@@ -1,7 +1,5 @@
 // Why a deck is not split.
 ghost use Rattle.std.specs.Prelude.{◌≡◌, ◌≢◌, Err, List, Option, ℕ};
-ghost use Rattle.xb_deck.specs.declared.deck.TheConstants.{MOST_DECK_BYTES};
-ghost use Rattle.xb_deck.specs.Tables.{IsTableFault};
 ghost use Rattle.xb_routes.specs.Text.{table_of_text};
 ghost use Rattle.xb_split.specs.SplitFaults.{HasParts, HasTable, IsFaultOf};
 
@@ -14,11 +12,13 @@ use xb_model::RowFault;
 use xb_routes::RouteFault;
 
 /// Why the decks of parts are not made.
-#[derive(Debug, Drop)]
+#[derive(Debug, Drop, Error)]
 pub enum MakeFault {
     /// Their folder could not be made, under another name.
+    #[error("the folder with .incomplete after its name could not be made: {0}")]
     Folder(io::Error),
     /// One of them could not be made in it.
+    #[error("a part could not be made: {0}")]
     Part(io::Error),
 }
 
@@ -31,27 +31,18 @@ pub enum SplitFault {
     /// The folder could not be looked at, or the parts could not get its name.
     #[error("the folder could not be used: {0}")]
     Folder(io::Error),
-    /// The folder could not be made, under another name.
-    #[error("the folder with .incomplete after its name could not be made: {0}")]
-    Unfinished(io::Error),
-    /// A part could not be made in it.
-    #[error("a part could not be made: {0}")]
-    Part(io::Error),
+    /// The decks of the parts could not be made.
+    #[error("{0}")]
+    Make(MakeFault),
     /// The folder has something in it.
     #[error("the folder is not empty")]
     NotEmpty,
-    /// A read of the deck failed before its records.
-    #[error("the deck could not be read")]
-    Read,
-    /// The deck has no line `---`.
-    #[error("the deck has no line ---")]
-    NoCut,
-    /// The table is too long for any deck.
-    #[error("the route table is longer than 16777216 bytes")]
-    LongTable,
+    /// The deck gives no text of a route table.
+    #[error("{0}")]
+    Table(TableFault),
     /// The table is one that an office refuses.
     #[error("route table: {0}")]
-    Table(RouteFault),
+    Routes(RouteFault),
     /// The records have a fault.
     #[error("loop rows: {0}")]
     Rows(RowFault),
@@ -70,22 +61,9 @@ pub enum SplitFault {
     /// The deck was another when it was read again: its table, its records, or a line's.
     #[error("the deck has changed while it was split")]
     Changed,
-    /// Memory ran out.
-    #[error("out of memory")]
+    /// Memory ran out after the table was read.
+    #[error("{}", RowFault::NoMemory)]
     NoMemory,
-}
-
-// Why a deck gives no table.
-pub(crate) fn fault_of_table(fault: TableFault) -> SplitFault
-    ensures { (deck : Option (List ℕ)) (parts : Option ℕ) → IsTableFault MOST_DECK_BYTES deck fault
-        → IsFaultOf deck parts result }
-{
-    match fault {
-        TableFault::Read => SplitFault::Read,
-        TableFault::TooLong => SplitFault::LongTable,
-        TableFault::NoCut => SplitFault::NoCut,
-        TableFault::NoMemory => SplitFault::NoMemory,
-    }
 }
 
 // Why a table is refused.
@@ -96,17 +74,7 @@ pub(crate) fn fault_of_routes(fault: RouteFault) -> SplitFault
 {
     match fault {
         RouteFault::NoMemory => SplitFault::NoMemory,
-        fault => SplitFault::Table(fault),
-    }
-}
-
-// Why the decks of parts are not made.
-pub(crate) fn fault_of_making(fault: MakeFault) -> SplitFault
-    ensures { (deck : Option (List ℕ)) (parts : Option ℕ) → IsFaultOf deck parts result }
-{
-    match fault {
-        MakeFault::Folder(error) => SplitFault::Unfinished(error),
-        MakeFault::Part(error) => SplitFault::Part(error),
+        fault => SplitFault::Routes(fault),
     }
 }
 

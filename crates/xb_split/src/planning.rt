@@ -12,7 +12,7 @@ use crate::load::Load;
 use std::alloc::{AllocError, AllocFailed, Global};
 use thiserror::Error;
 use xb_deck::MOST_DECK_BYTES;
-use xb_model::{LINES, LineNo, PerLine};
+use xb_model::{LINES, LineNo, PerLine, RowFault};
 use xb_parts::LineRange;
 use xb_rows::MOST_RECORDS;
 
@@ -23,7 +23,7 @@ pub enum PlanFault {
     #[error("line {} has more than a part may have", .0.get())]
     Line(LineNo),
     /// Memory ran out.
-    #[error("out of memory")]
+    #[error("{}", RowFault::NoMemory)]
     NoMemory,
 }
 

@@ -9,9 +9,7 @@ ghost use Rattle.xb_split.specs.Splits.{AreMade, IsCounted, IsOpened, IsPlan, Is
 
 use crate::counting::count_rows;
 use crate::decks::PartDecks;
-use crate::fault::{
-    SplitFault, fault_of_making, fault_of_routes, fault_of_table, fault_of_writing,
-};
+use crate::fault::{SplitFault, fault_of_routes, fault_of_writing};
 use crate::files::SplitFiles;
 use crate::load::Load;
 use crate::planning::plan_parts;
@@ -52,7 +50,7 @@ fn open_deck<F: SplitFiles>(
     };
     match read_table(alloc, &mut deck, MOST_DECK_BYTES) {
         Ok(table) => Ok((table, RowReader::new(deck, u64::MAX))),
-        Err(fault) => Err(fault_of_table(fault)),
+        Err(fault) => Err(SplitFault::Table(fault)),
     }
 }
 
@@ -261,7 +259,7 @@ fn make_parts<F: SplitFiles>(
 {
     let mut parts = match files.make(alloc, request, &plan.ranges) {
         Ok(parts) => parts,
-        Err(fault) => return Err(fault_of_making(fault)),
+        Err(fault) => return Err(SplitFault::Make(fault)),
     };
     match fill_parts(alloc, plan, rows, &mut parts) {
         Ok(()) => Ok(parts),

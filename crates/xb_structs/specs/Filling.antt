@@ -6,6 +6,7 @@ use Rattle.xb_model.specs.Routing.{CodedRoute}
 use Rattle.xb_routes.specs.declared.fault.RouteFault.{RouteFault}
 use Rattle.xb_routes.specs.declared.fault.RouteFault.TheVariants as fault
 use Rattle.xb_routes.specs.Keys.{FourKeys}
+use Rattle.xb_routes.specs.LimitFaults.{told}
 use Rattle.xb_routes.specs.PlanAndLimits.{limits_by}
 use Rattle.xb_routes.specs.Steps.{and_then, or_fault}
 use Rattle.xb_routes.specs.Table.{Table}
@@ -17,7 +18,7 @@ use Rattle.xb_structs.specs.Tables.{Holds}
 abbrev pub begun : ℕ → Limits → Result Table RouteFault
 begun number limits =
     or_fault fault.Plan (plan_of_digits number) (λ plan.
-    and_then (limits_by limits) (λ lawful.
+    and_then (told (limits_by limits)) (λ lawful.
     Ok (table_by [] plan lawful)))
 
 -- the route that the keys of the next route write, where no earlier one has its code

@@ -15,7 +15,7 @@ use crate::mark::PlainMark;
 use crate::not_heard::NotHeard;
 use crate::route::PlainRoute;
 use crate::row::line_of;
-use crate::table::{PlainTable, limits_of, routes_of};
+use crate::table::{PlainTable, parts_of};
 use xb_model::{LineNo, Plan, Signal};
 use xb_register::Register;
 
@@ -93,13 +93,7 @@ pub fn hear(
         IsNotHeard why table.now number line.old heard (length room.old)) }
     ensures kept { OnErr result ((line.new ≡ line.old) × (room.new ≡ room.old)) }
 {
-    let Some(plan) = Plan::of_digits(table.plan) else {
-        return Err(NotHeard::NotOpened);
-    };
-    let Some(_) = limits_of(table) else {
-        return Err(NotHeard::NotOpened);
-    };
-    let Some(routes) = routes_of(table) else {
+    let Some(parts) = parts_of(table) else {
         return Err(NotHeard::NotOpened);
     };
     let Some(number) = line_of(number) else {
@@ -109,7 +103,7 @@ pub fn hear(
         return Err(NotHeard::Digit);
     };
     is_fit(line, heard)?;
-    match hear_signal(plan, routes, line, number, signal, room) {
+    match hear_signal(parts.plan, parts.routes, line, number, signal, room) {
         Ok(count) => Ok(count),
         Err(NoRoom) => Err(NotHeard::Room),
     }

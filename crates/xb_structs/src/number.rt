@@ -13,7 +13,7 @@ ghost use Rattle.xb_structs.specs.declared.number.NotRouted.TheVariants.{Room};
 use crate::keying::order_of;
 use crate::mark::{PlainMark, put_marks};
 use crate::route::PlainRoute;
-use crate::table::{PlainTable, limits_of, routes_of};
+use crate::table::{PlainTable, parts_of};
 use xb_model::{Dialled, Digit, LineNo, NumberDigits, Plan, plan_len};
 use xb_sender::marks_of;
 
@@ -92,15 +92,9 @@ pub fn route_number(
     ensures refused { IfErr result (λ why. IsNotRouted why table.now digits.now (length room.old)) }
     ensures kept { OnErr result (room.new ≡ room.old) }
 {
-    let Some(plan) = Plan::of_digits(table.plan) else {
+    let Some(parts) = parts_of(table) else {
         return Err(NotRouted::NotOpened);
     };
-    let Some(_) = limits_of(table) else {
-        return Err(NotRouted::NotOpened);
-    };
-    let Some(routes) = routes_of(table) else {
-        return Err(NotRouted::NotOpened);
-    };
-    let number = number_of_bytes(plan, digits)?;
-    put_keying(routes, number, room)
+    let number = number_of_bytes(parts.plan, digits)?;
+    put_keying(parts.routes, number, room)
 }

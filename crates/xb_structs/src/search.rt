@@ -15,8 +15,8 @@ ghost use Rattle.xb_structs.specs.Tables.{Holds, IsOpen};
 use crate::digits::digits_of;
 use crate::refusal::Refusal;
 use crate::route::{PlainRoute, route_of};
-use crate::table::{PlainTable, limits_of, routes_of};
-use xb_model::{Digit, NUMBER_DIGITS, NumberDigits, Plan};
+use crate::table::{PlainTable, parts_of};
+use xb_model::{Digit, NUMBER_DIGITS, NumberDigits};
 use xb_routes::{CODE_DIGITS, CODE_LENGTHS, Route, code_number};
 
 // The route of the code with this number, among routes whose numbers rise.
@@ -74,15 +74,12 @@ pub fn deciding(table: &PlainTable, digits: &[u8]) -> Result<Option<usize>, Refu
     ensures few { IfOk result (λ found. IfSome found (λ count. count ≤ CODE_DIGITS)) }
     ensures refused { IfErr result (λ refusal. (refusal ≡ NotOpened) × (IsOpen table.now → ⊥)) }
 {
-    if Plan::of_digits(table.plan).is_none() || limits_of(table).is_none() {
-        return Err(Refusal::NotOpened);
-    }
-    let Some(routes) = routes_of(table) else {
+    let Some(parts) = parts_of(table) else {
         return Err(Refusal::NotOpened);
     };
     let count = digits.len().min(NUMBER_DIGITS);
     let number: NumberDigits = digits_of(&digits[..count]);
-    match longest(routes, number.digits()) {
+    match longest(parts.routes, number.digits()) {
         Some((length, _)) => Ok(Some(length)),
         None => Ok(None),
     }

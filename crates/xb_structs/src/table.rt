@@ -1,11 +1,13 @@
 // Route tables as plain numbers.
-ghost use Rattle.std.specs.Prelude.{◌≡◌, ◌≤◌, ◌↔◌, IsSome, IsTrue, IfSome, take};
-ghost use Rattle.xb_model.specs.LawfulLimits.{IsLawful, IsLimit, AreLimits};
+ghost use Rattle.std.specs.Prelude.{◌≡◌, ◌≤◌, ◌↔◌, IsSome, IfSome, Some, take};
+ghost use Rattle.xb_model.specs.LawfulLimits.{IsLawful};
+ghost use Rattle.xb_model.specs.Plans.{plan_of_digits};
 ghost use Rattle.xb_routes.specs.declared.table.TheConstants.{MOST_ROUTES};
-ghost use Rattle.xb_structs.specs.Tables.{limits_in, plan_number};
+ghost use Rattle.xb_structs.specs.Tables.{IsOpen, limits_in, plan_number};
 
 use crate::route::PlainRoute;
-use xb_model::{GREATEST_LIMIT, Limits, Plan};
+use xb_model::{Limits, Plan};
+use xb_routes::limits_by;
 
 /// A route table.
 #[repr(C)]
@@ -41,38 +43,8 @@ pub(crate) fn plan_number(plan: Plan) -> u32
     }
 }
 
-// Whether a limit is in range.
-fn is_limit(limit: u32) -> bool
-    ensures { IsTrue result ↔ IsLimit limit }
-{
-    1 <= limit && limit <= GREATEST_LIMIT
-}
-
-// Whether each limit is in range.
-fn are_limits(limits: &Limits) -> bool
-    ensures { IsTrue result ↔ AreLimits limits.now }
-{
-    is_limit(limits.pulse_min)
-        && is_limit(limits.pulse_max)
-        && is_limit(limits.make_min)
-        && is_limit(limits.pause)
-        && is_limit(limits.release)
-        && is_limit(limits.timeout)
-}
-
-// Whether limits are lawful.
-fn is_lawful(limits: &Limits) -> bool
-    ensures { IsTrue result ↔ IsLawful limits.now }
-{
-    are_limits(limits)
-        && limits.pulse_min <= limits.pulse_max
-        && limits.pulse_max < limits.release
-        && limits.make_min <= limits.pause
-        && limits.pause < limits.timeout
-}
-
-/// The limits of a table, if they are lawful.
-pub(crate) fn limits_of(table: &PlainTable) -> Option<Limits>
+// The limits of a table, if they are lawful.
+fn limits_of(table: &PlainTable) -> Option<Limits>
     ensures variant { IsSome result ↔ IsLawful (limits_in table.now) }
     ensures value { IfSome result (λ limits. limits ≡ limits_in table.now) }
 {
@@ -84,11 +56,7 @@ pub(crate) fn limits_of(table: &PlainTable) -> Option<Limits>
         release: table.release,
         timeout: table.timeout,
     };
-    if is_lawful(&limits) {
-        Some(limits)
-    } else {
-        None
-    }
+    limits_by(limits).ok()
 }
 
 /// The routes of a table, if their count is not too great.
@@ -97,4 +65,26 @@ pub(crate) fn routes_of(table: &PlainTable) -> Option<&[PlainRoute]>
     ensures value { IfSome result (λ routes. routes.now ≡ take table.now.count table.now.routes) }
 {
     table.routes.get(..table.count as usize)
+}
+
+/// What a table says that was opened.
+#[derive(Clone, Copy)]
+pub(crate) struct Opened<'t> {
+    pub(crate) plan: Plan,
+    pub(crate) limits: Limits,
+    pub(crate) routes: &'t [PlainRoute],
+}
+
+/// What a table says; `None` where it is none that was opened.
+pub(crate) fn parts_of(table: &PlainTable) -> Option<Opened<'_>>
+    ensures variant { IsSome result ↔ IsOpen table.now }
+    ensures plan { IfSome result (λ parts. plan_of_digits table.now.plan ≡ Some parts.plan) }
+    ensures limits { IfSome result (λ parts. parts.limits ≡ limits_in table.now) }
+    ensures routes { IfSome result (λ parts. parts.routes.now ≡ take table.now.count table.now.routes) }
+{
+    Some(Opened {
+        plan: Plan::of_digits(table.plan)?,
+        limits: limits_of(table)?,
+        routes: routes_of(table)?,
+    })
 }

@@ -16,7 +16,7 @@ use crate::mark::PlainMark;
 use crate::refusal::Refusal;
 use crate::route::PlainRoute;
 use crate::row::{PlainRow, row_of};
-use crate::table::{PlainTable, limits_of, routes_of};
+use crate::table::{PlainTable, parts_of};
 use xb_model::{Dialled, Limits, Plan, Row};
 use xb_pulse::Pulse;
 use xb_register::Register;
@@ -80,14 +80,15 @@ pub fn take(
         IsRefused refusal table.now row.now line.old (length room.old)) }
     ensures kept { OnErr result ((line.new ≡ line.old) × (room.new ≡ room.old)) }
 {
-    let Some(plan) = Plan::of_digits(table.plan) else {
+    let Some(parts) = parts_of(table) else {
         return Err(Refusal::NotOpened);
     };
-    let Some(limits) = limits_of(table) else {
-        return Err(Refusal::NotOpened);
-    };
-    let Some(routes) = routes_of(table) else {
-        return Err(Refusal::NotOpened);
-    };
-    take_row(plan, limits, routes, line, row_of(row)?, room)
+    take_row(
+        parts.plan,
+        parts.limits,
+        parts.routes,
+        line,
+        row_of(row)?,
+        room,
+    )
 }

@@ -8,9 +8,9 @@ ghost use Rattle.xb_structs.specs.Signals.{Hears, IsNotHeard, bare, bits_of, pla
 use crate::line::{PlainLine, pulse_of};
 use crate::refusal::Refusal;
 use crate::row::{PlainRow, row_of};
-use crate::table::{PlainTable, limits_of, routes_of};
+use crate::table::{PlainTable, parts_of};
 use arrayvec::ArrayVec;
-use xb_model::{Limits, Plan, Row, Signal};
+use xb_model::{Limits, Row, Signal};
 use xb_pulse::{MOST_SIGNALS, Pulse};
 
 /// What the register is told.
@@ -112,13 +112,10 @@ pub fn signals(
         IsNotHeard refusal table.now row.now line.now (length room.old)) }
     ensures kept { OnErr result (room.new ≡ room.old) }
 {
-    if Plan::of_digits(table.plan).is_none() || routes_of(table).is_none() {
-        return Err(Refusal::NotOpened);
-    }
-    let Some(limits) = limits_of(table) else {
+    let Some(parts) = parts_of(table) else {
         return Err(Refusal::NotOpened);
     };
-    let sent = signals_of(limits, line, row_of(row)?);
+    let sent = signals_of(parts.limits, line, row_of(row)?);
     if sent.len() > room.len() {
         return Err(Refusal::Room);
     }

@@ -1,8 +1,9 @@
 use Rattle.std.proofs.Common.{◌≡◌, ◌∙◌, [], Option, Some, Result, Ok, refl, sym, ap, arith}
 use Rattle.xb_model.specs.declared.limits.Limits.{Limits}
 use Rattle.xb_model.specs.declared.plan.Plan.{Plan}
-use Rattle.xb_routes.specs.declared.fault.RouteFault.{RouteFault}
+use Rattle.xb_routes.specs.declared.fault.LimitFault.{LimitFault}
 use Rattle.xb_routes.specs.declared.fault.RouteFault.TheVariants as fault
+use Rattle.xb_routes.specs.LimitFaults.{told}
 use Rattle.xb_routes.specs.Steps.{and_then, or_fault}
 use Rattle.xb_routes.specs.Text.{table_by}
 use Rattle.xb_routes.specs.PlanAndLimits.{limits_by}
@@ -15,8 +16,8 @@ returns-clause-begun c =
     let said : limits_by c.args.limits ≡ Ok limits = sym c.limits_by.ensures.value ∙ c.in_ok-limits.was in
     let plan : plan_of_digits c.args.plan ≡ Some c.in-Some.field-0 = sym c.of_digits.ensures ∙ c.in-Some.is in (
       table_by [] c.in-Some.field-0 limits,
-      ap (λ (o : Option Plan). or_fault fault.Plan o (λ p. and_then (limits_by c.args.limits) (λ l. Ok (table_by [] p l)))) plan
-          ∙ ap (λ (r : Result Limits RouteFault). and_then r (λ l. Ok (table_by [] c.in-Some.field-0 l))) said,
+      ap (λ (o : Option Plan). or_fault fault.Plan o (λ p. and_then (told (limits_by c.args.limits)) (λ l. Ok (table_by [] p l)))) plan
+          ∙ ap (λ (r : Result Limits LimitFault). and_then (told r) (λ l. Ok (table_by [] c.in-Some.field-0 l))) said,
       record {
         plan = plan;
         limits = refl;

@@ -1,41 +1,29 @@
 use Rattle.std.proofs.Common.{◌≡◌, ◌∙◌, Some, ap, sym, subst, refl, length, rules}
-use Rattle.std.specs.Prelude.{Err, IfErr, is_some}
+use Rattle.std.specs.Prelude.{Err, IfErr}
 use Rattle.xb_routes.specs.Text.{table_by}
 use Rattle.xb_structs.specs.Hearing.{HearsSignal, IsNotHeard}
 use Rattle.xb_structs.specs.Rows.{line_in}
-use Rattle.xb_structs.specs.Tables.{IsOpen}
 use Rattle.xb_structs.proofs.HeardSignals.{line_is, opened-hears, opened-lacks, unfit}
 use Rattle.xb_structs.proofs.hearing.hear.Goals as goal
 
 pub returns-in_err-is_fit-clause-refused : goal.returns-in_err-is_fit-clause-refused
 returns-in_err-is_fit-clause-refused c =
-    let plan = sym c.of_digits.ensures ∙ c.in-Some.is in
-    let open_ : IsOpen c.args.table.now = record {
-      plan = ap (λ o. is_some o) plan;
-      limits = c.in-Some-limits_of.ensures.variant.0 refl;
-      count = c.in-Some-routes_of.ensures.variant.0 refl;
-    } in
+    let is_open = c.in-Some.ensures.variant.0 refl in
     let fault : c.from_residual.result ≡ Err c.in_err-is_fit.field-0.0 = search rules in
     subst (λ r. IfErr r (λ f. IsNotHeard f c.args.table.now c.args.number c.args.line.now c.args.heard (length c.args.room.now))) (sym fault)
-    (unfit c.args.table.now c.args.number c.args.line.now c.args.heard (length c.args.room.now) c.in_err-is_fit.field-0.0 open_ (sym c.is_fit.ensures ∙ c.in_err-is_fit.was))
+    (unfit c.args.table.now c.args.number c.args.line.now c.args.heard (length c.args.room.now) c.in_err-is_fit.field-0.0 is_open (sym c.is_fit.ensures ∙ c.in_err-is_fit.was))
 
 pub returns-in-Ok-clause-hears : goal.returns-in-Ok-clause-hears
 returns-in-Ok-clause-hears c =
-    let plan = sym c.of_digits.ensures ∙ c.in-Some.is in
-    let open_ : IsOpen c.args.table.now = record {
-      plan = ap (λ o. is_some o) plan;
-      limits = c.in-Some-limits_of.ensures.variant.0 refl;
-      count = c.in-Some-routes_of.ensures.variant.0 refl;
-    } in
+    let is_open = c.in-Some.ensures.variant.0 refl in
     let line : line_in c.args.number ≡ Some c.in-Some-line_of.number = sym c.line_of.ensures ∙ c.in-Some-line_of.is in
     let same = line_is c.args.number c.in-Some-line_of.number line in
-    opened-hears c.args.table.now c.in-Some.plan c.in-Some-routes_of.routes.now plan c.in-Some-routes_of.ensures.value
+    opened-hears c.args.table.now c.in-Some.parts.plan c.in-Some.parts.routes.now c.in-Some.ensures.plan c.in-Some.ensures.routes
     c.args.number c.args.line.now c.hear_signal.new.line c.args.heard c.in-Some-signal_of.signal c.hear_signal.new.room c.in-Ok.count
-    open_ (line ∙ ap Some same) (sym c.is_fit.ensures ∙ c.in_ok-is_fit.was) (sym c.signal_of.ensures ∙ c.in-Some-signal_of.is)
-    (λ all limits are. subst (λ n. HearsSignal (table_by all c.in-Some.plan limits) n c.args.line.now c.hear_signal.new.line c.in-Some-signal_of.signal c.hear_signal.new.room c.in-Ok.count) same (c.in-Ok.ensures.hears all limits are))
+    is_open (line ∙ ap Some same) (sym c.is_fit.ensures ∙ c.in_ok-is_fit.was) (sym c.signal_of.ensures ∙ c.in-Some-signal_of.is)
+    (λ all limits are. subst (λ n. HearsSignal (table_by all c.in-Some.parts.plan limits) n c.args.line.now c.hear_signal.new.line c.in-Some-signal_of.signal c.hear_signal.new.room c.in-Ok.count) same (c.in-Ok.ensures.hears all limits are))
 
 pub returns-in-Err-clause-refused : goal.returns-in-Err-clause-refused
 returns-in-Err-clause-refused c =
-    let plan = sym c.of_digits.ensures ∙ c.in-Some.is in
-    opened-lacks c.args.table.now c.in-Some.plan c.in-Some-routes_of.routes.now plan c.in-Some-routes_of.ensures.value
+    opened-lacks c.args.table.now c.in-Some.parts.plan c.in-Some.parts.routes.now c.in-Some.ensures.plan c.in-Some.ensures.routes
     c.args.line.now c.args.heard c.in-Some-signal_of.signal _ (sym c.signal_of.ensures ∙ c.in-Some-signal_of.is) c.in-Err.ensures.refused
