@@ -10,9 +10,8 @@ use Rattle.xb_flow.specs.Flows.{flow_of, has_end}
 use Rattle.xb_routes.specs.Table.{Table}
 use Rattle.xb_closes.specs.Fed.{fed}
 use Rattle.xb_posts.specs.Feeds.{to_come}
-use Rattle.xb_run.specs.Blank.{IsBlank}
 use Rattle.xb_run.specs.Chains.{IsChain}
-use Rattle.xb_run.specs.Posts.{Posts}
+use Rattle.xb_run.specs.Posts.{IsBlank, Posts}
 use Rattle.xb_replay.specs.Turns.{NoneEnded}
 use Rattle.xb_replay.specs.World.{WorldLaw}
 use Rattle.xb_replay.proofs.Prefixes.{no_sender}

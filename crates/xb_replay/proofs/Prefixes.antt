@@ -41,12 +41,11 @@ use Rattle.xb_posts.specs.Feeds.{to_come}
 use Rattle.xb_images.specs.Images.{serial_image}
 use Rattle.xb_images.proofs.Chain.{chain-fed}
 use Rattle.xb_images.proofs.LineTapes.{serial_image-line, whats_of-on_line}
-use Rattle.xb_replay.specs.Marks.{marks_of as marks_on, whole_tape, ArePrefixes, AreWhole}
 use Rattle.xb_replay.specs.Turns.{IsThere, HasEnded}
 use Rattle.xb_run.specs.Laws.{StageLaws}
 use Rattle.xb_run.specs.Posts.{Input, Output, SenderPost, Posts}
 use Rattle.xb_run.specs.Rings.{AreLinked}
-use Rattle.xb_replay.specs.World.{World, FeedLaw}
+use Rattle.xb_replay.specs.World.{World, FeedLaw, marks_of as marks_on, whole_tape, ArePrefixes, AreWhole}
 use Rattle.xb_replay.proofs.Sent.{ring-prefix, ring-whole, station-prefix, station-whole, deal-prefix, deal-whole, gather-prefix, gather-whole, gather-ended}
 
 -- the marks of an order, on its line

@@ -1,4 +1,3 @@
 pub mod Looks
-pub mod Marks
 pub mod Turns
 pub mod World

@@ -43,11 +43,10 @@ impl<'a> Replay<'a> {
     ghost use Rattle.xb_flow.specs.declared.ends.TheConstants.{GREATEST_CAPACITY};
     ghost use Rattle.xb_flow.specs.declared.post.Post.TheVariants as posts;
     ghost use Rattle.xb_flow.specs.declared.turn.Turn.TheVariants.{Idle, Ended};
-    ghost use Rattle.xb_run.specs.Blank.{IsBlank};
+    ghost use Rattle.xb_run.specs.Posts.{IsBlank};
     ghost use Rattle.xb_run.specs.Rings.{HaveRoom};
-    ghost use Rattle.xb_replay.specs.Marks.{marks_of, whole_tape, ArePrefixes, AreWhole};
     ghost use Rattle.xb_replay.specs.Turns.{SameRecords, Waits, HasEnded, AllEnded, NoneEnded, Stays, OthersStay, IsTurn, HasTurned, HasRefused};
-    ghost use Rattle.xb_replay.specs.World.{WorldLaw};
+    ghost use Rattle.xb_replay.specs.World.{WorldLaw, marks_of, whole_tape, ArePrefixes, AreWhole};
 
     /// All posts, with 1 to 8 senders, on new rings with room for 1 to 1,024 items each. Nothing was
     /// sent or received; `Err` where memory ran out.

@@ -5,10 +5,9 @@ use Rattle.xb_model.specs.declared.mark.Mark.{Mark}
 use Rattle.xb_model.specs.declared.on.On.{On}
 use Rattle.xb_model.specs.declared.order.Order.{Order}
 use Rattle.xb_flow.specs.Rings.{IsRing}
-use Rattle.xb_run.specs.Blank.{IsBlankStation}
 use Rattle.xb_run.specs.Laws.{SenderLaw}
-use Rattle.xb_run.specs.Made.{AreBranches}
-use Rattle.xb_run.specs.Posts.{Input, Output, SenderPost}
+use Rattle.xb_run.specs.Rings.{AreBranches}
+use Rattle.xb_run.specs.Posts.{IsBlankStation, Input, Output, SenderPost}
 use Rattle.xb_run.proofs.Pushes.{push-here, push-before, each-push}
 
 -- no branch

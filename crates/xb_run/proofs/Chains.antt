@@ -1,5 +1,5 @@
 -- The rings and posts, once all came back: what they make of the rows that were fed.
-use Rattle.std.proofs.Common.{◌≡◌, ℕ, ◌<◌, true, Option, None, Some, List, length, ◌++◌, sym, ap, ◌∙◌, subst, ⊎_elim}
+use Rattle.std.proofs.Common.{◌≡◌, ℕ, ◌<◌, true, None, Some, List, length, ◌++◌, sym, ap, ◌∙◌, subst, ⊎_elim}
 use Rattle.std.proofs.lemmas.Option.{none-some}
 use Rattle.rtrb.specs.Ring.{sent, received, IsPair, SameProducer, SameConsumer}
 use Rattle.xb_model.specs.declared.fault.RowFault.{RowFault}
@@ -35,7 +35,7 @@ use Rattle.xb_run.specs.Served.{IsUnserved, IsFaultOf, HaveServed}
 use Rattle.xb_run.specs.declared.fault.BankFault.{BankFault}
 use Rattle.xb_run.specs.declared.fault.BankFault.TheVariants.{NoMemory, NoThread, Rows}
 use Rattle.xb_run.specs.declared.done.StationDone.{StationDone}
-use Rattle.xb_run.specs.declared.posts.AllDone.{AllDone}
+use Rattle.xb_run.specs.declared.done.AllDone.{AllDone}
 use Rattle.xb_run.proofs.Pairs.{pairs-joined, pairs-flip, pairs-right, pairs-each, pairs-long}
 use Rattle.xb_run.proofs.Promises.{same_producer, same_consumer}
 
@@ -167,9 +167,3 @@ module _ (posts : Posts) (rest : Rest) (table : Table) (senders ring : ℕ) (don
     gather = promised.gather.served;
     tape = promised.tape.taped chain.laws.lost;
   }
-
--- a fault without one of the rows, whatever the stop
-pub fault_before : (senders : ℕ) (stop : Option RowFault) (fault : BankFault) → IsBankFault senders None fault → IsBankFault senders stop fault
-fault_before senders stop NoMemory h = tt
-fault_before senders stop (NoThread name) h = h
-fault_before senders stop (Rows fault) h = absurd (none-some fault h.0)

@@ -38,7 +38,7 @@ use Rattle.xb_run.specs.Returned.{IsSettled, AreSettled}
 use Rattle.xb_run.specs.Served.{AllServed, HaveServed}
 use Rattle.xb_run.specs.declared.done.StationDone.{StationDone}
 use Rattle.xb_run.specs.declared.done.Taped.TheVariants.{Served}
-use Rattle.xb_run.specs.declared.posts.AllDone.{AllDone}
+use Rattle.xb_run.specs.declared.done.AllDone.{AllDone}
 use Rattle.xb_run.proofs.Chains.{settled_items}
 use Rattle.xb_run.proofs.Pairs.{pairs-long, at_pair}
 

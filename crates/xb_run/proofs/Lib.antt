@@ -1,6 +1,7 @@
 pub mod BranchLists
 pub mod Chains
 pub mod Drained
+pub mod Joins
 pub mod Pairs
 pub mod Promises
 pub mod Pushes

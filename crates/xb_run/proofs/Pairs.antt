@@ -69,11 +69,6 @@ module _ {A B : Type 0} {R : A → B → Type 0} where
   pub pairs-none : {xs : List A} {ys : List B} → Pairs R xs ys → ys ≡ [] → xs ≡ []
   pairs-none {xs} {ys} h e = nil_from_length xs (long R xs ys h.all ∙ ap length e)
 
--- what is promised of what a handle was made with is promised of that
-pub pairs-made : {S H D : Type 0} (keeps : S → D → Type 0) (made : H → S) {ss : List S} {hs : List H} {ds : List D}
-    → Pairs (λ s h. made h ≡ s) ss hs → Pairs (λ h d. keeps (made h) d) hs ds → Pairs keeps ss ds
-pairs-made keeps made h k = pairs-joined (λ s h. made h ≡ s) (λ h d. keeps (made h) d) keeps (λ s h d e k. let P : _ → Type 0 = λ m. keeps m d in subst P e k) h k
-
 -- what holds at each place of two lists that are as long
 places : {X : Type 0} (R : X → X → Type 0) (xs ys : List X) → length ys ≡ length xs
     → ((j : ℕ) (d : X) → j < length xs → R (get_or xs j d) (get_or ys j d)) → AllZip R xs ys

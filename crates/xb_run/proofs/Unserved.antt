@@ -6,7 +6,7 @@ use Rattle.xb_flow.specs.declared.post.Post.{Post}
 use Rattle.xb_flow.specs.declared.post.Post.TheVariants.{Feed, Pulse, Register, Translate, Deal, Send, Gather, Tape}
 use Rattle.xb_run.specs.Served.{AllServed, IsUnserved}
 use Rattle.xb_run.specs.declared.done.StationDone.{StationDone}
-use Rattle.xb_run.specs.declared.posts.AllDone.{AllDone}
+use Rattle.xb_run.specs.declared.done.AllDone.{AllDone}
 
 one_of : {A B : Type 0} (backs : List (StationDone A B)) (n : ℕ) → n < length backs → ((d : StationDone A B) → (get_or backs n d).served ≡ false)
     → All (λ back. back.served ≡ true) backs → ⊥

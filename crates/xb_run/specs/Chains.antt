@@ -7,9 +7,8 @@ use Rattle.xb_flow.specs.Flows.{flow_of}
 use Rattle.xb_routes.specs.Table.{Table}
 use Rattle.xb_closes.specs.Fed.{fed}
 use Rattle.xb_posts.specs.Feeds.{to_come}
-use Rattle.xb_run.specs.Blank.{IsBlank}
 use Rattle.xb_run.specs.Laws.{StageLaws}
-use Rattle.xb_run.specs.Posts.{Posts}
+use Rattle.xb_run.specs.Posts.{IsBlank, Posts}
 use Rattle.xb_run.specs.Rings.{AreLinked, HaveRoom}
 use Rattle.xb_run.specs.declared.chain.Chain.{Chain}
 

@@ -1,4 +1,3 @@
-pub mod Blank
 pub mod Chains
 pub mod Faults
 pub mod Laws

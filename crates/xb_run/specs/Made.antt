@@ -1,11 +1,9 @@
 -- What is made of the chain, part by part.
-use Rattle.std.specs.Prelude.{◌≡◌, ℕ, true, false, List, [], length, Option}
-use Rattle.std.specs.List.{All}
+use Rattle.std.specs.Prelude.{◌≡◌, ℕ, true, false, List, [], Option}
 use Rattle.rtrb.specs.Ring.{sent, received, producer_capacity}
 use Rattle.xb_model.specs.declared.dialled.Dialled.{Dialled}
 use Rattle.xb_model.specs.declared.fault.RowFault.{RowFault}
 use Rattle.xb_model.specs.declared.limits.Limits.{Limits}
-use Rattle.xb_model.specs.declared.mark.Mark.{Mark}
 use Rattle.xb_model.specs.declared.on.On.{On}
 use Rattle.xb_model.specs.declared.order.Order.{Order}
 use Rattle.xb_model.specs.declared.plan.Plan.{Plan}
@@ -29,10 +27,9 @@ use Rattle.xb_routes.specs.Machine.{machine as translate_machine}
 use Rattle.xb_closes.specs.Fed.{fed}
 use Rattle.xb_posts.specs.Feeds.{to_come}
 use Rattle.xb_posts.specs.TapeStations.{TapeLaw}
-use Rattle.xb_run.specs.Blank.{IsBlankStation}
-use Rattle.xb_run.specs.Laws.{KeepsImage, SenderLaw}
-use Rattle.xb_run.specs.Posts.{Input, Output, FeedPost, StationPost, SenderPost, DealPost, GatherPost, TapePost}
-use Rattle.xb_run.specs.Rings.{AreDealt, AreGathered}
+use Rattle.xb_run.specs.Laws.{KeepsImage}
+use Rattle.xb_run.specs.Posts.{IsBlankStation, Input, FeedPost, StationPost, SenderPost, DealPost, GatherPost, TapePost}
+use Rattle.xb_run.specs.Rings.{AreBranches}
 
 -- posts from the rows of this source to orders by this table, on rings of this capacity through which
 -- nothing went, and the other end of the one that the orders go to
@@ -67,23 +64,6 @@ pub record IsOriginating
   pub blank_register : IsBlankStation register
   pub blank_translate : IsBlankStation translate
   pub blank_end : received end ≡ []
-
--- so many branches, each an output of the deal, a sender and an input of the gather
-pub record AreBranches
-    (count ring : ℕ) (outputs : List (Output (On Order))) (senders : List SenderPost)
-    (inputs : List (Input (On Mark)))
-    : Type 0 where
-  pub outputs_len : length outputs ≡ count
-  pub senders_len : length senders ≡ count
-  pub inputs_len : length inputs ≡ count
-  pub dealt : AreDealt outputs senders
-  pub gathered : AreGathered senders inputs
-  pub dealt_room : All (λ output. producer_capacity output ≡ ring) outputs
-  pub gathered_room : All (λ sender. producer_capacity sender.producer ≡ ring) senders
-  pub blank_outputs : All (λ output. sent output ≡ []) outputs
-  pub blank_senders : All IsBlankStation senders
-  pub lawful_senders : All SenderLaw senders
-  pub blank_inputs : All (λ input. received input ≡ []) inputs
 
 -- posts from the orders of this end to tapes, with so many senders, on rings of this capacity through
 -- which nothing went

@@ -1,9 +1,11 @@
 -- The posts of the chain, as one value.
-use Rattle.std.specs.Prelude.{List}
+use Rattle.std.specs.Prelude.{◌≡◌, ℕ, List, []}
+use Rattle.std.specs.List.{All}
 use Rattle.std.specs.declared.alloc.Global.{Global}
 use Rattle.rtrb.specs.declared.AnyItems.{AnyItems}
 use Rattle.rtrb.specs.declared.producer.Producer.{Producer}
 use Rattle.rtrb.specs.declared.consumer.Consumer.{Consumer}
+use Rattle.rtrb.specs.Ring.{sent, received}
 use Rattle.xb_model.specs.declared.dialled.Dialled.{Dialled}
 use Rattle.xb_model.specs.declared.limits.Limits.{Limits}
 use Rattle.xb_model.specs.declared.mark.Mark.{Mark}
@@ -12,7 +14,10 @@ use Rattle.xb_model.specs.declared.order.Order.{Order}
 use Rattle.xb_model.specs.declared.plan.Plan.{Plan}
 use Rattle.xb_model.specs.declared.signal.Signal.{Signal}
 use Rattle.xb_model.specs.Rows.{LoopRow}
+use Rattle.xb_model.specs.Tapes.{marks_at}
 use Rattle.xb_flow.specs.declared.flow.Flow.{Flow}
+use Rattle.xb_branches.specs.declared.gathered.Gathered.TheVariants.{Wants}
+use Rattle.xb_branches.specs.declared.held.Held.TheVariants.{Nothing}
 use Rattle.xb_branches.specs.Deals.{DealView}
 use Rattle.xb_branches.specs.Gathers.{GatherView}
 use Rattle.xb_station.specs.Stations.{StationView}
@@ -57,3 +62,23 @@ pub record Posts : Type 0 where
   pub senders : List SenderPost
   pub gather : GatherPost
   pub tape : TapePost
+
+-- a station that has received and sent nothing, and holds nothing
+abbrev pub IsBlankStation : {S I O : Type 0} → StationPost S I O → Type 0
+IsBlankStation s = (received s.consumer ≡ []) × (sent s.producer ≡ []) × (s.pending ≡ [])
+
+-- nothing was sent into any ring or received of it, no post holds anything, and no line has a mark
+pub record IsBlank (posts : Posts) : Type 0 where
+  pub feed : (sent posts.feed.producer ≡ []) × (posts.feed.held ≡ [])
+  pub pulse : IsBlankStation posts.pulse
+  pub register : IsBlankStation posts.register
+  pub translate : IsBlankStation posts.translate
+  pub deal_input : received posts.deal.consumer ≡ []
+  pub deal_outputs : All (λ output. sent output ≡ []) posts.deal.producers
+  pub deal_held : posts.deal.held ≡ Nothing
+  pub senders : All IsBlankStation posts.senders
+  pub gather_inputs : All (λ input. received input ≡ []) posts.gather.consumers
+  pub gather_output : sent posts.gather.producer ≡ []
+  pub gather_held : posts.gather.held ≡ Wants
+  pub tape : received posts.tape.consumer ≡ []
+  pub marks : (l : ℕ) → marks_at posts.tape.tapes l ≡ []

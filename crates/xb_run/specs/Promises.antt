@@ -33,7 +33,7 @@ use Rattle.xb_run.specs.declared.done.DealDone.{DealDone}
 use Rattle.xb_run.specs.declared.done.GatherDone.{GatherDone}
 use Rattle.xb_run.specs.declared.done.TapeDone.{TapeDone}
 use Rattle.xb_run.specs.declared.done.Taped.{Taped}
-use Rattle.xb_run.specs.declared.posts.AllDone.{AllDone}
+use Rattle.xb_run.specs.declared.done.AllDone.{AllDone}
 use Rattle.xb_run.specs.declared.done.Taped.TheVariants.{Stopped, Refused, Served}
 
 -- a mark that ends an entry

@@ -4,30 +4,26 @@ use Rattle.rtrb.specs.Ring.{sent, received, IsPair}
 use Rattle.xb_flow.specs.Flows.{IsEnded}
 use Rattle.xb_run.specs.Posts.{Output, Input}
 use Rattle.xb_run.specs.Pairs.{Pairs}
-use Rattle.xb_run.specs.declared.posts.AllDone.{AllDone}
+use Rattle.xb_run.specs.declared.done.AllDone.{AllDone}
 
--- the two ends of each ring, once the posts came back
-pub record AreRejoined (done : AllDone) : Type 0 where
-  pub rows : IsPair done.feed.producer done.pulse.consumer
-  pub signals : IsPair done.pulse.producer done.register.consumer
-  pub dialled : IsPair done.register.producer done.translate.consumer
-  pub orders : IsPair done.translate.producer done.deal.consumer
-  pub before : Pairs (λ end sender. IsPair end sender.consumer) done.deal.producers.items done.senders.items
-  pub after : Pairs (λ sender end. IsPair sender.producer end) done.senders.items done.gather.consumers.items
-  pub marks : IsPair done.gather.producer done.tape.consumer
+-- R holds of the two ends of each ring, once the posts came back
+pub record EachRing (R : (T : Type 0) → Output T → Input T → Type 0) (done : AllDone) : Type 0 where
+  pub rows : R _ done.feed.producer done.pulse.consumer
+  pub signals : R _ done.pulse.producer done.register.consumer
+  pub dialled : R _ done.register.producer done.translate.consumer
+  pub orders : R _ done.translate.producer done.deal.consumer
+  pub before : Pairs (λ end sender. R _ end sender.consumer) done.deal.producers.items done.senders.items
+  pub after : Pairs (λ sender end. R _ sender.producer end) done.senders.items done.gather.consumers.items
+  pub marks : R _ done.gather.producer done.tape.consumer
+
+-- they are the two ends of one ring
+abbrev pub AreRejoined : AllDone → Type 0
+AreRejoined done = EachRing (λ T p c. IsPair p c) done
 
 -- where both lists end with an End, all that was sent was received
 abbrev pub IsSettled : {T : Type 0} → Output T → Input T → Type 0
 IsSettled p c = IsEnded (received c) → IsEnded (sent p) → received c ≡ sent p
 
 -- each ring is settled
-pub record AreSettled (done : AllDone) : Type 0 where
-  pub rows : IsSettled done.feed.producer done.pulse.consumer
-  pub signals : IsSettled done.pulse.producer done.register.consumer
-  pub dialled : IsSettled done.register.producer done.translate.consumer
-  pub orders : IsSettled done.translate.producer done.deal.consumer
-  pub before :
-      Pairs (λ end sender. IsSettled end sender.consumer) done.deal.producers.items done.senders.items
-  pub after :
-      Pairs (λ sender end. IsSettled sender.producer end) done.senders.items done.gather.consumers.items
-  pub marks : IsSettled done.gather.producer done.tape.consumer
+abbrev pub AreSettled : AllDone → Type 0
+AreSettled done = EachRing (λ T p c. IsSettled p c) done

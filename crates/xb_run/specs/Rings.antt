@@ -6,7 +6,8 @@ use Rattle.xb_model.specs.declared.mark.Mark.{Mark}
 use Rattle.xb_model.specs.declared.on.On.{On}
 use Rattle.xb_model.specs.declared.order.Order.{Order}
 use Rattle.xb_flow.specs.Rings.{IsRing}
-use Rattle.xb_run.specs.Posts.{Output, Input, SenderPost, Posts}
+use Rattle.xb_run.specs.Laws.{SenderLaw}
+use Rattle.xb_run.specs.Posts.{IsBlankStation, Output, Input, SenderPost, Posts}
 
 -- the two ends of a ring with room for so many items, through which nothing went
 abbrev pub IsNewRing : {T : Type 0} → ℕ → Output T → Input T → Type 0
@@ -22,6 +23,23 @@ AreDealt outputs senders = (j : ℕ) (output : Output (On Order)) (sender : Send
 abbrev pub AreGathered : List SenderPost → List (Input (On Mark)) → Type 0
 AreGathered senders inputs = (j : ℕ) (sender : SenderPost) (input : Input (On Mark)) → j < length senders
     → IsRing (slice_index_or senders j sender).producer (slice_index_or inputs j input)
+
+-- so many branches, each an output of the deal, a sender and an input of the gather
+pub record AreBranches
+    (count ring : ℕ) (outputs : List (Output (On Order))) (senders : List SenderPost)
+    (inputs : List (Input (On Mark)))
+    : Type 0 where
+  pub outputs_len : length outputs ≡ count
+  pub senders_len : length senders ≡ count
+  pub inputs_len : length inputs ≡ count
+  pub dealt : AreDealt outputs senders
+  pub gathered : AreGathered senders inputs
+  pub dealt_room : All (λ output. producer_capacity output ≡ ring) outputs
+  pub gathered_room : All (λ sender. producer_capacity sender.producer ≡ ring) senders
+  pub blank_outputs : All (λ output. sent output ≡ []) outputs
+  pub blank_senders : All IsBlankStation senders
+  pub lawful_senders : All SenderLaw senders
+  pub blank_inputs : All (λ input. received input ≡ []) inputs
 
 -- each ring lies between its two posts: what was received of it, followed by what its consumer knows
 -- of, was sent into it

@@ -25,7 +25,7 @@ use Rattle.xb_run.specs.declared.done.Taped.{Taped}
 use Rattle.xb_run.specs.declared.done.Taped.TheVariants.{Stopped, Refused, Served}
 use Rattle.xb_run.specs.declared.fault.BankFault.{BankFault}
 use Rattle.xb_run.specs.declared.fault.BankFault.TheVariants.{NoMemory, NoThread, Rows}
-use Rattle.xb_run.specs.declared.posts.AllDone.{AllDone}
+use Rattle.xb_run.specs.declared.done.AllDone.{AllDone}
 
 -- the tape station was served
 abbrev pub tape_served : Taped → Bool

@@ -1,8 +1,9 @@
 // The branches between a deal and a gather.
 ghost use Rattle.std.specs.Prelude.{◌≤◌, IfOk};
 ghost use Rattle.xb_flow.specs.declared.ends.TheConstants.{GREATEST_CAPACITY};
-ghost use Rattle.xb_run.specs.Made.{AreBranches};
+ghost use Rattle.xb_run.specs.Rings.{AreBranches};
 
+use crate::originating::link_stage;
 use rtrb::{Consumer, Producer};
 use std::alloc::{AllocError, Global};
 use xb_flow::{Flow, link};
@@ -34,8 +35,7 @@ pub(crate) fn link_branches(
     let mut inputs = Vec::with_capacity(alloc, count)?;
     for _branch in 0..count {
         let (output, orders) = link(alloc, ring)?;
-        let (marks, input) = link(alloc, ring)?;
-        let sender = Station::new(alloc, Sender::new(), orders, marks)?;
+        let (sender, input) = link_stage(alloc, Sender::new(), orders, ring)?;
         outputs.push_reserved(output);
         senders.push_reserved(sender);
         inputs.push_reserved(input);

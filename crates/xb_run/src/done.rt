@@ -5,7 +5,7 @@ use std::sync::Wait;
 use std::time::Clock;
 use xb_branches::{Deal, Gather};
 use xb_flow::{Ending, Flow, Gate, Post};
-use xb_model::{LineStage, Mark, On, Row, RowFault, RowSource};
+use xb_model::{Dialled, LineStage, Mark, On, Order, Row, RowFault, RowSource, Signal};
 use xb_posts::{Feed, TapeStation};
 use xb_station::Station;
 use xb_tape::Tapes;
@@ -59,6 +59,19 @@ pub(crate) enum Taped {
 pub(crate) struct TapeDone {
     pub(crate) taped: Taped,
     pub(crate) consumer: Consumer<Flow<On<Mark>>>,
+}
+
+/// What all posts give back.
+#[derive(Drop)]
+pub(crate) struct AllDone {
+    pub(crate) feed: FeedDone,
+    pub(crate) pulse: StationDone<Row, On<Signal>>,
+    pub(crate) register: StationDone<On<Signal>, On<Dialled>>,
+    pub(crate) translate: StationDone<On<Dialled>, On<Order>>,
+    pub(crate) deal: DealDone<On<Order>>,
+    pub(crate) senders: Vec<StationDone<On<Order>, On<Mark>>>,
+    pub(crate) gather: GatherDone<On<Mark>>,
+    pub(crate) tape: TapeDone,
 }
 
 impl<S: RowSource + Drop> Threaded for Feed<S> {

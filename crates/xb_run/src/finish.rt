@@ -12,9 +12,8 @@ ghost use Rattle.xb_run.specs.Faults.{bank_fault_of};
 ghost use Rattle.xb_run.specs.Returned.{AreRejoined, AreSettled};
 ghost use Rattle.xb_run.specs.Served.{AllServed, IsUnserved, HaveServed, IsFaultOf};
 
-use crate::done::Taped;
+use crate::done::{AllDone, Taped};
 use crate::fault::BankFault;
-use crate::posts::AllDone;
 use crate::senders::{settle, settle_senders, unserved_sender};
 use xb_flow::Post;
 use xb_tape::Tapes;

@@ -23,7 +23,6 @@ mod fault;
 mod finish;
 mod originating;
 mod outgoing;
-mod posts;
 mod running;
 mod senders;
 mod start;

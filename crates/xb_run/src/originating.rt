@@ -7,7 +7,7 @@ ghost use Rattle.xb_flow.specs.declared.ends.TheConstants.{GREATEST_CAPACITY};
 ghost use Rattle.xb_model.specs.Rows.{LoopRow};
 ghost use Rattle.xb_model.specs.declared.fault.RowFault.{RowFault as Fault};
 ghost use Rattle.xb_posts.specs.Feeds.{to_come};
-ghost use Rattle.xb_run.specs.Blank.{IsBlankStation};
+ghost use Rattle.xb_run.specs.Posts.{IsBlankStation};
 ghost use Rattle.xb_run.specs.Laws.{KeepsImage};
 ghost use Rattle.xb_run.specs.Made.{IsOriginating};
 ghost use Rattle.xb_run.specs.Rings.{IsNewRing};
@@ -22,7 +22,8 @@ use xb_register::Register;
 use xb_routes::{RouteTable, Translate};
 use xb_station::Station;
 
-// The posts from rows to orders, and the end by which the orders are received.
+// The posts from rows to orders, and the end by which the orders are received. The chain is linked in two
+// halves: one function that owns all posts so far at each of eight early returns takes over two minutes.
 #[derive(Drop)]
 pub(crate) struct Originating<'t, S: RowSource> {
     pub(crate) feed: Feed<S>,
@@ -52,9 +53,9 @@ fn link_feed<S: RowSource + Drop>(
     Ok((feed, input))
 }
 
-// A station of the stage, from this end to a new ring of this capacity, and the other end of that;
-// `Err` where memory ran out.
-fn link_stage<S: LineStage + Drop>(
+/// A station of the stage, from this end to a new ring of this capacity, and the other end of that;
+/// `Err` where memory ran out.
+pub(crate) fn link_stage<S: LineStage + Drop>(
     alloc: Global,
     stage: S,
     input: Consumer<Flow<S::In>>,

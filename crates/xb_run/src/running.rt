@@ -11,23 +11,42 @@ ghost use Rattle.xb_run.specs.Promises.{PostsPromised};
 ghost use Rattle.xb_run.specs.Started.{HasRoom};
 
 use crate::chain::Chain;
+use crate::done::{AllDone, StationDone};
 use crate::fault::BankFault;
 use crate::finish::finish;
-use crate::posts::{AllDone, Room, join_posts, make_room, start_posts};
-use crate::start::{GO, STOP};
-use std::alloc::Global;
+use crate::senders::{join_senders, start_senders};
+use crate::start::{GO, Started, Starter, join};
+use std::alloc::{AllocError, Global};
 use std::sync::Wait;
 use std::sync::atomic::{AtomicU64, Ordering};
 use std::thread;
 use std::thread::{Scope, Threads};
 use std::time::Clock;
 use xb_flow::{Gate, Post};
-use xb_model::RowSource;
+use xb_model::{Mark, On, Order, RowSource};
 use xb_routes::RouteTable;
+use xb_sender::Sender;
+use xb_station::Station;
 use xb_tape::Tapes;
 
-// Serves the posts on threads of the scope, and joins them. Where a start is refused the threads that
-// wait are told to stop; the scope joins them.
+// Room for what comes of the starts of the senders, and for what these give back.
+#[derive(Drop)]
+struct Room {
+    started: Vec<Started<Station<Sender>>>,
+    done: Vec<StationDone<On<Order>, On<Mark>>>,
+}
+
+// Room for so many senders.
+fn make_room(alloc: Global, senders: usize) -> Result<Room, AllocError>
+    ensures { IfOk result (HasRoom senders) }
+{
+    let started = Vec::with_capacity(alloc, senders)?;
+    let done = Vec::with_capacity(alloc, senders)?;
+    Ok(Room { started, done })
+}
+
+// Starts the posts from the tape up to the feed, tells them to serve unless a start was refused, and
+// joins them. `Err` names the post whose start was refused.
 fn serve_all<
     's,
     't: 's,
@@ -48,16 +67,37 @@ fn serve_all<
     ensures promised { IfOk result (PostsPromised (posts_of chain.entry)) }
     ensures refused { IfErr result (IsPostOf (vec_len chain.entry.senders)) }
 {
-    let Room { handles, done } = room;
-    match start_posts(scope, rt, word, chain, handles, gate) {
-        Ok(handles) => {
-            word.store(GO, Ordering::SeqCst);
-            Ok(join_posts(rt, handles, done))
-        }
-        Err(post) => {
-            word.store(STOP, Ordering::SeqCst);
-            Err(post)
-        }
+    let mut starter = Starter {
+        scope,
+        rt,
+        word,
+        gate,
+        refused: None,
+    };
+    let tape = starter.start(Post::Tape, chain.tape);
+    let gather = starter.start(Post::Gather, chain.gather);
+    let senders = start_senders(&mut starter, chain.senders, room.started);
+    let deal = starter.start(Post::Deal, chain.deal);
+    let translate = starter.start(Post::Translate, chain.translate);
+    let register = starter.start(Post::Register, chain.register);
+    let pulse = starter.start(Post::Pulse, chain.pulse);
+    let feed = starter.start(Post::Feed, chain.feed);
+    if starter.refused.is_none() {
+        word.store(GO, Ordering::SeqCst);
+    }
+    let done = AllDone {
+        feed: join(rt, feed),
+        pulse: join(rt, pulse),
+        register: join(rt, register),
+        translate: join(rt, translate),
+        deal: join(rt, deal),
+        senders: join_senders(rt, senders, room.done),
+        gather: join(rt, gather),
+        tape: join(rt, tape),
+    };
+    match starter.refused {
+        Some(post) => Err(post),
+        None => Ok(done),
     }
 }
 
@@ -73,8 +113,8 @@ fn serve_posts<S: RowSource + Drop + Send, R: Threads + Wait + Clock + Sync, G: 
     ensures promised { IfOk result (PostsPromised (posts_of chain.entry)) }
     ensures refused { IfErr result (IsPostOf (vec_len chain.entry.senders)) }
 {
-    let word = AtomicU64::new(0);
-    let start_word = &word;
+    let told = AtomicU64::new(0);
+    let word = &told;
     thread::scope(
         thread::scope_env(),
         rt,
@@ -84,7 +124,7 @@ fn serve_posts<S: RowSource + Drop + Send, R: Threads + Wait + Clock + Sync, G: 
             requires types { IsSend S.row × IsSync R.row × IsSync G.row }
             ensures promised { IfOk result (PostsPromised (posts_of chain.entry)) }
             ensures refused { IfErr result (IsPostOf (vec_len chain.entry.senders)) }
-        { serve_all(scope, rt, start_word, chain, room, gate) },
+        { serve_all(scope, rt, word, chain, room, gate) },
     )
 }
 

@@ -1,23 +1,22 @@
 // The senders: their threads, and their ends in one thread again.
-ghost use Rattle.std.specs.Prelude.{◌≡◌, ◌≤◌, ◌<◌, [], reverse, vec_len, vec_capacity, slice_index_or, OnOk, IfErr, IfSome, true, false, None};
+ghost use Rattle.std.specs.Prelude.{◌≡◌, ◌≤◌, ◌<◌, [], List, reverse, vec_len, vec_capacity, slice_index_or, IfSome, true, false, None};
 ghost use Rattle.std.specs.List.{All};
 ghost use Rattle.rtrb.specs.Ring.{IsPair};
 ghost use Rattle.xb_branches.specs.declared.branches.TheConstants.{MOST_BRANCHES};
 ghost use Rattle.xb_run.specs.Pairs.{Pairs};
 ghost use Rattle.xb_run.specs.Faults.{IsPostOf};
 ghost use Rattle.xb_run.specs.Returned.{IsSettled};
+ghost use Rattle.xb_run.specs.Started.{IsStarted};
 
 use crate::done::StationDone;
-use crate::start::{Promised, Threaded, start};
+use crate::start::{Started, Starter, Threaded, join};
 use rtrb::{Consumer, Producer};
 use std::sync::Wait;
-use std::sync::atomic::AtomicU64;
-use std::thread::{PromisedHandle, Scope, Threads};
+use std::thread::Threads;
 use std::time::Clock;
 use xb_flow::{Flow, Gate, Post, look_at_both};
 
-/// Starts the senders from the last on, each on a thread of the scope. `Err` names the first whose
-/// start was refused.
+/// Starts the senders, from the last on.
 pub(crate) fn start_senders<
     's,
     E,
@@ -25,46 +24,42 @@ pub(crate) fn start_senders<
     R: Wait + Clock + Sync,
     G: Gate + Sync,
 >(
-    scope: &'s Scope<'s, E>,
-    rt: &'s R,
-    word: &'s AtomicU64,
+    starter: &mut Starter<'s, E, R, G>,
     mut senders: Vec<P>,
-    handles: &mut Vec<PromisedHandle<P::Done, Promised<P>>>,
-    gate: &'s G,
-) -> Result<(), Post>
+    mut started: Vec<Started<P>>,
+) -> Vec<Started<P>>
 where
     P::Done: Send + 's,
     requires few { vec_len senders ≤ MOST_BRANCHES }
-    requires none { handles.old.items ≡ [] }
-    requires room { vec_len senders ≤ vec_capacity handles.old }
-    ensures started { OnOk result (Pairs (λ sender handle. handle.promise.made.value ≡ sender)
-        senders.items (reverse handles.new.items)) }
-    ensures len { vec_len handles.new ≤ vec_len senders }
-    ensures refused { IfErr result (IsPostOf (vec_len senders)) }
+    requires none { started.items ≡ [] }
+    requires room { vec_len senders ≤ vec_capacity started }
+    ensures started { Pairs (IsStarted P.promised) senders.items (reverse result.items) }
+    ensures len { vec_len result ≤ vec_len senders }
+    ensures refused { IfSome starter.old.refused (IsPostOf (vec_len senders)) →
+        IfSome starter.new.refused (IsPostOf (vec_len senders)) }
 {
     while let Some(sender) = senders.pop() {
         let name = Post::Send(senders.len() as u8);
-        let handle = start(scope, rt, word, name, sender, gate)?;
-        handles.push_reserved(handle);
+        started.push_reserved(starter.start(name, sender));
     }
-    Ok(())
+    started
 }
 
 /// Joins the senders, from the last that was started on.
 pub(crate) fn join_senders<P: Threaded, R: Threads>(
     rt: &R,
-    mut handles: Vec<PromisedHandle<P::Done, Promised<P>>>,
-    all: &mut Vec<P::Done>,
-)
-    requires none { all.old.items ≡ [] }
-    requires room { vec_len handles ≤ vec_capacity all.old }
-    ensures { Pairs (λ handle done. P.promised handle.promise.made.value done)
-        (reverse handles.items) all.new.items }
+    mut started: Vec<Started<P>>,
+    mut all: Vec<P::Done>,
+) -> Vec<P::Done>
+    requires none { all.items ≡ [] }
+    requires room { vec_len started ≤ vec_capacity all }
+    ensures { (senders : List P) → Pairs (IsStarted P.promised) senders (reverse started.items) →
+        Pairs P.promised senders result.items }
 {
-    while let Some(handle) = handles.pop() {
-        let done = handle.join(rt);
-        all.push_reserved(done);
+    while let Some(sender) = started.pop() {
+        all.push_reserved(join(rt, sender));
     }
+    all
 }
 
 /// The first sender that was not served.

@@ -4,7 +4,7 @@ ghost use Rattle.std.specs.Prelude.{◌≡◌, IfOk, IfErr};
 use std::snapshot::Snapshot;
 use std::sync::Wait;
 use std::sync::atomic::{AtomicU64, Ordering};
-use std::thread::{Promise, PromisedHandle, Scope};
+use std::thread::{Promise, PromisedHandle, Scope, Threads};
 use std::time::Clock;
 use xb_flow::{Gate, Pause, Post};
 
@@ -54,46 +54,81 @@ impl<P: Threaded> Promise<P::Done> for Promised<P> {
     ghost kept_by = { λ promise done. P.promised promise.made.value done };
 }
 
-// Waits for the start word, and serves or stops.
-fn serve_when_told<P: Threaded, R: Wait + Clock, G: Gate>(
-    rt: &R,
-    word: &AtomicU64,
-    name: Post,
-    post: P,
-    gate: &G,
-) -> P::Done
-    ensures { P.promised post result }
-{
-    if is_told_to_go(rt, word) {
-        post.serve_out(rt, name, gate)
-    } else {
-        post.stop()
+/// What came of the start of a post: its thread, or what the post gave back without serving.
+pub(crate) type Started<P> = Result<
+    PromisedHandle<<P as Threaded>::Done, Promised<P>>,
+    <P as Threaded>::Done,
+>;
+
+/// Starts posts on threads of a scope, where they wait for the start word, up to the first start that
+/// the gate or the runtime refuses: then the word is to stop, and every other post stops at once.
+#[derive(Drop)]
+pub(crate) struct Starter<'s, E, R, G> {
+    pub(crate) scope: &'s Scope<'s, E>,
+    pub(crate) rt: &'s R,
+    pub(crate) word: &'s AtomicU64,
+    pub(crate) gate: &'s G,
+    /// The post whose start was refused.
+    pub(crate) refused: Option<Post>,
+}
+
+impl<'s, E, R: Wait + Clock + Sync, G: Gate + Sync> Starter<'s, E, R, G> {
+    ghost use Rattle.std.specs.Prelude.{ℕ, IfSome};
+    ghost use Rattle.xb_run.specs.Faults.{IsPostOf};
+    ghost use Rattle.xb_run.specs.Started.{IsStarted};
+
+    /// Starts a post, unless a start was refused.
+    pub(crate) fn start<P: Threaded + Drop + Send + 's>(
+        &mut self,
+        name: Post,
+        post: P,
+    ) -> Started<P>
+    where
+        P::Done: Send + 's,
+        ensures started { IsStarted P.promised post result }
+        ensures refused { (senders : ℕ) → IsPostOf senders name →
+            IfSome self.old.refused (IsPostOf senders) → IfSome self.new.refused (IsPostOf senders) }
+    {
+        if self.refused.is_some() {
+            return Err(post.stop());
+        }
+        let (rt, word, gate) = (self.rt, self.word, self.gate);
+        if !gate.admit(name) {
+            self.refused = Some(name);
+            word.store(STOP, Ordering::SeqCst);
+            return Err(post.stop());
+        }
+        let made = Snapshot::of(&post);
+        let serve = move || -> P::Done
+            ensures { P.promised post result }
+        {
+            if is_told_to_go(rt, word) {
+                post.serve_out(rt, name, gate)
+            } else {
+                post.stop()
+            }
+        };
+        match self.scope.spawn_with(Promised { made }, serve) {
+            Ok(handle) => Ok(handle),
+            Err(refused) => {
+                self.refused = Some(name);
+                word.store(STOP, Ordering::SeqCst);
+                Err((refused.value)())
+            }
+        }
     }
 }
 
-/// Starts a post on a thread of the scope, where it waits for the start word. Where the gate or the
-/// runtime refuses the start, `Err` names this post.
-pub(crate) fn start<'s, E, P: Threaded + Drop + Send + 's, R: Wait + Clock + Sync, G: Gate + Sync>(
-    scope: &'s Scope<'s, E>,
-    rt: &'s R,
-    word: &'s AtomicU64,
-    name: Post,
-    post: P,
-    gate: &'s G,
-) -> Result<PromisedHandle<P::Done, Promised<P>>, Post>
-where
-    P::Done: Send + 's,
-    ensures made { IfOk result (λ handle. handle.promise.made.value ≡ post) }
-    ensures refused { IfErr result (λ refused. refused ≡ name) }
+/// What a post gives back, once its thread has ended.
+pub(crate) fn join<D, Q: Promise<D>, R: Threads>(
+    rt: &R,
+    started: Result<PromisedHandle<D, Q>, D>,
+) -> D
+    ensures kept { IfOk started (λ handle. Q.kept_by handle.promise result) }
+    ensures stopped { IfErr started (λ done. result ≡ done) }
 {
-    if !gate.admit(name) {
-        return Err(name);
+    match started {
+        Ok(handle) => handle.join(rt),
+        Err(done) => done,
     }
-    let made = Snapshot::of(&post);
-    let serve = move || -> P::Done
-        ensures { P.promised post result }
-    { serve_when_told(rt, word, name, post, gate) };
-    scope
-        .spawn_with(Promised { made }, serve)
-        .map_err(|_error| name)
 }

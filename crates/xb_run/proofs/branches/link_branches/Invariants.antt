@@ -1,5 +1,5 @@
 use Rattle.std.proofs.Common.{◌≤◌, vec_capacity}
-use Rattle.xb_run.specs.Made.{AreBranches}
+use Rattle.xb_run.specs.Rings.{AreBranches}
 use Rattle.xb_run.proofs.branches.link_branches.Given as goal
 
 abbrev pub invariant-loop-branch : goal.invariant-loop-branch

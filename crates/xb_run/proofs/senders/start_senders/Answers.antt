@@ -8,8 +8,9 @@ loop-sender-init g c = record {
   split = sym (append-nil c.args.senders.items);
   zipped = pairs-at refl (sym (ap reverse c.requires.none)) pairs-nil;
   few = c.requires.few;
-  count = omega (arith, c.args.handles.now.ok.0, ap length c.requires.none);
-  room = omega (arith, c.args.handles.now.ok.0, ap length c.requires.none);
+  count = omega (arith, c.args.started.ok.0, ap length c.requires.none);
+  room = omega (arith, c.args.started.ok.0, ap length c.requires.none);
+  refused = λ h. h;
 }
 
 pub loop-sender-preserved : goal.loop-sender-preserved
@@ -19,8 +20,9 @@ loop-sender-preserved g c =
     let left = c.pop.new.self.items in record {
       done = sender ∷ inv.done;
       split = inv.split ∙ ap (λ l. l ++ inv.done) c.in-Some.ensures.items ∙ append_assoc left (sender ∷ []) inv.done;
-      zipped = pairs-started _ inv.zipped c.in_ok-handle.ensures.made c.push_reserved.ensures.items;
+      zipped = pairs-started _ inv.zipped c.start.ensures.started c.push_reserved.ensures.items;
       few = omega (arith, c.in-Some.ensures.cases);
       count = omega (arith, c.in-Some.ensures.cases, c.push_reserved.ensures.len);
       room = omega (arith, c.in-Some.ensures.cases, c.push_reserved.ensures.len, c.push_reserved.ensures.capacity);
+      refused = λ h. c.start.ensures.refused _ (omega (arith, c.in-Some.ensures.cases, inv.count)) (inv.refused h);
     }
