@@ -5,3 +5,4 @@ pub mod Records
 pub mod RoundedHolds
 pub mod JoinedRuns
 pub mod Told
+pub mod StepLemmas

@@ -4,6 +4,8 @@ pub mod Machine
 pub mod Bounces
 pub mod SettledLaws
 pub mod Times
+pub mod Numbers
+pub mod Steps
 pub mod Joints
 pub mod Listening
 pub mod TimeLaws

@@ -4,6 +4,10 @@ use Rattle.xb_contact.specs.declared.hold.Hold.{Hold}
 use Rattle.xb_contact.specs.Holds.{hold_of}
 use Rattle.xb_contact.specs.declared.scale.Scale.{Scale}
 
+-- so many ms are so many ticks
+abbrev pub scale_by : ℕ → ℕ → Scale
+scale_by ms ticks = record { ms = ms; ticks = ticks }
+
 -- the time of a tick in ms, to the nearest, a half rounded up
 abbrev pub ms_at : Scale → ℕ → ℕ
 ms_at scale tick = (tick * scale.ms + scale.ticks / 2) / scale.ticks

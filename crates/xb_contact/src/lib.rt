@@ -1,25 +1,33 @@
-//! A contact as it was recorded, and what it is once its bounces are settled, in ticks and in ms.
+//! A contact as it was recorded, and what it is once its bounces are settled, in ticks and in ms; and what recordings of
+//! all forms say, event by event.
 //!
 //! - `Settler::new` (`settles`): what the machine gives of any recording, hold by hold, and what is left at its end,
 //!   are the settled record. `Settler::take` is exactly the machine's step, and what it gives stands for good.
 //! - `Listener::take_until` and `end` are exactly the machine that settles a contact and gives it in ms.
 //! - `laws::is_exact_under_bounces`: bounces shorter than a settled run leave no trace. `laws::tells_the_record` and
 //!   `rounds_once`: each end of a run is rounded once, so that sums do not drift.
+//! - `Event` and `Refusal`: what a recording says of its wires, and why a part of it is refused. A form of recordings is
+//!   defined by what its lines say, step by step (`Steps`), and a refusal is told for the reason of the first line that
+//!   is refused (`IsRefusedBy`). `number_of` and `level_of` (`Numbers`) read numbers and levels as all forms write them.
 #![tactic(auto)]
 
+mod event;
 mod hold;
 mod joint;
 pub mod laws;
 mod level;
 mod listener;
+mod number;
 mod scale;
 mod settler;
 mod settling;
 
+pub use event::{Event, Refusal, is_before, say};
 pub use hold::Hold;
 pub use joint::{Joint, joined_by};
 pub use level::Level;
 pub use listener::Listener;
+pub use number::{digit_after, level_of, number_after, number_of};
 pub use scale::{NANOSECONDS, Scale};
 pub use settler::Settler;
 pub use settling::Settling;

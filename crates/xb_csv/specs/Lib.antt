@@ -2,3 +2,4 @@ pub mod Cells
 pub mod Seconds
 pub mod Tables
 pub mod WorkedTables
+pub mod Gpiomons

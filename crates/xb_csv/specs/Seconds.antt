@@ -1,10 +1,9 @@
 -- Times in seconds.
-use Rattle.std.specs.Prelude.{ℕ, ◌+◌, ◌-◌, ◌*◌, ◌^◌, List, [], ◌++◌, Bool, true, false, Option, Some, None, codes, drop, nat_eq, nat_lt, replicate, take, ◌||◌, if◌then◌else◌}
+use Rattle.std.specs.Prelude.{ℕ, ◌+◌, ◌-◌, ◌*◌, ◌^◌, List, [], ◌++◌, Bool, true, false, Option, Some, None, codes, drop, nat_eq, nat_lt, replicate, take, if◌then◌else◌}
 use Rattle.std.specs.List.{list_all, starts_with}
 use Rattle.std.specs.Option.{option_and_then, unwrap_or}
 use Rattle.xb_text.specs.Pieces.{cut_at}
-use Rattle.xb_vcd.specs.Numbers.{digit_after, number_in, number_of}
-use Rattle.xb_vcd.specs.VcdTexts.{is_digit}
+use Rattle.xb_contact.specs.Numbers.{is_digit, number_in, number_of}
 
 abbrev pub is_number : List ℕ → Bool
 is_number text = list_all is_digit text
@@ -16,9 +15,6 @@ fitting number = if nat_lt number (2 ^ 64) then Some number else None
 -- the nanoseconds of a fraction: its first nine digits, zeros where it has fewer
 abbrev pub nine_digits : List ℕ → List ℕ
 nine_digits text = take 9 (text ++ replicate 9 48)
-
-abbrev pub number_after : ℕ → ℕ → Option ℕ
-number_after number byte = if nat_lt byte 48 || nat_lt 57 byte then None else digit_after 10 number (byte - 48)
 
 abbrev pub fraction_of : List ℕ → Option ℕ
 fraction_of text = if is_number text then number_in 0 (nine_digits text) else None

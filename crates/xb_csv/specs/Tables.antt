@@ -1,18 +1,18 @@
 -- Tables of levels, line by line.
-use Rattle.std.specs.Prelude.{ℕ, ◌+◌, ◌*◌, List, [], ◌∷◌, Bool, true, false, Option, Some, None, Result, Ok, Err, bytes_eq, codes, length, map, nat_eq, nat_lt, ◌==◌, ◌&&◌, ◌||◌, if◌then◌else◌, slice_get}
+use Rattle.std.specs.Prelude.{ℕ, ◌+◌, ◌*◌, List, [], ◌∷◌, Bool, Option, Some, None, Result, Ok, Err, bytes_eq, codes, length, map, nat_eq, nat_lt, ◌==◌, ◌&&◌, ◌||◌, if◌then◌else◌, slice_get}
 use Rattle.std.specs.List.{starts_with}
 use Rattle.std.specs.Option.{ok_or, option_and_then}
 use Rattle.xb_contact.specs.declared.scale.Scale.{Scale}
 use Rattle.xb_contact.specs.declared.scale.TheConstants.{NANOSECONDS}
 use Rattle.xb_text.specs.Pieces.{cut_at}
-use Rattle.xb_vcd.specs.declared.event.Event.{Event}
-use Rattle.xb_vcd.specs.declared.event.Event.TheVariants.{At, Ticks}
-use Rattle.xb_vcd.specs.declared.event.Refusal.{Refusal}
-use Rattle.xb_vcd.specs.declared.event.Refusal.TheVariants as refusals
-use Rattle.xb_vcd.specs.Numbers.{number_of}
-use Rattle.xb_vcd.specs.Steps.{Said, result_and_then, result_map, said_before, say_to_end}
-use Rattle.xb_vcd.specs.VcdChanges.{Times, level_event, times_of}
-use Rattle.xb_vcd.specs.VcdTexts.{scale_by}
+use Rattle.xb_contact.specs.declared.event.Event.{Event}
+use Rattle.xb_contact.specs.declared.event.Event.TheVariants as events
+use Rattle.xb_contact.specs.declared.event.Refusal.{Refusal}
+use Rattle.xb_contact.specs.declared.event.Refusal.TheVariants as refusals
+use Rattle.xb_contact.specs.declared.level.Level.{Level}
+use Rattle.xb_contact.specs.Numbers.{level_of, number_of}
+use Rattle.xb_contact.specs.Steps.{Said, is_before, result_and_then, result_map, said_before, say_to_end}
+use Rattle.xb_contact.specs.Times.{scale_by}
 use Rattle.xb_csv.specs.declared.columns.Clock.{Clock}
 use Rattle.xb_csv.specs.declared.columns.Clock.TheVariants as clocks
 use Rattle.xb_csv.specs.declared.columns.Columns.{Columns}
@@ -22,14 +22,14 @@ use Rattle.xb_csv.specs.Cells.{after, cell_number, cells_of, trimmed}
 use Rattle.xb_csv.specs.Seconds.{fitting, nanoseconds_of}
 
 -- the form, the wires that are asked for, their columns, when a row is, how many samples a second has, where that is
--- known, and the time of the last row
+-- known, and the time of the last row, if there is one
 pub record TableState : Type 0 where
   pub form : Form
   pub names : List (List ℕ)
   pub columns : List ℕ
   pub clock : Clock
   pub rate : Option ℕ
-  pub times : Times
+  pub last : Option ℕ
 
 -- what a reader of a table knows
 abbrev pub table_state : Columns → TableState
@@ -39,7 +39,7 @@ table_state table = record {
   columns = table.columns.items;
   clock = table.clock;
   rate = table.rate;
-  times = times_of table.last table.has_time;
+  last = table.last;
 }
 
 -- nothing has been read
@@ -50,7 +50,7 @@ begun_table form names rate = record {
   columns = [];
   clock = clocks.Unknown;
   rate = rate;
-  times = times_of 0 false;
+  last = None;
 }
 
 -- the columns of wires: each is the first cell that is the wire's name
@@ -111,7 +111,7 @@ is_comment line = starts_with nat_eq line (codes ";") || starts_with nat_eq line
 
 -- a header says how long a tick is, and when a row is
 abbrev pub begins_rows : TableState → Clock → Scale → Said TableState
-begins_rows state clock scale = Ok (Ticks scale ∷ [], record state { clock = clock })
+begins_rows state clock scale = Ok (events.Ticks scale ∷ [], record state { clock = clock })
 
 -- where it has no time column, each row is a sample
 abbrev pub samples_begin : TableState → Option ℕ → Said TableState
@@ -174,28 +174,28 @@ no_header state =
     result_and_then (λ columns. begins_rows (record state { columns = columns }) clocks.Seconds NANOSECONDS)
     (numbered_columns state.names)
 
+-- the tick after the last one
+abbrev pub tick_after : Option ℕ → Option ℕ
+tick_after None = Some 0
+tick_after (Some last) = fitting (last + 1)
+
 -- when a row is: its first cell says it, or each row is a tick
-abbrev pub row_time : Clock → Times → List ℕ → Option ℕ
-row_time clocks.Unknown times cell = None
-row_time clocks.Ticks times cell = number_of cell
-row_time clocks.Seconds times cell = nanoseconds_of cell
-row_time clocks.Rows times cell = if times.has_time then fitting (times.last + 1) else Some 0
+abbrev pub row_time : Clock → Option ℕ → List ℕ → Option ℕ
+row_time clocks.Unknown last cell = None
+row_time clocks.Ticks last cell = number_of cell
+row_time clocks.Seconds last cell = nanoseconds_of cell
+row_time clocks.Rows last cell = tick_after last
 
--- the levels of a row: 0 and 1 alone
-abbrev pub level_of_cell : List ℕ → Option Bool
-level_of_cell cell =
-    if bytes_eq cell (codes "0") then Some false else (if bytes_eq cell (codes "1") then Some true else None)
-
--- that of a wire, in its column
-abbrev pub level_in : Option (List ℕ) → Result Bool Refusal
+-- the levels of a row, each in the column of its wire
+abbrev pub level_in : Option (List ℕ) → Result Level Refusal
 level_in None = Err refusals.Columns
-level_in (Some cell) = ok_or (level_of_cell cell) refusals.Level
+level_in (Some cell) = ok_or (level_of cell) refusals.Level
 
 abbrev pub levels_from : ℕ → ℕ → List (List ℕ) → List ℕ → Result (List Event) Refusal
 levels_from wire before cells [] = Ok []
 levels_from wire before cells (column ∷ columns) =
     result_and_then
-    (λ is_high. result_map (λ rest. level_event wire is_high ∷ rest) (levels_from (wire + 1) before cells columns))
+    (λ level. result_map (λ rest. events.Level wire level ∷ rest) (levels_from (wire + 1) before cells columns))
     (level_in (slice_get cells (before + column)))
 
 -- the columns before those that sigrok names: that of the time
@@ -208,15 +208,15 @@ columns_before clocks.Rows = 0
 -- a row: its time, not before the last one, and the levels of the wires
 abbrev pub row_at : TableState → List (List ℕ) → ℕ → Said TableState
 row_at state cells time =
-    if state.times.has_time && nat_lt time state.times.last then Err refusals.Backwards
-    else result_map (λ levels. (At time ∷ levels, record state { times = times_of time true }))
+    if is_before time state.last then Err refusals.Backwards
+    else result_map (λ levels. (events.At time ∷ levels, record state { last = Some time }))
     (levels_from 0 (columns_before state.clock) cells state.columns)
 
 abbrev pub row_says : TableState → List ℕ → Said TableState
 row_says state line =
     result_and_then
     (λ cell. result_and_then (row_at state (cells_of line))
-    (ok_or (row_time state.clock state.times cell) refusals.Time))
+    (ok_or (row_time state.clock state.last cell) refusals.Time))
     (ok_or (slice_get (cells_of line) 0) refusals.Columns)
 
 -- a line of each form, by whether its header has come
@@ -257,10 +257,10 @@ abbrev pub ends_at : Clock → ℕ → Result (List Event) Refusal
 ends_at clocks.Unknown last = Ok []
 ends_at clocks.Ticks last = Ok []
 ends_at clocks.Seconds last = Ok []
-ends_at clocks.Rows last = result_map (λ time. At time ∷ []) (ok_or (fitting (last + 1)) refusals.Time)
+ends_at clocks.Rows last = result_map (λ time. events.At time ∷ []) (ok_or (fitting (last + 1)) refusals.Time)
 
 abbrev pub table_ends : TableState → Result (List Event) Refusal
-table_ends state = if state.times.has_time then ends_at state.clock state.times.last else Err refusals.Header
+table_ends state = result_and_then (ends_at state.clock) (ok_or state.last refusals.Header)
 
 -- the lines of a table from a state on, and its end
 abbrev pub table_says : TableState → List (List ℕ) → Result (List Event) Refusal

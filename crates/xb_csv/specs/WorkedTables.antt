@@ -1,8 +1,9 @@
 -- Times and tables, each with what it says.
 use Rattle.std.specs.Prelude.{◌≡◌, ℕ, ◌+◌, ◌-◌, ◌^◌, List, [], ◌∷◌, Some, None, Ok, Err, codes}
-use Rattle.xb_vcd.specs.declared.event.Event.TheVariants.{At, High, Low, Ticks}
-use Rattle.xb_vcd.specs.declared.event.Refusal.TheVariants as refusals
-use Rattle.xb_vcd.specs.VcdTexts.{scale_by}
+use Rattle.xb_contact.specs.declared.event.Event.TheVariants.{At, Level, Ticks}
+use Rattle.xb_contact.specs.declared.event.Refusal.TheVariants as refusals
+use Rattle.xb_contact.specs.declared.level.Level.TheVariants.{Open, Closed}
+use Rattle.xb_contact.specs.Times.{scale_by}
 use Rattle.xb_csv.specs.declared.columns.Form.TheVariants as forms
 use Rattle.xb_csv.specs.Seconds.{nanoseconds_of}
 use Rattle.xb_csv.specs.Tables.{TableState, begun_table, table_says}
@@ -37,22 +38,22 @@ pub record TablesAreRead : Type 0 where
   pub sigrok :
       table_says of_sigrok
       (codes "; CSV" ∷ two_names ∷ codes "milliseconds,logic,logic" ∷ codes "5,1,0" ∷ codes "15,1,1" ∷ [] ∷ [])
-      ≡ Ok (Ticks (scale_by 1 1) ∷ At 5 ∷ Low 0 ∷ At 15 ∷ High 0 ∷ [])
+      ≡ Ok (Ticks (scale_by 1 1) ∷ At 5 ∷ Level 0 Open ∷ At 15 ∷ Level 0 Closed ∷ [])
   pub samples :
       table_says of_sigrok
       (two_names ∷ codes "; Samplerate: 10 kHz" ∷ codes "logic,logic" ∷ codes "1,0" ∷ codes "1,1" ∷ [])
-      ≡ Ok (Ticks (scale_by 1000 10000) ∷ At 0 ∷ Low 0 ∷ At 1 ∷ High 0 ∷ At 2 ∷ [])
+      ≡ Ok (Ticks (scale_by 1000 10000) ∷ At 0 ∷ Level 0 Open ∷ At 1 ∷ Level 0 Closed ∷ At 2 ∷ [])
   pub no_rate : table_says of_sigrok (two_names ∷ codes "logic,logic" ∷ codes "1,0" ∷ []) ≡ Err refusals.NoRate
   pub no_unit : table_says of_sigrok (two_names ∷ codes "Time,logic,logic" ∷ codes "0,1,0" ∷ []) ≡ Err refusals.NoUnit
   pub no_names : table_says of_sigrok (codes "milliseconds,logic,logic" ∷ codes "5,1,0" ∷ []) ≡ Err refusals.Header
   pub saleae :
       table_says of_saleae
       (codes "Time [s],D0,D1" ∷ codes "-0.005000000,1,0" ∷ codes "0.005000000,1,1" ∷ [])
-      ≡ Ok (Ticks (scale_by 1 1000000) ∷ At (2 ^ 62 - 5000000) ∷ Low 0 ∷ At (2 ^ 62 + 5000000) ∷ High 0 ∷ [])
+      ≡ Ok (Ticks (scale_by 1 1000000) ∷ At (2 ^ 62 - 5000000) ∷ Level 0 Open ∷ At (2 ^ 62 + 5000000) ∷ Level 0 Closed ∷ [])
   pub no_wire : table_says of_saleae (codes "Time [s],D0" ∷ codes "0,1" ∷ []) ≡ Err refusals.NoWire
   pub edges :
       table_says of_edges (codes "1.5, 0" ∷ [] ∷ codes "1.51,1" ∷ [])
-      ≡ Ok (Ticks (scale_by 1 1000000) ∷ At (2 ^ 62 + 1500000000) ∷ Low 0 ∷ At (2 ^ 62 + 1510000000) ∷ High 0 ∷ [])
+      ≡ Ok (Ticks (scale_by 1 1000000) ∷ At (2 ^ 62 + 1500000000) ∷ Level 0 Open ∷ At (2 ^ 62 + 1510000000) ∷ Level 0 Closed ∷ [])
   pub backwards : table_says of_edges (codes "2,0" ∷ codes "1,1" ∷ []) ≡ Err refusals.Backwards
   pub no_level : table_says of_edges (codes "1,x" ∷ []) ≡ Err refusals.Level
   pub no_column : table_says of_edges (codes "1" ∷ []) ≡ Err refusals.Columns

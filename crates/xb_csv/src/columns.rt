@@ -1,18 +1,16 @@
 // Tables of levels, row by row.
-ghost use Rattle.std.specs.Prelude.{◌≡◌, ◌+◌, ◌≤◌, [], Ok, IfErr, OnOk, map};
-ghost use Rattle.xb_vcd.specs.Steps.{Adds, AddsAll, IsRefusedBy};
-ghost use Rattle.xb_vcd.specs.VcdChanges.{times_of};
+ghost use Rattle.std.specs.Prelude.{◌≡◌, ◌+◌, ◌∷◌, ◌≤◌, [], Ok, IfErr, OnOk, map};
+ghost use Rattle.xb_contact.specs.Steps.{Adds, AddsAll, IsRefusedBy};
 ghost use Rattle.xb_csv.specs.Cells.{cells_of};
-ghost use Rattle.xb_csv.specs.Tables.{begun_table, begins_rows, columns_before, comment_says, edges_row, ends_at, levels_from, line_of_form, names_say, no_header, row_at, row_says, row_time, saleae_begins, saleae_header, saleae_row, samples_begin, sigrok_by_unit, sigrok_header, sigrok_line, sigrok_row, table_ends, table_line_says, table_state, unit_of_label};
+ghost use Rattle.xb_csv.specs.Tables.{begun_table, begins_rows, columns_before, comment_says, edges_row, ends_at, levels_from, line_of_form, names_say, no_header, row_at, row_says, row_time, saleae_begins, saleae_header, saleae_row, samples_begin, sigrok_by_unit, sigrok_header, sigrok_line, sigrok_row, table_ends, table_line_says, table_says, table_state, unit_of_label};
 
 use crate::cells::{after, cell_at, trimmed};
 use crate::labels::{is_comment, rate_in, refusal_of_label, unit_of_label};
 use crate::seconds::nanoseconds_of;
-use crate::wires::{find_columns, level_of_cell, number_columns};
+use crate::wires::{find_columns, number_columns};
 use std::alloc::Global;
-use xb_contact::{NANOSECONDS, Scale};
+use xb_contact::{Event, NANOSECONDS, Refusal, Scale, is_before, level_of, number_of, say};
 use xb_text::cut_at;
-use xb_vcd::{Event, Refusal, number_of, say, say_level};
 
 /// The form of a table.
 #[derive(Clone, Copy, Debug, PartialEq, Eq)]
@@ -48,8 +46,7 @@ pub struct Columns<'a> {
     columns: Vec<u16>,
     clock: Clock,
     rate: Option<u64>,
-    last: u64,
-    has_time: bool,
+    last: Option<u64>,
 }
 
 // The columns before those that sigrok names: that of the time.
@@ -75,8 +72,7 @@ impl<'a> Columns<'a> {
             columns: Vec::new(alloc),
             clock: Clock::Unknown,
             rate,
-            last: 0,
-            has_time: false,
+            last: None,
         }
     }
 
@@ -203,13 +199,15 @@ impl<'a> Columns<'a> {
 
     // The time of a row with this first cell.
     fn row_time(&self, cell: &[u8]) -> Option<u64>
-        ensures { result ≡ row_time self.now.clock (times_of self.now.last self.now.has_time) cell.now }
+        ensures { result ≡ row_time self.now.clock self.now.last cell.now }
     {
         match self.clock {
             Clock::Seconds => nanoseconds_of(cell),
             Clock::Ticks => number_of(cell),
-            Clock::Rows if self.has_time => self.last.checked_add(1),
-            Clock::Rows => Some(0),
+            Clock::Rows => match self.last {
+                Some(last) => last.checked_add(1),
+                None => Some(0),
+            },
             Clock::Unknown => None,
         }
     }
@@ -227,8 +225,8 @@ impl<'a> Columns<'a> {
             let Some(cell) = cell_at(line, before + usize::from(*column)) else {
                 return Err(Refusal::Columns);
             };
-            match level_of_cell(cell) {
-                Some(is_high) => say_level(events, wire, is_high)?,
+            match level_of(cell) {
+                Some(level) => say(events, Event::Level(wire, level))?,
                 None => return Err(Refusal::Level),
             }
         }
@@ -247,11 +245,10 @@ impl<'a> Columns<'a> {
         ensures refused { IfErr result (IsRefusedBy
             (row_at (table_state self.old) (cells_of line.now) time)) }
     {
-        if self.has_time && time < self.last {
+        if is_before(time, self.last) {
             return Err(Refusal::Backwards);
         }
-        self.last = time;
-        self.has_time = true;
+        self.last = Some(time);
         say(events, Event::At(time))?;
         self.say_levels(line, events)
     }
@@ -352,14 +349,14 @@ impl<'a> Columns<'a> {
         self.take_by_form(line, events)
     }
 
-    // The last row of samples lasts a tick too.
-    fn end_samples(&self, events: &mut Vec<Event>) -> Result<(), Refusal>
+    // The end after a row at this time: one of samples lasts a tick too.
+    fn end_at(&self, last: u64, events: &mut Vec<Event>) -> Result<(), Refusal>
         ensures said { OnOk result
-            (AddsAll (ends_at self.now.clock self.now.last) events.old.items events.new.items) }
-        ensures refused { IfErr result (IsRefusedBy (ends_at self.now.clock self.now.last)) }
+            (AddsAll (ends_at self.now.clock last) events.old.items events.new.items) }
+        ensures refused { IfErr result (IsRefusedBy (ends_at self.now.clock last)) }
     {
         match self.clock {
-            Clock::Rows => match self.last.checked_add(1) {
+            Clock::Rows => match last.checked_add(1) {
                 Some(time) => say(events, Event::At(time)),
                 None => Err(Refusal::Time),
             },
@@ -367,15 +364,27 @@ impl<'a> Columns<'a> {
         }
     }
 
-    /// The end of the file. Where each row is a tick, the last one lasts a tick too.
-    pub fn end(&self, events: &mut Vec<Event>) -> Result<(), Refusal>
+    // The end, after some row.
+    fn say_end(&self, events: &mut Vec<Event>) -> Result<(), Refusal>
         ensures said { OnOk result
             (AddsAll (table_ends (table_state self.now)) events.old.items events.new.items) }
         ensures refused { IfErr result (IsRefusedBy (table_ends (table_state self.now))) }
     {
-        if !self.has_time {
-            return Err(Refusal::Header);
+        match self.last {
+            Some(last) => self.end_at(last, events),
+            None => Err(Refusal::Header),
         }
-        self.end_samples(events)
+    }
+
+    /// The last line, and the end. Where each row is a tick, the last one lasts a tick too. After an `Err` the reader is
+    /// not to be used again.
+    pub fn end(&mut self, line: &[u8], events: &mut Vec<Event>) -> Result<(), Refusal>
+        requires { events.old.items ≡ [] }
+        ensures said { OnOk result
+            (table_says (table_state self.old) (line.now ∷ []) ≡ Ok events.new.items) }
+        ensures refused { IfErr result (IsRefusedBy (table_says (table_state self.old) (line.now ∷ []))) }
+    {
+        self.take_line(line, events)?;
+        self.say_end(events)
     }
 }

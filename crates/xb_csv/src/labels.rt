@@ -1,12 +1,11 @@
 // What the words before the rows say: the unit of a time column, and the rate of the samples.
 ghost use Rattle.std.specs.Prelude.{◌≡◌};
-ghost use Rattle.xb_vcd.specs.VcdTexts.{scale_by};
+ghost use Rattle.xb_contact.specs.Times.{scale_by};
 ghost use Rattle.xb_csv.specs.Tables.{hertz_of, is_comment, label_refused, rate_by, rate_in, rate_of, unit_of_label};
 
 use crate::cells::{after, trimmed};
-use xb_contact::Scale;
+use xb_contact::{Refusal, Scale, number_of};
 use xb_text::cut_at;
-use xb_vcd::{Refusal, number_of};
 
 // So many ms are so many ticks.
 fn scale_by(ms: u64, ticks: u64) -> Scale

@@ -1,14 +1,17 @@
-//! Tables of levels, as recordings of contacts: the CSV of sigrok and of Saleae, and times with levels.
+//! Recordings of contacts by lines of cells or words: tables of levels, which are the CSV of sigrok and of Saleae, and
+//! times with levels; and what gpiomon writes.
 //!
-//! - `Columns::take_line` and `Columns::end` (`table_line_says`, `table_ends`): exactly what a line and the end of a
-//!   table say of the wires that are asked for, or why they are refused (`IsRefusedBy`), unless memory ran out. What a
-//!   whole table says is `table_says`.
+//! - `Columns::take_line` and `Columns::end` (`table_line_says`, `table_says`): exactly what a line of a table says of the
+//!   wires that are asked for, and its last line with its end, or why they are refused (`IsRefusedBy`), unless memory ran
+//!   out. `Gpiomon::take_line` and `Gpiomon::end` (`gpiomon_line_says`, `gpiomon_says`) are the same for what gpiomon
+//!   writes.
 //! - `trimmed` and `cell_at` (`Cells`): the cells of a line, without the blanks around them.
 //! - `nanoseconds_of` (`Seconds`): a time in seconds, with a sign where it is below 0, to the nanosecond.
 #![tactic(auto)]
 
 mod cells;
 mod columns;
+mod gpiomon;
 mod labels;
 pub mod laws;
 mod seconds;
@@ -16,4 +19,5 @@ mod wires;
 
 pub use cells::{cell_at, trimmed};
 pub use columns::{Columns, Form};
+pub use gpiomon::{Gpiomon, is_of_gpiomon};
 pub use seconds::nanoseconds_of;

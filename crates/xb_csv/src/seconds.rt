@@ -1,9 +1,9 @@
 // Times in seconds.
 ghost use Rattle.std.specs.Prelude.{◌≡◌, ◌+◌, ◌<◌, ◌∷◌, drop};
-ghost use Rattle.xb_csv.specs.Seconds.{fraction_of, is_number, nanoseconds_of, nine_digits, number_after, unsigned_nanoseconds};
+ghost use Rattle.xb_csv.specs.Seconds.{fraction_of, is_number, nanoseconds_of, nine_digits, unsigned_nanoseconds};
 
+use xb_contact::{number_after, number_of};
 use xb_text::cut_at;
-use xb_vcd::{digit_after, number_of};
 
 // Nine digits of a fraction; further ones are left out.
 const FRACTION_DIGITS: usize = 9;
@@ -28,16 +28,6 @@ fn digit_at(text: &[u8], place: usize) -> u8
     } else {
         b'0'
     }
-}
-
-// A number with a further byte after it, if that is a digit.
-fn number_after(number: u64, byte: u8) -> Option<u64>
-    ensures { result ≡ number_after number byte }
-{
-    if byte < b'0' || byte > b'9' {
-        return None;
-    }
-    digit_after(10, number, byte - b'0')
 }
 
 // The nanoseconds that the digits of a fraction write.

@@ -1,12 +1,12 @@
-// The columns of the wires, and their levels.
+// The columns of the wires.
 ghost use Rattle.std.specs.Prelude.{◌≡◌, Ok, IfErr, OnOk, map};
-ghost use Rattle.xb_vcd.specs.Steps.{IsRefusedBy};
+ghost use Rattle.xb_contact.specs.Steps.{IsRefusedBy};
 ghost use Rattle.xb_csv.specs.Cells.{cells_of};
-ghost use Rattle.xb_csv.specs.Tables.{column_number, columns_in, level_of_cell, numbered_columns};
+ghost use Rattle.xb_csv.specs.Tables.{column_number, columns_in, numbered_columns};
 
 use crate::cells::cell_of;
 use std::alloc::AllocError;
-use xb_vcd::{Refusal, number_of};
+use xb_contact::{Refusal, number_of};
 
 // The columns of wires in a line with their names.
 pub(crate) fn find_columns(
@@ -52,15 +52,4 @@ pub(crate) fn number_columns(names: &[&str], columns: &mut Vec<u16>) -> Result<(
         }
     }
     Ok(())
-}
-
-// The level that stands in a cell.
-pub(crate) fn level_of_cell(cell: &[u8]) -> Option<bool>
-    ensures { result ≡ level_of_cell cell.now }
-{
-    match cell {
-        b"0" => Some(false),
-        b"1" => Some(true),
-        _ => None,
-    }
 }

@@ -1,14 +1,14 @@
 -- Why a recording is refused.
 use Rattle.std.proofs.Common.{◌≡◌, ℕ, List, [], ◌++◌, true, None, Some, drop, ap, inl, inr, refl, sym, subst, ◌∙◌}
-use Rattle.std.specs.Prelude.{Result, Ok, Err, IfErr, length}
+use Rattle.std.specs.Prelude.{Err, length}
 use Rattle.xb_csv.specs.Tables.{table_says}
 use Rattle.xb_csv.specs.declared.columns.Form.{Form}
 use Rattle.xb_csv.specs.declared.columns.Form.TheVariants as forms
 use Rattle.xb_vcd.specs.VcdTexts.{vcd_says}
-use Rattle.xb_vcd.specs.declared.event.Event.{Event}
-use Rattle.xb_vcd.specs.declared.event.Refusal.{Refusal}
-use Rattle.xb_vcd.specs.declared.event.Refusal.TheVariants as refusals
-use Rattle.xb_vcd.specs.Steps.{IsOnly}
+use Rattle.xb_contact.specs.declared.event.Event.{Event}
+use Rattle.xb_contact.specs.declared.event.Refusal.{Refusal}
+use Rattle.xb_contact.specs.declared.event.Refusal.TheVariants as refusals
+use Rattle.xb_contact.specs.Steps.{IsOnly}
 use Rattle.xb_samples.specs.declared.bits.Bits.{Bits}
 use Rattle.xb_samples.specs.declared.sound.Sound.{Sound}
 use Rattle.xb_samples.specs.declared.wav.WavFormat.{WavFormat}
@@ -24,15 +24,8 @@ use Rattle.xb_recording.specs.declared.reader.Reader.{Reader}
 use Rattle.xb_recording.specs.declared.reader.Source.{Source}
 use Rattle.xb_recording.specs.declared.reader.Source.TheVariants as sources
 use Rattle.xb_recording.specs.declared.wanted.Wanted.{Wanted}
-use Rattle.xb_recording.specs.Gpiomons.{gpiomon_says}
+use Rattle.xb_csv.specs.Gpiomons.{gpiomon_says}
 use Rattle.xb_recording.specs.Says.{IsBegunBits, IsBegunGpiomon, IsBegunSound, IsBegunTable, IsBegunVcd, IsBegunWav, IsLongText, IsOfFormat, IsRefused, IsTooLong, KeepsRefusals, LinesComeTo, Refuses, RefusesSamples, RefusesText, SamplesRefused, SourceRefused, TableRefused, TakesText, WavRefused, is_text, lines_in, lines_left, names_in, plain_lines, text_lines}
-
--- what follows from two facts about a refusal
-pub err_both :
-    {T : Type 0} (P Q R : Refusal → Type 0) (r : Result T Refusal)
-    → ((refusal : Refusal) → P refusal → Q refusal → R refusal) → IfErr r P → IfErr r Q → IfErr r R
-err_both P Q R (Ok value) f p q = tt
-err_both P Q R (Err refusal) f p q = f refusal p q
 
 -- a text is refused by its lines
 lines_refused :

@@ -2,9 +2,9 @@
 use Rattle.std.proofs.Common.{◌≡◌, ℕ, ℤ, List, [], ◌∷◌, ◌++◌, true, false, Option, None, Some, refl, ap, sym, subst, ◌∙◌, append_assoc, drop}
 use Rattle.std.specs.Prelude.{Result, Ok, Err}
 use Rattle.std.specs.Result.{result_unwrap_or}
-use Rattle.xb_vcd.specs.declared.event.Event.{Event}
-use Rattle.xb_vcd.specs.declared.event.Refusal.{Refusal}
-use Rattle.xb_vcd.specs.Steps.{AddsAll, result_and_then, result_map}
+use Rattle.xb_contact.specs.declared.event.Event.{Event}
+use Rattle.xb_contact.specs.declared.event.Refusal.{Refusal}
+use Rattle.xb_contact.specs.Steps.{AddsAll, result_and_then, result_map}
 use Rattle.xb_vcd.specs.VcdChanges.{VcdState}
 use Rattle.xb_vcd.specs.VcdTexts.{begun_vcd, vcd_says}
 use Rattle.xb_csv.specs.declared.columns.Form.{Form}
@@ -19,7 +19,7 @@ use Rattle.xb_samples.specs.declared.sound.Sound.{Sound}
 use Rattle.xb_samples.specs.declared.wav.WavFormat.{WavFormat}
 use Rattle.xb_samples.specs.declared.wav.WavHead.{WavHead}
 use Rattle.xb_samples.specs.Wavs.{Samples, TakesHead}
-use Rattle.xb_recording.specs.Gpiomons.{GpiomonState, gpiomon_says, gpiomon_with}
+use Rattle.xb_csv.specs.Gpiomons.{GpiomonState, gpiomon_says, gpiomon_with}
 use Rattle.xb_recording.specs.declared.wanted.Wanted.{Wanted}
 use Rattle.xb_csv.specs.Tables.{table_says}
 use Rattle.xb_samples.specs.Pieces.{SamplesSay, samples_events}

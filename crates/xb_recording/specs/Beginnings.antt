@@ -8,7 +8,7 @@ use Rattle.xb_recording.specs.declared.beginning.Told.{Told}
 use Rattle.xb_recording.specs.declared.beginning.Told.TheVariants as tolds
 use Rattle.xb_recording.specs.declared.format.Format.{Format}
 use Rattle.xb_recording.specs.declared.format.Format.TheVariants as formats
-use Rattle.xb_recording.specs.Gpiomons.{edge_of}
+use Rattle.xb_csv.specs.Gpiomons.{edge_of}
 use Rattle.xb_recording.specs.Says.{text_lines}
 
 -- the header of Saleae begins with the label of its time

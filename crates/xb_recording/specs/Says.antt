@@ -1,7 +1,7 @@
 -- What a recording says, whatever its form.
 use Rattle.std.specs.Prelude.{◌≡◌, ◌≢◌, ◌⊎◌, ◌+◌, ◌^◌, ◌≤◌, ◌<◌, ℕ, ℤ, Option, List, [], ◌∷◌, ◌++◌, Bool, true, false, ◌==◌, if◌then◌else◌, None, Some, Result, Ok, Err, drop, length, map, nat_eq}
 use Rattle.std.specs.List.{starts_with}
-use Rattle.xb_vcd.specs.declared.event.Event.{Event}
+use Rattle.xb_contact.specs.declared.event.Event.{Event}
 use Rattle.xb_csv.specs.declared.columns.Form.{Form}
 use Rattle.xb_csv.specs.declared.columns.Form.TheVariants as forms
 use Rattle.xb_recording.specs.declared.format.TheConstants.{BYTE_ORDER_MARK}
@@ -12,15 +12,15 @@ use Rattle.xb_recording.specs.declared.reader.TheConstants.{MOST_LINE_BYTES}
 use Rattle.xb_recording.specs.declared.reader.Source.{Source}
 use Rattle.xb_recording.specs.declared.reader.Source.TheVariants as sources
 use Rattle.xb_recording.specs.declared.wanted.Wanted.{Wanted}
-use Rattle.xb_vcd.specs.declared.event.Refusal.{Refusal}
-use Rattle.xb_vcd.specs.declared.event.Refusal.TheVariants as refusals
-use Rattle.xb_vcd.specs.Steps.{AddsAll, result_and_then, then_later}
+use Rattle.xb_contact.specs.declared.event.Refusal.{Refusal}
+use Rattle.xb_contact.specs.declared.event.Refusal.TheVariants as refusals
+use Rattle.xb_contact.specs.Steps.{AddsAll, result_and_then, then_later}
 use Rattle.xb_vcd.specs.VcdChanges.{vcd_state}
 use Rattle.xb_vcd.specs.VcdTexts.{begun_vcd, vcd_says}
 use Rattle.xb_samples.specs.Pieces.{SamplesSay, SayTheSame}
 use Rattle.xb_samples.specs.Samples.{IsNewBits, bits_reading, bits_say, bits_state, rate_says}
 use Rattle.xb_samples.specs.declared.wav.WavFormat.{WavFormat}
-use Rattle.xb_recording.specs.Gpiomons.{gpiomon_says, gpiomon_state, gpiomon_with}
+use Rattle.xb_csv.specs.Gpiomons.{gpiomon_says, gpiomon_state, gpiomon_with}
 use Rattle.xb_samples.specs.Wavs.{HeadBegins, IsNewHead, IsWav, Samples}
 use Rattle.xb_samples.specs.Sounds.{IsNewSound, SoundSays, high_of, own_bytes, samples_of, sound_begins, sound_says, sound_state, wires_of}
 use Rattle.xb_csv.specs.Tables.{begun_table, table_says, table_state}

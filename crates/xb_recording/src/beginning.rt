@@ -4,8 +4,7 @@ ghost use Rattle.xb_recording.specs.Beginnings.{IsTold, TellsNothingYet, all_pas
 ghost use Rattle.xb_recording.specs.Says.{text_lines};
 
 use crate::format::{Format, without_mark};
-use crate::gpiomon::is_of_gpiomon;
-use xb_csv::{cell_at, nanoseconds_of, trimmed};
+use xb_csv::{cell_at, is_of_gpiomon, nanoseconds_of, trimmed};
 use xb_text::cut_at;
 
 /// What the beginning of a recording tells of its form.

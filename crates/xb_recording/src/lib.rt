@@ -3,25 +3,21 @@
 //! does not understand.
 //!
 //! - `Reader::take_byte`, `take_samples` and `end` (`Takes`, `RestSays`): exactly what the whole recording says of
-//!   these wires, in pieces of any length (`Says`): of a VCD (`xb_vcd`), of the CSV forms and of times with levels
-//!   (`xb_csv`), of what gpiomon writes (`Gpiomons`), of raw samples, of samples of 16 bits, and of a WAV
-//!   (`xb_samples`). A piece of samples may also say up to when the levels hold.
+//!   these wires, in pieces of any length (`Says`): of a VCD (`xb_vcd`), of the CSV forms, of times with levels and of
+//!   what gpiomon writes (`xb_csv`), of raw samples, of samples of 16 bits, and of a WAV (`xb_samples`). A piece of
+//!   samples may also say up to when the levels hold.
 //! - They refuse only what is refused whatever follows, and for the reason that they give (`Refuses`, `RefusesForm`,
 //!   `RefusesEnd`; `IsRefused` for a whole recording), a text line of more than 65,536 bytes, and 2^64 ticks, or memory
 //!   ran out. `text_line` and `line` then tell the line that is refused (`Places`).
 //! - `told_format` (`form_told` in `Beginnings`): the form that the beginning tells, whatever follows.
-//! - `vcd_of_changes` (`vcd_text`): the VCD of what wires do. It is read back: it says exactly that.
 #![tactic(auto)]
 
 mod beginning;
 mod format;
-mod gpiomon;
 mod reader;
 mod wanted;
-mod written;
 
 pub use beginning::{Told, told_format};
 pub use format::{Format, format_of};
 pub use reader::Reader;
 pub use wanted::Wanted;
-pub use written::{Change, vcd_of_changes};

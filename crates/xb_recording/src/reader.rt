@@ -1,24 +1,20 @@
 // The reader of a recording, whatever its form.
-ghost use Rattle.std.specs.Prelude.{◌≡◌, ◌≢◌, ◌≤◌, [], ◌∷◌, ℕ, Ok, true, false, IfErr, IfOk, OnErr, OnOk, List, Result as Outcome, length};
-ghost use Rattle.xb_csv.specs.Tables.{table_says, table_state};
-ghost use Rattle.xb_vcd.specs.declared.event.Event.{Event as EventTaken};
-ghost use Rattle.xb_vcd.specs.declared.event.Refusal.{Refusal as Reason};
-ghost use Rattle.xb_vcd.specs.declared.event.Refusal.TheVariants.{NoMemory};
-ghost use Rattle.xb_vcd.specs.Steps.{IsRefusedBy, then_later};
-ghost use Rattle.xb_vcd.specs.VcdChanges.{vcd_state};
-ghost use Rattle.xb_vcd.specs.VcdTexts.{vcd_says};
+ghost use Rattle.std.specs.Prelude.{◌≡◌, ◌≢◌, ◌≤◌, [], ◌∷◌, ℕ, true, false, IfErr, IfOk, OnErr, OnOk, List, Result as Outcome, length};
+ghost use Rattle.xb_contact.specs.declared.event.Event.{Event as EventTaken};
+ghost use Rattle.xb_contact.specs.declared.event.Refusal.{Refusal as Reason};
+ghost use Rattle.xb_contact.specs.declared.event.Refusal.TheVariants.{NoMemory};
+ghost use Rattle.xb_contact.specs.Steps.{then_later};
 ghost use Rattle.xb_recording.specs.declared.wanted.Wanted.{Wanted as WantedHere};
-ghost use Rattle.xb_recording.specs.Gpiomons.{gpiomon_says, gpiomon_state};
 ghost use Rattle.xb_recording.specs.Places.{line_number, lines_ended, lines_ended_by, sample_number};
 ghost use Rattle.xb_recording.specs.Says.{Begins, BeginsRefusals, BytesSay, IsOfFormat, KeepsRefusals, LinesComeTo, LinesSay, Refuses, RefusesEnd, RefusesForm, RefusesLine, RefusesSamples, RefusesText, RestRefused, RestSays, SourceRefused, Takes, TakesBytes, TakesSamples, TakesText, is_in_first, is_text, line_so_far, plain_line};
 
 use crate::format::{Format, without_mark};
-use crate::gpiomon::Gpiomon;
 use crate::wanted::Wanted;
 use std::alloc::{AllocError, Global};
-use xb_csv::{Columns, Form};
+use xb_contact::{Event, Refusal};
+use xb_csv::{Columns, Form, Gpiomon};
 use xb_samples::{Bits, Sound, WavFormat, WavHead};
-use xb_vcd::{Event, Refusal, Vcd};
+use xb_vcd::Vcd;
 
 // The longest line of a recording.
 const MOST_LINE_BYTES: usize = 65_536;
@@ -94,41 +90,6 @@ fn take_line_of(
     }
 }
 
-// The last line of a VCD, and its end.
-fn end_vcd(vcd: &mut Vcd<'_>, line: &[u8], events: &mut Vec<Event>) -> Result<(), Refusal>
-    requires { events.old.items ≡ [] }
-    ensures said { OnOk result (vcd_says (vcd_state vcd.old) (line.now ∷ []) ≡ Ok events.new.items) }
-    ensures refused { IfErr result (IsRefusedBy (vcd_says (vcd_state vcd.old) (line.now ∷ []))) }
-{
-    vcd.take_line(line, events)?;
-    vcd.end()
-}
-
-// The last line of a table, and its end.
-fn end_table(table: &mut Columns<'_>, line: &[u8], events: &mut Vec<Event>) -> Result<(), Refusal>
-    requires { events.old.items ≡ [] }
-    ensures said { OnOk result (table_says (table_state table.old) (line.now ∷ []) ≡ Ok events.new.items) }
-    ensures refused { IfErr result (IsRefusedBy (table_says (table_state table.old) (line.now ∷ []))) }
-{
-    table.take_line(line, events)?;
-    table.end(events)
-}
-
-// The last line of gpiomon.
-fn end_gpiomon(
-    gpiomon: &mut Gpiomon<'_>,
-    line: &[u8],
-    events: &mut Vec<Event>,
-) -> Result<(), Refusal>
-    requires { events.old.items ≡ [] }
-    ensures said { OnOk result
-        (gpiomon_says (gpiomon_state gpiomon.old) (line.now ∷ []) ≡ Ok events.new.items) }
-    ensures refused { IfErr result (IsRefusedBy
-        (gpiomon_says (gpiomon_state gpiomon.old) (line.now ∷ []))) }
-{
-    gpiomon.take_line(line, events)
-}
-
 // The last line of a text, and the end of a recording.
 fn end_source(source: &mut Source<'_>, line: &[u8], events: &mut Vec<Event>) -> Result<(), Refusal>
     requires { events.old.items ≡ [] }
@@ -138,9 +99,9 @@ fn end_source(source: &mut Source<'_>, line: &[u8], events: &mut Vec<Event>) -> 
         → SourceRefused wanted source.old (line.now ∷ []) [] e) }
 {
     match source {
-        Source::Vcd(vcd) => end_vcd(vcd, line, events),
-        Source::Columns(table) => end_table(table, line, events),
-        Source::Gpiomon(gpiomon) => end_gpiomon(gpiomon, line, events),
+        Source::Vcd(vcd) => vcd.end(line, events),
+        Source::Columns(columns) => columns.end(line, events),
+        Source::Gpiomon(gpiomon) => gpiomon.end(line, events),
         Source::Bits(bits) => bits.end(events),
         Source::WavHead(_) => Err(Refusal::Wav),
         Source::Sound(sound) => sound.end(events),

@@ -4,11 +4,11 @@ use Rattle.std.proofs.Math.Bool.{not, not-not}
 use Rattle.std.proofs.lemmas.Bool.Decides.{nat_tests}
 use Rattle.std.specs.Option.{option_eq}
 use Rattle.std.proofs.lemmas.List.{at_drop_all, at_drop_more}
-use Rattle.xb_vcd.specs.declared.event.Event.{Event}
-use Rattle.xb_vcd.specs.declared.event.Event.TheVariants.{At}
-use Rattle.xb_vcd.specs.VcdChanges.{level_event}
+use Rattle.xb_contact.specs.declared.event.Event.{Event}
+use Rattle.xb_contact.specs.declared.event.Event.TheVariants as events
+use Rattle.xb_contact.specs.declared.level.Level.{Level}
 use Rattle.xb_samples.specs.Pieces.{begins_later}
-use Rattle.xb_samples.specs.Samples.{BitsState, after_sample, bits_of, bits_reading, is_same, is_set, sample_events, sample_levels}
+use Rattle.xb_samples.specs.Samples.{BitsState, after_sample, bits_of, bit_level, bits_reading, is_same, sample_events, sample_levels}
 use Rattle.xb_samples.proofs.WaitLemmas.{SayWhen}
 
 pub bits_say_when : SayWhen bits_reading
@@ -16,19 +16,19 @@ bits_say_when state sample later h = at (is_same state.last sample) h
   where
     at :
         (same : Bool) → begins_later later ≡ true
-        → begins_later (cond same [] (At state.count ∷ sample_levels 0 state.masks sample) ++ later) ≡ true
+        → begins_later (cond same [] (events.At state.count ∷ sample_levels 0 state.masks sample) ++ later) ≡ true
     at true e = e
     at false e = refl
 
 -- the level of one more wire
 pub level_more :
-    (masks : List ℕ) (i sample : ℕ) (level : Bool) (mid now all : List Event) → i < length masks
-    → level ≡ is_set sample (get_or masks i 0) → now ≡ mid ++ level_event i level ∷ []
+    (masks : List ℕ) (i sample : ℕ) (level : Level) (mid now all : List Event) → i < length masks
+    → level ≡ bit_level sample (get_or masks i 0) → now ≡ mid ++ events.Level i level ∷ []
     → mid ++ sample_levels i (drop i masks) sample ≡ all → now ++ sample_levels (i + 1) (drop (i + 1) masks) sample ≡ all
 level_more masks i sample level mid now all h is e so_far =
     let rest : List Event = sample_levels (i + 1) (drop (i + 1) masks) sample in
-    ap (λ (n : List Event). n ++ rest) e ∙ append_assoc mid (level_event i level ∷ []) rest
-    ∙ ap (λ (l : Bool). mid ++ (level_event i l ∷ rest)) is
+    ap (λ (n : List Event). n ++ rest) e ∙ append_assoc mid (events.Level i level ∷ []) rest
+    ∙ ap (λ (l : Level). mid ++ (events.Level i l ∷ rest)) is
     ∙ sym (at_drop_more (λ (k : List ℕ). mid ++ sample_levels i k sample) masks i 0 h) ∙ so_far
 
 pub levels_whole :
@@ -57,12 +57,12 @@ last-is (Some own) sample e =
 -- what it says
 pub sample_says :
     (state : BitsState) (sample : ℕ) (differs : Bool) (old told new : List Event)
-    → differs ≡ not (option_eq eqb state.last (Some sample)) → differs ≡ true → told ≡ old ++ At state.count ∷ []
+    → differs ≡ not (option_eq eqb state.last (Some sample)) → differs ≡ true → told ≡ old ++ events.At state.count ∷ []
     → new ≡ told ++ sample_levels 0 state.masks sample → new ≡ old ++ sample_events state sample
 sample_says state sample differs old told new e is f g =
     let levels : List Event = sample_levels 0 state.masks sample in
-    g ∙ ap (λ (t : List Event). t ++ levels) f ∙ append_assoc old (At state.count ∷ []) levels
-    ∙ ap (λ (same : Bool). old ++ cond same [] (At state.count ∷ levels))
+    g ∙ ap (λ (t : List Event). t ++ levels) f ∙ append_assoc old (events.At state.count ∷ []) levels
+    ∙ ap (λ (same : Bool). old ++ cond same [] (events.At state.count ∷ levels))
     (sym (same-by state.last sample differs e ∙ ap not is))
 
 pub sample_silent :
@@ -71,7 +71,7 @@ pub sample_silent :
     → new ≡ old ++ sample_events state sample
 sample_silent state sample differs old new e is f =
     f ∙ sym (append-nil old)
-    ∙ ap (λ (same : Bool). old ++ cond same [] (At state.count ∷ sample_levels 0 state.masks sample))
+    ∙ ap (λ (same : Bool). old ++ cond same [] (events.At state.count ∷ sample_levels 0 state.masks sample))
     (sym (same-by state.last sample differs e ∙ ap not is))
 
 pub last_stays :

@@ -1,14 +1,16 @@
 -- What is heard of disturbed samples.
-use Rattle.std.proofs.Common.{◌≡◌, ℤ, ◌+ℤ◌, ◌-ℤ◌, ◌≤ℤ◌, [], ◌∷◌, Bool, true, false, refl, ap, ◌∙◌, arith}
+use Rattle.std.proofs.Common.{◌≡◌, ℤ, ◌+ℤ◌, ◌-ℤ◌, ◌≤ℤ◌, [], ◌∷◌, refl, ap, ◌∙◌, arith}
 use Rattle.std.proofs.lemmas.Int.{ints}
+use Rattle.xb_contact.specs.declared.level.Level.{Level}
+use Rattle.xb_contact.specs.declared.level.Level.TheVariants.{Open, Closed}
 use Rattle.xb_samples.specs.Hysteresis.{IsHeard, IsNear, HearsEachLevel, value_of}
 
 -- the level of one sample
 one_level :
-    (low high most u v : ℤ) (was heard level : Bool) (sample : ℤ) → (u +ℤ most) ≤ℤ low → high ≤ℤ (v -ℤ most)
+    (low high most u v : ℤ) (was heard level : Level) (sample : ℤ) → (u +ℤ most) ≤ℤ low → high ≤ℤ (v -ℤ most)
     → IsHeard low high was sample heard → IsNear most (value_of u v level) sample → heard ≡ level
-one_level low high most u v was heard true sample a b is near = is.rises (omega (arith, ints, b, near.above))
-one_level low high most u v was heard false sample a b is near = is.falls (omega (arith, ints, a, near.below))
+one_level low high most u v was heard Closed sample a b is near = is.rises (omega (arith, ints, b, near.above))
+one_level low high most u v was heard Open sample a b is near = is.falls (omega (arith, ints, a, near.below))
 
 pub hears_each_level : HearsEachLevel
 hears_each_level low high most u v was [] [] [] a b is near = refl

@@ -4,12 +4,12 @@ use Rattle.std.proofs.lemmas.List.{at_drop_all, at_drop_more}
 use Rattle.std.specs.Borrow.{Bor}
 use Rattle.std.specs.Option.{ok_or}
 use Rattle.std.specs.Prelude.{Err, None, Ok, Option, Result, Some}
-use Rattle.xb_vcd.specs.declared.event.Refusal.{Refusal}
-use Rattle.xb_vcd.specs.declared.event.Refusal.TheVariants.{NoWire}
-use Rattle.xb_vcd.specs.Steps.{result_and_then, result_map}
+use Rattle.xb_contact.specs.declared.event.Refusal.{Refusal}
+use Rattle.xb_contact.specs.declared.event.Refusal.TheVariants.{NoWire}
+use Rattle.xb_contact.specs.Steps.{result_and_then, result_map}
 use Rattle.xb_samples.specs.declared.sound.Channel.{Channel}
 use Rattle.xb_samples.specs.Samples.{mask_of, masks_of}
-use Rattle.xb_samples.specs.Sounds.{channel_of, low_wire, wires_of}
+use Rattle.xb_samples.specs.Sounds.{channel_of, open_wire, wires_of}
 
 -- the texts of names
 abbrev pub texts : List (Bor (List ℕ)) → List (List ℕ)
@@ -68,12 +68,12 @@ pub wires_more :
     (channels : ℕ) (names : List (Bor (List ℕ))) (i : ℕ) (none : Bor (List ℕ)) (before now : List Channel) (number : ℕ)
     (all : Result (List Channel) Refusal)
     → i < length names → Some number ≡ channel_of channels (get_or names i none).now
-    → now ≡ before ++ low_wire number ∷ []
+    → now ≡ before ++ open_wire number ∷ []
     → result_map (λ later. before ++ later) (wires_of channels (texts (drop i names))) ≡ all
     → result_map (λ later. now ++ later) (wires_of channels (texts (drop (i + 1) names))) ≡ all
 unfolding named
 wires_more channels names i none before now number all h is e so_far =
-    named-more low_wire before now number (wires_of channels (texts (drop (i + 1) names)))
+    named-more open_wire before now number (wires_of channels (texts (drop (i + 1) names)))
     (channel_of channels (get_or names i none).now) is e
     ∙ sym (at_drop_more (λ more. result_map (λ later. before ++ later) (wires_of channels (texts more))) names i none h)
     ∙ so_far
@@ -95,4 +95,4 @@ unfolding named
 wires_refused channels names i none wires all h is so_far =
     sym so_far
     ∙ at_drop_more (λ more. result_map (λ later. wires ++ later) (wires_of channels (texts more))) names i none h
-    ∙ ap (named low_wire wires (wires_of channels (texts (drop (i + 1) names)))) (sym is)
+    ∙ ap (named open_wire wires (wires_of channels (texts (drop (i + 1) names)))) (sym is)

@@ -2,8 +2,8 @@
 use Rattle.std.proofs.Common.{◌≡◌, ℕ, ◌+◌, ◌<◌, ◌≤◌, sym, subst, arith}
 use Rattle.std.specs.Prelude.{◌≢◌, Err, Ok, Result}
 use Rattle.std.specs.Result.{IfErr, IsErrAnd, OnOk}
-use Rattle.xb_vcd.specs.declared.event.Refusal.{Refusal}
-use Rattle.xb_vcd.specs.declared.event.Refusal.TheVariants.{NoMemory}
+use Rattle.xb_contact.specs.declared.event.Refusal.{Refusal}
+use Rattle.xb_contact.specs.declared.event.Refusal.TheVariants.{NoMemory}
 use Rattle.xb_samples.specs.Pieces.{RunsOver}
 
 -- where one more tick cannot be counted, nor can all of them

@@ -4,11 +4,12 @@ use Rattle.std.proofs.lemmas.List.{at_drop_all, at_drop_more, drop-set-lt, take_
 use Rattle.std.proofs.lemmas.Bool.Decides.{nat_tests}
 use Rattle.std.proofs.lemmas.Int.{ints}
 use Rattle.std.specs.Prelude.{Err, Ok, Result, nat_lt}
-use Rattle.xb_vcd.specs.declared.event.Event.{Event}
-use Rattle.xb_vcd.specs.declared.event.Event.TheVariants.{At}
-use Rattle.xb_vcd.specs.declared.event.Refusal.{Refusal}
-use Rattle.xb_vcd.specs.Steps.{AddsAll, IsRefusedBy, result_and_then, result_map}
-use Rattle.xb_vcd.specs.VcdChanges.{level_event}
+use Rattle.xb_contact.specs.declared.event.Event.{Event}
+use Rattle.xb_contact.specs.declared.event.Event.TheVariants as events
+use Rattle.xb_contact.specs.declared.event.Refusal.{Refusal}
+use Rattle.xb_contact.specs.Steps.{AddsAll, IsRefusedBy, result_and_then, result_map}
+use Rattle.xb_contact.specs.declared.level.Level.{Level}
+use Rattle.xb_contact.specs.declared.level.Level.TheVariants.{Open, Closed}
 use Rattle.xb_samples.specs.declared.sound.Channel.{Channel}
 use Rattle.xb_samples.specs.declared.sound.Sound.{Sound}
 use Rattle.xb_samples.specs.Hysteresis.{IsHeard}
@@ -19,37 +20,37 @@ use Rattle.xb_samples.proofs.WaitLemmas.{SayWhen, after-piece, piece-piece, piec
 
 -- what is heard of a sample
 level-by :
-    (high sample : ℤ) (was level : Bool) (above below : Bool) → pos 0 <ℤ high
+    (high sample : ℤ) (was level : Level) (above below : Bool) → pos 0 <ℤ high
     → IsHeard (neg_ℤ high) high was sample level → int_le high sample ≡ above → int_le sample (neg_ℤ high) ≡ below
-    → level ≡ cond above true (cond below false was)
+    → level ≡ cond above Closed (cond below Open was)
 level-by high sample was level true below some is e f = is.rises (grind (arith, ints))
 level-by high sample was level false true some is e f = is.falls (grind (arith, ints))
 level-by high sample was level false false some is e f = is.stays (grind (arith, ints)) (grind (arith, ints))
 
 pub heard_is :
-    (high sample : ℤ) (was level : Bool) → pos 0 <ℤ high → IsHeard (neg_ℤ high) high was sample level
+    (high sample : ℤ) (was level : Level) → pos 0 <ℤ high → IsHeard (neg_ℤ high) high was sample level
     → level ≡ level_by high was sample
 heard_is high sample was level some is =
     level-by high sample was level (int_le high sample) (int_le sample (neg_ℤ high)) some is refl refl
 
 -- each change is said after a tick
 change-when :
-    (tick wire : ℕ) (was is_high : Bool) (rest : List Event) → begins_later rest ≡ true
-    → begins_later (change_said tick wire was is_high ++ rest) ≡ true
-change-when tick wire false false rest h = h
-change-when tick wire true true rest h = h
-change-when tick wire false true rest h = refl
-change-when tick wire true false rest h = refl
+    (tick wire : ℕ) (was level : Level) (rest : List Event) → begins_later rest ≡ true
+    → begins_later (change_said tick wire was level ++ rest) ≡ true
+change-when tick wire Open Open rest h = h
+change-when tick wire Closed Closed rest h = h
+change-when tick wire Open Closed rest h = refl
+change-when tick wire Closed Open rest h = refl
 
 changes-when :
     (channel : ℕ) (high : ℤ) (tick : ℕ) (sample : ℤ) (wire : ℕ) (wires : List Channel) (later : List Event)
     → begins_later later ≡ true → begins_later (changes_said channel high tick sample wire wires ++ later) ≡ true
 changes-when channel high tick sample wire [] later h = h
 changes-when channel high tick sample wire (own ∷ rest) later h =
-    let said = change_said tick wire own.is_high (wire_after channel high sample own).is_high in
+    let said = change_said tick wire own.level (wire_after channel high sample own).level in
     let more = changes_said channel high tick sample (wire + 1) rest in
     ap begins_later (append_assoc said more later)
-    ∙ change-when tick wire own.is_high (wire_after channel high sample own).is_high (more ++ later)
+    ∙ change-when tick wire own.level (wire_after channel high sample own).level (more ++ later)
     (changes-when channel high tick sample (wire + 1) rest later h)
 
 pub sound_say_when : SayWhen sound_reading
@@ -97,24 +98,24 @@ pub sound_takes :
     (old new : Sound) (bytes own : List ℕ) (before mid all : List Event) → own ≡ own_bytes old.left bytes
     → mid ≡ before ++ piece_events sound_reading (sound_state old) (samples_after old.lower own)
     → sound_state new ≡ after_piece sound_reading (sound_state old) (samples_after old.lower own)
-    → new.lower ≡ lower_left old.lower own → new.left ≡ left_after old.left bytes → all ≡ mid ++ At new.count ∷ []
+    → new.lower ≡ lower_left old.lower own → new.left ≡ left_after old.left bytes → all ≡ mid ++ events.At new.count ∷ []
     → (said : List Event) × (all ≡ before ++ said)
     × ((text : List ℕ) (later : List Event) → SoundSays new text later → SoundSays old (bytes ++ text) (said ++ later))
 sound_takes old new bytes own before mid all is said state lower left waits =
     let piece : List ℤ = samples_left old bytes in
-    let events : List Event = piece_events sound_reading (sound_state old) piece in
+    let heard : List Event = piece_events sound_reading (sound_state old) piece in
     let here : samples_after old.lower own ≡ piece = ap (samples_after old.lower) is in
-    let told : mid ≡ before ++ events = said ∙ ap (λ s. before ++ piece_events sound_reading (sound_state old) s) here in
+    let told : mid ≡ before ++ heard = said ∙ ap (λ s. before ++ piece_events sound_reading (sound_state old) s) here in
     let now : sound_state new ≡ after_piece sound_reading (sound_state old) piece =
     state ∙ ap (after_piece sound_reading (sound_state old)) here in
     let low : new.lower ≡ lower_left old.lower (own_bytes old.left bytes) = lower ∙ ap (lower_left old.lower) is in (
-      events ++ At new.count ∷ [],
-      waits ∙ ap (λ m. m ++ At new.count ∷ []) told ∙ append_assoc before events (At new.count ∷ []),
+      heard ++ events.At new.count ∷ [],
+      waits ∙ ap (λ m. m ++ events.At new.count ∷ []) told ∙ append_assoc before heard (events.At new.count ∷ []),
       λ text later rest.
-          let P : List ℤ → Type 0 = λ s. SamplesSay sound_reading (sound_state old) s ((events ++ At new.count ∷ []) ++ later) in
+          let P : List ℤ → Type 0 = λ s. SamplesSay sound_reading (sound_state old) s ((heard ++ events.At new.count ∷ []) ++ later) in
           subst P (sym (samples_left-append old new bytes text low left))
-          (piece_says sound_reading (sound_state old) (sound_state new) piece (samples_left new text) events
-          (events ++ At new.count ∷ []) later sound_say_when refl now refl rest),
+          (piece_says sound_reading (sound_state old) (sound_state new) piece (samples_left new text) heard
+          (heard ++ events.At new.count ∷ []) later sound_say_when refl now refl rest),
     )
 
 -- one more byte of a piece, of which these are left
@@ -213,16 +214,16 @@ pub change_heard :
     (channel : ℕ) (high : ℤ) (tick : ℕ) (sample : ℤ) (wires : List Channel) (i : ℕ) (none wire : Channel)
     (mid now all : List Event)
     → i < length wires → wire ≡ wire_after channel high sample (get_or wires i none)
-    → now ≡ mid ++ change_said tick i (get_or wires i none).is_high wire.is_high
+    → now ≡ mid ++ change_said tick i (get_or wires i none).level wire.level
     → mid ++ changes_said channel high tick sample i (drop i wires) ≡ all
     → now ++ changes_said channel high tick sample (i + 1) (drop (i + 1) (set wires i wire)) ≡ all
 change_heard channel high tick sample wires i none wire mid now all h is e so_far =
-    let was : Bool = (get_or wires i none).is_high in
+    let was : Level = (get_or wires i none).level in
     let more : List Event = changes_said channel high tick sample (i + 1) (drop (i + 1) wires) in
     ap (λ (k : List Channel). now ++ changes_said channel high tick sample (i + 1) k)
     (drop-set-lt (i + 1) wires i wire (omega arith))
-    ∙ ap (λ (n : List Event). n ++ more) e ∙ append_assoc mid (change_said tick i was wire.is_high) more
-    ∙ ap (λ (w : Channel). mid ++ (change_said tick i was w.is_high ++ more)) is
+    ∙ ap (λ (n : List Event). n ++ more) e ∙ append_assoc mid (change_said tick i was wire.level) more
+    ∙ ap (λ (w : Channel). mid ++ (change_said tick i was w.level ++ more)) is
     ∙ sym (at_drop_more (λ (k : List Channel). mid ++ changes_said channel high tick sample i k) wires i none h)
     ∙ so_far
 
@@ -267,12 +268,12 @@ changes_heard channel high own tick sample heard wires old i now before h e f so
 -- the level of one more wire
 pub level_said :
     (wires : List Channel) (i : ℕ) (none : Channel) (mid now all : List Event) → i < length wires
-    → now ≡ mid ++ level_event i (get_or wires i none).is_high ∷ [] → mid ++ levels_said i (drop i wires) ≡ all
+    → now ≡ mid ++ events.Level i (get_or wires i none).level ∷ [] → mid ++ levels_said i (drop i wires) ≡ all
     → now ++ levels_said (i + 1) (drop (i + 1) wires) ≡ all
 level_said wires i none mid now all h e so_far =
     let rest : List Event = levels_said (i + 1) (drop (i + 1) wires) in
     ap (λ (n : List Event). n ++ rest) e
-    ∙ append_assoc mid (level_event i (get_or wires i none).is_high ∷ []) rest
+    ∙ append_assoc mid (events.Level i (get_or wires i none).level ∷ []) rest
     ∙ sym (at_drop_more (λ (k : List Channel). mid ++ levels_said i k) wires i none h) ∙ so_far
 
 pub all_said :
@@ -284,7 +285,7 @@ all_said wires i now all h so_far =
 -- what is said before the first sample
 pub sound_begun :
     (rate : Option ℕ) (all : Result (List Channel) Refusal) (wires said : List Channel) (old told waits new : List Event)
-    → all ≡ Ok wires → AddsAll (rate_says rate) old told → waits ≡ told ++ At 0 ∷ [] → said ≡ wires
+    → all ≡ Ok wires → AddsAll (rate_says rate) old told → waits ≡ told ++ events.At 0 ∷ [] → said ≡ wires
     → new ≡ waits ++ levels_said 0 said → AddsAll (result_and_then (sound_begins rate) all) old new
 sound_begun rate all wires said old told waits new is h e f g =
     let P : Result (List Channel) Refusal → Type 0 = λ r. AddsAll (result_and_then (sound_begins rate) r) old new in
@@ -292,14 +293,14 @@ sound_begun rate all wires said old told waits new is h e f g =
   where
     at :
         (first : Result (List Event) Refusal) → AddsAll first old told
-        → AddsAll (result_map (λ s. s ++ At 0 ∷ levels_said 0 wires) first) old new
+        → AddsAll (result_map (λ s. s ++ events.At 0 ∷ levels_said 0 wires) first) old new
     at (Err refusal) k = elim k [ ]
     at (Ok own) k =
         g ∙ ap (λ (w : List Event). w ++ levels_said 0 said) e
-        ∙ append_assoc told (At 0 ∷ []) (levels_said 0 said)
-        ∙ ap (λ (w : List Channel). told ++ (At 0 ∷ levels_said 0 w)) f
-        ∙ ap (λ (t : List Event). t ++ (At 0 ∷ levels_said 0 wires)) k
-        ∙ append_assoc old own (At 0 ∷ levels_said 0 wires)
+        ∙ append_assoc told (events.At 0 ∷ []) (levels_said 0 said)
+        ∙ ap (λ (w : List Channel). told ++ (events.At 0 ∷ levels_said 0 w)) f
+        ∙ ap (λ (t : List Event). t ++ (events.At 0 ∷ levels_said 0 wires)) k
+        ∙ append_assoc old own (events.At 0 ∷ levels_said 0 wires)
 
 -- a sound whose wires or rate are refused
 pub wires_refuse :
@@ -320,7 +321,7 @@ rate_refuses channels high names wires rate refusal is h = λ samples other.
     (λ own. result_map (λ said. said ++ samples_events sound_reading (begun_sound channels high own) samples)
     (sound_begins rate own))) is
     ∙ ap (λ r. result_map (λ said. said ++ samples_events sound_reading (begun_sound channels high wires) samples)
-    (result_map (λ said. said ++ At 0 ∷ levels_said 0 wires) r)) (h other)
+    (result_map (λ said. said ++ events.At 0 ∷ levels_said 0 wires) r)) (h other)
 
 -- the own bytes of a sound are no more than all of them
 own-length : (left : Option ℕ) (bytes : List ℕ) → length (own_bytes left bytes) ≤ length bytes

@@ -1,8 +1,8 @@
 -- What samples say in pieces.
 use Rattle.std.proofs.Common.{◌≡◌, ℕ, ◌+◌, ◌<◌, ◌≤◌, List, [], ◌∷◌, ◌++◌, Bool, true, false, cond, drop, get_or, length, refl, ap, sym, subst, ◌∙◌, append_assoc, append-nil}
 use Rattle.std.proofs.lemmas.List.{at_drop_all, at_drop_more}
-use Rattle.xb_vcd.specs.declared.event.Event.{Event}
-use Rattle.xb_vcd.specs.declared.event.Event.TheVariants.{At, High, Low, Ticks}
+use Rattle.xb_contact.specs.declared.event.Event.{Event}
+use Rattle.xb_contact.specs.declared.event.Event.TheVariants.{At, Level, Ticks}
 use Rattle.xb_samples.specs.Pieces.{Reading, SamplesSay, SayTheSame, after_piece, begins_later, piece_events, samples_events, without_waits}
 
 -- the beginning stays
@@ -15,8 +15,7 @@ begins-without (At tick ∷ rest) = at (begins_later rest) refl (begins-without 
         → begins_later (cond later (without_waits rest) (At tick ∷ without_waits rest)) ≡ true
     at true e same = same ∙ e
     at false e same = refl
-begins-without (High wire ∷ rest) = refl
-begins-without (Low wire ∷ rest) = refl
+begins-without (Level wire level ∷ rest) = refl
 begins-without (Ticks scale ∷ rest) = refl
 
 begins-same : (a b : List Event) → SayTheSame a b → begins_later a ≡ begins_later b
@@ -33,8 +32,7 @@ at-same tick a b h =
 pub same-after : (said a b : List Event) → SayTheSame a b → SayTheSame (said ++ a) (said ++ b)
 same-after [] a b h = h
 same-after (At tick ∷ rest) a b h = at-same tick (rest ++ a) (rest ++ b) (same-after rest a b h)
-same-after (High wire ∷ rest) a b h = ap (λ said. High wire ∷ said) (same-after rest a b h)
-same-after (Low wire ∷ rest) a b h = ap (λ said. Low wire ∷ said) (same-after rest a b h)
+same-after (Level wire level ∷ rest) a b h = ap (λ said. Level wire level ∷ said) (same-after rest a b h)
 same-after (Ticks scale ∷ rest) a b h = ap (λ said. Ticks scale ∷ said) (same-after rest a b h)
 
 -- each sample says nothing, or first up to when something held

@@ -6,7 +6,7 @@ use Rattle.std.specs.List.{starts_with}
 use Rattle.std.specs.Option.{option_and_then}
 use Rattle.std.proofs.lemmas.List.{take-append-drop, take_all, take_more}
 use Rattle.std.proofs.Math.Seq.{drop-append_seam, take-append_seam}
-use Rattle.xb_vcd.specs.declared.event.Refusal.{Refusal}
+use Rattle.xb_contact.specs.declared.event.Refusal.{Refusal}
 use Rattle.xb_samples.specs.declared.wav.After.{After}
 use Rattle.xb_samples.specs.declared.wav.After.TheVariants as afters
 use Rattle.xb_samples.specs.declared.wav.Place.{Place}

@@ -1,9 +1,9 @@
 -- What samples say, in pieces as they come.
 use Rattle.std.specs.Prelude.{◌≡◌, ◌≢◌, ℕ, ◌+◌, ◌^◌, ◌≤◌, List, [], ◌∷◌, ◌++◌, Bool, true, false, if◌then◌else◌}
-use Rattle.xb_vcd.specs.declared.event.Event.{Event}
-use Rattle.xb_vcd.specs.declared.event.Event.TheVariants.{At, High, Low, Ticks}
-use Rattle.xb_vcd.specs.declared.event.Refusal.{Refusal}
-use Rattle.xb_vcd.specs.declared.event.Refusal.TheVariants.{NoMemory}
+use Rattle.xb_contact.specs.declared.event.Event.{Event}
+use Rattle.xb_contact.specs.declared.event.Event.TheVariants.{At, Level, Ticks}
+use Rattle.xb_contact.specs.declared.event.Refusal.{Refusal}
+use Rattle.xb_contact.specs.declared.event.Refusal.TheVariants.{NoMemory}
 
 -- how samples are read: what each says, what is known after it, and how many ticks have gone by
 pub record Reading (S A : Type 0) : Type 0 where
@@ -30,15 +30,13 @@ samples_events {S} {A} reading state samples =
 abbrev pub begins_later : List Event → Bool
 begins_later [] = false
 begins_later (At tick ∷ rest) = true
-begins_later (High wire ∷ rest) = false
-begins_later (Low wire ∷ rest) = false
+begins_later (Level wire level ∷ rest) = false
 begins_later (Ticks scale ∷ rest) = false
 
 abbrev pub without_waits : List Event → List Event
 without_waits [] = []
 without_waits (At tick ∷ rest) = if begins_later rest then without_waits rest else At tick ∷ without_waits rest
-without_waits (High wire ∷ rest) = High wire ∷ without_waits rest
-without_waits (Low wire ∷ rest) = Low wire ∷ without_waits rest
+without_waits (Level wire level ∷ rest) = Level wire level ∷ without_waits rest
 without_waits (Ticks scale ∷ rest) = Ticks scale ∷ without_waits rest
 
 abbrev pub SayTheSame : List Event → List Event → Type 0

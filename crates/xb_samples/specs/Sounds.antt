@@ -1,14 +1,16 @@
 -- What sound says: samples of 16 bits, each channel's in turn.
-use Rattle.std.specs.Prelude.{◌≡◌, ℕ, ◌+◌, ◌-◌, ◌*◌, ℤ, pos, neg_ℤ, int_le, max, min, List, [], ◌∷◌, ◌++◌, Bool, true, false, Option, Some, None, Result, Ok, length, map, nat_le, nat_lt, take, ◌==◌, ◌&&◌, if◌then◌else◌, option_map}
+use Rattle.std.specs.Prelude.{◌≡◌, ℕ, ◌+◌, ◌-◌, ◌*◌, ℤ, pos, neg_ℤ, int_le, max, min, List, [], ◌∷◌, ◌++◌, Option, Some, None, Result, Ok, length, map, nat_le, nat_lt, take, ◌==◌, ◌&&◌, if◌then◌else◌, option_map}
 use Rattle.std.specs.Int.{cast_signed, from_le_bytes, w16}
 use Rattle.std.specs.Option.{ok_or, option_and_then}
-use Rattle.xb_vcd.specs.declared.event.Event.{Event}
-use Rattle.xb_vcd.specs.declared.event.Event.TheVariants.{At}
-use Rattle.xb_vcd.specs.declared.event.Refusal.{Refusal}
-use Rattle.xb_vcd.specs.declared.event.Refusal.TheVariants as refusals
-use Rattle.xb_vcd.specs.Numbers.{number_of}
-use Rattle.xb_vcd.specs.Steps.{result_and_then, result_map}
-use Rattle.xb_vcd.specs.VcdChanges.{level_event}
+use Rattle.xb_contact.specs.declared.event.Event.{Event}
+use Rattle.xb_contact.specs.declared.event.Event.TheVariants as events
+use Rattle.xb_contact.specs.declared.event.Refusal.{Refusal}
+use Rattle.xb_contact.specs.declared.event.Refusal.TheVariants as refusals
+use Rattle.xb_contact.specs.Numbers.{number_of}
+use Rattle.xb_contact.specs.Steps.{result_and_then, result_map}
+use Rattle.xb_contact.specs.declared.level.Level.{Level}
+use Rattle.xb_contact.specs.declared.level.Level.TheVariants.{Open, Closed}
+use Rattle.xb_contact.specs.Holds.{same_level}
 use Rattle.xb_samples.specs.declared.sound.Channel.{Channel}
 use Rattle.xb_samples.specs.declared.sound.Sound.{Sound}
 use Rattle.xb_samples.specs.declared.sound.Threshold.{Threshold}
@@ -46,26 +48,25 @@ left_after left bytes = option_map (λ n. n - length bytes) left
 abbrev pub high_of : Threshold → ℤ
 high_of threshold = pos (max 1 (min threshold.percent 99) * 327)
 
--- a channel is high from a threshold on, low from its opposite on, and between them as before
-abbrev pub level_by : ℤ → Bool → ℤ → Bool
-level_by high was sample = if int_le high sample then true else (if int_le sample (neg_ℤ high) then false else was)
+-- a channel is closed from a threshold on, open from its opposite on, and between them as before
+abbrev pub level_by : ℤ → Level → ℤ → Level
+level_by high was sample = if int_le high sample then Closed else (if int_le sample (neg_ℤ high) then Open else was)
 
 -- a wire after a sample of a channel
 abbrev pub wire_after : ℕ → ℤ → ℤ → Channel → Channel
 wire_after channel high sample wire =
-    if wire.number == channel then record wire { is_high = level_by high wire.is_high sample } else wire
+    if wire.number == channel then record wire { level = level_by high wire.level sample } else wire
 
 -- a change is said, with the tick up to which the old level held
-abbrev pub change_said : ℕ → ℕ → Bool → Bool → List Event
-change_said tick wire false false = []
-change_said tick wire true true = []
-change_said tick wire was is_high = At tick ∷ level_event wire is_high ∷ []
+abbrev pub change_said : ℕ → ℕ → Level → Level → List Event
+change_said tick wire was level =
+    if same_level was level then [] else events.At tick ∷ events.Level wire level ∷ []
 
 -- the changes of the wires from this one on
 abbrev pub changes_said : ℕ → ℤ → ℕ → ℤ → ℕ → List Channel → List Event
 changes_said channel high tick sample wire [] = []
 changes_said channel high tick sample wire (own ∷ rest) =
-    change_said tick wire own.is_high (wire_after channel high sample own).is_high
+    change_said tick wire own.level (wire_after channel high sample own).level
     ++ changes_said channel high tick sample (wire + 1) rest
 
 -- the wires with their levels, how many channels there are, the least sample that is high, whose turn it is, and how
@@ -111,18 +112,18 @@ samples_left sound bytes = samples_after sound.lower (own_bytes sound.left bytes
 abbrev pub SoundSays : Sound → List ℕ → List Event → Type 0
 SoundSays sound bytes events = SamplesSay sound_reading (sound_state sound) (samples_left sound bytes) events
 
--- a wire is a channel, by its number from 1 on, and low at the beginning
+-- a wire is a channel, by its number from 1 on, and open at the beginning
 abbrev pub channel_of : ℕ → List ℕ → Option ℕ
 channel_of channels name =
     option_and_then (λ n. if nat_le 1 n && nat_le n channels then Some n else None) (number_of name)
 
-abbrev pub low_wire : ℕ → Channel
-low_wire number = record { number = number; is_high = false }
+abbrev pub open_wire : ℕ → Channel
+open_wire number = record { number = number; level = Open }
 
 abbrev pub wires_of : ℕ → List (List ℕ) → Result (List Channel) Refusal
 wires_of channels [] = Ok []
 wires_of channels (name ∷ names) =
-    result_and_then (λ number. result_map (λ rest. low_wire number ∷ rest) (wires_of channels names))
+    result_and_then (λ number. result_map (λ rest. open_wire number ∷ rest) (wires_of channels names))
     (ok_or (channel_of channels name) refusals.NoWire)
 
 -- nothing was taken of a sound of so many channels and bytes, where these are known
@@ -133,11 +134,11 @@ IsNewSound channels high names length sound =
 
 abbrev pub levels_said : ℕ → List Channel → List Event
 levels_said wire [] = []
-levels_said wire (own ∷ rest) = level_event wire own.is_high ∷ levels_said (wire + 1) rest
+levels_said wire (own ∷ rest) = events.Level wire own.level ∷ levels_said (wire + 1) rest
 
 -- what is said before the first sample: how long a tick is, and the levels of the wires
 abbrev pub sound_begins : Option ℕ → List Channel → Result (List Event) Refusal
-sound_begins rate wires = result_map (λ said. said ++ At 0 ∷ levels_said 0 wires) (rate_says rate)
+sound_begins rate wires = result_map (λ said. said ++ events.At 0 ∷ levels_said 0 wires) (rate_says rate)
 
 -- all samples of so many channels
 abbrev pub sound_says : ℕ → ℤ → List (List ℕ) → Option ℕ → List ℤ → Result (List Event) Refusal

@@ -1,13 +1,12 @@
 // Raw samples.
 ghost use Rattle.std.specs.Prelude.{◌≡◌, ◌+◌, ◌++◌, [], ℕ, Ok, IfErr, IfOk, List, OnOk, length, map};
-ghost use Rattle.xb_vcd.specs.declared.event.Event.{Event as Saying};
-ghost use Rattle.xb_vcd.specs.Steps.{AddsAll, IsOnly, IsRefusedBy};
+ghost use Rattle.xb_contact.specs.declared.event.Event.{Event as Saying};
+ghost use Rattle.xb_contact.specs.Steps.{AddsAll, IsOnly, IsRefusedBy};
 ghost use Rattle.xb_samples.specs.Pieces.{RunsOver, SamplesSay, after_piece, piece_events};
-ghost use Rattle.xb_samples.specs.Samples.{IsNewBits, after_sample, bits_reading, bits_say, bits_state, is_set, mask_of, masks_of, rate_says, sample_events, sample_levels};
+ghost use Rattle.xb_samples.specs.Samples.{IsNewBits, after_sample, bit_level, bits_reading, bits_say, bits_state, mask_of, masks_of, rate_says, sample_events, sample_levels};
 
 use std::alloc::{AllocError, Global};
-use xb_contact::Scale;
-use xb_vcd::{Event, Refusal, number_of, say, say_level};
+use xb_contact::{Event, Level, Refusal, Scale, number_of, say};
 
 // How long a tick is where a second has so many samples.
 pub(crate) fn say_rate(events: &mut Vec<Event>, rate: Option<u64>) -> Result<(), Refusal>
@@ -62,11 +61,15 @@ fn masks_of(alloc: Global, names: &[&str]) -> Result<Vec<u8>, Refusal>
     Ok(masks)
 }
 
-// Whether a wire is high in a sample.
-fn is_set(sample: u8, mask: u8) -> bool
-    ensures { result ≡ is_set sample mask }
+// The level of a wire in a sample.
+fn bit_level(sample: u8, mask: u8) -> Level
+    ensures { result ≡ bit_level sample mask }
 {
-    sample & mask != 0
+    if sample & mask == 0 {
+        Level::Open
+    } else {
+        Level::Closed
+    }
 }
 
 impl Bits {
@@ -99,7 +102,7 @@ impl Bits {
         ensures only { IfErr result (λ e. e ≡ Refusal.NoMemory) }
     {
         for (wire, mask) in self.masks.iter().enumerate() {
-            say_level(events, wire, is_set(sample, *mask))?;
+            say(events, Event::Level(wire, bit_level(sample, *mask)))?;
         }
         Ok(())
     }

@@ -1,14 +1,14 @@
 // Sound of 16 bits a sample: a contact on a sound card.
 ghost use Rattle.std.specs.Prelude.{◌≡◌, ◌<ℤ◌, ◌≤◌, ◌+◌, ◌++◌, ◌∷◌, ◌↔◌, [], ℕ, ℤ, IfErr, IfOk, IfSome, IsSome, List, Ok, OnOk, length, map, pos};
-ghost use Rattle.xb_vcd.specs.Steps.{AddsAll, IsOnly, IsRefusedBy, result_and_then};
-ghost use Rattle.xb_vcd.specs.declared.event.Event.{Event as Saying};
+ghost use Rattle.xb_contact.specs.Steps.{AddsAll, IsOnly, IsRefusedBy, result_and_then};
+ghost use Rattle.xb_contact.specs.declared.event.Event.{Event as Saying};
 ghost use Rattle.xb_samples.specs.Hysteresis.{IsHeard};
 ghost use Rattle.xb_samples.specs.Pieces.{RunsOver, after_piece, piece_events};
 ghost use Rattle.xb_samples.specs.Sounds.{IsNewSound, SoundSays, change_said, changes_said, channel_of, high_of, left_after, levels_said, lower_left, own_bytes, samples_after, sound_begins, sound_reading, sound_says, sound_state, turned, wire_after, wires_of};
 
 use crate::bits::say_rate;
 use std::alloc::{AllocError, Global};
-use xb_vcd::{Event, Refusal, number_of, say, say_level};
+use xb_contact::{Event, Level, Refusal, number_of, say};
 
 /// The most channels of a sound.
 pub const MOST_CHANNELS: u8 = 8;
@@ -43,15 +43,17 @@ fn high_of(threshold: Threshold) -> i16
     i16::from(percent) * 327
 }
 
-/// The level of a sample after another one: high from `high` on, low up to `low`, and between them as before.
-pub fn heard_level(low: i16, high: i16, was_high: bool, sample: i16) -> bool
+/// The level of a sample after another one: closed from `high` on, open up to `low`, and between them as before.
+pub fn heard_level(low: i16, high: i16, was: Level, sample: i16) -> Level
     requires { low <ℤ high }
-    ensures { IsHeard low high was_high sample result }
+    ensures { IsHeard low high was sample result }
 {
-    if was_high {
-        sample > low
+    if sample >= high {
+        Level::Closed
+    } else if sample <= low {
+        Level::Open
     } else {
-        sample >= high
+        was
     }
 }
 
@@ -59,7 +61,7 @@ pub fn heard_level(low: i16, high: i16, was_high: bool, sample: i16) -> bool
 #[derive(Clone, Copy)]
 struct Channel {
     number: u8,
-    is_high: bool,
+    level: Level,
 }
 
 // The channel that a wire is, by its number.
@@ -72,7 +74,7 @@ fn channel_of(name: &str, channels: u8) -> Option<u8>
     }
 }
 
-// The wires of these names, all low.
+// The wires of these names, all open.
 fn wires_of(alloc: Global, names: &[&str], channels: u8) -> Result<Vec<Channel>, Refusal>
     ensures said { IfOk result (λ wires.
         wires_of channels (map (λ name. name.now) names.now) ≡ Ok wires.items) }
@@ -82,9 +84,9 @@ fn wires_of(alloc: Global, names: &[&str], channels: u8) -> Result<Vec<Channel>,
     for name in names {
         match channel_of(name, channels) {
             Some(number) => {
-                let is_high = false;
+                let level = Level::Open;
                 wires
-                    .push(Channel { number, is_high })
+                    .push(Channel { number, level })
                     .map_err(AllocError::from)?
             }
             None => return Err(Refusal::NoWire),
@@ -99,7 +101,7 @@ fn say_levels(wires: &[Channel], events: &mut Vec<Event>) -> Result<(), Refusal>
     ensures only { IfErr result (λ e. e ≡ Refusal.NoMemory) }
 {
     for (i, wire) in wires.iter().enumerate() {
-        say_level(events, i, wire.is_high)?;
+        say(events, Event::Level(i, wire.level))?;
     }
     Ok(())
 }
@@ -109,13 +111,13 @@ fn wire_after(channel: u8, high: i16, sample: i16, wire: Channel) -> Channel
     requires { pos 0 <ℤ high }
     ensures { result ≡ wire_after channel high sample wire }
 {
-    let Channel { number, is_high } = wire;
+    let Channel { number, level } = wire;
     if number != channel {
         return wire;
     }
     Channel {
         number,
-        is_high: heard_level(-high, high, is_high, sample),
+        level: heard_level(-high, high, level, sample),
     }
 }
 
@@ -123,19 +125,19 @@ fn wire_after(channel: u8, high: i16, sample: i16, wire: Channel) -> Channel
 fn say_change(
     tick: u64,
     wire: usize,
-    was_high: bool,
-    is_high: bool,
+    was: Level,
+    level: Level,
     events: &mut Vec<Event>,
 ) -> Result<(), Refusal>
     ensures said { OnOk result
-        (events.new.items ≡ events.old.items ++ change_said tick wire was_high is_high) }
+        (events.new.items ≡ events.old.items ++ change_said tick wire was level) }
     ensures only { IfErr result (λ e. e ≡ Refusal.NoMemory) }
 {
-    if was_high == is_high {
+    if was == level {
         return Ok(());
     }
     say(events, Event::At(tick))?;
-    say_level(events, wire, is_high)
+    say(events, Event::Level(wire, level))
 }
 
 // All wires hear a sample of a channel.
@@ -155,14 +157,14 @@ fn hear_sample(
 {
     for (i, wire) in wires.iter_mut().enumerate() {
         let after = wire_after(channel, high, sample, *wire);
-        say_change(tick, i, wire.is_high, after.is_high, events)?;
+        say_change(tick, i, wire.level, after.level, events)?;
         *wire = after;
     }
     Ok(())
 }
 
 /// The reader of samples, the lower byte first, each channel's in turn. The samples of all channels are a tick.
-/// A channel is high from a threshold on, low from its opposite on, and between them as before; it begins low.
+/// A channel is closed from a threshold on, open from its opposite on, and between them as before; it begins open.
 #[derive(Drop)]
 pub struct Sound {
     wires: Vec<Channel>,

@@ -1,10 +1,10 @@
 // The head of a WAV file.
 ghost use Rattle.std.specs.Prelude.{◌≡◌, ◌<◌, ◌^◌, ◌∷◌, [], ◌≤◌, IfErr, IfOk, IfSome, length};
-ghost use Rattle.xb_vcd.specs.Steps.{IsOnly};
+ghost use Rattle.xb_contact.specs.Steps.{IsOnly};
 ghost use Rattle.xb_samples.specs.Wavs.{AfterPart, IsNewHead, RefusesHead, RefusesPart, RestIsWhole, TakesByte, TakesHead, TakesPart, byte_at, format_of, is_riff, is_sixteen, length_of, long_at, part_length, short_at};
 
 use std::alloc::{AllocError, Global};
-use xb_vcd::Refusal;
+use xb_contact::Refusal;
 
 // The most bytes of a chunk that says how the samples are.
 const MOST_FORMAT_BYTES: u32 = 64;

@@ -1,4 +1,2 @@
-pub mod StepLemmas
 pub mod WordLemmas
 pub mod VcdLemmas
-pub mod VcdEnds

@@ -1,11 +1,11 @@
 -- What the words of a VCD say.
 use Rattle.std.proofs.Common.{◌≡◌, ℕ, ◌+◌, ◌<◌, ◌≤◌, ◌==◌, List, [], ◌∷◌, Bool, true, false, cond, length, get_or, drop, refl, sym, subst, append-nil}
 use Rattle.std.specs.Prelude.{slice_range}
-use Rattle.xb_vcd.specs.declared.event.Event.{Event}
-use Rattle.xb_vcd.specs.Steps.{Adds, all_say}
+use Rattle.xb_contact.specs.declared.event.Event.{Event}
+use Rattle.xb_contact.specs.Steps.{Adds, all_say}
 use Rattle.xb_vcd.specs.VcdChanges.{VcdState}
 use Rattle.xb_vcd.specs.VcdTexts.{is_blank, word_before, word_says, words_in}
-use Rattle.xb_vcd.proofs.StepLemmas.{adds_next}
+use Rattle.xb_contact.proofs.StepLemmas.{adds_next}
 use Rattle.xb_vcd.proofs.WordLemmas.{words_after_blank, words_after_byte}
 
 -- a piece that is a word

@@ -3,12 +3,12 @@ use Rattle.std.proofs.Common.{◌≡◌, ℕ, suc, ◌+◌, ◌-◌, ◌<◌, �
 use Rattle.std.specs.Prelude.{Err, slice_range}
 use Rattle.std.proofs.Math.Seq.{drop-cons, drop-length, take-suc}
 use Rattle.std.proofs.lemmas.List.{get_or-drop, length-drop, take_rest}
-use Rattle.xb_vcd.specs.declared.event.Event.{Event}
-use Rattle.xb_vcd.specs.declared.event.Refusal.{Refusal}
-use Rattle.xb_vcd.specs.Steps.{Adds, all_say}
+use Rattle.xb_contact.specs.declared.event.Event.{Event}
+use Rattle.xb_contact.specs.declared.event.Refusal.{Refusal}
+use Rattle.xb_contact.specs.Steps.{Adds, all_say}
 use Rattle.xb_vcd.specs.VcdChanges.{VcdState}
 use Rattle.xb_vcd.specs.VcdTexts.{is_blank, word_before, word_says, words_in}
-use Rattle.xb_vcd.proofs.StepLemmas.{adds_after, refused_after, refused_first}
+use Rattle.xb_contact.proofs.StepLemmas.{adds_after, refused_after, refused_first}
 
 -- a blank ends the word before it
 words-at_blank :

@@ -1,5 +1,3 @@
-pub mod Numbers
-pub mod Steps
 pub mod VcdWords
 pub mod VcdChanges
 pub mod VcdTexts

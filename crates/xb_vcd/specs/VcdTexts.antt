@@ -3,18 +3,19 @@ use Rattle.std.specs.Prelude.{ℕ, ◌*◌, List, [], ◌∷◌, ◌++◌, Bool,
 use Rattle.std.specs.List.{list_all, starts_with}
 use Rattle.std.specs.Option.{ok_or, option_and_then}
 use Rattle.xb_contact.specs.declared.scale.Scale.{Scale}
-use Rattle.xb_vcd.specs.declared.event.Event.{Event}
-use Rattle.xb_vcd.specs.declared.event.Event.TheVariants.{Ticks}
-use Rattle.xb_vcd.specs.declared.event.Refusal.{Refusal}
-use Rattle.xb_vcd.specs.declared.event.Refusal.TheVariants as refusals
+use Rattle.xb_contact.specs.declared.event.Event.{Event}
+use Rattle.xb_contact.specs.declared.event.Event.TheVariants.{Ticks}
+use Rattle.xb_contact.specs.declared.event.Refusal.{Refusal}
+use Rattle.xb_contact.specs.declared.event.Refusal.TheVariants as refusals
 use Rattle.xb_vcd.specs.declared.word.Word.{Word}
 use Rattle.xb_vcd.specs.declared.word.Word.TheVariants as words
 use Rattle.xb_vcd.specs.declared.vcd.Place.{Place}
 use Rattle.xb_vcd.specs.declared.vcd.Place.TheVariants as places
 use Rattle.xb_vcd.specs.declared.declaration.VarWords.{VarWords}
-use Rattle.xb_vcd.specs.Numbers.{number_of}
-use Rattle.xb_vcd.specs.Steps.{Said, all_say, result_and_then, result_map, say_to_end}
-use Rattle.xb_vcd.specs.VcdChanges.{VcdState, change_taken, code_taken, goes_to, times_of}
+use Rattle.xb_contact.specs.Numbers.{is_digit, number_of}
+use Rattle.xb_contact.specs.Steps.{Said, all_say, result_and_then, result_map, say_to_end}
+use Rattle.xb_contact.specs.Times.{scale_by}
+use Rattle.xb_vcd.specs.VcdChanges.{VcdState, change_taken, code_taken, goes_to}
 use Rattle.xb_vcd.specs.VcdWords.{code_of, word_of}
 
 -- words are parted by blanks: a space, or a byte from the tab to the carriage return
@@ -41,13 +42,10 @@ begun_vcd names = record {
   codes = replicate (length names) None;
   place = places.Header;
   has_scale = false;
-  times = times_of 0 false;
+  last = None;
 }
 
 -- the unit of a timescale: how many ms are how many units
-abbrev pub scale_by : ℕ → ℕ → Scale
-scale_by ms ticks = record { ms = ms; ticks = ticks }
-
 abbrev pub unit_of : List ℕ → Option Scale
 unit_of word =
     if bytes_eq word (codes "s") then Some (scale_by 1000 1)
@@ -68,9 +66,6 @@ abbrev pub scale_of : ℕ → List ℕ → Option Scale
 scale_of number word = option_and_then (scale_of_units number) (unit_of word)
 
 -- the digits that a word begins with, and what follows them
-abbrev pub is_digit : ℕ → Bool
-is_digit byte = nat_le 48 byte && nat_le byte 57
-
 abbrev pub leading_digits : List ℕ → List ℕ
 leading_digits [] = []
 leading_digits (byte ∷ rest) = if is_digit byte then byte ∷ leading_digits rest else []
@@ -142,9 +137,7 @@ header_by state words.Var = goes_to state (places.Var (var_words 0 false 0))
 header_by state words.EndDefinitions = header_ends state
 header_by state words.Section = goes_to state (places.Passed false)
 header_by state (words.Time time) = Err refusals.Word
-header_by state (words.High code) = Err refusals.Word
-header_by state (words.Low code) = Err refusals.Word
-header_by state (words.Unknown code) = Err refusals.Word
+header_by state (words.Change code value) = Err refusals.Word
 header_by state (words.Vector value) = Err refusals.Word
 header_by state words.End = Err refusals.Word
 header_by state words.Dump = Err refusals.Word

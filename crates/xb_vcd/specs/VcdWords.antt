@@ -1,9 +1,10 @@
 -- The words of a VCD.
-use Rattle.std.specs.Prelude.{ℕ, List, [], ◌∷◌, Bool, true, false, Option, Some, None, codes, bytes_eq, nat_lt, ◌==◌, ◌||◌, if◌then◌else◌}
+use Rattle.std.specs.Prelude.{ℕ, List, [], ◌∷◌, Bool, Option, Some, None, codes, bytes_eq, nat_lt, ◌==◌, ◌||◌, if◌then◌else◌}
 use Rattle.std.specs.Option.{option_and_then}
 use Rattle.xb_vcd.specs.declared.word.Word.{Word}
-use Rattle.xb_vcd.specs.declared.word.Word.TheVariants.{Time, High, Low, Unknown, Vector, End, Timescale, Var, EndDefinitions, Dump, Section, Other}
-use Rattle.xb_vcd.specs.Numbers.{digit_after, number_of}
+use Rattle.xb_vcd.specs.declared.word.Word.TheVariants.{Time, Change, Vector, End, Timescale, Var, EndDefinitions, Dump, Section, Other}
+use Rattle.xb_contact.specs.declared.level.Level.{Level}
+use Rattle.xb_contact.specs.Numbers.{digit_after, level_of, number_of}
 
 -- the number of a name with further bytes after it, each a digit to the base 256
 abbrev pub code_in : ℕ → List ℕ → Option ℕ
@@ -34,18 +35,12 @@ time_by (Some time) = Time time
 abbrev pub time_of : List ℕ → Word
 time_of digits = time_by (number_of digits)
 
-abbrev pub change_by : ℕ → Option ℕ → Word
-change_by level None = Other
-change_by level (Some code) =
-    if level == 48 then Low code else (if level == 49 then High code else Unknown code)
+abbrev pub change_by : Option Level → Option ℕ → Word
+change_by value None = Other
+change_by value (Some code) = Change code value
 
 abbrev pub change_of : ℕ → List ℕ → Word
-change_of level code = change_by level (code_of code)
-
-abbrev pub vector_of : List ℕ → Word
-vector_of value =
-    if bytes_eq value (codes "0") then Vector (Some false)
-    else (if bytes_eq value (codes "1") then Vector (Some true) else Vector None)
+change_of level code = change_by (level_of (level ∷ [])) (code_of code)
 
 -- a level: 0, 1, x, X, z or Z
 abbrev pub is_level : ℕ → Bool
@@ -56,7 +51,7 @@ abbrev pub word_by : ℕ → List ℕ → List ℕ → Word
 word_by first rest word =
     if first == 35 then time_of rest
     else (if first == 36 then keyword_of word
-    else (if (first == 98) || (first == 66) then vector_of rest
+    else (if (first == 98) || (first == 66) then Vector (level_of rest)
     else (if (first == 114) || (first == 82) || (first == 115) || (first == 83) then Vector None
     else (if is_level first then change_of first rest
     else Other))))

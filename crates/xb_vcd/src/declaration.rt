@@ -1,9 +1,9 @@
 // The declarations of wires in a VCD.
 ghost use Rattle.std.specs.Prelude.{◌≡◌, Ok, IfErr, IfOk, OnOk, map};
-ghost use Rattle.xb_vcd.specs.Steps.{IsRefusedBy};
+ghost use Rattle.xb_contact.specs.Steps.{IsRefusedBy};
 ghost use Rattle.xb_vcd.specs.VcdTexts.{declared_code, declared_codes, found_code};
 
-use crate::event::Refusal;
+use xb_contact::Refusal;
 
 /// What the words of a declaration said so far.
 #[derive(Clone, Copy, Debug, PartialEq, Eq)]

@@ -1,5 +1,5 @@
 //! What the definitions of `specs/` come to: each law is the contract of a function that does nothing.
-ghost use Rattle.xb_vcd.specs.WorkedVcd.{ChangesAreTaken, WordsAreRead};
+ghost use Rattle.xb_vcd.specs.WorkedVcd.{ChangesAreTaken, VcdsAreRead, WordsAreRead};
 
 /// What some words of a VCD say.
 pub fn words_are_read()
@@ -9,4 +9,9 @@ pub fn words_are_read()
 /// What some words come to among the changes of a VCD of two wires.
 pub fn changes_are_taken()
     ensures { ChangesAreTaken }
+{}
+
+/// What some texts say, and why others say nothing.
+pub fn vcds_are_read()
+    ensures { VcdsAreRead }
 {}

@@ -1,17 +1,15 @@
 // A value change dump, line by line.
-ghost use Rattle.std.specs.Prelude.{◌≡◌, ◌≢◌, ◌++◌, ◌↔◌, [], Ok, IfErr, IfOk, IsErr, IsTrue, OnErr, OnOk, is_some, map};
+ghost use Rattle.std.specs.Prelude.{◌≡◌, ◌++◌, ◌∷◌, ◌↔◌, [], Ok, IfErr, IfOk, IsErr, IsTrue, OnOk, is_some, map};
 ghost use Rattle.std.specs.List.{list_all, list_any};
-ghost use Rattle.xb_vcd.specs.Steps.{Adds, IsRefusedBy, all_say};
-ghost use Rattle.xb_vcd.specs.VcdChanges.{change_taken, code_taken, has_code, level_events, time_taken, vcd_state};
-ghost use Rattle.xb_vcd.specs.VcdTexts.{begun_vcd, header_taken, is_blank, is_header, scale_said, scale_taken, var_taken, vcd_line_says, word_before, word_says, words_of};
+ghost use Rattle.xb_contact.specs.Steps.{Adds, IsRefusedBy, all_say};
+ghost use Rattle.xb_vcd.specs.VcdChanges.{change_taken, code_taken, has_code, level_events, time_taken, value_taken, vcd_state};
+ghost use Rattle.xb_vcd.specs.VcdTexts.{begun_vcd, end_says, header_taken, is_blank, is_header, scale_said, scale_taken, var_taken, vcd_line_says, vcd_says, word_before, word_says, words_of};
 
 use crate::declaration::{NO_WORDS, VarWords, declare};
-use crate::event::{Event, Refusal, say};
-use crate::number::number_of;
 use crate::timescale::{cut_digits, scale_of};
-use crate::wire::say_level;
 use crate::word::{Word, code_of, word_of};
 use std::alloc::Global;
+use xb_contact::{Event, Level, Refusal, is_before, number_of, say};
 
 // Where a VCD stands.
 #[derive(Clone, Copy, Debug, PartialEq, Eq)]
@@ -27,7 +25,7 @@ enum Place {
     // Among the changes.
     Changes,
     // After the value of a vector.
-    AfterVector(Option<bool>),
+    AfterVector(Option<Level>),
 }
 
 /// The reader of a VCD. Its wires are found by their names, and numbered as these are given.
@@ -37,8 +35,7 @@ pub struct Vcd<'a> {
     codes: Vec<Option<u64>>,
     place: Place,
     has_scale: bool,
-    last: u64,
-    has_time: bool,
+    last: Option<u64>,
 }
 
 // Whether words are parted by a byte.
@@ -62,6 +59,21 @@ fn is_header(place: Place) -> bool
     }
 }
 
+// The end of a text that stands there.
+fn end_at(place: Place) -> Result<(), Refusal>
+    ensures said { OnOk result (end_says place ≡ Ok []) }
+    ensures refused { IfErr result (IsRefusedBy (end_says place)) }
+{
+    match place {
+        Place::Changes => Ok(()),
+        Place::Header
+        | Place::Passed(_)
+        | Place::Timescale(_)
+        | Place::Var(_)
+        | Place::AfterVector(_) => Err(Refusal::Header),
+    }
+}
+
 impl<'a> Vcd<'a> {
     /// A reader that has read nothing. The wires are those of these names.
     pub fn new(alloc: Global, names: &'a [&'a str]) -> Result<Vcd<'a>, Refusal>
@@ -79,8 +91,7 @@ impl<'a> Vcd<'a> {
             codes,
             place: Place::Header,
             has_scale: false,
-            last: 0,
-            has_time: false,
+            last: None,
         })
     }
 
@@ -92,14 +103,14 @@ impl<'a> Vcd<'a> {
     }
 
     // The wire of this code has a level.
-    fn change(&self, code: u64, is_high: bool, events: &mut Vec<Event>) -> Result<(), Refusal>
+    fn change(&self, code: u64, level: Level, events: &mut Vec<Event>) -> Result<(), Refusal>
         ensures said { OnOk result (events.new.items
-            ≡ events.old.items ++ level_events 0 code is_high self.now.codes.items) }
+            ≡ events.old.items ++ level_events 0 code level self.now.codes.items) }
         ensures only { IfErr result (λ e. e ≡ Refusal.NoMemory) }
     {
         for (i, own) in self.codes.iter().enumerate() {
             if *own == Some(code) {
-                say_level(events, i, is_high)?;
+                say(events, Event::Level(i, level))?;
             }
         }
         Ok(())
@@ -118,6 +129,23 @@ impl<'a> Vcd<'a> {
         Ok(())
     }
 
+    // The wire of this code has a level, or neither.
+    fn take_value(
+        &self,
+        value: Option<Level>,
+        code: u64,
+        events: &mut Vec<Event>,
+    ) -> Result<(), Refusal>
+        ensures said { OnOk result (Adds (value_taken (vcd_state self.now) value code)
+            events.old.items events.new.items (vcd_state self.now)) }
+        ensures refused { IfErr result (IsRefusedBy (value_taken (vcd_state self.now) value code)) }
+    {
+        match value {
+            Some(level) => self.change(code, level, events),
+            None => self.refuse_if_wanted(code),
+        }
+    }
+
     // A time.
     fn go_to(&mut self, time: u64, events: &mut Vec<Event>) -> Result<(), Refusal>
         ensures said { OnOk result (Adds (time_taken (vcd_state self.old) time)
@@ -126,15 +154,13 @@ impl<'a> Vcd<'a> {
         ensures kept { self.new ≡ record self.old {
           place = self.new.place;
           last = self.new.last;
-          has_time = self.new.has_time;
         } }
     {
-        if self.has_time && time < self.last {
+        if is_before(time, self.last) {
             return Err(Refusal::Backwards);
         }
         say(events, Event::At(time))?;
-        self.last = time;
-        self.has_time = true;
+        self.last = Some(time);
         Ok(())
     }
 
@@ -264,14 +290,11 @@ impl<'a> Vcd<'a> {
         ensures kept { self.new ≡ record self.old {
           place = self.new.place;
           last = self.new.last;
-          has_time = self.new.has_time;
         } }
     {
         match word_of(word) {
             Word::Time(time) => self.go_to(time, events),
-            Word::High(code) => self.change(code, true, events),
-            Word::Low(code) => self.change(code, false, events),
-            Word::Unknown(code) => self.refuse_if_wanted(code),
+            Word::Change(code, value) => self.take_value(value, code, events),
             Word::Vector(value) => {
                 self.place = Place::AfterVector(value);
                 Ok(())
@@ -288,7 +311,7 @@ impl<'a> Vcd<'a> {
     // The code after the value of a vector.
     fn take_code(
         &mut self,
-        value: Option<bool>,
+        value: Option<Level>,
         word: &[u8],
         events: &mut Vec<Event>,
     ) -> Result<(), Refusal>
@@ -298,17 +321,13 @@ impl<'a> Vcd<'a> {
         ensures kept { self.new ≡ record self.old {
           place = self.new.place;
           last = self.new.last;
-          has_time = self.new.has_time;
         } }
     {
         let Some(code) = code_of(word) else {
             return Err(Refusal::Word);
         };
         self.place = Place::Changes;
-        match value {
-            Some(is_high) => self.change(code, is_high, events),
-            None => self.refuse_if_wanted(code),
-        }
+        self.take_value(value, code, events)
     }
 
     // A word.
@@ -378,15 +397,15 @@ impl<'a> Vcd<'a> {
         self.take_words(line, events)
     }
 
-    /// The end of the file: it is refused where the header had not ended.
-    pub fn end(&self) -> Result<(), Refusal>
-        ensures ended { OnOk result (self.now.place ≡ Place.Changes) }
-        ensures refused { OnErr result (self.now.place ≢ Place.Changes) }
-        ensures reason { IfErr result (λ e. e ≡ Refusal.Header) }
+    /// The last line, and the end, which is refused where the header had not ended. After an `Err` the reader is not to
+    /// be used again.
+    pub fn end(&mut self, line: &[u8], events: &mut Vec<Event>) -> Result<(), Refusal>
+        requires { events.old.items ≡ [] }
+        ensures said { OnOk result
+            (vcd_says (vcd_state self.old) (line.now ∷ []) ≡ Ok events.new.items) }
+        ensures refused { IfErr result (IsRefusedBy (vcd_says (vcd_state self.old) (line.now ∷ []))) }
     {
-        match self.place {
-            Place::Changes => Ok(()),
-            _ => Err(Refusal::Header),
-        }
+        self.take_line(line, events)?;
+        end_at(self.place)
     }
 }

@@ -1,22 +1,18 @@
 // The words of a VCD.
 ghost use Rattle.std.specs.Prelude.{◌≡◌};
-ghost use Rattle.xb_vcd.specs.VcdWords.{change_of, code_of, keyword_of, time_of, vector_of, word_by, word_of};
+ghost use Rattle.xb_vcd.specs.VcdWords.{change_of, code_of, keyword_of, time_of, word_by, word_of};
 
-use crate::number::{digit_after, number_of};
+use xb_contact::{Level, digit_after, level_of, number_of};
 
 /// A word of a VCD.
 #[derive(Clone, Copy, Debug, PartialEq, Eq)]
 pub enum Word {
     /// `#N`: the time is N.
     Time(u64),
-    /// `1!`: the wire of this code is high.
-    High(u64),
-    /// `0!`: the wire of this code is low.
-    Low(u64),
-    /// `x!` or `z!`: the wire of this code is neither.
-    Unknown(u64),
+    /// `1!`, `0!`, or `x!` and `z!`: the wire of this code has this level, or neither.
+    Change(u64, Option<Level>),
     /// `b1`, `b0`, or a longer or unknown value, as `b01x` and `r1.5`: the code of the wire follows.
-    Vector(Option<bool>),
+    Vector(Option<Level>),
     /// `$end`
     End,
     /// `$timescale`
@@ -91,24 +87,7 @@ fn change_of(level: u8, code: &[u8]) -> Word
 {
     match code_of(code) {
         None => Word::Other,
-        Some(code) => match level {
-            b'0' => Word::Low(code),
-            b'1' => Word::High(code),
-            _ => Word::Unknown(code),
-        },
-    }
-}
-
-// The value of a vector.
-fn vector_of(value: &[u8]) -> Word
-    ensures { result ≡ vector_of value.now }
-{
-    if value == b"0".as_slice() {
-        Word::Vector(Some(false))
-    } else if value == b"1".as_slice() {
-        Word::Vector(Some(true))
-    } else {
-        Word::Vector(None)
+        Some(code) => Word::Change(code, level_of(&[level])),
     }
 }
 
@@ -119,7 +98,7 @@ fn word_by(first: u8, rest: &[u8], word: &[u8]) -> Word
     match first {
         b'#' => time_of(rest),
         b'$' => keyword_of(word),
-        b'b' | b'B' => vector_of(rest),
+        b'b' | b'B' => Word::Vector(level_of(rest)),
         b'r' | b'R' | b's' | b'S' => Word::Vector(None),
         b'0' | b'1' | b'x' | b'X' | b'z' | b'Z' => change_of(first, rest),
         _ => Word::Other,

@@ -1,5 +1,5 @@
 use Rattle.std.proofs.Common.{◌≡◌, drop}
-use Rattle.xb_vcd.specs.Numbers.{number_in}
+use Rattle.xb_contact.specs.Numbers.{number_in}
 use Rattle.xb_csv.specs.Seconds.{nine_digits}
 use Rattle.xb_csv.proofs.seconds.fraction_of.Given as goal
 

@@ -7,27 +7,27 @@ use Rattle.xb_recording.proofs.reader.end_source.Goals as goal
 
 pub returns-in-Vcd-clause-refused : goal.returns-in-Vcd-clause-refused
 returns-in-Vcd-clause-refused c =
-    IfErr-weaker c.end_vcd.result _ _
+    IfErr-weaker c.end.result _ _
     (λ refusal refused other wanted.
     let P : Source → Type 0 = λ s. SourceRefused wanted s (c.args.line.now ∷ []) [] refusal in
     subst P (sym c.in-Vcd.is) (refused other))
-    c.end_vcd.ensures.refused
+    c.end.ensures.refused
 
 pub returns-in-Columns-clause-refused : goal.returns-in-Columns-clause-refused
 returns-in-Columns-clause-refused c =
-    IfErr-weaker c.end_table.result _ _
+    IfErr-weaker c.end-in-Columns.result _ _
     (λ refusal refused other wanted.
     let P : Source → Type 0 = λ s. SourceRefused wanted s (c.args.line.now ∷ []) [] refusal in
     subst P (sym c.in-Columns.is) (refused other))
-    c.end_table.ensures.refused
+    c.end-in-Columns.ensures.refused
 
 pub returns-in-Gpiomon-clause-refused : goal.returns-in-Gpiomon-clause-refused
 returns-in-Gpiomon-clause-refused c =
-    IfErr-weaker c.end_gpiomon.result _ _
+    IfErr-weaker c.end-in-Gpiomon.result _ _
     (λ refusal refused other wanted.
     let P : Source → Type 0 = λ s. SourceRefused wanted s (c.args.line.now ∷ []) [] refusal in
     subst P (sym c.in-Gpiomon.is) (refused other))
-    c.end_gpiomon.ensures.refused
+    c.end-in-Gpiomon.ensures.refused
 
 pub returns-in-WavHead-clause-refused : goal.returns-in-WavHead-clause-refused
 returns-in-WavHead-clause-refused c = λ other wanted.

@@ -1,5 +1,5 @@
 use Rattle.std.proofs.Common.{◌≡◌, ◌++◌, drop, map}
-use Rattle.xb_vcd.specs.Steps.{result_map}
+use Rattle.xb_contact.specs.Steps.{result_map}
 use Rattle.xb_samples.specs.Samples.{masks_of}
 use Rattle.xb_samples.proofs.bits.masks_of.Given as goal
 

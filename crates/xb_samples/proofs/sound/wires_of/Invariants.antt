@@ -1,5 +1,5 @@
 use Rattle.std.proofs.Common.{◌≡◌, ◌++◌, drop, map}
-use Rattle.xb_vcd.specs.Steps.{result_map}
+use Rattle.xb_contact.specs.Steps.{result_map}
 use Rattle.xb_samples.specs.Sounds.{wires_of}
 use Rattle.xb_samples.proofs.sound.wires_of.Given as goal
 

@@ -1,5 +1,5 @@
 use Rattle.std.proofs.Common.{◌≡◌, ◌++◌, drop, map, take}
-use Rattle.xb_vcd.specs.Steps.{result_map}
+use Rattle.xb_contact.specs.Steps.{result_map}
 use Rattle.xb_vcd.specs.VcdTexts.{declared_codes}
 use Rattle.xb_vcd.proofs.declaration.declare.Given as goal
 

@@ -1,5 +1,5 @@
 use Rattle.std.proofs.Common.{◌≡◌, ◌++◌, drop}
-use Rattle.xb_vcd.specs.Steps.{result_map}
+use Rattle.xb_contact.specs.Steps.{result_map}
 use Rattle.xb_csv.specs.Cells.{cells_of}
 use Rattle.xb_csv.specs.Tables.{columns_before, levels_from}
 use Rattle.xb_csv.proofs.columns.Columns.say_levels.Given as goal

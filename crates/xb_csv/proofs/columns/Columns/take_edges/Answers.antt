@@ -1,9 +1,9 @@
 use Rattle.std.proofs.Common.{◌≡◌, List, ap, sym, subst, ◌∙◌}
 use Rattle.std.proofs.lemmas.Result.{IfErr-weaker}
 use Rattle.std.specs.Prelude.{Ok, Err}
-use Rattle.xb_vcd.specs.declared.event.Event.{Event}
-use Rattle.xb_vcd.specs.declared.event.Refusal.{Refusal}
-use Rattle.xb_vcd.specs.Steps.{Adds, IsRefusedBy, Said, result_and_then, said_before}
+use Rattle.xb_contact.specs.declared.event.Event.{Event}
+use Rattle.xb_contact.specs.declared.event.Refusal.{Refusal}
+use Rattle.xb_contact.specs.Steps.{Adds, IsRefusedBy, Said, result_and_then, said_before}
 use Rattle.xb_csv.specs.declared.columns.Clock.{Clock}
 use Rattle.xb_csv.specs.Tables.{TableState, edges_row, no_header, row_says, table_state}
 use Rattle.xb_csv.proofs.columns.Columns.take_edges.Goals as goal

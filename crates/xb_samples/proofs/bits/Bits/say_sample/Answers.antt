@@ -5,8 +5,8 @@ use Rattle.xb_samples.proofs.bits.Bits.say_sample.Goals as goal
 
 pub loop-wire-preserved : goal.loop-wire-preserved
 loop-wire-preserved c =
-    level_more c.deref-mask-items.result.now c.loop-wire.wire c.args.sample c.is_set.result c.loop-wire.events.items
-    c.say_level.new.events.items _ c.loop-wire-test.true c.is_set.ensures c.in_ok-say_level.ensures.said c.loop-wire.invariant
+    level_more c.deref-mask-items.result.now c.loop-wire.wire c.args.sample c.bit_level.result c.loop-wire.events.items
+    c.say.new.events.items _ c.loop-wire-test.true c.bit_level.ensures c.in_ok-say.ensures.said c.loop-wire.invariant
 
 pub returns-clause-said : goal.returns-clause-said
 returns-clause-said c =

@@ -1,7 +1,7 @@
 use Rattle.std.proofs.Common.{◌≡◌, ◌≤◌, ◌+◌, ◌^◌, [], ◌∷◌, ◌++◌, ap, length, ◌∙◌}
 use Rattle.std.proofs.lemmas.Result.{on_ok_weaker}
-use Rattle.xb_vcd.specs.declared.event.Event.TheVariants.{At}
-use Rattle.xb_vcd.specs.declared.event.Refusal.TheVariants.{TooLate}
+use Rattle.xb_contact.specs.declared.event.Event.TheVariants.{At}
+use Rattle.xb_contact.specs.declared.event.Refusal.TheVariants.{TooLate}
 use Rattle.xb_samples.specs.Pieces.{RunsOver, piece_events}
 use Rattle.xb_samples.specs.Samples.{bits_reading, bits_state}
 use Rattle.xb_samples.proofs.BitLemmas.{bits_say_when}

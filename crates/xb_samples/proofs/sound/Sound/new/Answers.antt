@@ -1,6 +1,6 @@
 use Rattle.std.proofs.Common.{ℤ, List, ap, refl}
-use Rattle.xb_vcd.specs.declared.event.Refusal.{Refusal}
-use Rattle.xb_vcd.specs.Steps.{IsRefusedBy, result_map}
+use Rattle.xb_contact.specs.declared.event.Refusal.{Refusal}
+use Rattle.xb_contact.specs.Steps.{IsRefusedBy, result_map}
 use Rattle.xb_samples.specs.Sounds.{begun_sound, high_of, sound_says, wires_of}
 use Rattle.xb_samples.proofs.NameLemmas.{texts}
 use Rattle.xb_samples.proofs.SoundLemmas.{rate_refuses, sound_begun, wires_refuse}

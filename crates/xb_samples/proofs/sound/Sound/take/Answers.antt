@@ -1,7 +1,7 @@
 use Rattle.std.proofs.Common.{◌≡◌, ◌≤◌, ◌+◌, ◌^◌, ◌∷◌, ◌++◌, [], length, subst}
 use Rattle.std.proofs.lemmas.Result.{on_ok_weaker}
-use Rattle.xb_vcd.specs.declared.event.Event.TheVariants.{At}
-use Rattle.xb_vcd.specs.declared.event.Refusal.TheVariants.{TooLate}
+use Rattle.xb_contact.specs.declared.event.Event.TheVariants.{At}
+use Rattle.xb_contact.specs.declared.event.Refusal.TheVariants.{TooLate}
 use Rattle.xb_samples.specs.declared.sound.Sound.{Sound}
 use Rattle.xb_samples.specs.Pieces.{RunsOver, after_piece, piece_events}
 use Rattle.xb_samples.specs.Sounds.{left_after, lower_left, samples_after, sound_reading, sound_state}

@@ -4,5 +4,5 @@ use Rattle.xb_vcd.proofs.vcd.Vcd.change.Given as goal
 
 abbrev pub invariant-loop-i : goal.invariant-loop-i
 invariant-loop-i l =
-    l.events.items ++ level_events l.i l.code l.is_high (drop l.i l.self.codes.items)
-    ≡ l.initial.events.items ++ level_events 0 l.code l.is_high l.self.codes.items
+    l.events.items ++ level_events l.i l.code l.level (drop l.i l.self.codes.items)
+    ≡ l.initial.events.items ++ level_events 0 l.code l.level l.self.codes.items

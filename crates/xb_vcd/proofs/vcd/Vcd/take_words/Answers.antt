@@ -1,5 +1,5 @@
 use Rattle.std.proofs.Common.{ap, sym, ◌∙◌, arith, rules}
-use Rattle.xb_vcd.specs.Steps.{IsRefusedBy, all_say}
+use Rattle.xb_contact.specs.Steps.{IsRefusedBy, all_say}
 use Rattle.xb_vcd.specs.VcdChanges.{vcd_state}
 use Rattle.xb_vcd.specs.VcdTexts.{word_says, words_of}
 use Rattle.xb_vcd.proofs.VcdLemmas.{blank_adds, byte_adds}

@@ -1,8 +1,8 @@
 use Rattle.std.proofs.Common.{◌≡◌, ◌≤◌, List, [], drop}
 use Rattle.std.specs.Prelude.{Err, slice_range}
-use Rattle.xb_vcd.specs.declared.event.Event.{Event}
-use Rattle.xb_vcd.specs.declared.event.Refusal.{Refusal}
-use Rattle.xb_vcd.specs.Steps.{Adds, all_say}
+use Rattle.xb_contact.specs.declared.event.Event.{Event}
+use Rattle.xb_contact.specs.declared.event.Refusal.{Refusal}
+use Rattle.xb_contact.specs.Steps.{Adds, all_say}
 use Rattle.xb_vcd.specs.VcdChanges.{VcdState, vcd_state}
 use Rattle.xb_vcd.specs.VcdTexts.{word_says, words_in}
 use Rattle.xb_vcd.proofs.vcd.Vcd.take_words.Given as goal

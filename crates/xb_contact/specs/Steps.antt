@@ -1,8 +1,8 @@
 -- What is said step by step.
-use Rattle.std.specs.Prelude.{◌≡◌, ◌≢◌, List, [], ◌∷◌, ◌++◌, Result, Ok, Err}
-use Rattle.xb_vcd.specs.declared.event.Event.{Event}
-use Rattle.xb_vcd.specs.declared.event.Refusal.{Refusal}
-use Rattle.xb_vcd.specs.declared.event.Refusal.TheVariants.{NoMemory}
+use Rattle.std.specs.Prelude.{◌≡◌, ◌≢◌, ℕ, List, [], ◌∷◌, ◌++◌, Bool, false, Option, Some, None, Result, Ok, Err, nat_lt}
+use Rattle.xb_contact.specs.declared.event.Event.{Event}
+use Rattle.xb_contact.specs.declared.event.Refusal.{Refusal}
+use Rattle.xb_contact.specs.declared.event.Refusal.TheVariants.{NoMemory}
 
 -- the events that are said and the state then, or why it is refused
 abbrev pub Said : Type 0 → Type 0
@@ -37,6 +37,11 @@ abbrev pub say_to_end : {S P : Type 0} → (S → P → Said S) → (S → Resul
 say_to_end {S} {P} says ends state [] = ends state
 say_to_end {S} {P} says ends state (part ∷ rest) =
     result_and_then (λ said. then_later said.0 (say_to_end says ends said.1 rest)) (says state part)
+
+-- a time before the last one, if there is one
+abbrev pub is_before : ℕ → Option ℕ → Bool
+is_before time None = false
+is_before time (Some last) = nat_lt time last
 
 -- it was said: these events were added, and this is the state then
 abbrev pub Adds : {S : Type 0} → Said S → List Event → List Event → S → Type 0

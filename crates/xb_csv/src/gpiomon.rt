@@ -1,12 +1,12 @@
 // The lines that gpiomon writes.
-ghost use Rattle.std.specs.Prelude.{◌≡◌, ◌++◌, ◌<◌, IfErr, IfSome, OnOk, is_some, length, map, option_copied, option_map};
+ghost use Rattle.std.specs.Prelude.{◌≡◌, ◌++◌, ◌∷◌, ◌<◌, [], IfErr, IfSome, Ok, OnOk, is_some, length, map, option_copied, option_map};
 ghost use Rattle.std.specs.List.{position};
-ghost use Rattle.xb_vcd.specs.Steps.{Adds, AddsAll, IsRefusedBy};
-ghost use Rattle.xb_recording.specs.Gpiomons.{between, edge_line_says, edge_of, edge_said, edge_says, first_kind, first_word, gpiomon_line_says, gpiomon_state, gpiomon_with, is_gap, named_levels, rises, second_kind, time_said, wire_of};
+ghost use Rattle.xb_contact.specs.Steps.{Adds, AddsAll, IsRefusedBy};
+ghost use Rattle.xb_csv.specs.Gpiomons.{between, edge_line_says, edge_of, edge_said, edge_says, first_kind, first_word, gpiomon_line_says, gpiomon_says, gpiomon_state, gpiomon_with, is_gap, level_after, named_levels, second_kind, time_said, wire_of};
 
-use xb_contact::NANOSECONDS;
-use xb_csv::{nanoseconds_of, trimmed};
-use xb_vcd::{Event, Refusal, say, say_level};
+use crate::cells::trimmed;
+use crate::seconds::nanoseconds_of;
+use xb_contact::{Event, Level, NANOSECONDS, Refusal, say};
 
 /// The reader of what gpiomon writes, of libgpiod 1 and 2: a line for each edge. A wire has the number of its
 /// line, or, where libgpiod 2 writes it, its name.
@@ -20,7 +20,7 @@ pub struct Gpiomon<'a> {
 #[derive(Clone, Copy)]
 struct Edge<'b> {
     time: &'b [u8],
-    is_rising: bool,
+    level: Level,
     wire: &'b [u8],
 }
 
@@ -64,14 +64,14 @@ fn between(text: &[u8], before: u8, after: u8) -> Option<&[u8]>
     Some(trimmed(&text[1..count - 1]))
 }
 
-// Whether a word says that a wire rises.
-fn rises(word: &[u8]) -> Option<bool>
-    ensures { result ≡ rises word.now }
+// The level of a wire that rises, or falls.
+fn level_after(word: &[u8]) -> Option<Level>
+    ensures { result ≡ level_after word.now }
 {
     if word == b"RISING".as_slice() || word == b"rising".as_slice() {
-        Some(true)
+        Some(Level::Closed)
     } else if word == b"FALLING".as_slice() || word == b"falling".as_slice() {
-        Some(false)
+        Some(Level::Open)
     } else {
         None
     }
@@ -94,14 +94,10 @@ fn edge_of_first_kind(line: &[u8]) -> Option<Edge<'_>>
     {
         return None;
     }
-    let (Some(is_rising), Some(time)) = (rises(kind), between(rest, b'[', b']')) else {
+    let (Some(level), Some(time)) = (level_after(kind), between(rest, b'[', b']')) else {
         return None;
     };
-    Some(Edge {
-        time,
-        is_rising,
-        wire,
-    })
+    Some(Edge { time, level, wire })
 }
 
 // The line of a chip, by its number, or the name that stands between quotes.
@@ -122,10 +118,10 @@ fn edge_of_second_kind(line: &[u8]) -> Option<Edge<'_>>
 {
     let (time, rest) = first_word(line);
     let (kind, rest) = first_word(rest);
-    match rises(kind) {
-        Some(is_rising) if !rest.is_empty() => Some(Edge {
+    match level_after(kind) {
+        Some(level) if !rest.is_empty() => Some(Edge {
             time,
-            is_rising,
+            level,
             wire: wire_of(rest),
         }),
         _ => None,
@@ -144,7 +140,7 @@ fn edge_of(line: &[u8]) -> Option<Edge<'_>>
 }
 
 /// Whether gpiomon writes such a line.
-pub(crate) fn is_of_gpiomon(line: &[u8]) -> bool
+pub fn is_of_gpiomon(line: &[u8]) -> bool
     ensures { result ≡ is_some (edge_of line.now) }
 {
     edge_of(line).is_some()
@@ -154,16 +150,16 @@ pub(crate) fn is_of_gpiomon(line: &[u8]) -> bool
 fn say_named(
     names: &[&str],
     wire: &[u8],
-    is_high: bool,
+    level: Level,
     events: &mut Vec<Event>,
 ) -> Result<(), Refusal>
     ensures said { OnOk result (events.new.items ≡ events.old.items
-        ++ named_levels 0 wire.now is_high (map (λ name. name.now) names.now)) }
+        ++ named_levels 0 wire.now level (map (λ name. name.now) names.now)) }
     ensures only { IfErr result (λ e. e ≡ Refusal.NoMemory) }
 {
     for (i, name) in names.iter().enumerate() {
         if name.as_bytes() == wire {
-            say_level(events, i, is_high)?;
+            say(events, Event::Level(i, level))?;
         }
     }
     Ok(())
@@ -204,7 +200,7 @@ impl<'a> Gpiomon<'a> {
     {
         say_time(self.last, time, events)?;
         self.last = Some(time);
-        say_named(self.names, edge.wire, edge.is_rising, events)
+        say_named(self.names, edge.wire, edge.level, events)
     }
 
     // A line that is not empty.
@@ -233,5 +229,15 @@ impl<'a> Gpiomon<'a> {
             return Ok(());
         }
         self.take_edge_line(line, events)
+    }
+    /// The last line, after which nothing is left to be said. After an `Err` the reader is not to be used again.
+    pub fn end(&mut self, line: &[u8], events: &mut Vec<Event>) -> Result<(), Refusal>
+        requires { events.old.items ≡ [] }
+        ensures said { OnOk result
+            (gpiomon_says (gpiomon_state self.old) (line.now ∷ []) ≡ Ok events.new.items) }
+        ensures refused { IfErr result (IsRefusedBy
+            (gpiomon_says (gpiomon_state self.old) (line.now ∷ []))) }
+    {
+        self.take_line(line, events)
     }
 }

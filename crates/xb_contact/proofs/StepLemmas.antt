@@ -1,9 +1,9 @@
 -- What is said step by step.
 use Rattle.std.proofs.Common.{◌≡◌, List, [], ◌∷◌, ◌++◌, refl, ap, sym, subst, ◌∙◌, append_assoc, append-nil}
 use Rattle.std.specs.Prelude.{Result, Ok, Err}
-use Rattle.xb_vcd.specs.declared.event.Event.{Event}
-use Rattle.xb_vcd.specs.declared.event.Refusal.{Refusal}
-use Rattle.xb_vcd.specs.Steps.{Adds, AddsAll, Said, all_say, result_and_then, said_before, say_to_end, then_later}
+use Rattle.xb_contact.specs.declared.event.Event.{Event}
+use Rattle.xb_contact.specs.declared.event.Refusal.{Refusal}
+use Rattle.xb_contact.specs.Steps.{Adds, AddsAll, Said, all_say, result_and_then, said_before, say_to_end, then_later}
 
 -- what was said, and then the rest
 said_then :

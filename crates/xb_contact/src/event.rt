@@ -1,9 +1,11 @@
 // What a recording says, and why a part of it is refused.
 ghost use Rattle.std.specs.Prelude.{◌≡◌, ◌++◌, ◌∷◌, [], IfErr, OnErr, OnOk};
+ghost use Rattle.xb_contact.specs.Steps.{is_before};
 
+use crate::level::Level;
+use crate::scale::Scale;
 use std::alloc::AllocError;
 use thiserror::Error;
-use xb_contact::Scale;
 
 /// What a recording says.
 #[derive(Clone, Copy, Debug, PartialEq, Eq)]
@@ -12,10 +14,8 @@ pub enum Event {
     Ticks(Scale),
     /// All wires hold their levels up to this tick.
     At(u64),
-    /// From then on this wire, counted from 0, is high.
-    High(usize),
-    /// From then on this wire, counted from 0, is low.
-    Low(usize),
+    /// From then on this wire, counted from 0, has this level: closed where it is high, and open where it is low.
+    Level(usize, Level),
 }
 
 /// Why a part of a recording is refused. The text says what was wanted.
@@ -78,7 +78,7 @@ pub enum Refusal {
 }
 
 impl From<AllocError> for Refusal {
-    ghost use Rattle.xb_vcd.specs.declared.event.Refusal.TheVariants.{NoMemory};
+    ghost use Rattle.xb_contact.specs.declared.event.Refusal.TheVariants.{NoMemory};
 
     ghost from_gives = { λ _ e. e ≡ NoMemory };
 
@@ -96,5 +96,15 @@ pub fn say(events: &mut Vec<Event>, event: Event) -> Result<(), Refusal>
     match events.push(event) {
         Ok(()) => Ok(()),
         Err(_) => Err(Refusal::NoMemory),
+    }
+}
+
+/// Whether a time is before the last one, if there is one.
+pub fn is_before(time: u64, last: Option<u64>) -> bool
+    ensures { result ≡ is_before time last }
+{
+    match last {
+        Some(last) => time < last,
+        None => false,
     }
 }

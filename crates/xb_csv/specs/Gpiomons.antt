@@ -1,18 +1,19 @@
 -- What gpiomon writes, line by line.
-use Rattle.std.specs.Prelude.{ℕ, ◌+◌, ◌-◌, List, [], ◌∷◌, ◌++◌, Bool, true, false, Option, Some, None, Result, Ok, Err, bytes_eq, codes, drop, length, map, nat_le, nat_lt, nat_eq, slice_index, take, ◌==◌, ◌&&◌, ◌||◌, if◌then◌else◌, option_map}
+use Rattle.std.specs.Prelude.{ℕ, ◌+◌, ◌-◌, List, [], ◌∷◌, ◌++◌, Bool, Option, Some, None, Result, Ok, Err, bytes_eq, codes, drop, length, map, nat_le, nat_lt, nat_eq, slice_index, take, ◌==◌, ◌&&◌, ◌||◌, if◌then◌else◌, option_map}
 use Rattle.std.specs.List.{position, starts_with}
 use Rattle.std.specs.Option.{ok_or, option_and_then}
 use Rattle.xb_contact.specs.declared.scale.TheConstants.{NANOSECONDS}
 use Rattle.xb_csv.specs.Cells.{trimmed}
 use Rattle.xb_csv.specs.Seconds.{nanoseconds_of}
-use Rattle.xb_vcd.specs.declared.event.Event.{Event}
-use Rattle.xb_vcd.specs.declared.event.Event.TheVariants.{At, Ticks}
-use Rattle.xb_vcd.specs.declared.event.Refusal.{Refusal}
-use Rattle.xb_vcd.specs.declared.event.Refusal.TheVariants as refusals
-use Rattle.xb_vcd.specs.Steps.{Said, result_and_then, result_map, say_to_end}
-use Rattle.xb_vcd.specs.VcdChanges.{level_event}
-use Rattle.xb_recording.specs.declared.gpiomon.Edge.{Edge}
-use Rattle.xb_recording.specs.declared.gpiomon.Gpiomon.{Gpiomon}
+use Rattle.xb_contact.specs.declared.event.Event.{Event}
+use Rattle.xb_contact.specs.declared.event.Event.TheVariants as events
+use Rattle.xb_contact.specs.declared.event.Refusal.{Refusal}
+use Rattle.xb_contact.specs.declared.event.Refusal.TheVariants as refusals
+use Rattle.xb_contact.specs.Steps.{Said, result_and_then, result_map, say_to_end}
+use Rattle.xb_contact.specs.declared.level.Level.{Level}
+use Rattle.xb_contact.specs.declared.level.Level.TheVariants.{Open, Closed}
+use Rattle.xb_csv.specs.declared.gpiomon.Edge.{Edge}
+use Rattle.xb_csv.specs.declared.gpiomon.Gpiomon.{Gpiomon}
 
 -- words are parted by spaces and tabs
 abbrev pub is_gap : ℕ → Bool
@@ -32,23 +33,23 @@ between before after text =
     if nat_le 2 (length text) && (slice_index text 0 == before) && (slice_index text (length text - 1) == after)
     then Some (trimmed (take (length text - 2) (drop 1 text))) else None
 
--- whether a word says that a wire rises
-abbrev pub rises : List ℕ → Option Bool
-rises word =
-    if bytes_eq word (codes "RISING") || bytes_eq word (codes "rising") then Some true
-    else (if bytes_eq word (codes "FALLING") || bytes_eq word (codes "falling") then Some false else None)
+-- the level of a wire that rises, or falls
+abbrev pub level_after : List ℕ → Option Level
+level_after word =
+    if bytes_eq word (codes "RISING") || bytes_eq word (codes "rising") then Some Closed
+    else (if bytes_eq word (codes "FALLING") || bytes_eq word (codes "falling") then Some Open else None)
 
--- what a line says: a time in seconds, whether a wire rises or falls, and which
+-- what a line says: a time in seconds, a wire, and its level from then on
 pub record EdgeSaid : Type 0 where
   pub time : List ℕ
-  pub is_rising : Bool
+  pub level : Level
   pub wire : List ℕ
 
-abbrev pub edge_with : List ℕ → List ℕ → Bool → EdgeSaid
-edge_with time wire is_rising = record { time = time; is_rising = is_rising; wire = wire }
+abbrev pub edge_with : List ℕ → List ℕ → Level → EdgeSaid
+edge_with time wire level = record { time = time; level = level; wire = wire }
 
 abbrev pub edge_said : Edge → EdgeSaid
-edge_said edge = edge_with edge.time.now edge.wire.now edge.is_rising
+edge_said edge = edge_with edge.time.now edge.wire.now edge.level
 
 -- the six words of libgpiod 1, the last of which is the time in brackets: `event:`, how it changes, `EDGE`, `offset:`,
 -- the line, `timestamp:`
@@ -56,7 +57,7 @@ abbrev pub edge_by : List ℕ × List ℕ → List ℕ × List ℕ → List ℕ 
     → Option EdgeSaid
 edge_by kind edge offset wire stamp =
     if bytes_eq edge.0 (codes "EDGE") && bytes_eq offset.0 (codes "offset:") && bytes_eq stamp.0 (codes "timestamp:")
-    then option_and_then (λ is_rising. option_map (λ time. edge_with time wire.0 is_rising) (between 91 93 stamp.1)) (rises kind.0)
+    then option_and_then (λ level. option_map (λ time. edge_with time wire.0 level) (between 91 93 stamp.1)) (level_after kind.0)
     else None
 
 abbrev pub word_after : List ℕ × List ℕ → List ℕ × List ℕ
@@ -84,7 +85,7 @@ second_kind line =
     let time = first_word line in
     let kind = word_after time in
     if length kind.1 == 0 then None
-    else option_map (λ is_rising. edge_with time.0 (wire_of kind.1) is_rising) (rises kind.0)
+    else option_map (λ level. edge_with time.0 (wire_of kind.1) level) (level_after kind.0)
 
 abbrev pub edge_of : List ℕ → Option EdgeSaid
 edge_of line = if starts_with nat_eq line (codes "event:") then first_kind line else second_kind line
@@ -101,21 +102,21 @@ abbrev pub gpiomon_state : Gpiomon → GpiomonState
 gpiomon_state gpiomon = gpiomon_with (map (λ name. name.now) gpiomon.names.now) gpiomon.last
 
 -- the wires of this name, from this one on, have a level
-abbrev pub named_levels : ℕ → List ℕ → Bool → List (List ℕ) → List Event
-named_levels wire name is_high [] = []
-named_levels wire name is_high (own ∷ rest) =
-    if bytes_eq own name then level_event wire is_high ∷ named_levels (wire + 1) name is_high rest
-    else named_levels (wire + 1) name is_high rest
+abbrev pub named_levels : ℕ → List ℕ → Level → List (List ℕ) → List Event
+named_levels wire name level [] = []
+named_levels wire name level (own ∷ rest) =
+    if bytes_eq own name then events.Level wire level ∷ named_levels (wire + 1) name level rest
+    else named_levels (wire + 1) name level rest
 
 -- a time never falls; the first one says that ticks are nanoseconds
 abbrev pub time_said : Option ℕ → ℕ → Result (List Event) Refusal
-time_said None time = Ok (Ticks NANOSECONDS ∷ At time ∷ [])
-time_said (Some last) time = if nat_lt time last then Err refusals.Backwards else Ok (At time ∷ [])
+time_said None time = Ok (events.Ticks NANOSECONDS ∷ events.At time ∷ [])
+time_said (Some last) time = if nat_lt time last then Err refusals.Backwards else Ok (events.At time ∷ [])
 
 abbrev pub edge_says : GpiomonState → EdgeSaid → ℕ → Said GpiomonState
 edge_says state edge time =
     result_map
-    (λ said. (said ++ named_levels 0 edge.wire edge.is_rising state.names, gpiomon_with state.names (Some time)))
+    (λ said. (said ++ named_levels 0 edge.wire edge.level state.names, gpiomon_with state.names (Some time)))
     (time_said state.last time)
 
 -- a line that is not empty

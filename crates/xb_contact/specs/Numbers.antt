@@ -1,0 +1,31 @@
+-- Numbers and levels as they are written.
+use Rattle.std.specs.Prelude.{ℕ, ◌+◌, ◌-◌, ◌*◌, ◌^◌, List, [], ◌∷◌, Bool, Option, Some, None, bytes_eq, codes, nat_le, nat_lt, ◌&&◌, if◌then◌else◌}
+use Rattle.std.specs.Option.{option_and_then}
+use Rattle.xb_contact.specs.declared.level.Level.{Level}
+use Rattle.xb_contact.specs.declared.level.Level.TheVariants.{Open, Closed}
+
+-- a number with one more digit after it, below 2^64
+abbrev pub digit_after : ℕ → ℕ → ℕ → Option ℕ
+digit_after base number digit =
+    if nat_lt (number * base + digit) (2 ^ 64) then Some (number * base + digit) else None
+
+abbrev pub is_digit : ℕ → Bool
+is_digit byte = nat_le 48 byte && nat_le byte 57
+
+abbrev pub number_after : ℕ → ℕ → Option ℕ
+number_after number byte = if is_digit byte then digit_after 10 number (byte - 48) else None
+
+-- a number with further digits after it
+abbrev pub number_in : ℕ → List ℕ → Option ℕ
+number_in number [] = Some number
+number_in number (byte ∷ rest) = option_and_then (λ longer. number_in longer rest) (number_after number byte)
+
+-- the number that a text of digits writes
+abbrev pub number_of : List ℕ → Option ℕ
+number_of [] = None
+number_of (byte ∷ rest) = number_in 0 (byte ∷ rest)
+
+-- the level that a text writes: 0 is low, an open contact, and 1 high, a closed one
+abbrev pub level_of : List ℕ → Option Level
+level_of text =
+    if bytes_eq text (codes "0") then Some Open else (if bytes_eq text (codes "1") then Some Closed else None)
