@@ -1,17 +1,8 @@
 -- Where a sample of an MF frequency stands in the table.
-use Rattle.std.proofs.Common.{◌≡◌, ◌∙◌, ℕ, ◌+◌, ◌*◌, ◌/◌, ◌%◌, sym, ap, arith, to_z, of_z}
-use Rattle.std.specs.Int.{w16}
-use Rattle.std.proofs.lemmas.Int.{to_z-of_z, fits_signed_from_abs}
+use Rattle.std.proofs.Common.{◌≡◌, ◌∙◌, ℕ, ◌+◌, ◌*◌, ◌/◌, ◌%◌, sym, ap, arith}
 use Rattle.std.proofs.Math.Nat.{mul-div_cancel, add-mul-mod_self_right}
 use Rattle.xb_tone.specs.Sines.{sine_at}
-use Rattle.xb_tone.proofs.SineTables.{sine_at-small}
 use Rattle.xb_ear.specs.Levels.{sine_of}
-
--- a sample is read from the table as it is
-pub read : (place : ℕ) → to_z w16 (of_z w16 (sine_at place)) ≡ sine_at place
-read place =
-    let small = sine_at-small place in
-    to_z-of_z w16 (sine_at place) (fits_signed_from_abs w16 (sine_at place) (omega arith))
 
 -- of a multiple of 100 Hz each sample stands at a whole place
 place-whole : (h n : ℕ) → h * 100 * n / 100 ≡ h * n

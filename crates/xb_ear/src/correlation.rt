@@ -2,7 +2,8 @@
 ghost use Rattle.std.specs.Prelude.{◌≡◌, ◌≤◌, ◌*◌, ◌*ℤ◌, length, unsigned_abs};
 ghost use Rattle.xb_ear.specs.Levels.{correlated, sine_of, cosine_of, squares};
 
-use crate::waves::{cosine_sample, sine_sample};
+use crate::waves::cosine_sample;
+use xb_tone::sine_sample;
 
 // A sample times one of a wave.
 fn product(x: i16, y: i16) -> i64

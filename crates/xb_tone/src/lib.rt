@@ -36,6 +36,6 @@ pub use playing::play;
 pub use program::attend;
 pub use request::{Choice, Request};
 pub use samples::{fill_tone, samples_of};
-pub use sine::{AMPLITUDE, PERIOD, SAMPLES_PER_SECOND};
+pub use sine::{AMPLITUDE, PERIOD, SAMPLES_PER_SECOND, sine_at, sine_sample};
 pub use sounding::{SoundFault, write_samples, write_wav};
 pub use wav_file::{HEADER_BYTES, WavFault, wav};

@@ -1,6 +1,6 @@
 // The sine table, and one sample of a tone.
-ghost use Rattle.std.specs.Prelude.{◌≡◌, ◌≤◌, unsigned_abs};
-ghost use Rattle.xb_tone.specs.Sines.{sine_sample, pair_sample};
+ghost use Rattle.std.specs.Prelude.{◌≡◌, ◌<◌, ◌≤◌, unsigned_abs};
+ghost use Rattle.xb_tone.specs.Sines.{pair_sample, sine_at, sine_sample};
 
 use xb_model::Tone;
 
@@ -23,13 +23,22 @@ static SINE: [i16; PERIOD] = [
     -5878, -5225, -4540, -3827, -3090, -2334, -1564, -785,
 ];
 
-// Sample n of a frequency in Hz, from a start at 0.
-fn sine_sample(hz: u16, n: u32) -> i16
+/// The sample at a place of a period of 100 Hz, from a start at 0.
+pub fn sine_at(place: usize) -> i16
+    requires { place < 80 }
+    ensures value { result ≡ sine_at place }
+    ensures bound { unsigned_abs result ≤ 10000 }
+{
+    SINE[place]
+}
+
+/// Sample n of a frequency in Hz, from a start at 0.
+pub fn sine_sample(hz: u16, n: u32) -> i16
     ensures value { result ≡ sine_sample hz n }
     ensures bound { unsigned_abs result ≤ 10000 }
 {
     let place = u64::from(hz) * u64::from(n) / 100 % 80;
-    SINE[place as usize]
+    sine_at(place as usize)
 }
 
 // Sample n of two frequencies that sound together.
