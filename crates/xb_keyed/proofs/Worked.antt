@@ -1,10 +1,11 @@
 -- Levels, as worked by hand.
 use Rattle.std.proofs.Common.{refl}
 use Rattle.std.specs.Fmt.{digits}
+use Rattle.xb_keyed.specs.Levels.{has_reached}
 use Rattle.xb_keyed.specs.Worked.{LevelsAreAsWorked}
 
 pub levels_are_as_worked : LevelsAreAsWorked
-unfolding digits
+unfolding digits has_reached
 levels_are_as_worked = record {
   greatest = refl;
   half = refl;

@@ -1,10 +1,10 @@
 // Levels in dBm0.
 ghost use Rattle.std.specs.Prelude.{◌≡◌, ◌≤◌, IfOk, length, string_bytes};
-ghost use Rattle.xb_keyed.specs.Levels.{count_up_to, decimal_tenths, scale_of, tenths_of, tenths_text};
+ghost use Rattle.xb_keyed.specs.Levels.{count_up_to, decimal_tenths, tenths_of, tenths_text};
 
 use std::alloc::{AllocError, Global};
 
-// Powers of ten, which a level has reached or not.
+// Powers of ten.
 static POWERS: [u64; 12] = [
     10,
     100,
@@ -20,24 +20,7 @@ static POWERS: [u64; 12] = [
     1_000_000_000_000,
 ];
 
-// What brings a level that has reached so many of them to 10^12.
-static SCALES: [u64; 13] = [
-    1_000_000_000_000,
-    100_000_000_000,
-    10_000_000_000,
-    1_000_000_000,
-    100_000_000,
-    10_000_000,
-    1_000_000,
-    100_000,
-    10_000,
-    1_000,
-    100,
-    10,
-    1,
-];
-
-// From these on, of 10^12 to 10^13, each next tenth of a dB is the nearest.
+// From these on, of 10^12 to 10^13, each next tenth of a dB is the nearest: see `has_reached`.
 static STEPS: [u64; 100] = [
     1_004_322_892_929,
     1_027_716_578_321,
@@ -155,22 +138,15 @@ fn count_up_to(number: u128, bounds: &[u64]) -> usize
         .count()
 }
 
-// What a level is multiplied by, so that it is 10^12 to 10^13.
-fn scale_of(powers: usize) -> u64
-    ensures { result ≡ scale_of powers }
-{
-    SCALES.get(powers).copied().unwrap_or(1)
-}
-
 // A level in tenths of a dB.
 pub(crate) fn tenths_of(level: u64) -> u32
     ensures { result ≡ tenths_of level }
 {
     let level = u128::from(level);
-    let powers = count_up_to(level, &POWERS);
-    let scale = u128::from(scale_of(powers));
-    let steps = count_up_to(level * scale, &STEPS);
-    (100 * powers + steps) as u32
+    let powers = count_up_to(level, &POWERS) as u32;
+    let wide = level * 10u128.pow(12 - powers);
+    let steps = count_up_to(wide, &STEPS) as u32;
+    100 * powers + steps
 }
 
 // A number of tenths with one decimal.
