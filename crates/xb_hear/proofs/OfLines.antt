@@ -1,11 +1,12 @@
 -- What is told of a line.
 use Rattle.std.proofs.Common.{arith, get_or, map, ◌≡◌, ◌<◌, ℕ, List, [], ◌∙◌, ap, length, sym}
 use Rattle.std.proofs.lemmas.List.{get_or-map}
+use Rattle.xb_model.specs.declared.limits.Limits.{Limits}
 use Rattle.xb_model.specs.declared.line.TheConstants.{LINES}
+use Rattle.xb_model.specs.declared.plan.Plan.{Plan}
 use Rattle.xb_model.specs.LineValues.{AreValues}
 use Rattle.xb_model.specs.Records.{record_of}
 use Rattle.xb_model.specs.Rows.{LoopRow}
-use Rattle.xb_routes.specs.Table.{Table}
 use Rattle.xb_heard.specs.declared.run.PlacedRun.{PlacedRun}
 use Rattle.xb_heard.specs.PlacedRuns.{placed_runs}
 use Rattle.xb_heard.proofs.PlacedRuns.{run_in-placed_runs}
@@ -20,5 +21,5 @@ runs-of-line items lines R l v every below is are =
     ap items (is v) ∙ sym (get_or-map items lines l v [] (omega (arith, every, below))) ∙ are l [] below
 
 -- the attempts of each line have the outcomes of its record
-pub agrees : (T : Table) (R : List LoopRow) → AgreesWithPage T R
-agrees T R l = (tells T.plan T.limits (placed_runs l R) (record_of l R) (run_in-placed_runs l R)).outcomes
+pub agrees : (P : Plan) (L : Limits) (R : List LoopRow) → AgreesWithPage P L R
+agrees P L R l = (tells P L (placed_runs l R) (record_of l R) (run_in-placed_runs l R)).outcomes

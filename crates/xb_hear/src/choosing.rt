@@ -1,9 +1,9 @@
-// Which lines have a refused attempt, and which are asked for.
+// Which lines have a refused attempt, and which are chosen.
 ghost use Rattle.std.specs.Prelude.{◌≡◌, map};
 ghost use Rattle.xb_heard.specs.Attempts.{attempt_in};
-ghost use Rattle.xb_hear.specs.Choosing.{has_refused, is_among, is_refused};
+ghost use Rattle.xb_hear.specs.Choosing.{has_refused, is_chosen, is_refused};
 
-use crate::request::Among;
+use crate::request::Choice;
 use xb_heard::HeardAttempt;
 use xb_model::Dialled;
 
@@ -29,12 +29,12 @@ pub(crate) fn has_refused(attempts: &[HeardAttempt]) -> bool
     false
 }
 
-/// Whether a line with these attempts is one of them.
-pub(crate) fn is_among(among: Among, attempts: &[HeardAttempt]) -> bool
-    ensures { result ≡ is_among among (map attempt_in attempts.now) }
+/// Whether a line with these attempts is chosen.
+pub(crate) fn is_chosen(choice: Choice, attempts: &[HeardAttempt]) -> bool
+    ensures { result ≡ is_chosen choice (map attempt_in attempts.now) }
 {
-    match among {
-        Among::Each => true,
-        Among::Refused => has_refused(attempts),
+    match choice {
+        Choice::All => !attempts.is_empty(),
+        Choice::Refused => has_refused(attempts),
     }
 }

@@ -1,67 +1,70 @@
 // From a deck on a reader to its report, page or picture on a writer.
-ghost use Rattle.std.specs.Prelude.{◌≡◌, ◌≤◌, ◌<◌, ◌^◌, Err, IfErr, IfOk, Some, length, string_bytes};
+ghost use Rattle.std.specs.Prelude.{◌≡◌, ◌≤◌, ◌<◌, ◌^◌, Err, IfErr, IfOk, Some, length};
 ghost use Rattle.xb_deck.specs.declared.deck.TheConstants.{MOST_DECK_BYTES};
-ghost use Rattle.xb_deck.specs.Contents.{contents, contents_of, contents_of_parts, with_rows};
+ghost use Rattle.xb_deck.specs.Contents.{IsRowsFault, contents_of, contents_of_parts, with_rows};
 ghost use Rattle.xb_deck.specs.Deck.{deck_parts, parts_of_deck};
-ghost use Rattle.xb_hear.specs.DeckReport.{Delivers, IsAsked, IsFaultOfDeck, Tells, and_asked, says, says_asked};
+ghost use Rattle.xb_hear.specs.DeckReport.{Delivers, Gives, Reports, and_asked, says};
 ghost use Rattle.xb_hear.specs.Places.{before_records, lines_before};
+ghost use Rattle.xb_rows.specs.RowResults.{AreRowsOf};
 ghost use Rattle.xb_rows.specs.RowTexts.{fault_of_text, rows_of_text};
+ghost use Rattle.xb_rows.specs.declared.scan.TheConstants.{MOST_RECORDS};
 
 use crate::fault::HearFault;
-use crate::finding::find_asked;
-use crate::lines::{objects, page, picture, report};
+use crate::line::{picture_of_line, text_of_line};
+use crate::lines::text_of_lines;
 use crate::places::lines_before;
-use crate::request::{Choice, Request};
-use std::alloc::{AllocError, Global};
+use crate::request::Request;
+use crate::telling::Manner;
+use std::alloc::Global;
 use std::io::{Read, Write};
 use xb_deck::{Deck, DeckFault, read_deck};
-use xb_model::Row;
+use xb_model::{Limits, Plan, Row};
 use xb_routes::RouteTable;
 use xb_rows::rows_of_text;
 use xb_text::write_whole;
 
-// What is asked for of a table and of rows, if they have it.
+// What is asked for of rows, by this plan and these limits.
 fn text_of(
     alloc: Global,
     request: Request,
     before: Option<u64>,
-    table: &RouteTable,
-    rows: &[Row],
-) -> Result<String, AllocError>
-    requires { length rows.now < 2 ^ 32 }
-    ensures { IfOk result (λ text.
-        IsAsked request before (contents table.now rows.now) (string_bytes text)) }
-{
-    match request {
-        Request::All => report(alloc, table, rows, Choice::All),
-        Request::Refused => report(alloc, table, rows, Choice::Refused),
-        Request::Line(line) => report(alloc, table, rows, Choice::Line(line)),
-        Request::Picture(line, attempt) => picture(alloc, table, rows, line, attempt),
-        Request::Page => page(alloc, table, rows, Choice::All),
-        Request::PageOfRefused => page(alloc, table, rows, Choice::Refused),
-        Request::PageOf(line) => page(alloc, table, rows, Choice::Line(line)),
-        Request::Objects => objects(alloc, table, rows, Choice::All, before),
-        Request::ObjectsOfRefused => objects(alloc, table, rows, Choice::Refused, before),
-        Request::ObjectsOf(line) => objects(alloc, table, rows, Choice::Line(line), before),
-    }
-}
-
-// What is asked for of a table and of rows, or that they have it not.
-#[tactic(auto, using(crate::proofs::OfLines::agrees))]
-fn text_if_found(
-    alloc: Global,
-    request: Request,
-    before: Option<u64>,
-    table: &RouteTable,
+    plan: Plan,
+    limits: Limits,
     rows: &[Row],
 ) -> Result<String, HearFault>
     requires { length rows.now < 2 ^ 32 }
-    ensures text { IfOk result (λ text.
-        Tells request before (says_asked request (contents table.now rows.now)) (string_bytes text)) }
-    ensures fault { IfErr result (IsFaultOfDeck (says_asked request (contents table.now rows.now))) }
+    ensures { Gives request before plan limits rows.now result }
 {
-    find_asked(alloc, request, table, rows)?;
-    Ok(text_of(alloc, request, before, table, rows)?)
+    match request {
+        Request::Lines(choice, form) => {
+            let manner = Manner {
+                form,
+                limits,
+                before,
+            };
+            Ok(text_of_lines(alloc, choice, manner, plan, rows)?)
+        }
+        Request::Line(line, form) => {
+            let manner = Manner {
+                form,
+                limits,
+                before,
+            };
+            text_of_line(alloc, line, manner, plan, rows)
+        }
+        Request::Picture(line, attempt) => picture_of_line(
+            alloc, line, attempt, plan, limits, rows,
+        ),
+    }
+}
+
+// The rows of a text.
+fn rows_of(alloc: Global, text: &[u8]) -> Result<Vec<Row>, DeckFault>
+    ensures rows { IfOk result (λ rows. AreRowsOf text.now rows.items) }
+    ensures few { IfOk result (λ rows. length rows.items ≤ MOST_RECORDS) }
+    ensures fault { IfErr result (λ f. IsRowsFault text.now f) }
+{
+    Ok(rows_of_text(alloc, text)?)
 }
 
 // What is asked for of a table with its text, and of the text of rows.
@@ -72,16 +75,12 @@ fn text_of_rows(
     table_text: &[u8],
     rows: &[u8],
 ) -> Result<String, HearFault>
-    ensures text { IfOk result (λ text. Tells request
-        (lines_before table_text.now rows.now (length (rows_of_text rows.now)))
-        (and_asked request (with_rows table.now (rows_of_text rows.now) (fault_of_text rows.now)))
-        (string_bytes text)) }
-    ensures fault { IfErr result (IsFaultOfDeck (and_asked request
-        (with_rows table.now (rows_of_text rows.now) (fault_of_text rows.now)))) }
+    ensures { Reports request (lines_before table_text.now rows.now (length (rows_of_text rows.now)))
+        (and_asked request (with_rows table.now (rows_of_text rows.now) (fault_of_text rows.now))) result }
 {
-    let read = rows_of_text(alloc, rows)?;
+    let read = rows_of(alloc, rows)?;
     let before = lines_before(table_text, rows, read.len());
-    text_if_found(alloc, request, before, table, &read)
+    text_of(alloc, request, before, table.plan(), table.limits(), &read)
 }
 
 // The parts of a deck.
@@ -98,9 +97,7 @@ fn parts_of(bytes: &[u8]) -> Result<Deck<'_>, DeckFault>
 // What is asked for of a deck that was read.
 fn text_of_deck(alloc: Global, request: Request, bytes: &[u8]) -> Result<String, HearFault>
     requires { length bytes.now ≤ MOST_DECK_BYTES }
-    ensures text { IfOk result (λ text.
-        Tells request (before_records bytes.now) (says request bytes.now) (string_bytes text)) }
-    ensures fault { IfErr result (IsFaultOfDeck (says request bytes.now)) }
+    ensures { Reports request (before_records bytes.now) (says request bytes.now) result }
 {
     let deck = parts_of(bytes)?;
     let table = deck.route_table(alloc)?;

@@ -1,10 +1,10 @@
 // What the words of the command line ask for.
 ghost use Rattle.std.specs.Prelude.{◌≡◌, IfErr, IfOk, Some, false};
 ghost use Rattle.xb_command.specs.Commands.{texts_of};
-ghost use Rattle.xb_hear.specs.Options.{AreRefused, Asks, Say, choice_of, drawn_of, objects_of, page_of, picture_of, request_of, text_of, written_of};
+ghost use Rattle.xb_hear.specs.Options.{AreRefused, Asks, Say, asked_of, form_of, request_of};
 
 use crate::program::PROGRAM;
-use crate::request::{Choice, Request};
+use crate::request::{Choice, Form, Request};
 use std::alloc::Global;
 use xb_command::{Takes, Words, WordsFault, read_words};
 use xb_model::{LINES, LineNo};
@@ -44,95 +44,32 @@ fn options_of(words: &Words) -> Options
     }
 }
 
-// The line of a number; `None` where there is no such line.
-fn line_of(number: u32) -> Option<Choice>
-    ensures { result ≡ choice_of (Some number) false }
+// The form that is asked for; `None` where two are.
+fn form_of(html: bool, json: bool) -> Option<Form>
+    ensures { result ≡ form_of html json }
+{
+    match (html, json) {
+        (false, false) => Some(Form::Text),
+        (true, false) => Some(Form::Html),
+        (false, true) => Some(Form::Json),
+        (true, true) => None,
+    }
+}
+
+// A line in a form, or its picture, of one of its attempts or of the first ones; `None` where there is no such line,
+// of an attempt 0 or without a picture, and of a picture where a page or objects are asked for too.
+fn of_line(number: u32, svg: bool, attempt: Option<u32>, form: Form) -> Option<Request>
+    ensures { result ≡ asked_of (Some number) false svg attempt form }
 {
     if number >= u32::from(LINES) {
         return None;
     }
     let line = LineNo::new(number as u16)?;
-    Some(Choice::Line(line))
-}
-
-// The lines that are asked for; `None` where there is no such line, and of one line that has to be refused too.
-fn choice_of(line: Option<u32>, refused: bool) -> Option<Choice>
-    ensures { result ≡ choice_of line refused }
-{
-    match (line, refused) {
-        (None, false) => Some(Choice::All),
-        (None, true) => Some(Choice::Refused),
-        (Some(number), false) => line_of(number),
-        (Some(_), true) => None,
-    }
-}
-
-// The picture of one line, of one of its attempts or of the first ones; `None` of more lines, and of an
-// attempt 0.
-fn picture_of(choice: Choice, attempt: Option<u32>) -> Option<Request>
-    ensures { result ≡ picture_of choice attempt }
-{
-    match choice {
-        Choice::All | Choice::Refused => None,
-        Choice::Line(line) => match attempt {
-            Some(0) => None,
-            attempt => Some(Request::Picture(line, attempt)),
-        },
-    }
-}
-
-// The report of lines.
-fn text_of(choice: Choice) -> Request
-    ensures { result ≡ text_of choice }
-{
-    match choice {
-        Choice::All => Request::All,
-        Choice::Refused => Request::Refused,
-        Choice::Line(line) => Request::Line(line),
-    }
-}
-
-// The page of lines.
-fn page_of(choice: Choice) -> Request
-    ensures { result ≡ page_of choice }
-{
-    match choice {
-        Choice::All => Request::Page,
-        Choice::Refused => Request::PageOfRefused,
-        Choice::Line(line) => Request::PageOf(line),
-    }
-}
-
-// The objects of lines.
-fn objects_of(choice: Choice) -> Request
-    ensures { result ≡ objects_of choice }
-{
-    match choice {
-        Choice::All => Request::Objects,
-        Choice::Refused => Request::ObjectsOfRefused,
-        Choice::Line(line) => Request::ObjectsOf(line),
-    }
-}
-
-// The report, the page or the objects of lines; `None` where two are asked for.
-fn written_of(choice: Choice, html: bool, json: bool) -> Option<Request>
-    ensures { result ≡ written_of choice html json }
-{
-    match (html, json) {
-        (false, false) => Some(text_of(choice)),
-        (true, false) => Some(page_of(choice)),
-        (false, true) => Some(objects_of(choice)),
-        (true, true) => None,
-    }
-}
-
-// The picture of one line; `None` where a page or objects are asked for too.
-fn drawn_of(choice: Choice, html: bool, json: bool, attempt: Option<u32>) -> Option<Request>
-    ensures { result ≡ drawn_of choice html json attempt }
-{
-    match (html, json) {
-        (false, false) => picture_of(choice, attempt),
-        (true, _) | (false, true) => None,
+    match (svg, attempt, form) {
+        (false, None, form) => Some(Request::Line(line, form)),
+        (true, Some(0), _) => None,
+        (true, attempt, Form::Text) => Some(Request::Picture(line, attempt)),
+        (false, Some(_), _) | (true, _, Form::Html | Form::Json) => None,
     }
 }
 
@@ -141,11 +78,12 @@ fn drawn_of(choice: Choice, html: bool, json: bool, attempt: Option<u32>) -> Opt
 fn request_of(options: Options) -> Option<Request>
     ensures { result ≡ request_of options }
 {
-    let choice = choice_of(options.line, options.refused)?;
-    match (options.svg, options.attempt) {
-        (true, attempt) => drawn_of(choice, options.html, options.json, attempt),
-        (false, None) => written_of(choice, options.html, options.json),
-        (false, Some(_)) => None,
+    let form = form_of(options.html, options.json)?;
+    match (options.line, options.refused, options.svg, options.attempt) {
+        (None, false, false, None) => Some(Request::Lines(Choice::All, form)),
+        (None, true, false, None) => Some(Request::Lines(Choice::Refused, form)),
+        (Some(number), false, svg, attempt) => of_line(number, svg, attempt, form),
+        (None, _, true, _) | (None, _, false, Some(_)) | (Some(_), true, _, _) => None,
     }
 }
 
