@@ -1,28 +1,10 @@
 //! The program: words and a recording of contacts in, a status and the loop rows of their lines out.
 #![tactic(auto)]
 
-use std::alloc::Global;
+use std::io;
 use std::process::ExitCode;
-use std::{env, fs, io};
-use xb_command::Pipe;
-use xb_loop::{TableFiles, attend};
-
-// The files of the system.
-#[derive(Drop)]
-struct SystemFiles<'a> {
-    rt: &'a HostRuntime,
-}
-
-impl<'a> TableFiles for SystemFiles<'a> {
-    fn read(&self, _alloc: Global, name: &str) -> io::Result<Vec<u8>> {
-        fs::read(self.rt, name)
-    }
-}
-
-// The words of the command line, the program's name first.
-fn words(rt: &HostRuntime) -> io::Result<Vec<String>> {
-    Ok(env::args(rt)?.collect(rt.alloc())?)
-}
+use xb_command::{Pipe, SystemFiles, words_of_process};
+use xb_loop::attend;
 
 /// Reads a recording on standard input, and prints its loop rows as it comes, or one line on standard error,
 /// as `attend` does.
@@ -31,7 +13,7 @@ fn main(rt: HostRuntime) -> ExitCode {
     let (mut recording, mut rows) = (rt.stdin(), pipe.output(io::writer(&rt)));
     let mut err = pipe.errors(io::writer(&errors));
     let files = SystemFiles { rt: &rt };
-    match words(&rt) {
+    match words_of_process(&rt) {
         Ok(words) => {
             let status = attend(
                 rt.alloc(),

@@ -1,33 +1,14 @@
 //! The program: words, a sound and the file of a page in, a status and what is heard out.
 #![tactic(auto)]
 
-use std::alloc::Global;
-use std::io::BufReader;
+use std::io::{self, BufReader};
 use std::process::ExitCode;
-use std::{env, fs, io};
-use xb_command::Pipe;
-use xb_rx::{PageFiles, attend};
-
-// The files of the system.
-#[derive(Drop)]
-struct SystemFiles<'a> {
-    rt: &'a HostRuntime,
-}
-
-impl<'a> PageFiles for SystemFiles<'a> {
-    fn read(&self, _alloc: Global, name: &str) -> io::Result<Vec<u8>> {
-        fs::read(self.rt, name)
-    }
-}
-
-// The words of the command line, the program's name first.
-fn words(rt: &HostRuntime) -> io::Result<Vec<String>> {
-    Ok(env::args(rt)?.collect(rt.alloc())?)
-}
+use xb_command::{Pipe, SystemFiles, words_of_process};
+use xb_rx::attend;
 
 // Hears the sound on standard input.
 fn run(rt: &HostRuntime) -> io::Result<u8> {
-    let words = words(rt)?;
+    let words = words_of_process(rt)?;
     let mut sound = BufReader::new(rt.alloc(), rt.stdin())?;
     let (pipe, errors) = (Pipe::default(), rt.stderr());
     let mut page = pipe.output(io::writer(rt));

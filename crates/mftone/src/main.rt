@@ -1,15 +1,10 @@
 //! The program: words and a page in, a status and the sound of its calls out.
 #![tactic(auto)]
 
+use std::io;
 use std::process::ExitCode;
-use std::{env, io};
-use xb_command::Pipe;
+use xb_command::{Pipe, words_of_process};
 use xb_tone::attend;
-
-// The words of the command line, the program's name first.
-fn words(rt: &HostRuntime) -> io::Result<Vec<String>> {
-    Ok(env::args(rt)?.collect(rt.alloc())?)
-}
 
 /// Reads the page on standard input, and writes its sound on standard output, or one line on standard
 /// error, as `attend` does.
@@ -17,7 +12,7 @@ fn main(rt: HostRuntime) -> ExitCode {
     let (pipe, errors) = (Pipe::default(), rt.stderr());
     let (mut page, mut sound) = (rt.stdin(), pipe.output(io::writer(&rt)));
     let mut err = pipe.errors(io::writer(&errors));
-    match words(&rt) {
+    match words_of_process(&rt) {
         Ok(words) => {
             let status = attend(rt.alloc(), &words, &mut page, &mut sound, &mut err);
             ExitCode::from(pipe.status(status))

@@ -5,12 +5,13 @@ use std::io::{ErrorKind, Read, Write};
 use std::process::Abort;
 use std::test::Fail;
 use test_kit::words_of;
-use xb_loop::{TableFiles, attend};
+use xb_command::Files;
+use xb_loop::attend;
 
 /// Two route tables: one that is right, and one that is not TOML.
 pub struct Tables;
 
-impl TableFiles for Tables {
+impl Files for Tables {
     fn read(&self, alloc: Global, name: &str) -> io::Result<Vec<u8>> {
         let text = match name {
             "good.toml" => b"route = []".as_slice(),

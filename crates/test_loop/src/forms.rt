@@ -20,6 +20,12 @@ $upscope $end\n$enddefinitions $end\n#5 0!\n#15 1!\n#35\n",
         b"$comment a b $end $timescale\n10us\n$end $var reg 1 ab clk $end $var wire 8 ! bus $end
 $enddefinitions $end\n$dumpvars\nb0 ab\nbxxxx0000 !\n$end\n#1000\nb1 ab\r\n#3000",
     ),
+    // a VCD in which another wire changes between the edges
+    (
+        &["--line", "7=LOOP"],
+        b"$timescale 1 us $end\n$var wire 1 ! LOOP $end\n$var wire 1 \" BUSY $end\n$enddefinitions $end
+#0\n0!\n#0\n0\"\n#10000\n1!\n#15000\n1\"\n#30000\n0!\n",
+    ),
     // CSV of sigrok: with times, with a row a sample, and of a raw file
     (
         &["--line", "7=D1"],

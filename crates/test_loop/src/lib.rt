@@ -14,5 +14,3 @@ mod refusals;
 mod settling;
 #[cfg(test)]
 mod statuses;
-#[cfg(test)]
-mod written;

@@ -18,6 +18,8 @@ const REFUSED: &[&[&str]] = &[
     &[],
     &["--line", "7"],
     &["--line", "10000=1"],
+    // more than four digits, as a record has none
+    &["--line", "0000007=1"],
     &["--line", "7="],
     &["--line", "x=1"],
     // two wires for one line

@@ -1,7 +1,7 @@
 // The files of tables that tests name.
 use std::alloc::Global;
 use std::io::{self, ErrorKind};
-use xb_route::TableFiles;
+use xb_command::Files;
 
 // The files that there are.
 pub(crate) struct Folder;
@@ -21,7 +21,7 @@ const FILES: &[(&str, &[u8])] = &[
     ("wrong plan", b"plan = 8\n"),
 ];
 
-impl TableFiles for Folder {
+impl Files for Folder {
     fn read(&self, alloc: Global, name: &str) -> io::Result<Vec<u8>> {
         for (other, bytes) in FILES {
             if *other == name {

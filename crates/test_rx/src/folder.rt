@@ -1,7 +1,7 @@
 // The file of a page that tests name.
 use std::alloc::Global;
 use std::io::{self, ErrorKind};
-use xb_rx::PageFiles;
+use xb_command::Files;
 
 // Two keyings, of which the tests sound other ones.
 const PAGE: &[u8] = b"0007 1 KEYED 0017 KP:1100+1700 5:900+1300 0:1300+1500 ST:1500+1700\n\
@@ -12,7 +12,7 @@ KEYED 2 REFUSED 1\n";
 // The files that there are.
 pub(crate) struct Folder;
 
-impl PageFiles for Folder {
+impl Files for Folder {
     fn read(&self, alloc: Global, name: &str) -> io::Result<Vec<u8>> {
         let mut file = Vec::new(alloc);
         match name {

@@ -1,5 +1,6 @@
 pub mod Commands
 pub mod Constants
+pub mod Files
 pub mod Given
 pub mod Programs
 pub mod Telling

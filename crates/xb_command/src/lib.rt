@@ -1,6 +1,7 @@
-//! What a program does with its words and its streams: the words of a command line as `clap` takes them
-//! (options with numbers or texts, flags, and words that stand alone), the line of a fault or of refused
-//! words, the status of the process, and its end where the reader of its output goes away.
+//! What a program does with its words, its files and its streams: the words of a command line as `clap` takes
+//! them (options with numbers or texts, flags, and words that stand alone), files that are read whole, the line
+//! of a fault or of refused words, the status of the process, and its end where the reader of its output goes
+//! away.
 //!
 //! - `read_words`: what is returned is what `clap` matches by the command that the list of options makes.
 //!   The words are refused only where `clap` refuses them.
@@ -14,6 +15,8 @@
 //! - `Pipe`: an output and a stream of errors that hold what the streams below them hold, whose status is the
 //!   one that is given, or `READER_GONE`. That is where a write of the output failed with `BrokenPipe`; from
 //!   then on the stream of errors gets nothing. No contract can say when, and tests and tries show it.
+//! - `Files`: the files that a program reads whole, by their names. What is said of one is said of the bytes
+//!   that the caller's `Files` says to be known; those of `SystemFiles` are not.
 //! - `Attends` (`specs/Programs.antt`) is the form of every program's contract, by its status: 0 where what
 //!   was asked for was done; 1 on a fault, or where memory ran out and nothing was read or written but the
 //!   line that says so; 2 where the words are refused, and nothing was read or written but the usage.
@@ -23,9 +26,11 @@ mod command;
 pub mod laws;
 mod pipe;
 mod reading;
+mod system;
 mod telling;
 
 pub use command::Takes;
 pub use pipe::{Errors, Output, Pipe, READER_GONE};
 pub use reading::{Words, read_words};
+pub use system::{Files, SystemFiles, words_of_process};
 pub use telling::{DONE, FAULT, WORDS_REFUSED, WordsFault, tell_fault, tell_words};

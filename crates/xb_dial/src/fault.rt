@@ -5,6 +5,7 @@ use crate::speed::SpeedFault;
 use crate::told::ToldField;
 use std::alloc::AllocError;
 use thiserror::Error;
+use xb_model::RowFault;
 use xb_text::{ReadFault, WriteFault};
 
 /// Why a text gives no calls: the first fault, with its text line, counted from 1.
@@ -26,7 +27,7 @@ pub enum CallFault {
     #[error("text line {0} has a number that goes on after it is complete")]
     GoesOn(u32),
     /// Memory ran out.
-    #[error("out of memory")]
+    #[error("{}", RowFault::NoMemory)]
     NoMemory,
 }
 
@@ -47,7 +48,7 @@ pub enum DialFault {
     #[error("{0}")]
     Calls(CallFault),
     /// Memory ran out.
-    #[error("out of memory")]
+    #[error("{}", RowFault::NoMemory)]
     NoMemory,
     /// A write or the flush failed, or a write took no byte. The beginning of the rows was written.
     #[error("the rows could not be written")]

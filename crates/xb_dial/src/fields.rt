@@ -10,8 +10,8 @@ use std::alloc::Global;
 use xb_model::{Digit, Plan, line_of, plan_len};
 use xb_text::cut_at;
 
-// A text line without one CR at its end.
-pub(crate) fn strip_carriage_return(line: &[u8]) -> &[u8]
+/// A text line without one CR at its end.
+pub fn strip_carriage_return(line: &[u8]) -> &[u8]
     ensures { result.now ≡ strip_carriage_return line.now }
 {
     match line {
@@ -20,8 +20,8 @@ pub(crate) fn strip_carriage_return(line: &[u8]) -> &[u8]
     }
 }
 
-// Whether a text line is empty, or a comment.
-pub(crate) fn is_passed_over(line: &[u8]) -> bool
+/// Whether a text line is empty, or a comment, which begins with `#`.
+pub fn is_passed_over(line: &[u8]) -> bool
     ensures { result ≡ is_passed_over line.now }
 {
     match line {
@@ -30,8 +30,8 @@ pub(crate) fn is_passed_over(line: &[u8]) -> bool
     }
 }
 
-// Whether a byte groups digits.
-fn is_grouping(byte: u8) -> bool
+/// Whether a byte groups digits: a space or a hyphen.
+pub fn is_grouping(byte: u8) -> bool
     ensures { result ≡ is_grouping byte }
 {
     byte == b' ' || byte == b'-'

@@ -9,6 +9,7 @@
 //!   `Speed::ten` and `twenty` fit the standard limits.
 //! - `calls_of_text`: the calls of the text, or, unless memory ran out, its first fault with its text line,
 //!   and with what stands there in place of a line; with a plan, each number is complete by it.
+//! - `strip_carriage_return`, `is_passed_over` and `is_grouping`: what texts of calls and of numbers share.
 //! - `dial`, of readers and writers whose bytes a contract can name: on `Ok` the writer got exactly the
 //!   text of the rows that dial the calls of the text; by the plan, if one is asked for, exactly the
 //!   numbers of each line are heard by the standard limits, and keyed. On `Write` it got the beginning, on
@@ -35,6 +36,7 @@ mod words;
 pub use call::Call;
 pub use dialling::dial;
 pub use fault::{CallFault, DialFault};
+pub use fields::{is_grouping, is_passed_over, strip_carriage_return};
 pub use lines::rows_of_calls;
 pub use order::RowOrder;
 pub use program::attend;

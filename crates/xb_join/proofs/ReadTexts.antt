@@ -3,7 +3,8 @@ use Rattle.std.proofs.Common.{◌≡◌, ◌<◌, ◌+◌, ℕ, List, [], ◌∷
 use Rattle.std.specs.Prelude.{slice_index_or, Option, Some, None, IfSome}
 use Rattle.std.proofs.lemmas.List.{take_more}
 use Rattle.xb_page.specs.LineEnds.{lf_ended}
-use Rattle.xb_join.specs.Files.{Bytes, HasBytes, HasPage, HavePages}
+use Rattle.xb_command.specs.Files.{Bytes, HasBytes}
+use Rattle.xb_join.specs.Files.{HasPage, HavePages}
 
 -- the page of a file
 pub has_page : (bytes : Bytes) (name file page : List ℕ) → page ≡ lf_ended file → HasBytes bytes name file → HasPage bytes name page

@@ -1,14 +1,7 @@
--- The bytes of files.
-use Rattle.std.specs.Prelude.{ℕ, ◌≡◌, List, [], ◌∷◌, Option, IfSome}
+-- The pages of files.
+use Rattle.std.specs.Prelude.{ℕ, ◌≡◌, List, [], ◌∷◌, IfSome}
+use Rattle.xb_command.specs.Files.{Bytes}
 use Rattle.xb_page.specs.LineEnds.{lf_ended}
-
--- what files have, by their names, where it is known
-abbrev pub Bytes : Type 0
-Bytes = List ℕ → Option (List ℕ)
-
--- the file of this name has these bytes, if its bytes are known
-abbrev pub HasBytes : Bytes → List ℕ → List ℕ → Type 0
-HasBytes bytes name text = IfSome (bytes name) (λ known. text ≡ known)
 
 -- the file of this name has this page, whose lines end at LF, or at CR LF, if its bytes are known
 abbrev pub HasPage : Bytes → List ℕ → List ℕ → Type 0

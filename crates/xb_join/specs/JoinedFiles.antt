@@ -9,7 +9,8 @@ use Rattle.xb_parts.specs.declared.list.ListFault.{ListFault}
 use Rattle.xb_parts.specs.Lists.{IsListFault, ranges_of_list}
 use Rattle.xb_parts.specs.declared.range.LineRange.{LineRange}
 use Rattle.xb_text.specs.Writing.{AppendsBeginning}
-use Rattle.xb_join.specs.Files.{Bytes, HasBytes, HavePages}
+use Rattle.xb_command.specs.Files.{Bytes, HasBytes}
+use Rattle.xb_join.specs.Files.{HavePages}
 use Rattle.xb_join.specs.Given.{given_by}
 use Rattle.xb_join.specs.Options.{list_of, pages_of}
 use Rattle.xb_join.specs.declared.fault.JoinProgramFault.{JoinProgramFault}

@@ -2,9 +2,9 @@
 use Rattle.std.specs.Prelude.{ℕ, List, codes, None, Err, Ok}
 use Rattle.std.specs.Io.KnownBytes.{Keeps}
 use Rattle.clap.specs.Walk.{Text}
+use Rattle.xb_command.specs.Files.{Bytes}
 use Rattle.xb_command.specs.Programs.{Attends, Streams}
 use Rattle.xb_command.specs.Telling.{Tells}
-use Rattle.xb_join.specs.Files.{Bytes}
 use Rattle.xb_join.specs.JoinedFiles.{Delivers}
 use Rattle.xb_join.specs.Options.{AreRefused, Asks}
 use Rattle.xb_join.specs.declared.fault.JoinProgramFault.{JoinProgramFault}

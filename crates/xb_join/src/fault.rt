@@ -3,6 +3,7 @@ use crate::join_fault::JoinFault;
 use crate::name::InOneLine;
 use std::io;
 use thiserror::Error;
+use xb_model::RowFault;
 use xb_parts::ListFault;
 
 /// Why no page is written, the first of these, in this order; the file is named where there is one, in one line.
@@ -25,7 +26,7 @@ pub enum JoinProgramFault<'a> {
     #[error("{0}")]
     Parts(JoinFault),
     /// Memory ran out.
-    #[error("out of memory")]
+    #[error("{}", RowFault::NoMemory)]
     NoMemory,
     /// A write or the flush failed, or a write took no byte. The beginning of the page was written.
     #[error("the page could not be written")]

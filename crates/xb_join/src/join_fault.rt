@@ -5,6 +5,7 @@ ghost use Rattle.xb_join.specs.Joining.{fault_of_page};
 use crate::damage::Damage;
 use std::alloc::AllocError;
 use thiserror::Error;
+use xb_model::RowFault;
 use xb_page::PageFault;
 
 /// Why pages can't be joined. Parts count from 1.
@@ -24,7 +25,7 @@ pub enum JoinFault {
     #[error("no part has line {0}")]
     Missing(u16),
     /// Memory ran out.
-    #[error("out of memory")]
+    #[error("{}", RowFault::NoMemory)]
     NoMemory,
 }
 

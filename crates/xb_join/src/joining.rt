@@ -6,7 +6,6 @@ ghost use Rattle.xb_join.specs.JoinedFiles.{Delivers, IsFaultOfFiles, IsFaultOfL
 ghost use Rattle.xb_join.specs.Joining.{MakesTheWhole, join_of};
 
 use crate::fault::JoinProgramFault;
-use crate::files::PageFiles;
 use crate::given::given_by;
 use crate::join_fault::JoinFault;
 use crate::pages::join_pages;
@@ -14,12 +13,13 @@ use crate::words::Request;
 use std::alloc::Global;
 use std::io;
 use std::io::Write;
+use xb_command::Files;
 use xb_page::end_lines_at_lf;
 use xb_parts::{LineRange, ranges_of_list};
 use xb_text::write_whole;
 
 // The ranges of a list, if one is named.
-fn read_list<'a, F: PageFiles>(
+fn read_list<'a, F: Files>(
     alloc: Global,
     files: &F,
     name: Option<&'a str>,
@@ -43,7 +43,7 @@ fn read_list<'a, F: PageFiles>(
 }
 
 // The page of a file, each line ended by LF.
-fn page_of_file<F: PageFiles>(alloc: Global, files: &F, name: &str) -> io::Result<Vec<u8>>
+fn page_of_file<F: Files>(alloc: Global, files: &F, name: &str) -> io::Result<Vec<u8>>
     ensures { IfOk result (λ page. HasPage (F.bytes files.now) name.now page.items) }
 {
     let mut page = files.read(alloc, name)?;
@@ -52,7 +52,7 @@ fn page_of_file<F: PageFiles>(alloc: Global, files: &F, name: &str) -> io::Resul
 }
 
 // The pages of files.
-fn read_pages<'a, F: PageFiles>(
+fn read_pages<'a, F: Files>(
     alloc: Global,
     files: &F,
     names: &[&'a str],
@@ -131,7 +131,7 @@ fn page_of<'a>(
 ///
 /// What the contract says of bytes it says of files and of writers whose bytes are known to contracts, which
 /// those of a system are not.
-pub fn join<'a, F: PageFiles, W: Write>(
+pub fn join<'a, F: Files, W: Write>(
     alloc: Global,
     files: &F,
     request: &Request<'a>,

@@ -12,13 +12,12 @@
 //!   the list, or without one by the lines that the pages take; with status 1 one line was told, and
 //!   nothing was written but the beginning of the page where a write failed.
 //!
-//! What is said of a file is said of the bytes that the caller's `PageFiles` says to be known. Not said:
+//! What is said of a file is said of the bytes that the caller's `Files` says to be known. Not said:
 //! that a page is of its part's records, since no page tells these.
 #![tactic(auto)]
 
 mod damage;
 mod fault;
-mod files;
 mod given;
 mod join_fault;
 mod joiner;
@@ -31,7 +30,6 @@ mod words;
 
 pub use damage::Damage;
 pub use fault::JoinProgramFault;
-pub use files::PageFiles;
 pub use join_fault::JoinFault;
 pub use joiner::Joiner;
 pub use joining::join;

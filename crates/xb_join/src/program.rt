@@ -4,12 +4,11 @@ ghost use Rattle.xb_command.specs.Programs.{streams};
 ghost use Rattle.xb_command.specs.Commands.{texts_of};
 ghost use Rattle.xb_join.specs.Program.{AttendsJoin};
 
-use crate::files::PageFiles;
 use crate::joining::join;
 use crate::words::request_of_words;
 use std::alloc::Global;
 use std::io::Write;
-use xb_command::{DONE, tell_fault, tell_words};
+use xb_command::{DONE, Files, tell_fault, tell_words};
 
 // The program's name.
 pub(crate) const PROGRAM: &str = "mfjoin";
@@ -27,7 +26,7 @@ const USAGE: &[u8] = b"mfjoin: usage: mfjoin [--list FILE] PAGE...\n";
 ///   read and `out` got nothing.
 ///
 /// A fault in writing to `err` changes no status.
-pub fn attend<F: PageFiles, W: Write, E: Write>(
+pub fn attend<F: Files, W: Write, E: Write>(
     alloc: Global,
     words: &[String],
     files: &F,

@@ -6,7 +6,7 @@ use Rattle.std.specs.Io.KnownBytes.{Appends, Consumes, IsAtEnd}
 use Rattle.std.proofs.KnownBytes.{Appends-nil, Appends-trans, Consumes-nil, Consumes-trans, Consumes-whole}
 use Rattle.std.proofs.lemmas.Grind.{flat_map-append}
 use Rattle.xb_rows.specs.WrittenRows.{record_text}
-use Rattle.xb_vcd.specs.declared.event.Event.{Event}
+use Rattle.xb_contact.specs.declared.event.Event.{Event}
 use Rattle.xb_recording.specs.declared.format.Format.{Format}
 use Rattle.xb_recording.specs.declared.reader.Reader.{Reader}
 use Rattle.xb_recording.specs.Beginnings.{form_told}

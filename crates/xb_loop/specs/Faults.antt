@@ -1,11 +1,11 @@
 -- Which fault is told of a recording that is refused.
 use Rattle.std.specs.Prelude.{◌≡◌, ◌≢◌, ◌⊎◌, ℕ, List, Some, None, true, false, map, nat_le, string_bytes, take, ◌&&◌, if◌then◌else◌}
-use Rattle.xb_vcd.specs.declared.event.Refusal.{Refusal}
-use Rattle.xb_vcd.specs.declared.event.Refusal.TheVariants as refusals
+use Rattle.xb_contact.specs.declared.event.Refusal.{Refusal}
+use Rattle.xb_contact.specs.declared.event.Refusal.TheVariants as refusals
 use Rattle.xb_recording.specs.declared.reader.Reader.{Reader}
 use Rattle.xb_recording.specs.Places.{line_number, sample_number}
 use Rattle.xb_recording.specs.Says.{Refuses, Takes, is_text}
-use Rattle.xb_vcd.specs.declared.event.Event.{Event}
+use Rattle.xb_contact.specs.declared.event.Event.{Event}
 use Rattle.xb_loop.specs.declared.feed.Intake.{Intake}
 use Rattle.xb_loop.specs.declared.feed.TheConstants.{MOST_SHOWN_BYTES}
 use Rattle.xb_loop.specs.Watches.{watch_of}

@@ -2,7 +2,7 @@
 use Rattle.std.specs.Prelude.{◌≡◌, ℕ, List, [], ◌++◌, Bool, Option, Some, None, IfNone, IfSome, string_bytes}
 use Rattle.std.specs.Io.KnownBytes.{Appends, Consumes}
 use Rattle.xb_rows.specs.WrittenRows.{text_of_rows}
-use Rattle.xb_vcd.specs.declared.event.Event.{Event}
+use Rattle.xb_contact.specs.declared.event.Event.{Event}
 use Rattle.xb_recording.specs.declared.format.Format.{Format}
 use Rattle.xb_recording.specs.Beginnings.{form_told}
 use Rattle.xb_recording.specs.Says.{RestSays, Says}

@@ -1,5 +1,5 @@
 -- What the words of the command line ask for, as clap reads them.
-use Rattle.std.specs.Prelude.{ℕ, ◌≡◌, ◌≢◌, ◌⊎◌, ◌≤◌, ◌==◌, ◌^◌, ◌-◌, ◌&&◌, List, [], ◌∷◌, ◌++◌, Option, Some, None, bytes_eq, codes, length, map, nat_lt, not, option_and_then, option_map, if◌then◌else◌}
+use Rattle.std.specs.Prelude.{ℕ, ◌≡◌, ◌≢◌, ◌⊎◌, ◌≤◌, ◌==◌, ◌^◌, ◌-◌, List, [], ◌∷◌, ◌++◌, Option, Some, None, bytes_eq, codes, length, map, not, option_and_then, option_map, if◌then◌else◌}
 use Rattle.std.specs.List.{after_first, before_first, filter, list_any}
 use Rattle.std.specs.Option.{unwrap_or}
 use Rattle.clap.specs.Faults.{fault_of}
@@ -9,7 +9,7 @@ use Rattle.xb_command.specs.Given.{IsTaken, ReadsFlag, ReadsNumber, given_by}
 use Rattle.xb_recording.specs.declared.format.Format.{Format}
 use Rattle.xb_recording.specs.Formats.{format_of}
 use Rattle.xb_recording.specs.Says.{names_in}
-use Rattle.xb_vcd.specs.Numbers.{number_of}
+use Rattle.xb_model.specs.Fields.{line_of}
 use Rattle.xb_loop.specs.declared.request.Request.{Request}
 use Rattle.xb_loop.specs.declared.words.TheConstants.{SETTLE_MS, THRESHOLD_PERCENT}
 use Rattle.xb_loop.specs.declared.words.Wires.{Wires}
@@ -19,11 +19,10 @@ use Rattle.xb_loop.specs.Rules.{command_of_words}
 abbrev pub plain_words : List Text → List Text
 plain_words words = filter (λ word. not (bytes_eq word (codes "--line"))) words
 
--- a line, below 10,000, and the name of its wire, as `7=D0`
+-- a line, written as in a record, and the name of its wire, as `7=D0`
 abbrev pub wire_by : List ℕ → List ℕ → Option (ℕ × Text)
 wire_by number name =
-    option_and_then (λ line. if nat_lt line 10000 && not (length name == 0) then Some (line, name) else None)
-    (number_of number)
+    option_and_then (λ line. if length name == 0 then None else Some (line, name)) (line_of number)
 
 abbrev pub wire_of : Text → Option (ℕ × Text)
 wire_of word = wire_by (before_first (λ byte. byte == 61) word) (after_first (λ byte. byte == 61) word)

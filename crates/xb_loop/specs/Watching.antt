@@ -4,10 +4,10 @@ use Rattle.std.specs.List.{AllByRecursion, flat_map}
 use Rattle.std.specs.Option.{option_map_or}
 use Rattle.xb_model.specs.Rows.{LoopRow}
 use Rattle.xb_rows.specs.WrittenRows.{record_text}
-use Rattle.xb_vcd.specs.declared.event.Event.{Event}
-use Rattle.xb_vcd.specs.declared.event.Event.TheVariants.{Ticks, At, High, Low}
+use Rattle.xb_contact.specs.declared.event.Event.{Event}
+use Rattle.xb_contact.specs.declared.event.Event.TheVariants as events
 use Rattle.xb_contact.specs.declared.level.Level.{Level}
-use Rattle.xb_contact.specs.declared.level.Level.TheVariants.{Open, Closed}
+use Rattle.xb_contact.specs.Holds.{other_level}
 use Rattle.xb_loop.specs.declared.line.Manner.{Manner}
 use Rattle.xb_contact.specs.declared.scale.Scale.{Scale}
 use Rattle.xb_contact.specs.Listening.{begun_at, told_at_end}
@@ -98,12 +98,10 @@ CanChangeWire manner None wire lines = ⊥
 CanChangeWire manner (Some scale) wire lines =
     (line : Watched) × (slice_get lines wire ≡ Some line) × CanChange manner scale line
 
--- the level of a wire: a low one is a closed loop where it is inverted
-abbrev pub level_of : Bool → Bool → Level
-level_of true true = Open
-level_of true false = Closed
-level_of false true = Closed
-level_of false false = Open
+-- the level of a loop by that of its wire: the other one where wires are inverted
+abbrev pub level_seen : Bool → Level → Level
+level_seen true level = other_level level
+level_seen false level = level
 
 -- the wire of a line, counted from 0, has a level from a tick on
 abbrev pub wire_changed : Manner → Scale → ℕ → Level → ℕ → List Watched → List Watched
@@ -123,32 +121,29 @@ abbrev pub begun_watch : Manner → List ℕ → Watch
 begun_watch manner numbers =
     record { lines = map (λ number. watched_of number None) numbers; manner = manner; scale = None; now = 0 }
 
-abbrev pub level_heard : Watch → Option Scale → ℕ → Bool → Watch
-level_heard watch None wire is_high = watch
-level_heard watch (Some scale) wire is_high =
+abbrev pub level_heard : Watch → Option Scale → ℕ → Level → Watch
+level_heard watch None wire level = watch
+level_heard watch (Some scale) wire level =
     record watch {
-      lines = wire_changed watch.manner scale watch.now (level_of is_high watch.manner.inverted) wire watch.lines;
+      lines = wire_changed watch.manner scale watch.now (level_seen watch.manner.inverted level) wire watch.lines;
     }
 
 -- the rows that are certain with what a recording says next, and what is known then
 abbrev pub event_rows : Watch → Event → List LoopRow
-event_rows watch (Ticks scale) = []
-event_rows watch (At tick) = rows_until tick watch.lines
-event_rows watch (High wire) = []
-event_rows watch (Low wire) = []
+event_rows watch (events.Ticks scale) = []
+event_rows watch (events.At tick) = rows_until tick watch.lines
+event_rows watch (events.Level wire level) = []
 
 abbrev pub heard_event : Watch → Event → Watch
-heard_event watch (Ticks scale) = record watch { scale = Some scale }
-heard_event watch (At tick) = record watch { lines = all_held tick watch.lines; now = tick }
-heard_event watch (High wire) = level_heard watch watch.scale wire true
-heard_event watch (Low wire) = level_heard watch watch.scale wire false
+heard_event watch (events.Ticks scale) = record watch { scale = Some scale }
+heard_event watch (events.At tick) = record watch { lines = all_held tick watch.lines; now = tick }
+heard_event watch (events.Level wire level) = level_heard watch watch.scale wire level
 
 -- whether its time can be counted
 abbrev pub CanHear : Watch → Event → Type 0
-CanHear watch (Ticks scale) = Unit {0}
-CanHear watch (At tick) = AllByRecursion (CanReach tick) watch.lines
-CanHear watch (High wire) = CanChangeWire watch.manner watch.scale wire watch.lines
-CanHear watch (Low wire) = CanChangeWire watch.manner watch.scale wire watch.lines
+CanHear watch (events.Ticks scale) = Unit {0}
+CanHear watch (events.At tick) = AllByRecursion (CanReach tick) watch.lines
+CanHear watch (events.Level wire level) = CanChangeWire watch.manner watch.scale wire watch.lines
 
 abbrev pub CanHearAll : Watch → List Event → Type 0
 CanHearAll watch [] = Unit {0}
@@ -171,4 +166,4 @@ watch_after watch (event ∷ rest) = watch_after (heard_event watch event) rest
 
 -- their records
 abbrev pub text_of_events : Watch → List Event → List ℕ
-text_of_events watch events = flat_map record_text (rows_of_events watch events)
+text_of_events watch said = flat_map record_text (rows_of_events watch said)

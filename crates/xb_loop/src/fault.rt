@@ -3,9 +3,9 @@ ghost use Rattle.std.specs.Prelude.{◌≡◌};
 
 use std::alloc::AllocError;
 use thiserror::Error;
+use xb_contact::Refusal;
 use xb_routes::RouteFault;
 use xb_text::WriteFault;
-use xb_vcd::Refusal;
 
 /// Why no rows are made of a recording, or no further ones. What was written before stands.
 #[derive(Debug, Drop, Error)]

@@ -3,7 +3,7 @@ ghost use Rattle.std.specs.Prelude.{◌≡◌, ◌<◌, ◌≤◌, ◌∷◌, �
 ghost use Rattle.std.specs.List.{flat_map};
 ghost use Rattle.std.specs.Io.KnownBytes.{Appends, Consumes, IsAtEnd};
 ghost use Rattle.xb_rows.specs.WrittenRows.{record_text};
-ghost use Rattle.xb_vcd.specs.declared.event.Event.{Event as Saying};
+ghost use Rattle.xb_contact.specs.declared.event.Event.{Event as Saying};
 ghost use Rattle.xb_recording.specs.Beginnings.{form_told};
 ghost use Rattle.xb_recording.specs.Says.{Begins, RestSays, is_text};
 ghost use Rattle.xb_loop.specs.Faults.{IsFaultAfter, IsFaultOf, IsSilence, shown_byte, shown_text};
@@ -18,9 +18,9 @@ use crate::lines::Lines;
 use crate::request::Request;
 use std::alloc::{AllocError, Global};
 use std::io::{Read, Write};
+use xb_contact::{Event, Refusal};
 use xb_recording::{Format, Reader, Told, told_format};
 use xb_text::write_whole;
-use xb_vcd::{Event, Refusal};
 
 const BUFFER_BYTES: usize = 8_192;
 

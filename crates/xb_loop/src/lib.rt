@@ -33,4 +33,3 @@ pub use line::Manner;
 pub use program::attend;
 pub use request::Request;
 pub use rows::contact_of;
-pub use table::TableFiles;

@@ -4,14 +4,13 @@ ghost use Rattle.std.specs.List.{AllByRecursion, flat_map};
 ghost use Rattle.xb_rows.specs.WrittenRows.{record_text};
 ghost use Rattle.xb_loop.specs.Told.{lines_told};
 ghost use Rattle.xb_loop.specs.Watches.{watch_of};
-ghost use Rattle.xb_loop.specs.Watching.{CanChangeWire, CanHear, CanReach, all_held, begun_watch, event_rows, heard_event, level_heard, level_of, line_left, rows_until, silent_line, wire_changed};
+ghost use Rattle.xb_loop.specs.Watching.{CanChangeWire, CanHear, CanReach, all_held, begun_watch, event_rows, heard_event, level_heard, level_seen, line_left, rows_until, silent_line, wire_changed};
 
 use crate::line::{Line, Manner};
 use crate::request::Request;
 use crate::told::say_lines;
 use std::alloc::{AllocError, Global};
-use xb_contact::{Level, Scale};
-use xb_vcd::Event;
+use xb_contact::{Event, Level, Scale};
 
 /// The lines that are listened to, in the order of their wires.
 #[derive(Drop)]
@@ -67,13 +66,13 @@ fn change_line(
     line.change(manner, scale, now, level)
 }
 
-// The level of a wire: a low one is a closed loop where it is inverted.
-fn level_of(is_high: bool, inverted: bool) -> Level
-    ensures { result ≡ level_of is_high inverted }
+// The level of a loop by that of its wire: the other one where wires are inverted.
+fn level_seen(inverted: bool, level: Level) -> Level
+    ensures { result ≡ level_seen inverted level }
 {
-    match (is_high, inverted) {
-        (true, true) | (false, false) => Level::Open,
-        (true, false) | (false, true) => Level::Closed,
+    match (inverted, level) {
+        (true, Level::Open) | (false, Level::Closed) => Level::Closed,
+        (true, Level::Closed) | (false, Level::Open) => Level::Open,
     }
 }
 
@@ -124,16 +123,16 @@ impl Lines {
     }
 
     // A wire has a level from now on. It says false where the time cannot be counted.
-    fn change(&mut self, wire: usize, is_high: bool) -> bool
+    fn change(&mut self, wire: usize, level: Level) -> bool
         ensures changed { result ≡ true → watch_of self.new
-            ≡ level_heard (watch_of self.old) (watch_of self.old).scale wire is_high }
+            ≡ level_heard (watch_of self.old) (watch_of self.old).scale wire level }
         ensures can { CanChangeWire (watch_of self.old).manner (watch_of self.old).scale wire
             (watch_of self.old).lines → result ≡ true }
     {
         let Some(scale) = self.scale else {
             return false;
         };
-        let level = level_of(is_high, self.manner.inverted);
+        let level = level_seen(self.manner.inverted, level);
         change_line(&mut self.lines, wire, self.manner, scale, self.now, level)
     }
 
@@ -151,8 +150,7 @@ impl Lines {
                 Ok(true)
             }
             Event::At(tick) => self.hold_until(tick, rows),
-            Event::High(wire) => Ok(self.change(wire, true)),
-            Event::Low(wire) => Ok(self.change(wire, false)),
+            Event::Level(wire, level) => Ok(self.change(wire, level)),
         }
     }
 

@@ -7,11 +7,11 @@ ghost use Rattle.xb_loop.specs.Program.{AttendsLoop, PrintsDeck};
 use crate::fault::LoopFault;
 use crate::feed::listen;
 use crate::request::Request;
-use crate::table::{TableFiles, beginning_of};
+use crate::table::beginning_of;
 use crate::words::{plain_words, request_of_words};
 use std::alloc::Global;
 use std::io::{Read, Write};
-use xb_command::{DONE, WordsFault, tell_fault, tell_words};
+use xb_command::{DONE, Files, WordsFault, tell_fault, tell_words};
 use xb_text::write_whole;
 
 // The program's name.
@@ -23,7 +23,7 @@ const USAGE: &[u8] = b"mfloop: usage: mfloop [--line N=WIRE]... [--table FILE] \
 [--threshold PERCENT] [--inverted] [--said]\n";
 
 // Writes the rows that are asked for, after a route table, if one is.
-fn run<F: TableFiles, R: Read, W: Write>(
+fn run<F: Files, R: Read, W: Write>(
     alloc: Global,
     files: &F,
     request: &Request<'_>,
@@ -49,7 +49,7 @@ fn run<F: TableFiles, R: Read, W: Write>(
 ///   is not read and `out` got nothing.
 ///
 /// A fault in writing to `err` changes no status.
-pub fn attend<F: TableFiles, R: Read, W: Write, E: Write>(
+pub fn attend<F: Files, R: Read, W: Write, E: Write>(
     alloc: Global,
     words: &[String],
     files: &F,

@@ -1,21 +1,11 @@
 // The route table before the rows of a deck.
-ghost use Rattle.std.specs.Prelude.{◌≡◌, ℕ, List, Option, None, IfOk, IfSome, OnOk, option_map};
+ghost use Rattle.std.specs.Prelude.{◌≡◌, IfOk, IfSome, OnOk, option_map};
 ghost use Rattle.xb_loop.specs.Tables.{IsBeforeRows, table_ended};
 
 use crate::fault::LoopFault;
 use std::alloc::{AllocError, Global};
-use std::io;
+use xb_command::Files;
 use xb_routes::{RouteFault, RouteTable};
-
-/// Files of route tables, by their names.
-pub trait TableFiles {
-    // The bytes of the file of a name, where they are known.
-    ghost bytes: { Self → List ℕ → Option (List ℕ) } = { λ _ _. None };
-
-    /// The bytes of a file, or why it could not be read.
-    fn read(&self, alloc: Global, name: &str) -> io::Result<Vec<u8>>
-        ensures { IfOk result (λ file. IfSome (bytes self.now name.now) (λ known. file.items ≡ known)) };
-}
 
 // Adds what stands between a table and the rows: the end of its last line, and a line `---`.
 fn end_table(text: &mut Vec<u8>) -> Result<(), AllocError>
@@ -29,7 +19,7 @@ fn end_table(text: &mut Vec<u8>) -> Result<(), AllocError>
 }
 
 // The beginning of a deck: a route table, which is judged, and the line that cuts it off.
-fn deck_beginning<F: TableFiles>(alloc: Global, files: &F, name: &str) -> Result<Vec<u8>, LoopFault>
+fn deck_beginning<F: Files>(alloc: Global, files: &F, name: &str) -> Result<Vec<u8>, LoopFault>
     ensures { IfOk result (λ text.
         IfSome (F.bytes files.now name.now) (λ table. text.items ≡ table_ended table)) }
 {
@@ -46,7 +36,7 @@ fn deck_beginning<F: TableFiles>(alloc: Global, files: &F, name: &str) -> Result
 }
 
 /// What comes before the rows: the route table of this name and the line that cuts it off, if one is named.
-pub(crate) fn beginning_of<F: TableFiles>(
+pub(crate) fn beginning_of<F: Files>(
     alloc: Global,
     files: &F,
     table: Option<&str>,

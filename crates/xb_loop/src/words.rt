@@ -9,10 +9,9 @@ use crate::program::PROGRAM;
 use crate::request::Request;
 use std::alloc::{AllocError, Global};
 use xb_command::{Takes, Words, WordsFault, read_words};
-use xb_model::LineNo;
+use xb_model::{LineNo, line_of};
 use xb_recording::{Format, Wanted, format_of};
 use xb_samples::Threshold;
-use xb_vcd::number_of;
 
 // 5 ms settle all contacts of a dial.
 const SETTLE_MS: u32 = 5;
@@ -54,16 +53,16 @@ pub fn plain_words(alloc: Global, words: &[String]) -> Result<Vec<String>, Alloc
     Ok(plain)
 }
 
-// The line of a word as `7=D0`, and the name of its wire.
+// The line of a word as `7=D0`, which is written as in a record, and the name of its wire.
 fn wire_of(word: &str) -> Option<(LineNo, &str)>
     ensures { option_map (λ wire. (wire.0, wire.1.now)) result ≡ wire_of word.now }
 {
     let (number, name) = word.split_once('=')?;
-    let number = number_of(number.as_bytes())?;
-    if number >= 10_000 || name.is_empty() {
+    let line = line_of(number.as_bytes())?;
+    if name.is_empty() {
         return None;
     }
-    Some((LineNo::new(number as u16)?, name))
+    Some((line, name))
 }
 
 impl<'a> Wires<'a> {

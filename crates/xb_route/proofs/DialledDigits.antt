@@ -2,8 +2,9 @@
 use Rattle.std.proofs.Common.{◌≡◌, ℕ, ◌+◌, ◌<◌, ◌≤◌, List, [], ◌∷◌, ◌++◌, length, drop, get_or, true, false, Option, Some, None, refl, sym, ap, ◌∙◌, append-nil, append_assoc, drop_of_length-le}
 use Rattle.std.specs.Prelude.{option_map}
 use Rattle.std.proofs.lemmas.List.{drop_more}
+use Rattle.xb_dial.specs.CallTexts.{is_grouping}
 use Rattle.xb_route.specs.Letters.{digit_of_character}
-use Rattle.xb_route.specs.NumberTexts.{digit_and_rest, digits_of, is_grouping}
+use Rattle.xb_route.specs.NumberTexts.{digit_and_rest, digits_of}
 
 -- the digits so far, and those of the rest
 abbrev pub with_earlier : List ℕ → Option (List ℕ) → Option (List ℕ)

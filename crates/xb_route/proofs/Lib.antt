@@ -1,6 +1,5 @@
 pub mod Completing
 pub mod DialledDigits
 pub mod NumberLines
-pub mod EntryBodies
 pub mod KeyValues
 pub mod Keyed

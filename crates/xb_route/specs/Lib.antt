@@ -5,7 +5,6 @@ pub mod Answers
 pub mod Lines
 pub mod Objects
 pub mod Pages
-pub mod Files
 pub mod Rules
 pub mod Options
 pub mod Routing

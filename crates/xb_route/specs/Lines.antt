@@ -1,21 +1,12 @@
 -- The line that is printed of a number.
-use Rattle.std.specs.Prelude.{◌≡◌, ℕ, List, [], ◌∷◌, ◌++◌, codes, decimal, length, Option, Some, None}
+use Rattle.std.specs.Prelude.{◌≡◌, ℕ, List, [], ◌∷◌, ◌++◌, codes, decimal, length}
 use Rattle.xb_json.specs.Keys.{digits_text}
 use Rattle.xb_model.specs.declared.mark.Mark.{Mark}
-use Rattle.xb_model.specs.declared.reason.Reason.{Reason}
 use Rattle.xb_model.specs.Keyings.{marks_of}
-use Rattle.xb_model.specs.Page.{entry_head, entry_text, last_refusal, marks_text, reason_text}
+use Rattle.xb_model.specs.Page.{entry_body, entry_head, entry_text}
 use Rattle.xb_route.specs.declared.answer.Answer.{Answer}
 use Rattle.xb_route.specs.declared.answer.Answer.TheVariants.{Incomplete, Routed}
 use Rattle.xb_route.specs.Answers.{left_over}
-
-abbrev pub entry_body_by : List Mark → Option (Reason × ℕ) → List ℕ
-entry_body_by entry None = codes " KEYED" ++ marks_text entry
-entry_body_by entry (Some refusal) = codes " REFUSED " ++ reason_text refusal.0 ++ codes " " ++ decimal refusal.1
-
--- what the page writes of an entry after the line and the number
-abbrev pub entry_body : List Mark → List ℕ
-entry_body entry = entry_body_by entry (last_refusal entry)
 
 -- the page's line of an entry is the line and the number, and this
 abbrev pub PagesWriteBodies : Type 0

@@ -1,14 +1,10 @@
 -- Numbers as they are written: words, or the text lines of a text.
-use Rattle.std.specs.Prelude.{◌⊎◌, ◌≡◌, ℕ, ◌+◌, ◌==◌, ◌||◌, if◌then◌else◌, List, [], ◌∷◌, map, Bool, true, Option, Some, None, option_and_then, option_map, Result, Ok, Err}
-use Rattle.std.specs.Str.Lines.{strip_carriage_return}
-use Rattle.xb_text.specs.Pieces.{pieces}
+use Rattle.std.specs.Prelude.{◌⊎◌, ◌≡◌, ℕ, not, if◌then◌else◌, List, [], ◌∷◌, Option, Some, None, option_and_then, option_map, Result, Ok, Err}
+use Rattle.std.specs.List.{enumerate_from, filter}
+use Rattle.xb_dial.specs.CallTexts.{is_grouping, is_passed_over, text_lines}
 use Rattle.xb_route.specs.declared.number_fault.NumberFault.{NumberFault}
 use Rattle.xb_route.specs.declared.number_fault.NumberFault.TheVariants as fault
 use Rattle.xb_route.specs.Letters.{digit_of_character}
-
--- blanks and hyphens group the digits
-abbrev pub is_grouping : ℕ → Bool
-is_grouping byte = (byte == 32) || (byte == 45)
 
 -- a digit before the later ones
 abbrev pub digit_and_rest : Option ℕ → Option (List ℕ) → Option (List ℕ)
@@ -45,27 +41,19 @@ number_and_rest n (Err f) rest = Err (n, f)
 number_and_rest n (Ok number) (Err wrong) = Err wrong
 number_and_rest n (Ok number) (Ok numbers) = Ok (number ∷ numbers)
 
--- the numbers of words that count from n
-unfoldable pub numbers_of_words : ℕ → List (List ℕ) → Numbers
-numbers_of_words n [] = Ok []
-numbers_of_words n (word ∷ words) = number_and_rest n (number_of_text word) (numbers_of_words (n + 1) words)
+-- the numbers of texts, each with its place
+unfoldable pub numbers_of : List (ℕ × List ℕ) → Numbers
+numbers_of [] = Ok []
+numbers_of (text ∷ texts) = number_and_rest text.0 (number_of_text text.1) (numbers_of texts)
 
--- a text line that is empty, or begins with #
-abbrev pub is_passed_over : List ℕ → Bool
-is_passed_over [] = true
-is_passed_over (byte ∷ rest) = byte == 35
+-- the numbers of words, counted from 1
+abbrev pub numbers_of_words : List (List ℕ) → Numbers
+numbers_of_words words = numbers_of (enumerate_from 1 words)
 
--- the numbers of text lines that count from n, but for those that are passed over
-unfoldable pub numbers_of_lines : ℕ → List (List ℕ) → Numbers
-numbers_of_lines n [] = Ok []
-numbers_of_lines n (line ∷ lines) =
-    if is_passed_over line then numbers_of_lines (n + 1) lines
-    else number_and_rest n (number_of_text line) (numbers_of_lines (n + 1) lines)
-
--- text lines end at LF or at the end of the text; one CR before that end is dropped
-abbrev pub text_lines : List ℕ → List (List ℕ)
-text_lines text = map strip_carriage_return (pieces 10 text)
+-- the text lines that are not passed over
+abbrev pub lines_read : List (ℕ × List ℕ) → List (ℕ × List ℕ)
+lines_read lines = filter (λ line. not (is_passed_over line.1)) lines
 
 -- the numbers of a text, one in each text line, counted from 1
 abbrev pub numbers_of_text : List ℕ → Numbers
-numbers_of_text text = numbers_of_lines 1 (text_lines text)
+numbers_of_text text = numbers_of (lines_read (enumerate_from 1 (text_lines text)))

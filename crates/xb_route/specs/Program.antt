@@ -2,12 +2,12 @@
 use Rattle.std.specs.Prelude.{ℕ, ◌≡◌, List, codes, true, None, Err, Ok}
 use Rattle.std.specs.Io.KnownBytes.{Keeps}
 use Rattle.clap.specs.Walk.{Text}
+use Rattle.xb_command.specs.Files.{Bytes}
 use Rattle.xb_command.specs.Programs.{Attends, Streams}
 use Rattle.xb_command.specs.Telling.{Tells}
 use Rattle.xb_command.specs.Usages.{names_option}
 use Rattle.xb_route.specs.declared.fault.RouteProgramFault.{RouteProgramFault}
 use Rattle.xb_route.specs.declared.words.Request.{Request}
-use Rattle.xb_route.specs.Files.{Bytes}
 use Rattle.xb_route.specs.Options.{AreRefused, Asks}
 use Rattle.xb_route.specs.Routing.{Delivers}
 

@@ -2,6 +2,7 @@
 use Rattle.std.specs.Prelude.{◌≡◌, ◌≢◌, ℕ, List, [], ◌∷◌, if◌then◌else◌, Bool, Option, IfSome, Result, Ok, Err}
 use Rattle.std.specs.List.{flat_map}
 use Rattle.std.specs.Io.KnownBytes.{Appends, Keeps}
+use Rattle.xb_command.specs.Files.{Bytes}
 use Rattle.xb_routes.specs.Table.{Table}
 use Rattle.xb_routes.specs.Text.{table_of_text}
 use Rattle.xb_text.specs.Reading.{IsLongerThan}
@@ -11,7 +12,6 @@ use Rattle.xb_route.specs.declared.fault.RouteProgramFault.TheVariants as fault
 use Rattle.xb_route.specs.declared.reading.TheConstants.{MOST_TEXT_BYTES}
 use Rattle.xb_route.specs.declared.words.Request.{Request}
 use Rattle.xb_route.specs.Answers.{answer_to}
-use Rattle.xb_route.specs.Files.{Bytes}
 use Rattle.xb_route.specs.Lines.{answer_line}
 use Rattle.xb_route.specs.NumberTexts.{Numbers, numbers_of_text, numbers_of_words}
 use Rattle.xb_route.specs.Objects.{object_line}
@@ -29,7 +29,7 @@ lines_of json table numbers = flat_map (line_of json table) numbers
 -- the numbers of the words, or where there is none those of the input, if it is known
 abbrev pub AreNumbers : List (List ℕ) → Option (List ℕ) → Numbers → Type 0
 AreNumbers [] input numbers = IfSome input (λ text. numbers_of_text text ≡ numbers)
-AreNumbers (word ∷ words) input numbers = numbers_of_words 1 (word ∷ words) ≡ numbers
+AreNumbers (word ∷ words) input numbers = numbers_of_words (word ∷ words) ≡ numbers
 
 -- the file of this name has a table
 abbrev pub HasTable : Bytes → List ℕ → Table → Type 0
@@ -47,7 +47,7 @@ abbrev pub IsFaultOfNumbers : List (List ℕ) → Option (List ℕ) → RoutePro
 IsFaultOfNumbers words input fault.Read = Unit {0}
 IsFaultOfNumbers words input fault.NoMemory = Unit {0}
 IsFaultOfNumbers words input fault.TooLong = (words ≡ []) × IsLongerThan MOST_TEXT_BYTES input
-IsFaultOfNumbers words input (fault.Word n f) = (words ≢ []) × (numbers_of_words 1 words ≡ Err (n, f))
+IsFaultOfNumbers words input (fault.Word n f) = (words ≢ []) × (numbers_of_words words ≡ Err (n, f))
 IsFaultOfNumbers words input (fault.TextLine n f) =
     (words ≡ []) × IfSome input (λ text. numbers_of_text text ≡ Err (n, f))
 IsFaultOfNumbers words input f = ⊥

@@ -11,12 +11,11 @@
 //! - `laws::pages_write_bodies`: the page's line of an entry is its line and number, and then exactly what a
 //!   line of `mfroute` has after the number.
 //!
-//! What is said of a file is said of the bytes that the caller's `TableFiles` says to be known.
+//! What is said of a file is said of the bytes that the caller's `Files` says to be known.
 #![tactic(auto)]
 
 mod answer;
 mod fault;
-mod files;
 pub mod laws;
 mod letters;
 mod lines;
@@ -30,7 +29,6 @@ mod words;
 
 pub use answer::{Answer, answer_to};
 pub use fault::RouteProgramFault;
-pub use files::TableFiles;
 pub use number_fault::NumberFault;
 pub use numbers::number_of_text;
 pub use program::attend;

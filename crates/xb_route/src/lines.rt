@@ -1,39 +1,24 @@
 // The line that is printed of a number.
 ghost use Rattle.std.specs.Prelude.{◌≡◌, ◌++◌, IfOk, OnOk, string_bytes};
 ghost use Rattle.xb_route.specs.declared.answer.Answer.TheVariants.{Incomplete};
-ghost use Rattle.xb_route.specs.Lines.{answer_line, entry_body, ignored_text};
+ghost use Rattle.xb_route.specs.Lines.{answer_line, ignored_text};
 
 use crate::answer::{Answer, left_over};
 use std::alloc::{AllocError, Global};
 use xb_json::text_of_digits;
-use xb_model::{Digit, LineNo, Mark};
+use xb_model::Digit;
 use xb_sender::marks_of;
-use xb_tape::write_entry;
+use xb_tape::write_entry_body;
 
-// How many bytes the page writes before an entry of line 0 that is its first: `0000 1`.
-const HEAD_BYTES: usize = 6;
-
-// Appends what the page writes of an entry after the line and the number.
-fn append_entry(alloc: Global, out: &mut Vec<u8>, entry: &[Mark]) -> Result<(), AllocError>
-    ensures { OnOk result (out.new.items ≡ out.old.items ++ entry_body entry.now) }
-{
-    let mut line = String::new(alloc);
-    write_entry(&mut line, LineNo::default(), 1, entry)?;
-    let line = line.as_bytes();
-    out.extend_from_slice(&line[HEAD_BYTES..line.len() - 1])?;
-    Ok(())
-}
-
-// Appends the digits that are left over, where there are any.
-fn append_ignored(alloc: Global, out: &mut Vec<u8>, left: &[Digit]) -> Result<(), AllocError>
-    ensures { OnOk result (out.new.items ≡ out.old.items ++ ignored_text left.now) }
+// Writes the digits that are left over, where there are any.
+fn write_ignored(alloc: Global, out: &mut String, left: &[Digit]) -> Result<(), AllocError>
+    ensures { OnOk result (string_bytes out.new ≡ string_bytes out.old ++ ignored_text left.now) }
 {
     if left.is_empty() {
         return Ok(());
     }
-    out.extend_from_slice(b" IGNORED ")?;
-    out.extend_from_slice(text_of_digits(alloc, left)?.as_bytes())?;
-    Ok(())
+    let digits = text_of_digits(alloc, left)?;
+    write!(out, " IGNORED {digits}")
 }
 
 // The line of digits that complete no number.
@@ -56,9 +41,9 @@ pub(crate) fn answer_line(
     let Answer::Routed(number, order) = answer else {
         return incomplete_line(alloc, digits);
     };
-    let mut line = text_of_digits(alloc, number.digits())?.into_bytes();
-    append_entry(alloc, &mut line, marks_of(order).as_slice())?;
-    append_ignored(alloc, &mut line, left_over(digits, number))?;
-    line.push(b'\n')?;
-    Ok(line)
+    let mut line = text_of_digits(alloc, number.digits())?;
+    write_entry_body(&mut line, marks_of(order).as_slice())?;
+    write_ignored(alloc, &mut line, left_over(digits, number))?;
+    line.push_str("\n")?;
+    Ok(line.into_bytes())
 }

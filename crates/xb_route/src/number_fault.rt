@@ -1,5 +1,4 @@
 // Why a text is no number.
-use std::alloc::AllocError;
 use thiserror::Error;
 
 /// Why a text is no number.
@@ -14,15 +13,4 @@ pub enum NumberFault {
     /// Memory ran out.
     #[error("found no memory")]
     NoMemory,
-}
-
-impl From<AllocError> for NumberFault {
-    ghost use Rattle.std.specs.Prelude.{◌≡◌};
-    ghost use Rattle.xb_route.specs.declared.number_fault.NumberFault.TheVariants.{NoMemory};
-
-    ghost from_gives = { λ _ fault. fault ≡ NoMemory };
-
-    fn from(_error: AllocError) -> NumberFault {
-        NumberFault::NoMemory
-    }
 }

@@ -1,19 +1,13 @@
 // Numbers as they are written.
 ghost use Rattle.std.specs.Prelude.{◌≡◌, IfErr, IfOk, Ok, Some, map};
-ghost use Rattle.xb_route.specs.NumberTexts.{IsFaultOfText, digits_of, is_grouping, number_of_text};
+ghost use Rattle.xb_route.specs.NumberTexts.{IsFaultOfText, digits_of, number_of_text};
 ghost use Rattle.xb_route.specs.TextSteps.{IsWrongText};
 
 use crate::letters::digit_of_character;
 use crate::number_fault::NumberFault;
 use std::alloc::Global;
+use xb_dial::is_grouping;
 use xb_model::Digit;
-
-// Whether a byte groups digits.
-fn is_grouping(byte: u8) -> bool
-    ensures { result ≡ is_grouping byte }
-{
-    byte == b' ' || byte == b'-'
-}
 
 // The digits that a text dials.
 fn digits_of(alloc: Global, text: &[u8]) -> Result<Vec<Digit>, NumberFault>

@@ -3,12 +3,11 @@ ghost use Rattle.xb_command.specs.Programs.{streams};
 ghost use Rattle.xb_command.specs.Commands.{texts_of};
 ghost use Rattle.xb_route.specs.Program.{AttendsRoute};
 
-use crate::files::TableFiles;
 use crate::routing::route;
 use crate::words::request_of_words;
 use std::alloc::Global;
 use std::io::{Read, Write};
-use xb_command::{DONE, tell_fault, tell_words};
+use xb_command::{DONE, Files, tell_fault, tell_words};
 
 // The program's name.
 pub(crate) const PROGRAM: &str = "mfroute";
@@ -26,7 +25,7 @@ const USAGE: &[u8] = b"mfroute: usage: mfroute [--json] TABLE [NUMBER...]\n";
 ///   read and `out` got nothing.
 ///
 /// A fault in writing to `err` changes no status.
-pub fn attend<F: TableFiles, R: Read, W: Write, E: Write>(
+pub fn attend<F: Files, R: Read, W: Write, E: Write>(
     alloc: Global,
     words: &[String],
     files: &F,

@@ -6,7 +6,6 @@ ghost use Rattle.xb_route.specs.TextSteps.{digits_of_numbers};
 
 use crate::answer::answer_to;
 use crate::fault::RouteProgramFault;
-use crate::files::TableFiles;
 use crate::lines::answer_line;
 use crate::number_fault::NumberFault;
 use crate::objects::object_line;
@@ -14,12 +13,13 @@ use crate::reading::{MOST_TEXT_BYTES, numbers_of_text, numbers_of_words};
 use crate::words::Request;
 use std::alloc::{AllocError, Global};
 use std::io::{Read, Write};
+use xb_command::Files;
 use xb_model::Digit;
 use xb_routes::{RouteFault, RouteTable};
 use xb_text::{ReadFault, read_whole, write_whole};
 
 // The table of a file.
-fn read_table<F: TableFiles>(
+fn read_table<F: Files>(
     alloc: Global,
     files: &F,
     name: &str,
@@ -120,7 +120,7 @@ fn lines_of(
 ///
 /// What the contract says of bytes it says of files, readers and writers whose bytes are known to contracts,
 /// which those of a system are not.
-pub fn route<'a, F: TableFiles, R: Read, W: Write>(
+pub fn route<'a, F: Files, R: Read, W: Write>(
     alloc: Global,
     files: &F,
     request: &Request<'a>,

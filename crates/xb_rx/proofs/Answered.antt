@@ -2,6 +2,7 @@
 use Rattle.std.proofs.Common.{◌≡◌, ℕ, List, Option, Some, None, Ok, Err, inl, inr, arith, subst, sym}
 use Rattle.std.specs.Borrow.{Bor}
 use Rattle.clap.specs.Walk.{Text}
+use Rattle.xb_command.specs.Files.{Bytes}
 use Rattle.xb_command.specs.Programs.{Streams}
 use Rattle.xb_command.specs.Telling.{Tells}
 use Rattle.xb_command.specs.declared.telling.TheConstants.{DONE, FAULT}
@@ -11,7 +12,7 @@ use Rattle.xb_rx.specs.declared.request.Request.{Request}
 use Rattle.xb_rx.specs.Comparing.{Compares}
 use Rattle.xb_rx.specs.Hearing.{Delivers, outputs}
 use Rattle.xb_rx.specs.Options.{Asks, named}
-use Rattle.xb_rx.specs.Program.{Answers, AttendsRx, Bytes, program}
+use Rattle.xb_rx.specs.Program.{Answers, AttendsRx, program}
 
 module _ (bytes : Bytes) (old new : Streams) (request : Request) (against : Option (Bor (List ℕ))) (status : ℕ) where
   pub hear-done : against ≡ None → status ≡ DONE

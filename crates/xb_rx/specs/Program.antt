@@ -2,6 +2,7 @@
 use Rattle.std.specs.Prelude.{ℕ, ◌≡◌, ◌⊎◌, List, codes, true, None, Option, Some, Err, Ok}
 use Rattle.std.specs.List.{list_all}
 use Rattle.clap.specs.Walk.{Text}
+use Rattle.xb_command.specs.Files.{Bytes}
 use Rattle.xb_command.specs.Programs.{Attends, Streams}
 use Rattle.xb_command.specs.Telling.{Tells}
 use Rattle.xb_command.specs.declared.telling.TheConstants.{DONE, FAULT}
@@ -26,10 +27,6 @@ usage_line =
 -- it names each option of the command
 abbrev pub UsageNamesEachOption : Type 0
 UsageNamesEachOption = list_all (λ rule. names_option usage_line rule.id) command_of_words.top.rules ≡ true
-
--- what files have, by their names, where it is known
-abbrev pub Bytes : Type 0
-Bytes = List ℕ → Option (List ℕ)
 
 -- what was asked for was done: the page of the sound was written, or its keys, or no difference was found
 abbrev pub IsDone : Bytes → Request → Option Text → Streams → Streams → Type 0

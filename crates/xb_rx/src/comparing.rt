@@ -5,12 +5,12 @@ ghost use Rattle.xb_rx.specs.Comparing.{Compares, HasKeyed, IsFileFault, IsHeard
 ghost use Rattle.xb_rx.specs.Hearing.{HasForm, outputs};
 
 use crate::fault::RxFault;
-use crate::files::PageFiles;
 use crate::receiving::receive;
 use crate::request::{Input, Request, Written};
 use std::alloc::{AllocError, Global};
 use std::io::{self, Read, Write};
 use thiserror::Error;
+use xb_command::Files;
 use xb_compared::{CompareFault, Keyed, differences, keyed_of_page};
 use xb_model::{LineNo, Trunk};
 use xb_page::end_lines_at_lf;
@@ -55,7 +55,7 @@ impl From<AllocError> for CompareProgramFault {
 }
 
 // The page of a file, each line ended by LF.
-fn page_of_file<F: PageFiles>(alloc: Global, files: &F, name: &str) -> io::Result<Vec<u8>>
+fn page_of_file<F: Files>(alloc: Global, files: &F, name: &str) -> io::Result<Vec<u8>>
     ensures { IfOk result (λ page. IfSome (F.bytes files.now name.now)
         (λ known. page.items ≡ lf_ended known)) }
 {
@@ -65,7 +65,7 @@ fn page_of_file<F: PageFiles>(alloc: Global, files: &F, name: &str) -> io::Resul
 }
 
 // The keyed entries of the page in a file.
-fn keyed_in<F: PageFiles>(
+fn keyed_in<F: Files>(
     alloc: Global,
     files: &F,
     name: &str,
@@ -115,7 +115,7 @@ fn keyed_heard<R: Read, E: Write>(
 /// Hears a sound, and compares its keyings with the keyed entries of the page in a file, entry by entry: `out` gets a
 /// line for each that was keyed and not heard, or heard and not keyed, and `err` one for each key that is in no
 /// keying. `Ok` says that there is no difference. The page of what is heard is held until the end.
-pub fn compare<F: PageFiles, R: Read, W: Write, E: Write>(
+pub fn compare<F: Files, R: Read, W: Write, E: Write>(
     alloc: Global,
     files: &F,
     name: &str,

@@ -15,7 +15,6 @@
 
 mod comparing;
 mod fault;
-mod files;
 mod keys;
 pub mod laws;
 mod listing;
@@ -28,7 +27,6 @@ mod words;
 
 pub use comparing::{CompareProgramFault, compare};
 pub use fault::RxFault;
-pub use files::PageFiles;
 pub use keys::MOST_DIGITS;
 pub use program::attend;
 pub use receiving::receive;

@@ -6,13 +6,12 @@ ghost use Rattle.xb_rx.specs.Options.{named};
 ghost use Rattle.xb_rx.specs.Program.{Answers, AttendsRx};
 
 use crate::comparing::compare;
-use crate::files::PageFiles;
 use crate::receiving::receive;
 use crate::request::Request;
 use crate::words::asked_by_words;
 use std::alloc::Global;
 use std::io::{Read, Write};
-use xb_command::{DONE, tell_fault, tell_words};
+use xb_command::{DONE, Files, tell_fault, tell_words};
 
 // The program's name.
 pub(crate) const PROGRAM: &str = "mfrx";
@@ -22,7 +21,7 @@ const USAGE: &[u8] =
     b"mfrx: usage: mfrx [--line N] [--trunk T] [--tones] [--json] [--against PAGE] [--raw [--rate HZ] [--ulaw]]\n";
 
 // Does what is asked for, and returns the status of the process.
-fn answer<F: PageFiles, R: Read, W: Write, E: Write>(
+fn answer<F: Files, R: Read, W: Write, E: Write>(
     alloc: Global,
     request: Request,
     against: Option<&str>,
@@ -61,7 +60,7 @@ fn answer<F: PageFiles, R: Read, W: Write, E: Write>(
 ///   `out` got nothing.
 ///
 /// A fault in writing this line to `err` changes no status.
-pub fn attend<F: PageFiles, R: Read, W: Write, E: Write>(
+pub fn attend<F: Files, R: Read, W: Write, E: Write>(
     alloc: Global,
     words: &[String],
     files: &F,

@@ -4,5 +4,5 @@ use Rattle.xb_join.proofs.joining.read_pages.Given as goal
 
 abbrev pub invariant-loop-name : goal.invariant-loop-name
 invariant-loop-name g l =
-    HavePages (g.F.PageFiles.bytes l.files) (map (λ name. name.now) (take l.name-index l.names))
+    HavePages (g.F.Files.bytes l.files) (map (λ name. name.now) (take l.name-index l.names))
     (map (λ page. page.items) l.pages.items)

@@ -1,5 +1,5 @@
 use Rattle.std.proofs.Common.{◌≡◌, List, ◌++◌, drop, string_bytes}
-use Rattle.xb_vcd.specs.declared.event.Event.{Event}
+use Rattle.xb_contact.specs.declared.event.Event.{Event}
 use Rattle.xb_loop.specs.Watches.{watch_of}
 use Rattle.xb_loop.specs.Watching.{CanHearAll, text_of_events, watch_after}
 use Rattle.xb_loop.proofs.feed.take_all_events.Given as goal

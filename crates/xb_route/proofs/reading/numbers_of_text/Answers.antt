@@ -1,10 +1,13 @@
 use Rattle.std.proofs.Common.{◌+◌, map, sym, ap, ◌∙◌, arith}
+use Rattle.std.specs.List.{enumerate_from}
 use Rattle.std.specs.Prelude.{option_copied}
 use Rattle.std.specs.Str.Lines.{strip_carriage_return}
+use Rattle.xb_dial.specs.CallTexts.{line_feed}
+use Rattle.xb_dial.proofs.TextLines.{few-lines}
 use Rattle.xb_text.specs.Pieces.{pieces_left}
-use Rattle.xb_route.specs.NumberTexts.{numbers_of_lines, numbers_of_text}
+use Rattle.xb_route.specs.NumberTexts.{lines_read, numbers_of, numbers_of_text}
 use Rattle.xb_route.specs.TextSteps.{after, digits_of_numbers}
-use Rattle.xb_route.proofs.NumberLines.{after-none, few-lines, lines-none}
+use Rattle.xb_route.proofs.NumberLines.{after-none, numbers-none}
 use Rattle.xb_route.proofs.reading.numbers_of_text.Goals as goal
 
 pub loop-left-init : goal.loop-left-init
@@ -22,6 +25,6 @@ returns-clause-numbers c =
     let numbers = digits_of_numbers c.loop-left.numbers.items in
     c.loop-left.invariant.numbers
     ∙ ap (λ left. after numbers
-    (numbers_of_lines n (map strip_carriage_return (pieces_left 10 (option_copied left)))))
+    (numbers_of (lines_read (enumerate_from n (map strip_carriage_return (pieces_left line_feed (option_copied left)))))))
     c.in_default.is
-    ∙ lines-none n numbers
+    ∙ numbers-none numbers

@@ -12,7 +12,7 @@ use Rattle.xb_rx.proofs.comparing.compare.Goals as goal
 pub returns-in_err-keyed : goal.returns-in_err-keyed
 returns-in_err-keyed g c =
     let p = err_from_is_err_and c.from_residual.result c.from_residual.ensures.1 in
-    subst (λ (r : Result (Unit {0}) CompareProgramFault). Compares (g.F.PageFiles.bytes c.args.files.now c.args.name.now)
+    subst (λ (r : Result (Unit {0}) CompareProgramFault). Compares (g.F.Files.bytes c.args.files.now c.args.name.now)
     c.args.input (g.R.Read.remaining c.args.sound.now) r
     (outputs (g.W.Write.contents c.args.out.now) (g.W.Write.contents c.args.out.now) (g.E.Write.contents c.args.err.now) (g.E.Write.contents c.args.err.now)))
     (sym (p.1 ∙ ap (λ f. Err f) p.2))
@@ -21,7 +21,7 @@ returns-in_err-keyed g c =
 pub returns-in_err-heard : goal.returns-in_err-heard
 returns-in_err-heard g c =
     let p = err_from_is_err_and c.from_residual-in_err-heard.result c.from_residual-in_err-heard.ensures.1 in
-    subst (λ (r : Result (Unit {0}) CompareProgramFault). Compares (g.F.PageFiles.bytes c.args.files.now c.args.name.now)
+    subst (λ (r : Result (Unit {0}) CompareProgramFault). Compares (g.F.Files.bytes c.args.files.now c.args.name.now)
     c.args.input (g.R.Read.remaining c.args.sound.now) r
     (outputs (g.W.Write.contents c.args.out.now) (g.W.Write.contents c.args.out.now) (g.E.Write.contents c.args.err.now) (g.E.Write.contents c.keyed_heard.new.err)))
     (sym (p.1 ∙ ap (λ f. Err f) p.2))
@@ -30,18 +30,18 @@ returns-in_err-heard g c =
 pub returns-in_err-text : goal.returns-in_err-text
 returns-in_err-text g c =
     let p = err_from_is_err_and c.from_residual-in_err-text.result c.from_residual-in_err-text.ensures.1 in
-    subst (λ (r : Result (Unit {0}) CompareProgramFault). Compares (g.F.PageFiles.bytes c.args.files.now c.args.name.now)
+    subst (λ (r : Result (Unit {0}) CompareProgramFault). Compares (g.F.Files.bytes c.args.files.now c.args.name.now)
     c.args.input (g.R.Read.remaining c.args.sound.now) r
     (outputs (g.W.Write.contents c.args.out.now) (g.W.Write.contents c.args.out.now) (g.E.Write.contents c.args.err.now) (g.E.Write.contents c.keyed_heard.new.err)))
     (sym (p.1 ∙ ap (λ f. Err f) p.2))
-    (sound-fault (g.F.PageFiles.bytes c.args.files.now c.args.name.now) c.args.input (g.R.Read.remaining c.args.sound.now)
+    (sound-fault (g.F.Files.bytes c.args.files.now c.args.name.now) c.args.input (g.R.Read.remaining c.args.sound.now)
     fault.NoMemory (g.W.Write.contents c.args.out.now) (g.E.Write.contents c.args.err.now) (g.E.Write.contents c.keyed_heard.new.err) tt)
 
 pub returns-then-is_err : goal.returns-then-is_err
 returns-then-is_err g c =
     let text = c.as_bytes-lines.result.now in
     let is : string_bytes c.in_ok-text.text ≡ differences c.in_ok-keyed.keyed.items c.in_ok-heard.heard.items = first_of (cc, search rules) in
-    begun-difference (g.F.PageFiles.bytes c.args.files.now c.args.name.now) c.args.input (g.R.Read.remaining c.args.sound.now)
+    begun-difference (g.F.Files.bytes c.args.files.now c.args.name.now) c.args.input (g.R.Read.remaining c.args.sound.now)
     c.in_ok-keyed.keyed.items c.in_ok-heard.heard.items text
     (outputs (g.W.Write.contents c.args.out.now) (g.W.Write.contents c.write_whole.new.out) (g.E.Write.contents c.args.err.now) (g.E.Write.contents c.keyed_heard.new.err))
     c.in_ok-keyed.ensures.keyed c.in_ok-heard.ensures.keyed (c.as_bytes-lines.ensures.value ∙ is)
@@ -51,7 +51,7 @@ pub returns-then-is_empty : goal.returns-then-is_empty
 returns-then-is_empty g c =
     let text = c.as_bytes-lines.result.now in
     let is : string_bytes c.in_ok-text.text ≡ differences c.in_ok-keyed.keyed.items c.in_ok-heard.heard.items = first_of (cc, search rules) in
-    no-difference (g.F.PageFiles.bytes c.args.files.now c.args.name.now) c.args.input (g.R.Read.remaining c.args.sound.now)
+    no-difference (g.F.Files.bytes c.args.files.now c.args.name.now) c.args.input (g.R.Read.remaining c.args.sound.now)
     c.in_ok-keyed.keyed.items c.in_ok-heard.heard.items text
     (outputs (g.W.Write.contents c.args.out.now) (g.W.Write.contents c.write_whole.new.out) (g.E.Write.contents c.args.err.now) (g.E.Write.contents c.keyed_heard.new.err))
     c.in_ok-keyed.ensures.keyed c.in_ok-heard.ensures.keyed (c.as_bytes-lines.ensures.value ∙ is)
@@ -62,7 +62,7 @@ pub returns : goal.returns
 returns g c =
     let text = c.as_bytes-lines.result.now in
     let is : string_bytes c.in_ok-text.text ≡ differences c.in_ok-keyed.keyed.items c.in_ok-heard.heard.items = first_of (cc, search rules) in
-    some-difference (g.F.PageFiles.bytes c.args.files.now c.args.name.now) c.args.input (g.R.Read.remaining c.args.sound.now)
+    some-difference (g.F.Files.bytes c.args.files.now c.args.name.now) c.args.input (g.R.Read.remaining c.args.sound.now)
     c.in_ok-keyed.keyed.items c.in_ok-heard.heard.items text
     (outputs (g.W.Write.contents c.args.out.now) (g.W.Write.contents c.write_whole.new.out) (g.E.Write.contents c.args.err.now) (g.E.Write.contents c.keyed_heard.new.err))
     c.in_ok-keyed.ensures.keyed c.in_ok-heard.ensures.keyed (c.as_bytes-lines.ensures.value ∙ is)

@@ -8,7 +8,7 @@ use Rattle.xb_rx.proofs.program.attend.Goals as goal
 
 pub returns-in-Ok : goal.returns-in-Ok
 returns-in-Ok g c =
-    answered (g.F.PageFiles.bytes c.args.files.now) (texts_of c.args.words.now) c.in-Ok.asked.request
+    answered (g.F.Files.bytes c.args.files.now) (texts_of c.args.words.now) c.in-Ok.asked.request
     (named c.in-Ok.asked.against) _ _ _ c.in-Ok.ensures.asks c.answer.ensures
 
 pub returns-in-Err : goal.returns-in-Err
