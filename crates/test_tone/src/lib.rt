@@ -7,7 +7,7 @@
 #[cfg(test)]
 mod dialled;
 #[cfg(test)]
-mod hearing;
+mod ear;
 #[cfg(test)]
 mod keyings;
 #[cfg(test)]

@@ -20,17 +20,17 @@
 #![tactic(auto)]
 
 mod closes;
-mod hearing;
 pub mod laws;
 mod line;
 mod live;
 mod loops;
+mod outcomes;
 mod registers;
 mod serial;
 mod so_far;
 
-pub use hearing::outcome_of;
 pub use line::{Line, MOST_MARKS};
 pub use live::Live;
+pub use outcomes::outcome_of;
 pub use serial::key_serial;
 pub use so_far::marks_so_far;

@@ -5,7 +5,7 @@ ghost use Rattle.xb_model.specs.OnLines.{on_line};
 ghost use Rattle.xb_serial.specs.Chain.{fresh_line, marks_of_row, state_after_row};
 ghost use Rattle.xb_serial.specs.Entrances.{marks_from, marks_of_signal, outcomes_from, state_after_signal, state_after_signals};
 
-use crate::hearing::outcome_of;
+use crate::outcomes::outcome_of;
 use arrayvec::ArrayVec;
 use xb_model::{LineStage, MOST_OUTPUTS, Mark, Row, Signal};
 use xb_pulse::{Pulse, PulseState};

@@ -1,5 +1,5 @@
 //! How to use the chain from a program of your own: a whole list of rows on one thread (`calls`), on
-//! several (`threads`) or by a schedule of turns (`schedules`), one row at a time (`hearing`), or from the dial to
+//! several (`threads`) or by a schedule of turns (`schedules`), one row at a time (`row_by_row`), or from the dial to
 //! the sound that the far end hears (`far_end`). Each function is proved; `docs/EMBEDDING.md` goes through them.
 //!
 //! `sound_of_calls`: the samples are exactly the sound of the line's tape, by the cadence that is asked for; and, number
@@ -15,18 +15,18 @@
 
 mod calls;
 mod far_end;
-mod hearing;
 mod large_decks;
 mod received;
+mod row_by_row;
 mod schedules;
 mod threads;
 
 pub use calls::marks_of_call;
 pub use far_end::sound_of_calls;
-pub use hearing::hear;
 pub use large_decks::{
     planned_decks_make_the_page, split_decks_make_the_page, written_decks_make_the_page,
 };
 pub use received::dialled_is_received;
+pub use row_by_row::hear;
 pub use schedules::{SoFar, marks_by_schedule};
 pub use threads::marks_on_threads;

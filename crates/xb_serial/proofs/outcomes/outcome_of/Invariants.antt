@@ -2,7 +2,7 @@ use Rattle.std.proofs.Common.{◌≡◌, ◌++◌, drop, fold}
 use Rattle.std.specs.Option.{option_to_list}
 use Rattle.xb_model.specs.OnLines.{whats_from}
 use Rattle.xb_register.specs.Machine.{outcomes_by, phase_after}
-use Rattle.xb_serial.proofs.hearing.outcome_of.Given as goal
+use Rattle.xb_serial.proofs.outcomes.outcome_of.Given as goal
 
 abbrev pub invariant-loop-signal : goal.invariant-loop-signal
 invariant-loop-signal l = record {

@@ -2,7 +2,7 @@ use Rattle.std.proofs.Common.{◌≡◌, ◌≤◌, [], ◌++◌, drop, vec_capa
 use Rattle.xb_model.specs.Image.{image_from, image_on}
 use Rattle.xb_model.specs.declared.stage.TheConstants.{OUTPUT_ROOM}
 use Rattle.xb_pulse.specs.Machine.{machine}
-use Rattle.xb_together.proofs.hearing.hear.Given as goal
+use Rattle.xb_together.proofs.row_by_row.hear.Given as goal
 
 abbrev pub invariant-loop-row : goal.invariant-loop-row
 invariant-loop-row l = record {
