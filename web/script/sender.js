@@ -34,6 +34,7 @@ class Sender {
 
   clear() {
     this.waiting = [];
+    this.playing?.silence();
     if (this.playing) this.end();
     this.last = null;
     this.status.textContent = '';
@@ -71,10 +72,13 @@ class Sender {
     const groups = this.draw(call.keys);
     keying.times.forEach((time, i) => { time.group = groups[i]; });
     const samples = noisy(this.samplesOf(keying), this.noise);
-    this.sound.play(samples);
+    const silence = this.sound.play(samples);
     const hearing = { samples: wholeSamples(samples), ear: new Ear(this.module), sounded: 0, heard: [] };
-    this.playing = { ...call, ...keying, ...hearing, began: performance.now() };
+    this.playing = { ...call, ...keying, ...hearing, silence, began: performance.now() };
   }
+
+  // Whoever hangs up hears no more of the call.
+  silence(name) { if (this.playing?.name === name) this.playing.silence(); }
 
   // The far end hears what has sounded so far.
   hearUntil(ms) {

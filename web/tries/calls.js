@@ -18,7 +18,7 @@ class CallTries {
   async byKeys() {
     const { it, tape } = this;
     is('nothing is on the tape', await it.entries(), []);
-    await it.dial('1');
+    await it.turnByMouse('1', 90);
     await sleep(900);
     is('the dial sends nothing on the hook', await it.text('.heard'), 'idle');
     await it.lift();

@@ -8,6 +8,7 @@ const { CallTries } = require('./calls.js');
 const { tryChance } = require('./chance.js');
 const { is, end } = require('./checks.js');
 const { tryDecks, tryLongDeck } = require('./dropped.js');
+const { tryFirst } = require('./first.js');
 const { tryRecordings, tryMicrophone } = require('./recorded.js');
 const { tryNames, tryKeysAlone, tryOpening, tryPhone, tryLessMotion, takePictures } = require('./looks.js');
 const { TapeTry } = require('./tape.js');
@@ -41,6 +42,7 @@ async function tryAll(it) {
   await tryNames(it);
   await tryKeysAlone(it);
   await tryOpening(it);
+  await tryFirst(it);
   await tryPhone(it);
   await tryLessMotion(it);
   if (pictures) await takePictures(it, pictures);
