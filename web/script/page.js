@@ -14,6 +14,9 @@ class Office {
     this.route = new RouteView($('route'), $('trunk'));
     this.sender = new Sender($('tones'), $('keying'), $('far'), module, this.clock, this.sound);
     this.tape = new Tape($('roll'), $('entries'));
+    this.keepsakes = new Keepsakes(this);
+    this.tableInUse = '';
+    this.explain = new Explain(this);
     this.decks = new Decks(wasm);
     this.recordings = new Recordings(module);
     this.coming = [];
@@ -60,7 +63,25 @@ class Office {
   }
 
   // The visitor does something to a telephone.
-  touched() { this.demonstrated = 0; }
+  touched() {
+    this.demonstrated = 0;
+    this.explain.stop();
+  }
+
+  // As at first: all hung up, nothing on the tape, and a call that is shown.
+  beginAgain() {
+    this.touched();
+    for (const telephone of this.telephones) {
+      telephone.hang(false);
+      telephone.reset();
+    }
+    $('entries').textContent = '';
+    this.setSound(false);
+    this.setRow(false);
+    this.sender.clear();
+    this.route.clear();
+    this.demonstrate();
+  }
 
   // Does something in so many ms of the page's time.
   later(ms, what) { this.coming.push({ at: this.clock.now() + ms, what }); }
@@ -80,6 +101,7 @@ class Office {
   entryGiven(telephone, text, marks) {
     if (this.demonstrated > 0) this.demonstrated -= 1;
     const number = telephone.numberDialled();
+    this.keepsakes.entryGiven(number);
     if (isRefusal(marks[0])) {
       const why = this.whyRefused(marks[0], number);
       const entry = this.tape.add(text, `${telephone.name} is refused: ${why}`, true);
@@ -91,7 +113,13 @@ class Office {
     const keyed = marks.filter((mark) => mark.kind === Kind.DIGIT).map((mark) => mark.value).join('');
     const entry = this.tape.add(text, `${telephone.name} is keyed on trunk group ${marks[0].value}`, false);
     this.route.showKeyed(telephone.name, number, this.module.codeOf(number), marks[0].value, keyed);
-    this.sender.send(telephone.name, marks, (keys, heard) => this.tape.showHeard(entry, keys, heard));
+    const told = (keys, heard) => {
+      this.tape.showHeard(entry, keys, heard);
+      this.explain.at('far');
+    };
+    const send = () => this.sender.send(telephone.name, marks, told);
+    const keyedNow = () => { if (!this.explain.at('sending', send)) send(); };
+    if (!this.explain.at('routing', keyedNow)) keyedNow();
   }
 
   whyRefused({ kind, value }, number) {
@@ -120,6 +148,7 @@ class Office {
     try {
       const text = readTable($('routes').value);
       this.module.useTable(text);
+      this.tableInUse = $('routes').value;
       $('fault').textContent = '';
       $('routes').removeAttribute('aria-invalid');
       this.telephones.forEach((telephone) => telephone.reset());
@@ -240,7 +269,22 @@ class Office {
     this.readExample();
     setInterval(() => this.move(), TOLD_EACH_MS);
     this.show();
-    if (!lessMotion.matches && !location.hash.includes('quiet')) this.demonstrate();
+    const { look, seconds } = lookAsked();
+    if (look) document.body.classList.add(look);
+    if (look === 'kiosk') this.kiosk = new Kiosk(this, seconds);
+    if (linkedNumber()) this.offer(linkedNumber());
+    else if (!lessMotion.matches && !location.hash.includes('quiet')) this.demonstrate();
+  }
+
+  // A link brought the visitor here to hear one call: sound wants a gesture first.
+  offer(number) {
+    $('linked').hidden = false;
+    $('linked-number').textContent = number;
+    $('hear').addEventListener('click', () => {
+      this.touched();
+      this.setSound(true);
+      this.telephones[0].dialNumber(number);
+    });
   }
 }
 

@@ -55,6 +55,9 @@ class Sender {
     return { times, ends: at };
   }
 
+  // The samples of the last keying at its own pace and without noise, or null.
+  lastSamples() { return this.last && this.samplesOf(this.timesOf(this.last.keys, 1)); }
+
   // A keying as one sound: silences, and the samples that the module made.
   samplesOf({ times, ends }) {
     const samples = new Float32Array(SAMPLES_A_MS * ends);

@@ -6,6 +6,7 @@ class Telephone {
     this.digits = [];
     this.attempt = null;
     this.outcome = '';
+    this.runs = [];        // all makes and breaks of its line since the table is in use
     this.top = $('telephone').content.cloneNode(true).firstElementChild;
     this.find = (name) => this.top.querySelector(`.${name}`);
     this.top.setAttribute('aria-label', this.name);
@@ -44,6 +45,7 @@ class Telephone {
   reset() {
     this.module.forget(this.line);
     this.loop.recorded = 0;
+    this.runs = [];
     this.attempt = null;
     this.clear();
     this.showState();
@@ -122,9 +124,13 @@ class Telephone {
   changed(at, closed) {
     this.trace.changed(at, closed);
     this.office.clicked(closed);
+    if (!closed && this.isUp) this.office.explain.at('looping');
   }
 
   rowTaken(row) {
+    const last = this.runs.at(-1);
+    if (last?.closed === row.closed && last.ms + row.ms <= MOST_ROW_MS) last.ms += row.ms;
+    else this.runs.push({ closed: row.closed, ms: row.ms });
     if (row.signals.some((signal) => signal.kind === Signal.SEIZED)) {
       this.clear();
       this.attempt = new Attempt(row.from);
@@ -147,6 +153,7 @@ class Telephone {
       return;
     }
     this.digits.push(signal);
+    this.office.explain.at('registering');
     this.trace.note(signal.isStored ? figureOf(signal) : 'spoiled', signal.isStored ? 'digit' : 'bad', at);
   }
 

@@ -13,7 +13,7 @@ const { deckOf, deckOfTable, deckOfSeededTable, dialRows } = require('./seeds.js
 
 const [, , page, examples, mfbank] = process.argv;
 const SEEDED = 500;
-const MOST_BYTES = 200000;
+const MOST_BYTES = 500000;
 const MOST_NANOSECONDS = 1000;
 const read = (name) => fs.readFileSync(path.join(examples, name));
 
