@@ -7,8 +7,9 @@ const TOLD_EACH_MS = 20;
 const TYPING_ENDS_MS = 300;
 
 class Office {
-  constructor(module, wasm) {
+  constructor(module, reader, wasm) {
     this.module = module;
+    this.reader = reader;
     this.clock = new Clock();
     this.sound = new Sound();
     this.route = new RouteView($('route'), $('trunk'));
@@ -146,13 +147,12 @@ class Office {
 
   useTable() {
     try {
-      const text = readTable($('routes').value);
-      this.module.useTable(text);
+      this.module.useTable(this.reader.table($('routes').value));
       this.tableInUse = $('routes').value;
       $('fault').textContent = '';
       $('routes').removeAttribute('aria-invalid');
       this.telephones.forEach((telephone) => telephone.reset());
-      this.route.use(text.routes);
+      this.route.use(this.module.routesInUse());
       this.sender.clear();
     } catch (fault) {
       if (!(fault instanceof Refused)) throw fault;
@@ -295,13 +295,17 @@ async function openModule() {
   const wasm = bytesOf('module');
   try {
     if (location.hash.includes('lowered')) throw new Error('the copy is asked for');
-    return { module: await Module.open(wasm), wasm };
+    return await Module.open(wasm);
   } catch {
-    const lowered = bytesOf('lowered');
-    const module = await Module.open(lowered);
+    const module = await Module.open(bytesOf('lowered'));
     $('copy').hidden = false;
-    return { module, wasm: lowered };
+    return module;
   }
+}
+
+async function openOffice() {
+  const wasm = bytesOf('reader');
+  return new Office(await openModule(), await Reader.open(wasm), wasm);
 }
 
 // Without WebAssembly nothing can be dialled, and nothing that does nothing is offered.
@@ -312,4 +316,4 @@ function saySoAndStop() {
   }
 }
 
-openModule().then(({ module, wasm }) => new Office(module, wasm).begin(), saySoAndStop);
+openOffice().then((office) => office.begin(), saySoAndStop);
