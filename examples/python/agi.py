@@ -2,36 +2,67 @@
 
 usage: AGI(agi.py,TABLE,LIBRARY)   TABLE is a file with a route table
 
-MF is empty where the office refuses the call; else * stands for KP and # for ST in it, as SendMF takes them.
+MF is empty where the office refuses the call; else * stands for KP and # for ST in it, as SendMF takes them. A caller's
+# says that no more comes, as 20 seconds without a digit do. What goes wrong is one line on standard error, with status
+1, and MF is then left as it was.
 """
 import re
 import sys
 
-from mfchain import Office
+from mfchain import Office, TableError
 
 KEYS = {"TRUNK": "", "KP": "*", "ST": "#"}
+TIMED_OUT, NO_MORE = 0, ord("#")
+DIGITS = {ord(digit): int(digit) for digit in "0123456789"}
+
+
+class Unanswered(Exception):
+    """A command got no answer with a result: the call is over, or Asterisk does not take the command."""
 
 
 def ask(command: str) -> int:
     """What Asterisk answers to a command."""
     print(command, flush=True)
-    return int(re.search(r"result=(-?[0-9]+)", sys.stdin.readline())[1])
+    for line in sys.stdin:
+        if line.startswith("HANGUP"):
+            continue  # a notice: the answer still comes
+        answer = re.match(r"200 result=(-?[0-9]+)", line)
+        if answer:
+            return int(answer[1])
+        raise Unanswered(f"Asterisk answers {command!r} with {line.strip()!r}")
+    raise Unanswered(f"Asterisk does not answer {command!r}")
 
 
-with open(sys.argv[1], encoding="utf-8") as table:
-    office = Office(table.read(), sys.argv[2])
-while sys.stdin.readline().strip():
-    pass  # what Asterisk says of the call before it listens
-marks = office.seize(0)
-while not marks:
-    key = ask("WAIT FOR DIGIT 20000")
-    if key < 0:
-        marks = office.release(0)
-    elif key == 0:
-        marks = office.time_out(0)
-    elif chr(key).isdigit():
-        marks = office.digit(0, int(chr(key)))
-    else:
-        marks = office.mutilated_digit(0)
-keyed = marks[-1].kind == "ST"
-ask('SET VARIABLE MF "' + "".join(KEYS.get(it.kind, str(it.value)) for it in marks if keyed) + '"')
+def marks_of_call(office: Office) -> list:
+    """What the office makes of one call."""
+    marks = office.seize(0)
+    while not marks:
+        key = ask("WAIT FOR DIGIT 20000")
+        if key < 0:
+            marks = office.release(0)
+        elif key in (TIMED_OUT, NO_MORE):
+            marks = office.time_out(0)
+        elif key in DIGITS:
+            marks = office.digit(0, DIGITS[key])
+        else:
+            marks = office.mutilated_digit(0)
+    return marks
+
+
+def serve(table: str, library: str) -> None:
+    """Serves one call by a file with a route table."""
+    with open(table, encoding="utf-8") as text:
+        office = Office(text.read(), library)
+    while sys.stdin.readline().strip():
+        pass  # what Asterisk says of the call before it listens
+    marks = marks_of_call(office)
+    keyed = marks[-1].kind == "ST"
+    ask('SET VARIABLE MF "' + "".join(KEYS.get(it.kind, str(it.value)) for it in marks if keyed) + '"')
+
+
+if len(sys.argv) != 3:
+    sys.exit("usage: AGI(agi.py,TABLE,LIBRARY)")
+try:
+    serve(*sys.argv[1:])
+except (OSError, UnicodeDecodeError, TableError, Unanswered) as fault:
+    sys.exit(f"agi.py: {fault}")

@@ -1,13 +1,21 @@
-// The page's time, in ms. It runs as the visitor says: ten times slower, as it does, or twenty times faster.
+// The page's time, in ms. It runs as the visitor says: ten times slower, as it does, or twenty times faster. While what
+// was due at a moment is done it stands at that moment: a hidden tab is woken seconds late.
 
 class Clock {
   constructor() {
     this.pace = 1;
     this.began = performance.now();
     this.before = 0;
+    this.stands = null;
   }
 
-  now() { return this.before + (performance.now() - this.began) * this.pace; }
+  now() { return this.stands ?? this.before + (performance.now() - this.began) * this.pace; }
+
+  // Does something as at a moment that has passed.
+  at(moment, what) {
+    this.stands = moment;
+    try { what(); } finally { this.stands = null; }
+  }
 
   setPace(pace) {
     this.before = this.now();

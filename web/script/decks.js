@@ -1,6 +1,7 @@
 // Decks that are dropped or chosen: each is read by a worker, and its page is shown.
 
 const MOST_SHOWN_LINES = 2000;
+const MOST_DECK_BYTES = 16777216;
 
 class Decks {
   constructor(wasm) {
@@ -8,9 +9,8 @@ class Decks {
     this.worker = null;
     this.turn = 0;
     // A worker takes its script as an address. This one's is made of the page's own text.
-    const texts = [$('chain').textContent, $('worker').textContent];
+    const texts = [$('read-texts').textContent, $('worker').textContent];
     this.script = URL.createObjectURL(new Blob(texts, { type: 'text/javascript' }));
-    $('cancel').addEventListener('click', () => this.stop('Stopped.'));
   }
 
   async read(name, file) {
@@ -28,20 +28,13 @@ class Decks {
 
   begin(name, bytes) {
     const began = performance.now();
-    $('progress').hidden = false;
-    $('share').value = 0;
     $('read').textContent = `Reading ${name}`;
     this.worker = new Worker(this.script);
-    this.worker.onmessage = ({ data }) => {
-      if (data.share !== undefined) {
-        $('share').value = data.share;
-        return;
-      }
+    this.worker.onmessage = ({ data: { page, fault } }) => {
       const seconds = ((performance.now() - began) / 1000).toFixed(1);
-      const records = `${data.records?.toLocaleString('en')} record${data.records === 1 ? '' : 's'}`;
-      this.stop(data.fault ? `${name} is refused.` : `${name}: ${records}, in ${seconds} s.`);
-      if (data.fault) this.showFault(data.fault);
-      else this.showPage(name, data.page);
+      this.stop(fault ? `${name} is refused.` : `${name}: read in ${seconds} s.`);
+      if (fault) this.showFault(fault);
+      else this.showPage(name, page);
     };
     this.worker.onerror = () => this.stop('The deck could not be read by this browser.');
     this.worker.postMessage({ wasm: this.wasm, bytes }, [bytes.buffer]);
@@ -50,7 +43,6 @@ class Decks {
   stop(words) {
     this.worker?.terminate();
     this.worker = null;
-    $('progress').hidden = true;
     $('read').textContent = words;
   }
 

@@ -31,13 +31,12 @@ function pointAt(degrees, radius) {
 }
 
 class Dial {
-  constructor(top, name, clock, loop) {
-    this.top = top;
-    this.clock = clock;
-    this.loop = loop;
+  // tapped: is given the digit of a hole that was tapped, or pressed by a key.
+  constructor(top, name, clock, loop, tapped) {
+    Object.assign(this, { top, clock, loop, tapped });
     this.kind = 'good';
     this.angle = 0;
-    this.asked = [];       // digits that keys or taps asked for, and that are still to be dialled
+    this.asked = [];       // digits that keys or taps asked for, and that are still to be dialled, each with its moment
     this.drag = null;      // a finger or a mouse in a hole
     this.winding = null;   // the wheel goes to the stop by itself
     this.running = null;   // it runs back
@@ -49,9 +48,9 @@ class Dial {
     top.addEventListener('pointercancel', () => this.release());
   }
 
-  isBusy() { return this.drag || this.winding || this.running; }
+  isBusy() { return Boolean(this.drag || this.winding || this.running); }
 
-  ask(digit) { this.asked.push(digit); }
+  ask(digit) { this.asked.push({ digit, at: this.clock.now() }); }
 
   // ---- by hand
 
@@ -83,18 +82,17 @@ class Dial {
     const { digit, moved } = this.drag;
     this.drag = null;
     // a press that hardly moved is a tap: the wheel then turns by itself
-    if (moved >= 4) { this.letGo(); return; }
+    if (moved >= 4) { this.letGo(this.clock.now()); return; }
     this.angle = 0;
-    this.ask(digit);
+    this.tapped(digit);
   }
 
   // ---- by itself
 
-  letGo() {
+  letGo(from) {
     const { open, closed, more } = DIAL_KINDS[this.kind];
     const turned = Math.max(0, Math.floor((this.angle + 3) / STEP_ANGLE) - 1);
     const pulses = turned > 0 ? turned + more : 0;
-    const from = this.clock.now();
     for (let i = 0; i < pulses; i++) {
       const at = from + i * (open + closed);
       this.loop.set('dial', false, at);
@@ -104,20 +102,43 @@ class Dial {
     this.running = { from, angle: this.angle, takes };
   }
 
+  // Each step goes on from the moment at which the one before it ended, however late this is called.
   move() {
     const now = this.clock.now();
-    if (this.running) {
-      const part = (now - this.running.from) / this.running.takes;
-      this.angle = this.running.angle * Math.max(0, 1 - part);
-      if (!(part < 1)) { this.running = null; this.restsUntil = now + 60; }
-    } else if (this.winding) {
-      const part = Math.min(1, (now - this.winding.from) / this.winding.takes);
-      this.angle = turnOf(this.winding.digit) * part;
-      if (part === 1) { this.winding = null; this.letGo(); }
-    } else if (!this.drag && this.asked.length && now >= this.restsUntil) {
-      const digit = this.asked.shift();
-      this.winding = { digit, from: now, takes: 120 + 14 * turnOf(digit) / STEP_ANGLE };
-    }
+    while (this.step(now)) ;
+  }
+
+  // One step, or its part that has passed; returns whether another one may have begun.
+  step(now) {
+    if (this.running) return this.runBack(now);
+    if (this.winding) return this.wind(now);
+    const next = this.asked[0];
+    if (this.drag || !next) return false;
+    const from = Math.max(this.restsUntil, next.at);
+    if (now < from) return false;
+    this.asked.shift();
+    this.winding = { digit: next.digit, from, takes: 120 + 14 * turnOf(next.digit) / STEP_ANGLE };
+    return true;
+  }
+
+  runBack(now) {
+    const { from, angle, takes } = this.running;
+    const ends = from + takes;
+    this.angle = now < ends ? angle * Math.min(1, (ends - now) / takes) : 0;
+    if (now < ends) return false;
+    this.running = null;
+    this.restsUntil = ends + 60;
+    return true;
+  }
+
+  wind(now) {
+    const { digit, from, takes } = this.winding;
+    const ends = from + takes;
+    this.angle = turnOf(digit) * Math.min(1, (now - from) / takes);
+    if (now < ends) return false;
+    this.winding = null;
+    this.letGo(ends);
+    return true;
   }
 
   show() {
@@ -154,13 +175,22 @@ class Dial {
   }
 
   drawHole(digit, cx, cy, name) {
-    const hole = makeSvg('circle', { class: 'hole', cx, cy, r: HOLE_RADIUS, tabindex: 0, role: 'button',
+    const tabindex = digit === DIAL_DIGITS[0] ? 0 : -1;
+    const hole = makeSvg('circle', { class: 'hole', cx, cy, r: HOLE_RADIUS, tabindex, role: 'button',
       'aria-label': `Dial ${digit} on ${name.toLowerCase()}`, 'data-digit': digit }, this.wheel);
-    hole.addEventListener('keydown', (event) => {
-      if (event.key !== 'Enter' && event.key !== ' ') return;
-      event.preventDefault();
-      event.stopPropagation();
-      this.ask(digit);
-    });
+    hole.addEventListener('keydown', (event) => this.keyInHole(event, digit));
+  }
+
+  // The dial is one stop of the Tab key; inside it the arrows go from hole to hole.
+  keyInHole(event, digit) {
+    const step = { ArrowRight: 1, ArrowDown: 1, ArrowLeft: -1, ArrowUp: -1 }[event.key];
+    if (!step && event.key !== 'Enter' && event.key !== ' ') return;
+    event.preventDefault();
+    event.stopPropagation();
+    if (!step) { this.tapped(digit); return; }
+    const holes = [...this.top.querySelectorAll('.hole')];
+    const next = (DIAL_DIGITS.indexOf(digit) + step + holes.length) % holes.length;
+    holes.forEach((hole, i) => hole.setAttribute('tabindex', i === next ? 0 : -1));
+    holes[next].focus();
   }
 }

@@ -21,4 +21,5 @@ function makeSvg(name, attributes = {}, parent = null, text = '') {
 const plural = (count, word) => `${count} ${word}${count === 1 ? '' : 's'}`;
 
 const narrow = matchMedia('(max-width: 860px)');
+const low = matchMedia('(max-height: 820px)');
 const lessMotion = matchMedia('(prefers-reduced-motion: reduce)');

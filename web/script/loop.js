@@ -48,7 +48,11 @@ class Loop {
     const signals = this.module.signalsOf(this.line, state, ms);
     const endsWrong = this.module.endsWrong(this.line, state, ms);
     const count = this.module.take(this.line, state, ms);
-    this.listener.rowTaken({ closed: state === 'M', ms, from, endsWrong, signals, attempt, at: until });
-    if (count > 0) this.listener.entryGiven(this.module.entryText(this.line, count), this.module.marksGiven(count));
+    // an entry is given whatever became of the picture of its row
+    try {
+      this.listener.rowTaken({ closed: state === 'M', ms, from, endsWrong, signals, attempt, at: until });
+    } finally {
+      if (count > 0) this.listener.entryGiven(this.module.entryText(this.line, count), this.module.marksGiven(count));
+    }
   }
 }

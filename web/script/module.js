@@ -1,14 +1,12 @@
-// The proved module. Numbers and bytes are put into its memory, and what it gives is read there. What a row means,
-// which route a number takes, what an entry says and how a tone sounds: all of that is decided in the module.
+// The proved chain. Numbers and bytes are put into the module's memory, and what it gives is read there. What a row
+// means, which route a number takes, what an entry says and how a tone sounds: all of that is decided in the module.
 
 const LIMIT_NAMES = ['pulse_min', 'pulse_max', 'make_min', 'pause', 'release', 'timeout'];
-const MOST_ROUTES = 1000;
 const MOST_MARKS = 24;
 
 // How many bytes each thing has in the module's memory.
 const LIMITS_BYTES = 24;
-const ROUTE_BYTES = 24;
-const TABLE_BYTES = 32 + 16 * MOST_ROUTES;
+const ROUTE_BYTES = 16;
 const LINE_BYTES = 24;
 const MARK_BYTES = 20;
 const SIGNAL_BYTES = 8;
@@ -35,23 +33,6 @@ const OTHER_PAIR = 4;
 // What a register is told.
 const Signal = { SEIZED: 0, DIGIT: 1, TIMED_OUT: 2, RELEASED: 3, CLOSED: 4 };
 
-// A text that is refused. Its words are those of mfbank.
-class Refused extends Error {}
-
-const TABLE_FAULTS = {
-  8: () => 'not TOML',
-  9: () => 'plan is neither 7 nor 10',
-  10: (limit) => `limit ${limit} is wrong`,
-  11: () => `more than ${MOST_ROUTES} routes`,
-  12: (route) => `route ${route} has a wrong shape`,
-  13: (route) => `route ${route} has a wrong code`,
-  14: (route) => `route ${route} has a wrong trunk`,
-  15: (route) => `route ${route} has a wrong delete`,
-  16: (route) => `route ${route} has a wrong prefix`,
-  17: (route) => `route ${route} keys no digit`,
-  18: (route) => `route ${route} repeats a code`,
-};
-
 class Module {
   static async open(wasm) {
     return new Module((await WebAssembly.instantiate(wasm, {})).instance.exports);
@@ -68,8 +49,6 @@ class Module {
     };
     this.limits = room(LIMITS_BYTES);
     this.place = room(4);
-    this.route = room(ROUTE_BYTES);
-    this.texts = room(1024);
     this.row = room(12);
     this.count = room(8);
     this.marks = room(MOST_MARKS * MARK_BYTES);
@@ -77,7 +56,6 @@ class Module {
     this.digits = room(16);
     this.entry = room(ENTRY_BYTES);
     this.table = room(TABLE_BYTES);
-    this.nextTable = room(TABLE_BYTES);
     this.trial = room(LINE_BYTES);
     this.samples = room(2 * MOST_SAMPLES);
     this.taken = room(8);
@@ -93,48 +71,21 @@ class Module {
 
   // ---- the route table
 
-  // Takes a table into use, as its text was read. Where it is refused, the one before it stays in use.
-  useTable(text) {
-    this.beginTable(text);
-    text.routes.forEach((route, i) => this.addRoute(route, i + 1));
-    this.bytes.copyWithin(this.table, this.nextTable, this.nextTable + TABLE_BYTES);
-  }
+  // Takes a table into use, as the reader gives it.
+  useTable(table) { this.bytes.set(table, this.table); }
 
-  beginTable(text) {
-    // What is no number of 32 bits is no limit and no plan: 0 is refused, as it would be.
-    const small = (value) => (typeof value === 'bigint' && value > 0n && value < 4294967296n ? Number(value) : 0);
-    this.calls.mfweb_limits(BigInt(this.limits));
-    LIMIT_NAMES.forEach((name, i) => {
-      if (text.limits?.has(name)) this.view.setUint32(this.limits + 4 * i, small(text.limits.get(name)), true);
+  // The routes of the table in use, in the order of their codes.
+  routesInUse() {
+    return Array.from({ length: this.number(this.table + 28) }, (_, i) => {
+      const at = this.table + 32 + ROUTE_BYTES * i;
+      const [deleted, length] = [this.bytes[at + 6], this.bytes[at + 7]];
+      return {
+        code: String(this.number(at)).slice(1),      // a 1 stands before it
+        trunk: this.view.getUint16(at + 4, true),
+        deleted,
+        prefix: [...this.bytes.subarray(at + 8, at + 8 + length)].join(''),
+      };
     });
-    const plan = small(text.keys.has('plan') ? text.keys.get('plan') : 7n);
-    const status = this.calls.mfweb_begin(BigInt(this.nextTable), plan, BigInt(this.limits), BigInt(this.place));
-    if (status) throw new Refused(TABLE_FAULTS[status](this.number(this.place)));
-    if (!text.limits) throw new Refused(TABLE_FAULTS[10](0));
-    if (!text.routes) throw new Refused(TABLE_FAULTS[12](0));
-    if (text.routes.length > MOST_ROUTES) throw new Refused(TABLE_FAULTS[11]());
-  }
-
-  addRoute(route, i) {
-    const isText = (key, without) => (route.has(key) ? typeof route.get(key) === 'string' : without);
-    const isNumber = (key, without) => (route.has(key) ? typeof route.get(key) === 'bigint' : without);
-    const hasNumbers = isNumber('trunk', false) && isNumber('delete', true);
-    if (!hasNumbers || !isText('code', false) || !isText('prefix', true)) throw new Refused(TABLE_FAULTS[12](i));
-    this.view.setBigInt64(this.route, route.get('trunk'), true);
-    this.view.setBigInt64(this.route + 8, route.get('delete') ?? 0n, true);
-    this.bytes[this.route + 16] = Number(route.has('delete'));
-    this.bytes[this.route + 17] = Number(route.has('prefix'));
-    const code = this.putText(route.get('code'), this.texts);
-    const prefix = this.putText(route.get('prefix') ?? '', this.texts + 512);
-    const status = this.calls.mfweb_add(BigInt(this.nextTable), i, BigInt(this.route), ...code, ...prefix);
-    if (status) throw new Refused(TABLE_FAULTS[status](i));
-  }
-
-  // A text's place and length. No code or prefix is near 512 bytes long, so what is cut off is wrong with or without.
-  putText(text, at) {
-    const bytes = new TextEncoder().encode(text).subarray(0, 512);
-    this.bytes.set(bytes, at);
-    return [BigInt(at), BigInt(bytes.length)];
   }
 
   limitsInUse() {
@@ -178,8 +129,6 @@ class Module {
       return { kind, value, low, high };
     });
   }
-
-  isRefusalGiven() { return this.number(this.marks + 4) >= Kind.MUTILATED; }
 
   // The line of the page that the marks of the last row make, as mfbank prints it.
   entryText(line, count) {

@@ -7,16 +7,21 @@ const TOLD_EACH_MS = 20;
 const TYPING_ENDS_MS = 300;
 
 class Office {
-  constructor(module, wasm) {
+  constructor(module, reader, wasm) {
     this.module = module;
+    this.reader = reader;
     this.clock = new Clock();
     this.sound = new Sound();
     this.route = new RouteView($('route'), $('trunk'));
     this.sender = new Sender($('tones'), $('keying'), $('far'), module, this.clock, this.sound);
     this.tape = new Tape($('roll'), $('entries'));
+    this.keepsakes = new Keepsakes(this);
+    this.tableInUse = '';
+    this.explain = new Explain(this);
     this.decks = new Decks(wasm);
     this.recordings = new Recordings(module);
     this.coming = [];
+    this.demonstrated = 0;     // how many calls of a demonstration are still to give their entry
     this.telephones = LINES.map((line) => new Telephone(line, module, this.clock, this));
     $('telephones').replaceWith(...this.telephones.map((telephone) => telephone.top));
     this.readColours();
@@ -47,18 +52,44 @@ class Office {
   }
 
   foldWords() {
-    for (const telephone of this.telephones) telephone.foldWords(this.isRow || narrow.matches);
+    for (const telephone of this.telephones) telephone.foldWords(this.isRow || narrow.matches || low.matches);
   }
 
+  // One that is under way is not begun anew.
   demonstrate() {
-    if (this.isRow) this.telephones.forEach((telephone, i) => telephone.dialNumber(CALLS_AT_ONCE[i]));
-    else this.telephones[0].dialNumber(FIRST_CALL);
+    if (this.demonstrated > 0) return;
+    const numbers = this.isRow ? CALLS_AT_ONCE : [FIRST_CALL];
+    numbers.forEach((number, i) => this.telephones[i].dialNumber(number));
+    this.demonstrated = numbers.length;
+  }
+
+  // The visitor does something to a telephone.
+  touched() {
+    this.demonstrated = 0;
+    this.explain.stop();
+  }
+
+  // As at first: all hung up, nothing on the tape, and a call that is shown.
+  beginAgain() {
+    this.touched();
+    for (const telephone of this.telephones) {
+      telephone.hang(false);
+      telephone.reset();
+    }
+    $('entries').textContent = '';
+    this.setSound(false);
+    this.setRow(false);
+    this.sender.clear();
+    this.route.clear();
+    this.demonstrate();
   }
 
   // Does something in so many ms of the page's time.
   later(ms, what) { this.coming.push({ at: this.clock.now() + ms, what }); }
 
   // ---- what the telephones tell
+
+  hungUp(telephone) { this.sender.silence(telephone.name); }
 
   clicked(closed) { if (this.clock.pace <= 1) this.sound.click(closed); }
 
@@ -69,18 +100,27 @@ class Office {
   }
 
   entryGiven(telephone, text, marks) {
+    if (this.demonstrated > 0) this.demonstrated -= 1;
     const number = telephone.numberDialled();
+    this.keepsakes.entryGiven(number);
     if (isRefusal(marks[0])) {
       const why = this.whyRefused(marks[0], number);
-      const label = `${telephone.name}, refused: ${why}`;
-      this.tape.add(text, `${telephone.name} is refused: ${why}`, new AttemptPicture(telephone.attempt, label).svg);
+      const entry = this.tape.add(text, `${telephone.name} is refused: ${why}`, true);
       this.route.showRefused(telephone.name, why);
+      const label = `${telephone.name}, refused: ${why}`;
+      this.tape.addPicture(entry, new AttemptPicture(telephone.attempt, label).svg);
       return;
     }
     const keyed = marks.filter((mark) => mark.kind === Kind.DIGIT).map((mark) => mark.value).join('');
-    const entry = this.tape.add(text, `${telephone.name} is keyed on trunk group ${marks[0].value}`, null);
+    const entry = this.tape.add(text, `${telephone.name} is keyed on trunk group ${marks[0].value}`, false);
     this.route.showKeyed(telephone.name, number, this.module.codeOf(number), marks[0].value, keyed);
-    this.sender.send(telephone.name, marks, (keys, heard) => this.tape.showHeard(entry, keys, heard));
+    const told = (keys, heard) => {
+      this.tape.showHeard(entry, keys, heard);
+      this.explain.at('far');
+    };
+    const send = () => this.sender.send(telephone.name, marks, told);
+    const keyedNow = () => { if (!this.explain.at('sending', send)) send(); };
+    if (!this.explain.at('routing', keyedNow)) keyedNow();
   }
 
   whyRefused({ kind, value }, number) {
@@ -107,12 +147,12 @@ class Office {
 
   useTable() {
     try {
-      const text = readTable($('routes').value);
-      this.module.useTable(text);
+      this.module.useTable(this.reader.table($('routes').value));
+      this.tableInUse = $('routes').value;
       $('fault').textContent = '';
       $('routes').removeAttribute('aria-invalid');
       this.telephones.forEach((telephone) => telephone.reset());
-      this.route.use(text.routes);
+      this.route.use(this.module.routesInUse());
       this.sender.clear();
     } catch (fault) {
       if (!(fault instanceof Refused)) throw fault;
@@ -137,28 +177,34 @@ class Office {
       $('file').value = '';
     });
     document.addEventListener('keydown', (event) => this.key(event));
+    // a button that was pressed by a pointer leaves the space bar to the hook
+    document.addEventListener('click', ({ detail, target }) => { if (detail > 0) target.closest('button')?.blur(); });
     for (const name of ['dragover', 'dragleave', 'drop']) document.addEventListener(name, (event) => this.drag(event));
     matchMedia('(prefers-color-scheme: dark)').addEventListener('change', () => this.readColours());
-    narrow.addEventListener('change', () => this.foldWords());
-    addEventListener('resize', () => this.sender.redraw());
+    for (const size of [narrow, low]) size.addEventListener('change', () => this.foldWords());
+    addEventListener('resize', () => { this.redraw(); this.sender.redraw(); });
   }
 
   setSound(on) {
-    const isNew = on && !this.sound.isOn;
-    this.sound.turn(on);
-    $('sound').textContent = on ? 'Sound is on' : 'Sound is off';
-    if (isNew) this.sender.sendAgain();
+    const wasOn = this.sound.isOn;
+    const isOn = this.sound.turn(on);
+    $('sound').setAttribute('aria-pressed', String(isOn));
+    $('sounds').textContent = this.sound.isLacking ? 'is not to be had here' : isOn ? 'on' : 'off';
+    if (isOn && !wasOn) this.sender.sendAgain();
   }
 
   key(event) {
     const { target, key } = event;
     if (event.ctrlKey || event.metaKey || event.altKey || event.repeat) return;
     if (/^(TEXTAREA|SELECT)$/.test(target.tagName)) return;
-    if (/^[0-9]$/.test(key)) this.chosen.ask(key);
+    if (/^[0-9]$/.test(key) && $('keys').checked) {
+      this.touched();
+      this.chosen.ask(key);
+    }
     // anywhere else the space bar has something to do of its own
     if (key === ' ' && target === document.body) {
       event.preventDefault();
-      this.chosen.hang(!this.chosen.isUp);
+      this.chosen.hangByHand(!this.chosen.isUp);
     }
   }
 
@@ -171,6 +217,7 @@ class Office {
   }
 
   readFile(file) {
+    $('read').removeAttribute('aria-live');
     if (file && isRecording(file)) this.recordings.read(file);
     else if (file) this.decks.read(file.name, file);
   }
@@ -183,30 +230,61 @@ class Office {
     const style = getComputedStyle(document.documentElement);
     const colourOf = (name) => [name, style.getPropertyValue(`--${name}`).trim()];
     this.colours = Object.fromEntries(['line', 'rule', 'soft', 'red', 'lamp'].map(colourOf));
+    this.redraw();
   }
 
+  // What stands still is drawn once more.
+  redraw() { for (const telephone of this.telephones) telephone.isStill = false; }
+
+  // Each thing that is due is done as at its own moment, with all that the telephones did before it.
   move() {
     const now = this.clock.now();
-    const due = this.coming.filter(({ at }) => at <= now);
-    this.coming = this.coming.filter(({ at }) => at > now);
-    due.forEach(({ what }) => what());
+    for (let next = this.nextDue(now); next; next = this.nextDue(now)) {
+      this.coming.splice(this.coming.indexOf(next), 1);
+      this.clock.at(next.at, () => {
+        this.telephones.forEach((telephone) => telephone.move());
+        next.what();
+      });
+    }
     this.telephones.forEach((telephone) => telephone.move());
   }
 
+  nextDue(now) {
+    return this.coming.filter(({ at }) => at <= now).sort((one, other) => one.at - other.at)[0];
+  }
+
+  // The next picture is asked for first, so that a fault in one does not end them all.
   show() {
-    this.sender.move();
-    for (const telephone of this.telephones) if (!telephone.top.hidden) telephone.show(this.colours);
     if (lessMotion.matches) setTimeout(() => this.show(), 250);
     else requestAnimationFrame(() => this.show());
+    this.sender.move();
+    for (const telephone of this.telephones) if (!telephone.top.hidden) telephone.show(this.colours);
   }
 
   begin() {
     this.useTable();
     this.listen();
+    // nobody asked for this one, so it is not said
+    $('read').setAttribute('aria-live', 'off');
     this.readExample();
     setInterval(() => this.move(), TOLD_EACH_MS);
     this.show();
-    if (!lessMotion.matches && !location.hash.includes('quiet')) this.demonstrate();
+    const { look, seconds } = lookAsked();
+    if (look) document.body.classList.add(look);
+    if (look === 'kiosk') this.kiosk = new Kiosk(this, seconds);
+    if (linkedNumber()) this.offer(linkedNumber());
+    else if (!lessMotion.matches && !location.hash.includes('quiet')) this.demonstrate();
+  }
+
+  // A link brought the visitor here to hear one call: sound wants a gesture first.
+  offer(number) {
+    $('linked').hidden = false;
+    $('linked-number').textContent = number;
+    $('hear').addEventListener('click', () => {
+      this.touched();
+      this.setSound(true);
+      this.telephones[0].dialNumber(number);
+    });
   }
 }
 
@@ -217,12 +295,25 @@ async function openModule() {
   const wasm = bytesOf('module');
   try {
     if (location.hash.includes('lowered')) throw new Error('the copy is asked for');
-    return { module: await Module.open(wasm), wasm };
+    return await Module.open(wasm);
   } catch {
-    const lowered = bytesOf('lowered');
+    const module = await Module.open(bytesOf('lowered'));
     $('copy').hidden = false;
-    return { module: await Module.open(lowered), wasm: lowered };
+    return module;
   }
 }
 
-openModule().then(({ module, wasm }) => new Office(module, wasm).begin());
+async function openOffice() {
+  const wasm = bytesOf('reader');
+  return new Office(await openModule(), await Reader.open(wasm), wasm);
+}
+
+// Without WebAssembly nothing can be dialled, and nothing that does nothing is offered.
+function saySoAndStop() {
+  $('lacking').hidden = false;
+  for (const control of document.querySelectorAll('main button, main select, main input, main textarea')) {
+    control.disabled = true;
+  }
+}
+
+openOffice().then((office) => office.begin(), saySoAndStop);

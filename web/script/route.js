@@ -4,9 +4,9 @@ const MOST_SHOWN_ROUTES = 8;
 
 // A route in the words of its table.
 function routeText(route) {
-  const deleted = route.get('delete') ? `, delete ${route.get('delete')}` : '';
-  const prefixed = route.get('prefix') ? `, prefix ${route.get('prefix')}` : '';
-  return `${route.get('code')} → trunk ${route.get('trunk')}${deleted}${prefixed}`;
+  const deleted = route.deleted ? `, delete ${route.deleted}` : '';
+  const prefixed = route.prefix ? `, prefix ${route.prefix}` : '';
+  return `${route.code} → trunk ${route.trunk}${deleted}${prefixed}`;
 }
 
 class RouteView {
@@ -25,7 +25,7 @@ class RouteView {
   light(code) {
     this.top.textContent = '';
     this.routes.forEach((route, i) => {
-      const isTaken = route.get('code') === code;
+      const isTaken = route.code === code;
       if (i >= MOST_SHOWN_ROUTES && !isTaken) return;
       make('span', isTaken ? { class: 'taken' } : {}, this.top, routeText(route));
     });

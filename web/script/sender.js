@@ -34,6 +34,7 @@ class Sender {
 
   clear() {
     this.waiting = [];
+    this.playing?.silence();
     if (this.playing) this.end();
     this.last = null;
     this.status.textContent = '';
@@ -54,6 +55,9 @@ class Sender {
     return { times, ends: at };
   }
 
+  // The samples of the last keying at its own pace and without noise, or null.
+  lastSamples() { return this.last && this.samplesOf(this.timesOf(this.last.keys, 1)); }
+
   // A keying as one sound: silences, and the samples that the module made.
   samplesOf({ times, ends }) {
     const samples = new Float32Array(SAMPLES_A_MS * ends);
@@ -71,10 +75,13 @@ class Sender {
     const groups = this.draw(call.keys);
     keying.times.forEach((time, i) => { time.group = groups[i]; });
     const samples = noisy(this.samplesOf(keying), this.noise);
-    this.sound.play(samples);
+    const silence = this.sound.play(samples);
     const hearing = { samples: wholeSamples(samples), ear: new Ear(this.module), sounded: 0, heard: [] };
-    this.playing = { ...call, ...keying, ...hearing, began: performance.now() };
+    this.playing = { ...call, ...keying, ...hearing, silence, began: performance.now() };
   }
+
+  // Whoever hangs up hears no more of the call.
+  silence(name) { if (this.playing?.name === name) this.playing.silence(); }
 
   // The far end hears what has sounded so far.
   hearUntil(ms) {

@@ -6,11 +6,10 @@ const MOST_ENTRIES = 60;
 class Tape {
   constructor(roll, list) { Object.assign(this, { roll, list }); }
 
-  add(text, words, picture) {
-    const entry = make('li', picture ? { class: 'refused' } : {}, this.list);
-    make('code', {}, entry, text);
+  add(text, words, isRefused) {
+    const entry = make('li', isRefused ? { class: 'refused' } : {}, this.list);
     make('span', {}, entry, words);
-    if (picture) this.addPicture(entry, picture);
+    make('code', {}, entry, text);
     if (this.list.children.length > MOST_ENTRIES) this.list.firstElementChild.remove();
     this.roll.scrollTop = this.roll.scrollHeight;
     return entry;
@@ -34,5 +33,6 @@ class Tape {
     const frame = make('div', words, details);
     frame.append(picture);
     frame.scrollLeft = frame.scrollWidth;
+    this.roll.scrollTop = this.roll.scrollHeight;
   }
 }

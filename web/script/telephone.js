@@ -6,6 +6,7 @@ class Telephone {
     this.digits = [];
     this.attempt = null;
     this.outcome = '';
+    this.runs = [];        // all makes and breaks of its line since the table is in use
     this.top = $('telephone').content.cloneNode(true).firstElementChild;
     this.find = (name) => this.top.querySelector(`.${name}`);
     this.top.setAttribute('aria-label', this.name);
@@ -14,17 +15,24 @@ class Telephone {
     this.find('trace').setAttribute('aria-label', `Makes and breaks of the loop of line ${line} in the last seconds`);
     this.find('kind').setAttribute('aria-label', `How the dial of line ${line} is`);
     this.loop = new Loop(line, clock, module, this);
-    this.dial = new Dial(this.find('dial'), this.name, clock, this.loop);
+    this.dial = new Dial(this.find('dial'), this.name, clock, this.loop, (digit) => this.ask(digit));
     this.trace = new Trace(this.find('trace'), clock);
     this.register = new RegisterView(this.find('relays'));
-    this.find('hook').addEventListener('click', () => this.hang(!this.isUp));
+    this.find('hook').addEventListener('click', () => this.hangByHand(!this.isUp));
+    // a dial that is turned on the hook sends nothing, so the hook is pointed at
+    this.find('dial').addEventListener('pointerup', () => {
+      if (!this.isUp && !this.number) this.find('hook').classList.add('wanted');
+    });
     this.find('kind').addEventListener('change', (event) => { this.dial.kind = event.target.value; });
     for (const button of this.top.querySelectorAll('[data-number]')) {
-      button.addEventListener('click', () => this.dialNumber(button.dataset.number));
+      button.addEventListener('click', () => { office.touched(); this.dialNumber(button.dataset.number); });
     }
     this.find('choice').addEventListener('change', () => office.choose(this));
     this.top.addEventListener('pointerdown', () => office.choose(this));
     this.isUp = false;
+    this.number = null;    // what is to be dialled once the receiver is up
+    this.toldAt = 0;
+    this.isStill = false;  // its trace is drawn, and does not move
     this.showHook();
   }
 
@@ -37,6 +45,7 @@ class Telephone {
   reset() {
     this.module.forget(this.line);
     this.loop.recorded = 0;
+    this.runs = [];
     this.attempt = null;
     this.clear();
     this.showState();
@@ -49,11 +58,20 @@ class Telephone {
 
   // ---- the hook and the dial
 
+  hangByHand(isUp) {
+    this.office.touched();
+    this.hang(isUp);
+  }
+
   hang(isUp) {
     this.isUp = isUp;
     this.turn = {};        // whoever was to dial a number here, dials it no more
+    this.number = null;
     this.loop.set('hook', isUp, this.clock.now());
-    if (!isUp) this.dial.asked = [];
+    if (!isUp) {
+      this.dial.asked = [];
+      this.office.hungUp(this);
+    }
     this.showHook();
     this.move();
   }
@@ -66,20 +84,33 @@ class Telephone {
     hook.classList.remove('wanted');
   }
 
+  // A digit by a key or a tap. On the hook it lifts the receiver first: the wheel turns there, and sends nothing.
   ask(digit) {
-    this.dial.ask(digit);
-    // it turns on the hook too, but nothing is sent: so the hook is pointed at
-    if (!this.isUp) this.find('hook').classList.add('wanted');
+    if (this.number) this.number.push(digit);
+    else if (this.isUp) this.dial.ask(digit);
+    else this.dialNumber(digit);
   }
 
-  // Hangs up if need be, and dials a number as a hand would.
+  // Hangs up if need be, and dials a number as a hand would. Digits that are asked for meanwhile follow it.
   dialNumber(number) {
     const isIdle = this.module.stateOf(this.line).phase === 0 && !this.isUp;
     this.hang(false);
-    this.inTurn(isIdle ? 50 : 450, () => {
+    const digits = [...number];
+    this.number = digits;
+    this.inTurn(isIdle ? 50 : 450, () => this.onceAtRest(() => {
       this.hang(true);
-      this.inTurn(250, () => [...number].forEach((digit) => this.ask(digit)));
-    });
+      this.number = digits;
+      this.inTurn(250, () => {
+        this.number = null;
+        digits.forEach((digit) => this.dial.ask(digit));
+      });
+    }));
+  }
+
+  // Does something once the dial has run back: its last pulses would go into the new call.
+  onceAtRest(what) {
+    if (this.dial.isBusy()) this.inTurn(20, () => this.onceAtRest(what));
+    else what();
   }
 
   // Does something after so many ms, unless the hook moves before.
@@ -93,9 +124,13 @@ class Telephone {
   changed(at, closed) {
     this.trace.changed(at, closed);
     this.office.clicked(closed);
+    if (!closed && this.isUp) this.office.explain.at('looping');
   }
 
   rowTaken(row) {
+    const last = this.runs.at(-1);
+    if (last?.closed === row.closed && last.ms + row.ms <= MOST_ROW_MS) last.ms += row.ms;
+    else this.runs.push({ closed: row.closed, ms: row.ms });
     if (row.signals.some((signal) => signal.kind === Signal.SEIZED)) {
       this.clear();
       this.attempt = new Attempt(row.from);
@@ -118,6 +153,7 @@ class Telephone {
       return;
     }
     this.digits.push(signal);
+    this.office.explain.at('registering');
     this.trace.note(signal.isStored ? figureOf(signal) : 'spoiled', signal.isStored ? 'digit' : 'bad', at);
   }
 
@@ -132,7 +168,17 @@ class Telephone {
 
   // ---- its look
 
+  // Nothing happens on its line, and nothing is to come.
+  isAtRest() {
+    const isWaiting = this.number || this.dial.isBusy() || this.dial.asked.length || this.loop.coming.length;
+    return !this.isUp && !isWaiting && this.module.stateOf(this.line).phase === 0;
+  }
+
+  // A line that rests is told of once a second.
   move() {
+    const now = this.clock.now();
+    if (this.isAtRest() && now - this.toldAt < 1000) return;
+    this.toldAt = now;
     this.dial.move();
     this.loop.tell();
     this.showState();
@@ -140,7 +186,17 @@ class Telephone {
 
   show(colours) {
     this.dial.show();
-    this.trace.draw(colours);
+    const isStill = this.isAtRest() && this.trace.isEmpty();
+    if (!isStill || !this.isStill) this.trace.draw(colours);
+    this.isStill = isStill;
+  }
+
+  // Said anew only where it is another one, and digit by digit.
+  showNumber(number) {
+    const shown = this.find('number');
+    if (shown.textContent === number) return;
+    shown.textContent = number;
+    this.find('spoken').textContent = [...number].join(' ').replaceAll('×', 'a spoiled digit');
   }
 
   showState() {
@@ -152,7 +208,7 @@ class Telephone {
     const heard = this.find('heard');
     heard.textContent = this.outcome || ATTEMPTS[state.attempt];
     heard.classList.toggle('refused', this.outcome === 'refused');
-    this.find('number').textContent = this.numberDialled();
+    this.showNumber(this.numberDialled());
     this.register.show(this.digits, state.attempt === 1 ? state.breaks : 0);
   }
 }

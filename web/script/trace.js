@@ -26,6 +26,17 @@ class Trace {
     if (this.notes.length > MOST_NOTES) this.notes.shift();
   }
 
+  // Nothing that happened is on it any more.
+  isEmpty() {
+    const last = Math.max(this.changes.at(-1)?.at ?? -Infinity, this.notes.at(-1)?.at ?? -Infinity);
+    return last < this.clock.now() - this.span();
+  }
+
+  // A narrow trace shows less time, so that pulses stay apart; slow motion shows fewer, and fast time more.
+  span() {
+    return TRACE_MS * Math.max(this.clock.pace, 0.12) * Math.min(1, Math.max(this.canvas.clientWidth / 700, 0.4));
+  }
+
   draw(colours) {
     const { canvas } = this;
     const ratio = devicePixelRatio || 1;
@@ -38,8 +49,7 @@ class Trace {
     const pen = canvas.getContext('2d');
     pen.setTransform(ratio, 0, 0, ratio, 0, 0);
     pen.clearRect(0, 0, width, height);
-    // a narrow trace shows less time, so that pulses stay apart; slow motion shows fewer, and fast time more
-    const span = TRACE_MS * Math.max(this.clock.pace, 0.12) * Math.min(1, Math.max(width / 700, 0.4));
+    const span = this.span();
     const until = this.clock.now();
     const place = {
       from: until - span, until, width, height,

@@ -2,10 +2,7 @@
 
 self.onmessage = async ({ data: { wasm, bytes } }) => {
   try {
-    const turns = pageOfDeck(await Module.open(wasm), bytes);
-    let turn = turns.next();
-    for (; !turn.done; turn = turns.next()) self.postMessage({ share: turn.value });
-    self.postMessage(turn.value);
+    self.postMessage({ page: (await Reader.open(wasm)).page(bytes) });
   } catch (fault) {
     if (!(fault instanceof Refused)) throw fault;
     self.postMessage({ fault: fault.message });

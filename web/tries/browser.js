@@ -66,10 +66,10 @@ class Browser {
   }
 
   // The page anew. An address that differs in its fragment alone would not be loaded again.
-  async go(address) {
+  async go(address, isReady) {
     await this.send('Page.navigate', { url: 'about:blank' });
     await this.send('Page.navigate', { url: address });
-    await this.until('document.readyState === "complete" && document.querySelector(".dial .hole") !== null');
+    await this.until(`document.readyState === "complete" && ${isReady}`);
   }
 
   async run(code) {

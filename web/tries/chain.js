@@ -1,32 +1,28 @@
-// The scripts of the page that draw nothing, for Node: the module's calls, its ears, the reading of tables and decks.
+// The scripts of the page that draw nothing, for Node: the module's calls, its ears, and those of the reader.
 'use strict';
 const fs = require('fs');
 const path = require('path');
 
-const SCRIPTS = ['module.js', 'toml.js', 'csv.js', 'deck.js', 'ear.js'];
-const NAMES = ['Module', 'Refused', 'readTable', 'pageOfDeck', 'Kind', 'Ear', 'heardText'];
+const SCRIPTS = ['reader.js', 'module.js', 'ear.js'];
+const NAMES = ['Module', 'Reader', 'Refused', 'Kind', 'Ear', 'heardText'];
 const readScript = (name) => fs.readFileSync(path.join(__dirname, '..', 'script', name), 'utf8');
 const text = SCRIPTS.map(readScript).join('\n');
 const chain = new Function(`'use strict';\n${text}\nreturn { ${NAMES.join(', ')} };`)();
 
-// The module of a page, which is what is tried, and its copy.
+// The module of a page, which is what is tried, its copy, and the reader.
 function modulesOf(page) {
   const html = fs.readFileSync(page, 'utf8');
   const of = (id) => Buffer.from(new RegExp(`id="${id}">([^<]*)<`).exec(html)[1], 'base64');
-  return { module: of('module'), lowered: of('lowered') };
+  return { module: of('module'), lowered: of('lowered'), reader: of('reader') };
 }
 
 // What the page makes of a deck: the page's text, or the fault in mfbank's words.
-function givenOf(module, deck) {
-  const turns = chain.pageOfDeck(module, deck);
+function givenOf(reader, deck) {
   try {
-    for (;;) {
-      const { done, value } = turns.next();
-      if (done) return value.page;
-    }
+    return reader.page(deck);
   } catch (fault) {
     if (!(fault instanceof chain.Refused)) throw fault;
-    return `mfbank: ${fault.message.replace(', or more of it than this page reads', '')}\n`;
+    return `mfbank: ${fault.message}\n`;
   }
 }
 

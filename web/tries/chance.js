@@ -4,6 +4,7 @@
 const { sleep } = require('./browser.js');
 const { is } = require('./checks.js');
 const { seeded } = require('./seeds.js');
+const { compareDeck } = require('./kept.js');
 const { TapeTry } = require('./tape.js');
 
 const SEED = 41;
@@ -44,6 +45,7 @@ async function tryChance(it, table, programs) {
   const entries = await it.entries();
   is(`${entries.length} entries of ${count} acts by chance`, entries.length > 5, true);
   await new TapeTry(it, programs).compare(table, 0);
+  await compareDeck(it, programs.mfbank, 'and so is that of the deck that is saved');
   await it.look();
   await it.visit('#quiet');
 }

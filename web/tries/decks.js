@@ -1,54 +1,20 @@
-// node tries/decks.js PAGE EXAMPLES MFBANK: decks through the page's module and its reading, in Node. Each deck of
-// EXAMPLES gives its page or its fault; 500 decks and 500 route tables that are made by a seed, right and wrong ones,
-// give what MFBANK gives, by the module and by its copy; a row takes less than a microsecond; and the sound of EXAMPLES
-// is heard.
+// node tries/decks.js PAGE EXAMPLES MFBANK: decks through the page's reader (reader.js), and rows through its module, in
+// Node: a row takes less than a microsecond, and the sound of EXAMPLES is heard.
 'use strict';
-const { spawnSync } = require('child_process');
 const fs = require('fs');
 const path = require('path');
-const { Module, modulesOf, givenOf } = require('./chain.js');
+const { Module, Reader, modulesOf } = require('./chain.js');
 const { is, end } = require('./checks.js');
 const { tryEars } = require('./ears.js');
-const { deckOf, deckOfTable, deckOfSeededTable, dialRows } = require('./seeds.js');
+const { tryReader } = require('./reader.js');
+const { dialRows } = require('./seeds.js');
 
 const [, , page, examples, mfbank] = process.argv;
-const SEEDED = 500;
-const MOST_BYTES = 200000;
+const MOST_BYTES = 500000;
 const MOST_NANOSECONDS = 1000;
 const read = (name) => fs.readFileSync(path.join(examples, name));
 
-// What mfbank gives for each deck: its page, or its fault. It is asked once for the module and its copy.
-function wantedOf(decks) {
-  return decks.map((deck) => {
-    const { status, stdout, stderr } = spawnSync(mfbank, { input: deck, maxBuffer: 1 << 26 });
-    return { deck, isAccepted: status === 0, text: (status === 0 ? stdout : stderr).toString() };
-  });
-}
-
-// Names each deck for which the module gives something else.
-function tryDecks(what, module, wanted) {
-  const compared = wanted.map(({ deck, text }, i) => ({ nth: i + 1, text, given: givenOf(module, deck) }));
-  const accepted = wanted.filter(({ isAccepted }) => isAccepted).length;
-  const others = compared.filter(({ given, text }) => given !== text);
-  is(`${wanted.length} ${what}, ${accepted} of them accepted`, others, []);
-}
-
-function examplesOf() {
-  return fs.readdirSync(examples).filter((name) => name.endsWith('.deck')).map((name) => {
-    const base = name.slice(0, -5);
-    const isAccepted = fs.existsSync(path.join(examples, `${base}.page`));
-    return { deck: read(name), isAccepted, text: read(`${base}.${isAccepted ? 'page' : 'err'}`).toString() };
-  });
-}
-
 const readDoc = (name) => fs.readFileSync(path.join(examples, '..', 'docs', name), 'utf8');
-
-// The route tables that docs/DECK.md shows: each by itself, and the last one before the first.
-function tablesOfDocs() {
-  const section = /\n## The route table\n([^]*?)\n## /.exec(readDoc('DECK.md'))[1];
-  const shown = section.match(/(?<=\n\n)(?: {4}.+\n)+/g).map((text) => text.replace(/^ {4}/gm, ''));
-  return [...shown, shown.at(-1) + shown[0]];
-}
 
 // ---- the caller of docs/EMBEDDING.md
 
@@ -65,8 +31,8 @@ async function tryCaller(bytes) {
 
 // ---- how fast a row is: the least of many short runs, since a machine does other things too
 
-function nanosecondsOfRow(module) {
-  module.useTable({ keys: new Map(), limits: new Map(), routes: [] });
+function nanosecondsOfRow(module, table) {
+  module.useTable(table);
   module.forget(7);
   const rows = partsOf(dialRows(7, '2345678').concat('7,B,400'));
   let least = Infinity;
@@ -79,23 +45,16 @@ function nanosecondsOfRow(module) {
 }
 
 async function main() {
-  const { module: wasm, lowered } = modulesOf(page);
+  const { module: wasm, lowered, reader: readerOfPage } = modulesOf(page);
   const size = fs.statSync(page).size;
   is(`the module has ${wasm.length} bytes, its copy ${lowered.length}, the page ${size}`, size <= MOST_BYTES, true);
   is('the module imports nothing', WebAssembly.Module.imports(new WebAssembly.Module(wasm)), []);
   await tryCaller(wasm);
-  const seeds = Array.from({ length: SEEDED }, (_, i) => i + 1);
-  const tables = ['routes.toml', 'routes_of_ten.toml'].map((name) => read(name).toString().trimEnd());
-  const decks = wantedOf(seeds.map((seed) => deckOf(seed, tables)));
-  const ofTables = wantedOf(seeds.map(deckOfSeededTable));
-  const ofDocs = wantedOf(tablesOfDocs().map(deckOfTable));
+  await tryReader(page, examples, mfbank);
+  const reader = await Reader.open(readerOfPage);
   for (const [name, bytes] of [['the module', wasm], ['its copy', lowered]]) {
     const module = await Module.open(bytes);
-    tryDecks(`decks of examples/ by ${name}`, module, examplesOf());
-    tryDecks(`decks by a seed, by ${name}`, module, decks);
-    tryDecks(`route tables by a seed, by ${name}`, module, ofTables);
-    tryDecks(`route tables of docs/DECK.md, by ${name}`, module, ofDocs);
-    const nanoseconds = nanosecondsOfRow(module);
+    const nanoseconds = nanosecondsOfRow(module, reader.table(''));
     is(`${nanoseconds.toFixed(0)} ns a row, by ${name}`, nanoseconds < MOST_NANOSECONDS, true);
     tryEars(module, name, read);
   }

@@ -8,8 +8,11 @@ const { CallTries } = require('./calls.js');
 const { tryChance } = require('./chance.js');
 const { is, end } = require('./checks.js');
 const { tryDecks, tryLongDeck } = require('./dropped.js');
+const { tryFirst } = require('./first.js');
+const { tryKept } = require('./kept.js');
 const { tryRecordings, tryMicrophone } = require('./recorded.js');
 const { tryNames, tryKeysAlone, tryOpening, tryPhone, tryLessMotion, takePictures } = require('./looks.js');
+const { tryShown } = require('./shown.js');
 const { TapeTry } = require('./tape.js');
 const { Visitor } = require('./visitor.js');
 
@@ -41,6 +44,9 @@ async function tryAll(it) {
   await tryNames(it);
   await tryKeysAlone(it);
   await tryOpening(it);
+  await tryFirst(it);
+  await tryKept(it, read, mfbank);
+  await tryShown(it);
   await tryPhone(it);
   await tryLessMotion(it);
   if (pictures) await takePictures(it, pictures);

@@ -56,8 +56,8 @@ function tryNoEar(module, name) {
 
 // A table of zeros was never begun, and is told from one that has no code.
 function tryNoTable(module, name) {
-  module.bytes.fill(0, module.nextTable, module.nextTable + 16032);
-  const status = module.calls.mfweb_route(BigInt(module.nextTable), BigInt(module.digits), 1n, BigInt(module.place));
+  module.bytes.fill(0, module.lines, module.lines + 16032);
+  const status = module.calls.mfweb_route(BigInt(module.lines), BigInt(module.digits), 1n, BigInt(module.place));
   is(`a table that was never begun finds no code, by ${name}`, [status, module.number(module.place)], [NOT_BEGUN, 0]);
 }
 

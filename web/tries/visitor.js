@@ -25,7 +25,9 @@ class Visitor extends Browser {
     this.file = `file://${path.resolve(file)}`;
   }
 
-  visit(hash) { return this.go(`${this.file}${hash}`); }
+  visit(hash) { return this.load(hash, 'document.querySelector(".dial .hole") !== null'); }
+
+  load(hash, isReady) { return this.go(`${this.file}${hash}`, isReady); }
 
   listen() { return this.run(LISTEN); }
 

@@ -1,0 +1,153 @@
+// What a first visitor meets: buttons pressed while the dial runs back, sound that is to end, browsers that lack a part,
+// a tab that is hidden, and what stands on the first screen.
+'use strict';
+const { is } = require('./checks.js');
+const { sleep } = require('./browser.js');
+const { BY_OPERATOR } = require('./calls.js');
+
+const BY_411 = 'KEYED 0003 KP:1100+1700 4:700+1300 1:700+900 1:700+900 ST:1500+1700';
+const MOMENTS = 20;
+
+// Runs the page once with a script of ours before its own, until this is so.
+async function visitWith(it, source, isReady = 'document.querySelector(".dial .hole") !== null') {
+  const { identifier } = await it.send('Page.addScriptToEvaluateOnNewDocument', { source });
+  await it.load('#quiet', isReady);
+  await it.send('Page.removeScriptToEvaluateOnNewDocument', { identifier });
+}
+
+const kinds = (entries) => entries.map((entry) => entry.split(' ').slice(2).join(' '));
+
+// A number's button at many moments of a dial that runs back.
+async function tryButtons(it) {
+  await it.visit('#quiet');
+  for (let moment = 0; moment < MOMENTS; moment++) {
+    const before = (await it.entries()).length;
+    await it.dial('0');
+    await sleep(500 + moment * 90);
+    await it.click('[data-number="411"]');
+    await it.until(`[...document.querySelectorAll('#entries code')].slice(${before})
+      .some((it) => it.textContent.endsWith('${BY_411}'))`, 8000).catch(() => {});
+    const given = kinds((await it.entries()).slice(before)).filter((entry) => entry !== BY_411);
+    const isRight = given.every((entry) => entry === BY_OPERATOR || entry === 'REFUSED ABANDONED 0');
+    if (!isRight) is(`411 by its button, ${500 + moment * 90} ms into a 0`, given, []);
+    await it.hangUp();
+    await sleep(100);
+  }
+  const numbers = kinds(await it.entries()).filter((entry) => entry === BY_411).length;
+  is(`411 by its button at ${MOMENTS} moments of a running dial`, numbers, MOMENTS);
+}
+
+async function tryHook(it) {
+  await it.visit('#quiet');
+  await it.dial('411');
+  await it.untilEntries(1);
+  is('digits on the hook lift the receiver first', kinds(await it.entries()), [BY_411]);
+  await it.click('#sound');
+  await it.key(' ');
+  await it.until('document.querySelector(".phase").textContent === "on hook"');
+  is('after a click the space bar is the hook', await it.run('document.getElementById("sound").ariaPressed'), 'true');
+  await it.run('document.getElementById("keys").click()');
+  await it.dial('0');
+  await sleep(600);
+  is('keys that are switched off dial nothing', await it.text('.phase'), 'on hook');
+}
+
+const COUNT_STOPS = `
+  window.playing = new Set();
+  const { start, stop } = AudioBufferSourceNode.prototype;
+  AudioBufferSourceNode.prototype.start = function (...words) {
+    if (this.buffer.length > 1000) { playing.add(this); this.addEventListener('ended', () => playing.delete(this)); }
+    return start.apply(this, words);
+  };
+  AudioBufferSourceNode.prototype.stop = function (...words) { playing.delete(this); return stop.apply(this, words); };`;
+
+async function trySilence(it) {
+  await visitWith(it, COUNT_STOPS);
+  await it.click('#sound');
+  for (const [what, silence] of [['"Sound" silences at once', () => it.click('#sound')],
+    ['so does hanging up', () => it.hangUp()]]) {
+    await it.run('[...document.querySelectorAll(".hook.up")].forEach((hook) => hook.click())');
+    await sleep(600);
+    if (await it.run('document.getElementById("sound").ariaPressed === "false"')) await it.click('#sound');
+    await it.click('[data-number="2345678"]');
+    await it.until('playing.size > 0');
+    await silence();
+    is(what, await it.run('playing.size'), 0);
+  }
+}
+
+// A call by the big button, and frames that still come after it.
+async function callGoesOn(it, what) {
+  await it.click('#demo');
+  await it.untilEntries(1, 8000);
+  is(what, kinds(await it.entries()), [BY_411]);
+  const frames = await it.run(`new Promise((done) => {
+    let count = 0;
+    const next = () => { count += 1; requestAnimationFrame(next); };
+    next();
+    setTimeout(() => done(count), 1000);
+  })`);
+  const before = await it.run('document.querySelector(".dial g").getAttribute("transform")');
+  await it.click('[data-number="0"]');
+  await sleep(1200);
+  const after = await it.run('document.querySelector(".dial g").getAttribute("transform")');
+  is('and the dial still turns', frames > 5 && before !== after, true);
+}
+
+async function tryLacking(it) {
+  await visitWith(it, 'window.AudioContext = function () { throw new Error("no sound card"); };');
+  await callGoesOn(it, 'without WebAudio a call is keyed');
+  is('and the button says that there is no sound', await it.text('#sounds'), 'is not to be had here');
+  await it.visit('#quiet');
+  await it.run('Sender.prototype.begin = () => { throw new Error("a picture that fails"); }');
+  await it.run('AttemptPicture = class { constructor() { throw new Error("a picture that fails"); } }').catch(() => {});
+  await callGoesOn(it, 'a picture that fails loses no entry');
+  const said = it.messages.splice(0).filter((text) => !/a picture that fails/.test(text));
+  is('and says so in the console alone', said, []);
+  await visitWith(it, 'delete window.WebAssembly;', '!document.getElementById("lacking").hidden');
+  const enabled = await it.run(`document.querySelectorAll('main button:enabled, main select:enabled').length`);
+  is('without WebAssembly no control is offered', enabled, 0);
+  is('and no copy is claimed', await it.run('document.getElementById("copy").hidden'), true);
+}
+
+// Timers as those of a hidden tab: one a second, and no frames.
+const HIDE = `
+  const interval = setInterval;
+  window.setInterval = (what, ms) => interval(what, Math.max(ms, 1000));
+  window.requestAnimationFrame = () => 0;`;
+
+async function tryHidden(it) {
+  await visitWith(it, HIDE);
+  await it.choose('#pace', '20');
+  await it.click('[data-number="2345678"]');
+  await it.untilEntries(1, 8000);
+  const [entry] = await it.entries();
+  is('a hidden tab, 20 times as fast, loses no time', /^0007 1 KEYED 0017 /.test(entry), true);
+}
+
+const SCREENS = [[1280, 720, ['.dial', '.hook', '#tones', '#far']], [1280, 900, ['.dial', '.hook', '#tones', '#far']],
+  [390, 844, ['.dial', '.hook']], [320, 568, ['.dial', '.hook']]];
+
+async function tryFirstScreen(it) {
+  for (const [width, height, wanted] of SCREENS) {
+    await it.look({ width, height });
+    await it.visit('#quiet');
+    const seen = await it.run(`${JSON.stringify(wanted)}.filter((name) => {
+      const box = document.querySelector(name).getBoundingClientRect();
+      return box.top >= 0 && box.bottom <= ${height};
+    })`);
+    is(`on the first screen of ${width} by ${height}`, seen, wanted);
+  }
+  await it.look();
+}
+
+async function tryFirst(it) {
+  await tryButtons(it);
+  await tryHook(it);
+  await trySilence(it);
+  await tryLacking(it);
+  await tryHidden(it);
+  await tryFirstScreen(it);
+}
+
+module.exports = { tryFirst };
