@@ -32,5 +32,5 @@ mod telling;
 pub use command::Takes;
 pub use pipe::{Errors, Output, Pipe, READER_GONE};
 pub use reading::{Words, read_words};
-pub use system::{Files, SystemFiles, words_of_process};
+pub use system::{Files, MOST_FILE_BYTES, SystemFiles, words_of_process};
 pub use telling::{DONE, FAULT, WORDS_REFUSED, WordsFault, tell_fault, tell_words};
