@@ -6,3 +6,4 @@ pub mod RoundedHolds
 pub mod JoinedRuns
 pub mod Told
 pub mod StepLemmas
+pub mod Written

@@ -153,3 +153,58 @@ pub refused_at_end :
     → say_to_end says ends before (part ∷ []) ≡ Err refusal
 refused_at_end says ends part old mid before now refusal none h e =
     said_to_end says ends part [] old mid before now (Err refusal) none h e
+
+-- a part that says these events, and then the rest
+pub part_says :
+    {S P : Type 0} (says : S → P → Said S) (before after : S) (part : P) (rest : List P) (events : List Event)
+    → says before part ≡ Ok (events, after)
+    → all_say says before (part ∷ rest) ≡ said_before events (all_say says after rest)
+part_says says before after part rest events e =
+    ap (λ first. result_and_then (λ said. said_before said.0 (all_say says said.1 rest)) first) e
+
+-- a part that says nothing
+said-none : {S : Type 0} (later : Said S) → said_before [] later ≡ later
+said-none (Err refusal) = refl
+said-none (Ok later) = refl
+
+pub part_is_quiet :
+    {S P : Type 0} (says : S → P → Said S) (before after : S) (part : P) (rest : List P)
+    → says before part ≡ Ok ([], after) → all_say says before (part ∷ rest) ≡ all_say says after rest
+part_is_quiet says before after part rest e =
+    part_says says before after part rest [] e ∙ said-none (all_say says after rest)
+
+-- the same up to the end
+pub line_says :
+    {S P : Type 0} (says : S → P → Said S) (ends : S → Result (List Event) Refusal) (before after : S) (line : P)
+    (rest : List P) (events : List Event) → says before line ≡ Ok (events, after)
+    → say_to_end says ends before (line ∷ rest) ≡ then_later events (say_to_end says ends after rest)
+line_says says ends before after line rest events e =
+    ap (λ first. result_and_then (λ said. then_later said.0 (say_to_end says ends said.1 rest)) first) e
+
+later-none : (later : Result (List Event) Refusal) → then_later [] later ≡ later
+later-none (Err refusal) = refl
+later-none (Ok later) = refl
+
+pub line_is_quiet :
+    {S P : Type 0} (says : S → P → Said S) (ends : S → Result (List Event) Refusal) (before after : S) (line : P)
+    (rest : List P) → says before line ≡ Ok ([], after)
+    → say_to_end says ends before (line ∷ rest) ≡ say_to_end says ends after rest
+line_is_quiet says ends before after line rest e =
+    line_says says ends before after line rest [] e ∙ later-none (say_to_end says ends after rest)
+
+-- a last part that says nothing, wherever it stands
+pub last_is_quiet :
+    {S P : Type 0} (says : S → P → Said S) (ends : S → Result (List Event) Refusal) (none : P)
+    → ((state : S) → says state none ≡ Ok ([], state)) → (state : S) (parts : List P)
+    → say_to_end says ends state (parts ++ none ∷ []) ≡ say_to_end says ends state parts
+last_is_quiet says ends none quiet state [] = line_is_quiet says ends state state none [] (quiet state)
+last_is_quiet {S} {P} says ends none quiet state (part ∷ parts) =
+    at (says state part) (λ later. last_is_quiet says ends none quiet later parts)
+  where
+    at :
+        (first : Said S)
+        → ((later : S) → say_to_end says ends later (parts ++ none ∷ []) ≡ say_to_end says ends later parts)
+        → result_and_then (λ said. then_later said.0 (say_to_end says ends said.1 (parts ++ none ∷ []))) first
+        ≡ result_and_then (λ said. then_later said.0 (say_to_end says ends said.1 parts)) first
+    at (Err refusal) same = refl
+    at (Ok said) same = ap (then_later said.0) (same said.1)

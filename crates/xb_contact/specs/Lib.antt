@@ -9,3 +9,4 @@ pub mod Steps
 pub mod Joints
 pub mod Listening
 pub mod TimeLaws
+pub mod Changes

@@ -25,6 +25,15 @@ abbrev pub number_of : List ℕ → Option ℕ
 number_of [] = None
 number_of (byte ∷ rest) = number_in 0 (byte ∷ rest)
 
+-- the digits that a text begins with, and what follows them
+abbrev pub leading_digits : List ℕ → List ℕ
+leading_digits [] = []
+leading_digits (byte ∷ rest) = if is_digit byte then byte ∷ leading_digits rest else []
+
+abbrev pub after_digits : List ℕ → List ℕ
+after_digits [] = []
+after_digits (byte ∷ rest) = if is_digit byte then after_digits rest else byte ∷ rest
+
 -- the level that a text writes: 0 is low, an open contact, and 1 high, a closed one
 abbrev pub level_of : List ℕ → Option Level
 level_of text =

@@ -8,7 +8,8 @@
 //!   `rounds_once`: each end of a run is rounded once, so that sums do not drift.
 //! - `Event` and `Refusal`: what a recording says of its wires, and why a part of it is refused. A form of recordings is
 //!   defined by what its lines say, step by step (`Steps`), and a refusal is told for the reason of the first line that
-//!   is refused (`IsRefusedBy`). `number_of` and `level_of` (`Numbers`) read numbers and levels as all forms write them.
+//!   is refused (`IsRefusedBy`). `number_of`, `cut_digits` and `level_of` (`Numbers`) read numbers and levels as all
+//!   forms write them. `Changes` is what wires do, from which each form of text has a law that it is read back.
 #![tactic(auto)]
 
 mod event;
@@ -27,7 +28,7 @@ pub use hold::Hold;
 pub use joint::{Joint, joined_by};
 pub use level::Level;
 pub use listener::Listener;
-pub use number::{digit_after, level_of, number_after, number_of};
+pub use number::{cut_digits, digit_after, is_digit, level_of, number_after, number_of};
 pub use scale::{NANOSECONDS, Scale};
 pub use settler::Settler;
 pub use settling::Settling;

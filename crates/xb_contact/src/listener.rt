@@ -16,7 +16,7 @@ use std::marker::Model;
 
 // A piece that settles at tick `at`, in ms, after what may still grow longer.
 #[tactic(auto, using(crate::proofs::RoundedHolds::ms_at_grows))]
-fn told(scale: Scale, most: u64, at: u64, last: Hold, piece: Hold) -> Joint
+fn in_ms(scale: Scale, most: u64, at: u64, last: Hold, piece: Hold) -> Joint
     requires some { 0 < scale.ticks }
     requires fits { CanCount scale (at + piece.ticks) }
     requires room { at + piece.ticks < 2 ^ 64 }
@@ -106,7 +106,7 @@ impl Listener {
         match piece {
             None => None,
             Some(piece) => {
-                let Joint { given, last } = told(self.scale, self.most, self.at, self.last, piece);
+                let Joint { given, last } = in_ms(self.scale, self.most, self.at, self.last, piece);
                 self.at += piece.ticks;
                 self.last = last;
                 given
@@ -121,7 +121,7 @@ impl Listener {
         match self.settling.end() {
             None => (None, left_of(self.last)),
             Some(piece) => {
-                let Joint { given, last } = told(self.scale, self.most, self.at, self.last, piece);
+                let Joint { given, last } = in_ms(self.scale, self.most, self.at, self.last, piece);
                 (given, left_of(last))
             }
         }

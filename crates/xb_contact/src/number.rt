@@ -1,6 +1,6 @@
 // Numbers and levels as they are written.
-ghost use Rattle.std.specs.Prelude.{◌≡◌};
-ghost use Rattle.xb_contact.specs.Numbers.{digit_after, level_of, number_after, number_in, number_of};
+ghost use Rattle.std.specs.Prelude.{◌≡◌, ◌≤◌, drop, length, take};
+ghost use Rattle.xb_contact.specs.Numbers.{after_digits, digit_after, is_digit, leading_digits, level_of, number_after, number_in, number_of};
 
 use crate::level::Level;
 
@@ -14,11 +14,18 @@ pub fn digit_after(base: u64, number: u64, digit: u8) -> Option<u64>
     }
 }
 
+/// Whether a byte is an ASCII digit.
+pub fn is_digit(byte: u8) -> bool
+    ensures { result ≡ is_digit byte }
+{
+    byte >= b'0' && byte <= b'9'
+}
+
 /// A number with an ASCII digit after it; `None` for any other byte, or 2^64 and more.
 pub fn number_after(number: u64, byte: u8) -> Option<u64>
     ensures { result ≡ number_after number byte }
 {
-    if byte >= b'0' && byte <= b'9' {
+    if is_digit(byte) {
         digit_after(10, number, byte - b'0')
     } else {
         None
@@ -40,6 +47,29 @@ pub fn number_of(text: &[u8]) -> Option<u64>
         }
     }
     Some(number)
+}
+
+// How many digits a text begins with.
+fn digits_before(text: &[u8]) -> usize
+    ensures within { result ≤ length text.now }
+    ensures digits { take result text.now ≡ leading_digits text.now }
+    ensures rest { drop result text.now ≡ after_digits text.now }
+{
+    for (i, byte) in text.iter().enumerate() {
+        if !is_digit(*byte) {
+            return i;
+        }
+    }
+    text.len()
+}
+
+/// The ASCII digits that a text begins with, and what follows them.
+pub fn cut_digits(text: &[u8]) -> (&[u8], &[u8])
+    ensures digits { result.0.now ≡ leading_digits text.now }
+    ensures rest { result.1.now ≡ after_digits text.now }
+{
+    let length = digits_before(text);
+    (&text[..length], &text[length..])
 }
 
 /// The level that `0`, which is low and an open contact, or `1` writes; `None` for any other text.

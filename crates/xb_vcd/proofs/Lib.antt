@@ -1,2 +1,3 @@
 pub mod WordLemmas
 pub mod VcdLemmas
+pub mod WrittenVcd

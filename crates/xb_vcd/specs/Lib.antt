@@ -2,3 +2,4 @@ pub mod VcdWords
 pub mod VcdChanges
 pub mod VcdTexts
 pub mod WorkedVcd
+pub mod WrittenVcd

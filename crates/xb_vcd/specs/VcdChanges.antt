@@ -8,8 +8,8 @@ use Rattle.xb_contact.specs.declared.event.Refusal.TheVariants as refusals
 use Rattle.xb_contact.specs.declared.level.Level.{Level}
 use Rattle.xb_vcd.specs.declared.word.Word.{Word}
 use Rattle.xb_vcd.specs.declared.word.Word.TheVariants as words
-use Rattle.xb_vcd.specs.declared.vcd.Place.{Place}
-use Rattle.xb_vcd.specs.declared.vcd.Place.TheVariants as places
+use Rattle.xb_vcd.specs.declared.vcd.VcdPlace.{VcdPlace}
+use Rattle.xb_vcd.specs.declared.vcd.VcdPlace.TheVariants as places
 use Rattle.xb_vcd.specs.declared.vcd.Vcd.{Vcd}
 use Rattle.xb_contact.specs.Steps.{Said, is_before, result_and_then}
 use Rattle.xb_vcd.specs.VcdWords.{code_of, word_of}
@@ -19,7 +19,7 @@ use Rattle.xb_vcd.specs.VcdWords.{code_of, word_of}
 pub record VcdState : Type 0 where
   pub names : List (List ℕ)
   pub codes : List (Option ℕ)
-  pub place : Place
+  pub place : VcdPlace
   pub has_scale : Bool
   pub last : Option ℕ
 
@@ -33,11 +33,11 @@ vcd_state vcd = record {
   last = vcd.last;
 }
 
-abbrev pub at_place : VcdState → Place → VcdState
+abbrev pub at_place : VcdState → VcdPlace → VcdState
 at_place state place = record state { place = place }
 
 -- nothing is said, and the reader is at this place
-abbrev pub goes_to : VcdState → Place → Said VcdState
+abbrev pub goes_to : VcdState → VcdPlace → Said VcdState
 goes_to state place = Ok ([], at_place state place)
 
 -- a wire that was found has this code

@@ -9,10 +9,10 @@ use Rattle.xb_contact.specs.declared.event.Refusal.{Refusal}
 use Rattle.xb_contact.specs.declared.event.Refusal.TheVariants as refusals
 use Rattle.xb_vcd.specs.declared.word.Word.{Word}
 use Rattle.xb_vcd.specs.declared.word.Word.TheVariants as words
-use Rattle.xb_vcd.specs.declared.vcd.Place.{Place}
-use Rattle.xb_vcd.specs.declared.vcd.Place.TheVariants as places
+use Rattle.xb_vcd.specs.declared.vcd.VcdPlace.{VcdPlace}
+use Rattle.xb_vcd.specs.declared.vcd.VcdPlace.TheVariants as places
 use Rattle.xb_vcd.specs.declared.declaration.VarWords.{VarWords}
-use Rattle.xb_contact.specs.Numbers.{is_digit, number_of}
+use Rattle.xb_contact.specs.Numbers.{after_digits, leading_digits, number_of}
 use Rattle.xb_contact.specs.Steps.{Said, all_say, result_and_then, result_map, say_to_end}
 use Rattle.xb_contact.specs.Times.{scale_by}
 use Rattle.xb_vcd.specs.VcdChanges.{VcdState, change_taken, code_taken, goes_to}
@@ -64,15 +64,6 @@ scale_of_units number unit =
 
 abbrev pub scale_of : ℕ → List ℕ → Option Scale
 scale_of number word = option_and_then (scale_of_units number) (unit_of word)
-
--- the digits that a word begins with, and what follows them
-abbrev pub leading_digits : List ℕ → List ℕ
-leading_digits [] = []
-leading_digits (byte ∷ rest) = if is_digit byte then byte ∷ leading_digits rest else []
-
-abbrev pub after_digits : List ℕ → List ℕ
-after_digits [] = []
-after_digits (byte ∷ rest) = if is_digit byte then after_digits rest else byte ∷ rest
 
 -- the unit after a number: without one the next word is the unit
 abbrev pub scale_said : VcdState → ℕ → List ℕ → Said VcdState
@@ -147,12 +138,12 @@ abbrev pub header_taken : VcdState → List ℕ → Said VcdState
 header_taken state word = header_by state (word_of word)
 
 -- the place after a section that is passed over: among the changes, or in the header
-abbrev pub after_section : Bool → Place
+abbrev pub after_section : Bool → VcdPlace
 after_section true = places.Changes
 after_section false = places.Header
 
 -- any word, by the place at which it stands
-abbrev pub word_at : VcdState → Place → List ℕ → Said VcdState
+abbrev pub word_at : VcdState → VcdPlace → List ℕ → Said VcdState
 word_at state places.Header word = header_taken state word
 word_at state (places.Passed is_body) word =
     goes_to state (if bytes_eq word (codes "$end") then after_section is_body else places.Passed is_body)
@@ -165,7 +156,7 @@ abbrev pub word_says : VcdState → List ℕ → Said VcdState
 word_says state word = word_at state state.place word
 
 -- the sample rate, which sigrok writes before the VCD of a raw file
-abbrev pub is_header : Place → Bool
+abbrev pub is_header : VcdPlace → Bool
 is_header places.Header = true
 is_header (places.Passed is_body) = false
 is_header (places.Timescale number) = false
@@ -180,7 +171,7 @@ vcd_line_says state line =
     else all_say word_says state (words_of line)
 
 -- a VCD ends among its changes, where nothing is left to be said
-abbrev pub end_says : Place → Result (List Event) Refusal
+abbrev pub end_says : VcdPlace → Result (List Event) Refusal
 end_says places.Changes = Ok []
 end_says places.Header = Err refusals.Header
 end_says (places.Passed is_body) = Err refusals.Header

@@ -6,7 +6,7 @@ use Rattle.xb_contact.specs.declared.level.Level.{Level}
 use Rattle.xb_contact.specs.declared.level.Level.TheVariants.{Open, Closed}
 use Rattle.xb_contact.specs.Times.{scale_by}
 use Rattle.xb_vcd.specs.declared.word.Word.TheVariants as words
-use Rattle.xb_vcd.specs.declared.vcd.Place.TheVariants as places
+use Rattle.xb_vcd.specs.declared.vcd.VcdPlace.TheVariants as places
 use Rattle.xb_vcd.specs.VcdWords.{word_of}
 use Rattle.xb_vcd.specs.VcdChanges.{VcdState, at_place, change_taken, code_taken}
 use Rattle.xb_vcd.specs.VcdTexts.{begun_vcd, vcd_says}

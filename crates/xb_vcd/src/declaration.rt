@@ -1,6 +1,5 @@
 // The declarations of wires in a VCD.
-ghost use Rattle.std.specs.Prelude.{◌≡◌, Ok, IfErr, IfOk, OnOk, map};
-ghost use Rattle.xb_contact.specs.Steps.{IsRefusedBy};
+ghost use Rattle.std.specs.Prelude.{◌≡◌, Err, IfErr, Ok, OnOk, map};
 ghost use Rattle.xb_vcd.specs.VcdTexts.{declared_code, declared_codes, found_code};
 
 use xb_contact::Refusal;
@@ -25,8 +24,7 @@ pub const NO_WORDS: VarWords = VarWords {
 
 // The code of a wire that is declared, which had none.
 fn found_code(words: VarWords, own: Option<u64>) -> Result<Option<u64>, Refusal>
-    ensures said { IfOk result (λ code. found_code words own ≡ Ok code) }
-    ensures refused { IfErr result (IsRefusedBy (found_code words own)) }
+    ensures { result ≡ found_code words own }
 {
     match own {
         _ if !words.is_bit => Err(Refusal::Bits),
@@ -42,8 +40,7 @@ fn declared_code(
     wanted: &str,
     own: Option<u64>,
 ) -> Result<Option<u64>, Refusal>
-    ensures said { IfOk result (λ code. declared_code words name.now wanted.now own ≡ Ok code) }
-    ensures refused { IfErr result (IsRefusedBy (declared_code words name.now wanted.now own)) }
+    ensures { result ≡ declared_code words name.now wanted.now own }
 {
     if wanted.as_bytes() == name {
         found_code(words, own)
@@ -61,8 +58,8 @@ pub(crate) fn declare(
 ) -> Result<(), Refusal>
     ensures said { OnOk result
         (declared_codes words name.now (map (λ wanted. wanted.now) names.now) codes.old ≡ Ok codes.new) }
-    ensures refused { IfErr result (IsRefusedBy
-        (declared_codes words name.now (map (λ wanted. wanted.now) names.now) codes.old)) }
+    ensures refused { IfErr result (λ e.
+        declared_codes words name.now (map (λ wanted. wanted.now) names.now) codes.old ≡ Err e) }
 {
     for (i, code) in codes.iter_mut().enumerate() {
         match names.get(i) {

@@ -1,6 +1,6 @@
 // The timescale of a VCD: a number, and its unit.
-ghost use Rattle.std.specs.Prelude.{◌≡◌, ◌≤◌, IfSome, drop, length, take};
-ghost use Rattle.xb_vcd.specs.VcdTexts.{after_digits, leading_digits, scale_of, unit_of};
+ghost use Rattle.std.specs.Prelude.{◌≡◌, ◌≤◌, IfSome};
+ghost use Rattle.xb_vcd.specs.VcdTexts.{scale_of, unit_of};
 
 use xb_contact::Scale;
 
@@ -35,27 +35,4 @@ pub(crate) fn scale_of(number: u64, word: &[u8]) -> Option<Scale>
         }),
         _ => None,
     }
-}
-
-// How many digits a word begins with.
-fn digits_before(word: &[u8]) -> usize
-    ensures within { result ≤ length word.now }
-    ensures digits { take result word.now ≡ leading_digits word.now }
-    ensures rest { drop result word.now ≡ after_digits word.now }
-{
-    for (i, byte) in word.iter().enumerate() {
-        if *byte < b'0' || *byte > b'9' {
-            return i;
-        }
-    }
-    word.len()
-}
-
-/// The digits that a word begins with, and what follows them.
-pub(crate) fn cut_digits(word: &[u8]) -> (&[u8], &[u8])
-    ensures digits { result.0.now ≡ leading_digits word.now }
-    ensures rest { result.1.now ≡ after_digits word.now }
-{
-    let length = digits_before(word);
-    (&word[..length], &word[length..])
 }

@@ -1,19 +1,19 @@
 // A value change dump, line by line.
-ghost use Rattle.std.specs.Prelude.{◌≡◌, ◌++◌, ◌∷◌, ◌↔◌, [], Ok, IfErr, IfOk, IsErr, IsTrue, OnOk, is_some, map};
+ghost use Rattle.std.specs.Prelude.{◌≡◌, ◌++◌, ◌∷◌, ◌↔◌, [], Err, Ok, IfErr, IfOk, IsErr, IsTrue, OnOk, is_some, map};
 ghost use Rattle.std.specs.List.{list_all, list_any};
 ghost use Rattle.xb_contact.specs.Steps.{Adds, IsRefusedBy, all_say};
 ghost use Rattle.xb_vcd.specs.VcdChanges.{change_taken, code_taken, has_code, level_events, time_taken, value_taken, vcd_state};
 ghost use Rattle.xb_vcd.specs.VcdTexts.{begun_vcd, end_says, header_taken, is_blank, is_header, scale_said, scale_taken, var_taken, vcd_line_says, vcd_says, word_before, word_says, words_of};
 
 use crate::declaration::{NO_WORDS, VarWords, declare};
-use crate::timescale::{cut_digits, scale_of};
+use crate::timescale::scale_of;
 use crate::word::{Word, code_of, word_of};
 use std::alloc::Global;
-use xb_contact::{Event, Level, Refusal, is_before, number_of, say};
+use xb_contact::{Event, Level, Refusal, cut_digits, is_before, number_of, say};
 
 // Where a VCD stands.
 #[derive(Clone, Copy, Debug, PartialEq, Eq)]
-enum Place {
+enum VcdPlace {
     // Among the sections of the header.
     Header,
     // In a section that is passed over; whether the header has ended.
@@ -33,7 +33,7 @@ enum Place {
 pub struct Vcd<'a> {
     names: &'a [&'a str],
     codes: Vec<Option<u64>>,
-    place: Place,
+    place: VcdPlace,
     has_scale: bool,
     last: Option<u64>,
 }
@@ -46,31 +46,31 @@ fn is_blank(byte: u8) -> bool
 }
 
 // Whether a text stands in its header, outside of a section.
-fn is_header(place: Place) -> bool
+fn is_header(place: VcdPlace) -> bool
     ensures { result ≡ is_header place }
 {
     match place {
-        Place::Header => true,
-        Place::Passed(_)
-        | Place::Timescale(_)
-        | Place::Var(_)
-        | Place::Changes
-        | Place::AfterVector(_) => false,
+        VcdPlace::Header => true,
+        VcdPlace::Passed(_)
+        | VcdPlace::Timescale(_)
+        | VcdPlace::Var(_)
+        | VcdPlace::Changes
+        | VcdPlace::AfterVector(_) => false,
     }
 }
 
 // The end of a text that stands there.
-fn end_at(place: Place) -> Result<(), Refusal>
+fn end_at(place: VcdPlace) -> Result<(), Refusal>
     ensures said { OnOk result (end_says place ≡ Ok []) }
-    ensures refused { IfErr result (IsRefusedBy (end_says place)) }
+    ensures refused { IfErr result (λ e. end_says place ≡ Err e) }
 {
     match place {
-        Place::Changes => Ok(()),
-        Place::Header
-        | Place::Passed(_)
-        | Place::Timescale(_)
-        | Place::Var(_)
-        | Place::AfterVector(_) => Err(Refusal::Header),
+        VcdPlace::Changes => Ok(()),
+        VcdPlace::Header
+        | VcdPlace::Passed(_)
+        | VcdPlace::Timescale(_)
+        | VcdPlace::Var(_)
+        | VcdPlace::AfterVector(_) => Err(Refusal::Header),
     }
 }
 
@@ -89,7 +89,7 @@ impl<'a> Vcd<'a> {
         Ok(Vcd {
             names,
             codes,
-            place: Place::Header,
+            place: VcdPlace::Header,
             has_scale: false,
             last: None,
         })
@@ -176,7 +176,7 @@ impl<'a> Vcd<'a> {
         ensures refused { IfErr result (IsRefusedBy (scale_said (vcd_state self.old) number unit.now)) }
     {
         if unit.is_empty() {
-            self.place = Place::Timescale(Some(number));
+            self.place = VcdPlace::Timescale(Some(number));
             return Ok(());
         }
         match scale_of(number, unit) {
@@ -184,7 +184,7 @@ impl<'a> Vcd<'a> {
             Some(scale) => {
                 say(events, Event::Ticks(scale))?;
                 self.has_scale = true;
-                self.place = Place::Passed(false);
+                self.place = VcdPlace::Passed(false);
                 Ok(())
             }
         }
@@ -215,7 +215,7 @@ impl<'a> Vcd<'a> {
     fn take_var(&mut self, words: VarWords, word: &[u8]) -> Result<(), Refusal>
         ensures said { OnOk result
             (var_taken (vcd_state self.old) words word.now ≡ Ok ([], vcd_state self.new)) }
-        ensures refused { IfErr result (IsRefusedBy (var_taken (vcd_state self.old) words word.now)) }
+        ensures refused { IfErr result (λ e. var_taken (vcd_state self.old) words word.now ≡ Err e) }
     {
         let VarWords {
             count,
@@ -223,21 +223,21 @@ impl<'a> Vcd<'a> {
             code,
         } = words;
         match count {
-            0 => self.place = Place::Var(VarWords {
+            0 => self.place = VcdPlace::Var(VarWords {
                 count: 1,
                 is_bit,
                 code,
             }),
             1 => {
                 let is_bit = word == b"1".as_slice();
-                self.place = Place::Var(VarWords {
+                self.place = VcdPlace::Var(VarWords {
                     count: 2,
                     is_bit,
                     code,
                 });
             }
             2 => match code_of(word) {
-                Some(code) => self.place = Place::Var(VarWords {
+                Some(code) => self.place = VcdPlace::Var(VarWords {
                     count: 3,
                     is_bit,
                     code,
@@ -246,7 +246,7 @@ impl<'a> Vcd<'a> {
             },
             _ => {
                 declare(words, word, self.names, &mut self.codes)?;
-                self.place = Place::Passed(false);
+                self.place = VcdPlace::Passed(false);
             }
         }
         Ok(())
@@ -256,26 +256,26 @@ impl<'a> Vcd<'a> {
     fn take_header(&mut self, word: &[u8]) -> Result<(), Refusal>
         ensures said { OnOk result
             (header_taken (vcd_state self.old) word.now ≡ Ok ([], vcd_state self.new)) }
-        ensures refused { IfErr result (IsRefusedBy (header_taken (vcd_state self.old) word.now)) }
+        ensures refused { IfErr result (λ e. header_taken (vcd_state self.old) word.now ≡ Err e) }
     {
         match word_of(word) {
             Word::Timescale if self.has_scale => Err(Refusal::Timescale),
             Word::Timescale => {
-                self.place = Place::Timescale(None);
+                self.place = VcdPlace::Timescale(None);
                 Ok(())
             }
             Word::Var => {
-                self.place = Place::Var(NO_WORDS);
+                self.place = VcdPlace::Var(NO_WORDS);
                 Ok(())
             }
             Word::EndDefinitions if !self.has_scale => Err(Refusal::Timescale),
             Word::EndDefinitions if !self.has_all() => Err(Refusal::NoWire),
             Word::EndDefinitions => {
-                self.place = Place::Passed(true);
+                self.place = VcdPlace::Passed(true);
                 Ok(())
             }
             Word::Section => {
-                self.place = Place::Passed(false);
+                self.place = VcdPlace::Passed(false);
                 Ok(())
             }
             _ => Err(Refusal::Word),
@@ -296,12 +296,12 @@ impl<'a> Vcd<'a> {
             Word::Time(time) => self.go_to(time, events),
             Word::Change(code, value) => self.take_value(value, code, events),
             Word::Vector(value) => {
-                self.place = Place::AfterVector(value);
+                self.place = VcdPlace::AfterVector(value);
                 Ok(())
             }
             Word::Dump | Word::End => Ok(()),
             Word::Section => {
-                self.place = Place::Passed(true);
+                self.place = VcdPlace::Passed(true);
                 Ok(())
             }
             _ => Err(Refusal::Word),
@@ -326,7 +326,7 @@ impl<'a> Vcd<'a> {
         let Some(code) = code_of(word) else {
             return Err(Refusal::Word);
         };
-        self.place = Place::Changes;
+        self.place = VcdPlace::Changes;
         self.take_value(value, code, events)
     }
 
@@ -337,21 +337,21 @@ impl<'a> Vcd<'a> {
         ensures refused { IfErr result (IsRefusedBy (word_says (vcd_state self.old) word.now)) }
     {
         match self.place {
-            Place::Header => self.take_header(word),
-            Place::Passed(is_body) => {
+            VcdPlace::Header => self.take_header(word),
+            VcdPlace::Passed(is_body) => {
                 if word == b"$end".as_slice() {
                     self.place = if is_body {
-                        Place::Changes
+                        VcdPlace::Changes
                     } else {
-                        Place::Header
+                        VcdPlace::Header
                     };
                 }
                 Ok(())
             }
-            Place::Timescale(number) => self.take_scale(number, word, events),
-            Place::Var(words) => self.take_var(words, word),
-            Place::Changes => self.take_change(word, events),
-            Place::AfterVector(value) => self.take_code(value, word, events),
+            VcdPlace::Timescale(number) => self.take_scale(number, word, events),
+            VcdPlace::Var(words) => self.take_var(words, word),
+            VcdPlace::Changes => self.take_change(word, events),
+            VcdPlace::AfterVector(value) => self.take_code(value, word, events),
         }
     }
 

@@ -25,5 +25,5 @@ returns-clause-refused c =
     IfErr-weaker c.end_at.result _ _
     (λ refusal refused other. refused_at_end vcd_line_says vcd_ends c.args.line.now c.args.events.now.items
     c.take_line.new.events.items (vcd_state c.args.self.now) (vcd_state c.take_line.new.self) refusal c.requires
-    c.in_ok-take_line.ensures.said (refused other))
+    c.in_ok-take_line.ensures.said refused)
     c.end_at.ensures.refused
