@@ -1,4 +1,3 @@
 mod TakenLines
 mod FaultLines
 mod RowActivities
-mod Doubtful

@@ -7,10 +7,10 @@ use Rattle.std.specs.Prelude.{◌==◌}
 use Rattle.std.specs.List.{list_any}
 use Rattle.xb_model.specs.declared.row.Contact.{Contact}
 use Rattle.xb_model.specs.declared.row.Contact.TheVariants as contact
-use Rattle.xb_model.specs.Records.{Run, is_close, is_make, record_up_to_close, rows_of, run_of}
+use Rattle.xb_model.specs.Records.{is_close, is_make, record_up_to_close, rows_of, run_of}
 use Rattle.xb_model.specs.Rows.{LoopRow}
 use Rattle.xb_check.specs.declared.activities.Activity.{Activity}
-use Rattle.xb_check.specs.declared.activities.Activity.TheVariants.{NoRows, NoMake, Make}
+use Rattle.xb_check.specs.declared.activities.Activity.TheVariants.{NoMake, Make}
 use Rattle.xb_check.specs.Activities.{activities, activity_of}
 use Rattle.xb_check.specs.RowSteps.{activities_with, activity_before, activity_with, with_rows}
 

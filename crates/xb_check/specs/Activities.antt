@@ -1,6 +1,7 @@
 -- What the lines of the office do in the rows of a deck.
-use Rattle.std.specs.Prelude.{ℕ, ◌==◌, List, [], ◌∷◌, Bool, true, false, if◌then◌else◌, slice_index_or}
+use Rattle.std.specs.Prelude.{ℕ, ◌&&◌, nat_lt, List, [], ◌∷◌, Bool, true, false, if◌then◌else◌, slice_index_or}
 use Rattle.std.specs.List.{list_any}
+use Rattle.xb_model.specs.declared.line.TheConstants.{LINES}
 use Rattle.xb_model.specs.Records.{is_make, record_up_to_close, rows_of}
 use Rattle.xb_model.specs.Rows.{LoopRow}
 use Rattle.xb_check.specs.declared.activities.Activity.{Activity}
@@ -31,6 +32,6 @@ is_quiet NoRows = false
 is_quiet NoMake = true
 is_quiet Make = false
 
--- a line that has been told of
-abbrev pub without : ℕ → Does → Does
-without k does l = if l == k then NoRows else does l
+-- whether it is so of the line of a number, if the office has one
+abbrev pub is_quiet_line : Does → ℕ → Bool
+is_quiet_line does number = nat_lt number LINES && is_quiet (does number)

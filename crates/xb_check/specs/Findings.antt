@@ -1,10 +1,13 @@
 -- What is wrong in a deck, and where.
-use Rattle.std.specs.Prelude.{ℕ, ◌++◌, ◌==◌, if◌then◌else◌, List, [], codes, decimal, Option, Some, None}
+use Rattle.std.specs.Prelude.{ℕ, ◌++◌, List, [], codes, decimal, Option, Some, None}
 use Rattle.xb_check.specs.declared.finding.Finding.{Finding}
 use Rattle.xb_check.specs.declared.finding.What.{What}
 use Rattle.xb_check.specs.declared.finding.What.TheVariants as what
 use Rattle.xb_check.specs.declared.key.Key.{Key}
 use Rattle.xb_check.specs.Keys.{key_text}
+use Rattle.xb_routes.specs.LimitFaults.{limit_fault}
+use Rattle.xb_routes.specs.declared.fault.LimitFault.{LimitFault}
+use Rattle.xb_routes.specs.declared.fault.LimitFault.TheVariants as broken
 use Rattle.xb_routes.specs.declared.fault.RouteFault.{RouteFault}
 use Rattle.xb_routes.specs.declared.fault.RouteFault.TheVariants as fault
 
@@ -26,21 +29,25 @@ found_of finding = record {
   text = finding.text.now;
 }
 
--- what is wrong with limits, by the number of their fault
-abbrev pub limit_words : ℕ → List ℕ
-limit_words n =
-    if n == 0 then codes "limits is not a table"
-    else if n == 7 then codes "pulse_min is over pulse_max"
-    else if n == 8 then codes "pulse_max is not under release"
-    else if n == 9 then codes "make_min is over pause"
-    else if n == 10 then codes "pause is not under timeout"
-    else codes "the limit is not a whole number of 1 to 1000000 ms"
+-- the rule that limits break, in words
+abbrev pub rule_words : LimitFault → List ℕ
+rule_words broken.NotTable = codes "limits is not a table"
+rule_words broken.PulseMinOverPulseMax = codes "pulse_min is over pulse_max"
+rule_words broken.PulseMaxNotUnderRelease = codes "pulse_max is not under release"
+rule_words broken.MakeMinOverPause = codes "make_min is over pause"
+rule_words broken.PauseNotUnderTimeout = codes "pause is not under timeout"
+rule_words one_limit = codes "the limit is not a whole number of 1 to 1000000 ms"
+
+-- what is wrong with limits, by their rule, which each number of a `RouteFault` has
+abbrev pub limit_words : Option LimitFault → List ℕ
+limit_words None = codes "a limit is wrong"
+limit_words (Some rule) = rule_words rule
 
 -- the fault by which a route table is refused, in words
 abbrev pub route_words : RouteFault → List ℕ
 route_words fault.NotToml = codes "the table is not TOML"
 route_words fault.Plan = codes "plan is neither 7 nor 10"
-route_words (fault.Limits n) = limit_words n
+route_words (fault.Limits n) = limit_words (limit_fault n)
 route_words fault.TooMany = codes "there are more than 1000 routes"
 route_words (fault.Shape n) = codes "this route lacks code or trunk, or one of its keys has another kind of value"
 route_words (fault.Code n) = codes "the code is not 0, NNX or N11, nor one of plan 10"

@@ -1,3 +1,4 @@
+pub mod Constants
 pub mod Keys
 pub mod Findings
 pub mod Table
@@ -5,6 +6,7 @@ pub mod Records
 pub mod Sites
 pub mod Alone
 pub mod Judged
+pub mod Kept
 pub mod Steps
 pub mod Reports
 pub mod Options
@@ -13,5 +15,3 @@ pub mod Activities
 pub mod RowSteps
 pub mod Units
 pub mod Doubts
-pub mod DoubtSteps
-pub mod Told

@@ -1,5 +1,5 @@
 -- What is told of a text.
-use Rattle.std.specs.Prelude.{ℕ, ◌≡◌, ◌++◌, ◌&&◌, nat_le, nat_lt, if◌then◌else◌, List, codes, decimal, map, take, Option, Some, None, IfSome, Result, Ok, Err}
+use Rattle.std.specs.Prelude.{ℕ, ◌≡◌, ◌++◌, ◌&&◌, nat_le, nat_lt, if◌then◌else◌, List, [], codes, decimal, map, take, Option, Some, None, IfSome, Result, Ok, Err}
 use Rattle.std.specs.List.{flat_map}
 use Rattle.std.specs.Io.KnownBytes.{Appends, Keeps}
 use Rattle.xb_deck.specs.declared.fault.DeckFault.{DeckFault}
@@ -8,11 +8,13 @@ use Rattle.xb_model.specs.declared.fault.RowFault.TheVariants as row_fault
 use Rattle.xb_text.specs.Writing.{AppendsBeginning}
 use Rattle.xb_check.specs.declared.fault.CheckFault.{CheckFault}
 use Rattle.xb_check.specs.declared.fault.CheckFault.TheVariants as fault
-use Rattle.xb_check.specs.declared.telling.TheConstants.{MOST_SHOWN_BYTES}
+use Rattle.xb_check.specs.declared.reporting.TheConstants.{MOST_SHOWN_BYTES}
+use Rattle.xb_check.specs.Doubts.{doubts_of}
 use Rattle.xb_check.specs.Findings.{Found, note_text, what_text}
 use Rattle.xb_check.specs.Judged.{IsVerdict, judged}
 use Rattle.xb_check.specs.Records.{faults_of_deck}
-use Rattle.xb_check.specs.Told.{told_of}
+use Rattle.xb_check.specs.Sites.{fault_of_table, told_of_table}
+use Rattle.xb_deck.specs.Contents.{Contents}
 
 -- a byte as it is shown: what is not printable ASCII is a question mark
 abbrev pub visible : ℕ → ℕ
@@ -31,6 +33,13 @@ place_text name found = name ++ (codes ":" ++ (decimal found.line ++ (codes ":" 
 abbrev pub found_text : List ℕ → Found → List ℕ
 found_text name found =
     place_text name found ++ note_text found ++ codes ": " ++ shown found.text ++ codes "\n"
+
+-- what is told of a text after its text lines, by what was judged of it: what is suspicious in a deck that is taken, or
+-- the text line of the fault of a table
+abbrev pub told_of : Result (Option Contents) DeckFault → List ℕ → List Found
+told_of (Ok None) deck = []
+told_of (Ok (Some contents)) deck = doubts_of contents deck
+told_of (Err f) deck = told_of_table (fault_of_table f) deck
 
 -- what is told of a text in a file of this name: a line for each text line that is wrong, in order, and then of what
 -- was judged of the text

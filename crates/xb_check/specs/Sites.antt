@@ -3,6 +3,9 @@ use Rattle.std.specs.Prelude.{ℕ, ◌+◌, ◌==◌, ◌&&◌, List, [], ◌∷
 use Rattle.xb_deck.specs.Deck.{is_cut}
 use Rattle.xb_deck.specs.declared.fault.DeckFault.{DeckFault}
 use Rattle.xb_deck.specs.declared.fault.DeckFault.TheVariants as deck_fault
+use Rattle.xb_routes.specs.LimitFaults.{limit_fault}
+use Rattle.xb_routes.specs.declared.fault.LimitFault.{LimitFault}
+use Rattle.xb_routes.specs.declared.fault.LimitFault.TheVariants as broken
 use Rattle.xb_routes.specs.declared.fault.RouteFault.{RouteFault}
 use Rattle.xb_routes.specs.declared.fault.RouteFault.TheVariants as fault
 use Rattle.xb_text.specs.Pieces.{cut_at, pieces}
@@ -15,26 +18,29 @@ use Rattle.xb_check.specs.Findings.{Found}
 use Rattle.xb_check.specs.Keys.{key_named, keys_of}
 use Rattle.xb_check.specs.Table.{is_heading, section_after, squeezed}
 
--- the limits that a fault of limits is about, by its number
-abbrev pub limits_about : ℕ → List Key
-limits_about n =
-    if n == 0 then key.Limits ∷ []
-    else if n == 1 then key.PulseMin ∷ []
-    else if n == 2 then key.PulseMax ∷ []
-    else if n == 3 then key.MakeMin ∷ []
-    else if n == 4 then key.Pause ∷ []
-    else if n == 5 then key.Release ∷ []
-    else if n == 6 then key.Timeout ∷ []
-    else if n == 7 then key.PulseMin ∷ key.PulseMax ∷ []
-    else if n == 8 then key.PulseMax ∷ key.Release ∷ []
-    else if n == 9 then key.MakeMin ∷ key.Pause ∷ []
-    else key.Pause ∷ key.Timeout ∷ []
+-- the limits that a rule of limits is about
+abbrev pub limits_about : LimitFault → List Key
+limits_about broken.NotTable = key.Limits ∷ []
+limits_about broken.PulseMin = key.PulseMin ∷ []
+limits_about broken.PulseMax = key.PulseMax ∷ []
+limits_about broken.MakeMin = key.MakeMin ∷ []
+limits_about broken.Pause = key.Pause ∷ []
+limits_about broken.Release = key.Release ∷ []
+limits_about broken.Timeout = key.Timeout ∷ []
+limits_about broken.PulseMinOverPulseMax = key.PulseMin ∷ key.PulseMax ∷ []
+limits_about broken.PulseMaxNotUnderRelease = key.PulseMax ∷ key.Release ∷ []
+limits_about broken.MakeMinOverPause = key.MakeMin ∷ key.Pause ∷ []
+limits_about broken.PauseNotUnderTimeout = key.Pause ∷ key.Timeout ∷ []
+
+abbrev pub limits_of_rule : Option LimitFault → List Key
+limits_of_rule None = []
+limits_of_rule (Some rule) = limits_about rule
 
 -- the keys that a fault is about; where it is about none, it is about the heading of its route
 abbrev pub keys_about : RouteFault → List Key
 keys_about fault.NotToml = []
 keys_about fault.Plan = key.Plan ∷ []
-keys_about (fault.Limits n) = limits_about n
+keys_about (fault.Limits n) = limits_of_rule (limit_fault n)
 keys_about fault.TooMany = []
 keys_about (fault.Shape n) = []
 keys_about (fault.Code n) = key.Code ∷ []

@@ -1,17 +1,34 @@
 -- How text lines are taken, one after the other.
-use Rattle.std.specs.Prelude.{ℕ, ◌≡◌, ◌+◌, List, ◌∷◌, ◌++◌}
-use Rattle.xb_check.specs.declared.lines.Place.{Place}
-use Rattle.xb_check.specs.declared.lines.Place.TheVariants as place
-use Rattle.xb_check.specs.Findings.{Found}
+use Rattle.std.specs.Prelude.{ℕ, ◌≡◌, ◌+◌, List, ◌∷◌, ◌++◌, map}
+use Rattle.xb_check.specs.declared.lines.DeckPart.{DeckPart}
+use Rattle.xb_check.specs.declared.lines.DeckPart.TheVariants as part
+use Rattle.xb_check.specs.declared.lines.LinesRead.{LinesRead}
+use Rattle.xb_check.specs.Findings.{Found, found_of}
+use Rattle.xb_check.specs.Kept.{Kept, firsts_of_records, kept_line_of, kept_of_lines, kept_of_table, seen_of}
 use Rattle.xb_check.specs.Records.{closed_of, faults_of_lines, faults_of_records, faults_of_table}
 
--- what is wrong in the text lines from n on, at a place of a deck
-abbrev pub faults_after : Place → ℕ → List (List ℕ) → List Found
-faults_after (place.Table section) n lines = faults_of_table section n lines
-faults_after place.Header n lines = faults_of_lines n lines
-faults_after (place.Records closes) n lines = faults_of_records (closed_of closes) n lines
+-- what was found in text lines, and which of them are kept
+pub record Lines : Type 0 where
+  pub found : List Found
+  pub kept : List Kept
 
--- text line n is taken at a place, whatever lines come after it
-abbrev pub TakesLine : Place → ℕ → List ℕ → List Found → List Found → Place → Type 0
-TakesLine old n line before after new = (later : List (List ℕ))
-    → before ++ faults_after old n (line ∷ later) ≡ after ++ faults_after new (n + 1) later
+abbrev pub lines_of : LinesRead → Lines
+lines_of lines = record { found = map found_of lines.found.items; kept = map kept_line_of lines.kept.items }
+
+-- what is wrong in the text lines from n on, of a part of a deck
+abbrev pub faults_after : DeckPart → ℕ → List (List ℕ) → List Found
+faults_after (part.Table section) n lines = faults_of_table section n lines
+faults_after part.Header n lines = faults_of_lines n lines
+faults_after (part.Records closes seen) n lines = faults_of_records (closed_of closes) n lines
+
+-- those of them that are kept
+abbrev pub kept_after : DeckPart → ℕ → List (List ℕ) → List Kept
+kept_after (part.Table section) n lines = kept_of_table n lines
+kept_after part.Header n lines = kept_of_lines n lines
+kept_after (part.Records closes seen) n lines = firsts_of_records (seen_of seen) n lines
+
+-- text line n of a part is taken, whatever lines come after it
+abbrev pub TakesLine : DeckPart → ℕ → List ℕ → Lines → Lines → DeckPart → Type 0
+TakesLine old n text before after new = (later : List (List ℕ))
+    → (before.found ++ faults_after old n (text ∷ later) ≡ after.found ++ faults_after new (n + 1) later)
+    × (before.kept ++ kept_after old n (text ∷ later) ≡ after.kept ++ kept_after new (n + 1) later)

@@ -1,6 +1,7 @@
 -- Which text lines of a route table have a key or a table that no rule names, each read by itself.
-use Rattle.std.specs.Prelude.{ℕ, ◌==◌, ◌||◌, ◌&&◌, not, nat_le, List, [], ◌∷◌, codes, Bool, true, false, if◌then◌else◌, bytes_eq, Option, Some, None, is_some}
+use Rattle.std.specs.Prelude.{ℕ, ◌==◌, ◌||◌, ◌&&◌, not, List, [], ◌∷◌, codes, Bool, true, false, if◌then◌else◌, bytes_eq, Option, Some, None, is_some}
 use Rattle.std.specs.List.{filter, list_all}
+use Rattle.std.specs.Char.{is_ascii_alphanumeric}
 use Rattle.xb_text.specs.Pieces.{cut_at}
 use Rattle.xb_check.specs.declared.key.Key.{Key}
 use Rattle.xb_check.specs.Keys.{key_named, keys_of, nearest}
@@ -19,8 +20,7 @@ squeezed line = filter (λ byte. not (is_blank byte)) line
 
 -- a letter, a digit, _ or -: what keys have that stand without quotes
 abbrev pub is_bare : ℕ → Bool
-is_bare byte = (nat_le 97 byte && nat_le byte 122) || (nat_le 65 byte && nat_le byte 90)
-    || (nat_le 48 byte && nat_le byte 57) || (byte == 95) || (byte == 45)
+is_bare byte = is_ascii_alphanumeric byte || (byte == 95) || (byte == 45)
 
 -- what stands before the first such byte; all where there is none
 abbrev pub before_cut : List ℕ → Option (List ℕ × List ℕ) → List ℕ

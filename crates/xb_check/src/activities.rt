@@ -72,7 +72,7 @@ impl Model for Activities {
 
 impl Activities {
     ghost use Rattle.std.specs.Prelude.{◌≡◌, IfOk};
-    ghost use Rattle.xb_check.specs.Activities.{activities, activities_of, is_quiet, no_rows, without};
+    ghost use Rattle.xb_check.specs.Activities.{activities, activities_of, is_quiet_line, no_rows};
     ghost use Rattle.xb_check.specs.RowSteps.{activities_with};
 
     // No line has rows.
@@ -111,17 +111,13 @@ impl Activities {
         Ok(lines)
     }
 
-    /// Whether a line has rows and no attempt, and was not told of.
-    pub(crate) fn is_quiet(&self, line: LineNo) -> bool
-        ensures { result ≡ is_quiet (activities_of self.now line) }
+    /// Whether the line of this number, if there is one, has rows and no attempt.
+    pub(crate) fn is_quiet(&self, number: u16) -> bool
+        ensures { result ≡ is_quiet_line (activities_of self.now) number }
     {
-        is_quiet(self.of(line))
-    }
-
-    /// A line was told of.
-    pub(crate) fn leave_out(&mut self, line: LineNo)
-        ensures { activities_of self.new ≡ without line (activities_of self.old) }
-    {
-        *self.lines.get_mut(line) = Activity::NoRows;
+        match LineNo::new(number) {
+            Some(line) => is_quiet(self.of(line)),
+            None => false,
+        }
     }
 }

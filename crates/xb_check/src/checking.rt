@@ -5,7 +5,7 @@ ghost use Rattle.xb_check.specs.Reports.{Delivers, refused_by};
 
 use crate::fault::CheckFault;
 use crate::judging::judge;
-use crate::telling::report;
+use crate::reporting::report;
 use std::alloc::Global;
 use std::io::{Read, Write};
 use xb_deck::{DeckFault, read_deck};

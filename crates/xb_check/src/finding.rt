@@ -1,9 +1,10 @@
 // What is wrong in a deck, and where.
 ghost use Rattle.std.specs.Prelude.{◌≡◌};
-ghost use Rattle.xb_check.specs.Findings.{limit_words, route_words, what_text};
+ghost use Rattle.xb_check.specs.Findings.{limit_words, route_words, rule_words, what_text};
+ghost use Rattle.xb_routes.specs.LimitFaults.{limit_fault};
 
 use crate::key::Key;
-use xb_routes::RouteFault;
+use xb_routes::{LimitFault, RouteFault};
 
 /// What is wrong with a text line of a deck.
 #[derive(Clone, Copy, Debug, PartialEq, Eq)]
@@ -55,22 +56,32 @@ pub struct Finding<'a> {
     pub text: &'a [u8],
 }
 
-// What is wrong with limits, by the number of their fault.
-fn limit_words(limit: u32) -> &'static str
-    ensures { result.now ≡ limit_words limit }
+// The rule that limits break, in words.
+fn rule_words(rule: LimitFault) -> &'static str
+    ensures { result.now ≡ rule_words rule }
 {
-    if limit == 0 {
-        "limits is not a table"
-    } else if limit == 7 {
-        "pulse_min is over pulse_max"
-    } else if limit == 8 {
-        "pulse_max is not under release"
-    } else if limit == 9 {
-        "make_min is over pause"
-    } else if limit == 10 {
-        "pause is not under timeout"
-    } else {
-        "the limit is not a whole number of 1 to 1000000 ms"
+    match rule {
+        LimitFault::NotTable => "limits is not a table",
+        LimitFault::PulseMinOverPulseMax => "pulse_min is over pulse_max",
+        LimitFault::PulseMaxNotUnderRelease => "pulse_max is not under release",
+        LimitFault::MakeMinOverPause => "make_min is over pause",
+        LimitFault::PauseNotUnderTimeout => "pause is not under timeout",
+        LimitFault::PulseMin
+        | LimitFault::PulseMax
+        | LimitFault::MakeMin
+        | LimitFault::Pause
+        | LimitFault::Release
+        | LimitFault::Timeout => "the limit is not a whole number of 1 to 1000000 ms",
+    }
+}
+
+// What is wrong with limits, by the number of the rule.
+fn limit_words(number: u32) -> &'static str
+    ensures { result.now ≡ limit_words (limit_fault number) }
+{
+    match LimitFault::of_number(number) {
+        Some(rule) => rule_words(rule),
+        None => "a limit is wrong",
     }
 }
 

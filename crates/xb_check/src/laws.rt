@@ -1,5 +1,12 @@
 //! What the definitions give: each law is the contract of a function that does nothing.
+ghost use Rattle.xb_check.specs.Constants.{AreConstants};
 ghost use Rattle.xb_check.specs.Program.{UsageNamesTheOption};
+
+/// The most bytes of a text line that are shown, the least breaks by which times are judged, and the least ms of a run
+/// that is no bounce, each as it is.
+pub fn constants()
+    ensures { AreConstants }
+{}
 
 /// The line of refused words names the option of the command.
 #[tactic(auto, unfolding(clap::proofs::OnLiterals::clap_on_literals, xb_command::specs::Usages::has_part))]

@@ -3,7 +3,8 @@
 //! - `findings`: of the text lines of a deck, each read by itself and told with its number, exactly those that
 //!   are wrong (`faults_of_deck`, `specs/Records.antt`). Before the line `---` it is a key, or a heading, that
 //!   no rule names; after it a header or a record that no row is written by, with the field that is wrong. A
-//!   record that goes over several text lines, which takes quotes, is told line by line.
+//!   record that goes over several text lines, which takes quotes, is told line by line. Each text line is read once:
+//!   the header, and the first record of each line of the office, are kept (`kept_of_deck`, `specs/Kept.antt`).
 //!   A record is also told that is ignored, since an earlier text line closed its line (`closed_after`), and one
 //!   that is a break of 1 to 4 ms (`is_short`).
 //!   A key that no rule names is told with the key of its section that one edit makes of it, or else two
@@ -11,9 +12,9 @@
 //! - `verdict`: nothing exactly where `mfbank` takes the deck, and else the fault by which it refuses, the
 //!   first in its order (`contents_of` of `xb_deck`, by which `mfbank` goes too). A text that no line cuts may be a
 //!   route table alone (`is_table`, `specs/Alone.antt`), which is read as that of a deck (`judged`).
-//! - After its text lines a deck that is taken is told of as a whole (`doubts_of`, `specs/Doubts.antt`): each line of
-//!   the office that has rows and no make that is heard, at its first record, and times that look as if they
-//!   were seconds or microseconds (`wrong_unit`). Of one that is refused by its route table the text line is
+//! - After its text lines a deck that is taken is told of as a whole (`doubts_of`, `specs/Doubts.antt`), at those that
+//!   were kept: each line of the office that has rows and no make that is heard, at its first record, and times that
+//!   look as if they were seconds or microseconds (`wrong_unit`). Of one that is refused by its route table the text line is
 //!   told that the fault is about (`told_of_table`, `specs/Sites.antt`), where keys and headings stand bare in text
 //!   lines of their own.
 //! - `check`, of readers and writers whose bytes contracts know: it is `Ok` exactly where the text is taken, and
@@ -29,15 +30,15 @@ mod doubts;
 mod fault;
 mod finding;
 mod judging;
+mod kept;
 mod key;
 pub mod laws;
 mod lines;
 mod program;
 mod records;
+mod reporting;
 mod sites;
 mod table;
-mod telling;
-mod told;
 mod units;
 mod words;
 
@@ -48,5 +49,5 @@ pub use judging::verdict;
 pub use key::Key;
 pub use lines::findings;
 pub use program::attend;
+pub use reporting::MOST_SHOWN_BYTES;
 pub use table::Section;
-pub use telling::MOST_SHOWN_BYTES;

@@ -1,14 +1,17 @@
-// The text lines of a deck, one after the other.
-ghost use Rattle.std.specs.Prelude.{◌≡◌, ◌≤◌, IfOk, OnOk, length, map};
+// The text lines of a deck, each read once.
+ghost use Rattle.std.specs.Prelude.{◌≡◌, ◌≤◌, ◌++◌, ◌∷◌, [], IfOk, OnOk, length, map};
 ghost use Rattle.xb_deck.specs.declared.deck.TheConstants.{MOST_DECK_BYTES};
 ghost use Rattle.xb_deck.specs.Deck.{is_cut};
-ghost use Rattle.xb_check.specs.declared.lines.Place.TheVariants as place;
+ghost use Rattle.xb_check.specs.declared.lines.DeckPart.TheVariants as part;
+ghost use Rattle.xb_check.specs.declared.records.Record.TheVariants as read;
 ghost use Rattle.xb_check.specs.Findings.{found_of};
+ghost use Rattle.xb_check.specs.Kept.{first_at, kept_at, kept_line_of, kept_of_deck, seen_after, seen_of};
 ghost use Rattle.xb_check.specs.Records.{closed_after, closed_of, faults_of_deck, is_empty};
-ghost use Rattle.xb_check.specs.Steps.{TakesLine};
+ghost use Rattle.xb_check.specs.Steps.{TakesLine, lines_of};
 
 use crate::closes::Closes;
 use crate::finding::Finding;
+use crate::kept::{KeptLine, LineKind, Seen};
 use crate::records::{
     Record, push_found, record_of_line, what_of_record, without_key, wrong_header,
 };
@@ -17,15 +20,24 @@ use std::alloc::{AllocError, Global};
 use xb_model::Contact;
 use xb_text::first_piece;
 
-// Where a text line of a deck stands.
+// The part of a deck in which a text line stands.
 #[derive(Drop)]
-pub(crate) enum Place {
-    // In a section of the route table.
+pub(crate) enum DeckPart {
+    // A section of the route table.
     Table(Section),
     // Before the header of the rows.
     Header,
-    // After it, where these lines of the office were closed.
-    Records(Closes),
+    // After it, where these lines of the office were closed, and these have a record.
+    Records(Closes, Seen),
+}
+
+/// What was found in the text lines of a deck.
+#[derive(Drop)]
+pub(crate) struct LinesRead<'a> {
+    /// What is wrong in them, in order.
+    pub(crate) found: Vec<Finding<'a>>,
+    /// Those of which more may be said once the whole deck is known, in order.
+    pub(crate) kept: Vec<KeptLine<'a>>,
 }
 
 /// Whether a line is the cut.
@@ -42,40 +54,63 @@ pub(crate) fn is_empty(line: &[u8]) -> bool
     line == b"".as_slice() || line == b"\r".as_slice()
 }
 
+// Keeps text line `n`, which is of this kind.
+fn keep<'a>(
+    kept: &mut Vec<KeptLine<'a>>,
+    n: usize,
+    text: &'a [u8],
+    kind: LineKind,
+) -> Result<(), AllocError>
+    ensures { OnOk result (map kept_line_of kept.new.items
+        ≡ map kept_line_of kept.old.items ++ kept_at n text.now kind ∷ []) }
+{
+    kept.push(KeptLine { n, text, kind })?;
+    Ok(())
+}
+
 // Takes text line `n` in a section of the route table.
 fn take_in_table<'a>(
     alloc: Global,
-    found: &mut Vec<Finding<'a>>,
+    lines: &mut LinesRead<'a>,
     section: Section,
     n: usize,
-    line: &'a [u8],
-) -> Result<Place, AllocError>
-    ensures { IfOk result (TakesLine (place.Table section) n line.now
-        (map found_of found.old.items) (map found_of found.new.items)) }
+    text: &'a [u8],
+) -> Result<DeckPart, AllocError>
+    ensures { IfOk result (TakesLine (part.Table section) n text.now (lines_of lines.old) (lines_of lines.new)) }
 {
-    if is_cut(line) {
-        return Ok(Place::Header);
+    if is_cut(text) {
+        return Ok(DeckPart::Header);
     }
-    let read = squeezed(alloc, line)?;
-    push_found(found, n, line, wrong_in_table(alloc, section, &read)?)?;
-    Ok(Place::Table(section_after(section, &read)))
+    let read = squeezed(alloc, text)?;
+    push_found(
+        &mut lines.found,
+        n,
+        text,
+        wrong_in_table(alloc, section, &read)?,
+    )?;
+    Ok(DeckPart::Table(section_after(section, &read)))
 }
 
 // Takes text line `n` before the header.
 fn take_before_header<'a>(
     alloc: Global,
-    found: &mut Vec<Finding<'a>>,
+    lines: &mut LinesRead<'a>,
     n: usize,
-    line: &'a [u8],
-) -> Result<Place, AllocError>
-    ensures { IfOk result (TakesLine place.Header n line.now
-        (map found_of found.old.items) (map found_of found.new.items)) }
+    text: &'a [u8],
+) -> Result<DeckPart, AllocError>
+    ensures { IfOk result (TakesLine part.Header n text.now (lines_of lines.old) (lines_of lines.new)) }
 {
-    if is_empty(line) {
-        return Ok(Place::Header);
+    if is_empty(text) {
+        return Ok(DeckPart::Header);
     }
-    push_found(found, n, line, without_key(wrong_header(alloc, line)?))?;
-    Ok(Place::Records(Closes::new(alloc)?))
+    push_found(
+        &mut lines.found,
+        n,
+        text,
+        without_key(wrong_header(alloc, text)?),
+    )?;
+    keep(&mut lines.kept, n, text, LineKind::Header)?;
+    Ok(DeckPart::Records(Closes::new(alloc)?, Seen::new(alloc)?))
 }
 
 // Text line `n`, read so, closes the line of its record, where that is a close.
@@ -90,58 +125,97 @@ fn close_by(closes: &mut Closes, n: usize, read: &Record)
     }
 }
 
-// Takes text line `n` after the header.
-fn take_record<'a>(
-    alloc: Global,
-    found: &mut Vec<Finding<'a>>,
-    closes: &mut Closes,
+// Keeps text line `n`, read so, where it is the first record of its line of the office.
+fn keep_first<'a>(
+    kept: &mut Vec<KeptLine<'a>>,
+    seen: &mut Seen,
     n: usize,
-    line: &'a [u8],
+    text: &'a [u8],
+    read: &Record,
 ) -> Result<(), AllocError>
-    ensures { OnOk result (TakesLine (place.Records closes.old) n line.now
-        (map found_of found.old.items) (map found_of found.new.items) (place.Records closes.new)) }
+    ensures kept { OnOk result (map kept_line_of kept.new.items
+        ≡ map kept_line_of kept.old.items ++ first_at (seen_of seen.old) n text.now read.now) }
+    ensures seen { OnOk result (seen_of seen.new ≡ seen_after (seen_of seen.old) read.now) }
 {
-    let read = record_of_line(alloc, line)?;
-    push_found(found, n, line, without_key(what_of_record(closes, &read)))?;
-    close_by(closes, n, &read);
+    if let Record::Row(row) = read {
+        let line = row.line();
+        if !seen.has(line) {
+            keep(kept, n, text, LineKind::First(line.get()))?;
+        }
+        seen.put(line);
+    }
     Ok(())
 }
 
-// Takes text line `n` at a place.
+// Takes text line `n` after the header.
+fn take_record<'a>(
+    alloc: Global,
+    lines: &mut LinesRead<'a>,
+    closes: &mut Closes,
+    seen: &mut Seen,
+    n: usize,
+    text: &'a [u8],
+) -> Result<(), AllocError>
+    ensures { OnOk result (TakesLine (part.Records closes.old seen.old) n text.now
+        (lines_of lines.old) (lines_of lines.new) (part.Records closes.new seen.new)) }
+{
+    let read = record_of_line(alloc, text)?;
+    push_found(
+        &mut lines.found,
+        n,
+        text,
+        without_key(what_of_record(closes, &read)),
+    )?;
+    close_by(closes, n, &read);
+    keep_first(&mut lines.kept, seen, n, text, &read)?;
+    Ok(())
+}
+
+// Takes text line `n` of a part.
 fn take_line<'a>(
     alloc: Global,
-    found: &mut Vec<Finding<'a>>,
-    place: Place,
+    lines: &mut LinesRead<'a>,
+    part: DeckPart,
     n: usize,
-    line: &'a [u8],
-) -> Result<Place, AllocError>
-    ensures { IfOk result (TakesLine place n line.now
-        (map found_of found.old.items) (map found_of found.new.items)) }
+    text: &'a [u8],
+) -> Result<DeckPart, AllocError>
+    ensures { IfOk result (TakesLine part n text.now (lines_of lines.old) (lines_of lines.new)) }
 {
-    match place {
-        Place::Table(section) => take_in_table(alloc, found, section, n, line),
-        Place::Header => take_before_header(alloc, found, n, line),
-        Place::Records(mut closes) => {
-            take_record(alloc, found, &mut closes, n, line)?;
-            Ok(Place::Records(closes))
+    match part {
+        DeckPart::Table(section) => take_in_table(alloc, lines, section, n, text),
+        DeckPart::Header => take_before_header(alloc, lines, n, text),
+        DeckPart::Records(mut closes, mut seen) => {
+            take_record(alloc, lines, &mut closes, &mut seen, n, text)?;
+            Ok(DeckPart::Records(closes, seen))
         }
     }
 }
 
-/// What is wrong in the text lines of a deck, each read by itself and told with its number.
+/// Reads the text lines of a deck, each by itself and once.
+pub(crate) fn read_lines<'a>(alloc: Global, deck: &'a [u8]) -> Result<LinesRead<'a>, AllocError>
+    requires { length deck.now ≤ MOST_DECK_BYTES }
+    ensures found { IfOk result (λ lines. (lines_of lines).found ≡ faults_of_deck deck.now) }
+    ensures kept { IfOk result (λ lines. (lines_of lines).kept ≡ kept_of_deck deck.now) }
+{
+    let found = Vec::new(alloc);
+    let kept = Vec::new(alloc);
+    let mut lines = LinesRead { found, kept };
+    let mut part = DeckPart::Table(Section::Top);
+    let mut n = 0;
+    let mut left = Some(deck);
+    while let Some(texts) = left {
+        let (text, later) = first_piece(b'\n', texts);
+        n += 1;
+        part = take_line(alloc, &mut lines, part, n, text)?;
+        left = later;
+    }
+    Ok(lines)
+}
+
+/// What is wrong in the text lines of a deck, each read by itself and told with its number. `Err` where memory ran out.
 pub fn findings<'a>(alloc: Global, deck: &'a [u8]) -> Result<Vec<Finding<'a>>, AllocError>
     requires { length deck.now ≤ MOST_DECK_BYTES }
     ensures { IfOk result (λ found. map found_of found.items ≡ faults_of_deck deck.now) }
 {
-    let mut found = Vec::new(alloc);
-    let mut place = Place::Table(Section::Top);
-    let mut n = 0;
-    let mut left = Some(deck);
-    while let Some(lines) = left {
-        let (line, later) = first_piece(b'\n', lines);
-        n += 1;
-        place = take_line(alloc, &mut found, place, n, line)?;
-        left = later;
-    }
-    Ok(found)
+    Ok(read_lines(alloc, deck)?.found)
 }

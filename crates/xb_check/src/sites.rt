@@ -3,7 +3,8 @@ ghost use Rattle.std.specs.Prelude.{◌≡◌, ◌≤◌, ◌<◌, ◌+◌, ◌^
 ghost use Rattle.xb_deck.specs.declared.deck.TheConstants.{MOST_DECK_BYTES};
 ghost use Rattle.xb_check.specs.declared.table.Section.TheVariants.{Top};
 ghost use Rattle.xb_check.specs.Findings.{found_of};
-ghost use Rattle.xb_check.specs.Sites.{fault_of_table, first_about, is_about, is_about_heading, is_about_key, keys_about, limits_about, route_about, route_here, routes_after, told_of_table};
+ghost use Rattle.xb_check.specs.Sites.{fault_of_table, first_about, is_about, is_about_heading, is_about_key, keys_about, limits_about, limits_of_rule, route_about, route_here, routes_after, told_of_table};
+ghost use Rattle.xb_routes.specs.LimitFaults.{limit_fault};
 ghost use Rattle.xb_text.specs.Pieces.{cut_at, pieces};
 
 use crate::finding::{Finding, What};
@@ -12,35 +13,35 @@ use crate::lines::is_cut;
 use crate::table::{Section, is_heading, section_after, squeezed};
 use std::alloc::{AllocError, Global};
 use xb_deck::DeckFault;
-use xb_routes::RouteFault;
+use xb_routes::{LimitFault, RouteFault};
 use xb_text::{cut_at, first_piece};
 
-// The limits that a fault of limits is about, by its number.
-fn limits_about(limit: u32) -> &'static [Key]
-    ensures { result.now ≡ limits_about limit }
+// The limits that a rule of limits is about.
+fn limits_about(rule: LimitFault) -> &'static [Key]
+    ensures { result.now ≡ limits_about rule }
 {
-    if limit == 0 {
-        &[Key::Limits]
-    } else if limit == 1 {
-        &[Key::PulseMin]
-    } else if limit == 2 {
-        &[Key::PulseMax]
-    } else if limit == 3 {
-        &[Key::MakeMin]
-    } else if limit == 4 {
-        &[Key::Pause]
-    } else if limit == 5 {
-        &[Key::Release]
-    } else if limit == 6 {
-        &[Key::Timeout]
-    } else if limit == 7 {
-        &[Key::PulseMin, Key::PulseMax]
-    } else if limit == 8 {
-        &[Key::PulseMax, Key::Release]
-    } else if limit == 9 {
-        &[Key::MakeMin, Key::Pause]
-    } else {
-        &[Key::Pause, Key::Timeout]
+    match rule {
+        LimitFault::NotTable => &[Key::Limits],
+        LimitFault::PulseMin => &[Key::PulseMin],
+        LimitFault::PulseMax => &[Key::PulseMax],
+        LimitFault::MakeMin => &[Key::MakeMin],
+        LimitFault::Pause => &[Key::Pause],
+        LimitFault::Release => &[Key::Release],
+        LimitFault::Timeout => &[Key::Timeout],
+        LimitFault::PulseMinOverPulseMax => &[Key::PulseMin, Key::PulseMax],
+        LimitFault::PulseMaxNotUnderRelease => &[Key::PulseMax, Key::Release],
+        LimitFault::MakeMinOverPause => &[Key::MakeMin, Key::Pause],
+        LimitFault::PauseNotUnderTimeout => &[Key::Pause, Key::Timeout],
+    }
+}
+
+// The limits that a fault of limits is about, by the number of the rule.
+fn limits_of_number(number: u32) -> &'static [Key]
+    ensures { result.now ≡ limits_of_rule (limit_fault number) }
+{
+    match LimitFault::of_number(number) {
+        Some(rule) => limits_about(rule),
+        None => &[],
     }
 }
 
@@ -50,7 +51,7 @@ fn keys_about(fault: RouteFault) -> &'static [Key]
 {
     match fault {
         RouteFault::Plan => &[Key::Plan],
-        RouteFault::Limits(limit) => limits_about(limit),
+        RouteFault::Limits(number) => limits_of_number(number),
         RouteFault::Code(_) | RouteFault::Twice(_) => &[Key::Code],
         RouteFault::Trunk(_) => &[Key::Trunk],
         RouteFault::Delete(_) | RouteFault::NothingToKey(_) => &[Key::Delete],

@@ -46,11 +46,7 @@ pub(crate) fn squeezed(alloc: Global, line: &[u8]) -> Result<Vec<u8>, AllocError
 fn is_bare_byte(byte: u8) -> bool
     ensures { result ≡ is_bare byte }
 {
-    (97 <= byte && byte <= 122)
-        || (65 <= byte && byte <= 90)
-        || (48 <= byte && byte <= 57)
-        || byte == b'_'
-        || byte == b'-'
+    byte.is_ascii_alphanumeric() || byte == b'_' || byte == b'-'
 }
 
 /// Whether all bytes do.

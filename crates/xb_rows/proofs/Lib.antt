@@ -16,3 +16,5 @@ pub mod TakenBytes
 pub mod JudgedRecords
 pub mod TakenRecords
 pub mod StreamRows
+pub mod TextLines
+pub mod LineRecords

@@ -167,7 +167,7 @@ plain_row-is text rest1 rest2 rest3 rest line ms contact (a, ea, el) (b, eb, ec)
     rw (ea, eb, e3, end) ((a ∷ b ∷ c ∷ []), begins-plain a b c rest are.0, are.1)
 
 -- a header of the plain form
-plain_header : (text rest : List ℕ) → text ≡ codes "line,state,ms\n" ++ rest → BeginsWith text header rest
+pub plain_header : (text rest : List ℕ) → text ≡ codes "line,state,ms\n" ++ rest → BeginsWith text header rest
 unfolding fields_text is_blank
 plain_header text rest e = rw e (no_mark 108 _ (omega arith), read-write header rest)
 

@@ -24,7 +24,7 @@ reads-none s None = tt
 reads-none s (Some text) = λ fields. refl
 
 -- a byte, as the machine reads it
-one-byte : (s n : State) (a : Action) (c : ℕ) (fields : Fields) (field rest : List ℕ) → IsStep (n, a) s c
+pub one-byte : (s n : State) (a : Action) (c : ℕ) (fields : Fields) (field rest : List ℕ) → IsStep (n, a) s c
     → next_record default_config (csv_state s) fields field (c ∷ rest)
     ≡ (if is_end (csv_action a) then Some (fields_after (csv_action a) fields field, csv_state n, rest)
     else next_record default_config (csv_state n) (fields_after (csv_action a) fields field) (field_after (csv_action a) c field) rest)

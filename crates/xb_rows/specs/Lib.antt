@@ -8,6 +8,7 @@ pub mod WorkedTexts
 pub mod ByteSteps
 pub mod StreamBytes
 pub mod TakenFields
+pub mod TextLines
 pub mod Kept
 pub mod Streams
 pub mod StreamRecords

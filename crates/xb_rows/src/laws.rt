@@ -1,6 +1,7 @@
 //! What the definitions give: each law is the contract of a function that does nothing.
 ghost use Rattle.xb_rows.specs.Constants.{AreConstants};
 ghost use Rattle.xb_rows.specs.Streams.{StreamsAreTexts};
+ghost use Rattle.xb_rows.specs.TextLines.{LinesAreRecords, LinesStandAlone};
 ghost use Rattle.xb_rows.specs.WorkedTexts.{MostRecords, RowsOfTexts};
 ghost use Rattle.xb_rows.specs.WrittenRows.{WrittenRowsAreCsv, WrittenRowsAreRead};
 
@@ -39,4 +40,16 @@ pub fn written_rows_are_read()
 #[tactic(auto, using(crate::proofs::CsvTexts::written_rows_are_csv))]
 pub fn written_rows_are_csv()
     ensures { WrittenRowsAreCsv }
+{}
+
+/// A text without a header is read as the rows of the header and this text begin.
+#[tactic(auto, using(crate::proofs::TextLines::lines_are_records))]
+pub fn lines_are_records()
+    ensures { LinesAreRecords }
+{}
+
+/// A text line without quotes gives what it gives by itself, wherever it stands in the rows of a text.
+#[tactic(auto, using(crate::proofs::LineRecords::lines_stand_alone))]
+pub fn lines_stand_alone()
+    ensures { LinesStandAlone }
 {}

@@ -13,6 +13,9 @@
 //!   record that can be no row before its end: by its first three fields, where one of them is longer than
 //!   4,096 bytes. Else a stream stops as its text does (`laws::streams_are_texts`). Its machine of states is
 //!   that of `csv` (`machine`).
+//! - `row_of_line`: the row of a text line by itself, without a header before it and without memory: what a text of
+//!   the header and this line begins with (`laws::lines_are_records`), and if it has no quote and no CR, what it gives
+//!   wherever it stands in the rows of a text (`laws::lines_stand_alone`).
 //! - `record_of`: exactly the record of a row. `text_of_rows`: exactly the text of the rows. Rows that are
 //!   no more than 1,000,000 are read back of it (`laws::written_rows_are_read`), and it is what a `csv`
 //!   writer writes (`written_rows_are_csv`).
@@ -33,9 +36,11 @@ mod scan;
 mod steps;
 mod stream_bytes;
 mod stream_steps;
+mod text_line;
 mod writing;
 
 pub use row_reader::RowReader;
 pub use rows::{read_rows, rows_of_text};
 pub use scan::{MOST_RECORDS, Scan};
+pub use text_line::row_of_line;
 pub use writing::{MOST_ROW_BYTES, record_of, text_of_rows};

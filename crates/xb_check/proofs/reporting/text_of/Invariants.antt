@@ -2,7 +2,7 @@ use Rattle.std.proofs.Common.{◌≡◌, ◌++◌, map, drop}
 use Rattle.std.specs.List.{flat_map}
 use Rattle.xb_check.specs.Findings.{found_of}
 use Rattle.xb_check.specs.Reports.{found_text}
-use Rattle.xb_check.proofs.telling.text_of.Given as goal
+use Rattle.xb_check.proofs.reporting.text_of.Given as goal
 
 abbrev pub invariant-loop-finding : goal.invariant-loop-finding
 invariant-loop-finding l =

@@ -1,6 +1,6 @@
 use Rattle.std.proofs.Common.{◌≡◌, ◌++◌, map, drop}
 use Rattle.xb_check.specs.Reports.{shown, visible}
-use Rattle.xb_check.proofs.telling.push_shown.Given as goal
+use Rattle.xb_check.proofs.reporting.push_shown.Given as goal
 
 abbrev pub invariant-loop-byte : goal.invariant-loop-byte
 invariant-loop-byte l =

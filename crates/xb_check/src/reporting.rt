@@ -1,17 +1,20 @@
-// What is told of what was found.
+// The report of a text: what is told of it.
 ghost use Rattle.std.specs.Prelude.{◌≡◌, ◌≤◌, ◌++◌, IfOk, OnOk, Some, length, map, string_bytes, take};
 ghost use Rattle.xb_deck.specs.declared.deck.TheConstants.{MOST_DECK_BYTES};
 ghost use Rattle.std.specs.List.{flat_map};
 ghost use Rattle.xb_check.specs.declared.finding.What.TheVariants as what;
 ghost use Rattle.xb_check.specs.Findings.{closed_text, found_of, meant_text, note_text};
 ghost use Rattle.xb_check.specs.Judged.{judged};
-ghost use Rattle.xb_check.specs.Reports.{found_text, place_text, report_text, shown, visible};
+ghost use Rattle.xb_check.specs.Kept.{kept_of_deck, kept_line_of};
+ghost use Rattle.xb_check.specs.Reports.{found_text, place_text, report_text, shown, told_of, visible};
 
+use crate::doubts::push_doubts;
 use crate::finding::{Finding, What};
 use crate::judging::Contents;
+use crate::kept::KeptLine;
 use crate::key::Key;
-use crate::lines::findings;
-use crate::told::push_told;
+use crate::lines::{LinesRead, read_lines};
+use crate::sites::push_fault;
 use std::alloc::{AllocError, Global};
 use xb_deck::DeckFault;
 
@@ -129,6 +132,27 @@ fn text_of(alloc: Global, name: &str, found: &[Finding]) -> Result<Vec<u8>, Allo
     Ok(out)
 }
 
+// Puts what is told of a text, by what was judged of it and the text lines that were kept, after what was found in
+// its text lines.
+fn push_told<'a>(
+    alloc: Global,
+    found: &mut Vec<Finding<'a>>,
+    said: &Result<Option<Contents>, DeckFault>,
+    deck: &'a [u8],
+    kept: &[KeptLine<'a>],
+) -> Result<(), AllocError>
+    requires short { length deck.now ≤ MOST_DECK_BYTES }
+    requires kept { map kept_line_of kept.now ≡ kept_of_deck deck.now }
+    ensures { OnOk result (map found_of found.new.items
+        ≡ map found_of found.old.items ++ told_of said.now deck.now) }
+{
+    match said {
+        Ok(Some(contents)) => push_doubts(alloc, found, contents, kept),
+        Ok(None) => Ok(()),
+        Err(fault) => push_fault(alloc, found, *fault, deck),
+    }
+}
+
 /// What is told of a text in a file of this name, of which this was judged: a line for each text line that is wrong,
 /// in order, and then for what was judged.
 pub(crate) fn report(
@@ -141,7 +165,7 @@ pub(crate) fn report(
     requires judged { said.now ≡ judged deck.now }
     ensures { IfOk result (λ text. text.items ≡ report_text name.now deck.now) }
 {
-    let mut found = findings(alloc, deck)?;
-    push_told(alloc, &mut found, said, deck)?;
+    let LinesRead { mut found, kept } = read_lines(alloc, deck)?;
+    push_told(alloc, &mut found, said, deck, &kept)?;
     text_of(alloc, name, &found)
 }
