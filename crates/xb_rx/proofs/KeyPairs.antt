@@ -6,7 +6,7 @@ use Rattle.xb_model.specs.declared.key.Tone.{Tone as Pair}
 use Rattle.xb_model.specs.MfPairs.{pair}
 use Rattle.xb_ear.specs.declared.hearing.Heard.{Heard}
 use Rattle.xb_ear.specs.Hearings.{is_same_pair}
-use Rattle.xb_keyed.specs.Names.{digit_of_pair, digit_pairs}
+use Rattle.xb_measured.specs.Names.{digit_of_pair, digit_pairs}
 use Rattle.xb_rx.specs.Keyings.{is_kp, is_st}
 use Rattle.xb_rx.specs.Begun.{IsDigit}
 

@@ -6,9 +6,9 @@ use Rattle.xb_text.specs.Writing.{AppendsBeginning}
 use Rattle.xb_text.proofs.Beginnings.{AppendsBeginning-first}
 use Rattle.xb_ear.specs.declared.hearing.Heard.{Heard}
 use Rattle.xb_ear.specs.Hearings.{listed}
-use Rattle.xb_keyed.specs.declared.lines.Telling.{Telling}
-use Rattle.xb_keyed.specs.Figures.{figures_of}
-use Rattle.xb_keyed.specs.Lines.{key_line, key_lines}
+use Rattle.xb_measured.specs.declared.lines.Telling.{Telling}
+use Rattle.xb_measured.specs.Figures.{figures_of}
+use Rattle.xb_measured.specs.Lines.{key_line, key_lines}
 use Rattle.xb_rx.specs.declared.listing.Listing.{Listing}
 use Rattle.xb_rx.specs.declared.page.PageFault.{PageFault}
 use Rattle.xb_rx.specs.Pages.{Ends, Writes}

@@ -17,7 +17,7 @@ use Rattle.xb_ear.specs.Hearings.{is_same_pair}
 use Rattle.xb_ear.specs.Receivers.{keys_of_sound}
 use Rattle.xb_ear.proofs.WholeSounds.{disturbed_keys_are_heard}
 use Rattle.xb_rx.specs.declared.keys.TheConstants.{MOST_DIGITS}
-use Rattle.xb_keyed.specs.Names.{digit_of_pair}
+use Rattle.xb_measured.specs.Names.{digit_of_pair}
 use Rattle.xb_rx.specs.Keyings.{digit_of, digits_in, is_kp, is_st, keyings, listed_digit, loose_after, loose_keys}
 use Rattle.xb_rx.specs.PagedKeys.{AreNumbers, KeyedIsPaged, marks_of_numbers}
 use Rattle.xb_rx.specs.Pages.{loose_lines, page_after}

@@ -5,7 +5,7 @@ use Rattle.xb_model.specs.declared.key.Key.TheVariants.{Kp, St}
 use Rattle.xb_model.specs.MfPairs.{mf_pair}
 use Rattle.xb_ear.specs.declared.hearing.Heard.{Heard}
 use Rattle.xb_ear.specs.Hearings.{is_same_pair}
-use Rattle.xb_keyed.specs.Names.{digit_of_pair}
+use Rattle.xb_measured.specs.Names.{digit_of_pair}
 use Rattle.xb_rx.specs.declared.keys.TheConstants.{MOST_DIGITS}
 
 abbrev pub is_kp : Heard → Bool

@@ -5,8 +5,8 @@ use Rattle.clap.specs.Walk.{Row, Text, first_of}
 use Rattle.xb_command.specs.Given.{AskForNothing, AsksFor, ReadsFlag, ReadsNumber, given_by}
 use Rattle.xb_model.specs.declared.line.TheConstants.{LINES}
 use Rattle.xb_model.specs.declared.trunk.TheConstants.{TRUNKS}
-use Rattle.xb_keyed.specs.declared.lines.Telling.{Telling}
-use Rattle.xb_keyed.specs.declared.lines.Telling.TheVariants as telling
+use Rattle.xb_measured.specs.declared.lines.Telling.{Telling}
+use Rattle.xb_measured.specs.declared.lines.Telling.TheVariants as telling
 use Rattle.xb_wav.specs.declared.coding.Coding.{Coding}
 use Rattle.xb_wav.specs.declared.coding.Coding.TheVariants as coding
 use Rattle.xb_rx.specs.declared.request.Input.{Input}

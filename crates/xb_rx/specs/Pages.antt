@@ -7,8 +7,8 @@ use Rattle.xb_model.specs.Page.{entries_text, totals_text}
 use Rattle.xb_ear.specs.declared.hearing.Heard.{Heard}
 use Rattle.xb_text.specs.Writing.{AppendsBeginning}
 use Rattle.xb_rx.specs.declared.page.Page.{Page}
-use Rattle.xb_keyed.specs.Figures.{start_ms}
-use Rattle.xb_keyed.specs.Names.{name_text}
+use Rattle.xb_measured.specs.Figures.{start_ms}
+use Rattle.xb_measured.specs.Names.{name_text}
 use Rattle.xb_rx.specs.Keyings.{keyings, loose_keys}
 
 -- a key that stands in no keying

@@ -1,7 +1,7 @@
 -- What is written of keys that are heard: the page of their keyings, or a line for each.
 use Rattle.std.specs.Prelude.{ℕ, List, [], None}
 use Rattle.xb_ear.specs.declared.hearing.Heard.{Heard}
-use Rattle.xb_keyed.specs.Lines.{key_lines}
+use Rattle.xb_measured.specs.Lines.{key_lines}
 use Rattle.xb_rx.specs.declared.listing.Listing.{Listing}
 use Rattle.xb_rx.specs.declared.report.Report.{Report}
 use Rattle.xb_rx.specs.declared.report.Report.TheVariants as report

@@ -5,7 +5,7 @@ ghost use Rattle.xb_rx.specs.Pages.{loose_line};
 
 use std::alloc::AllocError;
 use xb_ear::{Heard, is_same_pair};
-use xb_keyed::{start_ms, write_name};
+use xb_measured::{start_ms, write_name};
 use xb_model::{Key, mf};
 
 /// The most digits of a keying: a limit of our own, some times what a sender keys.

@@ -3,7 +3,7 @@ use crate::page::PageFault;
 use std::alloc::Global;
 use std::io::Write;
 use xb_ear::Heard;
-use xb_keyed::{Telling, figures_of, key_line};
+use xb_measured::{Telling, figures_of, key_line};
 use xb_text::write_whole;
 
 /// Keys that are told one by one, each by the time since the last.

@@ -10,7 +10,7 @@ use crate::keys::{MOST_DIGITS, is_kp, is_st, write_loose};
 use std::alloc::{AllocError, Global};
 use std::io::Write;
 use xb_ear::Heard;
-use xb_keyed::digit_of;
+use xb_measured::digit_of;
 use xb_model::{Key, LineNo, Mark, Trunk, mf};
 use xb_tape::{write_entry, write_totals};
 use xb_text::write_whole;

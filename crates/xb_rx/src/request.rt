@@ -1,5 +1,5 @@
 // What is asked for.
-use xb_keyed::Telling;
+use xb_measured::Telling;
 use xb_model::{LineNo, Trunk};
 use xb_wav::Form;
 

@@ -8,7 +8,7 @@ use crate::program::PROGRAM;
 use crate::request::{Asked, Input, Request, Written};
 use std::alloc::Global;
 use xb_command::{Takes, Words, WordsFault, read_words};
-use xb_keyed::Telling;
+use xb_measured::Telling;
 use xb_model::{LINES, LineNo, TRUNKS, Trunk};
 use xb_wav::{Coding, Form, frames_of};
 

@@ -1,7 +1,7 @@
 use Rattle.std.proofs.Common.{◌≡◌, ◌∙◌, ap, sym}
 use Rattle.std.proofs.lemmas.Result.{err_from_is_err_and}
-use Rattle.xb_keyed.specs.Figures.{figures_of}
-use Rattle.xb_keyed.specs.Lines.{key_line}
+use Rattle.xb_measured.specs.Figures.{figures_of}
+use Rattle.xb_measured.specs.Lines.{key_line}
 use Rattle.xb_rx.specs.declared.page.PageFault.TheVariants as page_fault
 use Rattle.xb_rx.specs.Reports.{listing_rest}
 use Rattle.xb_rx.proofs.Listings.{began-key, no-key, wrote-key}

@@ -1,0 +1,36 @@
+-- The line of a key.
+use Rattle.std.specs.Prelude.{ℕ, List, [], ◌∷◌, ◌++◌, codes, decimal, Option, Some, None}
+use Rattle.xb_ear.specs.declared.hearing.Heard.{Heard}
+use Rattle.xb_measured.specs.declared.figures.Figures.{Figures}
+use Rattle.xb_measured.specs.declared.levels.TheConstants.{ZERO_DBM0}
+use Rattle.xb_measured.specs.declared.lines.Telling.{Telling}
+use Rattle.xb_measured.specs.declared.lines.Telling.TheVariants as telling
+use Rattle.xb_measured.specs.Figures.{figures_of}
+use Rattle.xb_measured.specs.Levels.{tenths_text}
+use Rattle.xb_measured.specs.Names.{name_text}
+use Rattle.xb_measured.specs.Objects.{object_line}
+use Rattle.xb_measured.specs.Verdicts.{verdict_of, verdict_word}
+
+-- when a key began, by the last one
+abbrev pub gap_text : Option ℕ → List ℕ
+gap_text None = codes "first"
+gap_text (Some ms) = codes "after " ++ (decimal ms ++ codes " ms")
+
+-- its name, its times, the level of each of its tones, and whether it is as it should be
+abbrev pub text_line : Figures → List ℕ
+text_line figures =
+    name_text figures.pair ++ (codes " at " ++ (decimal figures.start_ms ++ (codes " ms for "
+    ++ (decimal figures.length_ms ++ (codes " ms, "
+    ++ (decimal figures.pair.low ++ (codes " Hz " ++ (tenths_text figures.low ZERO_DBM0 ++ (codes " dBm0, "
+    ++ (decimal figures.pair.high ++ (codes " Hz " ++ (tenths_text figures.high ZERO_DBM0 ++ (codes " dBm0, twist "
+    ++ (tenths_text figures.high figures.low ++ (codes " dB, " ++ (gap_text figures.gap_ms ++ (codes ": "
+    ++ (verdict_word (verdict_of figures) ++ codes "\n"))))))))))))))))))
+
+abbrev pub key_line : Telling → Figures → List ℕ
+key_line telling.Text figures = text_line figures
+key_line telling.Json figures = object_line figures
+
+-- a line for each key, after one that came before them
+unfoldable pub key_lines : Telling → Option Heard → List Heard → List ℕ
+key_lines how before [] = []
+key_lines how before (key ∷ keys) = key_line how (figures_of before key) ++ key_lines how (Some key) keys

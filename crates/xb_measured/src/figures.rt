@@ -1,0 +1,74 @@
+// The figures of a key.
+ghost use Rattle.std.specs.Prelude.{◌≡◌};
+ghost use Rattle.xb_measured.specs.Figures.{figures_of, gap_ms, length_ms, ms_of, start_ms};
+
+use crate::levels::tenths_of;
+use xb_ear::Heard;
+use xb_model::Tone;
+
+// A window speaks for the 20 samples in its middle, and the first of them is the 31st.
+const HOP: u128 = 20;
+
+const EDGE: u128 = 30;
+
+const SAMPLES_PER_MS: u128 = 8;
+
+/// The figures of a key that was heard.
+#[derive(Clone, Copy, Debug, PartialEq, Eq)]
+pub struct Figures {
+    /// Its two frequencies.
+    pub pair: Tone,
+    /// When it began, in ms from the first sample.
+    pub start_ms: u64,
+    /// How long it lasted.
+    pub length_ms: u64,
+    /// The level of the lower frequency, in tenths of a dB, of which 872 are 0 dBm0.
+    pub low: u32,
+    /// The level of the higher one.
+    pub high: u32,
+    /// The time between the last key before it and this one; `None` of the first key.
+    pub gap_ms: Option<u64>,
+}
+
+// So many samples in ms, rounded down; counting stops at the greatest number that there is.
+fn ms_of(samples: u128) -> u64
+    ensures { result ≡ ms_of samples }
+{
+    (samples / SAMPLES_PER_MS).min(u128::from(u64::MAX)) as u64
+}
+
+/// When a key began, in ms from the first sample.
+pub fn start_ms(key: Heard) -> u64
+    ensures { result ≡ start_ms key }
+{
+    ms_of(HOP * u128::from(key.first) + EDGE)
+}
+
+// How long a key lasted.
+fn length_ms(key: Heard) -> u64
+    ensures { result ≡ length_ms key }
+{
+    ms_of(HOP * u128::from(key.past.saturating_sub(key.first)))
+}
+
+// The time between the last key and this one.
+fn gap_ms(before: Option<Heard>, key: Heard) -> Option<u64>
+    ensures { result ≡ gap_ms before key }
+{
+    let before = before?;
+    Some(ms_of(HOP * u128::from(key.first.saturating_sub(before.past))))
+}
+
+/// The figures of a key, by the last key before it.
+pub fn figures_of(before: Option<Heard>, key: Heard) -> Figures
+    ensures { result ≡ figures_of before key }
+{
+    Figures {
+        pair: key.sight.pair,
+        start_ms: start_ms(key),
+        length_ms: length_ms(key),
+        low: tenths_of(key.sight.low),
+        high: tenths_of(key.sight.high),
+        gap_ms: gap_ms(before, key),
+    }
+}

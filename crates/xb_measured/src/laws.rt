@@ -1,0 +1,7 @@
+//! What the definitions give: each law is the contract of a function that does nothing.
+ghost use Rattle.xb_measured.specs.Worked.{LevelsAreAsWorked};
+
+/// The levels of some amplitudes, as worked by hand.
+pub fn levels_are_as_worked()
+    ensures { LevelsAreAsWorked }
+{}

@@ -1,0 +1,70 @@
+// The JSON object of a key.
+ghost use Rattle.std.specs.Prelude.{◌≡◌, ◌-ℤ◌, IfOk, pos, string_bytes};
+ghost use Rattle.serde_json.specs.View.{view};
+ghost use Rattle.xb_json.specs.Objects.{data_of};
+ghost use Rattle.xb_measured.specs.Objects.{gap_data, object_line, object_of, object_with};
+ghost use Rattle.xb_measured.specs.Verdicts.{verdict_of, verdict_word};
+
+use crate::figures::Figures;
+use crate::levels::ZERO_DBM0;
+use crate::lines::name_of;
+use crate::verdicts::verdict_of;
+use serde_json::Value;
+use std::alloc::{AllocError, Global};
+use xb_json::{Member, line_of, object_of as object_of_members};
+
+// The time before a key, null where no key came before.
+fn gap_of(gap: Option<u64>) -> Member<'static>
+    ensures { data_of result ≡ gap_data gap }
+{
+    match gap {
+        None => Member::Null,
+        Some(ms) => Member::Number(ms),
+    }
+}
+
+// What tenths are over others.
+fn difference(over: u32, under: u32) -> i64
+    ensures { result ≡ pos over -ℤ pos under }
+{
+    i64::from(over) - i64::from(under)
+}
+
+// The object of a key with this name.
+fn object_with(alloc: Global, figures: Figures, name: &str) -> Result<Value, AllocError>
+    ensures { IfOk result (λ value. view value
+        ≡ object_with figures name.now (verdict_word (verdict_of figures))) }
+{
+    let low = difference(figures.low, ZERO_DBM0);
+    let high = difference(figures.high, ZERO_DBM0);
+    let twist = difference(figures.high, figures.low);
+    let members = [
+        ("at_ms", Member::Number(figures.start_ms)),
+        ("gap_ms", gap_of(figures.gap_ms)),
+        ("high_dbm0_tenths", Member::Signed(high)),
+        ("high_hz", Member::Number(u64::from(figures.pair.high))),
+        ("key", Member::Text(name)),
+        ("length_ms", Member::Number(figures.length_ms)),
+        ("low_dbm0_tenths", Member::Signed(low)),
+        ("low_hz", Member::Number(u64::from(figures.pair.low))),
+        ("twist_db_tenths", Member::Signed(twist)),
+        ("verdict", Member::Word(verdict_of(figures).word())),
+    ];
+    object_of_members(alloc, &members)
+}
+
+// The object of a key.
+fn object_of(alloc: Global, figures: Figures) -> Result<Value, AllocError>
+    ensures { IfOk result (λ value. view value ≡ object_of figures) }
+{
+    let name = name_of(alloc, figures.pair)?;
+    object_with(alloc, figures, &name)
+}
+
+/// The object of a key as a line.
+pub(crate) fn object_line(alloc: Global, figures: Figures) -> Result<String, AllocError>
+    ensures { IfOk result (λ line. string_bytes line ≡ object_line figures) }
+{
+    let object = object_of(alloc, figures)?;
+    line_of(alloc, &object)
+}
