@@ -1,2 +1,5 @@
 pub mod CellLemmas
 pub mod DigitLemmas
+pub mod WrittenSeconds
+pub mod WrittenEdges
+pub mod WrittenRows

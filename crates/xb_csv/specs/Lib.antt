@@ -3,3 +3,4 @@ pub mod Seconds
 pub mod Tables
 pub mod WorkedTables
 pub mod Gpiomons
+pub mod Written

@@ -16,15 +16,15 @@ use Rattle.xb_contact.specs.Times.{scale_by}
 use Rattle.xb_csv.specs.declared.columns.Clock.{Clock}
 use Rattle.xb_csv.specs.declared.columns.Clock.TheVariants as clocks
 use Rattle.xb_csv.specs.declared.columns.Columns.{Columns}
-use Rattle.xb_csv.specs.declared.columns.Form.{Form}
-use Rattle.xb_csv.specs.declared.columns.Form.TheVariants as forms
+use Rattle.xb_csv.specs.declared.columns.TableForm.{TableForm}
+use Rattle.xb_csv.specs.declared.columns.TableForm.TheVariants as forms
 use Rattle.xb_csv.specs.Cells.{after, cell_number, cells_of, trimmed}
 use Rattle.xb_csv.specs.Seconds.{fitting, nanoseconds_of}
 
 -- the form, the wires that are asked for, their columns, when a row is, how many samples a second has, where that is
 -- known, and the time of the last row, if there is one
 pub record TableState : Type 0 where
-  pub form : Form
+  pub form : TableForm
   pub names : List (List ℕ)
   pub columns : List ℕ
   pub clock : Clock
@@ -43,7 +43,7 @@ table_state table = record {
 }
 
 -- nothing has been read
-abbrev pub begun_table : Form → List (List ℕ) → Option ℕ → TableState
+abbrev pub begun_table : TableForm → List (List ℕ) → Option ℕ → TableState
 begun_table form names rate = record {
   form = form;
   names = names;
@@ -242,7 +242,7 @@ edges_row state clocks.Ticks line = row_says state line
 edges_row state clocks.Seconds line = row_says state line
 edges_row state clocks.Rows line = row_says state line
 
-abbrev pub line_of_form : TableState → Form → List ℕ → Said TableState
+abbrev pub line_of_form : TableState → TableForm → List ℕ → Said TableState
 line_of_form state forms.Sigrok line = sigrok_line state line
 line_of_form state forms.Saleae line = saleae_row state state.clock line
 line_of_form state forms.Edges line = edges_row state state.clock line

@@ -4,7 +4,7 @@ use Rattle.xb_contact.specs.declared.event.Event.TheVariants.{At, Level, Ticks}
 use Rattle.xb_contact.specs.declared.event.Refusal.TheVariants as refusals
 use Rattle.xb_contact.specs.declared.level.Level.TheVariants.{Open, Closed}
 use Rattle.xb_contact.specs.Times.{scale_by}
-use Rattle.xb_csv.specs.declared.columns.Form.TheVariants as forms
+use Rattle.xb_csv.specs.declared.columns.TableForm.TheVariants as forms
 use Rattle.xb_csv.specs.Seconds.{nanoseconds_of}
 use Rattle.xb_csv.specs.Tables.{TableState, begun_table, table_says}
 

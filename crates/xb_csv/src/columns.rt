@@ -14,7 +14,7 @@ use xb_text::cut_at;
 
 /// The form of a table.
 #[derive(Clone, Copy, Debug, PartialEq, Eq)]
-pub enum Form {
+pub enum TableForm {
     /// What `sigrok-cli -O csv` writes: comments with `;`, a header with the unit of the time column, if there
     /// is one, and rows. Wires have the names of the comment `; Channels`.
     Sigrok,
@@ -40,7 +40,7 @@ enum Clock {
 /// The reader of a table of levels.
 #[derive(Drop)]
 pub struct Columns<'a> {
-    form: Form,
+    form: TableForm,
     names: &'a [&'a str],
     // The column of each wire, counted from 0; of sigrok without that of the time.
     columns: Vec<u16>,
@@ -63,7 +63,12 @@ fn columns_before(clock: Clock) -> usize
 impl<'a> Columns<'a> {
     /// A reader that has read nothing. The wires are those of these names; `rate` is how many samples a second
     /// has, where the table does not say it.
-    pub fn new(alloc: Global, form: Form, names: &'a [&'a str], rate: Option<u64>) -> Columns<'a>
+    pub fn new(
+        alloc: Global,
+        form: TableForm,
+        names: &'a [&'a str],
+        rate: Option<u64>,
+    ) -> Columns<'a>
         ensures { table_state result ≡ begun_table form (map (λ name. name.now) names.now) rate }
     {
         Columns {
@@ -330,9 +335,9 @@ impl<'a> Columns<'a> {
             (line_of_form (table_state self.old) self.old.form line.now)) }
     {
         match self.form {
-            Form::Sigrok => self.take_sigrok(line, events),
-            Form::Saleae => self.take_saleae(line, events),
-            Form::Edges => self.take_edges(line, events),
+            TableForm::Sigrok => self.take_sigrok(line, events),
+            TableForm::Saleae => self.take_saleae(line, events),
+            TableForm::Edges => self.take_edges(line, events),
         }
     }
 

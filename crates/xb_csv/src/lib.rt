@@ -5,6 +5,8 @@
 //!   wires that are asked for, and its last line with its end, or why they are refused (`IsRefusedBy`), unless memory ran
 //!   out. `Gpiomon::take_line` and `Gpiomon::end` (`gpiomon_line_says`, `gpiomon_says`) are the same for what gpiomon
 //!   writes.
+//! - `laws::written_edges_are_read` and `written_rows_are_read` (`Written`): edges as gpiomon writes them, and rows of
+//!   times and levels, are read back as they are.
 //! - `trimmed` and `cell_at` (`Cells`): the cells of a line, without the blanks around them.
 //! - `nanoseconds_of` (`Seconds`): a time in seconds, with a sign where it is below 0, to the nanosecond.
 #![tactic(auto)]
@@ -18,6 +20,6 @@ mod seconds;
 mod wires;
 
 pub use cells::{cell_at, trimmed};
-pub use columns::{Columns, Form};
+pub use columns::{Columns, TableForm};
 pub use gpiomon::{Gpiomon, is_of_gpiomon};
 pub use seconds::nanoseconds_of;

@@ -2,7 +2,7 @@
 ghost use Rattle.std.specs.Prelude.{◌≡◌, ◌+◌, ◌<◌, ◌∷◌, drop};
 ghost use Rattle.xb_csv.specs.Seconds.{fraction_of, is_number, nanoseconds_of, nine_digits, unsigned_nanoseconds};
 
-use xb_contact::{number_after, number_of};
+use xb_contact::{is_digit, number_after, number_of};
 use xb_text::cut_at;
 
 // Nine digits of a fraction; further ones are left out.
@@ -15,7 +15,7 @@ const ORIGIN: u64 = 1 << 62;
 fn is_number(text: &[u8]) -> bool
     ensures { result ≡ is_number text.now }
 {
-    text.iter().all(|byte| *byte >= b'0' && *byte <= b'9')
+    text.iter().all(|byte| is_digit(*byte))
 }
 
 // The digit of a fraction at this place, a zero where there is none.

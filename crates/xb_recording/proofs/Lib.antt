@@ -1,3 +1,4 @@
 pub mod SaidLemmas
 pub mod RefusedLemmas
 pub mod ToldLemmas
+pub mod WrittenTexts

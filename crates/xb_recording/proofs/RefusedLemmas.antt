@@ -2,8 +2,8 @@
 use Rattle.std.proofs.Common.{◌≡◌, ℕ, List, [], ◌++◌, true, None, Some, drop, ap, inl, inr, refl, sym, subst, ◌∙◌}
 use Rattle.std.specs.Prelude.{Err, length}
 use Rattle.xb_csv.specs.Tables.{table_says}
-use Rattle.xb_csv.specs.declared.columns.Form.{Form}
-use Rattle.xb_csv.specs.declared.columns.Form.TheVariants as forms
+use Rattle.xb_csv.specs.declared.columns.TableForm.{TableForm}
+use Rattle.xb_csv.specs.declared.columns.TableForm.TheVariants as forms
 use Rattle.xb_vcd.specs.VcdTexts.{vcd_says}
 use Rattle.xb_contact.specs.declared.event.Event.{Event}
 use Rattle.xb_contact.specs.declared.event.Refusal.{Refusal}
@@ -129,7 +129,7 @@ keeps_head reader head after bytes is taken text refusal k =
 
 -- what is refused from the beginning on is the recording
 table_refusals :
-    (form : Form) (wanted : Wanted) (source : Source) (said : List Event)
+    (form : TableForm) (wanted : Wanted) (source : Source) (said : List Event)
     → IsBegunTable form (names_in wanted) wanted.rate source said
     → (text : List ℕ) (refusal : Refusal) → SourceRefused wanted source (text_lines text) text refusal
     → TableRefused form wanted text refusal

@@ -7,8 +7,8 @@ use Rattle.xb_contact.specs.declared.event.Refusal.{Refusal}
 use Rattle.xb_contact.specs.Steps.{AddsAll, result_and_then, result_map}
 use Rattle.xb_vcd.specs.VcdChanges.{VcdState}
 use Rattle.xb_vcd.specs.VcdTexts.{begun_vcd, vcd_says}
-use Rattle.xb_csv.specs.declared.columns.Form.{Form}
-use Rattle.xb_csv.specs.declared.columns.Form.TheVariants as forms
+use Rattle.xb_csv.specs.declared.columns.TableForm.{TableForm}
+use Rattle.xb_csv.specs.declared.columns.TableForm.TheVariants as forms
 use Rattle.xb_recording.specs.declared.format.Format.{Format}
 use Rattle.xb_recording.specs.declared.format.Format.TheVariants as formats
 use Rattle.xb_recording.specs.declared.reader.Reader.{Reader}
@@ -73,7 +73,7 @@ plain_lines-later (line ∷ rest) = refl
 
 -- the beginning of a table
 table_begins :
-    (form : Form) (wanted : Wanted) (source : Source) (said : List Event)
+    (form : TableForm) (wanted : Wanted) (source : Source) (said : List Event)
     → IsBegunTable form (names_in wanted) wanted.rate source said
     → (text : List ℕ) (later : List Event) → LinesSay source (text_lines text) later
     → TableSays form wanted text (said ++ later)

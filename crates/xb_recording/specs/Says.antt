@@ -2,8 +2,8 @@
 use Rattle.std.specs.Prelude.{◌≡◌, ◌≢◌, ◌⊎◌, ◌+◌, ◌^◌, ◌≤◌, ◌<◌, ℕ, ℤ, Option, List, [], ◌∷◌, ◌++◌, Bool, true, false, ◌==◌, if◌then◌else◌, None, Some, Result, Ok, Err, drop, length, map, nat_eq}
 use Rattle.std.specs.List.{starts_with}
 use Rattle.xb_contact.specs.declared.event.Event.{Event}
-use Rattle.xb_csv.specs.declared.columns.Form.{Form}
-use Rattle.xb_csv.specs.declared.columns.Form.TheVariants as forms
+use Rattle.xb_csv.specs.declared.columns.TableForm.{TableForm}
+use Rattle.xb_csv.specs.declared.columns.TableForm.TheVariants as forms
 use Rattle.xb_recording.specs.declared.format.TheConstants.{BYTE_ORDER_MARK}
 use Rattle.xb_recording.specs.declared.format.Format.{Format}
 use Rattle.xb_recording.specs.declared.format.Format.TheVariants as formats
@@ -114,7 +114,7 @@ IsBegunVcd names (sources.WavHead head) said = ⊥
 IsBegunVcd names (sources.Sound sound) said = ⊥
 
 -- and of a table of this form
-abbrev pub IsBegunTable : Form → List (List ℕ) → Option ℕ → Source → List Event → Type 0
+abbrev pub IsBegunTable : TableForm → List (List ℕ) → Option ℕ → Source → List Event → Type 0
 IsBegunTable form names rate (sources.Columns table) said =
     (table_state table ≡ begun_table form names rate) × (said ≡ [])
 IsBegunTable form names rate (sources.Vcd vcd) said = ⊥
@@ -216,7 +216,7 @@ TakesSamples format old new bytes said =
 abbrev pub text_lines : List ℕ → List (List ℕ)
 text_lines text = plain_lines true (lines_in [] text)
 
-abbrev pub TableSays : Form → Wanted → List ℕ → List Event → Type 0
+abbrev pub TableSays : TableForm → Wanted → List ℕ → List Event → Type 0
 TableSays form wanted text events =
     table_says (begun_table form (names_in wanted) wanted.rate) (text_lines text) ≡ Ok events
 
@@ -243,7 +243,7 @@ Begins format wanted reader said =
     (text : List ℕ) (later : List Event) → RestSays reader text later → Says format wanted text (said ++ later)
 
 -- a recording of a form is refused for this reason
-abbrev pub TableRefused : Form → Wanted → List ℕ → Refusal → Type 0
+abbrev pub TableRefused : TableForm → Wanted → List ℕ → Refusal → Type 0
 TableRefused form wanted text refusal =
     table_says (begun_table form (names_in wanted) wanted.rate) (text_lines text) ≡ Err refusal
 

@@ -12,7 +12,7 @@ use crate::format::{Format, without_mark};
 use crate::wanted::Wanted;
 use std::alloc::{AllocError, Global};
 use xb_contact::{Event, Refusal};
-use xb_csv::{Columns, Form, Gpiomon};
+use xb_csv::{Columns, Gpiomon, TableForm};
 use xb_samples::{Bits, Sound, WavFormat, WavHead};
 use xb_vcd::Vcd;
 
@@ -57,9 +57,9 @@ fn source_of<'a>(
     let (names, rate) = (wanted.wires.as_slice(), wanted.rate);
     Ok(match format {
         Format::Vcd => Source::Vcd(Vcd::new(alloc, names)?),
-        Format::Sigrok => Source::Columns(Columns::new(alloc, Form::Sigrok, names, rate)),
-        Format::Saleae => Source::Columns(Columns::new(alloc, Form::Saleae, names, rate)),
-        Format::Edges => Source::Columns(Columns::new(alloc, Form::Edges, names, rate)),
+        Format::Sigrok => Source::Columns(Columns::new(alloc, TableForm::Sigrok, names, rate)),
+        Format::Saleae => Source::Columns(Columns::new(alloc, TableForm::Saleae, names, rate)),
+        Format::Edges => Source::Columns(Columns::new(alloc, TableForm::Edges, names, rate)),
         Format::Gpiomon => Source::Gpiomon(Gpiomon::new(names)),
         Format::Bits => Source::Bits(Bits::new(alloc, names, rate, events)?),
         Format::Wav => Source::WavHead(WavHead::new(alloc)),

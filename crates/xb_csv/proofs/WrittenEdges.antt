@@ -1,0 +1,254 @@
+-- Edges that are written are read back.
+use Rattle.std.proofs.Common.{◌≡◌, ℕ, suc, ◌+◌, ◌-◌, ◌^◌, ◌<◌, ◌≤◌, List, [], ◌∷◌, ◌++◌, Bool, true, false, cond, Option, Some, None, length, length-append, take, drop, get_or, reverse, refl, ap, subst, ◌∙◌, arith, ne_eqb, not, codes, ◌&&◌}
+use Rattle.std.proofs.Math.Seq.{drop-append_seam, split_at, take-append_seam, take-length}
+use Rattle.std.proofs.lemmas.List.{length-reverse, length-take-le, reverse-append}
+use Rattle.std.specs.Prelude.{Ok, Err, bytes_eq, nat_lt, ◌==◌, option_map}
+use Rattle.std.specs.Char.{is_ascii_whitespace}
+use Rattle.std.specs.List.{AllByRecursion, IsDistinct, list_all, position, prefix_len, suffix_len}
+use Rattle.std.specs.Option.{ok_or}
+use Rattle.std.proofs.lemmas.Bool.{and_parts}
+use Rattle.std.proofs.lemmas.Bool.Decides.{nat_tests}
+use Rattle.xb_contact.specs.declared.event.Event.{Event}
+use Rattle.xb_contact.specs.declared.event.Event.TheVariants as events
+use Rattle.xb_contact.specs.declared.event.Refusal.TheVariants as refusals
+use Rattle.xb_contact.specs.declared.level.Level.{Level}
+use Rattle.xb_contact.specs.declared.level.Level.TheVariants.{Open, Closed}
+use Rattle.xb_contact.specs.declared.scale.TheConstants.{NANOSECONDS}
+use Rattle.xb_contact.specs.Changes.{AreInOrder, AreNames, Change, IsName, change_events}
+use Rattle.xb_contact.specs.Steps.{result_and_then, result_map, then_later}
+use Rattle.xb_contact.proofs.StepLemmas.{line_says}
+use Rattle.xb_contact.proofs.Written.{AreOthers, all_weaker, never_after_end, one_of, others_differ, same_bytes}
+use Rattle.xb_csv.specs.Cells.{trimmed, trimmed_end}
+use Rattle.xb_csv.specs.Gpiomons.{EdgeSaid, GpiomonState, cut_word, edge_line_says, edge_of, edge_says, edge_with, first_kind, first_word, gpiomon_ends, gpiomon_line_says, gpiomon_says, gpiomon_with, is_gap, level_after, named_levels, second_kind, time_said, between, wire_by, wire_of}
+use Rattle.xb_csv.specs.Written.{WrittenEdgesAreRead, edge_line, edge_lines, seconds_text, way_text}
+use Rattle.xb_csv.proofs.WrittenSeconds.{place_of, seconds_are_read, seconds_nonempty, seconds_pass, seconds_start}
+use Rattle.xb_csv.specs.Seconds.{nanoseconds_of}
+
+-- a text that begins, and that ends, with no blank
+abbrev pub BeginsBare : List ℕ → Type 0
+BeginsBare text = prefix_len is_ascii_whitespace text ≡ 0
+
+abbrev pub EndsBare : List ℕ → Type 0
+EndsBare text = (0 < length text) × (suffix_len is_ascii_whitespace text ≡ 0)
+
+pub begins_more : (text rest : List ℕ) → 0 < length text → BeginsBare text → BeginsBare (text ++ rest)
+begins_more [] rest some none = absurd (omega arith)
+begins_more (byte ∷ text) rest some none = at (is_ascii_whitespace byte) none
+  where
+    at :
+        (b : Bool) → cond b (1 + prefix_len is_ascii_whitespace text) 0 ≡ 0
+        → cond b (1 + prefix_len is_ascii_whitespace (text ++ rest)) 0 ≡ 0
+    at true e = absurd (omega arith)
+    at false e = refl
+
+ends-after : (byte : ℕ) (text : List ℕ) → EndsBare text → EndsBare (byte ∷ text)
+ends-after byte text ends =
+    let some : 0 < length (reverse text) = omega (arith, length-reverse text) in (
+      omega arith,
+      ap (prefix_len is_ascii_whitespace) (reverse-append (byte ∷ []) text)
+          ∙ begins_more (reverse text) (byte ∷ []) some ends.1,
+    )
+
+pub ends_append : (text rest : List ℕ) → EndsBare rest → EndsBare (text ++ rest)
+ends_append [] rest ends = ends
+ends_append (byte ∷ text) rest ends = ends-after byte (text ++ rest) (ends_append text rest ends)
+
+not-blank : (byte : ℕ) → nat_lt 32 byte ≡ true → is_ascii_whitespace byte ≡ false
+not-blank byte high = grind (arith, nat_tests)
+
+pub name_begins : (name : List ℕ) → IsName name → BeginsBare name
+name_begins [] is = refl
+name_begins (byte ∷ name) is =
+    let parts = and_parts (nat_lt 32 byte) (list_all (nat_lt 32) name) is.1 in
+    ap (λ t. cond t (1 + prefix_len is_ascii_whitespace name) 0) (not-blank byte parts.0)
+
+pub name_ends : (name : List ℕ) → IsName name → EndsBare name
+name_ends [] is = absurd (omega arith)
+name_ends (byte ∷ []) is = (omega arith, name_begins (byte ∷ []) is)
+name_ends (byte ∷ next ∷ name) is =
+    let parts = and_parts (nat_lt 32 byte) (list_all (nat_lt 32) (next ∷ name)) is.1 in
+    ends-after byte (next ∷ name) (name_ends (next ∷ name) (omega arith, parts.1))
+
+trimmed-end : (text : List ℕ) → EndsBare text → trimmed_end text ≡ text
+trimmed-end text ends =
+    let all : length text - 0 ≡ length text = omega arith in
+    ap (λ n. take (length text - n) text) ends.1 ∙ ap (λ n. take n text) all ∙ take-length text
+
+pub trimmed_same : (text : List ℕ) → BeginsBare text → EndsBare text → trimmed text ≡ text
+unfolding trimmed
+trimmed_same text begins ends = ap (λ n. trimmed_end (drop n text)) begins ∙ trimmed-end text ends
+
+trimmed-blank : (text : List ℕ) → BeginsBare text → EndsBare text → trimmed (32 ∷ text) ≡ text
+unfolding trimmed
+trimmed-blank text begins ends = ap (λ n. trimmed_end (drop (1 + n) (32 ∷ text))) begins ∙ trimmed-end text ends
+
+-- the first word of a text
+first-word :
+    (word rest : List ℕ) → IsName word → BeginsBare rest → EndsBare rest → first_word (word ++ 32 ∷ rest) ≡ (word, rest)
+unfolding first_word
+first-word word rest is begins ends =
+    let text : List ℕ = word ++ 32 ∷ rest in
+    let same : trimmed text ≡ text =
+    trimmed_same text (begins_more word (32 ∷ rest) is.0 (name_begins word is))
+    (ends_append word (32 ∷ rest) (ends-after 32 rest ends)) in
+    let gap : position is_gap text ≡ Some (length word) =
+    place_of is_gap word rest 32 (all_weaker (nat_lt 32) (λ b. not (is_gap b)) (λ b h. grind (arith, nat_tests)) word is.1) refl in
+    ap (λ t. cut_word t (position is_gap t)) same
+    ∙ ap (cut_word text) gap
+    ∙ ap (λ front. (front, trimmed (drop (length word) text))) (take-append_seam word (32 ∷ rest))
+    ∙ ap (λ back. (word, trimmed back)) (drop-append_seam word (32 ∷ rest))
+    ∙ ap (λ back. (word, back)) (trimmed-blank rest begins ends)
+
+-- the wire is the number after the chip
+chip-wire : (name : List ℕ) → IsName name → wire_of (codes "gpiochip0 " ++ name) ≡ name
+unfolding between
+chip-wire name is =
+    let text : List ℕ = codes "gpiochip0 " ++ name in
+    let words : first_word text ≡ (codes "gpiochip0", name) =
+    first-word (codes "gpiochip0") name (omega arith, refl) (name_begins name is) (name_ends name is) in
+    let quoted : between 34 34 text ≡ None = no-quotes _ _ _ in
+    ap (wire_by text) quoted
+    ∙ ap (λ w. cond (length w.1 == 0) text w.1) words
+    ∙ ap (λ t. cond t text name) (ne_eqb (length name) 0 (λ e. absurd (omega (arith, is.0))))
+  where
+    no-quotes : (long last : Bool) (name : List ℕ) → cond ((long && false) && last) (Some name) None ≡ None
+    no-quotes true last name = refl
+    no-quotes false last name = refl
+
+abbrev by-kind : List ℕ → List ℕ × List ℕ → Option EdgeSaid
+by-kind time kind =
+    cond (length kind.1 == 0) None (option_map (λ level. edge_with time (wire_of kind.1) level) (level_after kind.0))
+
+way-name : (level : Level) → IsName (way_text level)
+way-name Open = (omega arith, refl)
+way-name Closed = (omega arith, refl)
+
+way-read : (level : Level) → level_after (way_text level) ≡ Some level
+way-read Open = refl
+way-read Closed = refl
+
+-- the time of a line is a word
+pub seconds_name : (tick : ℕ) → tick < 2 ^ 64 → IsName (seconds_text tick)
+seconds_name tick small =
+    (seconds_nonempty tick small, seconds_pass (nat_lt 32) (λ digit low. grind (arith, nat_tests)) refl tick small)
+
+second-read :
+    (tick : ℕ) (level : Level) (name : List ℕ) → tick < 2 ^ 64 → IsName name
+    → second_kind (seconds_text tick ++ 32 ∷ (way_text level ++ (codes " gpiochip0 " ++ name)))
+    ≡ Some (edge_with (seconds_text tick) name level)
+unfolding second_kind
+second-read tick level name small is =
+    let time : List ℕ = seconds_text tick in
+    let chip : List ℕ = codes "gpiochip0 " ++ name in
+    let ends : EndsBare chip = ends_append (codes "gpiochip0 ") name (name_ends name is) in
+    let later : List ℕ = way_text level ++ 32 ∷ chip in
+    let begins : BeginsBare later =
+    begins_more (way_text level) (32 ∷ chip) (way-name level).0 (name_begins (way_text level) (way-name level)) in
+    ap (λ w. by-kind w.0 (first_word w.1))
+    (first-word time later (seconds_name tick small) begins (ends_append (way_text level) (32 ∷ chip) (ends-after 32 chip ends)))
+    ∙ ap (by-kind time) (first-word (way_text level) chip (way-name level) refl ends)
+    ∙ ap (λ t. cond t None (option_map (λ l. edge_with time (wire_of chip) l) (level_after (way_text level))))
+    (ne_eqb (length chip) 0 (λ e. absurd (omega (arith, ends.0))))
+    ∙ ap (option_map (λ l. edge_with time (wire_of chip) l)) (way-read level)
+    ∙ ap (λ wire. Some (edge_with time wire level)) (chip-wire name is)
+
+-- the wires of a name
+named-none :
+    (i : ℕ) (name : List ℕ) (level : Level) (names : List (List ℕ)) → AreOthers name names → named_levels i name level names ≡ []
+named-none i name level [] all = refl
+named-none i name level (own ∷ names) all =
+    let rest = named_levels (i + 1) name level names in
+    ap (λ t. cond t (events.Level i level ∷ rest) rest) all.0 ∙ named-none (i + 1) name level names all.1
+
+named-one :
+    (i : ℕ) (name : List ℕ) (level : Level) (before after : List (List ℕ)) → AreOthers name before → AreOthers name after
+    → named_levels i name level (before ++ name ∷ after) ≡ events.Level (i + length before) level ∷ []
+named-one i name level [] after first last =
+    let rest = named_levels (i + 1) name level after in
+    let here : i ≡ i + 0 = omega arith in
+    ap (λ t. cond t (events.Level i level ∷ rest) rest) (same_bytes name)
+    ∙ ap (λ later. events.Level i level ∷ later) (named-none (i + 1) name level after last)
+    ∙ ap (λ k. events.Level k level ∷ []) here
+named-one i name level (own ∷ before) after first last =
+    let rest = named_levels (i + 1) name level (before ++ name ∷ after) in
+    let there : i + 1 + length before ≡ i + length (own ∷ before) = omega arith in
+    ap (λ t. cond t (events.Level i level ∷ rest) rest) first.0
+    ∙ named-one (i + 1) name level before after first.1 last
+    ∙ ap (λ k. events.Level k level ∷ []) there
+
+pub own_name :
+    (names : List (List ℕ)) (wire : ℕ) (level : Level) → AreNames names → wire < length names
+    → IsName (get_or names wire []) × (named_levels 0 (get_or names wire []) level names ≡ events.Level wire level ∷ [])
+own_name names wire level lawful within =
+    let name : List ℕ = get_or names wire [] in
+    let before : List (List ℕ) = take wire names in
+    let after : List (List ℕ) = drop (suc wire) names in
+    let all : names ≡ before ++ name ∷ after = split_at names wire [] within in
+    let P : List (List ℕ) → Type 0 = λ them. AllByRecursion IsName them in
+    let Q : List (List ℕ) → Type 0 = λ them. IsDistinct bytes_eq them in
+    let apart = others_differ name before after (subst Q all lawful.distinct) in
+    let count : 0 + length before ≡ wire = omega (arith, length-take-le wire names (omega arith)) in (
+      one_of IsName name before after (subst P all lawful.words),
+      ap (named_levels 0 name level) all ∙ named-one 0 name level before after apart.0 apart.1
+          ∙ ap (λ k. events.Level k level ∷ []) count,
+    )
+
+-- a line
+line-read :
+    (names : List (List ℕ)) (last : Option ℕ) (edge : Change) (said : List Event) → AreNames names → edge.wire < length names
+    → 2 ^ 62 ≤ edge.tick → edge.tick < 2 ^ 63 → time_said last edge.tick ≡ Ok said
+    → gpiomon_line_says (gpiomon_with names last) (edge_line names edge)
+    ≡ Ok (said ++ events.Level edge.wire edge.level ∷ [], gpiomon_with names (Some edge.tick))
+line-read names last edge said lawful within late early times =
+    let name : List ℕ = get_or names edge.wire [] in
+    let own = own_name names edge.wire edge.level lawful within in
+    let time : List ℕ = seconds_text edge.tick in
+    let later : List ℕ = 32 ∷ (way_text edge.level ++ (codes " gpiochip0 " ++ name)) in
+    let line : List ℕ = time ++ later in
+    let state : GpiomonState = gpiomon_with names last in
+    let small : edge.tick < 2 ^ 64 = omega arith in
+    let some : 0 < length line = omega (arith, length-append time later, seconds_nonempty edge.tick small) in
+    let ends : EndsBare line =
+    ends_append time later (ends-after 32 _ (ends_append (way_text edge.level) _ (ends_append (codes " gpiochip0 ") name (name_ends name own.0)))) in
+    let same : trimmed line ≡ line =
+    trimmed_same line (begins_more time later (seconds_nonempty edge.tick small) (name_begins time (seconds_name edge.tick small))) ends in
+    let read : edge_of line ≡ Some (edge_with time name edge.level) =
+    ap (λ t. cond t (first_kind line) (second_kind line)) (seconds_start 101 (codes "vent:") edge.tick later small refl)
+    ∙ second-read edge.tick edge.level name small own.0 in
+    ap (λ t. cond (length t == 0) (Ok ([], state)) (edge_line_says state t)) same
+    ∙ ap (λ t. cond t (Ok ([], state)) (edge_line_says state line)) (ne_eqb (length line) 0 (λ e. absurd (omega (arith, some))))
+    ∙ ap (λ found. result_and_then (λ edge. result_and_then (λ time. edge_says state edge time) (ok_or (nanoseconds_of edge.time) refusals.Time)) (ok_or found refusals.Edge)) read
+    ∙ ap (λ found. result_and_then (λ time. edge_says state (edge_with (seconds_text edge.tick) name edge.level) time) (ok_or found refusals.Time)) (seconds_are_read edge.tick late early)
+    ∙ ap (result_map (λ said. (said ++ named_levels 0 name edge.level names, gpiomon_with names (Some edge.tick)))) times
+    ∙ ap (λ levels. Ok (said ++ levels, gpiomon_with names (Some edge.tick))) own.1
+
+-- the edges after one at this tick
+rest-read :
+    (names : List (List ℕ)) (tick end : ℕ) (edges : List Change) → AreNames names → AreInOrder (length names) tick edges end
+    → 2 ^ 62 ≤ tick → end < 2 ^ 63
+    → gpiomon_says (gpiomon_with names (Some tick)) (edge_lines names edges) ≡ Ok (change_events edges)
+rest-read names tick end [] lawful order late early = refl
+rest-read names tick end (edge ∷ rest) lawful order late early =
+    let after : edge.tick ≤ end = never_after_end (length names) edge.tick rest end order.2 in
+    let next : tick ≤ edge.tick = order.1 in
+    let said : List Event = events.At edge.tick ∷ [] in
+    let times : time_said (Some tick) edge.tick ≡ Ok said =
+    let before : nat_lt edge.tick tick ≡ false = grind (arith, nat_tests) in
+    ap (λ t. cond t (Err refusals.Backwards) (Ok said)) before in
+    line_says gpiomon_line_says gpiomon_ends (gpiomon_with names (Some tick)) (gpiomon_with names (Some edge.tick)) (edge_line names edge)
+    (edge_lines names rest) (said ++ events.Level edge.wire edge.level ∷ [])
+    (line-read names (Some tick) edge said lawful order.0 (omega arith) (omega arith) times)
+    ∙ ap (then_later (said ++ events.Level edge.wire edge.level ∷ []))
+    (rest-read names edge.tick end rest lawful order.2 (omega arith) early)
+
+pub written_edges_are_read : WrittenEdgesAreRead
+written_edges_are_read names [] end lawful order early = refl
+written_edges_are_read names (edge ∷ rest) end lawful order early =
+    let after : edge.tick ≤ end = never_after_end (length names) edge.tick rest end order.2 in
+    let late : 2 ^ 62 ≤ edge.tick = order.1 in
+    let said : List Event = events.Ticks NANOSECONDS ∷ events.At edge.tick ∷ [] in
+    line_says gpiomon_line_says gpiomon_ends (gpiomon_with names None) (gpiomon_with names (Some edge.tick)) (edge_line names edge)
+    (edge_lines names rest) (said ++ events.Level edge.wire edge.level ∷ [])
+    (line-read names None edge said lawful order.0 late (omega arith) refl)
+    ∙ ap (then_later (said ++ events.Level edge.wire edge.level ∷ []))
+    (rest-read names edge.tick end rest lawful order.2 late early)

@@ -1,0 +1,159 @@
+-- Times that are written are read back.
+use Rattle.std.proofs.Common.{◌≡◌, ℕ, zero, suc, ◌+◌, ◌-◌, ◌*◌, ◌/◌, ◌%◌, ◌^◌, ◌<◌, ◌≤◌, List, [], ◌∷◌, ◌++◌, Bool, true, false, cond, Some, None, length, length-append, take, drop, replicate, refl, ap, subst, ◌∙◌, arith, ne_eqb, not, append_assoc}
+use Rattle.std.proofs.Math.Seq.{drop-append-add, take-append_seam}
+use Rattle.std.specs.Prelude.{decimal, nat_eq, nat_lt, ◌==◌, option_map}
+use Rattle.std.specs.List.{list_all, position, position_or_len, prefix_len, starts_with}
+use Rattle.std.specs.Option.{option_and_then, unwrap_or}
+use Rattle.std.proofs.lemmas.Bool.{and_from, and_parts}
+use Rattle.std.proofs.lemmas.Bool.Decides.{nat_tests}
+use Rattle.std.proofs.lemmas.Fmt.{decimal_nonempty}
+use Rattle.std.proofs.lemmas.List.Folds.{list_all-append}
+use Rattle.xb_text.specs.Pieces.{cut_at}
+use Rattle.xb_contact.specs.Numbers.{is_digit, number_in}
+use Rattle.xb_contact.proofs.Written.{digits_are, digits_are_read, number_is_read}
+use Rattle.xb_csv.specs.Seconds.{fitting, fraction_of, from_origin, is_number, nanoseconds_by, nanoseconds_of, nine_digits, unsigned_nanoseconds}
+use Rattle.xb_csv.specs.Written.{last_digits, seconds_text}
+
+-- how many numbers so many digits write
+abbrev numbers_of : ℕ → ℕ
+numbers_of zero = 1
+numbers_of (suc more) = 10 * numbers_of more
+
+digits-read : (count number : ℕ) → number < numbers_of count → number < 2 ^ 64
+    → number_in 0 (last_digits count number) ≡ Some number
+unfolding last_digits
+digits-read zero number few small = let none : 0 ≡ number = omega arith in ap Some none
+digits-read (suc more) number few small =
+    let bound = numbers_of more in
+    let same : number / 10 * 10 + number % 10 ≡ number = omega arith in
+    digits_are_read 0 (number / 10) (number % 10) (last_digits more (number / 10))
+    (digits-read more (number / 10) (omega arith) (omega arith)) (omega arith) (omega arith)
+    ∙ ap Some same
+
+pub digits_number : (count number : ℕ) → length (last_digits count number) ≡ count
+unfolding last_digits
+digits_number zero number = refl
+digits_number (suc more) number =
+    omega (arith, length-append (last_digits more (number / 10)) ((48 + number % 10) ∷ []), digits_number more (number / 10))
+
+pub last_digits_are :
+    (test : ℕ → Bool) → ((digit : ℕ) → digit < 10 → test (48 + digit) ≡ true) → (count number : ℕ)
+    → list_all test (last_digits count number) ≡ true
+unfolding last_digits
+last_digits_are test holds zero number = refl
+last_digits_are test holds (suc more) number =
+    list_all-append test (last_digits more (number / 10)) ((48 + number % 10) ∷ [])
+    ∙ and_from _ _ (last_digits_are test holds more (number / 10)) (and_from _ _ (holds (number % 10) (omega arith)) refl)
+
+-- the first place of a byte that no byte before it passes
+pub before_it :
+    (test : ℕ → Bool) (bytes rest : List ℕ) (byte : ℕ) → list_all test bytes ≡ true → test byte ≡ false
+    → prefix_len test (bytes ++ byte ∷ rest) ≡ length bytes
+before_it test [] rest byte all ends = ap (λ t. cond t (1 + prefix_len test rest) 0) ends
+before_it test (first ∷ bytes) rest byte all ends =
+    let parts = and_parts (test first) (list_all test bytes) all in
+    ap (λ t. cond t (1 + prefix_len test (bytes ++ byte ∷ rest)) 0) parts.0
+    ∙ ap (λ n. 1 + n) (before_it test bytes rest byte parts.1 ends)
+    ∙ (omega arith)
+
+pub place_of :
+    (test : ℕ → Bool) (bytes rest : List ℕ) (byte : ℕ) → list_all (λ b. not (test b)) bytes ≡ true → test byte ≡ true
+    → position test (bytes ++ byte ∷ rest) ≡ Some (length bytes)
+place_of test bytes rest byte none here =
+    let at : position_or_len test (bytes ++ byte ∷ rest) ≡ length bytes =
+    before_it (λ b. not (test b)) bytes rest byte none (ap not here) in
+    let within : nat_lt (length bytes) (length (bytes ++ byte ∷ rest)) ≡ true =
+    let longer = length-append bytes (byte ∷ rest) in grind (arith, nat_tests) in
+    ap (λ n. cond (nat_lt n (length (bytes ++ byte ∷ rest))) (Some n) None) at
+    ∙ ap (λ t. cond t (Some (length bytes)) None) within
+
+pub cut_there :
+    (at : ℕ) (bytes rest : List ℕ) → list_all (λ b. not (b == at)) bytes ≡ true → (at == at) ≡ true
+    → cut_at at (bytes ++ at ∷ rest) ≡ Some (bytes, rest)
+cut_there at bytes rest none here =
+    ap (option_map (λ n. (take n (bytes ++ at ∷ rest), drop (n + 1) (bytes ++ at ∷ rest))))
+    (place_of (λ b. b == at) bytes rest at none here)
+    ∙ ap (λ front. Some (front, drop (length bytes + 1) (bytes ++ at ∷ rest))) (take-append_seam bytes (at ∷ rest))
+    ∙ ap (λ back. Some (bytes, back)) (drop-append-add bytes (at ∷ rest) 1)
+
+fraction-read : (number : ℕ) → number < 1000000000 → fraction_of (last_digits 9 number) ≡ Some number
+fraction-read number small =
+    let digits = last_digits 9 number in
+    let count : length digits ≡ 9 = digits_number 9 number in
+    let all : is_number digits ≡ true = last_digits_are is_digit (λ digit low. grind (arith, nat_tests)) 9 number in
+    let nine : nine_digits digits ≡ digits =
+    subst (λ n. take n (digits ++ replicate 9 48) ≡ digits) count (take-append_seam digits (replicate 9 48)) in
+    ap (λ t. cond t (number_in 0 (nine_digits digits)) None) all
+    ∙ ap (number_in 0) nine
+    ∙ digits-read 9 number small (omega arith)
+
+no-start :
+    (first : ℕ) (needle digits rest : List ℕ) → 0 < length digits → list_all is_digit digits ≡ true → is_digit first ≡ false
+    → starts_with nat_eq (digits ++ rest) (first ∷ needle) ≡ false
+no-start first needle [] rest some all other = absurd (omega arith)
+no-start first needle (digit ∷ digits) rest some all other =
+    let parts = and_parts (is_digit digit) (list_all is_digit digits) all in
+    let apart : nat_eq first digit ≡ false = ne_eqb first digit (λ e. let same : is_digit first ≡ is_digit digit = ap is_digit e in cc) in
+    rw apart
+
+-- no time begins with anything but a digit
+pub seconds_start :
+    (first : ℕ) (needle : List ℕ) (tick : ℕ) (rest : List ℕ) → tick < 2 ^ 64 → is_digit first ≡ false
+    → starts_with nat_eq (seconds_text tick ++ rest) (first ∷ needle) ≡ false
+unfolding seconds_text
+seconds_start first needle tick rest small other =
+    let whole : ℕ = (tick - 2 ^ 62) / 1000000000 in
+    let low : whole < 2 ^ 64 = omega arith in
+    let later : List ℕ = 46 ∷ last_digits 9 ((tick - 2 ^ 62) % 1000000000) in
+    ap (λ text. starts_with nat_eq text (first ∷ needle)) (append_assoc (decimal whole) later rest)
+    ∙ no-start first needle (decimal whole) (later ++ rest) (decimal_nonempty whole low)
+    (digits_are is_digit (λ digit few. grind (arith, nat_tests)) whole low) other
+
+-- a time
+pub seconds_are_read : (tick : ℕ) → 2 ^ 62 ≤ tick → tick < 2 ^ 63 → nanoseconds_of (seconds_text tick) ≡ Some tick
+unfolding nanoseconds_of seconds_text
+seconds_are_read tick late early =
+    let time : ℕ = tick - 2 ^ 62 in
+    let whole : ℕ = time / 1000000000 in
+    let part : ℕ = time % 1000000000 in
+    let text : List ℕ = decimal whole ++ 46 ∷ last_digits 9 part in
+    let small : whole < 2 ^ 64 = omega arith in
+    let sum : whole * 1000000000 + part ≡ time = omega arith in
+    let fits : nat_lt time (2 ^ 64) ≡ true = grind (arith, nat_tests) in
+    let near : nat_lt time (2 ^ 62) ≡ true = grind (arith, nat_tests) in
+    let back : 2 ^ 62 + time ≡ tick = omega arith in
+    let digits : list_all is_digit (decimal whole) ≡ true =
+    digits_are is_digit (λ digit low. grind (arith, nat_tests)) whole small in
+    let cut : cut_at 46 text ≡ Some (decimal whole, last_digits 9 part) =
+    cut_there 46 (decimal whole) (last_digits 9 part)
+    (digits_are (λ b. not (b == 46)) (λ digit low. ap not (ne_eqb (48 + digit) 46 (λ e. absurd (omega arith)))) whole small) refl in
+    let unsigned : unsigned_nanoseconds text ≡ Some time =
+    ap (λ parts. nanoseconds_by (unwrap_or parts (text, []))) cut
+    ∙ ap (option_and_then (λ w. option_and_then (λ f. fitting (w * 1000000000 + f)) (fraction_of (last_digits 9 part)))) (number_is_read whole small)
+    ∙ ap (option_and_then (λ f. fitting (whole * 1000000000 + f))) (fraction-read part (omega arith))
+    ∙ ap fitting sum
+    ∙ ap (λ t. cond t (Some time) None) fits in
+    ap (λ t. cond t (option_and_then (from_origin true) (unsigned_nanoseconds (drop 1 text))) (option_and_then (from_origin false) (unsigned_nanoseconds text)))
+    (no-start 45 [] (decimal whole) (46 ∷ last_digits 9 part) (decimal_nonempty whole small) digits refl)
+    ∙ ap (option_and_then (from_origin false)) unsigned
+    ∙ ap (λ t. cond t (Some (2 ^ 62 + time)) None) near
+    ∙ ap Some back
+
+-- what holds of each byte of it
+pub seconds_pass :
+    (test : ℕ → Bool) → ((digit : ℕ) → digit < 10 → test (48 + digit) ≡ true) → test 46 ≡ true
+    → (tick : ℕ) → tick < 2 ^ 64 → list_all test (seconds_text tick) ≡ true
+unfolding seconds_text
+seconds_pass test digit point tick small =
+    let whole : ℕ = (tick - 2 ^ 62) / 1000000000 in
+    let part : ℕ = (tick - 2 ^ 62) % 1000000000 in
+    let low : whole < 2 ^ 64 = omega arith in
+    list_all-append test (decimal whole) (46 ∷ last_digits 9 part)
+    ∙ and_from _ _ (digits_are test digit whole low) (and_from _ _ point (last_digits_are test digit 9 part))
+
+pub seconds_nonempty : (tick : ℕ) → tick < 2 ^ 64 → 0 < length (seconds_text tick)
+unfolding seconds_text
+seconds_nonempty tick small =
+    let whole : ℕ = (tick - 2 ^ 62) / 1000000000 in
+    let part : ℕ = (tick - 2 ^ 62) % 1000000000 in
+    omega (arith, length-append (decimal whole) (46 ∷ last_digits 9 part))

@@ -1,0 +1,15 @@
+//! What the definitions of `specs/` come to: each law is the contract of a function that does nothing.
+ghost use Rattle.xb_recording.specs.declared.wanted.Wanted.{Wanted};
+ghost use Rattle.xb_recording.specs.Constants.{AreConstants};
+ghost use Rattle.xb_recording.specs.Written.{WrittenIsRead};
+
+/// The longest text line, and the mark before a text.
+pub fn constants()
+    ensures { AreConstants }
+{}
+
+/// Whatever wires do, written as a VCD, as edges of gpiomon, or as rows of times and levels, a text says just that of
+/// them: nothing is lost, added or moved.
+pub fn written_is_read()
+    ensures { (wanted : Wanted) → WrittenIsRead wanted }
+{}
