@@ -28,8 +28,8 @@ pub struct Deck<'a> {
     pub rows: &'a [u8],
 }
 
-// Whether a line is the cut.
-pub(crate) fn is_cut(line: &[u8]) -> bool
+/// Whether a line, without its LF, is the cut: `---`, and one CR may follow.
+pub fn is_cut(line: &[u8]) -> bool
     ensures { result ≡ is_cut line.now }
 {
     line == b"---".as_slice() || line == b"---\r".as_slice()

@@ -21,6 +21,6 @@ mod fault;
 pub mod laws;
 mod table;
 
-pub use deck::{Deck, MOST_DECK_BYTES, read_deck};
+pub use deck::{Deck, MOST_DECK_BYTES, is_cut, read_deck};
 pub use fault::DeckFault;
 pub use table::{TableFault, read_table};
