@@ -2,19 +2,26 @@ use Rattle.std.proofs.Common.{◌≡◌, ◌∙◌, ◌+◌, ◌*◌, ℕ, List,
 use Rattle.std.specs.Int.{w16}
 use Rattle.std.proofs.lemmas.Int.{to_z-of_z}
 use Rattle.std.proofs.lemmas.List.{take_rest}
-use Rattle.xb_wav.specs.declared.coding.Form.{Form}
-use Rattle.xb_wav.specs.Samples.{frame_bytes, height, sample_at, sum_of}
-use Rattle.xb_wav.proofs.coding.Form.sample_of.Goals as goal
+use Rattle.xb_wav.specs.declared.coding.SampleForm.{SampleForm}
+use Rattle.xb_wav.specs.Samples.{frame_bytes, height, sum_of}
+use Rattle.xb_riff.specs.Codings.{sample_at}
+use Rattle.xb_wav.proofs.Sounds.{frame-fits}
+use Rattle.xb_wav.proofs.coding.SampleForm.sample_of.Goals as goal
 
-none : (form : Form) (bytes : List ℕ) → 0 ≡ sum_of form 0 bytes
+none : (form : SampleForm) (bytes : List ℕ) → 0 ≡ sum_of form 0 bytes
 unfolding sum_of
 none form bytes = refl
 
 -- a frame more
-more : (form : Form) (n : ℕ) (bytes : List ℕ)
+more : (form : SampleForm) (n : ℕ) (bytes : List ℕ)
     → sum_of form n bytes + height (sample_at form.coding (drop (n * frame_bytes form) bytes)) ≡ sum_of form (n + 1) bytes
 unfolding sum_of
 more form n bytes = rw add-one refl
+
+pub sample_of-requires : goal.sample_of-requires
+sample_of-requires c =
+    frame-fits c.args.self c.loop-n.n c.frame_bytes-frame.result c.args.bytes.now c.requires.form
+    c.frame_bytes-frame.ensures.value c.loop-n-test.true c.requires.length
 
 pub loop-n-init : goal.loop-n-init
 loop-n-init c = record { sum_is = none c.args.self c.args.bytes.now; bound = omega arith }
@@ -22,9 +29,9 @@ loop-n-init c = record { sum_is = none c.args.self c.args.bytes.now; bound = ome
 pub loop-n-preserved : goal.loop-n-preserved
 loop-n-preserved c =
     let bytes = c.args.bytes.now in
-    let x : ℤ = c.sample_at.result in
+    let x : ℤ = c.sample_of.result in
     let fits : FitsSigned w16 x = search rules in
-    let here = simp take_rest at c.sample_at.ensures in
+    let here = simp take_rest at c.sample_of.ensures in
     let tall = c.height-sum.ensures.value in record {
       sum_is = ap₂ (λ (a b : ℕ). a + b) c.loop-n.invariant.sum_is
           (tall

@@ -1,6 +1,6 @@
 use Rattle.std.proofs.Common.{◌≡◌, ◌≤◌, ◌*◌}
 use Rattle.xb_wav.specs.Samples.{sum_of}
-use Rattle.xb_wav.proofs.coding.Form.sample_of.Given as goal
+use Rattle.xb_wav.proofs.coding.SampleForm.sample_of.Given as goal
 
 abbrev pub invariant-loop-n : goal.invariant-loop-n
 invariant-loop-n l = record {
