@@ -6,6 +6,8 @@
 #[cfg(test)]
 mod folder;
 #[cfg(test)]
+mod heads;
+#[cfg(test)]
 mod pages;
 #[cfg(test)]
 mod statuses;

@@ -1,6 +1,6 @@
 -- Why a recording is refused.
 use Rattle.std.proofs.Common.{◌≡◌, ℕ, List, [], ◌++◌, true, None, Some, drop, ap, inl, inr, refl, sym, subst, ◌∙◌}
-use Rattle.std.specs.Prelude.{Err, length}
+use Rattle.std.specs.Prelude.{Err, Ok, Result, length}
 use Rattle.xb_csv.specs.Tables.{table_says}
 use Rattle.xb_csv.specs.declared.columns.TableForm.{TableForm}
 use Rattle.xb_csv.specs.declared.columns.TableForm.TheVariants as forms
@@ -11,13 +11,13 @@ use Rattle.xb_contact.specs.declared.event.Refusal.TheVariants as refusals
 use Rattle.xb_contact.specs.Steps.{IsOnly}
 use Rattle.xb_samples.specs.declared.bits.Bits.{Bits}
 use Rattle.xb_samples.specs.declared.sound.Sound.{Sound}
-use Rattle.xb_samples.specs.declared.wav.WavFormat.{WavFormat}
-use Rattle.xb_samples.specs.declared.wav.WavHead.{WavHead}
+use Rattle.xb_riff.specs.declared.coding.Coding.TheVariants as coding
+use Rattle.xb_riff.specs.declared.head.WavFormat.{WavFormat}
 use Rattle.xb_samples.specs.Pieces.{RunsOver}
 use Rattle.xb_samples.specs.Samples.{bits_state}
 use Rattle.xb_samples.specs.Sounds.{high_of, sound_state}
-use Rattle.xb_samples.specs.Wavs.{HeadBegins, RefusesHead, Samples, TakesHead}
-use Rattle.xb_samples.proofs.WavLemmas.{head_nothing, wav_is}
+use Rattle.xb_riff.specs.Heads.{HeadBegins, HeadSoFar, Samples, TakesHead, head_of, rest_of}
+use Rattle.xb_samples.specs.Wavs.{BeginsNothing, EndsBefore}
 use Rattle.xb_recording.specs.declared.format.Format.{Format}
 use Rattle.xb_recording.specs.declared.format.Format.TheVariants as formats
 use Rattle.xb_recording.specs.declared.reader.Reader.{Reader}
@@ -72,20 +72,27 @@ sound_late reader sound bytes refusal is over only = λ other.
     let P : Source → Type 0 = λ s. IsTooLong reader s bytes refusal in
     inr (subst P (sym is) (only other, over other))
 
+-- what is refused is not taken, and what is taken is one
+err_or_ok : {A E B : Type 0} {x : A} {e : E} (r : Result A E) → r ≡ Err e → r ≡ Ok x → B
+err_or_ok r a b = cc
+
+same_ok : {A E : Type 0} {x y : A} (r : Result A E) → r ≡ Ok x → r ≡ Ok y → x ≡ y
+same_ok r a b = cc
+
 -- bytes that begin no WAV
 pub head_is_refused :
-    (reader : Reader) (head : WavHead) (bytes : List ℕ) (refusal : Refusal) → reader.source ≡ sources.WavHead head
-    → RefusesHead head bytes refusal → IsOnly refusals.Wav refusal → Refuses reader bytes refusal
+    (reader : Reader) (head : HeadSoFar) (bytes : List ℕ) (refusal : Refusal) → reader.source ≡ sources.WavHead head
+    → BeginsNothing head bytes → refusal ≡ refusals.Wav → Refuses reader bytes refusal
 head_is_refused reader head bytes refusal is refused only = λ other.
     inl (λ text.
     let P : Source → Type 0 = λ s. SourceRefused reader.wanted.now s (lines_left reader (bytes ++ text)) (bytes ++ text) refusal in
     let all : WavRefused (HeadBegins head (bytes ++ text)) reader.wanted.now refusal =
-    (λ samples k. absurd (refused other text samples k), λ none. only other) in
+    (λ samples k. err_or_ok (rest_of head (bytes ++ text)) (refused text).1 k, λ none. only) in
     subst P (sym is) all)
 
 -- those whose samples are refused
 pub samples_are_refused :
-    (reader : Reader) (head after : WavHead) (bytes : List ℕ) (found : WavFormat × ℕ) (refusal : Refusal)
+    (reader : Reader) (head after : HeadSoFar) (bytes : List ℕ) (found : WavFormat × ℕ) (refusal : Refusal)
     → reader.source ≡ sources.WavHead head → TakesHead head bytes (Some found) after
     → RefusesSamples found.0 reader (drop found.1 bytes) refusal → Refuses reader bytes refusal
 samples_are_refused reader head after bytes found refusal is taken refused = λ other.
@@ -94,7 +101,7 @@ samples_are_refused reader head after bytes found refusal is taken refused = λ 
     let Q : Samples → Type 0 = λ samples. SamplesRefused reader.wanted.now samples refusal in
     let first : Samples = (found.0, drop found.1 bytes ++ text) in
     let all : WavRefused (HeadBegins head (bytes ++ text)) reader.wanted.now refusal =
-    (λ samples k. subst Q (sym ((taken text samples).1 k)) (refused other text), λ none. absurd (none first ((taken text first).0 refl))) in
+    (λ samples k. subst Q (same_ok (rest_of head (bytes ++ text)) (taken text) k) (refused other text), λ none. absurd (none first (taken text))) in
     subst P (sym is) all)
 
 -- what is refused later is refused: of a text
@@ -117,13 +124,13 @@ keeps_text old new bytes said h taken text refusal k =
 
 -- of a WAV whose samples have not begun
 pub keeps_head :
-    (reader : Reader) (head after : WavHead) (bytes : List ℕ) → reader.source ≡ sources.WavHead head
+    (reader : Reader) (head after : HeadSoFar) (bytes : List ℕ) → reader.source ≡ sources.WavHead head
     → TakesHead head bytes None after → KeepsRefusals reader (record reader { source = sources.WavHead after }) bytes
 keeps_head reader head after bytes is taken text refusal k =
     let P : Source → Type 0 = λ s. SourceRefused reader.wanted.now s (lines_left reader (bytes ++ text)) (bytes ++ text) refusal in
     let all : WavRefused (HeadBegins head (bytes ++ text)) reader.wanted.now refusal = (
-      λ samples b. k.0 samples ((taken text samples).1 b),
-      λ none. k.1 (λ samples b. none samples ((taken text samples).0 b)),
+      λ samples b. k.0 samples (sym (taken text) ∙ b),
+      λ none. k.1 (λ samples b. none samples (taken text ∙ b)),
     ) in
     subst P (sym is) all
 
@@ -177,7 +184,7 @@ bits_refusals wanted (sources.Sound sound) said h text refusal k = elim h [ ]
 
 sound_refusals :
     (wanted : Wanted) (source : Source) (said : List Event)
-    → IsBegunSound 1 wanted.rate None (high_of wanted.threshold) (names_in wanted) source said
+    → IsBegunSound coding.Signed16 1 wanted.rate None (high_of wanted.threshold) (names_in wanted) source said
     → (text : List ℕ) (refusal : Refusal) → SourceRefused wanted source (text_lines text) text refusal
     → IsRefused formats.Sixteen wanted text refusal
 sound_refusals wanted (sources.Sound sound) said h text refusal k = elim k [ ]
@@ -191,10 +198,9 @@ wav_refusals :
     (wanted : Wanted) (source : Source) (said : List Event) → IsBegunWav source said
     → (text : List ℕ) (refusal : Refusal) → SourceRefused wanted source (text_lines text) text refusal
     → IsRefused formats.Wav wanted text refusal
-wav_refusals wanted (sources.WavHead head) said h text refusal k = (
-  λ samples w. k.0 samples ((wav_is head text samples h.0).1 w),
-  λ none. k.1 (λ samples b. none samples ((wav_is head text samples h.0).0 b)),
-)
+wav_refusals wanted (sources.WavHead head) said h text refusal k =
+    let same : rest_of head text ≡ head_of text = ap (λ (s : HeadSoFar). rest_of s text) h.0 in
+    (λ samples w. k.0 samples (same ∙ w), λ none. k.1 (λ samples b. none samples (sym same ∙ b)))
 wav_refusals wanted (sources.Vcd vcd) said h text refusal k = elim h [ ]
 wav_refusals wanted (sources.Columns table) said h text refusal k = elim h [ ]
 wav_refusals wanted (sources.Gpiomon gpiomon) said h text refusal k = elim h [ ]
@@ -226,10 +232,10 @@ reader_refusals format wanted source said line none is text refusal k =
 
 -- a WAV that ends before its samples
 pub head_ends :
-    (wanted : Wanted) (source : Source) (head : WavHead) (lines : List (List ℕ)) → source ≡ sources.WavHead head
-    → SourceRefused wanted source lines [] refusals.Wav
-head_ends wanted source head lines is =
+    (wanted : Wanted) (source : Source) (head : HeadSoFar) (lines : List (List ℕ)) → source ≡ sources.WavHead head
+    → EndsBefore head → SourceRefused wanted source lines [] refusals.Wav
+head_ends wanted source head lines is ends =
     let P : Source → Type 0 = λ s. SourceRefused wanted s lines [] refusals.Wav in
     let all : WavRefused (HeadBegins head []) wanted refusals.Wav =
-    (λ samples k. absurd (head_nothing head samples k), λ none. refl) in
+    (λ samples k. err_or_ok (rest_of head []) ends.1 k, λ none. refl) in
     subst P (sym is) all

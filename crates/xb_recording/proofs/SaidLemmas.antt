@@ -16,18 +16,18 @@ use Rattle.xb_recording.specs.declared.reader.Source.{Source}
 use Rattle.xb_recording.specs.declared.reader.Source.TheVariants as sources
 use Rattle.xb_samples.specs.declared.sound.Channel.{Channel}
 use Rattle.xb_samples.specs.declared.sound.Sound.{Sound}
-use Rattle.xb_samples.specs.declared.wav.WavFormat.{WavFormat}
-use Rattle.xb_samples.specs.declared.wav.WavHead.{WavHead}
-use Rattle.xb_samples.specs.Wavs.{Samples, TakesHead}
+use Rattle.xb_riff.specs.declared.coding.Coding.{Coding}
+use Rattle.xb_riff.specs.declared.coding.Coding.TheVariants as coding
+use Rattle.xb_riff.specs.declared.head.WavFormat.{WavFormat}
+use Rattle.xb_riff.specs.Heads.{HeadSoFar, Samples, TakesHead, rest_of}
 use Rattle.xb_csv.specs.Gpiomons.{GpiomonState, gpiomon_says, gpiomon_with}
 use Rattle.xb_recording.specs.declared.wanted.Wanted.{Wanted}
 use Rattle.xb_csv.specs.Tables.{table_says}
 use Rattle.xb_samples.specs.Pieces.{SamplesSay, samples_events}
 use Rattle.xb_samples.specs.Samples.{BitsState, bits_of, bits_reading, bits_say, bits_state, masks_of, rate_says}
 use Rattle.xb_samples.specs.Sounds.{SoundSays, SoundState, begun_sound, high_of, own_bytes, samples_after, samples_left, samples_of, sound_begins, sound_reading, sound_says, sound_state, wires_of}
-use Rattle.xb_recording.specs.Says.{BitsSay, BytesSay, IsBegunBits, IsBegunGpiomon, IsBegunSound, IsBegunTable, IsBegunVcd, IsBegunWav, IsOfFormat, LinesSay, Says, SixteenSay, TableSays, Takes, TakesBytes, TakesText, WavSays, is_text, lines_in, lines_left, names_in, plain_lines, text_lines}
+use Rattle.xb_recording.specs.Says.{BitsSay, BytesSay, IsBegunBits, IsBegunGpiomon, IsBegunSound, IsBegunTable, IsBegunVcd, IsBegunWav, IsOfFormat, LinesSay, Says, SoundSaid, TableSays, Takes, TakesBytes, TakesText, WavSays, is_text, lines_in, lines_left, names_in, plain_lines, text_lines}
 use Rattle.xb_samples.proofs.WaitLemmas.{same-after}
-use Rattle.xb_samples.proofs.WavLemmas.{wav_is}
 
 ok_is : {A : Type 0} {x y : A} → ◌≡◌ {A = Result A Refusal} (Ok x) (Ok y) → x ≡ y
 ok_is {A} {x} {y} e = ap (λ o. result_unwrap_or o x) e
@@ -129,11 +129,11 @@ bits_begin wanted (sources.Sound sound) said h text later k = elim h [ ]
 
 -- the beginning of sound
 sound_begin :
-    (channels : ℕ) (rate length : Option ℕ) (wanted : Wanted) (source : Source) (said : List Event)
-    → IsBegunSound channels rate length (high_of wanted.threshold) (names_in wanted) source said
+    (how : Coding) (channels : ℕ) (rate length : Option ℕ) (wanted : Wanted) (source : Source) (said : List Event)
+    → IsBegunSound how channels rate length (high_of wanted.threshold) (names_in wanted) source said
     → (text : List ℕ) (later : List Event) → BytesSay wanted source text later
-    → SixteenSay channels rate wanted (own_bytes length text) (said ++ later)
-sound_begin channels rate length wanted (sources.Sound sound) said h text later k =
+    → SoundSaid how channels rate wanted (own_bytes length text) (said ++ later)
+sound_begin how channels rate length wanted (sources.Sound sound) said h text later k =
     at (wires_of channels (names_in wanted)) refl h.0.0 h.1
   where
     high : ℤ
@@ -143,26 +143,27 @@ sound_begin channels rate length wanted (sources.Sound sound) said h text later 
         (found : Result (List Channel) Refusal) → wires_of channels (names_in wanted) ≡ found
         → result_map (begun_sound channels high) found ≡ Ok (sound_state sound)
         → AddsAll (result_and_then (sound_begins rate) found) [] said
-        → SixteenSay channels rate wanted (own_bytes length text) (said ++ later)
+        → SoundSaid how channels rate wanted (own_bytes length text) (said ++ later)
     at (Err refusal) e f g = absurd (err_is f)
     at (Ok wires) e f g =
         let state : begun_sound channels high wires ≡ sound_state sound = ok_is f in
-        let samples : List ℤ = samples_of (own_bytes length text) in
+        let samples : List ℤ = samples_of how (own_bytes length text) in
         let more : List Event = samples_events sound_reading (begun_sound channels high wires) samples in
         let whole : sound_says channels high (names_in wanted) rate samples ≡ Ok (said ++ more) =
         ap (result_and_then (λ found. result_map (λ told. told ++ samples_events sound_reading (begun_sound channels high found) samples) (sound_begins rate found))) e
         ∙ ap (result_map (λ told. told ++ more)) (all-added (sound_begins rate wires) said g) in
         let same : samples_left sound text ≡ samples =
-        ap (λ lower. samples_after lower (own_bytes sound.left text)) h.0.1
-        ∙ ap (λ left. samples_after None (own_bytes left text)) h.0.2 in
+        ap (λ lower. samples_after sound.coding lower (own_bytes sound.left text)) h.0.1
+        ∙ ap (λ left. samples_after sound.coding None (own_bytes left text)) h.0.2
+        ∙ ap (λ (c : Coding). samples_after c None (own_bytes length text)) h.0.3 in
         let P : SoundState → Type 0 = λ s. SamplesSay sound_reading s samples later in
         let Q : List ℤ → Type 0 = λ s. SamplesSay sound_reading (sound_state sound) s later in
         (said ++ more, whole, same-after said later more (subst P (sym state) (subst Q same k)))
-sound_begin channels rate length wanted (sources.Vcd vcd) said h text later k = elim h [ ]
-sound_begin channels rate length wanted (sources.Columns table) said h text later k = elim h [ ]
-sound_begin channels rate length wanted (sources.Gpiomon gpiomon) said h text later k = elim h [ ]
-sound_begin channels rate length wanted (sources.Bits bits) said h text later k = elim h [ ]
-sound_begin channels rate length wanted (sources.WavHead head) said h text later k = elim h [ ]
+sound_begin how channels rate length wanted (sources.Vcd vcd) said h text later k = elim h [ ]
+sound_begin how channels rate length wanted (sources.Columns table) said h text later k = elim h [ ]
+sound_begin how channels rate length wanted (sources.Gpiomon gpiomon) said h text later k = elim h [ ]
+sound_begin how channels rate length wanted (sources.Bits bits) said h text later k = elim h [ ]
+sound_begin how channels rate length wanted (sources.WavHead head) said h text later k = elim h [ ]
 
 -- the beginning of a WAV
 wav_begin :
@@ -170,7 +171,7 @@ wav_begin :
     → (text : List ℕ) (later : List Event) → BytesSay wanted source text later → Says formats.Wav wanted text (said ++ later)
 wav_begin wanted (sources.WavHead head) said h text later k =
     let P : List Event → Type 0 = λ m. WavSays wanted k.0 (m ++ later) in
-    (k.0, (wav_is head text k.0 h.0).0 k.1, subst P (sym h.1) k.2)
+    (k.0, sym (ap (λ (s : HeadSoFar). rest_of s text) h.0) ∙ k.1, subst P (sym h.1) k.2)
 wav_begin wanted (sources.Vcd vcd) said h text later k = elim h [ ]
 wav_begin wanted (sources.Columns table) said h text later k = elim h [ ]
 wav_begin wanted (sources.Gpiomon gpiomon) said h text later k = elim h [ ]
@@ -180,7 +181,7 @@ wav_begin wanted (sources.Sound sound) said h text later k = elim h [ ]
 -- the first samples of a WAV, after what is said before them
 pub samples_begin :
     (format : WavFormat) (wanted : Wanted) (sound now : Sound) (bytes : List ℕ) (before said all : List Event)
-    → IsBegunSound format.channels (Some format.rate) format.length (high_of wanted.threshold) (names_in wanted)
+    → IsBegunSound format.coding format.channels (Some format.rate) format.length (high_of wanted.threshold) (names_in wanted)
     (sources.Sound sound) before
     → all ≡ before ++ said
     → ((text : List ℕ) (later : List Event) → SoundSays now text later → SoundSays sound (bytes ++ text) (said ++ later))
@@ -190,7 +191,7 @@ samples_begin format wanted sound now bytes before said all begun told taken tex
     let P : List Event → Type 0 = λ m. WavSays wanted (format, bytes ++ text) m in
     let whole : all ++ later ≡ before ++ (said ++ later) = ap (λ m. m ++ later) told ∙ append_assoc before said later in
     subst P (sym whole)
-    (sound_begin format.channels (Some format.rate) format.length wanted (sources.Sound sound) before begun (bytes ++ text)
+    (sound_begin format.coding format.channels (Some format.rate) format.length wanted (sources.Sound sound) before begun (bytes ++ text)
     (said ++ later) (taken text later k))
 
 -- the beginning
@@ -215,7 +216,7 @@ begins formats.Saleae wanted source said h text later k = table_begins forms.Sal
 begins formats.Edges wanted source said h text later k = table_begins forms.Edges wanted source said h text later k.0
 begins formats.Gpiomon wanted source said h text later k = gpiomon_begins wanted source said h text later k.0
 begins formats.Bits wanted source said h text later k = bits_begin wanted source said h text later k.1
-begins formats.Sixteen wanted source said h text later k = sound_begin 1 wanted.rate None wanted source said h text later k.1
+begins formats.Sixteen wanted source said h text later k = sound_begin coding.Signed16 1 wanted.rate None wanted source said h text later k.1
 begins formats.Wav wanted source said h text later k = wav_begin wanted source said h text later k.1
 
 -- a reader whose line is empty
@@ -230,11 +231,11 @@ reader_begins format wanted source said line none is text later rest =
 
 -- the head of a WAV that was taken, and the samples after it
 pub head_then :
-    (wanted : Wanted) (source : Source) (head after : WavHead) (bytes text : List ℕ) (found : WavFormat × ℕ)
+    (wanted : Wanted) (source : Source) (head after : HeadSoFar) (bytes text : List ℕ) (found : WavFormat × ℕ)
     (events : List Event)
     → source ≡ sources.WavHead head → TakesHead head bytes (Some found) after
     → WavSays wanted (found.0, drop found.1 bytes ++ text) events → BytesSay wanted source (bytes ++ text) events
 head_then wanted source head after bytes text found events is taken said =
     let P : Source → Type 0 = λ s. BytesSay wanted s (bytes ++ text) events in
     let samples : Samples = (found.0, drop found.1 bytes ++ text) in
-    subst P (sym is) (samples, (taken text samples).0 refl, said)
+    subst P (sym is) (samples, taken text, said)

@@ -19,9 +19,11 @@ use Rattle.xb_vcd.specs.VcdChanges.{vcd_state}
 use Rattle.xb_vcd.specs.VcdTexts.{begun_vcd, vcd_says}
 use Rattle.xb_samples.specs.Pieces.{SamplesSay, SayTheSame}
 use Rattle.xb_samples.specs.Samples.{IsNewBits, bits_reading, bits_say, bits_state, rate_says}
-use Rattle.xb_samples.specs.declared.wav.WavFormat.{WavFormat}
+use Rattle.xb_riff.specs.declared.coding.Coding.{Coding}
+use Rattle.xb_riff.specs.declared.coding.Coding.TheVariants as coding
+use Rattle.xb_riff.specs.declared.head.WavFormat.{WavFormat}
 use Rattle.xb_csv.specs.Gpiomons.{gpiomon_says, gpiomon_state, gpiomon_with}
-use Rattle.xb_samples.specs.Wavs.{HeadBegins, IsNewHead, IsWav, Samples}
+use Rattle.xb_riff.specs.Heads.{HeadBegins, IsNewHead, IsWav, Samples}
 use Rattle.xb_samples.specs.Sounds.{IsNewSound, SoundSays, high_of, own_bytes, samples_of, sound_begins, sound_says, sound_state, wires_of}
 use Rattle.xb_csv.specs.Tables.{begun_table, table_says, table_state}
 
@@ -58,26 +60,26 @@ LinesSay source lines events = LinesComeTo source lines (Ok events)
 abbrev pub names_in : Wanted → List (List ℕ)
 names_in wanted = map (λ wire. wire.now) wanted.wires.items
 
--- samples of 16 bits, of so many channels
-abbrev pub SixteenSay : ℕ → Option ℕ → Wanted → List ℕ → List Event → Type 0
-SixteenSay channels rate wanted bytes events =
+-- samples that are so written, of so many channels
+abbrev pub SoundSaid : Coding → ℕ → Option ℕ → Wanted → List ℕ → List Event → Type 0
+SoundSaid how channels rate wanted bytes events =
     (all : List Event)
-    × (sound_says channels (high_of wanted.threshold) (names_in wanted) rate (samples_of bytes) ≡ Ok all)
+    × (sound_says channels (high_of wanted.threshold) (names_in wanted) rate (samples_of how bytes) ≡ Ok all)
     × SayTheSame events all
 
 -- they are refused for this reason
-abbrev pub SixteenRefused : ℕ → Option ℕ → Wanted → List ℕ → Refusal → Type 0
-SixteenRefused channels rate wanted bytes refusal =
-    sound_says channels (high_of wanted.threshold) (names_in wanted) rate (samples_of bytes) ≡ Err refusal
+abbrev pub SoundRefused : Coding → ℕ → Option ℕ → Wanted → List ℕ → Refusal → Type 0
+SoundRefused how channels rate wanted bytes refusal =
+    sound_says channels (high_of wanted.threshold) (names_in wanted) rate (samples_of how bytes) ≡ Err refusal
 
 -- those of a WAV
 abbrev pub WavSays : Wanted → Samples → List Event → Type 0
 WavSays wanted samples events =
-    SixteenSay samples.0.channels (Some samples.0.rate) wanted (own_bytes samples.0.length samples.1) events
+    SoundSaid samples.0.coding samples.0.channels (Some samples.0.rate) wanted (own_bytes samples.0.length samples.1) events
 
 abbrev pub SamplesRefused : Wanted → Samples → Refusal → Type 0
 SamplesRefused wanted samples refusal =
-    SixteenRefused samples.0.channels (Some samples.0.rate) wanted (own_bytes samples.0.length samples.1) refusal
+    SoundRefused samples.0.coding samples.0.channels (Some samples.0.rate) wanted (own_bytes samples.0.length samples.1) refusal
 
 -- a WAV is refused for this reason: that of its samples, where any begin
 abbrev pub WavRefused : (Samples → Type 0) → Wanted → Refusal → Type 0
@@ -144,15 +146,15 @@ IsBegunBits names rate (sources.WavHead head) said = ⊥
 IsBegunBits names rate (sources.Sound sound) said = ⊥
 
 -- and of sound of so many channels and samples a second, and of so many bytes, where that is known
-abbrev pub IsBegunSound : ℕ → Option ℕ → Option ℕ → ℤ → List (List ℕ) → Source → List Event → Type 0
-IsBegunSound channels rate length high names (sources.Sound sound) said =
-    IsNewSound channels high names length sound
+abbrev pub IsBegunSound : Coding → ℕ → Option ℕ → Option ℕ → ℤ → List (List ℕ) → Source → List Event → Type 0
+IsBegunSound how channels rate length high names (sources.Sound sound) said =
+    IsNewSound how channels high names length sound
     × AddsAll (result_and_then (sound_begins rate) (wires_of channels names)) [] said
-IsBegunSound channels rate length high names (sources.Vcd vcd) said = ⊥
-IsBegunSound channels rate length high names (sources.Columns table) said = ⊥
-IsBegunSound channels rate length high names (sources.Gpiomon gpiomon) said = ⊥
-IsBegunSound channels rate length high names (sources.Bits bits) said = ⊥
-IsBegunSound channels rate length high names (sources.WavHead head) said = ⊥
+IsBegunSound how channels rate length high names (sources.Vcd vcd) said = ⊥
+IsBegunSound how channels rate length high names (sources.Columns table) said = ⊥
+IsBegunSound how channels rate length high names (sources.Gpiomon gpiomon) said = ⊥
+IsBegunSound how channels rate length high names (sources.Bits bits) said = ⊥
+IsBegunSound how channels rate length high names (sources.WavHead head) said = ⊥
 
 -- and of a WAV, of which nothing was read
 abbrev pub IsBegunWav : Source → List Event → Type 0
@@ -172,7 +174,7 @@ IsOfFormat formats.Edges wanted source said = IsBegunTable forms.Edges (names_in
 IsOfFormat formats.Gpiomon wanted source said = IsBegunGpiomon (names_in wanted) source said
 IsOfFormat formats.Bits wanted source said = IsBegunBits (names_in wanted) wanted.rate source said
 IsOfFormat formats.Sixteen wanted source said =
-    IsBegunSound 1 wanted.rate None (high_of wanted.threshold) (names_in wanted) source said
+    IsBegunSound coding.Signed16 1 wanted.rate None (high_of wanted.threshold) (names_in wanted) source said
 IsOfFormat formats.Wav wanted source said = IsBegunWav source said
 
 -- what has come of a line that has not ended, and whether it is the first
@@ -234,7 +236,7 @@ Says formats.Edges wanted text events = TableSays forms.Edges wanted text events
 Says formats.Gpiomon wanted text events =
     gpiomon_says (gpiomon_with (names_in wanted) None) (text_lines text) ≡ Ok events
 Says formats.Bits wanted text events = BitsSay wanted text events
-Says formats.Sixteen wanted text events = SixteenSay 1 wanted.rate wanted text events
+Says formats.Sixteen wanted text events = SoundSaid coding.Signed16 1 wanted.rate wanted text events
 Says formats.Wav wanted text events = (samples : Samples) × IsWav text samples × WavSays wanted samples events
 
 -- what a reader that has read nothing says after what was said already is what the recording says
@@ -255,7 +257,7 @@ IsRefused formats.Edges wanted text refusal = TableRefused forms.Edges wanted te
 IsRefused formats.Gpiomon wanted text refusal =
     gpiomon_says (gpiomon_with (names_in wanted) None) (text_lines text) ≡ Err refusal
 IsRefused formats.Bits wanted text refusal = bits_say (names_in wanted) wanted.rate text ≡ Err refusal
-IsRefused formats.Sixteen wanted text refusal = SixteenRefused 1 wanted.rate wanted text refusal
+IsRefused formats.Sixteen wanted text refusal = SoundRefused coding.Signed16 1 wanted.rate wanted text refusal
 IsRefused formats.Wav wanted text refusal = WavRefused (IsWav text) wanted refusal
 
 -- it was refused, unless memory ran out: a form, for a reason that refuses each recording of it

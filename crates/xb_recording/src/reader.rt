@@ -13,7 +13,8 @@ use crate::wanted::Wanted;
 use std::alloc::{AllocError, Global};
 use xb_contact::{Event, Refusal};
 use xb_csv::{Columns, Gpiomon, TableForm};
-use xb_samples::{Bits, Sound, WavFormat, WavHead};
+use xb_riff::{Coding, WavFormat, WavHead};
+use xb_samples::{Bits, Sound, end_head, take_head};
 use xb_vcd::Vcd;
 
 // The longest line of a recording.
@@ -62,9 +63,10 @@ fn source_of<'a>(
         Format::Edges => Source::Columns(Columns::new(alloc, TableForm::Edges, names, rate)),
         Format::Gpiomon => Source::Gpiomon(Gpiomon::new(names)),
         Format::Bits => Source::Bits(Bits::new(alloc, names, rate, events)?),
-        Format::Wav => Source::WavHead(WavHead::new(alloc)),
+        Format::Wav => Source::WavHead(WavHead::new()),
         Format::Sixteen => {
-            Source::Sound(Sound::new(alloc, names, 1, rate, wanted.threshold, None, events)?)
+            let (how, threshold) = (Coding::Signed16, wanted.threshold);
+            Source::Sound(Sound::new(alloc, names, how, 1, rate, threshold, None, events)?)
         }
     })
 }
@@ -103,7 +105,7 @@ fn end_source(source: &mut Source<'_>, line: &[u8], events: &mut Vec<Event>) -> 
         Source::Columns(columns) => columns.end(line, events),
         Source::Gpiomon(gpiomon) => gpiomon.end(line, events),
         Source::Bits(bits) => bits.end(events),
-        Source::WavHead(_) => Err(Refusal::Wav),
+        Source::WavHead(head) => Err(end_head(head)),
         Source::Sound(sound) => sound.end(events),
     }
 }
@@ -241,6 +243,7 @@ impl<'a> Reader<'a> {
         ensures form { is_text self.old.source ≡ false → is_text self.new.source ≡ false }
     {
         let WavFormat {
+            coding,
             channels,
             rate,
             length,
@@ -249,8 +252,9 @@ impl<'a> Reader<'a> {
         let mut sound = Sound::new(
             self.alloc,
             names,
+            coding,
             channels,
-            Some(rate),
+            Some(u64::from(rate)),
             threshold,
             length,
             events,
@@ -272,7 +276,7 @@ impl<'a> Reader<'a> {
         match &mut self.source {
             Source::Bits(bits) => bits.take(bytes, events),
             Source::Sound(sound) => sound.take(bytes, events),
-            Source::WavHead(head) => match head.take(bytes)? {
+            Source::WavHead(head) => match take_head(head, bytes)? {
                 Some((format, count)) => self.begin_sound(format, &bytes[count..], events),
                 None => Ok(()),
             },

@@ -7,8 +7,8 @@ use Rattle.xb_model.specs.declared.line.TheConstants.{LINES}
 use Rattle.xb_model.specs.declared.trunk.TheConstants.{TRUNKS}
 use Rattle.xb_measured.specs.declared.lines.Telling.{Telling}
 use Rattle.xb_measured.specs.declared.lines.Telling.TheVariants as telling
-use Rattle.xb_wav.specs.declared.coding.Coding.{Coding}
-use Rattle.xb_wav.specs.declared.coding.Coding.TheVariants as coding
+use Rattle.xb_riff.specs.declared.coding.Coding.{Coding}
+use Rattle.xb_riff.specs.declared.coding.Coding.TheVariants as coding
 use Rattle.xb_rx.specs.declared.request.Input.{Input}
 use Rattle.xb_rx.specs.declared.request.Input.TheVariants as input
 use Rattle.xb_rx.specs.declared.request.Request.{Request}

@@ -1,7 +1,7 @@
 // What is asked for.
 use xb_measured::Telling;
 use xb_model::{LineNo, Trunk};
-use xb_wav::Form;
+use xb_wav::SampleForm;
 
 /// How a sound is given.
 #[derive(Clone, Copy, Debug, PartialEq, Eq)]
@@ -9,7 +9,7 @@ pub enum Input {
     /// As a WAV file.
     Wav,
     /// As samples alone.
-    Raw(Form),
+    Raw(SampleForm),
 }
 
 /// What is written of a sound.

@@ -10,7 +10,7 @@ use std::alloc::Global;
 use xb_command::{Takes, Words, WordsFault, read_words};
 use xb_measured::Telling;
 use xb_model::{LINES, LineNo, TRUNKS, Trunk};
-use xb_wav::{Coding, Form, frames_of};
+use xb_wav::{Coding, SampleForm, frames_of};
 
 // What the options of the command line say.
 #[derive(Clone, Copy)]
@@ -117,7 +117,7 @@ fn input_of(options: Options) -> Option<Input>
 {
     if options.raw {
         let frames = frames_of(options.rate.unwrap_or(8_000))?;
-        Some(Input::Raw(Form {
+        Some(Input::Raw(SampleForm {
             coding: coding_of(options.ulaw),
             channels: 1,
             frames,

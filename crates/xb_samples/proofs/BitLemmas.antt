@@ -7,18 +7,19 @@ use Rattle.std.proofs.lemmas.List.{at_drop_all, at_drop_more}
 use Rattle.xb_contact.specs.declared.event.Event.{Event}
 use Rattle.xb_contact.specs.declared.event.Event.TheVariants as events
 use Rattle.xb_contact.specs.declared.level.Level.{Level}
-use Rattle.xb_samples.specs.Pieces.{begins_later}
+use Rattle.xb_samples.specs.Pieces.{begins_from, without_waits}
 use Rattle.xb_samples.specs.Samples.{BitsState, after_sample, bits_of, bit_level, bits_reading, is_same, sample_events, sample_levels}
-use Rattle.xb_samples.proofs.WaitLemmas.{SayWhen}
+use Rattle.xb_samples.proofs.WaitLemmas.{SayWhen, until-begins}
 
 pub bits_say_when : SayWhen bits_reading
-bits_say_when state sample later h = at (is_same state.last sample) h
+bits_say_when state sample = (omega arith, λ tick later less h. at tick later less h (is_same state.last sample))
   where
     at :
-        (same : Bool) → begins_later later ≡ true
-        → begins_later (cond same [] (events.At state.count ∷ sample_levels 0 state.masks sample) ++ later) ≡ true
-    at true e = e
-    at false e = refl
+        (tick : ℕ) (later : List Event) → tick ≤ state.count → begins_from tick (without_waits later) ≡ true → (same : Bool)
+        → begins_from tick (without_waits (cond same [] (events.At state.count ∷ sample_levels 0 state.masks sample) ++ later)) ≡ true
+    at tick later less h true = h
+    at tick later less h false =
+        until-begins tick state.count (without_waits (sample_levels 0 state.masks sample ++ later)) less
 
 -- the level of one more wire
 pub level_more :

@@ -4,4 +4,3 @@ pub mod WaitLemmas
 pub mod BitLemmas
 pub mod NameLemmas
 pub mod SoundLemmas
-pub mod WavLemmas

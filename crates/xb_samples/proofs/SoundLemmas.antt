@@ -13,10 +13,13 @@ use Rattle.xb_contact.specs.declared.level.Level.TheVariants.{Open, Closed}
 use Rattle.xb_samples.specs.declared.sound.Channel.{Channel}
 use Rattle.xb_samples.specs.declared.sound.Sound.{Sound}
 use Rattle.xb_samples.specs.Hysteresis.{IsHeard}
-use Rattle.xb_samples.specs.Pieces.{RunsOver, SamplesSay, after_piece, begins_later, piece_events, samples_events}
+use Rattle.xb_samples.specs.Pieces.{RunsOver, SamplesSay, after_piece, begins_from, piece_events, samples_events, without_waits}
 use Rattle.xb_samples.specs.Samples.{rate_says}
-use Rattle.xb_samples.specs.Sounds.{SoundSays, SoundState, begun_sound, change_said, changes_said, left_after, level_by, levels_said, lower_left, own_bytes, samples_after, sample_of, samples_left, sound_begins, sound_reading, sound_says, sound_state, turned, wire_after, wires_of}
-use Rattle.xb_samples.proofs.WaitLemmas.{SayWhen, after-piece, piece-piece, piece_says}
+use Rattle.xb_riff.specs.declared.coding.Coding.{Coding}
+use Rattle.xb_riff.specs.declared.coding.Coding.TheVariants as coding
+use Rattle.xb_riff.specs.Codings.{mu_law_sample, narrow_sample, sample_at, wide_sample, width}
+use Rattle.xb_samples.specs.Sounds.{SoundSays, SoundState, begun_sound, change_said, changes_said, left_after, level_by, levels_said, lower_left, own_bytes, samples_after, samples_left, sound_begins, sound_reading, sound_says, sound_state, turned, wide_after, wide_left, wire_after, wires_of}
+use Rattle.xb_samples.proofs.WaitLemmas.{SayWhen, after-piece, piece-piece, piece_says, until-begins}
 
 -- what is heard of a sample
 level-by :
@@ -35,35 +38,56 @@ heard_is high sample was level some is =
 
 -- each change is said after a tick
 change-when :
-    (tick wire : ℕ) (was level : Level) (rest : List Event) → begins_later rest ≡ true
-    → begins_later (change_said tick wire was level ++ rest) ≡ true
-change-when tick wire Open Open rest h = h
-change-when tick wire Closed Closed rest h = h
-change-when tick wire Open Closed rest h = refl
-change-when tick wire Closed Open rest h = refl
+    (from tick wire : ℕ) (was level : Level) (rest : List Event) → from ≤ tick → begins_from from (without_waits rest) ≡ true
+    → begins_from from (without_waits (change_said tick wire was level ++ rest)) ≡ true
+change-when from tick wire Open Open rest less h = h
+change-when from tick wire Closed Closed rest less h = h
+change-when from tick wire Open Closed rest less h = until-begins from tick (events.Level wire Closed ∷ without_waits rest) less
+change-when from tick wire Closed Open rest less h = until-begins from tick (events.Level wire Open ∷ without_waits rest) less
 
 changes-when :
-    (channel : ℕ) (high : ℤ) (tick : ℕ) (sample : ℤ) (wire : ℕ) (wires : List Channel) (later : List Event)
-    → begins_later later ≡ true → begins_later (changes_said channel high tick sample wire wires ++ later) ≡ true
-changes-when channel high tick sample wire [] later h = h
-changes-when channel high tick sample wire (own ∷ rest) later h =
+    (from channel : ℕ) (high : ℤ) (tick : ℕ) (sample : ℤ) (wire : ℕ) (wires : List Channel) (later : List Event)
+    → from ≤ tick → begins_from from (without_waits later) ≡ true
+    → begins_from from (without_waits (changes_said channel high tick sample wire wires ++ later)) ≡ true
+changes-when from channel high tick sample wire [] later less h = h
+changes-when from channel high tick sample wire (own ∷ rest) later less h =
     let said = change_said tick wire own.level (wire_after channel high sample own).level in
     let more = changes_said channel high tick sample (wire + 1) rest in
-    ap begins_later (append_assoc said more later)
-    ∙ change-when tick wire own.level (wire_after channel high sample own).level (more ++ later)
-    (changes-when channel high tick sample (wire + 1) rest later h)
+    ap (λ m. begins_from from (without_waits m)) (append_assoc said more later)
+    ∙ change-when from tick wire own.level (wire_after channel high sample own).level (more ++ later) less
+    (changes-when from channel high tick sample (wire + 1) rest later less h)
+
+turn-grows : (state : SoundState) (last : Bool)
+    → state.count ≤ (cond last (record state { channel = state.channel + 1 }) (record state { channel = 1; count = state.count + 1 })).count
+turn-grows state true = omega arith
+turn-grows state false = omega arith
 
 pub sound_say_when : SayWhen sound_reading
-sound_say_when state sample later h =
-    changes-when state.channel state.high state.count sample 0 state.wires later h
+sound_say_when state sample = (
+  turn-grows (record state { wires = map (wire_after state.channel state.high sample) state.wires })
+      (nat_lt state.channel state.channels),
+  λ tick later less h. changes-when tick state.channel state.high state.count sample 0 state.wires later less h,
+)
 
 -- the samples of a piece, and of what follows it
-pub samples-append :
+wide-append :
     (lower : Option ℕ) (piece text : List ℕ)
-    → samples_after lower (piece ++ text) ≡ samples_after lower piece ++ samples_after (lower_left lower piece) text
-samples-append lower [] text = refl
-samples-append None (byte ∷ rest) text = samples-append (Some byte) rest text
-samples-append (Some lower) (byte ∷ rest) text = ap (λ s. sample_of lower byte ∷ s) (samples-append None rest text)
+    → wide_after lower (piece ++ text) ≡ wide_after lower piece ++ wide_after (wide_left lower piece) text
+wide-append lower [] text = refl
+wide-append None (byte ∷ rest) text = wide-append (Some byte) rest text
+wide-append (Some lower) (byte ∷ rest) text = ap (λ s. wide_sample lower byte ∷ s) (wide-append None rest text)
+
+narrow-append : (f : ℕ → ℤ) (piece text : List ℕ) → map f (piece ++ text) ≡ map f piece ++ map f text
+narrow-append f [] text = refl
+narrow-append f (byte ∷ rest) text = ap (λ s. f byte ∷ s) (narrow-append f rest text)
+
+pub samples-append :
+    (how : Coding) (lower : Option ℕ) (piece text : List ℕ)
+    → samples_after how lower (piece ++ text)
+    ≡ samples_after how lower piece ++ samples_after how (lower_left how lower piece) text
+samples-append coding.Unsigned8 lower piece text = narrow-append narrow_sample piece text
+samples-append coding.Signed16 lower piece text = wide-append lower piece text
+samples-append coding.MuLaw lower piece text = narrow-append mu_law_sample piece text
 
 take-piece :
     (n : ℕ) (piece text : List ℕ) → take n (piece ++ text) ≡ take n piece ++ take (n - length piece) text
@@ -84,117 +108,133 @@ own-append None piece text = refl
 own-append (Some left) piece text = take-piece left piece text
 
 pub samples_left-append :
-    (old new : Sound) (piece text : List ℕ) → new.lower ≡ lower_left old.lower (own_bytes old.left piece)
-    → new.left ≡ left_after old.left piece
+    (old new : Sound) (piece text : List ℕ) → new.lower ≡ lower_left old.coding old.lower (own_bytes old.left piece)
+    → new.left ≡ left_after old.left piece → new.coding ≡ old.coding
     → samples_left old (piece ++ text) ≡ samples_left old piece ++ samples_left new text
-samples_left-append old new piece text e f =
-    ap (samples_after old.lower) (own-append old.left piece text)
-    ∙ samples-append old.lower (own_bytes old.left piece) (own_bytes (left_after old.left piece) text)
-    ∙ ap (λ l. samples_left old piece ++ samples_after l (own_bytes (left_after old.left piece) text)) (sym e)
-    ∙ ap (λ l. samples_left old piece ++ samples_after new.lower (own_bytes l text)) (sym f)
+samples_left-append old new piece text e f how =
+    ap (samples_after old.coding old.lower) (own-append old.left piece text)
+    ∙ samples-append old.coding old.lower (own_bytes old.left piece) (own_bytes (left_after old.left piece) text)
+    ∙ ap (λ l. samples_left old piece ++ samples_after old.coding l (own_bytes (left_after old.left piece) text)) (sym e)
+    ∙ ap (λ l. samples_left old piece ++ samples_after old.coding new.lower (own_bytes l text)) (sym f)
+    ∙ ap (λ h. samples_left old piece ++ samples_after h new.lower (own_bytes new.left text)) (sym how)
 
 -- bytes that were taken
 pub sound_takes :
     (old new : Sound) (bytes own : List ℕ) (before mid all : List Event) → own ≡ own_bytes old.left bytes
-    → mid ≡ before ++ piece_events sound_reading (sound_state old) (samples_after old.lower own)
-    → sound_state new ≡ after_piece sound_reading (sound_state old) (samples_after old.lower own)
-    → new.lower ≡ lower_left old.lower own → new.left ≡ left_after old.left bytes → all ≡ mid ++ events.At new.count ∷ []
+    → mid ≡ before ++ piece_events sound_reading (sound_state old) (samples_after old.coding old.lower own)
+    → sound_state new ≡ after_piece sound_reading (sound_state old) (samples_after old.coding old.lower own)
+    → new.lower ≡ lower_left old.coding old.lower own → new.left ≡ left_after old.left bytes → new.coding ≡ old.coding → all ≡ mid ++ events.At new.count ∷ []
     → (said : List Event) × (all ≡ before ++ said)
     × ((text : List ℕ) (later : List Event) → SoundSays new text later → SoundSays old (bytes ++ text) (said ++ later))
-sound_takes old new bytes own before mid all is said state lower left waits =
+sound_takes old new bytes own before mid all is said state lower left how waits =
     let piece : List ℤ = samples_left old bytes in
     let heard : List Event = piece_events sound_reading (sound_state old) piece in
-    let here : samples_after old.lower own ≡ piece = ap (samples_after old.lower) is in
+    let here : samples_after old.coding old.lower own ≡ piece = ap (samples_after old.coding old.lower) is in
     let told : mid ≡ before ++ heard = said ∙ ap (λ s. before ++ piece_events sound_reading (sound_state old) s) here in
     let now : sound_state new ≡ after_piece sound_reading (sound_state old) piece =
     state ∙ ap (after_piece sound_reading (sound_state old)) here in
-    let low : new.lower ≡ lower_left old.lower (own_bytes old.left bytes) = lower ∙ ap (lower_left old.lower) is in (
+    let low : new.lower ≡ lower_left old.coding old.lower (own_bytes old.left bytes) = lower ∙ ap (lower_left old.coding old.lower) is in (
       heard ++ events.At new.count ∷ [],
       waits ∙ ap (λ m. m ++ events.At new.count ∷ []) told ∙ append_assoc before heard (events.At new.count ∷ []),
       λ text later rest.
           let P : List ℤ → Type 0 = λ s. SamplesSay sound_reading (sound_state old) s ((heard ++ events.At new.count ∷ []) ++ later) in
-          subst P (sym (samples_left-append old new bytes text low left))
+          subst P (sym (samples_left-append old new bytes text low left how))
           (piece_says sound_reading (sound_state old) (sound_state new) piece (samples_left new text) heard
           (heard ++ events.At new.count ∷ []) later sound_say_when refl now refl rest),
     )
 
 -- one more byte of a piece, of which these are left
 byte-left :
-    (low lower : Option ℕ) (byte : ℕ) (rest : List ℕ) → lower ≡ lower_left low (byte ∷ [])
-    → samples_after low (byte ∷ rest) ≡ samples_after low (byte ∷ []) ++ samples_after lower rest
-byte-left low lower byte rest e =
-    samples-append low (byte ∷ []) rest
-    ∙ ap (λ (l : Option ℕ). samples_after low (byte ∷ []) ++ samples_after l rest) (sym e)
+    (how : Coding) (low lower : Option ℕ) (byte : ℕ) (rest : List ℕ) → lower ≡ lower_left how low (byte ∷ [])
+    → samples_after how low (byte ∷ rest) ≡ samples_after how low (byte ∷ []) ++ samples_after how lower rest
+byte-left how low lower byte rest e =
+    samples-append how low (byte ∷ []) rest
+    ∙ ap (λ (l : Option ℕ). samples_after how low (byte ∷ []) ++ samples_after how l rest) (sym e)
 
 lower-left :
-    (low : Option ℕ) (byte : ℕ) (rest : List ℕ)
-    → lower_left (lower_left low (byte ∷ [])) rest ≡ lower_left low (byte ∷ rest)
-lower-left None byte rest = refl
-lower-left (Some lower) byte rest = refl
+    (how : Coding) (low : Option ℕ) (byte : ℕ) (rest : List ℕ)
+    → lower_left how (lower_left how low (byte ∷ [])) rest ≡ lower_left how low (byte ∷ rest)
+lower-left coding.Unsigned8 low byte rest = refl
+lower-left coding.Signed16 None byte rest = refl
+lower-left coding.Signed16 (Some lower) byte rest = refl
+lower-left coding.MuLaw low byte rest = refl
 
 pub byte_events :
-    (old new : SoundState) (low lower : Option ℕ) (bytes : List ℕ) (i : ℕ) (mid now all : List Event) → i < length bytes
-    → now ≡ mid ++ piece_events sound_reading old (samples_after low (get_or bytes i 0 ∷ []))
-    → new ≡ after_piece sound_reading old (samples_after low (get_or bytes i 0 ∷ []))
-    → lower ≡ lower_left low (get_or bytes i 0 ∷ [])
-    → mid ++ piece_events sound_reading old (samples_after low (drop i bytes)) ≡ all
-    → now ++ piece_events sound_reading new (samples_after lower (drop (i + 1) bytes)) ≡ all
-byte_events old new low lower bytes i mid now all h e is l so_far =
+    (how : Coding) (old new : SoundState) (low lower : Option ℕ) (bytes : List ℕ) (i : ℕ) (mid now all : List Event) → i < length bytes
+    → now ≡ mid ++ piece_events sound_reading old (samples_after how low (get_or bytes i 0 ∷ []))
+    → new ≡ after_piece sound_reading old (samples_after how low (get_or bytes i 0 ∷ []))
+    → lower ≡ lower_left how low (get_or bytes i 0 ∷ [])
+    → mid ++ piece_events sound_reading old (samples_after how low (drop i bytes)) ≡ all
+    → now ++ piece_events sound_reading new (samples_after how lower (drop (i + 1) bytes)) ≡ all
+byte_events how old new low lower bytes i mid now all h e is l so_far =
     let byte : ℕ = get_or bytes i 0 in
-    let one : List ℤ = samples_after low (byte ∷ []) in
+    let one : List ℤ = samples_after how low (byte ∷ []) in
     let rest : List ℕ = drop (i + 1) bytes in
-    let later : List ℤ = samples_after lower rest in
+    let later : List ℤ = samples_after how lower rest in
     ap (λ (n : List Event). n ++ piece_events sound_reading new later) e
     ∙ append_assoc mid (piece_events sound_reading old one) (piece_events sound_reading new later)
     ∙ ap (λ (s : SoundState). mid ++ (piece_events sound_reading old one ++ piece_events sound_reading s later)) is
     ∙ ap (λ (n : List Event). mid ++ n) (sym (piece-piece sound_reading old one later))
-    ∙ ap (λ (k : List ℤ). mid ++ piece_events sound_reading old k) (sym (byte-left low lower byte rest l))
-    ∙ sym (at_drop_more (λ (k : List ℕ). mid ++ piece_events sound_reading old (samples_after low k)) bytes i 0 h)
+    ∙ ap (λ (k : List ℤ). mid ++ piece_events sound_reading old k) (sym (byte-left how low lower byte rest l))
+    ∙ sym (at_drop_more (λ (k : List ℕ). mid ++ piece_events sound_reading old (samples_after how low k)) bytes i 0 h)
     ∙ so_far
 
 pub byte_state :
-    (old new all : SoundState) (low lower : Option ℕ) (bytes : List ℕ) (i : ℕ) → i < length bytes
-    → new ≡ after_piece sound_reading old (samples_after low (get_or bytes i 0 ∷ []))
-    → lower ≡ lower_left low (get_or bytes i 0 ∷ [])
-    → after_piece sound_reading old (samples_after low (drop i bytes)) ≡ all
-    → after_piece sound_reading new (samples_after lower (drop (i + 1) bytes)) ≡ all
-byte_state old new all low lower bytes i h is l so_far =
+    (how : Coding) (old new all : SoundState) (low lower : Option ℕ) (bytes : List ℕ) (i : ℕ) → i < length bytes
+    → new ≡ after_piece sound_reading old (samples_after how low (get_or bytes i 0 ∷ []))
+    → lower ≡ lower_left how low (get_or bytes i 0 ∷ [])
+    → after_piece sound_reading old (samples_after how low (drop i bytes)) ≡ all
+    → after_piece sound_reading new (samples_after how lower (drop (i + 1) bytes)) ≡ all
+byte_state how old new all low lower bytes i h is l so_far =
     let byte : ℕ = get_or bytes i 0 in
-    let one : List ℤ = samples_after low (byte ∷ []) in
+    let one : List ℤ = samples_after how low (byte ∷ []) in
     let rest : List ℕ = drop (i + 1) bytes in
-    let later : List ℤ = samples_after lower rest in
+    let later : List ℤ = samples_after how lower rest in
     ap (λ (s : SoundState). after_piece sound_reading s later) is
     ∙ sym (after-piece sound_reading old one later)
-    ∙ ap (after_piece sound_reading old) (sym (byte-left low lower byte rest l))
-    ∙ sym (at_drop_more (λ (k : List ℕ). after_piece sound_reading old (samples_after low k)) bytes i 0 h) ∙ so_far
+    ∙ ap (after_piece sound_reading old) (sym (byte-left how low lower byte rest l))
+    ∙ sym (at_drop_more (λ (k : List ℕ). after_piece sound_reading old (samples_after how low k)) bytes i 0 h) ∙ so_far
 
 pub byte_lower :
-    (low lower all : Option ℕ) (bytes : List ℕ) (i : ℕ) → i < length bytes
-    → lower ≡ lower_left low (get_or bytes i 0 ∷ []) → lower_left low (drop i bytes) ≡ all
-    → lower_left lower (drop (i + 1) bytes) ≡ all
-byte_lower low lower all bytes i h l so_far =
-    ap (λ (k : Option ℕ). lower_left k (drop (i + 1) bytes)) l ∙ lower-left low (get_or bytes i 0) (drop (i + 1) bytes)
-    ∙ sym (at_drop_more (lower_left low) bytes i 0 h) ∙ so_far
+    (how : Coding) (low lower all : Option ℕ) (bytes : List ℕ) (i : ℕ) → i < length bytes
+    → lower ≡ lower_left how low (get_or bytes i 0 ∷ []) → lower_left how low (drop i bytes) ≡ all
+    → lower_left how lower (drop (i + 1) bytes) ≡ all
+byte_lower how low lower all bytes i h l so_far =
+    ap (λ (k : Option ℕ). lower_left how k (drop (i + 1) bytes)) l ∙ lower-left how low (get_or bytes i 0) (drop (i + 1) bytes)
+    ∙ sym (at_drop_more (lower_left how low) bytes i 0 h) ∙ so_far
 
 -- all of it
+none-after : (how : Coding) (lower : Option ℕ) → samples_after how lower [] ≡ []
+none-after coding.Unsigned8 lower = refl
+none-after coding.Signed16 lower = refl
+none-after coding.MuLaw lower = refl
+
+none-left : (how : Coding) (lower : Option ℕ) → lower_left how lower [] ≡ lower
+none-left coding.Unsigned8 lower = refl
+none-left coding.Signed16 lower = refl
+none-left coding.MuLaw lower = refl
+
 pub bytes_events :
-    (state : SoundState) (lower : Option ℕ) (bytes : List ℕ) (i : ℕ) (now all : List Event) → length bytes ≤ i
-    → now ++ piece_events sound_reading state (samples_after lower (drop i bytes)) ≡ all → now ≡ all
-bytes_events state lower bytes i now all h so_far =
+    (how : Coding) (state : SoundState) (lower : Option ℕ) (bytes : List ℕ) (i : ℕ) (now all : List Event) → length bytes ≤ i
+    → now ++ piece_events sound_reading state (samples_after how lower (drop i bytes)) ≡ all → now ≡ all
+bytes_events how state lower bytes i now all h so_far =
     sym (append-nil now)
-    ∙ sym (at_drop_all (λ (k : List ℕ). now ++ piece_events sound_reading state (samples_after lower k)) bytes i h)
+    ∙ ap (λ (s : List ℤ). now ++ piece_events sound_reading state s) (sym (none-after how lower))
+    ∙ sym (at_drop_all (λ (k : List ℕ). now ++ piece_events sound_reading state (samples_after how lower k)) bytes i h)
     ∙ so_far
 
 pub bytes_state :
-    (state all : SoundState) (lower : Option ℕ) (bytes : List ℕ) (i : ℕ) → length bytes ≤ i
-    → after_piece sound_reading state (samples_after lower (drop i bytes)) ≡ all → state ≡ all
-bytes_state state all lower bytes i h so_far =
-    sym (at_drop_all (λ (k : List ℕ). after_piece sound_reading state (samples_after lower k)) bytes i h) ∙ so_far
+    (how : Coding) (state all : SoundState) (lower : Option ℕ) (bytes : List ℕ) (i : ℕ) → length bytes ≤ i
+    → after_piece sound_reading state (samples_after how lower (drop i bytes)) ≡ all → state ≡ all
+bytes_state how state all lower bytes i h so_far =
+    ap (λ (s : List ℤ). after_piece sound_reading state s) (sym (none-after how lower))
+    ∙ sym (at_drop_all (λ (k : List ℕ). after_piece sound_reading state (samples_after how lower k)) bytes i h) ∙ so_far
 
 pub bytes_lower :
-    (lower all : Option ℕ) (bytes : List ℕ) (i : ℕ) → length bytes ≤ i → lower_left lower (drop i bytes) ≡ all
+    (how : Coding) (lower all : Option ℕ) (bytes : List ℕ) (i : ℕ) → length bytes ≤ i → lower_left how lower (drop i bytes) ≡ all
     → lower ≡ all
-bytes_lower lower all bytes i h so_far = sym (at_drop_all (lower_left lower) bytes i h) ∙ so_far
+bytes_lower how lower all bytes i h so_far =
+    sym (none-left how lower) ∙ sym (at_drop_all (lower_left how lower) bytes i h) ∙ so_far
 
 -- a sample that one more wire has heard
 pub wire_heard :
@@ -353,20 +393,3 @@ first_turn state count h e =
     ap (λ (n : ℕ). record state { channel = 1; count = n }) e
     ∙ ap (λ (b : Bool). cond b (record state { channel = state.channel + 1 }) (record state { channel = 1; count = state.count + 1 }))
     (sym no)
-
--- a lower byte, which says nothing yet
-pub lower_events :
-    (state : SoundState) (lower : Option ℕ) (byte : ℕ) (events : List Event) → lower ≡ None
-    → events ≡ events ++ piece_events sound_reading state (samples_after lower (byte ∷ []))
-lower_events state lower byte events is =
-    sym (append-nil events)
-    ∙ ap (λ (l : Option ℕ). events ++ piece_events sound_reading state (samples_after l (byte ∷ []))) (sym is)
-
-pub lower_state :
-    (state : SoundState) (lower : Option ℕ) (byte : ℕ) → lower ≡ None
-    → state ≡ after_piece sound_reading state (samples_after lower (byte ∷ []))
-lower_state state lower byte is =
-    ap (λ (l : Option ℕ). after_piece sound_reading state (samples_after l (byte ∷ []))) (sym is)
-
-pub lower_kept : (lower : Option ℕ) (byte : ℕ) → lower ≡ None → Some byte ≡ lower_left lower (byte ∷ [])
-lower_kept lower byte is = ap (λ (l : Option ℕ). lower_left l (byte ∷ [])) (sym is)

@@ -1,65 +1,61 @@
 -- What samples say in pieces.
-use Rattle.std.proofs.Common.{◌≡◌, ℕ, ◌+◌, ◌<◌, ◌≤◌, List, [], ◌∷◌, ◌++◌, Bool, true, false, cond, drop, get_or, length, refl, ap, sym, subst, ◌∙◌, append_assoc, append-nil}
+use Rattle.std.proofs.Common.{◌≡◌, ℕ, ◌+◌, ◌<◌, ◌≤◌, List, [], ◌∷◌, ◌++◌, Bool, true, false, cond, drop, get_or, length, refl, ap, sym, subst, ◌∙◌, append_assoc, append-nil, arith}
+use Rattle.std.proofs.lemmas.Bool.Decides.{nat_tests}
 use Rattle.std.proofs.lemmas.List.{at_drop_all, at_drop_more}
 use Rattle.xb_contact.specs.declared.event.Event.{Event}
 use Rattle.xb_contact.specs.declared.event.Event.TheVariants.{At, Level, Ticks}
-use Rattle.xb_samples.specs.Pieces.{Reading, SamplesSay, SayTheSame, after_piece, begins_later, piece_events, samples_events, without_waits}
-
--- the beginning stays
-begins-without : (events : List Event) → begins_later (without_waits events) ≡ begins_later events
-begins-without [] = refl
-begins-without (At tick ∷ rest) = at (begins_later rest) refl (begins-without rest)
-  where
-    at :
-        (later : Bool) → begins_later rest ≡ later → begins_later (without_waits rest) ≡ begins_later rest
-        → begins_later (cond later (without_waits rest) (At tick ∷ without_waits rest)) ≡ true
-    at true e same = same ∙ e
-    at false e same = refl
-begins-without (Level wire level ∷ rest) = refl
-begins-without (Ticks scale ∷ rest) = refl
-
-begins-same : (a b : List Event) → SayTheSame a b → begins_later a ≡ begins_later b
-begins-same a b h = sym (begins-without a) ∙ ap begins_later h ∙ begins-without b
+use Rattle.xb_samples.specs.Pieces.{Reading, SamplesSay, SayTheSame, after_piece, begins_from, piece_events, samples_events, until, without_waits}
 
 -- what stands before does not matter
-at-same :
-    (tick : ℕ) (a b : List Event) → SayTheSame a b
-    → without_waits (At tick ∷ a) ≡ without_waits (At tick ∷ b)
-at-same tick a b h =
-    ap (λ later. cond later (without_waits a) (At tick ∷ without_waits a)) (begins-same a b h)
-    ∙ ap (λ said. cond (begins_later b) said (At tick ∷ said)) h
-
 pub same-after : (said a b : List Event) → SayTheSame a b → SayTheSame (said ++ a) (said ++ b)
 same-after [] a b h = h
-same-after (At tick ∷ rest) a b h = at-same tick (rest ++ a) (rest ++ b) (same-after rest a b h)
+same-after (At tick ∷ rest) a b h = ap (until tick) (same-after rest a b h)
 same-after (Level wire level ∷ rest) a b h = ap (λ said. Level wire level ∷ said) (same-after rest a b h)
 same-after (Ticks scale ∷ rest) a b h = ap (λ said. Ticks scale ∷ said) (same-after rest a b h)
 
--- each sample says nothing, or first up to when something held
+-- what begins from a tick on begins from an earlier one on
+begins-before :
+    (tick count : ℕ) (said : List Event) → tick ≤ count → begins_from count said ≡ true → begins_from tick said ≡ true
+begins-before tick count [] less h = h
+begins-before tick count (At later ∷ rest) less h = grind (arith, nat_tests)
+begins-before tick count (Level wire level ∷ rest) less h = h
+begins-before tick count (Ticks scale ∷ rest) less h = h
+
+pub until-begins : (tick count : ℕ) (said : List Event) → tick ≤ count → begins_from tick (until count said) ≡ true
+until-begins tick count said less = at (begins_from count said) refl
+  where
+    at : (later : Bool) → begins_from count said ≡ later → begins_from tick (cond later said (At count ∷ said)) ≡ true
+    at true e = begins-before tick count said less e
+    at false e = grind (arith, nat_tests)
+
+-- each sample says nothing, or first up to when something held; and no tick is before the last one
 abbrev pub SayWhen : {S A : Type 0} → Reading S A → Type 0
 SayWhen {S} {A} reading =
-    (state : S) (sample : A) (later : List Event) → begins_later later ≡ true
-    → begins_later (reading.says state sample ++ later) ≡ true
+    (state : S) (sample : A) → (reading.now state ≤ reading.now (reading.next state sample))
+    × ((tick : ℕ) (later : List Event) → tick ≤ reading.now state → begins_from tick (without_waits later) ≡ true
+    → begins_from tick (without_waits (reading.says state sample ++ later)) ≡ true)
 
 -- so samples do
 samples-begin :
-    {S A : Type 0} (reading : Reading S A) (state : S) (samples : List A) → SayWhen reading
-    → begins_later (samples_events reading state samples) ≡ true
-samples-begin reading state [] when = refl
-samples-begin reading state (sample ∷ rest) when =
+    {S A : Type 0} (reading : Reading S A) (state : S) (tick : ℕ) (samples : List A) → SayWhen reading
+    → tick ≤ reading.now state → begins_from tick (without_waits (samples_events reading state samples)) ≡ true
+samples-begin reading state tick [] when less = until-begins tick (reading.now state) [] less
+samples-begin reading state tick (sample ∷ rest) when less =
     let whole = append_assoc (reading.says state sample) (piece_events reading (reading.next state sample) rest)
     (At (reading.now (after_piece reading (reading.next state sample) rest)) ∷ []) in
-    ap begins_later whole
-    ∙ when state sample (samples_events reading (reading.next state sample) rest) (samples-begin reading (reading.next state sample) rest when)
+    let grows : reading.now state ≤ reading.now (reading.next state sample) = (when state sample).0 in
+    ap (λ said. begins_from tick (without_waits said)) whole
+    ∙ (when state sample).1 tick (samples_events reading (reading.next state sample) rest) less
+    (samples-begin reading (reading.next state sample) tick rest when (omega (arith, less, grows)))
 
 -- and a wait before them says nothing more
 waits :
     {S A : Type 0} (reading : Reading S A) (state : S) (tick : ℕ) (samples : List A) (later : List Event) → SayWhen reading
-    → SamplesSay reading state samples later → SamplesSay reading state samples (At tick ∷ later)
-waits reading state tick samples later when h =
-    ap (λ b. cond b (without_waits later) (At tick ∷ without_waits later))
-    (begins-same later (samples_events reading state samples) h ∙ samples-begin reading state samples when)
-    ∙ h
+    → tick ≤ reading.now state → SamplesSay reading state samples later → SamplesSay reading state samples (At tick ∷ later)
+waits reading state tick samples later when less h =
+    ap (until tick) h
+    ∙ ap (λ b. cond b (without_waits (samples_events reading state samples))
+    (At tick ∷ without_waits (samples_events reading state samples))) (samples-begin reading state tick samples when less)
 
 -- a piece, and then the rest
 pub after-piece :
@@ -101,7 +97,7 @@ piece_says {S} reading old new piece text mid said later when e f g h =
     let Q : S → Type 0 = λ s. SayTheSame (before ++ waiting) (before ++ samples_events reading s text) in
     let R : List Event → Type 0 = λ m. SayTheSame m (samples_events reading old (piece ++ text)) in
     let here : SayTheSame (before ++ waiting) (before ++ samples_events reading new text) =
-    same-after before waiting (samples_events reading new text) (waits reading new (reading.now new) text later when h) in
+    same-after before waiting (samples_events reading new text) (waits reading new (reading.now new) text later when (omega arith) h) in
     let there : SayTheSame (before ++ waiting) (before ++ samples_events reading (after_piece reading old piece) text) =
     subst Q f here in
     let whole : SayTheSame (before ++ waiting) (samples_events reading old (piece ++ text)) =

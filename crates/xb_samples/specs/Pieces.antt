@@ -1,5 +1,5 @@
 -- What samples say, in pieces as they come.
-use Rattle.std.specs.Prelude.{◌≡◌, ◌≢◌, ℕ, ◌+◌, ◌^◌, ◌≤◌, List, [], ◌∷◌, ◌++◌, Bool, true, false, if◌then◌else◌}
+use Rattle.std.specs.Prelude.{◌≡◌, ◌≢◌, ℕ, ◌+◌, ◌^◌, ◌≤◌, List, [], ◌∷◌, ◌++◌, Bool, false, if◌then◌else◌, nat_le}
 use Rattle.xb_contact.specs.declared.event.Event.{Event}
 use Rattle.xb_contact.specs.declared.event.Event.TheVariants.{At, Level, Ticks}
 use Rattle.xb_contact.specs.declared.event.Refusal.{Refusal}
@@ -26,16 +26,21 @@ abbrev pub samples_events : {S A : Type 0} → Reading S A → S → List A → 
 samples_events {S} {A} reading state samples =
     piece_events reading state samples ++ At (reading.now (after_piece reading state samples)) ∷ []
 
--- that the levels hold up to a tick says nothing where they hold up to a later one: a reader says it where a piece ends
-abbrev pub begins_later : List Event → Bool
-begins_later [] = false
-begins_later (At tick ∷ rest) = true
-begins_later (Level wire level ∷ rest) = false
-begins_later (Ticks scale ∷ rest) = false
+-- whether what is said begins with a tick from this one on
+abbrev pub begins_from : ℕ → List Event → Bool
+begins_from tick [] = false
+begins_from tick (At later ∷ rest) = nat_le tick later
+begins_from tick (Level wire level ∷ rest) = false
+begins_from tick (Ticks scale ∷ rest) = false
+
+-- that the levels hold up to a tick says nothing where they hold up to that or a later one: a reader says it where a piece
+-- ends. A tick that is greater than the next one stays
+abbrev pub until : ℕ → List Event → List Event
+until tick said = if begins_from tick said then said else At tick ∷ said
 
 abbrev pub without_waits : List Event → List Event
 without_waits [] = []
-without_waits (At tick ∷ rest) = if begins_later rest then without_waits rest else At tick ∷ without_waits rest
+without_waits (At tick ∷ rest) = until tick (without_waits rest)
 without_waits (Level wire level ∷ rest) = Level wire level ∷ without_waits rest
 without_waits (Ticks scale ∷ rest) = Ticks scale ∷ without_waits rest
 

@@ -1,6 +1,5 @@
--- What sound says: samples of 16 bits, each channel's in turn.
-use Rattle.std.specs.Prelude.{◌≡◌, ℕ, ◌+◌, ◌-◌, ◌*◌, ℤ, pos, neg_ℤ, int_le, max, min, List, [], ◌∷◌, ◌++◌, Option, Some, None, Result, Ok, length, map, nat_le, nat_lt, take, ◌==◌, ◌&&◌, if◌then◌else◌, option_map}
-use Rattle.std.specs.Int.{cast_signed, from_le_bytes, w16}
+-- What sound says: samples, each channel's in turn.
+use Rattle.std.specs.Prelude.{◌≡◌, ℕ, ◌+◌, ◌-◌, ◌*◌, ℤ, pos, neg_ℤ, int_le, List, [], ◌∷◌, ◌++◌, Option, Some, None, Result, Ok, length, map, nat_le, nat_lt, take, ◌==◌, ◌&&◌, if◌then◌else◌, option_map}
 use Rattle.std.specs.Option.{ok_or, option_and_then}
 use Rattle.xb_contact.specs.declared.event.Event.{Event}
 use Rattle.xb_contact.specs.declared.event.Event.TheVariants as events
@@ -13,28 +12,38 @@ use Rattle.xb_contact.specs.declared.level.Level.TheVariants.{Open, Closed}
 use Rattle.xb_contact.specs.Holds.{same_level}
 use Rattle.xb_samples.specs.declared.sound.Channel.{Channel}
 use Rattle.xb_samples.specs.declared.sound.Sound.{Sound}
-use Rattle.xb_samples.specs.declared.sound.Threshold.{Threshold}
+use Rattle.xb_samples.specs.Thresholds.{Percent}
+use Rattle.xb_riff.specs.declared.coding.Coding.{Coding}
+use Rattle.xb_riff.specs.declared.coding.Coding.TheVariants as coding
+use Rattle.xb_riff.specs.Codings.{mu_law_sample, narrow_sample, wide_sample}
 use Rattle.xb_samples.specs.Pieces.{Reading, SamplesSay, samples_events}
 use Rattle.xb_samples.specs.Samples.{rate_says}
 
--- a sample: the lower byte first, and below 0 from 32,768 on
-abbrev pub sample_of : ℕ → ℕ → ℤ
-sample_of lower upper = cast_signed w16 (from_le_bytes w16 (lower ∷ upper ∷ []))
-
--- the samples of bytes, of whose first one the lower byte may have come; a last byte by itself is none
-abbrev pub samples_after : Option ℕ → List ℕ → List ℤ
-samples_after lower [] = []
-samples_after None (byte ∷ rest) = samples_after (Some byte) rest
-samples_after (Some lower) (byte ∷ rest) = sample_of lower byte ∷ samples_after None rest
-
-abbrev pub samples_of : List ℕ → List ℤ
-samples_of bytes = samples_after None bytes
+-- the samples of 16 bits of bytes, of whose first one the lower byte may have come; a last byte by itself is none
+abbrev pub wide_after : Option ℕ → List ℕ → List ℤ
+wide_after lower [] = []
+wide_after None (byte ∷ rest) = wide_after (Some byte) rest
+wide_after (Some lower) (byte ∷ rest) = wide_sample lower byte ∷ wide_after None rest
 
 -- the lower byte of a sample whose upper one has not come
-abbrev pub lower_left : Option ℕ → List ℕ → Option ℕ
-lower_left lower [] = lower
-lower_left None (byte ∷ rest) = lower_left (Some byte) rest
-lower_left (Some lower) (byte ∷ rest) = lower_left None rest
+abbrev pub wide_left : Option ℕ → List ℕ → Option ℕ
+wide_left lower [] = lower
+wide_left None (byte ∷ rest) = wide_left (Some byte) rest
+wide_left (Some lower) (byte ∷ rest) = wide_left None rest
+
+-- the samples of bytes; one of 8 bits has one
+abbrev pub samples_after : Coding → Option ℕ → List ℕ → List ℤ
+samples_after coding.Unsigned8 lower bytes = map narrow_sample bytes
+samples_after coding.Signed16 lower bytes = wide_after lower bytes
+samples_after coding.MuLaw lower bytes = map mu_law_sample bytes
+
+abbrev pub samples_of : Coding → List ℕ → List ℤ
+samples_of how bytes = samples_after how None bytes
+
+abbrev pub lower_left : Coding → Option ℕ → List ℕ → Option ℕ
+lower_left coding.Unsigned8 lower bytes = lower
+lower_left coding.Signed16 lower bytes = wide_left lower bytes
+lower_left coding.MuLaw lower bytes = lower
 
 -- bytes up to a length, where that is known, and how many are wanted then
 abbrev pub own_bytes : Option ℕ → List ℕ → List ℕ
@@ -45,8 +54,8 @@ abbrev pub left_after : Option ℕ → List ℕ → Option ℕ
 left_after left bytes = option_map (λ n. n - length bytes) left
 
 -- the least sample that is high: so many hundredths of the greatest one
-abbrev pub high_of : Threshold → ℤ
-high_of threshold = pos (max 1 (min threshold.percent 99) * 327)
+abbrev pub high_of : Percent → ℤ
+high_of threshold = pos (threshold.percent * 327)
 
 -- a channel is closed from a threshold on, open from its opposite on, and between them as before
 abbrev pub level_by : ℤ → Level → ℤ → Level
@@ -107,7 +116,7 @@ sound_reading = record {
 
 -- further bytes of a sound say these events
 abbrev pub samples_left : Sound → List ℕ → List ℤ
-samples_left sound bytes = samples_after sound.lower (own_bytes sound.left bytes)
+samples_left sound bytes = samples_after sound.coding sound.lower (own_bytes sound.left bytes)
 
 abbrev pub SoundSays : Sound → List ℕ → List Event → Type 0
 SoundSays sound bytes events = SamplesSay sound_reading (sound_state sound) (samples_left sound bytes) events
@@ -127,10 +136,10 @@ wires_of channels (name ∷ names) =
     (ok_or (channel_of channels name) refusals.NoWire)
 
 -- nothing was taken of a sound of so many channels and bytes, where these are known
-abbrev pub IsNewSound : ℕ → ℤ → List (List ℕ) → Option ℕ → Sound → Type 0
-IsNewSound channels high names length sound =
+abbrev pub IsNewSound : Coding → ℕ → ℤ → List (List ℕ) → Option ℕ → Sound → Type 0
+IsNewSound how channels high names length sound =
     (result_map (begun_sound channels high) (wires_of channels names) ≡ Ok (sound_state sound))
-    × (sound.lower ≡ None) × (sound.left ≡ length)
+    × (sound.lower ≡ None) × (sound.left ≡ length) × (sound.coding ≡ how)
 
 abbrev pub levels_said : ℕ → List Channel → List Event
 levels_said wire [] = []

@@ -1,4 +1,4 @@
-// Sound of 16 bits a sample: a contact on a sound card.
+// Sound: a contact on a sound card.
 ghost use Rattle.std.specs.Prelude.{◌≡◌, ◌<ℤ◌, ◌≤◌, ◌+◌, ◌++◌, ◌∷◌, ◌↔◌, [], ℕ, ℤ, IfErr, IfOk, IfSome, IsSome, List, Ok, OnOk, length, map, pos};
 ghost use Rattle.xb_contact.specs.Steps.{AddsAll, IsOnly, IsRefusedBy, result_and_then};
 ghost use Rattle.xb_contact.specs.declared.event.Event.{Event as Saying};
@@ -8,15 +8,26 @@ ghost use Rattle.xb_samples.specs.Sounds.{IsNewSound, SoundSays, change_said, ch
 
 use crate::bits::say_rate;
 use std::alloc::{AllocError, Global};
+use std::marker::Model;
 use xb_contact::{Event, Level, Refusal, number_of, say};
+use xb_riff::Coding;
 
-/// The most channels of a sound.
-pub const MOST_CHANNELS: u8 = 8;
-
-/// How far from 0 a sample has to be, in parts of a hundred of the greatest one.
+/// How far from 0 a sample has to be, in parts of a hundred of the greatest one of 16 bits.
 #[derive(Clone, Copy, Debug, PartialEq, Eq)]
 pub struct Threshold {
     percent: u8,
+}
+
+impl Model for Threshold {
+    ghost use Rattle.xb_samples.specs.Thresholds.{IsPercent, Percent, percent_of};
+
+    ghost Value = { Percent };
+
+    ghost view = { λ threshold. percent_of threshold.percent };
+
+    ghost invariant = { λ threshold. IsPercent threshold.percent };
+
+    ghost inverse = { λ value. record { percent = value.percent } };
 }
 
 impl Threshold {
@@ -39,8 +50,7 @@ fn high_of(threshold: Threshold) -> i16
     ensures high { result ≡ high_of threshold }
     ensures some { pos 0 <ℤ result }
 {
-    let percent = threshold.percent.clamp(1, 99);
-    i16::from(percent) * 327
+    i16::from(threshold.percent) * 327
 }
 
 /// The level of a sample after another one: closed from `high` on, open up to `low`, and between them as before.
@@ -163,14 +173,15 @@ fn hear_sample(
     Ok(())
 }
 
-/// The reader of samples, the lower byte first, each channel's in turn. The samples of all channels are a tick.
+/// The reader of samples, each channel's in turn. The samples of all channels are a tick.
 /// A channel is closed from a threshold on, open from its opposite on, and between them as before; it begins open.
 #[derive(Drop)]
 pub struct Sound {
     wires: Vec<Channel>,
+    coding: Coding,
     channels: u8,
     threshold: Threshold,
-    // The channel of the next sample, from 1 on, and its lower byte, if that has come.
+    // The channel of the next sample, from 1 on, and the lower of its two bytes, if that has come.
     channel: u8,
     lower: Option<u8>,
     count: u64,
@@ -184,6 +195,7 @@ impl Sound {
     pub fn new(
         alloc: Global,
         names: &[&str],
+        coding: Coding,
         channels: u8,
         rate: Option<u64>,
         threshold: Threshold,
@@ -191,7 +203,7 @@ impl Sound {
         events: &mut Vec<Event>,
     ) -> Result<Sound, Refusal>
         ensures begun { IfOk result
-            (IsNewSound channels (high_of threshold) (map (λ name. name.now) names.now) length) }
+            (IsNewSound coding channels (high_of threshold) (map (λ name. name.now) names.now) length) }
         ensures said { OnOk result (AddsAll (result_and_then (sound_begins rate)
             (wires_of channels (map (λ name. name.now) names.now))) events.old.items events.new.items) }
         ensures refused { IfErr result (λ e. (samples : List ℤ) → IsRefusedBy
@@ -203,6 +215,7 @@ impl Sound {
         say_levels(&wires, events)?;
         Ok(Sound {
             wires,
+            coding,
             channels,
             threshold,
             channel: 1,
@@ -233,6 +246,7 @@ impl Sound {
         ensures state { OnOk result (sound_state self.new ≡ turned (sound_state self.old)) }
         ensures lower { self.new.lower ≡ self.old.lower }
         ensures left { self.new.left ≡ self.old.left }
+        ensures coding { self.new.coding ≡ self.old.coding }
         ensures count { OnOk result (self.new.count ≤ self.old.count + 1) }
         ensures over { IfErr result (RunsOver self.old.count 1) }
         ensures only { IfErr result (IsOnly Refusal.TooLate) }
@@ -257,6 +271,7 @@ impl Sound {
             (sound_state self.new ≡ sound_reading.next (sound_state self.old) sample) }
         ensures lower { self.new.lower ≡ self.old.lower }
         ensures left { self.new.left ≡ self.old.left }
+        ensures coding { self.new.coding ≡ self.old.coding }
         ensures count { OnOk result (self.new.count ≤ self.old.count + 1) }
         ensures over { IfErr result (RunsOver self.old.count 1) }
         ensures only { IfErr result (IsOnly Refusal.TooLate) }
@@ -270,15 +285,19 @@ impl Sound {
     // A byte.
     fn take_byte(&mut self, byte: u8, events: &mut Vec<Event>) -> Result<(), Refusal>
         ensures events { OnOk result (events.new.items ≡ events.old.items
-            ++ piece_events sound_reading (sound_state self.old) (samples_after self.old.lower (byte ∷ []))) }
+            ++ piece_events sound_reading (sound_state self.old) (samples_after self.old.coding self.old.lower (byte ∷ []))) }
         ensures state { OnOk result (sound_state self.new
-            ≡ after_piece sound_reading (sound_state self.old) (samples_after self.old.lower (byte ∷ []))) }
-        ensures lower { OnOk result (self.new.lower ≡ lower_left self.old.lower (byte ∷ [])) }
+            ≡ after_piece sound_reading (sound_state self.old) (samples_after self.old.coding self.old.lower (byte ∷ []))) }
+        ensures lower { OnOk result (self.new.lower ≡ lower_left self.old.coding self.old.lower (byte ∷ [])) }
         ensures left { self.new.left ≡ self.old.left }
+        ensures coding { self.new.coding ≡ self.old.coding }
         ensures count { OnOk result (self.new.count ≤ self.old.count + 1) }
         ensures over { IfErr result (RunsOver self.old.count 1) }
         ensures only { IfErr result (IsOnly Refusal.TooLate) }
     {
+        if self.coding.width() == 1 {
+            return self.take_sample(self.coding.sample_of(&[byte]), events);
+        }
         match self.lower {
             None => {
                 self.lower = Some(byte);
@@ -286,7 +305,7 @@ impl Sound {
             }
             Some(lower) => {
                 self.lower = None;
-                self.take_sample(i16::from_le_bytes([lower, byte]), events)
+                self.take_sample(self.coding.sample_of(&[lower, byte]), events)
             }
         }
     }
@@ -294,11 +313,12 @@ impl Sound {
     // Bytes, one after the other.
     fn take_bytes(&mut self, bytes: &[u8], events: &mut Vec<Event>) -> Result<(), Refusal>
         ensures events { OnOk result (events.new.items ≡ events.old.items
-            ++ piece_events sound_reading (sound_state self.old) (samples_after self.old.lower bytes.now)) }
+            ++ piece_events sound_reading (sound_state self.old) (samples_after self.old.coding self.old.lower bytes.now)) }
         ensures state { OnOk result (sound_state self.new
-            ≡ after_piece sound_reading (sound_state self.old) (samples_after self.old.lower bytes.now)) }
-        ensures lower { OnOk result (self.new.lower ≡ lower_left self.old.lower bytes.now) }
+            ≡ after_piece sound_reading (sound_state self.old) (samples_after self.old.coding self.old.lower bytes.now)) }
+        ensures lower { OnOk result (self.new.lower ≡ lower_left self.old.coding self.old.lower bytes.now) }
         ensures left { self.new.left ≡ self.old.left }
+        ensures coding { self.new.coding ≡ self.old.coding }
         ensures over { IfErr result (RunsOver self.old.count (length bytes.now)) }
         ensures only { IfErr result (IsOnly Refusal.TooLate) }
     {

@@ -2,7 +2,7 @@
 use Rattle.std.proofs.Common.{◌≡◌, ◌∙◌, ℕ, suc, ◌+◌, ◌-◌, ◌*◌, ◌/◌, ◌%◌, ◌<◌, ◌≤◌, Bool, true, false, List, [], ◌∷◌, length, drop, min, sym, ap, ap₂, arith, length-drop, suc-mul}
 use Rattle.std.specs.Prelude.{if◌then◌else◌}
 use Rattle.std.proofs.lemmas.Nat.{div-mul-add, div-add-mod', div_below, mod_below}
-use Rattle.xb_wav.specs.declared.coding.Form.{Form}
+use Rattle.xb_wav.specs.declared.coding.SampleForm.{SampleForm}
 use Rattle.xb_wav.specs.Samples.{group_bytes, mean_sample, samples_of, sound_of, sound_with, whole_samples}
 
 -- a group less
@@ -14,7 +14,7 @@ whole-less n g some enough =
     ap (λ (m : ℕ). m / g) (sym is) ∙ div-mul-add (suc ((n - g) / g)) g ((n - g) % g) below
 
 -- no sample is said to come
-pub none-said : (form : Form) (counted : Bool) (bytes : List ℕ) → sound_of form 0 counted bytes ≡ sound_with [] 0
+pub none-said : (form : SampleForm) (counted : Bool) (bytes : List ℕ) → sound_of form 0 counted bytes ≡ sound_with [] 0
 unfolding samples_of
 none-said form counted bytes = by counted
   where
@@ -28,7 +28,7 @@ none-said form counted bytes = by counted
     by true = ap₂ sound_with (ap (λ (n : ℕ). samples_of form n bytes) none) lacks
     by false = ap (λ xs. sound_with xs 0) (ap (λ (n : ℕ). samples_of form n bytes) none)
 
-module _ (form : Form) (some : 0 < group_bytes form) where
+module _ (form : SampleForm) (some : 0 < group_bytes form) where
   less : (bytes : List ℕ) → group_bytes form ≤ length bytes
       → whole_samples form bytes ≡ suc (whole_samples form (drop (group_bytes form) bytes))
   less bytes enough =

@@ -1,13 +1,15 @@
 -- What one call gives of the sound that is left.
-use Rattle.std.proofs.Common.{◌≡◌, ◌∙◌, ℕ, zero, suc, ◌+◌, ◌*◌, ◌<◌, ◌≤◌, Bool, true, false, List, [], ◌∷◌, ◌++◌, length, drop, Option, Some, None, Ok, Err, option_map, sym, ap, ap₂, refl, arith, length-append, length-drop, mul_comm, suc-mul, ℤ}
+use Rattle.std.proofs.Common.{◌≡◌, ◌∙◌, ℕ, zero, suc, ◌+◌, ◌-◌, ◌*◌, ◌<◌, ◌≤◌, Bool, true, false, List, [], ◌∷◌, ◌++◌, length, drop, take, Option, Some, None, Ok, Err, option_map, sym, ap, ap₂, refl, arith, length-append, length-drop, mul_comm, suc-mul, ℤ}
 use Rattle.std.specs.Prelude.{◌/◌, ◌-ℤ◌, if◌then◌else◌, pos}
-use Rattle.std.proofs.lemmas.List.{drop-append-le, take_all}
+use Rattle.std.proofs.lemmas.List.{drop-append-le, length-take, take_all}
+use Rattle.std.proofs.Math.Nat.{mul-le-mul_right}
 use Rattle.std.proofs.Math.Seq.{drop-append_seam}
-use Rattle.xb_wav.specs.declared.coding.Coding.{Coding}
-use Rattle.xb_wav.specs.declared.coding.Coding.TheVariants as coding
-use Rattle.xb_wav.specs.declared.coding.Form.{Form}
+use Rattle.xb_riff.specs.declared.coding.Coding.{Coding}
+use Rattle.xb_riff.specs.declared.coding.Coding.TheVariants as coding
+use Rattle.xb_wav.specs.declared.coding.SampleForm.{SampleForm}
 use Rattle.xb_wav.specs.declared.source.StreamFault.TheVariants as stream_fault
-use Rattle.xb_wav.specs.Samples.{IsForm, Sound, frame_bytes, group_bytes, height, mean_sample, sample_at, sound_of, sound_with, sum_of, width}
+use Rattle.xb_wav.specs.Samples.{IsForm, Sound, frame_bytes, group_bytes, height, mean_sample, sound_of, sound_with, sum_of}
+use Rattle.xb_riff.specs.Codings.{sample_at, width}
 use Rattle.xb_wav.specs.Streams.{FillsUp, GivesSample}
 use Rattle.xb_wav.proofs.Samples.{next-sound, none-said, too-few}
 use Rattle.xb_wav.proofs.Walks.{few-bytes}
@@ -28,8 +30,20 @@ a-frame coding.Unsigned8 channels some = omega (arith, some)
 a-frame coding.Signed16 channels some = omega (arith, some)
 a-frame coding.MuLaw channels some = omega (arith, some)
 
+-- each frame of a group is there whole
+pub frame-fits : (form : SampleForm) (n frame : ℕ) (bytes : List ℕ) → IsForm form → frame ≡ frame_bytes form → n < form.frames
+    → length bytes ≡ group_bytes form
+    → width form.coding ≤ length (take (length bytes - n * frame) (drop (n * frame) bytes))
+frame-fits form n frame bytes is whole less size =
+    let wide : width form.coding ≤ frame_bytes form = a-frame form.coding form.channels is.one_channel in
+    let some : suc n * frame ≤ form.frames * frame = mul-le-mul_right frame (omega (arith, less)) in
+    let all : length bytes ≡ form.frames * frame =
+    size ∙ mul_comm (frame_bytes form) form.frames ∙ ap (λ (m : ℕ). form.frames * m) (sym whole) in
+    let left : n * frame + frame ≤ length bytes = omega (arith, some, all, suc-mul n frame) in
+    omega (arith, wide, whole, left, length-take (length bytes - n * frame) (drop (n * frame) bytes), length-drop (n * frame) bytes)
+
 -- the frames of a buffer are the first ones of all bytes
-same-sum : (form : Form) (n : ℕ) (bytes left : List ℕ) → IsForm form → n * frame_bytes form ≤ length bytes
+same-sum : (form : SampleForm) (n : ℕ) (bytes left : List ℕ) → IsForm form → n * frame_bytes form ≤ length bytes
     → sum_of form n (bytes ++ left) ≡ sum_of form n bytes
 unfolding sum_of
 same-sum form zero bytes left is enough = refl
@@ -43,20 +57,20 @@ same-sum form (suc n) bytes left is enough =
     (ap (λ xs. height (sample_at form.coding xs)) (drop-append-le (n * frame_bytes form) bytes left first)
     ∙ ap height (same-sample form.coding (drop (n * frame_bytes form) bytes) left long))
 
-same-mean : (form : Form) (bytes left : List ℕ) → IsForm form → length bytes ≡ group_bytes form
+same-mean : (form : SampleForm) (bytes left : List ℕ) → IsForm form → length bytes ≡ group_bytes form
     → mean_sample form (bytes ++ left) ≡ mean_sample form bytes
 same-mean form bytes left is size =
     let enough : form.frames * frame_bytes form ≤ length bytes = omega (arith, size, mul_comm form.frames (frame_bytes form)) in
     ap (λ (n : ℕ). pos (n / form.frames) -ℤ pos 32768) (same-sum form form.frames bytes left is enough)
 
 -- no sample more is said to come
-pub gives-none : (form : Form) (said : ℕ) (counted : Bool) (old new : Option (List ℕ)) → said ≡ 0
+pub gives-none : (form : SampleForm) (said : ℕ) (counted : Bool) (old new : Option (List ℕ)) → said ≡ 0
     → GivesSample (option_map (sound_of form said counted) old) (Ok None) (option_map (sound_of form said counted) new)
 gives-none form said counted None new is = tt
 gives-none form said counted (Some bytes) new is =
     ap (λ (m : ℕ). sound_of form m counted bytes) is ∙ none-said form counted bytes
 
-module _ (form : Form) (buffer : List ℕ) (n : ℕ) (some : 0 < group_bytes form) (size : length buffer ≡ group_bytes form) where
+module _ (form : SampleForm) (buffer : List ℕ) (n : ℕ) (some : 0 < group_bytes form) (size : length buffer ≡ group_bytes form) where
   -- the bytes of a sample were read
   pub gives-next : (said less : ℕ) (counted : Bool) (x : ℤ) (old mid : Option (List ℕ)) → IsForm form
       → FillsUp old mid buffer n → length buffer ≤ n → said ≡ less + 1 → x ≡ mean_sample form buffer

@@ -1,3 +1,4 @@
+pub mod Constants
 pub mod Samples
 pub mod Streams
 pub mod Starts

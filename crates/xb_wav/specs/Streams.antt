@@ -1,5 +1,5 @@
 -- What is read of a stream, and the sound that it has left.
-use Rattle.std.specs.Prelude.{ℕ, ◌≡◌, ◌≤◌, ◌<◌, List, [], ◌∷◌, drop, length, take, ℤ, Option, Some, None, IfSome, Result, Ok, Err, option_map}
+use Rattle.std.specs.Prelude.{ℕ, ◌≡◌, ◌≤◌, ◌<◌, List, [], ◌∷◌, length, take, ℤ, Option, Some, None, Result, Ok, Err, option_map}
 use Rattle.std.specs.Io.KnownBytes.{Consumes, IsAtEnd}
 use Rattle.xb_wav.specs.declared.source.Source.{Source}
 use Rattle.xb_wav.specs.declared.source.StreamFault.{StreamFault}
@@ -11,10 +11,6 @@ pub record FillsUp (old new : Option (List ℕ)) (buffer : List ℕ) (n : ℕ) :
   pub bytes : Consumes old new (take n buffer)
   pub within : n ≤ length buffer
   pub end : n < length buffer → IsAtEnd new
-
--- so many bytes were passed over, or all that there were
-abbrev pub Skips : ℕ → Option (List ℕ) → Option (List ℕ) → Type 0
-Skips n old new = IfSome old (λ bytes. new ≡ Some (drop n bytes))
 
 -- the sound that a source has still to give, where its bytes are known
 abbrev pub sound_left : {R : Type 0} → (R → Option (List ℕ)) → Source R → Option Sound

@@ -1,9 +1,9 @@
 // The samples of a stream, one at a time.
 ghost use Rattle.std.specs.Prelude.{◌≡◌, ◌+◌, length, IfOk, IfSome};
 ghost use Rattle.xb_wav.specs.Samples.{IsForm, sound_of};
-ghost use Rattle.xb_wav.specs.Streams.{FillsUp, GivesSample, Skips, sound_left};
+ghost use Rattle.xb_wav.specs.Streams.{FillsUp, GivesSample, sound_left};
 
-use crate::coding::{Form, MOST_GROUP_BYTES};
+use crate::coding::{MOST_GROUP_BYTES, SampleForm};
 use std::io::Read;
 
 /// Why a stream gives no more.
@@ -35,32 +35,13 @@ pub(crate) fn fill<R: Read>(reader: &mut R, buffer: &mut [u8]) -> Result<usize, 
     Ok(at)
 }
 
-// How many bytes are passed over by one read.
-const SCRATCH_BYTES: usize = 512;
-
-// Passes over so many bytes, or all that there are.
-pub(crate) fn skip<R: Read>(reader: &mut R, count: u64) -> Result<(), ReadFailed>
-    ensures { IfOk result (λ _. Skips count (R.remaining reader.old) (R.remaining reader.new)) }
-{
-    let mut scratch = [0u8; SCRATCH_BYTES];
-    let mut left = count;
-    while left > 0 {
-        let room = left.min(SCRATCH_BYTES as u64) as usize;
-        if fill(reader, &mut scratch[..room])? < room {
-            return Ok(());
-        }
-        left -= room as u64;
-    }
-    Ok(())
-}
-
 /// The samples of a stream that is open: 8,000 a second, of the first channel.
 #[derive(Drop)]
 pub struct Source<R: Read> {
     /// The stream, which stands at its samples. It is read a few bytes at a time.
     pub reader: R,
     /// How they are written.
-    pub form: Form,
+    pub form: SampleForm,
     /// How many of 8,000 a second are said to come.
     pub said: u64,
     /// Whether each of them has to.

@@ -1,5 +1,6 @@
 use Rattle.std.proofs.Common.{[], ◌∷◌, subst, sym}
 use Rattle.std.proofs.lemmas.Result.{IfErr-weaker}
+use Rattle.xb_contact.specs.declared.event.Refusal.{Refusal}
 use Rattle.xb_recording.specs.declared.reader.Source.{Source}
 use Rattle.xb_recording.specs.Says.{SourceRefused}
 use Rattle.xb_recording.proofs.RefusedLemmas.{head_ends}
@@ -31,4 +32,6 @@ returns-in-Gpiomon-clause-refused c =
 
 pub returns-in-WavHead-clause-refused : goal.returns-in-WavHead-clause-refused
 returns-in-WavHead-clause-refused c = λ other wanted.
-    head_ends wanted c.args.source.now c.in-WavHead.field-0 (c.args.line.now ∷ []) c.in-WavHead.is
+    let P : Refusal → Type 0 = λ refusal. SourceRefused wanted c.args.source.now (c.args.line.now ∷ []) [] refusal in
+    subst P (sym c.end_head.ensures.only)
+    (head_ends wanted c.args.source.now c.in-WavHead.head (c.args.line.now ∷ []) c.in-WavHead.is c.end_head.ensures.ended)

@@ -1,11 +1,11 @@
 use Rattle.std.proofs.Common.{◌≡◌, ℕ, List, ◌++◌, ◌-◌, Option, drop, length, take, subst, length-drop, arith}
 use Rattle.std.proofs.lemmas.List.{take_all}
-use Rattle.std.proofs.lemmas.Result.{IfErr-weaker, on_ok_weaker}
+use Rattle.std.proofs.lemmas.Result.{IfErr-weaker, err_from_is_err_and, on_ok_weaker}
 use Rattle.xb_recording.specs.declared.reader.Source.TheVariants as sources
-use Rattle.xb_samples.specs.declared.wav.WavFormat.{WavFormat}
+use Rattle.xb_riff.specs.declared.head.WavFormat.{WavFormat}
 use Rattle.xb_recording.specs.Says.{RefusesSamples, TakesSamples, WavSays}
-use Rattle.xb_samples.specs.Wavs.{TakesHead}
-use Rattle.xb_recording.proofs.RefusedLemmas.{samples_are_refused}
+use Rattle.xb_riff.specs.Heads.{TakesHead}
+use Rattle.xb_recording.proofs.RefusedLemmas.{head_is_refused, samples_are_refused}
 use Rattle.xb_recording.proofs.SaidLemmas.{head_then}
 use Rattle.xb_recording.proofs.reader.Reader.take_values.Goals as goal
 
@@ -16,7 +16,7 @@ returns-in-Some-clause-said c =
     let format = c.in-Some.format in
     let count = c.in-Some.count in
     let head = c.in-WavHead.head in
-    let after = c.take-in-WavHead.new.self in
+    let after = c.take_head.new.head in
     let new = c.begin_sound.new.self in
     let events = c.begin_sound.new.events.items in
     let P : Option (WavFormat × ℕ) → Type 0 = λ found. TakesHead head bytes found after in
@@ -38,7 +38,7 @@ returns-in-Some-clause-refused c =
     let format = c.in-Some.format in
     let count = c.in-Some.count in
     let head = c.in-WavHead.head in
-    let after = c.take-in-WavHead.new.self in
+    let after = c.take_head.new.head in
     let P : Option (WavFormat × ℕ) → Type 0 = λ found. TakesHead head bytes found after in
     let taken = subst P c.in-Some.is c.in_ok-format-in-WavHead.ensures.taken in
     let rest : take (length bytes - count) (drop count bytes) ≡ drop count bytes =
@@ -48,3 +48,9 @@ returns-in-Some-clause-refused c =
     let Q : List ℕ → Type 0 = λ piece. RefusesSamples format old piece refusal in
     samples_are_refused old head after bytes (format, count) refusal c.in-WavHead.is taken (subst Q rest refused))
     c.begin_sound.ensures.refused
+
+pub returns-in_err-format-in-WavHead-clause-refused : goal.returns-in_err-format-in-WavHead-clause-refused
+returns-in_err-format-in-WavHead-clause-refused c =
+    let p = err_from_is_err_and c.from_residual.result c.from_residual.ensures.1 in
+    rw (p.1, p.2) (head_is_refused c.args.self.now c.in-WavHead.head c.args.bytes.now _ c.in-WavHead.is
+    c.in_err-format-in-WavHead.ensures.refused c.in_err-format-in-WavHead.ensures.only)

@@ -9,7 +9,7 @@ use Rattle.xb_samples.proofs.sound.Sound.new.Goals as goal
 
 pub returns-clause-begun : goal.returns-clause-begun
 returns-clause-begun c =
-    (ap (result_map (begun_sound c.args.channels (high_of c.args.threshold))) c.in_ok-wires.ensures.said, refl, refl)
+    (ap (result_map (begun_sound c.args.channels (high_of c.args.threshold))) c.in_ok-wires.ensures.said, refl, refl, refl)
 
 pub returns-clause-said : goal.returns-clause-said
 returns-clause-said c =

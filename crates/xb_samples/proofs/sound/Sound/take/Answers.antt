@@ -18,14 +18,14 @@ returns-clause-said c =
     let mid = c.take_bytes.new.events.items in
     let said = c.in_ok-take_bytes.ensures in
     let P : Sound → Type 0 =
-    λ s. (mid ≡ before ++ piece_events sound_reading (sound_state s) (samples_after s.lower own))
-    × (sound_state new ≡ after_piece sound_reading (sound_state s) (samples_after s.lower own))
-    × (new.lower ≡ lower_left s.lower own) × (new.left ≡ s.left) in
+    λ s. (mid ≡ before ++ piece_events sound_reading (sound_state s) (samples_after s.coding s.lower own))
+    × (sound_state new ≡ after_piece sound_reading (sound_state s) (samples_after s.coding s.lower own))
+    × (new.lower ≡ lower_left s.coding s.lower own) × (new.left ≡ s.left) × (new.coding ≡ s.coding) in
     let now : P (record old { left = left_after old.left c.args.bytes.now }) =
-    subst P c.own-own.ensures.left (said.events, said.state, said.lower, c.take_bytes.ensures.left) in
+    subst P c.own-own.ensures.left (said.events, said.state, said.lower, c.take_bytes.ensures.left, c.take_bytes.ensures.coding) in
     on_ok_weaker c.say.result
     (λ (told : c.say.new.events.items ≡ mid ++ At new.count ∷ []).
-    sound_takes old new c.args.bytes.now own before mid c.say.new.events.items c.own-own.ensures.own now.0 now.1 now.2 now.3 told)
+    sound_takes old new c.args.bytes.now own before mid c.say.new.events.items c.own-own.ensures.own now.0 now.1 now.2 now.3 now.4 told)
     c.say.ensures.said
 
 pub returns-clause-over : goal.returns-clause-over

@@ -1,6 +1,7 @@
-use Rattle.std.proofs.Common.{length, refl, ◌∙◌, arith}
-use Rattle.xb_samples.specs.Pieces.{RunsOver}
-use Rattle.xb_samples.specs.Sounds.{sound_state}
+use Rattle.std.proofs.Common.{◌≡◌, ℕ, List, [], ◌∷◌, ◌++◌, get_or, length, refl, subst, ◌∙◌, arith}
+use Rattle.xb_riff.specs.declared.coding.Coding.{Coding}
+use Rattle.xb_samples.specs.Pieces.{RunsOver, after_piece, piece_events}
+use Rattle.xb_samples.specs.Sounds.{lower_left, samples_after, sound_reading, sound_state}
 use Rattle.xb_samples.proofs.SoundLemmas.{byte_events, byte_lower, byte_state, bytes_events, bytes_lower, bytes_state}
 use Rattle.xb_samples.proofs.RefusedLemmas.{over_later, refused_with}
 use Rattle.xb_samples.proofs.sound.Sound.take_bytes.Goals as goal
@@ -14,32 +15,40 @@ loop-byte-preserved c =
     let inside = c.loop-byte-test.true in
     let took = c.in_ok-take_byte.ensures in
     let so_far = c.loop-byte.invariant in
+    let how = c.args.self.now.coding in
+    let byte : List ℕ = get_or bytes i 0 ∷ [] in
+    let events = subst (λ (h : Coding). c.take_byte.new.events.items
+    ≡ c.loop-byte.events.items ++ piece_events sound_reading (sound_state old) (samples_after h old.lower byte)) so_far.coding took.events in
+    let state = subst (λ (h : Coding). sound_state new ≡ after_piece sound_reading (sound_state old) (samples_after h old.lower byte))
+    so_far.coding took.state in
+    let lower = subst (λ (h : Coding). new.lower ≡ lower_left h old.lower byte) so_far.coding took.lower in
     record {
-      events = byte_events (sound_state old) (sound_state new) old.lower new.lower bytes i c.loop-byte.events.items
-          c.take_byte.new.events.items _ inside took.events took.state took.lower so_far.events;
-      state = byte_state (sound_state old) (sound_state new) _ old.lower new.lower bytes i inside took.state took.lower so_far.state;
-      lower = byte_lower old.lower new.lower _ bytes i inside took.lower so_far.lower;
+      events = byte_events how (sound_state old) (sound_state new) old.lower new.lower bytes i c.loop-byte.events.items
+          c.take_byte.new.events.items _ inside events state lower so_far.events;
+      state = byte_state how (sound_state old) (sound_state new) _ old.lower new.lower bytes i inside state lower so_far.state;
+      lower = byte_lower how old.lower new.lower _ bytes i inside lower so_far.lower;
       left = took.left ∙ so_far.left;
+      coding = took.coding ∙ so_far.coding;
       count = omega (arith, took.count, so_far.count);
     }
 
 pub returns-clause-events : goal.returns-clause-events
 returns-clause-events c =
-    bytes_events (sound_state c.loop-byte.self) c.loop-byte.self.lower c.args.bytes.now c.loop-byte.byte-index
+    bytes_events c.args.self.now.coding (sound_state c.loop-byte.self) c.loop-byte.self.lower c.args.bytes.now c.loop-byte.byte-index
     c.loop-byte.events.items _ c.loop-byte-test.false c.loop-byte.invariant.events
 
 pub returns-clause-state : goal.returns-clause-state
 returns-clause-state c =
-    bytes_state (sound_state c.loop-byte.self) _ c.loop-byte.self.lower c.args.bytes.now c.loop-byte.byte-index
+    bytes_state c.args.self.now.coding (sound_state c.loop-byte.self) _ c.loop-byte.self.lower c.args.bytes.now c.loop-byte.byte-index
     c.loop-byte-test.false c.loop-byte.invariant.state
 
 pub returns-clause-lower : goal.returns-clause-lower
 returns-clause-lower c =
-    bytes_lower c.loop-byte.self.lower _ c.args.bytes.now c.loop-byte.byte-index c.loop-byte-test.false
+    bytes_lower c.args.self.now.coding c.loop-byte.self.lower _ c.args.bytes.now c.loop-byte.byte-index c.loop-byte-test.false
     c.loop-byte.invariant.lower
 
 pub loop-byte-init : goal.loop-byte-init
-loop-byte-init c = record { events = refl; state = refl; lower = refl; left = refl; count = omega arith }
+loop-byte-init c = record { events = refl; state = refl; lower = refl; left = refl; coding = refl; count = omega arith }
 
 pub returns-in_err-take_byte-clause-over : goal.returns-in_err-take_byte-clause-over
 returns-in_err-take_byte-clause-over c =

@@ -5,11 +5,17 @@ use Rattle.xb_samples.proofs.sound.Sound.take_bytes.Given as goal
 
 abbrev pub invariant-loop-byte : goal.invariant-loop-byte
 invariant-loop-byte l = record {
-  events : l.events.items ++ piece_events sound_reading (sound_state l.self) (samples_after l.self.lower (drop l.byte-index l.bytes))
-      ≡ l.initial.events.items ++ piece_events sound_reading (sound_state l.initial.self) (samples_after l.initial.self.lower l.bytes);
-  state : after_piece sound_reading (sound_state l.self) (samples_after l.self.lower (drop l.byte-index l.bytes))
-      ≡ after_piece sound_reading (sound_state l.initial.self) (samples_after l.initial.self.lower l.bytes);
-  lower : lower_left l.self.lower (drop l.byte-index l.bytes) ≡ lower_left l.initial.self.lower l.bytes;
+  events : l.events.items ++ piece_events sound_reading (sound_state l.self)
+      (samples_after l.initial.self.coding l.self.lower (drop l.byte-index l.bytes))
+      ≡ l.initial.events.items ++ piece_events sound_reading (sound_state l.initial.self)
+      (samples_after l.initial.self.coding l.initial.self.lower l.bytes);
+  state : after_piece sound_reading (sound_state l.self)
+      (samples_after l.initial.self.coding l.self.lower (drop l.byte-index l.bytes))
+      ≡ after_piece sound_reading (sound_state l.initial.self)
+      (samples_after l.initial.self.coding l.initial.self.lower l.bytes);
+  lower : lower_left l.initial.self.coding l.self.lower (drop l.byte-index l.bytes)
+      ≡ lower_left l.initial.self.coding l.initial.self.lower l.bytes;
   left : l.self.left ≡ l.initial.self.left;
+  coding : l.self.coding ≡ l.initial.self.coding;
   count : l.self.count ≤ l.initial.self.count + l.byte-index;
 }
