@@ -2,12 +2,9 @@
 //! out.
 #![tactic(auto)]
 
-mod disk;
-
-use crate::disk::SystemFiles;
 use std::io;
 use std::process::ExitCode;
-use xb_command::words_of_process;
+use xb_command::{SystemFiles, words_of_process};
 use xb_split::attend;
 
 /// Splits the deck that the words name, or prints one line on standard error, as `attend` does.

@@ -1,6 +1,6 @@
 -- The numbers of texts, one after the other.
 use Rattle.std.proofs.Common.{◌≡◌, inl, inr, ℕ, List, [], ◌∷◌, ◌++◌, Ok, Err, refl, sym, ap, ◌∙◌, append_assoc, append-nil}
-use Rattle.xb_route.specs.declared.number_fault.NumberFault.{NumberFault}
+use Rattle.xb_route.specs.declared.fault.NumberFault.{NumberFault}
 use Rattle.xb_route.specs.NumberTexts.{Numbers, IsFaultOfText, number_and_rest, number_of_text, numbers_of}
 use Rattle.xb_route.specs.TextSteps.{StopsBy, TakesText, after}
 

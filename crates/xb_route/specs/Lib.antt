@@ -10,3 +10,4 @@ pub mod Options
 pub mod Routing
 pub mod Program
 pub mod Worked
+pub mod Constants

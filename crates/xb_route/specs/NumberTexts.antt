@@ -2,8 +2,8 @@
 use Rattle.std.specs.Prelude.{◌⊎◌, ◌≡◌, ℕ, not, if◌then◌else◌, List, [], ◌∷◌, Option, Some, None, option_and_then, option_map, Result, Ok, Err}
 use Rattle.std.specs.List.{enumerate_from, filter}
 use Rattle.xb_dial.specs.CallTexts.{is_grouping, is_passed_over, text_lines}
-use Rattle.xb_route.specs.declared.number_fault.NumberFault.{NumberFault}
-use Rattle.xb_route.specs.declared.number_fault.NumberFault.TheVariants as fault
+use Rattle.xb_route.specs.declared.fault.NumberFault.{NumberFault}
+use Rattle.xb_route.specs.declared.fault.NumberFault.TheVariants as fault
 use Rattle.xb_route.specs.Letters.{digit_of_character}
 
 -- a digit before the later ones

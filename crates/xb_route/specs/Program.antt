@@ -6,7 +6,7 @@ use Rattle.xb_command.specs.Files.{Bytes}
 use Rattle.xb_command.specs.Programs.{Attends, Streams}
 use Rattle.xb_command.specs.Telling.{Tells}
 use Rattle.xb_command.specs.Usages.{names_option}
-use Rattle.xb_route.specs.declared.fault.RouteProgramFault.{RouteProgramFault}
+use Rattle.xb_route.specs.declared.fault.RoutingFault.{RoutingFault}
 use Rattle.xb_route.specs.declared.words.Request.{Request}
 use Rattle.xb_route.specs.Options.{AreRefused, Asks}
 use Rattle.xb_route.specs.Routing.{Delivers}
@@ -33,7 +33,7 @@ pub record WritesLines (bytes : Bytes) (words : List Text) (old new : Streams) :
 -- they ask for something that gave a fault, of which a line was told
 pub record HasFault (bytes : Bytes) (words : List Text) (old new : Streams) : Type 0 where
   pub request : Request
-  pub fault : RouteProgramFault
+  pub fault : RoutingFault
   pub asks : Asks words request
   pub lines : Delivers bytes request old.input (Err fault) old.output new.output
   pub line : Tells program None old.errors new.errors

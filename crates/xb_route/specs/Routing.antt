@@ -1,5 +1,5 @@
 -- What is written of the numbers of a request.
-use Rattle.std.specs.Prelude.{◌≡◌, ◌≢◌, ℕ, List, [], ◌∷◌, if◌then◌else◌, Bool, Option, IfSome, Result, Ok, Err}
+use Rattle.std.specs.Prelude.{◌≡◌, ◌≢◌, ◌≤◌, ℕ, List, [], ◌∷◌, length, if◌then◌else◌, Bool, Option, IfSome, Result, Ok, Err}
 use Rattle.std.specs.List.{flat_map}
 use Rattle.std.specs.Io.KnownBytes.{Appends, Keeps}
 use Rattle.xb_command.specs.Files.{Bytes}
@@ -7,8 +7,8 @@ use Rattle.xb_routes.specs.Table.{Table}
 use Rattle.xb_routes.specs.Text.{table_of_text}
 use Rattle.xb_text.specs.Reading.{IsLongerThan}
 use Rattle.xb_text.specs.Writing.{AppendsBeginning}
-use Rattle.xb_route.specs.declared.fault.RouteProgramFault.{RouteProgramFault}
-use Rattle.xb_route.specs.declared.fault.RouteProgramFault.TheVariants as fault
+use Rattle.xb_route.specs.declared.fault.RoutingFault.{RoutingFault}
+use Rattle.xb_route.specs.declared.fault.RoutingFault.TheVariants as fault
 use Rattle.xb_route.specs.declared.reading.TheConstants.{MOST_TEXT_BYTES}
 use Rattle.xb_route.specs.declared.words.Request.{Request}
 use Rattle.xb_route.specs.Answers.{answer_to}
@@ -26,30 +26,34 @@ line_of json table digits = if json then object_line digits (answer_to table dig
 abbrev pub lines_of : Bool → Table → List (List ℕ) → List ℕ
 lines_of json table numbers = flat_map (line_of json table) numbers
 
--- the numbers of the words, or where there is none those of the input, if it is known
+-- the numbers of the words, or where there is none those of the input, if it is known, which is not too long
 abbrev pub AreNumbers : List (List ℕ) → Option (List ℕ) → Numbers → Type 0
-AreNumbers [] input numbers = IfSome input (λ text. numbers_of_text text ≡ numbers)
+AreNumbers [] input numbers =
+    IfSome input (λ text. (length text ≤ MOST_TEXT_BYTES) × (numbers_of_text text ≡ numbers))
 AreNumbers (word ∷ words) input numbers = numbers_of_words (word ∷ words) ≡ numbers
 
 -- the file of this name has a table
 abbrev pub HasTable : Bytes → List ℕ → Table → Type 0
 HasTable bytes name table = IfSome (bytes name) (λ text. table_of_text text ≡ Ok table)
 
+-- the file has some table
+abbrev pub HasSomeTable : Bytes → List ℕ → Type 0
+HasSomeTable bytes name = (table : Table) × HasTable bytes name table
+
 -- the file could not be read, or memory ran out, or this is the fault of its text
-abbrev pub IsFaultOfTable : Bytes → List ℕ → RouteProgramFault → Type 0
+abbrev pub IsFaultOfTable : Bytes → List ℕ → RoutingFault → Type 0
 IsFaultOfTable bytes name (fault.File error) = Unit {0}
 IsFaultOfTable bytes name fault.NoMemory = Unit {0}
 IsFaultOfTable bytes name (fault.Table f) = IfSome (bytes name) (λ text. table_of_text text ≡ Err f)
 IsFaultOfTable bytes name f = ⊥
 
 -- the input could not be read, or memory ran out, or this is the fault of the words, or of the input
-abbrev pub IsFaultOfNumbers : List (List ℕ) → Option (List ℕ) → RouteProgramFault → Type 0
-IsFaultOfNumbers words input fault.Read = Unit {0}
+abbrev pub IsFaultOfNumbers : List (List ℕ) → Option (List ℕ) → RoutingFault → Type 0
+IsFaultOfNumbers words input fault.Read = words ≡ []
 IsFaultOfNumbers words input fault.NoMemory = Unit {0}
 IsFaultOfNumbers words input fault.TooLong = (words ≡ []) × IsLongerThan MOST_TEXT_BYTES input
 IsFaultOfNumbers words input (fault.Word n f) = (words ≢ []) × (numbers_of_words words ≡ Err (n, f))
-IsFaultOfNumbers words input (fault.TextLine n f) =
-    (words ≡ []) × IfSome input (λ text. numbers_of_text text ≡ Err (n, f))
+IsFaultOfNumbers words input (fault.TextLine n f) = (words ≡ []) × AreNumbers [] input (Err (n, f))
 IsFaultOfNumbers words input f = ⊥
 
 -- the table of the file, and the numbers, and what is printed of these
@@ -61,9 +65,10 @@ pub record Routes (bytes : Bytes) (request : Request) (input : Option (List ℕ)
   pub is_printed : printed ≡ lines_of request.json table numbers
 
 -- what is returned for a request, and what the writer got: the lines on Ok, their beginning where a write
--- failed, and nothing on any other fault
+-- failed, and nothing on any other fault. A fault of the numbers is told only where the file has a table; memory may
+-- run out before that
 abbrev pub Delivers :
-    Bytes → Request → Option (List ℕ) → Result (Unit {0}) RouteProgramFault → Option (List ℕ) → Option (List ℕ)
+    Bytes → Request → Option (List ℕ) → Result (Unit {0}) RoutingFault → Option (List ℕ) → Option (List ℕ)
     → Type 0
 Delivers bytes request input (Ok u) old new =
     (printed : List ℕ) × Routes bytes request input printed × Appends old new printed
@@ -72,4 +77,6 @@ Delivers bytes request input (Err fault.Write) old new =
 Delivers bytes request input (Err (fault.File error)) old new = Keeps old new
 Delivers bytes request input (Err (fault.Table f)) old new =
     Keeps old new × IsFaultOfTable bytes request.table.now (fault.Table f)
-Delivers bytes request input (Err f) old new = Keeps old new × IsFaultOfNumbers (words_of request) input f
+Delivers bytes request input (Err fault.NoMemory) old new = Keeps old new
+Delivers bytes request input (Err f) old new =
+    Keeps old new × IsFaultOfNumbers (words_of request) input f × HasSomeTable bytes request.table.now

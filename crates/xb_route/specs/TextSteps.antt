@@ -1,7 +1,7 @@
 -- How numbers are read, one after the other.
 use Rattle.std.specs.Prelude.{◌≡◌, ◌⊎◌, ℕ, List, ◌∷◌, ◌++◌, map, None, Ok, Err, Vec}
-use Rattle.xb_route.specs.declared.number_fault.NumberFault.{NumberFault}
-use Rattle.xb_route.specs.declared.number_fault.NumberFault.TheVariants as fault
+use Rattle.xb_route.specs.declared.fault.NumberFault.{NumberFault}
+use Rattle.xb_route.specs.declared.fault.NumberFault.TheVariants as fault
 use Rattle.xb_route.specs.NumberTexts.{Numbers, digits_of, numbers_of}
 
 -- the digits of numbers that are kept as lists

@@ -5,7 +5,7 @@ use Rattle.xb_model.specs.LawfulLimits.{standard_limits}
 use Rattle.xb_model.specs.WorkedRows.{three_routes}
 use Rattle.xb_routes.specs.Table.{Table}
 use Rattle.xb_routes.specs.Text.{table_by}
-use Rattle.xb_route.specs.declared.number_fault.NumberFault.TheVariants as fault
+use Rattle.xb_route.specs.declared.fault.NumberFault.TheVariants as fault
 use Rattle.xb_route.specs.Letters.{digit_of_character}
 use Rattle.xb_route.specs.NumberTexts.{number_of_text}
 use Rattle.xb_route.specs.Answers.{answer_to}

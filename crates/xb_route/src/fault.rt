@@ -1,13 +1,27 @@
-// Why no number is routed.
-use crate::number_fault::NumberFault;
+// Why a text is no number, and why no number is routed.
 use std::io;
 use thiserror::Error;
+use xb_model::RowFault;
 use xb_routes::RouteFault;
 
-/// Why no number is routed, the first of these, in this order. Running out of memory is always `NoMemory`,
-/// also one of a `RouteFault` or a `NumberFault`.
+/// Why a text is no number.
+#[derive(Clone, Copy, Debug, PartialEq, Eq, Error)]
+pub enum NumberFault {
+    /// A character is no digit, no letter of a dial, no blank and no hyphen.
+    #[error("has a wrong character")]
+    Character,
+    /// There is no digit.
+    #[error("has no digits")]
+    NoDigits,
+    /// Memory ran out.
+    #[error("{}", RowFault::NoMemory)]
+    NoMemory,
+}
+
+/// Why no number is routed. The table comes first, then the numbers, and then the writing: a fault is told only where
+/// those before it have none. Memory may run out at any of them, which is always `NoMemory`.
 #[derive(Debug, Drop, Error)]
-pub enum RouteProgramFault {
+pub enum RoutingFault {
     /// The file of the table could not be read.
     #[error("the route table could not be read: {0}")]
     File(io::Error),
@@ -27,7 +41,7 @@ pub enum RouteProgramFault {
     #[error("text line {0} {1}")]
     TextLine(usize, NumberFault),
     /// Memory ran out.
-    #[error("out of memory")]
+    #[error("{}", RowFault::NoMemory)]
     NoMemory,
     /// A write or the flush failed, or a write took no byte. The beginning of the lines was written.
     #[error("the lines could not be written")]

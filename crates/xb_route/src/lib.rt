@@ -19,7 +19,6 @@ mod fault;
 pub mod laws;
 mod letters;
 mod lines;
-mod number_fault;
 mod numbers;
 mod objects;
 mod program;
@@ -28,8 +27,7 @@ mod routing;
 mod words;
 
 pub use answer::{Answer, answer_to};
-pub use fault::RouteProgramFault;
-pub use number_fault::NumberFault;
+pub use fault::{NumberFault, RoutingFault};
 pub use numbers::number_of_text;
 pub use program::attend;
 pub use reading::MOST_TEXT_BYTES;

@@ -3,8 +3,8 @@ ghost use Rattle.std.specs.Prelude.{◌≡◌, IfErr, IfOk, Ok, Some, map};
 ghost use Rattle.xb_route.specs.NumberTexts.{IsFaultOfText, digits_of, number_of_text};
 ghost use Rattle.xb_route.specs.TextSteps.{IsWrongText};
 
+use crate::fault::NumberFault;
 use crate::letters::digit_of_character;
-use crate::number_fault::NumberFault;
 use std::alloc::Global;
 use xb_dial::is_grouping;
 use xb_model::Digit;

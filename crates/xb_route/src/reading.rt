@@ -3,7 +3,7 @@ ghost use Rattle.std.specs.Prelude.{◌≡◌, ◌≤◌, Ok, IfErr, IfOk, OnOk,
 ghost use Rattle.xb_route.specs.NumberTexts.{numbers_of_text, numbers_of_words};
 ghost use Rattle.xb_route.specs.TextSteps.{IsWrong, StopsBy, TakesText, digits_of_numbers};
 
-use crate::number_fault::NumberFault;
+use crate::fault::NumberFault;
 use crate::numbers::number_of_text;
 use std::alloc::Global;
 use xb_dial::{is_passed_over, strip_carriage_return};

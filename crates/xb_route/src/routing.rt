@@ -5,9 +5,8 @@ ghost use Rattle.xb_route.specs.Routing.{AreNumbers, Delivers, HasTable, IsFault
 ghost use Rattle.xb_route.specs.TextSteps.{digits_of_numbers};
 
 use crate::answer::answer_to;
-use crate::fault::RouteProgramFault;
+use crate::fault::{NumberFault, RoutingFault};
 use crate::lines::answer_line;
-use crate::number_fault::NumberFault;
 use crate::objects::object_line;
 use crate::reading::{MOST_TEXT_BYTES, numbers_of_text, numbers_of_words};
 use crate::words::Request;
@@ -19,41 +18,37 @@ use xb_routes::{RouteFault, RouteTable};
 use xb_text::{ReadFault, read_whole, write_whole};
 
 // The table of a file.
-fn read_table<F: Files>(
-    alloc: Global,
-    files: &F,
-    name: &str,
-) -> Result<RouteTable, RouteProgramFault>
+fn read_table<F: Files>(alloc: Global, files: &F, name: &str) -> Result<RouteTable, RoutingFault>
     ensures table { IfOk result (HasTable (F.bytes files.now) name.now) }
     ensures fault { IfErr result (IsFaultOfTable (F.bytes files.now) name.now) }
 {
     let text = match files.read(alloc, name) {
         Ok(text) => text,
-        Err(error) => return Err(RouteProgramFault::File(error)),
+        Err(error) => return Err(RoutingFault::File(error)),
     };
     match RouteTable::read(alloc, &text) {
         Ok(table) => Ok(table),
-        Err(RouteFault::NoMemory) => Err(RouteProgramFault::NoMemory),
-        Err(fault) => Err(RouteProgramFault::Table(fault)),
+        Err(RouteFault::NoMemory) => Err(RoutingFault::NoMemory),
+        Err(fault) => Err(RoutingFault::Table(fault)),
     }
 }
 
 // The numbers of the input.
-fn read_numbers<R: Read>(alloc: Global, input: &mut R) -> Result<Vec<Vec<Digit>>, RouteProgramFault>
+fn read_numbers<R: Read>(alloc: Global, input: &mut R) -> Result<Vec<Vec<Digit>>, RoutingFault>
     ensures numbers { IfOk result (λ numbers.
         AreNumbers [] (R.remaining input.old) (Ok (digits_of_numbers numbers.items))) }
     ensures fault { IfErr result (IsFaultOfNumbers [] (R.remaining input.old)) }
 {
     let text = match read_whole(alloc, input, MOST_TEXT_BYTES) {
         Ok(text) => text,
-        Err(ReadFault::Failed) => return Err(RouteProgramFault::Read),
-        Err(ReadFault::TooLong) => return Err(RouteProgramFault::TooLong),
-        Err(ReadFault::NoMemory) => return Err(RouteProgramFault::NoMemory),
+        Err(ReadFault::Failed) => return Err(RoutingFault::Read),
+        Err(ReadFault::TooLong) => return Err(RoutingFault::TooLong),
+        Err(ReadFault::NoMemory) => return Err(RoutingFault::NoMemory),
     };
     match numbers_of_text(alloc, &text) {
         Ok(numbers) => Ok(numbers),
-        Err((_, NumberFault::NoMemory)) => Err(RouteProgramFault::NoMemory),
-        Err((n, fault)) => Err(RouteProgramFault::TextLine(n, fault)),
+        Err((_, NumberFault::NoMemory)) => Err(RoutingFault::NoMemory),
+        Err((n, fault)) => Err(RoutingFault::TextLine(n, fault)),
     }
 }
 
@@ -62,7 +57,7 @@ fn numbers_given<R: Read>(
     alloc: Global,
     words: &[&str],
     input: &mut R,
-) -> Result<Vec<Vec<Digit>>, RouteProgramFault>
+) -> Result<Vec<Vec<Digit>>, RoutingFault>
     ensures numbers { let texts = map (λ word. word.now) words.now in IfOk result (λ numbers.
         AreNumbers texts (R.remaining input.old) (Ok (digits_of_numbers numbers.items))) }
     ensures fault { let texts = map (λ word. word.now) words.now in
@@ -73,8 +68,8 @@ fn numbers_given<R: Read>(
     }
     match numbers_of_words(alloc, words) {
         Ok(numbers) => Ok(numbers),
-        Err((_, NumberFault::NoMemory)) => Err(RouteProgramFault::NoMemory),
-        Err((n, fault)) => Err(RouteProgramFault::Word(n, fault)),
+        Err((_, NumberFault::NoMemory)) => Err(RoutingFault::NoMemory),
+        Err((n, fault)) => Err(RoutingFault::Word(n, fault)),
     }
 }
 
@@ -113,8 +108,8 @@ fn lines_of(
 }
 
 /// Reads the table and the numbers of a request, and writes a line for each number: what an office of this
-/// table does with it. The table is read before the numbers; these are the words, or else the input; and
-/// nothing is written before all numbers are read.
+/// table does with it. The table is read before the numbers, so that a fault of these is told only where
+/// the table is good; they are the words, or else the input; and nothing is written before all of them are read.
 ///
 /// On an `Err` nothing was written, except on `Write`, where the beginning of the lines was.
 ///
@@ -126,7 +121,7 @@ pub fn route<'a, F: Files, R: Read, W: Write>(
     request: &Request<'a>,
     input: &mut R,
     out: &mut W,
-) -> Result<(), RouteProgramFault>
+) -> Result<(), RoutingFault>
     ensures { Delivers (F.bytes files.now) request.now (R.remaining input.old) result
         (W.contents out.old) (W.contents out.new) }
 {
@@ -134,10 +129,10 @@ pub fn route<'a, F: Files, R: Read, W: Write>(
     let numbers = numbers_given(alloc, &request.numbers, input)?;
     let lines = match lines_of(alloc, request.json, &table, &numbers) {
         Ok(lines) => lines,
-        Err(_) => return Err(RouteProgramFault::NoMemory),
+        Err(_) => return Err(RoutingFault::NoMemory),
     };
     match write_whole(out, &lines) {
         Ok(()) => Ok(()),
-        Err(_) => Err(RouteProgramFault::Write),
+        Err(_) => Err(RoutingFault::Write),
     }
 }

@@ -10,3 +10,4 @@ pub mod Splits
 pub mod WriteFaults
 pub mod SplitFaults
 pub mod Program
+pub mod Constants

@@ -1,5 +1,5 @@
 -- Why a deck is not split, where its bytes are known.
-use Rattle.std.specs.Prelude.{ℕ, ◌≡◌, ◌<◌, ◌⊎◌, List, length, Option, Some, IfSome, Result, Ok, Err}
+use Rattle.std.specs.Prelude.{ℕ, ◌≡◌, ◌≤◌, ◌<◌, ◌⊎◌, Bool, true, false, List, length, Option, Some, None, IfSome, Result, Ok, Err}
 use Rattle.std.specs.Io.KnownBytes.{Appends, Keeps}
 use Rattle.xb_deck.specs.Deck.{Parts, deck_parts}
 use Rattle.xb_deck.specs.Tables.{IsTableFault}
@@ -29,9 +29,32 @@ HasParts deck P = IfSome deck (λ text. IfSome (deck_parts text) P)
 abbrev pub HasTable : Option (List ℕ) → Type 0
 HasTable deck = HasParts deck (λ cut. IsTable cut.table)
 
--- why a deck is not split into so many parts: what the fault says of the deck holds
+-- so many parts may be asked for: at least one, and no more than files may be held open
+abbrev pub MayBeAsked : Option ℕ → Type 0
+MayBeAsked None = Unit {0}
+MayBeAsked (Some n) = (1 ≤ n) × (n ≤ MOST_PARTS)
+
+-- why so many parts are refused before the deck is read
+abbrev pub IsFaultOfNumber : Option ℕ → SplitFault → Type 0
+IsFaultOfNumber parts fault.NoParts = parts ≡ Some 0
+IsFaultOfNumber parts (fault.TooMany count) = (MOST_PARTS < count) × (parts ≡ Some count)
+IsFaultOfNumber parts f = ⊥
+
+-- a folder that may have the parts has nothing in it, as far as that is known
+abbrev pub IsEmpty : Option Bool → Type 0
+IsEmpty has_any = IfSome has_any (λ any. any ≡ false)
+
+-- why a folder is refused: it has something in it, or could not be looked at
+abbrev pub IsFaultOfFolder : Option Bool → SplitFault → Type 0
+IsFaultOfFolder has_any fault.NotEmpty = IfSome has_any (λ any. any ≡ true)
+IsFaultOfFolder has_any (fault.Folder error) = Unit {0}
+IsFaultOfFolder has_any f = ⊥
+
+-- why a deck is not split into so many parts: what the fault says of the deck holds; that a folder has something
+-- in it says nothing of it
 abbrev pub IsFaultOf : Option (List ℕ) → Option ℕ → SplitFault → Type 0
 IsFaultOf deck parts fault.NoParts = parts ≡ Some 0
+IsFaultOf deck parts fault.NotEmpty = ⊥
 IsFaultOf deck parts (fault.Table f) = IsTableFault MOST_DECK_BYTES deck f
 IsFaultOf deck parts (fault.Routes f) = HasParts deck (λ cut. table_of_text cut.table ≡ Err f)
 IsFaultOf deck parts (fault.Rows f) =
@@ -43,16 +66,32 @@ IsFaultOf deck parts (fault.TooMany count) =
     × IsPlanned deck parts ranges × (length ranges ≡ count)))
 IsFaultOf deck parts f = Unit {0}
 
--- the list of parts has its name only where their decks are whole, and have theirs
-abbrev pub IsWholeOrNone : Option (List ℕ) → Option (List ℕ) → Option ℕ → Decks → Option (List ℕ)
+-- the list of parts stays as it was; only where a name is at fault may it have its own, and then the decks are
+-- whole, and have theirs
+abbrev pub LeavesList : Option (List ℕ) → Option (List ℕ) → Option ℕ → SplitFault → Decks → Option (List ℕ)
     → Option (List ℕ) → Type 0
-IsWholeOrNone deck fresh parts decks old new =
+LeavesList deck fresh parts (fault.Folder error) decks old new =
     Keeps old new ⊎ ((list : List ℕ) × IsSplit deck parts fresh decks list × Appends old new list)
+LeavesList deck fresh parts f decks old new = Keeps old new
 
--- what is returned for a deck, and what became of the list of its parts
-abbrev pub Delivers : Option (List ℕ) → Option (List ℕ) → Option ℕ → Result (Unit {0}) SplitFault
+-- what is made of a deck, and what becomes of the list of its parts
+abbrev pub Makes : Option (List ℕ) → Option (List ℕ) → Option ℕ → Result (Unit {0}) SplitFault
     → Decks → Option (List ℕ) → Option (List ℕ) → Type 0
-Delivers deck fresh parts (Ok u) decks old new =
+Makes deck fresh parts (Ok u) decks old new =
     (list : List ℕ) × IsSplit deck parts fresh decks list × Appends old new list
-Delivers deck fresh parts (Err f) decks old new =
-    IsFaultOf deck parts f × IsWholeOrNone deck fresh parts decks old new
+Makes deck fresh parts (Err f) decks old new =
+    IsFaultOf deck parts f × LeavesList deck fresh parts f decks old new
+
+-- why a folder does not get the parts of a deck
+abbrev pub IsSplitFault : Option (List ℕ) → Option Bool → Option ℕ → SplitFault → Type 0
+IsSplitFault deck has_any parts fault.NotEmpty = IfSome has_any (λ any. any ≡ true)
+IsSplitFault deck has_any parts f = IsFaultOf deck parts f
+
+-- what is returned for a deck, and what became of the list of its parts: they are made only where so many may be
+-- asked for, and into a folder that has nothing in it
+abbrev pub Delivers : Option (List ℕ) → Option Bool → Option (List ℕ) → Option ℕ → Result (Unit {0}) SplitFault
+    → Decks → Option (List ℕ) → Option (List ℕ) → Type 0
+Delivers deck has_any fresh parts (Ok u) decks old new =
+    MayBeAsked parts × IsEmpty has_any × Makes deck fresh parts (Ok u) decks old new
+Delivers deck has_any fresh parts (Err f) decks old new =
+    IsSplitFault deck has_any parts f × LeavesList deck fresh parts f decks old new

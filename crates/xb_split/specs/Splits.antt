@@ -1,5 +1,5 @@
 -- A deck that is split, where its bytes are known.
-use Rattle.std.specs.Prelude.{ℕ, ◌≡◌, ◌≤◌, ◌<◌, ◌-◌, ◌^◌, List, length, map, Option, Some, None, IfSome, IsOk}
+use Rattle.std.specs.Prelude.{ℕ, ◌≡◌, ◌≤◌, ◌<◌, ◌-◌, ◌^◌, List, [], ◌∷◌, length, map, Option, Some, None, IfSome, IsOk}
 use Rattle.std.specs.Io.KnownBytes.{Appends, Keeps}
 use Rattle.xb_deck.specs.Deck.{deck_parts}
 use Rattle.xb_model.specs.Rows.{LoopRow}
@@ -98,3 +98,21 @@ pub record IsNamed (folder : List ℕ) (made : Decks) (list : List ℕ) (named :
     (old new : List ℕ → Option (List ℕ)) : Type 0 where
   pub decks : (i : ℕ) → named folder i ≡ made i
   pub listed : Appends (old folder) (new folder) list
+
+-- the folders whose decks were begun, and neither have their names nor are given up, where that is known
+abbrev pub Unfinished : Type 0
+Unfinished = Option (List (List ℕ))
+
+-- the decks of a folder are begun
+abbrev pub Begins : List ℕ → Unfinished → Unfinished → Type 0
+Begins folder old new = IfSome old (λ folders. new ≡ Some (folder ∷ folders))
+
+-- those of a folder, which were begun last, get their names, or are given up
+abbrev pub Ends : List ℕ → Unfinished → Unfinished → Type 0
+Ends folder None new = Unit {0}
+Ends folder (Some []) new = Unit {0}
+Ends folder (Some (begun ∷ folders)) new = begun ≡ folder → new ≡ Some folders
+
+-- no more are begun than there were
+abbrev pub LeavesNone : Unfinished → Unfinished → Type 0
+LeavesNone old new = IfSome old (λ folders. new ≡ Some folders)

@@ -1,5 +1,5 @@
 // The files of a split.
-ghost use Rattle.std.specs.Prelude.{◌≡◌, ◌<◌, ◌⊎◌, ℕ, List, Option, None, Some, IfOk, IfSome, IsTrue, OnErr, OnOk, length};
+ghost use Rattle.std.specs.Prelude.{◌≡◌, ◌<◌, ◌⊎◌, ℕ, Bool, List, Option, None, Some, IfOk, IfSome, IsTrue, OnErr, OnOk, length};
 
 use crate::decks::PartDecks;
 use crate::fault::MakeFault;
@@ -15,7 +15,7 @@ use xb_parts::LineRange;
 pub trait SplitFiles {
     ghost use Rattle.std.specs.Io.KnownBytes.{Keeps};
     ghost use Rattle.xb_split.specs.PartDecks.{Decks};
-    ghost use Rattle.xb_split.specs.Splits.{AreWhole, IsNamed, ListsKept};
+    ghost use Rattle.xb_split.specs.Splits.{AreWhole, Begins, Ends, IsNamed, LeavesNone, ListsKept, Unfinished};
 
     /// A deck that is read from its beginning.
     type Deck: Read + Drop;
@@ -34,13 +34,20 @@ pub trait SplitFiles {
 
     ghost listed: { Self → List ℕ → Option (List ℕ) } = { λ _ _. None };
 
+    // Whether a folder has anything in it, where it is known.
+    ghost filled: { Self → List ℕ → Option Bool } = { λ _ _. None };
+
+    // The folders whose decks were begun, and neither have their names nor are given up, where it is known.
+    ghost unfinished: { Self → Unfinished } = { λ _. None };
+
     /// Opens the file of a deck.
     fn open(&self, alloc: Global, big: &str) -> io::Result<Self::Deck>
         ensures { IfOk result (λ deck.
             IfSome (bytes self.now big.now) (λ known. Self.Deck.remaining deck ≡ Some known)) };
 
     /// Whether a folder has anything in it; one that is not there has nothing.
-    fn has_any(&self, alloc: Global, folder: &str) -> io::Result<bool>;
+    fn has_any(&self, alloc: Global, folder: &str) -> io::Result<bool>
+        ensures { IfOk result (λ any. IfSome (filled self.now folder.now) (λ known. known ≡ any)) };
 
     /// Makes an empty deck for each range, under another name than the folder's. On an `Err` none is left.
     fn make(
@@ -53,10 +60,13 @@ pub trait SplitFiles {
             → Self.Parts.contents parts i ≡ fresh self.old) }
         ensures fresh { fresh self.new ≡ fresh self.old }
         ensures deck { bytes self.new request.now.big.now ≡ bytes self.old request.now.big.now }
-        ensures list { ListsKept (listed self.old) (listed self.new) };
+        ensures list { ListsKept (listed self.old) (listed self.new) }
+        ensures begun { let folder = request.now.folder.now in
+            OnOk result (Begins folder (unfinished self.old) (unfinished self.new)) }
+        ensures none_left { OnErr result (LeavesNone (unfinished self.old) (unfinished self.new)) };
 
     /// Gives whole decks the name of their folder, and after that the list its own. On an `Err` they may have
-    /// their names or not.
+    /// their names or not, and where they have not they are taken away, as far as that can be done.
     fn name(
         &mut self,
         alloc: Global,
@@ -72,9 +82,11 @@ pub trait SplitFiles {
         ensures maybe { (folder : List ℕ) → OnErr result
             (Keeps (listed self.old folder) (listed self.new folder)
             ⊎ IsNamed request.now.folder.now (Self.Parts.contents parts) list.now
-            (named self.new) (listed self.old) (listed self.new)) };
+            (named self.new) (listed self.old) (listed self.new)) }
+        ensures ended { Ends request.now.folder.now (unfinished self.old) (unfinished self.new) };
 
     /// Takes away decks that are not whole, as far as that can be done.
     fn give_up(&mut self, alloc: Global, request: &Request<'_>, parts: Self::Parts)
-        ensures { ListsKept (listed self.old) (listed self.new) };
+        ensures list { ListsKept (listed self.old) (listed self.new) }
+        ensures ended { Ends request.now.folder.now (unfinished self.old) (unfinished self.new) };
 }

@@ -1,6 +1,7 @@
 // The program: its words and files in, a status and the decks of parts out.
 ghost use Rattle.xb_command.specs.Commands.{texts_of};
 ghost use Rattle.xb_split.specs.Program.{AttendsSplit};
+ghost use Rattle.xb_split.specs.Splits.{LeavesNone};
 
 use crate::files::SplitFiles;
 use crate::splitting::split;
@@ -21,7 +22,7 @@ const USAGE: &[u8] = b"mfsplit: usage: mfsplit BIG FOLDER [--parts N]\n";
 /// - `DONE`: the words name a deck and a folder, which got the decks of all parts, and after them their list;
 ///   `err` got nothing;
 /// - `FAULT`: `split` has a fault, or memory ran out while the words were read; `err` gets the fault as one
-///   line, and there is no list, unless all decks are whole;
+///   line, there is no list, unless all decks are whole, and no decks are left that have no names;
 /// - `WORDS_REFUSED`: the words are refused, or ask for help; `err` gets the usage as one line, no file is
 ///   read and none is made.
 ///
@@ -32,9 +33,10 @@ pub fn attend<F: SplitFiles, E: Write>(
     files: &mut F,
     err: &mut E,
 ) -> u8
-    ensures { AttendsSplit (F.bytes files.old) (F.fresh files.old) (F.named files.new)
-        (F.listed files.old) (F.listed files.new) (texts_of words.now)
+    ensures attends { AttendsSplit (F.bytes files.old) (F.filled files.old) (F.fresh files.old)
+        (F.named files.new) (F.listed files.old) (F.listed files.new) (texts_of words.now)
         (E.contents err.old) (E.contents err.new) result }
+    ensures none_left { LeavesNone (F.unfinished files.old) (F.unfinished files.new) }
 {
     match request_of_words(alloc, words) {
         Ok(request) => match split(alloc, files, &request) {

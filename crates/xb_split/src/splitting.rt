@@ -1,11 +1,11 @@
 // From the file of a deck to the decks of its parts.
-ghost use Rattle.std.specs.Prelude.{◌≡◌, IfErr, IfOk, IsTrue, List, OnOk, Option, map, string_bytes, ℕ};
+ghost use Rattle.std.specs.Prelude.{◌≡◌, IfErr, IfOk, IsTrue, List, OnErr, OnOk, Option, map, string_bytes, ℕ};
 ghost use Rattle.xb_model.specs.Sources.{Rest};
 ghost use Rattle.xb_split.specs.Counts.{counted};
 ghost use Rattle.xb_split.specs.Loads.{records_of};
 ghost use Rattle.xb_split.specs.PartDecks.{GetsDecks};
-ghost use Rattle.xb_split.specs.SplitFaults.{Delivers, HasTable, IsFaultOf};
-ghost use Rattle.xb_split.specs.Splits.{AreMade, IsCounted, IsOpened, IsPlan, IsReady, IsTable, ListsKept, listed};
+ghost use Rattle.xb_split.specs.SplitFaults.{Delivers, HasTable, IsEmpty, IsFaultOf, IsFaultOfFolder, IsFaultOfNumber, Makes, MayBeAsked};
+ghost use Rattle.xb_split.specs.Splits.{AreMade, Begins, IsCounted, IsOpened, IsPlan, IsReady, IsTable, LeavesNone, ListsKept, listed};
 
 use crate::counting::count_rows;
 use crate::decks::PartDecks;
@@ -122,7 +122,8 @@ fn listed_parts(
 
 // Refuses no parts, and more than there may be.
 fn check_parts(parts: Option<u32>) -> Result<(), SplitFault>
-    ensures { (deck : Option (List ℕ)) → IfErr result (IsFaultOf deck parts) }
+    ensures taken { OnOk result (MayBeAsked parts) }
+    ensures fault { IfErr result (IsFaultOfNumber parts) }
 {
     match parts {
         Some(0) => Err(SplitFault::NoParts),
@@ -133,7 +134,8 @@ fn check_parts(parts: Option<u32>) -> Result<(), SplitFault>
 
 // Refuses a folder that has anything in it.
 fn check_folder<F: SplitFiles>(alloc: Global, files: &F, folder: &str) -> Result<(), SplitFault>
-    ensures { (deck : Option (List ℕ)) (parts : Option ℕ) → IfErr result (IsFaultOf deck parts) }
+    ensures taken { OnOk result (IsEmpty (F.filled files.now folder.now)) }
+    ensures fault { IfErr result (IsFaultOfFolder (F.filled files.now folder.now)) }
 {
     match files.has_any(alloc, folder) {
         Ok(false) => Ok(()),
@@ -254,6 +256,9 @@ fn make_parts<F: SplitFiles>(
     ensures deck { let big = request.now.big.now in
         OnOk result (F.bytes files.new big ≡ F.bytes files.old big) }
     ensures list { ListsKept (F.listed files.old) (F.listed files.new) }
+    ensures begun { let folder = request.now.folder.now in
+        OnOk result (Begins folder (F.unfinished files.old) (F.unfinished files.new)) }
+    ensures none_left { OnErr result (LeavesNone (F.unfinished files.old) (F.unfinished files.new)) }
     ensures fault { (deck : Option (List ℕ)) (parts : Option ℕ) → HasTable deck
         → IfErr result (IsFaultOf deck parts) }
 {
@@ -281,10 +286,11 @@ fn make_and_name<F: SplitFiles>(
     requires ready { let deck = F.bytes files.old request.now.big.now in
         (parts : Option ℕ) × IsReady deck parts plan.now.table.items plan.now.loads plan.now.ranges.items
         (string_bytes plan.now.list) rows.old }
-    ensures { let deck = F.bytes files.old request.now.big.now in let folder = request.now.folder.now in
+    ensures made { let deck = F.bytes files.old request.now.big.now in let folder = request.now.folder.now in
         (parts : Option ℕ) → IsReady deck parts plan.now.table.items plan.now.loads plan.now.ranges.items
-        (string_bytes plan.now.list) rows.old → Delivers deck (F.fresh files.old) parts result
+        (string_bytes plan.now.list) rows.old → Makes deck (F.fresh files.old) parts result
         (F.named files.new folder) (F.listed files.old folder) (F.listed files.new folder) }
+    ensures none_left { LeavesNone (F.unfinished files.old) (F.unfinished files.new) }
 {
     let parts = match make_parts(alloc, files, request, plan, rows) {
         Ok(parts) => parts,
@@ -301,15 +307,18 @@ fn make_and_name<F: SplitFiles>(
 /// allow (more only where no fewer fit). The decks are made under another name, which they lose once all of
 /// them are whole, and the list gets its name after that.
 ///
-/// On an `Err` there is no list, unless all decks are whole.
+/// It is `NoParts` or `TooMany` at once where no parts are asked for, or more than `MOST_PARTS`, and `NotEmpty`
+/// where the folder has something in it. On an `Err` there is no list, except on `Folder`, where all decks may be
+/// whole and have their names; and no decks are left that have none.
 pub fn split<F: SplitFiles>(
     alloc: Global,
     files: &mut F,
     request: &Request,
 ) -> Result<(), SplitFault>
-    ensures { let deck = F.bytes files.old request.now.big.now in let folder = request.now.folder.now in
-        Delivers deck (F.fresh files.old) request.now.parts result
+    ensures split { let deck = F.bytes files.old request.now.big.now in let folder = request.now.folder.now in
+        Delivers deck (F.filled files.old folder) (F.fresh files.old) request.now.parts result
         (F.named files.new folder) (F.listed files.old folder) (F.listed files.new folder) }
+    ensures none_left { LeavesNone (F.unfinished files.old) (F.unfinished files.new) }
 {
     if let Err(fault) = check_parts(request.parts) {
         return Err(fault);

@@ -2,15 +2,22 @@ use Rattle.std.proofs.Common.{refl, inl, inr}
 use Rattle.std.specs.Prelude.{string_bytes}
 use Rattle.std.proofs.KnownBytes.{Keeps-trans}
 use Rattle.xb_split.specs.Splits.{IsTable}
+use Rattle.xb_split.proofs.Refusals.{begun_ended, list_left}
 use Rattle.xb_split.proofs.SplitDecks.{has_table, is_split, kept_then}
 use Rattle.xb_split.proofs.splitting.make_and_name.Goals as goal
 
-pub returns-in-Err : goal.returns-in-Err
-returns-in-Err g c parts ready =
+pub returns-in-Err-clause-made : goal.returns-in-Err-clause-made
+returns-in-Err-clause-made g c parts ready =
     let request = c.args.request.now in
     let deck = g.F.SplitFiles.bytes c.args.files.now request.big.now in
     let taken = has_table deck c.args.plan.now.table.items c.args.rows.now IsTable ready.opened ready.plan.counted.0 in
-    (c.in-Err.ensures.fault deck parts taken, inl (c.in-Err.ensures.list request.folder.now))
+    let folder = request.folder.now in
+    let files = c.make_parts.new.files in (
+      c.in-Err.ensures.fault deck parts taken,
+      list_left deck (g.F.SplitFiles.fresh c.args.files.now) parts c.in-Err.fault (g.F.SplitFiles.named files folder)
+          (g.F.SplitFiles.listed c.args.files.now folder) (g.F.SplitFiles.listed files folder)
+          (c.in-Err.ensures.list folder),
+    )
 
 pub name-requires : goal.name-requires
 name-requires g c =
@@ -25,8 +32,14 @@ name-requires g c =
       kept = c.in-Ok.ensures.kept;
     }
 
-pub returns-in-Err-name : goal.returns-in-Err-name
-returns-in-Err-name g c parts ready =
+pub returns-in-Err-name-clause-none_left : goal.returns-in-Err-name-clause-none_left
+returns-in-Err-name-clause-none_left g c =
+    begun_ended c.args.request.now.folder.now (g.F.SplitFiles.unfinished c.args.files.now)
+    (g.F.SplitFiles.unfinished c.make_parts.new.files) (g.F.SplitFiles.unfinished c.name.new.self)
+    c.in-Ok.ensures.begun c.in-Err-name.ensures.ended
+
+pub returns-in-Err-name-clause-made : goal.returns-in-Err-name-clause-made
+returns-in-Err-name-clause-made g c parts ready =
     let plan = c.args.plan.now in
     let deck = g.F.SplitFiles.bytes c.args.files.now c.args.request.now.big.now in
     let folder = c.args.request.now.folder.now in
@@ -49,8 +62,14 @@ returns-in-Err-name g c parts ready =
       ],
     )
 
-pub returns-in-Ok-name : goal.returns-in-Ok-name
-returns-in-Ok-name g c parts ready =
+pub returns-in-Ok-name-clause-none_left : goal.returns-in-Ok-name-clause-none_left
+returns-in-Ok-name-clause-none_left g c =
+    begun_ended c.args.request.now.folder.now (g.F.SplitFiles.unfinished c.args.files.now)
+    (g.F.SplitFiles.unfinished c.make_parts.new.files) (g.F.SplitFiles.unfinished c.name.new.self)
+    c.in-Ok.ensures.begun c.in-Ok-name.ensures.ended
+
+pub returns-in-Ok-name-clause-made : goal.returns-in-Ok-name-clause-made
+returns-in-Ok-name-clause-made g c parts ready =
     let plan = c.args.plan.now in
     let deck = g.F.SplitFiles.bytes c.args.files.now c.args.request.now.big.now in
     let folder = c.args.request.now.folder.now in

@@ -1,20 +1,25 @@
-// The files of the system: a deck, and the folder of its parts.
+// The decks of parts in files of the system.
+use crate::decks::PartDecks;
+use crate::fault::MakeFault;
+use crate::files::SplitFiles;
+use crate::words::Request;
 use std::alloc::Global;
-use std::fs::{self, File};
+use std::fs::{self, OpenFile};
 use std::io::{self, BufReader, BufWriter, ErrorKind, Write};
+use std::rt;
+use xb_command::SystemFiles;
 use xb_parts::{LineRange, deck_name};
-use xb_split::{MakeFault, PartDecks, Request, SplitFiles};
 
 // How many bytes are read or written at once.
 const BUFFER_BYTES: usize = 65_536;
 
 /// The decks of parts, each a file that is written.
 #[derive(Drop)]
-pub struct DeckFiles {
-    files: Vec<BufWriter<File>>,
+pub struct DeckFiles<F: Write + Drop> {
+    files: Vec<BufWriter<F>>,
 }
 
-impl PartDecks for DeckFiles {
+impl<F: Write + OpenFile + Drop> PartDecks for DeckFiles<F> {
     fn write(&mut self, part: usize, bytes: &[u8]) -> io::Result<()> {
         match self.files.get_mut(part) {
             Some(file) => file.write_all(bytes),
@@ -29,12 +34,6 @@ impl PartDecks for DeckFiles {
         }
         Ok(())
     }
-}
-
-/// The files of the system.
-#[derive(Drop)]
-pub struct SystemFiles<'a> {
-    pub rt: &'a HostRuntime,
 }
 
 // The name of a folder without the slashes at its end, which a shell puts there. One that has no name of
@@ -54,7 +53,11 @@ fn unfinished(alloc: Global, folder: &str) -> io::Result<String> {
 }
 
 // Makes an empty file in a folder for each range.
-fn create_decks(rt: &HostRuntime, folder: &str, ranges: &[LineRange]) -> io::Result<DeckFiles> {
+fn create_decks<R: rt::Files + AllocGlobal>(
+    rt: &R,
+    folder: &str,
+    ranges: &[LineRange],
+) -> io::Result<DeckFiles<R::File>> {
     let alloc = rt.alloc();
     let mut files = Vec::new(alloc);
     for range in ranges {
@@ -67,19 +70,24 @@ fn create_decks(rt: &HostRuntime, folder: &str, ranges: &[LineRange]) -> io::Res
 }
 
 // Writes a text to a new file, and puts it on the disk.
-fn write_file(rt: &HostRuntime, path: &str, text: &str) -> io::Result<()> {
+fn write_file<R: rt::Files>(rt: &R, path: &str, text: &str) -> io::Result<()> {
     let mut file = fs::create(rt, path)?;
     file.write_all(text.as_bytes())?;
     file.sync_all()
 }
 
 // Puts a folder itself on the disk: the names in it.
-fn sync_folder(rt: &HostRuntime, folder: &str) -> io::Result<()> {
+fn sync_folder<R: rt::Files>(rt: &R, folder: &str) -> io::Result<()> {
     fs::open(rt, folder)?.sync_all()
 }
 
 // Puts the list into the folder of the decks, and gives that folder its name; the list has another one yet.
-fn name_folder(rt: &HostRuntime, made: &str, folder: &str, list: &str) -> io::Result<()> {
+fn name_folder<R: rt::Files + AllocGlobal>(
+    rt: &R,
+    made: &str,
+    folder: &str,
+    list: &str,
+) -> io::Result<()> {
     let unlisted = format!(in rt.alloc(); "{made}/parts.txt.incomplete")?;
     write_file(rt, &unlisted, list)?;
     sync_folder(rt, made)?;
@@ -87,7 +95,7 @@ fn name_folder(rt: &HostRuntime, made: &str, folder: &str, list: &str) -> io::Re
 }
 
 // Gives the list in a folder its name.
-fn name_list(rt: &HostRuntime, folder: &str) -> io::Result<()> {
+fn name_list<R: rt::Files + AllocGlobal>(rt: &R, folder: &str) -> io::Result<()> {
     let unnamed = format!(in rt.alloc(); "{folder}/parts.txt.incomplete")?;
     let named = format!(in rt.alloc(); "{folder}/parts.txt")?;
     fs::rename(rt, &unnamed, &named)?;
@@ -95,19 +103,23 @@ fn name_list(rt: &HostRuntime, folder: &str) -> io::Result<()> {
 }
 
 // Takes a folder away where a step failed, as far as that can be done.
-fn or_none_left(rt: &HostRuntime, folder: &str, step: io::Result<()>) -> io::Result<()> {
+fn or_none_left<R: rt::Files + AllocGlobal>(
+    rt: &R,
+    folder: &str,
+    step: io::Result<()>,
+) -> io::Result<()> {
     if step.is_err() {
         let _ = fs::remove_dir_all(rt, folder);
     }
     step
 }
 
-impl<'a> SplitFiles for SystemFiles<'a> {
-    type Deck = BufReader<File>;
+impl<'a, R: rt::Files + AllocGlobal + Clone + Drop> SplitFiles for SystemFiles<'a, R> {
+    type Deck = BufReader<R::File>;
 
-    type Parts = DeckFiles;
+    type Parts = DeckFiles<R::File>;
 
-    fn open(&self, alloc: Global, big: &str) -> io::Result<BufReader<File>> {
+    fn open(&self, alloc: Global, big: &str) -> io::Result<BufReader<R::File>> {
         // a pipe cannot be read twice, and would be waited for
         if !fs::metadata(self.rt, big)?.is_file() {
             return Err(io::Error::other("it is no file"));
@@ -128,7 +140,7 @@ impl<'a> SplitFiles for SystemFiles<'a> {
         alloc: Global,
         request: &Request<'_>,
         ranges: &[LineRange],
-    ) -> Result<DeckFiles, MakeFault> {
+    ) -> Result<DeckFiles<R::File>, MakeFault> {
         let made = match unfinished(alloc, request.folder) {
             Ok(made) => made,
             Err(error) => return Err(MakeFault::Folder(error)),
@@ -149,7 +161,7 @@ impl<'a> SplitFiles for SystemFiles<'a> {
         &mut self,
         alloc: Global,
         request: &Request<'_>,
-        _parts: DeckFiles,
+        _parts: DeckFiles<R::File>,
         list: &str,
     ) -> io::Result<()> {
         let made = unfinished(alloc, request.folder)?;
@@ -158,7 +170,7 @@ impl<'a> SplitFiles for SystemFiles<'a> {
         or_none_left(self.rt, folder, name_list(self.rt, folder))
     }
 
-    fn give_up(&mut self, alloc: Global, request: &Request<'_>, _parts: DeckFiles) {
+    fn give_up(&mut self, alloc: Global, request: &Request<'_>, _parts: DeckFiles<R::File>) {
         if let Ok(made) = unfinished(alloc, request.folder) {
             let _ = fs::remove_dir_all(self.rt, &made);
         }
