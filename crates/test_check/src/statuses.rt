@@ -36,6 +36,15 @@ a.deck:2:1: no rule names this heading; there are [limits] and [[route]]: [limit
 a.deck:7:1: no rule names this key; here are code, trunk, delete and prefix (did you mean delete?): delte = 3
 ";
 
+// A deck that begins with a byte order mark, and has indented keys.
+const MARKED: &[u8] =
+    b"\xEF\xBB\xBFplam = 10\n  [[route]]\n\tcode = \"234\"\n trunk = 17\n \tdelte = 3\n---\nline,state,ms\n7,M,500\n";
+
+const MARKED_TOLD: &[u8] =
+    b"deck:1:4: no rule names this key; here are plan, limits and route (did you mean plan?): ???plam = 10
+deck:5:3: no rule names this key; here are code, trunk, delete and prefix (did you mean delete?):  ?delte = 3
+";
+
 // A deck with a record of each kind of fault.
 const FAULTY: &[u8] =
     b"---\nline,state,ms\n7,M,500\n10000,M,1\n7,X,60\n7,B\n\n\"7\",M,86400001\n7,C,1\n";
@@ -108,6 +117,14 @@ const USAGE: &[u8] = b"mfcheck: usage: mfcheck [--name NAME]\n";
 // The words after the program's name, the deck, the status, and what stands on standard output and error.
 const CASES: &[(&[&str], &[u8], u8, &[u8], &[u8])] = &[
     (&["--name", "a.deck"], PASSED_OVER, 0, TOLD, b""),
+    (&[], MARKED, 0, MARKED_TOLD, b""),
+    (
+        &[],
+        b"plan\n = 10\n---\n",
+        1,
+        b"",
+        b"mfcheck: route table: not TOML\n",
+    ),
     (
         &[],
         FAULTY,
@@ -183,14 +200,14 @@ const CASES: &[(&[&str], &[u8], u8, &[u8], &[u8])] = &[
         1,
         b"deck:3:1: no rule names this key; here are pulse_min, pulse_max, make_min, pause, release and timeout \
 (did you mean pulse_min?): pulse_mix = 1\n\
-deck:2:1: pulse_min is over pulse_max:  pulse_max = 119\n",
+deck:2:2: pulse_min is over pulse_max:  pulse_max = 119\n",
         b"mfcheck: route table: limit 7 is wrong\n",
     ),
     (
         &[],
         b"[[route]]\ncode = \"0\"\ntrunk = 1\n[[route]]\ntrunk = 2\n cod = \"411\"\n---\n",
         1,
-        b"deck:6:1: no rule names this key; here are code, trunk, delete and prefix \
+        b"deck:6:2: no rule names this key; here are code, trunk, delete and prefix \
 (did you mean code?):  cod = \"411\"\n\
 deck:4:1: this route lacks code or trunk, or one of its keys has another kind of value: [[route]]\n",
         b"mfcheck: route table: route 2 has a wrong shape\n",

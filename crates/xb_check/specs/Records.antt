@@ -17,7 +17,7 @@ use Rattle.xb_check.specs.declared.records.Record.TheVariants as read
 use Rattle.xb_check.specs.declared.table.Section.{Section}
 use Rattle.xb_check.specs.declared.table.Section.TheVariants.{Top}
 use Rattle.xb_check.specs.Findings.{Found}
-use Rattle.xb_check.specs.Table.{section_after, squeezed, with_meant, wrong_in_table}
+use Rattle.xb_check.specs.Table.{after_blanks, section_after, squeezed, with_meant, without_mark, wrong_in_table}
 
 -- a record that has this fault
 abbrev pub record_of_fault : RowFault → Record
@@ -110,11 +110,11 @@ after_comma text = after_cut (cut_at 44 text)
 
 -- a text line from the field on that is wrong
 abbrev pub from_field : What → List ℕ → List ℕ
-from_field what.Table line = line
-from_field what.TopKey line = line
-from_field what.LimitKey line = line
-from_field what.RouteKey line = line
-from_field (what.Routes f) line = line
+from_field what.Table line = after_blanks (without_mark line)
+from_field what.TopKey line = after_blanks (without_mark line)
+from_field what.LimitKey line = after_blanks (without_mark line)
+from_field what.RouteKey line = after_blanks (without_mark line)
+from_field (what.Routes f) line = after_blanks (without_mark line)
 from_field what.Header line = line
 from_field what.Fields line = line
 from_field what.Line line = line

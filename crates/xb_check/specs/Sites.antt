@@ -16,6 +16,7 @@ use Rattle.xb_check.specs.declared.table.Section.{Section}
 use Rattle.xb_check.specs.declared.table.Section.TheVariants as section
 use Rattle.xb_check.specs.Findings.{Found}
 use Rattle.xb_check.specs.Keys.{key_named, keys_of}
+use Rattle.xb_check.specs.Records.{column_of}
 use Rattle.xb_check.specs.Table.{is_heading, section_after, squeezed}
 
 -- the limits that a rule of limits is about
@@ -96,7 +97,8 @@ abbrev pub routes_after : Section → ℕ → List ℕ → ℕ
 routes_after section routes line = if is_heading line then routes + route_here section 1 else routes
 
 abbrev pub found_about : RouteFault → ℕ → List ℕ → Found
-found_about f n line = record { line = n; column = 1; what = what.Routes f; meant = None; text = line }
+found_about f n line =
+    record { line = n; column = column_of (what.Routes f) line; what = what.Routes f; meant = None; text = line }
 
 -- the first of the text lines from n on that a fault is about, before the line that cuts; `section` and
 -- `routes` are those before the first of them

@@ -1,6 +1,6 @@
 -- Which text lines of a route table have a key or a table that no rule names, each read by itself.
-use Rattle.std.specs.Prelude.{ℕ, ◌==◌, ◌||◌, ◌&&◌, not, List, [], ◌∷◌, codes, Bool, true, false, if◌then◌else◌, bytes_eq, Option, Some, None, is_some}
-use Rattle.std.specs.List.{filter, list_all}
+use Rattle.std.specs.Prelude.{ℕ, nat_eq, drop, length, ◌==◌, ◌||◌, ◌&&◌, not, List, [], ◌∷◌, codes, Bool, true, false, if◌then◌else◌, bytes_eq, Option, Some, None, is_some}
+use Rattle.std.specs.List.{filter, list_all, starts_with}
 use Rattle.std.specs.Char.{is_ascii_alphanumeric}
 use Rattle.xb_text.specs.Pieces.{cut_at}
 use Rattle.xb_check.specs.declared.key.Key.{Key}
@@ -14,9 +14,22 @@ use Rattle.xb_check.specs.declared.table.Section.TheVariants as section
 abbrev pub is_blank : ℕ → Bool
 is_blank byte = (byte == 32) || (byte == 9)
 
--- a text line without its blanks
+-- a text without its blanks
+abbrev pub without_blanks : List ℕ → List ℕ
+without_blanks text = filter (λ byte. not (is_blank byte)) text
+
+-- what follows the blanks at the beginning of a text
+abbrev pub after_blanks : List ℕ → List ℕ
+after_blanks [] = []
+after_blanks (byte ∷ rest) = if is_blank byte then after_blanks rest else byte ∷ rest
+
+-- a text line without the byte order mark that the first may begin with
+abbrev pub without_mark : List ℕ → List ℕ
+without_mark line = if starts_with nat_eq line (0xEF ∷ 0xBB ∷ 0xBF ∷ []) then drop 3 line else line
+
+-- a text line as it is read: without that mark, and without its blanks
 abbrev pub squeezed : List ℕ → List ℕ
-squeezed line = filter (λ byte. not (is_blank byte)) line
+squeezed line = without_blanks (without_mark line)
 
 -- a letter, a digit, _ or -: what keys have that stand without quotes
 abbrev pub is_bare : ℕ → Bool
@@ -58,11 +71,11 @@ unnamed section.Limits = what.LimitKey
 unnamed section.Route = what.RouteKey
 unnamed section.Other = what.Table
 
--- a key that no rule of its section names
+-- a key that no rule of its section names; nothing is none
 abbrev pub wrong_key : Section → Option (List ℕ × List ℕ) → Option What
 wrong_key section None = None
 wrong_key section (Some parts) =
-    if list_all is_bare parts.0 && not (is_known section parts.0) then Some (unnamed section) else None
+    if not (length parts.0 == 0) && list_all is_bare parts.0 && not (is_known section parts.0) then Some (unnamed section) else None
 
 -- what is wrong with a text line of a section, without its blanks
 abbrev pub wrong_line : Section → List ℕ → Option What

@@ -1,7 +1,6 @@
 // The text lines of a deck, each read once.
 ghost use Rattle.std.specs.Prelude.{◌≡◌, ◌≤◌, ◌++◌, ◌∷◌, [], IfOk, OnOk, length, map};
 ghost use Rattle.xb_deck.specs.declared.deck.TheConstants.{MOST_DECK_BYTES};
-ghost use Rattle.xb_deck.specs.Deck.{is_cut};
 ghost use Rattle.xb_check.specs.declared.lines.DeckPart.TheVariants as part;
 ghost use Rattle.xb_check.specs.declared.records.Record.TheVariants as read;
 ghost use Rattle.xb_check.specs.Findings.{found_of};
@@ -17,6 +16,7 @@ use crate::records::{
 };
 use crate::table::{Section, section_after, squeezed, wrong_in_table};
 use std::alloc::{AllocError, Global};
+use xb_deck::is_cut;
 use xb_model::Contact;
 use xb_text::first_piece;
 
@@ -38,13 +38,6 @@ pub(crate) struct LinesRead<'a> {
     pub(crate) found: Vec<Finding<'a>>,
     /// Those of which more may be said once the whole deck is known, in order.
     pub(crate) kept: Vec<KeptLine<'a>>,
-}
-
-/// Whether a line is the cut.
-pub(crate) fn is_cut(line: &[u8]) -> bool
-    ensures { result ≡ is_cut line.now }
-{
-    line == b"---".as_slice() || line == b"---\r".as_slice()
 }
 
 /// Whether nothing is written in a text line.
@@ -149,7 +142,6 @@ fn keep_first<'a>(
 
 // Takes text line `n` after the header.
 fn take_record<'a>(
-    alloc: Global,
     lines: &mut LinesRead<'a>,
     closes: &mut Closes,
     seen: &mut Seen,
@@ -159,7 +151,7 @@ fn take_record<'a>(
     ensures { OnOk result (TakesLine (part.Records closes.old seen.old) n text.now
         (lines_of lines.old) (lines_of lines.new) (part.Records closes.new seen.new)) }
 {
-    let read = record_of_line(alloc, text)?;
+    let read = record_of_line(text);
     push_found(
         &mut lines.found,
         n,
@@ -185,7 +177,7 @@ fn take_line<'a>(
         DeckPart::Table(section) => take_in_table(alloc, lines, section, n, text),
         DeckPart::Header => take_before_header(alloc, lines, n, text),
         DeckPart::Records(mut closes, mut seen) => {
-            take_record(alloc, lines, &mut closes, &mut seen, n, text)?;
+            take_record(lines, &mut closes, &mut seen, n, text)?;
             Ok(DeckPart::Records(closes, seen))
         }
     }

@@ -9,13 +9,14 @@ ghost use Rattle.xb_check.specs.Table.{with_meant};
 use crate::closes::Closes;
 use crate::finding::{Finding, What};
 use crate::key::Key;
+use crate::table::{after_blanks, without_mark};
 use std::alloc::{AllocError, Global};
 use xb_model::{Contact, Row, RowFault, RowSource};
-use xb_rows::Scan;
+use xb_rows::{Scan, row_of_line};
 use xb_text::cut_at;
 
-// The header, with the end of its text line.
-const HEADER: &[u8] = b"line,state,ms\n";
+// The number of the record after the header.
+const FIRST_RECORD: u64 = 1;
 
 // The least ms of a run that is no bounce, as `mfloop` settles them.
 const BOUNCE_MS: u32 = 5;
@@ -46,34 +47,21 @@ fn record_of_fault(fault: RowFault) -> Record
 }
 
 // What a text is of which this is read first.
-fn record_read(first: Result<Option<Row>, RowFault>) -> Result<Record, AllocError>
-    ensures { IfOk result (λ read. first ≢ Err NoMemory × (read ≡ record_read first)) }
+fn record_read(first: Result<Option<Row>, RowFault>) -> Record
+    ensures { result ≡ record_read first }
 {
     match first {
-        Ok(Some(row)) => Ok(Record::Row(row)),
-        Ok(None) => Ok(Record::Empty),
-        Err(RowFault::NoMemory) => Err(AllocError),
-        Err(fault) => Ok(record_of_fault(fault)),
+        Ok(Some(row)) => Record::Row(row),
+        Ok(None) => Record::Empty,
+        Err(fault) => record_of_fault(fault),
     }
 }
 
-// The first record of a text.
-fn first_record(alloc: Global, text: &[u8]) -> Result<Record, AllocError>
-    ensures { let rest = rest_of_text text.now in
-        IfOk result (λ read. read ≡ first_record rest.rows rest.stop) }
-{
-    let mut scan = Scan::new(alloc, text);
-    record_read(scan.next_row())
-}
-
 /// A text line after the header, read as a record by itself.
-pub(crate) fn record_of_line(alloc: Global, line: &[u8]) -> Result<Record, AllocError>
-    ensures { IfOk result (λ read. read ≡ record_of_line line.now) }
+pub(crate) fn record_of_line(line: &[u8]) -> Record
+    ensures { result ≡ record_of_line line.now }
 {
-    let mut text = Vec::new(alloc);
-    text.extend_from_slice(HEADER)?;
-    text.extend_from_slice(line)?;
-    first_record(alloc, &text)
+    record_read(row_of_line(FIRST_RECORD, line))
 }
 
 // What is wrong with a record by itself.
@@ -133,16 +121,9 @@ fn from_field(what: What, line: &[u8]) -> &[u8]
     ensures { result.now ≡ from_field what line.now }
 {
     match what {
-        What::Table
-        | What::TopKey
-        | What::LimitKey
-        | What::RouteKey
-        | What::Routes(_)
-        | What::Header
-        | What::Fields
-        | What::Line
-        | What::Ignored(_)
-        | What::Quiet => line,
+        What::Table | What::TopKey | What::LimitKey | What::RouteKey | What::Routes(_) =>
+            after_blanks(without_mark(line)),
+        What::Header | What::Fields | What::Line | What::Ignored(_) | What::Quiet => line,
         What::State => after_comma(line),
         What::Ms | What::Short | What::Seconds | What::Microseconds => {
             after_comma(after_comma(line))
@@ -150,8 +131,8 @@ fn from_field(what: What, line: &[u8]) -> &[u8]
     }
 }
 
-// The byte of a text line, from 1, at which what is wrong begins.
-fn column_of(what: What, line: &[u8]) -> usize
+/// The byte of a text line, from 1, at which what is wrong begins.
+pub(crate) fn column_of(what: What, line: &[u8]) -> usize
     ensures { result ≡ column_of what line.now }
 {
     line.len().saturating_sub(from_field(what, line).len()) + 1
@@ -188,6 +169,25 @@ pub(crate) fn push_found<'a>(
         })?;
     }
     Ok(())
+}
+
+// The record that a scan gives first, unless memory ran out.
+fn record_given(first: Result<Option<Row>, RowFault>) -> Result<Record, AllocError>
+    ensures { IfOk result (λ read. first ≢ Err NoMemory × (read ≡ record_read first)) }
+{
+    match first {
+        Err(RowFault::NoMemory) => Err(AllocError),
+        first => Ok(record_read(first)),
+    }
+}
+
+// The first record of a text.
+fn first_record(alloc: Global, text: &[u8]) -> Result<Record, AllocError>
+    ensures { let rest = rest_of_text text.now in
+        IfOk result (λ read. read ≡ first_record rest.rows rest.stop) }
+{
+    let mut scan = Scan::new(alloc, text);
+    record_given(scan.next_row())
 }
 
 /// What is wrong with a text line as the header.

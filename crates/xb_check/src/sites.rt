@@ -9,10 +9,10 @@ ghost use Rattle.xb_text.specs.Pieces.{cut_at, pieces};
 
 use crate::finding::{Finding, What};
 use crate::key::{Key, key_named, keys_of};
-use crate::lines::is_cut;
+use crate::records::column_of;
 use crate::table::{Section, is_heading, section_after, squeezed};
 use std::alloc::{AllocError, Global};
-use xb_deck::DeckFault;
+use xb_deck::{DeckFault, is_cut};
 use xb_routes::{LimitFault, RouteFault};
 use xb_text::{cut_at, first_piece};
 
@@ -157,10 +157,11 @@ fn first_about<'a>(
         section = section_after(section, &read);
         routes = routes_after(section, routes, &read);
         if is_about(fault, section, route_here(section, routes), &read) {
+            let what = What::Routes(fault);
             return Ok(Some(Finding {
                 line: n,
-                column: 1,
-                what: What::Routes(fault),
+                column: column_of(what, line),
+                what,
                 meant: None,
                 text: line,
             }));

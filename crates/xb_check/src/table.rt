@@ -1,7 +1,7 @@
 // Text lines of a route table, read by themselves.
 ghost use Rattle.std.specs.Prelude.{◌≡◌, IfOk, option_map};
 ghost use Rattle.std.specs.List.{list_all};
-ghost use Rattle.xb_check.specs.Table.{before_cut, is_bare, is_blank, is_heading, is_known, meant, section_after, section_of, squeezed, unnamed, wrong_heading, wrong_in_table, wrong_key, wrong_line};
+ghost use Rattle.xb_check.specs.Table.{after_blanks, before_cut, is_bare, is_blank, is_heading, is_known, meant, section_after, section_of, squeezed, unnamed, wrong_heading, wrong_in_table, wrong_key, without_blanks, without_mark, wrong_line};
 ghost use Rattle.xb_text.specs.Pieces.{cut_at};
 
 use crate::finding::What;
@@ -29,9 +29,37 @@ fn is_blank(byte: u8) -> bool
     byte == b' ' || byte == b'\t'
 }
 
-/// A text line without its blanks.
-pub(crate) fn squeezed(alloc: Global, line: &[u8]) -> Result<Vec<u8>, AllocError>
-    ensures { IfOk result (λ kept. kept.items ≡ squeezed line.now) }
+// How many bytes a byte order mark has.
+const MARK_BYTES: usize = 3;
+
+/// A text line without the byte order mark that it may begin with.
+pub(crate) fn without_mark(line: &[u8]) -> &[u8]
+    ensures { result.now ≡ without_mark line.now }
+{
+    if line.starts_with(b"\xEF\xBB\xBF") {
+        &line[MARK_BYTES..]
+    } else {
+        line
+    }
+}
+
+/// What follows the blanks at the beginning of a text.
+pub(crate) fn after_blanks(text: &[u8]) -> &[u8]
+    ensures { result.now ≡ after_blanks text.now }
+{
+    let mut left = text;
+    while let [first, rest @ ..] = left {
+        if !is_blank(*first) {
+            break;
+        }
+        left = rest;
+    }
+    left
+}
+
+// A text without its blanks.
+fn without_blanks(alloc: Global, line: &[u8]) -> Result<Vec<u8>, AllocError>
+    ensures { IfOk result (λ kept. kept.items ≡ without_blanks line.now) }
 {
     let mut kept = Vec::new(alloc);
     for byte in line {
@@ -40,6 +68,13 @@ pub(crate) fn squeezed(alloc: Global, line: &[u8]) -> Result<Vec<u8>, AllocError
         }
     }
     Ok(kept)
+}
+
+/// A text line without its byte order mark and its blanks.
+pub(crate) fn squeezed(alloc: Global, line: &[u8]) -> Result<Vec<u8>, AllocError>
+    ensures { IfOk result (λ kept. kept.items ≡ squeezed line.now) }
+{
+    without_blanks(alloc, without_mark(line))
 }
 
 // Whether a byte stands in a key that has no quotes.
@@ -127,7 +162,7 @@ fn wrong_key(section: Section, line: &[u8]) -> Option<What>
     ensures { result ≡ wrong_key section (cut_at 61 line.now) }
 {
     let (key, _) = cut_at(b'=', line)?;
-    if is_bare(key) && !is_known(section, key) {
+    if !key.is_empty() && is_bare(key) && !is_known(section, key) {
         Some(unnamed(section))
     } else {
         None

@@ -41,9 +41,10 @@ returns-then-is_about c =
     ap (λ (text : List ℕ). is_about c.args.fault here (route_here here count) text) (sym c.deref-in-Some-2.ensures.value)
     ∙ ap (λ (route : ℕ). is_about c.args.fault here route c.deref-in-Some-2.result.now) (sym c.route_here.ensures)
     ∙ sym c.if-is_about.ensures in
-    sym (l.invariant.rest ∙ ap (λ ls. first_about c.args.fault l.section l.routes (l.n + 1) ls) lines
+    rw c.column_of.ensures
+    (sym (l.invariant.rest ∙ ap (λ ls. first_about c.args.fault l.section l.routes (l.n + 1) ls) lines
     ∙ about_here c.args.fault l.section l.routes (l.n + 1) first later read here count (sym c.if-is_cut.ensures)
-    c.in_ok-read.ensures moved counted about)
+    c.in_ok-read.ensures moved counted about))
 
 pub loop-left-preserved : goal.loop-left-preserved
 loop-left-preserved c =
