@@ -1,18 +1,19 @@
 -- An entry is judged as it is read: by its head, and by what follows.
 use Rattle.std.proofs.Common.{◌≡◌, ◌∙◌, ℕ, suc, ◌-◌, Bool, true, false, List, [], ◌∷◌, length, Option, Some, None, Ok, Err, Result, refl, sym, ap, arith}
-use Rattle.std.specs.Prelude.{if◌then◌else◌, is_some, option_and_then, option_map, slice_get}
+use Rattle.std.specs.Prelude.{bytes_eq, if◌then◌else◌, is_some, option_and_then, option_map, slice_get}
 use Rattle.xb_model.specs.declared.key.Key.{Key}
 use Rattle.xb_model.specs.declared.key.Tone.{Tone as Pair}
 use Rattle.xb_model.specs.declared.mark.Mark.{Mark}
 use Rattle.xb_model.specs.declared.mark.Mark.TheVariants.{Trunk, Tone, Refused}
 use Rattle.xb_model.specs.declared.reason.Reason.{Reason}
-use Rattle.xb_model.specs.Page.{is_refused, last_refusal, refusal_of}
+use Rattle.xb_model.specs.MfPairs.{key_of_pair}
+use Rattle.xb_model.specs.Page.{is_refused, key_text, last_refusal, refusal_of}
 use Rattle.xb_page.specs.declared.fault.PageFault.{PageFault}
 use Rattle.xb_page.specs.declared.fault.PageFault.TheVariants as fault
 use Rattle.xb_page.specs.declared.place.Place.{Place}
 use Rattle.xb_page.specs.Entries.{entry_with}
 use Rattle.xb_page.specs.Places.{Head, four_digits_of, head_and, head_of_fields, head_with, next_place, or_fault, place_after, text_line}
-use Rattle.xb_page.specs.ReadPages.{after_entry, are_own, before, check_rest, colon, entry_and, entry_of_head, if_there, heard_of, key_of, mark_of, mark_of_two, marks_of, pair_of, reason_of, refusal_of_fields, refusal_of_two, tone_of_two, two_of}
+use Rattle.xb_page.specs.ReadPages.{after_entry, before, check_rest, colon, entry_and, entry_of_head, if_there, heard_of, mark_of, mark_of_two, marks_of, named_tone, pair_of, reason_of, refusal_of_fields, refusal_of_two, tone_of, two_of}
 use Rattle.xb_text.specs.Pieces.{pieces}
 
 -- the last of two or more marks
@@ -22,14 +23,18 @@ last_refusal-more m k ms =
     ap (λ (i : ℕ). option_and_then refusal_of (slice_get (m ∷ k ∷ ms) i)) e
 
 -- no field writes a refusal
-keys-refuse_none : (key : Option Key) (pair : Option Pair) (m : Mark) → tone_of_two key pair ≡ Some m → refusal_of m ≡ None
-keys-refuse_none None pair m e = absurd (let no : ⊥ = cc in no)
-keys-refuse_none (Some k) None m e = absurd (let no : ⊥ = cc in no)
-keys-refuse_none (Some k) (Some p) m e = by (are_own k p) e
+tones-refuse_none : (name : List ℕ) (pair : Option Pair) (m : Mark)
+    → option_and_then (λ tones. tone_of name tones) pair ≡ Some m → refusal_of m ≡ None
+tones-refuse_none name None m e = absurd (let no : ⊥ = cc in no)
+tones-refuse_none name (Some p) m e = of_key (key_of_pair p) e
   where
-    by : (own : Bool) → (if own then Some (Tone k p) else None) ≡ Some m → refusal_of m ≡ None
-    by true e = let same : m ≡ Tone k p = cc in ap refusal_of same
-    by false e = absurd (let no : ⊥ = cc in no)
+    by : (k : Key) (named : Bool) → (if named then Some (Tone k p) else None) ≡ Some m → refusal_of m ≡ None
+    by k true e = let same : m ≡ Tone k p = cc in ap refusal_of same
+    by k false e = absurd (let no : ⊥ = cc in no)
+
+    of_key : (key : Option Key) → option_and_then (λ k. named_tone name p k) key ≡ Some m → refusal_of m ≡ None
+    of_key None e = absurd (let no : ⊥ = cc in no)
+    of_key (Some k) e = by k (bytes_eq name (key_text k)) e
 
 trunks-refuse_none : (trunk : Option ℕ) (m : Mark) → option_map (λ t. Trunk t) trunk ≡ Some m → refusal_of m ≡ None
 trunks-refuse_none None m e = absurd (let no : ⊥ = cc in no)
@@ -40,7 +45,7 @@ mark_of-refuses_none field m e = by (two_of (pieces colon field)) e
   where
     by : (two : Option (List ℕ × List ℕ)) → mark_of_two field two ≡ Some m → refusal_of m ≡ None
     by None e = trunks-refuse_none (four_digits_of field) m e
-    by (Some two) e = keys-refuse_none (key_of two.0) (pair_of two.1) m e
+    by (Some two) e = tones-refuse_none two.0 (pair_of two.1) m e
 
 -- so marks that fields write are no refusal
 marks_of-keyed : (fields : List (List ℕ)) (marks : List Mark) → marks_of fields ≡ Some marks → last_refusal marks ≡ None

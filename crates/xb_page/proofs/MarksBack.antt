@@ -1,23 +1,21 @@
 -- Marks that are printed are read.
-use Rattle.std.proofs.Common.{◌≡◌, ◌≢◌, ◌∙◌, ℕ, ◌≤◌, ◌<◌, ◌+◌, true, List, [], ◌∷◌, ◌++◌, map, Option, Some, ap, append_assoc, append-nil, arith, refl, sym, subst, codes, eqb, eq-eqb, Bool, ◌&&◌}
-use Rattle.std.specs.Prelude.{◌==◌, decimal, option_and_then, option_map, nat_lt}
+use Rattle.std.proofs.Common.{◌≡◌, ◌≢◌, ◌∙◌, ℕ, ◌≤◌, ◌<◌, ◌+◌, true, false, List, [], ◌∷◌, ◌++◌, map, Option, Some, None, ap, append_assoc, append-nil, arith, refl, sym, subst, codes, eqb, eqb-true, Bool, cond, ◌&&◌}
+use Rattle.std.specs.Prelude.{decimal, option_and_then, option_map, nat_lt}
 use Rattle.std.specs.List.{AllByRecursion, list_all, range_with_len}
 use Rattle.xb_model.specs.declared.key.Key.{Key}
 use Rattle.xb_model.specs.declared.key.Key.TheVariants.{Digit, Kp, St}
 use Rattle.xb_model.specs.declared.key.Tone.{Tone as Pair}
 use Rattle.xb_model.specs.declared.mark.Mark.{Mark}
 use Rattle.xb_model.specs.declared.mark.Mark.TheVariants.{Trunk, Tone, Refused}
-use Rattle.xb_model.specs.MfPairs.{mf_pair}
+use Rattle.xb_model.specs.MfPairs.{key_of_pair, mf_pair}
 use Rattle.xb_model.specs.Page.{four_digits, key_text, mark_text, marks_text, pair_text}
 use Rattle.xb_model.proofs.WrittenFields.{field_number-decimal}
-use Rattle.std.proofs.Math.Bool.{and-false}
-use Rattle.std.proofs.lemmas.Bool.{ltb-true}
-use Rattle.std.proofs.lemmas.Fmt.{decimal_digit}
+use Rattle.std.proofs.lemmas.Bool.{false≢true, ltb-true}
 use Rattle.xb_page.specs.ReadBack.{IsKey, IsMark}
-use Rattle.xb_page.specs.ReadPages.{before, hz_of, key_of, mark_of, mark_of_two, marks_of, pair_of, pair_of_two, tone_of, tone_of_two, two_of}
+use Rattle.xb_page.specs.ReadPages.{before, hz_of, mark_of, mark_of_two, marks_of, named_tone, pair_of, pair_of_two, tone_of, two_of}
 use Rattle.xb_text.specs.Pieces.{pieces}
 use Rattle.xb_page.proofs.Avoiding.{Avoids, both, pieces-cut, pieces-whole, weaker}
-use Rattle.xb_page.proofs.NumbersBack.{IsDigitByte, and-both, avoids-colon, avoids-plus, decimal-bytes, four_digits-back, four_digits-bytes, holds_below}
+use Rattle.xb_page.proofs.NumbersBack.{IsDigitByte, and-both, avoids-colon, avoids-plus, bytes_eq-same, decimal-bytes, four_digits-back, four_digits-bytes, holds_below}
 
 -- a mark of a keyed entry
 abbrev pub IsKeyMark : Mark → Type 0
@@ -31,11 +29,29 @@ mark_field (Trunk t) = four_digits t
 mark_field (Tone key pair) = key_text key ++ codes ":" ++ pair_text pair
 mark_field (Refused reason heard) = []
 
-key-back : (key : Key) → IsKey key → key_of (key_text key) ≡ Some key
+-- the pair of a key is that of no other
+abbrev is_digit : ℕ → Option Key → Bool
+is_digit d None = false
+is_digit d (Some (Digit e)) = eqb d e
+is_digit d (Some Kp) = false
+is_digit d (Some St) = false
+
+is_digit-true : (d : ℕ) (key : Option Key) → is_digit d key ≡ true → key ≡ Some (Digit d)
+is_digit-true d None e = absurd (false≢true e)
+is_digit-true d (Some (Digit k)) e = ap (λ (n : ℕ). Some (Digit n)) (sym (eqb-true d k e))
+is_digit-true d (Some Kp) e = absurd (false≢true e)
+is_digit-true d (Some St) e = absurd (false≢true e)
+
+abbrev is_own : ℕ → Bool
+is_own d = is_digit d (key_of_pair (mf_pair (Digit d)))
+
+all_are_own : list_all is_own (range_with_len 0 10) ≡ true
+all_are_own = refl
+
+key-back : (key : Key) → IsKey key → key_of_pair (mf_pair key) ≡ Some key
 key-back (Digit d) is =
-    -- one byte is neither KP nor ST
-    let read = field_number-decimal 1 d (omega arith) (omega arith) (omega arith) in
-    rw (read, decimal_digit d is, and-false (eqb (48 + d) 75), and-false (eqb (48 + d) 83)) refl
+    is_digit-true d (key_of_pair (mf_pair (Digit d)))
+    (holds_below is_own 10 0 all_are_own d (omega arith) (omega arith))
 key-back Kp is = refl
 key-back St is = refl
 
@@ -100,12 +116,12 @@ pair-field pair short =
     ((omega arith, λ e. absurd (omega arith)), tt))
     (weaker IsDigitByte P digits_are (decimal pair.high) (decimal-bytes pair.high (omega (arith, short.1))))
 
--- the pair of a key is taken for it
-own-taken : (key : Key) (pair : Pair) → pair ≡ mf_pair key → tone_of key pair ≡ Some (Tone key pair)
-own-taken key pair own =
-    let low : (pair.low == (mf_pair key).low) ≡ true = eq-eqb _ _ (ap (λ (p : Pair). p.low) own) in
-    let high : (pair.high == (mf_pair key).high) ≡ true = eq-eqb _ _ (ap (λ (p : Pair). p.high) own) in
-    rw (low, high) refl
+-- the name of a key is taken for it, beside its pair
+name-taken : (key : Key) (pair : Pair) → IsMark (Tone key pair) → tone_of (key_text key) pair ≡ Some (Tone key pair)
+name-taken key pair is =
+    let own : key_of_pair pair ≡ Some key = ap key_of_pair is.1 ∙ key-back key is.0 in
+    ap (λ (k : Option Key). option_and_then (λ k. named_tone (key_text key) pair k) k) own
+    ∙ ap (λ (b : Bool). cond b (Some (Tone key pair)) None) (bytes_eq-same (key_text key))
 
 tone-back : (key : Key) (pair : Pair) → IsMark (Tone key pair)
     → mark_of (key_text key ++ codes ":" ++ pair_text pair) ≡ Some (Tone key pair)
@@ -119,9 +135,8 @@ tone-back key pair is =
     ∙ pieces-cut 58 (key_text key) (pair_text pair) key_avoids
     ∙ ap (λ (rest : List (List ℕ)). key_text key ∷ rest) (pieces-whole 58 (pair_text pair) pair_avoids) in
     ap (λ (parts : List (List ℕ)). mark_of_two (key_text key ++ codes ":" ++ pair_text pair) (two_of parts)) cut
-    ∙ ap (λ (k : Option Key). tone_of_two k (pair_of (pair_text pair))) (key-back key is.0)
-    ∙ ap (λ (p : Option Pair). tone_of_two (Some key) p) (pair-back pair short)
-    ∙ own-taken key pair is.1
+    ∙ ap (λ (p : Option Pair). option_and_then (λ tones. tone_of (key_text key) tones) p) (pair-back pair short)
+    ∙ name-taken key pair is
 
 trunk-back : (t : ℕ) → t < 10000 → mark_of (four_digits t) ≡ Some (Trunk t)
 trunk-back t below =

@@ -1,13 +1,13 @@
 -- How a page is read back (own format).
-use Rattle.std.specs.Prelude.{◌≡◌, ◌⊎◌, ℕ, ◌==◌, ◌&&◌, if◌then◌else◌, nat_lt, List, [], ◌∷◌, ◌++◌, codes, decimal, Bool, true, false, Option, Some, None, option_and_then, option_map, Result, Ok, Err, bytes_eq}
+use Rattle.std.specs.Prelude.{◌≡◌, ◌⊎◌, ℕ, ◌&&◌, if◌then◌else◌, nat_lt, List, [], ◌∷◌, ◌++◌, codes, decimal, Bool, true, false, Option, Some, None, option_and_then, option_map, Result, Ok, Err, bytes_eq}
 use Rattle.xb_model.specs.declared.key.Key.{Key}
-use Rattle.xb_model.specs.declared.key.Key.TheVariants.{Digit, Kp, St}
 use Rattle.xb_model.specs.declared.key.Tone.{Tone as Pair}
 use Rattle.xb_model.specs.declared.mark.Mark.{Mark}
 use Rattle.xb_model.specs.declared.mark.Mark.TheVariants.{Trunk, Tone, Refused}
 use Rattle.xb_model.specs.declared.reason.Reason.{Reason}
 use Rattle.xb_model.specs.declared.reason.Reason.TheVariants.{Mutilated, Unknown, Abandoned, TimedOut}
-use Rattle.xb_model.specs.MfPairs.{mf_pair, pair}
+use Rattle.xb_model.specs.MfPairs.{key_of_pair, pair}
+use Rattle.xb_model.specs.Page.{key_text}
 use Rattle.xb_text.specs.Pieces.{pieces}
 use Rattle.xb_model.specs.Fields.{field_number}
 use Rattle.xb_page.specs.Entries.{Entry, entry_with}
@@ -22,12 +22,6 @@ plus = 43
 
 abbrev pub colon : ℕ
 colon = 58
-
--- the key that a text names
-abbrev pub key_of : List ℕ → Option Key
-key_of text =
-    if bytes_eq text (codes "KP") then Some Kp
-    else (if bytes_eq text (codes "ST") then Some St else option_map (λ d. Digit d) (field_number 1 text))
 
 -- the frequency that a text writes
 abbrev pub hz_of : List ℕ → Option ℕ
@@ -45,16 +39,13 @@ two_of other = None
 abbrev pub pair_of : List ℕ → Option Pair
 pair_of text = option_and_then (λ two. pair_of_two (hz_of two.0) (hz_of two.1)) (two_of (pieces plus text))
 
--- whether a key sounds by these tones
-abbrev pub are_own : Key → Pair → Bool
-are_own key tones = tones.low == (mf_pair key).low && tones.high == (mf_pair key).high
+-- the mark of a key, if this is its name
+abbrev pub named_tone : List ℕ → Pair → Key → Option Mark
+named_tone name tones key = if bytes_eq name (key_text key) then Some (Tone key tones) else None
 
--- the mark of a key, if the tones are its own
-abbrev pub tone_of : Key → Pair → Option Mark
-tone_of key tones = if are_own key tones then Some (Tone key tones) else None
-
-abbrev pub tone_of_two : Option Key → Option Pair → Option Mark
-tone_of_two key tones = option_and_then (λ k. option_and_then (λ p. tone_of k p) tones) key
+-- the mark of the key that sounds by these tones
+abbrev pub tone_of : List ℕ → Pair → Option Mark
+tone_of name tones = option_and_then (λ key. named_tone name tones key) (key_of_pair tones)
 
 -- a trunk group is four digits
 abbrev pub trunk_of : List ℕ → Option Mark
@@ -62,7 +53,7 @@ trunk_of text = option_map (λ t. Trunk t) (four_digits_of text)
 
 abbrev pub mark_of_two : List ℕ → Option (List ℕ × List ℕ) → Option Mark
 mark_of_two field None = trunk_of field
-mark_of_two field (Some two) = tone_of_two (key_of two.0) (pair_of two.1)
+mark_of_two field (Some two) = option_and_then (λ tones. tone_of two.0 tones) (pair_of two.1)
 
 -- the mark that a field writes, as 0017 or KP:1100+1700
 abbrev pub mark_of : List ℕ → Option Mark

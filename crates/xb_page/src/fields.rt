@@ -1,12 +1,12 @@
 // What the fields of a text line write.
 ghost use Rattle.std.specs.Prelude.{◌≡◌, ◌<◌, ◌^◌, IfSome, option_copied, bytes_eq, decimal};
 ghost use Rattle.xb_page.specs.Places.{four_digits_of, is_refusal, space};
-ghost use Rattle.xb_page.specs.ReadPages.{heard_of, hz_of, key_of, mark_of, pair_of, reason_of, refusal_of_fields, tone_of, trunk_of};
+ghost use Rattle.xb_page.specs.ReadPages.{heard_of, hz_of, mark_of, named_tone, pair_of, reason_of, refusal_of_fields, tone_of, trunk_of};
 ghost use Rattle.xb_text.specs.Pieces.{pieces_left};
 
 use crate::pieces::two_pieces;
 use itoa::Buffer;
-use xb_model::{Digit, Key, Mark, Reason, Tone, Trunk, field_number, mf};
+use xb_model::{Key, Mark, Reason, Tone, Trunk, field_number, key_of};
 
 // How many digits a line has, and a trunk group.
 const DIGITS_OF_FOUR: usize = 4;
@@ -43,17 +43,6 @@ pub(crate) fn is_refusal(field: &[u8]) -> Option<bool>
     }
 }
 
-// The key that a text names.
-fn key_of(text: &[u8]) -> Option<Key>
-    ensures { result ≡ key_of text.now }
-{
-    match text {
-        b"KP" => Some(Key::Kp),
-        b"ST" => Some(Key::St),
-        _ => Some(Key::Digit(Digit::new(field_number(1, text)? as u8)?)),
-    }
-}
-
 // The frequency that a text writes.
 fn hz_of(text: &[u8]) -> Option<u16>
     ensures { result ≡ hz_of text.now }
@@ -71,16 +60,22 @@ fn pair_of(text: &[u8]) -> Option<Tone>
     Some(Tone { low, high })
 }
 
-// The mark of a key, if the tones are its own.
-fn tone_of(key: &Key, tones: Tone) -> Option<Mark>
-    ensures { result ≡ tone_of key.now tones }
+// The mark of a key, if this is its name.
+fn named_tone(name: &[u8], tones: Tone, key: &Key) -> Option<Mark>
+    ensures { result ≡ named_tone name.now tones key.now }
 {
-    let own = mf(*key);
-    if tones.low == own.low && tones.high == own.high {
+    if name == key.name().as_bytes() {
         Some(Mark::Tone(*key, tones))
     } else {
         None
     }
+}
+
+// The mark of the key that sounds by these tones.
+fn tone_of(name: &[u8], tones: Tone) -> Option<Mark>
+    ensures { result ≡ tone_of name.now tones }
+{
+    named_tone(name, tones, &key_of(tones)?)
 }
 
 // The mark of the trunk group that four digits write.
@@ -95,7 +90,7 @@ pub(crate) fn mark_of(field: &[u8]) -> Option<Mark>
     ensures { result ≡ mark_of field.now }
 {
     match two_pieces(b':', field) {
-        Some((key, pair)) => tone_of(&key_of(key)?, pair_of(pair)?),
+        Some((name, pair)) => tone_of(name, pair_of(pair)?),
         None => trunk_of(field),
     }
 }
