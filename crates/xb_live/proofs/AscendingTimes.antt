@@ -13,7 +13,7 @@ use Rattle.xb_routes.specs.Table.{Table}
 use Rattle.xb_live.specs.Ascending.{ComesNoLater, TimesAscend}
 use Rattle.xb_live.specs.Entries.{Numbered, entries_of_rows, numbered_after}
 use Rattle.xb_live.specs.Times.{beginnings, began_on, has_more, last_or, ms_on}
-use Rattle.xb_live.specs.Told.{Told, completed_by, told_after, told_by}
+use Rattle.xb_live.specs.TimedEntries.{TimedEntry, completed_by, told_after, told_by}
 use Rattle.xb_live.proofs.Sheets.{AllPairs-append}
 use Rattle.xb_live.proofs.ToldRows.{told_after-cons, told_after-none}
 use Rattle.xb_serial.proofs.OneLine.{both_all}
@@ -66,27 +66,27 @@ began-first limits l rows =
 
 module _ (table : Table) where
   -- what one row completes begins before it
-  here-begins : (rows : List LoopRow) (entries : List Numbered) → AllByRecursion (λ (told : Told). told.began ≤ told.at) (map (told_by table rows) entries)
+  here-begins : (rows : List LoopRow) (entries : List Numbered) → AllByRecursion (λ (told : TimedEntry). told.began ≤ told.at) (map (told_by table rows) entries)
   here-begins rows [] = tt
   here-begins rows (entry ∷ entries) = (began-first table.limits entry.line rows, here-begins rows entries)
 
-  begins-after : (earlier rows : List LoopRow) → AllByRecursion (λ (told : Told). told.began ≤ told.at) (told_after table earlier rows)
-  begins-after earlier [] = subst (AllByRecursion (λ (told : Told). told.began ≤ told.at)) (sym (told_after-none table earlier)) tt
+  begins-after : (earlier rows : List LoopRow) → AllByRecursion (λ (told : TimedEntry). told.began ≤ told.at) (told_after table earlier rows)
+  begins-after earlier [] = subst (AllByRecursion (λ (told : TimedEntry). told.began ≤ told.at)) (sym (told_after-none table earlier)) tt
   begins-after earlier (row ∷ rows) =
-      subst (AllByRecursion (λ (told : Told). told.began ≤ told.at)) (sym (told_after-cons table earlier row rows))
-      (both_all (λ (told : Told). told.began ≤ told.at) _ (told_after table (earlier ++ row ∷ []) rows)
+      subst (AllByRecursion (λ (told : TimedEntry). told.began ≤ told.at)) (sym (told_after-cons table earlier row rows))
+      (both_all (λ (told : TimedEntry). told.began ≤ told.at) _ (told_after table (earlier ++ row ∷ []) rows)
       (here-begins (earlier ++ row ∷ []) (numbered_after (entries_of_rows table earlier) (completed_by table earlier row)))
       (begins-after (earlier ++ row ∷ []) rows))
 
   -- what comes after earlier rows is completed no earlier than they end
-  abbrev IsAfter : List LoopRow → Told → Type 0
+  abbrev IsAfter : List LoopRow → TimedEntry → Type 0
   IsAfter earlier told = ms_on told.line earlier ≤ told.at
 
   here-after : (earlier : List LoopRow) (row : LoopRow) (entries : List Numbered) → AllByRecursion (IsAfter earlier) (map (told_by table (earlier ++ row ∷ [])) entries)
   here-after earlier row [] = tt
   here-after earlier row (entry ∷ entries) = (grows entry.line earlier (row ∷ []), here-after earlier row entries)
 
-  sooner : (earlier more : List LoopRow) (tolds : List Told) → AllByRecursion (IsAfter (earlier ++ more)) tolds → AllByRecursion (IsAfter earlier) tolds
+  sooner : (earlier more : List LoopRow) (tolds : List TimedEntry) → AllByRecursion (IsAfter (earlier ++ more)) tolds → AllByRecursion (IsAfter earlier) tolds
   sooner earlier more [] h = tt
   sooner earlier more (told ∷ tolds) h =
       let longer = grows told.line earlier more in
@@ -104,14 +104,14 @@ module _ (table : Table) where
       (sooner earlier (row ∷ []) (told_after table (earlier ++ row ∷ []) rows) (after-all (earlier ++ row ∷ []) rows)))
 
   -- an entry of these rows comes no later than any that is completed after them
-  before-later : (rows : List LoopRow) (entry : Numbered) (later : List Told) → AllByRecursion (IsAfter rows) later → AllByRecursion (ComesNoLater (told_by table rows entry)) later
+  before-later : (rows : List LoopRow) (entry : Numbered) (later : List TimedEntry) → AllByRecursion (IsAfter rows) later → AllByRecursion (ComesNoLater (told_by table rows entry)) later
   before-later rows entry [] h = tt
   before-later rows entry (told ∷ later) h = (
     λ same. subst (λ l. ms_on l rows ≤ told.at) (sym same) h.0,
     before-later rows entry later h.1,
   )
 
-  before-all : (rows : List LoopRow) (entries : List Numbered) (later : List Told) → AllByRecursion (IsAfter rows) later
+  before-all : (rows : List LoopRow) (entries : List Numbered) (later : List TimedEntry) → AllByRecursion (IsAfter rows) later
       → AllByRecursion (λ told. All (ComesNoLater told) later) (map (told_by table rows) entries)
   before-all rows [] later h = tt
   before-all rows (entry ∷ entries) later h = (

@@ -19,7 +19,7 @@ use Rattle.xb_pulse.specs.declared.state.Phase.{Phase as PulsePhase}
 use Rattle.xb_pulse.specs.declared.state.Phase.TheVariants as pulse
 use Rattle.xb_pulse.specs.Machine.{phase_after, signals_by}
 use Rattle.xb_register.specs.Laws.{seizures}
-use Rattle.xb_live.specs.declared.hearing.Hearing.{Hearing}
+use Rattle.xb_live.specs.declared.line_hearing.Hearing.{Hearing}
 use Rattle.xb_live.specs.Hearings.{after_signal, after_signals, hearing_machine, in_phase}
 use Rattle.xb_live.specs.Times.{attempts_on, before_last, began_on, beginnings, has_more, last_or, ms_on}
 use Rattle.xb_live.proofs.HeardRows.{at-is, heard_after, pulse-is, said, seizures-append, seizures-own}

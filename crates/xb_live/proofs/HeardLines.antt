@@ -7,7 +7,7 @@ use Rattle.xb_model.specs.Rows.{LoopRow}
 use Rattle.xb_model.specs.States.{AreStates}
 use Rattle.xb_model.proofs.States.{state_held, states_fresh, states_more}
 use Rattle.xb_routes.specs.Table.{Table}
-use Rattle.xb_live.specs.declared.hearing.Hearing.{Hearing}
+use Rattle.xb_live.specs.declared.line_hearing.Hearing.{Hearing}
 use Rattle.xb_live.specs.declared.hearings.Hearings.{Hearings}
 use Rattle.xb_live.specs.Hearings.{HasHeard, after_row, fresh_hearing, hearing_machine}
 

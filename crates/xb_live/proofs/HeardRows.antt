@@ -26,7 +26,7 @@ use Rattle.xb_pulse.proofs.Hearing.{open_record_heard, record_heard}
 use Rattle.xb_register.specs.declared.state.Phase.TheVariants.{OnHook}
 use Rattle.xb_register.specs.Laws.{is_seizure, seizures}
 use Rattle.xb_register.proofs.Attempts.{AllButLastReleased, released-filter, released-pieces_of, signals_and_close}
-use Rattle.xb_live.specs.declared.hearing.Hearing.{Hearing}
+use Rattle.xb_live.specs.declared.line_hearing.Hearing.{Hearing}
 use Rattle.xb_live.specs.Hearings.{after_row, after_signal, after_signals, fresh_hearing, hearing_machine, in_phase}
 use Rattle.xb_live.specs.Times.{attempts_on, dialled_on, ms_on}
 use Rattle.xb_live.proofs.KeptDigits.{Kept, close, keep, keep_all, kept, of_attempts}

@@ -12,7 +12,7 @@ use Rattle.xb_register.specs.declared.state.Phase.TheVariants.{OnHook, Listening
 use Rattle.xb_register.specs.Laws.{is_seizure}
 use Rattle.xb_register.specs.Machine.{advance, outcomes_by, phase_after}
 use Rattle.xb_register.specs.Plain.{plain_of}
-use Rattle.xb_live.specs.declared.hearing.Hearing.{Hearing}
+use Rattle.xb_live.specs.declared.line_hearing.Hearing.{Hearing}
 use Rattle.xb_live.specs.Hearings.{after_row, after_signal, after_signals, digits_by, digits_kept, in_phase, later_by}
 
 -- the digits that the register keeps, by its plain values

@@ -21,7 +21,7 @@ use Rattle.xb_routes.specs.Text.{table_of_text}
 use Rattle.xb_routes.proofs.TableRoutes.{table-routes}
 use Rattle.xb_live.specs.Objects.{digits_in, object_by, order_in, timed_object, with_time}
 use Rattle.xb_live.specs.PageOfObjects.{ObjectsAreLines, key_named, page_line_of, texts_of, tone_text}
-use Rattle.xb_live.specs.Told.{Told, told_of_rows}
+use Rattle.xb_live.specs.TimedEntries.{TimedEntry, told_of_rows}
 use Rattle.xb_live.proofs.SentDigits.{AreDigits, AreKeyed, Sends, told-keyed}
 
 -- the last of several marks is that of those after the first
@@ -94,7 +94,7 @@ keyed line number trunk sent are =
     (ap (λ text. codes " " ++ four_digits trunk ++ (mark_text (tone Kp) ++ text)) (tones sent are)
     ∙ sym (marks_text-cons (mark.Trunk trunk) (tone Kp ∷ rest) ∙ ap (λ text. mark_text (mark.Trunk trunk) ++ text) (marks_text-cons (tone Kp) rest)))
 
-of-keyed : (told : Told) (trunk : ℕ) (sent : List ℕ) → AreDigits sent
+of-keyed : (told : TimedEntry) (trunk : ℕ) (sent : List ℕ) → AreDigits sent
     → page_line_of (object_by told (orders.Key trunk sent)) ≡ entry_text told.line told.number (keying trunk sent)
 of-keyed told trunk sent are =
     keyed told.line told.number trunk sent are
@@ -105,7 +105,7 @@ abbrev timed : Option (List ℕ) → Option (List ℕ) → Data → Data
 timed from till value = with_time (codes "from") from (with_time (codes "at") till value)
 
 -- they change nothing of its line
-by-order : (told : Told) (from till : Option (List ℕ)) (order : Order) → Sends order
+by-order : (told : TimedEntry) (from till : Option (List ℕ)) (order : Order) → Sends order
     → page_line_of (timed from till (object_by told order)) ≡ entry_text told.line told.number (marks_of order)
 by-order told None None (orders.Refused reason heard) are = refl
 by-order told None (Some till) (orders.Refused reason heard) are = refl
@@ -116,15 +116,15 @@ by-order told None (Some till) (orders.Key trunk sent) are = of-keyed told trunk
 by-order told (Some from) None (orders.Key trunk sent) are = of-keyed told trunk sent are
 by-order told (Some from) (Some till) (orders.Key trunk sent) are = of-keyed told trunk sent are
 
-one-line : (told : Told) (from till : Option (List ℕ)) → AreKeyed told.marks
+one-line : (told : TimedEntry) (from till : Option (List ℕ)) → AreKeyed told.marks
     → page_line_of (timed_object from till told) ≡ entry_text told.line told.number told.marks
 one-line told from till keyed =
     ap (λ order. page_line_of (timed from till (object_by told order))) (ap order_in keyed.are ∙ order-in keyed.order)
     ∙ by-order told from till keyed.order keyed.sends
     ∙ ap (entry_text told.line told.number) (sym keyed.are)
 
-all-lines : (from till : Option (List ℕ)) (tolds : List Told) → AllByRecursion (λ (told : Told). AreKeyed told.marks) tolds
-    → AllByRecursion (λ (told : Told). page_line_of (timed_object from till told) ≡ entry_text told.line told.number told.marks) tolds
+all-lines : (from till : Option (List ℕ)) (tolds : List TimedEntry) → AllByRecursion (λ (told : TimedEntry). AreKeyed told.marks) tolds
+    → AllByRecursion (λ (told : TimedEntry). page_line_of (timed_object from till told) ≡ entry_text told.line told.number told.marks) tolds
 all-lines from till [] keyed = tt
 all-lines from till (told ∷ tolds) keyed = (one-line told from till keyed.0, all-lines from till tolds keyed.1)
 

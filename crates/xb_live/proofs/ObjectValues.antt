@@ -11,13 +11,13 @@ use Rattle.xb_model.specs.declared.mark.Mark.TheVariants as mark
 use Rattle.xb_model.specs.declared.order.Order.{Order}
 use Rattle.xb_model.specs.declared.order.Order.TheVariants as orders
 use Rattle.xb_live.specs.Objects.{mark_object, object_by, object_of, order_in, timed_mark, timed_object, with_text, with_time}
-use Rattle.xb_live.specs.Told.{Told}
+use Rattle.xb_live.specs.TimedEntries.{TimedEntry}
 
-no-floats-by : (told : Told) (order : Order) → has_float (object_by told order) ≡ false
+no-floats-by : (told : TimedEntry) (order : Order) → has_float (object_by told order) ≡ false
 no-floats-by told (orders.Refused reason heard) = refl
 no-floats-by told (orders.Key trunk sent) = rw (no-floats-in-keys sent) refl
 
-no-floats : (told : Told) → has_float (object_of told) ≡ false
+no-floats : (told : TimedEntry) → has_float (object_of told) ≡ false
 no-floats told = no-floats-by told (order_in told.marks)
 
 no-floats-in-mark : (line entry at : ℕ) (m : Mark) → has_float (mark_object line entry at m) ≡ false
@@ -60,7 +60,7 @@ with_time-no-floats : (name : List ℕ) (time : Option (List ℕ)) (value : Data
 with_time-no-floats name None value none = none
 with_time-no-floats name (Some text) value none = with_text-no-floats name text value none
 
-pub timed-no-floats : (from at : Option (List ℕ)) (told : Told) → has_float (timed_object from at told) ≡ false
+pub timed-no-floats : (from at : Option (List ℕ)) (told : TimedEntry) → has_float (timed_object from at told) ≡ false
 timed-no-floats from at told =
     with_time-no-floats (codes "from") from (with_time (codes "at") at (object_of told))
     (with_time-no-floats (codes "at") at (object_of told) (no-floats told))

@@ -13,9 +13,9 @@ use Rattle.xb_rows.specs.Scanning.{GivesRead}
 use Rattle.xb_live.specs.declared.fault.EntriesFault.{EntriesFault}
 use Rattle.xb_live.specs.declared.fault.EntriesFault.TheVariants as entries_fault
 use Rattle.xb_live.specs.declared.hearings.Hearings.{Hearings}
-use Rattle.xb_live.specs.declared.printing.Form.{Form}
+use Rattle.xb_live.specs.declared.printing.EntryForm.{EntryForm}
 use Rattle.xb_live.specs.Clocks.{Style}
-use Rattle.xb_live.specs.declared.printing.Form.TheVariants.{Entries, Marks, Objects, MarkObjects}
+use Rattle.xb_live.specs.declared.printing.EntryForm.TheVariants.{Entries, Marks, Objects, MarkObjects}
 use Rattle.xb_live.specs.Counting.{Counted, HasCounted}
 use Rattle.xb_live.specs.Hearings.{HasHeard}
 use Rattle.xb_live.specs.Texts.{entries_text, text_of}
@@ -52,7 +52,7 @@ text-none : (style : Style) (table : Table) → entries_text style table [] ≡ 
 text-none style table = ap (flat_map (text_of style)) (told_of_rows-none table)
 
 -- before the first row nothing is to be heard
-hears-none : (form : Form) (table : Table) (hearings : Hearings) → HasHeard table hearings [] → Hears form table hearings []
+hears-none : (form : EntryForm) (table : Table) (hearings : Hearings) → HasHeard table hearings [] → Hears form table hearings []
 hears-none Entries table hearings silent = tt
 hears-none Marks table hearings silent = tt
 hears-none (Objects since) table hearings silent = silent

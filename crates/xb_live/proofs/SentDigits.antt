@@ -32,7 +32,7 @@ use Rattle.xb_register.specs.Machine.{advance, enter, give, machine as register_
 use Rattle.xb_routes.specs.Table.{Table}
 use Rattle.xb_serial.proofs.OneLine.{both_all}
 use Rattle.xb_live.specs.Entries.{Entry, Numbered, entries_of_rows, numbered_after}
-use Rattle.xb_live.specs.Told.{Told, entry_in, told_of_rows}
+use Rattle.xb_live.specs.TimedEntries.{TimedEntry, entry_in, told_of_rows}
 use Rattle.xb_live.proofs.Completed.{dialled_of, entries-dialled, entry_from}
 use Rattle.xb_live.proofs.ToldRows.{told-all}
 
@@ -172,13 +172,13 @@ module _ (table : Table) (are : AreRoutes table.routes) where
   numbered-keyed earlier [] keyed = tt
   numbered-keyed earlier (entry ∷ entries) keyed = (keyed.0, numbered-keyed (earlier ++ entry ∷ []) entries keyed.1)
 
-  of-told : (tolds : List Told) → AllByRecursion (λ (entry : Numbered). AreKeyed entry.marks) (map entry_in tolds)
-      → AllByRecursion (λ (told : Told). AreKeyed told.marks) tolds
+  of-told : (tolds : List TimedEntry) → AllByRecursion (λ (entry : Numbered). AreKeyed entry.marks) (map entry_in tolds)
+      → AllByRecursion (λ (told : TimedEntry). AreKeyed told.marks) tolds
   of-told [] keyed = tt
   of-told (told ∷ tolds) keyed = (keyed.0, of-told tolds keyed.1)
 
   -- and so is each entry that rows complete
-  pub told-keyed : (rows : List LoopRow) → AllByRecursion (λ (told : Told). AreKeyed told.marks) (told_of_rows table rows)
+  pub told-keyed : (rows : List LoopRow) → AllByRecursion (λ (told : TimedEntry). AreKeyed told.marks) (told_of_rows table rows)
   told-keyed rows =
       of-told (told_of_rows table rows)
       (subst (AllByRecursion (λ (entry : Numbered). AreKeyed entry.marks)) (sym (told-all table rows))

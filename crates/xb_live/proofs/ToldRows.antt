@@ -18,15 +18,15 @@ use Rattle.xb_register.specs.Machine.{machine as register_machine}
 use Rattle.xb_routes.specs.Table.{Table}
 use Rattle.xb_live.specs.declared.fault.EntriesFault.{EntriesFault}
 use Rattle.xb_live.specs.declared.fault.EntriesFault.TheVariants.{Late, NoMemory, Write}
-use Rattle.xb_live.specs.declared.hearing.Hearing.{Hearing}
+use Rattle.xb_live.specs.declared.line_hearing.Hearing.{Hearing}
 use Rattle.xb_live.specs.declared.hearings.Hearings.{Hearings}
-use Rattle.xb_live.specs.declared.printing.Form.{Form}
-use Rattle.xb_live.specs.declared.printing.Form.TheVariants.{Entries, Marks, Objects, MarkObjects}
+use Rattle.xb_live.specs.declared.printing.EntryForm.{EntryForm}
+use Rattle.xb_live.specs.declared.printing.EntryForm.TheVariants.{Entries, Marks, Objects, MarkObjects}
 use Rattle.xb_live.specs.Clocks.{Clock, IsLate, Style, styled}
 use Rattle.xb_live.specs.Entries.{Entry, Numbered, entries_of_rows, numbered_after}
 use Rattle.xb_live.specs.Faults.{IsOfEntry}
 use Rattle.xb_live.specs.Texts.{entries_text, text_of}
-use Rattle.xb_live.specs.Told.{Told, completed_by, entry_in, told_after, told_by, told_of_rows, told_with}
+use Rattle.xb_live.specs.TimedEntries.{TimedEntry, completed_by, entry_in, told_after, told_by, told_of_rows, told_with}
 use Rattle.xb_live.specs.Writing.{Hears}
 use Rattle.xb_live.proofs.BegunAttempts.{began-is}
 use Rattle.xb_live.proofs.Completed.{dialled_of, entries-dialled, entry_from}
@@ -39,7 +39,7 @@ module _ (table : Table) where
   told_after-none earlier = refl
 
   -- what one row completes
-  abbrev here : List LoopRow → LoopRow → List Told
+  abbrev here : List LoopRow → LoopRow → List TimedEntry
   here earlier row =
       map (told_by table (earlier ++ row ∷ [])) (numbered_after (entries_of_rows table earlier) (completed_by table earlier row))
 
@@ -148,13 +148,13 @@ module _ (table : Table) (lawful : IsLawful table.limits) (rows : List LoopRow) 
   told-heard heard is =
       ap (λ (h : Hearing). told_with entry.line entry.number entry.marks h) is
       ∙ ap (λ began. let now = heard_after table.limits table.plan entry.line rows in
-      let told : Told = record { line = entry.line; number = entry.number; marks = entry.marks; began = began; at = now.at; dialled = now.dialled } in told) (began-is table.limits table.plan lawful entry.line rows)
+      let told : TimedEntry = record { line = entry.line; number = entry.number; marks = entry.marks; began = began; at = now.at; dialled = now.dialled } in told) (began-is table.limits table.plan lawful entry.line rows)
       ∙ ap (λ at. let now = heard_after table.limits table.plan entry.line rows in
-      let told : Told = record { line = entry.line; number = entry.number; marks = entry.marks; began = (told_by table rows entry).began; at = at; dialled = now.dialled } in told) (at-is table.limits table.plan entry.line rows)
-      ∙ ap (λ dialled. let told : Told = record { line = entry.line; number = entry.number; marks = entry.marks; began = (told_by table rows entry).began; at = (told_by table rows entry).at; dialled = dialled } in told) (dialled-is table.limits table.plan lawful entry.line rows)
+      let told : TimedEntry = record { line = entry.line; number = entry.number; marks = entry.marks; began = (told_by table rows entry).began; at = at; dialled = now.dialled } in told) (at-is table.limits table.plan entry.line rows)
+      ∙ ap (λ dialled. let told : TimedEntry = record { line = entry.line; number = entry.number; marks = entry.marks; began = (told_by table rows entry).began; at = (told_by table rows entry).at; dialled = dialled } in told) (dialled-is table.limits table.plan lawful entry.line rows)
 
   -- so its text is the same
-  pub text-heard : (form : Form) (clock : Clock) (hearings : Hearings) (heard : Hearing) → Hears form table hearings rows → entry.line < LINES → heard ≡ get_or hearings.lines entry.line heard
+  pub text-heard : (form : EntryForm) (clock : Clock) (hearings : Hearings) (heard : Hearing) → Hears form table hearings rows → entry.line < LINES → heard ≡ get_or hearings.lines entry.line heard
       → text_of (styled form clock) (told_with entry.line entry.number entry.marks heard) ≡ text_of (styled form clock) (told_by table rows entry)
   text-heard Entries clock hearings heard hears below is = refl
   text-heard Marks clock hearings heard hears below is = refl
@@ -164,7 +164,7 @@ module _ (table : Table) (lawful : IsLawful table.limits) (rows : List LoopRow) 
       ap (text_of (styled (MarkObjects since) clock)) (told-heard heard (is ∙ hears.lines entry.line heard below))
 
   -- and its times are past the last instant where these are
-  pub late-heard : (form : Form) (hearings : Hearings) (heard : Hearing) → Hears form table hearings rows → entry.line < LINES → heard ≡ get_or hearings.lines entry.line heard
+  pub late-heard : (form : EntryForm) (hearings : Hearings) (heard : Hearing) → Hears form table hearings rows → entry.line < LINES → heard ≡ get_or hearings.lines entry.line heard
       → IsLate form (told_with entry.line entry.number entry.marks heard) → IsLate form (told_by table rows entry)
   late-heard Entries hearings heard hears below is late = late
   late-heard Marks hearings heard hears below is late = late
@@ -174,7 +174,7 @@ module _ (table : Table) (lawful : IsLawful table.limits) (rows : List LoopRow) 
       subst (IsLate (MarkObjects since)) (told-heard heard (is ∙ hears.lines entry.line heard below)) late
 
   -- nor is it printed for another reason
-  pub fault-heard : (form : Form) (hearings : Hearings) (heard : Hearing) → Hears form table hearings rows → entry.line < LINES → heard ≡ get_or hearings.lines entry.line heard
+  pub fault-heard : (form : EntryForm) (hearings : Hearings) (heard : Hearing) → Hears form table hearings rows → entry.line < LINES → heard ≡ get_or hearings.lines entry.line heard
       → (f : EntriesFault) → IsOfEntry form (told_with entry.line entry.number entry.marks heard) f → IsOfEntry form (told_by table rows entry) f
   fault-heard form hearings heard hears below is NoMemory of = of
   fault-heard form hearings heard hears below is (Late line number) (same, numbered, late) = (same, numbered, late-heard form hearings heard hears below is late)

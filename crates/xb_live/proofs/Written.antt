@@ -19,7 +19,7 @@ use Rattle.xb_live.specs.Entries.{Entry, Numbered, count_keyed, count_refused, e
 use Rattle.xb_live.specs.Counting.{Counted, HasCounted}
 use Rattle.xb_live.specs.Faults.{IsOfEntry}
 use Rattle.xb_live.specs.Texts.{entries_text, text_of, totals_of, whole_text, with_closes}
-use Rattle.xb_live.specs.Told.{Told, told_by}
+use Rattle.xb_live.specs.TimedEntries.{TimedEntry, told_by}
 use Rattle.xb_live.specs.Writing.{CompletesLate, Ends, GotBeginning, GotFirst, GotUntilLate, HasWritten, Hears, Writes}
 use Rattle.xb_live.proofs.ToldRows.{text-more, told-more}
 
@@ -50,7 +50,7 @@ module _ (style : Style) (office after : Counted) (hearings heard : Hearings) (r
   }
 
   module _ (it : Numbered) (one : numbered_after (entries_of_rows office.live.table rows) more ≡ it ∷ []) where
-    abbrev told : Told
+    abbrev told : TimedEntry
     told = told_by office.live.table (rows ++ row ∷ []) it
 
     all : entries_text style after.live.table (rows ++ row ∷ []) ≡ entries_text style office.live.table rows ++ text_of style told

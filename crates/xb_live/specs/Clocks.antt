@@ -6,10 +6,10 @@ use Rattle.jiff_core.specs.declared.timestamp.Timestamp.{Timestamp}
 use Rattle.jiff_core.specs.DateTime.{civil_nanos}
 use Rattle.jiff_core.specs.Timestamp.{IsTimestampNanos}
 use Rattle.jiff_fmt.specs.Text.{datetime_text}
-use Rattle.xb_live.specs.declared.printing.Form.{Form}
-use Rattle.xb_live.specs.declared.printing.Form.TheVariants as form
+use Rattle.xb_live.specs.declared.printing.EntryForm.{EntryForm}
+use Rattle.xb_live.specs.declared.printing.EntryForm.TheVariants as form
 use Rattle.xb_live.specs.declared.times.Times.{Times}
-use Rattle.xb_live.specs.Told.{Told}
+use Rattle.xb_live.specs.TimedEntries.{TimedEntry}
 
 -- the text of the time of day at each count of ms
 abbrev pub Clock : Type 0
@@ -31,7 +31,7 @@ IsClockSince None clock = Unit {0}
 IsClockSince (Some since) clock = (ms : ℕ) (text : List ℕ) → IsTimeText since ms text → clock ms ≡ text
 
 -- a clock tells each time of day that a form asks for
-abbrev pub IsClockOf : Form → Clock → Type 0
+abbrev pub IsClockOf : EntryForm → Clock → Type 0
 IsClockOf form.Entries clock = Unit {0}
 IsClockOf form.Marks clock = Unit {0}
 IsClockOf (form.Objects since) clock = IsClockSince since clock
@@ -46,7 +46,7 @@ IsLateSince None began at = ⊥
 IsLateSince (Some since) began at = IsLateAfter since began ⊎ IsLateAfter since at
 
 -- a time of an entry is past the last instant
-abbrev pub IsLate : Form → Told → Type 0
+abbrev pub IsLate : EntryForm → TimedEntry → Type 0
 IsLate form.Entries told = ⊥
 IsLate form.Marks told = ⊥
 IsLate (form.Objects since) told = IsLateSince since told.began told.at
@@ -54,10 +54,10 @@ IsLate (form.MarkObjects since) told = IsLateSince since told.began told.at
 
 -- how entries are printed: their form, and the clock that tells their times
 pub record Style : Type 0 where
-  pub form : Form
+  pub form : EntryForm
   pub clock : Clock
 
-abbrev pub styled : Form → Clock → Style
+abbrev pub styled : EntryForm → Clock → Style
 styled form clock = record { form = form; clock = clock }
 
 -- the time at a count of ms, where times are asked for

@@ -8,8 +8,8 @@ use Rattle.xb_deck.specs.declared.table.TableFault.TheVariants as table_fault
 use Rattle.xb_live.specs.declared.fault.EntriesFault.{EntriesFault}
 use Rattle.xb_live.specs.declared.fault.EntriesFault.TheVariants as entries_fault
 use Rattle.xb_live.specs.Clocks.{IsLate}
-use Rattle.xb_live.specs.Told.{Told}
-use Rattle.xb_live.specs.declared.printing.Form.{Form}
+use Rattle.xb_live.specs.TimedEntries.{TimedEntry}
+use Rattle.xb_live.specs.declared.printing.EntryForm.{EntryForm}
 use Rattle.xb_live.specs.declared.fault.LiveFault.{LiveFault}
 use Rattle.xb_live.specs.declared.fault.LiveFault.TheVariants as fault
 
@@ -25,7 +25,7 @@ IsOfRows f e = ((f ≡ row_fault.NoMemory) × (e ≡ fault.Deck table_fault.NoMe
     ⊎ ((f ≢ row_fault.NoMemory) × (f ≢ row_fault.Read) × (e ≡ fault.Rows f)))
 
 -- what is returned of an entry, where it is not printed: memory ran out, or one of its times is past the last instant
-abbrev pub IsOfEntry : Form → Told → EntriesFault → Type 0
+abbrev pub IsOfEntry : EntryForm → TimedEntry → EntriesFault → Type 0
 IsOfEntry form told entries_fault.NoMemory = Unit {0}
 IsOfEntry form told (entries_fault.Late line number) = (told.line ≡ line) × (told.number ≡ number) × IsLate form told
 IsOfEntry form told entries_fault.Write = ⊥

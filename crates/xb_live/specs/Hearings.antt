@@ -15,7 +15,7 @@ use Rattle.xb_register.specs.declared.state.Phase.TheVariants.{OnHook, Listening
 use Rattle.xb_register.specs.Laws.{is_seizure}
 use Rattle.xb_register.specs.Machine.{advance, machine as register_machine}
 use Rattle.xb_routes.specs.Table.{Table}
-use Rattle.xb_live.specs.declared.hearing.Hearing.{Hearing}
+use Rattle.xb_live.specs.declared.line_hearing.Hearing.{Hearing}
 use Rattle.xb_live.specs.declared.hearings.Hearings.{Hearings}
 
 -- the digits after a signal: those of the number that it brings, or those that the register has kept

@@ -1,7 +1,7 @@
 pub mod Entries
 pub mod Times
 pub mod Hearings
-pub mod Told
+pub mod TimedEntries
 pub mod Objects
 pub mod PageOfObjects
 pub mod Ascending

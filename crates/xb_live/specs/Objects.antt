@@ -13,7 +13,7 @@ use Rattle.xb_model.specs.declared.order.Order.{Order}
 use Rattle.xb_model.specs.declared.order.Order.TheVariants as orders
 use Rattle.xb_model.specs.declared.reason.Reason.{Reason}
 use Rattle.xb_model.specs.Page.{key_text, last_refusal, reason_text}
-use Rattle.xb_live.specs.Told.{Told}
+use Rattle.xb_live.specs.TimedEntries.{TimedEntry}
 
 -- the digit of a key, and of a mark
 abbrev pub key_digits : Key → List ℕ
@@ -46,7 +46,7 @@ abbrev pub order_in : List Mark → Order
 order_in marks = order_by_refusal marks (last_refusal marks)
 
 -- the object of an entry by its order
-abbrev pub object_by : Told → Order → Data
+abbrev pub object_by : TimedEntry → Order → Data
 object_by told (orders.Key trunk sent) = object
     (member (codes "at_ms") (number (unsigned told.at))
     (member (codes "dialled") (string (digits_text told.dialled))
@@ -68,7 +68,7 @@ object_by told (orders.Refused reason heard) = object
     (member (codes "reason") (string (reason_text reason)) no_members))))))))
 
 -- the object of an entry
-abbrev pub object_of : Told → Data
+abbrev pub object_of : TimedEntry → Data
 object_of told = object_by told (order_in told.marks)
 
 -- the object of one mark of an entry: a trunk group, a key with its tones in Hz, or a refusal
@@ -103,7 +103,7 @@ with_time name None value = value
 with_time name (Some text) value = with_text name text value
 
 -- the object of an entry, which also has the times at which its attempt began and at which it is complete
-abbrev pub timed_object : Option (List ℕ) → Option (List ℕ) → Told → Data
+abbrev pub timed_object : Option (List ℕ) → Option (List ℕ) → TimedEntry → Data
 timed_object from at told = with_time (codes "from") from (with_time (codes "at") at (object_of told))
 
 -- the object of a mark, which also has the time at which its entry is complete

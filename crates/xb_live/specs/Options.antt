@@ -8,8 +8,8 @@ use Rattle.jiff_fmt.specs.Temporal.{parse_timestamp}
 use Rattle.xb_command.specs.Commands.{command_of}
 use Rattle.xb_command.specs.Given.{AskForNothing, AsksFor, ReadsFlag, given_by}
 use Rattle.xb_command.specs.declared.command.Takes.TheVariants as takes
-use Rattle.xb_live.specs.declared.printing.Form.{Form}
-use Rattle.xb_live.specs.declared.printing.Form.TheVariants as form
+use Rattle.xb_live.specs.declared.printing.EntryForm.{EntryForm}
+use Rattle.xb_live.specs.declared.printing.EntryForm.TheVariants as form
 use Rattle.xb_live.specs.declared.words.Options.{Options}
 use Rattle.xb_live.specs.declared.words.Since.{Since}
 use Rattle.xb_live.specs.declared.words.Since.TheVariants as since
@@ -36,21 +36,21 @@ pub record Say (rows : List Row) (options : Options) : Type 0 where
   pub marks : ReadsFlag (given_by rows (codes "marks")) options.marks
   pub since : ReadsSince (first_of (codes "since") rows) options.since
 
-abbrev pub objects_since : Bool → Option Timestamp → Form
+abbrev pub objects_since : Bool → Option Timestamp → EntryForm
 objects_since marks time = if marks then form.MarkObjects time else form.Objects time
 
 -- a time goes with objects alone
-abbrev pub form_by : Bool → Bool → Since → Option Form
+abbrev pub form_by : Bool → Bool → Since → Option EntryForm
 form_by json marks since.NotGiven = Some
     (if json then objects_since marks None else (if marks then form.Marks else form.Entries))
 form_by json marks (since.Time time) = if json then Some (objects_since marks (Some time)) else None
 form_by json marks since.NoTime = None
 
-abbrev pub form_of : Options → Option Form
+abbrev pub form_of : Options → Option EntryForm
 form_of options = form_by options.json options.marks options.since
 
 -- clap takes the words, and they ask for this form
-abbrev pub Asks : List Text → Form → Type 0
+abbrev pub Asks : List Text → EntryForm → Type 0
 Asks words form = AsksFor command_of_words Say form_of words form
 
 -- clap refuses the words, or they ask for no form: a word that is no time, or a time without objects

@@ -10,7 +10,7 @@ use Rattle.xb_model.specs.Page.{entry_head, entry_text, four_digits, pair_text, 
 use Rattle.xb_model.specs.Rows.{LoopRow}
 use Rattle.xb_routes.specs.Table.{Table}
 use Rattle.xb_live.specs.Objects.{timed_object}
-use Rattle.xb_live.specs.Told.{Told, told_of_rows}
+use Rattle.xb_live.specs.TimedEntries.{TimedEntry, told_of_rows}
 
 -- the count that a value is
 abbrev pub count_in : Option Data → ℕ
@@ -76,5 +76,5 @@ page_line_of value =
 abbrev pub ObjectsAreLines : Table → List LoopRow → Type 0
 ObjectsAreLines table rows = (from till : Option (List ℕ)) →
     AllByRecursion
-    (λ (told : Told). page_line_of (timed_object from till told) ≡ entry_text told.line told.number told.marks)
+    (λ (told : TimedEntry). page_line_of (timed_object from till told) ≡ entry_text told.line told.number told.marks)
     (told_of_rows table rows)

@@ -8,10 +8,10 @@ use Rattle.xb_routes.specs.Table.{Table}
 use Rattle.xb_live.specs.Clocks.{Style}
 use Rattle.xb_live.specs.Entries.{Numbered, count_keyed, count_refused, entries_of_rows}
 use Rattle.xb_live.specs.Texts.{text_of, totals_of, whole_text, with_closes}
-use Rattle.xb_live.specs.Told.{Told, entry_in, told_of_rows}
+use Rattle.xb_live.specs.TimedEntries.{TimedEntry, entry_in, told_of_rows}
 
 -- the entries of rows that end, in the order in which they are printed
-abbrev pub printed_entries : Table → List LoopRow → List Told
+abbrev pub printed_entries : Table → List LoopRow → List TimedEntry
 printed_entries table rows = told_of_rows table (with_closes rows)
 
 -- the text line after them

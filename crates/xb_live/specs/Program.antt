@@ -6,7 +6,7 @@ use Rattle.clap.specs.Walk.{Text}
 use Rattle.xb_command.specs.Programs.{Attends, Streams}
 use Rattle.xb_command.specs.Telling.{Tells}
 use Rattle.xb_command.specs.Usages.{names_option}
-use Rattle.xb_live.specs.declared.printing.Form.{Form}
+use Rattle.xb_live.specs.declared.printing.EntryForm.{EntryForm}
 use Rattle.xb_live.specs.declared.fault.LiveFault.{LiveFault}
 use Rattle.xb_live.specs.Clocks.{Clock, IsClockOf, styled}
 use Rattle.xb_live.specs.Options.{AreRefused, Asks, command_of_words}
@@ -26,7 +26,7 @@ UsageNamesEachOption = list_all (λ rule. names_option usage_line rule.id) comma
 
 -- the words ask for a form, and exactly what the deck says was written in it
 pub record WritesEntries (words : List Text) (old new : Streams) : Type 0 where
-  pub form : Form
+  pub form : EntryForm
   pub asks : Asks words form
   pub entries : (clock : Clock) → IsClockOf form clock
       → Runs (styled form clock) old.input (Ok tt) old.output new.output
@@ -34,7 +34,7 @@ pub record WritesEntries (words : List Text) (old new : Streams) : Type 0 where
 
 -- they ask for a form, and there was a fault, of which a line was told
 pub record HasFault (words : List Text) (old new : Streams) : Type 0 where
-  pub form : Form
+  pub form : EntryForm
   pub fault : LiveFault
   pub asks : Asks words form
   pub entries : (clock : Clock) → IsClockOf form clock

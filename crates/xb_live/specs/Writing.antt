@@ -8,17 +8,17 @@ use Rattle.xb_text.specs.Writing.{AppendsBeginning}
 use Rattle.xb_live.specs.declared.fault.EntriesFault.{EntriesFault}
 use Rattle.xb_live.specs.declared.fault.EntriesFault.TheVariants.{Late, NoMemory, Write}
 use Rattle.xb_live.specs.declared.hearings.Hearings.{Hearings}
-use Rattle.xb_live.specs.declared.printing.Form.{Form}
-use Rattle.xb_live.specs.declared.printing.Form.TheVariants.{Entries, Marks, Objects, MarkObjects}
+use Rattle.xb_live.specs.declared.printing.EntryForm.{EntryForm}
+use Rattle.xb_live.specs.declared.printing.EntryForm.TheVariants.{Entries, Marks, Objects, MarkObjects}
 use Rattle.xb_live.specs.Clocks.{IsLate, Style}
 use Rattle.xb_live.specs.Counting.{Counted, HasCounted}
 use Rattle.xb_live.specs.Hearings.{HasHeard}
 use Rattle.xb_live.specs.Pages.{SortsIntoPage}
 use Rattle.xb_live.specs.Texts.{entries_text, whole_text, with_closes}
-use Rattle.xb_live.specs.Told.{Told, told_of_rows}
+use Rattle.xb_live.specs.TimedEntries.{TimedEntry, told_of_rows}
 
 -- these rows were heard, where what is printed tells of it
-abbrev pub Hears : Form → Table → Hearings → List LoopRow → Type 0
+abbrev pub Hears : EntryForm → Table → Hearings → List LoopRow → Type 0
 Hears Entries table hearings rows = Unit {0}
 Hears Marks table hearings rows = Unit {0}
 Hears (Objects since) table hearings rows = HasHeard table hearings rows
@@ -43,9 +43,9 @@ GotBeginning style table rows start out =
     × AppendsBeginning start out (entries_text style table first)
 
 -- a row after earlier ones completes this entry of a line, and a time of it is past the last instant
-abbrev pub CompletesLate : Form → ℕ → ℕ → Table → List LoopRow → LoopRow → Type 0
+abbrev pub CompletesLate : EntryForm → ℕ → ℕ → Table → List LoopRow → LoopRow → Type 0
 CompletesLate form line number table earlier row =
-    (told : Told) × (told_of_rows table (earlier ++ row ∷ []) ≡ told_of_rows table earlier ++ told ∷ [])
+    (told : TimedEntry) × (told_of_rows table (earlier ++ row ∷ []) ≡ told_of_rows table earlier ++ told ∷ [])
     × (told.line ≡ line) × (told.number ≡ number) × IsLate form told
 
 -- a writer got the entries of the rows before one that does, which is among these

@@ -4,10 +4,10 @@ ghost use Rattle.xb_model.specs.declared.line.TheConstants.{LINES};
 ghost use Rattle.xb_model.specs.LawfulLimits.{IsLawful};
 ghost use Rattle.xb_model.specs.Rows.{LoopRow};
 ghost use Rattle.xb_routes.specs.Table.{Table};
-ghost use Rattle.xb_live.specs.declared.hearing.Hearing.{Hearing as Heard};
+ghost use Rattle.xb_live.specs.declared.line_hearing.Hearing.{Hearing as LineHearing};
 ghost use Rattle.xb_live.specs.Hearings.{HasHeard};
 
-use crate::hearing::Hearing;
+use crate::line_hearing::Hearing;
 use std::alloc::{AllocError, Global};
 use xb_model::{Limits, LineNo, PerLine, Plan, Row};
 use xb_routes::RouteTable;
@@ -47,7 +47,7 @@ impl Hearings {
 
     /// What is heard of a line.
     pub fn of(&self, line: LineNo) -> &Hearing
-        ensures value { (fallback : Heard) → result.now ≡ slice_index_or self.now.lines line fallback }
+        ensures value { (fallback : LineHearing) → result.now ≡ slice_index_or self.now.lines line fallback }
         ensures below { line < LINES }
     {
         self.lines.get(line)

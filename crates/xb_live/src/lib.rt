@@ -7,7 +7,7 @@
 //!   `SortsIntoPage` (`specs/Pages.antt`): sorted by line and number, what is printed of rows that end is
 //!   their page.
 //! - As JSON an entry has the times of its line, and what was dialled: those of the line's record so far
-//!   (`told_of_rows`, `specs/Told.antt`). `Hearings` keeps them, row by row. By a table that was read its line
+//!   (`told_of_rows`, `specs/TimedEntries.antt`). `Hearings` keeps them, row by row. By a table that was read its line
 //!   of the page is made of its object alone (`laws::objects_are_lines`), and the times of a line ascend
 //!   (`laws::times_ascend`).
 //! - Counted from a time of day, an object has its times as such too (`specs/Clocks.antt`), as any clock tells them that
@@ -18,9 +18,9 @@
 
 mod counting;
 mod fault;
-mod hearing;
 mod hearings;
 pub mod laws;
+mod line_hearing;
 mod objects;
 mod printing;
 mod program;
@@ -31,9 +31,9 @@ mod writing;
 
 pub use counting::Counting;
 pub use fault::{EntriesFault, LiveFault};
-pub use hearing::Hearing;
 pub use hearings::Hearings;
-pub use printing::Form;
+pub use line_hearing::Hearing;
+pub use printing::EntryForm;
 pub use program::attend;
 pub use running::run_deck;
 pub use writing::{end, take_row};

@@ -1,12 +1,11 @@
 // The JSON objects that are printed of an entry, of a mark, and of the totals.
-ghost use Rattle.std.specs.Prelude.{◌≡◌, [], IfOk, string_bytes};
+ghost use Rattle.std.specs.Prelude.{◌≡◌, [], IfOk};
 ghost use Rattle.serde_json.specs.View.{view};
 ghost use Rattle.xb_model.specs.declared.order.Order.TheVariants as orders;
-ghost use Rattle.xb_model.specs.Page.{key_text};
 ghost use Rattle.xb_live.specs.Objects.{digits_in, mark_object, object_by, object_of, totals_object, trunk_in, with_text};
-ghost use Rattle.xb_live.specs.Told.{told_with};
+ghost use Rattle.xb_live.specs.TimedEntries.{told_with};
 
-use crate::hearing::Hearing;
+use crate::line_hearing::Hearing;
 use serde_json::Value;
 use std::alloc::{AllocError, Global};
 use xb_json::{Member, object_of as object_with};
@@ -107,20 +106,6 @@ pub(crate) fn object_of(
     }
 }
 
-// The name of a key.
-fn key_name(alloc: Global, key: Key) -> Result<String, AllocError>
-    ensures { IfOk result (λ name. string_bytes name ≡ key_text key) }
-{
-    match key {
-        Key::Digit(digit) => {
-            let value = digit.get();
-            format!(in alloc; "{value}")
-        }
-        Key::Kp => String::from_str(alloc, "KP"),
-        Key::St => String::from_str(alloc, "ST"),
-    }
-}
-
 /// The object of a mark of entry `number` of a line. `Err` says that memory ran out.
 pub(crate) fn mark_object(
     alloc: Global,
@@ -140,9 +125,8 @@ pub(crate) fn mark_object(
             object_with(alloc, &[at, entry, line, trunk])
         }
         Mark::Tone(key, tone) => {
-            let name = key_name(alloc, *key)?;
             let high = ("high_hz", Member::Number(u64::from(tone.high)));
-            let key = ("key", Member::Text(&name));
+            let key = ("key", Member::Word(key.name()));
             let low = ("low_hz", Member::Number(u64::from(tone.low)));
             object_with(alloc, &[at, entry, high, key, line, low])
         }

@@ -7,10 +7,10 @@ ghost use Rattle.xb_live.specs.Clocks.{Clock, IsClockOf, IsClockSince, styled, t
 ghost use Rattle.xb_live.specs.Faults.{IsOfEntry};
 ghost use Rattle.xb_live.specs.Objects.{line_of, timed_mark, timed_object, totals_object, with_time};
 ghost use Rattle.xb_live.specs.Texts.{text_by, text_of, totals_of};
-ghost use Rattle.xb_live.specs.Told.{told_with};
+ghost use Rattle.xb_live.specs.TimedEntries.{told_with};
 
 use crate::fault::EntriesFault;
-use crate::hearing::Hearing;
+use crate::line_hearing::Hearing;
 use crate::objects::{mark_object, object_of, totals_object, with_text};
 use crate::times::{TimeText, Times, times_of};
 use jiff_core::Timestamp;
@@ -22,7 +22,7 @@ use xb_tape::{write_entry, write_mark_line, write_totals};
 
 /// How entries are printed.
 #[derive(Clone, Copy, Debug, PartialEq, Eq)]
-pub enum Form {
+pub enum EntryForm {
     /// One line for each entry, as the page has it.
     Entries,
     /// One line for each mark.
@@ -129,10 +129,11 @@ fn text_of_object(
     heard: &Hearing,
 ) -> Result<String, EntriesFault>
     ensures text { (clock : Clock) → IsClockSince since clock → IfOk result (λ text. string_bytes text
-        ≡ text_by (Form.Objects since) clock (told_with line number entry.now heard.now)) }
+        ≡ text_by (EntryForm.Objects since) clock (told_with line number entry.now heard.now)) }
     ensures fault { IfErr result
-        (IsOfEntry (Form.Objects since) (told_with line number entry.now heard.now)) }
+        (IsOfEntry (EntryForm.Objects since) (told_with line number entry.now heard.now)) }
 {
+    // names a type inside `Times`, without which the check has no plan for the borrow of `times`
     let _text: Option<TimeText> = None;
     let Some(times) = times_of(since, heard) else {
         return Err(EntriesFault::Late(line.get(), number));
@@ -150,10 +151,11 @@ fn text_of_mark_objects(
     heard: &Hearing,
 ) -> Result<String, EntriesFault>
     ensures text { (clock : Clock) → IsClockSince since clock → IfOk result (λ text. string_bytes text
-        ≡ text_by (Form.MarkObjects since) clock (told_with line number entry.now heard.now)) }
+        ≡ text_by (EntryForm.MarkObjects since) clock (told_with line number entry.now heard.now)) }
     ensures fault { IfErr result
-        (IsOfEntry (Form.MarkObjects since) (told_with line number entry.now heard.now)) }
+        (IsOfEntry (EntryForm.MarkObjects since) (told_with line number entry.now heard.now)) }
 {
+    // as in `text_of_object`
     let _text: Option<TimeText> = None;
     let Some(times) = times_of(since, heard) else {
         return Err(EntriesFault::Late(line.get(), number));
@@ -164,7 +166,7 @@ fn text_of_mark_objects(
 /// What is printed of entry `number` of a line, of which this is heard.
 pub(crate) fn text_of_entry(
     alloc: Global,
-    form: Form,
+    form: EntryForm,
     line: LineNo,
     number: usize,
     entry: &[Mark],
@@ -176,10 +178,12 @@ pub(crate) fn text_of_entry(
 {
     let mut text = String::new(alloc);
     match form {
-        Form::Entries => write_entry(&mut text, line, number, entry)?,
-        Form::Marks => write_mark_lines(&mut text, line, number, entry)?,
-        Form::Objects(since) => return text_of_object(alloc, since, line, number, entry, heard),
-        Form::MarkObjects(since) => {
+        EntryForm::Entries => write_entry(&mut text, line, number, entry)?,
+        EntryForm::Marks => write_mark_lines(&mut text, line, number, entry)?,
+        EntryForm::Objects(since) => return text_of_object(
+            alloc, since, line, number, entry, heard,
+        ),
+        EntryForm::MarkObjects(since) => {
             return text_of_mark_objects(alloc, since, line, number, entry, heard);
         }
     }
@@ -197,18 +201,18 @@ fn totals_line(alloc: Global, keyed: usize, refused: usize) -> Result<String, Al
 /// What is printed of the totals. `Err` says that memory ran out.
 pub(crate) fn text_of_totals(
     alloc: Global,
-    form: Form,
+    form: EntryForm,
     keyed: usize,
     refused: usize,
 ) -> Result<String, AllocError>
     ensures { IfOk result (λ text. string_bytes text ≡ totals_of form keyed refused) }
 {
     match form {
-        Form::Entries | Form::Marks => {
+        EntryForm::Entries | EntryForm::Marks => {
             let mut text = String::new(alloc);
             write_totals(&mut text, keyed as u128, refused as u128)?;
             Ok(text)
         }
-        Form::Objects(_) | Form::MarkObjects(_) => totals_line(alloc, keyed, refused),
+        EntryForm::Objects(_) | EntryForm::MarkObjects(_) => totals_line(alloc, keyed, refused),
     }
 }

@@ -9,7 +9,7 @@ ghost use Rattle.xb_live.specs.Runs.{PrintsRows, Runs};
 use crate::counting::Counting;
 use crate::fault::LiveFault;
 use crate::hearings::Hearings;
-use crate::printing::Form;
+use crate::printing::EntryForm;
 use crate::writing::{end, take_row};
 use std::alloc::Global;
 use std::io::{Read, Write};
@@ -24,7 +24,7 @@ const MOST_ROWS: u64 = 1 << 63;
 // closed, and the totals come last.
 fn print_rows<R: Read, W: Write>(
     alloc: Global,
-    form: Form,
+    form: EntryForm,
     office: &mut Counting,
     hearings: &mut Hearings,
     rows: &mut RowReader<R>,
@@ -66,7 +66,7 @@ fn rows_after<R: Read>(deck: R) -> RowReader<R>
 /// contracts (byte slices, lists), which those of a process are not.
 pub fn run_deck<R: Read, W: Write>(
     alloc: Global,
-    form: Form,
+    form: EntryForm,
     deck: &mut R,
     out: &mut W,
 ) -> Result<(), LiveFault>

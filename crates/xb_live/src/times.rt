@@ -2,7 +2,7 @@
 ghost use Rattle.std.specs.Prelude.{◌≡◌, ◌*◌, pos, IfNone, IfSome};
 ghost use Rattle.xb_live.specs.Clocks.{AreTimes, IsLateAfter, IsLateSince, IsTimeText};
 
-use crate::hearing::Hearing;
+use crate::line_hearing::Hearing;
 use arrayvec::ArrayString;
 use jiff_core::Timestamp;
 use jiff_fmt::temporal::DateTimePrinter;

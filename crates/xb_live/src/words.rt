@@ -3,7 +3,7 @@ ghost use Rattle.std.specs.Prelude.{◌≡◌, IfErr, IfOk, option_map};
 ghost use Rattle.xb_command.specs.Commands.{texts_of};
 ghost use Rattle.xb_live.specs.Options.{AreRefused, Asks, ReadsSince, Say, form_of, objects_since};
 
-use crate::printing::Form;
+use crate::printing::EntryForm;
 use crate::program::PROGRAM;
 use jiff_core::Timestamp;
 use jiff_fmt::temporal::parse_timestamp;
@@ -61,31 +61,35 @@ fn options_of(words: &Words) -> Options
 }
 
 // The form of objects, whose times are counted from one of day, if one is given.
-fn objects_since(marks: bool, since: Option<Timestamp>) -> Form
+fn objects_since(marks: bool, since: Option<Timestamp>) -> EntryForm
     ensures { result ≡ objects_since marks since }
 {
     if marks {
-        Form::MarkObjects(since)
+        EntryForm::MarkObjects(since)
     } else {
-        Form::Objects(since)
+        EntryForm::Objects(since)
     }
 }
 
 // The form that is asked for.
-fn form_of(options: Options) -> Option<Form>
+fn form_of(options: Options) -> Option<EntryForm>
     ensures { result ≡ form_of options }
 {
     let Options { json, marks, since } = options;
     match since {
         Since::NotGiven if json => Some(objects_since(marks, None)),
-        Since::NotGiven => Some(if marks { Form::Marks } else { Form::Entries }),
+        Since::NotGiven => Some(if marks {
+            EntryForm::Marks
+        } else {
+            EntryForm::Entries
+        }),
         Since::Time(time) if json => Some(objects_since(marks, Some(time))),
         Since::Time(_) | Since::NoTime => None,
     }
 }
 
 /// The form that the words ask for.
-pub(crate) fn form_of_words(alloc: Global, words: &[String]) -> Result<Form, WordsFault>
+pub(crate) fn form_of_words(alloc: Global, words: &[String]) -> Result<EntryForm, WordsFault>
     ensures asks { IfOk result (λ form. Asks (texts_of words.now) form) }
     ensures refused { IfErr result (λ f. f ≡ WordsFault.Refused → AreRefused (texts_of words.now)) }
 {

@@ -11,22 +11,22 @@ ghost use Rattle.xb_live.specs.declared.counting.TheConstants.{MOST_ENTRIES};
 use crate::counting::Counting;
 use crate::fault::EntriesFault;
 use crate::hearings::Hearings;
-use crate::printing::{Form, text_of_entry, text_of_totals};
+use crate::printing::{EntryForm, text_of_entry, text_of_totals};
 use std::alloc::Global;
 use std::io::Write;
 use xb_model::{LINES, LineNo, Row};
 use xb_text::write_whole;
 
 // Takes one row into what is heard, where what is printed tells of it.
-fn hear(form: Form, hearings: &mut Hearings, row: Row)
+fn hear(form: EntryForm, hearings: &mut Hearings, row: Row)
     ensures { (table : Table) (rows : List LoopRow) → Hears form table hearings.old rows →
         Hears form table hearings.new (rows ++ row ∷ []) }
 {
     match form {
-        Form::Entries => {}
-        Form::Marks => {}
-        Form::Objects(_) => hearings.take(row),
-        Form::MarkObjects(_) => hearings.take(row),
+        EntryForm::Entries => {}
+        EntryForm::Marks => {}
+        EntryForm::Objects(_) => hearings.take(row),
+        EntryForm::MarkObjects(_) => hearings.take(row),
     }
 }
 
@@ -36,7 +36,7 @@ fn hear(form: Form, hearings: &mut Hearings, row: Row)
 /// On an `Err` the row was taken, and its entry was not written whole.
 pub fn take_row<W: Write>(
     alloc: Global,
-    form: Form,
+    form: EntryForm,
     office: &mut Counting,
     hearings: &mut Hearings,
     row: Row,
@@ -63,7 +63,7 @@ pub fn take_row<W: Write>(
 // Closes each line, the lines ascending.
 fn close_lines<W: Write>(
     alloc: Global,
-    form: Form,
+    form: EntryForm,
     office: &mut Counting,
     hearings: &mut Hearings,
     out: &mut W,
@@ -87,7 +87,7 @@ fn close_lines<W: Write>(
 /// entries that this completes and then the totals.
 pub fn end<W: Write>(
     alloc: Global,
-    form: Form,
+    form: EntryForm,
     office: &mut Counting,
     hearings: &mut Hearings,
     out: &mut W,

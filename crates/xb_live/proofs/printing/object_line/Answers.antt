@@ -4,13 +4,13 @@ use Rattle.serde_json.specs.View.{view}
 use Rattle.serde_json.specs.Written.{compact_text, has_float}
 use Rattle.xb_live.specs.Clocks.{text_in}
 use Rattle.xb_live.specs.Objects.{timed_object, with_time}
-use Rattle.xb_live.specs.Told.{Told, told_with}
+use Rattle.xb_live.specs.TimedEntries.{TimedEntry, told_with}
 use Rattle.xb_live.proofs.ObjectValues.{timed-no-floats}
 use Rattle.xb_live.proofs.printing.object_line.Goals as goal
 
 pub returns : goal.returns
 returns c =
-    let told : Told = told_with c.args.line c.args.number c.args.entry.now c.args.heard.now in
+    let told : TimedEntry = told_with c.args.line c.args.number c.args.entry.now c.args.heard.now in
     let from = text_in c.args.times.now.from in
     let at = text_in c.args.times.now.at in
     let is : view c.in_ok-object-3.object ≡ timed_object from at told =

@@ -4,13 +4,13 @@ use Rattle.xb_model.specs.declared.line.TheConstants.{LINES}
 use Rattle.xb_text.specs.Writing.{AppendsBeginning}
 use Rattle.xb_live.specs.declared.fault.EntriesFault.{EntriesFault}
 use Rattle.xb_live.specs.declared.fault.EntriesFault.TheVariants.{Write}
-use Rattle.xb_live.specs.declared.hearing.Hearing.{Hearing}
+use Rattle.xb_live.specs.declared.line_hearing.Hearing.{Hearing}
 use Rattle.xb_live.specs.Clocks.{styled}
 use Rattle.xb_live.specs.Counting.{numbered_by}
 use Rattle.xb_live.specs.Entries.{Numbered}
 use Rattle.xb_live.specs.Faults.{IsOfEntry}
 use Rattle.xb_live.specs.Texts.{text_of}
-use Rattle.xb_live.specs.Told.{told_by, told_with}
+use Rattle.xb_live.specs.TimedEntries.{told_by, told_with}
 use Rattle.xb_live.specs.Writing.{Writes}
 use Rattle.xb_live.proofs.ToldRows.{fault-heard, text-heard}
 use Rattle.xb_live.proofs.Written.{written-none, written-one, written-beginning, written-fault}

@@ -1,6 +1,6 @@
 use Rattle.std.proofs.Common.{◌≡◌, drop}
 use Rattle.xb_live.specs.Hearings.{after_signals}
-use Rattle.xb_live.proofs.hearing.Hearing.hear_all.Given as goal
+use Rattle.xb_live.proofs.line_hearing.Hearing.hear_all.Given as goal
 
 abbrev pub invariant-loop-signal : goal.invariant-loop-signal
 invariant-loop-signal l =

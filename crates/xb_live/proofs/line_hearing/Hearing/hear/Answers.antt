@@ -1,5 +1,5 @@
 use Rattle.xb_live.proofs.HeardSignals.{heard-signal}
-use Rattle.xb_live.proofs.hearing.Hearing.hear.Goals as goal
+use Rattle.xb_live.proofs.line_hearing.Hearing.hear.Goals as goal
 
 pub returns : goal.returns
 returns c =

@@ -1,7 +1,7 @@
 use Rattle.std.proofs.Common.{◌∙◌, ap, rules}
 use Rattle.xb_pulse.specs.Machine.{phase_after, signals_by}
 use Rattle.xb_live.proofs.HeardSignals.{heard-row}
-use Rattle.xb_live.proofs.hearing.Hearing.take.Goals as goal
+use Rattle.xb_live.proofs.line_hearing.Hearing.take.Goals as goal
 
 pub returns : goal.returns
 returns c =
