@@ -1,2 +1,1 @@
-pub mod KeyNames
 pub mod HeardSoFar

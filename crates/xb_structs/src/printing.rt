@@ -12,7 +12,7 @@ ghost use Rattle.xb_structs.specs.EntryLines.{line_in, mark_in, pair_in, reason_
 use crate::mark::PlainMark;
 use arrayvec::ArrayString;
 use itoa::Buffer;
-use xb_model::{KEYING_MARKS, Reason};
+use xb_model::{KEYING_MARKS, Key, Reason};
 
 /// Why an entry is not printed.
 #[derive(Clone, Copy)]
@@ -122,11 +122,11 @@ fn push_mark(line: &mut Line, mark: &PlainMark)
             push_pair(line, mark);
         }
         2 => {
-            line.push_str("KP");
+            line.push_str(Key::Kp.name());
             push_pair(line, mark);
         }
         3 => {
-            line.push_str("ST");
+            line.push_str(Key::St.name());
             push_pair(line, mark);
         }
         kind => push_refusal(line, reason_of(kind), mark.value),
