@@ -3,12 +3,12 @@
 
 mod exports;
 mod faults;
+mod line_signals;
 mod routed;
-mod told;
 
 pub use exports::{mfchain_close, mfchain_entries, mfchain_open, mfchain_reopen, mfchain_take};
-pub use routed::mfchain_route_number;
-pub use told::{
+pub use line_signals::{
     mfchain_dialled, mfchain_digit, mfchain_mutilated_digit, mfchain_release, mfchain_seize,
     mfchain_time_out,
 };
+pub use routed::mfchain_route_number;

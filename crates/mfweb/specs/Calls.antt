@@ -1,18 +1,16 @@
 -- What the calls of the module do.
-use Rattle.std.specs.Prelude.{◌≡◌, ◌≢◌, ℕ, ◌==◌, ◌≤◌, if◌then◌else◌, List, length, Option, Some, None, Ok, Err}
+use Rattle.std.specs.Prelude.{◌≡◌, ℕ, ◌==◌, ◌≤◌, if◌then◌else◌, List, length, Option, Some, None, Ok, Err}
 use Rattle.xb_model.specs.declared.key.Tone.{Tone}
 use Rattle.xb_model.specs.declared.limits.Limits.{Limits}
 use Rattle.xb_routes.specs.declared.fault.RouteFault.{RouteFault}
-use Rattle.xb_routes.specs.declared.fault.RouteFault.TheVariants.{TooMany}
-use Rattle.xb_routes.specs.declared.table.TheConstants.{MOST_ROUTES}
 use Rattle.xb_routes.specs.Keys.{FourKeys, four_keys}
 use Rattle.xb_routes.specs.Table.{Table}
 use Rattle.xb_structs.specs.declared.line.PlainLine.{PlainLine}
 use Rattle.xb_structs.specs.declared.refusal.Refusal.{Refusal}
 use Rattle.xb_structs.specs.declared.row.PlainRow.{PlainRow}
-use Rattle.xb_structs.specs.declared.telling.PlainSignal.{PlainSignal}
+use Rattle.xb_structs.specs.declared.row_signals.PlainSignal.{PlainSignal}
 use Rattle.xb_structs.specs.declared.table.PlainTable.{PlainTable}
-use Rattle.xb_structs.specs.Filling.{Adds, begun, next_route}
+use Rattle.xb_structs.specs.Filling.{IsNotAdded, begun}
 use Rattle.xb_structs.specs.Signals.{Hears, IsNotHeard}
 use Rattle.xb_structs.specs.Tables.{Holds}
 use Rattle.xb_tone.specs.declared.cadence.Cadence.{Cadence}
@@ -63,16 +61,11 @@ pub record DoesNotBegin (old new : PlainTable) (plan : ℕ) (limits : Limits) (p
   pub why : begun plan limits ≡ Err fault
   pub kept : new ≡ old
 
--- whatever table it held, it now holds one route more, which is the next of that table's text
-abbrev pub HasAdded : PlainTable → PlainTable → ℕ → FourKeys → Type 0
-HasAdded old new i words = (table : Table) → Holds old table → Adds new (next_route table i words) table
-
--- the status is that of the route's fault, and the table is as it was
+-- the status is that of the first fault, and the table is as it was
 pub record DoesNotAdd (old new : PlainTable) (i : ℕ) (words : FourKeys) (status : ℕ) : Type 0 where
   pub fault : RouteFault
   pub is : status ≡ fault_status fault
-  pub why : fault ≢ TooMany → (table : Table) → Holds old table → next_route table i words ≡ Err fault
-  pub full : fault ≡ TooMany → MOST_ROUTES ≤ old.count
+  pub why : IsNotAdded fault old i words
   pub kept : new ≡ old
 
 -- the row's signals are in the room

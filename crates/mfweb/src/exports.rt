@@ -1,12 +1,14 @@
 // What the page calls. `unsafe` stands in the attributes alone: a name that is exported as it stands must be
 // that of no other symbol, and none else begins with `mfweb_`.
-ghost use Rattle.std.specs.Prelude.{◌≡◌, ◌≢◌, ◌≤◌, length, map};
+ghost use Rattle.std.specs.Prelude.{◌≡◌, ◌≢◌, ◌<◌, ◌≤◌, length, map};
 ghost use Rattle.std.specs.List.{range_with_len};
 ghost use Rattle.xb_model.specs.LawfulLimits.{standard_limits};
+ghost use Rattle.xb_routes.specs.Keys.{keys_in};
 ghost use Rattle.xb_tone.specs.Cadences.{standard_cadence};
 ghost use Rattle.xb_tone.specs.Sines.{pair_sample};
 ghost use Rattle.xb_structs.specs.Calls.{IsNotTaken, IsTaken};
-ghost use Rattle.mfweb.specs.Calls.{Begins, DoesNotAdd, DoesNotBegin, DoesNotHear, HasAdded};
+ghost use Rattle.xb_structs.specs.Filling.{HasAdded};
+ghost use Rattle.mfweb.specs.Calls.{Begins, DoesNotAdd, DoesNotBegin, DoesNotHear};
 ghost use Rattle.mfweb.specs.Calls.{HearsRow, cadence_of, limits_of, pair, words_of};
 ghost use Rattle.mfweb.specs.Showing.{DoesNotPrint, FindsCode, FindsNoCode, PrintsEntry, number_in};
 
@@ -112,7 +114,29 @@ pub extern "C" fn mfweb_begin(
     }
 }
 
-/// Adds route `i` of a text, counted from 1, to a table. On any other status than 0 the table is as it was.
+// The words of a route's keys.
+fn words_of<'a>(route: &WebRoute, code: &'a [u8], prefix: &'a [u8]) -> RouteWords<'a>
+    ensures { keys_in result ≡ words_of route.now code.now prefix.now }
+{
+    RouteWords {
+        code,
+        trunk: route.trunk,
+        delete: if route.has_delete != 0 {
+            Some(route.delete)
+        } else {
+            None
+        },
+        prefix: if route.has_prefix != 0 {
+            Some(prefix)
+        } else {
+            None
+        },
+    }
+}
+
+/// Adds route `i` of a text, counted from 1, to a table. On any other status than 0 the table is as it was, and the
+/// status is the first of these: that of the plan where the table was not begun, that of too many routes where it has
+/// 1,000, that of the first fault of the route, and that of a code which an earlier route has.
 #[unsafe(no_mangle)]
 pub extern "C" fn mfweb_add(
     table: &mut PlainTable,
@@ -126,21 +150,7 @@ pub extern "C" fn mfweb_add(
     ensures refuses { result ≢ 0 →
         DoesNotAdd table.old table.new i (words_of route.now code.now prefix.now) result }
 {
-    let words = RouteWords {
-        code,
-        trunk: route.trunk,
-        delete: if route.has_delete != 0 {
-            Some(route.delete)
-        } else {
-            None
-        },
-        prefix: if route.has_prefix != 0 {
-            Some(prefix)
-        } else {
-            None
-        },
-    };
-    match add(table, i, words) {
+    match add(table, i, words_of(route, code, prefix)) {
         Ok(()) => DONE,
         Err(fault) => fault_status(fault),
     }
@@ -249,8 +259,9 @@ pub extern "C" fn mfweb_cadence(cadence: &mut WebCadence)
 /// samples or more stays as it was.
 #[unsafe(no_mangle)]
 pub extern "C" fn mfweb_tone(low: u16, high: u16, room: &mut [i16])
-    ensures { length room.old ≤ 4294967295
+    ensures filled { length room.old ≤ 4294967295
         → room.new ≡ map (λ n. pair_sample (pair low high) n) (range_with_len 0 (length room.old)) }
+    ensures kept { 4294967295 < length room.old → room.new ≡ room.old }
 {
     if room.len() <= 4_294_967_295 {
         fill_tone(Tone { low, high }, room);

@@ -16,6 +16,7 @@
 
 mod ears;
 mod exports;
+pub mod laws;
 mod listening;
 mod names;
 mod status;

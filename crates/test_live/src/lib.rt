@@ -9,6 +9,8 @@ mod faults;
 #[cfg(test)]
 mod keyed;
 #[cfg(test)]
+mod line_signals;
+#[cfg(test)]
 mod printed;
 #[cfg(test)]
 mod reckoned;
@@ -20,7 +22,5 @@ mod rows;
 mod statuses;
 #[cfg(test)]
 mod structs;
-#[cfg(test)]
-mod told;
 #[cfg(test)]
 mod words;

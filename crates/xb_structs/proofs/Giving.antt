@@ -7,6 +7,7 @@ use Rattle.xb_model.specs.declared.limits.Limits.{Limits}
 use Rattle.xb_model.specs.declared.line.LineNo.{LineNo}
 use Rattle.xb_model.specs.declared.mark.Mark.{Mark}
 use Rattle.xb_model.specs.declared.mark.Mark.TheVariants.{Trunk, Tone as Sounds, Refused}
+use Rattle.xb_model.specs.declared.stage.TheConstants.{MOST_OUTPUTS}
 use Rattle.xb_model.specs.declared.on.On.{On}
 use Rattle.xb_model.specs.declared.plan.Plan.{Plan}
 use Rattle.xb_model.specs.declared.reason.Reason.TheVariants.{Mutilated, Unknown, Abandoned, TimedOut}
@@ -87,13 +88,17 @@ module _ (plain : PlainTable) (plan : Plan) (limits : Limits) (routes : List Pla
       }
 
   pub opened-refused : (row : PlainRow) (taken : LoopRow) (line : PlainLine) (room : ℕ) (f : Refusal)
-      → row_in row ≡ Ok taken
-      → (f ≡ refusal.Room) × ((all : List CodedRoute) → AreRoutes routes all → room < length (marks_of_row (table_by all plan limits) (state_in line) taken))
+      → IsOpen plain → row_in row ≡ Ok taken
+      → (f ≡ refusal.Room) × (room < MOST_OUTPUTS) × ((all : List CodedRoute) → AreRoutes routes all → room < length (marks_of_row (table_by all plan limits) (state_in line) taken))
       → IsRefused f plain row line room
-  opened-refused row taken line room f says why =
-      let none : HasNoRoom plain row line room = λ table other holds said.
-      let same : taken ≡ other = cc (sym says ∙ said) in
-      rw (← same) (subst (λ t. room < length (marks_of_row t (state_in line) taken)) (held table holds) (why.1 table.routes (are table holds))) in
+  opened-refused row taken line room f open_ says why =
+      let none : HasNoRoom plain row line room = record {
+        is_open = open_;
+        taken = taken;
+        says = says;
+        few = why.1;
+        less = λ table holds. subst (λ t. room < length (marks_of_row t (state_in line) taken)) (held table holds) (why.2 table.routes (are table holds));
+      } in
       subst (λ g. IsRefused g plain row line room) (sym why.0) none
 
 -- what holds of every result of one kind

@@ -8,6 +8,7 @@ use Rattle.std.proofs.lemmas.Bool.Decides.{nat_tests}
 use Rattle.std.proofs.lemmas.List.Sums.{fold_push}
 use Rattle.xb_model.specs.declared.dialled.Dialled.{Dialled}
 use Rattle.xb_model.specs.declared.limits.Limits.{Limits}
+use Rattle.xb_model.specs.declared.stage.TheConstants.{MOST_OUTPUTS}
 use Rattle.xb_model.specs.declared.line.TheConstants.{LINES}
 use Rattle.xb_model.specs.declared.plan.Plan.{Plan}
 use Rattle.xb_model.specs.declared.signal.Signal.{Signal}
@@ -38,8 +39,8 @@ use Rattle.xb_serial.specs.Entrances.{EntrancesAgree as SerialEntrancesAgree, en
 use Rattle.xb_serial.specs.Promises.{tape_on}
 use Rattle.xb_serial.proofs.Entrances.{entrances_agree, marks-append, one_by_one, outcomes-append, register-one_by_one, row_marks}
 use Rattle.xb_serial.proofs.OneLine.{image_from-append}
-use Rattle.xb_structs.specs.declared.heard.Heard.{Heard}
-use Rattle.xb_structs.specs.declared.heard.Heard.TheVariants as heard
+use Rattle.xb_structs.specs.declared.heard_signal.HeardSignal.{HeardSignal}
+use Rattle.xb_structs.specs.declared.heard_signal.HeardSignal.TheVariants as heard
 use Rattle.xb_structs.specs.declared.line.PlainLine.{PlainLine}
 use Rattle.xb_structs.specs.declared.mark.PlainMark.{PlainMark}
 use Rattle.xb_structs.specs.declared.not_heard.NotHeard.{NotHeard}
@@ -48,8 +49,8 @@ use Rattle.xb_structs.specs.declared.route.PlainRoute.{PlainRoute}
 use Rattle.xb_structs.specs.declared.table.PlainTable.{PlainTable}
 use Rattle.xb_structs.specs.Entrances.{EntrancesAgree}
 use Rattle.xb_structs.specs.Giving.{Gives, marks_of_outcomes}
-use Rattle.xb_structs.specs.Heard.{as_heard, digit_signal, signal_in}
-use Rattle.xb_structs.specs.Hearing.{HasHeard, Hears, HearsSignal, IsNotHeard, IsUnfit, LacksRoom, digits_so_far, is_closed, is_due, is_fit, is_seized}
+use Rattle.xb_structs.specs.HeardSignals.{as_heard, digit_signal, signal_in}
+use Rattle.xb_structs.specs.Hearing.{HasHeard, Hears, HearsSignal, IsNotHeard, IsSignal, IsUnfit, LacksRoom, digits_so_far, is_closed, is_due, is_fit, is_seized}
 use Rattle.xb_structs.specs.Lines.{pulse_in, register_in, state_in}
 use Rattle.xb_structs.specs.Marks.{mark_on, plain_mark}
 use Rattle.xb_structs.specs.Routes.{AreRoutes}
@@ -133,7 +134,7 @@ fits_not {A} {f} e = absurd (none e)
     none : fits ≡ Err f → ⊥
     none p = cc
 
-reasons : (closed seized : Bool) (heard : Heard) (f : NotHeard) → cond closed (Err why.Closed) (is_due heard seized) ≡ Err f
+reasons : (closed seized : Bool) (heard : HeardSignal) (f : NotHeard) → cond closed (Err why.Closed) (is_due heard seized) ≡ Err f
     → (f ≡ why.Closed) ⊎ ((f ≡ why.Seized) ⊎ (f ≡ why.NotSeized))
 reasons true seized heard f e = inl (sym (ap error_of e))
 reasons false true heard.Seizure f e = inr (inl (sym (ap error_of e)))
@@ -147,13 +148,13 @@ reasons false false heard.MutilatedDigit f e = inr (inr (sym (ap error_of e)))
 reasons false false heard.TimeOut f e = inr (inr (sym (ap error_of e)))
 reasons false false heard.Release f e = inr (inr (sym (ap error_of e)))
 
-pub unfit : (plain : PlainTable) (number : ℕ) (line : PlainLine) (told : Heard) (room : ℕ) (f : NotHeard)
-    → IsOpen plain → is_fit line told ≡ Err f → IsNotHeard f plain number line told room
-unfit plain number line told room f open_ e =
+pub unfit : (plain : PlainTable) (number : ℕ) (line : PlainLine) (told : HeardSignal) (room : ℕ) (f : NotHeard)
+    → IsSignal plain number told → is_fit line told ≡ Err f → IsNotHeard f plain number line told room
+unfit plain number line told room f is e =
     at (reasons (is_closed (pulse_in line.pulse)) (is_seized (register_in line.register)) told f e)
   where
-    by : (g : NotHeard) → f ≡ g → IsUnfit g plain line told
-    by g p = (open_, e ∙ ap Err p)
+    by : (g : NotHeard) → f ≡ g → IsUnfit g plain number line told
+    by g p = (is, e ∙ ap Err p)
 
     at : (f ≡ why.Closed) ⊎ ((f ≡ why.Seized) ⊎ (f ≡ why.NotSeized)) → IsNotHeard f plain number line told room
     at (inl p) = subst (λ g. IsNotHeard g plain number line told room) (sym p) (by why.Closed p)
@@ -182,7 +183,7 @@ module _ (plain : PlainTable) (plan : Plan) (routes : List PlainRoute) (is-plan 
   routed_by : (table : Table) → Holds plain table → AreRoutes routes table.routes
   routed_by table holds = rw is-routes holds.routes
 
-  pub opened-hears : (number : ℕ) (old new : PlainLine) (heard : Heard) (signal : Signal) (room : List PlainMark) (count : ℕ)
+  pub opened-hears : (number : ℕ) (old new : PlainLine) (heard : HeardSignal) (signal : Signal) (room : List PlainMark) (count : ℕ)
       → IsOpen plain → line_in number ≡ Some number → is_fit old heard ≡ Ok tt → signal_in heard ≡ Some signal
       → ((all : List CodedRoute) (limits : Limits) → AreRoutes routes all → HearsSignal (table_by all plan limits) number old new signal room count)
       → Hears plain number old new heard room count
@@ -199,12 +200,16 @@ module _ (plain : PlainTable) (plan : Plan) (routes : List PlainRoute) (is-plan 
         goes_on = λ table holds. heard-more table number old new signal room count (hears table holds);
       }
 
-  pub opened-lacks : (line : PlainLine) (heard : Heard) (signal : Signal) (room : ℕ) → signal_in heard ≡ Some signal
-      → ((all : List CodedRoute) (limits : Limits) → AreRoutes routes all → room < length (marks_of_signal (table_by all plan limits) (register_in line.register) signal))
-      → LacksRoom plain line heard room
-  opened-lacks line heard signal room says less = λ table other holds said.
-      let same : signal ≡ other = cc (sym says ∙ said) in
-      rw (← same) (subst (λ t. room < length (marks_of_signal t (register_in line.register) signal)) (planned table holds) (less table.routes table.limits (routed_by table holds)))
+  pub opened-lacks : (number : ℕ) (line : PlainLine) (heard : HeardSignal) (room : ℕ) → (is : IsSignal plain number heard)
+      → is_fit line heard ≡ Ok tt → room < MOST_OUTPUTS
+      → ((all : List CodedRoute) (limits : Limits) → AreRoutes routes all → room < length (marks_of_signal (table_by all plan limits) (register_in line.register) is.signal))
+      → LacksRoom plain number line heard room
+  opened-lacks number line heard room is fit few less = record {
+    is = is;
+    fit = fit;
+    few = few;
+    less = λ table holds. subst (λ t. room < length (marks_of_signal t (register_in line.register) is.signal)) (planned table holds) (less table.routes table.limits (routed_by table holds));
+  }
 
 -- the digit that a signal spells
 abbrev spelling : Signal → Option ℕ

@@ -9,7 +9,7 @@ use Rattle.xb_routes.specs.Table.{Table}
 use Rattle.xb_serial.specs.Promises.{tape_on}
 use Rattle.xb_structs.specs.declared.line.PlainLine.{PlainLine}
 use Rattle.xb_structs.specs.declared.mark.PlainMark.{PlainMark}
-use Rattle.xb_structs.specs.Heard.{as_heard}
+use Rattle.xb_structs.specs.HeardSignals.{as_heard}
 use Rattle.xb_structs.specs.Hearing.{HasHeard}
 use Rattle.xb_structs.specs.Marks.{mark_on}
 use Rattle.xb_structs.specs.Taking.{TakesRow}

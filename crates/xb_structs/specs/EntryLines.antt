@@ -46,7 +46,7 @@ line_in line n marks = entry_text line n (map mark_in marks)
 -- when each fault comes: a line is printed without its LF
 abbrev pub IsNotPrinted : PrintFault → ℕ → ℕ → List PlainMark → ℕ → Type 0
 IsNotPrinted fault.Marks line n marks room = MayBeEntry marks → ⊥
-IsNotPrinted fault.Room line n marks room = room + 1 < length (line_in line n marks)
+IsNotPrinted fault.Room line n marks room = MayBeEntry marks × (room + 1 < length (line_in line n marks))
 
 -- the tape of a line as it is printed, by the plain numbers of its marks
 abbrev pub tape_in : ℕ → List PlainMark → List ℕ

@@ -7,7 +7,7 @@ pub mod Tables
 pub mod Opening
 pub mod Taking
 pub mod Giving
-pub mod Heard
+pub mod HeardSignals
 pub mod Hearing
 pub mod Entrances
 pub mod Promises

@@ -3,9 +3,11 @@ use Rattle.std.specs.Prelude.{◌≡◌, ℕ, ◌<◌, nat_lt, if◌then◌else�
 use Rattle.std.specs.List.{list_any}
 use Rattle.xb_model.specs.declared.dialled.Dialled.TheVariants.{Number}
 use Rattle.xb_model.specs.declared.digit.TheConstants.{DIGITS}
+use Rattle.xb_model.specs.declared.stage.TheConstants.{MOST_OUTPUTS}
 use Rattle.xb_model.specs.declared.plan.Plan.{Plan}
 use Rattle.xb_model.specs.Keyings.{marks_of}
 use Rattle.xb_model.specs.Numbers.{before_mutilated, shortest_complete}
+use Rattle.xb_model.specs.Plans.{plan_of_digits}
 use Rattle.xb_model.specs.Routing.{order_of}
 use Rattle.xb_routes.specs.Table.{Table}
 use Rattle.xb_structs.specs.declared.mark.PlainMark.{PlainMark}
@@ -36,28 +38,32 @@ number_of_digits plan digits =
 abbrev pub number_of_bytes : Plan → List ℕ → Result (List ℕ) NotRouted
 number_of_bytes plan bytes = number_of_digits plan (map digit_or_none bytes)
 
+-- what the bytes complete by the plan of an open table: a number, or none for a reason
+pub record Completes (plain : PlainTable) (bytes : List ℕ) (number : Result (List ℕ) NotRouted) : Type 0 where
+  pub is_open : IsOpen plain
+  pub plan : Plan
+  pub has : plan_of_digits plain.plan ≡ Some plan
+  pub is : number_of_bytes plan bytes ≡ number
+
 -- the number that the bytes complete is keyed by its route, or refused: so many marks at the front of the room are
 -- those of its order, on line 0
-pub record RoutesBy (table : Table) (bytes : List ℕ) (room : List PlainMark) (count : ℕ) : Type 0 where
+pub record Routes (plain : PlainTable) (bytes : List ℕ) (room : List PlainMark) (count : ℕ) : Type 0 where
   pub number : List ℕ
-  pub completes : number_of_bytes table.plan bytes ≡ Ok number
-  pub marks : take count room ≡ map (mark_on 0) (marks_of (order_of table.routes (Number number)))
+  pub completes : Completes plain bytes (Ok number)
+  pub marks : (table : Table) → Holds plain table
+      → take count room ≡ map (mark_on 0) (marks_of (order_of table.routes (Number number)))
 
--- by the table that is held
-abbrev pub Routes : PlainTable → List ℕ → List PlainMark → ℕ → Type 0
-Routes plain bytes room count = (table : Table) → Holds plain table → RoutesBy table bytes room count
-
--- the number of the bytes has more marks than there is room for
-pub record LacksRoom (table : Table) (bytes : List ℕ) (room : ℕ) : Type 0 where
+-- the number of the bytes has more marks than there is room for; 24 are always enough
+pub record LacksRoom (plain : PlainTable) (bytes : List ℕ) (room : ℕ) : Type 0 where
   pub number : List ℕ
-  pub completes : number_of_bytes table.plan bytes ≡ Ok number
-  pub less : room < length (marks_of (order_of table.routes (Number number)))
+  pub completes : Completes plain bytes (Ok number)
+  pub few : room < MOST_OUTPUTS
+  pub less : (table : Table) → Holds plain table
+      → room < length (marks_of (order_of table.routes (Number number)))
 
 -- when each reason comes
 abbrev pub IsNotRouted : NotRouted → PlainTable → List ℕ → ℕ → Type 0
 IsNotRouted why.NotOpened plain bytes room = IsOpen plain → ⊥
-IsNotRouted why.Digit plain bytes room =
-    (table : Table) → Holds plain table → number_of_bytes table.plan bytes ≡ Err why.Digit
-IsNotRouted why.Incomplete plain bytes room =
-    (table : Table) → Holds plain table → number_of_bytes table.plan bytes ≡ Err why.Incomplete
-IsNotRouted why.Room plain bytes room = (table : Table) → Holds plain table → LacksRoom table bytes room
+IsNotRouted why.Digit plain bytes room = Completes plain bytes (Err why.Digit)
+IsNotRouted why.Incomplete plain bytes room = Completes plain bytes (Err why.Incomplete)
+IsNotRouted why.Room plain bytes room = LacksRoom plain bytes room

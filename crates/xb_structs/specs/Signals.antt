@@ -9,7 +9,7 @@ use Rattle.xb_structs.specs.declared.line.PlainLine.{PlainLine}
 use Rattle.xb_structs.specs.declared.refusal.Refusal.{Refusal}
 use Rattle.xb_structs.specs.declared.refusal.Refusal.TheVariants.{NotOpened, Line, State, Ms, Room}
 use Rattle.xb_structs.specs.declared.row.PlainRow.{PlainRow}
-use Rattle.xb_structs.specs.declared.telling.PlainSignal.{PlainSignal}
+use Rattle.xb_structs.specs.declared.row_signals.PlainSignal.{PlainSignal}
 use Rattle.xb_structs.specs.declared.table.PlainTable.{PlainTable}
 use Rattle.xb_structs.specs.Lines.{pulse_in}
 use Rattle.xb_structs.specs.Rows.{row_in}
@@ -48,8 +48,9 @@ pub record Hears (plain : PlainTable) (line : PlainLine) (row : PlainRow) (room 
 abbrev pub IsWrong : PlainTable → PlainRow → Refusal → Type 0
 IsWrong table row refusal = IsOpen table × (row_in row ≡ Err refusal)
 
--- the row tells more than there is room for
+-- the row, by an open table, tells more than there is room for
 pub record LacksRoom (table : PlainTable) (row : PlainRow) (line : PlainLine) (room : ℕ) : Type 0 where
+  pub is_open : IsOpen table
   pub taken : LoopRow
   pub says : row_in row ≡ Ok taken
   pub less : room < length (signals_by (limits_in table) (pulse_in line.pulse) taken)

@@ -2,6 +2,7 @@
 use Rattle.std.specs.Prelude.{◌≡◌, ℕ, ◌+◌, ◌-◌, ◌^◌, ◌<◌, List, [], ◌∷◌, ◌++◌, Ok, Err, fold, length, map, min, take}
 use Rattle.std.specs.List.{AllByRecursion, count_by}
 use Rattle.xb_model.specs.declared.mark.Mark.{Mark}
+use Rattle.xb_model.specs.declared.stage.TheConstants.{MOST_OUTPUTS}
 use Rattle.xb_model.specs.declared.on.On.{On}
 use Rattle.xb_model.specs.Keyings.{is_ending}
 use Rattle.xb_model.specs.Rows.{LoopRow}
@@ -44,11 +45,13 @@ pub record HasTaken (table : Table) (line : PlainLine) (rows : List LoopRow) (ma
 abbrev pub IsWrongRow : PlainTable → PlainRow → Refusal → Type 0
 IsWrongRow table row refusal = IsOpen table × (row_in row ≡ Err refusal)
 
--- the row gives more marks than there is room for
-abbrev pub HasNoRoom : PlainTable → PlainRow → PlainLine → ℕ → Type 0
-HasNoRoom table row line room =
-    (held : Table) (taken : LoopRow) → Holds table held → row_in row ≡ Ok taken
-    → room < length (marks_of_row held (state_in line) taken)
+-- the row, by an open table, gives more marks than there is room for; 24 are always enough
+pub record HasNoRoom (plain : PlainTable) (row : PlainRow) (line : PlainLine) (room : ℕ) : Type 0 where
+  pub is_open : IsOpen plain
+  pub taken : LoopRow
+  pub says : row_in row ≡ Ok taken
+  pub few : room < MOST_OUTPUTS
+  pub less : (table : Table) → Holds plain table → room < length (marks_of_row table (state_in line) taken)
 
 -- when each refusal comes
 abbrev pub IsRefused : Refusal → PlainTable → PlainRow → PlainLine → ℕ → Type 0

@@ -1,6 +1,7 @@
 // What an outcome gives a line.
 ghost use Rattle.std.specs.Prelude.{◌≡◌, ◌<◌, ◌≤◌, List, IfOk, IfErr, OnErr, length};
 ghost use Rattle.std.specs.Option.{option_to_list};
+ghost use Rattle.xb_model.specs.declared.stage.TheConstants.{MOST_OUTPUTS};
 ghost use Rattle.xb_model.specs.Routing.{CodedRoute};
 ghost use Rattle.xb_structs.specs.Giving.{Gives, marks_of_outcomes};
 ghost use Rattle.xb_structs.specs.Routes.{AreRoutes};
@@ -29,6 +30,7 @@ pub(crate) fn give(
     ensures gives { IfOk result (λ count. (all : List CodedRoute) → AreRoutes routes.now all →
         Gives all number (option_to_list outcome) heard line.new room.new count) }
     ensures few { IfOk result (λ count. count ≤ length room.new) }
+    ensures enough { IfErr result (λ _. length room.old < MOST_OUTPUTS) }
     ensures refused { IfErr result (λ _. (all : List CodedRoute) → AreRoutes routes.now all →
         length room.old < length (marks_of_outcomes all (option_to_list outcome))) }
     ensures kept { OnErr result ((line.new ≡ line.old) × (room.new ≡ room.old)) }

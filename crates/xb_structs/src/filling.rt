@@ -1,10 +1,10 @@
 // A table that is filled by its values, where no memory is to be had and another reads the text.
-ghost use Rattle.std.specs.Prelude.{◌≡◌, ◌≤◌, ◌<◌, ◌≢◌, Ok, Err, IfOk, IfErr, OnOk, OnErr, length};
+ghost use Rattle.std.specs.Prelude.{◌≡◌, ◌≤◌, ◌<◌, Ok, Err, IfOk, IfErr, OnOk, OnErr, length};
 ghost use Rattle.std.specs.List.{insert};
 ghost use Rattle.xb_routes.specs.declared.table.TheConstants.{MOST_ROUTES};
 ghost use Rattle.xb_routes.specs.Keys.{keys_in};
 ghost use Rattle.xb_routes.specs.Table.{Table};
-ghost use Rattle.xb_structs.specs.Filling.{Adds, begun, next_route};
+ghost use Rattle.xb_structs.specs.Filling.{HasAdded, IsNotAdded, begun};
 ghost use Rattle.xb_structs.specs.Tables.{Holds};
 
 use crate::reading::put_routes;
@@ -54,14 +54,12 @@ fn with_route(
     all
 }
 
-/// Adds route `i` to a table, by the words of its keys. On an `Err` the table is as it was; `TooMany` comes
-/// where it has 1,000 routes.
+/// Adds route `i` to a table, by the words of its keys. On an `Err` the table is as it was. The first of these is
+/// returned: `Plan` where the table has none, `TooMany` where it has 1,000 routes, the first fault of the words, and
+/// `Twice` where an earlier route has the code.
 pub fn add(table: &mut PlainTable, i: u32, words: RouteWords<'_>) -> Result<(), RouteFault>
-    ensures added { OnOk result ((read : Table) → Holds table.old read →
-        Adds table.new (next_route read i (keys_in words.entry)) read) }
-    ensures refused { IfErr result (λ f. f ≢ RouteFault.TooMany → (read : Table) → Holds table.old read →
-        next_route read i (keys_in words.entry) ≡ Err f) }
-    ensures full { IfErr result (λ f. f ≡ RouteFault.TooMany → MOST_ROUTES ≤ table.old.count) }
+    ensures added { OnOk result (HasAdded table.old table.new i (keys_in words.entry)) }
+    ensures refused { IfErr result (λ f. IsNotAdded f table.old i (keys_in words.entry)) }
     ensures kept { OnErr result (table.new ≡ table.old) }
 {
     let Some(plan) = Plan::of_digits(table.plan) else {

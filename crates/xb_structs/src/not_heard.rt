@@ -15,6 +15,6 @@ pub enum NotHeard {
     Seized,
     /// The line is not seized.
     NotSeized,
-    /// There are more marks than there is room for.
+    /// There are more marks than there is room for. Room for 24 is always enough.
     Room,
 }

@@ -1,6 +1,7 @@
 // The keying of a number that is dialled on no line.
 ghost use Rattle.std.specs.Prelude.{◌≡◌, ◌≤◌, ◌<◌, Err, IfErr, IfOk, List, Ok, OnErr, length, map, take};
 ghost use Rattle.xb_model.specs.declared.dialled.Dialled.TheVariants.{Number};
+ghost use Rattle.xb_model.specs.declared.stage.TheConstants.{MOST_OUTPUTS};
 ghost use Rattle.xb_model.specs.Keyings.{marks_of};
 ghost use Rattle.xb_model.specs.Numbers.{reaches};
 ghost use Rattle.xb_model.specs.Plans.{plan_len};
@@ -17,16 +18,16 @@ use crate::table::{PlainTable, parts_of};
 use xb_model::{Dialled, Digit, LineNo, NumberDigits, Plan, plan_len};
 use xb_sender::marks_of;
 
-/// Why digits get no keying.
+/// Why digits get no keying. The first in this order is returned.
 #[derive(Clone, Copy, Debug, PartialEq, Eq)]
 pub enum NotRouted {
-    /// The table is none that was opened.
+    /// The table is none that was opened: its plan, its limits or the count of its routes is none.
     NotOpened,
     /// A digit is over 9, and no number is complete before it.
     Digit,
     /// The digits complete no number by the table's plan.
     Incomplete,
-    /// There are more marks than there is room for.
+    /// There are more marks than there is room for. Room for 24 is always enough.
     Room,
 }
 
@@ -68,7 +69,8 @@ fn put_keying(
     ensures marks { IfOk result (λ count. (all : List CodedRoute) → AreRoutes routes.now all →
         take count room.new ≡ map (mark_on 0) (marks_of (order_of all (Number number)))) }
     ensures few { IfOk result (λ count. count ≤ length room.new) }
-    ensures refused { IfErr result (λ why. (why ≡ Room) × ((all : List CodedRoute) → AreRoutes routes.now all →
+    ensures refused { IfErr result (λ why. (why ≡ Room) × (length room.old < MOST_OUTPUTS)
+        × ((all : List CodedRoute) → AreRoutes routes.now all →
         length room.old < length (marks_of (order_of all (Number number))))) }
     ensures kept { OnErr result (room.new ≡ room.old) }
 {

@@ -11,6 +11,6 @@ pub enum Refusal {
     State,
     /// The time is over 86,400,000 ms, or a close has one.
     Ms,
-    /// The row gives more marks than there is room for.
+    /// The row gives more marks, or signals, than there is room for. Room for 24 marks is always enough.
     Room,
 }

@@ -1,6 +1,7 @@
 // One row of one line.
 ghost use Rattle.std.specs.Prelude.{◌≡◌, ◌<◌, ◌≤◌, List, [], IfOk, IfErr, OnErr, length};
 ghost use Rattle.std.specs.Option.{option_to_list};
+ghost use Rattle.xb_model.specs.declared.stage.TheConstants.{MOST_OUTPUTS};
 ghost use Rattle.xb_model.specs.Routing.{CodedRoute};
 ghost use Rattle.xb_model.specs.OnLines.{on_line};
 ghost use Rattle.xb_routes.specs.Text.{table_by};
@@ -54,7 +55,8 @@ fn take_row(
     ensures takes { IfOk result (λ count. (all : List CodedRoute) → AreRoutes routes.now all →
         TakesRow (table_by all plan limits) line.old line.new row room.new count) }
     ensures few { IfOk result (λ count. count ≤ length room.new) }
-    ensures refused { IfErr result (λ f. (f ≡ Room) × ((all : List CodedRoute) → AreRoutes routes.now all →
+    ensures refused { IfErr result (λ f. (f ≡ Room) × (length room.old < MOST_OUTPUTS)
+        × ((all : List CodedRoute) → AreRoutes routes.now all →
         length room.old < length (marks_of_row (table_by all plan limits) (state_in line.old) row))) }
     ensures kept { OnErr result ((line.new ≡ line.old) × (room.new ≡ room.old)) }
 {

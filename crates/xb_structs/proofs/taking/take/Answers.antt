@@ -15,5 +15,5 @@ returns-clause-refused c =
     let parts = c.in-Some.parts in
     if-err _ _
     (λ f why. opened-refused c.args.table.now parts.plan parts.limits parts.routes.now c.in-Some.ensures.plan c.in-Some.ensures.limits c.in-Some.ensures.routes
-    c.args.row.now c.in_ok-row_of.field-0 c.args.line.now _ f (sym c.in_ok-row_of.ensures) why)
+    c.args.row.now c.in_ok-row_of.field-0 c.args.line.now _ f (c.in-Some.ensures.variant.0 refl) (sym c.in_ok-row_of.ensures) why)
     c.take_row.result c.take_row.ensures.refused

@@ -7,7 +7,7 @@ use Rattle.xb_structs.specs.Giving.{marks_of_outcomes}
 use Rattle.xb_structs.specs.Lines.{pulse_in, register_in}
 use Rattle.xb_structs.proofs.Giving.{if-err}
 use Rattle.xb_structs.proofs.HeardSignals.{hears_by}
-use Rattle.xb_structs.proofs.hearing.hear_signal.Goals as goal
+use Rattle.xb_structs.proofs.line_hearing.hear_signal.Goals as goal
 
 pub returns-clause-hears : goal.returns-clause-hears
 returns-clause-hears c =

@@ -2,13 +2,13 @@
 use crate::structs::{is_same, mark, opened};
 use std::process::Abort;
 use std::test::Fail;
-use xb_structs::{Heard, NotHeard, PlainLine, PlainMark, PlainTable, dialled, hear};
+use xb_structs::{HeardSignal, NotHeard, PlainLine, PlainMark, PlainTable, dialled, hear};
 
 // What line 7 gives for what was heard on it.
-fn tell(
+fn hear_on_seven(
     table: &PlainTable,
     line: &mut PlainLine,
-    heard: Heard,
+    heard: HeardSignal,
     room: &mut [PlainMark],
 ) -> Result<usize, NotHeard> {
     hear(table, line, 7, heard, room)
@@ -23,19 +23,19 @@ fn is_not_seized(
 ) {
     assert!(rt;
         matches!(
-            tell(table, line, Heard::Digit(0), room),
+            hear_on_seven(table, line, HeardSignal::Digit(0), room),
             Err(NotHeard::NotSeized)
         )
     );
     assert!(rt;
         matches!(
-            tell(table, line, Heard::TimeOut, room),
+            hear_on_seven(table, line, HeardSignal::TimeOut, room),
             Err(NotHeard::NotSeized)
         )
     );
     assert!(rt;
         matches!(
-            tell(table, line, Heard::Release, room),
+            hear_on_seven(table, line, HeardSignal::Release, room),
             Err(NotHeard::NotSeized)
         )
     );
@@ -47,8 +47,18 @@ fn keyed_by_its_last_digit(rt: HostRuntime) -> Result<(), Fail> {
     let mut line = PlainLine::new();
     let mut room = [mark(9, 9, 9, 9); 24];
     is_not_seized(&rt, &table, &mut line, &mut room);
-    assert!(rt; matches!(tell(&table, &mut line, Heard::Seizure, &mut room), Ok(0)));
-    assert!(rt; matches!(tell(&table, &mut line, Heard::Digit(0), &mut room), Ok(4)));
+    assert!(rt;
+        matches!(
+            hear_on_seven(&table, &mut line, HeardSignal::Seizure, &mut room),
+            Ok(0)
+        )
+    );
+    assert!(rt;
+        matches!(
+            hear_on_seven(&table, &mut line, HeardSignal::Digit(0), &mut room),
+            Ok(4)
+        )
+    );
     assert_eq!(rt; line.entries, 1);
     let keyed = [
         mark(0, 1, 0, 0),
@@ -68,15 +78,30 @@ fn refused_with_its_good_digits(rt: HostRuntime) -> Result<(), Fail> {
     let mut line = PlainLine::new();
     let mut room = [mark(9, 9, 9, 9); 24];
     let mut digits = [9; 10];
-    assert!(rt; matches!(tell(&table, &mut line, Heard::Seizure, &mut room), Ok(0)));
-    assert!(rt; matches!(tell(&table, &mut line, Heard::Digit(2), &mut room), Ok(0)));
-    assert!(rt; matches!(tell(&table, &mut line, Heard::Digit(3), &mut room), Ok(0)));
+    assert!(rt;
+        matches!(
+            hear_on_seven(&table, &mut line, HeardSignal::Seizure, &mut room),
+            Ok(0)
+        )
+    );
+    assert!(rt;
+        matches!(
+            hear_on_seven(&table, &mut line, HeardSignal::Digit(2), &mut room),
+            Ok(0)
+        )
+    );
+    assert!(rt;
+        matches!(
+            hear_on_seven(&table, &mut line, HeardSignal::Digit(3), &mut room),
+            Ok(0)
+        )
+    );
     assert_eq!(rt; dialled(&line, &mut digits), 2);
     assert_eq!(rt; digits[0], 2);
     assert_eq!(rt; digits[1], 3);
     assert!(rt;
         matches!(
-            tell(&table, &mut line, Heard::MutilatedDigit, &mut room),
+            hear_on_seven(&table, &mut line, HeardSignal::MutilatedDigit, &mut room),
             Ok(1)
         )
     );

@@ -1,6 +1,7 @@
 // What a caller hears on a line by itself, in place of the line's rows.
 ghost use Rattle.std.specs.Prelude.{◌≡◌, ◌<◌, ◌≤◌, List, IfOk, IfErr, OnErr, length};
 ghost use Rattle.xb_model.specs.declared.limits.Limits.{Limits as TableLimits};
+ghost use Rattle.xb_model.specs.declared.stage.TheConstants.{MOST_OUTPUTS};
 ghost use Rattle.xb_model.specs.Routing.{CodedRoute};
 ghost use Rattle.xb_routes.specs.Text.{table_by};
 ghost use Rattle.xb_serial.specs.Entrances.{marks_of_signal};
@@ -9,7 +10,7 @@ ghost use Rattle.xb_structs.specs.Lines.{pulse_in, register_in};
 ghost use Rattle.xb_structs.specs.Routes.{AreRoutes};
 
 use crate::entry::{NoRoom, give};
-use crate::heard::{Heard, signal_of};
+use crate::heard_signal::{HeardSignal, signal_of};
 use crate::line::{PlainLine, PulsePart, RegisterPart, pulse_of, register_of, register_part};
 use crate::mark::PlainMark;
 use crate::not_heard::NotHeard;
@@ -39,15 +40,15 @@ fn is_seized(part: &RegisterPart) -> bool
 }
 
 // Whether what is heard fits the line as it stands.
-fn is_fit(line: &PlainLine, heard: Heard) -> Result<(), NotHeard>
+fn is_fit(line: &PlainLine, heard: HeardSignal) -> Result<(), NotHeard>
     ensures { result ≡ is_fit line.now heard }
 {
     if is_closed(&line.pulse) {
         return Err(NotHeard::Closed);
     }
     match (heard, is_seized(&line.register)) {
-        (Heard::Seizure, true) => Err(NotHeard::Seized),
-        (Heard::Seizure, false) | (_, true) => Ok(()),
+        (HeardSignal::Seizure, true) => Err(NotHeard::Seized),
+        (HeardSignal::Seizure, false) | (_, true) => Ok(()),
         (_, false) => Err(NotHeard::NotSeized),
     }
 }
@@ -65,6 +66,7 @@ fn hear_signal(
         AreRoutes routes.now all →
         HearsSignal (table_by all plan limits) number line.old line.new signal room.new count) }
     ensures few { IfOk result (λ count. count ≤ length room.new) }
+    ensures enough { IfErr result (λ _. length room.old < MOST_OUTPUTS) }
     ensures refused { IfErr result (λ _. (all : List CodedRoute) (limits : TableLimits) →
         AreRoutes routes.now all → length room.old
         < length (marks_of_signal (table_by all plan limits) (register_in line.old.register) signal)) }
@@ -84,7 +86,7 @@ pub fn hear(
     table: &PlainTable,
     line: &mut PlainLine,
     number: u32,
-    heard: Heard,
+    heard: HeardSignal,
     room: &mut [PlainMark],
 ) -> Result<usize, NotHeard>
     ensures hears { IfOk result (Hears table.now number line.old line.new heard room.new) }

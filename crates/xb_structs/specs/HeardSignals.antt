@@ -5,8 +5,8 @@ use Rattle.xb_model.specs.declared.signal.Signal.{Signal}
 use Rattle.xb_model.specs.declared.signal.Signal.TheVariants as signal
 use Rattle.xb_model.specs.declared.signal.TheConstants.{MOST_PULSES}
 use Rattle.xb_model.specs.Numbers.{digit_of_count}
-use Rattle.xb_structs.specs.declared.heard.Heard.{Heard}
-use Rattle.xb_structs.specs.declared.heard.Heard.TheVariants.{Seizure, Digit, MutilatedDigit, TimeOut, Release}
+use Rattle.xb_structs.specs.declared.heard_signal.HeardSignal.{HeardSignal}
+use Rattle.xb_structs.specs.declared.heard_signal.HeardSignal.TheVariants.{Seizure, Digit, MutilatedDigit, TimeOut, Release}
 
 -- the pulses of a digit, 10 for 0
 abbrev pub pulses_of : ℕ → ℕ
@@ -18,7 +18,7 @@ digit_signal None = signal.Digit 0 true
 digit_signal (Some digit) = signal.Digit (pulses_of digit) false
 
 -- what the register is told; nothing of a digit over 9
-abbrev pub signal_in : Heard → Option Signal
+abbrev pub signal_in : HeardSignal → Option Signal
 signal_in Seizure = Some signal.Seize
 signal_in (Digit digit) = if nat_lt digit DIGITS then Some (digit_signal (Some digit)) else None
 signal_in MutilatedDigit = Some (digit_signal None)

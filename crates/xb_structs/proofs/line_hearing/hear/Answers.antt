@@ -1,17 +1,23 @@
 use Rattle.std.proofs.Common.{◌≡◌, ◌∙◌, Some, ap, sym, subst, refl, length, rules}
 use Rattle.std.specs.Prelude.{Err, IfErr}
 use Rattle.xb_routes.specs.Text.{table_by}
-use Rattle.xb_structs.specs.Hearing.{HearsSignal, IsNotHeard}
+use Rattle.xb_structs.specs.Hearing.{HearsSignal, IsNotHeard, IsSignal}
 use Rattle.xb_structs.specs.Rows.{line_in}
 use Rattle.xb_structs.proofs.HeardSignals.{line_is, opened-hears, opened-lacks, unfit}
-use Rattle.xb_structs.proofs.hearing.hear.Goals as goal
+use Rattle.xb_structs.proofs.line_hearing.hear.Goals as goal
 
 pub returns-in_err-is_fit-clause-refused : goal.returns-in_err-is_fit-clause-refused
 returns-in_err-is_fit-clause-refused c =
-    let is_open = c.in-Some.ensures.variant.0 refl in
+    let line : line_in c.args.number ≡ Some c.in-Some-line_of.number = sym c.line_of.ensures ∙ c.in-Some-line_of.is in
+    let is : IsSignal c.args.table.now c.args.number c.args.heard = record {
+      is_open = c.in-Some.ensures.variant.0 refl;
+      line = line ∙ ap Some (line_is c.args.number c.in-Some-line_of.number line);
+      signal = c.in-Some-signal_of.signal;
+      says = sym c.signal_of.ensures ∙ c.in-Some-signal_of.is;
+    } in
     let fault : c.from_residual.result ≡ Err c.in_err-is_fit.field-0.0 = search rules in
     subst (λ r. IfErr r (λ f. IsNotHeard f c.args.table.now c.args.number c.args.line.now c.args.heard (length c.args.room.now))) (sym fault)
-    (unfit c.args.table.now c.args.number c.args.line.now c.args.heard (length c.args.room.now) c.in_err-is_fit.field-0.0 is_open (sym c.is_fit.ensures ∙ c.in_err-is_fit.was))
+    (unfit c.args.table.now c.args.number c.args.line.now c.args.heard (length c.args.room.now) c.in_err-is_fit.field-0.0 is (sym c.is_fit.ensures ∙ c.in_err-is_fit.was))
 
 pub returns-in-Ok-clause-hears : goal.returns-in-Ok-clause-hears
 returns-in-Ok-clause-hears c =
@@ -25,5 +31,12 @@ returns-in-Ok-clause-hears c =
 
 pub returns-in-Err-clause-refused : goal.returns-in-Err-clause-refused
 returns-in-Err-clause-refused c =
+    let line : line_in c.args.number ≡ Some c.in-Some-line_of.number = sym c.line_of.ensures ∙ c.in-Some-line_of.is in
+    let is : IsSignal c.args.table.now c.args.number c.args.heard = record {
+      is_open = c.in-Some.ensures.variant.0 refl;
+      line = line ∙ ap Some (line_is c.args.number c.in-Some-line_of.number line);
+      signal = c.in-Some-signal_of.signal;
+      says = sym c.signal_of.ensures ∙ c.in-Some-signal_of.is;
+    } in
     opened-lacks c.args.table.now c.in-Some.parts.plan c.in-Some.parts.routes.now c.in-Some.ensures.plan c.in-Some.ensures.routes
-    c.args.line.now c.args.heard c.in-Some-signal_of.signal _ (sym c.signal_of.ensures ∙ c.in-Some-signal_of.is) c.in-Err.ensures.refused
+    c.args.number c.args.line.now c.args.heard _ is (sym c.is_fit.ensures ∙ c.in_ok-is_fit.was) c.in-Err.ensures.enough c.in-Err.ensures.refused

@@ -1,11 +1,11 @@
 // What C tells of a line that it hears by itself.
 ghost use Rattle.std.specs.Prelude.{◌≡◌, ◌≢◌, ◌≤◌, take};
-ghost use Rattle.xb_structs.specs.declared.heard.Heard.TheVariants as heard;
+ghost use Rattle.xb_structs.specs.declared.heard_signal.HeardSignal.TheVariants as heard;
 ghost use Rattle.xb_structs.specs.Hearing.{digits_so_far};
 ghost use Rattle.xb_structs.specs.Lines.{register_in};
-ghost use Rattle.mfchain.specs.Told.{IsNotTold, IsTold, not_heard_status};
+ghost use Rattle.mfchain.specs.LineSignals.{IsNotHeard, IsHeard, not_heard_status};
 
-use xb_structs::{DONE, Heard, NotHeard, PlainLine, PlainMark, PlainTable, dialled, hear};
+use xb_structs::{DONE, HeardSignal, NotHeard, PlainLine, PlainMark, PlainTable, dialled, hear};
 
 // The status of what is not heard.
 fn not_heard_status(why: NotHeard) -> u32
@@ -24,17 +24,17 @@ fn not_heard_status(why: NotHeard) -> u32
 }
 
 // Takes what was heard on a line as `hear` does, and answers by a status.
-fn tell(
+fn hear_by_status(
     table: &PlainTable,
     line: &mut PlainLine,
     number: u32,
-    heard: Heard,
+    heard: HeardSignal,
     room: &mut [PlainMark],
     count: &mut usize,
 ) -> u32
-    ensures hears { result ≡ 0 → IsTold table.now line.old line.new number heard room.new count.new }
+    ensures hears { result ≡ 0 → IsHeard table.now line.old line.new number heard room.new count.new }
     ensures refuses { result ≢ 0 →
-        IsNotTold table.now line.old line.new number heard room.old room.new count.new result }
+        IsNotHeard table.now line.old line.new number heard room.old room.new count.new result }
 {
     *count = 0;
     match hear(table, line, number, heard, room) {
@@ -57,11 +57,11 @@ pub extern "C" fn mfchain_seize(
     count: &mut usize,
 ) -> u32
     ensures hears { result ≡ 0 →
-        IsTold table.now line.old line.new number heard.Seizure room.new count.new }
+        IsHeard table.now line.old line.new number heard.Seizure room.new count.new }
     ensures refuses { result ≢ 0 →
-        IsNotTold table.now line.old line.new number heard.Seizure room.old room.new count.new result }
+        IsNotHeard table.now line.old line.new number heard.Seizure room.old room.new count.new result }
 {
-    tell(table, line, number, Heard::Seizure, room, count)
+    hear_by_status(table, line, number, HeardSignal::Seizure, room, count)
 }
 
 /// Takes a digit that was dialled on a line, 0 to 9, as `mfchain_seize` does.
@@ -75,11 +75,11 @@ pub extern "C" fn mfchain_digit(
     count: &mut usize,
 ) -> u32
     ensures hears { result ≡ 0 →
-        IsTold table.now line.old line.new number (heard.Digit digit) room.new count.new }
+        IsHeard table.now line.old line.new number (heard.Digit digit) room.new count.new }
     ensures refuses { result ≢ 0 →
-        IsNotTold table.now line.old line.new number (heard.Digit digit) room.old room.new count.new result }
+        IsNotHeard table.now line.old line.new number (heard.Digit digit) room.old room.new count.new result }
 {
-    tell(table, line, number, Heard::Digit(digit), room, count)
+    hear_by_status(table, line, number, HeardSignal::Digit(digit), room, count)
 }
 
 /// Takes it that a digit was dialled which cannot be told, as `mfchain_seize` does.
@@ -92,11 +92,18 @@ pub extern "C" fn mfchain_mutilated_digit(
     count: &mut usize,
 ) -> u32
     ensures hears { result ≡ 0 →
-        IsTold table.now line.old line.new number heard.MutilatedDigit room.new count.new }
+        IsHeard table.now line.old line.new number heard.MutilatedDigit room.new count.new }
     ensures refuses { result ≢ 0 →
-        IsNotTold table.now line.old line.new number heard.MutilatedDigit room.old room.new count.new result }
+        IsNotHeard table.now line.old line.new number heard.MutilatedDigit room.old room.new count.new result }
 {
-    tell(table, line, number, Heard::MutilatedDigit, room, count)
+    hear_by_status(
+        table,
+        line,
+        number,
+        HeardSignal::MutilatedDigit,
+        room,
+        count,
+    )
 }
 
 /// Takes it that nothing was dialled for too long, as `mfchain_seize` does.
@@ -109,11 +116,11 @@ pub extern "C" fn mfchain_time_out(
     count: &mut usize,
 ) -> u32
     ensures hears { result ≡ 0 →
-        IsTold table.now line.old line.new number heard.TimeOut room.new count.new }
+        IsHeard table.now line.old line.new number heard.TimeOut room.new count.new }
     ensures refuses { result ≢ 0 →
-        IsNotTold table.now line.old line.new number heard.TimeOut room.old room.new count.new result }
+        IsNotHeard table.now line.old line.new number heard.TimeOut room.old room.new count.new result }
 {
-    tell(table, line, number, Heard::TimeOut, room, count)
+    hear_by_status(table, line, number, HeardSignal::TimeOut, room, count)
 }
 
 /// Takes it that a line is released, as `mfchain_seize` does.
@@ -126,11 +133,11 @@ pub extern "C" fn mfchain_release(
     count: &mut usize,
 ) -> u32
     ensures hears { result ≡ 0 →
-        IsTold table.now line.old line.new number heard.Release room.new count.new }
+        IsHeard table.now line.old line.new number heard.Release room.new count.new }
     ensures refuses { result ≢ 0 →
-        IsNotTold table.now line.old line.new number heard.Release room.old room.new count.new result }
+        IsNotHeard table.now line.old line.new number heard.Release room.old room.new count.new result }
 {
-    tell(table, line, number, Heard::Release, room, count)
+    hear_by_status(table, line, number, HeardSignal::Release, room, count)
 }
 
 /// The digits so far of an attempt that has no outcome yet, for lamps: they are written to the front of `digits`,

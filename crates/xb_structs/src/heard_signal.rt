@@ -1,12 +1,12 @@
 // What a caller hears on a line by itself.
 ghost use Rattle.std.specs.Prelude.{◌≡◌};
-ghost use Rattle.xb_structs.specs.Heard.{pulses_of, signal_in};
+ghost use Rattle.xb_structs.specs.HeardSignals.{pulses_of, signal_in};
 
 use xb_model::{Digit, MOST_PULSES, Signal};
 
 /// What a caller hears on a line by itself, as one does that has digits from a telephone network.
 #[derive(Clone, Copy)]
-pub enum Heard {
+pub enum HeardSignal {
     /// The line is seized: a call attempt begins.
     Seizure,
     /// A digit, 0 to 9.
@@ -31,17 +31,17 @@ fn pulses_of(digit: Digit) -> u8
 }
 
 /// What the register is told of it; `None` for a digit over 9.
-pub(crate) fn signal_of(heard: Heard) -> Option<Signal>
+pub(crate) fn signal_of(heard: HeardSignal) -> Option<Signal>
     ensures { result ≡ signal_in heard }
 {
     match heard {
-        Heard::Seizure => Some(Signal::Seize),
-        Heard::Digit(value) => match Digit::new(value) {
+        HeardSignal::Seizure => Some(Signal::Seize),
+        HeardSignal::Digit(value) => match Digit::new(value) {
             Some(digit) => Some(Signal::Digit(pulses_of(digit), false)),
             None => None,
         },
-        Heard::MutilatedDigit => Some(Signal::Digit(0, true)),
-        Heard::TimeOut => Some(Signal::TimeOut),
-        Heard::Release => Some(Signal::Release),
+        HeardSignal::MutilatedDigit => Some(Signal::Digit(0, true)),
+        HeardSignal::TimeOut => Some(Signal::TimeOut),
+        HeardSignal::Release => Some(Signal::Release),
     }
 }

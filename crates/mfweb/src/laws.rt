@@ -1,0 +1,9 @@
+//! The numbers by which a page knows what the module answers.
+ghost use Rattle.std.specs.Prelude.{◌≡◌};
+ghost use Rattle.mfweb.specs.declared.status.TheConstants.{NO_CODE, NO_EAR};
+
+/// The statuses that the calls of other libraries do not have.
+pub fn constants()
+    ensures no_code { NO_CODE ≡ 20 }
+    ensures no_ear { NO_EAR ≡ 21 }
+{}
