@@ -1,7 +1,7 @@
 // Pages that are joined, and pages that are damaged or out of their place, written by hand.
 use std::alloc::Global;
 use std::test::Fail;
-use xb_join::{Damage, JoinFault, Joiner, PartPage, join_pages};
+use xb_join::{Damage, Joiner, PartPage, PartsFault, join_pages};
 use xb_model::LINES;
 use xb_parts::LineRange;
 
@@ -25,7 +25,7 @@ KEYED 2 REFUSED 2\n";
 type Named = (u16, u16, &'static [u8]);
 
 // What pages make.
-fn join(alloc: Global, named: &[Named]) -> Result<Vec<u8>, JoinFault> {
+fn join(alloc: Global, named: &[Named]) -> Result<Vec<u8>, PartsFault> {
     let mut parts = Vec::new(alloc);
     for (first, end, page) in named {
         let lines = LineRange {
@@ -34,7 +34,7 @@ fn join(alloc: Global, named: &[Named]) -> Result<Vec<u8>, JoinFault> {
         };
         parts
             .push(PartPage { lines, page })
-            .map_err(|_| JoinFault::NoMemory)?;
+            .map_err(|_| PartsFault::NoMemory)?;
     }
     join_pages(alloc, &parts)
 }
@@ -63,22 +63,22 @@ fn parts_are_joined(rt: HostRuntime) -> Result<(), Fail> {
 }
 
 // Parts that are missing or out of their place, and pages of other lines.
-const APART: &[(&[Named], JoinFault)] = &[
-    (&[], JoinFault::Missing(0)),
-    (&[(0, 8, FIRST)], JoinFault::Missing(8)),
-    (&[(0, 9_999, FIRST)], JoinFault::Missing(9_999)),
-    (&[(0, 8, FIRST), (9_999, LINES, LAST)], JoinFault::Lines(2)),
-    (&[(8, LINES, LAST)], JoinFault::Lines(1)),
-    (&[(8, LINES, LAST), (0, 8, FIRST)], JoinFault::Lines(1)),
+const APART: &[(&[Named], PartsFault)] = &[
+    (&[], PartsFault::Missing(0)),
+    (&[(0, 8, FIRST)], PartsFault::Missing(8)),
+    (&[(0, 9_999, FIRST)], PartsFault::Missing(9_999)),
+    (&[(0, 8, FIRST), (9_999, LINES, LAST)], PartsFault::Lines(2)),
+    (&[(8, LINES, LAST)], PartsFault::Lines(1)),
+    (&[(8, LINES, LAST), (0, 8, FIRST)], PartsFault::Lines(1)),
     (
         &[(0, 8, FIRST), (0, 8, FIRST), (8, LINES, LAST)],
-        JoinFault::Lines(2),
+        PartsFault::Lines(2),
     ),
-    (&[(0, 9, FIRST), (8, LINES, LAST)], JoinFault::Lines(2)),
-    (&[(0, LINES + 1, WHOLE)], JoinFault::Lines(1)),
-    (&[(0, 8, FIRST), (8, 7, NONE)], JoinFault::Lines(2)),
-    (&[(0, 8, LAST), (8, LINES, FIRST)], JoinFault::PastEnd(1)),
-    (&[(0, 7, FIRST), (7, LINES, NONE)], JoinFault::PastEnd(1)),
+    (&[(0, 9, FIRST), (8, LINES, LAST)], PartsFault::Lines(2)),
+    (&[(0, LINES + 1, WHOLE)], PartsFault::Lines(1)),
+    (&[(0, 8, FIRST), (8, 7, NONE)], PartsFault::Lines(2)),
+    (&[(0, 8, LAST), (8, LINES, FIRST)], PartsFault::PastEnd(1)),
+    (&[(0, 7, FIRST), (7, LINES, NONE)], PartsFault::PastEnd(1)),
 ];
 
 #[test]
@@ -98,8 +98,8 @@ fn joiner_goes_on_after_a_fault(rt: HostRuntime) {
     };
     let mut joiner = Joiner::new();
     let cut = joiner.take(all, &WHOLE[..40]).err();
-    assert_eq!(rt; cut, Some(JoinFault::Part(1, Damage::NoTotals)));
-    assert_eq!(rt; joiner.totals(alloc).err(), Some(JoinFault::Missing(0)));
+    assert_eq!(rt; cut, Some(PartsFault::Part(1, Damage::NoTotals)));
+    assert_eq!(rt; joiner.totals(alloc).err(), Some(PartsFault::Missing(0)));
     let entries = joiner.take(all, WHOLE).expect(&rt, "a sound page");
     assert_eq!(rt; entries.len() + "KEYED 2 REFUSED 2\n".len(), WHOLE.len());
     let totals = joiner.totals(alloc).expect(&rt, "all lines");
@@ -112,7 +112,7 @@ fn cut_pages(rt: HostRuntime) {
     let alloc = rt.alloc();
     for length in 0..WHOLE.len() {
         let cut = join(alloc, &[(0, LINES, &WHOLE[..length])]).err();
-        assert_eq!(rt; cut, Some(JoinFault::Part(1, Damage::NoTotals)));
+        assert_eq!(rt; cut, Some(PartsFault::Part(1, Damage::NoTotals)));
     }
 }
 
@@ -174,55 +174,55 @@ const DAMAGED: &[(&[u8], Damage)] = &[
 fn names_each_damage(rt: HostRuntime) {
     for (page, damage) in DAMAGED {
         let parts = [(0, 8, FIRST), (8, LINES, *page)];
-        let wanted = JoinFault::Part(2, *damage);
+        let wanted = PartsFault::Part(2, *damage);
         let got = join(rt.alloc(), &parts).err();
         assert_eq!(rt; got, Some(wanted), "{}", page.escape_ascii());
     }
 }
 
 // Faults, and their words.
-const WORDS: &[(JoinFault, &str)] = &[
+const WORDS: &[(PartsFault, &str)] = &[
     (
-        JoinFault::Lines(2),
+        PartsFault::Lines(2),
         "part 2: its lines do not follow those of the part before",
     ),
     (
-        JoinFault::Part(2, Damage::NoTotals),
+        PartsFault::Part(2, Damage::NoTotals),
         "part 2: the page ends without its totals",
     ),
     (
-        JoinFault::Part(2, Damage::WrongTotals),
+        PartsFault::Part(2, Damage::WrongTotals),
         "part 2: the totals are not those of the entries",
     ),
     (
-        JoinFault::Part(2, Damage::GoesOn),
+        PartsFault::Part(2, Damage::GoesOn),
         "part 2: the page goes on after its totals",
     ),
     (
-        JoinFault::Part(2, Damage::NoEntry(7)),
+        PartsFault::Part(2, Damage::NoEntry(7)),
         "part 2: line 7 is no entry",
     ),
     (
-        JoinFault::Part(2, Damage::WrongKey(7)),
+        PartsFault::Part(2, Damage::WrongKey(7)),
         "part 2: line 7 has a wrong trunk group or key",
     ),
     (
-        JoinFault::Part(2, Damage::WrongRefusal(7)),
+        PartsFault::Part(2, Damage::WrongRefusal(7)),
         "part 2: line 7 has a wrong refusal",
     ),
     (
-        JoinFault::Part(2, Damage::OutOfOrder(7)),
+        PartsFault::Part(2, Damage::OutOfOrder(7)),
         "part 2: line 7 is out of its order",
     ),
     (
-        JoinFault::Part(2, Damage::Overlaps),
+        PartsFault::Part(2, Damage::Overlaps),
         "part 2: the first line belongs to an earlier part",
     ),
     (
-        JoinFault::PastEnd(2),
+        PartsFault::PastEnd(2),
         "part 2: the page has a line of a later part",
     ),
-    (JoinFault::Missing(250), "no part has line 250"),
+    (PartsFault::Missing(250), "no part has line 250"),
 ];
 
 #[test]

@@ -8,8 +8,8 @@ use Rattle.xb_page.specs.PageLines.{Read, read_page}
 use Rattle.xb_page.specs.Sheets.{Sheet, followed_by, joined_sheets, no_entries, sheet_text}
 use Rattle.xb_page.proofs.LineSheets.{followed_by-assoc, no_entries-first, no_entries-last}
 use Rattle.xb_page.proofs.ReadSheets.{accepted_page}
-use Rattle.xb_join.specs.declared.join_fault.JoinFault.{JoinFault}
-use Rattle.xb_join.specs.declared.join_fault.JoinFault.TheVariants as fault
+use Rattle.xb_join.specs.declared.parts_fault.PartsFault.{PartsFault}
+use Rattle.xb_join.specs.declared.parts_fault.PartsFault.TheVariants as fault
 use Rattle.xb_join.specs.Joining.{Given, JoinedPartsAreWhole, TakeLines, goes_on_from, join_from, or_fault, sheet_given, sheet_within}
 
 -- what a part that is taken gives: its lines go on from the line, and its page is the text of its sheet
@@ -70,7 +70,7 @@ sheets_of number line before (part ∷ parts) page e =
     at (sheet_given number line part.lines part.page) refl
     (λ here. sheets_of (number + 1) part.lines.end (followed_by before here) parts page) e
   where
-    at : (found : Result Sheet JoinFault) → sheet_given number line part.lines part.page ≡ found
+    at : (found : Result Sheet PartsFault) → sheet_given number line part.lines part.page ≡ found
         → ((here : Sheet) → join_from (number + 1) part.lines.end (followed_by before here) parts ≡ Ok page
         → AreSheetsOf part.lines.end parts (followed_by before here) page)
         → or_fault found (λ here. join_from (number + 1) part.lines.end (followed_by before here) parts) ≡ Ok page

@@ -16,14 +16,14 @@ use Rattle.xb_page.specs.Sheets.{Sheet, followed_by, joined_sheets, no_entries, 
 use Rattle.xb_page.proofs.LineSheets.{followed_by-assoc, no_entries-first, no_entries-last}
 use Rattle.xb_page.proofs.ReadEntries.{Reads, Reads-lines, Ready-start, line_after-ready, line_after-up}
 use Rattle.xb_page.proofs.ReadSheets.{read_sheet}
-use Rattle.xb_join.specs.declared.join_fault.JoinFault.{JoinFault}
-use Rattle.xb_join.specs.declared.join_fault.JoinFault.TheVariants as fault
+use Rattle.xb_join.specs.declared.parts_fault.PartsFault.{PartsFault}
+use Rattle.xb_join.specs.declared.parts_fault.PartsFault.TheVariants as fault
 use Rattle.xb_join.specs.Joining.{BlamesNoPart, Given, IsFaultOf, MakesTheWhole, PartsMakeTheWhole, given_part, join_from, join_of, or_fault, sheet_given, sheet_within}
 use Rattle.xb_join.specs.PartPages.{part_page, part_sheet}
 use Rattle.xb_join.proofs.TapeMarks.{joined_tape-marks}
 use Rattle.xb_join.proofs.JoinedParts.{AreParts-le, part_sheet-lines, sheet_of-parts, tape_in}
 
-abbrev ok_text : Sheet → Result (List ℕ) JoinFault
+abbrev ok_text : Sheet → Result (List ℕ) PartsFault
 ok_text sheet = Ok (sheet_text sheet)
 
 module _ (plan : Plan) (limits : Limits) (routes : List CodedRoute) (as_had : AreRoutes routes) where
@@ -71,7 +71,7 @@ module _ (plan : Plan) (limits : Limits) (routes : List CodedRoute) (as_had : Ar
       let within : part.end ≤ LINES = AreParts-le plan limits routes rows part.end LINES parts are.3 in
       let here : Sheet = part_sheet plan limits routes part in
       let later = map (given_part plan limits routes) parts in
-      ap (λ (r : Result Sheet JoinFault). or_fault r (λ s. join_from (number + 1) part.end (followed_by sheet s) later))
+      ap (λ (r : Result Sheet PartsFault). or_fault r (λ s. join_from (number + 1) part.end (followed_by sheet s) later))
       (given-part number from rows part are.0 are.1 within are.2)
       ∙ join_from-parts (number + 1) rows part.end (followed_by sheet here) parts are.3
       ∙ ap (λ (s : Sheet). ok_text s) (followed_by-assoc sheet here (joined_sheets (map (part_sheet plan limits routes) parts)))
@@ -91,13 +91,13 @@ makes_the_whole given page e = λ plan limits routes rows parts as_had are same.
     cc
 
 -- and no fault of theirs
-pub blames_no_part : (given : List Given) (f : JoinFault) → IsFaultOf (join_of given) f → BlamesNoPart given f
+pub blames_no_part : (given : List Given) (f : PartsFault) → IsFaultOf (join_of given) f → BlamesNoPart given f
 blames_no_part given f is = λ plan limits routes rows parts as_had are same.
     let whole : join_of given ≡ Ok (page_text (tapes_of plan limits routes rows))
     = ap join_of same ∙ parts_make_the_whole plan limits routes rows parts as_had are in
     at f is whole
   where
-    at : (f : JoinFault) → IsFaultOf (join_of given) f → {page : List ℕ} → join_of given ≡ Ok page → f ≡ fault.NoMemory
+    at : (f : PartsFault) → IsFaultOf (join_of given) f → {page : List ℕ} → join_of given ≡ Ok page → f ≡ fault.NoMemory
     at fault.NoMemory is whole = refl
     at (fault.Lines number) is whole = cc
     at (fault.Part number d) is whole = cc

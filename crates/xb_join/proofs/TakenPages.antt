@@ -13,14 +13,14 @@ use Rattle.xb_page.specs.declared.fault.PageFault.{PageFault}
 use Rattle.xb_page.specs.PageLines.{Read, read_page}
 use Rattle.xb_page.specs.Sheets.{Sheet, followed_by, joined_sheets, no_entries, sheet_text}
 use Rattle.xb_page.proofs.LineSheets.{followed_by-assoc, no_entries-first, no_entries-last}
-use Rattle.xb_join.specs.declared.join_fault.JoinFault.{JoinFault}
+use Rattle.xb_join.specs.declared.parts_fault.PartsFault.{PartsFault}
 use Rattle.xb_join.specs.Given.{PagesMakeTheWhole, given_from}
 use Rattle.xb_join.specs.Joining.{given_with, join_from, lines_by, or_fault, sheet_given, sheet_within}
 use Rattle.xb_join.specs.PartPages.{part_page, part_sheet}
 use Rattle.xb_join.proofs.JoinedPages.{read_part}
 use Rattle.xb_join.proofs.JoinedParts.{AreParts-le, sheet_of-parts}
 
-abbrev ok_text : Sheet → Result (List ℕ) JoinFault
+abbrev ok_text : Sheet → Result (List ℕ) PartsFault
 ok_text sheet = Ok (sheet_text sheet)
 
 abbrev range_of : ℕ → ℕ → LineRange
@@ -46,7 +46,7 @@ module _ (plan : Plan) (limits : Limits) (routes : List CodedRoute) (as_had : Ar
       let within : part.end ≤ LINES = AreParts-le plan limits routes rows part.end LINES [] are.3 in
       let here : Sheet = part_sheet plan limits routes part in
       let read = read_part plan limits routes as_had rows part line (omega arith) (omega arith) within are.2 in
-      ap (λ (r : Result Sheet JoinFault). or_fault r (λ s. join_from (number + 1) LINES (followed_by sheet s) []))
+      ap (λ (r : Result Sheet PartsFault). or_fault r (λ s. join_from (number + 1) LINES (followed_by sheet s) []))
       (taken number line LINES read.0 part (omega arith) (omega arith) (omega (arith, read.2)) read.1)
       ∙ ap (λ (s : Sheet). ok_text (followed_by sheet s)) (sym (no_entries-last here))
   from_pages number rows from line sheet part (next ∷ parts) are low =
@@ -57,7 +57,7 @@ module _ (plan : Plan) (limits : Limits) (routes : List CodedRoute) (as_had : Ar
       let read = read_part plan limits routes as_had rows part line (omega arith) (omega arith) within are.2 in
       ap (λ (r : Result Read PageFault). join_from number line sheet
       (given_with (lines_by line r) page ∷ given_from (lines_by line r).end pages)) read.1
-      ∙ ap (λ (r : Result Sheet JoinFault). or_fault r
+      ∙ ap (λ (r : Result Sheet PartsFault). or_fault r
       (λ s. join_from (number + 1) read.0 (followed_by sheet s) (given_from read.0 pages)))
       (taken number line read.0 read.0 part read.3 (omega (arith, read.2)) (omega arith) read.1)
       ∙ from_pages (number + 1) rows part.end read.0 (followed_by sheet here) next parts are.3 read.2

@@ -13,8 +13,8 @@ use Rattle.xb_join.specs.PartPages.{part_page}
 use Rattle.xb_page.specs.declared.fault.PageFault.{PageFault}
 use Rattle.xb_page.specs.declared.fault.PageFault.TheVariants as page
 use Rattle.xb_join.specs.declared.damage.Damage.TheVariants as damage
-use Rattle.xb_join.specs.declared.join_fault.JoinFault.{JoinFault}
-use Rattle.xb_join.specs.declared.join_fault.JoinFault.TheVariants as fault
+use Rattle.xb_join.specs.declared.parts_fault.PartsFault.{PartsFault}
+use Rattle.xb_join.specs.declared.parts_fault.PartsFault.TheVariants as fault
 use Rattle.xb_join.specs.declared.pages.PartPage.{PartPage}
 use Rattle.xb_page.specs.PageLines.{Read, read_page}
 use Rattle.xb_page.specs.Sheets.{Sheet, followed_by, joined_sheets, no_entries, sheet_text}
@@ -34,12 +34,12 @@ given_of part = given_with part.lines part.page.now
 abbrev pub goes_on_from : ℕ → LineRange → Bool
 goes_on_from line lines = lines.first == line && nat_le line lines.end && nat_le lines.end LINES
 
-abbrev pub or_fault : {A : Type 0} → Result Sheet JoinFault → (Sheet → Result A JoinFault) → Result A JoinFault
+abbrev pub or_fault : {A : Type 0} → Result Sheet PartsFault → (Sheet → Result A PartsFault) → Result A PartsFault
 or_fault (Err f) next = Err f
 or_fault (Ok sheet) next = next sheet
 
 -- what is wrong with the page of the part of this number
-abbrev pub fault_of_page : ℕ → PageFault → JoinFault
+abbrev pub fault_of_page : ℕ → PageFault → PartsFault
 fault_of_page number page.NoMemory = fault.NoMemory
 fault_of_page number (page.Line n) = fault.Part number (damage.NoEntry n)
 fault_of_page number (page.Early n) = fault.Part number (if n == 1 then damage.Overlaps else damage.OutOfOrder n)
@@ -52,26 +52,26 @@ fault_of_page number (page.NoTotals n) = fault.Part number damage.NoTotals
 fault_of_page number (page.GoesOn n) = fault.Part number damage.GoesOn
 
 -- the sheet of a page that is whole and has no line from `end` on
-abbrev pub sheet_within : ℕ → ℕ → Result Read PageFault → Result Sheet JoinFault
+abbrev pub sheet_within : ℕ → ℕ → Result Read PageFault → Result Sheet PartsFault
 sheet_within number end (Err f) = Err (fault_of_page number f)
 sheet_within number end (Ok read) =
     if nat_lt end read.next_line then Err (fault.PastEnd number) else Ok read.sheet
 
 -- the sheet of the part of this number, the lines before which end before `line`
-abbrev pub sheet_given : ℕ → ℕ → LineRange → List ℕ → Result Sheet JoinFault
+abbrev pub sheet_given : ℕ → ℕ → LineRange → List ℕ → Result Sheet PartsFault
 sheet_given number line lines page =
     if goes_on_from line lines then sheet_within number lines.end (read_page line page)
     else Err (fault.Lines number)
 
 -- the parts from this line on, after the sheet so far
-abbrev pub join_from : ℕ → ℕ → Sheet → List Given → Result (List ℕ) JoinFault
+abbrev pub join_from : ℕ → ℕ → Sheet → List Given → Result (List ℕ) PartsFault
 join_from number line sheet [] = if line == LINES then Ok (sheet_text sheet) else Err (fault.Missing line)
 join_from number line sheet (part ∷ parts) =
     or_fault (sheet_given number line part.lines part.page)
     (λ here. join_from (number + 1) part.lines.end (followed_by sheet here) parts)
 
 -- the page of all parts, or the fault of the first that has one, or the first line that no part has
-abbrev pub join_of : List Given → Result (List ℕ) JoinFault
+abbrev pub join_of : List Given → Result (List ℕ) PartsFault
 join_of parts = join_from 1 0 no_entries parts
 
 -- the lines from this one on that a page takes: up to that of its last entry, or all where it is damaged
@@ -83,7 +83,7 @@ abbrev pub lines_taken : ℕ → List ℕ → LineRange
 lines_taken first page = lines_by first (read_page first page)
 
 -- memory ran out, or what the pages say
-abbrev pub IsFaultOf : Result (List ℕ) JoinFault → JoinFault → Type 0
+abbrev pub IsFaultOf : Result (List ℕ) PartsFault → PartsFault → Type 0
 IsFaultOf said fault.NoMemory = Unit {0}
 IsFaultOf said f = said ≡ Err f
 
@@ -108,7 +108,7 @@ MakesTheWhole given page =
     → page ≡ page_text (tapes_of plan limits routes rows)
 
 -- where pages are those of the parts of rows, the fault is none of theirs
-abbrev pub BlamesNoPart : List Given → JoinFault → Type 0
+abbrev pub BlamesNoPart : List Given → PartsFault → Type 0
 BlamesNoPart given f =
     (plan : Plan) (limits : Limits) (routes : List CodedRoute) (rows : List LoopRow) (parts : List Part)
     → AreRoutes routes → AreAllParts rows parts → given ≡ map (given_part plan limits routes) parts

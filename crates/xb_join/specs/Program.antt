@@ -7,7 +7,7 @@ use Rattle.xb_command.specs.Programs.{Attends, Streams}
 use Rattle.xb_command.specs.Telling.{Tells}
 use Rattle.xb_join.specs.JoinedFiles.{Delivers}
 use Rattle.xb_join.specs.Options.{AreRefused, Asks}
-use Rattle.xb_join.specs.declared.fault.JoinProgramFault.{JoinProgramFault}
+use Rattle.xb_join.specs.declared.fault.JoinFault.{JoinFault}
 use Rattle.xb_join.specs.declared.words.Request.{Request}
 
 -- the program's name
@@ -28,7 +28,7 @@ pub record WritesPage (bytes : Bytes) (words : List Text) (old new : Streams) : 
 -- they name files that gave a fault, of which a line was told
 pub record HasFault (bytes : Bytes) (words : List Text) (old new : Streams) : Type 0 where
   pub request : Request
-  pub fault : JoinProgramFault
+  pub fault : JoinFault
   pub asks : Asks words request
   pub page : Delivers bytes request (Err fault) old.output new.output
   pub line : Tells program None old.errors new.errors

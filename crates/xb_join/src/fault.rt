@@ -1,15 +1,16 @@
 // Why no page is written.
-use crate::join_fault::JoinFault;
 use crate::name::InOneLine;
+use crate::parts_fault::PartsFault;
 use std::io;
 use thiserror::Error;
 use xb_model::RowFault;
 use xb_parts::ListFault;
 
-/// Why no page is written, the first of these, in this order; the file is named where there is one, in one line.
-/// Nothing was written, except on `Write`.
+/// Why no page is written; the file is named where there is one, in one line. The list comes first, then the files of
+/// the pages, how many these are, and what they have: a fault is told only where those before it have none. Memory may
+/// run out at any of them. Nothing was written, except on `Write`.
 #[derive(Debug, Drop, Error)]
-pub enum JoinProgramFault<'a> {
+pub enum JoinFault<'a> {
     /// A file could not be read.
     #[error("{}: {}", InOneLine(.0), .1)]
     File(&'a str, io::Error),
@@ -21,10 +22,10 @@ pub enum JoinProgramFault<'a> {
     TooMany(usize),
     /// The page of a part is damaged, or out of its place.
     #[error("{}: {}", InOneLine(.0), .1)]
-    Page(&'a str, JoinFault),
+    Page(&'a str, PartsFault),
     /// A part is missing, or memory ran out.
     #[error("{0}")]
-    Parts(JoinFault),
+    Parts(PartsFault),
     /// Memory ran out.
     #[error("{}", RowFault::NoMemory)]
     NoMemory,

@@ -4,7 +4,7 @@ ghost use Rattle.xb_model.specs.declared.line.TheConstants.{LINES};
 ghost use Rattle.xb_model.specs.Page.{totals_text};
 ghost use Rattle.xb_join.specs.Joining.{goes_on_from};
 
-use crate::join_fault::{JoinFault, fault_of_page};
+use crate::parts_fault::{PartsFault, fault_of_page};
 use std::alloc::Global;
 use xb_model::LINES;
 use xb_page::read_page;
@@ -56,7 +56,7 @@ impl Joiner {
 
     /// The entries of the page of the next part, which has these lines; they follow those before. On an
     /// `Err`, which names the part and what is wrong with it, nothing has changed.
-    pub fn take<'a>(&mut self, lines: LineRange, page: &'a [u8]) -> Result<&'a [u8], JoinFault>
+    pub fn take<'a>(&mut self, lines: LineRange, page: &'a [u8]) -> Result<&'a [u8], PartsFault>
         requires { self.old.parts + 1 < 2 ^ 64 }
         ensures goes_on { IfOk result (λ entries. TakesPage self.old lines page.now entries.now self.new) }
         ensures parts { IfOk result (λ entries. self.new.parts ≡ self.old.parts + 1) }
@@ -66,14 +66,14 @@ impl Joiner {
     {
         let parts = self.parts + 1;
         if !goes_on_from(self.line, lines) {
-            return Err(JoinFault::Lines(parts));
+            return Err(PartsFault::Lines(parts));
         }
         let read = match read_page(page, self.line) {
             Ok(read) => read,
             Err(fault) => return Err(fault_of_page(parts, fault)),
         };
         if lines.end < read.next_line {
-            return Err(JoinFault::PastEnd(parts));
+            return Err(PartsFault::PastEnd(parts));
         }
         *self = Joiner {
             parts,
@@ -86,13 +86,13 @@ impl Joiner {
 
     /// The line of the totals, which follows the entries of all parts. `Err` names the first line that no
     /// part has had, or says that memory ran out.
-    pub fn totals(&self, alloc: Global) -> Result<String, JoinFault>
+    pub fn totals(&self, alloc: Global) -> Result<String, PartsFault>
         ensures text { IfOk result (λ text. string_bytes text ≡ totals_text self.now.keyed self.now.refused) }
         ensures all { OnOk result (self.now.line ≡ LINES) }
         ensures missing { IfErr result (IsMissing self.now) }
     {
         if self.line != LINES {
-            return Err(JoinFault::Missing(self.line));
+            return Err(PartsFault::Missing(self.line));
         }
         let mut text = String::new(alloc);
         write_totals(&mut text, self.keyed, self.refused)?;

@@ -2,13 +2,13 @@
 ghost use Rattle.std.specs.Prelude.{◌≡◌, ◌≤◌, IfErr, IfOk, IfSome, Ok, OnOk, length, map, option_copied, option_map};
 ghost use Rattle.xb_join.specs.Files.{HasPage, HavePages};
 ghost use Rattle.xb_join.specs.Given.{given_by};
-ghost use Rattle.xb_join.specs.JoinedFiles.{Delivers, IsFaultOfFiles, IsFaultOfList, IsFaultOfPages, IsListed, IsNamedFault, page_at};
+ghost use Rattle.xb_join.specs.JoinedFiles.{Delivers, HasPartForEach, IsFaultOfFiles, IsFaultOfList, IsFaultOfPages, IsListed, IsNamedFault, page_at};
 ghost use Rattle.xb_join.specs.Joining.{MakesTheWhole, join_of};
 
-use crate::fault::JoinProgramFault;
+use crate::fault::JoinFault;
 use crate::given::given_by;
-use crate::join_fault::JoinFault;
 use crate::pages::join_pages;
+use crate::parts_fault::PartsFault;
 use crate::words::Request;
 use std::alloc::Global;
 use std::io;
@@ -23,7 +23,7 @@ fn read_list<'a, F: Files>(
     alloc: Global,
     files: &F,
     name: Option<&'a str>,
-) -> Result<Option<Vec<LineRange>>, JoinProgramFault<'a>>
+) -> Result<Option<Vec<LineRange>>, JoinFault<'a>>
     ensures listed { IfOk result (λ ranges. IsListed (F.bytes files.now) (option_copied name.entry)
         (option_map (λ r. r.items) ranges)) }
     ensures fault { IfErr result (IsFaultOfList (F.bytes files.now) (option_copied name.entry)) }
@@ -34,11 +34,11 @@ fn read_list<'a, F: Files>(
     };
     let text = match files.read(alloc, name) {
         Ok(text) => text,
-        Err(error) => return Err(JoinProgramFault::File(name, error)),
+        Err(error) => return Err(JoinFault::File(name, error)),
     };
     match ranges_of_list(alloc, &text) {
         Ok(ranges) => Ok(Some(ranges)),
-        Err(fault) => Err(JoinProgramFault::List(name, fault)),
+        Err(fault) => Err(JoinFault::List(name, fault)),
     }
 }
 
@@ -56,7 +56,7 @@ fn read_pages<'a, F: Files>(
     alloc: Global,
     files: &F,
     names: &[&'a str],
-) -> Result<Vec<Vec<u8>>, JoinProgramFault<'a>>
+) -> Result<Vec<Vec<u8>>, JoinFault<'a>>
     ensures texts { IfOk result (λ pages. HavePages (F.bytes files.now) (map (λ name. name.now) names.now)
         (map (λ page. page.items) pages.items)) }
     ensures fault { IfErr result (IsFaultOfFiles (map (λ name. name.now) names.now)) }
@@ -65,10 +65,10 @@ fn read_pages<'a, F: Files>(
     for name in names {
         let page = match page_of_file(alloc, files, name) {
             Ok(page) => page,
-            Err(error) => return Err(JoinProgramFault::File(name, error)),
+            Err(error) => return Err(JoinFault::File(name, error)),
         };
         if pages.push(page).is_err() {
-            return Err(JoinProgramFault::NoMemory);
+            return Err(JoinFault::NoMemory);
         }
     }
     Ok(pages)
@@ -82,16 +82,16 @@ fn name_of<'a>(names: &[&'a str], part: usize) -> Option<&'a str>
 }
 
 // Why the pages of these files can't be joined, with the file where there is one.
-fn fault_of<'a>(names: &[&'a str], fault: JoinFault) -> JoinProgramFault<'a>
+fn fault_of<'a>(names: &[&'a str], fault: PartsFault) -> JoinFault<'a>
     ensures { IsNamedFault (map (λ name. name.now) names.now) fault result }
 {
     let part = match fault {
-        JoinFault::Lines(part) | JoinFault::Part(part, _) | JoinFault::PastEnd(part) => part,
-        JoinFault::Missing(_) | JoinFault::NoMemory => return JoinProgramFault::Parts(fault),
+        PartsFault::Lines(part) | PartsFault::Part(part, _) | PartsFault::PastEnd(part) => part,
+        PartsFault::Missing(_) | PartsFault::NoMemory => return JoinFault::Parts(fault),
     };
     match name_of(names, part) {
-        Some(name) => JoinProgramFault::Page(name, fault),
-        None => JoinProgramFault::Parts(fault),
+        Some(name) => JoinFault::Page(name, fault),
+        None => JoinFault::Parts(fault),
     }
 }
 
@@ -101,22 +101,22 @@ fn page_of<'a>(
     names: &[&'a str],
     ranges: Option<&[LineRange]>,
     pages: &[Vec<u8>],
-) -> Result<Vec<u8>, JoinProgramFault<'a>>
+) -> Result<Vec<u8>, JoinFault<'a>>
     ensures page { let given = given_by (option_copied ranges.entry) (map (λ p. p.items) pages.now) in
         IfOk result (λ page. (join_of given ≡ Ok page.items) × MakesTheWhole given page.items) }
-    ensures few { OnOk result (IfSome (option_copied ranges.entry) (λ r. length pages.now ≤ length r)) }
+    ensures few { OnOk result (HasPartForEach (option_copied ranges.entry) (map (λ p. p.items) pages.now)) }
     ensures fault { let r = option_copied ranges.entry in
         let all = map (λ name. name.now) names.now in
         IfErr result (IsFaultOfPages all r (map (λ p. p.items) pages.now)) }
 {
     if let Some(ranges) = ranges {
         if ranges.len() < pages.len() {
-            return Err(JoinProgramFault::TooMany(ranges.len()));
+            return Err(JoinFault::TooMany(ranges.len()));
         }
     }
     let parts = match given_by(alloc, ranges, pages) {
         Ok(parts) => parts,
-        Err(_) => return Err(JoinProgramFault::NoMemory),
+        Err(_) => return Err(JoinFault::NoMemory),
     };
     match join_pages(alloc, &parts) {
         Ok(page) => Ok(page),
@@ -136,7 +136,7 @@ pub fn join<'a, F: Files, W: Write>(
     files: &F,
     request: &Request<'a>,
     out: &mut W,
-) -> Result<(), JoinProgramFault<'a>>
+) -> Result<(), JoinFault<'a>>
     ensures { Delivers (F.bytes files.now) request.now result (W.contents out.old) (W.contents out.new) }
 {
     let ranges = read_list(alloc, files, request.list)?;
@@ -144,6 +144,6 @@ pub fn join<'a, F: Files, W: Write>(
     let page = page_of(alloc, &request.pages, ranges.as_deref(), &pages)?;
     match write_whole(out, &page) {
         Ok(()) => Ok(()),
-        Err(_) => Err(JoinProgramFault::Write),
+        Err(_) => Err(JoinFault::Write),
     }
 }

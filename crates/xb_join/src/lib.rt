@@ -19,20 +19,20 @@
 mod damage;
 mod fault;
 mod given;
-mod join_fault;
 mod joiner;
 mod joining;
 pub mod laws;
 mod name;
 mod pages;
+mod parts_fault;
 mod program;
 mod words;
 
 pub use damage::Damage;
-pub use fault::JoinProgramFault;
-pub use join_fault::JoinFault;
+pub use fault::JoinFault;
 pub use joiner::Joiner;
 pub use joining::join;
 pub use pages::{PartPage, join_pages, lines_taken};
+pub use parts_fault::PartsFault;
 pub use program::attend;
 pub use words::Request;

@@ -3,8 +3,8 @@ ghost use Rattle.std.specs.Prelude.{◌≡◌, ◌≤◌, Ok, IfOk, IfErr, map};
 ghost use Rattle.xb_model.specs.declared.line.TheConstants.{LINES};
 ghost use Rattle.xb_join.specs.Joining.{BlamesNoPart, IsFaultOf, MakesTheWhole, given_of, join_of, lines_taken};
 
-use crate::join_fault::JoinFault;
 use crate::joiner::Joiner;
+use crate::parts_fault::PartsFault;
 use std::alloc::Global;
 use xb_model::LINES;
 use xb_page::read_page;
@@ -34,7 +34,7 @@ pub fn lines_taken(first: u16, page: &[u8]) -> LineRange
 }
 
 // The entries of pages, part by part, and a line with the sums of their totals.
-fn join(alloc: Global, parts: &[PartPage<'_>]) -> Result<Vec<u8>, JoinFault>
+fn join(alloc: Global, parts: &[PartPage<'_>]) -> Result<Vec<u8>, PartsFault>
     ensures page { IfOk result (λ page. join_of (map given_of parts.now) ≡ Ok page.items) }
     ensures fault { IfErr result (IsFaultOf (join_of (map given_of parts.now))) }
 {
@@ -53,7 +53,7 @@ fn join(alloc: Global, parts: &[PartPage<'_>]) -> Result<Vec<u8>, JoinFault>
 ///
 /// Where the pages are those of parts of a deck, whose rows were split by ranges of lines, it is the page
 /// of the whole deck.
-pub fn join_pages(alloc: Global, parts: &[PartPage<'_>]) -> Result<Vec<u8>, JoinFault>
+pub fn join_pages(alloc: Global, parts: &[PartPage<'_>]) -> Result<Vec<u8>, PartsFault>
     ensures page { IfOk result (λ page. join_of (map given_of parts.now) ≡ Ok page.items) }
     ensures fault { IfErr result (IsFaultOf (join_of (map given_of parts.now))) }
     ensures whole { IfOk result (λ page. MakesTheWhole (map given_of parts.now) page.items) }

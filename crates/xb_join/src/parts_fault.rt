@@ -10,7 +10,7 @@ use xb_page::PageFault;
 
 /// Why pages can't be joined. Parts count from 1.
 #[derive(Clone, Copy, Debug, PartialEq, Eq, Error)]
-pub enum JoinFault {
+pub enum PartsFault {
     /// The lines of this part don't begin where those of the part before it end, or are not lines of the
     /// office.
     #[error("part {0}: its lines do not follow those of the part before")]
@@ -29,23 +29,23 @@ pub enum JoinFault {
     NoMemory,
 }
 
-impl From<AllocError> for JoinFault {
+impl From<AllocError> for PartsFault {
     ghost use Rattle.std.specs.Prelude.{◌≡◌};
-    ghost use Rattle.xb_join.specs.declared.join_fault.JoinFault.TheVariants.{NoMemory};
+    ghost use Rattle.xb_join.specs.declared.parts_fault.PartsFault.TheVariants.{NoMemory};
 
     ghost from_gives = { λ _ fault. fault ≡ NoMemory };
 
-    fn from(_error: AllocError) -> JoinFault {
-        JoinFault::NoMemory
+    fn from(_error: AllocError) -> PartsFault {
+        PartsFault::NoMemory
     }
 }
 
 // What is wrong with the page of the part of this number.
-pub(crate) fn fault_of_page(part: usize, fault: PageFault) -> JoinFault
+pub(crate) fn fault_of_page(part: usize, fault: PageFault) -> PartsFault
     ensures { result ≡ fault_of_page part fault }
 {
     let damage = match fault {
-        PageFault::NoMemory => return JoinFault::NoMemory,
+        PageFault::NoMemory => return PartsFault::NoMemory,
         PageFault::Early(1) => Damage::Overlaps,
         PageFault::Early(n) | PageFault::Number(n) => Damage::OutOfOrder(n),
         PageFault::Line(n) | PageFault::Kind(n) => Damage::NoEntry(n),
@@ -55,5 +55,5 @@ pub(crate) fn fault_of_page(part: usize, fault: PageFault) -> JoinFault
         PageFault::NoTotals(_) => Damage::NoTotals,
         PageFault::GoesOn(_) => Damage::GoesOn,
     };
-    JoinFault::Part(part, damage)
+    PartsFault::Part(part, damage)
 }
