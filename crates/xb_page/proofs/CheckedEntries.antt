@@ -10,7 +10,7 @@ use Rattle.xb_model.specs.MfPairs.{key_of_pair}
 use Rattle.xb_model.specs.Page.{is_refused, key_text, last_refusal, refusal_of}
 use Rattle.xb_page.specs.declared.fault.PageFault.{PageFault}
 use Rattle.xb_page.specs.declared.fault.PageFault.TheVariants as fault
-use Rattle.xb_page.specs.declared.place.Place.{Place}
+use Rattle.xb_page.specs.declared.page_place.PagePlace.{PagePlace}
 use Rattle.xb_page.specs.Entries.{entry_with}
 use Rattle.xb_page.specs.Places.{Head, four_digits_of, head_and, head_of_fields, head_with, next_place, or_fault, place_after, text_line}
 use Rattle.xb_page.specs.ReadPages.{after_entry, before, check_rest, colon, entry_and, entry_of_head, if_there, heard_of, mark_of, mark_of_two, marks_of, named_tone, pair_of, reason_of, refusal_of_fields, refusal_of_two, tone_of, two_of}
@@ -81,12 +81,12 @@ refusal-refuses fields mark e = by (two_of fields) e
     by None e = absurd (let no : ⊥ = cc in no)
     by (Some two) e = both (reason_of two.0) (heard_of two.1) e
 
-abbrev pub unit_and : Result (Unit {0}) PageFault → Result Place PageFault → Result Place PageFault
+abbrev pub unit_and : Result (Unit {0}) PageFault → Result PagePlace PageFault → Result PagePlace PageFault
 unit_and (Err f) next = Err f
 unit_and (Ok u) next = next
 
 -- the place after the entry of a head
-place-of_head : (place : Place) (n line number : ℕ) (refused : Bool) (rest : List (List ℕ))
+place-of_head : (place : PagePlace) (n line number : ℕ) (refused : Bool) (rest : List (List ℕ))
     → entry_and (entry_of_head n (head_with line number refused rest)) (λ e. Ok (place_after place e))
     ≡ unit_and (check_rest n refused rest) (Ok (next_place place line number refused))
 place-of_head place n line number true rest = by (refusal_of_fields rest) refl
@@ -106,7 +106,7 @@ place-of_head place n line number false rest = by (marks_of rest) refl
         ap (λ (o : Option (Reason × ℕ)). Ok (next_place place line number (is_some o))) (marks_of-keyed rest marks is)
 
 -- the same, by what was judged
-pub place-by_rest : (place : Place) (n line number : ℕ) (refused : Bool) (fields : List (List ℕ)) (rest : Result (Unit {0}) PageFault)
+pub place-by_rest : (place : PagePlace) (n line number : ℕ) (refused : Bool) (fields : List (List ℕ)) (rest : Result (Unit {0}) PageFault)
     → n ≡ text_line place → rest ≡ check_rest n refused fields
     → unit_and rest (Ok (next_place place line number refused))
     ≡ entry_and (entry_of_head (text_line place) (head_with line number refused fields)) (λ e. Ok (place_after place e))
@@ -116,14 +116,14 @@ place-by_rest place n line number refused fields rest n_is judged =
     ∙ ap (λ (k : ℕ). entry_and (entry_of_head k (head_with line number refused fields)) (λ e. Ok (place_after place e))) n_is
 
 -- the place after the entry of a text line whose head is read
-pub after_entry-head : (place : Place) (fields : List (List ℕ)) (head : Head) → head_of_fields place fields ≡ Ok head
+pub after_entry-head : (place : PagePlace) (fields : List (List ℕ)) (head : Head) → head_of_fields place fields ≡ Ok head
     → after_entry place fields ≡ entry_and (entry_of_head (text_line place) head) (λ e. Ok (place_after place e))
 after_entry-head place fields head is =
     ap (λ (r : Result Head PageFault). entry_and (head_and r (λ head. entry_of_head (text_line place) head))
     (λ e. Ok (place_after place e))) is
 
 -- where the head has a fault
-pub after_entry-fault : (place : Place) (fields : List (List ℕ)) (f : PageFault) → head_of_fields place fields ≡ Err f
+pub after_entry-fault : (place : PagePlace) (fields : List (List ℕ)) (f : PageFault) → head_of_fields place fields ≡ Err f
     → after_entry place fields ≡ Err f
 after_entry-fault place fields f is =
     ap (λ (r : Result Head PageFault). entry_and (head_and r (λ head. entry_of_head (text_line place) head))

@@ -12,7 +12,7 @@ use Rattle.xb_model.specs.Fields.{field_number}
 use Rattle.xb_model.proofs.WrittenFields.{field_number-decimal}
 use Rattle.xb_page.specs.declared.fault.PageFault.{PageFault}
 use Rattle.xb_page.specs.declared.fault.PageFault.TheVariants as fault
-use Rattle.xb_page.specs.declared.place.Place.{Place}
+use Rattle.xb_page.specs.declared.page_place.PagePlace.{PagePlace}
 use Rattle.xb_page.specs.Entries.{Entry, entry_with}
 use Rattle.xb_page.specs.Places.{Head, head_and, head_of_fields, head_with, is_refusal, next_number, number_at, or_fault, text_line}
 use Rattle.xb_page.specs.ReadPages.{entry_of_fields, entry_of_head, heard_of, is_totals, refusal_of_fields, refusal_of_two}
@@ -46,17 +46,17 @@ entry_line-no_line_feed line n rest below avoids =
     )
 
 -- a line and the number of its next entry come next at a place
-pub record At (place : Place) (line n : ℕ) : Type 0 where
+pub record At (place : PagePlace) (line n : ℕ) : Type 0 where
   pub low : place.line ≤ line
   pub next : number_at place line ≡ n
 
-number-back : (place : Place) (line n : ℕ) → number_at place line ≡ n → next_number place line (decimal n) ≡ Some n
+number-back : (place : PagePlace) (line n : ℕ) → number_at place line ≡ n → next_number place line (decimal n) ≡ Some n
 number-back place line n is =
     ap (λ (k : ℕ). cond (bytes_eq (decimal n) (decimal k)) (Some k) None) is
     ∙ cond-true _ _ _ (bytes_eq-same (decimal n))
 
 -- the head of an entry is read
-pub head-back : (place : Place) (line n : ℕ) (kind : List ℕ) (refused : Bool) (fields : List (List ℕ)) → line < 10000
+pub head-back : (place : PagePlace) (line n : ℕ) (kind : List ℕ) (refused : Bool) (fields : List (List ℕ)) → line < 10000
     → At place line n → is_refusal kind ≡ Some refused
     → head_of_fields place (four_digits line ∷ decimal n ∷ kind ∷ fields) ≡ Ok (head_with line n refused fields)
 head-back place line n kind refused fields below at is =
@@ -70,7 +70,7 @@ head-back place line n kind refused fields below at is =
     ∙ ap (λ (r : Option Bool). or_fault {B = Head} (fault.Kind k) r (λ r. Ok (head_with line n r fields))) is
 
 -- what a text line of an entry says depends on the word and what follows
-pub entry-by_head : (place : Place) (line n : ℕ) (kind : List ℕ) (refused : Bool) (fields : List (List ℕ)) → line < 10000
+pub entry-by_head : (place : PagePlace) (line n : ℕ) (kind : List ℕ) (refused : Bool) (fields : List (List ℕ)) → line < 10000
     → At place line n → is_refusal kind ≡ Some refused
     → entry_of_fields place (four_digits line ∷ decimal n ∷ kind ∷ fields)
     ≡ entry_of_head (text_line place) (head_with line n refused fields)
@@ -101,7 +101,7 @@ keyed-not_totals line n entry below are =
     ap (λ (fields : List (List ℕ)). is_totals fields) (keyed-pieces line n entry below are)
     ∙ four_digits-no_word line below
 
-pub keyed-back : (place : Place) (line n : ℕ) (entry : List Mark) → line < 10000 → At place line n
+pub keyed-back : (place : PagePlace) (line n : ℕ) (entry : List Mark) → line < 10000 → At place line n
     → AllByRecursion IsKeyMark entry
     → entry_of_fields place (pieces 32 (entry_line line n (keyed_rest entry))) ≡ Ok (entry_with line n entry)
 keyed-back place line n entry below at are =
@@ -183,7 +183,7 @@ refusal-back Unknown heard few = ap (λ (h : Option ℕ). refusal_of_two (Some U
 refusal-back Abandoned heard few = ap (λ (h : Option ℕ). refusal_of_two (Some Abandoned) h) (heard-back heard few)
 refusal-back TimedOut heard few = ap (λ (h : Option ℕ). refusal_of_two (Some TimedOut) h) (heard-back heard few)
 
-pub refused-back : (place : Place) (line n : ℕ) (reason : Reason) (heard : ℕ) → line < 10000 → At place line n
+pub refused-back : (place : PagePlace) (line n : ℕ) (reason : Reason) (heard : ℕ) → line < 10000 → At place line n
     → heard < 256
     → entry_of_fields place (pieces 32 (entry_line line n (refused_rest reason heard)))
     ≡ Ok (entry_with line n (Refused reason heard ∷ []))

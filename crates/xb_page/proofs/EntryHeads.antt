@@ -4,7 +4,7 @@ use Rattle.std.specs.Prelude.{Ok, Result, bytes_eq}
 use Rattle.xb_model.specs.declared.line.TheConstants.{LINES}
 use Rattle.xb_model.specs.Page.{entry_head, four_digits, totals_text}
 use Rattle.xb_page.specs.declared.fault.PageFault.{PageFault}
-use Rattle.xb_page.specs.declared.place.Place.{Place}
+use Rattle.xb_page.specs.declared.page_place.PagePlace.{PagePlace}
 use Rattle.xb_page.specs.PageLines.{words}
 use Rattle.xb_page.specs.Entries.{Entry}
 use Rattle.xb_page.specs.Places.{place_after, space}
@@ -44,12 +44,12 @@ words-head line n tail =
     ∙ ap (λ (more : List (List ℕ)). four_digits line ∷ more) (words-cut (decimal n) tail (IsWord-decimal n))
 
 -- an entry that is read, and the place after it
-pub after_entry-read : (place : Place) (line n : ℕ) (tail : List ℕ) (entry : Entry)
+pub after_entry-read : (place : PagePlace) (line n : ℕ) (tail : List ℕ) (entry : Entry)
     → entry_of_fields place (words (entry_line line n tail)) ≡ Ok entry
     → after_entry place (words (with_head line n tail)) ≡ Ok (place_after place entry)
 after_entry-read place line n tail entry is =
     ap (λ (text : List ℕ). after_entry place (words text)) (entry_words line n tail)
-    ∙ ap (λ (r : Result Entry PageFault). entry_and {A = Place} r (λ e. Ok (place_after place e))) is
+    ∙ ap (λ (r : Result Entry PageFault). entry_and {A = PagePlace} r (λ e. Ok (place_after place e))) is
 
 -- an entry is not the totals
 pub is_totals-entry : (line n : ℕ) (tail : List ℕ) → line < LINES → is_totals (words (with_head line n tail)) ≡ false
@@ -90,7 +90,7 @@ pub is_totals-totals : (keyed refused : ℕ) → is_totals (words (totals_words 
 is_totals-totals keyed refused = ap (λ (all : List (List ℕ)). is_totals all) (words-totals keyed refused)
 
 -- the totals are those of the place
-pub are-totals : (k r : ℕ) (place : Place) → place.keyed ≡ k → place.refused ≡ r
+pub are-totals : (k r : ℕ) (place : PagePlace) → place.keyed ≡ k → place.refused ≡ r
     → says_totals place (codes "KEYED" ∷ decimal k ∷ codes "REFUSED" ∷ decimal r ∷ []) ≡ true
 are-totals k r place keyed refused =
     ap (λ (n : ℕ). are_four n place.refused (Some (codes "KEYED", decimal k, codes "REFUSED", decimal r))) keyed
@@ -98,7 +98,7 @@ are-totals k r place keyed refused =
     ∙ ap (λ (b : Bool). b && true && bytes_eq (decimal r) (decimal r)) (bytes_eq-same (decimal k))
     ∙ bytes_eq-same (decimal r)
 
-pub says_totals-totals : (place : Place) → says_totals place (words (totals_words place.keyed place.refused)) ≡ true
+pub says_totals-totals : (place : PagePlace) → says_totals place (words (totals_words place.keyed place.refused)) ≡ true
 says_totals-totals place =
     ap (λ (all : List (List ℕ)). says_totals place all) (words-totals place.keyed place.refused)
     ∙ are-totals place.keyed place.refused place refl refl

@@ -12,7 +12,7 @@ use Rattle.xb_model.specs.Keyings.{is_ending}
 use Rattle.xb_model.specs.Page.{count_entries, entries_text, entry_text, entry_text_by, four_digits, is_keyed, is_refused, keyed_text, last_refusal, refused_text, tape_text, tapes_text, totals_text}
 use Rattle.xb_model.specs.Tapes.{entries_of, into_first_entry}
 use Rattle.xb_page.specs.declared.fault.PageFault.{PageFault}
-use Rattle.xb_page.specs.declared.place.Place.{Place}
+use Rattle.xb_page.specs.declared.page_place.PagePlace.{PagePlace}
 use Rattle.xb_page.specs.Entries.{Entry, entry_with}
 use Rattle.xb_page.specs.Places.{place_after, place_with}
 use Rattle.xb_page.specs.ReadBack.{AreMarks, IsMark, PagesAreReadBack, entries_of_line, entries_of_tapes, said_by, said_of}
@@ -86,7 +86,7 @@ not_end [] byte ys lines = refl
 not_end (x ∷ xs) byte ys lines = refl
 
 -- the text line of an entry
-line-step : (place : Place) (line rest : List ℕ) → Avoids 10 line → is_end (line ∷ pieces 10 rest) ≡ false
+line-step : (place : PagePlace) (line rest : List ℕ) → Avoids 10 line → is_end (line ∷ pieces 10 rest) ≡ false
     → is_totals (pieces 32 line) ≡ false
     → entries_from place (pieces 10 (line ++ 10 ∷ rest))
     ≡ entry_and_rest (entry_of_fields place (pieces 32 line)) (λ e. entries_from (place_after place e) (pieces 10 rest))
@@ -103,10 +103,10 @@ refused_text-line : (line n : ℕ) (reason : Reason) (heard : ℕ) (rest : List 
     → refused_text line n reason heard ++ rest ≡ entry_line line n (refused_rest reason heard) ++ 10 ∷ rest
 refused_text-line line n reason heard rest = simp append_assoc
 
-abbrev goes : Place → ℕ → ℕ → List Mark → Place
+abbrev goes : PagePlace → ℕ → ℕ → List Mark → PagePlace
 goes place line n marks = place_after place (entry_with line n marks)
 
-keyed-step : (place : Place) (line n : ℕ) (entry : List Mark) (rest : List ℕ) (later : List Entry) → line < 10000
+keyed-step : (place : PagePlace) (line n : ℕ) (entry : List Mark) (rest : List ℕ) (later : List Entry) → line < 10000
     → At place line n → AllByRecursion IsKeyMark entry → entries_from (goes place line n entry) (pieces 10 rest) ≡ Ok later
     → entries_from place (pieces 10 (keyed_text line n entry ++ rest)) ≡ Ok (entry_with line n entry ∷ later)
 keyed-step place line n entry rest later below at are next =
@@ -120,7 +120,7 @@ keyed-step place line n entry rest later below at are next =
     (keyed-back place line n entry below at are)
     ∙ ap (λ (r : Result (List Entry) PageFault). before_entries (entry_with line n entry) r) next
 
-refused-step : (place : Place) (line n : ℕ) (reason : Reason) (heard : ℕ) (rest : List ℕ) (later : List Entry)
+refused-step : (place : PagePlace) (line n : ℕ) (reason : Reason) (heard : ℕ) (rest : List ℕ) (later : List Entry)
     → line < 10000 → At place line n → heard < 256
     → entries_from (goes place line n (Refused reason heard ∷ [])) (pieces 10 rest) ≡ Ok later
     → entries_from place (pieces 10 (refused_text line n reason heard ++ rest))
@@ -136,7 +136,7 @@ refused-step place line n reason heard rest later below at few next =
     (refused-back place line n reason heard below at few)
     ∙ ap (λ (r : Result (List Entry) PageFault). before_entries (entry_with line n (Refused reason heard ∷ [])) r) next
 
-entry-step : (place : Place) (line n : ℕ) (entry : List Mark) (rest : List ℕ) (later : List Entry) → line < 10000
+entry-step : (place : PagePlace) (line n : ℕ) (entry : List Mark) (rest : List ℕ) (later : List Entry) → line < 10000
     → At place line n → IsKeyedEntry entry ⊎ IsRefusedEntry entry
     → entries_from (goes place line n (said_of entry)) (pieces 10 rest) ≡ Ok later
     → entries_from place (pieces 10 (entry_text line n entry ++ rest)) ≡ Ok (entry_with line n (said_of entry) ∷ later)
@@ -156,11 +156,11 @@ abbrev one : Bool → ℕ
 one b = cond b 1 0
 
 -- the place after an entry that is refused, or keyed
-abbrev next_by : Place → ℕ → ℕ → Bool → Place
+abbrev next_by : PagePlace → ℕ → ℕ → Bool → PagePlace
 next_by place line n b =
     cond b (place_with line n place.keyed (place.refused + 1)) (place_with line n (place.keyed + 1) place.refused)
 
-record Goes (place next : Place) (line n : ℕ) (b : Bool) : Type 0 where
+record Goes (place next : PagePlace) (line n : ℕ) (b : Bool) : Type 0 where
   pub at : At next line (n + 1)
   pub keyed : next.keyed ≡ place.keyed + one (not b)
   pub refused : next.refused ≡ place.refused + one b
@@ -171,7 +171,7 @@ at-after line n keyed refused = record {
   next = cond-true _ _ _ (eq-eqb line line refl);
 }
 
-goes-by : (place : Place) (line n : ℕ) (b : Bool) → Goes place (next_by place line n b) line n b
+goes-by : (place : PagePlace) (line n : ℕ) (b : Bool) → Goes place (next_by place line n b) line n b
 goes-by place line n true = record {
   at = at-after line n place.keyed (place.refused + 1);
   keyed = omega arith;
@@ -189,7 +189,7 @@ said-same entry (inr refused) =
     ap (λ (o : Option (Reason × ℕ)). is_some o) refused.last
     ∙ sym (ap (λ (o : Option (Reason × ℕ)). is_refused (said_by entry o)) refused.last)
 
-goes-on : (place : Place) (line n : ℕ) (entry : List Mark) → IsKeyedEntry entry ⊎ IsRefusedEntry entry
+goes-on : (place : PagePlace) (line n : ℕ) (entry : List Mark) → IsKeyedEntry entry ⊎ IsRefusedEntry entry
     → Goes place (goes place line n (said_of entry)) line n (is_refused entry)
 goes-on place line n entry kind =
     subst (λ c. Goes place (next_by place line n c) line n (is_refused entry)) (said-same entry kind)
@@ -209,9 +209,9 @@ count_in-is test entries =
     is_count_by (count_in test) test refl (λ entry entries. one_more (test entry) (count_in test entries)) entries
 
 -- the entries of a line
-entries-back : (entries : List (List Mark)) (place : Place) (line n : ℕ) → AllByRecursion IsEntry entries → line < 10000
+entries-back : (entries : List (List Mark)) (place : PagePlace) (line n : ℕ) → AllByRecursion IsEntry entries → line < 10000
     → At place line n → (rest : List ℕ) (later : List Entry)
-    → ((next : Place) (m : ℕ) → At next line m → next.keyed ≡ place.keyed + count_in is_keyed entries
+    → ((next : PagePlace) (m : ℕ) → At next line m → next.keyed ≡ place.keyed + count_in is_keyed entries
     → next.refused ≡ place.refused + count_in is_refused entries → entries_from next (pieces 10 rest) ≡ Ok later)
     → entries_from place (pieces 10 (entries_text line n entries ++ rest)) ≡ Ok (entries_of_line line n entries ++ later)
 unfolding entries_text
@@ -227,16 +227,16 @@ entries-back (entry ∷ entries) place line n all below at rest later next =
     (λ q m at_q keyed refused. next q m at_q (omega (arith, keyed, on.keyed)) (omega (arith, refused, on.refused))))
 
 -- the next line
-at-next : (place : Place) (line m : ℕ) → At place line m → At place (line + 1) 1
+at-next : (place : PagePlace) (line m : ℕ) → At place line m → At place (line + 1) 1
 at-next place line m at = record {
   low = omega (arith, at.low);
   next = cond-false _ _ _ (ne_eqb (line + 1) place.line (λ e. absurd (omega (arith, at.low))));
 }
 
 -- the tapes of the lines
-tapes-back : (tapes : List (List Mark)) (place : Place) (line : ℕ) → AllByRecursion AreMarks tapes → line + length tapes ≤ 10000
+tapes-back : (tapes : List (List Mark)) (place : PagePlace) (line : ℕ) → AllByRecursion AreMarks tapes → line + length tapes ≤ 10000
     → At place line 1 → (rest : List ℕ) (later : List Entry)
-    → ((next : Place) → next.keyed ≡ place.keyed + count_entries is_keyed tapes
+    → ((next : PagePlace) → next.keyed ≡ place.keyed + count_entries is_keyed tapes
     → next.refused ≡ place.refused + count_entries is_refused tapes → entries_from next (pieces 10 rest) ≡ Ok later)
     → entries_from place (pieces 10 (tapes_text line tapes ++ rest)) ≡ Ok (entries_of_tapes line tapes ++ later)
 unfolding tapes_text
@@ -257,7 +257,7 @@ tapes-back (marks ∷ tapes) place line all few at rest later next =
     (sym (append_assoc (entries_of_line line 1 entries) (entries_of_tapes (line + 1) tapes) later))
 
 -- the text line of totals
-end-step : (place : Place) (line rest : List ℕ) → Avoids 10 line → is_end (line ∷ pieces 10 rest) ≡ false
+end-step : (place : PagePlace) (line rest : List ℕ) → Avoids 10 line → is_end (line ∷ pieces 10 rest) ≡ false
     → is_totals (pieces 32 line) ≡ true
     → entries_from place (pieces 10 (line ++ 10 ∷ rest)) ≡ end_of place (pieces 32 line) (pieces 10 rest)
 unfolding entries_from
@@ -265,11 +265,11 @@ end-step place line rest avoids more totals =
     ap (λ (lines : List (List ℕ)). entries_from place lines) (pieces-cut 10 line rest avoids)
     ∙ cond-false _ _ _ more ∙ cond-true _ _ _ totals
 
-end-last : (place : Place) (fields lines : List (List ℕ)) → says_totals place fields ≡ true → is_end lines ≡ true
+end-last : (place : PagePlace) (fields lines : List (List ℕ)) → says_totals place fields ≡ true → is_end lines ≡ true
     → end_of place fields lines ≡ Ok []
 end-last place fields lines says end = cond-true _ _ _ says ∙ cond-true _ _ _ end
 
-totals-back : (k r : ℕ) (place : Place) → place.keyed ≡ k → place.refused ≡ r
+totals-back : (k r : ℕ) (place : PagePlace) → place.keyed ≡ k → place.refused ≡ r
     → entries_from place (pieces 10 (totals_text k r)) ≡ Ok []
 totals-back k r place keyed refused =
     let says : says_totals place (pieces 32 (totals_words k r)) ≡ true =

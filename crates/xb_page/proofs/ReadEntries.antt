@@ -15,7 +15,7 @@ use Rattle.xb_model.specs.declared.reason.Reason.TheVariants as reason
 use Rattle.xb_model.specs.Page.{entries_text, entry_head, entry_text, entry_text_by, four_digits, is_keyed, is_refused, key_text, last_refusal, mark_text, marks_text, pair_text, reason_text}
 use Rattle.xb_model.specs.Tapes.{entries_of}
 use Rattle.xb_page.specs.declared.fault.PageFault.{PageFault}
-use Rattle.xb_page.specs.declared.place.Place.{Place}
+use Rattle.xb_page.specs.declared.page_place.PagePlace.{PagePlace}
 use Rattle.xb_page.specs.PageLines.{ends_line, has_more, place_and, read_lines, start_at, words}
 use Rattle.xb_page.specs.Places.{line_after, next_place, number_at}
 use Rattle.xb_page.specs.ReadPages.{after_entry, is_totals}
@@ -81,7 +81,7 @@ has_more-slice_split (x ∷ xs) =
     (λ lines. has_more lines ≡ true) (λ e. refl) (λ e. has_more-onto x (slice_split ends_line xs))
 
 -- the reading of a text that is not the last, nor the totals
-pub read_lines-more : (entries : List ℕ) (place : Place) (text : List ℕ) (later : List (List ℕ))
+pub read_lines-more : (entries : List ℕ) (place : PagePlace) (text : List ℕ) (later : List (List ℕ))
     → has_more later ≡ true → is_totals (words text) ≡ false
     → read_lines entries place (text ∷ later)
     ≡ place_and (after_entry place (words text)) (λ next. read_lines (entries ++ text ++ codes "\n") next later)
@@ -89,22 +89,22 @@ read_lines-more entries place text later more other =
     cond-false _ _ _ (ap not more) ∙ cond-false _ _ _ other
 
 -- the text of an entry, which is `with_head line n tail` and an LF, is read
-read_text : (entries : List ℕ) (place next : Place) (line n : ℕ) (tail rest : List ℕ) → line < LINES → IsLine tail
+read_text : (entries : List ℕ) (place next : PagePlace) (line n : ℕ) (tail rest : List ℕ) → line < LINES → IsLine tail
     → after_entry place (words (with_head line n tail)) ≡ Ok next
     → read_lines entries place (slice_split ends_line (with_head line n tail ++ codes "\n" ++ rest))
     ≡ read_lines (entries ++ (with_head line n tail ++ codes "\n")) next (slice_split ends_line rest)
 read_text entries place next line n tail rest below is goes =
     let text : List ℕ = with_head line n tail in
     let later : List (List ℕ) = slice_split ends_line rest in
-    let then = λ (p : Place). read_lines (entries ++ text ++ codes "\n") p later in
+    let then = λ (p : PagePlace). read_lines (entries ++ text ++ codes "\n") p later in
     ap (λ (bytes : List ℕ). read_lines entries place (slice_split ends_line bytes)) (append_assoc text (codes "\n") rest)
     ∙ ap (read_lines entries place) (slice_split-line text rest (IsLine-with_head line n tail is))
     ∙ read_lines-more entries place text later (has_more-slice_split rest) (is_totals-entry line n tail below)
-    ∙ ap (λ (found : Result Place PageFault). place_and found then) goes
+    ∙ ap (λ (found : Result PagePlace PageFault). place_and found then) goes
     ∙ ap (λ (bytes : List ℕ). read_lines bytes next later) (append_assoc entries text (codes "\n"))
 
 -- the same, where the text is written otherwise
-read_text_as : (whole : List ℕ) (entries : List ℕ) (place next : Place) (line n : ℕ) (tail rest : List ℕ)
+read_text_as : (whole : List ℕ) (entries : List ℕ) (place next : PagePlace) (line n : ℕ) (tail rest : List ℕ)
     → whole ≡ with_head line n tail ++ codes "\n" → line < LINES → IsLine tail
     → after_entry place (words (with_head line n tail)) ≡ Ok next
     → read_lines entries place (slice_split ends_line (whole ++ rest))
@@ -115,13 +115,13 @@ read_text_as whole entries place next line n tail rest e below is goes =
     ∙ ap (λ (bytes : List ℕ). read_lines (entries ++ bytes) next (slice_split ends_line rest)) (sym e)
 
 -- the entry of a line that comes next is read
-abbrev IsReadNext : Place → ℕ → ℕ → List Mark → Option (Reason × ℕ) → Type 0
+abbrev IsReadNext : PagePlace → ℕ → ℕ → List Mark → Option (Reason × ℕ) → Type 0
 IsReadNext place line n entry refusal =
     (entries rest : List ℕ)
     → read_lines entries place (slice_split ends_line (entry_text_by line n entry refusal ++ rest))
     ≡ read_lines (entries ++ entry_text_by line n entry refusal) (next_place place line n (is_some refusal)) (slice_split ends_line rest)
 
-read_keyed : (place : Place) (line n : ℕ) (entry : List Mark) → line < LINES → At place line n → AllByRecursion IsKeyMark entry
+read_keyed : (place : PagePlace) (line n : ℕ) (entry : List Mark) → line < LINES → At place line n → AllByRecursion IsKeyMark entry
     → last_refusal entry ≡ None → IsReadNext place line n entry None
 read_keyed place line n entry below at are none entries rest =
     read_text_as (entry_text_by line n entry None) entries place (next_place place line n false) line n (keyed_rest entry) rest
@@ -130,7 +130,7 @@ read_keyed place line n entry below at are none entries rest =
     (after_entry-read place line n (keyed_rest entry) (entry_with line n entry) (keyed-back place line n entry (omega arith) at are)
     ∙ ap (λ (o : Option (Reason × ℕ)). Ok (next_place place line n (is_some o))) none)
 
-read_refused : (place : Place) (line n : ℕ) (entry : List Mark) (reason : Reason) (heard : ℕ) → line < LINES → At place line n
+read_refused : (place : PagePlace) (line n : ℕ) (entry : List Mark) (reason : Reason) (heard : ℕ) → line < LINES → At place line n
     → heard < 256 → IsReadNext place line n entry (Some (reason, heard))
 read_refused place line n entry reason heard below at few entries rest =
     let after : List ℕ = reason_text reason ++ (32 ∷ decimal heard) in
@@ -146,7 +146,7 @@ read_refused place line n entry reason heard below at few entries rest =
     (after_entry-read place line n (refused_rest reason heard) (entry_with line n (Refused reason heard ∷ []))
     (refused-back place line n reason heard (omega arith) at few))
 
-read_entry : (place : Place) (line n : ℕ) (entry : List Mark) → line < LINES → At place line n → IsEntry entry
+read_entry : (place : PagePlace) (line n : ℕ) (entry : List Mark) → line < LINES → At place line n → IsEntry entry
     → IsReadNext place line n entry (last_refusal entry)
 read_entry place line n entry below at is = by (kind_of entry is)
   where
@@ -158,21 +158,21 @@ read_entry place line n entry below at is = by (kind_of entry is)
         (read_refused place line n entry refused.reason refused.heard below at refused.few)
 
 -- from one place to another the entries of a sheet are read
-pub record Reads (place : Place) (sheet : Sheet) (place' : Place) : Type 0 where
+pub record Reads (place : PagePlace) (sheet : Sheet) (place' : PagePlace) : Type 0 where
   pub is : (entries rest : List ℕ)
       → read_lines entries place (slice_split ends_line (sheet.entries ++ rest))
       ≡ read_lines (entries ++ sheet.entries) place' (slice_split ends_line rest)
   pub keyed_is : place'.keyed ≡ place.keyed + sheet.keyed
   pub refused_is : place'.refused ≡ place.refused + sheet.refused
 
-Reads-none : (place : Place) → Reads place no_entries place
+Reads-none : (place : PagePlace) → Reads place no_entries place
 Reads-none place = record {
   is = λ entries rest. ap (λ (bytes : List ℕ). read_lines bytes place (slice_split ends_line rest)) (sym (append-nil entries));
   keyed_is = omega arith;
   refused_is = omega arith;
 }
 
-Reads-both : (p q r : Place) (s t : Sheet) → Reads p s q → Reads q t r → Reads p (followed_by s t) r
+Reads-both : (p q r : PagePlace) (s t : Sheet) → Reads p s q → Reads q t r → Reads p (followed_by s t) r
 Reads-both p q r s t first next = record {
   is = λ entries rest.
       ap (λ (bytes : List ℕ). read_lines entries p (slice_split ends_line bytes)) (append_assoc s.entries t.entries rest)
@@ -187,23 +187,23 @@ Reads-both p q r s t first next = record {
 entry_sheet : ℕ → ℕ → List Mark → Sheet
 entry_sheet line n entry = sheet_with (entry_text line n entry) (cond (is_keyed entry) 1 0) (cond (is_refused entry) 1 0)
 
-keyed_next : (place : Place) (line n : ℕ) (b : Bool) → (next_place place line n b).keyed ≡ place.keyed + cond (not b) 1 0
+keyed_next : (place : PagePlace) (line n : ℕ) (b : Bool) → (next_place place line n b).keyed ≡ place.keyed + cond (not b) 1 0
 keyed_next place line n true = omega arith
 keyed_next place line n false = refl
 
-refused_next : (place : Place) (line n : ℕ) (b : Bool) → (next_place place line n b).refused ≡ place.refused + cond b 1 0
+refused_next : (place : PagePlace) (line n : ℕ) (b : Bool) → (next_place place line n b).refused ≡ place.refused + cond b 1 0
 refused_next place line n true = refl
 refused_next place line n false = omega arith
 
-line_next : (place : Place) (line n : ℕ) (b : Bool) → (next_place place line n b).line ≡ line
+line_next : (place : PagePlace) (line n : ℕ) (b : Bool) → (next_place place line n b).line ≡ line
 line_next place line n true = refl
 line_next place line n false = refl
 
-entries_next : (place : Place) (line n : ℕ) (b : Bool) → (next_place place line n b).entries ≡ n
+entries_next : (place : PagePlace) (line n : ℕ) (b : Bool) → (next_place place line n b).entries ≡ n
 entries_next place line n true = refl
 entries_next place line n false = refl
 
-Reads-entry : (place : Place) (line n : ℕ) (entry : List Mark) → line < LINES → At place line n → IsEntry entry
+Reads-entry : (place : PagePlace) (line n : ℕ) (entry : List Mark) → line < LINES → At place line n → IsEntry entry
     → Reads place (entry_sheet line n entry) (next_place place line n (is_refused entry))
 unfolding entry_sheet
 Reads-entry place line n entry below at is = record {
@@ -213,7 +213,7 @@ Reads-entry place line n entry below at is = record {
 }
 
 -- the number after an entry of the same line
-number_next : (place : Place) (line n : ℕ) (b : Bool) → number_at (next_place place line n b) line ≡ n + 1
+number_next : (place : PagePlace) (line n : ℕ) (b : Bool) → number_at (next_place place line n b) line ≡ n + 1
 number_next place line n b =
     cond-true _ _ _ (eq-eqb line _ (sym (line_next place line n b)))
     ∙ ap (λ (k : ℕ). k + 1) (entries_next place line n b)
@@ -236,23 +236,23 @@ entries_sheet-more line n entry entries =
     (sum_by-cons (λ e. cond (is_refused e) 1 0) entry entries)
 
 -- a place after which a line may begin
-pub record Ready (place : Place) (line : ℕ) : Type 0 where
+pub record Ready (place : PagePlace) (line : ℕ) : Type 0 where
   pub low : place.line ≤ line
   pub fresh : place.line ≡ line → place.entries ≡ 0
 
 -- a sheet is read, and then the line may begin
-pub record ReadsUpTo (place : Place) (sheet : Sheet) (line : ℕ) : Type 0 where
-  pub place' : Place
+pub record ReadsUpTo (place : PagePlace) (sheet : Sheet) (line : ℕ) : Type 0 where
+  pub place' : PagePlace
   pub reads : Reads place sheet place'
   pub ready : Ready place' line
   pub up : place.line ≤ place'.line
 
-Reads-entries : (place : Place) (line n : ℕ) (entries : List (List Mark)) → line < LINES → place.line ≤ line → number_at place line ≡ n
-    → AllByRecursion IsEntry entries → (place' : Place) × Reads place (entries_sheet line n entries) place' × (place'.line ≤ line) × (place.line ≤ place'.line)
+Reads-entries : (place : PagePlace) (line n : ℕ) (entries : List (List Mark)) → line < LINES → place.line ≤ line → number_at place line ≡ n
+    → AllByRecursion IsEntry entries → (place' : PagePlace) × Reads place (entries_sheet line n entries) place' × (place'.line ≤ line) × (place.line ≤ place'.line)
 Reads-entries place line n [] below low number are =
     (place, subst (λ sheet. Reads place sheet place) (sym (entries_sheet-none line n)) (Reads-none place), low, omega arith)
 Reads-entries place line n (entry ∷ entries) below low number are =
-    let next : Place = next_place place line n (is_refused entry) in
+    let next : PagePlace = next_place place line n (is_refused entry) in
     let same : next.line ≡ line = line_next place line n (is_refused entry) in
     let rest = Reads-entries next line (n + 1) entries below (omega arith) (number_next place line n (is_refused entry)) are.1 in (
       rest.0,
@@ -263,7 +263,7 @@ Reads-entries place line n (entry ∷ entries) below low number are =
     )
 
 -- the first entry of a line that may begin has the number 1
-number-ready : (place : Place) (line : ℕ) → Ready place line → number_at place line ≡ 1
+number-ready : (place : PagePlace) (line : ℕ) → Ready place line → number_at place line ≡ 1
 number-ready place line ready =
     cond_both (line == place.line) (place.entries + 1) 1 (λ n. n ≡ 1)
     (λ e. omega (arith, ready.fresh (sym (eqb-true line place.line e)))) (λ e. refl)
@@ -273,7 +273,7 @@ unfolding entries_sheet
 line_sheet-entries line marks = refl
 
 -- the tape of a line is read, and then the next line may begin
-Reads-line : (place : Place) (line : ℕ) (marks : List Mark) → line < LINES → Ready place line → AreMarks marks
+Reads-line : (place : PagePlace) (line : ℕ) (marks : List Mark) → line < LINES → Ready place line → AreMarks marks
     → ReadsUpTo place (line_sheet line marks) (line + 1)
 Reads-line place line marks below ready are =
     let read = Reads-entries place line 1 (entries_of marks) below ready.low (number-ready place line ready) (entries_are marks are) in
@@ -285,7 +285,7 @@ Reads-line place line marks below ready are =
     }
 
 -- the tapes of n lines are read
-pub Reads-lines : (tape : ℕ → List Mark) (place : Place) (a n : ℕ) → a + n ≤ LINES → Ready place a
+pub Reads-lines : (tape : ℕ → List Mark) (place : PagePlace) (a n : ℕ) → a + n ≤ LINES → Ready place a
     → ((l : ℕ) → AreMarks (tape l)) → ReadsUpTo place (sheet_from tape a n) (a + n)
 unfolding sheet_from
 Reads-lines tape place a zero within ready are =
@@ -307,12 +307,12 @@ pub Ready-start : (from line : ℕ) → from ≤ line → Ready (start_at from) 
 Ready-start from line low = record { low = low; fresh = λ e. refl }
 
 -- the next page begins with no line before that of a place
-pub line_after-up : (place : Place) (line : ℕ) → line ≤ place.line → line ≤ line_after place
+pub line_after-up : (place : PagePlace) (line : ℕ) → line ≤ place.line → line ≤ line_after place
 line_after-up place line up =
     cond_both (place.entries == 0) place.line (place.line + 1) (λ next. line ≤ next) (λ e. up) (λ e. omega arith)
 
 -- where a line may begin, the next page may begin with it
-pub line_after-ready : (place : Place) (line : ℕ) → Ready place line → line_after place ≤ line
+pub line_after-ready : (place : PagePlace) (line : ℕ) → Ready place line → line_after place ≤ line
 line_after-ready place line ready =
     cond_both (place.entries == 0) place.line (place.line + 1) (λ next. next ≤ line)
     (λ e. ready.low)

@@ -9,7 +9,7 @@ use Rattle.std.proofs.lemmas.List.Splits.{join_with_byte-slice_split}
 use Rattle.xb_model.specs.Page.{totals_text}
 use Rattle.xb_page.specs.declared.fault.PageFault.{PageFault}
 use Rattle.xb_page.specs.declared.fault.PageFault.TheVariants as fault
-use Rattle.xb_page.specs.declared.place.Place.{Place}
+use Rattle.xb_page.specs.declared.page_place.PagePlace.{PagePlace}
 use Rattle.xb_page.specs.PageLines.{Read, ends_line, has_more, place_and, read_lines, read_page, read_totals, read_with, start_at, words}
 use Rattle.xb_page.specs.Places.{line_after, line_feed, space, text_line}
 use Rattle.xb_page.specs.ReadPages.{after_entry, are_four, four_of, is_totals, says_totals}
@@ -19,7 +19,7 @@ use Rattle.xb_page.proofs.PlainBytes.{slice_split-line}
 use Rattle.xb_page.proofs.ReadEntries.{Reads}
 
 -- the totals end a page
-read_totals-end : (entries : List ℕ) (place : Place)
+read_totals-end : (entries : List ℕ) (place : PagePlace)
     → read_lines entries place (slice_split ends_line (totals_text place.keyed place.refused)) ≡ Ok (read_with entries place)
 read_totals-end entries place =
     let text : List ℕ = totals_words place.keyed place.refused in
@@ -36,7 +36,7 @@ abbrev with_next : Sheet → ℕ → Result Read PageFault
 with_next sheet next = Ok (record { sheet = sheet; next_line = next })
 
 -- the page of a sheet that can be read is read
-pub read_sheet : (from : ℕ) (sheet : Sheet) (place : Place) → Reads (start_at from) sheet place
+pub read_sheet : (from : ℕ) (sheet : Sheet) (place : PagePlace) → Reads (start_at from) sheet place
     → read_page from (sheet_text sheet) ≡ Ok (record { sheet = sheet; next_line = line_after place })
 read_sheet from sheet place reads =
     let keyed : place.keyed ≡ sheet.keyed = omega (arith, reads.keyed_is) in
@@ -67,7 +67,7 @@ four_words k r (a ∷ b ∷ c ∷ d ∷ []) says =
     ∙ ap (λ (x : List ℕ). codes "KEYED" ++ space ∷ (decimal k ++ space ∷ (codes "REFUSED" ++ space ∷ x))) (same_bytes d (decimal r) last.1)
 
 -- a text that is read as totals is them
-text_of_totals : (place : Place) (text : List ℕ) → says_totals place (words text) ≡ true
+text_of_totals : (place : PagePlace) (text : List ℕ) → says_totals place (words text) ≡ true
     → text ≡ totals_words place.keyed place.refused
 text_of_totals place text says =
     sym (join_with_byte-slice_split space text) ∙ four_words place.keyed place.refused (words text) says
@@ -80,7 +80,7 @@ text_of-more : (text : List ℕ) (later : List (List ℕ)) → has_more later �
 text_of-more text [] more = cc
 text_of-more text (next ∷ later) more = refl
 
-module _ (entries : List ℕ) (place : Place) (text : List ℕ) (later : List (List ℕ)) (read : Read) (more : has_more later ≡ true) where
+module _ (entries : List ℕ) (place : PagePlace) (text : List ℕ) (later : List (List ℕ)) (read : Read) (more : has_more later ≡ true) where
   -- the totals end the page
   accepted-totals : is_totals (words text) ≡ true → (says : says_totals place (words text) ≡ true) → text_of later ≡ []
       → read_with entries place ≡ read → entries ++ text_of (text ∷ later) ≡ sheet_text read.sheet
@@ -102,8 +102,8 @@ module _ (entries : List ℕ) (place : Place) (text : List ℕ) (later : List (L
   totals_case false z says none first e = absurd (let no : ⊥ = cc in no)
 
   -- an entry, and the rest
-  entry_case : (found : Result Place PageFault)
-      → ((next : Place) → read_lines (entries ++ text ++ codes "\n") next later ≡ Ok read
+  entry_case : (found : Result PagePlace PageFault)
+      → ((next : PagePlace) → read_lines (entries ++ text ++ codes "\n") next later ≡ Ok read
       → (entries ++ text ++ codes "\n") ++ text_of later ≡ sheet_text read.sheet)
       → place_and found (λ next. read_lines (entries ++ text ++ codes "\n") next later) ≡ Ok read
       → entries ++ text_of (text ∷ later) ≡ sheet_text read.sheet
@@ -116,14 +116,14 @@ module _ (entries : List ℕ) (place : Place) (text : List ℕ) (later : List (L
       ∙ rest next e
 
 -- a page that is read is its sheet
-accepted : (entries : List ℕ) (place : Place) (lines : List (List ℕ)) (read : Read) → read_lines entries place lines ≡ Ok read
+accepted : (entries : List ℕ) (place : PagePlace) (lines : List (List ℕ)) (read : Read) → read_lines entries place lines ≡ Ok read
     → entries ++ text_of lines ≡ sheet_text read.sheet
 accepted entries place [] read e = absurd (let no : ⊥ = cc in no)
 accepted entries place (text ∷ later) read e =
     at (has_more later) (is_totals (words text)) refl refl (λ next. accepted (entries ++ text ++ codes "\n") next later read) e
   where
     at : (m t : Bool) → has_more later ≡ m → is_totals (words text) ≡ t
-        → ((next : Place) → read_lines (entries ++ text ++ codes "\n") next later ≡ Ok read
+        → ((next : PagePlace) → read_lines (entries ++ text ++ codes "\n") next later ≡ Ok read
         → (entries ++ text ++ codes "\n") ++ text_of later ≡ sheet_text read.sheet)
         → cond (not m) (Err (fault.NoTotals (text_line place))) (cond t (read_totals entries place text later)
         (place_and (after_entry place (words text)) (λ next. read_lines (entries ++ text ++ codes "\n") next later))) ≡ Ok read

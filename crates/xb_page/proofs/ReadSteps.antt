@@ -10,8 +10,8 @@ use Rattle.xb_page.specs.Entries.{Entry}
 use Rattle.xb_page.specs.Places.{Head, field_at, head_and, head_of_fields, head_of_words, place_after, text_line, written}
 use Rattle.xb_page.specs.declared.fault.PageFault.{PageFault}
 use Rattle.xb_page.specs.declared.fault.PageFault.TheVariants as fault
-use Rattle.xb_page.specs.declared.place.Head.{Head as WrittenHead}
-use Rattle.xb_page.specs.declared.place.Place.{Place}
+use Rattle.xb_page.specs.declared.page_place.Head.{Head as WrittenHead}
+use Rattle.xb_page.specs.declared.page_place.PagePlace.{PagePlace}
 use Rattle.xb_page.specs.ReadPages.{IsFaultOf, TakesLine, after, before, before_entries, end_of, entries_from, entry_and_rest, entry_of_fields, entry_of_head, is_cut, is_end, is_totals, mark_of, marks_of, says_totals, with_earlier}
 use Rattle.xb_text.specs.Pieces.{pieces}
 
@@ -52,7 +52,7 @@ after-more : (entries : List Entry) (entry : Entry) (rest : Result (List Entry) 
 after-more entries entry (Ok later) = ap Ok (sym (append_assoc entries (entry ∷ []) later))
 after-more entries entry (Err f) = refl
 
-pub takes_entry : (place next : Place) (line : List ℕ) (old new : List Entry) (entry : Entry)
+pub takes_entry : (place next : PagePlace) (line : List ℕ) (old new : List Entry) (entry : Entry)
     → entry_of_fields place (pieces 32 line) ≡ Ok entry → next ≡ place_after place entry → new ≡ old ++ entry ∷ []
     → TakesLine place line old next new
 takes_entry place next line old new entry is goes items later =
@@ -60,17 +60,17 @@ takes_entry place next line old new entry is goes items later =
     (λ entry. entries_from (place_after place entry) later))) is
     ∙ after-more old entry (entries_from (place_after place entry) later)
     ∙ ap (λ (all : List Entry). after all (entries_from (place_after place entry) later)) (sym items)
-    ∙ ap (λ (p : Place). after new (entries_from p later)) (sym goes)
+    ∙ ap (λ (p : PagePlace). after new (entries_from p later)) (sym goes)
 
 -- the steps of the loop over the text lines
-pub line-more : (all : Result (List Entry) PageFault) (place next : Place) (line : List ℕ) (lines : List (List ℕ)) (old new : List Entry)
+pub line-more : (all : Result (List Entry) PageFault) (place next : PagePlace) (line : List ℕ) (lines : List (List ℕ)) (old new : List Entry)
     → all ≡ after old (entries_from place (line ∷ lines)) → is_end (line ∷ lines) ≡ false → is_totals (pieces 32 line) ≡ false
     → TakesLine place line old next new → all ≡ after new (entries_from next lines)
 unfolding entries_from
 line-more all place next line lines old new is more other takes =
     is ∙ ap (after old) (cond-false _ _ _ more ∙ cond-false _ _ _ other) ∙ takes lines
 
-line-wrong : (all : Result (List Entry) PageFault) (place : Place) (line : List ℕ) (lines : List (List ℕ)) (old : List Entry) (f : PageFault)
+line-wrong : (all : Result (List Entry) PageFault) (place : PagePlace) (line : List ℕ) (lines : List (List ℕ)) (old : List Entry) (f : PageFault)
     → all ≡ after old (entries_from place (line ∷ lines)) → is_end (line ∷ lines) ≡ false → is_totals (pieces 32 line) ≡ false
     → entry_of_fields place (pieces 32 line) ≡ Err f → all ≡ Err f
 unfolding entries_from
@@ -79,32 +79,32 @@ line-wrong all place line lines old f is more other wrong =
     ∙ ap (λ (first : Result Entry PageFault). entry_and_rest first
     (λ entry. entries_from (place_after place entry) lines)) wrong)
 
-pub line-fault : (all : Result (List Entry) PageFault) (place : Place) (line : List ℕ) (lines : List (List ℕ)) (old : List Entry) (f : PageFault)
+pub line-fault : (all : Result (List Entry) PageFault) (place : PagePlace) (line : List ℕ) (lines : List (List ℕ)) (old : List Entry) (f : PageFault)
     → all ≡ after old (entries_from place (line ∷ lines)) → is_end (line ∷ lines) ≡ false → is_totals (pieces 32 line) ≡ false
     → IsFaultOf (entry_of_fields place (pieces 32 line)) f → IsFaultOf all f
 line-fault all place line lines old f is more other (inl memory) = inl memory
 line-fault all place line lines old f is more other (inr wrong) = inr (line-wrong all place line lines old f is more other wrong)
 
-line-totals : (all : Result (List Entry) PageFault) (place : Place) (line : List ℕ) (lines : List (List ℕ)) (old : List Entry)
+line-totals : (all : Result (List Entry) PageFault) (place : PagePlace) (line : List ℕ) (lines : List (List ℕ)) (old : List Entry)
     → all ≡ after old (entries_from place (line ∷ lines)) → is_end (line ∷ lines) ≡ false → is_totals (pieces 32 line) ≡ true
     → all ≡ after old (end_of place (pieces 32 line) lines)
 unfolding entries_from
 line-totals all place line lines old is more totals =
     is ∙ ap (after old) (cond-false _ _ _ more ∙ cond-true _ _ _ totals)
 
-pub line-last : (all : Result (List Entry) PageFault) (place : Place) (line : List ℕ) (lines : List (List ℕ)) (old : List Entry)
+pub line-last : (all : Result (List Entry) PageFault) (place : PagePlace) (line : List ℕ) (lines : List (List ℕ)) (old : List Entry)
     → all ≡ after old (entries_from place (line ∷ lines)) → is_end (line ∷ lines) ≡ false → is_totals (pieces 32 line) ≡ true
     → end_of place (pieces 32 line) lines ≡ Ok [] → all ≡ Ok old
 line-last all place line lines old is more totals end =
     line-totals all place line lines old is more totals ∙ ap (after old) end ∙ ap Ok (append-nil old)
 
-pub line-early : (all : Result (List Entry) PageFault) (place : Place) (line : List ℕ) (lines : List (List ℕ)) (old : List Entry) (f : PageFault)
+pub line-early : (all : Result (List Entry) PageFault) (place : PagePlace) (line : List ℕ) (lines : List (List ℕ)) (old : List Entry) (f : PageFault)
     → all ≡ after old (entries_from place (line ∷ lines)) → is_end (line ∷ lines) ≡ false → is_totals (pieces 32 line) ≡ true
     → end_of place (pieces 32 line) lines ≡ Err f → all ≡ Err f
 line-early all place line lines old f is more totals end =
     line-totals all place line lines old is more totals ∙ ap (after old) end
 
-pub lines-end : (all : Result (List Entry) PageFault) (place : Place) (lines : List (List ℕ)) (old : List Entry)
+pub lines-end : (all : Result (List Entry) PageFault) (place : PagePlace) (lines : List (List ℕ)) (old : List Entry)
     → all ≡ after old (entries_from place lines) → is_end lines ≡ true → all ≡ Err (fault.NoTotals (text_line place))
 unfolding entries_from
 lines-end all place [] old is end = is
@@ -118,12 +118,12 @@ is_cut-pieces text = by (pieces 10 text) (some-piece 10 text)
     by [] some = absurd (omega arith)
     by (part ∷ parts) some = refl
 
-pub end-goes_on : (place : Place) (fields lines : List (List ℕ)) → says_totals place fields ≡ true → is_end lines ≡ false
+pub end-goes_on : (place : PagePlace) (fields lines : List (List ℕ)) → says_totals place fields ≡ true → is_end lines ≡ false
     → is_cut lines ≡ false → end_of place fields lines ≡ Err (fault.GoesOn (text_line place))
 end-goes_on place fields lines says more some =
     cond-true _ _ _ says ∙ cond-false _ _ _ more ∙ cond-false _ _ _ some
 
-pub line-none : (all : Result (List Entry) PageFault) (place : Place) (old : List Entry)
+pub line-none : (all : Result (List Entry) PageFault) (place : PagePlace) (old : List Entry)
     → all ≡ after old (entries_from place []) → all ≡ Err (fault.NoTotals (text_line place))
 unfolding entries_from
 line-none all place old is = is
@@ -165,7 +165,7 @@ fields-3 (a ∷ []) = refl
 fields-3 (a ∷ b ∷ []) = refl
 fields-3 (a ∷ b ∷ c ∷ fields) = refl
 
-pub fields-in_turn : (place : Place) (fields one two three : List (List ℕ)) (a b kind : List ℕ)
+pub fields-in_turn : (place : PagePlace) (fields one two three : List (List ℕ)) (a b kind : List ℕ)
     → a ≡ field_at fields 0 → one ≡ drop 1 fields → b ≡ field_at one 0 → two ≡ drop 1 one
     → kind ≡ field_at two 0 → three ≡ drop 1 two
     → head_of_fields place fields ≡ head_of_words place a b kind three
@@ -192,7 +192,7 @@ same-head_fault (Ok x) says now is h = tt
 same-head_fault (Err f) says now is h = is ∙ h
 
 -- the entry of a head that was read
-pub entry-of_read : (place : Place) (n : ℕ) (fields : List (List ℕ)) (head : Head) → n ≡ text_line place
+pub entry-of_read : (place : PagePlace) (n : ℕ) (fields : List (List ℕ)) (head : Head) → n ≡ text_line place
     → head_of_fields place fields ≡ Ok head → entry_of_fields place fields ≡ entry_of_head n head
 entry-of_read place n fields head n_is is =
     ap (λ (r : Result Head PageFault). head_and r (λ head. entry_of_head (text_line place) head)) is

@@ -9,18 +9,18 @@ use Rattle.std.proofs.lemmas.List.Splits.{join_with_byte-slice_split}
 use Rattle.xb_text.proofs.PlacedPieces.{drop-piece, first_piece, one_piece, piece_length, take-piece, with_byte}
 use Rattle.xb_page.specs.declared.fault.PageFault.{PageFault}
 use Rattle.xb_page.specs.declared.fault.PageFault.TheVariants as fault
-use Rattle.xb_page.specs.declared.place.Place.{Place}
+use Rattle.xb_page.specs.declared.page_place.PagePlace.{PagePlace}
 use Rattle.xb_page.specs.PageLines.{Read, ends_line, has_more, place_and, read_lines, read_page, read_totals, read_with, words}
 use Rattle.xb_page.specs.Places.{line_feed, text_line}
 use Rattle.xb_page.specs.ReadPages.{after_entry, is_totals, says_totals}
 use Rattle.xb_page.proofs.ReadEntries.{has_more-slice_split, read_lines-more}
 
 -- a page is read as its rest from a line's start on is, after the earlier lines
-abbrev pub IsRestRead : ℕ → List ℕ → Place → ℕ → Type 0
+abbrev pub IsRestRead : ℕ → List ℕ → PagePlace → ℕ → Type 0
 IsRestRead from page place start =
     read_page from page ≡ read_lines (take start page) place (slice_split ends_line (drop start page))
 
-module _ (from : ℕ) (page : List ℕ) (place : Place) (start n : ℕ) (rest : IsRestRead from page place start)
+module _ (from : ℕ) (page : List ℕ) (place : PagePlace) (start n : ℕ) (rest : IsRestRead from page place start)
     (e : Some n ≡ position ends_line (take (length page - start) (drop start page))) where
   -- the text of the line
   abbrev pub text : List ℕ
@@ -88,17 +88,17 @@ module _ (from : ℕ) (page : List ℕ) (place : Place) (start n : ℕ) (rest : 
       ∙ cond-true _ _ _ (eq-eqb (length (join_with_byte line_feed later)) 0 (omega (arith, after)))
 
 -- a line that is wrong
-pub after_fails : (d : PageFault) → (place : Place) (text : List ℕ) (next : Place → Result Read PageFault)
+pub after_fails : (d : PageFault) → (place : PagePlace) (text : List ℕ) (next : PagePlace → Result Read PageFault)
     → Err d ≡ after_entry place (words text) → place_and (after_entry place (words text)) next ≡ Err d
-after_fails d place bytes next e = ap (λ (r : Result Place PageFault). place_and r next) (sym e)
+after_fails d place bytes next e = ap (λ (r : Result PagePlace PageFault). place_and r next) (sym e)
 
 -- a line that is right
-pub after_goes : (place' place : Place) (text : List ℕ) (next : Place → Result Read PageFault)
+pub after_goes : (place' place : PagePlace) (text : List ℕ) (next : PagePlace → Result Read PageFault)
     → Ok place' ≡ after_entry place (words text) → place_and (after_entry place (words text)) next ≡ next place'
-after_goes place' place bytes next e = ap (λ (r : Result Place PageFault). place_and r next) (sym e)
+after_goes place' place bytes next e = ap (λ (r : Result PagePlace PageFault). place_and r next) (sym e)
 
 -- no line is left
-pub no_line : (from : ℕ) (page : List ℕ) (place : Place) (start : ℕ) → IsRestRead from page place start
+pub no_line : (from : ℕ) (page : List ℕ) (place : PagePlace) (start : ℕ) → IsRestRead from page place start
     → None ≡ position ends_line (take (length page - start) (drop start page)) → read_page from page ≡ Err (fault.NoTotals (text_line place))
 no_line from page place start rest e =
     let at = rw (take_rest page start) at (sym e) in

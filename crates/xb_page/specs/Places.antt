@@ -6,8 +6,8 @@ use Rattle.xb_text.specs.Pieces.{pieces_left}
 use Rattle.xb_page.specs.Entries.{Entry}
 use Rattle.xb_page.specs.declared.fault.PageFault.{PageFault}
 use Rattle.xb_page.specs.declared.fault.PageFault.TheVariants as fault
-use Rattle.xb_page.specs.declared.place.Head.{Head as WrittenHead}
-use Rattle.xb_page.specs.declared.place.Place.{Place}
+use Rattle.xb_page.specs.declared.page_place.Head.{Head as WrittenHead}
+use Rattle.xb_page.specs.declared.page_place.PagePlace.{PagePlace}
 
 -- LF, space
 abbrev pub line_feed : ℕ
@@ -16,12 +16,12 @@ line_feed = 10
 abbrev pub space : ℕ
 space = 32
 
-abbrev pub place_with : ℕ → ℕ → ℕ → ℕ → Place
+abbrev pub place_with : ℕ → ℕ → ℕ → ℕ → PagePlace
 place_with line entries keyed refused =
     record { line = line; entries = entries; keyed = keyed; refused = refused }
 
 -- the number of the text line at a place
-abbrev pub text_line : Place → ℕ
+abbrev pub text_line : PagePlace → ℕ
 text_line place = place.keyed + place.refused + 1
 
 -- the number that four digits write
@@ -29,11 +29,11 @@ abbrev pub four_digits_of : List ℕ → Option ℕ
 four_digits_of text = if length text == 4 then field_number 4 text else None
 
 -- the number of the next entry, if it is of this line
-abbrev pub number_at : Place → ℕ → ℕ
+abbrev pub number_at : PagePlace → ℕ → ℕ
 number_at place line = if line == place.line then place.entries + 1 else 1
 
 -- the number of the next entry, if the field writes it
-abbrev pub next_number : Place → ℕ → List ℕ → Option ℕ
+abbrev pub next_number : PagePlace → ℕ → List ℕ → Option ℕ
 next_number place line text =
     if bytes_eq text (decimal (number_at place line)) then Some (number_at place line) else None
 
@@ -67,7 +67,7 @@ abbrev pub field_at : List (List ℕ) → ℕ → List ℕ
 field_at fields k = slice_index_or fields k []
 
 -- the head that fields write, if it is the next one at a place, or its first fault
-abbrev pub head_of_words : Place → List ℕ → List ℕ → List ℕ → List (List ℕ) → Result Head PageFault
+abbrev pub head_of_words : PagePlace → List ℕ → List ℕ → List ℕ → List (List ℕ) → Result Head PageFault
 head_of_words place line number kind rest =
     or_fault (fault.Line (text_line place)) (four_digits_of line) (λ l.
     if nat_lt l place.line then Err (fault.Early (text_line place)) else
@@ -76,7 +76,7 @@ head_of_words place line number kind rest =
     Ok (head_with l n refused rest))))
 
 -- the head that the text line at a place writes, or its first fault
-abbrev pub head_of_fields : Place → List (List ℕ) → Result Head PageFault
+abbrev pub head_of_fields : PagePlace → List (List ℕ) → Result Head PageFault
 head_of_fields place fields =
     head_of_words place (field_at fields 0) (field_at fields 1) (field_at fields 2) (drop 3 fields)
 
@@ -85,15 +85,15 @@ head_and (Err f) next = Err f
 head_and (Ok head) next = next head
 
 -- the place after an entry
-abbrev pub next_place : Place → ℕ → ℕ → Bool → Place
+abbrev pub next_place : PagePlace → ℕ → ℕ → Bool → PagePlace
 next_place place line number refused =
     if refused
     then place_with line number place.keyed (place.refused + 1)
     else place_with line number (place.keyed + 1) place.refused
 
-abbrev pub place_after : Place → Entry → Place
+abbrev pub place_after : PagePlace → Entry → PagePlace
 place_after place entry = next_place place entry.line entry.number (is_refused entry.marks)
 
 -- the first line that the next page may have
-abbrev pub line_after : Place → ℕ
+abbrev pub line_after : PagePlace → ℕ
 line_after place = if place.entries == 0 then place.line else place.line + 1

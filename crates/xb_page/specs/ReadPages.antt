@@ -14,7 +14,7 @@ use Rattle.xb_page.specs.Entries.{Entry, entry_with}
 use Rattle.xb_page.specs.Places.{Head, field_at, four_digits_of, head_and, head_of_fields, line_feed, or_fault, place_after, place_with, space, text_line}
 use Rattle.xb_page.specs.declared.fault.PageFault.{PageFault}
 use Rattle.xb_page.specs.declared.fault.PageFault.TheVariants as fault
-use Rattle.xb_page.specs.declared.place.Place.{Place}
+use Rattle.xb_page.specs.declared.page_place.PagePlace.{PagePlace}
 
 -- plus, colon
 abbrev pub plus : ℕ
@@ -95,7 +95,7 @@ entry_of_head n head =
     else or_fault (fault.Key n) (marks_of head.rest) (λ marks. Ok (entry_with head.line head.number marks))
 
 -- the entry that the text line at a place writes, or its first fault
-abbrev pub entry_of_fields : Place → List (List ℕ) → Result Entry PageFault
+abbrev pub entry_of_fields : PagePlace → List (List ℕ) → Result Entry PageFault
 entry_of_fields place fields =
     head_and (head_of_fields place fields) (λ head. entry_of_head (text_line place) head)
 
@@ -104,7 +104,7 @@ entry_and (Err f) next = Err f
 entry_and (Ok entry) next = next entry
 
 -- the place after the entry that a text line writes, or its first fault
-abbrev pub after_entry : Place → List (List ℕ) → Result Place PageFault
+abbrev pub after_entry : PagePlace → List (List ℕ) → Result PagePlace PageFault
 after_entry place fields = entry_and (entry_of_fields place fields) (λ entry. Ok (place_after place entry))
 
 -- a fault where there is nothing
@@ -133,7 +133,7 @@ are_four keyed refused (Some f) =
     && bytes_eq f.3 (decimal refused)
 
 -- whether these are the totals, as KEYED 1 REFUSED 0
-abbrev pub says_totals : Place → List (List ℕ) → Bool
+abbrev pub says_totals : PagePlace → List (List ℕ) → Bool
 says_totals place fields = are_four place.keyed place.refused (four_of fields)
 
 -- nothing stands after the last LF
@@ -147,7 +147,7 @@ is_cut [] = true
 is_cut other = false
 
 -- the end of a page: its totals are those of the entries, and end it
-abbrev pub end_of : Place → List (List ℕ) → List (List ℕ) → Result (List Entry) PageFault
+abbrev pub end_of : PagePlace → List (List ℕ) → List (List ℕ) → Result (List Entry) PageFault
 end_of place fields lines =
     if says_totals place fields
     then (if is_end lines then Ok []
@@ -165,7 +165,7 @@ entry_and_rest (Err f) rest = Err f
 entry_and_rest (Ok entry) rest = before_entries entry (rest entry)
 
 -- the entries of the text lines from a place on; the last one has the totals
-unfoldable pub entries_from : Place → List (List ℕ) → Result (List Entry) PageFault
+unfoldable pub entries_from : PagePlace → List (List ℕ) → Result (List Entry) PageFault
 entries_from place [] = Err (fault.NoTotals (text_line place))
 entries_from place (line ∷ lines) =
     if is_end (line ∷ lines) then Err (fault.NoTotals (text_line place))
@@ -174,7 +174,7 @@ entries_from place (line ∷ lines) =
     (λ entry. entries_from (place_after place entry) lines))
 
 -- before the first entry
-abbrev pub first_place : Place
+abbrev pub first_place : PagePlace
 first_place = place_with 0 0 0 0
 
 -- the entries of a page, or its first fault; text lines count from 1
@@ -191,7 +191,7 @@ abbrev pub with_earlier : List Mark → Option (List Mark) → Option (List Mark
 with_earlier earlier marks = option_map (λ later. earlier ++ later) marks
 
 -- the entry of a text line is taken, and the place goes on, whatever lines come after it
-abbrev pub TakesLine : Place → List ℕ → List Entry → Place → List Entry → Type 0
+abbrev pub TakesLine : PagePlace → List ℕ → List Entry → PagePlace → List Entry → Type 0
 TakesLine place line old next new =
     (later : List (List ℕ))
     → after old (entry_and_rest (entry_of_fields place (pieces space line))

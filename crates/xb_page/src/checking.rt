@@ -8,7 +8,7 @@ ghost use Rattle.xb_text.specs.Pieces.{pieces, pieces_left};
 
 use crate::fault::PageFault;
 use crate::fields::{mark_of, refusal_of};
-use crate::place::{Head, Place};
+use crate::page_place::{Head, PagePlace};
 use xb_text::first_piece;
 
 // Whether each of the fields of text line `n` writes a mark.
@@ -49,7 +49,7 @@ fn check_rest(n: usize, refused: bool, rest: Option<&[u8]>) -> Result<(), PageFa
 }
 
 // The place after the entry of a head, or the fault of what follows the head.
-fn after_rest(place: &Place, head: Head<'_>) -> Result<Place, PageFault>
+fn after_rest(place: &PagePlace, head: Head<'_>) -> Result<PagePlace, PageFault>
     requires { text_line place.now < 2 ^ 64 }
     ensures place { let entry = entry_of_head (text_line place.now) (written head.entry) in
         result ≡ entry_and entry (λ entry. Ok (place_after place.now entry)) }
@@ -62,7 +62,7 @@ fn after_rest(place: &Place, head: Head<'_>) -> Result<Place, PageFault>
 }
 
 // The place after the entry that the text line at a place writes, or its first fault.
-pub(crate) fn after_entry(place: &Place, text: &[u8]) -> Result<Place, PageFault>
+pub(crate) fn after_entry(place: &PagePlace, text: &[u8]) -> Result<PagePlace, PageFault>
     requires lines { text_line place.now < 2 ^ 64 }
     requires entries { place.now.entries + 1 < 2 ^ 64 }
     ensures place { result ≡ after_entry place.now (pieces space text.now) }

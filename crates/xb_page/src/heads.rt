@@ -6,7 +6,7 @@ ghost use Rattle.xb_page.specs.PageLines.{ends_line, read_of, read_page};
 
 use crate::checking::after_entry;
 use crate::fault::PageFault;
-use crate::place::Place;
+use crate::page_place::PagePlace;
 use crate::totals::{is_totals, says_totals};
 
 /// What a page gives whose entries are not kept.
@@ -40,7 +40,7 @@ pub fn read_page(page: &[u8], from: u16) -> Result<ReadPage<'_>, PageFault>
     ensures keyed_fits { IfOk result (λ read. read.keyed < 2 ^ 64) }
     ensures refused_fits { IfOk result (λ read. read.refused < 2 ^ 64) }
 {
-    let mut place = Place::start(from);
+    let mut place = PagePlace::start(from);
     let mut start = 0;
     while let Some(length) = line_length(&page[start..]) {
         let end = start + length;

@@ -25,8 +25,8 @@ mod fields;
 mod heads;
 pub mod laws;
 mod line_ends;
+mod page_place;
 mod pieces;
-mod place;
 mod reading;
 mod totals;
 

@@ -12,7 +12,7 @@ use xb_model::LineNo;
 /// The line of the last entry and its number, or the first line that the page may have and 0 before any
 /// entry; and how many entries were keyed, and how many refused.
 #[derive(Clone, Copy)]
-pub(crate) struct Place {
+pub(crate) struct PagePlace {
     pub(crate) line: u16,
     pub(crate) entries: usize,
     pub(crate) keyed: usize,
@@ -35,12 +35,12 @@ fn line_of_digits(field: &[u8]) -> Option<LineNo>
     LineNo::new(four_digits(field)?)
 }
 
-impl Place {
+impl PagePlace {
     // Before the first entry.
-    pub(crate) fn start(line: u16) -> Place
+    pub(crate) fn start(line: u16) -> PagePlace
         ensures { result ≡ place_with line 0 0 0 }
     {
-        Place {
+        PagePlace {
             line,
             entries: 0,
             keyed: 0,
@@ -131,11 +131,11 @@ impl Place {
     }
 
     // The place after an entry.
-    pub(crate) fn after(&self, line: LineNo, number: usize, refused: bool) -> Place
+    pub(crate) fn after(&self, line: LineNo, number: usize, refused: bool) -> PagePlace
         requires { text_line self.now < 2 ^ 64 }
         ensures { result ≡ next_place self.now line number refused }
     {
-        Place {
+        PagePlace {
             line: line.get(),
             entries: number,
             keyed: if refused { self.keyed } else { self.keyed + 1 },

@@ -7,7 +7,7 @@ ghost use Rattle.xb_text.specs.Pieces.{pieces, pieces_left};
 use crate::entry::PageEntry;
 use crate::fault::PageFault;
 use crate::fields::{mark_of, refusal_of};
-use crate::place::{Head, Place};
+use crate::page_place::{Head, PagePlace};
 use crate::totals::{is_totals, says_totals};
 use std::alloc::Global;
 use xb_model::{Key, Mark};
@@ -71,7 +71,7 @@ fn entry_of_head(alloc: Global, n: usize, head: Head<'_>) -> Result<PageEntry, P
 }
 
 // The entry that the text line at a place writes, or its first fault.
-fn entry_of_line(alloc: Global, place: &Place, text: &[u8]) -> Result<PageEntry, PageFault>
+fn entry_of_line(alloc: Global, place: &PagePlace, text: &[u8]) -> Result<PageEntry, PageFault>
     requires lines { text_line place.now < 2 ^ 64 }
     requires entries { place.now.entries + 1 < 2 ^ 64 }
     ensures entry { IfOk result (λ entry. entry_of_fields place.now (pieces space text.now) ≡ Ok entry) }
@@ -88,10 +88,10 @@ fn entry_of_line(alloc: Global, place: &Place, text: &[u8]) -> Result<PageEntry,
 // Puts the entry of a text line after the earlier ones, and returns the place after it.
 fn take_line(
     alloc: Global,
-    place: &Place,
+    place: &PagePlace,
     line: &[u8],
     entries: &mut Vec<PageEntry>,
-) -> Result<Place, PageFault>
+) -> Result<PagePlace, PageFault>
     requires lines { text_line place.now < 2 ^ 64 }
     requires entries { place.now.entries + 1 < 2 ^ 64 }
     ensures taken { IfOk result (λ next.
@@ -119,7 +119,7 @@ fn is_end(left: Option<&[u8]>) -> bool
 }
 
 // Whether the totals, after which this is left, are those at a place and end the page.
-fn end(place: &Place, totals: &[u8], left: Option<&[u8]>) -> Result<(), PageFault>
+fn end(place: &PagePlace, totals: &[u8], left: Option<&[u8]>) -> Result<(), PageFault>
     requires { text_line place.now < 2 ^ 64 }
     ensures end { let after = pieces_left line_feed (option_copied left.entry) in
         let says = end_of place.now (pieces space totals.now) after in
@@ -149,7 +149,7 @@ pub fn page_entries(alloc: Global, page: &[u8]) -> Result<Vec<PageEntry>, PageFa
     ensures fault { IfErr result (λ f. IsFaultOf (entries_of_page page.now) f) }
 {
     let mut entries = Vec::new(alloc);
-    let mut place = Place::start(0);
+    let mut place = PagePlace::start(0);
     let mut left = Some(page);
     while let Some(text) = left {
         if is_end(left) {

@@ -5,8 +5,8 @@ ghost use Rattle.xb_page.specs.ReadPages.{is_totals, says_totals};
 ghost use Rattle.xb_text.specs.Pieces.{pieces};
 
 use crate::fields::is_decimal;
+use crate::page_place::PagePlace;
 use crate::pieces::{four_pieces, next_field};
-use crate::place::Place;
 
 // Whether a text line is one of totals.
 pub(crate) fn is_totals(text: &[u8]) -> bool
@@ -17,7 +17,7 @@ pub(crate) fn is_totals(text: &[u8]) -> bool
 }
 
 // Whether a text line is the totals at a place.
-pub(crate) fn says_totals(place: &Place, text: &[u8]) -> bool
+pub(crate) fn says_totals(place: &PagePlace, text: &[u8]) -> bool
     ensures { result ≡ says_totals place.now (pieces space text.now) }
 {
     match four_pieces(text) {

@@ -4,7 +4,7 @@ use Rattle.xb_page.specs.declared.fault.PageFault.TheVariants as fault
 use Rattle.xb_page.specs.ReadPages.{IsFaultOf, after, entries_from, entries_of_page, first_place, is_end}
 use Rattle.xb_page.specs.Places.{line_feed, text_line}
 use Rattle.xb_text.specs.Pieces.{pieces, pieces_left}
-use Rattle.xb_page.specs.declared.place.Place.{Place}
+use Rattle.xb_page.specs.declared.page_place.PagePlace.{PagePlace}
 use Rattle.xb_page.proofs.ReadSteps.{after-none, few-lines, line-early, line-fault, line-last, line-more, line-none, lines-end}
 use Rattle.xb_page.proofs.reading.page_entries.Goals as goal
 
@@ -17,7 +17,7 @@ loop-left-init c =
       entries = after-none all ∙ ap (λ place. after [] (entries_from place (pieces line_feed c.args.page.now))) (sym first)
           ∙ sym (ap (λ entries. after entries (entries_from c.start-place.result (pieces line_feed c.args.page.now))) c.new-entries.ensures.items);
       lines = omega (arith, few, ap text_line first);
-      numbers = omega (arith, ap text_line first, ap (λ (p : Place). p.entries) first);
+      numbers = omega (arith, ap text_line first, ap (λ (p : PagePlace). p.entries) first);
     }
 
 pub returns-then-is_end-clause-fault : goal.returns-then-is_end-clause-fault

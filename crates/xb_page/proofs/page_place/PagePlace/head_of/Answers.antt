@@ -2,7 +2,7 @@ use Rattle.std.specs.Prelude.{option_copied}
 use Rattle.xb_page.specs.Places.{space}
 use Rattle.xb_text.specs.Pieces.{pieces, pieces_left}
 use Rattle.xb_page.proofs.ReadSteps.{fields-in_turn, same-head, same-head_fault}
-use Rattle.xb_page.proofs.place.Place.head_of.Goals as goal
+use Rattle.xb_page.proofs.page_place.PagePlace.head_of.Goals as goal
 
 pub returns-clause-head : goal.returns-clause-head
 returns-clause-head c =
