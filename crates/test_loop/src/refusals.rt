@@ -59,7 +59,7 @@ const TABLES: &[Refused] = &[
     (
         &["7=1"],
         b"RIFF1234WAVEdata1234",
-        b"mfloop: the recording: a WAV of 16-bit samples was wanted\n",
+        b"mfloop: the recording: a WAV of 8 or 16 bits or mu-law was wanted: sox IN.wav -e signed -b 16 OUT.wav\n",
     ),
     (
         &["7=A"],

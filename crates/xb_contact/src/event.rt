@@ -60,8 +60,8 @@ pub enum Refusal {
     /// A line that gpiomon does not write.
     #[error("a line of gpiomon was wanted")]
     Edge,
-    /// A sound whose samples are not 16 bits each.
-    #[error("a WAV of 16-bit samples was wanted")]
+    /// A file whose head is that of no WAV whose samples can be read.
+    #[error("a WAV of 8 or 16 bits or mu-law was wanted: sox IN.wav -e signed -b 16 OUT.wav")]
     Wav,
     /// The form is told by nothing.
     #[error("the form of the recording cannot be told: give --format")]

@@ -1,5 +1,5 @@
 -- The head of a WAV, part by part.
-use Rattle.std.proofs.Common.{◌≡◌, ℕ, zero, suc, ◌+◌, ◌-◌, ◌<◌, ◌≤◌, min, List, [], ◌∷◌, ◌++◌, Bool, true, false, cond, Option, Some, None, Ok, Err, drop, length, take, ap, ap₂, refl, subst, sym, ◌∙◌, append-nil, append_assoc, length-append, length-drop, arith, codes, get_or, drop-cons, add-one}
+use Rattle.std.proofs.Common.{◌≡◌, ℕ, zero, suc, ◌+◌, ◌-◌, ◌<◌, ◌≤◌, min, List, [], ◌∷◌, ◌++◌, Bool, true, false, cond, Option, Some, None, Ok, Err, drop, length, take, ap, ap₂, refl, subst, sym, ◌∙◌, append_assoc, length-append, length-drop, arith, codes, get_or, drop-cons, add-one}
 use Rattle.std.proofs.lemmas.Bool.Decides.{nat_tests}
 use Rattle.std.proofs.lemmas.List.{take-append-drop, take_all, take_more}
 use Rattle.std.proofs.Math.Seq.{drop-append_seam, take-append_seam}
@@ -10,7 +10,7 @@ use Rattle.xb_riff.specs.declared.head.HeadFault.TheVariants as fault
 use Rattle.xb_riff.specs.declared.head.HeadPlace.{HeadPlace}
 use Rattle.xb_riff.specs.declared.head.HeadPlace.TheVariants as places
 use Rattle.xb_riff.specs.declared.head.WavFormat.{WavFormat}
-use Rattle.xb_riff.specs.Heads.{HeadSoFar, IsGathered, IsPlace, IsWithin, RefusesHead, Samples, TakesByte, TakesHead, after_chunk, after_format, chunks_of, format_and, format_of, head_of, is_riff, length_of, long_at, padded, passed, rest_at, rest_of, samples_by, so_far}
+use Rattle.xb_riff.specs.Heads.{HeadSoFar, IsGathered, IsPlace, Samples, TakesByte, TakesHead, after_format, chunks_of, format_and, format_of, head_of, is_riff, length_of, long_at, padded, passed, rest_at, rest_of, samples_by, so_far}
 use Rattle.xb_riff.proofs.Chunks.{chunk_head, chunks_few}
 
 -- why a head that ends at a place has no samples

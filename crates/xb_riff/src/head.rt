@@ -1,5 +1,5 @@
 // The head of a WAV file.
-ghost use Rattle.std.specs.Prelude.{◌≡◌, ◌<◌, ◌≤◌, ◌^◌, ◌∷◌, [], min, IfErr, IfOk, IfSome, None, Err, OnErr, length};
+ghost use Rattle.std.specs.Prelude.{◌≡◌, ◌<◌, ◌≤◌, ◌^◌, ◌∷◌, [], ℕ, min, IfErr, IfOk, IfSome, None, Err, OnErr, length, take};
 ghost use Rattle.xb_riff.specs.Heads.{FollowsPart, IsAfter, IsFormat, IsGathered, IsNewHead, RefusesHead, TakesByte, TakesHead, byte_at, coding_of, format_of, is_riff, kind_of, length_of, long_at, padded, part_length, passed, rest_of, short_at};
 
 use crate::coding::Coding;
@@ -354,6 +354,8 @@ impl WavHead {
         ensures within { IfOk result (λ found. IfSome found (λ samples. samples.1 ≤ length bytes.now)) }
         ensures format { IfOk result (λ found. IfSome found (λ samples. IsFormat samples.0)) }
         ensures refused { IfErr result (RefusesHead self.old bytes.now) }
+        ensures stands { OnErr result ((n : ℕ) × (n < length bytes.now)
+            × TakesHead self.old (take n bytes.now) None self.new) }
     {
         for (i, byte) in bytes.iter().enumerate() {
             if let Some(format) = self.take_byte(*byte)? {

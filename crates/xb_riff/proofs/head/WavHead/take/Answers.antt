@@ -1,7 +1,7 @@
-use Rattle.std.proofs.Common.{◌≡◌, ℕ, List, ◌++◌, ◌+◌, Option, Err, Ok, drop, get_or, refl, subst}
+use Rattle.std.proofs.Common.{◌++◌, ◌+◌, Option, Err, None, Ok, drop, get_or, refl, subst, sym, take}
 use Rattle.std.proofs.lemmas.Result.{err_from_is_err_and}
 use Rattle.xb_riff.specs.declared.head.WavFormat.{WavFormat}
-use Rattle.xb_riff.specs.Heads.{TakesByte}
+use Rattle.xb_riff.specs.Heads.{HeadSoFar, TakesByte, TakesHead}
 use Rattle.xb_riff.proofs.HeadLemmas.{head_more, head_then, head_whole}
 use Rattle.xb_riff.proofs.head.WavHead.take.Goals as goal
 
@@ -21,6 +21,12 @@ returns-in_err-format-clause-refused c =
     let i = c.loop-i.i in
     rw (p.1, p.2) (λ rest. head_then c.args.self.now c.loop-i.self bytes rest i (Err c.in_err-format.field-0.0)
     c.loop-i-test.true c.loop-i.invariant (c.in_err-format.ensures.refused (drop (i + 1) bytes ++ rest)))
+
+pub returns-in_err-format-clause-stands : goal.returns-in_err-format-clause-stands
+returns-in_err-format-clause-stands c =
+    let p = err_from_is_err_and c.from_residual.result c.from_residual.ensures.1 in
+    let P : HeadSoFar → Type 0 = λ head. TakesHead c.args.self.now (take c.loop-i.i c.args.bytes.now) None head in
+    rw p.1 (c.loop-i.i, c.loop-i-test.true, subst P (sym c.in_err-format.ensures.kept) c.loop-i.invariant)
 
 pub loop-i-init : goal.loop-i-init
 loop-i-init c = λ rest. refl
