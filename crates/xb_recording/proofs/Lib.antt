@@ -2,3 +2,4 @@ pub mod SaidLemmas
 pub mod RefusedLemmas
 pub mod ToldLemmas
 pub mod WrittenTexts
+pub mod WrittenForms

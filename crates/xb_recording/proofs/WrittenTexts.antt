@@ -96,10 +96,10 @@ all-append :
 all-append [] more all later = later
 all-append (line ∷ lines) more all later = (all.0, all-append lines more all.1 later)
 
-vcd-back :
+pub vcd_back :
     (names : List (List ℕ)) (changes : List Change) (end : ℕ) → AreNames names → AreInOrder (length names) 0 changes end
     → end < 2 ^ 64 → text_lines (text_of (vcd_lines names changes end)) ≡ vcd_lines names changes end ++ [] ∷ []
-vcd-back names changes end lawful order small =
+vcd_back names changes end lawful order small =
     let later : List (List ℕ) = change_lines changes ++ time_line end ∷ [] in
     text-back (codes "$timescale 1 us $end") (var_lines 0 names ++ (codes "$enddefinitions $end" ∷ later)) (
       refl,
@@ -131,11 +131,11 @@ edge-lines-are names tick (edge ∷ rest) end lawful order early =
       edge-lines-are names edge.tick rest end lawful order.2 early,
     )
 
-edges-back :
+pub edges_back :
     (names : List (List ℕ)) (edges : List Change) (end : ℕ) → AreNames names → AreInOrder (length names) (2 ^ 62) edges end
     → end < 2 ^ 63 → text_lines (text_of (edge_lines names edges)) ≡ edge_lines names edges ++ [] ∷ []
-edges-back names [] end lawful order early = refl
-edges-back names (edge ∷ rest) end lawful order early =
+edges_back names [] end lawful order early = refl
+edges_back names (edge ∷ rest) end lawful order early =
     let within : edge.tick ≤ end = never_after_end (length names) edge.tick rest end order.2 in
     text-back _ (edge_lines names rest) (edge-lines-are names (2 ^ 62) (edge ∷ rest) end lawful order early) (no-mark edge.tick _ (omega arith))
 
@@ -160,11 +160,11 @@ pub written_is_read : (wanted : Wanted) → WrittenIsRead wanted
 unfolding trimmed
 written_is_read wanted = record {
   vcd = λ changes end lawful few order small.
-      ap (vcd_says (begun_vcd (names_in wanted))) (vcd-back (names_in wanted) changes end lawful order small)
+      ap (vcd_says (begun_vcd (names_in wanted))) (vcd_back (names_in wanted) changes end lawful order small)
       ∙ last_is_quiet vcd_line_says vcd_ends [] (λ state. refl) (begun_vcd (names_in wanted)) (vcd_lines (names_in wanted) changes end)
       ∙ vcd_is_read (names_in wanted) changes end lawful few order small;
   gpiomon = λ edges end lawful order early.
-      ap (gpiomon_says (gpiomon_with (names_in wanted) None)) (edges-back (names_in wanted) edges end lawful order early)
+      ap (gpiomon_says (gpiomon_with (names_in wanted) None)) (edges_back (names_in wanted) edges end lawful order early)
       ∙ last_is_quiet gpiomon_line_says gpiomon_ends [] (λ state. refl) (gpiomon_with (names_in wanted) None) (edge_lines (names_in wanted) edges)
       ∙ written_edges_are_read (names_in wanted) edges end lawful order early;
   rows = λ wires row rows own few all.

@@ -4,3 +4,4 @@ pub mod Formats
 pub mod Beginnings
 pub mod Constants
 pub mod Written
+pub mod WrittenForms

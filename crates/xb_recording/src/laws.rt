@@ -1,7 +1,9 @@
 //! What the definitions of `specs/` come to: each law is the contract of a function that does nothing.
+ghost use Rattle.std.specs.Prelude.{List, ℕ};
 ghost use Rattle.xb_recording.specs.declared.wanted.Wanted.{Wanted};
 ghost use Rattle.xb_recording.specs.Constants.{AreConstants};
 ghost use Rattle.xb_recording.specs.Written.{WrittenIsRead};
+ghost use Rattle.xb_recording.specs.WrittenForms.{WrittenFormsAreTold};
 
 /// The longest text line, and the mark before a text.
 pub fn constants()
@@ -12,4 +14,9 @@ pub fn constants()
 /// them: nothing is lost, added or moved.
 pub fn written_is_read()
     ensures { (wanted : Wanted) → WrittenIsRead wanted }
+{}
+
+/// Whatever wires do, written as a VCD or as edges of gpiomon, the form is told by the beginning.
+pub fn written_forms_are_told()
+    ensures { (names : List (List ℕ)) → WrittenFormsAreTold names }
 {}
