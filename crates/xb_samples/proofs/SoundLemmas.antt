@@ -17,7 +17,7 @@ use Rattle.xb_samples.specs.Pieces.{RunsOver, SamplesSay, after_piece, begins_fr
 use Rattle.xb_samples.specs.Samples.{rate_says}
 use Rattle.xb_riff.specs.declared.coding.Coding.{Coding}
 use Rattle.xb_riff.specs.declared.coding.Coding.TheVariants as coding
-use Rattle.xb_riff.specs.Codings.{mu_law_sample, narrow_sample, sample_at, wide_sample, width}
+use Rattle.xb_riff.specs.Codings.{mu_law_sample, narrow_sample, wide_sample}
 use Rattle.xb_samples.specs.Sounds.{SoundSays, SoundState, begun_sound, change_said, changes_said, left_after, level_by, levels_said, lower_left, own_bytes, samples_after, samples_left, sound_begins, sound_reading, sound_says, sound_state, turned, wide_after, wide_left, wire_after, wires_of}
 use Rattle.xb_samples.proofs.WaitLemmas.{SayWhen, after-piece, piece-piece, piece_says, until-begins}
 

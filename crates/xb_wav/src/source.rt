@@ -1,6 +1,6 @@
 // The samples of a stream, one at a time.
 ghost use Rattle.std.specs.Prelude.{◌≡◌, ◌+◌, length, IfOk, IfSome};
-ghost use Rattle.xb_wav.specs.Samples.{IsForm, sound_of};
+ghost use Rattle.xb_wav.specs.Samples.{IsForm};
 ghost use Rattle.xb_wav.specs.Streams.{FillsUp, GivesSample, sound_left};
 
 use crate::coding::{MOST_GROUP_BYTES, SampleForm};
