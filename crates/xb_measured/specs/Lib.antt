@@ -1,4 +1,4 @@
-pub mod Names
+pub mod Meanings
 pub mod Levels
 pub mod Figures
 pub mod Verdicts
