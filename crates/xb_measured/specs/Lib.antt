@@ -5,3 +5,4 @@ pub mod Verdicts
 pub mod Objects
 pub mod Lines
 pub mod Worked
+pub mod Constants
