@@ -55,14 +55,8 @@ impl Keyed {
 fn write_key(out: &mut String, key: Key) -> Result<(), AllocError>
     ensures { OnOk result (string_bytes out.new ≡ string_bytes out.old ++ (codes " " ++ key_text key)) }
 {
-    match key {
-        Key::Digit(digit) => {
-            let value = digit.get();
-            write!(out, " {value}")
-        }
-        Key::Kp => out.push_str(" KP"),
-        Key::St => out.push_str(" ST"),
-    }
+    out.push_str(" ")?;
+    out.push_str(key.name())
 }
 
 // The names of the keys of marks.

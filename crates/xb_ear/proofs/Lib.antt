@@ -4,6 +4,7 @@ pub mod Windows
 pub mod Taken
 pub mod Near
 pub mod Bounds
+pub mod FirstPairs
 pub mod Standing
 pub mod Shown
 pub mod ShownKeys

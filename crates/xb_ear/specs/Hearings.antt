@@ -2,7 +2,9 @@
 -- over, and equal runs on both sides of it join.
 use Rattle.std.specs.Prelude.{ℕ, ◌+◌, ◌-◌, ◌^◌, List, [], ◌∷◌, Bool, true, false, ◌&&◌, ◌==◌, if◌then◌else◌, nat_le, nat_lt, min, Option, Some, None}
 use Rattle.xb_model.specs.declared.key.Tone.{Tone as Pair}
+use Rattle.xb_model.specs.declared.key.Key.TheVariants.{Kp}
 use Rattle.xb_model.specs.Image.{Machine}
+use Rattle.xb_model.specs.MfPairs.{mf_pair}
 use Rattle.xb_ear.specs.declared.sight.Sight.{Sight}
 use Rattle.xb_ear.specs.declared.hearing.Heard.{Heard}
 use Rattle.xb_ear.specs.declared.hearing.Hearing.{Hearing}
@@ -30,7 +32,7 @@ strongest (Some a) (Some b) = Some (stronger a b)
 -- how many windows in a row have to see it
 abbrev pub needed : Option Sight → ℕ
 needed None = GAP_WINDOWS
-needed (Some sight) = if (sight.pair.low == 1100) && (sight.pair.high == 1700) then KP_WINDOWS else KEY_WINDOWS
+needed (Some sight) = if is_same_pair sight.pair (mf_pair Kp) then KP_WINDOWS else KEY_WINDOWS
 
 -- the next number; counting stops at the greatest that there is
 abbrev pub counted : ℕ → ℕ

@@ -1,7 +1,9 @@
 -- The keys in other words: of the runs of windows that see the same, those that are long enough, equal ones joined.
 use Rattle.std.specs.Prelude.{◌≡◌, ℕ, ◌+◌, List, [], ◌∷◌, ◌++◌, Bool, true, false, ◌&&◌, ◌==◌, if◌then◌else◌, nat_le, map, Option, Some, None, ℤ}
 use Rattle.std.specs.List.{filter, flat_map}
+use Rattle.xb_model.specs.declared.key.Key.TheVariants.{Kp}
 use Rattle.xb_model.specs.declared.key.Tone.{Tone as Pair}
+use Rattle.xb_model.specs.MfPairs.{mf_pair}
 use Rattle.xb_ear.specs.declared.sight.Sight.{Sight}
 use Rattle.xb_ear.specs.declared.hearing.TheConstants.{GAP_WINDOWS, KEY_WINDOWS, KP_WINDOWS}
 use Rattle.xb_ear.specs.Ears.{heard, hearing_after, sights}
@@ -23,7 +25,7 @@ is_same_label (Some p) (Some q) = is_same_pair p q
 -- how many windows in a row have to
 abbrev pub needed_of : Option Pair → ℕ
 needed_of None = GAP_WINDOWS
-needed_of (Some p) = if (p.low == 1100) && (p.high == 1700) then KP_WINDOWS else KEY_WINDOWS
+needed_of (Some p) = if is_same_pair p (mf_pair Kp) then KP_WINDOWS else KEY_WINDOWS
 
 abbrev pub one : Option Pair → List Pair
 one None = []

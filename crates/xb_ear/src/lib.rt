@@ -30,7 +30,7 @@ mod sight;
 mod tails;
 mod waves;
 
-pub use hearing::{GAP_WINDOWS, Heard, Hearing, KEY_WINDOWS, KP_WINDOWS, is_same_pair};
+pub use hearing::{GAP_WINDOWS, Heard, Hearing, KEY_WINDOWS, KP_WINDOWS};
 pub use levels::{Levels, levels_of};
 pub use plain::PlainEar;
 pub use receiver::Receiver;

@@ -3,6 +3,7 @@ use Rattle.std.specs.Prelude.{ℕ, ◌+◌, ◌-◌, ◌*◌, ◌/◌, ◌^◌, 
 use Rattle.xb_ear.specs.declared.hearing.Heard.{Heard}
 use Rattle.xb_measured.specs.declared.figures.Figures.{Figures}
 use Rattle.xb_measured.specs.Levels.{tenths_of}
+use Rattle.xb_measured.specs.Meanings.{meaning_of}
 
 -- so many samples in ms, rounded down; counting stops at the greatest number that there is
 abbrev pub ms_of : ℕ → ℕ
@@ -24,6 +25,7 @@ gap_ms (Some before) key = Some (ms_of (20 * (key.first - before.past)))
 abbrev pub figures_of : Option Heard → Heard → Figures
 figures_of before key = record {
   pair = key.sight.pair;
+  meaning = meaning_of key.sight.pair;
   start_ms = start_ms key;
   length_ms = length_ms key;
   low = tenths_of key.sight.low;

@@ -7,7 +7,7 @@ use Rattle.xb_measured.specs.declared.lines.Telling.{Telling}
 use Rattle.xb_measured.specs.declared.lines.Telling.TheVariants as telling
 use Rattle.xb_measured.specs.Figures.{figures_of}
 use Rattle.xb_measured.specs.Levels.{tenths_text}
-use Rattle.xb_measured.specs.Names.{name_text}
+use Rattle.xb_measured.specs.Meanings.{name_text}
 use Rattle.xb_measured.specs.Objects.{object_line}
 use Rattle.xb_measured.specs.Verdicts.{verdict_of, verdict_word}
 
@@ -19,7 +19,7 @@ gap_text (Some ms) = codes "after " ++ (decimal ms ++ codes " ms")
 -- its name, its times, the level of each of its tones, and whether it is as it should be
 abbrev pub text_line : Figures → List ℕ
 text_line figures =
-    name_text figures.pair ++ (codes " at " ++ (decimal figures.start_ms ++ (codes " ms for "
+    name_text figures.meaning ++ (codes " at " ++ (decimal figures.start_ms ++ (codes " ms for "
     ++ (decimal figures.length_ms ++ (codes " ms, "
     ++ (decimal figures.pair.low ++ (codes " Hz " ++ (tenths_text figures.low ZERO_DBM0 ++ (codes " dBm0, "
     ++ (decimal figures.pair.high ++ (codes " Hz " ++ (tenths_text figures.high ZERO_DBM0 ++ (codes " dBm0, twist "

@@ -5,7 +5,7 @@ use Rattle.serde_json.specs.Find.{of_integer}
 use Rattle.serde_json.specs.Written.{compact_text}
 use Rattle.xb_measured.specs.declared.figures.Figures.{Figures}
 use Rattle.xb_measured.specs.declared.levels.TheConstants.{ZERO_DBM0}
-use Rattle.xb_measured.specs.Names.{name_text}
+use Rattle.xb_measured.specs.Meanings.{name_text}
 use Rattle.xb_measured.specs.Verdicts.{verdict_of, verdict_word}
 
 -- the time before a key, null where no key came before
@@ -17,22 +17,19 @@ gap_data (Some ms) = number (unsigned ms)
 abbrev pub tenths_data : ℕ → ℕ → Data
 tenths_data over under = number (of_integer (pos over -ℤ pos under))
 
--- what the line of a key says, in whole numbers, by its name and the word for its verdict
-abbrev pub object_with : Figures → List ℕ → List ℕ → Data
-object_with figures name word = object
+-- what the line of a key says, in whole numbers
+abbrev pub object_of : Figures → Data
+object_of figures = object
     (member (codes "at_ms") (number (unsigned figures.start_ms))
     (member (codes "gap_ms") (gap_data figures.gap_ms)
     (member (codes "high_dbm0_tenths") (tenths_data figures.high ZERO_DBM0)
     (member (codes "high_hz") (number (unsigned figures.pair.high))
-    (member (codes "key") (string name)
+    (member (codes "key") (string (name_text figures.meaning))
     (member (codes "length_ms") (number (unsigned figures.length_ms))
     (member (codes "low_dbm0_tenths") (tenths_data figures.low ZERO_DBM0)
     (member (codes "low_hz") (number (unsigned figures.pair.low))
     (member (codes "twist_db_tenths") (tenths_data figures.high figures.low)
-    (member (codes "verdict") (string word) no_members))))))))))
-
-abbrev pub object_of : Figures → Data
-object_of figures = object_with figures (name_text figures.pair) (verdict_word (verdict_of figures))
+    (member (codes "verdict") (string (verdict_word (verdict_of figures))) no_members))))))))))
 
 -- the object as a line
 abbrev pub object_line : Figures → List ℕ

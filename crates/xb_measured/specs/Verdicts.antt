@@ -1,8 +1,10 @@
 -- Whether a key is as System R1 (Q.322) wants it of a sender.
-use Rattle.std.specs.Prelude.{ℕ, ◌-◌, ◌==◌, ◌&&◌, ◌||◌, if◌then◌else◌, List, codes, Bool, true, nat_le, Option, Some, None}
-use Rattle.xb_model.specs.declared.key.Tone.{Tone as Pair}
+use Rattle.std.specs.Prelude.{ℕ, ◌-◌, ◌&&◌, ◌||◌, if◌then◌else◌, List, [], ◌∷◌, codes, Bool, true, nat_le, Option, Some, None}
+use Rattle.xb_model.specs.declared.key.Key.TheVariants.{Kp}
 use Rattle.xb_measured.specs.declared.figures.Figures.{Figures}
 use Rattle.xb_measured.specs.declared.levels.TheConstants.{ZERO_DBM0}
+use Rattle.xb_measured.specs.declared.meaning.Meaning.{Meaning}
+use Rattle.xb_measured.specs.declared.meaning.Meaning.TheVariants as meaning
 use Rattle.xb_measured.specs.declared.verdicts.TheConstants.{KEY_MS, KP_MS, LEVEL_BELOW, MOST_OFF_MS, MOST_OFF_TENTHS}
 use Rattle.xb_measured.specs.declared.verdicts.Verdict.{Verdict}
 use Rattle.xb_measured.specs.declared.verdicts.Verdict.TheVariants as verdict
@@ -11,31 +13,24 @@ use Rattle.xb_measured.specs.declared.verdicts.Verdict.TheVariants as verdict
 abbrev pub is_about : ℕ → ℕ → ℕ → Bool
 is_about wanted off number = nat_le (number - wanted) off && nat_le (wanted - number) off
 
-abbrev pub is_kp : Pair → Bool
-is_kp p = (p.low == 1100) && (p.high == 1700)
-
--- KP2, which is as long as KP, and ST'', which is not
-abbrev pub is_kp_or_st : Pair → Bool
-is_kp_or_st p = (p.low == 1300) && (p.high == 1700)
-
-abbrev pub is_long_as_kp : Figures → Bool
-is_long_as_kp figures = is_about KP_MS MOST_OFF_MS figures.length_ms
-
-abbrev pub is_long_as_key : Figures → Bool
-is_long_as_key figures = is_about KEY_MS MOST_OFF_MS figures.length_ms
+-- how long a key may be by what it stands for: KP2 is as long as KP, and ST'', by the same pair, is not
+abbrev pub length_fits_by : Meaning → ℕ → Bool
+length_fits_by (meaning.Key Kp) ms = is_about KP_MS MOST_OFF_MS ms
+length_fits_by meaning.Kp2OrStSecond ms = is_about KP_MS MOST_OFF_MS ms || is_about KEY_MS MOST_OFF_MS ms
+length_fits_by m ms = is_about KEY_MS MOST_OFF_MS ms
 
 abbrev pub length_fits : Figures → Bool
-length_fits figures =
-    if is_kp figures.pair then is_long_as_kp figures
-    else (if is_kp_or_st figures.pair then is_long_as_kp figures || is_long_as_key figures else is_long_as_key figures)
+length_fits figures = length_fits_by figures.meaning figures.length_ms
 
--- the time before a key that begins no keying
-abbrev pub gap_fits_by : Pair → Option ℕ → Bool
-gap_fits_by p None = true
-gap_fits_by p (Some ms) = is_kp p || is_kp_or_st p || is_about KEY_MS MOST_OFF_MS ms
+-- what begins a keying may come at any time, and so may the first key
+abbrev pub gap_fits_by : Option ℕ → Meaning → Bool
+gap_fits_by None m = true
+gap_fits_by (Some ms) (meaning.Key Kp) = true
+gap_fits_by (Some ms) meaning.Kp2OrStSecond = true
+gap_fits_by (Some ms) m = is_about KEY_MS MOST_OFF_MS ms
 
 abbrev pub gap_fits : Figures → Bool
-gap_fits figures = gap_fits_by figures.pair figures.gap_ms
+gap_fits figures = gap_fits_by figures.gap_ms figures.meaning
 
 abbrev pub twist_fits : Figures → Bool
 twist_fits figures = is_about figures.low MOST_OFF_TENTHS figures.high
@@ -43,16 +38,22 @@ twist_fits figures = is_about figures.low MOST_OFF_TENTHS figures.high
 abbrev pub level_fits : ℕ → Bool
 level_fits tenths = is_about (ZERO_DBM0 - LEVEL_BELOW) MOST_OFF_TENTHS tenths
 
+-- the limits in their order, and what is said of a key that misses one
+abbrev pub limits : Figures → List (Bool × Verdict)
+limits figures =
+    (length_fits figures, verdict.Length)
+    ∷ (gap_fits figures, verdict.Gap)
+    ∷ (twist_fits figures, verdict.Twist)
+    ∷ (level_fits figures.low && level_fits figures.high, verdict.Level)
+    ∷ []
+
+abbrev pub first_missed : List (Bool × Verdict) → Verdict
+first_missed [] = verdict.Good
+first_missed (limit ∷ later) = if limit.0 then first_missed later else limit.1
+
 -- the first limit that is missed
 abbrev pub verdict_of : Figures → Verdict
-verdict_of figures =
-    if length_fits figures
-    then (if gap_fits figures
-    then (if twist_fits figures
-    then (if level_fits figures.low && level_fits figures.high then verdict.Good else verdict.Level)
-    else verdict.Twist)
-    else verdict.Gap)
-    else verdict.Length
+verdict_of figures = first_missed (limits figures)
 
 abbrev pub verdict_word : Verdict → List ℕ
 verdict_word verdict.Good = codes "GOOD"

@@ -3,6 +3,7 @@ ghost use Rattle.std.specs.Prelude.{◌≡◌};
 ghost use Rattle.xb_measured.specs.Figures.{figures_of, gap_ms, length_ms, ms_of, start_ms};
 
 use crate::levels::tenths_of;
+use crate::meaning::Meaning;
 use xb_ear::Heard;
 use xb_model::Tone;
 
@@ -18,6 +19,8 @@ const SAMPLES_PER_MS: u128 = 8;
 pub struct Figures {
     /// Its two frequencies.
     pub pair: Tone,
+    /// What they stand for.
+    pub meaning: Meaning,
     /// When it began, in ms from the first sample.
     pub start_ms: u64,
     /// How long it lasted.
@@ -65,6 +68,7 @@ pub fn figures_of(before: Option<Heard>, key: Heard) -> Figures
 {
     Figures {
         pair: key.sight.pair,
+        meaning: Meaning::of(key.sight.pair),
         start_ms: start_ms(key),
         length_ms: length_ms(key),
         low: tenths_of(key.sight.low),

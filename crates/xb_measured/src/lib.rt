@@ -1,8 +1,8 @@
 //! What is told of a key that was heard: its name, when it began and how long it lasted, both levels, and the first
 //! limit of System R1 that it misses.
 //!
-//! - `digit_of` is the digit of a pair, `write_name` the name of any pair: a digit, KP, ST, ST', ST''', and KP2/ST'',
-//!   which are one pair.
+//! - `Meaning::of` is what a pair stands for, by `key_of` where it is a key of the office: a digit, KP, ST, ST', ST''',
+//!   and KP2/ST'', which are one pair. `Meaning::name` is its name.
 //! - `figures_of`: the figures of a key, by the last key before it. `verdict_of`: GOOD, or the first limit that they
 //!   miss, of length, gap, twist and level.
 //! - `key_line`: exactly the line of the figures (`text_line`), or as an object of JSON (`object_line`).
@@ -13,11 +13,11 @@ mod figures;
 pub mod laws;
 mod levels;
 mod lines;
-mod names;
+mod meaning;
 mod objects;
 mod verdicts;
 
 pub use figures::{Figures, figures_of, start_ms};
 pub use lines::{Telling, key_line};
-pub use names::{digit_of, write_name};
+pub use meaning::Meaning;
 pub use verdicts::{Verdict, verdict_of};

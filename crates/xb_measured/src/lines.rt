@@ -1,15 +1,12 @@
 // The line of a key.
 ghost use Rattle.std.specs.Prelude.{◌≡◌, IfOk, string_bytes};
 ghost use Rattle.xb_measured.specs.Lines.{gap_text, key_line, text_line};
-ghost use Rattle.xb_measured.specs.Names.{name_text};
 
 use crate::figures::Figures;
 use crate::levels::{ZERO_DBM0, tenths_text};
-use crate::names::write_name;
 use crate::objects::object_line;
 use crate::verdicts::verdict_of;
 use std::alloc::{AllocError, Global};
-use xb_model::Tone;
 
 /// How keys are told.
 #[derive(Clone, Copy, Debug, PartialEq, Eq)]
@@ -18,15 +15,6 @@ pub enum Telling {
     Text,
     /// As JSON objects, each on a line.
     Json,
-}
-
-// The name of a pair.
-pub(crate) fn name_of(alloc: Global, pair: Tone) -> Result<String, AllocError>
-    ensures { IfOk result (λ name. string_bytes name ≡ name_text pair) }
-{
-    let mut name = String::new(alloc);
-    write_name(&mut name, pair)?;
-    Ok(name)
 }
 
 // When the key began, by the last one.
@@ -40,10 +28,10 @@ fn gap_text(alloc: Global, gap: Option<u64>) -> Result<String, AllocError>
 }
 
 // The line of a key as text.
-fn text_line(alloc: Global, figures: Figures) -> Result<String, AllocError>
-    ensures { IfOk result (λ line. string_bytes line ≡ text_line figures) }
+fn text_line(alloc: Global, figures: &Figures) -> Result<String, AllocError>
+    ensures { IfOk result (λ line. string_bytes line ≡ text_line figures.now) }
 {
-    let name = name_of(alloc, figures.pair)?;
+    let name = figures.meaning.name();
     let low = tenths_text(alloc, figures.low, ZERO_DBM0)?;
     let high = tenths_text(alloc, figures.high, ZERO_DBM0)?;
     let twist = tenths_text(alloc, figures.high, figures.low)?;
@@ -59,8 +47,8 @@ fn text_line(alloc: Global, figures: Figures) -> Result<String, AllocError>
 }
 
 /// The line of a key. `Err` says that memory ran out.
-pub fn key_line(alloc: Global, telling: Telling, figures: Figures) -> Result<String, AllocError>
-    ensures { IfOk result (λ line. string_bytes line ≡ key_line telling figures) }
+pub fn key_line(alloc: Global, telling: Telling, figures: &Figures) -> Result<String, AllocError>
+    ensures { IfOk result (λ line. string_bytes line ≡ key_line telling figures.now) }
 {
     match telling {
         Telling::Text => text_line(alloc, figures),

@@ -2,12 +2,10 @@
 ghost use Rattle.std.specs.Prelude.{◌≡◌, ◌-ℤ◌, IfOk, pos, string_bytes};
 ghost use Rattle.serde_json.specs.View.{view};
 ghost use Rattle.xb_json.specs.Objects.{data_of};
-ghost use Rattle.xb_measured.specs.Objects.{gap_data, object_line, object_of, object_with};
-ghost use Rattle.xb_measured.specs.Verdicts.{verdict_of, verdict_word};
+ghost use Rattle.xb_measured.specs.Objects.{gap_data, object_line, object_of};
 
 use crate::figures::Figures;
 use crate::levels::ZERO_DBM0;
-use crate::lines::name_of;
 use crate::verdicts::verdict_of;
 use serde_json::Value;
 use std::alloc::{AllocError, Global};
@@ -30,10 +28,9 @@ fn difference(over: u32, under: u32) -> i64
     i64::from(over) - i64::from(under)
 }
 
-// The object of a key with this name.
-fn object_with(alloc: Global, figures: Figures, name: &str) -> Result<Value, AllocError>
-    ensures { IfOk result (λ value. view value
-        ≡ object_with figures name.now (verdict_word (verdict_of figures))) }
+// The object of a key.
+fn object_of(alloc: Global, figures: &Figures) -> Result<Value, AllocError>
+    ensures { IfOk result (λ value. view value ≡ object_of figures.now) }
 {
     let low = difference(figures.low, ZERO_DBM0);
     let high = difference(figures.high, ZERO_DBM0);
@@ -43,7 +40,7 @@ fn object_with(alloc: Global, figures: Figures, name: &str) -> Result<Value, All
         ("gap_ms", gap_of(figures.gap_ms)),
         ("high_dbm0_tenths", Member::Signed(high)),
         ("high_hz", Member::Number(u64::from(figures.pair.high))),
-        ("key", Member::Text(name)),
+        ("key", Member::Text(figures.meaning.name())),
         ("length_ms", Member::Number(figures.length_ms)),
         ("low_dbm0_tenths", Member::Signed(low)),
         ("low_hz", Member::Number(u64::from(figures.pair.low))),
@@ -53,17 +50,9 @@ fn object_with(alloc: Global, figures: Figures, name: &str) -> Result<Value, All
     object_of_members(alloc, &members)
 }
 
-// The object of a key.
-fn object_of(alloc: Global, figures: Figures) -> Result<Value, AllocError>
-    ensures { IfOk result (λ value. view value ≡ object_of figures) }
-{
-    let name = name_of(alloc, figures.pair)?;
-    object_with(alloc, figures, &name)
-}
-
 /// The object of a key as a line.
-pub(crate) fn object_line(alloc: Global, figures: Figures) -> Result<String, AllocError>
-    ensures { IfOk result (λ line. string_bytes line ≡ object_line figures) }
+pub(crate) fn object_line(alloc: Global, figures: &Figures) -> Result<String, AllocError>
+    ensures { IfOk result (λ line. string_bytes line ≡ object_line figures.now) }
 {
     let object = object_of(alloc, figures)?;
     line_of(alloc, &object)

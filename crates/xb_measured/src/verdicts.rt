@@ -1,10 +1,11 @@
 // Whether a key is as System R1 wants it.
 ghost use Rattle.std.specs.Prelude.{◌≡◌};
-ghost use Rattle.xb_measured.specs.Verdicts.{gap_fits, is_about, is_kp, is_kp_or_st, length_fits, level_fits, twist_fits, verdict_of, verdict_word};
+ghost use Rattle.xb_measured.specs.Verdicts.{gap_fits, is_about, length_fits, level_fits, verdict_of, verdict_word};
 
 use crate::figures::Figures;
 use crate::levels::ZERO_DBM0;
-use xb_model::Tone;
+use crate::meaning::Meaning;
+use xb_model::Key;
 
 /// A sender keys KP for so many ms (Q.322).
 pub const KP_MS: u64 = 100;
@@ -58,56 +59,30 @@ fn is_about(wanted: u64, off: u64, number: u64) -> bool
     number.saturating_sub(wanted) <= off && wanted.saturating_sub(number) <= off
 }
 
-// Whether a pair is that of KP.
-fn is_kp(pair: Tone) -> bool
-    ensures { result ≡ is_kp pair }
-{
-    pair.low == 1100 && pair.high == 1700
-}
-
-// Whether a pair is that of KP2, which is as long as KP, and of ST'', which is not.
-fn is_kp_or_st(pair: Tone) -> bool
-    ensures { result ≡ is_kp_or_st pair }
-{
-    pair.low == 1300 && pair.high == 1700
-}
-
 // Whether the length fits.
-fn length_fits(figures: Figures) -> bool
-    ensures { result ≡ length_fits figures }
+fn length_fits(figures: &Figures) -> bool
+    ensures { result ≡ length_fits figures.now }
 {
     let as_kp = is_about(KP_MS, MOST_OFF_MS, figures.length_ms);
     let as_key = is_about(KEY_MS, MOST_OFF_MS, figures.length_ms);
-    if is_kp(figures.pair) {
-        as_kp
-    } else if is_kp_or_st(figures.pair) {
-        as_kp || as_key
-    } else {
-        as_key
+    match figures.meaning {
+        Meaning::Key(Key::Kp) => as_kp,
+        Meaning::Kp2OrStSecond => as_kp || as_key,
+        _ => as_key,
     }
 }
 
 // Whether the time before it fits, where there is one.
-fn gap_fits(figures: Figures) -> bool
-    ensures { result ≡ gap_fits figures }
+fn gap_fits(figures: &Figures) -> bool
+    ensures { result ≡ gap_fits figures.now }
 {
     match figures.gap_ms {
         None => true,
-        Some(ms) => {
-            is_kp(figures.pair) || is_kp_or_st(figures.pair) || is_about(KEY_MS, MOST_OFF_MS, ms)
-        }
+        Some(ms) => match figures.meaning {
+            Meaning::Key(Key::Kp) | Meaning::Kp2OrStSecond => true,
+            _ => is_about(KEY_MS, MOST_OFF_MS, ms),
+        },
     }
-}
-
-// Whether one tone is as strong as the other.
-fn twist_fits(figures: Figures) -> bool
-    ensures { result ≡ twist_fits figures }
-{
-    is_about(
-        u64::from(figures.low),
-        MOST_OFF_TENTHS,
-        u64::from(figures.high),
-    )
 }
 
 // Whether a level fits.
@@ -121,15 +96,17 @@ fn level_fits(tenths: u32) -> bool
     )
 }
 
-/// What is to be said of a key.
-pub fn verdict_of(figures: Figures) -> Verdict
-    ensures { result ≡ verdict_of figures }
+/// What is to be said of a key: the first limit that it misses, of length, gap, twist and level, or that it is good.
+pub fn verdict_of(figures: &Figures) -> Verdict
+    ensures { result ≡ verdict_of figures.now }
 {
+    let low = u64::from(figures.low);
+    let high = u64::from(figures.high);
     if !length_fits(figures) {
         Verdict::Length
     } else if !gap_fits(figures) {
         Verdict::Gap
-    } else if !twist_fits(figures) {
+    } else if !is_about(low, MOST_OFF_TENTHS, high) {
         Verdict::Twist
     } else if !(level_fits(figures.low) && level_fits(figures.high)) {
         Verdict::Level

@@ -13,21 +13,30 @@ use Rattle.xb_tone.proofs.HeardMarks.{digits_are_keyed}
 use Rattle.xb_tone.proofs.KeyWaves.{each_digit}
 use Rattle.xb_ear.specs.declared.hearing.Heard.{Heard}
 use Rattle.xb_ear.specs.HeardKeys.{pairs_in, tones_of}
-use Rattle.xb_ear.specs.Hearings.{is_same_pair}
 use Rattle.xb_ear.specs.Receivers.{keys_of_sound}
 use Rattle.xb_ear.proofs.WholeSounds.{disturbed_keys_are_heard}
 use Rattle.xb_rx.specs.declared.keys.TheConstants.{MOST_DIGITS}
-use Rattle.xb_measured.specs.Names.{digit_of_pair}
-use Rattle.xb_rx.specs.Keyings.{digit_of, digits_in, is_kp, is_st, keyings, listed_digit, loose_after, loose_keys}
+use Rattle.xb_measured.specs.declared.meaning.Meaning.TheVariants as meaning
+use Rattle.xb_measured.specs.Meanings.{meaning_of}
+use Rattle.xb_rx.specs.Keyings.{begins_keying, digit_by, digit_of, digits_in, ends_keying, is_kp, is_st, keyings, listed_digit, loose_after, loose_keys}
 use Rattle.xb_rx.specs.PagedKeys.{AreNumbers, KeyedIsPaged, marks_of_numbers}
 use Rattle.xb_rx.specs.Pages.{loose_lines, page_after}
 use Rattle.xb_rx.proofs.KeyingSteps.{AreDigits, completes, none-loose}
 
--- a digit's pair stands for it
-pair-digit : (d : ℕ) → d < DIGITS → digit_of_pair (mf_pair (Digit d)) ≡ Some d
+-- the pair of each key stands for it
+pair-digit : (d : ℕ) → d < DIGITS → meaning_of (mf_pair (Digit d)) ≡ meaning.Key (Digit d)
+unfolding meaning_of
 pair-digit d below =
-    each_digit (λ d. digit_of_pair (mf_pair (Digit d)) ≡ Some d)
+    each_digit (λ d. meaning_of (mf_pair (Digit d)) ≡ meaning.Key (Digit d))
     refl refl refl refl refl refl refl refl refl refl d below
+
+pair-kp : meaning_of (mf_pair Kp) ≡ meaning.Key Kp
+unfolding meaning_of
+pair-kp = refl
+
+pair-st : meaning_of (mf_pair St) ≡ meaning.Key St
+unfolding meaning_of
+pair-st = refl
 
 abbrev digits-pairs : List ℕ → List Pair
 digits-pairs digits = map (λ d. mf_pair (Digit d)) digits
@@ -82,7 +91,8 @@ begins [] pairs (st ∷ later) below e = record {
   all = tt;
   count = refl;
   are = refl;
-  ends = ap (λ (p : Pair). is_same_pair p (mf_pair St)) (head-is st.sight.pair (mf_pair St) (pairs_in later) pairs e);
+  ends = ap (λ (p : Pair). ends_keying (meaning_of p)) (head-is st.sight.pair (mf_pair St) (pairs_in later) pairs e)
+      ∙ ap ends_keying pair-st;
   rest = tail-is st.sight.pair (mf_pair St) (pairs_in later) pairs e;
 }
 begins (d ∷ digits) pairs [] below e = absurd (cc)
@@ -90,8 +100,9 @@ begins (d ∷ digits) pairs (key ∷ keys) below e =
     let more = begins digits pairs keys below.1
     (tail-is key.sight.pair (mf_pair (Digit d)) (pairs_in keys) (digits-pairs digits ++ mf_pair St ∷ pairs) e) in
     let is : digit_of key ≡ Some d =
-    ap digit_of_pair (head-is key.sight.pair (mf_pair (Digit d)) (pairs_in keys) (digits-pairs digits ++ mf_pair St ∷ pairs) e)
-    ∙ pair-digit d below.0 in record {
+    ap (λ (p : Pair). digit_by (meaning_of p))
+    (head-is key.sight.pair (mf_pair (Digit d)) (pairs_in keys) (digits-pairs digits ++ mf_pair St ∷ pairs) e)
+    ∙ ap digit_by (pair-digit d below.0) in record {
       first = key ∷ more.first;
       st = more.st;
       later = more.later;
@@ -122,8 +133,9 @@ these trunk (digits ∷ numbers) (kp ∷ keys) are e =
     let all = e ∙ tones-first trunk digits numbers in
     let b = begins digits pairs keys are.0.are_digits
     (tail-is kp.sight.pair (mf_pair Kp) (pairs_in keys) (digits-pairs digits ++ mf_pair St ∷ pairs) all) in
-    let is : is_kp kp ≡ true = ap (λ (p : Pair). is_same_pair p (mf_pair Kp))
-    (head-is kp.sight.pair (mf_pair Kp) (pairs_in keys) (digits-pairs digits ++ mf_pair St ∷ pairs) all) in
+    let is : is_kp kp ≡ true = ap (λ (p : Pair). begins_keying (meaning_of p))
+    (head-is kp.sight.pair (mf_pair Kp) (pairs_in keys) (digits-pairs digits ++ mf_pair St ∷ pairs) all)
+    ∙ ap begins_keying pair-kp in
     let few = subst (λ (n : ℕ). n ≤ MOST_DIGITS) (sym b.count) are.0.few in
     let more = these trunk numbers b.later are.1 b.rest in record {
       keyings_are =

@@ -1,22 +1,34 @@
 -- The keyings among keys that are heard, and the keys that stand in none.
-use Rattle.std.specs.Prelude.{ℕ, zero, suc, List, [], ◌∷◌, length, Bool, if◌then◌else◌, Option, Some, None, option_and_then, option_map}
+use Rattle.std.specs.Prelude.{ℕ, zero, suc, List, [], ◌∷◌, length, Bool, true, false, if◌then◌else◌, Option, Some, None, option_and_then, option_map}
 use Rattle.std.specs.List.{flat_map}
-use Rattle.xb_model.specs.declared.key.Key.TheVariants.{Kp, St}
-use Rattle.xb_model.specs.MfPairs.{mf_pair}
+use Rattle.xb_model.specs.declared.key.Key.TheVariants.{Digit, Kp, St}
 use Rattle.xb_ear.specs.declared.hearing.Heard.{Heard}
-use Rattle.xb_ear.specs.Hearings.{is_same_pair}
-use Rattle.xb_measured.specs.Names.{digit_of_pair}
+use Rattle.xb_measured.specs.declared.meaning.Meaning.{Meaning}
+use Rattle.xb_measured.specs.declared.meaning.Meaning.TheVariants as meaning
+use Rattle.xb_measured.specs.Meanings.{meaning_of}
 use Rattle.xb_rx.specs.declared.keys.TheConstants.{MOST_DIGITS}
 
+abbrev pub begins_keying : Meaning → Bool
+begins_keying (meaning.Key Kp) = true
+begins_keying m = false
+
 abbrev pub is_kp : Heard → Bool
-is_kp key = is_same_pair key.sight.pair (mf_pair Kp)
+is_kp key = begins_keying (meaning_of key.sight.pair)
+
+abbrev pub ends_keying : Meaning → Bool
+ends_keying (meaning.Key St) = true
+ends_keying m = false
 
 abbrev pub is_st : Heard → Bool
-is_st key = is_same_pair key.sight.pair (mf_pair St)
+is_st key = ends_keying (meaning_of key.sight.pair)
+
+abbrev pub digit_by : Meaning → Option ℕ
+digit_by (meaning.Key (Digit d)) = Some d
+digit_by m = None
 
 -- the digit of a key
 abbrev pub digit_of : Heard → Option ℕ
-digit_of key = digit_of_pair key.sight.pair
+digit_of key = digit_by (meaning_of key.sight.pair)
 
 abbrev pub before_digits : Option ℕ → Option (List ℕ) → Option (List ℕ)
 before_digits digit digits = option_and_then (λ d. option_map (λ ds. d ∷ ds) digits) digit

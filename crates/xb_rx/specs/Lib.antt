@@ -9,3 +9,4 @@ pub mod Rules
 pub mod Options
 pub mod Program
 pub mod PagedKeys
+pub mod Constants

@@ -8,13 +8,13 @@ use Rattle.xb_ear.specs.declared.hearing.Heard.{Heard}
 use Rattle.xb_text.specs.Writing.{AppendsBeginning}
 use Rattle.xb_rx.specs.declared.page.Page.{Page}
 use Rattle.xb_measured.specs.Figures.{start_ms}
-use Rattle.xb_measured.specs.Names.{name_text}
+use Rattle.xb_measured.specs.Meanings.{meaning_of, name_text}
 use Rattle.xb_rx.specs.Keyings.{keyings, loose_keys}
 
 -- a key that stands in no keying
 abbrev pub loose_line : Heard → List ℕ
 loose_line key =
-    codes "mfrx: " ++ (name_text key.sight.pair ++ (codes " at " ++ (decimal (start_ms key)
+    codes "mfrx: " ++ (name_text (meaning_of key.sight.pair) ++ (codes " at " ++ (decimal (start_ms key)
     ++ codes " ms belongs to no keying\n")))
 
 abbrev pub loose_lines : List Heard → List ℕ

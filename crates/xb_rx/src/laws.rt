@@ -1,6 +1,12 @@
 //! What the definitions give: each law is the contract of a function that does nothing.
+ghost use Rattle.xb_rx.specs.Constants.{AreConstants};
 ghost use Rattle.xb_rx.specs.PagedKeys.{KeyedIsPaged};
 ghost use Rattle.xb_rx.specs.Program.{UsageNamesEachOption};
+
+/// The most digits of a keying, as it is.
+pub fn constants()
+    ensures { AreConstants }
+{}
 
 /// The line of refused words names each option of the command.
 #[tactic(auto, unfolding(clap::proofs::OnLiterals::clap_on_literals, xb_command::specs::Usages::has_part))]

@@ -29,7 +29,8 @@ impl Listing {
         ensures { Writes (λ later. listing_rest self.old (key ∷ later)) (listing_rest self.new) result
             (W.contents out.old) (W.contents out.new) }
     {
-        let line = key_line(alloc, self.telling, figures_of(self.last, key))?;
+        let figures = figures_of(self.last, key);
+        let line = key_line(alloc, self.telling, &figures)?;
         if write_whole(out, line.as_bytes()).is_err() {
             return Err(PageFault::Write);
         }

@@ -6,11 +6,10 @@ ghost use Rattle.xb_model.specs.Page.{totals_text};
 ghost use Rattle.xb_rx.specs.Keyings.{digits_in};
 ghost use Rattle.xb_rx.specs.Pages.{loose_lines};
 
-use crate::keys::{MOST_DIGITS, is_kp, is_st, write_loose};
+use crate::keys::{MOST_DIGITS, NamedKey};
 use std::alloc::{AllocError, Global};
 use std::io::Write;
 use xb_ear::Heard;
-use xb_measured::digit_of;
 use xb_model::{Key, LineNo, Mark, Trunk, mf};
 use xb_tape::{write_entry, write_totals};
 use xb_text::write_whole;
@@ -46,7 +45,7 @@ pub(crate) struct Page {
     // how many entries were written
     pub(crate) count: usize,
     // the keys of a keying that goes on
-    pub(crate) begun: Vec<Heard>,
+    pub(crate) begun: Vec<NamedKey>,
 }
 
 // What is done with a key.
@@ -70,7 +69,7 @@ fn push_key(marks: &mut Vec<Mark>, key: &Key) -> Result<(), AllocError>
 }
 
 // The keys after the first.
-fn after_first(keys: &[Heard]) -> &[Heard]
+fn after_first(keys: &[NamedKey]) -> &[NamedKey]
     ensures { result.now ≡ drop 1 keys.now }
 {
     match keys.split_first() {
@@ -80,12 +79,12 @@ fn after_first(keys: &[Heard]) -> &[Heard]
 }
 
 // Puts the marks of the digits among keys after the marks.
-fn push_digits(marks: &mut Vec<Mark>, keys: &[Heard]) -> Result<(), AllocError>
+fn push_digits(marks: &mut Vec<Mark>, keys: &[NamedKey]) -> Result<(), AllocError>
     ensures { OnOk result (marks.new.items ≡ marks.old.items
         ++ map (λ d. tone (Digit d)) (digits_in keys.now)) }
 {
     for key in keys {
-        if let Some(digit) = digit_of(key.sight.pair) {
+        if let Some(digit) = key.digit() {
             push_key(marks, &Key::Digit(digit))?;
         }
     }
@@ -93,12 +92,12 @@ fn push_digits(marks: &mut Vec<Mark>, keys: &[Heard]) -> Result<(), AllocError>
 }
 
 // The lines of keys that stand in no keying.
-fn loose_lines(alloc: Global, keys: &[Heard]) -> Result<String, AllocError>
+fn loose_lines(alloc: Global, keys: &[NamedKey]) -> Result<String, AllocError>
     ensures { IfOk result (λ text. string_bytes text ≡ loose_lines keys.now) }
 {
     let mut text = String::new(alloc);
     for key in keys {
-        write_loose(&mut text, *key)?;
+        key.write_loose(&mut text)?;
     }
     Ok(text)
 }
@@ -136,19 +135,19 @@ impl Page {
     }
 
     // What is done with a key.
-    fn step_of(&self, key: Heard) -> Step
-        ensures { result ≡ step_of self.now.begun.items key }
+    fn step_of(&self, key: &NamedKey) -> Step
+        ensures { result ≡ step_of self.now.begun.items key.now }
     {
         if self.begun.is_empty() {
-            if is_kp(key) {
+            if key.is_kp() {
                 return Step::Keeps;
             }
             return Step::BreaksOff;
         }
-        if is_st(key) {
+        if key.is_st() {
             return Step::Completes;
         }
-        if self.begun.len() <= MOST_DIGITS && digit_of(key.sight.pair).is_some() {
+        if self.begun.len() <= MOST_DIGITS && key.digit().is_some() {
             Step::Keeps
         } else {
             Step::BreaksOff
@@ -156,7 +155,7 @@ impl Page {
     }
 
     // Keeps a key of the keying.
-    fn keep(&mut self, key: Heard) -> Result<(), PageFault>
+    fn keep(&mut self, key: NamedKey) -> Result<(), PageFault>
         ensures kept { OnOk result (paged self.new
             ≡ record (paged self.old) { begun = self.old.begun.items ++ key ∷ [] }) }
         ensures same { OnErr result (paged self.new ≡ paged self.old) }
@@ -206,12 +205,12 @@ impl Page {
     }
 
     // The lines of the keys that stand in no keying, since this key comes after them.
-    fn broken(&self, alloc: Global, key: Heard) -> Result<String, AllocError>
-        ensures { IfOk result (λ text. string_bytes text ≡ loose_lines (broken self.now.begun.items key)) }
+    fn broken(&self, alloc: Global, key: &NamedKey) -> Result<String, AllocError>
+        ensures { IfOk result (λ text. string_bytes text ≡ loose_lines (broken self.now.begun.items key.now)) }
     {
         let mut text = loose_lines(alloc, &self.begun)?;
-        if !is_kp(key) {
-            write_loose(&mut text, key)?;
+        if !key.is_kp() {
+            key.write_loose(&mut text)?;
         }
         Ok(text)
     }
@@ -220,7 +219,7 @@ impl Page {
     fn break_off<E: Write>(
         &mut self,
         alloc: Global,
-        key: Heard,
+        key: NamedKey,
         err: &mut E,
     ) -> Result<(), PageFault>
         ensures whole { OnOk result (Appends (E.contents err.old) (E.contents err.new)
@@ -230,12 +229,12 @@ impl Page {
         ensures after { OnOk result (paged self.new ≡ record (paged self.old) { begun = kept_after key }) }
         ensures count { self.new.count ≡ self.old.count }
     {
-        let text = self.broken(alloc, key)?;
+        let text = self.broken(alloc, &key)?;
         if write_whole(err, text.as_bytes()).is_err() {
             return Err(PageFault::Tell);
         }
         self.begun.clear();
-        if is_kp(key) {
+        if key.is_kp() {
             return self.keep(key);
         }
         Ok(())
@@ -245,7 +244,7 @@ impl Page {
     fn take_key<W: Write, E: Write>(
         &mut self,
         alloc: Global,
-        key: Heard,
+        key: NamedKey,
         out: &mut W,
         err: &mut E,
     ) -> Result<(), PageFault>
@@ -260,8 +259,8 @@ impl Page {
         ensures count { self.new.count ≤ self.old.count + 1 }
         ensures begun { OnOk result (IsBegun self.new.begun.items) }
     {
-        match self.step_of(key) {
-            Step::Keeps => { self.keep(key) }
+        match self.step_of(&key) {
+            Step::Keeps => self.keep(key),
             Step::Completes => self.complete(alloc, out),
             Step::BreaksOff => self.break_off(alloc, key, err),
         }
@@ -288,7 +287,7 @@ impl Page {
         ensures begun { OnOk result (IsBegun self.new.begun.items) }
     {
         match key {
-            Some(key) => self.take_key(alloc, key, out, err),
+            Some(key) => self.take_key(alloc, NamedKey::of(key), out, err),
             None => Ok(()),
         }
     }

@@ -46,15 +46,15 @@ module _ (start length low_hz high_hz : ℕ) where
 
 pub returns : goal.returns
 returns c =
-    let figures = c.args.figures in
-    let name = string_bytes c.in_ok-name.name in
+    let figures = c.args.figures.now in
+    let name = c.name-name.result.now in
     let low = string_bytes c.in_ok-low.low in
     let end = end_with (string_bytes c.in_ok-high.high) (string_bytes c.in_ok-twist.twist) (string_bytes c.in_ok-gap.gap)
     c.word-word.result.now in
     let same = same-parts figures.start_ms figures.length_ms figures.pair.low figures.pair.high
     name low (string_bytes c.in_ok-high.high) (string_bytes c.in_ok-twist.twist) (string_bytes c.in_ok-gap.gap)
     c.word-word.result.now _ _ _ _ _ _
-    c.in_ok-name.ensures c.in_ok-low.ensures c.in_ok-high.ensures c.in_ok-twist.ensures c.in_ok-gap.ensures
+    c.name-name.ensures c.in_ok-low.ensures c.in_ok-high.ensures c.in_ok-twist.ensures c.in_ok-gap.ensures
     (c.word-word.ensures ∙ ap verdict_word c.verdict_of.ensures) in
     IfOk-weaker c.format.result
     (λ line. string_bytes line ≡ grouped_with figures.start_ms figures.length_ms figures.pair.low figures.pair.high name low end)

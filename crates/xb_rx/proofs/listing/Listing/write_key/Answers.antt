@@ -17,7 +17,7 @@ pub returns-then-is_err : goal.returns-then-is_err
 returns-then-is_err g c =
     let listing = c.args.self.now in
     let text : c.as_bytes.result.now ≡ key_line listing.telling (figures_of listing.last c.args.key) =
-    c.as_bytes.ensures.value ∙ c.in_ok-line.ensures ∙ ap (key_line listing.telling) c.figures_of.ensures in
+    c.as_bytes.ensures.value ∙ c.in_ok-line.ensures ∙ ap (key_line listing.telling) c.figures_of-figures.ensures in
     began-key listing.telling listing.last c.args.key _ _ _ text (listing_rest listing) page_fault.Write
     c.write_whole.ensures.beginning
 
@@ -25,6 +25,6 @@ pub returns : goal.returns
 returns g c =
     let listing = c.args.self.now in
     let text : c.as_bytes.result.now ≡ key_line listing.telling (figures_of listing.last c.args.key) =
-    c.as_bytes.ensures.value ∙ c.in_ok-line.ensures ∙ ap (key_line listing.telling) c.figures_of.ensures in
+    c.as_bytes.ensures.value ∙ c.in_ok-line.ensures ∙ ap (key_line listing.telling) c.figures_of-figures.ensures in
     wrote-key listing.telling listing.last c.args.key _ _ _ text
     (wrote-whole c.write_whole.result c.write_whole.ensures.whole (sym c.is_err.ensures.value ∙ c.if-is_err.false))

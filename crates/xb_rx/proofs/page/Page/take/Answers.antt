@@ -1,4 +1,4 @@
-use Rattle.std.proofs.Common.{◌++◌, Option, sym, subst}
+use Rattle.std.proofs.Common.{◌∙◌, ◌++◌, Option, Some, ap, sym, subst}
 use Rattle.xb_ear.specs.declared.hearing.Heard.{Heard}
 use Rattle.xb_ear.specs.Hearings.{listed}
 use Rattle.xb_rx.specs.Pages.{Writes, loose_rest, page_rest, paged}
@@ -8,10 +8,10 @@ pub returns-in-Some-clause-page : goal.returns-in-Some-clause-page
 returns-in-Some-clause-page g c =
     subst (λ (k : Option Heard). Writes (λ later. page_rest (paged c.args.self.now) (listed k ++ later))
     (page_rest (paged c.take_key.new.self)) c.take_key.result (g.W.Write.contents c.args.out.now) (g.W.Write.contents c.take_key.new.out))
-    (sym c.in-Some.is) c.take_key.ensures.page
+    (ap (λ k. Some k) c.of.ensures ∙ sym c.in-Some.is) c.take_key.ensures.page
 
 pub returns-in-Some-clause-loose : goal.returns-in-Some-clause-loose
 returns-in-Some-clause-loose g c =
     subst (λ (k : Option Heard). Writes (λ later. loose_rest (paged c.args.self.now) (listed k ++ later))
     (loose_rest (paged c.take_key.new.self)) c.take_key.result (g.E.Write.contents c.args.err.now) (g.E.Write.contents c.take_key.new.err))
-    (sym c.in-Some.is) c.take_key.ensures.loose
+    (ap (λ k. Some k) c.of.ensures ∙ sym c.in-Some.is) c.take_key.ensures.loose
