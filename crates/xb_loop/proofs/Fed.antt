@@ -1,203 +1,324 @@
--- What was put down of a recording, and written.
-use Rattle.std.proofs.Common.{◌≡◌, ℕ, List, [], ◌∷◌, ◌++◌, Bool, Option, Some, None, true, refl, ap, sym, subst, ◌∙◌, append_assoc, append-nil, string_bytes}
-use Rattle.std.specs.Prelude.{IfNone, IfSome, codes}
+-- What was taken of a recording, put down, and written.
+use Rattle.std.proofs.Common.{◌≡◌, ◌≢◌, ◌⊎◌, ℕ, List, [], ◌∷◌, ◌++◌, Bool, Option, Some, None, Ok, true, false, refl, ap, sym, subst, ◌∙◌, append_assoc, append-nil, inl, inr, string_bytes, ◌+◌, ◌<◌, suc, take, drop, get_or, length, take-append-drop, drop-cons}
 use Rattle.std.specs.List.{flat_map}
-use Rattle.std.specs.Io.KnownBytes.{Appends, Consumes, IsAtEnd}
-use Rattle.std.proofs.KnownBytes.{Appends-nil, Appends-trans, Consumes-nil, Consumes-trans, Consumes-whole}
 use Rattle.std.proofs.lemmas.Grind.{flat_map-append}
+use Rattle.std.proofs.lemmas.List.{take_more}
 use Rattle.xb_rows.specs.WrittenRows.{record_text}
 use Rattle.xb_contact.specs.declared.event.Event.{Event}
+use Rattle.xb_contact.specs.declared.event.Refusal.{Refusal}
+use Rattle.xb_contact.specs.declared.event.Refusal.TheVariants as refusals
 use Rattle.xb_recording.specs.declared.format.Format.{Format}
 use Rattle.xb_recording.specs.declared.reader.Reader.{Reader}
-use Rattle.xb_recording.specs.Beginnings.{form_told}
-use Rattle.xb_recording.specs.Says.{Begins, RestSays, Takes}
+use Rattle.xb_recording.specs.declared.wanted.Wanted.{Wanted}
+use Rattle.xb_recording.specs.Places.{line_number, lines_ended, lines_ended_by, one_more}
+use Rattle.xb_recording.specs.Says.{Begins, BeginsRefusals, IsRefused, KeepsRefusals, Refuses, RestRefused, RestSays, Says, Takes, is_text}
 use Rattle.xb_loop.specs.declared.feed.Intake.{Intake}
+use Rattle.xb_loop.specs.declared.fault.RecordingFault.{RecordingFault}
+use Rattle.xb_loop.specs.declared.fault.RecordingFault.TheVariants as faults
 use Rattle.xb_loop.specs.declared.request.Request.{Request}
-use Rattle.xb_loop.specs.Feeding.{Delivers, Ends, Feeds, GoesOn, Listens, PutsDown, Starts, Writes}
-use Rattle.xb_loop.specs.Told.{bounces_told}
+use Rattle.xb_loop.specs.Faults.{IsFaultAfter, IsFaultAtEnd, IsFaultOf, IsTooLate}
+use Rattle.xb_loop.specs.Feeding.{CannotBegin, Follows, GoesOn, Halts, IsFaultOfPiece, IsFaultOfRest, IsLateFault, PutsDown, StandsAfter, lines_ended_after, watch_asked}
 use Rattle.xb_loop.specs.Watches.{watch_of}
-use Rattle.xb_loop.specs.Watching.{Watch, begun_watch, event_rows, heard_event, line_left, rows_of_events, silent_line, text_of_events, watch_after}
+use Rattle.xb_loop.specs.Watching.{CanHear, Watch, certain_rows, certain_text, event_rows, heard_event, left_text, rows_of_events, line_left, text_of_events, watch_after}
 
--- one thing more that a recording says
-pub puts_next :
-    (before mid : List ℕ) (watch after : Watch) (event : Event) (rest : List Event)
-    → mid ≡ before ++ flat_map record_text (event_rows watch event) → after ≡ heard_event watch event
-    → mid ++ text_of_events after rest ≡ before ++ text_of_events watch (event ∷ rest)
-puts_next before mid watch after event rest e f =
-    ap (λ m. m ++ text_of_events after rest) e
-    ∙ ap (λ w. (before ++ flat_map record_text (event_rows watch event)) ++ text_of_events w rest) f
-    ∙ append_assoc before (flat_map record_text (event_rows watch event)) (text_of_events (heard_event watch event) rest)
-    ∙ ap (λ text. before ++ text)
-    (sym (flat_map-append record_text (event_rows watch event) (rows_of_events (heard_event watch event) rest)))
-
+-- one part after the other
 pub watch_after-append :
-    (watch : Watch) (events later : List Event)
-    → watch_after watch (events ++ later) ≡ watch_after (watch_after watch events) later
+    (watch : Watch) (said later : List Event)
+    → watch_after watch (said ++ later) ≡ watch_after (watch_after watch said) later
 watch_after-append watch [] later = refl
 watch_after-append watch (event ∷ rest) later = watch_after-append (heard_event watch event) rest later
 
--- bytes were read, and what they say was put down
+rows-append :
+    (watch : Watch) (said later : List Event)
+    → certain_rows watch (said ++ later) ≡ certain_rows watch said ++ certain_rows (watch_after watch said) later
+rows-append watch [] later = refl
+rows-append watch (event ∷ rest) later =
+    ap (λ rows. event_rows watch event ++ rows) (rows-append (heard_event watch event) rest later)
+    ∙ sym (append_assoc (event_rows watch event) (certain_rows (heard_event watch event) rest)
+    (certain_rows (watch_after (heard_event watch event) rest) later))
+
+pub certain-append :
+    (watch : Watch) (said later : List Event)
+    → certain_text watch (said ++ later) ≡ certain_text watch said ++ certain_text (watch_after watch said) later
+certain-append watch said later =
+    ap (flat_map record_text) (rows-append watch said later)
+    ∙ flat_map-append record_text (certain_rows watch said) (certain_rows (watch_after watch said) later)
+
+-- the rows of events, and those that are left at the end
+pub text_is :
+    (watch : Watch) (said : List Event)
+    → text_of_events watch said ≡ certain_text watch said ++ left_text (watch_after watch said)
+text_is watch said =
+    flat_map-append record_text (certain_rows watch said) (flat_map line_left (watch_after watch said).lines)
+
+-- what follows what was certain
+pub text_then :
+    (watch : Watch) (said later : List Event)
+    → text_of_events watch (said ++ later) ≡ certain_text watch said ++ text_of_events (watch_after watch said) later
+text_then watch said later =
+    text_is watch (said ++ later)
+    ∙ ap (λ text. text ++ left_text (watch_after watch (said ++ later))) (certain-append watch said later)
+    ∙ ap (λ w. (certain_text watch said ++ certain_text (watch_after watch said) later) ++ left_text w)
+    (watch_after-append watch said later)
+    ∙ append_assoc (certain_text watch said) (certain_text (watch_after watch said) later)
+    (left_text (watch_after (watch_after watch said) later))
+    ∙ ap (λ text. certain_text watch said ++ text) (sym (text_is (watch_after watch said) later))
+
+pub puts_then :
+    (a b c : List ℕ) (first second third : Watch) (said later : List Event) → PutsDown a first said b second
+    → PutsDown b second later c third → PutsDown a first (said ++ later) c third
+puts_then a b c first second third said later p q = record {
+  records =
+      q.records
+      ∙ ap (λ rows. rows ++ certain_text second later) p.records
+      ∙ ap (λ w. (a ++ certain_text first said) ++ certain_text w later) p.known
+      ∙ append_assoc a (certain_text first said) (certain_text (watch_after first said) later)
+      ∙ ap (λ text. a ++ text) (sym (certain-append first said later));
+  known = q.known ∙ ap (λ w. watch_after w later) p.known ∙ sym (watch_after-append first said later);
+}
+
+-- the lines of texts
+pub lines-append :
+    (first second : List ℕ) (n : ℕ)
+    → lines_ended_after (first ++ second) n ≡ lines_ended_after second (lines_ended_after first n)
+lines-append [] second n = refl
+lines-append (byte ∷ rest) second n = lines-append rest second (lines_ended_by byte n)
+
+-- what a reader took
+pub follows_none : (reader : Reader) → Follows reader reader [] []
+follows_none reader = record {
+  takes = λ text later k. k;
+  refusals = λ text refusal k. k;
+  form = refl;
+  place = λ h. refl;
+}
+
+pub follows_then :
+    (a b c : Reader) (bytes more : List ℕ) (said later : List Event) → Follows a b bytes said
+    → Follows b c more later → Follows a c (bytes ++ more) (said ++ later)
+follows_then a b c bytes more said later p q = record {
+  takes = λ text events k.
+      let P : List ℕ → Type 0 = λ t. RestSays a t ((said ++ later) ++ events) in
+      let Q : List Event → Type 0 = λ e. RestSays a (bytes ++ (more ++ text)) e in
+      subst P (sym (append_assoc bytes more text))
+      (subst Q (sym (append_assoc said later events)) (p.takes (more ++ text) (later ++ events) (q.takes text events k)));
+  refusals = λ text refusal k.
+      let P : List ℕ → Type 0 = λ t. RestRefused a t refusal in
+      subst P (sym (append_assoc bytes more text)) (p.refusals (more ++ text) refusal (q.refusals text refusal k));
+  form = q.form ∙ p.form;
+  place = λ h. q.place (p.form ∙ h) ∙ ap (lines_ended_after more) (p.place h) ∙ sym (lines-append bytes more (lines_ended a));
+}
+
+-- a recording, of which more was taken
+pub stands_then :
+    (format : Format) (wanted : Wanted) (a b : Reader) (taken bytes : List ℕ) (said later : List Event)
+    → StandsAfter format wanted taken said a → Follows a b bytes later
+    → StandsAfter format wanted (taken ++ bytes) (said ++ later) b
+stands_then format wanted a b taken bytes said later p q = record {
+  says = λ text events k.
+      let P : List ℕ → Type 0 = λ t. Says format wanted t ((said ++ later) ++ events) in
+      let Q : List Event → Type 0 = λ e. Says format wanted (taken ++ (bytes ++ text)) e in
+      subst P (sym (append_assoc taken bytes text))
+      (subst Q (sym (append_assoc said later events)) (p.says (bytes ++ text) (later ++ events) (q.takes text events k)));
+  refusals = λ text refusal k.
+      let P : List ℕ → Type 0 = λ t. IsRefused format wanted t refusal in
+      subst P (sym (append_assoc taken bytes text)) (p.refusals (bytes ++ text) refusal (q.refusals text refusal k));
+  place = λ h.
+      q.place (sym q.form ∙ h) ∙ ap (lines_ended_after bytes) (p.place (sym q.form ∙ h)) ∙ sym (lines-append taken bytes 0);
+}
+
+-- a reader that has taken nothing
+pub stands_first :
+    (format : Format) (wanted : Wanted) (reader : Reader) (said : List Event) → Begins format wanted reader said
+    → BeginsRefusals format wanted reader → lines_ended reader ≡ 0 → StandsAfter format wanted [] said reader
+stands_first format wanted reader said begins refused none =
+    record { says = begins; refusals = refused; place = λ h. none }
+
+-- bytes that were taken
+pub goes_none : (intake : Intake) → GoesOn intake [] intake
+goes_none intake = record {
+  said = [];
+  follows = follows_none intake.reader;
+  down = record { records = sym (append-nil (string_bytes intake.rows)); known = refl };
+}
+
+pub goes_then : (a b c : Intake) (bytes more : List ℕ) → GoesOn a bytes b → GoesOn b more c → GoesOn a (bytes ++ more) c
+goes_then a b c bytes more p q = record {
+  said = p.said ++ q.said;
+  follows = follows_then a.reader b.reader c.reader bytes more p.said q.said p.follows q.follows;
+  down =
+      puts_then (string_bytes a.rows) (string_bytes b.rows) (string_bytes c.rows) (watch_of a.lines) (watch_of b.lines)
+      (watch_of c.lines) p.said q.said p.down q.down;
+}
+
 pub goes_on :
-    (old new : Intake) (reader : Reader) (bytes : List ℕ) (said : List Event) → Takes old.reader reader bytes said
+    (old new : Intake) (reader : Reader) (bytes : List ℕ) (said : List Event) → Follows old.reader reader bytes said
     → new.reader ≡ reader
     → PutsDown (string_bytes old.rows) (watch_of old.lines) said (string_bytes new.rows) (watch_of new.lines)
-    → GoesOn old bytes new []
-goes_on old new reader bytes said taken same down text later last d =
-    let P : Reader → Type 0 = λ r. RestSays r text d.events in
-    record {
-      events = said ++ d.events;
-      said = taken text d.events (subst P same d.said);
-      records = d.records ∙ down.0 d.events;
-      known = d.known ∙ ap (λ w. watch_after w d.events) down.1 ∙ sym (watch_after-append (watch_of old.lines) said d.events);
-    }
+    → GoesOn old bytes new
+goes_on old new reader bytes said follows same down =
+    let P : Reader → Type 0 = λ r. Follows old.reader r bytes said in
+    record { said = said; follows = subst P (sym same) follows; down = down }
 
-pub goes_then :
-    (a b c : Intake) (bytes more written further : List ℕ)
-    → GoesOn a bytes b written → GoesOn b more c further → GoesOn a (bytes ++ more) c (written ++ further)
-goes_then a b c bytes more written further first second text later last d =
-    let P : List ℕ → Type 0 = λ t. Delivers a t ((written ++ further) ++ later) last in
-    let Q : List ℕ → Type 0 = λ w. Delivers a (bytes ++ (more ++ text)) w last in
-    subst P (sym (append_assoc bytes more text))
-    (subst Q (sym (append_assoc written further later)) (first (more ++ text) (further ++ later) last (second text later last d)))
+-- bytes that a reader refused
+pub halts_refused :
+    (old new : Intake) (bytes : List ℕ) (refusal : Refusal) (fault : RecordingFault)
+    → IsFaultOf new.reader refusal fault → Refuses old.reader bytes refusal
+    → (is_text old.reader.source ≡ true → new.reader.lines ≡ lines_ended old.reader)
+    → string_bytes new.rows ≡ string_bytes old.rows → IsFaultOfPiece old bytes new fault
+halts_refused old new bytes refusal fault told refused place same = inr (record {
+  taken = [];
+  refused = bytes;
+  rest = [];
+  are = sym (append-nil bytes);
+  reader = old.reader;
+  said = [];
+  put = [];
+  follows = follows_none old.reader;
+  why = record { refusal = refusal; told = told; place = λ h. ap one_more (place h); why = inl (refused, refl) };
+  records = same ∙ sym (append-nil (string_bytes old.rows));
+})
 
--- nothing was read, and all that was put down was written
-pub goes_written :
-    (old new : Intake) → new.reader ≡ old.reader → watch_of new.lines ≡ watch_of old.lines → string_bytes new.rows ≡ []
-    → GoesOn old [] new (string_bytes old.rows)
-goes_written old new reader watch none text later last d = record {
-  events = d.events;
-  said = (let P : Reader → Type 0 = λ r. RestSays r text d.events in subst P reader d.said);
-  records =
-      ap (λ l. string_bytes old.rows ++ l)
-      (d.records ∙ ap (λ rows. rows ++ text_of_events (watch_of new.lines) d.events) none
-      ∙ ap (λ w. text_of_events w d.events) watch);
-  known = d.known ∙ ap (λ w. watch_after w d.events) watch;
+-- bytes that say what is too late
+pub halts_late :
+    (old new : Intake) (reader : Reader) (bytes : List ℕ) (events : List Event) (fault : RecordingFault)
+    → Takes old.reader reader bytes events
+    → (is_text old.reader.source ≡ true → reader.lines ≡ lines_ended old.reader) → new.reader ≡ reader
+    → IsLateFault (string_bytes old.rows) (watch_of old.lines) events (string_bytes new.rows) new.reader fault
+    → IsFaultOfPiece old bytes new fault
+halts_late old new reader bytes events fault takes place same late =
+    let P : Reader → Type 0 = λ r. Takes old.reader r bytes events in
+    elim late [
+      | inl none ↦ inl none
+      | inr (told, (put, rows, is_late)) ↦ inr (record {
+        taken = [];
+        refused = bytes;
+        rest = [];
+        are = sym (append-nil bytes);
+        reader = old.reader;
+        said = [];
+        put = put;
+        follows = follows_none old.reader;
+        why = record {
+          refusal = refusals.TooLate;
+          told = told;
+          place = λ h. ap (λ r. line_number r) same ∙ ap one_more (place h);
+          why = inr (refl, (events, subst P (sym same) takes, is_late));
+        };
+        records = rows;
+      })
+    ]
+
+-- a fault after bytes that were taken
+pub fault_then :
+    (a b c : Intake) (bytes more rest all : List ℕ) (fault : RecordingFault) → GoesOn a bytes b → IsFaultOfPiece b more c fault
+    → all ≡ bytes ++ (more ++ rest) → IsFaultOfPiece a all c fault
+fault_then a b c bytes more rest all fault p (inl none) e = inl none
+fault_then a b c bytes more rest all fault p (inr h) e =
+    let K : Watch → Type 0 = λ w. IsFaultAfter h.reader w h.refused h.put c.reader fault in
+    let before : List ℕ = certain_text (watch_of a.lines) p.said in
+    inr (record {
+      taken = bytes ++ h.taken;
+      refused = h.refused;
+      rest = h.rest ++ rest;
+      are =
+          e
+          ∙ ap (λ m. bytes ++ (m ++ rest)) h.are
+          ∙ ap (λ m. bytes ++ m) (append_assoc h.taken (h.refused ++ h.rest) rest)
+          ∙ ap (λ m. bytes ++ (h.taken ++ m)) (append_assoc h.refused h.rest rest)
+          ∙ sym (append_assoc bytes h.taken (h.refused ++ (h.rest ++ rest)));
+      reader = h.reader;
+      said = p.said ++ h.said;
+      put = h.put;
+      follows = follows_then a.reader b.reader h.reader bytes h.taken p.said h.said p.follows h.follows;
+      why =
+          subst K
+          (ap (λ w. watch_after w h.said) p.down.known ∙ sym (watch_after-append (watch_of a.lines) p.said h.said)) h.why;
+      records =
+          h.records
+          ∙ ap (λ rows. rows ++ certain_text (watch_of b.lines) (h.said ++ h.put)) p.down.records
+          ∙ ap (λ w. (string_bytes a.rows ++ before) ++ certain_text w (h.said ++ h.put)) p.down.known
+          ∙ append_assoc (string_bytes a.rows) before (certain_text (watch_after (watch_of a.lines) p.said) (h.said ++ h.put))
+          ∙ ap (λ text. string_bytes a.rows ++ text) (sym (certain-append (watch_of a.lines) p.said (h.said ++ h.put)))
+          ∙ ap (λ all. string_bytes a.rows ++ certain_text (watch_of a.lines) all) (sym (append_assoc p.said h.said h.put));
+    })
+
+-- one thing more that is said, of a list
+pub puts_next :
+    (watch before after : Watch) (said : List Event) (i : ℕ) (d : Event) (start rows new : List ℕ) → i < length said
+    → (rows ≡ start ++ certain_text watch (take i said)) × (before ≡ watch_after watch (take i said))
+    → new ≡ rows ++ flat_map record_text (event_rows before (get_or said i d)) → after ≡ heard_event before (get_or said i d)
+    → (new ≡ start ++ certain_text watch (take (i + 1) said)) × (after ≡ watch_after watch (take (i + 1) said))
+puts_next watch before after said i d start rows new lt known more heard =
+    let event : Event = get_or said i d in
+    let P : List Event → Type 0 = λ them. (new ≡ start ++ certain_text watch them) × (after ≡ watch_after watch them) in
+    let one : certain_text before (event ∷ []) ≡ flat_map record_text (event_rows before event) =
+    ap (flat_map record_text) (append-nil (event_rows before event)) in
+    let both = puts_then start rows new watch before after (take i said) (event ∷ [])
+    (record { records = known.0; known = known.1 })
+    (record { records = more ∙ ap (λ text. rows ++ text) (sym one); known = heard }) in
+    subst P (sym (take_more said i d lt)) (both.records, both.known)
+
+-- and one that is too late
+pub late_next :
+    (watch before : Watch) (said : List Event) (i : ℕ) (d : Event) (taken : Bool) → i < length said
+    → before ≡ watch_after watch (take i said) → (CanHear before (get_or said i d) → taken ≡ true) → taken ≡ false
+    → IsTooLate watch said (take i said)
+late_next watch before said i d taken lt known can none = record {
+  event = get_or said i d;
+  later = drop (suc i) said;
+  are = sym (take-append-drop i said) ∙ ap (λ rest. take i said ++ rest) (drop-cons said i d lt);
+  late = λ k.
+      let hears : taken ≡ true =
+      can (let P : Watch → Type 0 = λ w. CanHear w (get_or said i d) in subst P (sym known) k) in
+      let wrong : true ≡ false = sym hears ∙ none in
+      cc;
 }
 
--- a reader that has read nothing, and what was put down of what it said already
-pub begins_with :
-    (format : Format) (request : Request) (reader : Reader) (intake : Intake) (said : List Event) (none : List ℕ)
-    (watch : Watch) → Begins format request.wanted reader said → intake.reader ≡ reader → none ≡ []
-    → watch ≡ begun_watch request.manner request.lines.items
-    → PutsDown none watch said (string_bytes intake.rows) (watch_of intake.lines)
-    → Starts format request intake
-begins_with format request reader intake said none watch begins same empty begun down text written last d =
-    let P : Reader → Type 0 = λ r. RestSays r text d.events in (
-      said ++ d.events,
-      begins text d.events (subst P same d.said),
-      d.records ∙ down.0 d.events ∙ ap (λ rows. rows ++ text_of_events watch (said ++ d.events)) empty
-          ∙ ap (λ w. text_of_events w (said ++ d.events)) begun,
-      d.known ∙ ap (λ w. watch_after w d.events) down.1 ∙ sym (watch_after-append watch said d.events)
-          ∙ ap (λ w. watch_after w (said ++ d.events)) begun,
-    )
+-- one byte more
+pub goes_next :
+    (a b c : Intake) (piece : List ℕ) (i d : ℕ) → i < length piece → GoesOn a (take i piece) b
+    → GoesOn b (get_or piece i d ∷ []) c → GoesOn a (take (i + 1) piece) c
+goes_next a b c piece i d lt p q =
+    let P : List ℕ → Type 0 = λ bytes. GoesOn a bytes c in
+    subst P (sym (take_more piece i d lt)) (goes_then a b c (take i piece) (get_or piece i d ∷ []) p q)
 
--- what was fed, and a piece more
-pub feeds_none : (intake : Intake) (input output : Option (List ℕ)) → Feeds intake intake input input output output
-feeds_none intake input output = record {
-  bytes = [];
-  written = [];
-  read = Consumes-nil input;
-  wrote = Appends-nil output;
-  goes_on = λ text later last d. d;
-}
+pub fault_next :
+    (a b c : Intake) (piece : List ℕ) (i d : ℕ) (fault : RecordingFault) → i < length piece → GoesOn a (take i piece) b
+    → IsFaultOfPiece b (get_or piece i d ∷ []) c fault → IsFaultOfPiece a piece c fault
+fault_next a b c piece i d fault lt p f =
+    fault_then a b c (take i piece) (get_or piece i d ∷ []) (drop (suc i) piece) piece fault p f
+    (sym (take-append-drop i piece) ∙ ap (λ rest. take i piece ++ rest) (drop-cons piece i d lt))
 
-pub feeds_then :
-    (a b c : Intake) (input left rest output after further : Option (List ℕ)) (bytes : List ℕ)
-    → Feeds a b input left output after → Consumes left rest bytes → Writes b bytes c after further
-    → Feeds a c input rest output further
-feeds_then a b c input left rest output after further bytes fed read wrote = record {
-  bytes = fed.bytes ++ bytes;
-  written = fed.written ++ wrote.written;
-  read = Consumes-trans input left rest fed.bytes bytes fed.read read;
-  wrote = Appends-trans output after further fed.written wrote.written fed.wrote wrote.wrote;
-  goes_on = goes_then a b c fed.bytes bytes fed.written wrote.written fed.goes_on wrote.goes_on;
-}
+-- samples are no text
+pub not_text : (b : Bool) (P : Type 0) → b ≡ false → b ≡ true → P
+not_text true P e f = absurd (let wrong : ⊥ = cc in wrong)
+not_text false P e f = absurd (let wrong : ⊥ = cc in wrong)
 
-pub feeds_piece :
-    (a b c : Intake) (input left rest output after further : Option (List ℕ)) (bytes piece : List ℕ)
-    → Feeds a b input left output after → Consumes left rest bytes → Writes b piece c after further → piece ≡ bytes
-    → Feeds a c input rest output further
-feeds_piece a b c input left rest output after further bytes piece fed read wrote same =
-    let P : List ℕ → Type 0 = λ taken. Writes b taken c after further in
-    feeds_then a b c input left rest output after further bytes fed read (subst P same wrote)
+-- what is too late at the end
+pub end_late :
+    (old new : Intake) (reader : Reader) (events : List Event) (fault : RecordingFault) → RestSays old.reader [] events
+    → reader.lines ≡ lines_ended old.reader → new.reader ≡ reader
+    → IsLateFault (string_bytes old.rows) (watch_of old.lines) events (string_bytes new.rows) new.reader fault
+    → (fault ≡ faults.NoMemory) ⊎ IsFaultAtEnd old.reader (watch_of old.lines) fault
+end_late old new reader events fault says place same (inl none) = inl none
+end_late old new reader events fault says place same (inr (told, (put, rows, late))) = inr (record {
+  after = new.reader;
+  told = told;
+  place = ap (λ r. line_number r) same ∙ ap one_more place;
+  events = events;
+  says = says;
+  put = put;
+  late = late;
+})
 
--- the end of a recording, of which the rows that were left were written
-pub ends :
-    (intake after : Intake) (events : List Event) (said : Bool) (told : List ℕ) (out got : Option (List ℕ))
-    → RestSays intake.reader [] events
-    → PutsDown (string_bytes intake.rows) (watch_of intake.lines) events (string_bytes after.rows) (watch_of after.lines)
-    → Appends out got (string_bytes after.rows ++ flat_map record_text (flat_map line_left (watch_of after.lines).lines))
-    → told ≡ bounces_told said (watch_of after.lines) → silent_line (watch_of after.lines).lines ≡ None
-    → Ends intake said told out got
-ends intake after events said told out got says down wrote heard levels = record {
-  last = watch_of after.lines;
-  heard = heard;
-  levels = levels;
-  written = string_bytes after.rows ++ flat_map record_text (flat_map line_left (watch_of after.lines).lines);
-  wrote = wrote;
-  delivers = record {
-    events = events;
-    said = says;
-    records =
-        down.0 []
-        ∙ ap (λ them. string_bytes intake.rows ++ text_of_events (watch_of intake.lines) them) (append-nil events);
-    known = down.1;
-  };
-}
-
--- what the beginning of known bytes tells, they tell
-pub form_is_told :
-    (input left : Option (List ℕ)) (bytes : List ℕ) (is_end : Bool) (format : Format) → Consumes input left bytes
-    → (is_end ≡ true → IsAtEnd left)
-    → ((later : List ℕ) → (is_end ≡ true → later ≡ []) → form_told (bytes ++ later) ≡ Some format)
-    → IfSome input (λ text. form_told text ≡ Some format)
-form_is_told None left bytes is_end format read end told = tt
-form_is_told (Some text) None bytes is_end format read end told = elim read [ ]
-form_is_told (Some text) (Some later) bytes is_end format read end told = ap form_told read ∙ told later end
-
-both-known :
-    (input : Option (List ℕ)) (P Q : List ℕ → Type 0) → IfSome input P → IfSome input (λ text. P text → Q text)
-    → IfSome input Q
-both-known None P Q p f = tt
-both-known (Some text) P Q p f = f p
-
--- the whole of a recording: what was read of it to tell its form, all later bytes, and its end
-pub listened :
-    (request : Request) (format : Format) (a b c : Intake) (before beginning piece told : List ℕ)
-    (input i left out headed begun fed ended : Option (List ℕ)) (named : IfSome request.format (λ named. format ≡ named))
-    → IfSome input (λ text. IfNone request.format (form_told text ≡ Some format)) → Consumes input i beginning → Starts format request a → Appends out headed (before ++ codes "line,state,ms\n")
-    → Writes a piece b headed begun → piece ≡ beginning → Feeds b c i left begun fed → IsAtEnd left
-    → Ends c request.said told fed ended
-    → IfSome input (λ text. (rows : List ℕ) × Listens request text rows told × Appends out ended (before ++ rows))
-listened request format a b c before beginning piece told input i left out headed begun fed ended named told_it read starts header written same feeds end ends =
-    let B : List ℕ → Type 0 = λ taken. Writes a taken b headed begun in
-    let wrote : Writes a beginning b headed begun = subst B same written in
-    let all : List ℕ = wrote.written ++ (feeds.written ++ ends.written) in
-    let text : List ℕ = beginning ++ feeds.bytes in
-    let later : Delivers b (feeds.bytes ++ []) (feeds.written ++ ends.written) ends.last = feeds.goes_on [] ends.written ends.last ends.delivers in
-    let whole : Delivers a (beginning ++ (feeds.bytes ++ [])) all ends.last =
-    wrote.goes_on (feeds.bytes ++ []) (feeds.written ++ ends.written) ends.last later in
-    let P : List ℕ → Type 0 = λ t. Delivers a (beginning ++ t) all ends.last in
-    let said = starts text all ends.last (subst P (append-nil feeds.bytes) whole) in
-    let rows : List ℕ = codes "line,state,ms\n" ++ all in
-    let Form : List ℕ → Type 0 = λ t. IfNone request.format (form_told t ≡ Some format) in
-    let Heard : List ℕ → Type 0 = λ t. (rows : List ℕ) × Listens request t rows told × Appends out ended (before ++ rows) in
-    let listens : Form text → Listens request text rows told = λ form. record {
-      format = format;
-      asked = named;
-      form = form;
-      events = said.0;
-      said = said.1;
-      printed = ap (λ r. codes "line,state,ms\n" ++ r) said.2;
-      levels = ap (λ w. silent_line w.lines) (sym said.3) ∙ ends.levels;
-      heard = ends.heard ∙ ap (bounces_told request.said) said.3;
-    } in
-    let appended : Appends out ended ((before ++ codes "line,state,ms\n") ++ all) =
-    Appends-trans out headed ended (before ++ codes "line,state,ms\n") all header
-    (Appends-trans headed begun ended wrote.written (feeds.written ++ ends.written) wrote.wrote
-    (Appends-trans begun fed ended feeds.written ends.written feeds.wrote ends.wrote)) in
-    let W : List ℕ → Type 0 = λ w. Appends out ended w in
-    both-known input Form Heard told_it
-    (Consumes-whole input left text (λ t. Form t → Heard t)
-    (Consumes-trans input i left beginning feeds.bytes read feeds.read) end
-    (λ form. (rows, listens form, subst W (append_assoc before (codes "line,state,ms\n") all) appended)))
+-- and at the beginning
+pub begins_late :
+    (format : Format) (request : Request) (reader after : Reader) (said : List Event) (none rows : List ℕ) (watch : Watch)
+    (fault : RecordingFault) → StandsAfter format request.wanted [] said reader → after ≡ reader
+    → watch ≡ watch_asked request → IsLateFault none watch said rows after fault → CannotBegin format request fault
+begins_late format request reader after said none rows watch fault stands same known (inl is) = inl is
+begins_late format request reader after said none rows watch fault stands same known (inr (told, (put, written, late))) =
+    let P : Watch → Type 0 = λ w. IsTooLate w said put in
+    let Q : Reader → Type 0 = λ r. IsFaultOf r refusals.TooLate fault in
+    inr (inr (reader, said, put, stands, subst P known late, subst Q same told))

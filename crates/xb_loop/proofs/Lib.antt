@@ -3,6 +3,14 @@ pub mod RowTexts
 pub mod HeardRows
 pub mod KeptTapes
 pub mod TallyLemmas
-pub mod ToldTexts
+pub mod BounceTexts
+pub mod WireRows
+pub mod Followed
+pub mod AloneLines
+pub mod Recordings
 pub mod Fed
+pub mod Stopped
+pub mod Listened
+pub mod Attended
+pub mod ToldForms
 pub mod WordWires

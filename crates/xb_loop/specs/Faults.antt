@@ -1,15 +1,13 @@
 -- Which fault is told of a recording that is refused.
-use Rattle.std.specs.Prelude.{◌≡◌, ◌≢◌, ◌⊎◌, ℕ, List, Some, None, true, false, map, nat_le, string_bytes, take, ◌&&◌, if◌then◌else◌}
+use Rattle.std.specs.Prelude.{◌≡◌, ◌≢◌, ◌⊎◌, ℕ, List, [], ◌∷◌, ◌++◌, Some, None, true, false, map, nat_le, string_bytes, take, ◌&&◌, if◌then◌else◌}
 use Rattle.xb_contact.specs.declared.event.Refusal.{Refusal}
 use Rattle.xb_contact.specs.declared.event.Refusal.TheVariants as refusals
 use Rattle.xb_recording.specs.declared.reader.Reader.{Reader}
-use Rattle.xb_recording.specs.Places.{line_number, sample_number}
-use Rattle.xb_recording.specs.Says.{Refuses, Takes, is_text}
+use Rattle.xb_recording.specs.Places.{line_number, lines_ended, one_more, sample_number}
+use Rattle.xb_recording.specs.Says.{Refuses, RestSays, Takes, is_text}
 use Rattle.xb_contact.specs.declared.event.Event.{Event}
-use Rattle.xb_loop.specs.declared.feed.Intake.{Intake}
 use Rattle.xb_loop.specs.declared.feed.TheConstants.{MOST_SHOWN_BYTES}
-use Rattle.xb_loop.specs.Watches.{watch_of}
-use Rattle.xb_loop.specs.Watching.{CanHearAll, Watch, silent_line}
+use Rattle.xb_loop.specs.Watching.{CanHear, Watch, silent_line, watch_after}
 use Rattle.xb_loop.specs.declared.fault.RecordingFault.{RecordingFault}
 use Rattle.xb_loop.specs.declared.fault.RecordingFault.TheVariants as faults
 
@@ -40,17 +38,34 @@ IsFaultOf reader refusal (faults.NoLevel line) = ⊥
 IsFaultOf reader refusal faults.Read = ⊥
 IsFaultOf reader refusal faults.Write = ⊥
 
--- bytes that were taken say what has a time that cannot be counted
-abbrev pub IsTooLate : Intake → List ℕ → Reader → RecordingFault → Type 0
-IsTooLate old bytes reader fault =
-    (events : List Event) × Takes old.reader reader bytes events
-    × (CanHearAll (watch_of old.lines) events → fault ≡ faults.NoMemory)
+-- of what is said this was put down, and what comes next has a time that cannot be counted
+pub record IsTooLate (watch : Watch) (said put : List Event) : Type 0 where
+  pub event : Event
+  pub later : List Event
+  pub are : said ≡ put ++ event ∷ later
+  pub late : CanHear (watch_after watch put) event → ⊥
 
--- the fault of bytes where the reader stands then: it refused them, or they say what is too late
-abbrev pub IsFaultAfter : Intake → List ℕ → Intake → RecordingFault → Type 0
-IsFaultAfter old bytes new fault =
-    (refusal : Refusal) × IsFaultOf new.reader refusal fault
-    × (Refuses old.reader bytes refusal ⊎ ((refusal ≡ refusals.TooLate) × IsTooLate old bytes new.reader fault))
+-- the fault of bytes after which the reader stands so: it refused them, or they say what is too late after what was put
+-- down; of a text it is told at the line of the last byte
+pub record IsFaultAfter
+    (reader : Reader) (watch : Watch) (bytes : List ℕ) (put : List Event) (after : Reader) (fault : RecordingFault)
+    : Type 0 where
+  pub refusal : Refusal
+  pub told : IsFaultOf after refusal fault
+  pub place : is_text reader.source ≡ true → line_number after ≡ one_more (lines_ended reader)
+  pub why : (Refuses reader bytes refusal × (put ≡ []))
+      ⊎ ((refusal ≡ refusals.TooLate)
+      × ((events : List Event) × Takes reader after bytes events × IsTooLate watch events put))
+
+-- the same at the end of the recording, of whose last line nothing is put down
+pub record IsFaultAtEnd (reader : Reader) (watch : Watch) (fault : RecordingFault) : Type 0 where
+  pub after : Reader
+  pub told : IsFaultOf after refusals.TooLate fault
+  pub place : line_number after ≡ one_more (lines_ended reader)
+  pub events : List Event
+  pub says : RestSays reader [] events
+  pub put : List Event
+  pub late : IsTooLate watch events put
 
 -- the fault at the end of a recording in which the wire of a line has no level
 abbrev pub IsSilence : Watch → RecordingFault → Type 0

@@ -1,82 +1,268 @@
 -- What is written of a recording as it comes.
-use Rattle.std.specs.Prelude.{◌≡◌, ℕ, List, [], ◌++◌, Bool, Option, Some, None, IfNone, IfSome, string_bytes}
-use Rattle.std.specs.Io.KnownBytes.{Appends, Consumes}
+use Rattle.std.specs.Prelude.{◌≡◌, ◌≢◌, ◌⊎◌, ℕ, List, [], ◌∷◌, ◌++◌, Bool, true, Option, Some, None, IfNone, IfSome, string_bytes}
+use Rattle.std.specs.Io.KnownBytes.{Appends, Consumes, Keeps}
+use Rattle.xb_text.specs.Writing.{AppendsBeginning}
 use Rattle.xb_rows.specs.WrittenRows.{text_of_rows}
 use Rattle.xb_contact.specs.declared.event.Event.{Event}
+use Rattle.xb_contact.specs.declared.event.Refusal.{Refusal}
+use Rattle.xb_contact.specs.declared.event.Refusal.TheVariants as refusals
 use Rattle.xb_recording.specs.declared.format.Format.{Format}
+use Rattle.xb_recording.specs.declared.reader.Reader.{Reader}
+use Rattle.xb_recording.specs.declared.wanted.Wanted.{Wanted}
 use Rattle.xb_recording.specs.Beginnings.{form_told}
-use Rattle.xb_recording.specs.Says.{RestSays, Says}
+use Rattle.xb_recording.specs.Places.{lines_ended, lines_ended_by}
+use Rattle.xb_recording.specs.Says.{IsRefused, KeepsRefusals, RefusesEnd, RefusesForm, RestRefused, RestSays, Says, Takes, is_text}
+use Rattle.xb_loop.specs.declared.fault.RecordingFault.{RecordingFault}
+use Rattle.xb_loop.specs.declared.fault.RecordingFault.TheVariants as faults
 use Rattle.xb_loop.specs.declared.feed.Intake.{Intake}
 use Rattle.xb_loop.specs.declared.request.Request.{Request}
+use Rattle.xb_loop.specs.Beginnings.{IsUntold}
+use Rattle.xb_loop.specs.BounceLines.{bounces_told}
+use Rattle.xb_loop.specs.Faults.{IsFaultAfter, IsFaultAtEnd, IsFaultOf, IsTooLate}
 use Rattle.xb_loop.specs.Watches.{watch_of}
-use Rattle.xb_loop.specs.Told.{bounces_told}
-use Rattle.xb_loop.specs.Watching.{Watch, begun_watch, rows_of_events, silent_line, text_of_events, watch_after}
+use Rattle.xb_loop.specs.Watching.{Watch, begun_watch, certain_rows, certain_text, rows_of_events, silent_line, text_of_events, watch_after}
 
--- of the bytes that follow, up to the end of the recording, these are written: the records of what they say; and
--- this is known at the end
-pub record Delivers (intake : Intake) (text written : List ℕ) (last : Watch) : Type 0 where
-  pub events : List Event
-  pub said : RestSays intake.reader text events
-  pub records : written ≡ string_bytes intake.rows ++ text_of_events (watch_of intake.lines) events
-  pub known : last ≡ watch_after (watch_of intake.lines) events
+-- what a recording says was put down: its records stand at the end of those that are not written yet, and it is known
+pub record PutsDown (old : List ℕ) (before : Watch) (said : List Event) (new : List ℕ) (after : Watch) : Type 0 where
+  pub records : new ≡ old ++ certain_text before said
+  pub known : after ≡ watch_after before said
 
--- of bytes that were taken these were written, whatever comes later
-abbrev pub GoesOn : Intake → List ℕ → Intake → List ℕ → Type 0
-GoesOn old bytes new written =
-    (text later : List ℕ) (last : Watch) → Delivers new text later last
-    → Delivers old (bytes ++ text) (written ++ later) last
+-- so much of it, up to what is too late
+abbrev pub PutsDownUntilLate : List ℕ → Watch → List Event → List ℕ → Type 0
+PutsDownUntilLate old before said new =
+    (put : List Event) × (new ≡ old ++ certain_text before put) × IsTooLate before said put
 
--- what a recording says was put down: its records stand at the end of those that are not written yet, what it
--- says later follows, and it is known
-abbrev pub PutsDown : List ℕ → Watch → List Event → List ℕ → Watch → Type 0
-PutsDown old before events new after =
-    ((later : List Event) → new ++ text_of_events after later ≡ old ++ text_of_events before (events ++ later))
-    × (after ≡ watch_after before events)
+-- the fault of that where the reader stands
+abbrev pub IsLateFault : List ℕ → Watch → List Event → List ℕ → Reader → RecordingFault → Type 0
+IsLateFault old before said new reader fault =
+    (fault ≡ faults.NoMemory) ⊎ (IsFaultOf reader refusals.TooLate fault × PutsDownUntilLate old before said new)
 
--- of bytes that were taken a writer got what was written
+-- how many lines have ended after bytes
+abbrev pub lines_ended_after : List ℕ → ℕ → ℕ
+lines_ended_after [] ended = ended
+lines_ended_after (byte ∷ rest) ended = lines_ended_after rest (lines_ended_by byte ended)
+
+-- what a reader took says these events, whatever follows, and what is refused then was refused before; the lines of a
+-- text are counted
+pub record Follows (old new : Reader) (bytes : List ℕ) (said : List Event) : Type 0 where
+  pub takes : Takes old new bytes said
+  pub refusals : KeepsRefusals old new bytes
+  pub form : is_text new.source ≡ is_text old.source
+  pub place : is_text old.source ≡ true → lines_ended new ≡ lines_ended_after bytes (lines_ended old)
+
+-- a reader stands so after the beginning of a recording, which says these events
+pub record StandsAfter
+    (format : Format) (wanted : Wanted) (taken : List ℕ) (said : List Event) (reader : Reader) : Type 0 where
+  pub says : (text : List ℕ) (later : List Event) → RestSays reader text later
+      → Says format wanted (taken ++ text) (said ++ later)
+  pub refusals : (text : List ℕ) (refusal : Refusal) → RestRefused reader text refusal
+      → IsRefused format wanted (taken ++ text) refusal
+  pub place : is_text reader.source ≡ true → lines_ended reader ≡ lines_ended_after taken 0
+
+-- bytes were taken, and what they say was put down
+pub record GoesOn (old : Intake) (bytes : List ℕ) (new : Intake) : Type 0 where
+  pub said : List Event
+  pub follows : Follows old.reader new.reader bytes said
+  pub down : PutsDown (string_bytes old.rows) (watch_of old.lines) said (string_bytes new.rows) (watch_of new.lines)
+
+-- bytes have a fault, after the first of them: why, and all that they say before it was put down
+pub record Halts (old : Intake) (bytes : List ℕ) (new : Intake) (fault : RecordingFault) : Type 0 where
+  pub taken : List ℕ
+  pub refused : List ℕ
+  pub rest : List ℕ
+  pub are : bytes ≡ taken ++ (refused ++ rest)
+  pub reader : Reader
+  pub said : List Event
+  pub put : List Event
+  pub follows : Follows old.reader reader taken said
+  pub why : IsFaultAfter reader (watch_after (watch_of old.lines) said) refused put new.reader fault
+  pub records : string_bytes new.rows ≡ string_bytes old.rows ++ certain_text (watch_of old.lines) (said ++ put)
+
+abbrev pub IsFaultOfPiece : Intake → List ℕ → Intake → RecordingFault → Type 0
+IsFaultOfPiece old bytes new fault = (fault ≡ faults.NoMemory) ⊎ Halts old bytes new fault
+
+-- what the end of a recording says was put down
+abbrev pub PutsDownLast : Intake → List ℕ → Watch → Type 0
+PutsDownLast old new after =
+    (events : List Event) × RestSays old.reader [] events
+    × PutsDown (string_bytes old.rows) (watch_of old.lines) events new after
+
+-- where there was a fault this is told, and these rows were written, but none where memory ran out
+abbrev pub WritesBefore : List ℕ → RecordingFault → RecordingFault → Option (List ℕ) → Option (List ℕ) → Type 0
+WritesBefore rows fault told output after =
+    ((told ≡ faults.NoMemory) × Appends output after [])
+    ⊎ ((fault ≢ faults.NoMemory) × (((told ≡ fault) × Appends output after rows)
+    ⊎ ((told ≡ faults.Write) × AppendsBeginning output after rows)))
+
+-- why the last rows were not written
+abbrev pub WritesLast : List ℕ → Option (List ℕ) → Option (List ℕ) → RecordingFault → Type 0
+WritesLast rows output after fault =
+    ((fault ≡ faults.NoMemory) × Appends output after [])
+    ⊎ ((fault ≡ faults.Write) × AppendsBeginning output after rows)
+
+-- bytes were taken, and all that they say was written
 pub record Writes (old : Intake) (bytes : List ℕ) (new : Intake) (output after : Option (List ℕ)) : Type 0 where
-  pub written : List ℕ
-  pub wrote : Appends output after written
-  pub goes_on : GoesOn old bytes new written
+  pub said : List Event
+  pub follows : Follows old.reader new.reader bytes said
+  pub known : watch_of new.lines ≡ watch_after (watch_of old.lines) said
+  pub wrote : Appends output after (certain_text (watch_of old.lines) said)
+  pub none_left : string_bytes new.rows ≡ []
 
--- a writer got all that was left, each wire has had a level, and this is told of the bounces
-pub record Ends (intake : Intake) (said : Bool) (told : List ℕ) (output after : Option (List ℕ)) : Type 0 where
-  pub last : Watch
-  pub heard : told ≡ bounces_told said last
-  pub levels : silent_line last.lines ≡ None
-  pub written : List ℕ
-  pub wrote : Appends output after written
-  pub delivers : Delivers intake [] written last
-
--- an input gave bytes, of which these were written to an output
+-- an input gave bytes, and all that they say was written to an output
 pub record Feeds (old new : Intake) (input left output after : Option (List ℕ)) : Type 0 where
   pub bytes : List ℕ
-  pub written : List ℕ
   pub read : Consumes input left bytes
-  pub wrote : Appends output after written
-  pub goes_on : GoesOn old bytes new written
+  pub writes : Writes old bytes new output after
 
--- the rows of a recording: of the form that is asked for, or else of that which it tells, exactly those of what the
--- recording says of the wires that are asked for, of which each has had a level; and what is told of the bounces
+-- all bytes that follow were taken up to the end of the recording, each wire has had a level, all rows were written, and
+-- this is told of the bounces
+pub record Ends (old : Intake) (said : Bool) (told text : List ℕ) (output after : Option (List ℕ)) : Type 0 where
+  pub events : List Event
+  pub says : RestSays old.reader text events
+  pub levels : silent_line (watch_after (watch_of old.lines) events).lines ≡ None
+  pub heard : told ≡ bounces_told said (watch_after (watch_of old.lines) events)
+  pub wrote : Appends output after (text_of_events (watch_of old.lines) events)
+
+-- the first that is said of bytes
+pub record SaysFirst (reader : Reader) (later : List ℕ) (put : List Event) : Type 0 where
+  pub bytes : List ℕ
+  pub rest : List ℕ
+  pub are : later ≡ bytes ++ rest
+  pub after : Reader
+  pub more : List Event
+  pub takes : Takes reader after bytes (put ++ more)
+
+-- a fault within bytes, and the text of what they say before it
+pub record IsWithin
+    (reader : Reader) (watch : Watch) (later : List ℕ) (fault : RecordingFault) (text : List ℕ) : Type 0 where
+  pub refused : List ℕ
+  pub rest : List ℕ
+  pub are : later ≡ refused ++ rest
+  pub after : Reader
+  pub put : List Event
+  pub why : IsFaultAfter reader watch refused put after fault
+  pub records : text ≡ certain_text watch put
+
+abbrev pub IsLate : Reader → Watch → List ℕ → RecordingFault → List ℕ → Type 0
+IsLate reader watch later fault text =
+    IsWithin reader watch later fault text ⊎ ((later ≡ []) × (text ≡ []) × IsFaultAtEnd reader watch fault)
+
+-- what a fault says of what follows where the reader stands, and the text of what is put down before it: a refusal is
+-- that of the reader, or of a time that cannot be counted; at the end it may lack a level; else a write or a read
+-- failed, or memory ran out
+abbrev pub IsFaultOfRest : Reader → Watch → List ℕ → RecordingFault → List ℕ → Type 0
+IsFaultOfRest reader watch later (faults.Line number reason shown) text =
+    IsLate reader watch later (faults.Line number reason shown) text
+IsFaultOfRest reader watch later (faults.Sample number reason) text =
+    IsLate reader watch later (faults.Sample number reason) text
+IsFaultOfRest reader watch later (faults.Beginning reason) text =
+    IsLate reader watch later (faults.Beginning reason) text
+IsFaultOfRest reader watch later (faults.End reason) text =
+    (later ≡ []) × (text ≡ []) × (reason ≢ refusals.NoMemory) × RefusesEnd reader reason
+IsFaultOfRest reader watch later (faults.NoLevel line) text =
+    (later ≡ []) × (text ≡ []) × ((events : List Event) × RestSays reader [] events
+    × (silent_line (watch_after watch events).lines ≡ Some line))
+IsFaultOfRest reader watch later faults.Write text =
+    ((put : List Event) × SaysFirst reader later put × (text ≡ certain_text watch put))
+    ⊎ ((events : List Event) × (later ≡ []) × RestSays reader [] events
+    × (silent_line (watch_after watch events).lines ≡ None) × (text ≡ text_of_events watch events))
+IsFaultOfRest reader watch later faults.Read text = text ≡ []
+IsFaultOfRest reader watch later faults.NoMemory text = text ≡ []
+
+-- an output got a text, or its beginning where a write failed
+abbrev pub Wrote : RecordingFault → Option (List ℕ) → Option (List ℕ) → List ℕ → Type 0
+Wrote faults.Write output after text = AppendsBeginning output after text
+Wrote fault output after text = Appends output after text
+
+-- a fault of bytes, after the first of them: all that they say before it was written
+pub record Stops
+    (reader : Reader) (watch : Watch) (bytes : List ℕ) (fault : RecordingFault) (output after : Option (List ℕ))
+    : Type 0 where
+  pub taken : List ℕ
+  pub later : List ℕ
+  pub are : bytes ≡ taken ++ later
+  pub there : Reader
+  pub said : List Event
+  pub follows : Follows reader there taken said
+  pub text : List ℕ
+  pub why : IsFaultOfRest there (watch_after watch said) later fault text
+  pub wrote : Wrote fault output after (certain_text watch said ++ text)
+
+-- the same of the input that follows, where its bytes are known
+abbrev pub StopsOf : Intake → Option (List ℕ) → RecordingFault → Option (List ℕ) → Option (List ℕ) → Type 0
+StopsOf old input fault output after =
+    IfSome input (λ text. Stops old.reader (watch_of old.lines) text fault output after)
+
+abbrev pub EndsOf :
+    Intake → Bool → List ℕ → Option (List ℕ) → Option (List ℕ) → Option (List ℕ) → Type 0
+EndsOf old said told input output after = IfSome input (λ text. Ends old said told text output after)
+
+-- the lines that are asked for, before anything is known of them
+abbrev pub watch_asked : Request → Watch
+watch_asked request = begun_watch request.manner request.lines.items
+
+-- nothing has been read of a recording of this form, which says these events already
+pub record Starts (format : Format) (request : Request) (intake : Intake) : Type 0 where
+  pub said : List Event
+  pub stands : StandsAfter format request.wanted [] said intake.reader
+  pub down : PutsDown [] (watch_asked request) said (string_bytes intake.rows) (watch_of intake.lines)
+
+-- the form of a recording is the one that is asked for, or else that which it tells
+pub record IsOfForm (request : Request) (text : List ℕ) (format : Format) : Type 0 where
+  pub asked : IfSome request.format (λ asked. format ≡ asked)
+  pub told : IfNone request.format (form_told text ≡ Some format)
+
+-- the rows of a recording: of its form, exactly those of what it says of the wires that are asked for, of which each has
+-- had a level; and what is told of the bounces
 pub record Listens (request : Request) (text rows told : List ℕ) : Type 0 where
   pub format : Format
-  pub asked : IfSome request.format (λ asked. format ≡ asked)
-  pub form : IfNone request.format (form_told text ≡ Some format)
+  pub form : IsOfForm request text format
   pub events : List Event
   pub said : Says format request.wanted text events
-  pub printed : rows ≡ text_of_rows (rows_of_events (begun_watch request.manner request.lines.items) events)
-  pub levels : silent_line (watch_after (begun_watch request.manner request.lines.items) events).lines ≡ None
-  pub heard : told ≡ bounces_told request.said (watch_after (begun_watch request.manner request.lines.items) events)
-
--- nothing has been read of a recording of this form
-abbrev pub Starts : Format → Request → Intake → Type 0
-Starts format request intake =
-    (text written : List ℕ) (last : Watch) → Delivers intake text written last
-    → (events : List Event) × Says format request.wanted text events
-    × (written ≡ text_of_events (begun_watch request.manner request.lines.items) events)
-    × (last ≡ watch_after (begun_watch request.manner request.lines.items) events)
+  pub printed : rows ≡ text_of_rows (rows_of_events (watch_asked request) events)
+  pub levels : silent_line (watch_after (watch_asked request) events).lines ≡ None
+  pub heard : told ≡ bounces_told request.said (watch_after (watch_asked request) events)
 
 -- an output got a text and then the rows of an input, where their bytes are known, and this is told of its bounces
 abbrev pub ListensTo : Request → List ℕ → List ℕ → Option (List ℕ) → Option (List ℕ) → Option (List ℕ) → Type 0
 ListensTo request before told input output after =
     IfSome input (λ text. (rows : List ℕ) × Listens request text rows told × Appends output after (before ++ rows))
+
+-- a recording of a form cannot begin: each one of it is refused, or what it says before anything is read is too late
+abbrev pub CannotBegin : Format → Request → RecordingFault → Type 0
+CannotBegin format request fault =
+    (fault ≡ faults.NoMemory)
+    ⊎ (((reason : Refusal) × (fault ≡ faults.Beginning reason) × (reason ≢ refusals.NoMemory)
+    × RefusesForm format request.wanted reason)
+    ⊎ ((reader : Reader) × (said : List Event) × (put : List Event)
+    × StandsAfter format request.wanted [] said reader × IsTooLate (watch_asked request) said put
+    × IsFaultOf reader refusals.TooLate fault))
+
+-- a fault before anything was written: the form is not told, or a recording of it cannot begin
+abbrev pub FailsAtOnce : Request → List ℕ → RecordingFault → Type 0
+FailsAtOnce request text fault =
+    ((request.format ≡ None) × IsUntold text fault)
+    ⊎ ((format : Format) × IsOfForm request text format × CannotBegin format request fault)
+
+-- a fault after the beginning of a recording, all of whose rows were written
+pub record FailsLater
+    (request : Request) (text before : List ℕ) (fault : RecordingFault) (output after : Option (List ℕ)) : Type 0 where
+  pub format : Format
+  pub form : IsOfForm request text format
+  pub taken : List ℕ
+  pub later : List ℕ
+  pub are : text ≡ taken ++ later
+  pub reader : Reader
+  pub said : List Event
+  pub stands : StandsAfter format request.wanted taken said reader
+  pub more : List ℕ
+  pub why : IsFaultOfRest reader (watch_after (watch_asked request) said) later fault more
+  pub wrote : Wrote fault output after (before ++ text_of_rows (certain_rows (watch_asked request) said) ++ more)
+
+-- what a fault says of an input, where its bytes are known, and what an output got before it: nothing, or a text and
+-- then the rows of what comes before the fault
+abbrev pub FailsToListen :
+    Request → List ℕ → RecordingFault → Option (List ℕ) → Option (List ℕ) → Option (List ℕ) → Type 0
+FailsToListen request before fault input output after =
+    IfSome input (λ text. (Keeps output after × FailsAtOnce request text fault)
+    ⊎ FailsLater request text before fault output after)

@@ -1,10 +1,12 @@
+pub mod Constants
 pub mod RowsOfHolds
 pub mod HeardLaws
 pub mod TapeLaws
 pub mod Tallies
 pub mod Contacts
 pub mod Watching
-pub mod Told
+pub mod BounceLines
+pub mod Beginnings
 pub mod Watches
 pub mod Faults
 pub mod Feeding
@@ -12,3 +14,5 @@ pub mod Rules
 pub mod Options
 pub mod Tables
 pub mod Program
+pub mod WireRecords
+pub mod RecordingLaws

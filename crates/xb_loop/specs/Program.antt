@@ -1,13 +1,18 @@
 -- What the program did, by its status.
-use Rattle.std.specs.Prelude.{ℕ, ◌++◌, List, codes, Option, None, option_map}
+use Rattle.std.specs.Prelude.{ℕ, ◌≡◌, ◌⊎◌, ◌++◌, List, codes, Option, None, option_map}
+use Rattle.std.specs.Io.KnownBytes.{Appends, Keeps}
 use Rattle.clap.specs.Walk.{Text}
+use Rattle.xb_command.specs.Files.{Bytes}
 use Rattle.xb_command.specs.Programs.{Attends, Streams}
 use Rattle.xb_command.specs.Telling.{Tells}
+use Rattle.xb_command.specs.declared.telling.TheConstants.{DONE, FAULT}
 use Rattle.xb_text.specs.Writing.{AppendsBeginning}
+use Rattle.xb_loop.specs.declared.fault.LoopFault.{LoopFault}
+use Rattle.xb_loop.specs.declared.fault.LoopFault.TheVariants as faults
 use Rattle.xb_loop.specs.declared.request.Request.{Request}
-use Rattle.xb_loop.specs.Feeding.{ListensTo}
+use Rattle.xb_loop.specs.Feeding.{FailsToListen, ListensTo}
 use Rattle.xb_loop.specs.Options.{AreRefused, Asks}
-use Rattle.xb_loop.specs.Tables.{IsBeforeRows}
+use Rattle.xb_loop.specs.Tables.{IsBeforeRows, IsFaultOfTable}
 
 -- the program's name
 abbrev pub program : List ℕ
@@ -21,22 +26,50 @@ usage_line =
     ++ codes "[--threshold PERCENT] [--inverted] [--said]\n"
 
 -- an output got the table that is asked for, if one is, and then exactly the rows of the recording
-abbrev pub PrintsDeck :
-    (List ℕ → Option (List ℕ)) → Request → List ℕ → Option (List ℕ) → Option (List ℕ) → Option (List ℕ) → Type 0
+abbrev pub PrintsDeck : Bytes → Request → List ℕ → Option (List ℕ) → Option (List ℕ) → Option (List ℕ) → Type 0
 PrintsDeck files request told input output after =
     (before : List ℕ) × IsBeforeRows files (option_map (λ name. name.now) request.table) before
     × ListensTo request before told input output after
 
--- the words ask for something, and exactly that was written, and told, or its beginning
-pub record WritesRows (files : List ℕ → Option (List ℕ)) (words : List Text) (old new : Streams) : Type 0 where
+-- what a fault says of the table and the recording, and what an output got before it
+abbrev pub FailsToPrint : Bytes → Request → LoopFault → Option (List ℕ) → Option (List ℕ) → Option (List ℕ) → Type 0
+FailsToPrint files request (faults.Recording fault) input output after =
+    (before : List ℕ) × IsBeforeRows files (option_map (λ name. name.now) request.table) before
+    × FailsToListen request before fault input output after
+FailsToPrint files request fault input output after =
+    Keeps output after × IsFaultOfTable files (option_map (λ name. name.now) request.table) fault
+
+-- the words ask for something, and exactly that was written, and told
+pub record WritesRows (files : Bytes) (words : List Text) (old new : Streams) : Type 0 where
   pub request : Request
   pub asks : Asks words request
   pub told : List ℕ
   pub rows : PrintsDeck files request told old.input old.output new.output
-  pub errors : AppendsBeginning old.errors new.errors told
+  pub errors : Appends old.errors new.errors told
+
+-- there was a fault of which a line was told; or all was written, what is told of the bounces was not, and a line that
+-- says so
+abbrev pub HadFault : Bytes → Request → Streams → Streams → Type 0
+HadFault files request old new =
+    ((fault : LoopFault) × FailsToPrint files request fault old.input old.output new.output
+    × Tells program None old.errors new.errors)
+    ⊎ ((told : List ℕ) × (begun : Option (List ℕ)) × PrintsDeck files request told old.input old.output new.output
+    × AppendsBeginning old.errors begun told × Tells program None begun new.errors)
+
+-- the words ask for something that gave a fault
+pub record HasFault (files : Bytes) (words : List Text) (old new : Streams) : Type 0 where
+  pub request : Request
+  pub asks : Asks words request
+  pub had : HadFault files request old new
+
+-- what is told of bounces, and the status
+abbrev pub TellsOfBounces : List ℕ → Option (List ℕ) → Option (List ℕ) → ℕ → Type 0
+TellsOfBounces told old new status =
+    ((status ≡ DONE) × Appends old new told)
+    ⊎ ((status ≡ FAULT) × ((begun : Option (List ℕ)) × AppendsBeginning old begun told × Tells program None begun new))
 
 -- what the program did with its words and its streams
-abbrev pub AttendsLoop : (List ℕ → Option (List ℕ)) → List Text → Streams → Streams → ℕ → Type 0
+abbrev pub AttendsLoop : Bytes → List Text → Streams → Streams → ℕ → Type 0
 AttendsLoop files words old new status =
-    Attends program usage_line (WritesRows files words old new) (Tells program None old.errors new.errors)
-    (AreRefused words) old new status
+    Attends program usage_line (WritesRows files words old new) (HasFault files words old new) (AreRefused words)
+    old new status

@@ -1,6 +1,13 @@
 -- What comes before the rows of a deck.
-use Rattle.std.specs.Prelude.{ℕ, ◌≡◌, ◌++◌, List, [], ◌∷◌, Option, Some, None, IfSome, codes, nat_eq, if◌then◌else◌}
+use Rattle.std.specs.Prelude.{ℕ, ◌≡◌, ◌≢◌, ◌⊎◌, ◌++◌, List, [], ◌∷◌, Option, Some, None, IfSome, Ok, Err, codes, nat_eq, if◌then◌else◌}
 use Rattle.std.specs.List.{ends_with}
+use Rattle.xb_command.specs.Files.{Bytes}
+use Rattle.xb_routes.specs.declared.fault.RouteFault.{RouteFault}
+use Rattle.xb_routes.specs.declared.fault.RouteFault.TheVariants as route_faults
+use Rattle.xb_routes.specs.Table.{Table}
+use Rattle.xb_routes.specs.Text.{table_of_text}
+use Rattle.xb_loop.specs.declared.fault.LoopFault.{LoopFault}
+use Rattle.xb_loop.specs.declared.fault.LoopFault.TheVariants as faults
 
 -- a table whose last line ends
 abbrev pub with_line_end : List ℕ → List ℕ
@@ -12,7 +19,23 @@ with_line_end (byte ∷ rest) =
 abbrev pub table_ended : List ℕ → List ℕ
 table_ended table = with_line_end table ++ codes "---\n"
 
--- nothing where no table is named, and else the table of the name, where its bytes are known
-abbrev pub IsBeforeRows : (List ℕ → Option (List ℕ)) → Option (List ℕ) → List ℕ → Type 0
+-- nothing where no table is named, and else the table of the name, where its bytes are known: it is a good one
+abbrev pub IsBeforeRows : Bytes → Option (List ℕ) → List ℕ → Type 0
 IsBeforeRows files None text = text ≡ []
-IsBeforeRows files (Some name) text = IfSome (files name) (λ table. text ≡ table_ended table)
+IsBeforeRows files (Some name) text =
+    IfSome (files name) (λ bytes. ((table : Table) × (table_of_text bytes ≡ Ok table)) × (text ≡ table_ended bytes))
+
+-- why it does not come, where one is named: the file could not be read, its table is refused, or memory ran out
+abbrev pub IsFaultOfTable : Bytes → Option (List ℕ) → LoopFault → Type 0
+IsFaultOfTable files None fault = ⊥
+IsFaultOfTable files (Some name) faults.Table = Unit {0}
+IsFaultOfTable files (Some name) (faults.Routes fault) =
+    IfSome (files name) (λ table. table_of_text table ≡ Err fault)
+IsFaultOfTable files (Some name) faults.NoMemory = Unit {0}
+IsFaultOfTable files (Some name) (faults.Recording fault) = ⊥
+IsFaultOfTable files (Some name) faults.Tell = ⊥
+
+-- the fault of a table that is refused
+abbrev pub IsFaultOfRoutes : RouteFault → LoopFault → Type 0
+IsFaultOfRoutes fault told =
+    (told ≡ faults.NoMemory) ⊎ ((fault ≢ route_faults.NoMemory) × (told ≡ faults.Routes fault))

@@ -154,16 +154,26 @@ abbrev pub silent_line : List Watched → Option ℕ
 silent_line [] = None
 silent_line (line ∷ rest) = if is_some line.contact then silent_line rest else Some line.number
 
--- the rows of what a recording says up to its end
-abbrev pub rows_of_events : Watch → List Event → List LoopRow
-rows_of_events watch [] = flat_map line_left watch.lines
-rows_of_events watch (event ∷ rest) = event_rows watch event ++ rows_of_events (heard_event watch event) rest
-
--- what is known at its end
+-- what is known after all that a recording says
 abbrev pub watch_after : Watch → List Event → Watch
 watch_after watch [] = watch
 watch_after watch (event ∷ rest) = watch_after (heard_event watch event) rest
 
+-- the rows that are certain with it, whatever it says later
+abbrev pub certain_rows : Watch → List Event → List LoopRow
+certain_rows watch [] = []
+certain_rows watch (event ∷ rest) = event_rows watch event ++ certain_rows (heard_event watch event) rest
+
+-- its rows where it ends
+abbrev pub rows_of_events : Watch → List Event → List LoopRow
+rows_of_events watch said = certain_rows watch said ++ flat_map line_left (watch_after watch said).lines
+
 -- their records
+abbrev pub certain_text : Watch → List Event → List ℕ
+certain_text watch said = flat_map record_text (certain_rows watch said)
+
+abbrev pub left_text : Watch → List ℕ
+left_text watch = flat_map record_text (flat_map line_left watch.lines)
+
 abbrev pub text_of_events : Watch → List Event → List ℕ
 text_of_events watch said = flat_map record_text (rows_of_events watch said)

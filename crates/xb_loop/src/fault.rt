@@ -48,6 +48,9 @@ pub enum LoopFault {
     /// The rows of the recording have a fault.
     #[error("{0}")]
     Recording(RecordingFault),
+    /// All rows were written, and the bounces could not be told of.
+    #[error("the bounces could not be told of")]
+    Tell,
     /// Memory ran out.
     #[error("out of memory")]
     NoMemory,

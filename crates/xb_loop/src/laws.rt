@@ -1,8 +1,17 @@
 //! What the chain hears of a contact, as the contracts of functions that do nothing. The definitions are in `specs/`:
 //! `RowsOfHolds` (the rows that are written), and the statements in `HeardLaws` and `TapeLaws`.
+ghost use Rattle.xb_loop.specs.Constants.{AreConstants};
 ghost use Rattle.xb_loop.specs.HeardLaws.{HearsEachCleanRun, HearsTheCleanRecord, HearsTheSettledRecord};
+ghost use Rattle.xb_loop.specs.RecordingLaws.{AsksForEachOnce, HearsTheRecording, KeepsTheTapeOfRecordings, TellsTheShortRuns};
 ghost use Rattle.xb_loop.specs.Tallies.{CountsTheShortRuns};
+ghost use Rattle.xb_loop.specs.WireRecords.{GivesEachRecord};
 ghost use Rattle.xb_loop.specs.TapeLaws.{HearsNothingOtherwise, KeepsTheTape, LeavesLongRunsTheirTape};
+
+/// From how many ms on a run is settled and which percent of the range is a threshold, where neither is asked for; the
+/// most bytes that tell a form, and the most that are shown of a refused line; each as it is.
+pub fn constants()
+    ensures { AreConstants }
+{}
 
 /// The record that the chain makes of a line's rows, neighbours joined, is the settled record of its contact in
 /// ms, each time rounded once. So where short bounces disturb a clean record, the chain hears the clean one,
@@ -31,4 +40,21 @@ pub fn nothing_is_heard_otherwise()
 /// The run that is under way where the recording ends is none of them.
 pub fn the_short_runs_are_counted()
     ensures { CountsTheShortRuns }
+{}
+
+/// Of the rows that are written of a recording, those of a line are the rows of the contact of its wire, hold by hold, as
+/// all laws here have them; and the bounces that are told of it are those that are counted of it.
+pub fn each_line_has_the_record_of_its_wire()
+    ensures { GivesEachRecord }
+{}
+
+/// So of all rows that are written of a recording (`rows_of_events`, which are those of `listen`) the chain hears, of each
+/// line, the settled record of its contact; where short bounces disturb a clean record, it makes the tape of the clean
+/// one; and exactly the short runs are told. It is so of each line of a recording whose wires are of other lines, as those
+/// are that words ask for.
+pub fn the_tape_of_a_recording_is_kept()
+    ensures heard { HearsTheRecording }
+    ensures tape { KeepsTheTapeOfRecordings }
+    ensures told { TellsTheShortRuns }
+    ensures once { AsksForEachOnce }
 {}

@@ -1,18 +1,25 @@
 //! `mfloop` but for its process: a recording of contacts in, the loop rows of their lines out, each bounce settled.
 //!
-//! - `laws::the_tape_is_kept`: whatever the plan, the limits and the routes, the tape that the chain makes of the rows
-//!   is that of the contact without its bounces. `laws::the_chain_hears_the_settled_record`: the record of the rows is
-//!   the settled record, in ms.
-//! - `listen` (`ListensTo`): on `Ok` exactly the rows of what the recording says of the wires that are asked for, after
-//!   the text that comes before them (`Watching`: the rows of what a recording says; `Says` of `xb_recording`: what it
-//!   says), of the form that is asked for, or else of that which it tells (`form_told`), each wire has had a level; and,
-//!   where it is asked for, what is told of the bounces (`Told`).
-//!   `laws::the_short_runs_are_counted`: that is how many runs of a contact's record are short, and the longest.
+//! - `laws::the_tape_of_a_recording_is_kept`: of all rows that a recording gives, the chain makes of each line the tape of
+//!   the contact of its wire without its bounces, whatever the plan, the limits and the routes, and what is told of the
+//!   bounces are its short runs. The laws before it say that of a contact, hold by hold;
+//!   `laws::each_line_has_the_record_of_its_wire` joins them with the rows (`WireRecords`).
+//! - `listen`: on `Ok` (`ListensTo`) exactly the rows of what the recording says of the wires that are asked for, after the
+//!   text that comes before them (`Watching`: the rows of what a recording says; `Says` of `xb_recording`: what it says),
+//!   of the form that is asked for, or else of that which it tells (`form_told`), each wire has had a level; and, where it
+//!   is asked for, what is told of the bounces (`BounceLines`). On `Err` (`FailsToListen`) the fault is that of the reader
+//!   where it stands, of a time that cannot be counted, of a wire without a level, or of a read, a write or memory; and
+//!   nothing was written, or exactly the rows of what comes before it.
 //! - A refused piece of a recording is told by its place, its reason and what stands there (`Faults`).
 //! - `attend` (`AttendsLoop`): the words, the table and the recording in; on status 0 exactly the rows that they ask
-//!   for, and words are refused only where `clap` refuses them, or they ask for what there is not (`AreRefused`).
+//!   for, and all that is told of the bounces; on status 1 the fault of what they ask for (`HasFault`); and words are
+//!   refused only where `clap` refuses them, or they ask for what there is not (`AreRefused`).
+//!
+//! Not said: at which sample a refused piece of samples is told, and that what is shown of a refused line is the line.
 #![tactic(auto)]
 
+mod beginning;
+mod bounce_lines;
 mod contact;
 mod fault;
 mod feed;
@@ -24,7 +31,6 @@ mod request;
 mod rows;
 mod table;
 mod tally;
-mod told;
 mod words;
 
 pub use fault::{LoopFault, RecordingFault};

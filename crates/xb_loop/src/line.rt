@@ -2,7 +2,7 @@
 ghost use Rattle.std.specs.Prelude.{◌≡◌, ◌++◌, ◌+◌, ◌-◌, ◌*◌, ◌^◌, ◌<◌, ◌↔◌, IfSome, IsSome, IsTrue, None, OnOk, string_bytes, true};
 ghost use Rattle.std.specs.List.{flat_map};
 ghost use Rattle.xb_rows.specs.WrittenRows.{record_text};
-ghost use Rattle.xb_loop.specs.Told.{bounces_heard};
+ghost use Rattle.xb_loop.specs.BounceLines.{bounces_heard};
 ghost use Rattle.xb_loop.specs.Watching.{CanBegin, CanChange, CanReach, begun_contact, least_ticks, line_changed, line_held, line_left, line_rows, watched_of};
 
 use crate::contact::Contact;

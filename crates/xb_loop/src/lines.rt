@@ -1,14 +1,14 @@
 // The lines that are listened to, and their rows.
-ghost use Rattle.std.specs.Prelude.{◌≡◌, ◌++◌, ◌↔◌, IfOk, IsTrue, OnOk, Some, string_bytes, true};
+ghost use Rattle.std.specs.Prelude.{◌≡◌, ◌++◌, ◌↔◌, IfOk, IsTrue, OnOk, Some, false, string_bytes, true};
 ghost use Rattle.std.specs.List.{AllByRecursion, flat_map};
 ghost use Rattle.xb_rows.specs.WrittenRows.{record_text};
-ghost use Rattle.xb_loop.specs.Told.{lines_told};
+ghost use Rattle.xb_loop.specs.BounceLines.{lines_told};
 ghost use Rattle.xb_loop.specs.Watches.{watch_of};
 ghost use Rattle.xb_loop.specs.Watching.{CanChangeWire, CanHear, CanReach, all_held, begun_watch, event_rows, heard_event, level_heard, level_seen, line_left, rows_until, silent_line, wire_changed};
 
+use crate::bounce_lines::say_lines;
 use crate::line::{Line, Manner};
 use crate::request::Request;
-use crate::told::say_lines;
 use std::alloc::{AllocError, Global};
 use xb_contact::{Event, Level, Scale};
 
@@ -113,6 +113,7 @@ impl Lines {
             ≡ record (watch_of self.old) { lines = all_held tick (watch_of self.old).lines; now = tick }) }
         ensures can { IfOk result (λ taken.
             AllByRecursion (CanReach tick) (watch_of self.old).lines → taken ≡ true) }
+        ensures kept { IfOk result (λ taken. taken ≡ false → string_bytes rows.new ≡ string_bytes rows.old) }
     {
         if !can_all_reach(&self.lines, tick) {
             return Ok(false);
@@ -143,6 +144,7 @@ impl Lines {
         ensures heard { IfOk result (λ taken. taken ≡ true
             → watch_of self.new ≡ heard_event (watch_of self.old) event) }
         ensures can { IfOk result (λ taken. CanHear (watch_of self.old) event → taken ≡ true) }
+        ensures kept { IfOk result (λ taken. taken ≡ false → string_bytes rows.new ≡ string_bytes rows.old) }
     {
         match event {
             Event::Ticks(scale) => {

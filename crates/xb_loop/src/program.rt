@@ -1,8 +1,8 @@
 // The program: its words and a recording in, a status and rows out.
-ghost use Rattle.std.specs.Prelude.{◌≡◌, ℕ, [], IfOk, List, None, string_bytes};
+ghost use Rattle.std.specs.Prelude.{◌≡◌, IfErr, IfOk, string_bytes};
 ghost use Rattle.xb_command.specs.Programs.{streams};
 ghost use Rattle.xb_command.specs.Commands.{texts_of};
-ghost use Rattle.xb_loop.specs.Program.{AttendsLoop, PrintsDeck};
+ghost use Rattle.xb_loop.specs.Program.{AttendsLoop, FailsToPrint, PrintsDeck, TellsOfBounces};
 
 use crate::fault::LoopFault;
 use crate::feed::listen;
@@ -30,25 +30,38 @@ fn run<F: Files, R: Read, W: Write>(
     recording: &mut R,
     out: &mut W,
 ) -> Result<String, LoopFault>
-    ensures { IfOk result (λ told. PrintsDeck (F.bytes files.now) request.now (string_bytes told)
+    ensures prints { IfOk result (λ told. PrintsDeck (F.bytes files.now) request.now (string_bytes told)
+        (R.remaining recording.old) (W.contents out.old) (W.contents out.new)) }
+    ensures fault { IfErr result (λ fault. FailsToPrint (F.bytes files.now) request.now fault
         (R.remaining recording.old) (W.contents out.old) (W.contents out.new)) }
 {
     let before = beginning_of(alloc, files, request.table)?;
     listen(alloc, request, &before, recording, out).map_err(LoopFault::Recording)
 }
 
+// Tells of the bounces, if there is anything to tell, and returns the status of the process.
+fn tell_bounces<E: Write>(alloc: Global, err: &mut E, told: &str) -> u8
+    ensures { TellsOfBounces told.now (E.contents err.old) (E.contents err.new) result }
+{
+    if told.is_empty() || write_whole(err, told.as_bytes()).is_ok() {
+        return DONE;
+    }
+    tell_fault(alloc, err, PROGRAM, LoopFault::Tell)
+}
+
 /// Reads the words of the command line, the program's name first, and by them writes the loop rows of a
 /// recording as it comes, as `listen` does, after a route table where one is named. It returns the status of the
 /// process:
 ///
-/// - `DONE`: the words ask for something, `out` got the rows, and `err` what is told of the bounces, if that is
+/// - `DONE`: the words ask for something, `out` got the rows, and `err` all that is told of the bounces, if that is
 ///   asked for;
-/// - `FAULT`: the table or the recording has a fault, or memory ran out while the words were read; `err` gets the
-///   fault as one line, and `out` got the rows before it;
+/// - `FAULT`: the table or the recording has a fault, which `listen` has, or memory ran out while the words were read;
+///   `err` gets the fault as one line, and `out` got the rows before it, or nothing; or all rows were written, and the
+///   bounces could not be told of;
 /// - `WORDS_REFUSED`: the words are refused, or ask for help; `err` gets the usage as one line, the recording
 ///   is not read and `out` got nothing.
 ///
-/// A fault in writing to `err` changes no status.
+/// A fault in writing any other line to `err` changes no status.
 pub fn attend<F: Files, R: Read, W: Write, E: Write>(
     alloc: Global,
     words: &[String],
@@ -66,10 +79,7 @@ pub fn attend<F: Files, R: Read, W: Write, E: Write>(
     };
     match request_of_words(alloc, &words) {
         Ok(request) => match run(alloc, files, &request, recording, out) {
-            Ok(said) => {
-                let _ = write_whole(err, said.as_bytes());
-                DONE
-            }
+            Ok(told) => tell_bounces(alloc, err, &told),
             Err(fault) => tell_fault(alloc, err, PROGRAM, fault),
         },
         Err(fault) => tell_words(err, PROGRAM, USAGE, fault),

@@ -1,6 +1,6 @@
 // The route table before the rows of a deck.
-ghost use Rattle.std.specs.Prelude.{◌≡◌, IfOk, IfSome, OnOk, option_map};
-ghost use Rattle.xb_loop.specs.Tables.{IsBeforeRows, table_ended};
+ghost use Rattle.std.specs.Prelude.{◌≡◌, IfErr, IfOk, OnOk, Some, option_map};
+ghost use Rattle.xb_loop.specs.Tables.{IsBeforeRows, IsFaultOfRoutes, IsFaultOfTable, table_ended};
 
 use crate::fault::LoopFault;
 use std::alloc::{AllocError, Global};
@@ -18,31 +18,42 @@ fn end_table(text: &mut Vec<u8>) -> Result<(), AllocError>
     Ok(())
 }
 
+// Why no deck begins with a route table that is refused.
+fn fault_of_routes(fault: RouteFault) -> LoopFault
+    ensures { IsFaultOfRoutes fault result }
+{
+    match fault {
+        RouteFault::NoMemory => LoopFault::NoMemory,
+        fault => LoopFault::Routes(fault),
+    }
+}
+
 // The beginning of a deck: a route table, which is judged, and the line that cuts it off.
 fn deck_beginning<F: Files>(alloc: Global, files: &F, name: &str) -> Result<Vec<u8>, LoopFault>
-    ensures { IfOk result (λ text.
-        IfSome (F.bytes files.now name.now) (λ table. text.items ≡ table_ended table)) }
+    ensures text { IfOk result (λ text. IsBeforeRows (F.bytes files.now) (Some name.now) text.items) }
+    ensures fault { IfErr result (IsFaultOfTable (F.bytes files.now) (Some name.now)) }
 {
     let Ok(mut text) = files.read(alloc, name) else {
         return Err(LoopFault::Table);
     };
-    match RouteTable::read(alloc, &text) {
-        Ok(_) => {}
-        Err(RouteFault::NoMemory) => return Err(LoopFault::NoMemory),
-        Err(fault) => return Err(LoopFault::Routes(fault)),
+    if let Err(fault) = RouteTable::read(alloc, &text) {
+        return Err(fault_of_routes(fault));
     }
     end_table(&mut text)?;
     Ok(text)
 }
 
-/// What comes before the rows: the route table of this name and the line that cuts it off, if one is named.
+/// What comes before the rows: the route table of this name and the line that cuts it off, if one is named. Without a
+/// name there is no fault.
 pub(crate) fn beginning_of<F: Files>(
     alloc: Global,
     files: &F,
     table: Option<&str>,
 ) -> Result<Vec<u8>, LoopFault>
-    ensures { IfOk result (λ text.
+    ensures text { IfOk result (λ text.
         IsBeforeRows (F.bytes files.now) (option_map (λ name. name.now) table.entry) text.items) }
+    ensures fault { IfErr result (λ fault.
+        IsFaultOfTable (F.bytes files.now) (option_map (λ name. name.now) table.entry) fault) }
 {
     match table {
         Some(name) => deck_beginning(alloc, files, name),

@@ -1,10 +1,13 @@
-use Rattle.std.proofs.Common.{rules, string_bytes}
+use Rattle.std.proofs.Common.{◌≡◌, Err, rules, string_bytes}
 use Rattle.xb_loop.specs.Watches.{watch_of}
-use Rattle.xb_loop.proofs.Fed.{begins_with}
+use Rattle.xb_loop.proofs.Fed.{begins_late}
 use Rattle.xb_loop.proofs.feed.begun.Goals as goal
 
-pub returns : goal.returns
-returns c =
-    begins_with c.args.format c.args.request.now c.in_ok-reader.reader c.take_events.new.self c.reader_of.new.events.items
-    (string_bytes c.new-2.result) (watch_of c.in_ok-lines.lines) c.in_ok-reader.ensures c.in_ok-take_events.ensures.reader
-    (search rules) c.in_ok-lines.ensures c.in_ok-take_events.ensures.rows
+pub returns-in_err-take_events-clause-refused : goal.returns-in_err-take_events-clause-refused
+returns-in_err-take_events-clause-refused c =
+    let fault : c.from_residual-in_err-take_events.result ≡ Err c.in_err-take_events.field-0.0 = search rules in
+    rw fault
+    (begins_late c.args.format c.args.request.now c.in_ok-reader.reader c.take_events.new.self.reader
+    c.reader_of.new.events.items (string_bytes c.new-2.result) (string_bytes c.take_events.new.self.rows)
+    (watch_of c.in_ok-lines.lines) c.in_err-take_events.field-0.0 c.in_ok-reader.ensures.begun
+    c.take_events.ensures.reader c.in_ok-lines.ensures c.in_err-take_events.ensures.late)

@@ -4,13 +4,12 @@ use Rattle.std.specs.List.{flat_map}
 use Rattle.xb_contact.specs.declared.scale.Scale.{Scale}
 use Rattle.xb_loop.specs.declared.tally.Bounces.{Bounces}
 use Rattle.xb_loop.specs.Contacts.{Followed}
-use Rattle.xb_loop.specs.Tallies.{up_to_most}
 use Rattle.xb_loop.specs.Watching.{Watch, Watched}
 
--- so many ticks in us, rounded down
+-- so many ticks in us, rounded down; 0 where a tick has no length
 abbrev pub micros_of : Scale → ℕ → ℕ
 micros_of scale ticks =
-    if scale.ticks == 0 then 0 else up_to_most (up_to_most (ticks * scale.ms) * 1000) / scale.ticks
+    if scale.ticks == 0 then 0 else ticks * scale.ms * 1000 / scale.ticks
 
 -- a line for each line of the office whose wire had a level
 abbrev pub bounce_line : Scale → ℕ → Bounces → List ℕ

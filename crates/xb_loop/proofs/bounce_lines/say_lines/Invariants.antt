@@ -1,7 +1,7 @@
 use Rattle.std.proofs.Common.{◌≡◌, ◌++◌, drop, string_bytes}
 use Rattle.std.specs.List.{flat_map}
-use Rattle.xb_loop.specs.Told.{line_told}
-use Rattle.xb_loop.proofs.told.say_lines.Given as goal
+use Rattle.xb_loop.specs.BounceLines.{line_told}
+use Rattle.xb_loop.proofs.bounce_lines.say_lines.Given as goal
 
 abbrev pub invariant-loop-line : goal.invariant-loop-line
 invariant-loop-line l =

@@ -1,0 +1,101 @@
+-- No line stands twice among those that words name.
+use Rattle.std.proofs.Common.{◌≡◌, ℕ, zero, suc, ◌+◌, List, [], ◌∷◌, ◌++◌, Bool, true, false, Option, Some, None, length, refl, ap, sym, subst, ◌∙◌, ◌==◌, arith, inl, inr, ◌⊎◌, ◌||◌}
+use Rattle.std.specs.Prelude.{option_and_then, slice_get, if◌then◌else◌}
+use Rattle.std.specs.List.{list_any}
+use Rattle.std.proofs.lemmas.Bool.{eq-eqb}
+use Rattle.clap.specs.Walk.{Text}
+use Rattle.xb_loop.specs.declared.request.Request.{Request}
+use Rattle.clap.specs.Simple.{matches_of}
+use Rattle.xb_recording.specs.Says.{names_in}
+use Rattle.xb_loop.specs.Rules.{command_of_words}
+use Rattle.xb_loop.specs.Options.{Asks, lone_words, plain_words, wire_added, wire_of, wires_after}
+use Rattle.xb_loop.specs.RecordingLaws.{AsksForEachOnce}
+use Rattle.xb_loop.specs.WireRecords.{IsAlone}
+
+-- no number stands at two places
+abbrev AreApart : List ℕ → Type 0
+AreApart lines = (i j line : ℕ) → slice_get lines i ≡ Some line → slice_get lines j ≡ Some line → i ≡ j
+
+not_there :
+    (lines : List ℕ) (line i : ℕ) → list_any (λ (other : ℕ). other == line) lines ≡ false → slice_get lines i ≡ Some line → ⊥
+not_there [] line i none at = cc
+not_there (first ∷ rest) line zero none at =
+    let is : first ≡ line = cc in
+    let same : (first == line) ≡ true = eq-eqb first line is in
+    by (first == line) none same
+  where
+    by : (b : Bool) → (b || list_any (λ (other : ℕ). other == line) rest) ≡ false → b ≡ true → ⊥
+    by true e same = cc
+    by false e same = cc
+not_there (first ∷ rest) line (suc i) none at = not_there rest line i (later (first == line) none) at
+  where
+    later :
+        (b : Bool) → (b || list_any (λ (other : ℕ). other == line) rest) ≡ false
+        → list_any (λ (other : ℕ). other == line) rest ≡ false
+    later true e = cc
+    later false e = e
+
+at_last :
+    (lines : List ℕ) (line i x : ℕ) → slice_get (lines ++ line ∷ []) i ≡ Some x
+    → (slice_get lines i ≡ Some x) ⊎ ((i ≡ length lines) × (line ≡ x))
+at_last [] line zero x at = inr (refl, (let is : line ≡ x = cc in is))
+at_last [] line (suc i) x at = cc
+at_last (first ∷ rest) line zero x at = inl at
+at_last (first ∷ rest) line (suc i) x at = elim (at_last rest line i x at) [
+  | inl before ↦ inl before
+  | inr (last, is) ↦ inr (ap suc last, is)
+]
+
+apart_then :
+    (lines : List ℕ) (line : ℕ) → list_any (λ (other : ℕ). other == line) lines ≡ false → AreApart lines
+    → AreApart (lines ++ line ∷ [])
+apart_then lines line none apart i j x a b = both (at_last lines line i x a) (at_last lines line j x b)
+  where
+    never : (k : ℕ) → slice_get lines k ≡ Some x → line ≡ x → ⊥
+    never k at is = not_there lines line k none (at ∙ ap (λ n. Some n) (sym is))
+
+    both :
+        (slice_get lines i ≡ Some x) ⊎ ((i ≡ length lines) × (line ≡ x))
+        → (slice_get lines j ≡ Some x) ⊎ ((j ≡ length lines) × (line ≡ x)) → i ≡ j
+    both (inl p) (inl q) = apart i j x p q
+    both (inl p) (inr (last, is)) = absurd (never i p is)
+    both (inr (last, is)) (inl q) = absurd (never j q is)
+    both (inr (last, is)) (inr (other, same)) = last ∙ sym other
+
+apart_added :
+    (wires all : List ℕ × List Text) (found : Option (ℕ × Text))
+    → option_and_then (λ wire. if list_any (λ (line : ℕ). line == wire.0) wires.0 then None
+    else Some (wires.0 ++ wire.0 ∷ [], wires.1 ++ wire.1 ∷ [])) found ≡ Some all
+    → AreApart wires.0 → AreApart all.0
+apart_added wires all None e apart = cc
+apart_added wires all (Some wire) e apart = by (list_any (λ (line : ℕ). line == wire.0) wires.0) refl e
+  where
+    by :
+        (b : Bool) → list_any (λ (line : ℕ). line == wire.0) wires.0 ≡ b
+        → (if b then None else Some (wires.0 ++ wire.0 ∷ [], wires.1 ++ wire.1 ∷ [])) ≡ Some all → AreApart all.0
+    by true there is = cc
+    by false there is =
+        let lines : wires.0 ++ wire.0 ∷ [] ≡ all.0 = cc in
+        subst AreApart lines (apart_then wires.0 wire.0 there apart)
+
+abbrev StayApart : List Text → Type 0
+StayApart words =
+    (wires all : List ℕ × List Text) → wires_after wires words ≡ Some all → AreApart wires.0 → AreApart all.0
+
+apart_next :
+    (word : Text) (words : List Text) → StayApart words → (wires all : List ℕ × List Text)
+    (added : Option (List ℕ × List Text)) → wire_added wires word ≡ added
+    → option_and_then (λ more. wires_after more words) added ≡ Some all → AreApart wires.0 → AreApart all.0
+apart_next word words later wires all None is e apart = cc
+apart_next word words later wires all (Some more) is e apart =
+    later more all e (apart_added wires more (wire_of word) is apart)
+
+apart_after : (words : List Text) → StayApart words
+apart_after [] wires all e apart = (let is : wires ≡ all = cc in subst (λ (w : List ℕ × List Text). AreApart w.0) is apart)
+apart_after (word ∷ words) wires all e apart =
+    apart_next word words (apart_after words) wires all (wire_added wires word) refl e apart
+
+pub asks_for_each_once : AsksForEachOnce
+asks_for_each_once words request asks wire line at other there =
+    apart_after (lone_words (matches_of command_of_words (plain_words words))) ([], [])
+    (request.lines.items, names_in request.wanted) asks.1.wires (λ i j n a b. cc) other wire line there at

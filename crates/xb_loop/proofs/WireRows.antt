@@ -1,0 +1,199 @@
+-- The rows of one line, of those of all.
+use Rattle.std.proofs.Common.{◌≡◌, ℕ, zero, suc, ◌+◌, ◌-◌, max, List, [], ◌∷◌, ◌++◌, Bool, true, false, Option, Some, None, map, refl, ap, sym, subst, ◌∙◌, ◌==◌, cond, arith, append-nil, append_assoc}
+use Rattle.std.specs.Prelude.{slice_get, slice_set, option_map, if◌then◌else◌}
+use Rattle.std.specs.Option.{option_map_or}
+use Rattle.std.specs.List.{AllByRecursion, filter, flat_map}
+use Rattle.std.proofs.lemmas.Bool.{eqb-true, eqb-false, eq-eqb, ne_eqb}
+use Rattle.std.proofs.lemmas.Grind.{flat_map-append}
+use Rattle.std.proofs.lemmas.List.{map-append}
+use Rattle.std.proofs.lemmas.List.Elements.{filter-append}
+use Rattle.std.proofs.lemmas.Option.{slice_get-map}
+use Rattle.xb_model.specs.Lines.{row_line}
+use Rattle.xb_model.specs.Records.{rows_of}
+use Rattle.xb_model.specs.Rows.{LoopRow}
+use Rattle.xb_model.proofs.Lines.{of_line-all}
+use Rattle.xb_contact.specs.declared.event.Event.{Event}
+use Rattle.xb_contact.specs.declared.event.Event.TheVariants as events
+use Rattle.xb_contact.specs.declared.hold.Hold.{Hold}
+use Rattle.xb_contact.specs.declared.level.Level.{Level}
+use Rattle.xb_contact.specs.declared.scale.Scale.{Scale}
+use Rattle.xb_contact.specs.Holds.{hold_of}
+use Rattle.xb_contact.specs.Listening.{Heard, all_told, begun_at, given_now, heard_after, now_of, told_at_end}
+use Rattle.xb_contact.specs.Machine.{pieces_of}
+use Rattle.xb_loop.specs.declared.line.Manner.{Manner}
+use Rattle.xb_loop.specs.Contacts.{Followed, followed_of, given_until, held_until, hold_to}
+use Rattle.xb_loop.specs.RowsOfHolds.{day_parts, row_of_hold, rows_of_holds, written_rows}
+use Rattle.xb_loop.specs.Tallies.{tally_after, tally_at_end}
+use Rattle.xb_loop.specs.Watching.{Watch, Watched, all_held, begun_contact, certain_rows, contact_changed, contact_held, contact_left, contact_rows, event_rows, heard_event, level_heard, level_seen, line_changed, line_held, line_left, line_rows, rows_of_events, rows_until, watch_after, watched_of, wire_changed}
+use Rattle.xb_loop.specs.WireRecords.{IsAlone, holds_from}
+use Rattle.xb_loop.proofs.KeptTapes.{rows_own}
+
+-- rows of another line are none of this one
+rows_other :
+    (line other : ℕ) (holds : List Hold) → (other == line) ≡ false → rows_of line (rows_of_holds other holds) ≡ []
+rows_other line other [] ne = refl
+rows_other line other (h ∷ hs) ne =
+    ap (λ b. cond b (row_of_hold other h ∷ rows_of line (rows_of_holds other hs)) (rows_of line (rows_of_holds other hs))) ne
+    ∙ rows_other line other hs ne
+
+pub own_rows : (line : ℕ) (holds : List Hold) → rows_of line (written_rows line holds) ≡ written_rows line holds
+own_rows line holds =
+    of_line-all row_line line (written_rows line holds) (rows_own line (flat_map day_parts holds))
+
+pub rows_of-append : (line : ℕ) (rows more : List LoopRow) → rows_of line (rows ++ more) ≡ rows_of line rows ++ rows_of line more
+rows_of-append line rows more = filter-append (λ row. row_line row == line) rows more
+
+pub written-append :
+    (line : ℕ) (holds more : List Hold) → written_rows line (holds ++ more) ≡ written_rows line holds ++ written_rows line more
+written-append line holds more =
+    ap (rows_of_holds line) (flat_map-append day_parts holds more)
+    ∙ map-append (row_of_hold line) (flat_map day_parts holds) (flat_map day_parts more)
+
+-- the rows that each line gives by itself
+pub record GivesOwn (gives : Watched → List LoopRow) : Type 0 where
+  pub own : (line : ℕ) (watched : Watched) → watched.number ≡ line → rows_of line (gives watched) ≡ gives watched
+  pub other : (line : ℕ) (watched : Watched) → (watched.number == line) ≡ false → rows_of line (gives watched) ≡ []
+
+abbrev pub numbers_of : List Watched → List ℕ
+numbers_of lines = map (λ (line : Watched). line.number) lines
+
+none_given :
+    (gives : Watched → List LoopRow) → GivesOwn gives → (line : ℕ) (lines : List Watched)
+    → ((other : ℕ) → slice_get (numbers_of lines) other ≡ Some line → ⊥) → rows_of line (flat_map gives lines) ≡ []
+none_given gives own line [] none = refl
+none_given gives own line (first ∷ rest) none =
+    let ne : (first.number == line) ≡ false = ne_eqb first.number line (λ e. none 0 (ap (λ n. Some n) e)) in
+    rows_of-append line (gives first) (flat_map gives rest)
+    ∙ ap (λ rows. rows ++ rows_of line (flat_map gives rest)) (own.other line first ne)
+    ∙ none_given gives own line rest (λ other e. none (suc other) e)
+
+pub one_given :
+    (gives : Watched → List LoopRow) → GivesOwn gives → (line : ℕ) (lines : List Watched) (wire : ℕ) (watched : Watched)
+    → slice_get lines wire ≡ Some watched → watched.number ≡ line → IsAlone wire line (numbers_of lines)
+    → rows_of line (flat_map gives lines) ≡ gives watched
+one_given gives own line [] wire watched at number alone = cc
+one_given gives own line (first ∷ rest) zero watched at number alone =
+    let is : first ≡ watched = cc in
+    let none : (other : ℕ) → slice_get (numbers_of rest) other ≡ Some line → ⊥ =
+    λ other e. let h : suc other ≡ 0 = alone (suc other) e in omega (arith, h) in
+    rows_of-append line (gives first) (flat_map gives rest)
+    ∙ ap (λ rows. rows_of line (gives first) ++ rows) (none_given gives own line rest none)
+    ∙ append-nil (rows_of line (gives first))
+    ∙ own.own line first (ap (λ w. w.number) is ∙ number)
+    ∙ ap gives is
+one_given gives own line (first ∷ rest) (suc wire) watched at number alone =
+    let ne : (first.number == line) ≡ false =
+    ne_eqb first.number line (λ e. let h : 0 ≡ suc wire = alone 0 (ap (λ n. Some n) e) in omega (arith, h)) in
+    let later : IsAlone wire line (numbers_of rest) =
+    λ other e. let h : suc other ≡ suc wire = alone (suc other) e in omega (arith, h) in
+    rows_of-append line (gives first) (flat_map gives rest)
+    ∙ ap (λ rows. rows ++ rows_of line (flat_map gives rest)) (own.other line first ne)
+    ∙ one_given gives own line rest wire watched at number later
+
+-- lines give such rows up to a tick, and at the end
+contact_rows_own :
+    (tick line : ℕ) (contact : Option Followed) → rows_of line (contact_rows tick line contact) ≡ contact_rows tick line contact
+contact_rows_own tick line None = refl
+contact_rows_own tick line (Some contact) = own_rows line (given_until contact tick)
+
+contact_rows_other :
+    (tick line other : ℕ) (contact : Option Followed) → (other == line) ≡ false
+    → rows_of line (contact_rows tick other contact) ≡ []
+contact_rows_other tick line other None ne = refl
+contact_rows_other tick line other (Some contact) ne = rows_other line other (flat_map day_parts (given_until contact tick)) ne
+
+contact_left_own :
+    (line : ℕ) (contact : Option Followed) → rows_of line (contact_left line contact) ≡ contact_left line contact
+contact_left_own line None = refl
+contact_left_own line (Some contact) = own_rows line (told_at_end contact.heard)
+
+contact_left_other :
+    (line other : ℕ) (contact : Option Followed) → (other == line) ≡ false → rows_of line (contact_left other contact) ≡ []
+contact_left_other line other None ne = refl
+contact_left_other line other (Some contact) ne = rows_other line other (flat_map day_parts (told_at_end contact.heard)) ne
+
+pub rows_until-own : (tick : ℕ) → GivesOwn (line_rows tick)
+rows_until-own tick = record {
+  own = λ line watched e.
+      ap (λ n. rows_of n (line_rows tick watched)) (sym e) ∙ contact_rows_own tick watched.number watched.contact;
+  other = λ line watched ne. contact_rows_other tick line watched.number watched.contact ne;
+}
+
+pub left-own : GivesOwn line_left
+left-own = record {
+  own = λ line watched e.
+      ap (λ n. rows_of n (line_left watched)) (sym e) ∙ contact_left_own watched.number watched.contact;
+  other = λ line watched ne. contact_left_other line watched.number watched.contact ne;
+}
+
+-- lines stay where they are
+pub numbers-held : (tick : ℕ) (lines : List Watched) → numbers_of (all_held tick lines) ≡ numbers_of lines
+numbers-held tick [] = refl
+numbers-held tick (line ∷ rest) = ap (λ numbers. line.number ∷ numbers) (numbers-held tick rest)
+
+numbers-set :
+    (lines : List Watched) (wire : ℕ) (watched line : Watched) → slice_get lines wire ≡ Some line
+    → watched.number ≡ line.number → numbers_of (slice_set lines wire watched) ≡ numbers_of lines
+numbers-set [] wire watched line at same = cc
+numbers-set (first ∷ rest) zero watched line at same =
+    let is : first ≡ line = cc in
+    ap (λ n. n ∷ numbers_of rest) (same ∙ ap (λ w. w.number) (sym is))
+numbers-set (first ∷ rest) (suc wire) watched line at same =
+    ap (λ numbers. first.number ∷ numbers) (numbers-set rest wire watched line at same)
+
+set-here :
+    (lines : List Watched) (wire : ℕ) (watched line : Watched) → slice_get lines wire ≡ Some line
+    → slice_get (slice_set lines wire watched) wire ≡ Some watched
+set-here [] wire watched line at = cc
+set-here (first ∷ rest) zero watched line at = refl
+set-here (first ∷ rest) (suc wire) watched line at = set-here rest wire watched line at
+
+set-there :
+    (lines : List Watched) (other wire : ℕ) (watched : Watched) → (other == wire) ≡ false
+    → slice_get (slice_set lines other watched) wire ≡ slice_get lines wire
+set-there [] other wire watched ne = refl
+set-there (first ∷ rest) zero zero watched ne = cc
+set-there (first ∷ rest) zero (suc wire) watched ne = refl
+set-there (first ∷ rest) (suc other) zero watched ne = refl
+set-there (first ∷ rest) (suc other) (suc wire) watched ne =
+    set-there rest other wire watched (ne_eqb other wire (λ e. eqb-false (suc other) (suc wire) ne (ap suc e)))
+
+-- a wire has a level
+changed-by :
+    (manner : Manner) (scale : Scale) (now : ℕ) (level : Level) (other : ℕ) (lines : List Watched) (found : Option Watched)
+    → slice_get lines other ≡ found
+    → numbers_of (option_map_or (λ line. slice_set lines other (line_changed manner scale now level line)) found lines)
+    ≡ numbers_of lines
+changed-by manner scale now level other lines None at = refl
+changed-by manner scale now level other lines (Some line) at =
+    numbers-set lines other (line_changed manner scale now level line) line at refl
+
+pub numbers-changed :
+    (manner : Manner) (scale : Scale) (now : ℕ) (level : Level) (other : ℕ) (lines : List Watched)
+    → numbers_of (wire_changed manner scale now level other lines) ≡ numbers_of lines
+numbers-changed manner scale now level other lines =
+    changed-by manner scale now level other lines (slice_get lines other) refl
+
+pub changed-here :
+    (manner : Manner) (scale : Scale) (now : ℕ) (level : Level) (wire : ℕ) (lines : List Watched) (line : Watched)
+    → slice_get lines wire ≡ Some line
+    → slice_get (wire_changed manner scale now level wire lines) wire ≡ Some (line_changed manner scale now level line)
+changed-here manner scale now level wire lines line at =
+    ap (λ found. slice_get (option_map_or (λ w. slice_set lines wire (line_changed manner scale now level w)) found lines) wire) at
+    ∙ set-here lines wire (line_changed manner scale now level line) line at
+
+changed-there-by :
+    (manner : Manner) (scale : Scale) (now : ℕ) (level : Level) (other wire : ℕ) (lines : List Watched)
+    (found : Option Watched) → (other == wire) ≡ false
+    → slice_get (option_map_or (λ w. slice_set lines other (line_changed manner scale now level w)) found lines) wire
+    ≡ slice_get lines wire
+changed-there-by manner scale now level other wire lines None ne = refl
+changed-there-by manner scale now level other wire lines (Some line) ne =
+    set-there lines other wire (line_changed manner scale now level line) ne
+
+pub changed-there :
+    (manner : Manner) (scale : Scale) (now : ℕ) (level : Level) (other wire : ℕ) (lines : List Watched)
+    → (other == wire) ≡ false
+    → slice_get (wire_changed manner scale now level other lines) wire ≡ slice_get lines wire
+changed-there manner scale now level other wire lines ne =
+    changed-there-by manner scale now level other wire lines (slice_get lines other) ne

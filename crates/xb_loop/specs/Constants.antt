@@ -1,0 +1,12 @@
+-- The numbers of the program, each as it is.
+use Rattle.std.specs.Prelude.{◌≡◌}
+use Rattle.xb_loop.specs.declared.beginning.TheConstants.{MOST_BEGINNING_BYTES}
+use Rattle.xb_loop.specs.declared.feed.TheConstants.{MOST_SHOWN_BYTES}
+use Rattle.xb_loop.specs.declared.words.TheConstants.{SETTLE_MS, THRESHOLD_PERCENT}
+
+-- a definition that cites a constant means this number
+pub record AreConstants : Type 0 where
+  pub settle_ms : SETTLE_MS ≡ 5
+  pub threshold_percent : THRESHOLD_PERCENT ≡ 6
+  pub most_beginning_bytes : MOST_BEGINNING_BYTES ≡ 131072
+  pub most_shown_bytes : MOST_SHOWN_BYTES ≡ 40

@@ -1,0 +1,83 @@
+-- What a recording says of one wire, and the rows of its line.
+use Rattle.std.specs.Prelude.{ℕ, ◌≡◌, ◌-◌, max, List, [], ◌∷◌, Bool, Option, Some, None, option_map, slice_get, ◌==◌, if◌then◌else◌}
+use Rattle.std.specs.Option.{option_and_then, option_map_or}
+use Rattle.xb_model.specs.Records.{rows_of}
+use Rattle.xb_model.specs.Rows.{LoopRow}
+use Rattle.xb_contact.specs.declared.event.Event.{Event}
+use Rattle.xb_contact.specs.declared.event.Event.TheVariants as events
+use Rattle.xb_contact.specs.declared.hold.Hold.{Hold}
+use Rattle.xb_contact.specs.declared.level.Level.{Level}
+use Rattle.xb_contact.specs.declared.scale.Scale.{Scale}
+use Rattle.xb_contact.specs.Holds.{hold_of}
+use Rattle.xb_contact.specs.Listening.{all_told, begun_at}
+use Rattle.xb_loop.specs.declared.line.Manner.{Manner}
+use Rattle.xb_loop.specs.declared.tally.Bounces.{Bounces}
+use Rattle.xb_loop.specs.BounceLines.{bounces_heard}
+use Rattle.xb_loop.specs.RowsOfHolds.{written_rows}
+use Rattle.xb_loop.specs.Tallies.{begun_tally, tally_at_end}
+use Rattle.xb_loop.specs.Watching.{Watched, begun_watch, least_ticks, level_seen, rows_of_events, watch_after}
+
+-- the record of a loop by its wire: how long a tick is, the level that comes first, and then how long each holds
+pub record WireRecord : Type 0 where
+  pub scale : Scale
+  pub first : Level
+  pub holds : List Hold
+
+-- a level is followed: it holds up to each time that is said, and another one comes with the next that is said of the wire
+abbrev pub holds_from : Bool → ℕ → Level → ℕ → List Event → List Hold
+holds_from inverted wire level now [] = []
+holds_from inverted wire level now (events.Ticks scale ∷ rest) = holds_from inverted wire level now rest
+holds_from inverted wire level now (events.At tick ∷ rest) =
+    hold_of level (tick - now) ∷ holds_from inverted wire level (max now tick) rest
+holds_from inverted wire level now (events.Level other next ∷ rest) =
+    holds_from inverted wire (if other == wire then level_seen inverted next else level) now rest
+
+-- the record begins with the first level of the wire
+abbrev pub record_from : Bool → ℕ → Option Scale → ℕ → List Event → Option WireRecord
+record_from inverted wire scale now [] = None
+record_from inverted wire scale now (events.Ticks next ∷ rest) = record_from inverted wire (Some next) now rest
+record_from inverted wire scale now (events.At tick ∷ rest) = record_from inverted wire scale tick rest
+record_from inverted wire scale now (events.Level other level ∷ rest) =
+    if other == wire
+    then option_map_or (λ ticks. Some (record {
+      scale = ticks;
+      first = level_seen inverted level;
+      holds = holds_from inverted wire (level_seen inverted level) now rest;
+    })) scale (record_from inverted wire scale now rest)
+    else record_from inverted wire scale now rest
+
+-- of all that a recording says
+abbrev pub record_of_wire : Manner → ℕ → List Event → Option WireRecord
+record_of_wire manner wire said = record_from manner.inverted wire None 0 said
+
+-- the rows of its contact, and the bounces that were counted
+abbrev pub rows_of_record : Manner → ℕ → Option WireRecord → List LoopRow
+rows_of_record manner line None = []
+rows_of_record manner line (Some wire) =
+    written_rows line
+    (all_told (begun_at (least_ticks wire.scale manner.settle_ms) wire.scale manner.most_ms wire.first) wire.holds)
+
+abbrev pub bounces_of_record : Manner → Option WireRecord → Option Bounces
+bounces_of_record manner wires =
+    option_map (λ wire. (tally_at_end
+    (begun_tally (least_ticks wire.scale manner.settle_ms) wire.first) wire.holds).bounces) wires
+
+-- no other wire is of this line
+abbrev pub IsAlone : ℕ → ℕ → List ℕ → Type 0
+IsAlone wire line numbers = (other : ℕ) → slice_get numbers other ≡ Some line → other ≡ wire
+
+abbrev pub bounces_at : ℕ → List Watched → Option Bounces
+bounces_at wire lines = option_and_then (λ line. bounces_heard line.contact) (slice_get lines wire)
+
+-- of the rows that are written of a recording those of a line are those of the contact of its wire, and what is counted
+-- of it is told
+pub record GivesTheRecord (manner : Manner) (numbers : List ℕ) (wire line : ℕ) (said : List Event) : Type 0 where
+  pub rows : rows_of line (rows_of_events (begun_watch manner numbers) said)
+      ≡ rows_of_record manner line (record_of_wire manner wire said)
+  pub bounces : bounces_at wire (watch_after (begun_watch manner numbers) said).lines
+      ≡ bounces_of_record manner (record_of_wire manner wire said)
+
+abbrev pub GivesEachRecord : Type 0
+GivesEachRecord =
+    (manner : Manner) (numbers : List ℕ) (wire line : ℕ) (said : List Event) → slice_get numbers wire ≡ Some line
+    → IsAlone wire line numbers → GivesTheRecord manner numbers wire line said

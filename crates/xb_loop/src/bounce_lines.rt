@@ -1,0 +1,74 @@
+// What is told of the bounces.
+ghost use Rattle.std.specs.Prelude.{◌≡◌, ◌+◌, ◌*◌, ◌<◌, ◌++◌, OnOk, decimal, string_bytes};
+ghost use Rattle.std.specs.List.{flat_map};
+ghost use Rattle.xb_loop.specs.BounceLines.{bounce_line, line_told, micros_of};
+
+use crate::line::Line;
+use crate::tally::Bounces;
+use std::alloc::AllocError;
+use xb_contact::Scale;
+use xb_model::LineNo;
+
+// Adds the number of so many thousands and units. The number itself may have more than 128 bits.
+fn write_thousands(said: &mut String, thousands: u128, units: u128) -> Result<(), AllocError>
+    requires { units < 1000 }
+    ensures { OnOk result (string_bytes said.new ≡ string_bytes said.old ++ decimal (thousands * 1000 + units)) }
+{
+    if thousands == 0 {
+        write!(said, "{units}")?;
+        return Ok(());
+    }
+    let (hundreds, tens, ones) = (units / 100, units / 10 % 10, units % 10);
+    write!(said, "{thousands}{hundreds}{tens}{ones}")?;
+    Ok(())
+}
+
+// Adds so many ticks in us, rounded down; 0 where a tick has no length.
+fn write_micros(said: &mut String, scale: Scale, ticks: u64) -> Result<(), AllocError>
+    ensures { OnOk result (string_bytes said.new ≡ string_bytes said.old ++ decimal (micros_of scale ticks)) }
+{
+    if scale.ticks == 0 {
+        return said.push_str("0");
+    }
+    let per_ms = u128::from(scale.ticks);
+    let all = u128::from(ticks) * u128::from(scale.ms);
+    let (ms, left) = (all / per_ms, all % per_ms);
+    write_thousands(said, ms, left * 1_000 / per_ms)
+}
+
+// Adds the bounces of a line.
+fn say_bounces(
+    said: &mut String,
+    scale: Scale,
+    line: LineNo,
+    bounces: Bounces,
+) -> Result<(), AllocError>
+    ensures { OnOk result (string_bytes said.new ≡ string_bytes said.old ++ bounce_line scale line bounces) }
+{
+    let number = line.get();
+    let count = bounces.count;
+    write!(said, "line {number}: {count} bounces, the longest ")?;
+    write_micros(said, scale, bounces.longest)?;
+    said.push_str(" us\n")
+}
+
+// Adds those of a line whose wire had a level.
+fn say_line(said: &mut String, scale: Scale, line: &Line) -> Result<(), AllocError>
+    ensures { OnOk result (string_bytes said.new ≡ string_bytes said.old ++ line_told scale line.now) }
+{
+    match line.bounces() {
+        Some(bounces) => say_bounces(said, scale, line.number(), bounces),
+        None => Ok(()),
+    }
+}
+
+/// Adds, as lines, how many short runs were taken away of each line, and how long the longest was.
+pub(crate) fn say_lines(said: &mut String, scale: Scale, lines: &[Line]) -> Result<(), AllocError>
+    ensures { OnOk result (string_bytes said.new
+        ≡ string_bytes said.old ++ flat_map (line_told scale) lines.now) }
+{
+    for line in lines {
+        say_line(said, scale, line)?;
+    }
+    Ok(())
+}
