@@ -11,7 +11,7 @@ use Rattle.xb_heard.specs.declared.run.PlacedRun.{PlacedRun}
 use Rattle.xb_heard.specs.PlacedRuns.{placed_runs}
 use Rattle.xb_heard.proofs.PlacedRuns.{run_in-placed_runs}
 use Rattle.xb_heard.proofs.Stories.{tells}
-use Rattle.xb_hear.specs.Hearing.{AgreesWithPage}
+use Rattle.xb_hear.specs.LineAttempts.{AgreesWithPage}
 
 -- the runs of a line among those of all lines
 pub runs-of-line : {V : Type 0} (items : V → List PlacedRun) (lines : List V) (R : List LoopRow) (l : ℕ) (v : V)

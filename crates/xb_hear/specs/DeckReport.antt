@@ -15,9 +15,9 @@ use Rattle.xb_hear.specs.declared.fault.HearFault.TheVariants as fault
 use Rattle.xb_hear.specs.declared.request.Request.{Request}
 use Rattle.xb_hear.specs.declared.request.Request.TheVariants as request
 use Rattle.xb_hear.specs.Choosing.{is_chosen_other, is_chosen_refused}
-use Rattle.xb_hear.specs.Hearing.{AgreesWithPage, attempts_of_line, lines_with}
+use Rattle.xb_hear.specs.LineAttempts.{AgreesWithPage, attempts_of_line, lines_with}
 use Rattle.xb_hear.specs.Places.{before_records}
-use Rattle.xb_hear.specs.Telling.{AreTold, IsTold, IsWhole, list_of}
+use Rattle.xb_hear.specs.ToldLines.{AreTold, IsTold, IsWhole, list_of}
 
 -- a text is what is asked for of rows, where so many text lines may stand before the first record
 abbrev pub IsAsked : Request → Option ℕ → Plan → Limits → List LoopRow → List ℕ → Type 0

@@ -7,8 +7,8 @@ use Rattle.xb_command.specs.Given.{AskForNothing, AsksFor, ReadsFlag, ReadsNumbe
 use Rattle.xb_command.specs.declared.command.Takes.TheVariants as takes
 use Rattle.xb_model.specs.declared.line.TheConstants.{LINES}
 use Rattle.xb_hear.specs.declared.request.Choice.TheVariants as choice
-use Rattle.xb_hear.specs.declared.request.Form.{Form}
-use Rattle.xb_hear.specs.declared.request.Form.TheVariants as form
+use Rattle.xb_hear.specs.declared.request.ReportForm.{ReportForm}
+use Rattle.xb_hear.specs.declared.request.ReportForm.TheVariants as form
 use Rattle.xb_hear.specs.declared.request.Request.{Request}
 use Rattle.xb_hear.specs.declared.request.Request.TheVariants as request
 use Rattle.xb_hear.specs.declared.words.Options.{Options}
@@ -29,21 +29,21 @@ pub record Say (rows : List Row) (options : Options) : Type 0 where
   pub json : ReadsFlag (given_by rows (codes "json")) options.json
 
 -- a text, a page or objects
-abbrev pub form_of : Bool → Bool → Option Form
+abbrev pub form_of : Bool → Bool → Option ReportForm
 form_of false false = Some form.Text
 form_of true false = Some form.Html
 form_of false true = Some form.Json
 form_of true true = None
 
 -- a line in a form, or its picture, which has none: of an attempt from 1 on, or of the first ones
-abbrev pub of_line : ℕ → Bool → Option ℕ → Form → Option Request
+abbrev pub of_line : ℕ → Bool → Option ℕ → ReportForm → Option Request
 of_line line false None asked = Some (request.Line line asked)
 of_line line true None form.Text = Some (request.Picture line None)
 of_line line true (Some (suc k)) form.Text = Some (request.Picture line (Some (suc k)))
 of_line line svg attempt asked = None
 
 -- all lines, those with a refused attempt, or the one that is named, if there is such a line
-abbrev pub asked_of : Option ℕ → Bool → Bool → Option ℕ → Form → Option Request
+abbrev pub asked_of : Option ℕ → Bool → Bool → Option ℕ → ReportForm → Option Request
 asked_of None false false None asked = Some (request.Lines choice.All asked)
 asked_of None true false None asked = Some (request.Lines choice.Refused asked)
 asked_of (Some line) false svg attempt asked = if nat_lt line LINES then of_line line svg attempt asked else None

@@ -3,10 +3,10 @@ ghost use Rattle.std.specs.Prelude.{ℕ, ◌≡◌, [], ◌<◌, ◌^◌, IfOk, 
 ghost use Rattle.xb_heard.specs.Attempts.{attempt_in};
 ghost use Rattle.xb_hear.specs.DeckReport.{Gives, found_on_line};
 ghost use Rattle.xb_hear.specs.declared.request.Request.TheVariants.{Line, Picture};
-ghost use Rattle.xb_hear.specs.Telling.{IsTold, IsWhole};
+ghost use Rattle.xb_hear.specs.ToldLines.{IsTold, IsWhole};
 
 use crate::fault::HearFault;
-use crate::telling::{Manner, push_told, whole_of};
+use crate::manner::{Manner, push_told, whole_of};
 use std::alloc::{AllocError, Global};
 use xb_heard::{HeardAttempt, heard_of, runs_of_line};
 use xb_model::{Limits, LineNo, Plan, Row};

@@ -4,11 +4,11 @@ ghost use Rattle.xb_heard.specs.Attempts.{attempt_in, heard_attempts};
 ghost use Rattle.xb_model.specs.declared.line.TheConstants.{LINES};
 ghost use Rattle.xb_hear.specs.DeckReport.{IsAsked};
 ghost use Rattle.xb_hear.specs.declared.request.Request.TheVariants.{Lines};
-ghost use Rattle.xb_hear.specs.Telling.{Lists, TellsBelow, TellsLine, list_of};
+ghost use Rattle.xb_hear.specs.ToldLines.{Lists, TellsBelow, TellsLine, list_of};
 
 use crate::choosing::{has_refused, is_chosen};
-use crate::request::{Choice, Form};
-use crate::telling::{Manner, push_told, whole_of};
+use crate::manner::{Manner, push_told, whole_of};
+use crate::request::{Choice, ReportForm};
 use std::alloc::{AllocError, Global};
 use xb_heard::{HeardAttempt, PlacedRun, heard_of, runs_by_line};
 use xb_model::{LINES, LineNo, Plan, Row};
@@ -16,7 +16,7 @@ use xb_report::push_list;
 
 // What was told of lines, and which they are.
 #[derive(Drop)]
-pub(crate) struct Told {
+pub(crate) struct ToldLines {
     text: String,
     // Those with an attempt that the register refused, ascending.
     refused: Vec<LineNo>,
@@ -25,7 +25,7 @@ pub(crate) struct Told {
 }
 
 // Lists a line with these attempts after others.
-fn list(told: &mut Told, line: LineNo, attempts: &[HeardAttempt]) -> Result<(), AllocError>
+fn list(told: &mut ToldLines, line: LineNo, attempts: &[HeardAttempt]) -> Result<(), AllocError>
     ensures { OnOk result (Lists line (map attempt_in attempts.now) told.old told.new) }
 {
     if has_refused(attempts) {
@@ -39,7 +39,7 @@ fn list(told: &mut Told, line: LineNo, attempts: &[HeardAttempt]) -> Result<(), 
 // Tells of a line with these attempts and lists it, if it is chosen.
 fn tell(
     alloc: Global,
-    told: &mut Told,
+    told: &mut ToldLines,
     choice: Choice,
     manner: Manner,
     line: LineNo,
@@ -57,7 +57,7 @@ fn tell(
 // The same of a line with these runs.
 fn hear_line(
     alloc: Global,
-    told: &mut Told,
+    told: &mut ToldLines,
     choice: Choice,
     manner: Manner,
     plan: Plan,
@@ -78,12 +78,12 @@ fn tell_lines(
     manner: Manner,
     plan: Plan,
     rows: &[Row],
-) -> Result<Told, AllocError>
+) -> Result<ToldLines, AllocError>
     requires { length rows.now < 2 ^ 32 }
     ensures { IfOk result (TellsBelow manner choice plan rows.now LINES) }
 {
     let lines = runs_by_line(alloc, rows)?;
-    let mut told = Told {
+    let mut told = ToldLines {
         text: String::new(alloc),
         refused: Vec::new(alloc),
         others: Vec::new(alloc),
@@ -107,7 +107,7 @@ fn tell_lines(
 // The list of a page's lines; a text and objects have none.
 fn list_of(
     alloc: Global,
-    form: Form,
+    form: ReportForm,
     refused: &[LineNo],
     others: &[LineNo],
 ) -> Result<String, AllocError>
@@ -115,8 +115,8 @@ fn list_of(
 {
     let mut list = String::new(alloc);
     match form {
-        Form::Html => push_list(&mut list, refused, others)?,
-        Form::Text | Form::Json => {}
+        ReportForm::Html => push_list(&mut list, refused, others)?,
+        ReportForm::Text | ReportForm::Json => {}
     }
     Ok(list)
 }

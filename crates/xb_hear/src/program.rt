@@ -3,7 +3,7 @@ ghost use Rattle.xb_command.specs.Programs.{streams};
 ghost use Rattle.xb_command.specs.Commands.{texts_of};
 ghost use Rattle.xb_hear.specs.Program.{AttendsHear};
 
-use crate::hearing::hear;
+use crate::deck_report::hear;
 use crate::words::request_of_words;
 use std::alloc::Global;
 use std::io::{Read, Write};

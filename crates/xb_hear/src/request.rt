@@ -13,7 +13,7 @@ pub enum Choice {
 
 /// How what was heard is written.
 #[derive(Clone, Copy, Debug, PartialEq, Eq)]
-pub enum Form {
+pub enum ReportForm {
     /// As a text.
     Text,
     /// As a page of HTML.
@@ -26,9 +26,9 @@ pub enum Form {
 #[derive(Clone, Copy, Debug, PartialEq, Eq)]
 pub enum Request {
     /// What was heard of these lines.
-    Lines(Choice, Form),
+    Lines(Choice, ReportForm),
     /// What was heard of this line.
-    Line(LineNo, Form),
+    Line(LineNo, ReportForm),
     /// The picture of a line: of its attempt of this number, from 1, or of the first ones.
     Picture(LineNo, Option<u32>),
 }

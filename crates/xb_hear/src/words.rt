@@ -4,7 +4,7 @@ ghost use Rattle.xb_command.specs.Commands.{texts_of};
 ghost use Rattle.xb_hear.specs.Options.{AreRefused, Asks, Say, asked_of, form_of, request_of};
 
 use crate::program::PROGRAM;
-use crate::request::{Choice, Form, Request};
+use crate::request::{Choice, ReportForm, Request};
 use std::alloc::Global;
 use xb_command::{Takes, Words, WordsFault, read_words};
 use xb_model::{LINES, LineNo};
@@ -45,20 +45,20 @@ fn options_of(words: &Words) -> Options
 }
 
 // The form that is asked for; `None` where two are.
-fn form_of(html: bool, json: bool) -> Option<Form>
+fn form_of(html: bool, json: bool) -> Option<ReportForm>
     ensures { result ≡ form_of html json }
 {
     match (html, json) {
-        (false, false) => Some(Form::Text),
-        (true, false) => Some(Form::Html),
-        (false, true) => Some(Form::Json),
+        (false, false) => Some(ReportForm::Text),
+        (true, false) => Some(ReportForm::Html),
+        (false, true) => Some(ReportForm::Json),
         (true, true) => None,
     }
 }
 
 // A line in a form, or its picture, of one of its attempts or of the first ones; `None` where there is no such line,
 // of an attempt 0 or without a picture, and of a picture where a page or objects are asked for too.
-fn of_line(number: u32, svg: bool, attempt: Option<u32>, form: Form) -> Option<Request>
+fn of_line(number: u32, svg: bool, attempt: Option<u32>, form: ReportForm) -> Option<Request>
     ensures { result ≡ asked_of (Some number) false svg attempt form }
 {
     if number >= u32::from(LINES) {
@@ -68,8 +68,8 @@ fn of_line(number: u32, svg: bool, attempt: Option<u32>, form: Form) -> Option<R
     match (svg, attempt, form) {
         (false, None, form) => Some(Request::Line(line, form)),
         (true, Some(0), _) => None,
-        (true, attempt, Form::Text) => Some(Request::Picture(line, attempt)),
-        (false, Some(_), _) | (true, _, Form::Html | Form::Json) => None,
+        (true, attempt, ReportForm::Text) => Some(Request::Picture(line, attempt)),
+        (false, Some(_), _) | (true, _, ReportForm::Html | ReportForm::Json) => None,
     }
 }
 

@@ -1,7 +1,7 @@
 use Rattle.std.proofs.Common.{◌≡◌, ◌∙◌, ap, false, true}
 use Rattle.xb_heard.specs.Attempts.{heard_attempts}
 use Rattle.xb_hear.proofs.OfLines.{runs-of-line}
-use Rattle.xb_hear.proofs.Told.{tells-more, tells-start}
+use Rattle.xb_hear.proofs.ToldLines.{tells-more, tells-start}
 use Rattle.xb_hear.proofs.lines.tell_lines.Goals as goal
 use Rattle.xb_hear.proofs.lines.tell_lines.Goals.{in-Some+in_ok-hear_line, in_default}
 

@@ -1,4 +1,4 @@
-use Rattle.xb_hear.specs.Telling.{TellsBelow}
+use Rattle.xb_hear.specs.ToldLines.{TellsBelow}
 use Rattle.xb_hear.proofs.lines.tell_lines.Given as goal
 
 abbrev pub invariant-loop-number : goal.invariant-loop-number

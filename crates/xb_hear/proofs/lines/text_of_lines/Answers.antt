@@ -1,6 +1,6 @@
 use Rattle.std.proofs.Common.{◌∙◌, ap, ap₂, string_bytes}
 use Rattle.std.proofs.lemmas.Result.{IfOk-weaker}
-use Rattle.xb_hear.specs.Telling.{list_of, whole_of}
+use Rattle.xb_hear.specs.ToldLines.{list_of, whole_of}
 use Rattle.xb_hear.proofs.lines.text_of_lines.Goals as goal
 
 pub returns : goal.returns

@@ -3,10 +3,10 @@ ghost use Rattle.std.specs.Prelude.{◌≡◌, ◌++◌, IfOk, OnOk, map, string
 ghost use Rattle.xb_heard.specs.Attempts.{attempt_in};
 ghost use Rattle.xb_report.specs.Pages.{page_text};
 ghost use Rattle.xb_report.specs.ReportTexts.{limits_text};
-ghost use Rattle.xb_hear.specs.Telling.{Adds, IsSection, IsTold, whole_of};
+ghost use Rattle.xb_hear.specs.ToldLines.{Adds, IsSection, IsTold, whole_of};
 
 use crate::objects::push_objects;
-use crate::request::Form;
+use crate::request::ReportForm;
 use std::alloc::{AllocError, Global};
 use xb_heard::HeardAttempt;
 use xb_model::{Limits, LineNo};
@@ -16,7 +16,7 @@ use xb_report::{push_attempts, push_head, push_limits, push_section, push_tail};
 // How lines are told of.
 #[derive(Clone, Copy)]
 pub(crate) struct Manner {
-    pub(crate) form: Form,
+    pub(crate) form: ReportForm,
     // The limits by which they are heard.
     pub(crate) limits: Limits,
     // How many text lines of the deck stand before its first record, if each record is one.
@@ -56,9 +56,9 @@ pub(crate) fn push_told(
         before,
     } = manner;
     match form {
-        Form::Text => push_attempts(alloc, out, limits, line, attempts),
-        Form::Html => push_drawn(alloc, out, limits, line, attempts),
-        Form::Json => push_objects(alloc, out, before, limits, line, attempts),
+        ReportForm::Text => push_attempts(alloc, out, limits, line, attempts),
+        ReportForm::Html => push_drawn(alloc, out, limits, line, attempts),
+        ReportForm::Json => push_objects(alloc, out, before, limits, line, attempts),
     }
 }
 
@@ -93,7 +93,7 @@ fn page_of(
 /// What was told, with what stands before and after it. `Err` says that memory ran out.
 pub(crate) fn whole_of(
     alloc: Global,
-    form: Form,
+    form: ReportForm,
     limits: Limits,
     list: &str,
     told: String,
@@ -101,8 +101,8 @@ pub(crate) fn whole_of(
     ensures { IfOk result (λ text. string_bytes text ≡ whole_of form limits list.now (string_bytes told)) }
 {
     match form {
-        Form::Text => report_of(alloc, limits, told),
-        Form::Html => page_of(alloc, limits, list, told),
-        Form::Json => Ok(told),
+        ReportForm::Text => report_of(alloc, limits, told),
+        ReportForm::Html => page_of(alloc, limits, list, told),
+        ReportForm::Json => Ok(told),
     }
 }

@@ -1,7 +1,7 @@
 use Rattle.std.proofs.Common.{subst, sym}
 use Rattle.xb_hear.specs.declared.request.Request.{Request}
 use Rattle.xb_hear.specs.DeckReport.{Gives}
-use Rattle.xb_hear.proofs.hearing.text_of.Goals as goal
+use Rattle.xb_hear.proofs.deck_report.text_of.Goals as goal
 
 pub returns-in-Picture : goal.returns-in-Picture
 returns-in-Picture c =

@@ -2,7 +2,7 @@ use Rattle.std.proofs.Common.{◌∙◌, ap, length, sym}
 use Rattle.xb_rows.specs.RowTexts.{rows_of_text}
 use Rattle.xb_hear.specs.Places.{lines_before}
 use Rattle.xb_hear.proofs.Found.{gives-reports}
-use Rattle.xb_hear.proofs.hearing.text_of_rows.Goals as goal
+use Rattle.xb_hear.proofs.deck_report.text_of_rows.Goals as goal
 
 pub returns : goal.returns
 returns c =

@@ -3,22 +3,22 @@ use Rattle.std.proofs.Common.{◌≡◌, ℕ, ◌+◌, List, [], ◌++◌, ◌�
 use Rattle.xb_model.specs.declared.plan.Plan.{Plan}
 use Rattle.xb_model.specs.Rows.{LoopRow}
 use Rattle.xb_heard.specs.Attempts.{AttemptOfRuns}
-use Rattle.xb_hear.specs.declared.lines.Told.{Told}
+use Rattle.xb_hear.specs.declared.lines.ToldLines.{ToldLines}
 use Rattle.xb_hear.specs.declared.request.Choice.{Choice}
-use Rattle.xb_hear.specs.declared.telling.Manner.{Manner}
+use Rattle.xb_hear.specs.declared.manner.Manner.{Manner}
 use Rattle.xb_hear.specs.Choosing.{is_chosen_other, is_chosen_refused}
-use Rattle.xb_hear.specs.Hearing.{attempts_of_line, line_if, lines_with}
-use Rattle.xb_hear.specs.Telling.{AreTold, TellsBelow, TellsLine}
+use Rattle.xb_hear.specs.LineAttempts.{attempts_of_line, line_if, lines_with}
+use Rattle.xb_hear.specs.ToldLines.{AreTold, TellsBelow, TellsLine}
 
 module _ (M : Manner) (asked : Choice) (P : Plan) (R : List LoopRow) where
   -- before the first line
-  pub tells-start : (told : Told) → string_bytes told.text ≡ [] → told.refused.items ≡ [] → told.others.items ≡ []
+  pub tells-start : (told : ToldLines) → string_bytes told.text ≡ [] → told.refused.items ≡ [] → told.others.items ≡ []
       → TellsBelow M asked P R 0 told
   unfolding AreTold lines_with
   tells-start told text refused others = record { text = text; refused = refused; others = others }
 
   -- one line more
-  pub tells-more : (n l : ℕ) (A : List AttemptOfRuns) (old new : Told) → TellsBelow M asked P R n old
+  pub tells-more : (n l : ℕ) (A : List AttemptOfRuns) (old new : ToldLines) → TellsBelow M asked P R n old
       → TellsLine M asked l A old new → A ≡ attempts_of_line P M.limits R l → l ≡ n
       → TellsBelow M asked P R (n + 1) new
   unfolding AreTold lines_with
