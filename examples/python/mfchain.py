@@ -2,17 +2,20 @@
 
 An `Office` takes what the loops of its lines do, and yields each mark the moment it is certain:
 
-    office = Office(table_text, "libmfchain.so")
+    office = Office(table_text, "libmfchain.so.0")
     for mark in office.take(7, "M", 500):
         print(mark)
 
 Or it is told what was heard on a line, by `seize`, `digit`, `mutilated_digit`, `time_out` and `release`.
 
-Needs Python 3.8 and no package. The shared object is made by `make` in examples/c.
+Needs Python 3.8 and no package. The shared object is made by `make` in examples/c, as
+libmfchain.so, and by scripts/install.
 """
 import ctypes
 import threading
 from typing import Iterator, NamedTuple
+
+__version__ = "0.4"
 
 LINES = 10000
 MOST_MARKS = 24
@@ -132,7 +135,7 @@ class Office:
     """An office by a route table. It keeps what is known of each line, 24 bytes a line. Any threads may call it: it
     takes one row after the other, since the rows share what is given to C and got from it."""
 
-    def __init__(self, table: str, library: str = "libmfchain.so"):
+    def __init__(self, table: str, library: str = "libmfchain.so.0"):
         """Opens an office by the route table of a TOML text. Raises `TableError` where it is refused, and
         `MemoryError` where memory ran out."""
         self._library = ctypes.CDLL(library)
