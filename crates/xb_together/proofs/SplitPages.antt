@@ -15,7 +15,7 @@ use Rattle.xb_office.specs.MadeDecks.{MadeDecksSayTheirPage}
 use Rattle.xb_parts.specs.declared.range.LineRange.{LineRange}
 use Rattle.xb_parts.specs.Ranges.{part_with, rows_in}
 use Rattle.xb_parts.proofs.RangeParts.{ranges_make_parts}
-use Rattle.xb_join.specs.declared.join_fault.JoinFault.{JoinFault}
+use Rattle.xb_join.specs.declared.parts_fault.PartsFault.{PartsFault}
 use Rattle.xb_join.specs.Joining.{Given, given_part, given_with, join_of}
 use Rattle.xb_join.proofs.JoinedPages.{parts_make_the_whole}
 use Rattle.xb_routes.proofs.TableRoutes.{table-routes}
@@ -57,7 +57,7 @@ module _ (made_say : MadeDecksSayTheirPage) (lines : List (List ℕ)) (table : T
       (ap (λ (page : List ℕ). given_with part.lines page) (said part.lines part.page small.0 says_them.0))
       (parts_are parts small.1 says_them.1)
 
-abbrev said_page : List ℕ → Result (List ℕ) JoinFault
+abbrev said_page : List ℕ → Result (List ℕ) PartsFault
 said_page page = Ok page
 
 pub split_decks_make_the_page : MadeDecksSayTheirPage → SplitDecksMakeThePage
