@@ -122,3 +122,52 @@ fn gives_the_rows_in_any_pieces(rt: HostRuntime) -> Result<(), Fail> {
     }
     Ok(())
 }
+
+// The most bytes of a text line that tells the form.
+const LONG_LINE: usize = 2_600;
+
+#[test]
+fn tells_the_form_of_a_long_line_in_any_pieces(rt: HostRuntime) -> Result<(), Fail> {
+    let mut recording = Vec::new(rt.alloc());
+    recording.extend_from_slice(b"$comment ")?;
+    recording.resize(LONG_LINE, b'-')?;
+    recording.extend_from_slice(b" $end\n$timescale 1 ms $end\n$var wire 1 ! D0 $end\n")?;
+    recording.extend_from_slice(b"$enddefinitions $end\n#0 0!\n#10 1!\n#30\n")?;
+    for step in [1, 1_000, 8_192] {
+        let mut reader = Halting::new(&recording, step);
+        let case = case_of(&["--line", "7=D0"], &recording);
+        check_reader(&rt, rt.alloc(), &mut reader, &case, 0)?;
+    }
+    Ok(())
+}
+
+// More empty lines than are looked at before the form is told.
+const EMPTY_LINES: usize = 131_072;
+
+#[test]
+fn gives_up_where_nothing_is_told(rt: HostRuntime) -> Result<(), Fail> {
+    for (count, status, rows, told) in [
+        (EMPTY_LINES - 6, 0, ROWS, b"".as_slice()),
+        (
+            EMPTY_LINES,
+            1,
+            b"".as_slice(),
+            b"mfloop: the recording: the form of the recording cannot be told: give --format\n".as_slice(),
+        ),
+    ] {
+        let mut recording = Vec::new(rt.alloc());
+        recording.resize(count, b'\n')?;
+        recording.extend_from_slice(b"1.5,0\n1.51,1\n1.53,1\n")?;
+        for step in [8_191, 8_192] {
+            let mut reader = Halting::new(&recording, step);
+            let case = Case {
+                words: &["--line", "7=1"],
+                recording: b"empty lines",
+                rows,
+                told,
+            };
+            check_reader(&rt, rt.alloc(), &mut reader, &case, status)?;
+        }
+    }
+    Ok(())
+}

@@ -26,6 +26,14 @@ const CASES: &[Case<'static>] = &[
         rows: b"line,state,ms\n7,B,10\n7,M,20\n7,B,30\n",
         told: b"line 7: 6 bounces, the longest 1000 us\n",
     },
+    // ticks of 1 fs, whose product with a thousand has more than 64 bits
+    Case {
+        words: &["--line", "7=D0", "--said", "--settle", "30000"],
+        recording: b"$timescale 1 fs $end\n$var wire 1 ! D0 $end\n$enddefinitions $end
+#0 0!\n#40000000000000000 1!\n#60000000000000000 0!\n#100000000000000000\n",
+        rows: b"line,state,ms\n7,B,100000\n",
+        told: b"line 7: 1 bounces, the longest 20000000 us\n",
+    },
     // a level that lasts no time is no bounce
     Case {
         words: &["--line", "7=1", "--said"],

@@ -1,8 +1,9 @@
 // Words that are refused, and streams that fail.
-use crate::attending::{Case, attended, check_reader, check_told};
+use crate::attending::{Case, Tables, attended, check_reader, check_told};
 use std::io::ErrorKind;
 use std::test::Fail;
-use test_kit::{Halting, Short};
+use test_kit::{Halting, Short, words_of};
+use xb_loop::attend;
 
 const USAGE: &[u8] = b"mfloop: usage: mfloop [--line N=WIRE]... [--table FILE] \
 [--format vcd|sigrok|saleae|edges|gpiomon|bits|s16|wav] [--rate HZ] [--settle MS] [--tick MS] \
@@ -53,6 +54,22 @@ fn writes_the_beginning_where_the_rows_fail(rt: HostRuntime) -> Result<(), Fail>
         let line = b"mfloop: the rows could not be written\n";
         check_told(&rt, (got, &told), 1, line, RECORDING);
         assert!(rt; out.taken.as_slice() == &ROWS[..room], "{room}");
+    }
+    Ok(())
+}
+
+#[test]
+fn fails_where_the_bounces_are_not_told(rt: HostRuntime) -> Result<(), Fail> {
+    let told = b"line 7: 0 bounces, the longest 0 us\n".as_slice();
+    for room in 0..told.len() {
+        let words = words_of(rt.alloc(), "mfloop", &["--line", "7=1", "--said"])?;
+        let mut reader = RECORDING;
+        let mut out = Vec::new(rt.alloc());
+        let mut err = Short::new(rt.alloc(), room, Some(ErrorKind::Other));
+        let status = attend(rt.alloc(), &words, &Tables, &mut reader, &mut out, &mut err);
+        assert_eq!(rt; status, 1, "{room}");
+        assert!(rt; out.as_slice() == ROWS, "{room}");
+        assert!(rt; err.taken.as_slice() == &told[..room], "{room}");
     }
     Ok(())
 }
