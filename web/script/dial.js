@@ -179,6 +179,8 @@ class Dial {
     const hole = makeSvg('circle', { class: 'hole', cx, cy, r: HOLE_RADIUS, tabindex, role: 'button',
       'aria-label': `Dial ${digit} on ${name.toLowerCase()}`, 'data-digit': digit }, this.wheel);
     hole.addEventListener('keydown', (event) => this.keyInHole(event, digit));
+    // a finger in a hole turns the dial; one that begins beside the holes scrolls the page
+    hole.addEventListener('touchstart', (event) => event.preventDefault(), { passive: false });
   }
 
   // The dial is one stop of the Tab key; inside it the arrows go from hole to hole.
