@@ -20,7 +20,8 @@ struct Progress {
 // Has a receiver take a sample: so many keys are in the room then.
 fn hear_sample(receiver: &mut Receiver, sample: i16, room: &mut [WebHeard], count: usize) -> usize
     requires { count < length room.old }
-    ensures hears { (samples : List ℤ) (keys : List Heard) → HearsIn receiver.old samples keys (take count room.old)
+    ensures hears { (samples : List ℤ) (keys : List Heard)
+        → HearsIn receiver.old samples keys (take count room.old)
         → HearsIn receiver.new (samples ++ sample ∷ []) keys (take result room.new) }
     ensures few { result ≤ length room.new }
     ensures length { length room.new ≡ length room.old }

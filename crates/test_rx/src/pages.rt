@@ -23,7 +23,7 @@ fn sound(alloc: Global) -> Result<Vec<u8>, Fail> {
     Ok(file)
 }
 
-// Its keys, by a second receiver (scripts/second_ear.c).
+// Its keys, by a second receiver (scripts/trials/second_ear.c).
 const KEYS: &[u8] = b"\
 KP at 501 ms for 97 ms, 1100 Hz -7.2 dBm0, 1700 Hz -7.2 dBm0, twist 0.0 dB, first: GOOD\n\
 5 at 668 ms for 67 ms, 900 Hz -7.2 dBm0, 1300 Hz -7.2 dBm0, twist 0.0 dB, after 70 ms: GOOD\n\
@@ -38,7 +38,7 @@ const OBJECT: &[u8] =
     b"{\"at_ms\":501,\"gap_ms\":null,\"high_dbm0_tenths\":-72,\"high_hz\":1700,\"key\":\"KP\",\
 \"length_ms\":97,\"low_dbm0_tenths\":-72,\"low_hz\":1100,\"twist_db_tenths\":0,\"verdict\":\"GOOD\"}\n";
 
-// What it is otherwise than the page of the tests.
+// Its differences from the page of the tests.
 const DIFFERENCES: &[u8] = b"heard and not keyed: entry 2: KP 1 ST\n\
 keyed and not heard: line 7 entry 3: KP 2 ST\n";
 

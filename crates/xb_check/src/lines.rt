@@ -69,7 +69,8 @@ fn take_in_table<'a>(
     n: usize,
     text: &'a [u8],
 ) -> Result<DeckPart, AllocError>
-    ensures { IfOk result (TakesLine (part.Table section) n text.now (lines_of lines.old) (lines_of lines.new)) }
+    ensures { IfOk result
+        (TakesLine (part.Table section) n text.now (lines_of lines.old) (lines_of lines.new)) }
 {
     if is_cut(text) {
         return Ok(DeckPart::Header);

@@ -76,7 +76,8 @@ impl Settler {
     fn step(&self, phase: Phase, hold: Hold) -> Step
         requires { unsettled phase + hold.ticks < 2 ^ 64 }
         ensures value { result ≡ step self.now phase hold }
-        ensures time { total_of (pieces_of result.given) + unsettled result.phase ≡ unsettled phase + hold.ticks }
+        ensures time { total_of (pieces_of result.given) + unsettled result.phase
+            ≡ unsettled phase + hold.ticks }
     {
         match phase {
             Phase::Settled(level) if level == hold.level => Step {

@@ -1,18 +1,11 @@
--- Samples of eight bits, by mu-law (G.711).
-use Rattle.std.specs.Prelude.{ℕ, ◌+◌, ◌-◌, ◌*◌, ◌/◌, ◌%◌, ◌^◌, ◌≤◌, ◌<◌, if◌then◌else◌, nat_lt, List, [], ◌∷◌, map, ℤ, pos, neg_ℤ, ◌-ℤ◌, unsigned_abs}
+-- Keyings that are sent as samples of eight bits, by mu-law (G.711).
+use Rattle.std.specs.Prelude.{ℕ, ◌≤◌, ◌<◌, List, [], ◌∷◌, map, ℤ, ◌-ℤ◌, unsigned_abs}
 use Rattle.xb_model.specs.declared.mark.Mark.{Mark}
+use Rattle.xb_riff.specs.Codings.{mu_law_sample}
 use Rattle.xb_tone.specs.declared.cadence.Cadence.{Cadence}
 use Rattle.xb_tone.specs.HeardKeys.{AreKeyed}
 use Rattle.xb_tone.specs.Sounds.{sound_of}
 use Rattle.xb_ear.specs.HeardKeys.{IsHearable, IsHeardAs}
-
--- the bits of a byte are turned over; three of them count doublings, and four the steps between
-abbrev pub magnitude : ℕ → ℕ
-magnitude code = (code % 16 * 8 + 132) * 2 ^ (code % 128 / 16) - 132
-
--- the sample that a byte stands for; a byte below 128 is below zero
-abbrev pub mu_law_sample : ℕ → ℤ
-mu_law_sample byte = if nat_lt byte 128 then neg_ℤ (pos (magnitude (255 - byte))) else pos (magnitude (255 - byte))
 
 -- a byte stands for a sample where no other byte stands for a nearer one
 abbrev pub IsCodedAs : ℤ → ℕ → Type 0

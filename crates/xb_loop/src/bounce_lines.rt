@@ -12,7 +12,8 @@ use xb_model::LineNo;
 // Adds the number of so many thousands and units. The number itself may have more than 128 bits.
 fn write_thousands(said: &mut String, thousands: u128, units: u128) -> Result<(), AllocError>
     requires { units < 1000 }
-    ensures { OnOk result (string_bytes said.new ≡ string_bytes said.old ++ decimal (thousands * 1000 + units)) }
+    ensures { OnOk result
+        (string_bytes said.new ≡ string_bytes said.old ++ decimal (thousands * 1000 + units)) }
 {
     if thousands == 0 {
         write!(said, "{units}")?;

@@ -101,7 +101,8 @@ impl<'a> Intake<'a> {
         ensures reader { self.new.reader ≡ self.old.reader }
         ensures rows { OnOk result (PutsDown (string_bytes self.old.rows) (watch_of self.old.lines)
             self.old.events.items (string_bytes self.new.rows) (watch_of self.new.lines)) }
-        ensures late { IfErr result (λ fault. IsLateFault (string_bytes self.old.rows) (watch_of self.old.lines)
+        ensures late { IfErr result (λ fault.
+            IsLateFault (string_bytes self.old.rows) (watch_of self.old.lines)
             self.old.events.items (string_bytes self.new.rows) self.new.reader fault) }
     {
         if take_all_events(&mut self.lines, &self.events, &mut self.rows)? {
@@ -165,7 +166,8 @@ impl<'a> Intake<'a> {
         ensures reader { self.new.reader ≡ self.old.reader }
         ensures known { watch_of self.new.lines ≡ watch_of self.old.lines }
         ensures none_left { OnOk result (string_bytes self.new.rows ≡ []) }
-        ensures wrote { OnOk result (Appends (W.contents out.old) (W.contents out.new) (string_bytes self.old.rows)) }
+        ensures wrote { OnOk result
+            (Appends (W.contents out.old) (W.contents out.new) (string_bytes self.old.rows)) }
         ensures failed { IfErr result (λ fault. (fault ≡ RecordingFault.Write)
             × AppendsBeginning (W.contents out.old) (W.contents out.new) (string_bytes self.old.rows)) }
     {
@@ -196,8 +198,10 @@ impl<'a> Intake<'a> {
     // A piece of the recording, whose rows are written, those before a fault too.
     fn take_and_write<W: Write>(&mut self, piece: &[u8], out: &mut W) -> Result<(), RecordingFault>
         requires { string_bytes self.old.rows ≡ [] }
-        ensures taken { OnOk result (Writes self.old piece.now self.new (W.contents out.old) (W.contents out.new)) }
-        ensures fault { IfErr result (λ fault. (later : List ℕ) → Stops self.old.reader (watch_of self.old.lines)
+        ensures taken { OnOk result
+            (Writes self.old piece.now self.new (W.contents out.old) (W.contents out.new)) }
+        ensures fault { IfErr result (λ fault. (later : List ℕ)
+            → Stops self.old.reader (watch_of self.old.lines)
             (piece.now ++ later) fault (W.contents out.old) (W.contents out.new)) }
     {
         match self.take(piece) {
@@ -208,7 +212,8 @@ impl<'a> Intake<'a> {
 
     // The end of the recording.
     fn take_end(&mut self) -> Result<(), RecordingFault>
-        ensures taken { OnOk result (PutsDownLast self.old (string_bytes self.new.rows) (watch_of self.new.lines)) }
+        ensures taken { OnOk result
+            (PutsDownLast self.old (string_bytes self.new.rows) (watch_of self.new.lines)) }
         ensures fault { IfErr result (λ fault.
             IsFaultOfRest self.old.reader (watch_of self.old.lines) [] fault []) }
     {
@@ -241,7 +246,8 @@ impl<'a> Intake<'a> {
     fn write_last<W: Write>(&mut self, out: &mut W) -> Result<(), RecordingFault>
         ensures wrote { OnOk result (Appends (W.contents out.old) (W.contents out.new)
             (string_bytes self.old.rows ++ left_text (watch_of self.old.lines))) }
-        ensures failed { IfErr result (WritesLast (string_bytes self.old.rows ++ left_text (watch_of self.old.lines))
+        ensures failed { IfErr result
+            (WritesLast (string_bytes self.old.rows ++ left_text (watch_of self.old.lines))
             (W.contents out.old) (W.contents out.new)) }
     {
         self.lines.end(&mut self.rows)?;
@@ -339,7 +345,8 @@ fn take_whole<R: Read, W: Write>(
     requires { string_bytes feed.old.rows ≡ [] }
     ensures ends { IfOk result (λ told. EndsOf feed.old said (string_bytes told)
         (prepend_known beginning.now (R.remaining input.old)) (W.contents out.old) (W.contents out.new)) }
-    ensures fault { IfErr result (λ fault. StopsOf feed.old (prepend_known beginning.now (R.remaining input.old))
+    ensures fault { IfErr result (λ fault. StopsOf feed.old
+        (prepend_known beginning.now (R.remaining input.old))
         fault (W.contents out.old) (W.contents out.new)) }
 {
     feed.take_and_write(beginning, out)?;

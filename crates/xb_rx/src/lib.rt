@@ -1,13 +1,13 @@
 //! `mfrx` but for its process: the sound of keyings in, their page out.
 //!
 //! - `receive`: on `Ok` the output is exactly the page of the keyings that are heard (`page_of` of `keys_of_sound` of
-//!   the samples that the bytes say), and the stream of errors has a line for each key that is in no keying; or the
-//!   output is a line for each key (`key_lines`). On an `Err` each is a beginning of that. A WAV is refused exactly by
-//!   the fault that it has (`start_of_file`); where samples are missing at its end, `Cut` says how many. Memory does
-//!   not grow with the sound.
+//!   the samples that the bytes say), and standard error has a line for each key that is in no keying; or the output is
+//!   a line for each key (`key_lines`). On an `Err` the beginning of that was written to each. A WAV is refused by the
+//!   fault that it has (`start_of_file`), and by no other; `Cut` says how many samples are missing at its end. Memory
+//!   does not grow with the sound.
 //! - `compare`: on `Ok` the keyings that are heard are those that a page has keyed; on `Differ` the output is exactly
-//!   the differences (`differences`). Another fault says why they are not known, and then none of them is written.
-//! - `laws::keyed_is_paged`: the page of the sound of keyings, disturbed too, has an entry for each, in order.
+//!   the differences (`differences`). Another fault says why they are not known, and no difference was written.
+//! - `laws::keyed_is_paged`: the page of a sound of keyings has an entry for each, in order, also of a disturbed one.
 //! - `attend`: `Attends` of this. `laws::usage_names_each_option`.
 //!
 //! `xb_wav` says which samples a file or a stream has, and `xb_ear` what is heard of them.

@@ -206,7 +206,8 @@ impl Page {
 
     // The lines of the keys that stand in no keying, since this key comes after them.
     fn broken(&self, alloc: Global, key: &NamedKey) -> Result<String, AllocError>
-        ensures { IfOk result (λ text. string_bytes text ≡ loose_lines (broken self.now.begun.items key.now)) }
+        ensures { IfOk result (λ text.
+            string_bytes text ≡ loose_lines (broken self.now.begun.items key.now)) }
     {
         let mut text = loose_lines(alloc, &self.begun)?;
         if !key.is_kp() {

@@ -130,7 +130,8 @@ impl Bits {
     // Samples, one after the other.
     fn take_samples(&mut self, samples: &[u8], events: &mut Vec<Event>) -> Result<(), Refusal>
         ensures events { OnOk result
-            (events.new.items ≡ events.old.items ++ piece_events bits_reading (bits_state self.old) samples.now) }
+            (events.new.items ≡ events.old.items
+                ++ piece_events bits_reading (bits_state self.old) samples.now) }
         ensures state { OnOk result
             (bits_state self.new ≡ after_piece bits_reading (bits_state self.old) samples.now) }
         ensures over { IfErr result (RunsOver self.old.count (length samples.now)) }
@@ -148,7 +149,8 @@ impl Bits {
         requires { events.old.items ≡ [] }
         ensures said { OnOk result ((text : List ℕ) (later : List Saying)
             → SamplesSay bits_reading (bits_state self.new) text later
-            → SamplesSay bits_reading (bits_state self.old) (samples.now ++ text) (events.new.items ++ later)) }
+            → SamplesSay bits_reading (bits_state self.old) (samples.now ++ text)
+                (events.new.items ++ later)) }
         ensures over { IfErr result (RunsOver (bits_state self.old).count (length samples.now)) }
         ensures only { IfErr result (IsOnly Refusal.TooLate) }
     {

@@ -285,9 +285,11 @@ impl Sound {
     // A byte.
     fn take_byte(&mut self, byte: u8, events: &mut Vec<Event>) -> Result<(), Refusal>
         ensures events { OnOk result (events.new.items ≡ events.old.items
-            ++ piece_events sound_reading (sound_state self.old) (samples_after self.old.coding self.old.lower (byte ∷ []))) }
+            ++ piece_events sound_reading (sound_state self.old)
+                (samples_after self.old.coding self.old.lower (byte ∷ []))) }
         ensures state { OnOk result (sound_state self.new
-            ≡ after_piece sound_reading (sound_state self.old) (samples_after self.old.coding self.old.lower (byte ∷ []))) }
+            ≡ after_piece sound_reading (sound_state self.old)
+                (samples_after self.old.coding self.old.lower (byte ∷ []))) }
         ensures lower { OnOk result (self.new.lower ≡ lower_left self.old.coding self.old.lower (byte ∷ [])) }
         ensures left { self.new.left ≡ self.old.left }
         ensures coding { self.new.coding ≡ self.old.coding }
@@ -313,9 +315,11 @@ impl Sound {
     // Bytes, one after the other.
     fn take_bytes(&mut self, bytes: &[u8], events: &mut Vec<Event>) -> Result<(), Refusal>
         ensures events { OnOk result (events.new.items ≡ events.old.items
-            ++ piece_events sound_reading (sound_state self.old) (samples_after self.old.coding self.old.lower bytes.now)) }
+            ++ piece_events sound_reading (sound_state self.old)
+                (samples_after self.old.coding self.old.lower bytes.now)) }
         ensures state { OnOk result (sound_state self.new
-            ≡ after_piece sound_reading (sound_state self.old) (samples_after self.old.coding self.old.lower bytes.now)) }
+            ≡ after_piece sound_reading (sound_state self.old)
+                (samples_after self.old.coding self.old.lower bytes.now)) }
         ensures lower { OnOk result (self.new.lower ≡ lower_left self.old.coding self.old.lower bytes.now) }
         ensures left { self.new.left ≡ self.old.left }
         ensures coding { self.new.coding ≡ self.old.coding }

@@ -53,7 +53,8 @@ impl<R: Read> Source<R> {
     /// said.
     pub fn next_sample(&mut self) -> Result<Option<i16>, StreamFault>
         requires { IsForm self.old.form }
-        ensures sample { GivesSample (sound_left R.remaining self.old) result (sound_left R.remaining self.new) }
+        ensures sample { GivesSample
+            (sound_left R.remaining self.old) result (sound_left R.remaining self.new) }
         ensures form { self.new.form ≡ self.old.form }
         ensures said { IfOk result (λ sample. IfSome sample (λ _. self.new.said + 1 ≡ self.old.said)) }
     {
