@@ -95,7 +95,7 @@ pub extern "C" fn mfchain_mutilated_digit(
         IsHeard table.now line.old line.new number heard.MutilatedDigit room.new count.new }
     ensures refuses { result ≢ 0 →
         IsNotHeard table.now line.old line.new number heard.MutilatedDigit
-            room.old room.new count.new result }
+        room.old room.new count.new result }
 {
     hear_by_status(
         table,

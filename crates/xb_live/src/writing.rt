@@ -47,7 +47,7 @@ pub fn take_row<W: Write>(
         (rows : List LoopRow) (start : Option (List ℕ)) →
         HasWritten (styled form clock) office.old hearings.old rows start (W.contents out.old) →
         Writes (styled form clock) office.new hearings.new (rows ++ row ∷ []) result
-            start (W.contents out.new) }
+        start (W.contents out.new) }
     ensures one { office.new.keyed + office.new.refused ≤ office.old.keyed + office.old.refused + 1 }
     ensures table { office.new.live.table ≡ office.old.live.table }
 {
@@ -74,7 +74,7 @@ fn close_lines<W: Write>(
         (rows : List LoopRow) (start : Option (List ℕ)) →
         HasWritten (styled form clock) office.old hearings.old rows start (W.contents out.old) →
         Writes (styled form clock) office.new hearings.new (with_closes rows) result
-            start (W.contents out.new) }
+        start (W.contents out.new) }
     ensures table { office.new.live.table ≡ office.old.live.table }
 {
     for number in 0..LINES {

@@ -131,7 +131,7 @@ impl Bits {
     fn take_samples(&mut self, samples: &[u8], events: &mut Vec<Event>) -> Result<(), Refusal>
         ensures events { OnOk result
             (events.new.items ≡ events.old.items
-                ++ piece_events bits_reading (bits_state self.old) samples.now) }
+            ++ piece_events bits_reading (bits_state self.old) samples.now) }
         ensures state { OnOk result
             (bits_state self.new ≡ after_piece bits_reading (bits_state self.old) samples.now) }
         ensures over { IfErr result (RunsOver self.old.count (length samples.now)) }
@@ -150,7 +150,7 @@ impl Bits {
         ensures said { OnOk result ((text : List ℕ) (later : List Saying)
             → SamplesSay bits_reading (bits_state self.new) text later
             → SamplesSay bits_reading (bits_state self.old) (samples.now ++ text)
-                (events.new.items ++ later)) }
+            (events.new.items ++ later)) }
         ensures over { IfErr result (RunsOver (bits_state self.old).count (length samples.now)) }
         ensures only { IfErr result (IsOnly Refusal.TooLate) }
     {

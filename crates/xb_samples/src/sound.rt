@@ -286,10 +286,10 @@ impl Sound {
     fn take_byte(&mut self, byte: u8, events: &mut Vec<Event>) -> Result<(), Refusal>
         ensures events { OnOk result (events.new.items ≡ events.old.items
             ++ piece_events sound_reading (sound_state self.old)
-                (samples_after self.old.coding self.old.lower (byte ∷ []))) }
+            (samples_after self.old.coding self.old.lower (byte ∷ []))) }
         ensures state { OnOk result (sound_state self.new
             ≡ after_piece sound_reading (sound_state self.old)
-                (samples_after self.old.coding self.old.lower (byte ∷ []))) }
+            (samples_after self.old.coding self.old.lower (byte ∷ []))) }
         ensures lower { OnOk result (self.new.lower ≡ lower_left self.old.coding self.old.lower (byte ∷ [])) }
         ensures left { self.new.left ≡ self.old.left }
         ensures coding { self.new.coding ≡ self.old.coding }
@@ -316,10 +316,10 @@ impl Sound {
     fn take_bytes(&mut self, bytes: &[u8], events: &mut Vec<Event>) -> Result<(), Refusal>
         ensures events { OnOk result (events.new.items ≡ events.old.items
             ++ piece_events sound_reading (sound_state self.old)
-                (samples_after self.old.coding self.old.lower bytes.now)) }
+            (samples_after self.old.coding self.old.lower bytes.now)) }
         ensures state { OnOk result (sound_state self.new
             ≡ after_piece sound_reading (sound_state self.old)
-                (samples_after self.old.coding self.old.lower bytes.now)) }
+            (samples_after self.old.coding self.old.lower bytes.now)) }
         ensures lower { OnOk result (self.new.lower ≡ lower_left self.old.coding self.old.lower bytes.now) }
         ensures left { self.new.left ≡ self.old.left }
         ensures coding { self.new.coding ≡ self.old.coding }
