@@ -71,7 +71,7 @@ def wrong_calls(office: Office, line: int, calls: int) -> int:
         before = office.dialled(line)
         wanted = known.told(act, digit)
         try:
-            given = office.digit(line, digit) if act == "digit" else list(getattr(office, act)(line))
+            given = office.digit(line, digit) if act == "digit" else getattr(office, act)(line)
         except SignalError as error:
             given = error.status
         lamps = [] if known.ended else [int(digit) for digit in known.digits]
