@@ -15,7 +15,7 @@ import ctypes
 import threading
 from typing import NamedTuple
 
-__version__ = "0.4"
+__version__ = "0.5"
 
 LINES = 10000
 MOST_MARKS = 24
