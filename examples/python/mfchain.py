@@ -1,6 +1,6 @@
 """The dialling chain of a No. 5 Crossbar office, one row or one digit at a time, by its C library.
 
-An `Office` takes what the loops of its lines do, and yields each mark the moment it is certain:
+An `Office` takes what the loops of its lines do, and gives each mark the moment it is certain:
 
     office = Office(table_text, "libmfchain.so.0")
     for mark in office.take(7, "M", 500):
@@ -13,9 +13,9 @@ libmfchain.so, and by scripts/install.
 """
 import ctypes
 import threading
-from typing import Iterator, NamedTuple
+from typing import NamedTuple
 
-__version__ = "0.4"
+__version__ = "0.5"
 
 LINES = 10000
 MOST_MARKS = 24
@@ -38,27 +38,15 @@ class TableError(ValueError):
         self.status = status
 
 
-class RowError(ValueError):
-    """A row is refused, and what is known of its line is as it was: `status` says which part is wrong."""
+class OfficeError(ValueError):
+    """What the office is told is refused, and what is known of its lines is as it was: `status` says why."""
 
     TEXTS = {
         NOT_OPENED: "a table that was not opened",
         WRONG_LINE: "a line is 0 to 9999",
         WRONG_STATE: "a state is M, B or C",
         WRONG_MS: "a time is 0 to 86400000 ms, and 0 for C",
-        NO_ROOM: "the row gives more marks than there is room for",
-    }
-
-    def __init__(self, status: int):
-        super().__init__(self.TEXTS[status])
-        self.status = status
-
-
-class SignalError(ValueError):
-    """What was heard is refused, and what is known of its line is as it was: `status` says why."""
-
-    TEXTS = {
-        WRONG_LINE: "a line is 0 to 9999",
+        NO_ROOM: "there are more marks than there is room for",
         WRONG_DIGIT: "a digit is 0 to 9",
         CLOSED: "the record of the line has ended",
         SEIZED: "the line is seized already",
@@ -69,6 +57,14 @@ class SignalError(ValueError):
     def __init__(self, status: int):
         super().__init__(self.TEXTS[status])
         self.status = status
+
+
+class RowError(OfficeError):
+    """A row is refused."""
+
+
+class SignalError(OfficeError):
+    """What was heard on a line is refused, or a number by itself."""
 
 
 class Mark(NamedTuple):
@@ -131,13 +127,18 @@ def _declare(library: ctypes.CDLL) -> None:
         call.restype = number
 
 
+def _byte_of(digit: int) -> int:
+    """A digit as C takes it; what is none is one that C refuses."""
+    return digit if isinstance(digit, int) and 0 <= digit <= 255 else 255
+
+
 class Office:
     """An office by a route table. It keeps what is known of each line, 24 bytes a line. Any threads may call it: it
     takes one row after the other, since the rows share what is given to C and got from it."""
 
-    def __init__(self, table: str, library: str = "libmfchain.so.0"):
-        """Opens an office by the route table of a TOML text. Raises `TableError` where it is refused, and
-        `MemoryError` where memory ran out."""
+    def __init__(self, table, library: str = "libmfchain.so.0"):
+        """Opens an office by the route table of a TOML text, or of its bytes. Raises `TableError` where it is refused,
+        and `MemoryError` where memory ran out."""
         self._library = ctypes.CDLL(library)
         _declare(self._library)
         self._table = _Table()
@@ -147,7 +148,7 @@ class Office:
         self._count = ctypes.c_size_t()
         self._lock = threading.Lock()
         self._places = tuple(map(ctypes.addressof, (self._table, self._row, self._room, self._count)))
-        text = table.encode()
+        text = table if isinstance(table, bytes) else table.encode()
         fault = ctypes.create_string_buffer(FAULT_ROOM)
         status = self._library.mfchain_open(text, len(text), self._places[0], fault, FAULT_ROOM)
         if status == NO_MEMORY:
@@ -155,27 +156,23 @@ class Office:
         if status:
             raise TableError(status, fault.value.decode())
 
-    def take(self, line: int, state: str, ms: int) -> Iterator[Mark]:
+    def take(self, line: int, state: str, ms: int) -> list:
         """Takes a row: what the loop of a line does (`M` make, `B` break, `C` the end of its record), and for
-        how many ms. Yields the marks that the row makes certain, one whole entry or none. Raises `RowError`
+        how many ms. Returns the marks that the row makes certain, one whole entry or none. Raises `RowError`
         where the row is refused; the line is then as it was."""
-        return iter(self.marks_of(line, state, ms))
-
-    def marks_of(self, line: int, state: str, ms: int) -> list:
-        """The same marks, as a list."""
         table, at, room, count = self._places
-        known = self._known(line)
+        known = self._known(line, RowError)
         row = self._row
         with self._lock:
             row.line = line
-            row.state = ord(state) if len(state) == 1 else 0
-            row.ms = ms if 0 <= ms <= 0xFFFFFFFF else 0xFFFFFFFF
+            row.state = ord(state) if isinstance(state, str) and len(state) == 1 else 0
+            row.ms = ms if isinstance(ms, int) and 0 <= ms <= 0xFFFFFFFF else 0xFFFFFFFF
             status = self._library.mfchain_take(table, known, at, room, MOST_MARKS, count)
             if status:
                 raise RowError(status)
             return self._given()
 
-    def close(self, line: int) -> Iterator[Mark]:
+    def close(self, line: int) -> list:
         """Ends the record of a line, which gives no more marks until it is reopened."""
         return self.take(line, "C", 0)
 
@@ -198,7 +195,7 @@ class Office:
 
     def digit(self, line: int, digit: int) -> list:
         """Takes a digit that was dialled, 0 to 9."""
-        return self._tell(line, self._library.mfchain_digit, digit if 0 <= digit <= 255 else 255)
+        return self._tell(line, self._library.mfchain_digit, _byte_of(digit))
 
     def mutilated_digit(self, line: int) -> list:
         """Takes it that a digit was dialled which cannot be told."""
@@ -223,7 +220,7 @@ class Office:
         """The marks of the number that digits complete, 0 to 9 each, on line 0: its keying, or its refusal. Digits after
         it are not read. Raises `SignalError` where they complete none."""
         table, _, room, count = self._places
-        given = bytes(digit if 0 <= digit <= 255 else 255 for digit in digits)
+        given = bytes(map(_byte_of, digits))
         with self._lock:
             status = self._library.mfchain_route_number(table, given, len(given), room, MOST_MARKS, count)
             if status:
@@ -247,8 +244,8 @@ class Office:
             for mark in self._room[: self._count.value]
         ]
 
-    def _known(self, line: int, refusal: type = RowError) -> int:
+    def _known(self, line: int, refusal: type = OfficeError) -> int:
         """Where what is known of a line stands."""
-        if not 0 <= line < LINES:
+        if not (isinstance(line, int) and 0 <= line < LINES):
             raise refusal(WRONG_LINE)
         return ctypes.addressof(self._lines) + ctypes.sizeof(_Line) * line

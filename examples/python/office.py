@@ -56,7 +56,7 @@ def dial(library: str) -> None:
     office = Office(ROUTES, library)
     rows = rows_of("2345678")
     for n, (state, ms) in enumerate(rows, 1):
-        marks = list(office.take(7, state, ms))
+        marks = office.take(7, state, ms)
         if marks:
             print(f"row {n}: {entry_text(marks, office.entries(7))}")
     print(f"{len(rows)} rows")
@@ -99,7 +99,7 @@ def page(library: str, deck: str) -> None:
     office, entries, used = Office(table, library), [], set()
 
     def take(line: int, state: str, ms: int) -> None:
-        marks = office.marks_of(line, state, ms)
+        marks = office.take(line, state, ms)
         used.add(line)
         if marks:
             entries.append((line, office.entries(line), marks))
@@ -124,7 +124,7 @@ def measure(library: str) -> None:
     for _ in range(5):
         start = time.perf_counter()
         for state, ms in rows:
-            office.marks_of(7, state, ms)
+            office.take(7, state, ms)
         best = min(best, (time.perf_counter() - start) / len(rows))
     print(f"{best * 1e9:.0f} ns a row")
 

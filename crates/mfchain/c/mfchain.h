@@ -18,7 +18,7 @@ extern "C" {
 #endif
 
 /* The version, as the head of CHANGELOG.md has it. */
-#define MFCHAIN_VERSION "0.4"
+#define MFCHAIN_VERSION "0.5"
 
 /* The lines are 0 to 9999. */
 #define MF_LINES 10000
