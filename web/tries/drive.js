@@ -14,6 +14,7 @@ const { tryRecordings, tryMicrophone } = require('./recorded.js');
 const { tryNames, tryKeysAlone, tryOpening, tryPhone, tryLessMotion, takePictures } = require('./looks.js');
 const { tryShown } = require('./shown.js');
 const { TapeTry } = require('./tape.js');
+const { tryTree } = require('./tree.js');
 const { Visitor } = require('./visitor.js');
 
 const [, , file, examples, mfbank, mfhear, pictures] = process.argv;
@@ -42,6 +43,7 @@ async function tryAll(it) {
   await tryRecordings(it, examples, read);
   await tryMicrophone(it, read);
   await tryNames(it);
+  await tryTree(it);
   await tryKeysAlone(it);
   await tryOpening(it);
   await tryFirst(it);

@@ -97,10 +97,14 @@ async function tryLessMotion(it) {
   is('and a call that is asked for is keyed', (await it.entries()).length, 1);
 }
 
+// What pictures are taken of: a wide page, the first screens of desks, phones, a phone that lies, and a museum's screen.
+const SIZES = [['wide', 1280, 1164], ['desk_720', 1280, 720], ['desk_900', 1280, 900], ['phone', 390, 844],
+  ['phone_small', 320, 568], ['phone_lying', 844, 390], ['museum', 1920, 1080]];
+
 async function takePictures(it, folder) {
   fs.mkdirSync(folder, { recursive: true });
   const picture = (name, isWhole) => it.picture(path.join(folder, `${name}.png`), isWhole);
-  for (const [name, width, height] of [['wide', 1280, 1164], ['phone', 390, 844]]) {
+  for (const [name, width, height] of SIZES) {
     for (const dark of [false, true]) {
       const shade = dark ? 'dark' : 'light';
       await it.look({ width, height, dark });

@@ -123,4 +123,4 @@ const ROWS_OF_TABLE = ['0', '411', '2345678', '2125551234', '2126661234', '55512
 const deckOfTable = (table) => Buffer.from(`${table}---\nline,state,ms\n${ROWS_OF_TABLE}\n`);
 const deckOfSeededTable = (seed) => deckOfTable(new TableMaker(seed).table());
 
-module.exports = { seeded, deckOf, deckOfTable, deckOfSeededTable, dialRows };
+module.exports = { TableMaker, seeded, deckOf, deckOfTable, deckOfSeededTable, dialRows };

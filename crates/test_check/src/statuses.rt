@@ -112,7 +112,54 @@ const WRONG_CODE: &[u8] =
 deck:2:1: the code is not 0, NNX or N11, nor one of plan 10: code = \"2345\"
 ";
 
-const USAGE: &[u8] = b"mfcheck: usage: mfcheck [--name NAME]\n";
+// A deck with twelve records of line 10000 and eleven breaks of 1 ms, one after the other.
+const REPEATED: &[u8] =
+    b"---\nline,state,ms\n7,M,500\n10000,M,1\n10000,M,1\n7,B,1\n10000,M,1\n7,B,1\n10000,M,1\n7,B,1\n10000,M,1\n\
+7,B,1\n10000,M,1\n7,B,1\n10000,M,1\n7,B,1\n10000,M,1\n7,B,1\n10000,M,1\n7,B,1\n10000,M,1\n7,B,1\n10000,M,1\n7,B,1\n\
+10000,M,1\n7,B,1\n";
+
+const TEN_OF_EACH: &[u8] = b"deck:4:1: the line is not 0 to 9999: 10000,M,1
+deck:5:1: the line is not 0 to 9999: 10000,M,1
+deck:6:5: a break of 1 to 4 ms may be a bounce; mfloop settles those of a recording: 7,B,1
+deck:7:1: the line is not 0 to 9999: 10000,M,1
+deck:8:5: a break of 1 to 4 ms may be a bounce; mfloop settles those of a recording: 7,B,1
+deck:9:1: the line is not 0 to 9999: 10000,M,1
+deck:10:5: a break of 1 to 4 ms may be a bounce; mfloop settles those of a recording: 7,B,1
+deck:11:1: the line is not 0 to 9999: 10000,M,1
+deck:12:5: a break of 1 to 4 ms may be a bounce; mfloop settles those of a recording: 7,B,1
+deck:13:1: the line is not 0 to 9999: 10000,M,1
+deck:14:5: a break of 1 to 4 ms may be a bounce; mfloop settles those of a recording: 7,B,1
+deck:15:1: the line is not 0 to 9999: 10000,M,1
+deck:16:5: a break of 1 to 4 ms may be a bounce; mfloop settles those of a recording: 7,B,1
+deck:17:1: the line is not 0 to 9999: 10000,M,1
+deck:18:5: a break of 1 to 4 ms may be a bounce; mfloop settles those of a recording: 7,B,1
+deck:19:1: the line is not 0 to 9999: 10000,M,1
+deck:20:5: a break of 1 to 4 ms may be a bounce; mfloop settles those of a recording: 7,B,1
+deck:21:1: the line is not 0 to 9999: 10000,M,1
+deck:22:5: a break of 1 to 4 ms may be a bounce; mfloop settles those of a recording: 7,B,1
+deck:24:5: a break of 1 to 4 ms may be a bounce; mfloop settles those of a recording: 7,B,1
+deck: and 2 more, which --all tells: the line is not 0 to 9999
+deck: and 1 more, which --all tells: a break of 1 to 4 ms may be a bounce; mfloop settles those of a recording
+";
+
+// Ten headings and an eleventh that no rule names.
+const HEADINGS: &[u8] = b"[a]\n[b]\n[c]\n[d]\n[e]\n[f]\n[g]\n[h]\n[i]\n[j]\n[k]\n";
+
+const ALL_HEADINGS: &[u8] =
+    b"t:1:1: no rule names this heading; there are [limits] and [[route]]: [a]
+t:2:1: no rule names this heading; there are [limits] and [[route]]: [b]
+t:3:1: no rule names this heading; there are [limits] and [[route]]: [c]
+t:4:1: no rule names this heading; there are [limits] and [[route]]: [d]
+t:5:1: no rule names this heading; there are [limits] and [[route]]: [e]
+t:6:1: no rule names this heading; there are [limits] and [[route]]: [f]
+t:7:1: no rule names this heading; there are [limits] and [[route]]: [g]
+t:8:1: no rule names this heading; there are [limits] and [[route]]: [h]
+t:9:1: no rule names this heading; there are [limits] and [[route]]: [i]
+t:10:1: no rule names this heading; there are [limits] and [[route]]: [j]
+t:11:1: no rule names this heading; there are [limits] and [[route]]: [k]
+";
+
+const USAGE: &[u8] = b"mfcheck: usage: mfcheck [--name NAME] [--all]\n";
 
 // The words after the program's name, the deck, the status, and what stands on standard output and error.
 const CASES: &[(&[&str], &[u8], u8, &[u8], &[u8])] = &[
@@ -212,6 +259,15 @@ deck:2:2: pulse_min is over pulse_max:  pulse_max = 119\n",
 deck:4:1: this route lacks code or trunk, or one of its keys has another kind of value: [[route]]\n",
         b"mfcheck: route table: route 2 has a wrong shape\n",
     ),
+    (
+        &[],
+        REPEATED,
+        1,
+        TEN_OF_EACH,
+        b"mfcheck: loop rows: record 2 has a wrong line\n",
+    ),
+    (&["--all", "--name", "t"], HEADINGS, 0, ALL_HEADINGS, b""),
+    (&["--all=yes"], PASSED_OVER, 2, b"", USAGE),
     (&["deck"], PASSED_OVER, 2, b"", USAGE),
     (&["--name"], PASSED_OVER, 2, b"", USAGE),
 ];

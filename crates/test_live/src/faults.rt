@@ -1,5 +1,5 @@
 // Streams that fail: exactly the entries before the fault are printed.
-use crate::reckoned::{BEGINNING, END, KEYED, LAST, REFUSED, joined};
+use crate::reckoned::{BEGINNING, END, END_EVENTS, EVENTS, KEYED, LAST, REFUSED, joined};
 use crate::statuses::Mflive;
 use std::alloc::Global;
 use std::io::ErrorKind;
@@ -93,4 +93,20 @@ fn prints_one_entry_where_its_flush_fails(rt: HostRuntime) -> Result<(), Fail> {
     let words = words_of(rt.alloc(), "mflive", &[])?;
     check_flush(&rt, rt.alloc(), &words, BEGINNING);
     Ok(())
+}
+
+#[test]
+fn prints_the_events_before_a_stream_that_fails(rt: HostRuntime) -> Result<(), Fail> {
+    let words = words_of(rt.alloc(), "mflive", &["--events"])?;
+    let deck = joined(rt.alloc(), &[BEGINNING, END])?;
+    check_read(&rt, rt.alloc(), &words, &deck, BEGINNING.len(), EVENTS);
+    let rooms = [0, 1, EVENTS.len(), EVENTS.len() + END_EVENTS.len() - 1];
+    check_writes(
+        rt.alloc(),
+        &Mflive,
+        &["--events"],
+        &deck,
+        &rooms,
+        NOT_WRITTEN,
+    )
 }

@@ -53,6 +53,28 @@ pub const MARK_OBJECTS: &[u8] = b"{\"at_ms\":2060,\"entry\":1,\"line\":7,\"trunk
 {\"at_ms\":2960,\"entry\":2,\"heard\":0,\"line\":7,\"reason\":\"ABANDONED\"}\n\
 {\"keyed\":1,\"refused\":2}\n";
 
+/// The events of lines 9 and 7 up to record 2, where the rows begin in the last second that there is.
+pub const LAST_EVENTS: &[u8] =
+    b"{\"at\":\"9999-12-30T22:00:00.5Z\",\"at_ms\":500,\"event\":\"SEIZED\",\"line\":9}\n\
+{\"at\":\"9999-12-30T22:00:00.5Z\",\"at_ms\":500,\"event\":\"SEIZED\",\"line\":7}\n";
+
+/// The objects of the beginning with the events: a seizure of each line; the digit 0, which completes the entry;
+/// and the release of line 9.
+pub const EVENTS: &[u8] = b"{\"at_ms\":500,\"event\":\"SEIZED\",\"line\":9}\n\
+{\"at_ms\":500,\"event\":\"SEIZED\",\"line\":7}\n\
+{\"at_ms\":2060,\"dialled\":\"0\",\"digit\":0,\"event\":\"DIGIT\",\"line\":7}\n\
+{\"at_ms\":2060,\"dialled\":\"0\",\"entry\":1,\"from_ms\":0,\"keys\":[\"KP\",\"0\",\"ST\"],\"line\":7,\
+\"outcome\":\"KEYED\",\"sent\":\"0\",\"trunk\":1}\n\
+{\"at_ms\":900,\"event\":\"RELEASED\",\"line\":9}\n\
+{\"at_ms\":900,\"dialled\":\"\",\"entry\":1,\"from_ms\":0,\"heard\":0,\"line\":9,\
+\"outcome\":\"REFUSED\",\"reason\":\"ABANDONED\"}\n";
+
+/// Those after it: line 7 is released 400 ms after its digit, and seized again 500 ms later.
+pub const END_EVENTS: &[u8] = b"{\"at_ms\":2460,\"event\":\"RELEASED\",\"line\":7}\n\
+{\"at_ms\":2960,\"event\":\"SEIZED\",\"line\":7}\n\
+{\"at_ms\":2960,\"dialled\":\"\",\"entry\":2,\"from_ms\":2460,\"heard\":0,\"line\":7,\
+\"outcome\":\"REFUSED\",\"reason\":\"ABANDONED\"}\n{\"keyed\":1,\"refused\":2}\n";
+
 /// Texts, one after the other.
 pub fn joined(alloc: Global, parts: &[&[u8]]) -> Result<Vec<u8>, AllocError> {
     let mut all = Vec::new(alloc);

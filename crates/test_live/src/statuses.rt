@@ -1,6 +1,7 @@
 // Words and decks in; a status, entries, and lines of faults out.
 use crate::reckoned::{
-    BEGINNING, END, KEYED, LAST, MARK_OBJECTS, MARKS, OBJECTS, REFUSED, TIMED_OBJECTS, joined,
+    BEGINNING, END, END_EVENTS, EVENTS, KEYED, LAST, LAST_EVENTS, MARK_OBJECTS, MARKS, OBJECTS,
+    REFUSED, TIMED_OBJECTS, joined,
 };
 use std::alloc::Global;
 use std::test::Fail;
@@ -28,7 +29,8 @@ impl Program for Mflive {
     }
 }
 
-const USAGE: &[u8] = b"mflive: usage: mflive [--json [--since TIME]] [--marks]\n";
+const USAGE: &[u8] =
+    b"mflive: usage: mflive [--json [--since TIME]] [--marks] [--events [--since TIME]]\n";
 
 // The words after the program's name, the parts of the deck, the status, the parts of what is printed, and
 // what stands on standard error.
@@ -72,6 +74,27 @@ const CASES: &[Case] = &[
         b"mflive: line 7, entry 1: a time is past 9999-12-30T22:00:00.999999999Z\n",
     ),
     (
+        &["--events"],
+        &[BEGINNING, END],
+        0,
+        &[EVENTS, END_EVENTS],
+        b"",
+    ),
+    (
+        &["--json", "--events"],
+        &[BEGINNING, END],
+        0,
+        &[EVENTS, END_EVENTS],
+        b"",
+    ),
+    (
+        &["--events", "--since", "9999-12-30T22:00:00Z"],
+        &[BEGINNING, END],
+        1,
+        &[LAST_EVENTS],
+        b"mflive: line 7, an event: its time is past 9999-12-30T22:00:00.999999999Z\n",
+    ),
+    (
         &[],
         &[BEGINNING, b"7,X,60\n", END],
         1,
@@ -107,6 +130,14 @@ const CASES: &[Case] = &[
         &[],
         USAGE,
     ),
+    (
+        &["--events", "--since", "noon"],
+        &[BEGINNING],
+        2,
+        &[],
+        USAGE,
+    ),
+    (&["--events", "--marks"], &[BEGINNING], 2, &[], USAGE),
     (&["--mark"], &[BEGINNING], 2, &[], USAGE),
     (&["--help"], &[BEGINNING], 2, &[], USAGE),
     (&["deck"], &[BEGINNING], 2, &[], USAGE),

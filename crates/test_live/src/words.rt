@@ -31,6 +31,10 @@ const WORDS: &[(LiveFault, &str)] = &[
         LiveFault::Entries(EntriesFault::Late(7, 3)),
         "line 7, entry 3: a time is past 9999-12-30T22:00:00.999999999Z",
     ),
+    (
+        LiveFault::Entries(EntriesFault::LateEvent(7)),
+        "line 7, an event: its time is past 9999-12-30T22:00:00.999999999Z",
+    ),
     (LiveFault::Deck(TableFault::NoMemory), "out of memory"),
     (
         LiveFault::Entries(EntriesFault::Write),

@@ -1,3 +1,4 @@
+mod Tellings
 mod TakenLines
 mod FaultLines
 mod RowActivities

@@ -1,5 +1,5 @@
 -- How text lines are taken, one after the other.
-use Rattle.std.proofs.Common.{◌≡◌, ℕ, ◌+◌, ◌≤◌, Bool, true, false, List, [], ◌∷◌, ◌++◌, length, Option, None, sym, ap, ◌∙◌, arith, append_assoc, append-nil}
+use Rattle.std.proofs.Common.{◌≡◌, ℕ, ◌+◌, ◌≤◌, Bool, true, false, List, [], ◌∷◌, ◌++◌, length, Option, None, refl, sym, ap, ◌∙◌, arith, append_assoc, append-nil}
 use Rattle.std.specs.Prelude.{◌==◌}
 use Rattle.std.proofs.lemmas.Bool.{cond-true, cond-false, le-ltb}
 use Rattle.std.proofs.lemmas.List.Sums.{count_by-le-length}
@@ -15,10 +15,11 @@ use Rattle.xb_check.specs.declared.lines.DeckPart.TheVariants as part
 use Rattle.xb_check.specs.declared.records.Record.{Record}
 use Rattle.xb_check.specs.declared.table.Section.{Section}
 use Rattle.xb_check.specs.declared.table.Section.TheVariants.{Top}
-use Rattle.xb_check.specs.Findings.{Found}
 use Rattle.xb_check.specs.Kept.{Kept, first_at, firsts_of_records, kept_at, kept_of_lines, kept_of_table, none_seen, seen_after, seen_of}
 use Rattle.xb_check.specs.Records.{closed_after, closed_of, faults_of_deck, faults_of_lines, faults_of_records, faults_of_table, found_at, is_empty, no_closes, record_of_line, what_of_record, wrong_header}
 use Rattle.xb_check.specs.Steps.{Lines, TakesLine, faults_after, kept_after}
+use Rattle.xb_check.specs.Tallies.{Tallied, with_all}
+use Rattle.xb_check.proofs.Tellings.{with_all-append}
 use Rattle.xb_check.specs.Table.{section_after, squeezed, with_meant, wrong_in_table}
 
 -- the line that cuts
@@ -26,20 +27,20 @@ pub cuts : (section : Section) (n : ℕ) (text : List ℕ) (lines : Lines) → i
     → TakesLine (part.Table section) n text lines lines part.Header
 unfolding faults_of_table kept_of_table
 cuts section n text lines cut later = (
-  ap (λ more. lines.found ++ more) (cond-true _ _ _ cut),
+  ap (λ more. with_all lines.tally more) (cond-true _ _ _ cut),
   ap (λ more. lines.kept ++ more) (cond-true _ _ _ cut),
 )
 
 -- another line of the table
 pub takes_table : (section : Section) (n : ℕ) (text read : List ℕ) (wrong : Option (What × Option Key)) (next : Section)
     (before after : Lines) → is_cut text ≡ false → read ≡ squeezed text → wrong ≡ wrong_in_table section read
-    → next ≡ section_after section read → after.found ≡ before.found ++ found_at n text wrong → after.kept ≡ before.kept
+    → next ≡ section_after section read → after.tally ≡ with_all before.tally (found_at n text wrong) → after.kept ≡ before.kept
     → TakesLine (part.Table section) n text before after (part.Table next)
 unfolding faults_of_table kept_of_table
 takes_table section n text read wrong next before after cut is what moved put same later = (
-  rw (put, what, moved, is) (ap (λ more. before.found ++ more) (cond-false _ _ _ cut)
-      ∙ sym (append_assoc before.found (found_at n text (wrong_in_table section (squeezed text)))
-      (faults_of_table (section_after section (squeezed text)) (n + 1) later))),
+  rw (put, what, moved, is) (ap (λ more. with_all before.tally more) (cond-false _ _ _ cut)
+      ∙ with_all-append before.tally (found_at n text (wrong_in_table section (squeezed text)))
+      (faults_of_table (section_after section (squeezed text)) (n + 1) later)),
   rw same (ap (λ more. before.kept ++ more) (cond-false _ _ _ cut)),
 )
 
@@ -48,21 +49,21 @@ pub passes_empty : (n : ℕ) (text : List ℕ) (lines : Lines) → is_empty text
     → TakesLine part.Header n text lines lines part.Header
 unfolding faults_of_lines kept_of_lines
 passes_empty n text lines empty later = (
-  ap (λ more. lines.found ++ more) (cond-true _ _ _ empty),
+  ap (λ more. with_all lines.tally more) (cond-true _ _ _ empty),
   ap (λ more. lines.kept ++ more) (cond-true _ _ _ empty),
 )
 
 -- the header
 pub takes_header : (n : ℕ) (text : List ℕ) (wrong : Option (What × Option Key)) (closes : List (Option ℕ)) (seen : List Bool)
     (before after : Lines) → is_empty text ≡ false → wrong ≡ with_meant (wrong_header text) None
-    → closed_of closes ≡ no_closes → seen_of seen ≡ none_seen → after.found ≡ before.found ++ found_at n text wrong
+    → closed_of closes ≡ no_closes → seen_of seen ≡ none_seen → after.tally ≡ with_all before.tally (found_at n text wrong)
     → after.kept ≡ before.kept ++ kept_at n text kind.Header ∷ []
     → TakesLine part.Header n text before after (part.Records closes seen)
 unfolding faults_of_lines kept_of_lines
 takes_header n text wrong closes seen before after empty is none new put put' later = (
-  rw (put, is, none) (ap (λ more. before.found ++ more) (cond-false _ _ _ empty)
-      ∙ sym (append_assoc before.found (found_at n text (with_meant (wrong_header text) None))
-      (faults_of_records no_closes (n + 1) later))),
+  rw (put, is, none) (ap (λ more. with_all before.tally more) (cond-false _ _ _ empty)
+      ∙ with_all-append before.tally (found_at n text (with_meant (wrong_header text) None))
+      (faults_of_records no_closes (n + 1) later)),
   rw (put', new) (ap (λ more. before.kept ++ more) (cond-false _ _ _ empty)
       ∙ sym (append_assoc before.kept (kept_at n text kind.Header ∷ []) (firsts_of_records none_seen (n + 1) later))),
 )
@@ -72,28 +73,28 @@ pub takes_record : (closes closes' : List (Option ℕ)) (seen seen' : List Bool)
     (wrong : Option (What × Option Key)) (before after : Lines) → read ≡ record_of_line text
     → wrong ≡ with_meant (what_of_record (closed_of closes) read) None
     → closed_of closes' ≡ closed_after (closed_of closes) n read → seen_of seen' ≡ seen_after (seen_of seen) read
-    → after.found ≡ before.found ++ found_at n text wrong → after.kept ≡ before.kept ++ first_at (seen_of seen) n text read
+    → after.tally ≡ with_all before.tally (found_at n text wrong) → after.kept ≡ before.kept ++ first_at (seen_of seen) n text read
     → TakesLine (part.Records closes seen) n text before after (part.Records closes' seen')
 unfolding faults_of_records firsts_of_records
 takes_record closes closes' seen seen' n text read wrong before after is what moved more put put' later = (
-  rw (put, what, moved, is) (sym (append_assoc before.found
+  rw (put, what, moved, is) (with_all-append before.tally
       (found_at n text (with_meant (what_of_record (closed_of closes) (record_of_line text)) None))
-      (faults_of_records (closed_after (closed_of closes) n (record_of_line text)) (n + 1) later))),
+      (faults_of_records (closed_after (closed_of closes) n (record_of_line text)) (n + 1) later)),
   rw (put', more, is) (sym (append_assoc before.kept (first_at (seen_of seen) n text (record_of_line text))
       (firsts_of_records (seen_after (seen_of seen) (record_of_line text)) (n + 1) later))),
 )
 
 -- at first no text line of a deck was taken
 pub none_taken : (deck : List ℕ) → length deck ≤ MOST_DECK_BYTES
-    → faults_of_deck deck ≡ [] ++ faults_after (part.Table Top) 1 (pieces 10 deck)
+    → faults_of_deck deck ≡ faults_after (part.Table Top) 1 (pieces 10 deck)
 none_taken deck short = cond-false _ _ _ (le-ltb MOST_DECK_BYTES (length deck) short)
 
 -- no text line is left
-pub none_left : (p : DeckPart) (n : ℕ) (found : List Found) → found ++ faults_after p n [] ≡ found
+pub none_left : (p : DeckPart) (n : ℕ) (tally : Tallied) → with_all tally (faults_after p n []) ≡ tally
 unfolding faults_of_table faults_of_lines faults_of_records
-none_left (part.Table section) n found = append-nil found
-none_left part.Header n found = append-nil found
-none_left (part.Records closes seen) n found = append-nil found
+none_left (part.Table section) n tally = refl
+none_left part.Header n tally = refl
+none_left (part.Records closes seen) n tally = refl
 
 pub none_kept : (p : DeckPart) (n : ℕ) (kept : List Kept) → kept ++ kept_after p n [] ≡ kept
 unfolding kept_of_table kept_of_lines firsts_of_records

@@ -76,6 +76,12 @@ what_text what.Quiet = codes "no make of this line is heard, so no number is dia
 what_text what.Seconds = codes "every break of the deck has 0 ms; are its times seconds?"
 what_text what.Microseconds = codes "every time of the deck is at least a thousand times a pulse's; are they microseconds?"
 
+-- what is wrong with all of a kind, in words
+abbrev pub kind_text : What → List ℕ
+kind_text (what.Ignored n) = codes "this record is ignored; its line was closed before"
+kind_text (what.Routes f) = codes "the route table is refused"
+kind_text wrong = what_text wrong
+
 -- the text line that closed the line of an ignored record
 abbrev pub closed_text : What → List ℕ
 closed_text (what.Ignored n) = codes " " ++ decimal n

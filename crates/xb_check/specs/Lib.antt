@@ -1,6 +1,8 @@
 pub mod Constants
 pub mod Keys
 pub mod Findings
+pub mod Told
+pub mod Tallies
 pub mod Table
 pub mod Records
 pub mod Sites
@@ -9,6 +11,7 @@ pub mod Judged
 pub mod Kept
 pub mod Steps
 pub mod Reports
+pub mod TallyTexts
 pub mod Options
 pub mod Program
 pub mod Activities

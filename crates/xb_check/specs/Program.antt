@@ -7,6 +7,7 @@ use Rattle.xb_command.specs.Programs.{Attends, Streams}
 use Rattle.xb_command.specs.Telling.{Tells}
 use Rattle.xb_command.specs.Usages.{names_option}
 use Rattle.xb_check.specs.declared.fault.CheckFault.{CheckFault}
+use Rattle.xb_check.specs.declared.words.Request.{Request}
 use Rattle.xb_check.specs.Options.{Asks, command_of_words}
 use Rattle.xb_check.specs.Reports.{Delivers}
 
@@ -16,26 +17,27 @@ program = codes "mfcheck"
 
 -- the line for words that are refused
 abbrev pub usage_line : List ℕ
-usage_line = codes "mfcheck: usage: mfcheck [--name NAME]\n"
+usage_line = codes "mfcheck: usage: mfcheck [--name NAME] [--all]\n"
 
--- it names the option of the command
-abbrev pub UsageNamesTheOption : Type 0
-UsageNamesTheOption = names_option usage_line (codes "name") ≡ true
+-- it names each option of the command
+pub record UsageNamesTheOptions : Type 0 where
+  pub name : names_option usage_line (codes "name") ≡ true
+  pub all : names_option usage_line (codes "all") ≡ true
 
--- the words ask for a name, `mfbank` takes the deck, and exactly its report was written
+-- the words ask for this, `mfbank` takes the deck, and exactly its report was written
 pub record Accepts (words : List Text) (old new : Streams) : Type 0 where
-  pub name : Text
-  pub asks : Asks words name
-  pub report : Delivers name old.input (Ok tt) old.output new.output
+  pub request : Request
+  pub asks : Asks words request
+  pub report : Delivers request.name.now request.all old.input (Ok tt) old.output new.output
   pub quiet : Keeps old.errors new.errors
 
--- they ask for a name, and there was a fault, of which a line was told: `mfbank` refuses the deck by it, and
+-- they ask for this, and there was a fault, of which a line was told: `mfbank` refuses the deck by it, and
 -- its report was written; or the deck could not be checked
 pub record Refuses (words : List Text) (old new : Streams) : Type 0 where
-  pub name : Text
+  pub request : Request
   pub fault : CheckFault
-  pub asks : Asks words name
-  pub report : Delivers name old.input (Err fault) old.output new.output
+  pub asks : Asks words request
+  pub report : Delivers request.name.now request.all old.input (Err fault) old.output new.output
   pub line : Tells program None old.errors new.errors
 
 -- what the program did with its words and its streams

@@ -3,17 +3,18 @@ use Rattle.std.specs.Prelude.{ℕ, ◌≡◌, ◌+◌, List, ◌∷◌, ◌++◌
 use Rattle.xb_check.specs.declared.lines.DeckPart.{DeckPart}
 use Rattle.xb_check.specs.declared.lines.DeckPart.TheVariants as part
 use Rattle.xb_check.specs.declared.lines.LinesRead.{LinesRead}
-use Rattle.xb_check.specs.Findings.{Found, found_of}
+use Rattle.xb_check.specs.Findings.{Found}
 use Rattle.xb_check.specs.Kept.{Kept, firsts_of_records, kept_line_of, kept_of_lines, kept_of_table, seen_of}
+use Rattle.xb_check.specs.Tallies.{Tallied, tallied, with_all}
 use Rattle.xb_check.specs.Records.{closed_of, faults_of_lines, faults_of_records, faults_of_table}
 
--- what was found in text lines, and which of them are kept
+-- what is told of text lines, and which of them are kept
 pub record Lines : Type 0 where
-  pub found : List Found
+  pub tally : Tallied
   pub kept : List Kept
 
 abbrev pub lines_of : LinesRead → Lines
-lines_of lines = record { found = map found_of lines.found.items; kept = map kept_line_of lines.kept.items }
+lines_of lines = record { tally = tallied lines.tally; kept = map kept_line_of lines.kept.items }
 
 -- what is wrong in the text lines from n on, of a part of a deck
 abbrev pub faults_after : DeckPart → ℕ → List (List ℕ) → List Found
@@ -30,5 +31,5 @@ kept_after (part.Records closes seen) n lines = firsts_of_records (seen_of seen)
 -- text line n of a part is taken, whatever lines come after it
 abbrev pub TakesLine : DeckPart → ℕ → List ℕ → Lines → Lines → DeckPart → Type 0
 TakesLine old n text before after new = (later : List (List ℕ))
-    → (before.found ++ faults_after old n (text ∷ later) ≡ after.found ++ faults_after new (n + 1) later)
+    → (with_all before.tally (faults_after old n (text ∷ later)) ≡ with_all after.tally (faults_after new (n + 1) later))
     × (before.kept ++ kept_after old n (text ∷ later) ≡ after.kept ++ kept_after new (n + 1) later)

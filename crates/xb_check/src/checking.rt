@@ -23,14 +23,20 @@ fn refused_by(fault: DeckFault) -> CheckFault
 }
 
 // Writes what is told of a text.
-fn tell<W: Write>(alloc: Global, name: &str, text: &[u8], out: &mut W) -> Result<(), CheckFault>
+fn tell<W: Write>(
+    alloc: Global,
+    name: &str,
+    all: bool,
+    text: &[u8],
+    out: &mut W,
+) -> Result<(), CheckFault>
     requires { length text.now ≤ MOST_DECK_BYTES }
-    ensures { Delivers name.now (Some text.now) result (W.contents out.old) (W.contents out.new) }
+    ensures { Delivers name.now all (Some text.now) result (W.contents out.old) (W.contents out.new) }
 {
     let Ok(said) = judge(alloc, text) else {
         return Err(CheckFault::NoMemory);
     };
-    let Ok(lines) = report(alloc, name, text, &said) else {
+    let Ok(lines) = report(alloc, name, all, text, &said) else {
         return Err(CheckFault::NoMemory);
     };
     match (write_whole(out, &lines), said) {
@@ -41,19 +47,21 @@ fn tell<W: Write>(alloc: Global, name: &str, text: &[u8], out: &mut W) -> Result
 }
 
 /// Reads a deck, or a route table alone, and writes a line for each of its text lines that is wrong, after the name of
-/// its file. It is `Ok` exactly where `mfbank` takes the deck, or `mfroute` the table (`verdict`); `Refused` has the fault
-/// by which it is refused, the first in their order, but for that of too many records, which is `TooMany`. Nothing is
-/// written before the whole text is read.
+/// its file; unless all are asked for, those of the first of each kind, and how many more there are (`told`). It is `Ok`
+/// exactly where `mfbank` takes the deck, or `mfroute` the table (`verdict`); `Refused` has the fault by which it is
+/// refused, the first in their order, but for that of too many records, which is `TooMany`. Nothing is written before
+/// the whole text is read.
 ///
 /// What the contract says of bytes it says of readers whose bytes and writers whose contents are known to
 /// contracts (byte slices, lists), which those of a process are not.
 pub fn check<R: Read, W: Write>(
     alloc: Global,
     name: &str,
+    all: bool,
     deck: &mut R,
     out: &mut W,
 ) -> Result<(), CheckFault>
-    ensures { Delivers name.now (R.remaining deck.old) result (W.contents out.old) (W.contents out.new) }
+    ensures { Delivers name.now all (R.remaining deck.old) result (W.contents out.old) (W.contents out.new) }
 {
     let bytes = match read_deck(alloc, deck) {
         Ok(bytes) => bytes,
@@ -61,5 +69,5 @@ pub fn check<R: Read, W: Write>(
         Err(DeckFault::TooLong) => return Err(CheckFault::TooLong),
         Err(_) => return Err(CheckFault::NoMemory),
     };
-    tell(alloc, name, &bytes, out)
+    tell(alloc, name, all, &bytes, out)
 }

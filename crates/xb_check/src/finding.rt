@@ -1,6 +1,6 @@
 // What is wrong in a deck, and where.
 ghost use Rattle.std.specs.Prelude.{◌≡◌};
-ghost use Rattle.xb_check.specs.Findings.{limit_words, route_words, rule_words, what_text};
+ghost use Rattle.xb_check.specs.Findings.{kind_text, limit_words, route_words, rule_words, what_text};
 ghost use Rattle.xb_routes.specs.LimitFaults.{limit_fault};
 
 use crate::key::Key;
@@ -108,6 +108,17 @@ fn route_words(fault: RouteFault) -> &'static str
 }
 
 impl What {
+    /// What is wrong with all of its kind, in words.
+    pub fn words_of_kind(self) -> &'static str
+        ensures { result.now ≡ kind_text self }
+    {
+        match self {
+            What::Ignored(_) => "this record is ignored; its line was closed before",
+            What::Routes(_) => "the route table is refused",
+            what => what.words(),
+        }
+    }
+
     /// What is wrong, and what was wanted, in words.
     pub fn words(self) -> &'static str
         ensures { result.now ≡ what_text self }

@@ -1,15 +1,15 @@
 //! What the definitions give: each law is the contract of a function that does nothing.
 ghost use Rattle.xb_check.specs.Constants.{AreConstants};
-ghost use Rattle.xb_check.specs.Program.{UsageNamesTheOption};
+ghost use Rattle.xb_check.specs.Program.{UsageNamesTheOptions};
 
-/// The most bytes of a text line that are shown, the least breaks by which times are judged, and the least ms of a run
-/// that is no bounce, each as it is.
+/// The most bytes of a text line that are shown, the most of a kind that are told and are counted, the kinds, the least
+/// breaks by which times are judged, and the least ms of a run that is no bounce, each as it is.
 pub fn constants()
     ensures { AreConstants }
 {}
 
-/// The line of refused words names the option of the command.
+/// The line of refused words names each option of the command.
 #[tactic(auto, unfolding(clap::proofs::OnLiterals::clap_on_literals, xb_command::specs::Usages::has_part))]
-pub fn usage_names_the_option()
-    ensures { UsageNamesTheOption }
+pub fn usage_names_the_options()
+    ensures { UsageNamesTheOptions }
 {}

@@ -18,7 +18,8 @@
 //!   told that the fault is about (`told_of_table`, `specs/Sites.antt`), where keys and headings stand bare in text
 //!   lines of their own.
 //! - `check`, of readers and writers whose bytes contracts know: it is `Ok` exactly where the text is taken, and
-//!   `Refused` has its first fault; of both the writer got exactly the lines of what was told (`report_text`).
+//!   `Refused` has its first fault; of both the writer got exactly the lines of what was told (`report_text`): of all that
+//!   was found, or of each kind the first ten, and how many more there are (`told`, `untold`, `specs/Told.antt`).
 //! - `attend`: the status 0, 1 or 2, with what was written (`Attends` of `xb_command`).
 #![tactic(auto)]
 
@@ -39,6 +40,7 @@ mod records;
 mod reporting;
 mod sites;
 mod table;
+mod tally;
 mod units;
 mod words;
 
@@ -51,3 +53,4 @@ pub use lines::findings;
 pub use program::attend;
 pub use reporting::MOST_SHOWN_BYTES;
 pub use table::Section;
+pub use tally::TOLD_OF_A_KIND;

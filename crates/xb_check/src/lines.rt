@@ -7,6 +7,7 @@ ghost use Rattle.xb_check.specs.Findings.{found_of};
 ghost use Rattle.xb_check.specs.Kept.{first_at, kept_at, kept_line_of, kept_of_deck, seen_after, seen_of};
 ghost use Rattle.xb_check.specs.Records.{closed_after, closed_of, faults_of_deck, is_empty};
 ghost use Rattle.xb_check.specs.Steps.{TakesLine, lines_of};
+ghost use Rattle.xb_check.specs.Tallies.{nothing_told, with_all};
 
 use crate::closes::Closes;
 use crate::finding::Finding;
@@ -15,6 +16,7 @@ use crate::records::{
     Record, push_found, record_of_line, what_of_record, without_key, wrong_header,
 };
 use crate::table::{Section, section_after, squeezed, wrong_in_table};
+use crate::tally::Tally;
 use std::alloc::{AllocError, Global};
 use xb_deck::is_cut;
 use xb_model::Contact;
@@ -34,8 +36,8 @@ pub(crate) enum DeckPart {
 /// What was found in the text lines of a deck.
 #[derive(Drop)]
 pub(crate) struct LinesRead<'a> {
-    /// What is wrong in them, in order.
-    pub(crate) found: Vec<Finding<'a>>,
+    /// What is wrong in them.
+    pub(crate) tally: Tally<'a>,
     /// Those of which more may be said once the whole deck is known, in order.
     pub(crate) kept: Vec<KeptLine<'a>>,
 }
@@ -77,7 +79,7 @@ fn take_in_table<'a>(
     }
     let read = squeezed(alloc, text)?;
     push_found(
-        &mut lines.found,
+        &mut lines.tally,
         n,
         text,
         wrong_in_table(alloc, section, &read)?,
@@ -98,7 +100,7 @@ fn take_before_header<'a>(
         return Ok(DeckPart::Header);
     }
     push_found(
-        &mut lines.found,
+        &mut lines.tally,
         n,
         text,
         without_key(wrong_header(alloc, text)?),
@@ -154,7 +156,7 @@ fn take_record<'a>(
 {
     let read = record_of_line(text);
     push_found(
-        &mut lines.found,
+        &mut lines.tally,
         n,
         text,
         without_key(what_of_record(closes, &read)),
@@ -184,15 +186,20 @@ fn take_line<'a>(
     }
 }
 
-/// Reads the text lines of a deck, each by itself and once.
-pub(crate) fn read_lines<'a>(alloc: Global, deck: &'a [u8]) -> Result<LinesRead<'a>, AllocError>
+/// Reads the text lines of a deck, each by itself and once, and tells all that is wrong, or the first of each kind.
+pub(crate) fn read_lines<'a>(
+    alloc: Global,
+    all: bool,
+    deck: &'a [u8],
+) -> Result<LinesRead<'a>, AllocError>
     requires { length deck.now ≤ MOST_DECK_BYTES }
-    ensures found { IfOk result (λ lines. (lines_of lines).found ≡ faults_of_deck deck.now) }
+    ensures found { IfOk result (λ lines.
+        (lines_of lines).tally ≡ with_all (nothing_told all) (faults_of_deck deck.now)) }
     ensures kept { IfOk result (λ lines. (lines_of lines).kept ≡ kept_of_deck deck.now) }
 {
-    let found = Vec::new(alloc);
+    let tally = Tally::new(alloc, all);
     let kept = Vec::new(alloc);
-    let mut lines = LinesRead { found, kept };
+    let mut lines = LinesRead { tally, kept };
     let mut part = DeckPart::Table(Section::Top);
     let mut n = 0;
     let mut left = Some(deck);
@@ -210,5 +217,5 @@ pub fn findings<'a>(alloc: Global, deck: &'a [u8]) -> Result<Vec<Finding<'a>>, A
     requires { length deck.now ≤ MOST_DECK_BYTES }
     ensures { IfOk result (λ found. map found_of found.items ≡ faults_of_deck deck.now) }
 {
-    Ok(read_lines(alloc, deck)?.found)
+    Ok(read_lines(alloc, true, deck)?.tally.told)
 }

@@ -4,7 +4,7 @@ ghost use Rattle.xb_command.specs.Commands.{texts_of};
 ghost use Rattle.xb_check.specs.Program.{AttendsCheck};
 
 use crate::checking::check;
-use crate::words::name_of_words;
+use crate::words::{Request, request_of_words};
 use std::alloc::Global;
 use std::io::{Read, Write};
 use xb_command::{DONE, tell_fault, tell_words};
@@ -13,7 +13,7 @@ use xb_command::{DONE, tell_fault, tell_words};
 pub(crate) const PROGRAM: &str = "mfcheck";
 
 // The line of refused words.
-const USAGE: &[u8] = b"mfcheck: usage: mfcheck [--name NAME]\n";
+const USAGE: &[u8] = b"mfcheck: usage: mfcheck [--name NAME] [--all]\n";
 
 /// Reads the words of the command line, the program's name first, and by them writes what is wrong with a
 /// deck, as `check` does. It returns the status of the process:
@@ -37,8 +37,8 @@ pub fn attend<R: Read, W: Write, E: Write>(
         (streams (R.remaining deck.old) (W.contents out.old) (E.contents err.old))
         (streams (R.remaining deck.new) (W.contents out.new) (E.contents err.new)) result }
 {
-    match name_of_words(alloc, words) {
-        Ok(name) => match check(alloc, name, deck, out) {
+    match request_of_words(alloc, words) {
+        Ok(Request { name, all }) => match check(alloc, name, all, deck, out) {
             Ok(()) => DONE,
             Err(fault) => tell_fault(alloc, err, PROGRAM, fault),
         },

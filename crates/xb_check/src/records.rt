@@ -1,15 +1,16 @@
 // Text lines of the rows, read by themselves: what they are, what is wrong with them, and where.
-ghost use Rattle.std.specs.Prelude.{◌≡◌, ◌≢◌, ◌++◌, Err, IfOk, None, OnOk, map};
+ghost use Rattle.std.specs.Prelude.{◌≡◌, ◌≢◌, Err, IfOk, None, OnOk};
 ghost use Rattle.xb_model.specs.declared.fault.RowFault.TheVariants.{NoMemory};
 ghost use Rattle.xb_rows.specs.RowTexts.{rest_of_text};
-ghost use Rattle.xb_check.specs.Findings.{found_of};
 ghost use Rattle.xb_check.specs.Records.{after_comma, closed_of, column_of, first_record, found_at, from_field, is_short, record_of_fault, record_of_line, record_read, what_of_record, what_of_row, wrong_header, wrong_in};
 ghost use Rattle.xb_check.specs.Table.{with_meant};
+ghost use Rattle.xb_check.specs.Tallies.{tallied, with_all};
 
 use crate::closes::Closes;
 use crate::finding::{Finding, What};
 use crate::key::Key;
 use crate::table::{after_blanks, without_mark};
+use crate::tally::Tally;
 use std::alloc::{AllocError, Global};
 use xb_model::{Contact, Row, RowFault, RowSource};
 use xb_rows::{Scan, row_of_line};
@@ -148,19 +149,18 @@ pub(crate) fn without_key(wrong: Option<What>) -> Option<(What, Option<Key>)>
     }
 }
 
-/// Puts what is wrong with text line `n` after the others.
+/// What is wrong with text line `n` was found after the others.
 pub(crate) fn push_found<'a>(
-    found: &mut Vec<Finding<'a>>,
+    tally: &mut Tally<'a>,
     n: usize,
     text: &'a [u8],
     wrong: Option<(What, Option<Key>)>,
 ) -> Result<(), AllocError>
-    ensures { OnOk result (map found_of found.new.items
-        ≡ map found_of found.old.items ++ found_at n text.now wrong) }
+    ensures { OnOk result (tallied tally.new ≡ with_all (tallied tally.old) (found_at n text.now wrong)) }
 {
     if let Some((what, meant)) = wrong {
         let column = column_of(what, text);
-        found.push(Finding {
+        tally.push(Finding {
             line: n,
             column,
             what,

@@ -6,7 +6,9 @@ ghost use Rattle.xb_check.specs.declared.finding.What.TheVariants as what;
 ghost use Rattle.xb_check.specs.Findings.{closed_text, found_of, meant_text, note_text};
 ghost use Rattle.xb_check.specs.Judged.{judged};
 ghost use Rattle.xb_check.specs.Kept.{kept_of_deck, kept_line_of};
-ghost use Rattle.xb_check.specs.Reports.{found_text, place_text, report_text, shown, told_of, visible};
+ghost use Rattle.xb_check.specs.Reports.{count_words, found_text, more_text, more_words, place_text, report_text, shown, told_of, visible};
+ghost use Rattle.xb_check.specs.Tallies.{tallied, untold_of, with_all};
+ghost use Rattle.xb_check.specs.TallyTexts.{more_of, text_of_tally};
 
 use crate::doubts::push_doubts;
 use crate::finding::{Finding, What};
@@ -15,6 +17,7 @@ use crate::kept::KeptLine;
 use crate::key::Key;
 use crate::lines::{LinesRead, read_lines};
 use crate::sites::push_fault;
+use crate::tally::{EACH_KIND, Tally};
 use std::alloc::{AllocError, Global};
 use xb_deck::DeckFault;
 
@@ -120,52 +123,141 @@ fn push_found(
     Ok(())
 }
 
-// The lines of what was found.
-fn text_of(alloc: Global, name: &str, found: &[Finding]) -> Result<Vec<u8>, AllocError>
-    ensures { IfOk result (λ text.
-        text.items ≡ flat_map (found_text name.now) (map found_of found.now)) }
+// Puts the lines of what is told after the text.
+fn push_lines(
+    alloc: Global,
+    out: &mut Vec<u8>,
+    name: &str,
+    told: &[Finding],
+) -> Result<(), AllocError>
+    ensures { OnOk result (out.new.items
+        ≡ out.old.items ++ flat_map (found_text name.now) (map found_of told.now)) }
+{
+    for finding in told {
+        push_found(alloc, out, name, finding)?;
+    }
+    Ok(())
+}
+
+// How many more there are, in words.
+fn words_of_count(alloc: Global, count: usize) -> Result<String, AllocError>
+    ensures { IfOk result (λ text. string_bytes text ≡ count_words count) }
+{
+    format!(in alloc; ": and {count} more, which --all tells: ")
+}
+
+// Puts the line of so many more of a kind after the text.
+fn push_more_words(
+    alloc: Global,
+    out: &mut Vec<u8>,
+    name: &str,
+    count: usize,
+    kind: What,
+) -> Result<(), AllocError>
+    ensures { OnOk result (out.new.items ≡ out.old.items ++ more_words name.now count kind) }
+{
+    out.extend_from_slice(name.as_bytes())?;
+    out.extend_from_slice(words_of_count(alloc, count)?.as_bytes())?;
+    out.extend_from_slice(kind.words_of_kind().as_bytes())?;
+    out.push(b'\n')?;
+    Ok(())
+}
+
+// Puts the line of how many of a kind are not told, if there are such, after the text.
+fn push_more(
+    alloc: Global,
+    out: &mut Vec<u8>,
+    name: &str,
+    tally: &Tally,
+    kind: What,
+) -> Result<(), AllocError>
+    ensures { OnOk result (out.new.items
+        ≡ out.old.items ++ more_text name.now (untold_of kind (tallied tally.now)) kind) }
+{
+    let count = tally.untold(kind);
+    if count > 0 {
+        push_more_words(alloc, out, name, count, kind)?;
+    }
+    Ok(())
+}
+
+// Puts those lines of these kinds after the text.
+fn push_each_more(
+    alloc: Global,
+    out: &mut Vec<u8>,
+    name: &str,
+    tally: &Tally,
+    kinds: &[What],
+) -> Result<(), AllocError>
+    ensures { OnOk result (out.new.items
+        ≡ out.old.items ++ flat_map (more_of name.now (tallied tally.now)) kinds.now) }
+{
+    for kind in kinds {
+        push_more(alloc, out, name, tally, *kind)?;
+    }
+    Ok(())
+}
+
+// Puts what is told of findings after the text.
+fn push_tally(alloc: Global, out: &mut Vec<u8>, name: &str, tally: &Tally) -> Result<(), AllocError>
+    ensures { OnOk result (out.new.items
+        ≡ out.old.items ++ text_of_tally name.now (tallied tally.now)) }
+{
+    push_lines(alloc, out, name, &tally.told)?;
+    push_each_more(alloc, out, name, tally, EACH_KIND)
+}
+
+// What is told of text lines, and then of the whole.
+fn text_of_both(
+    alloc: Global,
+    name: &str,
+    lines: &Tally,
+    whole: &Tally,
+) -> Result<Vec<u8>, AllocError>
+    ensures { IfOk result (λ text. text.items
+        ≡ text_of_tally name.now (tallied lines.now) ++ text_of_tally name.now (tallied whole.now)) }
 {
     let mut out = Vec::new(alloc);
-    for finding in found {
-        push_found(alloc, &mut out, name, finding)?;
-    }
+    push_tally(alloc, &mut out, name, lines)?;
+    push_tally(alloc, &mut out, name, whole)?;
     Ok(out)
 }
 
-// Puts what is told of a text, by what was judged of it and the text lines that were kept, after what was found in
-// its text lines.
+// Puts what is told of a text as a whole, by what was judged of it and the text lines that were kept, after the others.
 fn push_told<'a>(
     alloc: Global,
-    found: &mut Vec<Finding<'a>>,
+    tally: &mut Tally<'a>,
     said: &Result<Option<Contents>, DeckFault>,
     deck: &'a [u8],
     kept: &[KeptLine<'a>],
 ) -> Result<(), AllocError>
     requires short { length deck.now ≤ MOST_DECK_BYTES }
     requires kept { map kept_line_of kept.now ≡ kept_of_deck deck.now }
-    ensures { OnOk result (map found_of found.new.items
-        ≡ map found_of found.old.items ++ told_of said.now deck.now) }
+    ensures { OnOk result (tallied tally.new ≡ with_all (tallied tally.old) (told_of said.now deck.now)) }
 {
     match said {
-        Ok(Some(contents)) => push_doubts(alloc, found, contents, kept),
+        Ok(Some(contents)) => push_doubts(alloc, tally, contents, kept),
         Ok(None) => Ok(()),
-        Err(fault) => push_fault(alloc, found, *fault, deck),
+        Err(fault) => push_fault(alloc, tally, *fault, deck),
     }
 }
 
-/// What is told of a text in a file of this name, of which this was judged: a line for each text line that is wrong,
-/// in order, and then for what was judged.
+/// What is told of a text in a file of this name, of which this was judged: what is wrong with its text lines, in
+/// order, and then what is told of it as a whole; all, or the first of each kind with the number of the others.
+#[tactic(auto, using(crate::proofs::Tellings::report_is))]
 pub(crate) fn report(
     alloc: Global,
     name: &str,
+    all: bool,
     deck: &[u8],
     said: &Result<Option<Contents>, DeckFault>,
 ) -> Result<Vec<u8>, AllocError>
     requires short { length deck.now ≤ MOST_DECK_BYTES }
     requires judged { said.now ≡ judged deck.now }
-    ensures { IfOk result (λ text. text.items ≡ report_text name.now deck.now) }
+    ensures { IfOk result (λ text. text.items ≡ report_text name.now all deck.now) }
 {
-    let LinesRead { mut found, kept } = read_lines(alloc, deck)?;
-    push_told(alloc, &mut found, said, deck, &kept)?;
-    text_of(alloc, name, &found)
+    let LinesRead { tally, kept } = read_lines(alloc, all, deck)?;
+    let mut whole = Tally::new(alloc, all);
+    push_told(alloc, &mut whole, said, deck, &kept)?;
+    text_of_both(alloc, name, &tally, &whole)
 }

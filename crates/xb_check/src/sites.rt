@@ -1,9 +1,10 @@
 // Which text line the fault of a route table is about.
-ghost use Rattle.std.specs.Prelude.{◌≡◌, ◌≤◌, ◌<◌, ◌+◌, ◌^◌, ◌++◌, IfOk, OnOk, Some, length, map, option_map};
+ghost use Rattle.std.specs.Prelude.{◌≡◌, ◌≤◌, ◌<◌, ◌+◌, ◌^◌, IfOk, OnOk, Some, length, option_map};
 ghost use Rattle.xb_deck.specs.declared.deck.TheConstants.{MOST_DECK_BYTES};
 ghost use Rattle.xb_check.specs.declared.table.Section.TheVariants.{Top};
 ghost use Rattle.xb_check.specs.Findings.{found_of};
 ghost use Rattle.xb_check.specs.Sites.{fault_of_table, first_about, is_about, is_about_heading, is_about_key, keys_about, limits_about, limits_of_rule, route_about, route_here, routes_after, told_of_table};
+ghost use Rattle.xb_check.specs.Tallies.{tallied, with_all};
 ghost use Rattle.xb_routes.specs.LimitFaults.{limit_fault};
 ghost use Rattle.xb_text.specs.Pieces.{cut_at, pieces};
 
@@ -11,6 +12,7 @@ use crate::finding::{Finding, What};
 use crate::key::{Key, key_named, keys_of};
 use crate::records::column_of;
 use crate::table::{Section, is_heading, section_after, squeezed};
+use crate::tally::Tally;
 use std::alloc::{AllocError, Global};
 use xb_deck::{DeckFault, is_cut};
 use xb_routes::{LimitFault, RouteFault};
@@ -188,16 +190,16 @@ fn fault_of_table(fault: DeckFault) -> Option<RouteFault>
 // Puts the first text line of a deck that a fault of its route table is about after what was found.
 fn push_told_of_table<'a>(
     alloc: Global,
-    found: &mut Vec<Finding<'a>>,
+    tally: &mut Tally<'a>,
     fault: RouteFault,
     deck: &'a [u8],
 ) -> Result<(), AllocError>
     requires { length deck.now ≤ MOST_DECK_BYTES }
-    ensures { OnOk result (map found_of found.new.items
-        ≡ map found_of found.old.items ++ told_of_table (Some fault) deck.now) }
+    ensures { OnOk result (tallied tally.new
+        ≡ with_all (tallied tally.old) (told_of_table (Some fault) deck.now)) }
 {
     if let Some(finding) = first_about(alloc, fault, deck)? {
-        found.push(finding)?;
+        tally.push(finding)?;
     }
     Ok(())
 }
@@ -205,16 +207,16 @@ fn push_told_of_table<'a>(
 /// Puts what is told of the fault by which a text is refused after what was found.
 pub(crate) fn push_fault<'a>(
     alloc: Global,
-    found: &mut Vec<Finding<'a>>,
+    tally: &mut Tally<'a>,
     fault: DeckFault,
     deck: &'a [u8],
 ) -> Result<(), AllocError>
     requires { length deck.now ≤ MOST_DECK_BYTES }
-    ensures { OnOk result (map found_of found.new.items
-        ≡ map found_of found.old.items ++ told_of_table (fault_of_table fault) deck.now) }
+    ensures { OnOk result (tallied tally.new
+        ≡ with_all (tallied tally.old) (told_of_table (fault_of_table fault) deck.now)) }
 {
     match fault_of_table(fault) {
-        Some(fault) => push_told_of_table(alloc, found, fault, deck),
+        Some(fault) => push_told_of_table(alloc, tally, fault, deck),
         None => Ok(()),
     }
 }

@@ -3,3 +3,6 @@ pub mod DigitLemmas
 pub mod WrittenSeconds
 pub mod WrittenEdges
 pub mod WrittenRows
+pub mod WrittenCells
+pub mod WrittenSigrok
+pub mod WrittenSaleae

@@ -78,9 +78,9 @@ pub trimmed_same : (text : List ℕ) → BeginsBare text → EndsBare text → t
 unfolding trimmed
 trimmed_same text begins ends = ap (λ n. trimmed_end (drop n text)) begins ∙ trimmed-end text ends
 
-trimmed-blank : (text : List ℕ) → BeginsBare text → EndsBare text → trimmed (32 ∷ text) ≡ text
+pub trimmed_blank : (text : List ℕ) → BeginsBare text → EndsBare text → trimmed (32 ∷ text) ≡ text
 unfolding trimmed
-trimmed-blank text begins ends = ap (λ n. trimmed_end (drop (1 + n) (32 ∷ text))) begins ∙ trimmed-end text ends
+trimmed_blank text begins ends = ap (λ n. trimmed_end (drop (1 + n) (32 ∷ text))) begins ∙ trimmed-end text ends
 
 -- the first word of a text
 first-word :
@@ -97,7 +97,7 @@ first-word word rest is begins ends =
     ∙ ap (cut_word text) gap
     ∙ ap (λ front. (front, trimmed (drop (length word) text))) (take-append_seam word (32 ∷ rest))
     ∙ ap (λ back. (word, trimmed back)) (drop-append_seam word (32 ∷ rest))
-    ∙ ap (λ back. (word, back)) (trimmed-blank rest begins ends)
+    ∙ ap (λ back. (word, back)) (trimmed_blank rest begins ends)
 
 -- the wire is the number after the chip
 chip-wire : (name : List ℕ) → IsName name → wire_of (codes "gpiochip0 " ++ name) ≡ name

@@ -28,22 +28,22 @@ passes-over true e = cc
 passes-over false e = refl
 
 -- the pieces of a text before the commas
-split-at : (text rest : List ℕ) → list_all (λ b. not (b == 44)) text ≡ true
+pub split_at_comma : (text rest : List ℕ) → list_all (λ b. not (b == 44)) text ≡ true
     → slice_split (λ b. b == 44) (text ++ 44 ∷ rest) ≡ text ∷ slice_split (λ b. b == 44) rest
-split-at [] rest none = refl
-split-at (byte ∷ text) rest none =
+split_at_comma [] rest none = refl
+split_at_comma (byte ∷ text) rest none =
     let parts = and_parts (not (byte == 44)) (list_all (λ b. not (b == 44)) text) none in
     let later = slice_split (λ b. b == 44) (text ++ 44 ∷ rest) in
     ap (λ t. cond t ([] ∷ later) (onto_first byte later)) (passes-over (byte == 44) parts.0)
-    ∙ ap (onto_first byte) (split-at text rest parts.1)
+    ∙ ap (onto_first byte) (split_at_comma text rest parts.1)
 
-split-none : (text : List ℕ) → list_all (λ b. not (b == 44)) text ≡ true → slice_split (λ b. b == 44) text ≡ text ∷ []
-split-none [] none = refl
-split-none (byte ∷ text) none =
+pub split_none : (text : List ℕ) → list_all (λ b. not (b == 44)) text ≡ true → slice_split (λ b. b == 44) text ≡ text ∷ []
+split_none [] none = refl
+split_none (byte ∷ text) none =
     let parts = and_parts (not (byte == 44)) (list_all (λ b. not (b == 44)) text) none in
     let later = slice_split (λ b. b == 44) text in
     ap (λ t. cond t ([] ∷ later) (onto_first byte later)) (passes-over (byte == 44) parts.0)
-    ∙ ap (onto_first byte) (split-none text parts.1)
+    ∙ ap (onto_first byte) (split_none text parts.1)
 
 level-plain : (level : Level) → list_all (λ b. not (b == 44)) (level_text level) ≡ true
 level-plain Open = refl
@@ -51,9 +51,9 @@ level-plain Closed = refl
 
 pieces-of : (text : List ℕ) (levels : List Level) → list_all (λ b. not (b == 44)) text ≡ true
     → slice_split (λ b. b == 44) (text ++ levels_text levels) ≡ text ∷ map level_text levels
-pieces-of text [] none = ap (slice_split (λ b. b == 44)) (append-nil text) ∙ split-none text none
+pieces-of text [] none = ap (slice_split (λ b. b == 44)) (append-nil text) ∙ split_none text none
 pieces-of text (level ∷ levels) none =
-    split-at text (level_text level ++ levels_text levels) none
+    split_at_comma text (level_text level ++ levels_text levels) none
     ∙ ap (λ later. text ∷ later) (pieces-of (level_text level) levels (level-plain level))
 
 levels-trimmed : (levels : List Level) → map trimmed (map level_text levels) ≡ map level_text levels
@@ -106,9 +106,9 @@ cell-there : (before after : List (List ℕ)) (cell : List ℕ) → slice_get (b
 cell-there [] after cell = refl
 cell-there (first ∷ before) after cell = cell-there before after cell
 
-level-read : (level : Level) → level_in (Some (level_text level)) ≡ Ok level
-level-read Open = refl
-level-read Closed = refl
+pub level_read : (level : Level) → level_in (Some (level_text level)) ≡ Ok level
+level_read Open = refl
+level_read Closed = refl
 
 levels-read :
     (before : List (List ℕ)) (levels : List Level) (wire column : ℕ) → column ≡ length before
@@ -121,7 +121,7 @@ levels-read before (level ∷ levels) wire column at =
     let next : column + 1 ≡ length (before ++ level_text level ∷ []) = omega (arith, length-append before (level_text level ∷ [])) in
     ap (λ n. result_and_then (λ own. result_map (λ later. events.Level wire own ∷ later) rest) (level_in (slice_get cells n))) there
     ∙ ap (λ cell. result_and_then (λ own. result_map (λ later. events.Level wire own ∷ later) rest) (level_in cell)) (cell-there before (map level_text levels) (level_text level))
-    ∙ ap (result_and_then (λ own. result_map (λ later. events.Level wire own ∷ later) rest)) (level-read level)
+    ∙ ap (result_and_then (λ own. result_map (λ later. events.Level wire own ∷ later) rest)) (level_read level)
     ∙ ap (λ them. result_map (λ later. events.Level wire level ∷ later) (levels_from (wire + 1) 0 them (columns_from (column + 1) (length levels))))
     (sym (append_assoc before (level_text level ∷ []) (map level_text levels)))
     ∙ ap (result_map (λ later. events.Level wire level ∷ later)) (levels-read (before ++ level_text level ∷ []) levels (wire + 1) (column + 1) next)

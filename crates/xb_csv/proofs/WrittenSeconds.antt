@@ -1,5 +1,5 @@
 -- Times that are written are read back.
-use Rattle.std.proofs.Common.{◌≡◌, ℕ, zero, suc, ◌+◌, ◌-◌, ◌*◌, ◌/◌, ◌%◌, ◌^◌, ◌<◌, ◌≤◌, List, [], ◌∷◌, ◌++◌, Bool, true, false, cond, Some, None, length, length-append, take, drop, replicate, refl, ap, subst, ◌∙◌, arith, ne_eqb, not, append_assoc}
+use Rattle.std.proofs.Common.{◌≡◌, ℕ, zero, suc, ◌+◌, ◌-◌, ◌*◌, ◌/◌, ◌%◌, ◌^◌, ◌<◌, ◌≤◌, List, [], ◌∷◌, ◌++◌, Bool, true, false, cond, Some, None, length, length-append, take, drop, replicate, refl, ap, subst, ◌∙◌, arith, ne_eqb, not, append_assoc, codes}
 use Rattle.std.proofs.Math.Seq.{drop-append-add, take-append_seam}
 use Rattle.std.specs.Prelude.{decimal, nat_eq, nat_lt, ◌==◌, option_map}
 use Rattle.std.specs.List.{list_all, position, position_or_len, prefix_len, starts_with}
@@ -13,6 +13,7 @@ use Rattle.xb_contact.specs.Numbers.{is_digit, number_in}
 use Rattle.xb_contact.proofs.Written.{digits_are, digits_are_read, number_is_read}
 use Rattle.xb_csv.specs.Seconds.{fitting, fraction_of, from_origin, is_number, nanoseconds_by, nanoseconds_of, nine_digits, unsigned_nanoseconds}
 use Rattle.xb_csv.specs.Written.{last_digits, seconds_text}
+use Rattle.xb_csv.specs.WrittenTables.{signed_text}
 
 -- how many numbers so many digits write
 abbrev numbers_of : ℕ → ℕ
@@ -87,11 +88,11 @@ fraction-read number small =
     ∙ ap (number_in 0) nine
     ∙ digits-read 9 number small (omega arith)
 
-no-start :
+pub no_start :
     (first : ℕ) (needle digits rest : List ℕ) → 0 < length digits → list_all is_digit digits ≡ true → is_digit first ≡ false
     → starts_with nat_eq (digits ++ rest) (first ∷ needle) ≡ false
-no-start first needle [] rest some all other = absurd (omega arith)
-no-start first needle (digit ∷ digits) rest some all other =
+no_start first needle [] rest some all other = absurd (omega arith)
+no_start first needle (digit ∷ digits) rest some all other =
     let parts = and_parts (is_digit digit) (list_all is_digit digits) all in
     let apart : nat_eq first digit ≡ false = ne_eqb first digit (λ e. let same : is_digit first ≡ is_digit digit = ap is_digit e in cc) in
     rw apart
@@ -106,8 +107,28 @@ seconds_start first needle tick rest small other =
     let low : whole < 2 ^ 64 = omega arith in
     let later : List ℕ = 46 ∷ last_digits 9 ((tick - 2 ^ 62) % 1000000000) in
     ap (λ text. starts_with nat_eq text (first ∷ needle)) (append_assoc (decimal whole) later rest)
-    ∙ no-start first needle (decimal whole) (later ++ rest) (decimal_nonempty whole low)
+    ∙ no_start first needle (decimal whole) (later ++ rest) (decimal_nonempty whole low)
     (digits_are is_digit (λ digit few. grind (arith, nat_tests)) whole low) other
+
+-- a time, without the moment at which times are 0
+unsigned-read : (tick : ℕ) → 2 ^ 62 ≤ tick → tick < 2 ^ 63 → unsigned_nanoseconds (seconds_text tick) ≡ Some (tick - 2 ^ 62)
+unfolding seconds_text
+unsigned-read tick late early =
+    let time : ℕ = tick - 2 ^ 62 in
+    let whole : ℕ = time / 1000000000 in
+    let part : ℕ = time % 1000000000 in
+    let text : List ℕ = decimal whole ++ 46 ∷ last_digits 9 part in
+    let small : whole < 2 ^ 64 = omega arith in
+    let sum : whole * 1000000000 + part ≡ time = omega arith in
+    let fits : nat_lt time (2 ^ 64) ≡ true = grind (arith, nat_tests) in
+    let cut : cut_at 46 text ≡ Some (decimal whole, last_digits 9 part) =
+    cut_there 46 (decimal whole) (last_digits 9 part)
+    (digits_are (λ b. not (b == 46)) (λ digit low. ap not (ne_eqb (48 + digit) 46 (λ e. absurd (omega arith)))) whole small) refl in
+    ap (λ parts. nanoseconds_by (unwrap_or parts (text, []))) cut
+    ∙ ap (option_and_then (λ w. option_and_then (λ f. fitting (w * 1000000000 + f)) (fraction_of (last_digits 9 part)))) (number_is_read whole small)
+    ∙ ap (option_and_then (λ f. fitting (whole * 1000000000 + f))) (fraction-read part (omega arith))
+    ∙ ap fitting sum
+    ∙ ap (λ t. cond t (Some time) None) fits
 
 -- a time
 pub seconds_are_read : (tick : ℕ) → 2 ^ 62 ≤ tick → tick < 2 ^ 63 → nanoseconds_of (seconds_text tick) ≡ Some tick
@@ -118,24 +139,13 @@ seconds_are_read tick late early =
     let part : ℕ = time % 1000000000 in
     let text : List ℕ = decimal whole ++ 46 ∷ last_digits 9 part in
     let small : whole < 2 ^ 64 = omega arith in
-    let sum : whole * 1000000000 + part ≡ time = omega arith in
-    let fits : nat_lt time (2 ^ 64) ≡ true = grind (arith, nat_tests) in
     let near : nat_lt time (2 ^ 62) ≡ true = grind (arith, nat_tests) in
     let back : 2 ^ 62 + time ≡ tick = omega arith in
     let digits : list_all is_digit (decimal whole) ≡ true =
     digits_are is_digit (λ digit low. grind (arith, nat_tests)) whole small in
-    let cut : cut_at 46 text ≡ Some (decimal whole, last_digits 9 part) =
-    cut_there 46 (decimal whole) (last_digits 9 part)
-    (digits_are (λ b. not (b == 46)) (λ digit low. ap not (ne_eqb (48 + digit) 46 (λ e. absurd (omega arith)))) whole small) refl in
-    let unsigned : unsigned_nanoseconds text ≡ Some time =
-    ap (λ parts. nanoseconds_by (unwrap_or parts (text, []))) cut
-    ∙ ap (option_and_then (λ w. option_and_then (λ f. fitting (w * 1000000000 + f)) (fraction_of (last_digits 9 part)))) (number_is_read whole small)
-    ∙ ap (option_and_then (λ f. fitting (whole * 1000000000 + f))) (fraction-read part (omega arith))
-    ∙ ap fitting sum
-    ∙ ap (λ t. cond t (Some time) None) fits in
     ap (λ t. cond t (option_and_then (from_origin true) (unsigned_nanoseconds (drop 1 text))) (option_and_then (from_origin false) (unsigned_nanoseconds text)))
-    (no-start 45 [] (decimal whole) (46 ∷ last_digits 9 part) (decimal_nonempty whole small) digits refl)
-    ∙ ap (option_and_then (from_origin false)) unsigned
+    (no_start 45 [] (decimal whole) (46 ∷ last_digits 9 part) (decimal_nonempty whole small) digits refl)
+    ∙ ap (option_and_then (from_origin false)) (unsigned-read tick late early)
     ∙ ap (λ t. cond t (Some (2 ^ 62 + time)) None) near
     ∙ ap Some back
 
@@ -157,3 +167,42 @@ seconds_nonempty tick small =
     let whole : ℕ = (tick - 2 ^ 62) / 1000000000 in
     let part : ℕ = (tick - 2 ^ 62) % 1000000000 in
     omega (arith, length-append (decimal whole) (46 ∷ last_digits 9 part))
+
+-- a time with its sign
+before-read :
+    (tick : ℕ) → 0 < tick → tick < 2 ^ 62 → nanoseconds_of (codes "-" ++ seconds_text (2 ^ 62 + (2 ^ 62 - tick))) ≡ Some tick
+unfolding nanoseconds_of
+before-read tick some early =
+    let mirrored : ℕ = 2 ^ 62 + (2 ^ 62 - tick) in
+    let time : ℕ = mirrored - 2 ^ 62 in
+    let near : nat_lt time (2 ^ 62) ≡ true = grind (arith, nat_tests) in
+    let back : 2 ^ 62 - time ≡ tick = omega arith in
+    ap (option_and_then (from_origin true)) (unsigned-read mirrored (omega arith) (omega arith))
+    ∙ ap (λ t. cond t (Some (2 ^ 62 - time)) None) near
+    ∙ ap Some back
+
+pub signed_is_read : (tick : ℕ) → 0 < tick → tick < 2 ^ 63 → nanoseconds_of (signed_text tick) ≡ Some tick
+signed_is_read tick some early = at (nat_lt tick (2 ^ 62)) refl
+  where
+    at :
+        (b : Bool) → nat_lt tick (2 ^ 62) ≡ b
+        → nanoseconds_of (cond b (codes "-" ++ seconds_text (2 ^ 62 + (2 ^ 62 - tick))) (seconds_text tick)) ≡ Some tick
+    at true e = let before : tick < 2 ^ 62 = grind (arith, nat_tests) in before-read tick some before
+    at false e = let after : 2 ^ 62 ≤ tick = grind (arith, nat_tests) in seconds_are_read tick after early
+
+pub signed_pass :
+    (test : ℕ → Bool) → ((digit : ℕ) → digit < 10 → test (48 + digit) ≡ true) → test 46 ≡ true → test 45 ≡ true
+    → (tick : ℕ) → tick < 2 ^ 63 → list_all test (signed_text tick) ≡ true
+signed_pass test digit point sign tick early = at (nat_lt tick (2 ^ 62))
+  where
+    at :
+        (b : Bool) → list_all test (cond b (codes "-" ++ seconds_text (2 ^ 62 + (2 ^ 62 - tick))) (seconds_text tick)) ≡ true
+    at true = and_from _ _ sign (seconds_pass test digit point (2 ^ 62 + (2 ^ 62 - tick)) (omega arith))
+    at false = seconds_pass test digit point tick (omega arith)
+
+pub signed_nonempty : (tick : ℕ) → tick < 2 ^ 63 → 0 < length (signed_text tick)
+signed_nonempty tick early = at (nat_lt tick (2 ^ 62))
+  where
+    at : (b : Bool) → 0 < length (cond b (codes "-" ++ seconds_text (2 ^ 62 + (2 ^ 62 - tick))) (seconds_text tick))
+    at true = omega arith
+    at false = seconds_nonempty tick (omega arith)

@@ -4,3 +4,4 @@ pub mod Tables
 pub mod WorkedTables
 pub mod Gpiomons
 pub mod Written
+pub mod WrittenTables

@@ -1,6 +1,7 @@
 //! What the definitions of `specs/` come to: each law is the contract of a function that does nothing.
 ghost use Rattle.xb_csv.specs.WorkedTables.{SecondsAreRead, TablesAreRead};
 ghost use Rattle.xb_csv.specs.Written.{WrittenEdgesAreRead, WrittenRowsAreRead};
+ghost use Rattle.xb_csv.specs.WrittenTables.{SaleaeIsRead, SigrokSamplesAreRead, SigrokTimesAreRead};
 
 /// What some times in seconds say.
 pub fn seconds_are_read()
@@ -22,4 +23,24 @@ pub fn written_edges_are_read()
 /// The wires are at most 65,535, no time is before the one above, and all are below 2^62 ns.
 pub fn written_rows_are_read()
     ensures { WrittenRowsAreRead }
+{}
+
+/// A table of samples, written as sigrok writes it with comments for its version, the channels and the rate, is read back
+/// as it is: at each sample, a tick each, the level of each wire that is asked for. The channels have names of their own,
+/// fewer than 65,536, and the rate is a whole number of Hz, kHz, MHz or GHz.
+pub fn sigrok_samples_are_read()
+    ensures { SigrokSamplesAreRead }
+{}
+
+/// The same of a table with a column of times, in seconds, ms, us, ns or ps: at each time the level of each wire that is
+/// asked for. No time is before the one above, and all are below 2^63.
+pub fn sigrok_times_are_read()
+    ensures { SigrokTimesAreRead }
+{}
+
+/// A table as Saleae Logic writes it, with times in seconds to the nanosecond, and a sign before 0 s, is read back as it
+/// is: at each time the level of each wire that is asked for. No time is before the one above, and all are nearer to 0 s
+/// than 2^62 ns.
+pub fn saleae_is_read()
+    ensures { SaleaeIsRead }
 {}

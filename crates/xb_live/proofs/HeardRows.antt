@@ -154,13 +154,13 @@ module _ (limits : Limits) (plan : Plan) where
     sends : image_from (pulse_machine limits) pulse.OnHook (rows_of l rows) ≡ on_line l own
     sends = image_from-on_lines row_line pulse.OnHook (phase_after limits) (signals_by limits) l pulse.OnHook (rows_of l rows) on
 
-    closed : closes (rows_of l rows) ≡ true → own ≡ all
+    pub closed : closes (rows_of l rows) ≡ true → own ≡ all
     closed is =
         sym (whats-on_line l own)
         ∙ ap (map (λ (item : On Signal). item.what)) (sym sends ∙ record_heard limits l (rows_of l rows) lawful on is)
         ∙ whats-on_line l all
 
-    open_yet : closes (rows_of l rows) ≡ false → own ++ Close ∷ [] ≡ all
+    pub open_yet : closes (rows_of l rows) ≡ false → own ++ Close ∷ [] ≡ all
     open_yet is =
         sym (whats-on_line l (own ++ Close ∷ []))
         ∙ ap (map (λ (item : On Signal). item.what))

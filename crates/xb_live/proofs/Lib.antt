@@ -14,6 +14,11 @@ pub mod HeardRows
 pub mod BegunAttempts
 pub mod TimesTold
 pub mod ToldRows
+pub mod MadeSignals
+pub mod RowTexts
+pub mod EventTexts
+pub mod AllTold
+pub mod LeftOut
 pub mod HeardLines
 pub mod ObjectValues
 pub mod PutTexts

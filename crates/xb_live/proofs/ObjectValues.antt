@@ -1,5 +1,5 @@
 -- The objects of entries have no float, and the order of marks is the one that they are of.
-use Rattle.std.proofs.Common.{◌≡◌, ◌||◌, ℕ, List, Bool, false, true, codes, Option, Some, None, Ordering, Less, Equal, Greater, nat_cmp, refl, sym}
+use Rattle.std.proofs.Common.{◌≡◌, ◌||◌, ℕ, List, Bool, false, true, codes, Option, Some, None, Ordering, Less, Equal, Greater, nat_cmp, refl, sym, ap, ◌∙◌}
 use Rattle.std.proofs.lemmas.Bool.{false≢true}
 use Rattle.std.specs.Cmp.Lexicographic.{slice_cmp}
 use Rattle.std.specs.Ordering.{match_ordering}
@@ -10,6 +10,10 @@ use Rattle.xb_model.specs.declared.mark.Mark.{Mark}
 use Rattle.xb_model.specs.declared.mark.Mark.TheVariants as mark
 use Rattle.xb_model.specs.declared.order.Order.{Order}
 use Rattle.xb_model.specs.declared.order.Order.TheVariants as orders
+use Rattle.xb_model.specs.declared.signal.Signal.{Signal}
+use Rattle.xb_model.specs.declared.signal.Signal.TheVariants.{Seize, Digit, TimeOut, Release, Close}
+use Rattle.xb_model.specs.Numbers.{digit_of_count}
+use Rattle.xb_live.specs.EventObjects.{bare_object, digit_object, object_by as event_by}
 use Rattle.xb_live.specs.Objects.{mark_object, object_by, object_of, order_in, timed_mark, timed_object, with_text, with_time}
 use Rattle.xb_live.specs.TimedEntries.{TimedEntry}
 
@@ -56,9 +60,22 @@ with_text-no-floats name text (string s) none = none
 with_text-no-floats name text (array values) none = none
 with_text-no-floats name text (object members) none = put-no-floats name text members none
 
-with_time-no-floats : (name : List ℕ) (time : Option (List ℕ)) (value : Data) → has_float value ≡ false → has_float (with_time name time value) ≡ false
+pub with_time-no-floats : (name : List ℕ) (time : Option (List ℕ)) (value : Data) → has_float value ≡ false → has_float (with_time name time value) ≡ false
 with_time-no-floats name None value none = none
 with_time-no-floats name (Some text) value none = with_text-no-floats name text value none
+
+-- the object of an event has none
+pub event-no-floats : (line at : ℕ) (dialled : List ℕ) (signal : Signal) (value : Data) → Some value ≡ event_by line at dialled signal → has_float value ≡ false
+event-no-floats line at dialled Seize value is = let same : Some value ≡ Some (bare_object line at (codes "SEIZED")) = is in let one : value ≡ bare_object line at (codes "SEIZED") = cc same in ap has_float one
+event-no-floats line at dialled (Digit count bad) value is =
+    let same : Some value ≡ Some (digit_object line at dialled (digit_of_count count bad)) = is in let one : value ≡ digit_object line at dialled (digit_of_count count bad) = cc same in ap has_float one ∙ of-digit (digit_of_count count bad)
+  where
+    of-digit : (digit : Option ℕ) → has_float (digit_object line at dialled digit) ≡ false
+    of-digit None = refl
+    of-digit (Some d) = refl
+event-no-floats line at dialled TimeOut value is = let same : Some value ≡ Some (bare_object line at (codes "TIMEDOUT")) = is in let one : value ≡ bare_object line at (codes "TIMEDOUT") = cc same in ap has_float one
+event-no-floats line at dialled Release value is = let same : Some value ≡ Some (bare_object line at (codes "RELEASED")) = is in let one : value ≡ bare_object line at (codes "RELEASED") = cc same in ap has_float one
+event-no-floats line at dialled Close value is = let same : Some value ≡ None = is in absurd (cc same)
 
 pub timed-no-floats : (from at : Option (List ℕ)) (told : TimedEntry) → has_float (timed_object from at told) ≡ false
 timed-no-floats from at told =

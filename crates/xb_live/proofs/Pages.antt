@@ -14,10 +14,11 @@ use Rattle.xb_model.specs.Tapes.{entries_of, joined_tape, tapes_of}
 use Rattle.xb_routes.specs.Table.{Table}
 use Rattle.xb_live.specs.Counting.{AreOnLines}
 use Rattle.xb_live.specs.Entries.{Entry, Numbered, entries_of_rows, next_number, numbered_after}
-use Rattle.xb_live.specs.Pages.{SortsIntoPage, page_line}
+use Rattle.xb_live.specs.Pages.{SortsIntoPage, last_line, page_line}
 use Rattle.xb_live.specs.Texts.{with_closes}
 use Rattle.xb_live.proofs.LineEntries.{all-below, line-none, line-sheet, numbered_entries}
 use Rattle.xb_live.proofs.Sheets.{of_lines-all, of_lines-sheet, sheet, sheet-order, sheet-sum, sheet-text}
+use Rattle.xb_live.proofs.AllTold.{entries-alone, tells_all}
 use Rattle.xb_live.proofs.ToldRows.{told-all}
 
 -- a sum over entries, with their numbers and without
@@ -60,7 +61,9 @@ module _ (table : Table) (lawful : IsLawful table.limits) (rows : List LoopRow) 
 
   pub sorts_into_page : SortsIntoPage table rows
   sorts_into_page = record {
-    printed = λ form. refl;
+    whole = λ style. refl;
+    tells = tells_all table lawful (with_closes rows);
+    alone = λ style only. ap (λ text. text ++ last_line style table rows) (entries-alone style only table (with_closes rows));
     sorted = sorted;
     same = subst (λ entries. IsPermutation entries sorted) (sym (told-all table (with_closes rows))) same;
     order = sheet-order (λ l. entries_of (tape l)) 0 LINES;

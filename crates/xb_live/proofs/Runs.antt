@@ -15,12 +15,12 @@ use Rattle.xb_live.specs.declared.fault.EntriesFault.TheVariants as entries_faul
 use Rattle.xb_live.specs.declared.hearings.Hearings.{Hearings}
 use Rattle.xb_live.specs.declared.printing.EntryForm.{EntryForm}
 use Rattle.xb_live.specs.Clocks.{Style}
-use Rattle.xb_live.specs.declared.printing.EntryForm.TheVariants.{Entries, Marks, Objects, MarkObjects}
+use Rattle.xb_live.specs.declared.printing.EntryForm.TheVariants.{Entries, Events, Marks, Objects, MarkObjects}
 use Rattle.xb_live.specs.Counting.{Counted, HasCounted}
 use Rattle.xb_live.specs.Hearings.{HasHeard}
-use Rattle.xb_live.specs.Texts.{entries_text, text_of}
-use Rattle.xb_live.specs.Writing.{Ends, GotBeginning, GotFirst, GotUntilLate, HasWritten, Hears, Writes}
-use Rattle.xb_live.proofs.ToldRows.{told_of_rows-none}
+use Rattle.xb_live.specs.Texts.{entries_text, told_text}
+use Rattle.xb_live.specs.Writing.{Ends, GotBeginning, GotFirst, GotUntilLate, GotUntilLateEvent, HasWritten, Hears, Writes}
+use Rattle.xb_live.proofs.AllTold.{all_of_rows-none}
 use Rattle.xb_live.proofs.Written.{first_of, first_of_first}
 use Rattle.xb_live.specs.declared.fault.LiveFault.{LiveFault}
 use Rattle.xb_live.specs.declared.fault.LiveFault.TheVariants as fault
@@ -49,7 +49,7 @@ first_along : (first some all : List LoopRow) → IsPrefix first some → IsPref
 first_along first some all p q = subst (IsPrefix first) q.1 (first_of_first first some q.0 p)
 
 text-none : (style : Style) (table : Table) → entries_text style table [] ≡ []
-text-none style table = ap (flat_map (text_of style)) (told_of_rows-none table)
+text-none style table = ap (flat_map (told_text style)) (all_of_rows-none table)
 
 -- before the first row nothing is to be heard
 hears-none : (form : EntryForm) (table : Table) (hearings : Hearings) → HasHeard table hearings [] → Hears form table hearings []
@@ -57,6 +57,7 @@ hears-none Entries table hearings silent = tt
 hears-none Marks table hearings silent = tt
 hears-none (Objects since) table hearings silent = silent
 hears-none (MarkObjects since) table hearings silent = silent
+hears-none (Events since) table hearings silent = silent
 
 pub so_far-start : (style : Style) (office : Counted) (hearings : Hearings) (all : Option Rest) (out : Option (List ℕ)) → HasCounted office [] → HasHeard office.live.table hearings [] → IsSoFar 0 style office hearings all all out out
 so_far-start style office hearings None out counted silent = tt
@@ -104,6 +105,9 @@ module _ (count : ℕ) (style : Style) (office : Counted) (hearings : Hearings) 
       at (entries_fault.Late line number) p (earlier, (late, q, text, completes)) =
           subst (λ t. GotUntilLate style line number t (rows_taken rest.rows rest.stop) start new) same
           (earlier, (late, first_along (earlier ++ late ∷ []) _ _ q p, text, completes))
+      at (entries_fault.LateEvent line) p (earlier, (late, q, text, makes)) =
+          subst (λ t. GotUntilLateEvent style line t (rows_taken rest.rows rest.stop) start new) same
+          (earlier, (late, first_along (earlier ++ late ∷ []) _ _ q p, text, makes))
       at entries_fault.Write p got = inr (subst (λ t. GotBeginning style t (rows_taken rest.rows rest.stop) start new) same (got.0, first_along got.0 _ _ got.1 p, got.2))
 
   -- the entries of the first rows stand
@@ -170,6 +174,8 @@ ends-printed style table start new entries_fault.NoMemory (Some rest) h =
     subst (λ stop. GotFirst style table (rows_taken rest.rows stop) start new) (sym h.0) h.1
 ends-printed style table start new (entries_fault.Late line number) (Some rest) h =
     subst (λ stop. GotUntilLate style line number table (rows_taken rest.rows stop) start new) (sym h.0) h.1
+ends-printed style table start new (entries_fault.LateEvent line) (Some rest) h =
+    subst (λ stop. GotUntilLateEvent style line table (rows_taken rest.rows stop) start new) (sym h.0) h.1
 ends-printed style table start new entries_fault.Write (Some rest) h =
     ⊎_elim
     (λ beginning. inl (h.0, beginning))

@@ -2,8 +2,6 @@
 use Rattle.std.proofs.Common.{◌≡◌, ◌<◌, List, [], ◌∷◌, ◌++◌, map, length, drop, get_or, refl, sym, subst, ap, ◌∙◌, append_assoc, append-nil}
 use Rattle.std.proofs.Math.Seq.{drop-append_seam, drop-length}
 use Rattle.std.proofs.lemmas.List.{map-append}
-use Rattle.std.specs.List.{flat_map}
-use Rattle.std.proofs.lemmas.List.Concat.{flat_map-append}
 use Rattle.xb_model.specs.declared.dialled.Dialled.{Dialled}
 use Rattle.xb_model.specs.declared.line.TheConstants.{LINES}
 use Rattle.xb_model.specs.declared.on.On.{On}
@@ -17,16 +15,16 @@ use Rattle.xb_pulse.specs.Machine.{machine as pulse_machine}
 use Rattle.xb_register.specs.Machine.{machine as register_machine}
 use Rattle.xb_routes.specs.Table.{Table}
 use Rattle.xb_live.specs.declared.fault.EntriesFault.{EntriesFault}
-use Rattle.xb_live.specs.declared.fault.EntriesFault.TheVariants.{Late, NoMemory, Write}
+use Rattle.xb_live.specs.declared.fault.EntriesFault.TheVariants.{Late, LateEvent, NoMemory, Write}
 use Rattle.xb_live.specs.declared.line_hearing.Hearing.{Hearing}
 use Rattle.xb_live.specs.declared.hearings.Hearings.{Hearings}
 use Rattle.xb_live.specs.declared.printing.EntryForm.{EntryForm}
-use Rattle.xb_live.specs.declared.printing.EntryForm.TheVariants.{Entries, Marks, Objects, MarkObjects}
-use Rattle.xb_live.specs.Clocks.{Clock, IsLate, Style, styled}
+use Rattle.xb_live.specs.declared.printing.EntryForm.TheVariants.{Entries, Events, Marks, Objects, MarkObjects}
+use Rattle.xb_live.specs.Clocks.{Clock, IsLate, styled}
 use Rattle.xb_live.specs.Entries.{Entry, Numbered, entries_of_rows, numbered_after}
 use Rattle.xb_live.specs.Faults.{IsOfEntry}
-use Rattle.xb_live.specs.Texts.{entries_text, text_of}
-use Rattle.xb_live.specs.TimedEntries.{TimedEntry, completed_by, entry_in, told_after, told_by, told_of_rows, told_with}
+use Rattle.xb_live.specs.Texts.{text_of}
+use Rattle.xb_live.specs.TimedEntries.{TimedEntry, completed_by, entry_in, told_after, told_by, told_in, told_of_rows, told_with}
 use Rattle.xb_live.specs.Writing.{Hears}
 use Rattle.xb_live.proofs.BegunAttempts.{began-is}
 use Rattle.xb_live.proofs.Completed.{dialled_of, entries-dialled, entry_from}
@@ -40,8 +38,7 @@ module _ (table : Table) where
 
   -- what one row completes
   abbrev here : List LoopRow → LoopRow → List TimedEntry
-  here earlier row =
-      map (told_by table (earlier ++ row ∷ [])) (numbered_after (entries_of_rows table earlier) (completed_by table earlier row))
+  here earlier row = told_in table earlier row
 
   pub told_after-cons : (earlier : List LoopRow) (row : LoopRow) (rows : List LoopRow) → told_after table earlier (row ∷ rows) ≡ here earlier row ++ told_after table (earlier ++ row ∷ []) rows
   unfolding told_after
@@ -59,6 +56,16 @@ module _ (table : Table) where
       ∙ sym (append_assoc (here earlier x) (told_after table (earlier ++ x ∷ []) xs) (told_after table (earlier ++ x ∷ xs) ys))
       ∙ ap (λ front. front ++ told_after table (earlier ++ x ∷ xs) ys) (sym (told_after-cons earlier x xs))
 
+  -- what a row completes, by its marks
+  pub told-here : (rows : List LoopRow) (row : LoopRow) (more : List Entry) (numbered : List Numbered)
+      → entries_of_rows table (rows ++ row ∷ []) ≡ entries_of_rows table rows ++ more
+      → numbered_after (entries_of_rows table rows) more ≡ numbered
+      → told_in table rows row ≡ map (told_by table (rows ++ row ∷ [])) numbered
+  told-here rows row more numbered completed is =
+      ap (λ entries. map (told_by table (rows ++ row ∷ [])) (numbered_after (entries_of_rows table rows) entries))
+      (ap (drop (length (entries_of_rows table rows))) completed ∙ drop-append_seam (entries_of_rows table rows) more)
+      ∙ ap (map (told_by table (rows ++ row ∷ []))) is
+
   -- a row more tells the entries that it completes
   pub told-more : (rows : List LoopRow) (row : LoopRow) (more : List Entry) (numbered : List Numbered)
       → entries_of_rows table (rows ++ row ∷ []) ≡ entries_of_rows table rows ++ more
@@ -70,9 +77,7 @@ module _ (table : Table) where
       (told_after-cons rows row []
       ∙ ap (λ later. here rows row ++ later) (told_after-none (rows ++ row ∷ []))
       ∙ append-nil (here rows row)
-      ∙ ap (λ entries. map (told_by table (rows ++ row ∷ [])) (numbered_after (entries_of_rows table rows) entries))
-      (ap (drop (length (entries_of_rows table rows))) completed ∙ drop-append_seam (entries_of_rows table rows) more)
-      ∙ ap (map (told_by table (rows ++ row ∷ []))) is)
+      ∙ told-here rows row more numbered completed is)
 
   -- the entries that more rows complete come after those of the first
   later_entries : (xs ys : List LoopRow) → (more : List Entry) × (entries_of_rows table (xs ++ ys) ≡ entries_of_rows table xs ++ more)
@@ -133,15 +138,6 @@ module _ (table : Table) where
   pub told_of_rows-none : told_of_rows table [] ≡ []
   told_of_rows-none = told_after-none []
 
--- the text of a row more
-pub text-more : (style : Style) (table : Table) (rows : List LoopRow) (row : LoopRow) (more : List Entry) (numbered : List Numbered)
-    → entries_of_rows table (rows ++ row ∷ []) ≡ entries_of_rows table rows ++ more
-    → numbered_after (entries_of_rows table rows) more ≡ numbered
-    → entries_text style table (rows ++ row ∷ []) ≡ entries_text style table rows ++ flat_map (text_of style) (map (told_by table (rows ++ row ∷ [])) numbered)
-text-more style table rows row more numbered completed is =
-    ap (flat_map (text_of style)) (told-more table rows row more numbered completed is)
-    ∙ flat_map-append (text_of style) (told_of_rows table rows) (map (told_by table (rows ++ row ∷ [])) numbered)
-
 -- what is heard of a line is what is told of its entry
 module _ (table : Table) (lawful : IsLawful table.limits) (rows : List LoopRow) (entry : Numbered) where
   told-heard : (heard : Hearing) → heard ≡ heard_after table.limits table.plan entry.line rows → told_with entry.line entry.number entry.marks heard ≡ told_by table rows entry
@@ -162,6 +158,8 @@ module _ (table : Table) (lawful : IsLawful table.limits) (rows : List LoopRow) 
       ap (text_of (styled (Objects since) clock)) (told-heard heard (is ∙ hears.lines entry.line heard below))
   text-heard (MarkObjects since) clock hearings heard hears below is =
       ap (text_of (styled (MarkObjects since) clock)) (told-heard heard (is ∙ hears.lines entry.line heard below))
+  text-heard (Events since) clock hearings heard hears below is =
+      ap (text_of (styled (Events since) clock)) (told-heard heard (is ∙ hears.lines entry.line heard below))
 
   -- and its times are past the last instant where these are
   pub late-heard : (form : EntryForm) (hearings : Hearings) (heard : Hearing) → Hears form table hearings rows → entry.line < LINES → heard ≡ get_or hearings.lines entry.line heard
@@ -172,10 +170,13 @@ module _ (table : Table) (lawful : IsLawful table.limits) (rows : List LoopRow) 
       subst (IsLate (Objects since)) (told-heard heard (is ∙ hears.lines entry.line heard below)) late
   late-heard (MarkObjects since) hearings heard hears below is late =
       subst (IsLate (MarkObjects since)) (told-heard heard (is ∙ hears.lines entry.line heard below)) late
+  late-heard (Events since) hearings heard hears below is late =
+      subst (IsLate (Events since)) (told-heard heard (is ∙ hears.lines entry.line heard below)) late
 
   -- nor is it printed for another reason
   pub fault-heard : (form : EntryForm) (hearings : Hearings) (heard : Hearing) → Hears form table hearings rows → entry.line < LINES → heard ≡ get_or hearings.lines entry.line heard
       → (f : EntriesFault) → IsOfEntry form (told_with entry.line entry.number entry.marks heard) f → IsOfEntry form (told_by table rows entry) f
   fault-heard form hearings heard hears below is NoMemory of = of
   fault-heard form hearings heard hears below is (Late line number) (same, numbered, late) = (same, numbered, late-heard form hearings heard hears below is late)
+  fault-heard form hearings heard hears below is (LateEvent line) of = of
   fault-heard form hearings heard hears below is Write of = of

@@ -2,9 +2,11 @@
 use Rattle.std.proofs.Common.{◌≡◌, ℕ, zero, suc, ◌+◌, ◌-◌, ◌≤◌, ◌<◌, true, false, None, IsSome, ◌↔◌, Err, inr, add-zero, arith, List, [], ◌∷◌, ◌++◌, map, Option, refl, sym, ap, ◌∙◌, subst, append_assoc, append-nil}
 use Rattle.std.specs.Io.KnownBytes.{Appends}
 use Rattle.std.proofs.KnownBytes.{Appends-trans}
+use Rattle.std.specs.List.{flat_map}
 use mathlib.Core.List.{IsPrefix}
 use Rattle.std.proofs.lemmas.List.{map-append}
 use Rattle.xb_model.specs.declared.line.TheConstants.{LINES}
+use Rattle.xb_model.specs.declared.mark.Mark.{Mark}
 use Rattle.xb_model.specs.Lines.{lines_below}
 use Rattle.xb_model.specs.Rows.{LoopRow, close_row}
 use Rattle.xb_model.proofs.LinesBelow.{lines_below-none, lines_below-more}
@@ -12,16 +14,18 @@ use Rattle.xb_routes.specs.Table.{Table}
 use Rattle.xb_text.specs.Writing.{AppendsBeginning}
 use Rattle.xb_text.proofs.Beginnings.{AppendsBeginning-second}
 use Rattle.xb_live.specs.declared.fault.EntriesFault.{EntriesFault}
-use Rattle.xb_live.specs.declared.fault.EntriesFault.TheVariants.{Late, NoMemory, Write}
+use Rattle.xb_live.specs.declared.fault.EntriesFault.TheVariants.{Late, LateEvent, NoMemory, Write}
 use Rattle.xb_live.specs.declared.hearings.Hearings.{Hearings}
 use Rattle.xb_live.specs.Clocks.{IsLate, Style}
 use Rattle.xb_live.specs.Entries.{Entry, Numbered, count_keyed, count_refused, entries_of_rows, numbered_after}
-use Rattle.xb_live.specs.Counting.{Counted, HasCounted}
-use Rattle.xb_live.specs.Faults.{IsOfEntry}
-use Rattle.xb_live.specs.Texts.{entries_text, text_of, totals_of, whole_text, with_closes}
-use Rattle.xb_live.specs.TimedEntries.{TimedEntry, told_by}
-use Rattle.xb_live.specs.Writing.{CompletesLate, Ends, GotBeginning, GotFirst, GotUntilLate, HasWritten, Hears, Writes}
-use Rattle.xb_live.proofs.ToldRows.{text-more, told-more}
+use Rattle.xb_live.specs.Counting.{Counted, HasCounted, numbered_by}
+use Rattle.xb_live.specs.Events.{events_by}
+use Rattle.xb_live.specs.Texts.{entries_text, event_text, text_of, totals_of, whole_text, with_closes}
+use Rattle.xb_live.specs.TimedEntries.{TimedEntry, told_by, told_of_rows}
+use Rattle.xb_live.specs.Writing.{CompletesLate, Ends, GotBeginning, GotFirst, GotUntilLate, GotUntilLateEvent, HasWritten, Hears, MakesLate, Writes}
+use Rattle.xb_live.proofs.AllTold.{text-more}
+use Rattle.xb_live.proofs.RowTexts.{IsOfTold}
+use Rattle.xb_live.proofs.ToldRows.{told-here, told-more}
 
 -- some rows are the first of themselves and more
 pub first_of : (rows more : List LoopRow) → IsPrefix rows (rows ++ more)
@@ -35,66 +39,73 @@ first_of_first first rows more p = (p.0 ++ more, sym (append_assoc first p.0 mor
 module _ (style : Style) (office after : Counted) (hearings heard : Hearings) (row : LoopRow) (more : List Entry) (table : after.live.table ≡ office.live.table)
     (rows : List LoopRow) (start out : Option (List ℕ)) (before : HasWritten style office hearings rows start out)
     (counted : HasCounted after (rows ++ row ∷ [])) (hears : Hears style.form office.live.table heard (rows ++ row ∷ []))
-    (completed : entries_of_rows office.live.table (rows ++ row ∷ []) ≡ entries_of_rows office.live.table rows ++ more) where
+    (completed : entries_of_rows office.live.table (rows ++ row ∷ []) ≡ entries_of_rows office.live.table rows ++ more)
+    (numbered : List Numbered) (is : numbered_after (entries_of_rows office.live.table rows) more ≡ numbered) where
   heard-now : Hears style.form after.live.table heard (rows ++ row ∷ [])
   heard-now = subst (λ t. Hears style.form t heard (rows ++ row ∷ [])) (sym table) hears
 
-  -- no entry
-  pub written-none : numbered_after (entries_of_rows office.live.table rows) more ≡ [] → HasWritten style after heard (rows ++ row ∷ []) start out
-  written-none none = record {
+  -- what is told of it
+  abbrev pub told : List ℕ
+  told =
+      flat_map (event_text style.form style.clock) (events_by office.live.table rows row)
+      ++ flat_map (text_of style) (map (told_by office.live.table (rows ++ row ∷ [])) numbered)
+
+  grown : entries_text style after.live.table (rows ++ row ∷ []) ≡ entries_text style office.live.table rows ++ told
+  grown =
+      ap (λ t. entries_text style t (rows ++ row ∷ [])) table
+      ∙ text-more style office.live.table rows row
+      ∙ ap (λ tolds. entries_text style office.live.table rows ++ (flat_map (event_text style.form style.clock) (events_by office.live.table rows row) ++ flat_map (text_of style) tolds))
+      (told-here office.live.table rows row more numbered completed is)
+
+  -- its text was written
+  pub written-row : (new : Option (List ℕ)) → Appends out new told → HasWritten style after heard (rows ++ row ∷ []) start new
+  written-row new wrote = record {
     counted = counted;
     heard = heard-now;
-    text = subst (Appends start out)
-        (sym (ap (λ t. entries_text style t (rows ++ row ∷ [])) table ∙ text-more style office.live.table rows row more [] completed none ∙ append-nil _))
-        before.text;
+    text = subst (Appends start new) (sym grown) (Appends-trans start out new (entries_text style office.live.table rows) told before.text wrote);
   }
 
-  module _ (it : Numbered) (one : numbered_after (entries_of_rows office.live.table rows) more ≡ it ∷ []) where
-    abbrev told : TimedEntry
-    told = told_by office.live.table (rows ++ row ∷ []) it
+  -- or the beginning of its text
+  pub written-beginning : (new : Option (List ℕ)) → AppendsBeginning out new told → GotBeginning style after.live.table (rows ++ row ∷ []) start new
+  written-beginning new wrote = (
+    rows ++ row ∷ [],
+    ([], append-nil _),
+    subst (AppendsBeginning start new) (sym grown) (AppendsBeginning-second start out new (entries_text style office.live.table rows) told before.text wrote),
+  )
 
-    all : entries_text style after.live.table (rows ++ row ∷ []) ≡ entries_text style office.live.table rows ++ text_of style told
-    all =
-        ap (λ t. entries_text style t (rows ++ row ∷ [])) table
-        ∙ text-more style office.live.table rows row more (it ∷ []) completed one
-        ∙ ap (λ text. entries_text style office.live.table rows ++ text) (append-nil (text_of style told))
-
-    -- an entry, whose text was written
-    pub written-one : (new : Option (List ℕ)) → Appends out new (text_of style told) → HasWritten style after heard (rows ++ row ∷ []) start new
-    written-one new wrote = record {
-      counted = counted;
-      heard = heard-now;
-      text = subst (Appends start new) (sym all) (Appends-trans start out new (entries_text style office.live.table rows) (text_of style told) before.text wrote);
-    }
-
-    -- or the beginning of its text
-    pub written-beginning : (new : Option (List ℕ)) → AppendsBeginning out new (text_of style told) → GotBeginning style after.live.table (rows ++ row ∷ []) start new
-    written-beginning new wrote = (
-      rows ++ row ∷ [],
+  -- or nothing, since a time of it is past the last instant
+  written-late : (entry : TimedEntry) (l n : ℕ) → map (told_by office.live.table (rows ++ row ∷ [])) numbered ≡ entry ∷ [] → entry.line ≡ l → entry.number ≡ n → IsLate style.form entry
+      → GotUntilLate style l n after.live.table (rows ++ row ∷ []) start out
+  written-late entry l n one on number late = (
+    rows,
+    (
+      row,
       ([], append-nil _),
-      subst (AppendsBeginning start new) (sym all) (AppendsBeginning-second start out new (entries_text style office.live.table rows) (text_of style told) before.text wrote),
-    )
+      subst (λ t. Appends start out (entries_text style t rows)) (sym table) before.text,
+      subst (λ t. CompletesLate style.form l n t rows row) (sym table)
+          (entry, told-more office.live.table rows row more numbered completed is ∙ ap (λ tolds. told_of_rows office.live.table rows ++ tolds) one, on, number, late),
+    ),
+  )
 
-    -- or nothing, since a time of it is past the last instant
-    written-late : IsLate style.form told → GotUntilLate style it.line it.number after.live.table (rows ++ row ∷ []) start out
-    written-late late = (
-      rows,
-      (
-        row,
-        ([], append-nil _),
-        subst (λ t. Appends start out (entries_text style t rows)) (sym table) before.text,
-        subst (λ t. CompletesLate style.form it.line it.number t rows row) (sym table)
-            (told, told-more office.live.table rows row more (it ∷ []) completed one, refl, refl, late),
-      ),
-    )
+  written-late-event : (l : ℕ) → MakesLate style.form l office.live.table rows row → GotUntilLateEvent style l after.live.table (rows ++ row ∷ []) start out
+  written-late-event l late = (
+    rows,
+    (
+      row,
+      ([], append-nil _),
+      subst (λ t. Appends start out (entries_text style t rows)) (sym table) before.text,
+      subst (λ t. MakesLate style.form l t rows row) (sym table) late,
+    ),
+  )
 
-    -- it is not written for these reasons alone
-    pub written-fault : (f : EntriesFault) → IsOfEntry style.form told f → Writes style after heard (rows ++ row ∷ []) (Err f) start out
-    written-fault NoMemory of = (rows, first_of rows (row ∷ []), subst (λ t. Appends start out (entries_text style t rows)) (sym table) before.text)
-    written-fault (Late line number) (same, numbered, late) =
-        subst (λ l. GotUntilLate style l number after.live.table (rows ++ row ∷ []) start out) same
-        (subst (λ n. GotUntilLate style it.line n after.live.table (rows ++ row ∷ []) start out) numbered (written-late late))
-    written-fault Write of = absurd of
+  -- it is not written for these reasons alone
+  pub written-fault : (marks : List Mark) (number : Option ℕ) → numbered ≡ numbered_by row.line marks number
+      → (f : EntriesFault) → IsOfTold office.live.table rows row marks style.form number f → Writes style after heard (rows ++ row ∷ []) (Err f) start out
+  written-fault marks number by NoMemory of = (rows, first_of rows (row ∷ []), subst (λ t. Appends start out (entries_text style t rows)) (sym table) before.text)
+  written-fault marks number by (Late l n) (entry, one, on, same, late) =
+      written-late entry l n (ap (map (told_by office.live.table (rows ++ row ∷ []))) by ∙ one) on same late
+  written-fault marks number by (LateEvent l) of = written-late-event l of
+  written-fault marks number by Write of = absurd of
 
 -- where nothing was written, the entries of the earlier rows stand
 pub written-first : (style : Style) (office after : Counted) (hearings : Hearings) (table : after.live.table ≡ office.live.table) (rows more : List LoopRow) (start out : Option (List ℕ))
@@ -145,6 +156,8 @@ pub faults-more : (style : Style) (office : Counted) (hearings : Hearings) (some
 faults-more style office hearings some all NoMemory start out q (first, p, text) = (first, first_along first some all p q, text)
 faults-more style office hearings some all (Late line number) start out q (earlier, (row, p, text, late)) =
     (earlier, (row, first_along (earlier ++ row ∷ []) some all p q, text, late))
+faults-more style office hearings some all (LateEvent line) start out q (earlier, (row, p, text, late)) =
+    (earlier, (row, first_along (earlier ++ row ∷ []) some all p q, text, late))
 faults-more style office hearings some all Write start out q (first, p, text) = (first, first_along first some all p q, text)
 
 -- a fault at the closes ends the rows
@@ -153,6 +166,8 @@ pub faults-end : (style : Style) (office : Counted) (hearings : Hearings) (table
 faults-end style office hearings table rows NoMemory start out e got = subst (λ t. GotFirst style t (with_closes rows) start out) e got
 faults-end style office hearings table rows (Late line number) start out e got =
     subst (λ t. GotUntilLate style line number t (with_closes rows) start out) e got
+faults-end style office hearings table rows (LateEvent line) start out e got =
+    subst (λ t. GotUntilLateEvent style line t (with_closes rows) start out) e got
 faults-end style office hearings table rows Write start out e got = inr (subst (λ t. GotBeginning style t (with_closes rows) start out) e got)
 
 -- after the closes, the totals

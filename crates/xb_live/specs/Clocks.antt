@@ -36,6 +36,7 @@ IsClockOf form.Entries clock = Unit {0}
 IsClockOf form.Marks clock = Unit {0}
 IsClockOf (form.Objects since) clock = IsClockSince since clock
 IsClockOf (form.MarkObjects since) clock = IsClockSince since clock
+IsClockOf (form.Events since) clock = IsClockSince since clock
 
 -- so many ms after it are past the last instant that there is
 abbrev pub IsLateAfter : Timestamp → ℕ → Type 0
@@ -51,6 +52,19 @@ IsLate form.Entries told = ⊥
 IsLate form.Marks told = ⊥
 IsLate (form.Objects since) told = IsLateSince since told.began told.at
 IsLate (form.MarkObjects since) told = IsLateSince since told.began told.at
+IsLate (form.Events since) told = IsLateSince since told.began told.at
+
+-- the time of an event, so many ms after the one that is given, is past the last instant
+abbrev pub IsLateAt : Option Timestamp → ℕ → Type 0
+IsLateAt None at = ⊥
+IsLateAt (Some since) at = IsLateAfter since at
+
+abbrev pub IsLateEvent : EntryForm → ℕ → Type 0
+IsLateEvent form.Entries at = ⊥
+IsLateEvent form.Marks at = ⊥
+IsLateEvent (form.Objects since) at = ⊥
+IsLateEvent (form.MarkObjects since) at = ⊥
+IsLateEvent (form.Events since) at = IsLateAt since at
 
 -- how entries are printed: their form, and the clock that tells their times
 pub record Style : Type 0 where

@@ -5,7 +5,7 @@ use Rattle.xb_model.specs.declared.dialled.Dialled.TheVariants.{Number, Refused}
 use Rattle.xb_model.specs.declared.limits.Limits.{Limits}
 use Rattle.xb_model.specs.declared.plan.Plan.{Plan}
 use Rattle.xb_model.specs.declared.signal.Signal.{Signal}
-use Rattle.xb_model.specs.Image.{Machine}
+use Rattle.xb_model.specs.Image.{Machine, state_after}
 use Rattle.xb_model.specs.Lines.{row_line}
 use Rattle.xb_model.specs.States.{AreStates}
 use Rattle.xb_model.specs.Rows.{LoopRow}
@@ -89,6 +89,12 @@ hearing_machine limits plan = record {
   next = after_row limits plan;
   outs = λ heard row. signals_by limits heard.pulse row;
 }
+
+-- the signals of a row that comes after earlier ones
+abbrev pub row_signals : Table → List LoopRow → LoopRow → List Signal
+row_signals table earlier row =
+    let heard = state_after row_line (hearing_machine table.limits table.plan) earlier row.line in
+    signals_by table.limits heard.pulse row
 
 -- an office by this table has heard these rows
 pub record HasHeard (table : Table) (hearings : Hearings) (rows : List LoopRow) : Type 0 where

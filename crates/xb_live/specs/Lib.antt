@@ -3,12 +3,16 @@ pub mod Times
 pub mod Hearings
 pub mod TimedEntries
 pub mod Objects
+pub mod Events
+pub mod EventObjects
+pub mod Told
 pub mod PageOfObjects
 pub mod Ascending
 pub mod Clocks
 pub mod Texts
 pub mod Counting
 pub mod Writing
+pub mod LeftOut
 pub mod Pages
 pub mod Decks
 pub mod Faults

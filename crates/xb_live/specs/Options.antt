@@ -1,5 +1,5 @@
 -- What the words of the command line ask for, as clap reads them.
-use Rattle.std.specs.Prelude.{◌≡◌, ℤ, List, [], ◌∷◌, codes, Bool, Option, Some, None, Result, Ok, Err, if◌then◌else◌}
+use Rattle.std.specs.Prelude.{◌≡◌, ℤ, List, [], ◌∷◌, codes, Bool, true, false, Option, Some, None, Result, Ok, Err, if◌then◌else◌}
 use Rattle.clap.specs.Simple.{App}
 use Rattle.clap.specs.Walk.{Row, Text, first_of}
 use Rattle.jiff_core.specs.declared.error.Error.{Error}
@@ -14,11 +14,12 @@ use Rattle.xb_live.specs.declared.words.Options.{Options}
 use Rattle.xb_live.specs.declared.words.Since.{Since}
 use Rattle.xb_live.specs.declared.words.Since.TheVariants as since
 
--- `mflive [--json [--since TIME]] [--marks]`
+-- `mflive [--json [--since TIME]] [--marks] [--events [--since TIME]]`
 abbrev pub command_of_words : App
 command_of_words =
     command_of (codes "mflive")
-    ((codes "json", takes.Nothing) ∷ (codes "marks", takes.Nothing) ∷ (codes "since", takes.Text) ∷ [])
+    ((codes "events", takes.Nothing) ∷ (codes "json", takes.Nothing) ∷ (codes "marks", takes.Nothing)
+    ∷ (codes "since", takes.Text) ∷ [])
 
 -- what is read of a text as jiff reads an instant: that instant, or no time
 abbrev pub IsRead : Result ℤ Error → Since → Type 0
@@ -29,9 +30,10 @@ abbrev pub ReadsSince : Option Text → Since → Type 0
 ReadsSince None given = given ≡ since.NotGiven
 ReadsSince (Some text) given = IsRead (parse_timestamp text) given
 
--- what clap matched says whether JSON is printed, whether marks are printed by themselves, and the time that the ms
--- are counted from
+-- what clap matched says whether events are printed, whether JSON is, whether marks are printed by themselves, and the
+-- time that the ms are counted from
 pub record Say (rows : List Row) (options : Options) : Type 0 where
+  pub events : ReadsFlag (given_by rows (codes "events")) options.events
   pub json : ReadsFlag (given_by rows (codes "json")) options.json
   pub marks : ReadsFlag (given_by rows (codes "marks")) options.marks
   pub since : ReadsSince (first_of (codes "since") rows) options.since
@@ -46,8 +48,16 @@ form_by json marks since.NotGiven = Some
 form_by json marks (since.Time time) = if json then Some (objects_since marks (Some time)) else None
 form_by json marks since.NoTime = None
 
+-- events are objects, each of an attempt or of an entry as a whole; JSON may be asked for beside them, and no marks
+abbrev pub form_with_events : Bool → Since → Option EntryForm
+form_with_events true given = None
+form_with_events false since.NotGiven = Some (form.Events None)
+form_with_events false (since.Time time) = Some (form.Events (Some time))
+form_with_events false since.NoTime = None
+
 abbrev pub form_of : Options → Option EntryForm
-form_of options = form_by options.json options.marks options.since
+form_of options = if options.events then form_with_events options.marks options.since
+    else form_by options.json options.marks options.since
 
 -- clap takes the words, and they ask for this form
 abbrev pub Asks : List Text → EntryForm → Type 0

@@ -7,12 +7,17 @@ use Rattle.xb_model.specs.Tapes.{tapes_of}
 use Rattle.xb_routes.specs.Table.{Table}
 use Rattle.xb_live.specs.Clocks.{Style}
 use Rattle.xb_live.specs.Entries.{Numbered, count_keyed, count_refused, entries_of_rows}
-use Rattle.xb_live.specs.Texts.{text_of, totals_of, whole_text, with_closes}
+use Rattle.xb_live.specs.Texts.{TellsEntries, text_of, told_text, totals_of, whole_text, with_closes}
 use Rattle.xb_live.specs.TimedEntries.{TimedEntry, entry_in, told_of_rows}
+use Rattle.xb_live.specs.Told.{TellsAll, Told, all_of_rows}
 
 -- the entries of rows that end, in the order in which they are printed
 abbrev pub printed_entries : Table → List LoopRow → List TimedEntry
 printed_entries table rows = told_of_rows table (with_closes rows)
+
+-- all that is told of rows that end, in the same order: events too, where they are asked for
+abbrev pub printed : Table → List LoopRow → List Told
+printed table rows = all_of_rows table (with_closes rows)
 
 -- the text line after them
 abbrev pub last_line : Style → Table → List LoopRow → List ℕ
@@ -28,9 +33,12 @@ ComesBefore a b = (a.line < b.line) ⊎ ((a.line ≡ b.line) × (a.number < b.nu
 abbrev pub page_line : Numbered → List ℕ
 page_line entry = entry_text entry.line entry.number entry.marks
 
--- sorted by line and number, what is printed of rows that end is their page; the totals stay last
+-- sorted by line and number, the entries that are printed of rows that end are their page; the totals stay last
 pub record SortsIntoPage (table : Table) (rows : List LoopRow) : Type 0 where
-  pub printed : (style : Style) → whole_text style table rows
+  pub whole : (style : Style) → whole_text style table rows
+      ≡ flat_map (told_text style) (printed table rows) ++ last_line style table rows
+  pub tells : TellsAll table (with_closes rows)
+  pub alone : (style : Style) → TellsEntries style.form → whole_text style table rows
       ≡ flat_map (text_of style) (printed_entries table rows) ++ last_line style table rows
   pub sorted : List Numbered
   pub same : IsPermutation (map entry_in (printed_entries table rows)) sorted

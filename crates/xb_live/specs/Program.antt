@@ -18,7 +18,7 @@ program = codes "mflive"
 
 -- the line for words that are refused
 abbrev pub usage_line : List ℕ
-usage_line = codes "mflive: usage: mflive [--json [--since TIME]] [--marks]\n"
+usage_line = codes "mflive: usage: mflive [--json [--since TIME]] [--marks] [--events [--since TIME]]\n"
 
 -- it names each option of the command
 abbrev pub UsageNamesEachOption : Type 0

@@ -13,7 +13,7 @@ use Rattle.xb_routes.specs.Text.{table_of_text}
 use Rattle.xb_text.specs.Writing.{AppendsBeginning}
 use Rattle.xb_live.specs.Clocks.{Style}
 use Rattle.xb_live.specs.Texts.{entries_text, whole_text, with_closes}
-use Rattle.xb_live.specs.Writing.{GotAll, GotBeginning, GotFirst, GotUntilLate}
+use Rattle.xb_live.specs.Writing.{GotAll, GotBeginning, GotFirst, GotUntilLate, GotUntilLateEvent}
 use Rattle.xb_live.specs.declared.fault.EntriesFault.TheVariants as entries_fault
 use Rattle.xb_live.specs.declared.fault.LiveFault.{LiveFault}
 use Rattle.xb_live.specs.declared.fault.LiveFault.TheVariants as fault
@@ -39,6 +39,8 @@ Prints style table rest (Err (fault.Entries entries_fault.NoMemory)) old new =
     GotFirst style table (rows_taken rest.rows rest.stop) old new
 Prints style table rest (Err (fault.Entries (entries_fault.Late line number))) old new =
     GotUntilLate style line number table (rows_taken rest.rows rest.stop) old new
+Prints style table rest (Err (fault.Entries (entries_fault.LateEvent line))) old new =
+    GotUntilLateEvent style line table (rows_taken rest.rows rest.stop) old new
 Prints style table rest (Err (fault.Deck table_fault.Read)) old new = GotFirst style table rest.rows old new
 Prints style table rest (Err (fault.Deck table_fault.NoMemory)) old new = GotFirst style table rest.rows old new
 Prints style table rest (Err fault.TooMany) old new =

@@ -38,13 +38,16 @@ abbrev pub completed_by : Table → List LoopRow → LoopRow → List Entry
 completed_by table earlier row =
     drop (length (entries_of_rows table earlier)) (entries_of_rows table (earlier ++ row ∷ []))
 
+-- each with its number, times and digits
+abbrev pub told_in : Table → List LoopRow → LoopRow → List TimedEntry
+told_in table earlier row =
+    map (told_by table (earlier ++ row ∷ []))
+    (numbered_after (entries_of_rows table earlier) (completed_by table earlier row))
+
 -- the entries that rows complete which come after earlier ones
 unfoldable pub told_after : Table → List LoopRow → List LoopRow → List TimedEntry
 told_after table earlier [] = []
-told_after table earlier (row ∷ rows) =
-    map (told_by table (earlier ++ row ∷ []))
-    (numbered_after (entries_of_rows table earlier) (completed_by table earlier row))
-    ++ told_after table (earlier ++ row ∷ []) rows
+told_after table earlier (row ∷ rows) = told_in table earlier row ++ told_after table (earlier ++ row ∷ []) rows
 
 -- the entries that rows complete, in the order in which they do
 abbrev pub told_of_rows : Table → List LoopRow → List TimedEntry

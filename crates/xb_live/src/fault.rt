@@ -11,14 +11,17 @@ use xb_text::WriteFault;
 /// Why entries are not printed.
 #[derive(Clone, Copy, Debug, PartialEq, Eq, Error)]
 pub enum EntriesFault {
-    /// Memory ran out. Nothing was written of the entry.
+    /// Memory ran out. Nothing was written of the row.
     #[error("{}", RowFault::NoMemory)]
     NoMemory,
     /// A time of this entry of this line is past the last that there is, 9999-12-30T22:00:00.999999999Z. Nothing was
-    /// written of the entry.
+    /// written of its row.
     #[error("line {0}, entry {1}: a time is past 9999-12-30T22:00:00.999999999Z")]
     Late(u16, usize),
-    /// A write or the flush failed, or a write took no byte. The beginning of the entry was written.
+    /// The time of an event of this line is past that last one. Nothing was written of its row.
+    #[error("line {0}, an event: its time is past 9999-12-30T22:00:00.999999999Z")]
+    LateEvent(u16),
+    /// A write or the flush failed, or a write took no byte. The beginning of what the row tells was written.
     #[error("the entries could not be written")]
     Write,
 }

@@ -5,11 +5,13 @@ ghost use Rattle.xb_model.specs.LawfulLimits.{IsLawful};
 ghost use Rattle.xb_model.specs.Rows.{LoopRow};
 ghost use Rattle.xb_routes.specs.Table.{Table};
 ghost use Rattle.xb_live.specs.declared.line_hearing.Hearing.{Hearing as LineHearing};
-ghost use Rattle.xb_live.specs.Hearings.{HasHeard};
+ghost use Rattle.xb_live.specs.Hearings.{HasHeard, row_signals};
 
 use crate::line_hearing::Hearing;
+use arrayvec::ArrayVec;
 use std::alloc::{AllocError, Global};
-use xb_model::{Limits, LineNo, PerLine, Plan, Row};
+use xb_model::{Limits, LineNo, PerLine, Plan, Row, Signal};
+use xb_pulse::MOST_SIGNALS;
 use xb_routes::RouteTable;
 
 /// What is heard of all lines beside their marks. It takes its memory in `new`, and none after that.
@@ -35,14 +37,16 @@ impl Hearings {
         })
     }
 
-    /// Takes one row.
-    pub fn take(&mut self, row: Row)
-        ensures { (table : Table) (rows : List LoopRow) → HasHeard table self.old rows →
+    /// Takes one row: its signals.
+    pub fn take(&mut self, row: Row) -> ArrayVec<Signal, MOST_SIGNALS>
+        ensures heard { (table : Table) (rows : List LoopRow) → HasHeard table self.old rows →
             HasHeard table self.new (rows ++ row ∷ []) }
+        ensures signals { (table : Table) (rows : List LoopRow) → HasHeard table self.old rows →
+            result.items ≡ row_signals table rows row }
     {
         self.lines
             .get_mut(row.line())
-            .take(self.limits, self.plan, row);
+            .take(self.limits, self.plan, row)
     }
 
     /// What is heard of a line.

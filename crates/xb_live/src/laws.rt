@@ -1,10 +1,12 @@
 //! What the definitions give: each law is the contract of a function that does nothing.
 ghost use Rattle.std.specs.Prelude.{◌≡◌, ℕ, List, Ok};
+ghost use Rattle.xb_model.specs.LawfulLimits.{IsLawful};
 ghost use Rattle.xb_model.specs.Rows.{LoopRow};
 ghost use Rattle.xb_routes.specs.Table.{Table};
 ghost use Rattle.xb_routes.specs.Text.{table_of_text};
 ghost use Rattle.xb_live.specs.Ascending.{TimesAscend};
 ghost use Rattle.xb_live.specs.Decks.{AcceptedRowsAreAll};
+ghost use Rattle.xb_live.specs.LeftOut.{EventsLeftOut};
 ghost use Rattle.xb_live.specs.PageOfObjects.{ObjectsAreLines};
 ghost use Rattle.xb_live.specs.Program.{UsageNamesEachOption};
 
@@ -26,6 +28,13 @@ pub fn accepted_rows_are_all()
 pub fn objects_are_lines()
     ensures { (text : List ℕ) (table : Table) → table_of_text text ≡ Ok table →
         (rows : List LoopRow) → ObjectsAreLines table rows }
+{}
+
+/// What is printed with events is, without them, what is printed of the objects of entries alone: each event is an
+/// object with a member `event`, and no entry is.
+#[tactic(auto, using(crate::proofs::LeftOut::events_left_out))]
+pub fn events_left_out()
+    ensures { (table : Table) → IsLawful table.limits → (rows : List LoopRow) → EventsLeftOut table rows }
 {}
 
 /// Whatever the rows, an attempt begins no later than its entry is completed, and the entries of a line are told in

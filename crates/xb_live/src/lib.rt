@@ -3,13 +3,15 @@
 //!
 //! - `Counting` is a live office that numbers the entries of each line and counts those of all: what it has
 //!   counted are the entries that the rows so far complete.
-//! - `take_row` and `end` write these entries: exactly them, and on a fault those of the first rows.
+//! - `take_row` and `end` write what is told of rows: exactly that, and on a fault what is told of the first rows.
 //!   `SortsIntoPage` (`specs/Pages.antt`): sorted by line and number, what is printed of rows that end is
 //!   their page.
 //! - As JSON an entry has the times of its line, and what was dialled: those of the line's record so far
 //!   (`told_of_rows`, `specs/TimedEntries.antt`). `Hearings` keeps them, row by row. By a table that was read its line
 //!   of the page is made of its object alone (`laws::objects_are_lines`), and the times of a line ascend
 //!   (`laws::times_ascend`).
+//! - With events (`specs/Events.antt`, `specs/Told.antt`) each signal of a line's attempts is an object too, in the row
+//!   that makes it (`TellsAll`). Without them the text is that of the entries' objects (`laws::events_left_out`).
 //! - Counted from a time of day, an object has its times as such too (`specs/Clocks.antt`), as any clock tells them that
 //!   tells the times of `jiff_core`. One past the last of these is a fault.
 //! - `run_deck` (`Runs`, `specs/Runs.antt`): what was written of a deck is what its table and its rows say,
@@ -17,6 +19,7 @@
 #![tactic(auto)]
 
 mod counting;
+mod events;
 mod fault;
 mod hearings;
 pub mod laws;

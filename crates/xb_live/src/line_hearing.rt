@@ -1,10 +1,12 @@
 // What is heard of a line beside its marks.
 ghost use Rattle.std.specs.Prelude.{◌≡◌, if◌then◌else◌};
+ghost use Rattle.xb_pulse.specs.Machine.{signals_by};
 ghost use Rattle.xb_register.specs.Laws.{is_seizure};
 ghost use Rattle.xb_live.specs.Hearings.{after_row, after_signal, after_signals, digits_by, digits_kept, fresh_hearing};
 
+use arrayvec::ArrayVec;
 use xb_model::{Dialled, Limits, LineStage, NumberDigits, Plan, Row, Signal};
-use xb_pulse::{Pulse, PulseState};
+use xb_pulse::{MOST_SIGNALS, Pulse, PulseState};
 use xb_register::{Register, RegisterState};
 
 // The phase of `PlainRegister` in which the register keeps digits.
@@ -88,12 +90,19 @@ impl Hearing {
         }
     }
 
-    /// Takes a row of the line.
-    pub(crate) fn take(&mut self, limits: Limits, plan: Plan, row: Row)
-        ensures { self.new ≡ after_row limits plan self.old row }
+    /// Takes a row of the line: its signals.
+    pub(crate) fn take(
+        &mut self,
+        limits: Limits,
+        plan: Plan,
+        row: Row,
+    ) -> ArrayVec<Signal, MOST_SIGNALS>
+        ensures next { self.new ≡ after_row limits plan self.old row }
+        ensures signals { result.items ≡ signals_by limits self.old.pulse row }
     {
         let signals = Pulse::new(limits).take(&mut self.pulse, row);
         self.hear_all(&Register::new(plan), &signals);
         self.at = self.at.saturating_add(u64::from(row.ms()));
+        signals
     }
 }

@@ -4,11 +4,12 @@ ghost use Rattle.std.specs.List.{flat_map};
 ghost use Rattle.serde_json.specs.View.{view};
 ghost use Rattle.xb_tape.specs.MarkLines.{mark_line};
 ghost use Rattle.xb_live.specs.Clocks.{Clock, IsClockOf, IsClockSince, styled, text_in};
-ghost use Rattle.xb_live.specs.Faults.{IsOfEntry};
+ghost use Rattle.xb_live.specs.Faults.{IsOfCompleted, IsOfEntry, IsOfRow};
 ghost use Rattle.xb_live.specs.Objects.{line_of, timed_mark, timed_object, totals_object, with_time};
-ghost use Rattle.xb_live.specs.Texts.{text_by, text_of, totals_of};
+ghost use Rattle.xb_live.specs.Texts.{completed_text, row_text, text_by, text_of, totals_of};
 ghost use Rattle.xb_live.specs.TimedEntries.{told_with};
 
+use crate::events::text_of_signals;
 use crate::fault::EntriesFault;
 use crate::line_hearing::Hearing;
 use crate::objects::{mark_object, object_of, totals_object, with_text};
@@ -17,7 +18,7 @@ use jiff_core::Timestamp;
 use serde_json::Value;
 use std::alloc::{AllocError, Global};
 use xb_json::line_of;
-use xb_model::{LineNo, Mark};
+use xb_model::{LineNo, Mark, Signal};
 use xb_tape::{write_entry, write_mark_line, write_totals};
 
 /// How entries are printed.
@@ -32,6 +33,8 @@ pub enum EntryForm {
     Objects(Option<Timestamp>),
     /// One JSON object for each mark, in the same way.
     MarkObjects(Option<Timestamp>),
+    /// As `Objects`, and one object for each event of a line, in the row that makes it.
+    Events(Option<Timestamp>),
 }
 
 // Writes a line for each mark of entry `number` of a line.
@@ -50,8 +53,8 @@ fn write_mark_lines(
     Ok(())
 }
 
-// An object that also has this time, if it is one.
-fn with_time(
+/// An object that also has this time, if it is one.
+pub(crate) fn with_time(
     alloc: Global,
     object: Value,
     name: &str,
@@ -180,13 +183,51 @@ pub(crate) fn text_of_entry(
     match form {
         EntryForm::Entries => write_entry(&mut text, line, number, entry)?,
         EntryForm::Marks => write_mark_lines(&mut text, line, number, entry)?,
-        EntryForm::Objects(since) => return text_of_object(
-            alloc, since, line, number, entry, heard,
-        ),
+        EntryForm::Objects(since) | EntryForm::Events(since) => {
+            return text_of_object(alloc, since, line, number, entry, heard);
+        }
         EntryForm::MarkObjects(since) => {
             return text_of_mark_objects(alloc, since, line, number, entry, heard);
         }
     }
+    Ok(text)
+}
+
+// What is printed of the entry of this number, if a row completes one.
+fn text_of_completed(
+    alloc: Global,
+    form: EntryForm,
+    line: LineNo,
+    number: Option<usize>,
+    entry: &[Mark],
+    heard: &Hearing,
+) -> Result<String, EntriesFault>
+    ensures text { (clock : Clock) → IsClockOf form clock → IfOk result (λ text. string_bytes text
+        ≡ completed_text (styled form clock) line entry.now heard.now number) }
+    ensures fault { IfErr result (IsOfCompleted form line entry.now heard.now number) }
+{
+    match number {
+        None => Ok(String::new(alloc)),
+        Some(number) => text_of_entry(alloc, form, line, number, entry, heard),
+    }
+}
+
+/// What is printed of a row of a line: its signals, and the entry of this number, if it completes one.
+pub(crate) fn text_of_row(
+    alloc: Global,
+    form: EntryForm,
+    line: LineNo,
+    signals: &[Signal],
+    number: Option<usize>,
+    entry: &[Mark],
+    heard: &Hearing,
+) -> Result<String, EntriesFault>
+    ensures text { (clock : Clock) → IsClockOf form clock → IfOk result (λ text. string_bytes text
+        ≡ row_text (styled form clock) line signals.now number entry.now heard.now) }
+    ensures fault { IfErr result (IsOfRow form line signals.now number entry.now heard.now) }
+{
+    let mut text = text_of_signals(alloc, form, line, signals, heard)?;
+    text.push_str(&text_of_completed(alloc, form, line, number, entry, heard)?)?;
     Ok(text)
 }
 
@@ -213,6 +254,8 @@ pub(crate) fn text_of_totals(
             write_totals(&mut text, keyed as u128, refused as u128)?;
             Ok(text)
         }
-        EntryForm::Objects(_) | EntryForm::MarkObjects(_) => totals_line(alloc, keyed, refused),
+        EntryForm::Objects(_) | EntryForm::MarkObjects(_) | EntryForm::Events(_) => totals_line(
+            alloc, keyed, refused,
+        ),
     }
 }

@@ -13,7 +13,8 @@ use xb_command::{DONE, tell_fault, tell_words};
 pub(crate) const PROGRAM: &str = "mflive";
 
 // The line of refused words.
-const USAGE: &[u8] = b"mflive: usage: mflive [--json [--since TIME]] [--marks]\n";
+const USAGE: &[u8] =
+    b"mflive: usage: mflive [--json [--since TIME]] [--marks] [--events [--since TIME]]\n";
 
 /// Reads the words of the command line, the program's name first, and by them writes the entries of a deck as
 /// it comes, as `run_deck` does. It returns the status of the process:

@@ -1,6 +1,6 @@
 // The times of day of an entry.
 ghost use Rattle.std.specs.Prelude.{◌≡◌, ◌*◌, pos, IfNone, IfSome};
-ghost use Rattle.xb_live.specs.Clocks.{AreTimes, IsLateAfter, IsLateSince, IsTimeText};
+ghost use Rattle.xb_live.specs.Clocks.{AreTimes, IsLateAfter, IsLateAt, IsLateSince, IsTimeText, TellsTime, text_in};
 
 use crate::line_hearing::Hearing;
 use arrayvec::ArrayString;
@@ -34,6 +34,17 @@ fn time_after(since: Timestamp, ms: u64) -> Option<TimeText>
     match since.checked_add_nanos(nanos(ms)) {
         Ok(time) => Some(DateTimePrinter::new().timestamp_text(time)),
         Err(_) => None,
+    }
+}
+
+/// The time so many ms after one of day, if one is given; nothing where it is past the last instant that there is.
+pub(crate) fn time_of(since: Option<Timestamp>, ms: u64) -> Option<Option<TimeText>>
+    ensures told { IfSome result (λ time. TellsTime since ms (text_in time)) }
+    ensures late { IfNone result (IsLateAt since ms) }
+{
+    match since {
+        None => Some(None),
+        Some(since) => Some(Some(time_after(since, ms)?)),
     }
 }
 

@@ -1,7 +1,7 @@
 // What the words of the command line ask for.
 ghost use Rattle.std.specs.Prelude.{◌≡◌, IfErr, IfOk, option_map};
 ghost use Rattle.xb_command.specs.Commands.{texts_of};
-ghost use Rattle.xb_live.specs.Options.{AreRefused, Asks, ReadsSince, Say, form_of, objects_since};
+ghost use Rattle.xb_live.specs.Options.{AreRefused, Asks, ReadsSince, Say, form_of, form_with_events, objects_since};
 
 use crate::printing::EntryForm;
 use crate::program::PROGRAM;
@@ -24,13 +24,15 @@ pub(crate) enum Since {
 // What the options of the command line say.
 #[derive(Clone, Copy)]
 pub(crate) struct Options {
+    pub(crate) events: bool,
     pub(crate) json: bool,
     pub(crate) marks: bool,
     pub(crate) since: Since,
 }
 
 // The options of the program, each under its name.
-const OPTIONS: [(&str, Takes); 3] = [
+const OPTIONS: [(&str, Takes); 4] = [
+    ("events", Takes::Nothing),
     ("json", Takes::Nothing),
     ("marks", Takes::Nothing),
     ("since", Takes::Text),
@@ -54,6 +56,7 @@ fn options_of(words: &Words) -> Options
     ensures { Say words.now result }
 {
     Options {
+        events: words.flag("events"),
         json: words.flag("json"),
         marks: words.flag("marks"),
         since: since_of(words.text("since")),
@@ -71,11 +74,33 @@ fn objects_since(marks: bool, since: Option<Timestamp>) -> EntryForm
     }
 }
 
+// The form of events, where the words ask for no marks.
+fn form_with_events(marks: bool, since: Since) -> Option<EntryForm>
+    ensures { result ≡ form_with_events marks since }
+{
+    if marks {
+        return None;
+    }
+    match since {
+        Since::NotGiven => Some(EntryForm::Events(None)),
+        Since::Time(time) => Some(EntryForm::Events(Some(time))),
+        Since::NoTime => None,
+    }
+}
+
 // The form that is asked for.
 fn form_of(options: Options) -> Option<EntryForm>
     ensures { result ≡ form_of options }
 {
-    let Options { json, marks, since } = options;
+    let Options {
+        events,
+        json,
+        marks,
+        since,
+    } = options;
+    if events {
+        return form_with_events(marks, since);
+    }
     match since {
         Since::NotGiven if json => Some(objects_since(marks, None)),
         Since::NotGiven => Some(if marks {

@@ -5,35 +5,40 @@ ghost use Rattle.xb_model.specs.Rows.{LoopRow};
 ghost use Rattle.xb_routes.specs.Table.{Table};
 ghost use Rattle.xb_live.specs.Clocks.{Clock, IsClockOf, styled};
 ghost use Rattle.xb_live.specs.Texts.{with_closes};
-ghost use Rattle.xb_live.specs.Writing.{Ends, HasWritten, Hears, Writes};
+ghost use Rattle.xb_live.specs.Writing.{AreSignals, Ends, HasWritten, Hears, Writes};
 ghost use Rattle.xb_live.specs.declared.counting.TheConstants.{MOST_ENTRIES};
 
 use crate::counting::Counting;
 use crate::fault::EntriesFault;
 use crate::hearings::Hearings;
-use crate::printing::{EntryForm, text_of_entry, text_of_totals};
+use crate::printing::{EntryForm, text_of_row, text_of_totals};
+use arrayvec::ArrayVec;
 use std::alloc::Global;
 use std::io::Write;
-use xb_model::{LINES, LineNo, Row};
+use xb_model::{LINES, LineNo, Row, Signal};
+use xb_pulse::MOST_SIGNALS;
 use xb_text::write_whole;
 
-// Takes one row into what is heard, where what is printed tells of it.
-fn hear(form: EntryForm, hearings: &mut Hearings, row: Row)
-    ensures { (table : Table) (rows : List LoopRow) → Hears form table hearings.old rows →
+// Takes one row into what is heard, where what is printed tells of it: then its signals.
+fn hear(form: EntryForm, hearings: &mut Hearings, row: Row) -> ArrayVec<Signal, MOST_SIGNALS>
+    ensures heard { (table : Table) (rows : List LoopRow) → Hears form table hearings.old rows →
         Hears form table hearings.new (rows ++ row ∷ []) }
+    ensures signals { (table : Table) (rows : List LoopRow) → Hears form table hearings.old rows →
+        AreSignals form table rows row result.items }
 {
     match form {
-        EntryForm::Entries => {}
-        EntryForm::Marks => {}
+        EntryForm::Entries => ArrayVec::new(),
+        EntryForm::Marks => ArrayVec::new(),
         EntryForm::Objects(_) => hearings.take(row),
         EntryForm::MarkObjects(_) => hearings.take(row),
+        EntryForm::Events(_) => hearings.take(row),
     }
 }
 
-/// Takes one row, and writes the entry that it completes, if it does, with its number; then `out` is
-/// flushed.
+/// Takes one row, and writes what it tells: its events, where they are asked for, and the entry that it
+/// completes, if it does, with its number. Then `out` is flushed.
 ///
-/// On an `Err` the row was taken, and its entry was not written whole.
+/// On an `Err` the row was taken, and what it tells was not written whole.
 pub fn take_row<W: Write>(
     alloc: Global,
     form: EntryForm,
@@ -51,13 +56,15 @@ pub fn take_row<W: Write>(
     ensures one { office.new.keyed + office.new.refused ≤ office.old.keyed + office.old.refused + 1 }
     ensures table { office.new.live.table ≡ office.old.live.table }
 {
-    hear(form, hearings, row);
-    if let Some(number) = office.take(row) {
-        let line = row.line();
-        let heard = hearings.of(line);
-        let text = text_of_entry(alloc, form, line, number, office.entry(), heard)?;
-        write_whole(out, text.as_bytes())?;
+    let signals = hear(form, hearings, row);
+    let number = office.take(row);
+    let line = row.line();
+    let heard = hearings.of(line);
+    let text = text_of_row(alloc, form, line, &signals, number, office.entry(), heard)?;
+    if text.is_empty() {
+        return Ok(());
     }
+    write_whole(out, text.as_bytes())?;
     Ok(())
 }
 

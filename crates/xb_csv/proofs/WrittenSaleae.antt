@@ -1,0 +1,74 @@
+-- Tables of Saleae Logic that are written are read back.
+use Rattle.std.proofs.Common.{◌≡◌, ℕ, ◌+◌, ◌^◌, ◌<◌, ◌≤◌, List, [], ◌∷◌, ◌++◌, false, cond, Option, Some, None, length, map, refl, ap, sym, subst, ◌∙◌, arith, ne_eqb, not, codes}
+use Rattle.std.proofs.lemmas.Bool.Decides.{nat_tests}
+use Rattle.std.specs.Prelude.{Ok, Err, bytes_eq, nat_lt, ◌==◌, slice_get}
+use Rattle.std.specs.Option.{ok_or}
+use Rattle.xb_contact.specs.declared.event.Event.{Event}
+use Rattle.xb_contact.specs.declared.event.Event.TheVariants as events
+use Rattle.xb_contact.specs.declared.event.Refusal.TheVariants as refusals
+use Rattle.xb_contact.specs.declared.scale.TheConstants.{NANOSECONDS}
+use Rattle.xb_contact.specs.Changes.{IsName}
+use Rattle.xb_contact.specs.Steps.{is_before, result_and_then, result_map, then_later}
+use Rattle.xb_contact.proofs.StepLemmas.{line_says}
+use Rattle.xb_csv.specs.declared.columns.Clock.TheVariants as clocks
+use Rattle.xb_csv.specs.declared.columns.TableForm.TheVariants as forms
+use Rattle.xb_csv.specs.Seconds.{nanoseconds_of}
+use Rattle.xb_csv.specs.Tables.{TableState, begins_rows, begun_table, columns_in, saleae_begins, table_ends, table_line_says}
+use Rattle.xb_csv.specs.Written.{TableRow, level_text, levels_said}
+use Rattle.xb_csv.specs.WrittenTables.{AreAmong, AreLabels, IsLabel, SaleaeIsRead, cells_line, levels_at, names_at, saleae_labels, signed_text, timed_lines}
+use Rattle.xb_csv.proofs.WrittenSeconds.{signed_is_read, signed_nonempty, signed_pass}
+use Rattle.xb_csv.proofs.WrittenCells.{among, columns_found, joined_cells, joined_taken, levels_labels, row_read, timed_rows, word_label}
+
+-- a time is a cell
+time-label : (tick : ℕ) → tick < 2 ^ 63 → IsLabel (signed_text tick)
+time-label tick early =
+    let is : IsName (signed_text tick) =
+    (signed_nonempty tick early, signed_pass (nat_lt 32) (λ digit low. grind (arith, nat_tests)) refl refl tick early) in
+    word_label (signed_text tick) is
+    (signed_pass (λ b. not (b == 44)) (λ digit low. ap not (ne_eqb (48 + digit) 44 (λ e. absurd (omega arith)))) refl refl tick early)
+
+-- among the rows
+abbrev rowing : List (List ℕ) → List ℕ → Option ℕ → Option ℕ → TableState
+rowing names wires rate last = among forms.Saleae names wires 1 clocks.Seconds rate last
+
+header-line :
+    (channels : List (List ℕ)) (wires : List ℕ) (rate : Option ℕ) → AreLabels (saleae_labels channels)
+    → AreAmong wires (length channels)
+    → table_line_says (begun_table forms.Saleae (names_at channels wires) rate) (cells_line (saleae_labels channels))
+    ≡ Ok (events.Ticks NANOSECONDS ∷ [], rowing (names_at channels wires) wires rate None)
+header-line channels wires rate lawful all =
+    let label : List ℕ = codes "Time [s]" in
+    let names : List (List ℕ) = names_at channels wires in
+    let begun : TableState = begun_table forms.Saleae names rate in
+    let line : List ℕ = cells_line (saleae_labels channels) in
+    let cells = joined_cells label channels lawful.each in
+    joined_taken begun label channels lawful.each
+    ∙ ap (λ own. result_and_then (λ first. cond (bytes_eq first (codes "Time [s]")) (saleae_begins begun line) (Err refusals.Header)) (ok_or (slice_get own 0) refusals.Header)) cells
+    ∙ ap (λ own. result_and_then (λ columns. begins_rows (record begun { columns = columns }) clocks.Seconds NANOSECONDS) (columns_in own names)) cells
+    ∙ ap (result_and_then (λ columns. begins_rows (record begun { columns = columns }) clocks.Seconds NANOSECONDS)) (columns_found (label ∷ []) channels wires lawful all)
+
+-- a row
+time-line :
+    (names : List (List ℕ)) (wires : List ℕ) (rate : Option ℕ) (count : ℕ) → AreAmong wires count
+    → (last : Option ℕ) (row : TableRow) → 1 ≤ row.tick → row.tick < 2 ^ 63 → length row.levels ≡ count
+    → is_before row.tick last ≡ false
+    → table_line_says (rowing names wires rate last) (cells_line (signed_text row.tick ∷ map level_text row.levels))
+    ≡ Ok (events.At row.tick ∷ levels_said 0 (levels_at row.levels wires), rowing names wires rate (Some row.tick))
+time-line names wires rate count all last row late early same order =
+    let state : TableState = rowing names wires rate last in
+    let time : List ℕ = signed_text row.tick in
+    let P : ℕ → Type 0 = λ n. AreAmong wires n in
+    joined_taken state time (map level_text row.levels) (time-label row.tick early, levels_labels row.levels)
+    ∙ row_read forms.Saleae names wires 1 clocks.Seconds rate last (time ∷ []) row.levels (cells_line (time ∷ map level_text row.levels))
+    time row.tick (joined_cells time (map level_text row.levels) (time-label row.tick early, levels_labels row.levels)) refl
+    (signed_is_read row.tick (omega arith) early) order refl (subst P (sym same) all)
+
+pub saleae_is_read : SaleaeIsRead
+saleae_is_read channels rate wires row rows labels all lawful =
+    let names : List (List ℕ) = names_at channels wires in
+    let ticks : List Event = events.Ticks NANOSECONDS ∷ [] in
+    line_says table_line_says table_ends (begun_table forms.Saleae names rate) (rowing names wires rate None)
+    (cells_line (saleae_labels channels)) (timed_lines signed_text (row ∷ rows)) ticks (header-line channels wires rate labels all)
+    ∙ ap (then_later ticks)
+    (timed_rows (rowing names wires rate) signed_text wires (length channels) 1 (time-line names wires rate (length channels) all)
+    (λ tick. refl) row rows lawful)

@@ -1,0 +1,144 @@
+"""Lamps for the lines of an office: what each does, from the events of mflive as they come.
+
+usage: mflive --events DECK | lamps.py
+       mflive --events DECK | lamps.py --gpio CHIP LINE=PIN,PIN,PIN,PIN,PIN...
+
+The first shows a row for each line that was seized: five lamps, of which one is lit (on hook, seized, dialling,
+complete, refused), its digits as two out of five, and what was keyed last, or why a call was refused. At the end of the
+events, or at ctrl-C, the rows stay.
+
+With --gpio it prints a command for each event instead, in the words of gpioset of libgpiod 1, which lights the lamp on
+one of five pins of the line. A shell does what it prints:
+
+    mflive --events DECK | lamps.py --gpio gpiochip0 7=17,27,22,23,24 | sh
+"""
+import curses
+import json
+import sys
+
+STATES = ("ON HOOK", "SEIZED", "DIALLING", "COMPLETE", "REFUSED")
+WEIGHTS = (0, 1, 2, 4, 7)
+
+
+class Line:
+    """What is known of a line."""
+
+    def __init__(self):
+        self.state, self.dialled, self.last = "ON HOOK", "", ""
+
+    def take(self, told: dict) -> None:
+        """Takes an event, or an entry."""
+        if "outcome" in told:
+            self.finish(told)
+        elif told["event"] == "SEIZED":
+            self.state, self.dialled = "SEIZED", ""
+        elif told["event"] == "DIGIT":
+            self.dialled = told["dialled"]
+            if self.state == "SEIZED":
+                self.state = "DIALLING"
+        elif told["event"] == "RELEASED":
+            self.state = "ON HOOK"
+
+    def finish(self, told: dict) -> None:
+        """Takes an entry. Who hangs up too early is on hook before the call is refused."""
+        if told["outcome"] == "KEYED":
+            self.last = f"{told['trunk']:04} {' '.join(told['keys'])}"
+        else:
+            self.last = f"{told['reason']} {told['heard']}"
+        if self.state != "ON HOOK":
+            self.state = "COMPLETE" if told["outcome"] == "KEYED" else "REFUSED"
+
+
+def elements(digit: str) -> str:
+    """The two of five elements that operate for a digit, by their weights."""
+    total = int(digit) or 11
+    pair = next((a, b) for a in WEIGHTS for b in WEIGHTS if a < b and a + b == total)
+    return "".join(str(weight) if weight in pair else "." for weight in WEIGHTS)
+
+
+def row_text(number: int, line: Line) -> str:
+    """A line as a row of the screen."""
+    lamps = " ".join("*" if state == line.state else "." for state in STATES)
+    digits = " ".join(map(elements, line.dialled))
+    return f"{number:04}  {lamps}  {line.state:8}  {digits:41}  {line.last}"
+
+
+def rows_of(lines: dict) -> list:
+    """The rows of the screen."""
+    return ["line  H S D C R  state     two of five of each digit                  keyed or refused last",
+            *(row_text(number, line) for number, line in sorted(lines.items()))]
+
+
+def draw(screen, lines: dict) -> None:
+    """Shows as many rows as the screen has."""
+    height, width = screen.getmaxyx()
+    screen.erase()
+    for place, text in enumerate(rows_of(lines)[:height]):
+        screen.addnstr(place, 0, text, width - 1, curses.A_BOLD if place == 0 else curses.A_NORMAL)
+    screen.refresh()
+
+
+def show(screen, lines: dict) -> None:
+    """Shows what comes of each event."""
+    curses.curs_set(0)
+    for told in events():
+        lines.setdefault(told["line"], Line()).take(told)
+        draw(screen, lines)
+
+
+def events():
+    """Each event and each entry, as it comes; the totals are none."""
+    for text in sys.stdin:
+        told = json.loads(text)
+        if "line" in told:
+            yield told
+
+
+def pins_of(words: list) -> dict:
+    """The five pins of each line."""
+    pins = {}
+    for word in words:
+        line, _, numbers = word.partition("=")
+        pins[int(line)] = [int(number) for number in numbers.split(",")]
+        if len(pins[int(line)]) != len(STATES):
+            raise ValueError(word)
+    return pins
+
+
+def command(chip: str, pins: list, line: Line) -> str:
+    """The command that lights the lamp of what a line does, and no other of it."""
+    levels = (f"{pin}={int(state == line.state)}" for pin, state in zip(pins, STATES))
+    return f"gpioset {chip} {' '.join(levels)}"
+
+
+def light(chip: str, pins: dict) -> None:
+    """Prints a command for each event of the lines that have pins."""
+    lines = {number: Line() for number in pins}
+    for told in events():
+        if told["line"] in pins:
+            lines[told["line"]].take(told)
+            print(command(chip, pins[told["line"]], lines[told["line"]]), flush=True)
+
+
+def main(words: list) -> int:
+    """Does what the words ask."""
+    try:
+        if len(words) > 2 and words[0] == "--gpio":
+            light(words[1], pins_of(words[2:]))
+            return 0
+    except ValueError:
+        words = ["--gpio"]
+    if words:
+        print(__doc__, file=sys.stderr)
+        return 2
+    lines = {}
+    try:
+        curses.wrapper(show, lines)
+    except KeyboardInterrupt:
+        pass
+    print("\n".join(rows_of(lines)))
+    return 0
+
+
+if __name__ == "__main__":
+    sys.exit(main(sys.argv[1:]))
