@@ -1,7 +1,7 @@
 //! What the definitions of `specs/` come to: each law is the contract of a function that does nothing.
 ghost use Rattle.xb_csv.specs.WorkedTables.{SecondsAreRead, TablesAreRead};
 ghost use Rattle.xb_csv.specs.Written.{WrittenEdgesAreRead, WrittenRowsAreRead};
-ghost use Rattle.xb_csv.specs.WrittenTables.{SaleaeIsRead, SigrokSamplesAreRead, SigrokTimesAreRead};
+ghost use Rattle.xb_csv.specs.WrittenTables.{SaleaeIsRead, SigrokSamplesAreRead, SigrokTimesAreRead, TablesAreWritten};
 
 /// What some times in seconds say.
 pub fn seconds_are_read()
@@ -43,4 +43,9 @@ pub fn sigrok_times_are_read()
 /// than 2^62 ns.
 pub fn saleae_is_read()
     ensures { SaleaeIsRead }
+{}
+
+/// What is written of some levels, each table written by hand.
+pub fn tables_are_written()
+    ensures { TablesAreWritten }
 {}

@@ -1,3 +1,4 @@
 pub mod Worked
 pub mod KeyValues
 pub mod Steps
+pub mod Nearest

@@ -6,3 +6,4 @@ pub mod Objects
 pub mod Lines
 pub mod Worked
 pub mod Constants
+pub mod Nearest

@@ -6,7 +6,8 @@
 //! - `figures_of`: the figures of a key, by the last key before it. `verdict_of`: GOOD, or the first limit that they
 //!   miss, of length, gap, twist and level.
 //! - `key_line`: exactly the line of the figures (`text_line`), or as an object of JSON (`object_line`).
-//! - `laws::levels_are_as_worked`: levels in dBm0, as worked by hand.
+//! - `laws::tenths_are_nearest`: the tenths of a dB of a level are the nearest to its decibels; `levels_are_as_worked`:
+//!   levels in dBm0, as worked by hand.
 #![tactic(auto)]
 
 mod figures;
