@@ -2,16 +2,21 @@
 
 usage: events.py deck SEED > DECK
        events.py read [SINCE] < DECK > OBJECTS
+       events.py try MFLIVE DECKS
 
 The first makes a deck by a seed; the second reads one as whole lists: after each record the record of its line so far
 is cut into runs, attempts and trains anew, and what the one before did not yet say is told. It keeps no state of a
-line.
+line. The third does both of so many seeds, and compares the program MFLIVE.
 """
 import json
 import random
+import subprocess
 import sys
 import tomllib
+from bisect import bisect_right
+from contextlib import redirect_stdout
 from datetime import datetime, timedelta, timezone
+from io import StringIO
 
 STANDARD = {"pulse_min": 20, "pulse_max": 119, "make_min": 15, "pause": 180, "release": 300, "timeout": 20000}
 
@@ -157,7 +162,9 @@ class Line:
 
     def began(self, place: int) -> int:
         """How many ms its rows last before the one with which an attempt begins."""
-        return self.lasts(max(k for k in range(len(self.rows)) if len(self.attempts(k)) <= place))
+        counts = range(len(self.rows))
+        limits = self.office.limits
+        return self.lasts(bisect_right(counts, place, key=lambda k: len(attempts_of(self.rows[:k], limits))) - 1)
 
     def take(self, state: str, ms: int) -> list:
         """Takes a row: the objects of its events, and of the entry that it completes."""
@@ -236,7 +243,7 @@ def make(seed: int) -> None:
             print(f'delete = {delete}\nprefix = "{prefix}"')
     print("---\nline,state,ms")
     lines = dice.sample(range(10000), 3)
-    for _ in range(dice.randint(20, 60)):
+    for _ in range(dice.randint(5, 25)):
         row(dice, dice.choice(lines), limits)
     for line in lines:
         call(dice, line, limits)
@@ -288,8 +295,40 @@ def cut(dice: random.Random, line: int, state: str, ms: int) -> None:
     print(f"{line},{state},{ms - first}")
 
 
+def printed(call, *words) -> bytes:
+    """What a call prints."""
+    with redirect_stdout(StringIO()) as text:
+        call(*words)
+    return text.getvalue().encode()
+
+
+def told(mflive: str, words: list, deck: bytes) -> bytes:
+    """What the program prints of a deck."""
+    return subprocess.run([mflive, *words], input=deck, capture_output=True, check=True).stdout
+
+
+def compare(mflive: str, decks: int) -> None:
+    """Compares the program with what is read here: with a time of day in every third deck."""
+    count = 0
+    for seed in range(1, decks + 1):
+        deck = printed(make, seed)
+        since = "2027-12-31T20:59:58.75-03:00" if seed % 3 == 0 else None
+        words = ["--since", since] if since else []
+        events = told(mflive, ["--events", *words], deck)
+        if events != printed(read, deck.decode(), datetime.fromisoformat(since) if since else None):
+            sys.exit(f"events: deck {seed} is told otherwise")
+        lines = events.splitlines(keepends=True)
+        entries = [line for line in lines if b'"event":' not in line]
+        if b"".join(entries) != told(mflive, ["--json", *words], deck):
+            sys.exit(f"events: deck {seed} has other entries")
+        count += len(lines) - len(entries)
+    print(f"{decks} decks, {count} events: each is told as the definitions have it")
+
+
 if __name__ == "__main__":
     if sys.argv[1] == "deck":
         make(int(sys.argv[2]))
+    elif sys.argv[1] == "try":
+        compare(sys.argv[2], int(sys.argv[3]))
     else:
         read(sys.stdin.read(), datetime.fromisoformat(sys.argv[2]) if len(sys.argv) > 2 else None)
