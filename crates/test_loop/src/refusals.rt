@@ -53,6 +53,11 @@ const VCDS: &[Refused] = &[
         b"$timescale 1 s $end\n$var wire 1 ! D0 $end\n$enddefinitions $end\n#0 0!\n#99999999999999999 1!",
         b"mfloop: text line 5: the time is too late to be counted: #99999999999999999 1!\n",
     ),
+    (
+        &["7=D0"],
+        b"$timescale 1 ms $end\n$var wire 1 ! D0 $end\n$enddefinitions $end\n#0 0!\n#8640000001 1!",
+        b"mfloop: text line 5: the time is too late to be counted: #8640000001 1!\n",
+    ),
 ];
 
 const TABLES: &[Refused] = &[

@@ -19,7 +19,7 @@ use Rattle.xb_loop.specs.declared.request.Request.{Request}
 use Rattle.xb_loop.specs.Faults.{IsFaultAfter, IsFaultAtEnd, IsFaultOf, IsTooLate}
 use Rattle.xb_loop.specs.Feeding.{CannotBegin, Follows, GoesOn, Halts, IsFaultOfPiece, IsFaultOfRest, IsLateFault, PutsDown, StandsAfter, lines_ended_after, watch_asked}
 use Rattle.xb_loop.specs.Watches.{watch_of}
-use Rattle.xb_loop.specs.Watching.{CanHear, Watch, certain_rows, certain_text, event_rows, heard_event, left_text, rows_of_events, line_left, text_of_events, watch_after}
+use Rattle.xb_loop.specs.Watching.{CanHear, CanHearAll, Watch, certain_rows, certain_text, event_rows, heard_event, left_text, rows_of_events, line_left, text_of_events, watch_after}
 
 -- one part after the other
 pub watch_after-append :
@@ -64,6 +64,16 @@ text_then watch said later =
     (left_text (watch_after (watch_after watch said) later))
     ∙ ap (λ text. certain_text watch said ++ text) (sym (text_is (watch_after watch said) later))
 
+-- what can be heard one part after the other
+pub hears_then :
+    (first second : Watch) (said later : List Event) → CanHearAll first said → second ≡ watch_after first said
+    → CanHearAll second later → CanHearAll first (said ++ later)
+hears_then first second [] later p known q =
+    let P : Watch → Type 0 = λ w. CanHearAll w later in
+    subst P known q
+hears_then first second (event ∷ rest) later p known q =
+    (p.0, hears_then (heard_event first event) second rest later p.1 known q)
+
 pub puts_then :
     (a b c : List ℕ) (first second third : Watch) (said later : List Event) → PutsDown a first said b second
     → PutsDown b second later c third → PutsDown a first (said ++ later) c third
@@ -75,6 +85,7 @@ puts_then a b c first second third said later p q = record {
       ∙ append_assoc a (certain_text first said) (certain_text (watch_after first said) later)
       ∙ ap (λ text. a ++ text) (sym (certain-append first said later));
   known = q.known ∙ ap (λ w. watch_after w later) p.known ∙ sym (watch_after-append first said later);
+  hears = hears_then first second said later p.hears p.known q.hears;
 }
 
 -- the lines of texts
@@ -139,7 +150,7 @@ pub goes_none : (intake : Intake) → GoesOn intake [] intake
 goes_none intake = record {
   said = [];
   follows = follows_none intake.reader;
-  down = record { records = sym (append-nil (string_bytes intake.rows)); known = refl };
+  down = record { records = sym (append-nil (string_bytes intake.rows)); known = refl; hears = tt };
 }
 
 pub goes_then : (a b c : Intake) (bytes more : List ℕ) → GoesOn a bytes b → GoesOn b more c → GoesOn a (bytes ++ more) c
@@ -246,18 +257,17 @@ fault_then a b c bytes more rest all fault p (inr h) e =
 -- one thing more that is said, of a list
 pub puts_next :
     (watch before after : Watch) (said : List Event) (i : ℕ) (d : Event) (start rows new : List ℕ) → i < length said
-    → (rows ≡ start ++ certain_text watch (take i said)) × (before ≡ watch_after watch (take i said))
+    → PutsDown start watch (take i said) rows before
     → new ≡ rows ++ flat_map record_text (event_rows before (get_or said i d)) → after ≡ heard_event before (get_or said i d)
-    → (new ≡ start ++ certain_text watch (take (i + 1) said)) × (after ≡ watch_after watch (take (i + 1) said))
-puts_next watch before after said i d start rows new lt known more heard =
+    → CanHear before (get_or said i d) → PutsDown start watch (take (i + 1) said) new after
+puts_next watch before after said i d start rows new lt known more heard can =
     let event : Event = get_or said i d in
-    let P : List Event → Type 0 = λ them. (new ≡ start ++ certain_text watch them) × (after ≡ watch_after watch them) in
+    let P : List Event → Type 0 = λ them. PutsDown start watch them new after in
     let one : certain_text before (event ∷ []) ≡ flat_map record_text (event_rows before event) =
     ap (flat_map record_text) (append-nil (event_rows before event)) in
-    let both = puts_then start rows new watch before after (take i said) (event ∷ [])
-    (record { records = known.0; known = known.1 })
-    (record { records = more ∙ ap (λ text. rows ++ text) (sym one); known = heard }) in
-    subst P (sym (take_more said i d lt)) (both.records, both.known)
+    subst P (sym (take_more said i d lt))
+    (puts_then start rows new watch before after (take i said) (event ∷ []) known
+    (record { records = more ∙ ap (λ text. rows ++ text) (sym one); known = heard; hears = (can, tt) }))
 
 -- and one that is too late
 pub late_next :

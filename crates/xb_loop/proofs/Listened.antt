@@ -18,7 +18,7 @@ use Rattle.xb_loop.specs.declared.request.Request.{Request}
 use Rattle.xb_loop.specs.Feeding.{CannotBegin, Ends, EndsOf, FailsAtOnce, FailsLater, FailsToListen, IsFaultOfRest, IsOfForm, Listens, ListensTo, Starts, Stops, StopsOf, Wrote, watch_asked}
 use Rattle.xb_loop.specs.Watches.{watch_of}
 use Rattle.xb_loop.specs.Watching.{Watch, certain_rows, certain_text, silent_line, text_of_events, watch_after}
-use Rattle.xb_loop.proofs.Fed.{certain-append, stands_then, text_then, watch_after-append}
+use Rattle.xb_loop.proofs.Fed.{certain-append, hears_then, stands_then, text_then, watch_after-append}
 use Rattle.xb_loop.proofs.Stopped.{says_nothing, wrote_then}
 
 -- where the form is not told, or the recording cannot begin, nothing is written
@@ -183,6 +183,7 @@ module _ (request : Request) (before : List ℕ) (format : Format) (intake : Int
               events = all;
               said = starts.stands.says text e.events (rw (sym reader) e.says);
               printed = refl;
+              hears = hears_then start (watch_of fed.lines) starts.said e.events starts.down.hears now e.hears;
               levels = ap (λ w. silent_line w.lines) (sym last) ∙ e.levels;
               heard = e.heard ∙ ap (bounces_told request.said) last;
             },

@@ -17,7 +17,7 @@ use Rattle.xb_loop.specs.Faults.{IsFaultAfter, IsFaultAtEnd, IsFaultOf, IsSilenc
 use Rattle.xb_loop.specs.Feeding.{Ends, EndsOf, Feeds, GoesOn, Halts, IsFaultOfPiece, IsFaultOfRest, IsWithin, PutsDownLast, SaysFirst, Stops, StopsOf, Writes, WritesBefore, WritesLast, Wrote}
 use Rattle.xb_loop.specs.Watches.{watch_of}
 use Rattle.xb_loop.specs.Watching.{Watch, certain_text, left_text, silent_line, text_of_events, watch_after}
-use Rattle.xb_loop.proofs.Fed.{certain-append, follows_none, follows_then, text_is, text_then, watch_after-append}
+use Rattle.xb_loop.proofs.Fed.{certain-append, follows_none, follows_then, hears_then, text_is, text_then, watch_after-append}
 
 -- a refusal within bytes
 why_within :
@@ -124,6 +124,7 @@ wrote_piece old mid new piece a b empty p reader watch none wrote =
       said = p.said;
       follows = (rw reader p.follows);
       known = watch ∙ p.down.known;
+      hears = p.down.hears;
       wrote =
           subst A (p.down.records ∙ ap (λ rows. rows ++ certain_text (watch_of old.lines) p.said) empty) wrote;
       none_left = none;
@@ -260,6 +261,7 @@ writes_then old mid new bytes more a b c p q =
       follows = follows_then old.reader mid.reader new.reader bytes more p.said q.said p.follows q.follows;
       known =
           q.known ∙ ap (λ w. watch_after w q.said) p.known ∙ sym (watch_after-append (watch_of old.lines) p.said q.said);
+      hears = hears_then (watch_of old.lines) (watch_of mid.lines) p.said q.said p.hears p.known q.hears;
       wrote =
           subst A
           (ap (λ w. before ++ certain_text w q.said) p.known ∙ sym (certain-append (watch_of old.lines) p.said q.said))
@@ -304,6 +306,7 @@ feeds_none intake input output empty = record {
     said = [];
     follows = follows_none intake.reader;
     known = refl;
+    hears = tt;
     wrote = Appends-nil output;
     none_left = empty;
   };
@@ -394,6 +397,7 @@ ends old new said told a b empty (events, says, down) levels heard wrote =
     record {
       events = events;
       says = says;
+      hears = down.hears;
       levels = ap (λ w. silent_line w.lines) (sym down.known) ∙ levels;
       heard = heard ∙ ap (bounces_told said) down.known;
       wrote = subst A (last_text old new events empty down.records down.known) wrote;
@@ -412,6 +416,7 @@ ends_later old mid said told bytes more a b c p e =
     record {
       events = p.said ++ e.events;
       says = p.follows.takes more e.events e.says;
+      hears = hears_then start (watch_of mid.lines) p.said e.events p.hears p.known e.hears;
       levels = ap (λ w. silent_line w.lines) (sym known) ∙ e.levels;
       heard = e.heard ∙ ap (bounces_told said) known;
       wrote =

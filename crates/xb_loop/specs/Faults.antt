@@ -38,7 +38,7 @@ IsFaultOf reader refusal (faults.NoLevel line) = ⊥
 IsFaultOf reader refusal faults.Read = ⊥
 IsFaultOf reader refusal faults.Write = ⊥
 
--- of what is said this was put down, and what comes next has a time that cannot be counted
+-- of what is said this was put down, and what comes next has a time that is too late
 pub record IsTooLate (watch : Watch) (said put : List Event) : Type 0 where
   pub event : Event
   pub later : List Event

@@ -20,12 +20,14 @@ use Rattle.xb_loop.specs.Beginnings.{IsUntold}
 use Rattle.xb_loop.specs.BounceLines.{bounces_told}
 use Rattle.xb_loop.specs.Faults.{IsFaultAfter, IsFaultAtEnd, IsFaultOf, IsTooLate}
 use Rattle.xb_loop.specs.Watches.{watch_of}
-use Rattle.xb_loop.specs.Watching.{Watch, begun_watch, certain_rows, certain_text, rows_of_events, silent_line, text_of_events, watch_after}
+use Rattle.xb_loop.specs.Watching.{CanHearAll, Watch, begun_watch, certain_rows, certain_text, rows_of_events, silent_line, text_of_events, watch_after}
 
--- what a recording says was put down: its records stand at the end of those that are not written yet, and it is known
+-- what a recording says could be heard and was put down: its records stand at the end of those that are not written
+-- yet, and it is known
 pub record PutsDown (old : List ℕ) (before : Watch) (said : List Event) (new : List ℕ) (after : Watch) : Type 0 where
   pub records : new ≡ old ++ certain_text before said
   pub known : after ≡ watch_after before said
+  pub hears : CanHearAll before said
 
 -- so much of it, up to what is too late
 abbrev pub PutsDownUntilLate : List ℕ → Watch → List Event → List ℕ → Type 0
@@ -105,6 +107,7 @@ pub record Writes (old : Intake) (bytes : List ℕ) (new : Intake) (output after
   pub said : List Event
   pub follows : Follows old.reader new.reader bytes said
   pub known : watch_of new.lines ≡ watch_after (watch_of old.lines) said
+  pub hears : CanHearAll (watch_of old.lines) said
   pub wrote : Appends output after (certain_text (watch_of old.lines) said)
   pub none_left : string_bytes new.rows ≡ []
 
@@ -119,6 +122,7 @@ pub record Feeds (old new : Intake) (input left output after : Option (List ℕ)
 pub record Ends (old : Intake) (said : Bool) (told text : List ℕ) (output after : Option (List ℕ)) : Type 0 where
   pub events : List Event
   pub says : RestSays old.reader text events
+  pub hears : CanHearAll (watch_of old.lines) events
   pub levels : silent_line (watch_after (watch_of old.lines) events).lines ≡ None
   pub heard : told ≡ bounces_told said (watch_after (watch_of old.lines) events)
   pub wrote : Appends output after (text_of_events (watch_of old.lines) events)
@@ -148,7 +152,7 @@ IsLate reader watch later fault text =
     IsWithin reader watch later fault text ⊎ ((later ≡ []) × (text ≡ []) × IsFaultAtEnd reader watch fault)
 
 -- what a fault says of what follows where the reader stands, and the text of what is put down before it: a refusal is
--- that of the reader, or of a time that cannot be counted; at the end it may lack a level; else a write or a read
+-- that of the reader, or of a time that is too late; at the end it may lack a level; else a write or a read
 -- failed, or memory ran out
 abbrev pub IsFaultOfRest : Reader → Watch → List ℕ → RecordingFault → List ℕ → Type 0
 IsFaultOfRest reader watch later (faults.Line number reason shown) text =
@@ -213,13 +217,14 @@ pub record IsOfForm (request : Request) (text : List ℕ) (format : Format) : Ty
   pub told : IfNone request.format (form_told text ≡ Some format)
 
 -- the rows of a recording: of its form, exactly those of what it says of the wires that are asked for, of which each has
--- had a level; and what is told of the bounces
+-- had a level, and whose times can all be heard; and what is told of the bounces
 pub record Listens (request : Request) (text rows told : List ℕ) : Type 0 where
   pub format : Format
   pub form : IsOfForm request text format
   pub events : List Event
   pub said : Says format request.wanted text events
   pub printed : rows ≡ text_of_rows (rows_of_events (watch_asked request) events)
+  pub hears : CanHearAll (watch_asked request) events
   pub levels : silent_line (watch_after (watch_asked request) events).lines ≡ None
   pub heard : told ≡ bounces_told request.said (watch_after (watch_asked request) events)
 

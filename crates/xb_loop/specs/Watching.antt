@@ -1,5 +1,5 @@
 -- The lines that are listened to, and the rows that a recording gives of them.
-use Rattle.std.specs.Prelude.{ℕ, ◌≡◌, ◌+◌, ◌-◌, ◌*◌, ◌/◌, ◌^◌, ◌<◌, max, List, [], ◌∷◌, ◌++◌, Bool, true, false, Option, Some, None, is_some, map, slice_get, slice_set, if◌then◌else◌}
+use Rattle.std.specs.Prelude.{ℕ, ◌≡◌, ◌+◌, ◌-◌, ◌*◌, ◌/◌, ◌^◌, ◌<◌, ◌≤◌, max, List, [], ◌∷◌, ◌++◌, Bool, true, false, Option, Some, None, is_some, map, slice_get, slice_set, ◌||◌, if◌then◌else◌}
 use Rattle.std.specs.List.{AllByRecursion, flat_map}
 use Rattle.std.specs.Option.{option_map_or}
 use Rattle.xb_model.specs.Rows.{LoopRow}
@@ -9,6 +9,7 @@ use Rattle.xb_contact.specs.declared.event.Event.TheVariants as events
 use Rattle.xb_contact.specs.declared.level.Level.{Level}
 use Rattle.xb_contact.specs.Holds.{other_level}
 use Rattle.xb_loop.specs.declared.line.Manner.{Manner}
+use Rattle.xb_loop.specs.declared.lines.TheConstants.{MOST_GAP_MS}
 use Rattle.xb_contact.specs.declared.scale.Scale.{Scale}
 use Rattle.xb_contact.specs.Listening.{begun_at, told_at_end}
 use Rattle.xb_contact.specs.Times.{CanCount}
@@ -139,10 +140,24 @@ heard_event watch (events.Ticks scale) = record watch { scale = Some scale }
 heard_event watch (events.At tick) = record watch { lines = all_held tick watch.lines; now = tick }
 heard_event watch (events.Level wire level) = level_heard watch watch.scale wire level
 
--- whether its time can be counted
+-- whether a contact is followed already
+abbrev pub has_begun : List Watched → Bool
+has_begun [] = false
+has_begun (line ∷ rest) = is_some line.contact || has_begun rest
+
+-- whether so many ticks last no more than 100 days
+abbrev pub IsNoGap : Option Scale → ℕ → Type 0
+IsNoGap None ticks = Unit {0}
+IsNoGap (Some scale) ticks = ticks * scale.ms ≤ MOST_GAP_MS * scale.ticks
+
+-- whether a tick comes that soon after the one before: what comes later stands in a damaged file
+abbrev pub ComesSoon : Watch → ℕ → Type 0
+ComesSoon watch tick = has_begun watch.lines ≡ true → IsNoGap watch.scale (tick - watch.now)
+
+-- whether its time can be counted, and comes soon enough where a contact is followed
 abbrev pub CanHear : Watch → Event → Type 0
 CanHear watch (events.Ticks scale) = Unit {0}
-CanHear watch (events.At tick) = AllByRecursion (CanReach tick) watch.lines
+CanHear watch (events.At tick) = AllByRecursion (CanReach tick) watch.lines × ComesSoon watch tick
 CanHear watch (events.Level wire level) = CanChangeWire watch.manner watch.scale wire watch.lines
 
 abbrev pub CanHearAll : Watch → List Event → Type 0

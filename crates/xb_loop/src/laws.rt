@@ -8,7 +8,8 @@ ghost use Rattle.xb_loop.specs.WireRecords.{GivesEachRecord};
 ghost use Rattle.xb_loop.specs.TapeLaws.{HearsNothingOtherwise, KeepsTheTape, LeavesLongRunsTheirTape};
 
 /// From how many ms on a run is settled and which percent of the range is a threshold, where neither is asked for; the
-/// most bytes that tell a form, and the most that are shown of a refused line; each as it is.
+/// most bytes that tell a form, the most that are shown of a refused line, and the longest gap between two times; each
+/// as it is.
 pub fn constants()
     ensures { AreConstants }
 {}

@@ -43,7 +43,7 @@ impl Model for Line {
 fn ticks_of(scale: Scale, ms: u32) -> Option<u64>
     ensures value { IfSome result (λ ticks. ticks ≡ least_ticks scale ms) }
     ensures some { IfSome result (λ ticks. 0 < ticks) }
-    ensures can { 0 < scale.ms → ms * scale.ticks + (scale.ms - 1) < 2 ^ 64 → IsSome result }
+    ensures can { IsSome result ↔ (0 < scale.ms) × (ms * scale.ticks + (scale.ms - 1) < 2 ^ 64) }
 {
     if scale.ms == 0 {
         return None;
@@ -56,7 +56,7 @@ fn ticks_of(scale: Scale, ms: u32) -> Option<u64>
 // A contact that has its first level at this tick; `None` where no time can be counted.
 fn begun(manner: Manner, scale: Scale, tick: u64, level: Level) -> Option<Contact>
     ensures contact { IfSome result (λ contact. contact ≡ begun_contact manner scale tick level) }
-    ensures can { CanBegin manner scale → IsSome result }
+    ensures can { IsSome result ↔ CanBegin manner scale }
 {
     let least = ticks_of(scale, manner.settle_ms)?;
     if scale.ticks == 0 || !scale.can_count(0) {
@@ -103,7 +103,7 @@ impl Line {
     /// Its wire has a level from now on. It says false where no time can be counted.
     pub fn change(&mut self, manner: Manner, scale: Scale, tick: u64, level: Level) -> bool
         ensures changed { result ≡ true → self.new ≡ line_changed manner scale tick level self.old }
-        ensures can { CanChange manner scale self.old → result ≡ true }
+        ensures can { result ≡ true ↔ CanChange manner scale self.old }
     {
         match &mut self.contact {
             Some(contact) => contact.change(level),

@@ -1,16 +1,19 @@
 // The lines that are listened to, and their rows.
-ghost use Rattle.std.specs.Prelude.{◌≡◌, ◌++◌, ◌↔◌, IfOk, IsTrue, OnOk, Some, false, string_bytes, true};
+ghost use Rattle.std.specs.Prelude.{◌≡◌, ◌-◌, ◌++◌, ◌↔◌, IfOk, IsTrue, OnOk, Some, false, string_bytes, true};
 ghost use Rattle.std.specs.List.{AllByRecursion, flat_map};
 ghost use Rattle.xb_rows.specs.WrittenRows.{record_text};
 ghost use Rattle.xb_loop.specs.BounceLines.{lines_told};
 ghost use Rattle.xb_loop.specs.Watches.{watch_of};
-ghost use Rattle.xb_loop.specs.Watching.{CanChangeWire, CanHear, CanReach, all_held, begun_watch, event_rows, heard_event, level_heard, level_seen, line_left, rows_until, silent_line, wire_changed};
+ghost use Rattle.xb_loop.specs.Watching.{CanChangeWire, CanHear, CanReach, ComesSoon, IsNoGap, all_held, begun_watch, event_rows, has_begun, heard_event, level_heard, level_seen, line_left, rows_until, silent_line, wire_changed};
 
 use crate::bounce_lines::say_lines;
 use crate::line::{Line, Manner};
 use crate::request::Request;
 use std::alloc::{AllocError, Global};
 use xb_contact::{Event, Level, Scale};
+
+// The most ms between two times of a recording: 100 days.
+const MOST_GAP_MS: u64 = 8_640_000_000;
 
 /// The lines that are listened to, in the order of their wires.
 #[derive(Drop)]
@@ -31,6 +34,31 @@ fn can_all_reach(lines: &[Line], tick: u64) -> bool
         }
     }
     true
+}
+
+// Whether a contact is followed already.
+fn has_begun(lines: &[Line]) -> bool
+    ensures { result ≡ has_begun lines.now }
+{
+    for line in lines {
+        if line.has_level() {
+            return true;
+        }
+    }
+    false
+}
+
+// Whether so many ticks last no more than 100 days.
+fn is_no_gap(scale: Option<Scale>, ticks: u64) -> bool
+    ensures { IsTrue result ↔ IsNoGap scale ticks }
+{
+    match scale {
+        Some(scale) => {
+            let longest = u128::from(MOST_GAP_MS) * u128::from(scale.ticks);
+            u128::from(ticks) * u128::from(scale.ms) <= longest
+        }
+        None => true,
+    }
 }
 
 // All lines go on to this tick as they are. The records of what is certain with it are added.
@@ -57,7 +85,7 @@ fn change_line(
     level: Level,
 ) -> bool
     ensures changed { result ≡ true → lines.new ≡ wire_changed manner scale now level wire lines.old }
-    ensures can { CanChangeWire manner (Some scale) wire lines.old → result ≡ true }
+    ensures can { result ≡ true ↔ CanChangeWire manner (Some scale) wire lines.old }
 {
     if wire >= lines.len() {
         return false;
@@ -105,17 +133,23 @@ impl Lines {
         })
     }
 
-    // All lines hold their levels up to this tick. It says false where the time cannot be counted.
+    // Whether a tick comes no more than 100 days after the one before, where a contact is followed.
+    fn comes_soon(&self, tick: u64) -> bool
+        ensures { IsTrue result ↔ ComesSoon (watch_of self.entry.now) tick }
+    {
+        !has_begun(&self.lines) || is_no_gap(self.scale, tick.saturating_sub(self.now))
+    }
+
+    // All lines hold their levels up to this tick. It says false where the time is too late.
     fn hold_until(&mut self, tick: u64, rows: &mut String) -> Result<bool, AllocError>
         ensures rows { IfOk result (λ taken. taken ≡ true → string_bytes rows.new
             ≡ string_bytes rows.old ++ flat_map record_text (rows_until tick (watch_of self.old).lines)) }
         ensures held { IfOk result (λ taken. taken ≡ true → watch_of self.new
             ≡ record (watch_of self.old) { lines = all_held tick (watch_of self.old).lines; now = tick }) }
-        ensures can { IfOk result (λ taken.
-            AllByRecursion (CanReach tick) (watch_of self.old).lines → taken ≡ true) }
+        ensures can { IfOk result (λ taken. taken ≡ true ↔ CanHear (watch_of self.old) (Event.At tick)) }
         ensures kept { IfOk result (λ taken. taken ≡ false → string_bytes rows.new ≡ string_bytes rows.old) }
     {
-        if !can_all_reach(&self.lines, tick) {
+        if !can_all_reach(&self.lines, tick) || !self.comes_soon(tick) {
             return Ok(false);
         }
         hold_all(&mut self.lines, tick, rows)?;
@@ -127,8 +161,8 @@ impl Lines {
     fn change(&mut self, wire: usize, level: Level) -> bool
         ensures changed { result ≡ true → watch_of self.new
             ≡ level_heard (watch_of self.old) (watch_of self.old).scale wire level }
-        ensures can { CanChangeWire (watch_of self.old).manner (watch_of self.old).scale wire
-            (watch_of self.old).lines → result ≡ true }
+        ensures can { result ≡ true ↔ CanChangeWire (watch_of self.old).manner (watch_of self.old).scale wire
+            (watch_of self.old).lines }
     {
         let Some(scale) = self.scale else {
             return false;
@@ -137,13 +171,14 @@ impl Lines {
         change_line(&mut self.lines, wire, self.manner, scale, self.now, level)
     }
 
-    /// What a recording says next. It says false where the time cannot be counted.
+    /// What a recording says next. It says false where the time cannot be counted, or comes over 100 days after the one
+    /// before.
     pub fn take(&mut self, event: Event, rows: &mut String) -> Result<bool, AllocError>
         ensures rows { IfOk result (λ taken. taken ≡ true → string_bytes rows.new
             ≡ string_bytes rows.old ++ flat_map record_text (event_rows (watch_of self.old) event)) }
         ensures heard { IfOk result (λ taken. taken ≡ true
             → watch_of self.new ≡ heard_event (watch_of self.old) event) }
-        ensures can { IfOk result (λ taken. CanHear (watch_of self.old) event → taken ≡ true) }
+        ensures can { IfOk result (λ taken. taken ≡ true ↔ CanHear (watch_of self.old) event) }
         ensures kept { IfOk result (λ taken. taken ≡ false → string_bytes rows.new ≡ string_bytes rows.old) }
     {
         match event {
