@@ -12,10 +12,15 @@ const PAGE: &[u8] = b"0042 1 KEYED 0017 KP:1100+1700 5:900+1300 0:1300+1500 ST:1
 0042 2 KEYED 0017 KP:1100+1700 1:700+900 ST:1500+1700\n\
 KEYED 2 REFUSED 0\n";
 
-// The WAV file of two keyings.
-fn sound(alloc: Global) -> Result<Vec<u8>, Fail> {
-    let mut marks = keying(alloc, 3, &[5, 0])?;
-    marks.extend_from_slice(&keying(alloc, 3, &[1])?)?;
+// The digits of the two.
+const NUMBERS: &[&[u8]] = &[&[5, 0], &[1]];
+
+// The WAV file of keyings.
+fn sound(alloc: Global, numbers: &[&[u8]]) -> Result<Vec<u8>, Fail> {
+    let mut marks = Vec::new(alloc);
+    for digits in numbers {
+        marks.extend_from_slice(&keying(alloc, 3, digits)?)?;
+    }
     let mut file = Vec::new(alloc);
     if write_wav(alloc, &mut file, &marks, Cadence::standard()).is_err() {
         return Err("no sound".into());
@@ -38,13 +43,33 @@ const OBJECT: &[u8] =
     b"{\"at_ms\":501,\"gap_ms\":null,\"high_dbm0_tenths\":-72,\"high_hz\":1700,\"key\":\"KP\",\
 \"length_ms\":97,\"low_dbm0_tenths\":-72,\"low_hz\":1100,\"twist_db_tenths\":0,\"verdict\":\"GOOD\"}\n";
 
-// Its differences from the page of the tests.
-const DIFFERENCES: &[u8] = b"heard and not keyed: entry 2: KP 1 ST\n\
-keyed and not heard: line 7 entry 3: KP 2 ST\n";
+// Keyings that are heard, and their differences from the page of the tests, which has 5 0 as entry 1 and 2 as entry 3:
+// none, two, one that is heard twice, one that is not heard, and both in the other order.
+const DIFFERENCES: &[(&[&[u8]], &[u8])] = &[
+    (&[&[5, 0], &[2]], b""),
+    (
+        NUMBERS,
+        b"heard and not keyed: entry 2: KP 1 ST\nkeyed and not heard: line 7 entry 3: KP 2 ST\n",
+    ),
+    (
+        &[&[5, 0], &[5, 0], &[2]],
+        b"heard and not keyed: entry 2: KP 5 0 ST\n",
+    ),
+    (&[&[2]], b"keyed and not heard: line 7 entry 1: KP 5 0 ST\n"),
+    (
+        &[&[2], &[5, 0]],
+        b"keyed and not heard: line 7 entry 1: KP 5 0 ST\nheard and not keyed: entry 2: KP 5 0 ST\n",
+    ),
+];
 
-// What the program writes of the two keyings by some words, with this status.
-fn written(alloc: Global, options: &[&str], wanted: u8) -> Result<Vec<u8>, Fail> {
-    let file = sound(alloc)?;
+// What the program writes of keyings by some words, with this status.
+fn written(
+    alloc: Global,
+    numbers: &[&[u8]],
+    options: &[&str],
+    wanted: u8,
+) -> Result<Vec<u8>, Fail> {
+    let file = sound(alloc, numbers)?;
     let words = words_of(alloc, "mfrx", options)?;
     let mut reader = file.as_slice();
     let mut out = Vec::new(alloc);
@@ -58,23 +83,26 @@ fn written(alloc: Global, options: &[&str], wanted: u8) -> Result<Vec<u8>, Fail>
 
 #[test]
 fn writes_the_page_of_a_sound(rt: HostRuntime) -> Result<(), Fail> {
-    let page = written(rt.alloc(), &["--line", "42", "--trunk", "17"], 0)?;
+    let page = written(rt.alloc(), NUMBERS, &["--line", "42", "--trunk", "17"], 0)?;
     assert!(rt; page.as_slice() == PAGE);
     Ok(())
 }
 
 #[test]
 fn tells_each_key(rt: HostRuntime) -> Result<(), Fail> {
-    let keys = written(rt.alloc(), &["--tones"], 0)?;
+    let keys = written(rt.alloc(), NUMBERS, &["--tones"], 0)?;
     assert!(rt; keys.as_slice() == KEYS);
-    let objects = written(rt.alloc(), &["--json"], 0)?;
+    let objects = written(rt.alloc(), NUMBERS, &["--json"], 0)?;
     assert!(rt; objects.starts_with(OBJECT));
     Ok(())
 }
 
 #[test]
 fn tells_differences(rt: HostRuntime) -> Result<(), Fail> {
-    let told = written(rt.alloc(), &["--against", "page"], 1)?;
-    assert!(rt; told.as_slice() == DIFFERENCES);
+    for (numbers, differences) in DIFFERENCES {
+        let status = if differences.is_empty() { 0 } else { 1 };
+        let told = written(rt.alloc(), numbers, &["--against", "page"], status)?;
+        assert!(rt; told.as_slice() == *differences);
+    }
     Ok(())
 }

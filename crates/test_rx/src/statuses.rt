@@ -33,6 +33,10 @@ const USAGE: &[u8] =
 const FILE: &[u8] = b"RIFF\x34\0\0\0WAVELIST\x03\0\0\0abc\0\
 fmt \x10\0\0\0\x01\0\x01\0\x40\x1f\0\0\x80\x3e\0\0\x02\0\x10\0data\x04\0\0\0\0\0\0\0";
 
+// The same file without its last sample.
+const CUT: &[u8] = b"RIFF\x34\0\0\0WAVELIST\x03\0\0\0abc\0\
+fmt \x10\0\0\0\x01\0\x01\0\x40\x1f\0\0\x80\x3e\0\0\x02\0\x10\0data\x04\0\0\0\0\0";
+
 // The words after the program's name, the sound, the status, what is written, and what stands on standard error.
 const CASES: &[(&[&str], &[u8], u8, &[u8], &[u8])] = &[
     (&[], FILE, 0, b"KEYED 0 REFUSED 0\n", b""),
@@ -64,6 +68,13 @@ const CASES: &[(&[&str], &[u8], u8, &[u8], &[u8])] = &[
         1,
         b"",
         b"mfrx: the page that was keyed: text line 1 has wrong totals\n",
+    ),
+    (
+        &["--against", "page"],
+        CUT,
+        1,
+        b"",
+        b"mfrx: the sound is cut off: 1 samples of 8000 a second are missing at its end\n",
     ),
     (&["--against", "none", "--tones"], FILE, 2, b"", USAGE),
     (&["--json", "--line", "7"], FILE, 2, b"", USAGE),

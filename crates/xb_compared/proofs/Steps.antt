@@ -1,6 +1,6 @@
 -- What one entry that was heard makes of the differences.
-use Rattle.std.proofs.Common.{◌≡◌, ◌∙◌, ℕ, ◌+◌, ◌≤◌, List, ◌∷◌, ◌++◌, length, take, drop, Option, Some, None, ap, sym, add-one, append_assoc}
-use Rattle.std.proofs.lemmas.List.{drop_all}
+use Rattle.std.proofs.Common.{◌≡◌, ◌∙◌, ℕ, ◌+◌, ◌-◌, ◌≤◌, List, [], ◌∷◌, ◌++◌, length, take, drop, Option, Some, None, ap, sym, add-one, append_assoc}
+use Rattle.std.proofs.lemmas.List.{drop_all, take_rest}
 use Rattle.xb_compared.specs.Entries.{KeyedEntry}
 use Rattle.xb_compared.specs.Differences.{difference_at, differences, extra_line, missed_lines, place_of}
 
@@ -31,3 +31,14 @@ pub all-heard : (left heard : List KeyedEntry) (i : ℕ) (old new all : List ℕ
 unfolding differences
 all-heard left heard i old new all end wrote so_far =
     wrote ∙ ap (λ (rest : List KeyedEntry). old ++ differences left rest) (sym (drop_all i heard end)) ∙ so_far
+
+-- where nothing more is heard, all that is left of what was keyed is missed
+pub all-left : (items keyed left : List KeyedEntry) (i : ℕ) (old new : List ℕ) → keyed ≡ items → drop i items ≡ left
+    → old ≡ [] → new ≡ old ++ missed_lines (take (length keyed - i) (drop i keyed)) → new ≡ differences left []
+unfolding differences
+all-left items keyed left i old new same is none wrote =
+    wrote
+    ∙ ap (λ (t : List ℕ). t ++ missed_lines (take (length keyed - i) (drop i keyed))) none
+    ∙ ap missed_lines (take_rest keyed i)
+    ∙ ap (λ (entries : List KeyedEntry). missed_lines (drop i entries)) same
+    ∙ ap missed_lines is

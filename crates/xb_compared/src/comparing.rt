@@ -27,7 +27,7 @@ fn write_missed(out: &mut String, entry: &Keyed) -> Result<(), AllocError>
 }
 
 // Appends the lines of such entries.
-fn write_all_missed(out: &mut String, keyed: &[Keyed]) -> Result<(), AllocError>
+pub(crate) fn write_all_missed(out: &mut String, keyed: &[Keyed]) -> Result<(), AllocError>
     ensures { OnOk result (string_bytes out.new ≡ string_bytes out.old ++ missed_lines keyed.now) }
 {
     for entry in keyed {
@@ -46,8 +46,12 @@ fn write_extra(out: &mut String, entry: &Keyed) -> Result<(), AllocError>
 }
 
 // Appends the lines of what was keyed before an entry that was heard, or its own where it was not keyed, and returns
-// how many keyed entries that leaves behind.
-fn write_up_to(out: &mut String, keyed: &[Keyed], entry: &Keyed) -> Result<usize, AllocError>
+// how many keyed entries are then passed.
+pub(crate) fn write_up_to(
+    out: &mut String,
+    keyed: &[Keyed],
+    entry: &Keyed,
+) -> Result<usize, AllocError>
     ensures most { IfOk result (λ n. n ≤ length keyed.now) }
     ensures text { IfOk result (λ n. (heard : List KeyedEntry) →
         string_bytes out.new ++ differences (drop n keyed.now) heard
@@ -73,8 +77,8 @@ pub fn differences(alloc: Global, keyed: &[Keyed], heard: &[Keyed]) -> Result<St
     let mut text = String::new(alloc);
     let mut left = keyed;
     for entry in heard {
-        let behind = write_up_to(&mut text, left, entry)?;
-        left = left.split_at(behind).1;
+        let passed = write_up_to(&mut text, left, entry)?;
+        left = left.split_at(passed).1;
     }
     write_all_missed(&mut text, left)?;
     Ok(text)

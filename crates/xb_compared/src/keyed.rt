@@ -27,7 +27,22 @@ impl Model for Keyed {
 }
 
 impl Keyed {
-    ghost use Rattle.std.specs.Prelude.{◌≡◌};
+    ghost use Rattle.std.specs.Prelude.{◌≡◌, IfOk};
+    ghost use Rattle.xb_page.specs.Entries.{entry_with};
+    ghost use Rattle.xb_compared.specs.Keyed.{keyed_with};
+
+    /// The entry of a line that has these marks. `Err` says that memory ran out.
+    pub fn of_marks(
+        alloc: Global,
+        line: LineNo,
+        number: usize,
+        marks: &[Mark],
+    ) -> Result<Keyed, AllocError>
+        ensures { IfOk result (λ keyed. keyed ≡ keyed_with (entry_with line number marks.now)) }
+    {
+        let keys = keys_of(alloc, marks)?;
+        Ok(Keyed { line, number, keys })
+    }
 
     /// The line of the office.
     pub fn line(&self) -> LineNo
@@ -79,12 +94,9 @@ pub fn keyed_entries(alloc: Global, entries: &[PageEntry]) -> Result<Vec<Keyed>,
     let mut keyed = Vec::new(alloc);
     for entry in entries {
         if !entry.is_refused() {
-            let keys = keys_of(alloc, entry.marks())?;
-            keyed.push(Keyed {
-                line: entry.line(),
-                number: entry.number(),
-                keys,
-            })?;
+            let line = entry.line();
+            let number = entry.number();
+            keyed.push(Keyed::of_marks(alloc, line, number, entry.marks())?)?;
         }
     }
     Ok(keyed)

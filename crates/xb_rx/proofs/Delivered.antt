@@ -10,8 +10,10 @@ use Rattle.xb_wav.specs.declared.wav_start.OpenFault.{OpenFault}
 use Rattle.xb_wav.specs.declared.wav_start.OpenFault.TheVariants as open_fault
 use Rattle.xb_wav.specs.declared.wav_start.Start.{Start}
 use Rattle.xb_rx.specs.Faults.{of_open}
-use Rattle.xb_rx.specs.Hearing.{Delivers, Hears, HearsSound, Outputs, outputs, sound_after, sound_by, start_by}
-use Rattle.xb_rx.specs.Reports.{fresh_report}
+use Rattle.xb_ear.specs.Receivers.{keys_of_sound}
+use Rattle.xb_rx.specs.declared.request.Input.{Input}
+use Rattle.xb_rx.specs.Hearing.{Delivers, Hears, HearsBytes, HearsSound, Outputs, outputs, sound_after, sound_by, start_by}
+use Rattle.xb_rx.specs.Reports.{Reported, fresh_report}
 use Rattle.xb_wav.specs.Samples.{Sound, sound_of}
 use Rattle.xb_wav.specs.Starts.{Opens}
 
@@ -23,38 +25,65 @@ hears-written (written.Page line trunk) sound (Err f) outs heard = heard
 hears-written (written.Keys telling) sound (Ok u) outs heard = heard
 hears-written (written.Keys telling) sound (Err f) outs heard = heard
 
--- a sound that was opened, and heard
-heard-sound : (request : Request) (bytes : List ℕ) (sound : Sound) (result : Result (Unit {0}) RxFault) (outs : Outputs)
-    → sound_by request.input bytes ≡ Ok sound → Hears (Some sound) (fresh_report request.written) result outs
-    → Delivers request (Some bytes) result outs
-heard-sound request bytes sound (Ok u) outs is heard = (sound, is, hears-written request.written sound (Ok u) outs heard)
-heard-sound request bytes sound (Err fault.Read) outs is heard =
-    inr (sound, is, hears-written request.written sound (Err fault.Read) outs heard)
-heard-sound request bytes sound (Err (fault.Wav f)) outs is heard = absurd heard.0
-heard-sound request bytes sound (Err (fault.Cut n)) outs is heard =
-    (sound, is, hears-written request.written sound (Err (fault.Cut n)) outs heard)
-heard-sound request bytes sound (Err fault.NoMemory) outs is heard =
-    (sound, is, hears-written request.written sound (Err fault.NoMemory) outs heard)
-heard-sound request bytes sound (Err fault.Write) outs is heard =
-    (sound, is, hears-written request.written sound (Err fault.Write) outs heard)
-heard-sound request bytes sound (Err fault.Tell) outs is heard =
-    (sound, is, hears-written request.written sound (Err fault.Tell) outs heard)
+delivered-sound : (written : Written) (how : Input) (bytes : List ℕ) (result : Result (Unit {0}) RxFault) (outs : Outputs)
+    → ((sound : Sound) × (sound_by how bytes ≡ Ok sound) × Hears (Some sound) (fresh_report written) result outs)
+    → ((sound : Sound) × (sound_by how bytes ≡ Ok sound) × HearsSound written sound result outs)
+delivered-sound written how bytes result outs (sound, is, heard) =
+    (sound, is, hears-written written sound result outs heard)
 
-pub delivered : (request : Request) (old mid : Option (List ℕ)) (start : Start) (result : Result (Unit {0}) RxFault)
-    (outs : Outputs) → Opens old (start_by request.input) (Ok start) mid
-    → Hears (option_map (sound_of start.form start.samples start.counted) mid) (fresh_report request.written) result outs
-    → Delivers request old result outs
-delivered request None mid start result outs opens heard = tt
-delivered request (Some bytes) mid start result outs (rest, is, left) heard =
-    heard-sound request bytes (sound_of start.form start.samples start.counted rest) result outs (ap sound_after is)
-    (subst (λ (known : Option (List ℕ)). Hears (option_map (sound_of start.form start.samples start.counted) known)
-    (fresh_report request.written) result outs) left heard)
+pub delivered : (request : Request) (bytes : Option (List ℕ)) (result : Result (Unit {0}) RxFault) (outs : Outputs)
+    → HearsBytes request.input (fresh_report request.written) bytes result outs → Delivers request bytes result outs
+delivered request None result outs heard = tt
+delivered request (Some bytes) (Ok u) outs heard = delivered-sound request.written request.input bytes (Ok u) outs heard
+delivered request (Some bytes) (Err fault.Read) outs (inl none) = inl none
+delivered request (Some bytes) (Err fault.Read) outs (inr heard) =
+    inr (delivered-sound request.written request.input bytes (Err fault.Read) outs heard)
+delivered request (Some bytes) (Err (fault.Wav f)) outs heard = heard
+delivered request (Some bytes) (Err (fault.Cut n)) outs heard =
+    delivered-sound request.written request.input bytes (Err (fault.Cut n)) outs heard
+delivered request (Some bytes) (Err fault.NoMemory) outs heard =
+    delivered-sound request.written request.input bytes (Err fault.NoMemory) outs heard
+delivered request (Some bytes) (Err fault.Write) outs heard =
+    delivered-sound request.written request.input bytes (Err fault.Write) outs heard
+delivered request (Some bytes) (Err fault.Tell) outs heard =
+    delivered-sound request.written request.input bytes (Err fault.Tell) outs heard
 
--- a sound that was not opened
-pub not-delivered : (request : Request) (old mid : Option (List ℕ)) (f : OpenFault) (a b : Option (List ℕ))
-    → Opens {A = Start} old (start_by request.input) (Err f) mid → Delivers request old (Err (of_open f)) (outputs a a b b)
-not-delivered request None mid f a b opens = tt
-not-delivered request (Some bytes) mid open_fault.Read a b opens =
-    inl (record { page_kept = Keeps-refl a; told_kept = Keeps-refl b })
-not-delivered request (Some bytes) mid (open_fault.Wav f) a b opens =
-    (ap sound_after opens, record { page_kept = Keeps-refl a; told_kept = Keeps-refl b })
+module _ (how : Input) (report : Reported) where
+  -- a sound that was opened, and heard
+  heard-sound : (bytes : List ℕ) (sound : Sound) (result : Result (Unit {0}) RxFault) (outs : Outputs)
+      → sound_by how bytes ≡ Ok sound → Hears (Some sound) report result outs
+      → HearsBytes how report (Some bytes) result outs
+  heard-sound bytes sound (Ok u) outs is heard = (sound, is, heard)
+  heard-sound bytes sound (Err fault.Read) outs is heard = inr (sound, is, heard)
+  heard-sound bytes sound (Err (fault.Wav f)) outs is heard = absurd heard.0
+  heard-sound bytes sound (Err (fault.Cut n)) outs is heard = (sound, is, heard)
+  heard-sound bytes sound (Err fault.NoMemory) outs is heard = (sound, is, heard)
+  heard-sound bytes sound (Err fault.Write) outs is heard = (sound, is, heard)
+  heard-sound bytes sound (Err fault.Tell) outs is heard = (sound, is, heard)
+
+  -- of a sound that is known less can be said
+  heard-some : (all : Option Sound) (result : Result (Unit {0}) RxFault) (outs : Outputs) → Hears all report result outs
+      → Hears None report result outs
+  heard-some None result outs heard = heard
+  heard-some (Some sound) (Ok u) outs heard = (keys_of_sound sound.samples, heard.1)
+  heard-some (Some sound) (Err f) outs heard = tt
+
+  pub listened : (old mid : Option (List ℕ)) (start : Start) (result : Result (Unit {0}) RxFault) (outs : Outputs)
+      → Opens old (start_by how) (Ok start) mid
+      → Hears (option_map (sound_of start.form start.samples start.counted) mid) report result outs
+      → HearsBytes how report old result outs
+  listened None mid start result outs opens heard =
+      heard-some (option_map (sound_of start.form start.samples start.counted) mid) result outs heard
+  listened (Some bytes) mid start result outs (rest, is, left) heard =
+      heard-sound bytes (sound_of start.form start.samples start.counted rest) result outs (ap sound_after is)
+      (subst (λ (known : Option (List ℕ)). Hears (option_map (sound_of start.form start.samples start.counted) known)
+      report result outs) left heard)
+
+  -- a sound that was not opened
+  pub not-listened : (old mid : Option (List ℕ)) (f : OpenFault) (a b : Option (List ℕ))
+      → Opens {A = Start} old (start_by how) (Err f) mid → HearsBytes how report old (Err (of_open f)) (outputs a a b b)
+  not-listened None mid f a b opens = tt
+  not-listened (Some bytes) mid open_fault.Read a b opens =
+      inl (record { page_kept = Keeps-refl a; told_kept = Keeps-refl b })
+  not-listened (Some bytes) mid (open_fault.Wav f) a b opens =
+      (ap sound_after opens, record { page_kept = Keeps-refl a; told_kept = Keeps-refl b })

@@ -2,15 +2,13 @@
 use Rattle.std.proofs.Common.{◌≡◌, ℕ, ◌+◌, ◌≤◌, List, [], ◌∷◌, ◌++◌, Option, Result, Ok, Err, ap, arith, drop, subst, sym}
 use Rattle.std.specs.Prelude.{IfErr, OnErr, OnOk}
 use Rattle.std.specs.Io.KnownBytes.{Appends}
-use Rattle.xb_model.specs.Keyings.{keying}
-use Rattle.xb_model.specs.Page.{entry_text}
 use Rattle.xb_text.specs.Writing.{AppendsBeginning}
 use Rattle.xb_ear.specs.declared.hearing.Heard.{Heard}
 use Rattle.xb_rx.specs.declared.page.PageFault.{PageFault}
 use Rattle.xb_rx.specs.declared.page.Step.TheVariants as steps
 use Rattle.xb_rx.specs.Keyings.{digits_in}
 use Rattle.xb_rx.specs.Begun.{IsBegun, broken, kept_after, step_of}
-use Rattle.xb_rx.specs.Pages.{Paged, Writes, loose_lines, loose_rest, page_rest}
+use Rattle.xb_rx.specs.Pages.{Paged, Writes, WritesOf, loose_lines, loose_rest, page_rest, text_rest}
 use Rattle.xb_rx.proofs.WrittenText.{broken-begun, broken-fault, broken-page, broken-told, complete-fault, complete-page, complete-quiet, kept-begun, kept-loose, kept-page, none-written}
 
 module _ (page new : Paged) (key : Heard) (r : Result (Unit {0}) PageFault) where
@@ -51,45 +49,32 @@ module _ (page new : Paged) (key : Heard) (r : Result (Unit {0}) PageFault) wher
       by (Err f) is = tt
 
   -- the keying is complete
-  abbrev pub entry_of : List ℕ
-  entry_of = entry_text page.line (page.count + 1) (keying page.trunk (digits_in (drop 1 page.begun)))
-
   module _ (begun : IsBegun page.begun) (step : step_of page.begun key ≡ steps.Completes)
-      (after : OnOk r (new ≡ record page { count = page.count + 1; begun = [] })) where
-    pub completes-page : (a b : Option (List ℕ)) → OnOk r (Appends a b entry_of)
-        → IfErr r (λ f. AppendsBeginning a b entry_of)
+      (after : OnOk r (new.begun ≡ [])) where
+    pub completes-page : (a b : Option (List ℕ))
+        → WritesOf (λ numbers. text_rest page (digits_in (drop 1 page.begun) ∷ numbers)) (text_rest new) r a b
         → Writes (λ later. page_rest page (key ∷ later)) (page_rest new) r a b
-    completes-page a b whole beginning = by r after whole beginning
+    completes-page a b wrote = by r after wrote
       where
-        by : (r : Result (Unit {0}) PageFault) → OnOk r (new ≡ record page { count = page.count + 1; begun = [] })
-            → OnOk r (Appends a b entry_of) → IfErr r (λ f. AppendsBeginning a b entry_of)
+        by : (r : Result (Unit {0}) PageFault) → OnOk r (new.begun ≡ [])
+            → WritesOf (λ numbers. text_rest page (digits_in (drop 1 page.begun) ∷ numbers)) (text_rest new) r a b
             → Writes (λ later. page_rest page (key ∷ later)) (page_rest new) r a b
-        by (Ok u) is whole beginning = complete-page page new key begun a b step is whole
-        by (Err f) is whole beginning = complete-fault page new key begun a b step f beginning
+        by (Ok u) is wrote = complete-page page new key begun a b step is wrote
+        by (Err f) is wrote = complete-fault page new key begun a b step f wrote
 
     pub completes-loose : (a : Option (List ℕ)) → Writes (λ later. loose_rest page (key ∷ later)) (loose_rest new) r a a
     completes-loose a = by r after
       where
-        by : (r : Result (Unit {0}) PageFault) → OnOk r (new ≡ record page { count = page.count + 1; begun = [] })
+        by : (r : Result (Unit {0}) PageFault) → OnOk r (new.begun ≡ [])
             → Writes (λ later. loose_rest page (key ∷ later)) (loose_rest new) r a a
         by (Ok u) is = complete-quiet page new key begun a a step is
         by (Err f) is = λ later. none-written a (loose_rest page (key ∷ later))
 
-  pub completes-count : OnOk r (new ≡ record page { count = page.count + 1; begun = [] }) → OnErr r (new.count ≡ page.count)
-      → new.count ≤ page.count + 1
-  completes-count after same = by r after same
-    where
-      by : (r : Result (Unit {0}) PageFault) → OnOk r (new ≡ record page { count = page.count + 1; begun = [] })
-          → OnErr r (new.count ≡ page.count) → new.count ≤ page.count + 1
-      by (Ok u) is same = let e : new.count ≡ page.count + 1 = ap (λ (p : Paged). p.count) is in omega (arith, e)
-      by (Err f) is same = omega (arith, same)
-
-  pub completes-begun : OnOk r (new ≡ record page { count = page.count + 1; begun = [] }) → OnOk r (IsBegun new.begun)
+  pub completes-begun : OnOk r (new.begun ≡ []) → OnOk r (IsBegun new.begun)
   completes-begun after = by r after
     where
-      by : (r : Result (Unit {0}) PageFault) → OnOk r (new ≡ record page { count = page.count + 1; begun = [] })
-          → OnOk r (IsBegun new.begun)
-      by (Ok u) is = subst IsBegun (sym (ap (λ (p : Paged). p.begun) is)) tt
+      by : (r : Result (Unit {0}) PageFault) → OnOk r (new.begun ≡ []) → OnOk r (IsBegun new.begun)
+      by (Ok u) is = subst IsBegun (sym is) tt
       by (Err f) is = tt
 
   -- the keying is broken off

@@ -6,6 +6,7 @@ pub mod KeySteps
 pub mod LastSteps
 pub mod SoFar
 pub mod PagedKeys
+pub mod HeardPages
 pub mod Delivered
 pub mod Compared
 pub mod Answered

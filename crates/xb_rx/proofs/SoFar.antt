@@ -94,35 +94,44 @@ IsLeft sound samples None = ⊥
 IsLeft sound samples (Some left) = sound ≡ sound_with (samples ++ left.samples) left.lacking
 
 -- the keys that ended in these samples were written
-pub record Heard_so_far (first page : Reported) (receiver : Receiving) (sound : Sound) (left : Option Sound)
-    (outs : Outputs) : Type 0 where
+pub record IsSoFar (first page : Reported) (receiver : Receiving) (all left : Option Sound) (outs : Outputs) : Type 0 where
   pub samples : List ℤ
   pub keys : List Heard
-  pub is_left : IsLeft sound samples left
+  pub is_left : IfSome all (λ sound. IsLeft sound samples left)
   pub received : HasReceived receiver samples keys
   pub page_has : Has report_rest first page keys outs.page_old outs.page_new
   pub told_has : Has told_rest first page keys outs.told_old outs.told_new
 
-abbrev pub IsSoFar : Reported → Reported → Receiving → Option Sound → Option Sound → Outputs → Type 0
-IsSoFar first page receiver all left outs =
-    IfSome all (λ sound. Heard_so_far first page receiver sound left outs)
+all-left : (all : Option Sound) → IfSome all (λ sound. IsLeft sound [] all)
+all-left None = tt
+all-left (Some sound) = refl
 
 pub so_far-start : (first : Reported) (receiver : Receiving) (all : Option Sound) (a b : Option (List ℕ))
     → HasReceived receiver [] [] → IsSoFar first first receiver all all (outputs a a b b)
-so_far-start first receiver None a b received = tt
-so_far-start first receiver (Some sound) a b received = record {
+so_far-start first receiver all a b received = record {
   samples = [];
   keys = [];
-  is_left = refl;
+  is_left = all-left all;
   received = received;
   page_has = has-none report_rest first a;
   told_has = has-none told_rest first b;
 }
 
+-- a sample less is left
+left-more : (samples : List ℤ) (x : ℤ) (all now left : Option Sound) → IfSome all (λ sound. IsLeft sound samples now)
+    → GivesSample now (Ok (Some x)) left → IfSome all (λ sound. IsLeft sound (samples ++ x ∷ []) left)
+left-more samples x None now left is gives = tt
+left-more samples x (Some sound) None left is gives = absurd is
+left-more samples x (Some sound) (Some here) None is gives = absurd gives
+left-more samples x (Some sound) (Some here) (Some left) is gives =
+    is
+    ∙ ap (λ (s : Sound). sound_with (samples ++ s.samples) s.lacking) gives
+    ∙ ap (λ xs. sound_with xs left.lacking) (sym (append_assoc samples (x ∷ []) left.samples))
+
 module _ (first page : Reported) (receiver : Receiving) (a b c d : Option (List ℕ)) where
   -- the keys of a sound that ends
   all-keys : (key : Option Heard) (sound here : Sound) (left : Option Sound)
-      (so : Heard_so_far first page receiver sound (Some here) (outputs a b c d)) → GivesSample (Some here) (Ok None) left
+      (so : IsSoFar first page receiver (Some sound) (Some here) (outputs a b c d)) → GivesSample (Some here) (Ok None) left
       → ((samples : List ℤ) (keys : List Heard) → HasReceived receiver samples keys
       → keys ++ listed key ≡ keys_of_sound samples)
       → so.keys ++ listed key ≡ keys_of_sound sound.samples
@@ -141,16 +150,10 @@ module _ (first page : Reported) (receiver : Receiving) (a b c d : Option (List 
       → Writes {F = PageFault} (λ later. report_rest page (listed key ++ later)) (report_rest new) (Ok tt) b next
       → Writes {F = PageFault} (λ later. told_rest page (listed key ++ later)) (told_rest new) (Ok tt) d also
       → IsSoFar first new after all left (outputs a next c also)
-  so_far-more new after x key None now left next also so gives takes wrote told = tt
-  so_far-more new after x key (Some sound) None left next also so gives takes wrote told = absurd so.is_left
-  so_far-more new after x key (Some sound) (Some here) None next also so gives takes wrote told = absurd gives
-  so_far-more new after x key (Some sound) (Some here) (Some left) next also so gives takes wrote told = record {
+  so_far-more new after x key all now left next also so gives takes wrote told = record {
     samples = so.samples ++ x ∷ [];
     keys = so.keys ++ listed key;
-    is_left =
-        so.is_left
-        ∙ ap (λ (s : Sound). sound_with (so.samples ++ s.samples) s.lacking) gives
-        ∙ ap (λ xs. sound_with xs left.lacking) (sym (append_assoc so.samples (x ∷ []) left.samples));
+    is_left = left-more so.samples x all now left so.is_left gives;
     received = takes so.samples so.keys so.received;
     page_has = has-more report_rest first page new so.keys (listed key) a b next so.page_has wrote;
     told_has = has-more told_rest first page new so.keys (listed key) c d also so.told_has told;
@@ -216,7 +219,13 @@ module _ (first page : Reported) (receiver : Receiving) (a b c d : Option (List 
       → keys ++ listed key ≡ keys_of_sound samples)
       → Appends b next (report_rest page (listed key)) → Appends d also (told_rest page (listed key))
       → Hears all first (Ok tt) (outputs a next c also)
-  so_far-end key None now left next also so gives finishes wrote told = tt
+  so_far-end key None now left next also so gives finishes wrote told = (
+    so.keys ++ listed key,
+    record {
+      page_whole = has-last report_rest first page so.keys (listed key) a b next so.page_has wrote;
+      told_whole = has-last told_rest first page so.keys (listed key) c d also so.told_has told;
+    },
+  )
   so_far-end key (Some sound) None left next also so gives finishes wrote told = absurd so.is_left
   so_far-end key (Some sound) (Some here) left next also so gives finishes wrote told =
       let keys = all-keys key sound here left so gives finishes in (

@@ -1,10 +1,11 @@
 -- What is written of a key, and what is then still to be written.
 use Rattle.std.proofs.Common.{◌≡◌, ◌∙◌, ℕ, suc, ◌+◌, ◌≤◌, ◌<◌, Bool, true, false, ◌&&◌, List, [], ◌∷◌, ◌++◌, length, map, Option, Some, None, is_some, le-leb, leb-true, Result, Ok, Err, length-append, sym, ap, refl, arith, append_assoc, append-nil, drop, subst}
-use Rattle.std.specs.Prelude.{IfErr, OnOk, if◌then◌else◌, is_err, nat_le}
+use Rattle.std.specs.Prelude.{IfOk, OnOk, if◌then◌else◌, is_err, nat_le}
 use Rattle.std.specs.Io.KnownBytes.{Appends}
 use Rattle.std.specs.List.{AllByRecursion}
 use Rattle.std.proofs.KnownBytes.{Appends-nil}
 use Rattle.std.proofs.lemmas.Bool.{cond-false}
+use Rattle.xb_model.specs.declared.mark.Mark.{Mark}
 use Rattle.xb_model.specs.Keyings.{keying}
 use Rattle.xb_model.specs.Page.{entries_text, entry_text, totals_text}
 use Rattle.xb_text.specs.Writing.{AppendsBeginning}
@@ -17,17 +18,13 @@ use Rattle.xb_rx.specs.declared.page.Step.TheVariants as steps
 use Rattle.xb_rx.specs.declared.page.PageFault.{PageFault}
 use Rattle.xb_rx.specs.Keyings.{digit_of, digits_in, is_kp, is_st, keyings, loose_after, loose_keys}
 use Rattle.xb_rx.specs.Begun.{IsDigit, IsBegun, broken, kept_after, step_of}
-use Rattle.xb_rx.specs.Pages.{Paged, Writes, loose_line, loose_lines, loose_rest, loose_text, page_after, page_rest}
+use Rattle.xb_compared.specs.Entries.{KeyedEntry}
+use Rattle.xb_rx.specs.Pages.{IsTextOf, Paged, Writes, WritesOf, heard_after, loose_line, loose_lines, loose_rest, loose_text, page_after, page_rest, text_after, text_rest}
 use Rattle.xb_rx.proofs.KeyingSteps.{all-loose, breaks, completes, end-loose, end-none, goes-loose, goes-on, none-loose}
 
 -- nothing was written
 pub none-written : (old : Option (List ℕ)) (bytes : List ℕ) → AppendsBeginning old old bytes
 none-written old bytes = (0, Appends-nil old)
-
-pub none-at-fault : (r : Result (Unit {0}) PageFault) (old : Option (List ℕ)) (bytes : List ℕ)
-    → IfErr r (λ f. AppendsBeginning old old bytes)
-none-at-fault (Ok u) old bytes = tt
-none-at-fault (Err f) old bytes = none-written old bytes
 
 -- all of a text was written
 pub all-written : (old new : Option (List ℕ)) (text : List ℕ) → Appends old new text → AppendsBeginning old new text
@@ -101,7 +98,7 @@ module _ (page new : Paged) (key : Heard) (a b : Option (List ℕ)) where
     kept-page = (
       [],
       Appends-nil a,
-      λ later. ap (λ ks. page_after page.line page.trunk page.count (keyings ks)) (kept-later page.begun key later)
+      λ later. ap (λ ks. text_rest page (keyings ks)) (kept-later page.begun key later)
           ∙ ap (λ (p : Paged). page_rest p later) (sym is),
     )
 
@@ -112,16 +109,57 @@ module _ (page new : Paged) (key : Heard) (a b : Option (List ℕ)) where
       λ later. ap loose_text (kept-later page.begun key later) ∙ ap (λ (p : Paged). loose_rest p later) (sym is),
     )
 
+-- what holds of what a call returned, by what it says
+pub if-ok : {S E : Type 0} {P Q : S → Type 0} (r : Result S E) → ((s : S) → P s → Q s) → IfOk r P → IfOk r Q
+if-ok (Ok s) step holds = step s holds
+if-ok (Err e) step holds = tt
+
+-- what an entry makes plain, and what is left after it
+pub text-step : (against next : Option (List KeyedEntry)) (line trunk count : ℕ) (digits text : List ℕ)
+    → IsTextOf against next line (count + 1) (keying trunk digits) text → (numbers : List (List ℕ))
+    → text_after against line trunk count (digits ∷ numbers) ≡ text ++ text_after next line trunk (count + 1) numbers
+text-step None next line trunk count digits text (same, is) numbers =
+    entry-first line trunk count digits numbers
+    ∙ ap (λ t. t ++ page_after line trunk (count + 1) numbers) (sym is)
+    ∙ ap (λ (o : Option (List KeyedEntry)). text ++ text_after o line trunk (count + 1) numbers) (sym same)
+text-step (Some left) next line trunk count digits text (after, same, is) numbers =
+    is (heard_after line trunk (count + 1) numbers)
+    ∙ ap (λ (o : Option (List KeyedEntry)). text ++ text_after o line trunk (count + 1) numbers) (sym same)
+
+-- what an entry makes plain is written
+module _ (page : Paged) (next : Option (List KeyedEntry)) (digits : List ℕ) (marks : List Mark) (text bytes : List ℕ)
+    (keyed : marks ≡ keying page.trunk digits) (is : IsTextOf page.against next page.line (page.count + 1) marks text)
+    (same : bytes ≡ text) where
+  entry-rest : (numbers : List (List ℕ)) → text_rest page (digits ∷ numbers)
+      ≡ bytes ++ text_after next page.line page.trunk (page.count + 1) numbers
+  entry-rest numbers =
+      text-step page.against next page.line page.trunk page.count digits text
+      (subst (λ ms. IsTextOf page.against next page.line (page.count + 1) ms text) keyed is) numbers
+      ∙ ap (λ t. t ++ text_after next page.line page.trunk (page.count + 1) numbers) (sym same)
+
+  pub entry-whole : (a b : Option (List ℕ)) → Appends a b bytes
+      → WritesOf {F = PageFault} (λ numbers. text_rest page (digits ∷ numbers))
+      (λ numbers. text_after next page.line page.trunk (page.count + 1) numbers) (Ok tt) a b
+  entry-whole a b wrote = (bytes, wrote, entry-rest)
+
+  pub entry-begun : (after : List (List ℕ) → List ℕ) (f : PageFault) (a b : Option (List ℕ)) → AppendsBeginning a b bytes
+      → WritesOf (λ numbers. text_rest page (digits ∷ numbers)) after (Err f) a b
+  entry-begun after f a b wrote =
+      λ numbers. subst (AppendsBeginning a b) (sym (entry-rest numbers)) (AppendsBeginning-first a b _ _ wrote)
+
+-- nothing was, where there was no memory for it
+pub no-entry : (before after : List (List ℕ) → List ℕ) (r : Result (Unit {0}) PageFault) (f : PageFault)
+    (a : Option (List ℕ)) → r ≡ Err f → WritesOf before after r a a
+no-entry before after r f a is =
+    subst (λ (s : Result (Unit {0}) PageFault). WritesOf before after s a a) (sym is) (λ numbers. none-written a (before numbers))
+
 -- a keying is complete
-complete-at : (line trunk count : ℕ) (begun : List Heard) (key : Heard) (later : List Heard) → IsBegun begun
+complete-keyings : (begun : List Heard) (key : Heard) (later : List Heard) → IsBegun begun
     → step_of begun key ≡ steps.Completes
-    → page_after line trunk count (keyings (begun ++ key ∷ later))
-    ≡ entry_text line (count + 1) (keying trunk (digits_in (drop 1 begun)))
-    ++ page_after line trunk (count + 1) (keyings later)
-complete-at line trunk count [] key later is step = absurd (no-complete (is_kp key) step)
-complete-at line trunk count (kp ∷ digits) key later (is, all, few) step =
-    ap (page_after line trunk count) (completes kp digits is all few key later (is-st kp key digits step))
-    ∙ entry-first line trunk count (digits_in digits) (keyings later)
+    → keyings (begun ++ key ∷ later) ≡ digits_in (drop 1 begun) ∷ keyings later
+complete-keyings [] key later is step = absurd (no-complete (is_kp key) step)
+complete-keyings (kp ∷ digits) key later (is, all, few) step =
+    completes kp digits is all few key later (is-st kp key digits step)
 
 complete-loose : (begun : List Heard) (key : Heard) (later : List Heard) → IsBegun begun
     → step_of begun key ≡ steps.Completes → loose_text (begun ++ key ∷ later) ≡ loose_text later
@@ -154,30 +192,34 @@ broken-loose begun key later is step =
 
 module _ (page new : Paged) (key : Heard) (begun : IsBegun page.begun) (a b : Option (List ℕ)) where
   module _ (step : step_of page.begun key ≡ steps.Completes) where
-    pub complete-page : new ≡ record page { count = page.count + 1; begun = [] }
-        → Appends a b (entry_text page.line (page.count + 1) (keying page.trunk (digits_in (drop 1 page.begun))))
+    complete-rest : (later : List Heard)
+        → page_rest page (key ∷ later) ≡ text_rest page (digits_in (drop 1 page.begun) ∷ keyings later)
+    complete-rest later = ap (text_rest page) (complete-keyings page.begun key later begun step)
+
+    pub complete-page : new.begun ≡ []
+        → WritesOf {F = PageFault} (λ numbers. text_rest page (digits_in (drop 1 page.begun) ∷ numbers)) (text_rest new)
+        (Ok tt) a b
         → Writes {F = PageFault} (λ later. page_rest page (key ∷ later)) (page_rest new) (Ok tt) a b
-    complete-page is wrote = (
-      entry_text page.line (page.count + 1) (keying page.trunk (digits_in (drop 1 page.begun))),
+    complete-page none (bytes, wrote, is) = (
+      bytes,
       wrote,
-      λ later. complete-at page.line page.trunk page.count page.begun key later begun step
-          ∙ ap (λ (p : Paged). entry_text page.line (page.count + 1) (keying page.trunk (digits_in (drop 1 page.begun)))
-          ++ page_rest p later) (sym is),
+      λ later. complete-rest later
+          ∙ is (keyings later)
+          ∙ ap (λ (ks : List Heard). bytes ++ text_rest new (keyings (ks ++ later))) (sym none),
     )
 
     pub complete-fault : (f : PageFault)
-        → AppendsBeginning a b (entry_text page.line (page.count + 1) (keying page.trunk (digits_in (drop 1 page.begun))))
+        → WritesOf (λ numbers. text_rest page (digits_in (drop 1 page.begun) ∷ numbers)) (text_rest new) (Err f) a b
         → Writes (λ later. page_rest page (key ∷ later)) (page_rest new) (Err f) a b
-    complete-fault f wrote = λ later.
-        subst (AppendsBeginning a b) (sym (complete-at page.line page.trunk page.count page.begun key later begun step))
-        (AppendsBeginning-first a b _ _ wrote)
+    complete-fault f wrote = λ later. subst (AppendsBeginning a b) (sym (complete-rest later)) (wrote (keyings later))
 
-    pub complete-quiet : new ≡ record page { count = page.count + 1; begun = [] }
+    pub complete-quiet : new.begun ≡ []
         → Writes {F = PageFault} (λ later. loose_rest page (key ∷ later)) (loose_rest new) (Ok tt) a a
-    complete-quiet is = (
+    complete-quiet none = (
       [],
       Appends-nil a,
-      λ later. complete-loose page.begun key later begun step ∙ ap (λ (p : Paged). loose_rest p later) (sym is),
+      λ later. complete-loose page.begun key later begun step
+          ∙ ap (λ (ks : List Heard). loose_text (ks ++ later)) (sym none),
     )
 
   module _ (step : step_of page.begun key ≡ steps.BreaksOff) where
@@ -186,7 +228,7 @@ module _ (page new : Paged) (key : Heard) (begun : IsBegun page.begun) (a b : Op
     broken-page is = (
       [],
       Appends-nil a,
-      λ later. ap (page_after page.line page.trunk page.count) (broken-at page.begun key later begun step)
+      λ later. ap (text_rest page) (broken-at page.begun key later begun step)
           ∙ ap (λ (p : Paged). page_rest p later) (sym is),
     )
 
@@ -221,11 +263,22 @@ end-loose-keys [] is = nothing-loose
 end-loose-keys (kp ∷ digits) (is, all, few) =
     ap loose_keys (append-nil (kp ∷ digits)) ∙ end-loose kp digits is all few
 
-pub end-page : (page : Paged) → IsBegun page.begun → page_rest page [] ≡ totals_text page.count 0
+pub end-page : (page : Paged) → IsBegun page.begun → page_rest page [] ≡ text_rest page []
+end-page page is = ap (text_rest page) (end-keyings page.begun is)
+
+-- the totals, or what was keyed and not heard
+pub last-totals : (line trunk count : ℕ) → page_after line trunk count [] ≡ totals_text count 0
 unfolding entries_text
-end-page page is =
-    let none : page.count + 0 ≡ page.count = omega arith in
-    ap (page_after page.line page.trunk page.count) (end-keyings page.begun is) ∙ ap (λ (n : ℕ). totals_text n 0) none
+last-totals line trunk count =
+    let none : count + 0 ≡ count = omega arith in
+    ap (λ (n : ℕ). totals_text n 0) none
+
+pub last-none : (page : Paged) (text : List ℕ) → page.against ≡ None → text ≡ totals_text page.count 0
+    → text ≡ text_rest page []
+last-none page text is totals =
+    totals
+    ∙ sym (last-totals page.line page.trunk page.count)
+    ∙ ap (λ (o : Option (List KeyedEntry)). text_after o page.line page.trunk page.count []) (sym is)
 
 pub end-told : (page : Paged) → IsBegun page.begun → loose_rest page [] ≡ loose_lines page.begun
 end-told page is = ap loose_lines (end-loose-keys page.begun is)

@@ -6,6 +6,7 @@ use Rattle.xb_compared.specs.Differences.{differences}
 use Rattle.xb_compared.specs.Entries.{KeyedEntry}
 use Rattle.xb_compared.specs.Pages.{IsFaultOf, IsKeyed}
 use Rattle.xb_page.specs.LineEnds.{lf_ended}
+use Rattle.xb_ear.specs.declared.hearing.Heard.{Heard}
 use Rattle.xb_ear.specs.Receivers.{keys_of_sound}
 use Rattle.xb_rx.specs.declared.comparing.CompareProgramFault.{CompareProgramFault}
 use Rattle.xb_rx.specs.declared.comparing.CompareProgramFault.TheVariants as fault
@@ -13,23 +14,20 @@ use Rattle.xb_rx.specs.declared.request.Input.{Input}
 use Rattle.xb_rx.specs.declared.request.Request.{Request}
 use Rattle.xb_rx.specs.declared.request.Written.TheVariants as written
 use Rattle.xb_rx.specs.Hearing.{Delivers, Outputs, outputs, sound_by}
-use Rattle.xb_rx.specs.Pages.{loose_text, page_of}
+use Rattle.xb_rx.specs.Pages.{heard_entries, loose_text, page_of}
 use Rattle.xb_wav.specs.Samples.{Sound}
 
 -- the keyed entries of the page in a file, whose lines end at LF or at CR LF, where its bytes are known
 abbrev pub HasKeyed : Option (List ℕ) → List KeyedEntry → Type 0
 HasKeyed file keyed = IfSome file (λ page. IsKeyed (lf_ended page) keyed)
 
--- a sound whose page has this is heard to its end, where its bytes are known, and its keys without a keying are told
-abbrev pub HasHeard : Input → Option (List ℕ) → (List ℕ → Type 0) → Option (List ℕ) → Option (List ℕ) → Type 0
-HasHeard how None P old new = Unit {0}
-HasHeard how (Some bytes) P old new =
+-- a sound is heard to its end, where its bytes are known: these are the keyed entries of its keyings, and its keys
+-- without a keying are told
+abbrev pub IsHeard : Input → Option (List ℕ) → List KeyedEntry → Option (List ℕ) → Option (List ℕ) → Type 0
+IsHeard how None heard old new = Unit {0}
+IsHeard how (Some bytes) heard old new =
     (sound : Sound) × (sound_by how bytes ≡ Ok sound) × (sound.lacking ≡ 0)
-    × Appends old new (loose_text (keys_of_sound sound.samples)) × P (page_of 0 0 (keys_of_sound sound.samples))
-
--- the keyed entries of its page
-abbrev pub IsHeardPage : Input → Option (List ℕ) → List KeyedEntry → Option (List ℕ) → Option (List ℕ) → Type 0
-IsHeardPage how bytes keyed old new = HasHeard how bytes (λ page. IsKeyed page keyed) old new
+    × Appends old new (loose_text (keys_of_sound sound.samples)) × (heard ≡ heard_entries (keys_of_sound sound.samples))
 
 -- why a file gives no keyed entries
 abbrev pub IsFileFault : Option (List ℕ) → CompareProgramFault → Type 0
@@ -41,11 +39,10 @@ IsFileFault file f = ⊥
 abbrev pub page_request : Input → Request
 page_request how = record { written = written.Page 0 0; input = how }
 
--- why a sound gives none
+-- why a sound is not heard to its end
 abbrev pub IsSoundFault : Input → Option (List ℕ) → CompareProgramFault → Option (List ℕ) → Option (List ℕ) → Type 0
 IsSoundFault how bytes (fault.Sound f) old new =
     (page : Option (List ℕ)) × Delivers (page_request how) bytes (Err f) (outputs (Some []) page old new)
-IsSoundFault how bytes (fault.Heard f) old new = HasHeard how bytes (λ page. IsFaultOf page f) old new
 IsSoundFault how bytes fault.NoMemory old new = Unit {0}
 IsSoundFault how bytes f old new = ⊥
 
@@ -53,7 +50,12 @@ IsSoundFault how bytes f old new = ⊥
 abbrev pub HasDifferences : Option (List ℕ) → Input → Option (List ℕ) → (List ℕ → Type 0) → Outputs → Type 0
 HasDifferences file how bytes P outs =
     (keyed : List KeyedEntry) × (heard : List KeyedEntry) × HasKeyed file keyed
-    × IsHeardPage how bytes heard outs.told_old outs.told_new × P (differences keyed heard)
+    × IsHeard how bytes heard outs.told_old outs.told_new × P (differences keyed heard)
+
+-- this is the text of the differences of what was keyed and what is heard
+abbrev pub IsDifferences : Input → Option (List ℕ) → List KeyedEntry → List ℕ → Option (List ℕ) → Option (List ℕ) → Type 0
+IsDifferences how bytes keyed text old new =
+    (heard : List KeyedEntry) × IsHeard how bytes heard old new × (text ≡ differences keyed heard)
 
 -- there are none, or they were written, or their beginning; or a fault says why they are not known
 abbrev pub Compares : Option (List ℕ) → Input → Option (List ℕ) → Result (Unit {0}) CompareProgramFault → Outputs → Type 0
@@ -66,3 +68,7 @@ Compares file how bytes (Err fault.Write) outs =
 Compares file how bytes (Err f) outs =
     Keeps outs.page_old outs.page_new
     × ((Keeps outs.told_old outs.told_new × IsFileFault file f) ⊎ IsSoundFault how bytes f outs.told_old outs.told_new)
+
+-- the entries that are heard are the keyed entries of the page that is written of the same keys
+abbrev pub HeardIsPaged : Type 0
+HeardIsPaged = (keys : List Heard) → IsKeyed (page_of 0 0 keys) (heard_entries keys)

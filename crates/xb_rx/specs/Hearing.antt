@@ -2,6 +2,7 @@
 use Rattle.std.specs.Prelude.{ℕ, ◌≡◌, ◌⊎◌, ◌<◌, List, false, Option, Some, None, Result, Ok, Err}
 use Rattle.std.specs.Io.KnownBytes.{Appends, Keeps}
 use Rattle.xb_text.specs.Writing.{AppendsBeginning}
+use Rattle.xb_ear.specs.declared.hearing.Heard.{Heard}
 use Rattle.xb_ear.specs.Receivers.{keys_of_sound}
 use Rattle.xb_rx.specs.declared.fault.RxFault.{RxFault}
 use Rattle.xb_rx.specs.declared.fault.RxFault.TheVariants as fault
@@ -42,9 +43,10 @@ IsFaultOf sound (fault.Cut n) = (sound.lacking ≡ n) × (0 < n)
 IsFaultOf sound (fault.Wav f) = ⊥
 IsFaultOf sound f = Unit {0}
 
--- what was written and told of a sound that is known, after what there is so far
+-- what was written and told of a sound, after what there is so far: of one that is not known, that of some keys
 abbrev pub Hears : Option Sound → Reported → Result (Unit {0}) RxFault → Outputs → Type 0
-Hears None report result outs = Unit {0}
+Hears None report (Ok u) outs = (keys : List Heard) × Wrote outs (report_rest report keys) (told_rest report keys)
+Hears None report (Err f) outs = Unit {0}
 Hears (Some sound) report (Ok u) outs =
     (sound.lacking ≡ 0)
     × Wrote outs (report_rest report (keys_of_sound sound.samples)) (told_rest report (keys_of_sound sound.samples))
@@ -83,6 +85,15 @@ HearsSound written sound (Err f) outs =
 pub record WroteNothing (outs : Outputs) : Type 0 where
   pub page_kept : Keeps outs.page_old outs.page_new
   pub told_kept : Keeps outs.told_old outs.told_new
+
+-- the same of the bytes of a sound: where they are no WAV, or were not read so far, nothing
+abbrev pub HearsBytes : Input → Reported → Option (List ℕ) → Result (Unit {0}) RxFault → Outputs → Type 0
+HearsBytes how report None result outs = Hears None report result outs
+HearsBytes how report (Some bytes) (Err (fault.Wav f)) outs = (sound_by how bytes ≡ Err f) × WroteNothing outs
+HearsBytes how report (Some bytes) (Err fault.Read) outs = WroteNothing outs
+    ⊎ ((sound : Sound) × (sound_by how bytes ≡ Ok sound) × Hears (Some sound) report (Err fault.Read) outs)
+HearsBytes how report (Some bytes) result outs =
+    (sound : Sound) × (sound_by how bytes ≡ Ok sound) × Hears (Some sound) report result outs
 
 -- what is returned for bytes, and what was written of them: where they are no WAV, or were not read so far,
 -- nothing

@@ -1,11 +1,17 @@
--- What is written of keys that are heard: the page of the keyings, and a line for each key that stands in none.
-use Rattle.std.specs.Prelude.{ℕ, ◌≡◌, ◌+◌, List, [], ◌++◌, codes, decimal, length, map, Option, Result, Ok, Err}
+-- What is written of keys that are heard: the page of the keyings, or its differences from what was keyed, and a line
+-- for each key that stands in none.
+use Rattle.std.specs.Prelude.{ℕ, ◌≡◌, ◌+◌, List, [], ◌∷◌, ◌++◌, codes, decimal, length, map, Option, Some, None, Result, Ok, Err}
 use Rattle.std.specs.Io.KnownBytes.{Appends}
 use Rattle.std.specs.List.{flat_map}
 use Rattle.xb_model.specs.Keyings.{keying}
-use Rattle.xb_model.specs.Page.{entries_text, totals_text}
+use Rattle.xb_model.specs.declared.mark.Mark.{Mark}
+use Rattle.xb_model.specs.Page.{entries_text, entry_text, totals_text}
 use Rattle.xb_ear.specs.declared.hearing.Heard.{Heard}
 use Rattle.xb_text.specs.Writing.{AppendsBeginning}
+use Rattle.xb_page.specs.Entries.{entry_with}
+use Rattle.xb_compared.specs.Differences.{differences}
+use Rattle.xb_compared.specs.Entries.{KeyedEntry}
+use Rattle.xb_compared.specs.Keyed.{keyed_with}
 use Rattle.xb_rx.specs.declared.page.Page.{Page}
 use Rattle.xb_measured.specs.Figures.{start_ms}
 use Rattle.xb_measured.specs.Meanings.{meaning_of, name_text}
@@ -33,35 +39,71 @@ page_after line trunk count numbers =
 abbrev pub page_of : ℕ → ℕ → List Heard → List ℕ
 page_of line trunk keys = page_after line trunk 0 (keyings keys)
 
--- what a page has so far: the line and the trunk group, how many entries were written, and the keys of a keying
--- that goes on
+-- the keyed entries of a line that are heard after so many
+abbrev pub heard_after : ℕ → ℕ → ℕ → List (List ℕ) → List KeyedEntry
+heard_after line trunk count [] = []
+heard_after line trunk count (digits ∷ numbers) =
+    keyed_with (entry_with line (count + 1) (keying trunk digits)) ∷ heard_after line trunk (count + 1) numbers
+
+-- the keyings of keys as keyed entries: of line 0 and trunk group 0, as nothing is said of them
+abbrev pub heard_entries : List Heard → List KeyedEntry
+heard_entries keys = heard_after 0 0 0 (keyings keys)
+
+-- what is left to be written after so many entries: the rest of the page, or its differences from what is left of
+-- what was keyed
+abbrev pub text_after : Option (List KeyedEntry) → ℕ → ℕ → ℕ → List (List ℕ) → List ℕ
+text_after None line trunk count numbers = page_after line trunk count numbers
+text_after (Some left) line trunk count numbers = differences left (heard_after line trunk count numbers)
+
+-- what an entry makes plain, and what is then left of what was keyed
+abbrev pub IsTextOf : Option (List KeyedEntry) → Option (List KeyedEntry) → ℕ → ℕ → List Mark → List ℕ → Type 0
+IsTextOf None new line n marks text = (new ≡ None) × (text ≡ entry_text line n marks)
+IsTextOf (Some left) new line n marks text =
+    (next : List KeyedEntry) × (new ≡ Some next)
+    × ((later : List KeyedEntry)
+    → differences left (keyed_with (entry_with line n marks) ∷ later) ≡ text ++ differences next later)
+
+-- what a page has so far: the line and the trunk group, how many entries there were, the keys of a keying that goes
+-- on, and what is left of what was keyed, where it is compared
 pub record Paged : Type 0 where
   pub line : ℕ
   pub trunk : ℕ
   pub count : ℕ
   pub begun : List Heard
+  pub against : Option (List KeyedEntry)
 
 abbrev pub paged : Page → Paged
-paged page = record { line = page.line; trunk = page.trunk; count = page.count; begun = page.begun.items }
+paged page =
+    record { line = page.line; trunk = page.trunk; count = page.count; begun = page.begun.items; against = page.against }
 
 -- before the first key
 abbrev pub fresh_page : ℕ → ℕ → Paged
-fresh_page line trunk = record { line = line; trunk = trunk; count = 0; begun = [] }
+fresh_page line trunk = record { line = line; trunk = trunk; count = 0; begun = []; against = None }
 
--- what is still to be written of it and of later keys
+abbrev pub fresh_against : List KeyedEntry → Paged
+fresh_against keyed = record { line = 0; trunk = 0; count = 0; begun = []; against = Some keyed }
+
+-- what is still to be written of it and of later keyings, or keys
+abbrev pub text_rest : Paged → List (List ℕ) → List ℕ
+text_rest page numbers = text_after page.against page.line page.trunk page.count numbers
+
 abbrev pub page_rest : Paged → List Heard → List ℕ
-page_rest page later = page_after page.line page.trunk page.count (keyings (page.begun ++ later))
+page_rest page later = text_rest page (keyings (page.begun ++ later))
 
 abbrev pub loose_rest : Paged → List Heard → List ℕ
 loose_rest page later = loose_text (page.begun ++ later)
 
 -- of a text that is known as far as what comes later a writer got what leaves the second of the first; on an Err
 -- it got the beginning
+abbrev pub WritesOf : {F T : Type 0} → (T → List ℕ) → (T → List ℕ) → Result (Unit {0}) F
+    → Option (List ℕ) → Option (List ℕ) → Type 0
+WritesOf {T = T} before after (Ok u) old new =
+    (bytes : List ℕ) × Appends old new bytes × ((later : T) → before later ≡ bytes ++ after later)
+WritesOf {T = T} before after (Err f) old new = (later : T) → AppendsBeginning old new (before later)
+
 abbrev pub Writes : {F : Type 0} → (List Heard → List ℕ) → (List Heard → List ℕ) → Result (Unit {0}) F
     → Option (List ℕ) → Option (List ℕ) → Type 0
-Writes before after (Ok u) old new =
-    (bytes : List ℕ) × Appends old new bytes × ((later : List Heard) → before later ≡ bytes ++ after later)
-Writes before after (Err f) old new = (later : List Heard) → AppendsBeginning old new (before later)
+Writes before after result old new = WritesOf before after result old new
 
 -- all of a text was written, or on an Err the beginning
 abbrev pub Ends : {F : Type 0} → List ℕ → Result (Unit {0}) F → Option (List ℕ) → Option (List ℕ) → Type 0

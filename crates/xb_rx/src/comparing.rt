@@ -1,18 +1,18 @@
 // What was keyed, beside what is heard.
 ghost use Rattle.std.specs.Prelude.{◌≡◌, IfErr, IfOk, IfSome};
 ghost use Rattle.xb_page.specs.LineEnds.{lf_ended};
-ghost use Rattle.xb_rx.specs.Comparing.{Compares, HasKeyed, IsFileFault, IsHeardPage, IsSoundFault};
+ghost use Rattle.xb_rx.specs.Comparing.{Compares, HasKeyed, IsDifferences, IsFileFault, IsSoundFault};
 ghost use Rattle.xb_rx.specs.Hearing.{HasForm, outputs};
 
 use crate::fault::RxFault;
-use crate::receiving::receive;
-use crate::request::{Input, Request, Written};
+use crate::receiving::listen;
+use crate::report::Report;
+use crate::request::Input;
 use std::alloc::{AllocError, Global};
 use std::io::{self, Read, Write};
 use thiserror::Error;
 use xb_command::Files;
-use xb_compared::{CompareFault, Keyed, differences, keyed_of_page};
-use xb_model::{LineNo, Trunk};
+use xb_compared::{CompareFault, Keyed, keyed_of_page};
 use xb_page::end_lines_at_lf;
 use xb_text::write_whole;
 
@@ -26,9 +26,6 @@ pub enum CompareProgramFault {
     /// It has no page.
     #[error("the page that was keyed: {0}")]
     Keyed(CompareFault),
-    /// What was heard makes no page. That never comes but where it is too long.
-    #[error("the page that was heard: {0}")]
-    Heard(CompareFault),
     /// The sound is not heard to its end.
     #[error("{0}")]
     Sound(RxFault),
@@ -84,37 +81,33 @@ fn keyed_in<F: Files>(
     }
 }
 
-// The keyed entries of what is heard.
-fn keyed_heard<R: Read, E: Write>(
+// The differences of what was keyed and what is heard.
+fn differences_heard<R: Read, E: Write>(
     alloc: Global,
+    keyed: Vec<Keyed>,
     input: Input,
     sound: &mut R,
     err: &mut E,
-) -> Result<Vec<Keyed>, CompareProgramFault>
+) -> Result<Vec<u8>, CompareProgramFault>
     requires { HasForm input }
-    ensures keyed { IfOk result (λ keyed. IsHeardPage input (R.remaining sound.old) keyed.items
+    ensures text { IfOk result (λ text. IsDifferences input (R.remaining sound.old) keyed.items text.items
         (E.contents err.old) (E.contents err.new)) }
     ensures fault { IfErr result (λ fault. IsSoundFault input (R.remaining sound.old) fault
         (E.contents err.old) (E.contents err.new)) }
 {
-    let mut page = Vec::new(alloc);
-    let request = Request {
-        written: Written::Page(LineNo::default(), Trunk::default()),
-        input,
-    };
-    if let Err(fault) = receive(alloc, request, sound, &mut page, err) {
-        return Err(CompareProgramFault::Sound(fault));
-    }
-    match keyed_of_page(alloc, &page) {
-        Ok(keyed) => Ok(keyed),
-        Err(CompareFault::NoMemory) => Err(CompareProgramFault::NoMemory),
-        Err(fault) => Err(CompareProgramFault::Heard(fault)),
+    let mut text = Vec::new(alloc);
+    let report = Report::against(alloc, keyed);
+    match listen(alloc, input, report, sound, &mut text, err) {
+        Ok(()) => Ok(text),
+        Err(RxFault::Write) => Err(CompareProgramFault::NoMemory),
+        Err(fault) => Err(CompareProgramFault::Sound(fault)),
     }
 }
 
 /// Hears a sound, and compares its keyings with the keyed entries of the page in a file, entry by entry: `out` gets a
 /// line for each that was keyed and not heard, or heard and not keyed, and `err` one for each key that is in no
-/// keying. `Ok` says that there is no difference. The page of what is heard is held until the end.
+/// keying. `Ok` says that there is no difference. What was keyed and the differences are held until the end, and no
+/// keying that was heard.
 pub fn compare<F: Files, R: Read, W: Write, E: Write>(
     alloc: Global,
     files: &F,
@@ -129,9 +122,8 @@ pub fn compare<F: Files, R: Read, W: Write, E: Write>(
         (outputs (W.contents out.old) (W.contents out.new) (E.contents err.old) (E.contents err.new)) }
 {
     let keyed = keyed_in(alloc, files, name)?;
-    let heard = keyed_heard(alloc, input, sound, err)?;
-    let text = differences(alloc, &keyed, &heard)?;
-    let lines = text.as_bytes();
+    let text = differences_heard(alloc, keyed, input, sound, err)?;
+    let lines = text.as_slice();
     if write_whole(out, lines).is_err() {
         return Err(CompareProgramFault::Write);
     }

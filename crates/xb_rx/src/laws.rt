@@ -1,4 +1,5 @@
 //! What the definitions give: each law is the contract of a function that does nothing.
+ghost use Rattle.xb_rx.specs.Comparing.{HeardIsPaged};
 ghost use Rattle.xb_rx.specs.Constants.{AreConstants};
 ghost use Rattle.xb_rx.specs.PagedKeys.{KeyedIsPaged};
 ghost use Rattle.xb_rx.specs.Program.{UsageNamesEachOption};
@@ -18,4 +19,9 @@ pub fn usage_names_each_option()
 /// in none.
 pub fn keyed_is_paged()
     ensures { KeyedIsPaged }
+{}
+
+/// The keyings that are heard are compared as the keyed entries of the page that is written of them.
+pub fn heard_is_paged()
+    ensures { HeardIsPaged }
 {}

@@ -6,8 +6,10 @@
 //!   fault that it has (`start_of_file`), and by no other; `Cut` says how many samples are missing at its end. Memory
 //!   does not grow with the sound.
 //! - `compare`: on `Ok` the keyings that are heard are those that a page has keyed; on `Differ` the output is exactly
-//!   the differences (`differences`). Another fault says why they are not known, and no difference was written.
+//!   the differences (`differences`). Another fault says why they are not known, and no difference was written. Each
+//!   keying is compared as it ends (`Page::against`), and is not kept.
 //! - `laws::keyed_is_paged`: the page of a sound of keyings has an entry for each, in order, also of a disturbed one.
+//! - `laws::heard_is_paged`: the keyings that are compared are the keyed entries of the page that is written of them.
 //! - `attend`: `Attends` of this. `laws::usage_names_each_option`.
 //!
 //! `xb_wav` says which samples a file or a stream has, and `xb_ear` what is heard of them.

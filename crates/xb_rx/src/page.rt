@@ -1,14 +1,15 @@
-// The page of keys, as they end.
+// The page of keys, as they end, or its differences from what was keyed.
 ghost use Rattle.std.specs.Prelude.{◌≡◌, [], ◌∷◌, ◌++◌, IfOk, OnOk, drop, map, string_bytes};
 ghost use Rattle.xb_model.specs.declared.key.Key.TheVariants.{Digit};
 ghost use Rattle.xb_model.specs.Keyings.{tone};
-ghost use Rattle.xb_model.specs.Page.{totals_text};
+ghost use Rattle.xb_model.specs.Page.{entry_text, totals_text};
 ghost use Rattle.xb_rx.specs.Keyings.{digits_in};
-ghost use Rattle.xb_rx.specs.Pages.{loose_lines};
+ghost use Rattle.xb_rx.specs.Pages.{IsTextOf, loose_lines};
 
 use crate::keys::{MOST_DIGITS, NamedKey};
 use std::alloc::{AllocError, Global};
 use std::io::Write;
+use xb_compared::{Comparison, Keyed};
 use xb_ear::Heard;
 use xb_model::{Key, LineNo, Mark, Trunk, mf};
 use xb_tape::{write_entry, write_totals};
@@ -36,16 +37,18 @@ impl From<AllocError> for PageFault {
     }
 }
 
-/// A page that is written as keys end: of each keying its entry, and a line of errors for each key that is in
-/// none. It holds the keys of one keying, up to `MOST_DIGITS` digits.
+/// A page that is written as keys end: of each keying its entry, or what its entry differs by from what was keyed, and
+/// a line of errors for each key that is in none. It holds the keys of one keying, up to `MOST_DIGITS` digits.
 #[derive(Drop)]
 pub(crate) struct Page {
     pub(crate) line: LineNo,
     pub(crate) trunk: Trunk,
-    // how many entries were written
+    // how many entries there were
     pub(crate) count: usize,
     // the keys of a keying that goes on
     pub(crate) begun: Vec<NamedKey>,
+    // what it is compared with, in place of being written down
+    pub(crate) against: Option<Comparison>,
 }
 
 // What is done with a key.
@@ -111,16 +114,49 @@ fn totals(alloc: Global, count: usize) -> Result<String, AllocError>
     Ok(text)
 }
 
+// The text of an entry of a line.
+fn entry_of(
+    alloc: Global,
+    line: LineNo,
+    number: usize,
+    marks: &[Mark],
+) -> Result<String, AllocError>
+    ensures { IfOk result (λ text. string_bytes text ≡ entry_text line number marks.now) }
+{
+    let mut text = String::new(alloc);
+    write_entry(&mut text, line, number, marks)?;
+    Ok(text)
+}
+
+// What is written of an entry that was heard: its text, or what differs before it from what was keyed.
+fn text_of(
+    alloc: Global,
+    against: &mut Option<Comparison>,
+    line: LineNo,
+    number: usize,
+    marks: &[Mark],
+) -> Result<String, AllocError>
+    ensures { IfOk result (λ text.
+        IsTextOf against.old against.new line number marks.now (string_bytes text)) }
+{
+    match against {
+        None => entry_of(alloc, line, number, marks),
+        Some(comparison) => {
+            let entry = Keyed::of_marks(alloc, line, number, marks)?;
+            comparison.take(alloc, &entry)
+        }
+    }
+}
+
 impl Page {
-    ghost use Rattle.std.specs.Prelude.{◌≡◌, ◌≤◌, ◌<◌, ◌+◌, ◌^◌, ◌∷◌, [], ◌++◌, IfErr, IfOk, OnErr, OnOk, List, drop, string_bytes};
+    ghost use Rattle.std.specs.Prelude.{◌≡◌, ◌≤◌, ◌<◌, ◌+◌, ◌^◌, ℕ, ◌∷◌, [], ◌++◌, IfErr, IfOk, OnErr, OnOk, List, drop, string_bytes};
     ghost use Rattle.std.specs.Io.KnownBytes.{Appends};
     ghost use Rattle.xb_ear.specs.Hearings.{listed};
     ghost use Rattle.xb_model.specs.Keyings.{keying};
-    ghost use Rattle.xb_model.specs.Page.{entry_text};
     ghost use Rattle.xb_text.specs.Writing.{AppendsBeginning};
     ghost use Rattle.xb_rx.specs.Keyings.{digits_in};
     ghost use Rattle.xb_rx.specs.Begun.{IsBegun, broken, kept_after, step_of};
-    ghost use Rattle.xb_rx.specs.Pages.{Ends, Writes, fresh_page, loose_lines, loose_rest, page_rest, paged};
+    ghost use Rattle.xb_rx.specs.Pages.{Ends, Writes, WritesOf, fresh_against, fresh_page, loose_lines, loose_rest, page_rest, paged, text_rest};
 
     /// An empty page.
     pub(crate) fn new(alloc: Global, line: LineNo, trunk: Trunk) -> Page
@@ -131,6 +167,20 @@ impl Page {
             trunk,
             count: 0,
             begun: Vec::new(alloc),
+            against: None,
+        }
+    }
+
+    /// An empty page that is compared with what was keyed.
+    pub(crate) fn against(alloc: Global, keyed: Vec<Keyed>) -> Page
+        ensures { paged result ≡ fresh_against keyed.items }
+    {
+        Page {
+            line: LineNo::default(),
+            trunk: Trunk::default(),
+            count: 0,
+            begun: Vec::new(alloc),
+            against: Some(Comparison::new(keyed)),
         }
     }
 
@@ -166,40 +216,35 @@ impl Page {
         }
     }
 
-    // The entry of the keying that goes on.
-    fn entry(&self, alloc: Global) -> Result<String, AllocError>
-        requires { self.now.count + 1 < 2 ^ 64 }
-        ensures { IfOk result (λ text. string_bytes text ≡ entry_text self.now.line (self.now.count + 1)
-            (keying self.now.trunk (digits_in (drop 1 self.now.begun.items)))) }
+    // The marks of the keying that goes on.
+    fn marks(&self, alloc: Global) -> Result<Vec<Mark>, AllocError>
+        ensures { IfOk result (λ marks. marks.items
+            ≡ keying self.now.trunk (digits_in (drop 1 self.now.begun.items))) }
     {
         let mut marks = Vec::new(alloc);
         marks.push(Mark::Trunk(self.trunk))?;
         push_key(&mut marks, &Key::Kp)?;
         push_digits(&mut marks, after_first(&self.begun))?;
         push_key(&mut marks, &Key::St)?;
-        let mut text = String::new(alloc);
-        write_entry(&mut text, self.line, self.count + 1, &marks)?;
-        Ok(text)
+        Ok(marks)
     }
 
-    // Writes the entry of the keying that goes on, which is complete.
+    // Writes what there is of the keying that goes on, which is complete.
     fn complete<W: Write>(&mut self, alloc: Global, out: &mut W) -> Result<(), PageFault>
         requires { self.old.count + 1 < 2 ^ 64 }
-        ensures whole { OnOk result (Appends (W.contents out.old) (W.contents out.new)
-            (entry_text self.old.line (self.old.count + 1)
-            (keying self.old.trunk (digits_in (drop 1 self.old.begun.items))))) }
-        ensures beginning { IfErr result (λ _. AppendsBeginning (W.contents out.old) (W.contents out.new)
-            (entry_text self.old.line (self.old.count + 1)
-            (keying self.old.trunk (digits_in (drop 1 self.old.begun.items))))) }
-        ensures after { OnOk result (paged self.new
-            ≡ record (paged self.old) { count = self.old.count + 1; begun = [] }) }
-        ensures same { OnErr result (self.new.count ≡ self.old.count) }
+        ensures page { WritesOf (λ (numbers : List (List ℕ)).
+            text_rest (paged self.old) (digits_in (drop 1 self.old.begun.items) ∷ numbers))
+            (text_rest (paged self.new)) result (W.contents out.old) (W.contents out.new) }
+        ensures after { OnOk result (self.new.begun.items ≡ []) }
+        ensures count { self.new.count ≤ self.old.count + 1 }
     {
-        let text = self.entry(alloc)?;
+        let marks = self.marks(alloc)?;
+        let number = self.count + 1;
+        let text = text_of(alloc, &mut self.against, self.line, number, &marks)?;
         if write_whole(out, text.as_bytes()).is_err() {
             return Err(PageFault::Write);
         }
-        self.count += 1;
+        self.count = number;
         self.begun.clear();
         Ok(())
     }
@@ -267,8 +312,18 @@ impl Page {
         }
     }
 
-    /// Takes the key that ended, if one did: writes the entry that it completes, and tells of the keys that stand in
-    /// no keying because of it. On an `Err` the beginning of this was written.
+    // What is left to be written where no keying comes any more: the totals, or what was keyed and not heard.
+    fn last(&self, alloc: Global) -> Result<String, AllocError>
+        ensures { IfOk result (λ text. string_bytes text ≡ text_rest (paged self.now) []) }
+    {
+        match &self.against {
+            None => totals(alloc, self.count),
+            Some(comparison) => comparison.end(alloc),
+        }
+    }
+
+    /// Takes the key that ended, if one did: writes what there is of the entry that it completes, and tells of the keys
+    /// that stand in no keying because of it. On an `Err` the beginning of this was written.
     pub(crate) fn take<W: Write, E: Write>(
         &mut self,
         alloc: Global,
@@ -293,8 +348,8 @@ impl Page {
         }
     }
 
-    /// Tells of the keys of a keying that goes on, since no key comes after them, and writes the totals. On an `Err` the
-    /// beginning of this was written.
+    /// Tells of the keys of a keying that goes on, since no key comes after them, and writes what is left. On an `Err`
+    /// the beginning of this was written.
     pub(crate) fn close<W: Write, E: Write>(
         &self,
         alloc: Global,
@@ -307,11 +362,11 @@ impl Page {
             (E.contents err.old) (E.contents err.new) }
     {
         let text = loose_lines(alloc, &self.begun)?;
-        let totals = totals(alloc, self.count)?;
+        let last = self.last(alloc)?;
         if write_whole(err, text.as_bytes()).is_err() {
             return Err(PageFault::Tell);
         }
-        if write_whole(out, totals.as_bytes()).is_err() {
+        if write_whole(out, last.as_bytes()).is_err() {
             return Err(PageFault::Write);
         }
         Ok(())

@@ -1,6 +1,6 @@
 // From a sound to what is written of its keys.
 ghost use Rattle.std.specs.Prelude.{◌≡◌, ◌≤◌, IfOk};
-ghost use Rattle.xb_rx.specs.Hearing.{Delivers, HasForm, Hears, outputs, start_by};
+ghost use Rattle.xb_rx.specs.Hearing.{Delivers, HasForm, Hears, HearsBytes, outputs, start_by};
 ghost use Rattle.xb_rx.specs.Reports.{IsReady, count_of, reported};
 ghost use Rattle.xb_wav.specs.Samples.{IsForm};
 ghost use Rattle.xb_wav.specs.Starts.{Opens};
@@ -57,6 +57,31 @@ fn start_of<R: Read>(input: Input, reader: &mut R) -> Result<Start, OpenFault>
     }
 }
 
+/// Hears a sound to its end, and writes what a report makes of it, which has no entry so far.
+pub(crate) fn listen<R: Read, W: Write, E: Write>(
+    alloc: Global,
+    input: Input,
+    mut report: Report,
+    sound: &mut R,
+    out: &mut W,
+    err: &mut E,
+) -> Result<(), RxFault>
+    requires form { HasForm input }
+    requires none { count_of (reported report) ≡ 0 }
+    requires ready { IsReady (reported report) }
+    ensures { HearsBytes input (reported report) (R.remaining sound.old) result
+        (outputs (W.contents out.old) (W.contents out.new) (E.contents err.old) (E.contents err.new)) }
+{
+    let start = start_of(input, sound)?;
+    let mut source = Source {
+        reader: sound,
+        form: start.form,
+        said: start.samples,
+        counted: start.counted,
+    };
+    hear(alloc, &mut source, &mut report, out, err)
+}
+
 /// Hears a sound, and writes what is asked for: the page of its keyings, an entry for each, from KP to ST, as it ends,
 /// and the totals, and to `err` a line for each key that is in none; or a line for each key, as it ends. Memory
 /// does not grow with the sound, which is read a few bytes at a time: hand it a reader with a buffer.
@@ -76,13 +101,6 @@ pub fn receive<R: Read, W: Write, E: Write>(
     ensures { Delivers request (R.remaining sound.old) result
         (outputs (W.contents out.old) (W.contents out.new) (E.contents err.old) (E.contents err.new)) }
 {
-    let start = start_of(request.input, sound)?;
-    let mut report = Report::new(alloc, request.written);
-    let mut source = Source {
-        reader: sound,
-        form: start.form,
-        said: start.samples,
-        counted: start.counted,
-    };
-    hear(alloc, &mut source, &mut report, out, err)
+    let report = Report::new(alloc, request.written);
+    listen(alloc, request.input, report, sound, out, err)
 }

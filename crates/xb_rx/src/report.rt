@@ -4,12 +4,13 @@ use crate::page::{Page, PageFault};
 use crate::request::Written;
 use std::alloc::Global;
 use std::io::Write;
+use xb_compared::Keyed;
 use xb_ear::Heard;
 
-/// The page of keys, or a line for each.
+/// The page of keys, or its differences from what was keyed, or a line for each key.
 #[derive(Drop)]
 pub(crate) enum Report {
-    // The page of their keyings.
+    // The page of their keyings, which is written, or compared.
     Page(Page),
     // A line for each key.
     Keys(Listing),
@@ -18,8 +19,8 @@ pub(crate) enum Report {
 impl Report {
     ghost use Rattle.std.specs.Prelude.{◌≡◌, ◌≤◌, ◌<◌, ◌+◌, ◌^◌, ◌++◌, OnOk};
     ghost use Rattle.xb_ear.specs.Hearings.{listed};
-    ghost use Rattle.xb_rx.specs.Pages.{Ends, Writes};
-    ghost use Rattle.xb_rx.specs.Reports.{IsReady, count_of, fresh_report, report_rest, reported, told_rest};
+    ghost use Rattle.xb_rx.specs.Pages.{Ends, Writes, fresh_against};
+    ghost use Rattle.xb_rx.specs.Reports.{IsReady, count_of, fresh_report, on_page, report_rest, reported, told_rest};
 
     /// What is written where no key has come yet.
     pub(crate) fn new(alloc: Global, written: Written) -> Report
@@ -32,6 +33,13 @@ impl Report {
                 last: None,
             }),
         }
+    }
+
+    /// The differences from what was keyed, where no key has come yet.
+    pub(crate) fn against(alloc: Global, keyed: Vec<Keyed>) -> Report
+        ensures { reported result ≡ on_page (fresh_against keyed.items) }
+    {
+        Report::Page(Page::against(alloc, keyed))
     }
 
     /// Takes the key that ended, if one did, and writes what it makes plain. On an `Err` the beginning of this was

@@ -16,7 +16,7 @@ pub returns-then-is_err-2-clause-page : goal.returns-then-is_err-2-clause-page
 returns-then-is_err-2-clause-page g c =
     let page = paged c.args.self.now in
     let text : c.as_bytes-2.result.now ≡ page_rest page [] =
-    c.as_bytes-2.ensures.value ∙ c.in_ok-totals.ensures ∙ sym (end-page page c.requires) in
+    c.as_bytes-2.ensures.value ∙ c.in_ok-last.ensures ∙ sym (end-page page c.requires) in
     subst (AppendsBeginning _ _) text c.write_whole-2.ensures.beginning
 
 pub returns-then-is_err-2-clause-loose : goal.returns-then-is_err-2-clause-loose
@@ -31,7 +31,7 @@ pub returns-clause-page : goal.returns-clause-page
 returns-clause-page g c =
     let page = paged c.args.self.now in
     let text : c.as_bytes-2.result.now ≡ page_rest page [] =
-    c.as_bytes-2.ensures.value ∙ c.in_ok-totals.ensures ∙ sym (end-page page c.requires) in
+    c.as_bytes-2.ensures.value ∙ c.in_ok-last.ensures ∙ sym (end-page page c.requires) in
     subst (Appends _ _) text
     (wrote-whole c.write_whole-2.result c.write_whole-2.ensures.whole (sym c.is_err-2.ensures.value ∙ c.if-is_err-2.false))
 

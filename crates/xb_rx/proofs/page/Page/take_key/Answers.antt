@@ -19,7 +19,7 @@ returns-in-Keeps-clause-begun g c =
 pub returns-in-Completes-clause-page : goal.returns-in-Completes-clause-page
 returns-in-Completes-clause-page g c =
     completes-page (paged c.args.self.now) (paged c.complete.new.self) c.args.key c.complete.result c.requires.begun
-    (sym c.step_of.ensures ∙ c.in-Completes.is) c.complete.ensures.after _ _ c.complete.ensures.whole c.complete.ensures.beginning
+    (sym c.step_of.ensures ∙ c.in-Completes.is) c.complete.ensures.after _ _ c.complete.ensures.page
 
 pub returns-in-Completes-clause-loose : goal.returns-in-Completes-clause-loose
 returns-in-Completes-clause-loose g c =
