@@ -12,25 +12,23 @@ class Attempt {
   }
 
   // A row of the loop. Neighbouring rows of one contact are one run; a wrong one is known when the next begins.
-  add({ closed, ms, endsWrong }) {
+  add({ closed, ms, wrong }) {
     const last = this.runs.at(-1);
     if (last?.closed === closed) {
       last.ms += ms;
     } else if (this.runs.length < MOST_RUNS) {
-      if (endsWrong && last) last.isWrong = true;
+      if (wrong !== Wrong.NOTHING && last) Object.assign(last, { isWrong: true, wrong });
       this.runs.push({ closed, ms, isWrong: false });
     }
   }
 
   // The breaks since the last digit were one, or spoiled one.
-  digit(signal, limits) {
+  digit({ figure, isSpoiled }, limits) {
     const part = this.pulses();
     if (!part) return;
-    const eleventh = part.runs.filter((run) => !run.closed)[10];
-    if (signal.breaks > 10 && eleventh) Object.assign(eleventh, { isWrong: true, isEleventh: true });
     const wrong = part.runs.find((run) => run.isWrong);
     const words = wrong ? wordsOfWrong(wrong, limits) : '';
-    this.parts.push({ ...part, figure: figureOf(signal), kind: signal.isStored ? '' : 'bad', words });
+    this.parts.push({ ...part, figure, kind: isSpoiled ? 'bad' : '', words });
   }
 
   // The runs from the first break after the last digit to the last break.
@@ -55,9 +53,13 @@ class Attempt {
   }
 }
 
-// Why a run spoiled its digit, in the words of mfhear: the module says that it did, and these are the limits in use.
-function wordsOfWrong(run, { make_min, pulse_min, pulse_max }) {
-  if (run.isEleventh) return 'pulse 11';
-  if (run.closed) return `make ${run.ms} ms < ${make_min}`;
-  return run.ms > pulse_max ? `break ${run.ms} ms > ${pulse_max}` : `break ${run.ms} ms < ${pulse_min}`;
+// Why a run spoiled its digit, in the words of mfhear: the module says by which limit it did, and these are the limits in
+// use.
+function wordsOfWrong({ wrong, ms }, { make_min, pulse_min, pulse_max }) {
+  return {
+    [Wrong.SHORT_BREAK]: `break ${ms} ms < ${pulse_min}`,
+    [Wrong.LONG_BREAK]: `break ${ms} ms > ${pulse_max}`,
+    [Wrong.SHORT_MAKE]: `make ${ms} ms < ${make_min}`,
+    [Wrong.EXTRA_BREAK]: 'pulse 11',
+  }[wrong];
 }

@@ -43,16 +43,16 @@ class Loop {
     const from = this.recorded;
     this.recorded += ms;
     this.toldUntil = until;
-    const state = this.isClosed() ? 'M' : 'B';
-    const { attempt } = this.module.stateOf(this.line);
-    const signals = this.module.signalsOf(this.line, state, ms);
-    const endsWrong = this.module.endsWrong(this.line, state, ms);
-    const count = this.module.take(this.line, state, ms);
+    const closed = this.isClosed();
+    const status = this.module.take(this.line, closed ? 'M' : 'B', ms);
+    if (status) throw new Error(`a row is refused: status ${status}`);
+    const taken = this.module.lastTaken();
     // an entry is given whatever became of the picture of its row
     try {
-      this.listener.rowTaken({ closed: state === 'M', ms, from, endsWrong, signals, attempt, at: until });
+      this.listener.rowTaken({ closed, ms, from, at: until, ...taken });
     } finally {
-      if (count > 0) this.listener.entryGiven(this.module.entryText(this.line, count), this.module.marksGiven(count));
+      const { marks, lamps } = taken;
+      if (marks.length) this.listener.entryGiven(this.module.entryText(this.line, lamps.entries, marks), marks);
     }
   }
 }

@@ -147,7 +147,7 @@ class Office {
 
   useTable() {
     try {
-      this.module.useTable(this.reader.table($('routes').value));
+      this.module.useTable(this.reader.table($('routes').value, this.module.tableBytes()));
       this.tableInUse = $('routes').value;
       $('fault').textContent = '';
       $('routes').removeAttribute('aria-invalid');

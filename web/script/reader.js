@@ -3,8 +3,6 @@
 
 const MOST_HEAP_BYTES = 2 ** 29;
 const LEAST_ROOM_BYTES = 65536;
-// A table of 1,000 routes as numbers, as the chain takes it.
-const TABLE_BYTES = 16032;
 
 // What a call of the reader comes to.
 const READ = 0;
@@ -27,7 +25,7 @@ class Reader {
     this.base = Number(exports.__heap_base.value);
   }
 
-  // Lays out a text and a room of so many bytes behind the reader's own memory, and behind them its heap.
+  // Lays out a text and a room of so many bytes after the reader's own memory, and after them its heap.
   lay(bytes, length) {
     const up = (at) => Math.ceil(at / 16) * 16;
     const text = up(this.base);
@@ -58,19 +56,23 @@ class Reader {
     }
   }
 
-  // The bytes of the table that a text writes, as the chain's module takes it. Throws its fault.
-  table(text) {
+  // The table that a text writes, as the chain's module takes it, which says how many bytes it has. Throws its fault.
+  table(text, length) {
     const bytes = new TextEncoder().encode(text);
     if (/^---\r?$/m.test(text)) throw new Refused('a line --- ends a table');
-    const { text: at, count: place, room } = this.lay(bytes, TABLE_BYTES);
+    const { text: at, count: place, room } = this.lay(bytes, length);
     const status = this.calls.mfpage_table(BigInt(at), BigInt(bytes.length), BigInt(room), BigInt(place));
-    if (status === READ) return new Uint8Array(this.calls.memory.buffer.slice(room, room + TABLE_BYTES));
-    // the words of the fault are those of a deck that has nothing else
+    if (status === READ) return new Uint8Array(this.calls.memory.buffer.slice(room, room + length));
+    throw this.faultOf(text);
+  }
+
+  // The fault of a table. Its words are those of a deck that has nothing else.
+  faultOf(text) {
     try {
       this.page(new TextEncoder().encode(text + NO_RECORDS));
     } catch (fault) {
-      throw fault instanceof Refused ? new Refused(fault.message.replace(/^route table: /, '')) : fault;
+      return fault instanceof Refused ? new Refused(fault.message.replace(/^route table: /, '')) : fault;
     }
-    throw new Refused('not TOML');
+    return new Refused('not TOML');
   }
 }

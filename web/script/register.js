@@ -6,7 +6,7 @@ const REGISTER_DIGITS = 10;
 const PHASES = ['on hook', 'loop closed', 'break', 'make', 'timed out', 'ended'];
 const ATTEMPTS = ['idle', 'listening', 'deaf until you hang up'];
 
-const figureOf = (signal) => (signal.isStored ? String(signal.breaks % 10) : '×');
+const figureOf = (digit) => (digit === SPOILED ? '×' : String(digit));
 
 class RegisterView {
   constructor(top) {
@@ -27,14 +27,14 @@ class RegisterView {
     this.cells.forEach((it, i) => {
       const digit = digits[i];
       const isCounting = i === digits.length && breaks > 0;
-      const now = digit ? `${digit.breaks} ${digit.elements}` : isCounting ? `counts ${breaks}` : '';
+      const now = digit ? `${digit.figure} ${digit.elements}` : isCounting ? `counts ${breaks}` : '';
       if (now === it.shown) return;
       it.shown = now;
-      it.cell.className = `cell${digit && !digit.isStored ? ' bad' : ''}${isCounting ? ' counting' : ''}`;
+      it.cell.className = `cell${digit?.isSpoiled ? ' bad' : ''}${isCounting ? ' counting' : ''}`;
       it.lamps.forEach((lamp, k) => lamp.classList.toggle('on', Boolean(digit?.elements[k])));
-      it.figure.textContent = digit ? figureOf(digit) : isCounting ? String(breaks) : '';
+      it.figure.textContent = digit ? digit.figure : isCounting ? String(breaks) : '';
     });
-    const said = digits.map((digit) => (digit.isStored ? figureOf(digit) : 'spoiled')).join(' ');
+    const said = digits.map((digit) => (digit.isSpoiled ? 'spoiled' : digit.figure)).join(' ');
     this.top.setAttribute('aria-label', said ? `Stored: ${said}` : 'No digit is stored');
   }
 }

@@ -140,21 +140,23 @@ class Telephone {
     row.signals.forEach((signal) => this.told(signal, row));
   }
 
-  // What the register was told. It listens in the attempt's first phase alone.
-  told(signal, { attempt, at }) {
+  // What the register was told.
+  told(signal, { digit, listens, at }) {
     const words = { [Signal.SEIZED]: 'seized', [Signal.TIMED_OUT]: 'time-out', [Signal.RELEASED]: 'released' };
     if (signal.kind !== Signal.DIGIT) {
       this.trace.note(words[signal.kind] ?? '', signal.kind === Signal.TIMED_OUT ? 'bad' : '', at);
       return;
     }
-    this.attempt?.digit(signal, this.module.limitsInUse());
-    if (attempt !== 1) {
+    const { elements } = signal;
+    const dialled = { figure: figureOf(digit), isSpoiled: digit === SPOILED, elements };
+    this.attempt?.digit(dialled, this.module.limitsInUse());
+    if (!listens) {
       this.trace.note('not heard', '', at);
       return;
     }
-    this.digits.push(signal);
+    this.digits.push(dialled);
     this.office.explain.at('registering');
-    this.trace.note(signal.isStored ? figureOf(signal) : 'spoiled', signal.isStored ? 'digit' : 'bad', at);
+    this.trace.note(dialled.isSpoiled ? 'spoiled' : dialled.figure, dialled.isSpoiled ? 'bad' : 'digit', at);
   }
 
   entryGiven(text, marks) {
@@ -164,7 +166,7 @@ class Telephone {
     this.attempt = null;
   }
 
-  numberDialled() { return this.digits.map(figureOf).join(''); }
+  numberDialled() { return this.digits.map(({ figure }) => figure).join(''); }
 
   // ---- its look
 

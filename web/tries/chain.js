@@ -3,7 +3,7 @@
 const fs = require('fs');
 const path = require('path');
 
-const SCRIPTS = ['reader.js', 'module.js', 'ear.js'];
+const SCRIPTS = ['reader.js', 'memory.js', 'module.js', 'ear.js'];
 const NAMES = ['Module', 'Reader', 'Refused', 'Kind', 'Ear', 'heardText'];
 const readScript = (name) => fs.readFileSync(path.join(__dirname, '..', 'script', name), 'utf8');
 const text = SCRIPTS.map(readScript).join('\n');

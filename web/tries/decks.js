@@ -3,11 +3,13 @@
 'use strict';
 const fs = require('fs');
 const path = require('path');
+const { pathToFileURL } = require('url');
 const { Module, Reader, modulesOf } = require('./chain.js');
 const { is, end } = require('./checks.js');
 const { tryEars } = require('./ears.js');
 const { tryReader } = require('./reader.js');
 const { dialRows } = require('./seeds.js');
+const { tryTaken } = require('./taken.js');
 
 const [, , page, examples, mfbank] = process.argv;
 const MOST_BYTES = 500000;
@@ -20,13 +22,16 @@ const readDoc = (name) => fs.readFileSync(path.join(examples, '..', 'docs', name
 
 const partsOf = (rows) => rows.map((row) => row.split(',')).map(([, state, ms]) => [state, Number(ms)]);
 
-async function tryCaller(bytes) {
-  const code = /```js\n(const \{ exports: chain[^]*?)```/.exec(readDoc('EMBEDDING.md'))[1];
+async function tryCaller() {
+  const code = /```js\nimport \{ open \} from '.\/mfchain.mjs';\n([^]*?)```/.exec(readDoc('EMBEDDING.md'))[1];
+  const { open } = await import(pathToFileURL(path.join(__dirname, '..', 'mfchain.mjs')));
   const printed = [];
-  const call = new Function('bytes', 'rows', 'console', `return (async () => { ${code} })()`);
-  await call(bytes, partsOf(dialRows(7, '0')), { log: (line) => printed.push(line) });
-  const tape = ['0007 1 KEYED 0001 KP:1100+1700 0:1300+1500 ST:1500+1700'];
-  is('the caller of docs/EMBEDDING.md prints the tape', printed, tape);
+  const call = new Function('open', 'table', 'rows', 'deck', 'console', `return (async () => { ${code} })()`);
+  const log = (...words) => printed.push(words.join(' '));
+  await call(open, read('routes.toml').toString(), partsOf(dialRows(7, '0')), read('calls.deck').toString(), { log });
+  is('the caller of docs/EMBEDDING.md prints the tapes, the code and the page', printed, [
+    '0007 1 KEYED 0001 KP:1100+1700 0:1300+1500 ST:1500+1700', '', '',
+    '0008 1 KEYED 0003 KP:1100+1700 4:700+1300 1:700+900 1:700+900 ST:1500+1700', `234 ${read('calls.page')}`]);
 }
 
 // ---- how fast a row is: the least of many short runs, since a machine does other things too
@@ -36,10 +41,10 @@ function nanosecondsOfRow(module, table) {
   module.forget(7);
   const rows = partsOf(dialRows(7, '2345678').concat('7,B,400'));
   let least = Infinity;
-  for (let run = 0; run < 60; run++) {
+  for (let run = 0; run < 3000; run++) {
     const began = process.hrtime.bigint();
-    for (let i = 0; i < 200; i++) for (const [state, ms] of rows) module.take(7, state, ms);
-    least = Math.min(least, Number(process.hrtime.bigint() - began) / (200 * rows.length));
+    for (let i = 0; i < 4; i++) for (const [state, ms] of rows) module.take(7, state, ms);
+    least = Math.min(least, Number(process.hrtime.bigint() - began) / (4 * rows.length));
   }
   return least;
 }
@@ -49,12 +54,13 @@ async function main() {
   const size = fs.statSync(page).size;
   is(`the module has ${wasm.length} bytes, its copy ${lowered.length}, the page ${size}`, size <= MOST_BYTES, true);
   is('the module imports nothing', WebAssembly.Module.imports(new WebAssembly.Module(wasm)), []);
-  await tryCaller(wasm);
+  await tryCaller();
+  await tryTaken(path.join(__dirname, '..', 'mfchain.mjs'));
   await tryReader(page, examples, mfbank);
   const reader = await Reader.open(readerOfPage);
   for (const [name, bytes] of [['the module', wasm], ['its copy', lowered]]) {
     const module = await Module.open(bytes);
-    const nanoseconds = nanosecondsOfRow(module, reader.table(''));
+    const nanoseconds = nanosecondsOfRow(module, reader.table('', module.tableBytes()));
     is(`${nanoseconds.toFixed(0)} ns a row, by ${name}`, nanoseconds < MOST_NANOSECONDS, true);
     tryEars(module, name, read);
   }

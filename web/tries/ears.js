@@ -6,8 +6,7 @@ const { is } = require('./checks.js');
 const { seeded } = require('./seeds.js');
 
 const MOST_NOISE = 277;
-const EAR_BYTES = 736;
-const FILLED_AT = 568;
+const FILLED_AT = 568;      // how many samples of its window an ear has
 const NO_EAR = 21;
 const NOT_BEGUN = 3;
 
@@ -31,34 +30,37 @@ function disturbed(samples, most) {
 }
 
 // A call of the module with all that it wants.
-const hearAt = ({ calls, ear, samples, heard, taken, count }, length, room) => calls.mfweb_hear(
-  BigInt(ear), BigInt(samples), BigInt(length), BigInt(heard), BigInt(room), BigInt(taken), BigInt(count));
+const hearAt = ({ calls, at: { ear, samples, heard, heardOf, count } }, length, room) => calls.mfweb_hear(
+  BigInt(ear), BigInt(samples), BigInt(length), BigInt(heard), BigInt(room), BigInt(heardOf), BigInt(count));
 
 function tryRoom(module, samples, wanted) {
-  module.calls.mfweb_ear(BigInt(module.ear));
-  new Int16Array(module.bytes.buffer, module.samples, samples.length).set(samples);
+  const { at } = module;
+  module.calls.mfweb_ear(BigInt(at.ear));
+  new Int16Array(module.bytes.buffer, at.samples, samples.length).set(samples);
   const status = hearAt(module, samples.length, 1);
-  const { first } = module.heardAt(module.heard);
-  const isFull = module.number(module.count) === 1 && module.number(module.taken) < samples.length;
+  const { first } = module.memory.read('heard', at.heard);
+  const isFull = module.number(at.count) === 1 && module.number(at.heardOf) < samples.length;
   is('an ear takes samples while there is room', [status, isFull, first], [0, true, wanted[0].first]);
 }
 
 function tryNoEar(module, name) {
-  const bytes = new Uint8Array(module.ear + EAR_BYTES - module.samples).map((_, i) => i * 7);
-  module.bytes.set(bytes, module.samples);
-  module.view.setUint32(module.ear + FILLED_AT, 80, true);
-  const before = module.bytes.slice(module.heard, module.ear + EAR_BYTES);
-  const statuses = [hearAt(module, 16000, 4), module.calls.mfweb_heard(BigInt(module.ear), BigInt(module.heard))];
+  const { at } = module;
+  const parts = ['ear', 'heard'].map((type) => [at[type], at[type] + module.memory.bytesOf(type)]);
+  for (const [from, until] of parts) module.bytes.set(Uint8Array.from({ length: until - from }, (_, i) => i * 7), from);
+  module.view.setUint32(at.ear + FILLED_AT, 80, true);
+  const seen = () => Buffer.concat(parts.map(([from, until]) => module.bytes.slice(from, until)));
+  const before = seen();
+  const statuses = [hearAt(module, 16000, 4), module.calls.mfweb_heard(BigInt(at.ear), BigInt(at.heard))];
   is(`what is no ear is refused, by ${name}`, statuses, [NO_EAR, NO_EAR]);
-  const after = module.bytes.slice(module.heard, module.ear + EAR_BYTES);
-  is('and nothing has changed', Buffer.compare(Buffer.from(before), Buffer.from(after)), 0);
+  is('and nothing has changed', Buffer.compare(before, seen()), 0);
 }
 
 // A table of zeros was never begun, and is told from one that has no code.
 function tryNoTable(module, name) {
-  module.bytes.fill(0, module.lines, module.lines + 16032);
-  const status = module.calls.mfweb_route(BigInt(module.lines), BigInt(module.digits), 1n, BigInt(module.place));
-  is(`a table that was never begun finds no code, by ${name}`, [status, module.number(module.place)], [NOT_BEGUN, 0]);
+  const { at: { lines, digits, place } } = module;
+  module.bytes.fill(0, lines, lines + module.memory.bytesOf('table'));
+  const status = module.calls.mfweb_route(BigInt(lines), BigInt(digits), 1n, BigInt(place));
+  is(`a table that was never begun finds no code, by ${name}`, [status, module.number(place)], [NOT_BEGUN, 0]);
 }
 
 function tryEars(module, name, read) {

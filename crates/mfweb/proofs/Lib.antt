@@ -1,1 +1,3 @@
 pub mod HeardSoFar
+pub mod FewSignals
+pub mod Refusals

@@ -1,23 +1,18 @@
 -- What the calls of the module do.
-use Rattle.std.specs.Prelude.{◌≡◌, ℕ, ◌==◌, ◌≤◌, if◌then◌else◌, List, length, Option, Some, None, Ok, Err}
+use Rattle.std.specs.Prelude.{◌≡◌, ℕ, ◌==◌, if◌then◌else◌, List, Option, Some, None, Ok, Err}
 use Rattle.xb_model.specs.declared.key.Tone.{Tone}
 use Rattle.xb_model.specs.declared.limits.Limits.{Limits}
 use Rattle.xb_routes.specs.declared.fault.RouteFault.{RouteFault}
 use Rattle.xb_routes.specs.Keys.{FourKeys, four_keys}
 use Rattle.xb_routes.specs.Table.{Table}
-use Rattle.xb_structs.specs.declared.line.PlainLine.{PlainLine}
-use Rattle.xb_structs.specs.declared.refusal.Refusal.{Refusal}
-use Rattle.xb_structs.specs.declared.row.PlainRow.{PlainRow}
-use Rattle.xb_structs.specs.declared.row_signals.PlainSignal.{PlainSignal}
 use Rattle.xb_structs.specs.declared.table.PlainTable.{PlainTable}
 use Rattle.xb_structs.specs.Filling.{IsNotAdded, begun}
-use Rattle.xb_structs.specs.Signals.{Hears, IsNotHeard}
 use Rattle.xb_structs.specs.Tables.{Holds}
 use Rattle.xb_tone.specs.declared.cadence.Cadence.{Cadence}
 use Rattle.mfweb.specs.declared.exports.WebCadence.{WebCadence}
 use Rattle.mfweb.specs.declared.exports.WebLimits.{WebLimits}
 use Rattle.mfweb.specs.declared.exports.WebRoute.{WebRoute}
-use Rattle.xb_structs.specs.Status.{fault_place, fault_status, refusal_status}
+use Rattle.xb_structs.specs.Status.{fault_place, fault_status}
 
 abbrev pub limits_of : WebLimits → Limits
 limits_of limits = record {
@@ -67,16 +62,3 @@ pub record DoesNotAdd (old new : PlainTable) (i : ℕ) (words : FourKeys) (statu
   pub is : status ≡ fault_status fault
   pub why : IsNotAdded fault old i words
   pub kept : new ≡ old
-
--- the row's signals are in the room
-pub record HearsRow (table : PlainTable) (line : PlainLine) (row : PlainRow) (room : List PlainSignal) (count : ℕ) : Type 0 where
-  pub hears : Hears table line row room count
-  pub few : count ≤ length room
-
--- the status says why not
-pub record DoesNotHear (table : PlainTable) (line : PlainLine) (row : PlainRow) (room given : List PlainSignal) (count status : ℕ) : Type 0 where
-  pub refusal : Refusal
-  pub is : status ≡ refusal_status refusal
-  pub why : IsNotHeard refusal table row line (length room)
-  pub none : count ≡ 0
-  pub same : given ≡ room

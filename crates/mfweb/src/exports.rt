@@ -6,18 +6,17 @@ ghost use Rattle.xb_model.specs.LawfulLimits.{standard_limits};
 ghost use Rattle.xb_routes.specs.Keys.{keys_in};
 ghost use Rattle.xb_tone.specs.Cadences.{standard_cadence};
 ghost use Rattle.xb_tone.specs.Sines.{pair_sample};
-ghost use Rattle.xb_structs.specs.Calls.{IsNotTaken, IsTaken};
 ghost use Rattle.xb_structs.specs.Filling.{HasAdded};
-ghost use Rattle.mfweb.specs.Calls.{Begins, DoesNotAdd, DoesNotBegin, DoesNotHear};
-ghost use Rattle.mfweb.specs.Calls.{HearsRow, cadence_of, limits_of, pair, words_of};
+ghost use Rattle.mfweb.specs.Calls.{Begins, DoesNotAdd, DoesNotBegin};
+ghost use Rattle.mfweb.specs.Calls.{cadence_of, limits_of, pair, words_of};
 ghost use Rattle.mfweb.specs.Showing.{DoesNotPrint, FindsCode, FindsNoCode, PrintsEntry, number_in};
 
 use crate::status::{NO_CODE, print_status};
 use xb_model::{Limits, Tone};
 use xb_routes::RouteWords;
 use xb_structs::{
-    DONE, PlainLine, PlainMark, PlainRow, PlainSignal, PlainTable, add, begin, deciding,
-    fault_place, fault_status, print_entry, refusal_status, signals, take_by_status,
+    DONE, PlainMark, PlainTable, add, begin, deciding, fault_place, fault_status, print_entry,
+    refusal_status,
 };
 use xb_tone::{Cadence, fill_tone};
 
@@ -154,47 +153,6 @@ pub extern "C" fn mfweb_add(
         Ok(()) => DONE,
         Err(fault) => fault_status(fault),
     }
-}
-
-/// What the register is told by a row that a line is about to take: the first `count` of `room`. Nothing of
-/// the line changes. On any other status than 0 the room is as it was, and `count` is 0.
-#[unsafe(no_mangle)]
-pub extern "C" fn mfweb_signals(
-    table: &PlainTable,
-    line: &PlainLine,
-    row: &PlainRow,
-    room: &mut [PlainSignal],
-    count: &mut usize,
-) -> u32
-    ensures hears { result ≡ 0 → HearsRow table.now line.now row.now room.new count.new }
-    ensures refuses { result ≢ 0 →
-        DoesNotHear table.now line.now row.now room.old room.new count.new result }
-{
-    *count = 0;
-    match signals(table, line, row, room) {
-        Ok(given) => {
-            *count = given;
-            DONE
-        }
-        Err(refusal) => refusal_status(refusal),
-    }
-}
-
-/// Takes one row of a line, by a table: the first `count` of `room` are the marks that the row gives. On any
-/// other status than 0 the line and the room are as they were, and `count` is 0.
-#[unsafe(no_mangle)]
-pub extern "C" fn mfweb_take(
-    table: &PlainTable,
-    line: &mut PlainLine,
-    row: &PlainRow,
-    room: &mut [PlainMark],
-    count: &mut usize,
-) -> u32
-    ensures takes { result ≡ 0 → IsTaken table.now line.old line.new row.now room.new count.new }
-    ensures refuses { result ≢ 0 →
-        IsNotTaken table.now line.old line.new row.now room.old room.new count.new result }
-{
-    take_by_status(table, line, row, room, count)
 }
 
 /// How many of the digits of a number are the code that decides where a table sends it: status 0 and

@@ -2,8 +2,11 @@
 //! its own, and draws what comes back; the module takes no memory, and keeps nothing between two calls. It is
 //! a static library, and `web/module` builds it once more for WebAssembly.
 //!
-//! - `mfweb_take`: what a line knows and has given after the row is what the chain makes of all its rows. The
-//!   statuses and the contract are those of `mfchain_take`. `mfweb_signals` says what the register is told.
+//! - `mfweb_take`: what a line knows and has given after the row is what the chain makes of all its rows, by the statuses
+//!   of `mfchain_take`; and with the marks what the register was told, what is wrong with the make or break of a digit
+//!   that the row ended, and the lamps of the line after it. `mfweb_lamps` shows a line alone.
+//! - `mfweb_tell`: the same of a line of which the caller tells what was heard, as `mfchain_digit`; `mfweb_reopen`
+//!   forgets a line. `mfweb_number`: the marks of a number that is dialled on no line.
 //! - `mfweb_begin`, `mfweb_add`: the table holds just what a text of this plan, these limits and these routes
 //!   writes, or the status is its first fault, and the table is as it was.
 //! - `mfweb_route`: the longest code of the table that the digits begin with, or that there is none.
@@ -11,18 +14,25 @@
 //! - `mfweb_ear`, `mfweb_hear`, `mfweb_heard`: what a receiver hears of samples, in parts of any lengths: the keys
 //!   are those of `keys_of_sound` of `xb_ear`.
 //! - `mfweb_tone`: the samples of a tone, as in `xb_tone`. `mfweb_limits`, `mfweb_cadence`: the standard
-//!   values.
+//!   values. `mfweb_layout`: where the fields of each struct stand.
 #![tactic(auto)]
 
 mod ears;
 mod exports;
+mod lamps;
 pub mod laws;
+mod layout;
 mod listening;
 mod names;
 mod status;
+mod taking;
+mod telling;
+mod wrong;
 
 pub use exports::{
-    mfweb_add, mfweb_begin, mfweb_cadence, mfweb_entry, mfweb_limits, mfweb_route, mfweb_signals,
-    mfweb_take, mfweb_tone,
+    mfweb_add, mfweb_begin, mfweb_cadence, mfweb_entry, mfweb_limits, mfweb_route, mfweb_tone,
 };
+pub use layout::mfweb_layout;
 pub use listening::{mfweb_ear, mfweb_hear, mfweb_heard};
+pub use taking::{mfweb_lamps, mfweb_reopen, mfweb_take};
+pub use telling::{mfweb_number, mfweb_tell};

@@ -1,0 +1,148 @@
+// The chain for a simulator: lines of whose loops it tells each make and break, or on which it hears digits by itself,
+// and what comes of them. docs/EMBEDDING.md has its caller.
+
+const CHAIN_KINDS = ['trunk', 'digit', 'KP', 'ST', 'MUTILATED', 'UNKNOWN', 'ABANDONED', 'TIMEDOUT'];
+const CHAIN_PHASES = ['on hook', 'between digits', 'break', 'make', 'timed out', 'closed'];
+const CHAIN_ATTEMPTS = ['none', 'listening', 'complete'];
+const CHAIN_SIGNALS = ['seized', 'digit', 'timed out', 'released', 'closed'];
+const CHAIN_WRONGS = [null, 'break under pulse_min', 'break over pulse_max', 'make under make_min', 'break after ten'];
+
+// Why a call is refused, by its status. The first reason in this order is told.
+const REFUSALS = {
+  4: 'the line is not 0 to 9999',
+  5: 'the state is not M, B or C',
+  6: 'the ms are not 0 to 86400000, or not 0 in a close',
+  22: 'the digit is not 0 to 9',
+  23: 'the record of the line has ended',
+  24: 'the line is seized already',
+  25: 'the line is not seized',
+  26: 'the digits complete no number',
+};
+
+const refusalOf = (status) => new Refused(REFUSALS[status] ?? `status ${status}`);
+
+// What is no number of so many bits is handed on as the greatest, which the module refuses by itself.
+const numberUnder = (limit) => (n) => (Number.isInteger(n) && n >= 0 && n < limit ? n : limit - 1);
+const u32 = numberUnder(2 ** 32);
+const u16 = numberUnder(2 ** 16);
+const u8 = numberUnder(2 ** 8);
+
+function markOf({ kind, value, low, high }) {
+  const name = CHAIN_KINDS[kind];
+  if (kind === Kind.TRUNK || isRefusal({ kind })) return { kind: name, value };
+  return kind === Kind.DIGIT ? { kind: name, value, low, high } : { kind: name, low, high };
+}
+
+const lampOf = ({ value, elements }) => ({ digit: value, elements: elements.map(Boolean) });
+
+class Chain {
+  // The chain by the route table that a text writes. Throws the table's fault, in the words of mfbank.
+  static async open(table) {
+    const chain = new Chain();
+    const wasms = [MODULE, LOWERED].map(wasmOf);
+    chain.reader = await Reader.open(wasmOf(READER));
+    // where there is no 64-bit memory the module is refused, and its copy is taken
+    chain.module = await Module.open(wasms[0]).catch(() => Module.open(wasms[1]));
+    chain.module.useTable(chain.reader.table(table, chain.module.tableBytes()));
+    return chain;
+  }
+
+  // ---- a line
+
+  // A row of a line: what it gave, and what is known of the line after it.
+  take(line, state, ms) {
+    const number = u32(line);
+    const status = this.module.take(number, String(state).length === 1 ? state : '?', u32(ms));
+    if (status) throw refusalOf(status);
+    const { marks, signals, lamps, wrong, digit, listens } = this.module.lastTaken();
+    return {
+      ...this.given(number, marks, lamps),
+      signals: signals.map(({ kind, breaks, elements }) => {
+        const name = CHAIN_SIGNALS[kind];
+        if (kind !== Signal.DIGIT) return { kind: name };
+        return { kind: name, digit: digit === SPOILED ? null : digit, breaks, elements: elements.map(Boolean),
+          isHeard: listens === 1 };
+      }),
+      wrong: CHAIN_WRONGS[wrong],
+    };
+  }
+
+  seize(line) { return this.tell(line, Told.SEIZURE); }
+
+  // A digit 0 to 9, or null for one that cannot be told.
+  digit(line, digit) {
+    return digit === null ? this.tell(line, Told.SPOILED_DIGIT) : this.tell(line, Told.DIGIT, u8(digit));
+  }
+
+  timeOut(line) { return this.tell(line, Told.TIME_OUT); }
+
+  release(line) { return this.tell(line, Told.RELEASE); }
+
+  // Forgets what is known of a line.
+  reopen(line) {
+    if (u32(line) >= MOST_LINES) throw refusalOf(4);
+    this.module.forget(line);
+  }
+
+  tell(line, kind, digit) {
+    const number = u32(line);
+    const { status, marks } = this.module.tell(number, kind, digit);
+    if (status) throw refusalOf(status);
+    return this.given(number, marks, this.module.stateOf(number));
+  }
+
+  given(line, marks, { entries, phase, breaks, attempt, digits }) {
+    return {
+      entry: marks.length ? this.module.entryText(line, entries, marks) : null,
+      marks: marks.map(markOf),
+      lamps: {
+        entries, phase: CHAIN_PHASES[phase], breaks, attempt: CHAIN_ATTEMPTS[attempt], digits: digits.map(lampOf),
+      },
+    };
+  }
+
+  // ---- numbers, texts and sounds
+
+  // What becomes of a number that is dialled on no line: its marks, and the code of the route that decides it.
+  route(number) {
+    if (!/^[0-9]*$/.test(number)) throw refusalOf(22);
+    const { status, marks } = this.module.marksOfNumber(number);
+    if (status) throw refusalOf(status);
+    return { code: this.module.codeOf(number), marks: marks.map(markOf) };
+  }
+
+  // The page of a deck, a text or bytes, as mfbank prints it. Throws its first fault.
+  page(deck) { return this.reader.page(bytesOfText(deck)); }
+
+  // So many samples of a tone of two frequencies in Hz, 8,000 a second.
+  tone(low, high, samples) {
+    if (!(Number.isInteger(samples) && samples >= 0 && samples <= MOST_SAMPLES)) {
+      throw new RangeError(`not 0 to ${MOST_SAMPLES} samples`);
+    }
+    return this.module.tone(u16(low), u16(high), samples);
+  }
+
+  // The times of a sender, in ms: the silence before, KP, a key, and the silence after each.
+  cadence() { return this.module.cadence(); }
+}
+
+// An ear that hears samples of 16 bits, 8,000 a second, in parts of any lengths.
+class ChainEar {
+  constructor(chain) { this.ear = new Ear(chain.module); }
+
+  // The keys that these samples end.
+  hear(samples) { return this.ear.hear(samples).map(heardKeyOf); }
+
+  // The key that sounds where the samples end, if there is one.
+  end() { return this.ear.end().map(heardKeyOf); }
+}
+
+// A key that was heard: a window of 80 samples begins with each 20th sample.
+function heardKeyOf({ kind, value, low, high, first, past }) {
+  const name = heardName({ kind, value, low, high });
+  return { key: name, low, high, from: 20 * first, until: 20 * (past - 1) + 80 };
+}
+
+const bytesOfText = (deck) => (typeof deck === 'string' ? new TextEncoder().encode(deck) : deck);
+const wasmOf = (text) => Uint8Array.from(atob(text), (letter) => letter.charCodeAt(0));
+const open = (table) => Chain.open(table);

@@ -1,0 +1,137 @@
+// node tries/taken.js MFCHAIN: what a row of a line gives, by web/mfchain.mjs in Node, beside what a person reckons; each
+// refusal, in order, with nothing changed; and the layout that the module tells, beside the rules of C.
+'use strict';
+const path = require('path');
+const { pathToFileURL } = require('url');
+const { is, end } = require('./checks.js');
+
+const TABLE = '[[route]]\ncode = "234"\ntrunk = 17\ndelete = 3\nprefix = "56"\n[[route]]\ncode = "411"\ntrunk = 3\n';
+
+const lift = ['M', 500];
+const pulses = (count) => Array.from({ length: count }, () => [['B', 60], ['M', 40]]).flat();
+const digit = (count) => [...pulses(count), ['M', 600]];
+
+// By the standard limits: breaks of 20 to 119 ms, makes of 15 ms or more.
+const WRONGS = [
+  ['a pulse', [lift, ['B', 60], ['M', 40]], null],
+  ['the shortest pulse', [lift, ['B', 20], ['M', 15], ['B', 119]], null],
+  ['a break of 19 ms', [lift, ['B', 19], ['M', 40]], 'break under pulse_min'],
+  ['a break of 120 ms', [lift, ['B', 120], ['M', 40]], 'break over pulse_max'],
+  ['a break of 120 ms in parts', [lift, ['B', 60], ['B', 60], ['M', 1]], 'break over pulse_max'],
+  ['one that goes on', [lift, ['B', 120], ['B', 1]], null],
+  ['one that a make of 0 ms does not end', [lift, ['B', 120], ['M', 0]], null],
+  ['a make of 14 ms', [lift, ['B', 60], ['M', 14], ['B', 60]], 'make under make_min'],
+  ['the tenth break', [lift, ...pulses(10)], null],
+  ['the eleventh', [lift, ...pulses(11)], 'break after ten'],
+  ['a make before a digit', [['M', 1], ['B', 60]], null],
+];
+
+// The elements of the weights 0, 1, 2, 4 and 7 of each digit.
+const ELEMENTS = {
+  1: '11000', 2: '10100', 3: '01100', 4: '10010', 5: '01010', 6: '00110', 7: '10001', 8: '01001', 9: '00101', 0: '00011',
+};
+
+const bitsOf = (elements) => elements.map(Number).join('');
+
+// The last of these rows of a line that is new.
+function lastOf(chain, rows) {
+  chain.reopen(7);
+  return rows.map((row) => chain.take(7, ...row)).at(-1);
+}
+
+function tryDigits(chain) {
+  for (const [digits, elements] of Object.entries(ELEMENTS)) {
+    const { signals, lamps } = lastOf(chain, [lift, ...digit(Number(digits) || 10)]);
+    const [signal] = signals;
+    const told = [signals.length, signal.kind, signal.digit, bitsOf(signal.elements), signal.isHeard];
+    is(`a ${digits}`, told, [1, 'digit', Number(digits), elements, true]);
+    // a 0 is a number, and is no digit of an attempt that goes on
+    const lit = digits === '0' ? '' : `${digits}:${elements}`;
+    is('and its lamps', lamps.digits.map((it) => `${it.digit}:${bitsOf(it.elements)}`).join(), lit);
+  }
+}
+
+function tryRows(chain) {
+  for (const [what, rows, wrong] of WRONGS) is(`${what}: ${wrong}`, lastOf(chain, rows).wrong, wrong);
+  tryDigits(chain);
+  const spoiled = lastOf(chain, [lift, ['B', 130], ['M', 600]]);
+  is('a digit that is spoiled', [spoiled.signals[0].digit, spoiled.entry], [null, '0007 1 REFUSED MUTILATED 0']);
+  const deaf = lastOf(chain, [lift, ...[4, 1, 1, 2].flatMap(digit)]);
+  is('a digit after a number', [deaf.signals[0].digit, deaf.signals[0].isHeard, deaf.entry], [2, false, null]);
+  const { signals, lamps } = lastOf(chain, [lift, ...digit(2), ['B', 300]]);
+  is('hung up', [signals[0].kind, lamps.phase, lamps.attempt, lamps.entries], ['released', 'on hook', 'none', 1]);
+  is('a time-out', lastOf(chain, [['M', 20000]]).signals.map(({ kind }) => kind), ['seized', 'timed out']);
+}
+
+// ---- refusals: the first reason is told, and nothing has changed
+
+const REFUSALS = [
+  [(chain) => chain.take(10000, 'X', -1), 'the line is not 0 to 9999'],
+  [(chain) => chain.take(2 ** 32, 'M', 1), 'the line is not 0 to 9999'],
+  [(chain) => chain.take(1.5, 'M', 1), 'the line is not 0 to 9999'],
+  [(chain) => chain.take(7, 'X', -1), 'the state is not M, B or C'],
+  [(chain) => chain.take(7, 'Make', 1), 'the state is not M, B or C'],
+  [(chain) => chain.take(7, 'M', 86400001), 'the ms are not 0 to 86400000, or not 0 in a close'],
+  [(chain) => chain.take(7, 'M', 2 ** 32), 'the ms are not 0 to 86400000, or not 0 in a close'],
+  [(chain) => chain.take(7, 'C', 1), 'the ms are not 0 to 86400000, or not 0 in a close'],
+  [(chain) => chain.digit(10000, 10), 'the line is not 0 to 9999'],
+  [(chain) => chain.digit(8, 10), 'the digit is not 0 to 9'],
+  [(chain) => chain.digit(8, 256), 'the digit is not 0 to 9'],
+  [(chain) => chain.digit(8, 1), 'the line is not seized'],
+  [(chain) => chain.seize(7), 'the line is seized already'],
+  [(chain) => chain.seize(9), 'the record of the line has ended'],
+  [(chain) => chain.route('23456'), 'the digits complete no number'],
+  [(chain) => chain.route('23x'), 'the digit is not 0 to 9'],
+];
+
+function tryRefusals(chain, Refused) {
+  lastOf(chain, [lift, ...digit(2)]);
+  chain.take(9, 'C', 0);
+  for (const [call, words] of REFUSALS) {
+    let said = 'it was taken';
+    try { call(chain); } catch (fault) { said = fault instanceof Refused ? fault.message : fault; }
+    is(`refused: ${words}`, said, words);
+  }
+  const { entry } = [...[3, 4, 5, 6, 7, 8].flatMap(digit)].map((row) => chain.take(7, ...row)).find((row) => row.entry);
+  const keys = 'KP:1100+1700 5:900+1300 6:1100+1300 5:900+1300 6:1100+1300 7:700+1500 8:900+1500 ST:1500+1700';
+  is('and the line goes on', entry, `0007 1 KEYED 0017 ${keys}`);
+  const { code, marks } = chain.route('411');
+  is('411 by no line', [code, marks.map(({ kind, value }) => value ?? kind).join(' ')], ['411', '3 KP 4 1 1 ST']);
+}
+
+// ---- the layout: each field begins where C has it, with nothing between two
+
+const up = (at, align) => Math.ceil(at / align) * align;
+
+// How many bytes a type has, and to what it is aligned.
+function sizesOf(memory) {
+  const plain = { u8: 1, u16: 2, u32: 4, u64: 8, i64: 8 };
+  const sizes = new Map(Object.entries(plain).map(([type, bytes]) => [type, { bytes, align: bytes }]));
+  for (const [name, { bytes, fields }] of memory.structs) {
+    if (!fields.size) continue;
+    let [at, align] = [0, 1];
+    for (const [field, { type, count = 1, at: told }] of fields) {
+      if (!sizes.has(type)) throw new Error(`${name}.${field} is of ${type}, which is told later`);
+      const size = sizes.get(type);
+      const isTight = told === at && told % size.align === 0;
+      if (!isTight) throw new Error(`${name}.${field} begins at ${told}, and not at ${at}`);
+      at += size.bytes * count;
+      align = Math.max(align, size.align);
+    }
+    if (up(at, align) !== bytes) throw new Error(`${name} has ${bytes} bytes, and not ${up(at, align)}`);
+    sizes.set(name, { bytes, align });
+  }
+  return sizes.size;
+}
+
+async function tryTaken(file) {
+  const { open, Refused } = await import(pathToFileURL(path.resolve(file)));
+  const chain = await open(TABLE);
+  tryRows(chain);
+  tryRefusals(chain, Refused);
+  is('the layout is that of C', sizesOf(chain.module.memory), 5 + 13);
+}
+
+module.exports = { tryTaken };
+
+if (require.main === module) tryTaken(process.argv[2]).then(end, (fault) => { console.error(fault); process.exit(1); });
