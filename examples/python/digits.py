@@ -9,7 +9,6 @@ digit that an attempt keeps. The page is the one that mfdial and mfbank make of 
 import sys
 
 from mfchain import Office, SignalError, TableError
-from office import entry_text
 
 
 class CallError(ValueError):
@@ -48,7 +47,7 @@ def page(library: str, table: str, has_lamps: bool) -> None:
         marks = dial(office, line, digits, has_lamps)
         entries.append((line, office.entries(line), marks))
     for line, number, marks in sorted(entries):
-        print(entry_text(marks, number))
+        print(office.entry(marks, number))
     refused = sum(marks[0].kind != "TRUNK" for _, _, marks in entries)
     print(f"KEYED {len(entries) - refused} REFUSED {refused}")
 
