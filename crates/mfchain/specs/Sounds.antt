@@ -34,7 +34,8 @@ abbrev pub IsNotPlayed : PlainMark → Cadence → List ℤ → ℕ → Type 0
 IsNotPlayed mark cadence room status =
     (status ≡ WRONG_MARKS) × (IsMark mark → ⊥)
     ⊎ ((status ≡ WRONG_CADENCE) × IsMark mark × (IsLawful cadence → ⊥)
-    ⊎ (status ≡ NO_ROOM) × IsMark mark × IsLawful cadence × (length room < length (mark_sound cadence (mark_in mark))))
+    ⊎ (status ≡ NO_ROOM) × IsMark mark × IsLawful cadence
+    × (length room < length (mark_sound cadence (mark_in mark))))
 
 -- the status says why nothing is played, and the room is as it was
 pub record DoesNotPlay (mark : PlainMark) (cadence : Cadence) (room given : List ℤ) (count status : ℕ) : Type 0 where

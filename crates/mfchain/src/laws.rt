@@ -20,6 +20,7 @@ pub fn constants()
 /// The sound of marks that a call gave, one after the other, is that of what was keyed: what the plain numbers of a
 /// mark say is this mark.
 pub fn plays_what_was_given()
-    ensures { (cadence : Cadence) (given : List (On Mark)) → sound_of cadence (map mark_in (map plain_mark given))
+    ensures { (cadence : Cadence) (given : List (On Mark)) →
+        sound_of cadence (map mark_in (map plain_mark given))
         ≡ sound_of cadence (map (λ mark. mark.what) given) }
 {}

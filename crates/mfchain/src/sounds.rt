@@ -130,8 +130,8 @@ pub extern "C" fn mfchain_cadence(cadence: &mut PlainCadence)
     };
 }
 
-/// The samples of a mark by a cadence, 8,000 a second, as `mftone` writes them: the first `count` of `room`. On any other
-/// status than 0 the room is as it was, and `count` is 0.
+/// The samples of a mark by a cadence, 8,000 a second, as `mftone` writes them: the first `count` of `room`. On any
+/// other status than 0 the room is as it was, and `count` is 0.
 #[unsafe(no_mangle)]
 pub extern "C" fn mfchain_sound(
     mark: &PlainMark,

@@ -9,6 +9,8 @@ pub returns-then-count-room-clause-refused : goal.returns-then-count-room-clause
 returns-then-count-room-clause-refused c =
     let tone = tone_sound c.args.tone c.args.tone_ms in
     let gap = silence c.args.gap_ms in
-    let sounding : length tone ≡ c.args.tone_ms * 8 = length-map-range_with_len (λ n. pair_sample c.args.tone n) 0 (c.args.tone_ms * 8) in
+    let wave = pair_sample c.args.tone in
+    let sounding : length tone ≡ c.args.tone_ms * 8 = length-map-range_with_len wave 0 (c.args.tone_ms * 8) in
     let silent : length gap ≡ c.args.gap_ms * 8 = length-replicate (c.args.gap_ms * 8) (pos 0) in
-    omega (arith, length-append tone gap, sounding, silent, c.if-count-room.true, c.from-sounding.ensures, c.from.ensures)
+    let both = length-append tone gap in
+    omega (arith, both, sounding, silent, c.if-count-room.true, c.from-sounding.ensures, c.from.ensures)
