@@ -120,11 +120,13 @@ untold_long (Some text) (Some rest) bytes read long none =
     let size : length text ≡ length bytes + length rest = ap length read ∙ length-append bytes rest in
     let taken : length (take MOST_BEGINNING_BYTES text) ≡ MOST_BEGINNING_BYTES =
     length-take-le MOST_BEGINNING_BYTES text (omega (arith, size, long)) in
-    let nothing : tells_nothing_yet (take MOST_BEGINNING_BYTES text) ≡ true = ap tells_nothing_yet same ∙ none in
-    (refl, record {
-      beginning = within_none MOST_BEGINNING_BYTES text (omega (arith, taken)) nothing;
-      whole = inr (omega (arith, size, long), nothing);
-    })
+    let nothing : tells_nothing_yet (take MOST_BEGINNING_BYTES text) ≡ true = ap tells_nothing_yet same ∙ none in (
+      refl,
+      record {
+        beginning = within_none MOST_BEGINNING_BYTES text (omega (arith, taken)) nothing;
+        whole = inr (omega (arith, size, long), nothing);
+      },
+    )
 
 pub untold_read :
     (input : Option (List ℕ)) (fault : RecordingFault) → fault ≡ faults.Read → IfSome input (λ text. IsUntold text fault)

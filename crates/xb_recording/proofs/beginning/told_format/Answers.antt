@@ -1,7 +1,7 @@
-use Rattle.std.proofs.Common.{◌≡◌, ◌≤◌, ℕ, List, [], ◌++◌, Bool, Option, Some, cond, codes, false, true, nat_eq, length, ap, sym, subst, ◌∙◌, arith, rules, true≢false}
+use Rattle.std.proofs.Common.{◌≡◌, ◌≤◌, ℕ, List, ◌++◌, Bool, Some, cond, codes, false, nat_eq, length, sym, subst, ◌∙◌, rules, true≢false}
 use Rattle.std.specs.List.{starts_with}
 use Rattle.xb_recording.specs.declared.format.Format.TheVariants as formats
-use Rattle.xb_recording.specs.Beginnings.{IsTold, form_told, told_by_lines}
+use Rattle.xb_recording.specs.Beginnings.{IsTold, told_by_lines}
 use Rattle.xb_recording.specs.Says.{text_lines}
 use Rattle.xb_recording.proofs.ToldWithin.{is_no_wav}
 use Rattle.xb_recording.proofs.beginning.told_format.Goals as goal
