@@ -18,9 +18,10 @@ class CallError(ValueError):
 def calls_of(text: str) -> list:
     """The line and the digits of each call."""
     calls = []
-    for number, row in enumerate(text.split("\n"), 1):
-        if row.strip() and not row.startswith("#"):
-            line, _, digits = row.strip().partition(" ")
+    for number, row in enumerate(text.removeprefix("\ufeff").split("\n"), 1):
+        row = row.strip(" \t\r")
+        if row and not row.startswith("#"):
+            line, _, digits = row.replace("\t", " ").partition(" ")
             digits = digits.translate({ord(" "): None, ord("-"): None})
             if not (line.isdecimal() and digits.isdecimal() and row.isascii()):
                 raise CallError(f"text line {number} is not LINE NUMBER")

@@ -27,8 +27,10 @@ pub record LettersOfTheDial : Type 0 where
 pub record NumbersOfTexts : Type 0 where
   pub letters : number_of_text (codes "PE6-5000") ≡ Ok (7 ∷ 3 ∷ 6 ∷ 5 ∷ 0 ∷ 0 ∷ 0 ∷ [])
   pub grouped : number_of_text (codes " 4-1 1") ≡ Ok (4 ∷ 1 ∷ 1 ∷ [])
-  pub character : number_of_text (codes "4*1") ≡ Err fault.Character
+  pub blanks : number_of_text (codes "\t4 11\t") ≡ Ok (4 ∷ 1 ∷ 1 ∷ [])
+  pub character : number_of_text (codes "4*1") ≡ Err (fault.Character (record { place = 2; byte = 42 }))
   pub no_digits : number_of_text (codes "- ") ≡ Err fault.NoDigits
+  pub first : number_of_text (codes "411 Z9*") ≡ Err (fault.Character (record { place = 5; byte = 90 }))
 
 -- three routes, by plan Seven
 abbrev pub worked_table : Table
