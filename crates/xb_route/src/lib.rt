@@ -17,7 +17,6 @@
 mod answer;
 mod fault;
 pub mod laws;
-mod letters;
 mod lines;
 mod numbers;
 mod objects;

@@ -4,9 +4,9 @@ ghost use Rattle.xb_dial.specs.WrongBytes.{first_wrong};
 ghost use Rattle.xb_route.specs.NumberTexts.{IsFaultOfText, digits_of, is_wrong, number_of_text};
 
 use crate::fault::NumberFault;
-use crate::letters::digit_of_character;
 use std::alloc::{AllocError, Global};
 use xb_dial::{WrongByte, add_digit, is_grouping};
+use xb_letters::digit_of_character;
 use xb_model::Digit;
 
 // Whether a character neither dials a digit, nor groups digits.
