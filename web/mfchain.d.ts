@@ -54,7 +54,10 @@ export interface Row extends Given {
 export interface Key { key: string; low: number; high: number; from: number; until: number; }
 
 /** A call, a table or a deck is refused: the message says why, and nothing has changed. */
-export class Refused extends Error {}
+export class Refused extends Error {
+  /** Of a table or a deck: the lines that mfcheck writes of it, as `deck:3:1: plan is neither 7 nor 10: plan = 8`. */
+  told: string[];
+}
 
 export interface Chain {
   /** Takes so many ms of a line (0 to 9999): `M` a make, `B` a break; `C`, of 0 ms, ends its record. */

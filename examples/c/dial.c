@@ -57,7 +57,8 @@ int main(void)
     if (status == MF_DONE)
         status = loop(MF_BREAK, 400);
     if (status != MF_DONE) {
-        fprintf(stderr, "dial: row %u: status %d\n", rows, (int)status);
+        fprintf(stderr, "dial: row %u: ", rows);
+        show_status(status);
         return 1;
     }
     printf("%u rows\n", rows);

@@ -132,10 +132,103 @@ static void try_digits(void)
     mf_reopen(&line);
 }
 
+/* A text that is not written for this status: the room is as it was. */
+static void unwritten(enum mf_status got, const char *room, enum mf_status status, const char *what)
+{
+    check(got == status, what);
+    check(strcmp(room, "as it was") == 0, what);
+}
+
+/* Entries and statuses as text, with room for as much as they have and for one byte less, and what is no entry. */
+static void try_texts_of(void)
+{
+    static const char entry[] = "0007 2 KEYED 0001 KP:1100+1700 0:1300+1500 ST:1500+1700";
+    mf_mark call[22] = {{7, MF_TRUNK, 1, 0, 0}, {7, MF_KP, 0, 1100, 1700}, {7, MF_DIGIT, 0, 1300, 1500}, {7, MF_ST, 0, 1500, 1700}};
+    const mf_mark refusal = {9999, MF_TIMEDOUT, 3, 0, 0}, none = {7, MF_TIMEDOUT + 1, 0, 0, 0};
+    char text[MF_ENTRY_ROOM] = "as it was";
+    unwritten(mf_entry(2, call, 4, text, sizeof entry - 1), text, MF_NO_ROOM, "an entry by a byte too long");
+    unwritten(mf_entry(2, call, 0, text, sizeof text), text, MF_WRONG_MARKS, "an entry without marks");
+    unwritten(mf_entry(2, call, 22, text, sizeof text), text, MF_WRONG_MARKS, "an entry of 22 marks");
+    unwritten(mf_entry(2, &none, 1, text, sizeof text), text, MF_WRONG_MARKS, "an entry of a mark that is none");
+    check(mf_entry(2, call, 4, text, sizeof entry) == MF_DONE && strcmp(text, entry) == 0, "the line of an entry");
+    check(mf_entry(1, &refusal, 1, text, sizeof text) == MF_DONE && strcmp(text, "9999 1 REFUSED TIMEDOUT 3") == 0,
+          "the line of a refusal");
+    memcpy(text, "as it was", 10);
+    unwritten(mf_status_text(MF_SEIZED, text, 26), text, MF_NO_ROOM, "the text of a status by a byte too long");
+    unwritten(mf_status_text(MF_SEIZED, text, 0), text, MF_NO_ROOM, "the text of a status, without room");
+    check(mf_status_text(MF_SEIZED, text, 27) == MF_DONE && strcmp(text, "the line is seized already") == 0,
+          "the text of a status");
+    for (unsigned status = 0; status < 100; status++)
+        check(mf_status_text((enum mf_status)status, text, MF_FAULT_ROOM) == MF_DONE && *text, "the text of any status");
+}
+
+/* A mark that is not played for this status: the samples are as they were. */
+static void unplayed(const mf_mark *mark, mf_cadence cadence, size_t room, enum mf_status status, const char *what)
+{
+    static const int16_t before[8] = {1, 2, 3, 4, 5, 6, 7, 8};
+    int16_t samples[8] = {1, 2, 3, 4, 5, 6, 7, 8};
+    count = 99;
+    check(mf_sound(mark, &cadence, samples, room, &count) == status && count == 0, what);
+    check(memcmp(before, samples, sizeof samples) == 0, what);
+}
+
+/* The sound of marks: its length, its beginning and its silence, and what is not played. */
+static void try_sounds(void)
+{
+    static const mf_mark trunk = {7, MF_TRUNK, 1, 0, 0}, refusal = {7, MF_UNKNOWN, 7, 0, 0}, key = {7, MF_KP, 0, 1100, 1700};
+    static const mf_mark none = {7, 8, 0, 0, 0}, high = {7, MF_DIGIT, 0, 700, 65536};
+    static int16_t samples[MF_MOST_SAMPLES];
+    mf_cadence sender, cadence;
+    check(mf_sender_cadence(&sender) == MF_DONE && sender.lead_ms == 500 && sender.kp_ms == 100 &&
+              sender.key_ms == 68 && sender.gap_ms == 68, "the times of a sender");
+    unplayed(&none, sender, 8, MF_WRONG_MARKS, "a mark that is none");
+    unplayed(&high, sender, 8, MF_WRONG_MARKS, "a tone of 65536 Hz");
+    unplayed(&key, sender, 8, MF_NO_ROOM, "a key in too little room");
+    unplayed(&trunk, sender, 8, MF_NO_ROOM, "a silence in too little room");
+    cadence = sender;
+    cadence.gap_ms = 37;
+    unplayed(&trunk, cadence, 8, MF_WRONG_CADENCE, "a gap of 37 ms");
+    cadence.lead_ms = 0;
+    unplayed(&none, cadence, 8, MF_WRONG_MARKS, "the mark comes before the cadence");
+    check(mf_sound(&key, &sender, samples, 1343, &count) == MF_NO_ROOM && count == 0, "a key by a sample too long");
+    check(mf_sound(&key, &sender, samples, 1344, &count) == MF_DONE && count == 1344, "a key of 168 ms");
+    check(samples[0] == 0 && samples[1] == 17328 && samples[801] == 0 && samples[1343] == 0, "the samples of a key");
+    check(mf_sound(&trunk, &sender, samples, MF_MOST_SAMPLES, &count) == MF_DONE && count == 4000, "the silence before KP");
+    check(samples[1] == 0 && samples[799] == 0, "which is silent");
+    check(mf_sound(&refusal, &sender, samples, 0, &count) == MF_DONE && count == 0, "a refusal is not heard");
+}
+
+/* The letters of a dial, and what is none. */
+static void try_letters(void)
+{
+    static const char letters[] = "abcdefghijklmnoprstuvwxy", digits[] = "222333444555666777888999", none[] = "QZqz*# -@[`{/:";
+    uint8_t digit = 99;
+    for (size_t i = 0; i < sizeof none - 1; i++)
+        check(mf_digit_of(none[i], &digit) == MF_WRONG_CHARACTER && digit == 99, "a character that dials nothing");
+    check(mf_digit_of((char)200, &digit) == MF_WRONG_CHARACTER && digit == 99, "a byte over 127");
+    for (size_t i = 0; i < sizeof letters - 1; i++) {
+        check(mf_digit_of(letters[i], &digit) == MF_DONE && digit == digits[i] - '0', "a letter");
+        check(mf_digit_of((char)(letters[i] - 'a' + 'A'), &digit) == MF_DONE && digit == digits[i] - '0', "a capital");
+    }
+    for (char i = 0; i < 10; i++)
+        check(mf_digit_of((char)('0' + i), &digit) == MF_DONE && digit == i, "a digit");
+}
+
 static void try_nulls(void)
 {
     uint8_t digits[MF_MOST_DIGITS];
     uint32_t entries;
+    mf_cadence cadence = {500, 100, 68, 68};
+    int16_t sample = 0;
+    check(mf_digit_of('A', NULL) == MF_NULL, "no place for a digit");
+    check(mf_entry(1, NULL, 0, fault, sizeof fault) == MF_NULL, "no marks of an entry");
+    check(mf_entry(1, marks, 1, NULL, 0) == MF_NULL, "no room for an entry");
+    check(mf_status_text(MF_DONE, NULL, 0) == MF_NULL, "no room for a status");
+    check(mf_sender_cadence(NULL) == MF_NULL, "no place for times");
+    check(mf_sound(NULL, &cadence, &sample, 1, &count) == MF_NULL, "no mark of a sound");
+    check(mf_sound(marks, NULL, &sample, 1, &count) == MF_NULL, "no cadence of a sound");
+    check(mf_sound(marks, &cadence, NULL, 0, &count) == MF_NULL, "no samples");
+    check(mf_sound(marks, &cadence, &sample, 1, NULL) == MF_NULL, "no count of samples");
     check(mf_seize(NULL, &line, 7, marks, 4, &count) == MF_NULL, "no table of a seizure");
     check(mf_digit(&table, NULL, 7, 0, marks, 4, &count) == MF_NULL, "no line of a digit");
     check(mf_mutilated_digit(&table, &line, 7, NULL, 0, &count) == MF_NULL, "no marks of a mutilated digit");
@@ -213,7 +306,7 @@ static void try_bytes(void)
             seed = seed * 1664525u + 1013904223u;
             check(status == MF_DONE || (trial % 3 && status == MF_NOT_OPENED), "bytes that no call wrote");
             for (size_t m = 0; m < count; m++)
-                check(count <= MF_MOST_MARKS && marks[m].kind <= MF_TIMED_OUT && marks[m].value < 10000 &&
+                check(count <= MF_MOST_MARKS && marks[m].kind <= MF_TIMEDOUT && marks[m].value < 10000 &&
                           (marks[m].kind != MF_DIGIT || marks[m].value < 10),
                       "marks of bytes that no call wrote");
         }
@@ -227,6 +320,9 @@ int main(void)
     try_room();
     try_digits();
     try_nulls();
+    try_texts_of();
+    try_sounds();
+    try_letters();
     try_texts();
     try_bytes();
     if (wrong == 0)

@@ -2,7 +2,7 @@
    route table, a line ---, and after it a number in each line, of 1 to 10 digits and nothing else. Anything else is
    refused by one line and status 1. */
 #include "mfchain.h"
-#include "show.h"
+#include <stdio.h>
 #include <string.h>
 
 enum { MOST_BYTES = 1048576 };
@@ -14,6 +14,7 @@ static mf_table table;
 static int route(const char *number, size_t len)
 {
     uint8_t digits[MF_MOST_DIGITS];
+    char line[MF_ENTRY_ROOM];
     mf_mark marks[MF_MOST_MARKS];
     size_t count;
     enum mf_status status;
@@ -24,11 +25,10 @@ static int route(const char *number, size_t len)
     status = mf_route_number(&table, digits, len, marks, MF_MOST_MARKS, &count);
     if (status != MF_DONE && status != MF_INCOMPLETE)
         return 0;
-    printf("%.*s", (int)len, number);
-    if (status == MF_DONE)
-        show_body(marks, count);
-    else
-        printf(" INCOMPLETE %u\n", (unsigned)len);
+    if (status == MF_INCOMPLETE)
+        printf("%.*s INCOMPLETE %u\n", (int)len, number, (unsigned)len);
+    else if (mf_entry(1, marks, count, line, sizeof line) == MF_DONE)
+        printf("%.*s%s\n", (int)len, number, line + strlen("0000 1"));
     return 1;
 }
 

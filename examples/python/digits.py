@@ -9,7 +9,6 @@ digit that an attempt keeps. The page is the one that mfdial and mfbank make of 
 import sys
 
 from mfchain import Office, SignalError, TableError
-from office import entry_text
 
 
 class CallError(ValueError):
@@ -19,9 +18,10 @@ class CallError(ValueError):
 def calls_of(text: str) -> list:
     """The line and the digits of each call."""
     calls = []
-    for number, row in enumerate(text.split("\n"), 1):
-        if row.strip() and not row.startswith("#"):
-            line, _, digits = row.strip().partition(" ")
+    for number, row in enumerate(text.removeprefix("\ufeff").split("\n"), 1):
+        row = row.strip(" \t\r")
+        if row and not row.startswith("#"):
+            line, _, digits = row.replace("\t", " ").partition(" ")
             digits = digits.translate({ord(" "): None, ord("-"): None})
             if not (line.isdecimal() and digits.isdecimal() and row.isascii()):
                 raise CallError(f"text line {number} is not LINE NUMBER")
@@ -48,7 +48,7 @@ def page(library: str, table: str, has_lamps: bool) -> None:
         marks = dial(office, line, digits, has_lamps)
         entries.append((line, office.entries(line), marks))
     for line, number, marks in sorted(entries):
-        print(entry_text(marks, number))
+        print(office.entry(marks, number))
     refused = sum(marks[0].kind != "TRUNK" for _, _, marks in entries)
     print(f"KEYED {len(entries) - refused} REFUSED {refused}")
 

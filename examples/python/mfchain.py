@@ -13,6 +13,7 @@ libmfchain.so, and by scripts/install.
 """
 import ctypes
 import threading
+from array import array
 from typing import NamedTuple
 
 __version__ = "0.5"
@@ -22,12 +23,16 @@ MOST_MARKS = 24
 MOST_ROUTES = 1000
 MOST_DIGITS = 10
 FAULT_ROOM = 64
+ENTRY_ROOM = 1025
+RATE = 8000
+"""The samples in a second."""
 
 KINDS = ("TRUNK", "DIGIT", "KP", "ST", "MUTILATED", "UNKNOWN", "ABANDONED", "TIMEDOUT")
 """What a mark is, by its number in C. The last four are refusals, each an entry by itself."""
 
 NO_MEMORY, NOT_OPENED, WRONG_LINE, WRONG_STATE, WRONG_MS, NO_ROOM = 1, 3, 4, 5, 6, 7
 WRONG_DIGIT, CLOSED, SEIZED, NOT_SEIZED, INCOMPLETE = 19, 20, 21, 22, 23
+WRONG_MARKS, WRONG_CADENCE, WRONG_CHARACTER = 24, 25, 26
 
 
 class TableError(ValueError):
@@ -41,21 +46,8 @@ class TableError(ValueError):
 class OfficeError(ValueError):
     """What the office is told is refused, and what is known of its lines is as it was: `status` says why."""
 
-    TEXTS = {
-        NOT_OPENED: "a table that was not opened",
-        WRONG_LINE: "a line is 0 to 9999",
-        WRONG_STATE: "a state is M, B or C",
-        WRONG_MS: "a time is 0 to 86400000 ms, and 0 for C",
-        NO_ROOM: "there are more marks than there is room for",
-        WRONG_DIGIT: "a digit is 0 to 9",
-        CLOSED: "the record of the line has ended",
-        SEIZED: "the line is seized already",
-        NOT_SEIZED: "the line is not seized",
-        INCOMPLETE: "the digits complete no number",
-    }
-
-    def __init__(self, status: int):
-        super().__init__(self.TEXTS[status])
+    def __init__(self, status: int, text: str):
+        super().__init__(text)
         self.status = status
 
 
@@ -64,7 +56,7 @@ class RowError(OfficeError):
 
 
 class SignalError(OfficeError):
-    """What was heard on a line is refused, or a number by itself."""
+    """What was heard on a line is refused, or a number or a character by itself."""
 
 
 class Mark(NamedTuple):
@@ -78,12 +70,26 @@ class Mark(NamedTuple):
     high: int
 
 
+class Cadence(NamedTuple):
+    """How long tones last, and the silences between them, each in ms: the silence before KP, the tone of KP, that of a
+    digit and of ST, and the silence after each tone."""
+
+    lead_ms: int
+    kp_ms: int
+    key_ms: int
+    gap_ms: int
+
+
 class _Row(ctypes.Structure):
     _fields_ = [(name, ctypes.c_uint32) for name in ("line", "state", "ms")]
 
 
 class _Mark(ctypes.Structure):
     _fields_ = [(name, ctypes.c_uint32) for name in ("line", "kind", "value", "low", "high")]
+
+
+class _Cadence(ctypes.Structure):
+    _fields_ = [(name, ctypes.c_uint16) for name in Cadence._fields]
 
 
 class _Line(ctypes.Structure):
@@ -121,15 +127,38 @@ def _declare(library: ctypes.CDLL) -> None:
     library.mfchain_route_number.restype = number
     library.mfchain_digit.argtypes = [address, address, number, ctypes.c_uint8, address, size, address]
     library.mfchain_digit.restype = number
+    library.mfchain_digit_of.argtypes = [ctypes.c_uint8, address]
+    library.mfchain_digit_of.restype = number
+    library.mfchain_entry.argtypes = [number, address, size, ctypes.c_char_p, size]
+    library.mfchain_entry.restype = number
+    library.mfchain_cadence.argtypes = [address]
+    library.mfchain_cadence.restype = None
+    library.mfchain_sound.argtypes = [address, address, address, size, address]
+    library.mfchain_sound.restype = number
+    library.mfchain_status_text.argtypes = [number, ctypes.c_char_p, size]
+    library.mfchain_status_text.restype = number
     for name in ("seize", "mutilated_digit", "time_out", "release"):
         call = getattr(library, f"mfchain_{name}")
         call.argtypes = [address, address, number, address, size, address]
         call.restype = number
 
 
+def _is_number(value: int, most: int = 0xFFFFFFFF) -> bool:
+    """Whether a value is a number from 0 to the most."""
+    return isinstance(value, int) and 0 <= value <= most
+
+
+def _mark_of(mark: Mark) -> _Mark:
+    """A mark as C takes it; what is none is one that C refuses."""
+    numbers = (mark.line, mark.value, mark.low, mark.high)
+    if mark.kind not in KINDS or not all(map(_is_number, numbers)):
+        return _Mark(kind=len(KINDS))
+    return _Mark(mark.line, KINDS.index(mark.kind), *numbers[1:])
+
+
 def _byte_of(digit: int) -> int:
     """A digit as C takes it; what is none is one that C refuses."""
-    return digit if isinstance(digit, int) and 0 <= digit <= 255 else 255
+    return digit if _is_number(digit, 255) else 255
 
 
 class Office:
@@ -166,10 +195,10 @@ class Office:
         with self._lock:
             row.line = line
             row.state = ord(state) if isinstance(state, str) and len(state) == 1 else 0
-            row.ms = ms if isinstance(ms, int) and 0 <= ms <= 0xFFFFFFFF else 0xFFFFFFFF
+            row.ms = ms if _is_number(ms) else 0xFFFFFFFF
             status = self._library.mfchain_take(table, known, at, room, MOST_MARKS, count)
             if status:
-                raise RowError(status)
+                raise self._refusal(status, RowError)
             return self._given()
 
     def close(self, line: int) -> list:
@@ -224,8 +253,57 @@ class Office:
         with self._lock:
             status = self._library.mfchain_route_number(table, given, len(given), room, MOST_MARKS, count)
             if status:
-                raise SignalError(status)
+                raise self._refusal(status, SignalError)
             return self._given()
+
+    def digit_of(self, character: str) -> int:
+        """The digit that a character dials: a digit itself, or the digit beside which a letter stands on a dial. Raises
+        `SignalError` where it dials none."""
+        digit = ctypes.c_uint8()
+        is_byte = isinstance(character, str) and len(character) == 1 and character.isascii()
+        status = self._library.mfchain_digit_of(ord(character) if is_byte else 0, ctypes.addressof(digit))
+        if status:
+            raise self._refusal(status, SignalError)
+        return digit.value
+
+    def entry(self, marks: list, number: int) -> str:
+        """The line of an entry as a page has it: entry `number` of the line of these marks, which one call gave. Raises
+        `OfficeError` where they are not the marks of an entry."""
+        given = (_Mark * len(marks))(*map(_mark_of, marks))
+        text = ctypes.create_string_buffer(ENTRY_ROOM)
+        status = self._library.mfchain_entry(number, ctypes.addressof(given), len(marks), text, ENTRY_ROOM)
+        if status:
+            raise self._refusal(status)
+        return text.value.decode()
+
+    def cadence(self) -> Cadence:
+        """The times of a sender."""
+        times = _Cadence()
+        self._library.mfchain_cadence(ctypes.addressof(times))
+        return Cadence(*(getattr(times, name) for name in Cadence._fields))
+
+    def sound(self, mark: Mark, cadence: Cadence = None) -> array:
+        """The samples of a mark by a cadence, or by that of a sender, as mftone writes them: 8,000 a second, of 16 bits.
+        A trunk group is the silence before KP, a key its tones and the silence after them, a refusal nothing. Raises
+        `OfficeError` where a time is out of its range."""
+        times = [time if _is_number(time, 0xFFFF) else 0xFFFF for time in cadence or self.cadence()]
+        room = (ctypes.c_int16 * (RATE // 1000 * max(times[0], max(times[1:3]) + times[3])))()
+        played, by, count = _mark_of(mark), _Cadence(*times), ctypes.c_size_t()
+        places = map(ctypes.addressof, (played, by, room))
+        status = self._library.mfchain_sound(*places, len(room), ctypes.addressof(count))
+        if status:
+            raise self._refusal(status)
+        return array("h", room[: count.value])
+
+    def status_text(self, status: int) -> str:
+        """The text of a status."""
+        text = ctypes.create_string_buffer(FAULT_ROOM)
+        self._library.mfchain_status_text(status, text, FAULT_ROOM)
+        return text.value.decode()
+
+    def _refusal(self, status: int, refusal: type = OfficeError) -> OfficeError:
+        """What is raised for a status."""
+        return refusal(status, self.status_text(status))
 
     def _tell(self, line: int, call, *digit) -> list:
         """Tells the register of a line what was heard."""
@@ -234,7 +312,7 @@ class Office:
         with self._lock:
             status = call(table, known, line, *digit, room, MOST_MARKS, count)
             if status:
-                raise SignalError(status)
+                raise self._refusal(status, SignalError)
             return self._given()
 
     def _given(self) -> list:
@@ -246,6 +324,6 @@ class Office:
 
     def _known(self, line: int, refusal: type = OfficeError) -> int:
         """Where what is known of a line stands."""
-        if not (isinstance(line, int) and 0 <= line < LINES):
-            raise refusal(WRONG_LINE)
+        if not _is_number(line, LINES - 1):
+            raise self._refusal(WRONG_LINE, refusal)
         return ctypes.addressof(self._lines) + ctypes.sizeof(_Line) * line

@@ -31,16 +31,6 @@ class DeckError(ValueError):
     """A deck is refused, and the text says why."""
 
 
-def entry_text(marks: list, number: int) -> str:
-    """An entry as a page has it: the entry of this number on its line."""
-    first = marks[0]
-    head = f"{first.line:04} {number}"
-    if first.kind != "TRUNK":
-        return f"{head} REFUSED {first.kind} {first.value}"
-    keys = (f"{m.value if m.kind == 'DIGIT' else m.kind}:{m.low}+{m.high}" for m in marks[1:])
-    return f"{head} KEYED {first.value:04} {' '.join(keys)}"
-
-
 def rows_of(number: str) -> list:
     """The makes and breaks of a number: each pulse is a break of 60 ms, and 600 ms of make end a digit."""
     rows = [("M", 500)]
@@ -58,7 +48,7 @@ def dial(library: str) -> None:
     for n, (state, ms) in enumerate(rows, 1):
         marks = office.take(7, state, ms)
         if marks:
-            print(f"row {n}: {entry_text(marks, office.entries(7))}")
+            print(f"row {n}: {office.entry(marks, office.entries(7))}")
     print(f"{len(rows)} rows")
 
 
@@ -112,7 +102,7 @@ def page(library: str, deck: str) -> None:
     for line in sorted(used):
         take(line, "C", 0)
     for line, number, marks in sorted(entries):
-        print(entry_text(marks, number))
+        print(office.entry(marks, number))
     refused = sum(marks[0].kind != "TRUNK" for _, _, marks in entries)
     print(f"KEYED {len(entries) - refused} REFUSED {refused}", flush=True)
 

@@ -126,7 +126,7 @@ static enum mf_status judged(struct known *of, int plan, uint32_t name, enum act
                 want_entry(name, plan, next.digits, next.count);
             }
         } else
-            want(name, act == MUTILATED ? MF_MUTILATED : act == TIME_OUT ? MF_TIMED_OUT : MF_ABANDONED, next.count, 0, 0);
+            want(name, act == MUTILATED ? MF_MUTILATED : act == TIME_OUT ? MF_TIMEDOUT : MF_ABANDONED, next.count, 0, 0);
     }
     if (wanted_count > room)
         return MF_NO_ROOM;
@@ -157,7 +157,7 @@ static int is_entry(const mf_mark *marks, size_t n, uint32_t name)
         if (marks[i].line != name || (marks[i].kind == MF_DIGIT && marks[i].value > 9))
             return 0;
     if (n < 2)
-        return n == 0 || (marks[0].kind >= MF_MUTILATED && marks[0].kind <= MF_TIMED_OUT);
+        return n == 0 || (marks[0].kind >= MF_MUTILATED && marks[0].kind <= MF_TIMEDOUT);
     if (n < 4 || marks[0].kind != MF_TRUNK || marks[1].kind != MF_KP || marks[n - 1].kind != MF_ST)
         return 0;
     for (size_t i = 2; i + 1 < n; i++)

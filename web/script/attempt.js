@@ -35,7 +35,7 @@ class Attempt {
   pulses() {
     const first = this.runs.findIndex((run, i) => i >= this.next && !run.closed);
     if (first < 0) return null;
-    const end = 1 + this.runs.findLastIndex((run) => !run.closed);
+    const end = this.runs.length - [...this.runs].reverse().findIndex((run) => !run.closed);
     this.next = end;
     return { first, end, runs: this.runs.slice(first, end) };
   }

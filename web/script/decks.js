@@ -8,6 +8,7 @@ class Decks {
     this.wasm = wasm;
     this.worker = null;
     this.turn = 0;
+    this.isRefused = false;
     // A worker takes its script as an address. This one's is made of the page's own text.
     const texts = [$('read-texts').textContent, $('worker').textContent];
     this.script = URL.createObjectURL(new Blob(texts, { type: 'text/javascript' }));
@@ -30,11 +31,13 @@ class Decks {
     const began = performance.now();
     $('read').textContent = `Reading ${name}`;
     this.worker = new Worker(this.script);
-    this.worker.onmessage = ({ data: { page, fault } }) => {
+    this.worker.onmessage = ({ data: { page, fault, told = [] } }) => {
       const seconds = ((performance.now() - began) / 1000).toFixed(1);
       this.stop(fault ? `${name} is refused.` : `${name}: read in ${seconds} s.`);
       if (fault) this.showFault(fault);
       else this.showPage(name, page);
+      this.isRefused = Boolean(fault);
+      showPlaces($('deck-places'), told);
     };
     this.worker.onerror = () => this.stop('The deck could not be read by this browser.');
     this.worker.postMessage({ wasm: this.wasm, bytes }, [bytes.buffer]);
@@ -44,6 +47,15 @@ class Decks {
     this.worker?.terminate();
     this.worker = null;
     $('read').textContent = words;
+  }
+
+  // A recording came in place of a deck: a refusal that stands here is not of it.
+  passOver(name) {
+    if (!this.isRefused) return;
+    this.stop(`${name} is a recording: the far end’s ear hears it.`);
+    this.isRefused = false;
+    $('page').textContent = '';
+    showPlaces($('deck-places'), []);
   }
 
   showFault(fault) {

@@ -146,19 +146,34 @@ class Office {
   }
 
   useTable() {
+    const text = $('routes').value;
     try {
-      this.module.useTable(this.reader.table($('routes').value, this.module.tableBytes()));
-      this.tableInUse = $('routes').value;
-      $('fault').textContent = '';
+      this.module.useTable(this.reader.table(text, this.module.tableBytes()));
+      this.tableInUse = text;
+      this.tellOfTable('', this.reader.toldOfTable(text));
       $('routes').removeAttribute('aria-invalid');
       this.telephones.forEach((telephone) => telephone.reset());
       this.route.use(this.module.routesInUse());
       this.sender.clear();
     } catch (fault) {
       if (!(fault instanceof Refused)) throw fault;
-      $('fault').textContent = `Refused: ${fault.message}. The table before it stays in use.`;
+      this.tellOfTable(`Refused: ${fault.message}. The table before it stays in use.`, fault.told);
       $('routes').setAttribute('aria-invalid', 'true');
     }
+  }
+
+  // A table that is in use may have keys that no rule names: these are told too.
+  tellOfTable(fault, told) {
+    $('fault').textContent = fault;
+    showPlaces($('places'), told, (line) => this.chooseLine(line));
+  }
+
+  // Chooses a text line of the table.
+  chooseLine(line) {
+    const lines = $('routes').value.split('\n');
+    const from = lines.slice(0, line - 1).join('\n').length + (line > 1 ? 1 : 0);
+    $('routes').focus();
+    $('routes').setSelectionRange(from, from + lines[line - 1].length);
   }
 
   // ---- what the visitor does
@@ -218,8 +233,10 @@ class Office {
 
   readFile(file) {
     $('read').removeAttribute('aria-live');
-    if (file && isRecording(file)) this.recordings.read(file);
-    else if (file) this.decks.read(file.name, file);
+    if (!file) return;
+    if (!isRecording(file)) { this.decks.read(file.name, file); return; }
+    this.decks.passOver(file.name);
+    this.recordings.read(file);
   }
 
   readExample() { this.decks.read('calls.deck', new Blob([$('example-deck').textContent])); }
@@ -264,8 +281,12 @@ class Office {
   begin() {
     this.useTable();
     this.listen();
-    // nobody asked for this one, so it is not said
+    // nobody asked for what the page shows at first, so it is not said
     $('read').setAttribute('aria-live', 'off');
+    this.setSaid(false);
+    for (const name of ['pointerdown', 'keydown', 'click']) {
+      addEventListener(name, () => this.setSaid(true), { capture: true, once: true });
+    }
     this.readExample();
     setInterval(() => this.move(), TOLD_EACH_MS);
     this.show();
@@ -274,6 +295,13 @@ class Office {
     if (look === 'kiosk') this.kiosk = new Kiosk(this, seconds);
     if (linkedNumber()) this.offer(linkedNumber());
     else if (!lessMotion.matches && !location.hash.includes('quiet')) this.demonstrate();
+  }
+
+  // Whether calls are said to those who hear the page.
+  setSaid(isSaid) {
+    for (const it of document.querySelectorAll('#roll, .heard, .spoken')) {
+      it.setAttribute('aria-live', isSaid ? 'polite' : 'off');
+    }
   }
 
   // A link brought the visitor here to hear one call: sound wants a gesture first.

@@ -1,5 +1,5 @@
-// The proved reader: whole decks to their pages and route tables, by the crates that mfbank is made of. Nothing else on
-// the page reads a text.
+// The proved reader: whole decks to their pages, route tables, and what is told of both line by line, by the crates
+// that mfbank and mfcheck are made of. Nothing else on the page reads a text.
 
 const MOST_HEAP_BYTES = 2 ** 29;
 const LEAST_ROOM_BYTES = 65536;
@@ -8,12 +8,19 @@ const LEAST_ROOM_BYTES = 65536;
 const READ = 0;
 const NO_MEMORY = 1;
 const REFUSED = 2;
+const NO_ROOM = 7;
 
 // What follows a table, so that a deck without records has it.
 const NO_RECORDS = '\n---\nline,state,ms\n';
+const deckOfTable = (text) => new TextEncoder().encode(text + NO_RECORDS);
 
-// A text that is refused. Its words are those of mfbank.
-class Refused extends Error {}
+// A text that is refused. Its words are those of mfbank; `told` has the lines that mfcheck writes of it.
+class Refused extends Error {
+  constructor(words, told = []) {
+    super(words);
+    this.told = told;
+  }
+}
 
 class Reader {
   static async open(wasm) {
@@ -41,20 +48,32 @@ class Reader {
 
   number(at) { return new DataView(this.calls.memory.buffer).getUint32(at, true); }
 
-  // The page of a deck. Throws its first fault.
-  page(bytes) {
+  // What a call makes of a deck: its status, and the text that it gives. It says how long a room that text needs.
+  made(call, bytes) {
     for (let length = LEAST_ROOM_BYTES; ;) {
       const { text, count, room } = this.lay(bytes, length);
-      const status = this.calls.mfpage_deck(BigInt(text), BigInt(bytes.length), BigInt(room), BigInt(length), BigInt(count));
-      const given = () => {
-        return new TextDecoder().decode(new Uint8Array(this.calls.memory.buffer, room, this.number(count)));
-      };
-      if (status === READ) return given();
-      if (status === REFUSED) throw new Refused(given());
-      if (status === NO_MEMORY) throw new Refused('out of memory');
-      length = this.number(count);
+      const status = call(BigInt(text), BigInt(bytes.length), BigInt(room), BigInt(length), BigInt(count));
+      const given = this.number(count);
+      if (status !== NO_ROOM) {
+        return { status, text: new TextDecoder().decode(new Uint8Array(this.calls.memory.buffer, room, given)) };
+      }
+      length = given;
     }
   }
+
+  // The page of a deck. Throws its first fault.
+  page(bytes) {
+    const { status, text } = this.made(this.calls.mfpage_deck, bytes);
+    if (status === NO_MEMORY) throw new Refused('out of memory');
+    if (status === REFUSED) throw new Refused(text, this.told(bytes));
+    return text;
+  }
+
+  // The lines that mfcheck writes of a deck; none where memory ran out.
+  told(bytes) { return this.made(this.calls.mfpage_told, bytes).text.split('\n').slice(0, -1); }
+
+  // The same of a table.
+  toldOfTable(text) { return this.told(deckOfTable(text)); }
 
   // The table that a text writes, as the chain's module takes it, which says how many bytes it has. Throws its fault.
   table(text, length) {
@@ -69,9 +88,10 @@ class Reader {
   // The fault of a table. Its words are those of a deck that has nothing else.
   faultOf(text) {
     try {
-      this.page(new TextEncoder().encode(text + NO_RECORDS));
+      this.page(deckOfTable(text));
     } catch (fault) {
-      return fault instanceof Refused ? new Refused(fault.message.replace(/^route table: /, '')) : fault;
+      if (!(fault instanceof Refused)) return fault;
+      return new Refused(fault.message.replace(/^route table: /, ''), fault.told);
     }
     return new Refused('not TOML');
   }

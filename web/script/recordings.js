@@ -18,18 +18,18 @@ const nextTurn = () => new Promise((done) => { setTimeout(done); });
 // Without what a browser does to a voice: it takes tones that go on for noise.
 const PLAIN_SOUND = { echoCancellation: false, noiseSuppression: false, autoGainControl: false };
 
-// The mean of the channels, sample by sample.
-function mixed(buffer) {
+// The loudest channel. A sum of two may be silent.
+function loudest(buffer) {
   const channels = Array.from({ length: buffer.numberOfChannels }, (_, i) => buffer.getChannelData(i));
-  if (channels.length === 1) return channels[0];
-  return channels[0].map((_, n) => channels.reduce((sum, channel) => sum + channel[n], 0) / channels.length);
+  const levels = channels.map((channel) => channel.reduce((sum, sample) => sum + sample * sample, 0));
+  return channels[levels.indexOf(Math.max(...levels))];
 }
 
 class Recordings {
   constructor(module) {
-    Object.assign(this, { module, turn: 0, microphone: null });
+    Object.assign(this, { module, turn: 0, microphone: null, isReading: false });
     this.keyings = new Keyings($('keyings'));
-    $('microphone').addEventListener('click', () => (this.microphone ? this.stop() : this.listen()));
+    $('microphone').addEventListener('click', () => (this.isHearing() ? this.stop() : this.listen()));
     $('recording').addEventListener('change', () => {
       const file = $('recording').files[0];
       if (file) this.read(file);
@@ -38,6 +38,15 @@ class Recordings {
   }
 
   say(words) { $('listening').textContent = words; }
+
+  isHearing() { return this.isReading || this.microphone !== null; }
+
+  showButton() { $('microphone').textContent = this.isHearing() ? 'stop listening' : 'listen by the microphone'; }
+
+  setReading(isReading) {
+    this.isReading = isReading;
+    this.showButton();
+  }
 
   // What was begun before this is over.
   begin() {
@@ -58,11 +67,16 @@ class Recordings {
       this.say(`${file.name} is no recording that this browser reads, or longer than 64 MB.`);
       return;
     }
-    for (let at = 0; at < samples.length; at += SAMPLES_A_TURN) {
+    this.setReading(true);
+    for (let at = 0, told = 1; at < samples.length; at += SAMPLES_A_TURN) {
       this.keyings.add(this.ear.hear(wholeSamples(samples.subarray(at, at + SAMPLES_A_TURN))));
       await nextTurn();
       if (turn !== this.turn) return;
+      const tenth = Math.floor(10 * at / samples.length);
+      if (tenth >= told) this.say(`Reading ${file.name}: ${tenth}0 % of it is heard.`);
+      told = Math.max(told, tenth + 1);
     }
+    this.setReading(false);
     this.keyings.add(this.ear.end());
     const seconds = (samples.length / SAMPLES_A_SECOND).toFixed(1);
     this.say(`${file.name}: ${plural(this.keyings.count, 'key')} in ${seconds} s.`);
@@ -72,7 +86,7 @@ class Recordings {
     if (file.size > MOST_RECORDING_BYTES) return null;
     try {
       const reader = new OfflineAudioContext(1, 1, SAMPLES_A_SECOND);
-      return mixed(await reader.decodeAudioData(await file.arrayBuffer()));
+      return loudest(await reader.decodeAudioData(await file.arrayBuffer()));
     } catch {
       return null;
     }
@@ -93,7 +107,7 @@ class Recordings {
       return;
     }
     this.microphone = opened;
-    $('microphone').textContent = 'stop listening';
+    this.showButton();
     this.say('Listening.');
   }
 
@@ -123,11 +137,11 @@ class Recordings {
 
   stop() {
     this.turn++;
-    if (!this.microphone) return;
-    this.microphone.close();
+    if (!this.isHearing()) return;
+    this.microphone?.close();
     this.microphone = null;
+    this.setReading(false);
     this.keyings.add(this.ear.end());
-    $('microphone').textContent = 'listen by the microphone';
     this.say(`${plural(this.keyings.count, 'key')} heard.`);
   }
 }

@@ -97,6 +97,7 @@ class Sender {
     this.hearUntil(Infinity);
     const { ear, heard, keys, tell } = this.playing;
     this.playing = null;
+    this.redraw();         // the page may have another width by now
     tell(keys, [...heard, ...ear.end()]);
   }
 

@@ -21,7 +21,9 @@ class Telephone {
     this.find('hook').addEventListener('click', () => this.hangByHand(!this.isUp));
     // a dial that is turned on the hook sends nothing, so the hook is pointed at
     this.find('dial').addEventListener('pointerup', () => {
-      if (!this.isUp && !this.number) this.find('hook').classList.add('wanted');
+      if (this.isUp || this.number) return;
+      this.find('hook').classList.add('wanted');
+      this.find('spoken').textContent = 'Nothing is sent: lift the receiver first';
     });
     this.find('kind').addEventListener('change', (event) => { this.dial.kind = event.target.value; });
     for (const button of this.top.querySelectorAll('[data-number]')) {
@@ -208,7 +210,8 @@ class Telephone {
     this.shown = now;
     this.find('phase').textContent = PHASES[state.phase];
     const heard = this.find('heard');
-    heard.textContent = this.outcome || ATTEMPTS[state.attempt];
+    const words = this.outcome || ATTEMPTS[state.attempt];
+    if (heard.textContent !== words) heard.textContent = words;
     heard.classList.toggle('refused', this.outcome === 'refused');
     this.showNumber(this.numberDialled());
     this.register.show(this.digits, state.attempt === 1 ? state.breaks : 0);

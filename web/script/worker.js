@@ -5,6 +5,6 @@ self.onmessage = async ({ data: { wasm, bytes } }) => {
     self.postMessage({ page: (await Reader.open(wasm)).page(bytes) });
   } catch (fault) {
     if (!(fault instanceof Refused)) throw fault;
-    self.postMessage({ fault: fault.message });
+    self.postMessage({ fault: fault.message, told: fault.told });
   }
 };

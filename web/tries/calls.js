@@ -194,9 +194,14 @@ class CallTries {
 
   async byTables() {
     const { it, tape } = this;
-    for (const [table, fault] of FAULTY_TABLES) {
+    for (const [table, fault, place] of FAULTY_TABLES) {
       await it.write(table);
       is(`a table: ${fault}`, await it.text('#fault'), `Refused: ${fault}. The table before it stays in use.`);
+      if (place) is('with its text line', await it.texts('#places p'), [place]);
+      if (/repeats/.test(fault)) {
+        await it.click('#places button');
+        is('which a press chooses', await it.run('getSelection().toString()'), 'code = "0"');
+      }
     }
     const ten = this.read('routes_of_ten.toml').toString().trimEnd();
     const tenDigits = this.read('ten_digits.page').toString().split('\n')[0].replace(/^.{6}/, '0007 1');
@@ -204,7 +209,7 @@ class CallTries {
       [TABLE_OF_SHORT_BREAKS, '8', '0007 1 REFUSED MUTILATED 0', 0]];
     for (const [table, number, line, routes] of calls) {
       await it.write(table);
-      is('a table that is accepted', await it.text('#fault'), '');
+      is('a table that is accepted', [await it.text('#fault'), await it.texts('#places p')], ['', []]);
       await it.run('rows.length = 0');
       const from = tape.count;
       await it.lift();
@@ -214,6 +219,9 @@ class CallTries {
       await it.hangUp();
       await tape.compare(table, from);
     }
+    await it.write(`plam = 7\n${TABLE_OF_611}`);
+    const told = [await it.text('#fault'), await it.texts('#places p')];
+    is('a misspelled key of a table in use', told, ['', [MISSPELLED]]);
   }
 }
 
@@ -221,17 +229,30 @@ const TABLE_OF_611 = '[[route]]\ncode = "611"\ntrunk = 611\nprefix = "9"';
 const TABLE_OF_SHORT_BREAKS = `[limits]\npulse_max = 50\n${TABLE_OF_611}`;
 const ENTRY_OF_611 = '0007 1 KEYED 0611 KP:1100+1700 9:1100+1500 6:1100+1300 1:700+900 1:700+900 ST:1500+1700';
 
+const MISSPELLED =
+  'Line 1, column 1: no rule names this key; here are plan, limits and route (did you mean plan?): plam = 7';
+
+// Each with its fault, and with the text line that a person found.
 const FAULTY_TABLES = [
-  ['plan = 8', 'plan is neither 7 nor 10'],
-  ['[limits]\npulse_max = 300', 'limit 8 is wrong'],
-  ['[limits]\npause = 0', 'limit 4 is wrong'],
-  ['[[route]]\ncode = "2345"\ntrunk = 1', 'route 1 has a wrong code'],
-  ['[[route]]\ntrunk = 1', 'route 1 has a wrong shape'],
-  ['[[route]]\ncode = "234"\ntrunk = 10000', 'route 1 has a wrong trunk'],
-  ['[[route]]\ncode = "234"\ntrunk = 1\ndelete = 8', 'route 1 has a wrong delete'],
-  ['[[route]]\ncode = "234"\ntrunk = 1\nprefix = "12a"', 'route 1 has a wrong prefix'],
-  ['[[route]]\ncode = "234"\ntrunk = 1\ndelete = 7', 'route 1 keys no digit'],
-  ['[[route]]\ncode = "0"\ntrunk = 1\n[[route]]\ncode = "0"\ntrunk = 2', 'route 2 repeats a code'],
+  ['plan = 8', 'plan is neither 7 nor 10', 'Line 1, column 1: plan is neither 7 nor 10: plan = 8'],
+  ['[limits]\npulse_max = 300', 'limit 8 is wrong',
+    'Line 2, column 1: pulse_max is not under release: pulse_max = 300'],
+  ['[limits]\n  pause = 0', 'limit 4 is wrong',
+    'Line 2, column 3: the limit is not a whole number of 1 to 1000000 ms:   pause = 0'],
+  ['[[route]]\ncode = "2345"\ntrunk = 1', 'route 1 has a wrong code',
+    'Line 2, column 1: the code is not 0, NNX or N11, nor one of plan 10: code = "2345"'],
+  ['[[route]]\ntrunk = 1', 'route 1 has a wrong shape',
+    'Line 1, column 1: this route lacks code or trunk, or one of its keys has another kind of value: [[route]]'],
+  ['[[route]]\ncode = "234"\ntrunk = 10000', 'route 1 has a wrong trunk',
+    'Line 3, column 1: the trunk group is not 0 to 9999: trunk = 10000'],
+  ['[[route]]\ncode = "234"\ntrunk = 1\ndelete = 8', 'route 1 has a wrong delete',
+    'Line 4, column 1: more digits are deleted than the numbers of this code have: delete = 8'],
+  ['[[route]]\ncode = "234"\ntrunk = 1\nprefix = "12a"', 'route 1 has a wrong prefix',
+    'Line 4, column 1: the prefix is not 0 to 8 digits: prefix = "12a"'],
+  ['[[route]]\ncode = "234"\ntrunk = 1\ndelete = 7', 'route 1 keys no digit',
+    'Line 4, column 1: all digits are deleted, and none is put before them: delete = 7'],
+  ['[[route]]\ncode = "0"\ntrunk = 1\n[[route]]\ncode = "0"\ntrunk = 2', 'route 2 repeats a code',
+    'Line 5, column 1: an earlier route has this code: code = "0"'],
   ['[[route]\ncode = "0"', 'not TOML'],
 ];
 

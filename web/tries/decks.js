@@ -1,5 +1,5 @@
-// node tries/decks.js PAGE EXAMPLES MFBANK: decks through the page's reader (reader.js), and rows through its module, in
-// Node: a row takes less than a microsecond, and the sound of EXAMPLES is heard.
+// node tries/decks.js PAGE EXAMPLES MFBANK MFCHECK: decks through the page's reader (reader.js), and rows through its
+// module, in Node: a row takes less than a microsecond, and the sound of EXAMPLES is heard.
 'use strict';
 const fs = require('fs');
 const path = require('path');
@@ -11,7 +11,7 @@ const { tryReader } = require('./reader.js');
 const { dialRows } = require('./seeds.js');
 const { tryTaken } = require('./taken.js');
 
-const [, , page, examples, mfbank] = process.argv;
+const [, , page, examples, mfbank, mfcheck] = process.argv;
 const MOST_BYTES = 500000;
 const MOST_NANOSECONDS = 1000;
 const read = (name) => fs.readFileSync(path.join(examples, name));
@@ -56,7 +56,7 @@ async function main() {
   is('the module imports nothing', WebAssembly.Module.imports(new WebAssembly.Module(wasm)), []);
   await tryCaller();
   await tryTaken(path.join(__dirname, '..', 'mfchain.mjs'));
-  await tryReader(page, examples, mfbank);
+  await tryReader(page, examples, mfbank, mfcheck);
   const reader = await Reader.open(readerOfPage);
   for (const [name, bytes] of [['the module', wasm], ['its copy', lowered]]) {
     const module = await Module.open(bytes);

@@ -19,6 +19,14 @@ async function tryDecks(it, examples, read) {
   }
   await it.drop('quoted.deck', '---\n"line","state","ms"\r\n7,"M","600"\r\n');
   is('a deck in quotes, dropped', await it.text('#page'), '0007 1 REFUSED ABANDONED 0\nKEYED 0 REFUSED 1\n');
+  await it.drop('trunk.deck', '[[route]]\ncode = "234"\ntrunk = 10000\n---\nline,state,ms\n7,M,600\n7,X,60\n');
+  is('a refused one is told line by line', await it.texts('#deck-places p'), [
+    'Line 7, column 3: the state is not M, B or C: 7,X,60',
+    'Line 3, column 1: the trunk group is not 0 to 9999: trunk = 10000']);
+  await it.chooseFile('#file', path.join(examples, 'seven_digits.wav'));
+  await it.until('/^seven_digits.wav/.test(document.getElementById("listening").textContent)');
+  const left = [await it.text('#page'), await it.texts('#deck-places p')];
+  is('nothing of it is left where a recording was chosen for a deck', left, ['', []]);
 }
 
 // Calls of many lines in turn, in so many records.

@@ -22,7 +22,7 @@ async function tryNames(it) {
   is('so has all that takes the keys', nameless(focusable), []);
   const live = await it.run(`[...document.querySelectorAll('[role=log], [role=alert], [role=status]')]
     .map((it) => it.id)`);
-  const wanted = ['lacking', 'roll', 'kept', 'listening', 'heard', 'fault', 'read'];
+  const wanted = ['lacking', 'roll', 'kept', 'listening', 'heard', 'fault', 'places', 'read', 'deck-places'];
   is('the tape, what is heard and the faults are live', live, wanted);
 }
 

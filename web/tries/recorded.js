@@ -25,6 +25,14 @@ async function tryRecordings(it, examples, read) {
   })()`);
   await ended(it, 'dropped.wav');
   is('one that is dropped is heard too', await it.texts('#keyings code'), [wanted]);
+  await it.run(`loudest = ((whole) => (buffer) => {
+    const first = buffer.getChannelData(0);
+    const channels = [first, first.map((sample) => -sample)];
+    return whole({ numberOfChannels: 2, getChannelData: (nth) => channels[nth] });
+  })(loudest)`);
+  await it.chooseFile('#recording', path.join(examples, WAV));
+  await ended(it, WAV);
+  is('two channels that sum to silence are heard', await it.texts('#keyings code'), [wanted]);
   await it.chooseFile('#recording', path.join(examples, 'routes.toml'));
   await ended(it, 'routes.toml is no');
   is('what is no recording is refused', await it.texts('#keyings code'), []);

@@ -35,10 +35,19 @@ extern "C" {
 /* The most digits of a number: room for those of mf_dialled. */
 #define MF_MOST_DIGITS 10
 
-/* Room for the text of any fault of a table. */
+/* Room for the text of any fault of a table, and of any status. */
 #define MF_FAULT_ROOM 64
 
-/* What a call returns. On any status but MF_DONE nothing was done. */
+/* Room for the line of any entry. */
+#define MF_ENTRY_ROOM 1025
+
+/* The samples in a second. */
+#define MF_RATE 8000
+
+/* The most samples of a mark by the times of a sender: room for those of mf_sound by mf_sender_cadence. */
+#define MF_MOST_SAMPLES 4000
+
+/* What a call returns. On any status but MF_DONE nothing was done. mf_status_text has its text. */
 enum mf_status {
     MF_DONE = 0,
     MF_NO_MEMORY = 1,       /* memory ran out (mf_open alone) */
@@ -47,7 +56,7 @@ enum mf_status {
     MF_WRONG_LINE = 4,      /* the line is over 9999 */
     MF_WRONG_STATE = 5,     /* the state is none of MF_MAKE, MF_BREAK and MF_CLOSE */
     MF_WRONG_MS = 6,        /* the time is over a day, or a close has one */
-    MF_NO_ROOM = 7,         /* the row gives more marks than there is room for */
+    MF_NO_ROOM = 7,         /* there are more marks, bytes or samples than there is room for */
     /* of a table's text; the text of the fault says of which limit or route */
     MF_NOT_TOML = 8,        /* it is not TOML */
     MF_WRONG_PLAN = 9,      /* `plan` is neither 7 nor 10 */
@@ -65,7 +74,11 @@ enum mf_status {
     MF_CLOSED = 20,         /* the line's record has ended: mf_reopen begins a new one */
     MF_SEIZED = 21,         /* a seizure of a line that is seized */
     MF_NOT_SEIZED = 22,     /* a digit, a time-out or a release of a line that is not seized */
-    MF_INCOMPLETE = 23      /* the digits complete no number (mf_route_number alone) */
+    MF_INCOMPLETE = 23,     /* the digits complete no number (mf_route_number alone) */
+    /* of what is shown, played or written as a letter */
+    MF_WRONG_MARKS = 24,    /* these are not the marks of an entry */
+    MF_WRONG_CADENCE = 25,  /* a time of the cadence is out of its range */
+    MF_WRONG_CHARACTER = 26 /* the character is no digit and no letter of the dial */
 };
 
 /* What the loop of a line does. */
@@ -89,13 +102,20 @@ enum mf_kind {
     MF_MUTILATED = 4, /* an entry by itself, a refusal: a digit was spoiled; `value` counts those before it */
     MF_UNKNOWN = 5,   /* a refusal: no route has the number; `value` is the length of the number */
     MF_ABANDONED = 6, /* a refusal: the line hung up, or its record ended; `value` counts the digits */
-    MF_TIMED_OUT = 7  /* a refusal: a make reached the time-out; `value` counts the digits */
+    MF_TIMEDOUT = 7,  /* a refusal: a make reached the time-out; `value` counts the digits */
+    MF_TIMED_OUT = 7  /* the same, for callers that were written before it had the page's name */
 };
 
 /* A mark on a line. `low` and `high` are the two tones of a digit, of KP or of ST in Hz, and else 0. */
 typedef struct {
     uint32_t line, kind, value, low, high;
 } mf_mark;
+
+/* How long tones last, and the silences between them, each in ms: the silence before KP (0 to 60000), the tone of KP (58
+   to 10000), that of a digit and of ST (46 to 10000), and the silence after each tone (38 to 10000). */
+typedef struct {
+    uint16_t lead_ms, kp_ms, key_ms, gap_ms;
+} mf_cadence;
 
 /* What is known of a line from its rows so far. All zeros is a line before its first row. What the fields
    are, a caller need not know. */
@@ -138,6 +158,12 @@ uint32_t mfchain_release(const mf_table *table, mf_line *line, uint32_t number, 
 uint32_t mfchain_dialled(const mf_line *line, uint8_t digits[MF_MOST_DIGITS]);
 uint32_t mfchain_route_number(const mf_table *table, const uint8_t *digits, size_t len, mf_mark *room,
                               size_t room_len, size_t *count);
+uint32_t mfchain_digit_of(uint8_t character, uint8_t *digit);
+uint32_t mfchain_entry(uint32_t number, const mf_mark *marks, size_t count, uint8_t *text, size_t text_len);
+void mfchain_cadence(mf_cadence *cadence);
+uint32_t mfchain_sound(const mf_mark *mark, const mf_cadence *cadence, int16_t *samples, size_t room_len,
+                       size_t *count);
+uint32_t mfchain_status_text(uint32_t status, uint8_t *text, size_t text_len);
 
 /* Reads the route table that a TOML text of `len` bytes writes. Where it is refused, `fault` gets the reason, a
    text that ends with a zero and is cut to `fault_len` bytes, and the table is as it was. */
@@ -252,6 +278,54 @@ static inline enum mf_status mf_route_number(const mf_table *table, const uint8_
     if (!table || !digits || !marks || !count)
         return MF_NULL;
     return (enum mf_status)mfchain_route_number(table, digits, len, marks, room, count);
+}
+
+/* The digit that a character dials: a digit itself, or the digit beside which a letter stands on a dial, small or not
+   (PE6 is 736). MF_WRONG_CHARACTER where it dials none, as Q and Z; the digit is then as it was. */
+static inline enum mf_status mf_digit_of(char character, uint8_t *digit)
+{
+    if (!digit)
+        return MF_NULL;
+    return (enum mf_status)mfchain_digit_of((uint8_t)character, digit);
+}
+
+/* The line of an entry as a page has it: entry `number` of the line of these marks, which one call gave. It is a text
+   that ends with a zero, for which MF_ENTRY_ROOM is enough. On any other status than MF_DONE the text is as it was. */
+static inline enum mf_status mf_entry(uint32_t number, const mf_mark *marks, size_t count, char *text, size_t room)
+{
+    if (!marks || !text)
+        return MF_NULL;
+    return (enum mf_status)mfchain_entry(number, marks, count, (uint8_t *)text, room);
+}
+
+/* The times of a sender: 500 ms before KP of 100 ms, digits and ST of 68 ms, and 68 ms after each tone. */
+static inline enum mf_status mf_sender_cadence(mf_cadence *cadence)
+{
+    if (!cadence)
+        return MF_NULL;
+    mfchain_cadence(cadence);
+    return MF_DONE;
+}
+
+/* The sound of a mark by a cadence, as mftone writes it: MF_RATE samples a second. A trunk group is the silence before
+   KP, a key its two tones and the silence after them, a refusal nothing: so the marks of an entry, one after the other,
+   are the sound of its keying. On MF_DONE the first *count samples are written; on any other status they are as they
+   were, and *count is 0. */
+static inline enum mf_status mf_sound(const mf_mark *mark, const mf_cadence *cadence, int16_t *samples, size_t room,
+                                      size_t *count)
+{
+    if (!mark || !cadence || !samples || !count)
+        return MF_NULL;
+    return (enum mf_status)mfchain_sound(mark, cadence, samples, room, count);
+}
+
+/* The text of a status, which ends with a zero. MF_FAULT_ROOM is room for any; where there is less than it has, the
+   status is MF_NO_ROOM, and the text is as it was. */
+static inline enum mf_status mf_status_text(enum mf_status status, char *text, size_t room)
+{
+    if (!text)
+        return MF_NULL;
+    return (enum mf_status)mfchain_status_text((uint32_t)status, (uint8_t *)text, room);
 }
 
 #ifdef __cplusplus

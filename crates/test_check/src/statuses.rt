@@ -36,13 +36,18 @@ a.deck:2:1: no rule names this heading; there are [limits] and [[route]]: [limit
 a.deck:7:1: no rule names this key; here are code, trunk, delete and prefix (did you mean delete?): delte = 3
 ";
 
-// A deck that begins with a byte order mark, and has indented keys.
+// A deck that begins with a byte order mark, and has indented keys, some with quotes and dots, and what looks like keys
+// and headings, in an array, a comment and a text of several lines.
 const MARKED: &[u8] =
-    b"\xEF\xBB\xBFplam = 10\n  [[route]]\n\tcode = \"234\"\n trunk = 17\n \tdelte = 3\n---\nline,state,ms\n7,M,500\n";
+    b"\xEF\xBB\xBFplam = 10\n'limits' . \"puls\\u0065_mni\" = 3\nremarks = [ # [a]\n  [\"[b]\"],\n]\n  [[route]]\n\
+\tcode = \"234\"\n \"trunk\" = 17\n \tdelte = \"\"\"\nfoo = 1\n[c]\"\"\"\n---\nline,state,ms\n7,M,500\n";
 
 const MARKED_TOLD: &[u8] =
     b"deck:1:4: no rule names this key; here are plan, limits and route (did you mean plan?): ???plam = 10
-deck:5:3: no rule names this key; here are code, trunk, delete and prefix (did you mean delete?):  ?delte = 3
+deck:2:1: no rule names this key; here are pulse_min, pulse_max, make_min, pause, release and timeout \
+(did you mean pulse_min?): 'limits' . \"puls\\u0065_mni\" = 3
+deck:3:1: no rule names this key; here are plan, limits and route: remarks = [ # [a]
+deck:9:3: no rule names this key; here are code, trunk, delete and prefix (did you mean delete?):  ?delte = \"\"\"
 ";
 
 // A deck with a record of each kind of fault.
@@ -104,12 +109,13 @@ const MICROSECONDS: &[u8] =
 const MISREAD: &[u8] =
     b"deck:3:12: every time of the deck is at least a thousand times a pulse's; are they microseconds?: line,state,ms\n";
 
-// A route table alone.
-const TABLE: &[u8] = b"[[route]]\ncode = \"2345\"\ntrunk = 17\nplan = 10\n";
+// A route table alone, with inline tables.
+const TABLE: &[u8] =
+    b"route = [ { code = \"234\", trunk = 17 },\n { plan = 10, trunk = 17, \"code\" = \"2345\" } ]\n";
 
 const WRONG_CODE: &[u8] =
-    b"deck:4:1: no rule names this key; here are code, trunk, delete and prefix: plan = 10
-deck:2:1: the code is not 0, NNX or N11, nor one of plan 10: code = \"2345\"
+    b"deck:2:4: no rule names this key; here are code, trunk, delete and prefix:  { plan = 10, trunk = 17, \"code\" = \"2345\" } ]
+deck:2:27: the code is not 0, NNX or N11, nor one of plan 10:  { plan = 10, trunk = 17, \"code\" = \"2345\" } ]
 ";
 
 // A deck with twelve records of line 10000 and eleven breaks of 1 ms, one after the other.
@@ -169,7 +175,7 @@ const CASES: &[(&[&str], &[u8], u8, &[u8], &[u8])] = &[
         &[],
         b"plan\n = 10\n---\n",
         1,
-        b"",
+        b"deck:1:1: the table is not TOML: plan\n",
         b"mfcheck: route table: not TOML\n",
     ),
     (
@@ -203,7 +209,7 @@ const CASES: &[(&[&str], &[u8], u8, &[u8], &[u8])] = &[
         TABLE,
         1,
         WRONG_CODE,
-        b"mfcheck: route table: route 1 has a wrong code\n",
+        b"mfcheck: route table: route 2 has a wrong code\n",
     ),
     (
         &[],
@@ -216,7 +222,7 @@ const CASES: &[(&[&str], &[u8], u8, &[u8], &[u8])] = &[
         &[],
         b"[[route]\ncode = \"0\"\n",
         1,
-        b"",
+        b"deck:1:1: the table is not TOML: [[route]\n",
         b"mfcheck: route table: not TOML\n",
     ),
     (

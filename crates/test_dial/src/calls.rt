@@ -43,10 +43,16 @@ const CASES: &[Case] = &[
         SEVEN,
         Err(b"text line 1: \"10000\" is no line of 0 to 9999"),
     ),
+    // a byte order mark, tabs, and lines of blanks
     (
-        b"7 0\n\n 7 0",
+        b"\xef\xbb\xbf 7\t0 \t\r\n \t\r\n\t# 7 0\n\t 9 4\t11",
         SEVEN,
-        Err(b"text line 3: \"\" is no line of 0 to 9999"),
+        Ok(&[(7, &[0]), (9, &[4, 1, 1])]),
+    ),
+    (
+        b"7 0\n\xef\xbb\xbf7 0",
+        SEVEN,
+        Err(b"text line 2: \"???7\" is no line of 0 to 9999"),
     ),
     (
         b"-7 0",
@@ -54,9 +60,9 @@ const CASES: &[Case] = &[
         Err(b"text line 1: \"-7\" is no line of 0 to 9999"),
     ),
     (
-        b"7\t0",
+        b"7,0",
         SEVEN,
-        Err(b"text line 1: \"7?0\" is no line of 0 to 9999"),
+        Err(b"text line 1: \"7,0\" is no line of 0 to 9999"),
     ),
     (
         b"#\n\r7 0",
@@ -70,9 +76,21 @@ const CASES: &[Case] = &[
         Err(b"text line 1: \"?234567890123456789012345678901234567890\" is no line of 0 to 9999"),
     ),
     // the digits
-    (b"7 23x", SEVEN, Err(b"text line 1 has a wrong digit")),
-    (b"7 0\r\r\n", SEVEN, Err(b"text line 1 has a wrong digit")),
-    (b"7 0 # call", SEVEN, Err(b"text line 1 has a wrong digit")),
+    (
+        b"7 23x",
+        SEVEN,
+        Err(b"text line 1 has a wrong digit at byte 5: \"x\""),
+    ),
+    (
+        b"\xef\xbb\xbf\t7 0\r\r\n",
+        SEVEN,
+        Err(b"text line 1 has a wrong digit at byte 5: \\x0d"),
+    ),
+    (
+        b"7 0 # call",
+        SEVEN,
+        Err(b"text line 1 has a wrong digit at byte 5: \"#\""),
+    ),
     (b"7\n", SEVEN, Err(b"text line 1 has no digits")),
     (b"7 - \n", None, Err(b"text line 1 has no digits")),
     // the number

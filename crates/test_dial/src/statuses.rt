@@ -102,7 +102,7 @@ const CASES: &[Case] = &[
         b"7 2x",
         1,
         b"",
-        b"mfdial: text line 1 has a wrong digit\n",
+        b"mfdial: text line 1 has a wrong digit at byte 4: \"x\"\n",
     ),
     (&[], b"\n7", 1, b"", b"mfdial: text line 2 has no digits\n"),
     (&[], b"7 2125551", 0, SEVEN_DIGITS, b""),

@@ -86,7 +86,7 @@ const DECKS: [(&str, u8, &[u8], &[u8]); 3] = [
         "none.toml",
         1,
         b"",
-        b"mfloop: the route table could not be read\n",
+        b"mfloop: the route table could not be read: none.toml: entity not found\n",
     ),
     ("wrong.toml", 1, b"", b"mfloop: route table: not TOML\n"),
 ];

@@ -38,6 +38,8 @@ type Case = (
 
 const USAGE: &[u8] = b"mfroute: usage: mfroute [--json] TABLE [NUMBER...]\n";
 
+const NO_NUMBERS: &[u8] = b"mfroute: there are no numbers\n";
+
 const CASES: &[Case] = &[
     (
         &["seven", "234-5678", "4 1 1", "0"],
@@ -57,7 +59,18 @@ const CASES: &[Case] = &[
 0 KEYED 0001 KP:1100+1700 0:1300+1500 ST:1500+1700 IGNORED 99\n",
         b"",
     ),
-    (&["seven"], b"", 0, b"", b""),
+    // a byte order mark, tabs, and lines of blanks
+    (
+        &["seven"],
+        b"\xef\xbb\xbf \t0\t\r\n \t\r\n\t# none\n4\t11",
+        0,
+        b"0 KEYED 0001 KP:1100+1700 0:1300+1500 ST:1500+1700\n\
+411 KEYED 0003 KP:1100+1700 4:700+1300 1:700+900 1:700+900 ST:1500+1700\n",
+        b"",
+    ),
+    // no numbers
+    (&["seven"], b"", 1, b"", NO_NUMBERS),
+    (&["seven", "--json"], b"# none\n \t\r\n", 1, b"", NO_NUMBERS),
     // ten digits, by the longer code
     (
         &["ten", "212 555 1234", "212-4444"],
@@ -111,7 +124,7 @@ const CASES: &[Case] = &[
         b"",
         1,
         b"",
-        b"mfroute: number 2 has a wrong character\n",
+        b"mfroute: number 2 has a wrong character at byte 1: \"Q\"\n",
     ),
     (
         &["seven", ""],
@@ -125,7 +138,22 @@ const CASES: &[Case] = &[
         b"#\n0\n4*1",
         1,
         b"",
-        b"mfroute: text line 3 has a wrong character\n",
+        b"mfroute: text line 3 has a wrong character at byte 2: \"*\"\n",
+    ),
+    (
+        &["seven"],
+        b"234\xe2\x80\x935678",
+        1,
+        b"",
+        b"mfroute: text line 1 has a wrong character at byte 4: \\xe2\n",
+    ),
+    // the order of the faults: the table comes before the numbers
+    (
+        &["wrong plan"],
+        b"",
+        1,
+        b"",
+        b"mfroute: route table: plan is neither 7 nor 10\n",
     ),
     (
         &["seven"],

@@ -1,4 +1,5 @@
 mod Tellings
 mod TakenLines
-mod FaultLines
 mod RowActivities
+mod Walking
+mod Placing

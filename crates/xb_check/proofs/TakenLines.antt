@@ -13,35 +13,30 @@ use Rattle.xb_check.specs.declared.key.Key.{Key}
 use Rattle.xb_check.specs.declared.lines.DeckPart.{DeckPart}
 use Rattle.xb_check.specs.declared.lines.DeckPart.TheVariants as part
 use Rattle.xb_check.specs.declared.records.Record.{Record}
-use Rattle.xb_check.specs.declared.table.Section.{Section}
-use Rattle.xb_check.specs.declared.table.Section.TheVariants.{Top}
 use Rattle.xb_check.specs.Kept.{Kept, first_at, firsts_of_records, kept_at, kept_of_lines, kept_of_table, none_seen, seen_after, seen_of}
-use Rattle.xb_check.specs.Records.{closed_after, closed_of, faults_of_deck, faults_of_lines, faults_of_records, faults_of_table, found_at, is_empty, no_closes, record_of_line, what_of_record, wrong_header}
+use Rattle.xb_check.specs.Records.{closed_after, closed_of, faults_of_deck, faults_after_table, faults_of_lines, faults_of_records, found_at, is_empty, no_closes, record_of_line, what_of_record, wrong_header}
 use Rattle.xb_check.specs.Steps.{Lines, TakesLine, faults_after, kept_after}
 use Rattle.xb_check.specs.Tallies.{Tallied, with_all}
 use Rattle.xb_check.proofs.Tellings.{with_all-append}
-use Rattle.xb_check.specs.Table.{section_after, squeezed, with_meant, wrong_in_table}
+use Rattle.xb_check.specs.Places.{faults_of_table}
+use Rattle.xb_check.specs.Table.{with_meant}
 
 -- the line that cuts
-pub cuts : (section : Section) (n : ℕ) (text : List ℕ) (lines : Lines) → is_cut text ≡ true
-    → TakesLine (part.Table section) n text lines lines part.Header
-unfolding faults_of_table kept_of_table
-cuts section n text lines cut later = (
+pub cuts : (n : ℕ) (text : List ℕ) (lines : Lines) → is_cut text ≡ true
+    → TakesLine part.Table n text lines lines part.Header
+unfolding faults_after_table kept_of_table
+cuts n text lines cut later = (
   ap (λ more. with_all lines.tally more) (cond-true _ _ _ cut),
   ap (λ more. lines.kept ++ more) (cond-true _ _ _ cut),
 )
 
--- another line of the table
-pub takes_table : (section : Section) (n : ℕ) (text read : List ℕ) (wrong : Option (What × Option Key)) (next : Section)
-    (before after : Lines) → is_cut text ≡ false → read ≡ squeezed text → wrong ≡ wrong_in_table section read
-    → next ≡ section_after section read → after.tally ≡ with_all before.tally (found_at n text wrong) → after.kept ≡ before.kept
-    → TakesLine (part.Table section) n text before after (part.Table next)
-unfolding faults_of_table kept_of_table
-takes_table section n text read wrong next before after cut is what moved put same later = (
-  rw (put, what, moved, is) (ap (λ more. with_all before.tally more) (cond-false _ _ _ cut)
-      ∙ with_all-append before.tally (found_at n text (wrong_in_table section (squeezed text)))
-      (faults_of_table (section_after section (squeezed text)) (n + 1) later)),
-  rw same (ap (λ more. before.kept ++ more) (cond-false _ _ _ cut)),
+-- another line of the route table
+pub passes_table : (n : ℕ) (text : List ℕ) (lines : Lines) → is_cut text ≡ false
+    → TakesLine part.Table n text lines lines part.Table
+unfolding faults_after_table kept_of_table
+passes_table n text lines uncut later = (
+  ap (λ more. with_all lines.tally more) (cond-false _ _ _ uncut),
+  ap (λ more. lines.kept ++ more) (cond-false _ _ _ uncut),
 )
 
 -- an empty line before the header
@@ -86,19 +81,19 @@ takes_record closes closes' seen seen' n text read wrong before after is what mo
 
 -- at first no text line of a deck was taken
 pub none_taken : (deck : List ℕ) → length deck ≤ MOST_DECK_BYTES
-    → faults_of_deck deck ≡ faults_after (part.Table Top) 1 (pieces 10 deck)
+    → faults_of_deck deck ≡ faults_of_table deck ++ faults_after part.Table 1 (pieces 10 deck)
 none_taken deck short = cond-false _ _ _ (le-ltb MOST_DECK_BYTES (length deck) short)
 
 -- no text line is left
 pub none_left : (p : DeckPart) (n : ℕ) (tally : Tallied) → with_all tally (faults_after p n []) ≡ tally
-unfolding faults_of_table faults_of_lines faults_of_records
-none_left (part.Table section) n tally = refl
+unfolding faults_after_table faults_of_lines faults_of_records
+none_left part.Table n tally = refl
 none_left part.Header n tally = refl
 none_left (part.Records closes seen) n tally = refl
 
 pub none_kept : (p : DeckPart) (n : ℕ) (kept : List Kept) → kept ++ kept_after p n [] ≡ kept
 unfolding kept_of_table kept_of_lines firsts_of_records
-none_kept (part.Table section) n kept = append-nil kept
+none_kept part.Table n kept = append-nil kept
 none_kept part.Header n kept = append-nil kept
 none_kept (part.Records closes seen) n kept = append-nil kept
 

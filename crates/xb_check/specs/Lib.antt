@@ -4,6 +4,9 @@ pub mod Findings
 pub mod Told
 pub mod Tallies
 pub mod Table
+pub mod Spots
+pub mod Walks
+pub mod Places
 pub mod Records
 pub mod Sites
 pub mod Alone

@@ -14,10 +14,9 @@ use Rattle.xb_check.specs.declared.finding.What.{What}
 use Rattle.xb_check.specs.declared.finding.What.TheVariants as what
 use Rattle.xb_check.specs.declared.records.Record.{Record}
 use Rattle.xb_check.specs.declared.records.Record.TheVariants as read
-use Rattle.xb_check.specs.declared.table.Section.{Section}
-use Rattle.xb_check.specs.declared.table.Section.TheVariants.{Top}
 use Rattle.xb_check.specs.Findings.{Found}
-use Rattle.xb_check.specs.Table.{after_blanks, section_after, squeezed, with_meant, without_mark, wrong_in_table}
+use Rattle.xb_check.specs.Places.{faults_of_table}
+use Rattle.xb_check.specs.Table.{with_meant}
 
 -- a record that has this fault
 abbrev pub record_of_fault : RowFault → Record
@@ -110,11 +109,11 @@ after_comma text = after_cut (cut_at 44 text)
 
 -- a text line from the field on that is wrong
 abbrev pub from_field : What → List ℕ → List ℕ
-from_field what.Table line = after_blanks (without_mark line)
-from_field what.TopKey line = after_blanks (without_mark line)
-from_field what.LimitKey line = after_blanks (without_mark line)
-from_field what.RouteKey line = after_blanks (without_mark line)
-from_field (what.Routes f) line = after_blanks (without_mark line)
+from_field what.Table line = line
+from_field what.TopKey line = line
+from_field what.LimitKey line = line
+from_field what.RouteKey line = line
+from_field (what.Routes f) line = line
 from_field what.Header line = line
 from_field what.Fields line = line
 from_field what.Line line = line
@@ -155,15 +154,14 @@ faults_of_lines n (line ∷ lines) =
     if is_empty line then faults_of_lines (n + 1) lines
     else found_at n line (with_meant (wrong_header line) None) ++ faults_of_records no_closes (n + 1) lines
 
--- the text lines from n on, of the table's section and before the line that cuts
-unfoldable pub faults_of_table : Section → ℕ → List (List ℕ) → List Found
-faults_of_table section n [] = []
-faults_of_table section n (line ∷ lines) =
-    if is_cut line then faults_of_lines (n + 1) lines
-    else found_at n line (wrong_in_table section (squeezed line))
-    ++ faults_of_table (section_after section (squeezed line)) (n + 1) lines
+-- the text lines from n on, where none before them is the line that cuts
+unfoldable pub faults_after_table : ℕ → List (List ℕ) → List Found
+faults_after_table n [] = []
+faults_after_table n (line ∷ lines) =
+    if is_cut line then faults_of_lines (n + 1) lines else faults_after_table (n + 1) lines
 
--- what is wrong in the text lines of a deck that is not too long, each read by itself
+-- what is wrong in a deck that is not too long: in its route table, and in each text line of its rows, read by itself
 abbrev pub faults_of_deck : List ℕ → List Found
 faults_of_deck deck =
-    if nat_lt MOST_DECK_BYTES (length deck) then [] else faults_of_table Top 1 (pieces 10 deck)
+    if nat_lt MOST_DECK_BYTES (length deck) then []
+    else faults_of_table deck ++ faults_after_table 1 (pieces 10 deck)

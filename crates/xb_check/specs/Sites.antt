@@ -1,6 +1,5 @@
--- Which text line the fault of a route table is about.
+-- Which spot of a route table its fault is about.
 use Rattle.std.specs.Prelude.{ℕ, ◌+◌, ◌==◌, ◌&&◌, List, [], ◌∷◌, Bool, true, false, if◌then◌else◌, nat_lt, is_some, Option, Some, None}
-use Rattle.xb_deck.specs.Deck.{is_cut}
 use Rattle.xb_deck.specs.declared.fault.DeckFault.{DeckFault}
 use Rattle.xb_deck.specs.declared.fault.DeckFault.TheVariants as deck_fault
 use Rattle.xb_routes.specs.LimitFaults.{limit_fault}
@@ -8,16 +7,18 @@ use Rattle.xb_routes.specs.declared.fault.LimitFault.{LimitFault}
 use Rattle.xb_routes.specs.declared.fault.LimitFault.TheVariants as broken
 use Rattle.xb_routes.specs.declared.fault.RouteFault.{RouteFault}
 use Rattle.xb_routes.specs.declared.fault.RouteFault.TheVariants as fault
-use Rattle.xb_text.specs.Pieces.{cut_at, pieces}
 use Rattle.xb_check.specs.declared.finding.What.TheVariants as what
 use Rattle.xb_check.specs.declared.key.Key.{Key}
 use Rattle.xb_check.specs.declared.key.Key.TheVariants as key
+use Rattle.xb_check.specs.declared.spots.Mark.{Mark}
+use Rattle.xb_check.specs.declared.spots.Mark.TheVariants as mark
+use Rattle.xb_check.specs.declared.spots.Spot.{Spot}
 use Rattle.xb_check.specs.declared.table.Section.{Section}
 use Rattle.xb_check.specs.declared.table.Section.TheVariants as section
 use Rattle.xb_check.specs.Findings.{Found}
-use Rattle.xb_check.specs.Keys.{key_named, keys_of}
-use Rattle.xb_check.specs.Records.{column_of}
-use Rattle.xb_check.specs.Table.{is_heading, section_after, squeezed}
+use Rattle.xb_check.specs.Keys.{key_named, key_text}
+use Rattle.xb_check.specs.Places.{found_there, table_of}
+use Rattle.xb_check.specs.Spots.{spots_of}
 
 -- the limits that a rule of limits is about
 abbrev pub limits_about : LimitFault → List Key
@@ -43,7 +44,7 @@ keys_about fault.NotToml = []
 keys_about fault.Plan = key.Plan ∷ []
 keys_about (fault.Limits n) = limits_of_rule (limit_fault n)
 keys_about fault.TooMany = []
-keys_about (fault.Shape n) = []
+keys_about (fault.Shape n) = if n == 0 then key.Route ∷ [] else []
 keys_about (fault.Code n) = key.Code ∷ []
 keys_about (fault.Trunk n) = key.Trunk ∷ []
 keys_about (fault.Delete n) = key.Delete ∷ []
@@ -80,41 +81,38 @@ is_none (k ∷ keys) = false
 abbrev pub is_about_heading : RouteFault → ℕ → Bool
 is_about_heading f route = is_none (keys_about f) && nat_lt 0 route && route == route_about f
 
--- whether it is about the key that a text line gives a value
-abbrev pub is_about_key : RouteFault → Section → ℕ → Option (List ℕ × List ℕ) → Bool
-is_about_key f section route None = false
-is_about_key f section route (Some parts) =
-    is_some (key_named parts.0 (keys_of section)) && is_some (key_named parts.0 (keys_about f))
-    && route == route_about f
+-- whether it is about a key
+abbrev pub is_about_key : RouteFault → Key → ℕ → Bool
+is_about_key f k route = is_some (key_named (key_text k) (keys_about f)) && route == route_about f
 
--- whether it is about a text line of a section, without its blanks
-abbrev pub is_about : RouteFault → Section → ℕ → List ℕ → Bool
-is_about f section route line =
-    if is_heading line then is_about_heading f route else is_about_key f section route (cut_at 61 line)
+abbrev pub is_not_toml : RouteFault → Bool
+is_not_toml fault.NotToml = true
+is_not_toml f = false
 
--- how many routes there are after a text line, which stands in a section
-abbrev pub routes_after : Section → ℕ → List ℕ → ℕ
-routes_after section routes line = if is_heading line then routes + route_here section 1 else routes
+-- whether it is about a spot of a section and a route
+abbrev pub is_about : RouteFault → ℕ → Mark → Bool
+is_about f route mark.Heading = is_about_heading f route
+is_about f route (mark.Named k) = is_about_key f k route
+is_about f route (mark.Unnamed near) = false
+is_about f route mark.Broken = is_not_toml f
 
-abbrev pub found_about : RouteFault → ℕ → List ℕ → Found
-found_about f n line =
-    record { line = n; column = column_of (what.Routes f) line; what = what.Routes f; meant = None; text = line }
+-- how many routes there are after a spot, which stands in a section
+abbrev pub routes_after : Section → ℕ → Mark → ℕ
+routes_after here routes mark.Heading = routes + route_here here 1
+routes_after here routes (mark.Named k) = routes
+routes_after here routes (mark.Unnamed near) = routes
+routes_after here routes mark.Broken = routes
 
--- the first of the text lines from n on that a fault is about, before the line that cuts; `section` and
--- `routes` are those before the first of them
-unfoldable pub first_about : RouteFault → Section → ℕ → ℕ → List (List ℕ) → Option Found
-first_about f section routes n [] = None
-first_about f section routes n (line ∷ lines) =
-    if is_cut line then None else
-    let read = squeezed line in
-    let here = section_after section read in
-    let count = routes_after here routes read in
-    if is_about f here (route_here here count) read then Some (found_about f n line)
-    else first_about f here count (n + 1) lines
+-- the first of these spots that a fault is about, after this many routes
+abbrev pub first_about : RouteFault → ℕ → List Spot → Option Spot
+first_about f routes [] = None
+first_about f routes (spot ∷ spots) =
+    let count = routes_after spot.section routes spot.mark in
+    if is_about f (route_here spot.section count) spot.mark then Some spot else first_about f count spots
 
-abbrev pub listed : Option Found → List Found
-listed None = []
-listed (Some found) = found ∷ []
+abbrev pub listed : List ℕ → RouteFault → Option Spot → List Found
+listed deck f None = []
+listed deck f (Some spot) = found_there deck spot.at (what.Routes f, None) ∷ []
 
 -- the fault of the route table, if it is by one that `mfbank` refuses a deck
 abbrev pub fault_of_table : DeckFault → Option RouteFault
@@ -125,7 +123,7 @@ fault_of_table (deck_fault.Routes f) = Some f
 fault_of_table (deck_fault.Rows f) = None
 fault_of_table deck_fault.NoMemory = None
 
--- what is told of a fault of the route table of a deck: the first text line that it is about
+-- what is told of a fault of the route table of a deck: the first spot that it is about
 abbrev pub told_of_table : Option RouteFault → List ℕ → List Found
 told_of_table None deck = []
-told_of_table (Some f) deck = listed (first_about f section.Top 0 1 (pieces 10 deck))
+told_of_table (Some f) deck = listed deck f (first_about f 0 (spots_of (table_of deck)))

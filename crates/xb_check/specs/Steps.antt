@@ -6,7 +6,7 @@ use Rattle.xb_check.specs.declared.lines.LinesRead.{LinesRead}
 use Rattle.xb_check.specs.Findings.{Found}
 use Rattle.xb_check.specs.Kept.{Kept, firsts_of_records, kept_line_of, kept_of_lines, kept_of_table, seen_of}
 use Rattle.xb_check.specs.Tallies.{Tallied, tallied, with_all}
-use Rattle.xb_check.specs.Records.{closed_of, faults_of_lines, faults_of_records, faults_of_table}
+use Rattle.xb_check.specs.Records.{closed_of, faults_after_table, faults_of_lines, faults_of_records}
 
 -- what is told of text lines, and which of them are kept
 pub record Lines : Type 0 where
@@ -18,13 +18,13 @@ lines_of lines = record { tally = tallied lines.tally; kept = map kept_line_of l
 
 -- what is wrong in the text lines from n on, of a part of a deck
 abbrev pub faults_after : DeckPart → ℕ → List (List ℕ) → List Found
-faults_after (part.Table section) n lines = faults_of_table section n lines
+faults_after part.Table n lines = faults_after_table n lines
 faults_after part.Header n lines = faults_of_lines n lines
 faults_after (part.Records closes seen) n lines = faults_of_records (closed_of closes) n lines
 
 -- those of them that are kept
 abbrev pub kept_after : DeckPart → ℕ → List (List ℕ) → List Kept
-kept_after (part.Table section) n lines = kept_of_table n lines
+kept_after part.Table n lines = kept_of_table n lines
 kept_after part.Header n lines = kept_of_lines n lines
 kept_after (part.Records closes seen) n lines = firsts_of_records (seen_of seen) n lines
 

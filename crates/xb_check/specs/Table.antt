@@ -18,11 +18,6 @@ is_blank byte = (byte == 32) || (byte == 9)
 abbrev pub without_blanks : List ℕ → List ℕ
 without_blanks text = filter (λ byte. not (is_blank byte)) text
 
--- what follows the blanks at the beginning of a text
-abbrev pub after_blanks : List ℕ → List ℕ
-after_blanks [] = []
-after_blanks (byte ∷ rest) = if is_blank byte then after_blanks rest else byte ∷ rest
-
 -- a text line without the byte order mark that the first may begin with
 abbrev pub without_mark : List ℕ → List ℕ
 without_mark line = if starts_with nat_eq line (0xEF ∷ 0xBB ∷ 0xBF ∷ []) then drop 3 line else line
@@ -35,27 +30,10 @@ squeezed line = without_blanks (without_mark line)
 abbrev pub is_bare : ℕ → Bool
 is_bare byte = is_ascii_alphanumeric byte || (byte == 95) || (byte == 45)
 
--- what stands before the first such byte; all where there is none
-abbrev pub before_cut : List ℕ → Option (List ℕ × List ℕ) → List ℕ
-before_cut text None = text
-before_cut text (Some parts) = parts.0
-
 -- a heading, as [limits]
 abbrev pub is_heading : List ℕ → Bool
 is_heading [] = false
 is_heading (byte ∷ rest) = byte == 91
-
--- whether rules name a key in a section; of another heading they may name any
-abbrev pub is_known : Section → List ℕ → Bool
-is_known section.Other text = true
-is_known section text = is_some (key_named text (keys_of section))
-
--- the section that a heading begins, by what stands before its first ]
-abbrev pub section_of : List ℕ → Section
-section_of name =
-    if bytes_eq name (codes "[[route") then section.Route
-    else if bytes_eq name (codes "[limits") then section.Limits
-    else section.Other
 
 -- a heading that no rule names
 abbrev pub wrong_heading : Section → Option What
@@ -71,36 +49,7 @@ unnamed section.Limits = what.LimitKey
 unnamed section.Route = what.RouteKey
 unnamed section.Other = what.Table
 
--- a key that no rule of its section names; nothing is none
-abbrev pub wrong_key : Section → Option (List ℕ × List ℕ) → Option What
-wrong_key section None = None
-wrong_key section (Some parts) =
-    if not (length parts.0 == 0) && list_all is_bare parts.0 && not (is_known section parts.0) then Some (unnamed section) else None
-
--- what is wrong with a text line of a section, without its blanks
-abbrev pub wrong_line : Section → List ℕ → Option What
-wrong_line section line =
-    if is_heading line then wrong_heading (section_of (before_cut line (cut_at 93 line)))
-    else wrong_key section (cut_at 61 line)
-
--- the key that a wrong key of a section may have meant
-abbrev pub meant_of_key : Section → Option (List ℕ × List ℕ) → Option Key
-meant_of_key section None = None
-meant_of_key section (Some parts) = nearest parts.0 (keys_of section)
-
-abbrev pub meant : Section → List ℕ → Option Key
-meant section line = if is_heading line then None else meant_of_key section (cut_at 61 line)
-
 -- what is wrong, with the key that may have been meant
 abbrev pub with_meant : Option What → Option Key → Option (What × Option Key)
 with_meant None key = None
 with_meant (Some wrong) key = Some (wrong, key)
-
--- the same of a text line of a section, without its blanks
-abbrev pub wrong_in_table : Section → List ℕ → Option (What × Option Key)
-wrong_in_table section line = with_meant (wrong_line section line) (meant section line)
-
--- the section after such a text line
-abbrev pub section_after : Section → List ℕ → Section
-section_after section line =
-    if is_heading line then section_of (before_cut line (cut_at 93 line)) else section

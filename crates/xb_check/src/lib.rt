@@ -1,8 +1,10 @@
 //! `mfcheck` but for its process: a deck in, what is wrong in it out, one line each, as compilers tell it.
 //!
-//! - `findings`: of the text lines of a deck, each read by itself and told with its number, exactly those that
-//!   are wrong (`faults_of_deck`, `specs/Records.antt`). Before the line `---` it is a key, or a heading, that
-//!   no rule names; after it a header or a record that no row is written by, with the field that is wrong. A
+//! - `findings`: exactly what is wrong in a deck (`faults_of_deck`, `specs/Records.antt`). Before the line `---` these are
+//!   the keys and headings that no rule names, of those that a walk over the route table meets (`spots_of`,
+//!   `specs/Spots.antt`), which reads keys, texts and scalars as TOML has them, each told where it stands (`place_of`,
+//!   `specs/Places.antt`). After it each text line is read by itself: the header, or a record, that no row is written
+//!   by, with the field that is wrong. A
 //!   record that goes over several text lines, which takes quotes, is told line by line. Each text line is read once:
 //!   the header, and the first record of each line of the office, are kept (`kept_of_deck`, `specs/Kept.antt`).
 //!   A record is also told that is ignored, since an earlier text line closed its line (`closed_after`), and one
@@ -14,9 +16,8 @@
 //!   route table alone (`is_table`, `specs/Alone.antt`), which is read as that of a deck (`judged`).
 //! - After its text lines a deck that is taken is told of as a whole (`doubts_of`, `specs/Doubts.antt`), at those that
 //!   were kept: each line of the office that has rows and no make that is heard, at its first record, and times that
-//!   look as if they were seconds or microseconds (`wrong_unit`). Of one that is refused by its route table the text line is
-//!   told that the fault is about (`told_of_table`, `specs/Sites.antt`), where keys and headings stand bare in text
-//!   lines of their own.
+//!   look as if they were seconds or microseconds (`wrong_unit`). Of one that is refused by its route table the place is
+//!   told that the fault is about, the first that the walk meets (`told_of_table`, `specs/Sites.antt`).
 //! - `check`, of readers and writers whose bytes contracts know: it is `Ok` exactly where the text is taken, and
 //!   `Refused` has its first fault; of both the writer got exactly the lines of what was told (`report_text`): of all that
 //!   was found, or of each kind the first ten, and how many more there are (`told`, `untold`, `specs/Told.antt`).
@@ -35,13 +36,16 @@ mod kept;
 mod key;
 pub mod laws;
 mod lines;
+mod place;
 mod program;
 mod records;
 mod reporting;
 mod sites;
+mod spots;
 mod table;
 mod tally;
 mod units;
+mod walk;
 mod words;
 
 pub use checking::check;

@@ -1,22 +1,24 @@
 // The text lines of a deck, each read once.
-ghost use Rattle.std.specs.Prelude.{◌≡◌, ◌≤◌, ◌++◌, ◌∷◌, [], IfOk, OnOk, length, map};
+ghost use Rattle.std.specs.Prelude.{◌≡◌, ℕ, ◌≤◌, ◌++◌, ◌∷◌, [], IfOk, OnOk, length, map};
 ghost use Rattle.xb_deck.specs.declared.deck.TheConstants.{MOST_DECK_BYTES};
 ghost use Rattle.xb_check.specs.declared.lines.DeckPart.TheVariants as part;
 ghost use Rattle.xb_check.specs.declared.records.Record.TheVariants as read;
 ghost use Rattle.xb_check.specs.Findings.{found_of};
 ghost use Rattle.xb_check.specs.Kept.{first_at, kept_at, kept_line_of, kept_of_deck, seen_after, seen_of};
 ghost use Rattle.xb_check.specs.Records.{closed_after, closed_of, faults_of_deck, is_empty};
-ghost use Rattle.xb_check.specs.Steps.{TakesLine, lines_of};
-ghost use Rattle.xb_check.specs.Tallies.{nothing_told, with_all};
+ghost use Rattle.xb_check.specs.Steps.{Lines, TakesLine, lines_of};
+ghost use Rattle.xb_check.specs.Places.{faults_of_table};
+ghost use Rattle.xb_check.specs.Tallies.{nothing_told, tallied, with_all};
 
 use crate::closes::Closes;
 use crate::finding::Finding;
 use crate::kept::{KeptLine, LineKind, Seen};
+use crate::place::{push_spots, table_of};
 use crate::records::{
     Record, push_found, record_of_line, what_of_record, without_key, wrong_header,
 };
-use crate::table::{Section, section_after, squeezed, wrong_in_table};
 use crate::tally::Tally;
+use crate::walk::spots_of;
 use std::alloc::{AllocError, Global};
 use xb_deck::is_cut;
 use xb_model::Contact;
@@ -25,8 +27,8 @@ use xb_text::first_piece;
 // The part of a deck in which a text line stands.
 #[derive(Drop)]
 pub(crate) enum DeckPart {
-    // A section of the route table.
-    Table(Section),
+    // The route table.
+    Table,
     // Before the header of the rows.
     Header,
     // After it, where these lines of the office were closed, and these have a record.
@@ -63,28 +65,15 @@ fn keep<'a>(
     Ok(())
 }
 
-// Takes text line `n` in a section of the route table.
-fn take_in_table<'a>(
-    alloc: Global,
-    lines: &mut LinesRead<'a>,
-    section: Section,
-    n: usize,
-    text: &'a [u8],
-) -> Result<DeckPart, AllocError>
-    ensures { IfOk result
-        (TakesLine (part.Table section) n text.now (lines_of lines.old) (lines_of lines.new)) }
+// The part of a deck after a text line of the route table.
+fn after_table(text: &[u8]) -> DeckPart
+    ensures { (n : ℕ) → (lines : Lines) → TakesLine part.Table n text.now lines lines result }
 {
     if is_cut(text) {
-        return Ok(DeckPart::Header);
+        DeckPart::Header
+    } else {
+        DeckPart::Table
     }
-    let read = squeezed(alloc, text)?;
-    push_found(
-        &mut lines.tally,
-        n,
-        text,
-        wrong_in_table(alloc, section, &read)?,
-    )?;
-    Ok(DeckPart::Table(section_after(section, &read)))
 }
 
 // Takes text line `n` before the header.
@@ -177,7 +166,7 @@ fn take_line<'a>(
     ensures { IfOk result (TakesLine part n text.now (lines_of lines.old) (lines_of lines.new)) }
 {
     match part {
-        DeckPart::Table(section) => take_in_table(alloc, lines, section, n, text),
+        DeckPart::Table => Ok(after_table(text)),
         DeckPart::Header => take_before_header(alloc, lines, n, text),
         DeckPart::Records(mut closes, mut seen) => {
             take_record(lines, &mut closes, &mut seen, n, text)?;
@@ -186,7 +175,18 @@ fn take_line<'a>(
     }
 }
 
-/// Reads the text lines of a deck, each by itself and once, and tells all that is wrong, or the first of each kind.
+// Reads the route table of a deck.
+fn read_table<'a>(alloc: Global, all: bool, deck: &'a [u8]) -> Result<Tally<'a>, AllocError>
+    requires { length deck.now ≤ MOST_DECK_BYTES }
+    ensures { IfOk result (λ tally. tallied tally ≡ with_all (nothing_told all) (faults_of_table deck.now)) }
+{
+    let mut tally = Tally::new(alloc, all);
+    let spots = spots_of(alloc, table_of(deck))?;
+    push_spots(&mut tally, deck, &spots)?;
+    Ok(tally)
+}
+
+/// Reads the route table of a deck, and its text lines, each by itself and once, and tells all that is wrong, or the first of each kind.
 pub(crate) fn read_lines<'a>(
     alloc: Global,
     all: bool,
@@ -197,10 +197,10 @@ pub(crate) fn read_lines<'a>(
         (lines_of lines).tally ≡ with_all (nothing_told all) (faults_of_deck deck.now)) }
     ensures kept { IfOk result (λ lines. (lines_of lines).kept ≡ kept_of_deck deck.now) }
 {
-    let tally = Tally::new(alloc, all);
+    let tally = read_table(alloc, all, deck)?;
     let kept = Vec::new(alloc);
     let mut lines = LinesRead { tally, kept };
-    let mut part = DeckPart::Table(Section::Top);
+    let mut part = DeckPart::Table;
     let mut n = 0;
     let mut left = Some(deck);
     while let Some(texts) = left {
@@ -212,7 +212,8 @@ pub(crate) fn read_lines<'a>(
     Ok(lines)
 }
 
-/// What is wrong in the text lines of a deck, each read by itself and told with its number. `Err` where memory ran out.
+/// What is wrong in a deck: the keys and headings of its route table that no rule names, and then its text lines after the
+/// one that cuts it, each read by itself. `Err` where memory ran out.
 pub fn findings<'a>(alloc: Global, deck: &'a [u8]) -> Result<Vec<Finding<'a>>, AllocError>
     requires { length deck.now ≤ MOST_DECK_BYTES }
     ensures { IfOk result (λ found. map found_of found.items ≡ faults_of_deck deck.now) }

@@ -9,7 +9,6 @@ ghost use Rattle.xb_check.specs.Tallies.{tallied, with_all};
 use crate::closes::Closes;
 use crate::finding::{Finding, What};
 use crate::key::Key;
-use crate::table::{after_blanks, without_mark};
 use crate::tally::Tally;
 use std::alloc::{AllocError, Global};
 use xb_model::{Contact, Row, RowFault, RowSource};
@@ -122,9 +121,16 @@ fn from_field(what: What, line: &[u8]) -> &[u8]
     ensures { result.now ≡ from_field what line.now }
 {
     match what {
-        What::Table | What::TopKey | What::LimitKey | What::RouteKey | What::Routes(_) =>
-            after_blanks(without_mark(line)),
-        What::Header | What::Fields | What::Line | What::Ignored(_) | What::Quiet => line,
+        What::Table
+        | What::TopKey
+        | What::LimitKey
+        | What::RouteKey
+        | What::Routes(_)
+        | What::Header
+        | What::Fields
+        | What::Line
+        | What::Ignored(_)
+        | What::Quiet => line,
         What::State => after_comma(line),
         What::Ms | What::Short | What::Seconds | What::Microseconds => {
             after_comma(after_comma(line))

@@ -1,22 +1,20 @@
-// Which text line the fault of a route table is about.
-ghost use Rattle.std.specs.Prelude.{◌≡◌, ◌≤◌, ◌<◌, ◌+◌, ◌^◌, IfOk, OnOk, Some, length, option_map};
+// Which spot of a route table its fault is about.
+ghost use Rattle.std.specs.Prelude.{◌≡◌, ◌≤◌, ◌<◌, ◌+◌, ◌^◌, OnOk, Some, length};
 ghost use Rattle.xb_deck.specs.declared.deck.TheConstants.{MOST_DECK_BYTES};
-ghost use Rattle.xb_check.specs.declared.table.Section.TheVariants.{Top};
-ghost use Rattle.xb_check.specs.Findings.{found_of};
-ghost use Rattle.xb_check.specs.Sites.{fault_of_table, first_about, is_about, is_about_heading, is_about_key, keys_about, limits_about, limits_of_rule, route_about, route_here, routes_after, told_of_table};
+ghost use Rattle.xb_check.specs.Sites.{fault_of_table, first_about, is_about, is_about_heading, is_about_key, is_not_toml, keys_about, limits_about, limits_of_rule, route_about, route_here, routes_after, told_of_table};
 ghost use Rattle.xb_check.specs.Tallies.{tallied, with_all};
 ghost use Rattle.xb_routes.specs.LimitFaults.{limit_fault};
-ghost use Rattle.xb_text.specs.Pieces.{cut_at, pieces};
 
-use crate::finding::{Finding, What};
-use crate::key::{Key, key_named, keys_of};
-use crate::records::column_of;
-use crate::table::{Section, is_heading, section_after, squeezed};
+use crate::finding::What;
+use crate::key::{Key, key_named};
+use crate::place::{finding_at, table_of};
+use crate::spots::{Mark, Spot};
+use crate::table::Section;
 use crate::tally::Tally;
+use crate::walk::spots_of;
 use std::alloc::{AllocError, Global};
-use xb_deck::{DeckFault, is_cut};
+use xb_deck::DeckFault;
 use xb_routes::{LimitFault, RouteFault};
-use xb_text::{cut_at, first_piece};
 
 // The limits that a rule of limits is about.
 fn limits_about(rule: LimitFault) -> &'static [Key]
@@ -58,6 +56,7 @@ fn keys_about(fault: RouteFault) -> &'static [Key]
         RouteFault::Trunk(_) => &[Key::Trunk],
         RouteFault::Delete(_) | RouteFault::NothingToKey(_) => &[Key::Delete],
         RouteFault::Prefix(_) => &[Key::Prefix],
+        RouteFault::Shape(0) => &[Key::Route],
         RouteFault::NotToml | RouteFault::TooMany | RouteFault::Shape(_) | RouteFault::NoMemory =>
             &[],
     }
@@ -97,80 +96,56 @@ fn is_about_heading(fault: RouteFault, route: usize) -> bool
     keys_about(fault).is_empty() && 0 < route && route == route_about(fault)
 }
 
-// Whether it is about the key that a text line gives a value.
-fn is_about_key(fault: RouteFault, section: Section, route: usize, line: &[u8]) -> bool
-    ensures { result ≡ is_about_key fault section route (cut_at 61 line.now) }
+// Whether it is about a key.
+fn is_about_key(fault: RouteFault, key: Key, route: usize) -> bool
+    ensures { result ≡ is_about_key fault key route }
 {
-    match cut_at(b'=', line) {
-        Some((text, _)) => {
-            key_named(text, keys_of(section)).is_some()
-                && key_named(text, keys_about(fault)).is_some()
-                && route == route_about(fault)
-        }
-        None => false,
+    key_named(key.text().as_bytes(), keys_about(fault)).is_some() && route == route_about(fault)
+}
+
+// Whether it is that the table is not TOML.
+fn is_not_toml(fault: RouteFault) -> bool
+    ensures { result ≡ is_not_toml fault }
+{
+    matches!(fault, RouteFault::NotToml)
+}
+
+// Whether it is about what stands at a spot of a route.
+fn is_about(fault: RouteFault, route: usize, mark: Mark) -> bool
+    ensures { result ≡ is_about fault route mark }
+{
+    match mark {
+        Mark::Heading => is_about_heading(fault, route),
+        Mark::Named(key) => is_about_key(fault, key, route),
+        Mark::Unnamed(_) => false,
+        Mark::Broken => is_not_toml(fault),
     }
 }
 
-// Whether it is about a text line of a section, given without its blanks.
-fn is_about(fault: RouteFault, section: Section, route: usize, line: &[u8]) -> bool
-    ensures { result ≡ is_about fault section route line.now }
-{
-    if is_heading(line) {
-        is_about_heading(fault, route)
-    } else {
-        is_about_key(fault, section, route, line)
-    }
-}
-
-// How many routes there are after a text line, which stands in a section.
-fn routes_after(section: Section, routes: usize, line: &[u8]) -> usize
+// How many routes there are after a spot, which stands in a section.
+fn routes_after(section: Section, routes: usize, mark: Mark) -> usize
     requires { routes + 1 < 2 ^ 64 }
-    ensures count { result ≡ routes_after section routes line.now }
+    ensures count { result ≡ routes_after section routes mark }
     ensures most { result ≤ routes + 1 }
 {
-    if is_heading(line) {
-        routes + route_here(section, 1)
-    } else {
-        routes
+    match mark {
+        Mark::Heading => routes + route_here(section, 1),
+        Mark::Named(_) | Mark::Unnamed(_) | Mark::Broken => routes,
     }
 }
 
-// The first text line of a deck that a fault of its route table is about.
-fn first_about<'a>(
-    alloc: Global,
-    fault: RouteFault,
-    deck: &'a [u8],
-) -> Result<Option<Finding<'a>>, AllocError>
-    requires { length deck.now ≤ MOST_DECK_BYTES }
-    ensures { IfOk result (λ found.
-        option_map found_of found ≡ first_about fault Top 0 1 (pieces 10 deck.now)) }
+// The first of these spots that a fault is about.
+fn first_about(fault: RouteFault, spots: &[Spot]) -> Option<Spot>
+    ensures { result ≡ first_about fault 0 spots.now }
 {
-    let mut section = Section::Top;
     let mut routes = 0;
-    let mut n = 0;
-    let mut left = Some(deck);
-    while let Some(lines) = left {
-        let (line, later) = first_piece(b'\n', lines);
-        n += 1;
-        if is_cut(line) {
-            return Ok(None);
+    for spot in spots {
+        routes = routes_after(spot.section, routes, spot.mark);
+        if is_about(fault, route_here(spot.section, routes), spot.mark) {
+            return Some(*spot);
         }
-        let read = squeezed(alloc, line)?;
-        section = section_after(section, &read);
-        routes = routes_after(section, routes, &read);
-        if is_about(fault, section, route_here(section, routes), &read) {
-            let what = What::Routes(fault);
-            return Ok(Some(Finding {
-                line: n,
-                column: column_of(what, line),
-                what,
-                meant: None,
-                text: line,
-            }));
-        }
-        left = later;
     }
-    Ok(None)
+    None
 }
 
 // The fault of the route table, if it is by one that a text is refused.
@@ -187,7 +162,7 @@ fn fault_of_table(fault: DeckFault) -> Option<RouteFault>
     }
 }
 
-// Puts the first text line of a deck that a fault of its route table is about after what was found.
+// Puts the first spot of a deck that a fault of its route table is about after what was found.
 fn push_told_of_table<'a>(
     alloc: Global,
     tally: &mut Tally<'a>,
@@ -198,8 +173,9 @@ fn push_told_of_table<'a>(
     ensures { OnOk result (tallied tally.new
         ≡ with_all (tallied tally.old) (told_of_table (Some fault) deck.now)) }
 {
-    if let Some(finding) = first_about(alloc, fault, deck)? {
-        tally.push(finding)?;
+    let spots = spots_of(alloc, table_of(deck))?;
+    if let Some(spot) = first_about(fault, &spots) {
+        tally.push(finding_at(deck, spot.at, What::Routes(fault)))?;
     }
     Ok(())
 }

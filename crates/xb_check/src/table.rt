@@ -1,13 +1,10 @@
-// Text lines of a route table, read by themselves.
-ghost use Rattle.std.specs.Prelude.{◌≡◌, IfOk, option_map};
+// The sections of a route table, and its text lines, read by themselves.
+ghost use Rattle.std.specs.Prelude.{◌≡◌, IfOk};
 ghost use Rattle.std.specs.List.{list_all};
-ghost use Rattle.xb_check.specs.Table.{after_blanks, before_cut, is_bare, is_blank, is_heading, is_known, meant, section_after, section_of, squeezed, unnamed, wrong_heading, wrong_in_table, wrong_key, without_blanks, without_mark, wrong_line};
-ghost use Rattle.xb_text.specs.Pieces.{cut_at};
+ghost use Rattle.xb_check.specs.Table.{is_bare, is_blank, is_heading, squeezed, unnamed, without_blanks, without_mark, wrong_heading};
 
 use crate::finding::What;
-use crate::key::{Key, key_named, keys_of, nearest};
 use std::alloc::{AllocError, Global};
-use xb_text::cut_at;
 
 /// Where a key of a route table stands.
 #[derive(Clone, Copy, Debug, PartialEq, Eq)]
@@ -41,20 +38,6 @@ pub(crate) fn without_mark(line: &[u8]) -> &[u8]
     } else {
         line
     }
-}
-
-/// What follows the blanks at the beginning of a text.
-pub(crate) fn after_blanks(text: &[u8]) -> &[u8]
-    ensures { result.now ≡ after_blanks text.now }
-{
-    let mut left = text;
-    while let [first, rest @ ..] = left {
-        if !is_blank(*first) {
-            break;
-        }
-        left = rest;
-    }
-    left
 }
 
 // A text without its blanks.
@@ -96,18 +79,6 @@ pub(crate) fn is_bare(key: &[u8]) -> bool
     true
 }
 
-// Whether a key is one that rules name in its section.
-fn is_known(section: Section, text: &[u8]) -> bool
-    ensures { result ≡ is_known section text.now }
-{
-    match section {
-        Section::Top | Section::Limits | Section::Route => {
-            key_named(text, keys_of(section)).is_some()
-        }
-        Section::Other => true,
-    }
-}
-
 /// Whether a text line begins a section.
 pub(crate) fn is_heading(line: &[u8]) -> bool
     ensures { result ≡ is_heading line.now }
@@ -118,25 +89,8 @@ pub(crate) fn is_heading(line: &[u8]) -> bool
     }
 }
 
-// The section that a heading begins.
-fn section_of(line: &[u8]) -> Section
-    ensures { result ≡ section_of (before_cut line.now (cut_at 93 line.now)) }
-{
-    let name = match cut_at(b']', line) {
-        Some((name, _)) => name,
-        None => line,
-    };
-    if name == b"[[route".as_slice() {
-        Section::Route
-    } else if name == b"[limits".as_slice() {
-        Section::Limits
-    } else {
-        Section::Other
-    }
-}
-
-// What is wrong with the heading of a section.
-fn wrong_heading(section: Section) -> Option<What>
+/// What is wrong with the heading of a section.
+pub(crate) fn wrong_heading(section: Section) -> Option<What>
     ensures { result ≡ wrong_heading section }
 {
     match section {
@@ -145,8 +99,8 @@ fn wrong_heading(section: Section) -> Option<What>
     }
 }
 
-// What is said of a key that no rule of its section names.
-fn unnamed(section: Section) -> What
+/// What is said of a key that no rule of its section names.
+pub(crate) fn unnamed(section: Section) -> What
     ensures { result ≡ unnamed section }
 {
     match section {
@@ -154,66 +108,5 @@ fn unnamed(section: Section) -> What
         Section::Limits => What::LimitKey,
         Section::Route => What::RouteKey,
         Section::Other => What::Table,
-    }
-}
-
-// What is wrong with the key that a text line gives a value.
-fn wrong_key(section: Section, line: &[u8]) -> Option<What>
-    ensures { result ≡ wrong_key section (cut_at 61 line.now) }
-{
-    let (key, _) = cut_at(b'=', line)?;
-    if !key.is_empty() && is_bare(key) && !is_known(section, key) {
-        Some(unnamed(section))
-    } else {
-        None
-    }
-}
-
-// What is wrong with a text line of a section, given without its blanks.
-fn wrong_line(section: Section, line: &[u8]) -> Option<What>
-    ensures { result ≡ wrong_line section line.now }
-{
-    if is_heading(line) {
-        wrong_heading(section_of(line))
-    } else {
-        wrong_key(section, line)
-    }
-}
-
-// The key that a wrong text line of a section may have meant.
-fn meant(alloc: Global, section: Section, line: &[u8]) -> Result<Option<Key>, AllocError>
-    ensures { IfOk result (λ key. key ≡ meant section line.now) }
-{
-    if is_heading(line) {
-        return Ok(None);
-    }
-    match cut_at(b'=', line) {
-        Some((text, _)) => nearest(alloc, text, section),
-        None => Ok(None),
-    }
-}
-
-/// What is wrong with a text line of a section, given without its blanks, and the key that may have been meant.
-pub(crate) fn wrong_in_table(
-    alloc: Global,
-    section: Section,
-    line: &[u8],
-) -> Result<Option<(What, Option<Key>)>, AllocError>
-    ensures { IfOk result (λ wrong. wrong ≡ wrong_in_table section line.now) }
-{
-    match wrong_line(section, line) {
-        Some(what) => Ok(Some((what, meant(alloc, section, line)?))),
-        None => Ok(None),
-    }
-}
-
-/// The section after such a text line.
-pub(crate) fn section_after(section: Section, line: &[u8]) -> Section
-    ensures { result ≡ section_after section line.now }
-{
-    if is_heading(line) {
-        section_of(line)
-    } else {
-        section
     }
 }

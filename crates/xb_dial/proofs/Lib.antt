@@ -5,6 +5,5 @@ pub mod HeardNumbers
 pub mod RowsOfLines
 pub mod Turns
 pub mod TextLines
-pub mod CallFields
 pub mod Pulses
 pub mod LinesOfCalls

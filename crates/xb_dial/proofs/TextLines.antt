@@ -12,11 +12,14 @@ use Rattle.xb_text.specs.Pieces.{pieces}
 use Rattle.xb_model.specs.Fields.{line_of}
 use Rattle.xb_dial.specs.declared.fault.CallFault.{CallFault}
 use Rattle.xb_dial.specs.declared.fault.CallFault.TheVariants as fault
+use Rattle.xb_dial.specs.declared.wrong_byte.WrongByte.{WrongByte}
 use Rattle.xb_dial.specs.Calls.{DialledCall, call_of}
-use Rattle.xb_dial.specs.CallTexts.{call_and_rest, call_of_digits, call_of_line, call_unless, calls_from, calls_of_text, digits_of, is_passed_over, length_fault, line_feed, number_fault, or_fault, or_wrong_digit, text_lines, two_fields}
+use Rattle.xb_dial.specs.CallTexts.{call_and_rest, call_of_digits, call_of_line, call_unless, calls_from, calls_of_text, digits_of, is_wrong, length_fault, number_fault, or_fault, two_fields, unless_wrong}
 use Rattle.xb_dial.specs.Heard.{AreComplete}
+use Rattle.xb_dial.specs.Lists.{is_passed_over, line_feed, text_lines}
 use Rattle.xb_dial.specs.ToldFields.{told}
 use Rattle.xb_dial.specs.TextLines.{StopsBy, TakesLine, after}
+use Rattle.xb_dial.specs.WrongBytes.{first_wrong}
 
 some_is : {A : Type 0} {x y : A} → Some x ≡ Some y → x ≡ y
 some_is {A} {x} {y} e = ap (λ o. unwrap_or o x) e
@@ -103,24 +106,26 @@ complete-digits plan n line (digit ∷ digits) read is =
     complete-unless plan (number_fault (Some plan) n (digit ∷ digits)) (call_of line (digit ∷ digits)) read is
     (complete-length n (plan_len plan (digit ∷ digits)) (length (digit ∷ digits)))
 
-complete-wrong : (plan : Plan) (n line : ℕ) (digits : Option (List ℕ)) (read : DialledCall)
-    → or_wrong_digit n digits (λ d. call_of_digits (Some plan) n line d) ≡ Ok read
+complete-wrong : (plan : Plan) (n line : ℕ) (wrong : Option WrongByte) (digits : List ℕ) (read : DialledCall)
+    → unless_wrong n wrong (call_of_digits (Some plan) n line digits) ≡ Ok read
     → is_complete plan read.digits ≡ true
-complete-wrong plan n line None read is = absurd (err_is is)
-complete-wrong plan n line (Some digits) read is = complete-digits plan n line digits read is
+complete-wrong plan n line (Some wrong) digits read is = absurd (err_is is)
+complete-wrong plan n line None digits read is = complete-digits plan n line digits read is
 
-complete-fields : (plan : Plan) (n : ℕ) (field : List ℕ) (line : Option ℕ) (digits : Option (List ℕ)) (read : DialledCall)
-    → or_fault (fault.Line n (told field)) line (λ l. or_wrong_digit n digits (λ d. call_of_digits (Some plan) n l d))
+complete-fields : (plan : Plan) (n : ℕ) (field : List ℕ) (line : Option ℕ) (wrong : Option WrongByte) (digits : List ℕ)
+    (read : DialledCall)
+    → or_fault (fault.Line n (told field)) line (λ l. unless_wrong n wrong (call_of_digits (Some plan) n l digits))
     ≡ Ok read
     → is_complete plan read.digits ≡ true
-complete-fields plan n field None digits read is = absurd (err_is is)
-complete-fields plan n field (Some line) digits read is = complete-wrong plan n line digits read is
+complete-fields plan n field None wrong digits read is = absurd (err_is is)
+complete-fields plan n field (Some line) wrong digits read is = complete-wrong plan n line wrong digits read is
 
 complete-call : (plan : Plan) (n : ℕ) (line : List ℕ) (read : DialledCall)
     → call_of_line (Some plan) n line ≡ Ok read
     → is_complete plan read.digits ≡ true
 complete-call plan n line read is =
-    complete-fields plan n (two_fields line).0 (line_of (two_fields line).0) (digits_of (two_fields line).1) read is
+    complete-fields plan n (two_fields line).0 (line_of (two_fields line).0) (first_wrong is_wrong line)
+    (digits_of (two_fields line).1) read is
 
 complete-rest : (plan : Plan) (first : Result DialledCall CallFault)
     (rest : Result (List DialledCall) CallFault)

@@ -1,57 +1,34 @@
 -- The text of calls: one in each text line, as `7 234-5678`.
-use Rattle.std.specs.Prelude.{◌≡◌, ◌⊎◌, ℕ, ◌+◌, ◌-◌, ◌==◌, ◌||◌, not, nat_lt, if◌then◌else◌, List, [], ◌∷◌, map, length, Bool, true, Option, Some, None, Result, Ok, Err}
-use Rattle.std.specs.List.{filter}
+use Rattle.std.specs.Prelude.{◌≡◌, ◌⊎◌, ℕ, ◌+◌, ◌==◌, ◌&&◌, not, nat_lt, if◌then◌else◌, List, [], ◌∷◌, take, drop, length, Bool, Option, Some, None, Result, Ok, Err}
+use Rattle.std.specs.Char.{is_ascii_digit}
+use Rattle.std.specs.List.{filter_map, position}
 use Rattle.std.specs.Option.{unwrap_or}
-use Rattle.std.specs.Str.{all_ascii_digits}
-use Rattle.std.specs.Str.Lines.{strip_carriage_return}
 use Rattle.xb_model.specs.declared.plan.Plan.{Plan}
-use Rattle.xb_model.specs.Page.{zero_byte}
+use Rattle.xb_model.specs.Digits.{digit_of_ascii}
 use Rattle.xb_model.specs.Plans.{plan_len}
-use Rattle.xb_text.specs.Pieces.{cut_at, pieces}
 use Rattle.xb_model.specs.Fields.{line_of}
 use Rattle.xb_dial.specs.declared.fault.CallFault.{CallFault}
 use Rattle.xb_dial.specs.declared.fault.CallFault.TheVariants as fault
+use Rattle.xb_dial.specs.declared.wrong_byte.WrongByte.{WrongByte}
 use Rattle.xb_dial.specs.Calls.{DialledCall, call_of}
+use Rattle.xb_dial.specs.Lists.{after_blanks, is_blank, is_grouping, is_passed_over, text_lines}
 use Rattle.xb_dial.specs.ToldFields.{told}
+use Rattle.xb_dial.specs.WrongBytes.{first_wrong}
 
--- the bytes that set things apart: LF, space, hyphen, #
-abbrev pub line_feed : ℕ
-line_feed = 10
-
-abbrev pub space : ℕ
-space = 32
-
-abbrev pub hyphen : ℕ
-hyphen = 45
-
-abbrev pub hash : ℕ
-hash = 35
-
--- text lines end at LF or at the end of the text; one CR before that end is dropped
-abbrev pub text_lines : List ℕ → List (List ℕ)
-text_lines text = map strip_carriage_return (pieces line_feed text)
-
--- an empty line, or one that begins with #
-abbrev pub is_passed_over : List ℕ → Bool
-is_passed_over [] = true
-is_passed_over (byte ∷ rest) = byte == hash
-
--- the two fields of a text line, with a space between them
+-- the two fields of a text line: what stands before the first blank that is not at its beginning, and what follows
 abbrev pub two_fields : List ℕ → List ℕ × List ℕ
-two_fields line = unwrap_or (cut_at space line) (line, [])
+two_fields line =
+    let call = after_blanks line in
+    let n = unwrap_or (position is_blank call) (length call) in
+    (take n call, drop n call)
 
--- digits may be grouped by spaces and hyphens
-abbrev pub is_grouping : ℕ → Bool
-is_grouping byte = (byte == space) || (byte == hyphen)
+-- a byte of a text line that is neither a digit, nor groups digits
+abbrev pub is_wrong : ℕ → Bool
+is_wrong byte = not (is_grouping byte) && not (is_ascii_digit byte)
 
-abbrev pub digit_bytes : List ℕ → List ℕ
-digit_bytes field = filter (λ byte. not (is_grouping byte)) field
-
--- the digits that a field writes, where it has no other byte
-abbrev pub digits_of : List ℕ → Option (List ℕ)
-digits_of field =
-    if all_ascii_digits (digit_bytes field) then Some (map (λ byte. byte - zero_byte) (digit_bytes field))
-    else None
+-- the digits that a field writes
+abbrev pub digits_of : List ℕ → List ℕ
+digits_of field = filter_map digit_of_ascii field
 
 -- of so many digits, whose number has this length: they are fewer, or more
 abbrev pub length_fault : ℕ → Option ℕ → ℕ → Option CallFault
@@ -80,20 +57,17 @@ abbrev pub or_fault : CallFault → Option ℕ → (ℕ → Result DialledCall C
 or_fault f None next = Err f
 or_fault f (Some x) next = next x
 
-abbrev pub or_wrong_digit : ℕ → Option (List ℕ) → (List ℕ → Result DialledCall CallFault)
-    → Result DialledCall CallFault
-or_wrong_digit n None next = Err (fault.Digit n)
-or_wrong_digit n (Some digits) next = next digits
+-- no byte is wrong, or else the first that is
+abbrev pub unless_wrong : ℕ → Option WrongByte → Result DialledCall CallFault → Result DialledCall CallFault
+unless_wrong n None call = call
+unless_wrong n (Some wrong) call = Err (fault.Digit n wrong)
 
 -- the call of text line n, or its first fault: line, digits, number
-abbrev pub call_of_fields : Option Plan → ℕ → List ℕ × List ℕ → Result DialledCall CallFault
-call_of_fields whole n fields =
-    or_fault (fault.Line n (told fields.0)) (line_of fields.0) (λ line.
-    or_wrong_digit n (digits_of fields.1) (λ digits.
-    call_of_digits whole n line digits))
-
 abbrev pub call_of_line : Option Plan → ℕ → List ℕ → Result DialledCall CallFault
-call_of_line whole n line = call_of_fields whole n (two_fields line)
+call_of_line whole n text =
+    let fields = two_fields text in
+    or_fault (fault.Line n (told fields.0)) (line_of fields.0) (λ line.
+    unless_wrong n (first_wrong is_wrong text) (call_of_digits whole n line (digits_of fields.1)))
 
 -- a call before the later ones, or the first fault
 abbrev pub call_and_rest : Result DialledCall CallFault → Result (List DialledCall) CallFault
@@ -116,7 +90,3 @@ calls_of_text whole text = calls_from whole 1 (text_lines text)
 -- memory ran out, or this is the fault
 abbrev pub IsFaultOf : {T : Type 0} → Result T CallFault → CallFault → Type 0
 IsFaultOf says f = (f ≡ fault.NoMemory) ⊎ (says ≡ Err f)
-
--- memory ran out, or one of the bytes is no digit
-abbrev pub IsWrongDigit : ℕ → Option (List ℕ) → CallFault → Type 0
-IsWrongDigit n digits f = (f ≡ fault.NoMemory) ⊎ ((digits ≡ None) × (f ≡ fault.Digit n))

@@ -4,6 +4,8 @@ pub mod Dialling
 pub mod Heard
 pub mod LineRows
 pub mod ToldFields
+pub mod Lists
+pub mod WrongBytes
 pub mod CallTexts
 pub mod TextLines
 pub mod WorkedCalls

@@ -3,6 +3,7 @@ ghost use Rattle.std.specs.Prelude.{◌≡◌};
 
 use crate::speed::SpeedFault;
 use crate::told::ToldField;
+use crate::wrong_byte::WrongByte;
 use std::alloc::AllocError;
 use thiserror::Error;
 use xb_model::RowFault;
@@ -11,12 +12,12 @@ use xb_text::{ReadFault, WriteFault};
 /// Why a text gives no calls: the first fault, with its text line, counted from 1.
 #[derive(Debug, Drop, Error)]
 pub enum CallFault {
-    /// What stands before the first space is not 1 to 4 digits. It is told (`ToldField`).
+    /// What stands before the first blank that follows anything is not 1 to 4 digits. It is told (`ToldField`).
     #[error("text line {0}: \"{1}\" is no line of 0 to 9999")]
     Line(u32, ToldField),
-    /// Among the digits is a byte that is no digit, space or hyphen.
-    #[error("text line {0} has a wrong digit")]
-    Digit(u32),
+    /// After the line stands a byte that is no digit, blank or hyphen. The first is told (`WrongByte`).
+    #[error("text line {0} has a wrong digit {1}")]
+    Digit(u32, WrongByte),
     /// There is no digit.
     #[error("text line {0} has no digits")]
     NoDigits(u32),

@@ -1,55 +1,49 @@
 // What one text line of calls writes.
-ghost use Rattle.std.specs.Prelude.{◌≡◌, IfOk, IfErr, Some, Ok};
-ghost use Rattle.std.specs.Str.Lines.{strip_carriage_return};
-ghost use Rattle.xb_dial.specs.CallTexts.{IsFaultOf, IsWrongDigit, call_of_line, digits_of, is_grouping, is_passed_over, number_fault, two_fields};
+ghost use Rattle.std.specs.Prelude.{◌≡◌, IfOk, IfErr, Ok, position};
+ghost use Rattle.xb_dial.specs.CallTexts.{IsFaultOf, call_of_digits, call_of_line, digits_of, is_wrong, number_fault, two_fields};
+ghost use Rattle.xb_dial.specs.Lists.{is_blank};
+ghost use Rattle.xb_dial.specs.WrongBytes.{first_wrong};
 
 use crate::call::Call;
 use crate::fault::CallFault;
+use crate::lists::{add_digit, after_blanks, is_blank, is_grouping};
 use crate::told::ToldField;
-use std::alloc::Global;
-use xb_model::{Digit, Plan, line_of, plan_len};
-use xb_text::cut_at;
+use crate::wrong_byte::WrongByte;
+use std::alloc::{AllocError, Global};
+use xb_model::{Digit, LineNo, Plan, line_of, plan_len};
 
-/// A text line without one CR at its end.
-pub fn strip_carriage_return(line: &[u8]) -> &[u8]
-    ensures { result.now ≡ strip_carriage_return line.now }
+// Whether a byte of a text line is neither a digit, nor groups digits.
+fn is_wrong(byte: u8) -> bool
+    ensures { result ≡ is_wrong byte }
 {
-    match line {
-        [rest @ .., b'\r'] => rest,
-        _ => line,
-    }
+    !is_grouping(byte) && !byte.is_ascii_digit()
 }
 
-/// Whether a text line is empty, or a comment, which begins with `#`.
-pub fn is_passed_over(line: &[u8]) -> bool
-    ensures { result ≡ is_passed_over line.now }
+// The index of the first byte of a text line that is wrong.
+fn place_of_wrong(line: &[u8]) -> Option<usize>
+    ensures { result ≡ position is_wrong line.now }
 {
-    match line {
-        [] => true,
-        [first, ..] => *first == b'#',
-    }
+    line.iter().position(|byte| is_wrong(*byte))
 }
 
-/// Whether a byte groups digits: a space or a hyphen.
-pub fn is_grouping(byte: u8) -> bool
-    ensures { result ≡ is_grouping byte }
+// The first byte of a text line that is wrong.
+fn first_wrong(line: &[u8]) -> Option<WrongByte>
+    ensures { result ≡ first_wrong is_wrong line.now }
 {
-    byte == b' ' || byte == b'-'
+    let at = place_of_wrong(line)?;
+    Some(WrongByte {
+        place: at + 1,
+        byte: line[at],
+    })
 }
 
 // The digits that a field writes.
-fn digits_of(alloc: Global, n: u32, field: &[u8]) -> Result<Vec<Digit>, CallFault>
-    ensures digits { IfOk result (λ digits. digits_of field.now ≡ Some digits.items) }
-    ensures fault { IfErr result (λ f. IsWrongDigit n (digits_of field.now) f) }
+fn digits_of(alloc: Global, field: &[u8]) -> Result<Vec<Digit>, AllocError>
+    ensures { IfOk result (λ digits. digits.items ≡ digits_of field.now) }
 {
     let mut digits = Vec::new(alloc);
     for byte in field {
-        if !is_grouping(*byte) {
-            let digit = Digit::from_ascii(*byte).ok_or(CallFault::Digit(n))?;
-            if digits.push(digit).is_err() {
-                return Err(CallFault::NoMemory);
-            }
-        }
+        add_digit(&mut digits, Digit::from_ascii(*byte))?;
     }
     Ok(digits)
 }
@@ -65,11 +59,40 @@ fn number_fault(whole: Option<Plan>, n: u32, digits: &[Digit]) -> Option<CallFau
     }
 }
 
+// The index of the first blank of a text.
+fn place_of_blank(text: &[u8]) -> Option<usize>
+    ensures { result ≡ position is_blank text.now }
+{
+    text.iter().position(|byte| is_blank(*byte))
+}
+
 // The two fields of a text line.
 fn two_fields(line: &[u8]) -> (&[u8], &[u8])
     ensures { (result.0.now, result.1.now) ≡ two_fields line.now }
 {
-    cut_at(b' ', line).unwrap_or((line, &[]))
+    let call = after_blanks(line);
+    match place_of_blank(call) {
+        Some(n) => (&call[..n], &call[n..]),
+        None => (call, &[]),
+    }
+}
+
+// The call of these digits on a line, or why they are no number.
+fn call_of_digits(
+    whole: Option<Plan>,
+    n: u32,
+    line: LineNo,
+    digits: Vec<Digit>,
+) -> Result<Call, CallFault>
+    ensures { result ≡ call_of_digits whole n line digits.items }
+{
+    if digits.is_empty() {
+        return Err(CallFault::NoDigits(n));
+    }
+    match number_fault(whole, n, &digits) {
+        None => Ok(Call::new(line, digits)),
+        Some(fault) => Err(fault),
+    }
 }
 
 /// The call of text line `n`, or its first fault: line, digits, number.
@@ -86,12 +109,11 @@ pub(crate) fn call_of_line(
     let Some(line) = line_of(first) else {
         return Err(CallFault::Line(n, ToldField::of(first)));
     };
-    let digits = digits_of(alloc, n, field)?;
-    if digits.is_empty() {
-        return Err(CallFault::NoDigits(n));
+    if let Some(wrong) = first_wrong(text) {
+        return Err(CallFault::Digit(n, wrong));
     }
-    match number_fault(whole, n, &digits) {
-        None => Ok(Call::new(line, digits)),
-        Some(fault) => Err(fault),
+    match digits_of(alloc, field) {
+        Ok(digits) => call_of_digits(whole, n, line, digits),
+        Err(_) => Err(CallFault::NoMemory),
     }
 }

@@ -17,7 +17,7 @@ pub fn both_orders()
 {}
 
 /// The calls of some texts, and each fault.
-#[tactic(auto, unfolding(crate::specs::CallTexts::calls_from))]
+#[tactic(auto, unfolding(crate::specs::CallTexts::calls_from, csv::specs::Reading::strip_bom))]
 pub fn calls_of_texts()
     ensures { CallsOfTexts }
 {}

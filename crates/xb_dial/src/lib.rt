@@ -9,7 +9,8 @@
 //!   `Speed::ten` and `twenty` fit the standard limits.
 //! - `calls_of_text`: the calls of the text, or, unless memory ran out, its first fault with its text line,
 //!   and with what stands there in place of a line; with a plan, each number is complete by it.
-//! - `strip_carriage_return`, `is_passed_over` and `is_grouping`: what texts of calls and of numbers share.
+//! - `without_mark`, `strip_carriage_return`, `is_passed_over`, `is_grouping` and `add_digit`: what texts of calls and
+//!   of numbers share. `WrongByte`: a byte that may not stand there, and its place.
 //! - `dial`, of readers and writers whose bytes a contract can name: on `Ok` the writer got exactly the
 //!   text of the rows that dial the calls of the text; by the plan, if one is asked for, exactly the
 //!   numbers of each line are heard by the standard limits, and keyed. On `Write` it got the beginning, on
@@ -24,6 +25,7 @@ mod fault;
 mod fields;
 pub mod laws;
 mod lines;
+mod lists;
 mod order;
 mod program;
 mod reading;
@@ -32,15 +34,17 @@ mod runs;
 mod speed;
 mod told;
 mod words;
+mod wrong_byte;
 
 pub use call::Call;
 pub use dialling::dial;
 pub use fault::{CallFault, DialFault};
-pub use fields::{is_grouping, is_passed_over, strip_carriage_return};
 pub use lines::rows_of_calls;
+pub use lists::{add_digit, is_grouping, is_passed_over, strip_carriage_return, without_mark};
 pub use order::RowOrder;
 pub use program::attend;
 pub use reading::{MOST_TEXT_BYTES, calls_of_text};
 pub use request::Request;
 pub use speed::{Speed, SpeedFault};
 pub use told::{MOST_TOLD_BYTES, ToldField};
+pub use wrong_byte::WrongByte;

@@ -6,7 +6,8 @@ ghost use Rattle.xb_dial.specs.TextLines.{StopsBy, TakesLine};
 
 use crate::call::Call;
 use crate::fault::CallFault;
-use crate::fields::{call_of_line, is_passed_over, strip_carriage_return};
+use crate::fields::call_of_line;
+use crate::lists::{is_passed_over, strip_carriage_return, without_mark};
 use std::alloc::Global;
 use xb_model::Plan;
 use xb_text::first_piece;
@@ -35,10 +36,11 @@ fn take_line(
     Ok(())
 }
 
-/// The calls of a text, one in each text line, or its first fault: the line, a space, and the digits,
-/// which may be grouped by spaces and hyphens, as `7 234-5678`. A text line ends at LF or at the end
-/// of the text, and one CR before that end is dropped; it is passed over where it is empty or begins
-/// with `#`. With a plan each number has to be complete by it, and may not go on after that.
+/// The calls of a text, one in each text line, or its first fault: the line, a blank, and the digits, which may be
+/// grouped by blanks and hyphens, as `7 234-5678`. Blanks are spaces and tabs, and may stand before the line too. A
+/// text line ends at LF or at the end of the text, and one CR before that end is dropped; it is passed over where
+/// nothing follows its blanks, or a `#`. A byte order mark at the beginning of the text is dropped. With a plan each
+/// number has to be complete by it, and may not go on after that.
 pub fn calls_of_text(
     alloc: Global,
     text: &[u8],
@@ -51,7 +53,8 @@ pub fn calls_of_text(
 {
     let mut calls = Vec::new(alloc);
     let mut n = 0;
-    let mut left = Some(text);
+    let plain = without_mark(text);
+    let mut left = Some(plain);
     while let Some(lines) = left {
         let (line, later) = first_piece(b'\n', lines);
         n += 1;

@@ -10,6 +10,10 @@ pub mod AloneLines
 pub mod Recordings
 pub mod Fed
 pub mod Stopped
+pub mod PieceStops
+pub mod Pieces
+pub mod Ended
+pub mod Wholes
 pub mod Listened
 pub mod Attended
 pub mod ToldForms

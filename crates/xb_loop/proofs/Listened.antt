@@ -8,8 +8,7 @@ use Rattle.xb_text.proofs.Beginnings.{AppendsBeginning-first, AppendsBeginning-s
 use Rattle.xb_rows.specs.WrittenRows.{text_of_rows}
 use Rattle.xb_contact.specs.declared.event.Event.{Event}
 use Rattle.xb_recording.specs.declared.format.Format.{Format}
-use Rattle.xb_recording.specs.Beginnings.{form_told}
-use Rattle.xb_loop.specs.Beginnings.{IsUntold}
+use Rattle.xb_loop.specs.Beginnings.{IsUntold, TellsForm}
 use Rattle.xb_loop.specs.BounceLines.{bounces_told}
 use Rattle.xb_loop.specs.declared.feed.Intake.{Intake}
 use Rattle.xb_loop.specs.declared.fault.RecordingFault.{RecordingFault}
@@ -30,7 +29,7 @@ form_untold request before fault (Some text) out none untold = inl (Keeps-refl o
 
 pub form_of :
     (request : Request) (format : Format) (input : Option (List ℕ)) → IfSome request.format (λ named. format ≡ named)
-    → IfSome input (λ text. IfNone request.format (form_told text ≡ Some format))
+    → IfSome input (λ text. IfNone request.format (TellsForm text format))
     → IfSome input (λ text. IsOfForm request text format)
 form_of request format None asked told = tt
 form_of request format (Some text) asked told = record { asked = asked; told = told }

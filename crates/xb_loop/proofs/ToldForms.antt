@@ -1,16 +1,22 @@
 -- Whether the beginning of a recording tells its form.
-use Rattle.std.proofs.Common.{◌≡◌, ℕ, ◌+◌, ◌≤◌, List, [], ◌++◌, Bool, Option, Some, None, true, refl, ap, sym, subst, ◌∙◌, append_assoc, drop, inl, inr, length, take, take-append-drop, arith, length-append, append-nil, nat_eq, false, ◌<◌, ◌-◌}
-use Rattle.std.specs.Prelude.{IfSome}
+use Rattle.std.proofs.Common.{◌≡◌, ℕ, ◌+◌, ◌-◌, ◌<◌, ◌≤◌, List, [], ◌++◌, Bool, true, false, cond, Option, Some, None, nat_eq, nat_le, min, refl, ap, sym, subst, ◌∙◌, append_assoc, append-nil, inl, inr, true≢false, arith, drop, length, length-append, length-take, take, take-append-drop}
+use Rattle.std.proofs.Math.Bool.{and-false}
+use Rattle.std.proofs.Math.Nat.{min-le_left}
+use Rattle.std.proofs.Math.Seq.{take-append-add}
+use Rattle.std.specs.Prelude.{IfSome, ◌&&◌}
 use Rattle.std.specs.Io.KnownBytes.{Consumes, IsAtEnd}
-use Rattle.std.proofs.lemmas.Bool.{eqb-false, eqb-true}
-use Rattle.std.proofs.lemmas.List.{drop_all, length-take-le, take-append-le}
+use Rattle.std.proofs.lemmas.Bool.{eqb-false, eqb-true, le-leb, lt-leb}
+use Rattle.std.proofs.lemmas.List.{drop_all, length-take-le, take-append-le, take_all}
 use Rattle.xb_contact.specs.declared.event.Refusal.TheVariants as refusals
+use Rattle.xb_recording.specs.declared.beginning.Told.{Told}
+use Rattle.xb_recording.specs.declared.beginning.Told.TheVariants as tolds
 use Rattle.xb_recording.specs.declared.format.Format.{Format}
-use Rattle.xb_recording.specs.Beginnings.{TellsNothingYet, form_told}
+use Rattle.xb_recording.specs.Beginnings.{form_told, tells_nothing_yet, told_within}
+use Rattle.xb_recording.proofs.ToldWithin.{told_stays}
 use Rattle.xb_loop.specs.declared.beginning.TheConstants.{MOST_BEGINNING_BYTES}
 use Rattle.xb_loop.specs.declared.fault.RecordingFault.{RecordingFault}
 use Rattle.xb_loop.specs.declared.fault.RecordingFault.TheVariants as faults
-use Rattle.xb_loop.specs.Beginnings.{IsUntold}
+use Rattle.xb_loop.specs.Beginnings.{IsUntold, TellsForm}
 
 -- what so many bytes tell, all tell
 pub all_tell :
@@ -29,16 +35,82 @@ all_tell (Some text) (Some rest) bytes most is_end P read end few told =
     λ e. ap (λ b. b ++ rest) (drop_all most bytes (few e)) ∙ end e in
     subst (λ t. P (form_told t)) whole (told later none)
 
+-- what a beginning tells
+abbrev within_by : ℕ → List ℕ → Option Format
+within_by most beginning =
+    cond (nat_le most (length beginning) && tells_nothing_yet beginning) None (form_told beginning)
+
+-- it tells what all bytes tell
+pub beginning_tells :
+    (input left : Option (List ℕ)) (bytes : List ℕ) (most : ℕ) (is_end : Bool) (told : Option Format)
+    → Consumes input left bytes → (is_end ≡ true → IsAtEnd left) → (is_end ≡ true → length bytes < most)
+    → ((later : List ℕ) → (is_end ≡ true → later ≡ []) → form_told (take most bytes ++ later) ≡ told)
+    → (is_end ≡ false → tells_nothing_yet (take most bytes) ≡ false)
+    → IfSome input (λ text. told_within most text ≡ told)
+beginning_tells None left bytes most is_end told read end few tells some = tt
+beginning_tells (Some text) None bytes most is_end told read end few tells some = absurd read
+beginning_tells (Some text) (Some rest) bytes most true told read end few tells some =
+    let whole : text ≡ bytes = read ∙ ap (λ r. bytes ++ r) (end refl) ∙ append-nil bytes in
+    let short : length bytes < most = few refl in
+    let all : take most bytes ≡ bytes = take_all most bytes (omega (arith, short)) in
+    let begun : take most text ≡ bytes = ap (take most) whole ∙ all in
+    ap (within_by most) begun
+    ∙ ap (λ long. cond (long && tells_nothing_yet bytes) None (form_told bytes)) (lt-leb most (length bytes) short)
+    ∙ ap form_told (sym (append-nil (take most bytes) ∙ all)) ∙ tells [] (λ e. refl)
+beginning_tells (Some text) (Some rest) bytes most false told read end few tells some =
+    let first : List ℕ = take most bytes in
+    let left : List ℕ = drop most bytes ++ rest in
+    let size : length first ≡ min most (length bytes) = length-take most bytes in
+    let n : ℕ = most - length first in
+    let is : most ≡ length first + n = omega (arith, size, min-le_left most (length bytes)) in
+    let whole : text ≡ first ++ left =
+    read ∙ ap (λ b. b ++ rest) (sym (take-append-drop most bytes)) ∙ append_assoc first (drop most bytes) rest in
+    let begun : take most text ≡ first ++ take n left =
+    ap (take most) whole ∙ ap (λ m. take m (first ++ left)) is ∙ take-append-add first left n in
+    ap (within_by most) begun
+    ∙ ap (λ yet. cond (nat_le most (length (first ++ take n left)) && yet) None (form_told (first ++ take n left)))
+    (told_stays first (take n left) (some refl))
+    ∙ ap (λ none. cond none None (form_told (first ++ take n left))) (and-false (nat_le most (length (first ++ take n left))))
+    ∙ tells (take n left) (λ e. absurd (true≢false (sym e)))
+
+-- a form is told
+pub tells_form :
+    (input : Option (List ℕ)) (format : Format)
+    → IfSome input (λ text. told_within MOST_BEGINNING_BYTES text ≡ Some format)
+    → IfSome input (λ text. form_told text ≡ Some format) → IfSome input (λ text. TellsForm text format)
+tells_form None format beginning whole = tt
+tells_form (Some text) format beginning whole = record { beginning = beginning; whole = whole }
+
+-- more of a text is not wanted
+pub not_yet :
+    (first : List ℕ) (told : Told) → (told ≡ tolds.More → ⊥) → (tells_nothing_yet first ≡ true → told ≡ tolds.More)
+    → tells_nothing_yet first ≡ false
+not_yet first told more yet = at (tells_nothing_yet first) yet
+  where
+    at : (none : Bool) → (none ≡ true → told ≡ tolds.More) → none ≡ false
+    at true f = absurd (more (f refl))
+    at false f = refl
+
 -- nothing is told
 pub untold_form :
-    (input : Option (List ℕ)) → IfSome input (λ text. form_told text ≡ None)
+    (input : Option (List ℕ)) → IfSome input (λ text. told_within MOST_BEGINNING_BYTES text ≡ None)
+    → IfSome input (λ text. form_told text ≡ None)
     → IfSome input (λ text. IsUntold text (faults.Beginning refusals.Form))
-untold_form None none = tt
-untold_form (Some text) none = (refl, inl none)
+untold_form None beginning none = tt
+untold_form (Some text) beginning none = (refl, record { beginning = beginning; whole = inl none })
+
+-- so many bytes tell nothing
+within_none :
+    (most : ℕ) (text : List ℕ) → most ≤ length (take most text) → tells_nothing_yet (take most text) ≡ true
+    → told_within most text ≡ None
+within_none most text long none =
+    ap (λ l. cond (l && tells_nothing_yet (take most text)) None (form_told (take most text)))
+    (le-leb most (length (take most text)) long)
+    ∙ ap (λ b. cond b None (form_told (take most text))) none
 
 pub untold_long :
     (input left : Option (List ℕ)) (bytes : List ℕ) → Consumes input left bytes
-    → MOST_BEGINNING_BYTES ≤ length bytes → TellsNothingYet (take MOST_BEGINNING_BYTES bytes)
+    → MOST_BEGINNING_BYTES ≤ length bytes → tells_nothing_yet (take MOST_BEGINNING_BYTES bytes) ≡ true
     → IfSome input (λ text. IsUntold text (faults.Beginning refusals.Form))
 untold_long None left bytes read long none = tt
 untold_long (Some text) None bytes read long none = absurd read
@@ -46,7 +118,15 @@ untold_long (Some text) (Some rest) bytes read long none =
     let same : take MOST_BEGINNING_BYTES text ≡ take MOST_BEGINNING_BYTES bytes =
     ap (take MOST_BEGINNING_BYTES) read ∙ take-append-le MOST_BEGINNING_BYTES bytes rest long in
     let size : length text ≡ length bytes + length rest = ap length read ∙ length-append bytes rest in
-    (refl, inr (omega (arith, size, long), subst TellsNothingYet (sym same) none))
+    let taken : length (take MOST_BEGINNING_BYTES text) ≡ MOST_BEGINNING_BYTES =
+    length-take-le MOST_BEGINNING_BYTES text (omega (arith, size, long)) in
+    let nothing : tells_nothing_yet (take MOST_BEGINNING_BYTES text) ≡ true = ap tells_nothing_yet same ∙ none in (
+      refl,
+      record {
+        beginning = within_none MOST_BEGINNING_BYTES text (omega (arith, taken)) nothing;
+        whole = inr (omega (arith, size, long), nothing);
+      },
+    )
 
 pub untold_read :
     (input : Option (List ℕ)) (fault : RecordingFault) → fault ≡ faults.Read → IfSome input (λ text. IsUntold text fault)
@@ -60,7 +140,7 @@ untold_memory (Some text) = tt
 -- what a read gave
 pub few_read :
     (bytes buffer all : List ℕ) (n most : ℕ) → all ≡ bytes ++ take n buffer → nat_eq n 0 ≡ true → length bytes < most
-    → length all ≤ most
+    → length all < most
 few_read bytes buffer all n most is none few =
     let zero : n ≡ 0 = eqb-true n 0 none in
     let same : length all ≡ length bytes =

@@ -9,14 +9,13 @@ use Rattle.xb_contact.specs.declared.event.Refusal.TheVariants as refusals
 use Rattle.xb_recording.specs.declared.format.Format.{Format}
 use Rattle.xb_recording.specs.declared.reader.Reader.{Reader}
 use Rattle.xb_recording.specs.declared.wanted.Wanted.{Wanted}
-use Rattle.xb_recording.specs.Beginnings.{form_told}
 use Rattle.xb_recording.specs.Places.{lines_ended, lines_ended_by}
 use Rattle.xb_recording.specs.Says.{IsRefused, KeepsRefusals, RefusesEnd, RefusesForm, RestRefused, RestSays, Says, Takes, is_text}
 use Rattle.xb_loop.specs.declared.fault.RecordingFault.{RecordingFault}
 use Rattle.xb_loop.specs.declared.fault.RecordingFault.TheVariants as faults
 use Rattle.xb_loop.specs.declared.feed.Intake.{Intake}
 use Rattle.xb_loop.specs.declared.request.Request.{Request}
-use Rattle.xb_loop.specs.Beginnings.{IsUntold}
+use Rattle.xb_loop.specs.Beginnings.{IsUntold, TellsForm}
 use Rattle.xb_loop.specs.BounceLines.{bounces_told}
 use Rattle.xb_loop.specs.Faults.{IsFaultAfter, IsFaultAtEnd, IsFaultOf, IsTooLate}
 use Rattle.xb_loop.specs.Watches.{watch_of}
@@ -214,7 +213,7 @@ pub record Starts (format : Format) (request : Request) (intake : Intake) : Type
 -- the form of a recording is the one that is asked for, or else that which it tells
 pub record IsOfForm (request : Request) (text : List ℕ) (format : Format) : Type 0 where
   pub asked : IfSome request.format (λ asked. format ≡ asked)
-  pub told : IfNone request.format (form_told text ≡ Some format)
+  pub told : IfNone request.format (TellsForm text format)
 
 -- the rows of a recording: of its form, exactly those of what it says of the wires that are asked for, of which each has
 -- had a level, and whose times can all be heard; and what is told of the bounces

@@ -25,10 +25,10 @@ IsBeforeRows files None text = text ≡ []
 IsBeforeRows files (Some name) text =
     IfSome (files name) (λ bytes. ((table : Table) × (table_of_text bytes ≡ Ok table)) × (text ≡ table_ended bytes))
 
--- why it does not come, where one is named: the file could not be read, its table is refused, or memory ran out
+-- why it does not come, where one is named: that file could not be read, its table is refused, or memory ran out
 abbrev pub IsFaultOfTable : Bytes → Option (List ℕ) → LoopFault → Type 0
 IsFaultOfTable files None fault = ⊥
-IsFaultOfTable files (Some name) faults.Table = Unit {0}
+IsFaultOfTable files (Some name) (faults.Table told error) = told.now ≡ name
 IsFaultOfTable files (Some name) (faults.Routes fault) =
     IfSome (files name) (λ table. table_of_text table ≡ Err fault)
 IsFaultOfTable files (Some name) faults.NoMemory = Unit {0}

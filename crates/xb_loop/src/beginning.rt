@@ -1,8 +1,7 @@
 // The beginning of a recording, as far as it tells its form.
-ghost use Rattle.std.specs.Prelude.{◌≡◌, ◌<◌, ◌≤◌, Ok, None, Some, IfErr, IfNone, IfOk, IfSome, length, take};
+ghost use Rattle.std.specs.Prelude.{◌≡◌, ◌<◌, ◌≤◌, Ok, None, IfErr, IfNone, IfOk, IfSome, length, take};
 ghost use Rattle.std.specs.Io.KnownBytes.{Consumes, IsAtEnd};
-ghost use Rattle.xb_recording.specs.Beginnings.{form_told};
-ghost use Rattle.xb_loop.specs.Beginnings.{IsUntold};
+ghost use Rattle.xb_loop.specs.Beginnings.{IsUntold, TellsForm};
 ghost use Rattle.xb_loop.specs.declared.beginning.TheConstants.{MOST_BEGINNING_BYTES};
 
 use crate::fault::RecordingFault;
@@ -49,7 +48,7 @@ fn told_beginning<R: Read>(
     ensures read { IfOk result (λ begun.
         Consumes (R.remaining input.old) (R.remaining input.new) begun.0.items) }
     ensures told { IfOk result (λ begun.
-        IfSome (R.remaining input.old) (λ text. form_told text ≡ Some begun.1)) }
+        IfSome (R.remaining input.old) (λ text. TellsForm text begun.1)) }
     ensures untold { IfErr result (λ fault.
         IfSome (R.remaining input.old) (λ text. IsUntold text fault)) }
 {
@@ -81,7 +80,7 @@ pub(crate) fn beginning_of<R: Read>(
         Consumes (R.remaining input.old) (R.remaining input.new) begun.0.items) }
     ensures asked { IfOk result (λ begun. IfSome asked (λ named. begun.1 ≡ named)) }
     ensures told { IfOk result (λ begun.
-        IfSome (R.remaining input.old) (λ text. IfNone asked (form_told text ≡ Some begun.1))) }
+        IfSome (R.remaining input.old) (λ text. IfNone asked (TellsForm text begun.1))) }
     ensures none { IfErr result (λ fault. asked ≡ None) }
     ensures untold { IfErr result (λ fault.
         IfSome (R.remaining input.old) (λ text. IsUntold text fault)) }

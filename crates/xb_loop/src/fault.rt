@@ -1,7 +1,9 @@
 // Why no rows are made of a recording, or no further ones.
 ghost use Rattle.std.specs.Prelude.{◌≡◌};
 
+use crate::name::InOneLine;
 use std::alloc::AllocError;
+use std::io;
 use thiserror::Error;
 use xb_contact::Refusal;
 use xb_routes::RouteFault;
@@ -38,10 +40,10 @@ pub enum RecordingFault {
 
 /// Why the program writes no deck, or no further rows of it.
 #[derive(Debug, Drop, Error)]
-pub enum LoopFault {
-    /// The file of the route table could not be read.
-    #[error("the route table could not be read")]
-    Table,
+pub enum LoopFault<'a> {
+    /// The file of the route table, which is named in one line, could not be read.
+    #[error("the route table could not be read: {}: {}", InOneLine(.0), .1)]
+    Table(&'a str, io::Error),
     /// The route table is refused.
     #[error("route table: {0}")]
     Routes(RouteFault),
@@ -76,22 +78,22 @@ impl From<WriteFault> for RecordingFault {
     }
 }
 
-impl From<RecordingFault> for LoopFault {
+impl<'a> From<RecordingFault> for LoopFault<'a> {
     ghost use Rattle.xb_loop.specs.declared.fault.LoopFault.TheVariants.{Recording};
 
     ghost from_gives = { λ fault e. e ≡ Recording fault };
 
-    fn from(fault: RecordingFault) -> LoopFault {
+    fn from(fault: RecordingFault) -> LoopFault<'a> {
         LoopFault::Recording(fault)
     }
 }
 
-impl From<AllocError> for LoopFault {
+impl<'a> From<AllocError> for LoopFault<'a> {
     ghost use Rattle.xb_loop.specs.declared.fault.LoopFault.TheVariants.{NoMemory};
 
     ghost from_gives = { λ _ e. e ≡ NoMemory };
 
-    fn from(_error: AllocError) -> LoopFault {
+    fn from(_error: AllocError) -> LoopFault<'a> {
         LoopFault::NoMemory
     }
 }

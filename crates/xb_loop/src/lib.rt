@@ -6,10 +6,10 @@
 //!   `laws::each_line_has_the_record_of_its_wire` joins them with the rows (`WireRecords`).
 //! - `listen`: on `Ok` (`ListensTo`) exactly the rows of what the recording says of the wires that are asked for, after the
 //!   text that comes before them (`Watching`: the rows of what a recording says; `Says` of `xb_recording`: what it says),
-//!   of the form that is asked for, or else of that which it tells (`form_told`), each wire has had a level; and, where it
-//!   is asked for, what is told of the bounces (`BounceLines`). On `Err` (`FailsToListen`) the fault is that of the reader
-//!   where it stands, of a time that cannot be counted, of a wire without a level, or of a read, a write or memory; and
-//!   nothing was written, or exactly the rows of what comes before it.
+//!   of the form that is asked for, or else of that which its first 131,072 bytes tell, however they come (`TellsForm`),
+//!   each wire has had a level; and, where it is asked for, what is told of the bounces (`BounceLines`). On `Err`
+//!   (`FailsToListen`) the fault is that of the reader where it stands, of a time that cannot be counted, of a wire without
+//!   a level, or of a read, a write or memory; and nothing was written, or exactly the rows of what comes before it.
 //! - A refused piece of a recording is told by its place, its reason and what stands there (`Faults`).
 //! - `attend` (`AttendsLoop`): the words, the table and the recording in; on status 0 exactly the rows that they ask
 //!   for, and all that is told of the bounces; on status 1 the fault of what they ask for (`HasFault`); and words are
@@ -26,6 +26,7 @@ mod feed;
 pub mod laws;
 mod line;
 mod lines;
+mod name;
 mod program;
 mod request;
 mod rows;

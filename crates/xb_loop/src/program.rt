@@ -23,20 +23,23 @@ const USAGE: &[u8] = b"mfloop: usage: mfloop [--line N=WIRE]... [--table FILE] \
 [--threshold PERCENT] [--inverted] [--said]\n";
 
 // Writes the rows that are asked for, after a route table, if one is.
-fn run<F: Files, R: Read, W: Write>(
+fn run<'a, F: Files, R: Read, W: Write>(
     alloc: Global,
     files: &F,
-    request: &Request<'_>,
+    request: &Request<'a>,
     recording: &mut R,
     out: &mut W,
-) -> Result<String, LoopFault>
+) -> Result<String, LoopFault<'a>>
     ensures prints { IfOk result (λ told. PrintsDeck (F.bytes files.now) request.now (string_bytes told)
         (R.remaining recording.old) (W.contents out.old) (W.contents out.new)) }
     ensures fault { IfErr result (λ fault. FailsToPrint (F.bytes files.now) request.now fault
         (R.remaining recording.old) (W.contents out.old) (W.contents out.new)) }
 {
     let before = beginning_of(alloc, files, request.table)?;
-    listen(alloc, request, &before, recording, out).map_err(LoopFault::Recording)
+    match listen(alloc, request, &before, recording, out) {
+        Ok(told) => Ok(told),
+        Err(fault) => Err(LoopFault::Recording(fault)),
+    }
 }
 
 // Tells of the bounces, if there is anything to tell, and returns the status of the process.

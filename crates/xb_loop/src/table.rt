@@ -19,7 +19,7 @@ fn end_table(text: &mut Vec<u8>) -> Result<(), AllocError>
 }
 
 // Why no deck begins with a route table that is refused.
-fn fault_of_routes(fault: RouteFault) -> LoopFault
+fn fault_of_routes<'a>(fault: RouteFault) -> LoopFault<'a>
     ensures { IsFaultOfRoutes fault result }
 {
     match fault {
@@ -29,12 +29,17 @@ fn fault_of_routes(fault: RouteFault) -> LoopFault
 }
 
 // The beginning of a deck: a route table, which is judged, and the line that cuts it off.
-fn deck_beginning<F: Files>(alloc: Global, files: &F, name: &str) -> Result<Vec<u8>, LoopFault>
+fn deck_beginning<'a, F: Files>(
+    alloc: Global,
+    files: &F,
+    name: &'a str,
+) -> Result<Vec<u8>, LoopFault<'a>>
     ensures text { IfOk result (λ text. IsBeforeRows (F.bytes files.now) (Some name.now) text.items) }
     ensures fault { IfErr result (IsFaultOfTable (F.bytes files.now) (Some name.now)) }
 {
-    let Ok(mut text) = files.read(alloc, name) else {
-        return Err(LoopFault::Table);
+    let mut text = match files.read(alloc, name) {
+        Ok(text) => text,
+        Err(error) => return Err(LoopFault::Table(name, error)),
     };
     if let Err(fault) = RouteTable::read(alloc, &text) {
         return Err(fault_of_routes(fault));
@@ -45,11 +50,11 @@ fn deck_beginning<F: Files>(alloc: Global, files: &F, name: &str) -> Result<Vec<
 
 /// What comes before the rows: the route table of this name and the line that cuts it off, if one is named. Without a
 /// name there is no fault.
-pub(crate) fn beginning_of<F: Files>(
+pub(crate) fn beginning_of<'a, F: Files>(
     alloc: Global,
     files: &F,
-    table: Option<&str>,
-) -> Result<Vec<u8>, LoopFault>
+    table: Option<&'a str>,
+) -> Result<Vec<u8>, LoopFault<'a>>
     ensures text { IfOk result (λ text.
         IsBeforeRows (F.bytes files.now) (option_map (λ name. name.now) table.entry) text.items) }
     ensures fault { IfErr result (λ fault.

@@ -3,3 +3,4 @@ pub mod RefusedLemmas
 pub mod ToldLemmas
 pub mod WrittenTexts
 pub mod WrittenForms
+pub mod ToldWithin

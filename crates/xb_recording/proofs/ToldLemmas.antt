@@ -107,7 +107,7 @@ line_last rest e = at (nat_lt (end_of rest) (length rest)) refl e
         let here : length rest ≤ end_of rest = grind (arith, nat_tests) in
         last-from [] rest here
 
-later_lines : (lines : List (List ℕ)) → plain_lines false lines ≡ lines
+pub later_lines : (lines : List (List ℕ)) → plain_lines false lines ≡ lines
 later_lines [] = refl
 later_lines (line ∷ rest) = refl
 
@@ -122,23 +122,39 @@ told_next rest line after later first e =
     ∙ ap (λ lines. cond (is_passed_over (plain_line first line)) (told_by_lines lines) (format_of_line (plain_line first line)))
     (sym (later_lines (lines_in [] (after ++ later))))
 
-passed-more :
-    (line : List ℕ) (lines : List (List ℕ)) → is_passed_over line ≡ true → all_passed_over lines ≡ true
-    → all_passed_over (line ∷ lines) ≡ true
-passed-more line [] h k = refl
-passed-more line (next ∷ rest) h k = ap (λ b. b && all_passed_over (next ∷ rest)) h ∙ k
+-- a text has a line
+lines-some :
+    (word text : List ℕ) → (parts : List ℕ × List (List ℕ)) × (lines_in word text ≡ parts.0 ∷ parts.1)
+lines-some word [] = ((word, []), refl)
+lines-some word (byte ∷ rest) = at (byte == 10) (λ longer. lines-some longer rest)
+  where
+    at :
+        (ends : Bool)
+        → ((longer : List ℕ) → (parts : List ℕ × List (List ℕ)) × (lines_in longer rest ≡ parts.0 ∷ parts.1))
+        → (parts : List ℕ × List (List ℕ))
+        × (cond ends (word ∷ lines_in [] rest) (lines_in (word ++ byte ∷ []) rest) ≡ parts.0 ∷ parts.1)
+    at true more = ((word, lines_in [] rest), refl)
+    at false more = more (word ++ byte ∷ [])
+
+-- a line that has ended, and those after it
+pub passed_cut :
+    (line word text : List ℕ)
+    → all_passed_over (line ∷ lines_in word text) ≡ is_passed_over line && all_passed_over (lines_in word text)
+passed_cut line word text =
+    let some = lines-some word text in
+    ap (λ lines. all_passed_over (line ∷ lines)) some.1
+    ∙ ap (λ lines. is_passed_over line && all_passed_over lines) (sym some.1)
 
 -- lines that are passed over
 pub passed_next :
-    (rest line after : List ℕ) (first : Bool) → Some (line, after) ≡ cut_at 10 rest → is_passed_over (plain_line first line) ≡ true
-    → all_passed_over (plain_lines false (lines_in [] after)) ≡ true
-    → all_passed_over (plain_lines first (lines_in [] rest)) ≡ true
-passed_next rest line after first e h k =
+    (rest line after : List ℕ) (first : Bool) → Some (line, after) ≡ cut_at 10 rest
+    → all_passed_over (plain_lines first (lines_in [] rest))
+    ≡ is_passed_over (plain_line first line) && all_passed_over (plain_lines false (lines_in [] after))
+passed_next rest line after first e =
     let cut : lines_in [] rest ≡ line ∷ lines_in [] after =
     ap (lines_in []) (sym (append-nil rest)) ∙ line_cut rest line after [] e ∙ ap (λ t. line ∷ lines_in [] t) (append-nil after) in
-    ap (λ lines. all_passed_over (plain_lines first lines)) cut
-    ∙ passed-more (plain_line first line) (lines_in [] after) h
-    (ap all_passed_over (sym (later_lines (lines_in [] after))) ∙ k)
+    ap (λ lines. all_passed_over (plain_lines first lines)) cut ∙ passed_cut (plain_line first line) [] after
+    ∙ ap (λ lines. is_passed_over (plain_line first line) && all_passed_over lines) (sym (later_lines (lines_in [] after)))
 
 pub told_so :
     (told : Told) (line : List ℕ) (all rest : Option Format) (passed : Bool) → passed ≡ false
@@ -165,8 +181,5 @@ told_last told text rest later first false same none end last more =
     subst P (sym (more refl)) tt
 
 pub passed_last :
-    (text rest : List ℕ) (first : Bool)
-    → (all_passed_over (plain_lines first (lines_in [] rest)) ≡ true → all_passed_over (text_lines text) ≡ true)
-    → None ≡ cut_at 10 rest → all_passed_over (text_lines text) ≡ true
-passed_last text rest first passed none =
-    passed (ap (λ lines. all_passed_over (plain_lines first lines)) (line_last rest none))
+    (rest : List ℕ) (first : Bool) → None ≡ cut_at 10 rest → all_passed_over (plain_lines first (lines_in [] rest)) ≡ true
+passed_last rest first none = ap (λ lines. all_passed_over (plain_lines first lines)) (line_last rest none)

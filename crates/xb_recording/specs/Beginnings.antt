@@ -1,5 +1,5 @@
 -- How the form of a recording is told by its beginning.
-use Rattle.std.specs.Prelude.{◌≡◌, ◌<◌, ◌⊎◌, ℕ, List, [], ◌∷◌, Bool, true, false, Option, Some, None, bytes_eq, codes, is_some, length, nat_eq, slice_get, ◌==◌, ◌&&◌, ◌||◌, if◌then◌else◌}
+use Rattle.std.specs.Prelude.{◌≡◌, ℕ, List, [], ◌∷◌, Bool, true, false, Option, Some, None, bytes_eq, codes, is_some, length, nat_eq, nat_le, nat_lt, not, slice_get, take, ◌==◌, ◌&&◌, ◌||◌, if◌then◌else◌}
 use Rattle.std.specs.List.{starts_with}
 use Rattle.std.specs.Option.{option_and_then}
 use Rattle.xb_csv.specs.Cells.{cells_of, trimmed}
@@ -59,11 +59,20 @@ IsTold (tolds.Form format) told = told ≡ Some format
 IsTold tolds.Nothing told = told ≡ None
 IsTold tolds.More told = Unit {0}
 
--- nothing is told yet: four bytes have not come, or no line that has ended says anything
+-- every line that has ended is passed over
 abbrev pub all_passed_over : List (List ℕ) → Bool
 all_passed_over [] = true
 all_passed_over (line ∷ []) = true
 all_passed_over (line ∷ next ∷ rest) = is_passed_over line && all_passed_over (next ∷ rest)
 
-abbrev pub TellsNothingYet : List ℕ → Type 0
-TellsNothingYet beginning = (length beginning < 4) ⊎ (all_passed_over (text_lines beginning) ≡ true)
+-- a beginning tells nothing yet: it has not four bytes, or it begins no WAV and no line that has ended says anything
+abbrev pub tells_nothing_yet : List ℕ → Bool
+tells_nothing_yet beginning =
+    nat_lt (length beginning) 4
+    || (not (starts_with nat_eq beginning (codes "RIFF")) && all_passed_over (text_lines beginning))
+
+-- the form that so many first bytes of a recording tell, or all of it where it has fewer
+abbrev pub told_within : ℕ → List ℕ → Option Format
+told_within most text =
+    if nat_le most (length (take most text)) && tells_nothing_yet (take most text) then None
+    else form_told (take most text)

@@ -1,6 +1,6 @@
 // How the form of a recording is told by its beginning.
 ghost use Rattle.std.specs.Prelude.{◌≡◌, ◌≢◌, ◌++◌, [], ℕ, List, false, true};
-ghost use Rattle.xb_recording.specs.Beginnings.{IsTold, TellsNothingYet, all_passed_over, form_told, format_of_line, is_of_saleae, is_passed_over, is_row, last_told, told_by_lines};
+ghost use Rattle.xb_recording.specs.Beginnings.{IsTold, all_passed_over, form_told, format_of_line, is_of_saleae, is_passed_over, is_row, last_told, tells_nothing_yet, told_by_lines};
 ghost use Rattle.xb_recording.specs.Says.{text_lines};
 
 use crate::format::{Format, without_mark};
@@ -97,6 +97,7 @@ fn told_by_lines(text: &[u8], is_end: bool) -> Told
         → IsTold result (told_by_lines (text_lines (text.now ++ later))) }
     ensures more { result ≡ Told.More → is_end ≡ false }
     ensures yet { result ≡ Told.More → all_passed_over (text_lines text.now) ≡ true }
+    ensures open { is_end ≡ false → all_passed_over (text_lines text.now) ≡ true → result ≡ Told.More }
 {
     let (mut rest, mut is_first) = (text, true);
     while let Some((line, later)) = cut_at(b'\n', rest) {
@@ -113,12 +114,13 @@ fn told_by_lines(text: &[u8], is_end: bool) -> Told
 /// What the beginning of a recording tells of its form, or all of it: a WAV begins with `RIFF`; a text is told by its
 /// first line that says anything. That is a line neither empty nor `META ..`, and it tells once it has ended.
 ///
-/// What is told stays, whatever follows. More is wanted only where neither four bytes nor such a line have come.
+/// What is told stays, whatever follows. More is wanted exactly where neither four bytes nor such a line have come.
 pub fn told_format(beginning: &[u8], is_end: bool) -> Told
     ensures told { (later : List ℕ) → (is_end ≡ true → later ≡ [])
         → IsTold result (form_told (beginning.now ++ later)) }
     ensures more { result ≡ Told.More → is_end ≡ false }
-    ensures yet { result ≡ Told.More → TellsNothingYet beginning.now }
+    ensures yet { result ≡ Told.More → tells_nothing_yet beginning.now ≡ true }
+    ensures open { is_end ≡ false → tells_nothing_yet beginning.now ≡ true → result ≡ Told.More }
 {
     if beginning.len() < 4 && !is_end {
         return Told::More;

@@ -1,4 +1,3 @@
-pub mod Letters
 pub mod NumberTexts
 pub mod TextSteps
 pub mod Answers

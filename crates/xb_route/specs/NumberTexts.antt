@@ -1,31 +1,34 @@
 -- Numbers as they are written: words, or the text lines of a text.
-use Rattle.std.specs.Prelude.{◌⊎◌, ◌≡◌, ℕ, not, if◌then◌else◌, List, [], ◌∷◌, Option, Some, None, option_and_then, option_map, Result, Ok, Err}
-use Rattle.std.specs.List.{enumerate_from, filter}
-use Rattle.xb_dial.specs.CallTexts.{is_grouping, is_passed_over, text_lines}
+use Rattle.std.specs.Prelude.{◌⊎◌, ◌≡◌, ◌&&◌, ℕ, not, Bool, List, [], ◌∷◌, Option, Some, None, is_none, Result, Ok, Err}
+use Rattle.std.specs.List.{enumerate_from, filter, filter_map}
+use Rattle.xb_dial.specs.declared.wrong_byte.WrongByte.{WrongByte}
+use Rattle.xb_dial.specs.Lists.{is_grouping, is_passed_over, text_lines}
+use Rattle.xb_dial.specs.WrongBytes.{first_wrong}
 use Rattle.xb_route.specs.declared.fault.NumberFault.{NumberFault}
 use Rattle.xb_route.specs.declared.fault.NumberFault.TheVariants as fault
-use Rattle.xb_route.specs.Letters.{digit_of_character}
+use Rattle.xb_letters.specs.Letters.{digit_of_character}
 
--- a digit before the later ones
-abbrev pub digit_and_rest : Option ℕ → Option (List ℕ) → Option (List ℕ)
-digit_and_rest digit later = option_and_then (λ d. option_map (λ digits. d ∷ digits) later) digit
+-- a character that neither dials a digit, nor groups digits
+abbrev pub is_wrong : ℕ → Bool
+is_wrong character = not (is_grouping character) && is_none (digit_of_character character)
 
--- the digits that a text dials, where each character that groups none dials one
-abbrev pub digits_of : List ℕ → Option (List ℕ)
-digits_of [] = Some []
-digits_of (byte ∷ text) =
-    if is_grouping byte then digits_of text
-    else digit_and_rest (digit_of_character byte) (digits_of text)
+-- the digits that the characters of a text dial
+abbrev pub digits_of : List ℕ → List ℕ
+digits_of text = filter_map digit_of_character text
 
 -- digits, of which there is one at least
-abbrev pub number_of_digits : Option (List ℕ) → Result (List ℕ) NumberFault
-number_of_digits None = Err fault.Character
-number_of_digits (Some []) = Err fault.NoDigits
-number_of_digits (Some (digit ∷ digits)) = Ok (digit ∷ digits)
+abbrev pub number_of_digits : List ℕ → Result (List ℕ) NumberFault
+number_of_digits [] = Err fault.NoDigits
+number_of_digits (digit ∷ digits) = Ok (digit ∷ digits)
+
+-- no character is wrong, or else the first that is
+abbrev pub unless_wrong : Option WrongByte → Result (List ℕ) NumberFault → Result (List ℕ) NumberFault
+unless_wrong None number = number
+unless_wrong (Some wrong) number = Err (fault.Character wrong)
 
 -- the number that a text writes, or its fault
 abbrev pub number_of_text : List ℕ → Result (List ℕ) NumberFault
-number_of_text text = number_of_digits (digits_of text)
+number_of_text text = unless_wrong (first_wrong is_wrong text) (number_of_digits (digits_of text))
 
 -- memory ran out, or it is the fault of a text
 abbrev pub IsFaultOfText : List ℕ → NumberFault → Type 0

@@ -32,6 +32,10 @@ AreNumbers [] input numbers =
     IfSome input (λ text. (length text ≤ MOST_TEXT_BYTES) × (numbers_of_text text ≡ numbers))
 AreNumbers (word ∷ words) input numbers = numbers_of_words (word ∷ words) ≡ numbers
 
+-- numbers of which there is one at least are those of the words, or of the input
+abbrev pub AreGiven : List (List ℕ) → Option (List ℕ) → List (List ℕ) → Type 0
+AreGiven words input numbers = AreNumbers words input (Ok numbers) × (numbers ≢ [])
+
 -- the file of this name has a table
 abbrev pub HasTable : Bytes → List ℕ → Table → Type 0
 HasTable bytes name table = IfSome (bytes name) (λ text. table_of_text text ≡ Ok table)
@@ -47,21 +51,23 @@ IsFaultOfTable bytes name fault.NoMemory = Unit {0}
 IsFaultOfTable bytes name (fault.Table f) = IfSome (bytes name) (λ text. table_of_text text ≡ Err f)
 IsFaultOfTable bytes name f = ⊥
 
--- the input could not be read, or memory ran out, or this is the fault of the words, or of the input
+-- the input could not be read, or memory ran out, or there are no numbers, or this is the fault of the words, or of
+-- the input
 abbrev pub IsFaultOfNumbers : List (List ℕ) → Option (List ℕ) → RoutingFault → Type 0
 IsFaultOfNumbers words input fault.Read = words ≡ []
 IsFaultOfNumbers words input fault.NoMemory = Unit {0}
 IsFaultOfNumbers words input fault.TooLong = (words ≡ []) × IsLongerThan MOST_TEXT_BYTES input
+IsFaultOfNumbers words input fault.NoNumbers = AreNumbers words input (Ok [])
 IsFaultOfNumbers words input (fault.Word n f) = (words ≢ []) × (numbers_of_words words ≡ Err (n, f))
 IsFaultOfNumbers words input (fault.TextLine n f) = (words ≡ []) × AreNumbers [] input (Err (n, f))
 IsFaultOfNumbers words input f = ⊥
 
--- the table of the file, and the numbers, and what is printed of these
+-- the table of the file, and the numbers, of which there is one at least, and what is printed of these
 pub record Routes (bytes : Bytes) (request : Request) (input : Option (List ℕ)) (printed : List ℕ) : Type 0 where
   pub table : Table
   pub numbers : List (List ℕ)
   pub is_read : HasTable bytes request.table.now table
-  pub are_read : AreNumbers (words_of request) input (Ok numbers)
+  pub are_given : AreGiven (words_of request) input numbers
   pub is_printed : printed ≡ lines_of request.json table numbers
 
 -- what is returned for a request, and what the writer got: the lines on Ok, their beginning where a write

@@ -1,16 +1,12 @@
 -- How numbers are read, one after the other.
-use Rattle.std.specs.Prelude.{◌≡◌, ◌⊎◌, ℕ, List, ◌∷◌, ◌++◌, map, None, Ok, Err, Vec}
+use Rattle.std.specs.Prelude.{◌≡◌, ◌⊎◌, ℕ, List, ◌∷◌, ◌++◌, map, Ok, Err, Vec}
 use Rattle.xb_route.specs.declared.fault.NumberFault.{NumberFault}
 use Rattle.xb_route.specs.declared.fault.NumberFault.TheVariants as fault
-use Rattle.xb_route.specs.NumberTexts.{Numbers, digits_of, numbers_of}
+use Rattle.xb_route.specs.NumberTexts.{Numbers, numbers_of}
 
 -- the digits of numbers that are kept as lists
 abbrev pub digits_of_numbers : {A : Type 0} → List (Vec ℕ A) → List (List ℕ)
 digits_of_numbers numbers = map (λ number. number.items) numbers
-
--- memory ran out, or a character dials no digit
-abbrev pub IsWrongText : List ℕ → NumberFault → Type 0
-IsWrongText text f = (f ≡ fault.NoMemory) ⊎ ((digits_of text ≡ None) × (f ≡ fault.Character))
 
 -- memory ran out, or this is the first fault, with its place
 abbrev pub IsWrong : Numbers → ℕ × NumberFault → Type 0

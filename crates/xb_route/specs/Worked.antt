@@ -1,34 +1,24 @@
 -- Worked numbers: as they are written, what is done with them, and what is printed.
-use Rattle.std.specs.Prelude.{◌≡◌, ℕ, List, [], ◌∷◌, codes, map, Some, None, Ok, Err}
+use Rattle.std.specs.Prelude.{◌≡◌, ℕ, List, [], ◌∷◌, codes, Ok, Err}
 use Rattle.xb_model.specs.declared.plan.Plan.TheVariants.{Seven}
 use Rattle.xb_model.specs.LawfulLimits.{standard_limits}
 use Rattle.xb_model.specs.WorkedRows.{three_routes}
 use Rattle.xb_routes.specs.Table.{Table}
 use Rattle.xb_routes.specs.Text.{table_by}
 use Rattle.xb_route.specs.declared.fault.NumberFault.TheVariants as fault
-use Rattle.xb_route.specs.Letters.{digit_of_character}
 use Rattle.xb_route.specs.NumberTexts.{number_of_text}
 use Rattle.xb_route.specs.Answers.{answer_to}
 use Rattle.xb_route.specs.Lines.{answer_line}
 use Rattle.xb_route.specs.Objects.{object_line}
 
--- the digits of letters
-pub record LettersOfTheDial : Type 0 where
-  pub capitals : map digit_of_character (codes "ABCDEFGHIJKLMNOP")
-      ≡ map Some (2 ∷ 2 ∷ 2 ∷ 3 ∷ 3 ∷ 3 ∷ 4 ∷ 4 ∷ 4 ∷ 5 ∷ 5 ∷ 5 ∷ 6 ∷ 6 ∷ 6 ∷ 7 ∷ [])
-  pub last_capitals : map digit_of_character (codes "QRSTUVWXYZ")
-      ≡ None ∷ Some 7 ∷ Some 7 ∷ Some 8 ∷ Some 8 ∷ Some 8 ∷ Some 9 ∷ Some 9 ∷ Some 9 ∷ None ∷ []
-  pub small : map digit_of_character (codes "pe") ≡ Some 7 ∷ Some 3 ∷ []
-  pub digits : map digit_of_character (codes "059") ≡ Some 0 ∷ Some 5 ∷ Some 9 ∷ []
-  pub others : map digit_of_character (codes "@[`{/:*#+") ≡
-      None ∷ None ∷ None ∷ None ∷ None ∷ None ∷ None ∷ None ∷ None ∷ []
-
 -- numbers as they are written
 pub record NumbersOfTexts : Type 0 where
   pub letters : number_of_text (codes "PE6-5000") ≡ Ok (7 ∷ 3 ∷ 6 ∷ 5 ∷ 0 ∷ 0 ∷ 0 ∷ [])
   pub grouped : number_of_text (codes " 4-1 1") ≡ Ok (4 ∷ 1 ∷ 1 ∷ [])
-  pub character : number_of_text (codes "4*1") ≡ Err fault.Character
+  pub blanks : number_of_text (codes "\t4 11\t") ≡ Ok (4 ∷ 1 ∷ 1 ∷ [])
+  pub character : number_of_text (codes "4*1") ≡ Err (fault.Character (record { place = 2; byte = 42 }))
   pub no_digits : number_of_text (codes "- ") ≡ Err fault.NoDigits
+  pub first : number_of_text (codes "411 Z9*") ≡ Err (fault.Character (record { place = 5; byte = 90 }))
 
 -- three routes, by plan Seven
 abbrev pub worked_table : Table

@@ -1,15 +1,16 @@
 // Why a text is no number, and why no number is routed.
 use std::io;
 use thiserror::Error;
+use xb_dial::WrongByte;
 use xb_model::RowFault;
 use xb_routes::RouteFault;
 
 /// Why a text is no number.
 #[derive(Clone, Copy, Debug, PartialEq, Eq, Error)]
 pub enum NumberFault {
-    /// A character is no digit, no letter of a dial, no blank and no hyphen.
-    #[error("has a wrong character")]
-    Character,
+    /// A character is no digit, no letter of a dial, no blank and no hyphen. The first byte of the first is told.
+    #[error("has a wrong character {0}")]
+    Character(WrongByte),
     /// There is no digit.
     #[error("has no digits")]
     NoDigits,
@@ -37,6 +38,9 @@ pub enum RoutingFault {
     /// The text of the numbers has more than 16,777,216 bytes.
     #[error("the numbers are longer than 16777216 bytes")]
     TooLong,
+    /// The input has no number: nothing, blanks alone or a comment stands in each of its text lines.
+    #[error("there are no numbers")]
+    NoNumbers,
     /// This text line, from 1, is no number.
     #[error("text line {0} {1}")]
     TextLine(usize, NumberFault),

@@ -2,16 +2,11 @@
 ghost use Rattle.xb_route.specs.Constants.{MostTextBytesIsRight};
 ghost use Rattle.xb_route.specs.Lines.{PagesWriteBodies};
 ghost use Rattle.xb_route.specs.Program.{UsageNamesTheOption};
-ghost use Rattle.xb_route.specs.Worked.{LettersOfTheDial, LinesOfNumbers, NumbersOfTexts, ObjectsOfNumbers};
+ghost use Rattle.xb_route.specs.Worked.{LinesOfNumbers, NumbersOfTexts, ObjectsOfNumbers};
 
 /// The most bytes of a text of numbers, as it is.
 pub fn constants()
     ensures { MostTextBytesIsRight }
-{}
-
-/// The digits of letters, and of other characters.
-pub fn letters_of_the_dial()
-    ensures { LettersOfTheDial }
 {}
 
 /// The numbers that some texts write.

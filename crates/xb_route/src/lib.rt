@@ -3,11 +3,11 @@
 //! - `answer_to`: the number that the digits complete, and its order by the table, by the definitions of the
 //!   chain (`shortest_complete`, `routed`); or that they complete none. What is keyed, or refused, is what the
 //!   page says of a line that dials just this number (`AgreesWithPage`).
-//! - `number_of_text`: the digits that a text dials, letters as on a dial, or the fault that it has, unless
-//!   memory ran out.
-//! - `route` and `attend`: with status 0 exactly the lines of the numbers were written, one for each number,
-//!   as text (`answer_line`) or as JSON (`object_line`); with status 1 one line was told, and nothing was
-//!   written but the beginning of the lines where a write failed; with status 2 the words are refused.
+//! - `number_of_text`: the digits that a text dials, letters as on a dial, or the fault that it has, with the first
+//!   wrong byte and its place, unless memory ran out.
+//! - `route` and `attend`: with status 0 exactly the lines of the numbers were written, one for each number, of which
+//!   there is one at least, as text (`answer_line`) or as JSON (`object_line`); with status 1 one line was told, and
+//!   nothing was written but the beginning of the lines where a write failed; with status 2 the words are refused.
 //! - `laws::pages_write_bodies`: the page's line of an entry is its line and number, and then exactly what a
 //!   line of `mfroute` has after the number.
 //!
@@ -17,7 +17,6 @@
 mod answer;
 mod fault;
 pub mod laws;
-mod letters;
 mod lines;
 mod numbers;
 mod objects;

@@ -6,7 +6,7 @@ ghost use Rattle.xb_route.specs.TextSteps.{IsWrong, StopsBy, TakesText, digits_o
 use crate::fault::NumberFault;
 use crate::numbers::number_of_text;
 use std::alloc::Global;
-use xb_dial::{is_passed_over, strip_carriage_return};
+use xb_dial::{is_passed_over, strip_carriage_return, without_mark};
 use xb_model::Digit;
 use xb_text::first_piece;
 
@@ -53,7 +53,8 @@ pub(crate) fn numbers_of_words(alloc: Global, words: &[&str]) -> Result<Vec<Vec<
 }
 
 /// The numbers of a text, one in each text line. A text line ends at LF or at the end of the text, and one CR
-/// before that end is dropped; it is passed over where it is empty or begins with `#`.
+/// before that end is dropped; it is passed over where nothing follows its blanks, or a `#`. A byte order mark at the
+/// beginning of the text is dropped.
 pub(crate) fn numbers_of_text(alloc: Global, text: &[u8]) -> Result<Vec<Vec<Digit>>, Wrong>
     requires { length text.now ≤ MOST_TEXT_BYTES }
     ensures numbers { IfOk result (λ numbers.
@@ -62,7 +63,8 @@ pub(crate) fn numbers_of_text(alloc: Global, text: &[u8]) -> Result<Vec<Vec<Digi
 {
     let mut numbers = Vec::new(alloc);
     let mut place = 0;
-    let mut left = Some(text);
+    let plain = without_mark(text);
+    let mut left = Some(plain);
     while let Some(lines) = left {
         let (line, later) = first_piece(b'\n', lines);
         let line = strip_carriage_return(line);

@@ -1,7 +1,7 @@
 // From a table and numbers to what is done with them.
 ghost use Rattle.std.specs.Prelude.{◌≡◌, ◌≢◌, [], IfErr, IfOk, Err, Ok, map, string_bytes};
 ghost use Rattle.xb_route.specs.Options.{words_of};
-ghost use Rattle.xb_route.specs.Routing.{AreNumbers, Delivers, HasTable, IsFaultOfNumbers, IsFaultOfTable, line_of, lines_of};
+ghost use Rattle.xb_route.specs.Routing.{AreGiven, AreNumbers, Delivers, HasTable, IsFaultOfNumbers, IsFaultOfTable, line_of, lines_of};
 ghost use Rattle.xb_route.specs.TextSteps.{digits_of_numbers};
 
 use crate::answer::answer_to;
@@ -73,6 +73,24 @@ fn numbers_given<R: Read>(
     }
 }
 
+// The same numbers, of which there is one at least.
+fn some_numbers<R: Read>(
+    alloc: Global,
+    words: &[&str],
+    input: &mut R,
+) -> Result<Vec<Vec<Digit>>, RoutingFault>
+    ensures numbers { let texts = map (λ word. word.now) words.now in IfOk result (λ numbers.
+        AreGiven texts (R.remaining input.old) (digits_of_numbers numbers.items)) }
+    ensures fault { let texts = map (λ word. word.now) words.now in
+        IfErr result (IsFaultOfNumbers texts (R.remaining input.old)) }
+{
+    let numbers = numbers_given(alloc, words, input)?;
+    if numbers.is_empty() {
+        return Err(RoutingFault::NoNumbers);
+    }
+    Ok(numbers)
+}
+
 // The line of a number.
 fn line_of(
     alloc: Global,
@@ -109,7 +127,8 @@ fn lines_of(
 
 /// Reads the table and the numbers of a request, and writes a line for each number: what an office of this
 /// table does with it. The table is read before the numbers, so that a fault of these is told only where
-/// the table is good; they are the words, or else the input; and nothing is written before all of them are read.
+/// the table is good; they are the words, or else the input, which has one at least; and nothing is written before all
+/// of them are read.
 ///
 /// On an `Err` nothing was written, except on `Write`, where the beginning of the lines was.
 ///
@@ -126,7 +145,7 @@ pub fn route<'a, F: Files, R: Read, W: Write>(
         (W.contents out.old) (W.contents out.new) }
 {
     let table = read_table(alloc, files, request.table)?;
-    let numbers = numbers_given(alloc, &request.numbers, input)?;
+    let numbers = some_numbers(alloc, &request.numbers, input)?;
     let lines = match lines_of(alloc, request.json, &table, &numbers) {
         Ok(lines) => lines,
         Err(_) => return Err(RoutingFault::NoMemory),

@@ -1,19 +1,30 @@
-use Rattle.std.proofs.Common.{◌+◌, map, sym, ap, ◌∙◌, arith}
+use Rattle.std.proofs.Common.{ℕ, ◌+◌, List, map, Option, Result, sym, ap, ◌∙◌, arith}
 use Rattle.std.specs.Prelude.{option_copied}
 use Rattle.std.specs.Str.Lines.{strip_carriage_return}
-use Rattle.xb_dial.specs.CallTexts.{calls_from, calls_of_text, line_feed}
+use Rattle.xb_model.specs.declared.plan.Plan.{Plan}
+use Rattle.xb_dial.specs.declared.fault.CallFault.{CallFault}
+use Rattle.xb_dial.specs.CallTexts.{calls_from}
+use Rattle.xb_dial.specs.Calls.{DialledCall}
+use Rattle.xb_dial.specs.Lists.{line_feed}
 use Rattle.xb_dial.specs.TextLines.{after}
-use Rattle.xb_text.specs.Pieces.{pieces_left}
+use Rattle.xb_text.specs.Pieces.{pieces, pieces_left}
 use Rattle.xb_dial.proofs.TextLines.{after-none, calls_from-none, few-lines, numbers_are_complete}
 use Rattle.xb_dial.proofs.reading.calls_of_text.Goals as goal
 
+-- the calls of the text lines of a text
+abbrev calls_in : Option Plan → List ℕ → Result (List DialledCall) CallFault
+calls_in whole text = calls_from whole 1 (map strip_carriage_return (pieces line_feed text))
+
 pub loop-left-init : goal.loop-left-init
 loop-left-init c =
-    let few = few-lines c.args.text.now in
-    let all = calls_of_text c.args.whole c.args.text.now in
+    let plain = c.without_mark-plain.result.now in
+    let all = calls_in c.args.whole plain in
+    let few = few-lines plain in
+    let short = c.without_mark-plain.ensures.short in
     record {
-      calls = sym (ap (λ calls. after calls all) c.new-calls.ensures.items ∙ after-none all);
-      few = omega (arith, few);
+      calls = ap (calls_in c.args.whole) (sym c.without_mark-plain.ensures.text)
+          ∙ sym (ap (λ calls. after calls all) c.new-calls.ensures.items ∙ after-none all);
+      few = omega (arith, few, short);
     }
 
 pub returns-clause-calls : goal.returns-clause-calls

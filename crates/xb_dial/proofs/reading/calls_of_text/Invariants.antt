@@ -1,7 +1,8 @@
 use Rattle.std.proofs.Common.{◌≡◌, ◌+◌, ◌≤◌, length, map}
 use Rattle.std.specs.Prelude.{option_copied}
 use Rattle.std.specs.Str.Lines.{strip_carriage_return}
-use Rattle.xb_dial.specs.CallTexts.{calls_from, calls_of_text, line_feed}
+use Rattle.xb_dial.specs.CallTexts.{calls_from, calls_of_text}
+use Rattle.xb_dial.specs.Lists.{line_feed}
 use Rattle.xb_dial.specs.TextLines.{after}
 use Rattle.xb_text.specs.Pieces.{pieces_left}
 use Rattle.xb_dial.proofs.reading.calls_of_text.Given as goal

@@ -1,13 +1,14 @@
-use Rattle.std.proofs.Common.{rules, ◌≡◌, ◌∙◌, ◌++◌, ◌<◌, ◌≤◌, [], ℕ, List, None, Some, Err, Ok, true, nat_eq, ap, subst, sym, take, length}
+use Rattle.std.proofs.Common.{rules, ◌≡◌, ◌∙◌, ◌++◌, ◌<◌, ◌≤◌, [], ℕ, List, None, Some, Err, Ok, true, false, nat_eq, ap, subst, sym, take, length, arith}
 use Rattle.std.proofs.KnownBytes.{Consumes-trans}
 use Rattle.std.proofs.lemmas.Bool.{eqb-true}
 use Rattle.std.specs.Prelude.{if◌then◌else◌, is_ok}
 use Rattle.std.specs.Io.KnownBytes.{Consumes, IsAtEnd}
 use Rattle.xb_recording.specs.declared.beginning.Told.{Told}
-use Rattle.xb_recording.specs.Beginnings.{IsTold, TellsNothingYet, form_told}
+use Rattle.xb_recording.specs.declared.beginning.Told.TheVariants as tolds
+use Rattle.xb_recording.specs.Beginnings.{IsTold, form_told, tells_nothing_yet}
 use Rattle.xb_loop.specs.declared.beginning.TheConstants.{MOST_BEGINNING_BYTES}
 use Rattle.xb_loop.specs.declared.fault.RecordingFault.TheVariants.{NoMemory}
-use Rattle.xb_loop.proofs.ToldForms.{all_tell, few_read, more_read, untold_form, untold_long, untold_memory, untold_read}
+use Rattle.xb_loop.proofs.ToldForms.{all_tell, beginning_tells, few_read, more_read, not_yet, tells_form, untold_form, untold_long, untold_memory, untold_read}
 use Rattle.xb_loop.proofs.beginning.told_beginning.Goals as goal
 
 pub returns-in_err-n-clause-untold : goal.returns-in_err-n-clause-untold
@@ -48,10 +49,19 @@ returns-in-Form-clause-told g c =
     let same : first ≡ take MOST_BEGINNING_BYTES all = c.first_bytes-beginning.ensures ∙ ap (take MOST_BEGINNING_BYTES) c.deref.ensures.value in
     let T : Told → Type 0 = λ t. (later : List ℕ) → (nat_eq c.in_ok-n.n 0 ≡ true → later ≡ []) → IsTold t (form_told (first ++ later)) in
     let B : List ℕ → Type 0 = λ b. (later : List ℕ) → (nat_eq c.in_ok-n.n 0 ≡ true → later ≡ []) → form_told (b ++ later) ≡ Some c.in-Form.format in
-    all_tell input left all MOST_BEGINNING_BYTES (nat_eq c.in_ok-n.n 0) (λ t. t ≡ Some c.in-Form.format)
-    (returns-in-Form-clause-read g c) end
-    (λ e. few_read c.loop-buffer.bytes.items c.read_once.new.buffer all c.in_ok-n.n MOST_BEGINNING_BYTES items e few)
-    (subst B same (subst T c.in-Form.is c.told_format.ensures.told))
+    let told : (later : List ℕ) → (nat_eq c.in_ok-n.n 0 ≡ true → later ≡ [])
+    → form_told (take MOST_BEGINNING_BYTES all ++ later) ≡ Some c.in-Form.format =
+    subst B same (subst T c.in-Form.is c.told_format.ensures.told) in
+    let is_form : c.told_format.result ≡ tolds.More → ⊥ = λ more. let e : tolds.Form c.in-Form.format ≡ tolds.More = sym c.in-Form.is ∙ more in cc in
+    let N : List ℕ → Type 0 = λ b. tells_nothing_yet b ≡ false in
+    let read : Consumes input left all = returns-in-Form-clause-read g c in
+    let short : nat_eq c.in_ok-n.n 0 ≡ true → length all < MOST_BEGINNING_BYTES =
+    λ e. few_read c.loop-buffer.bytes.items c.read_once.new.buffer all c.in_ok-n.n MOST_BEGINNING_BYTES items e few in
+    tells_form input c.in-Form.format
+    (beginning_tells input left all MOST_BEGINNING_BYTES (nat_eq c.in_ok-n.n 0) (Some c.in-Form.format) read end short told
+    (λ going. subst N same (not_yet first c.told_format.result is_form (c.told_format.ensures.open going))))
+    (all_tell input left all MOST_BEGINNING_BYTES (nat_eq c.in_ok-n.n 0) (λ t. t ≡ Some c.in-Form.format) read end
+    (λ e. let s = short e in omega (arith, s)) told)
 
 pub returns-in-Nothing-clause-untold : goal.returns-in-Nothing-clause-untold
 returns-in-Nothing-clause-untold g c =
@@ -73,10 +83,18 @@ returns-in-Nothing-clause-untold g c =
     let same : first ≡ take MOST_BEGINNING_BYTES all = c.first_bytes-beginning.ensures ∙ ap (take MOST_BEGINNING_BYTES) c.deref.ensures.value in
     let T : Told → Type 0 = λ t. (later : List ℕ) → (nat_eq c.in_ok-n.n 0 ≡ true → later ≡ []) → IsTold t (form_told (first ++ later)) in
     let B : List ℕ → Type 0 = λ b. (later : List ℕ) → (nat_eq c.in_ok-n.n 0 ≡ true → later ≡ []) → form_told (b ++ later) ≡ None in
+    let told : (later : List ℕ) → (nat_eq c.in_ok-n.n 0 ≡ true → later ≡ [])
+    → form_told (take MOST_BEGINNING_BYTES all ++ later) ≡ None =
+    subst B same (subst T c.in-Nothing.is c.told_format.ensures.told) in
+    let is_none : c.told_format.result ≡ tolds.More → ⊥ = λ more. let e : tolds.Nothing ≡ tolds.More = sym c.in-Nothing.is ∙ more in cc in
+    let N : List ℕ → Type 0 = λ b. tells_nothing_yet b ≡ false in
+    let short : nat_eq c.in_ok-n.n 0 ≡ true → length all < MOST_BEGINNING_BYTES =
+    λ e. few_read c.loop-buffer.bytes.items c.read_once.new.buffer all c.in_ok-n.n MOST_BEGINNING_BYTES items e few in
     untold_form input
+    (beginning_tells input left all MOST_BEGINNING_BYTES (nat_eq c.in_ok-n.n 0) None read end short told
+    (λ going. subst N same (not_yet first c.told_format.result is_none (c.told_format.ensures.open going))))
     (all_tell input left all MOST_BEGINNING_BYTES (nat_eq c.in_ok-n.n 0) (λ t. t ≡ None) read end
-    (λ e. few_read c.loop-buffer.bytes.items c.read_once.new.buffer all c.in_ok-n.n MOST_BEGINNING_BYTES items e few)
-    (subst B same (subst T c.in-Nothing.is c.told_format.ensures.told)))
+    (λ e. let s = short e in omega (arith, s)) told)
 
 pub loop-buffer-preserved : goal.loop-buffer-preserved
 loop-buffer-preserved g c =
@@ -93,7 +111,7 @@ loop-buffer-preserved g c =
       subst K (sym items)
           (Consumes-trans input (g.R.Read.remaining c.loop-buffer.input) left c.loop-buffer.bytes.items piece
           c.loop-buffer.invariant.0 c.in_ok-n.ensures.bytes),
-      subst TellsNothingYet same (c.told_format.ensures.yet c.in-More.is),
+      ap tells_nothing_yet (sym same) ∙ c.told_format.ensures.yet c.in-More.is,
     )
 
 pub loop-buffer-smaller : goal.loop-buffer-smaller

@@ -1,5 +1,5 @@
 use Rattle.std.proofs.Common.{◌≡◌, Err, refl, rules, take, arith}
-use Rattle.xb_loop.proofs.Stopped.{fed_fault, fed_read, feeds_none, feeds_piece}
+use Rattle.xb_loop.proofs.Pieces.{fed_fault, fed_read, feeds_none, feeds_piece}
 use Rattle.xb_loop.proofs.feed.take_all.Goals as goal
 
 pub loop-init : goal.loop-init

@@ -1,6 +1,6 @@
 use Rattle.std.proofs.Common.{◌≡◌, Err, rules, string_bytes}
 use Rattle.std.proofs.lemmas.Result.{IfErr-weaker, IfOk-weaker}
-use Rattle.xb_loop.proofs.Stopped.{whole_begins_fault, whole_end_fault, whole_ends, whole_fault}
+use Rattle.xb_loop.proofs.Wholes.{whole_begins_fault, whole_end_fault, whole_ends, whole_fault}
 use Rattle.xb_loop.proofs.feed.take_whole.Goals as goal
 
 pub returns-in_err-take_and_write-clause-fault : goal.returns-in_err-take_and_write-clause-fault

@@ -1,7 +1,7 @@
-use Rattle.std.proofs.Common.{◌≡◌, ℕ, List, [], ◌++◌, Bor, true, false, cond, Option, Some, None, ap, subst, sym, ◌∙◌, rules}
-use Rattle.std.specs.Prelude.{option_map}
+use Rattle.std.proofs.Common.{◌≡◌, ℕ, List, [], ◌++◌, Bor, true, false, cond, Option, Some, None, ap, subst, sym, ◌∙◌, rules, true≢false}
+use Rattle.std.specs.Prelude.{option_map, ◌&&◌}
 use Rattle.xb_text.specs.Pieces.{cut_at}
-use Rattle.xb_recording.specs.Beginnings.{IsTold, format_of_line, is_passed_over, last_told, told_by_lines}
+use Rattle.xb_recording.specs.Beginnings.{IsTold, all_passed_over, format_of_line, is_passed_over, last_told, told_by_lines}
 use Rattle.xb_recording.specs.Says.{lines_in, plain_line, plain_lines, text_lines}
 use Rattle.xb_recording.proofs.ToldLemmas.{cut_less, passed_last, passed_next, told_last, told_next, told_so}
 use Rattle.xb_recording.proofs.beginning.told_by_lines.Goals as goal
@@ -23,6 +23,23 @@ returns-then-not-is_passed_over-clause-told c = λ later end.
     told_so c.told_by_line.result (plain_line first line) (told_by_lines (text_lines (c.args.text.now ++ later)))
     (told_by_lines (plain_lines false (lines_in [] (after ++ later)))) (is_passed_over (plain_line first line)) passed
     (c.loop-line.invariant.told later ∙ told_next rest line after later first cut) (subst T read c.told_by_line.ensures.told)
+
+pub returns-then-not-is_passed_over-clause-open : goal.returns-then-not-is_passed_over-clause-open
+returns-then-not-is_passed_over-clause-open c = λ going all.
+    let rest : List ℕ = c.loop-line.rest.now in
+    let first = c.loop-line.is_first in
+    let line : List ℕ = c.in-Some.line.now in
+    let after : List ℕ = c.in-Some.later.now in
+    let P : Option (Bor (List ℕ) × Bor (List ℕ)) → Type 0 =
+    λ found. option_map (λ parts. (parts.0.now, parts.1.now)) found ≡ cut_at 10 rest in
+    let cut : Some (line, after) ≡ cut_at 10 rest = subst P c.in-Some.is c.cut_at.ensures in
+    let not_passed : c.is_passed_over.result ≡ false = search rules in
+    let passed : is_passed_over (plain_line first line) ≡ false =
+    ap is_passed_over (sym c.without_mark-line.ensures) ∙ sym c.is_passed_over.ensures ∙ not_passed in
+    let none : all_passed_over (text_lines c.args.text.now) ≡ false =
+    c.loop-line.invariant.passed ∙ passed_next rest line after first cut
+    ∙ ap (λ b. b && all_passed_over (plain_lines false (lines_in [] after))) passed in
+    absurd (true≢false (sym all ∙ none))
 
 pub loop-line-smaller : goal.loop-line-smaller
 loop-line-smaller c =
@@ -48,7 +65,8 @@ loop-line-preserved c =
       told = λ later. c.loop-line.invariant.told later ∙ told_next rest line after later first cut
           ∙ ap (λ b. cond b (told_by_lines (plain_lines false (lines_in [] (after ++ later))))
           (format_of_line (plain_line first line))) passed;
-      passed = λ k. c.loop-line.invariant.passed (passed_next rest line after first cut passed k);
+      passed = c.loop-line.invariant.passed ∙ passed_next rest line after first cut
+          ∙ ap (λ b. b && all_passed_over (plain_lines false (lines_in [] after))) passed;
     }
 
 pub returns-clause-told : goal.returns-clause-told
@@ -67,5 +85,4 @@ returns-clause-yet c = λ more.
     let rest : List ℕ = c.loop-line.rest.now in
     let P : Option (Bor (List ℕ) × Bor (List ℕ)) → Type 0 =
     λ found. option_map (λ parts. (parts.0.now, parts.1.now)) found ≡ cut_at 10 rest in
-    passed_last c.args.text.now rest c.loop-line.is_first c.loop-line.invariant.passed
-    (subst P c.in_default.is c.cut_at.ensures)
+    c.loop-line.invariant.passed ∙ passed_last rest c.loop-line.is_first (subst P c.in_default.is c.cut_at.ensures)

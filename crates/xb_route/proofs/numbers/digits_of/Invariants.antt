@@ -1,5 +1,6 @@
-use Rattle.xb_route.proofs.DialledDigits.{IsRestOf}
+use Rattle.std.proofs.Common.{◌≡◌, ◌++◌, drop}
+use Rattle.xb_route.specs.NumberTexts.{digits_of}
 use Rattle.xb_route.proofs.numbers.digits_of.Given as goal
 
 abbrev pub invariant-loop-byte : goal.invariant-loop-byte
-invariant-loop-byte l = IsRestOf l.text l.byte-index l.digits.items
+invariant-loop-byte l = l.digits.items ++ digits_of (drop l.byte-index l.text) ≡ digits_of l.text

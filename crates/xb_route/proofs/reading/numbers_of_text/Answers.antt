@@ -1,22 +1,29 @@
-use Rattle.std.proofs.Common.{◌+◌, map, sym, ap, ◌∙◌, arith}
+use Rattle.std.proofs.Common.{ℕ, ◌+◌, List, map, sym, ap, ◌∙◌, arith}
 use Rattle.std.specs.List.{enumerate_from}
 use Rattle.std.specs.Prelude.{option_copied}
 use Rattle.std.specs.Str.Lines.{strip_carriage_return}
-use Rattle.xb_dial.specs.CallTexts.{line_feed}
+use Rattle.xb_dial.specs.Lists.{line_feed}
 use Rattle.xb_dial.proofs.TextLines.{few-lines}
-use Rattle.xb_text.specs.Pieces.{pieces_left}
-use Rattle.xb_route.specs.NumberTexts.{lines_read, numbers_of, numbers_of_text}
+use Rattle.xb_text.specs.Pieces.{pieces, pieces_left}
+use Rattle.xb_route.specs.NumberTexts.{Numbers, lines_read, numbers_of}
 use Rattle.xb_route.specs.TextSteps.{after, digits_of_numbers}
 use Rattle.xb_route.proofs.NumberLines.{after-none, numbers-none}
 use Rattle.xb_route.proofs.reading.numbers_of_text.Goals as goal
 
+-- the numbers of the text lines of a text
+abbrev numbers_in : List ℕ → Numbers
+numbers_in text = numbers_of (lines_read (enumerate_from 1 (map strip_carriage_return (pieces line_feed text))))
+
 pub loop-left-init : goal.loop-left-init
 loop-left-init c =
-    let few = few-lines c.args.text.now in
-    let all = numbers_of_text c.args.text.now in
+    let plain = c.without_mark-plain.result.now in
+    let all = numbers_in plain in
+    let few = few-lines plain in
+    let short = c.without_mark-plain.ensures.short in
     record {
-      numbers = sym (ap (λ numbers. after (digits_of_numbers numbers) all) c.new-numbers.ensures.items ∙ after-none all);
-      few = omega (arith, few);
+      numbers = ap numbers_in (sym c.without_mark-plain.ensures.text)
+          ∙ sym (ap (λ numbers. after (digits_of_numbers numbers) all) c.new-numbers.ensures.items ∙ after-none all);
+      few = omega (arith, few, short);
     }
 
 pub returns-clause-numbers : goal.returns-clause-numbers

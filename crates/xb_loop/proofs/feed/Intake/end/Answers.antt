@@ -1,5 +1,5 @@
 use Rattle.std.proofs.Common.{◌≡◌, Err, rules, string_bytes}
-use Rattle.xb_loop.proofs.Stopped.{end_fault, end_silent, end_unwritten, ends}
+use Rattle.xb_loop.proofs.Ended.{end_fault, end_silent, end_unwritten, ends}
 use Rattle.xb_loop.proofs.feed.Intake.end.Goals as goal
 
 pub returns-in_err-take_end-clause-fault : goal.returns-in_err-take_end-clause-fault

@@ -1,4 +1,4 @@
-use Rattle.xb_loop.proofs.Stopped.{never_ok, stops_err, writes_err, writes_ok}
+use Rattle.xb_loop.proofs.PieceStops.{never_ok, stops_err, writes_err, writes_ok}
 use Rattle.xb_loop.proofs.feed.Intake.take_and_write.Goals as goal
 
 pub returns-in-Ok-clause-taken : goal.returns-in-Ok-clause-taken

@@ -1,7 +1,7 @@
 use Rattle.std.proofs.Common.{◌≡◌, Err, rules}
 use Rattle.xb_loop.specs.Watches.{watch_of}
 use Rattle.xb_loop.proofs.Fed.{end_late}
-use Rattle.xb_loop.proofs.Stopped.{at_end_fault}
+use Rattle.xb_loop.proofs.Ended.{at_end_fault}
 use Rattle.xb_loop.proofs.feed.Intake.take_end.Goals as goal
 
 pub returns-in_err-take_events-clause-fault : goal.returns-in_err-take_events-clause-fault

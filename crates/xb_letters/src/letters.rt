@@ -1,6 +1,6 @@
 // The digits that the characters of a number dial.
 ghost use Rattle.std.specs.Prelude.{◌≡◌};
-ghost use Rattle.xb_route.specs.Letters.{digit_of_character, digit_of_letter};
+ghost use Rattle.xb_letters.specs.Letters.{digit_of_character, digit_of_letter};
 
 use xb_model::Digit;
 
@@ -22,7 +22,7 @@ fn digit_of_letter(character: u8) -> Option<Digit>
 }
 
 /// The digit that a character dials: a digit itself, or the digit beside which a letter stands.
-pub(crate) fn digit_of_character(character: u8) -> Option<Digit>
+pub fn digit_of_character(character: u8) -> Option<Digit>
     ensures { result ≡ digit_of_character character }
 {
     match Digit::from_ascii(character) {

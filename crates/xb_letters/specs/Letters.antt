@@ -1,4 +1,4 @@
--- The digits that the characters of a number dial.
+-- The digits that characters dial.
 use Rattle.std.specs.Prelude.{ℕ, ◌&&◌, ◌||◌, ◌==◌, nat_le, if◌then◌else◌, Bool, Option, Some, None}
 use Rattle.std.specs.Char.{to_ascii_uppercase}
 use Rattle.xb_model.specs.Digits.{digit_of_ascii}
