@@ -14,10 +14,13 @@ one of five pins of the line. A shell does what it prints:
 """
 import curses
 import json
+import os
 import sys
 
 STATES = ("ON HOOK", "SEIZED", "DIALLING", "COMPLETE", "REFUSED")
 WEIGHTS = (0, 1, 2, 4, 7)
+# As of a program that SIGPIPE ends.
+READER_IS_GONE = 141
 
 
 class Line:
@@ -126,6 +129,9 @@ def main(words: list) -> int:
         if len(words) > 2 and words[0] == "--gpio":
             light(words[1], pins_of(words[2:]))
             return 0
+    except BrokenPipeError:
+        os.dup2(os.open(os.devnull, os.O_WRONLY), sys.stdout.fileno())
+        return READER_IS_GONE
     except ValueError:
         words = ["--gpio"]
     if words:
