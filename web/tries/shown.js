@@ -15,6 +15,7 @@ async function tryExplained(it) {
   for (const _ of TITLES) {
     await it.until(IS_OPEN, 30000);
     titles.push(await it.text('#explained-title'));
+    await sleep(100); // the next frame draws the moment at which time was halted
     const angle = await it.run('document.querySelector(".dial g").getAttribute("transform")');
     await sleep(300);
     const later = await it.run('document.querySelector(".dial g").getAttribute("transform")');
