@@ -1,3 +1,4 @@
 pub mod WordLemmas
 pub mod VcdLemmas
+pub mod EventLemmas
 pub mod WrittenVcd

@@ -11,7 +11,7 @@ use Rattle.xb_vcd.specs.VcdTexts.{is_blank, word_before, word_says, words_in}
 use Rattle.xb_contact.proofs.StepLemmas.{adds_after, refused_after, refused_first}
 
 -- a blank ends the word before it
-words-at_blank :
+pub words-at_blank :
     (line word : List ℕ) (end : ℕ) → end < length line → is_blank (get_or line end 0) ≡ true
     → words_in word (drop end line) ≡ word_before word ++ words_in [] (drop (end + 1) line)
 words-at_blank line word end h b =
@@ -21,7 +21,7 @@ words-at_blank line word end h b =
     ∙ ap (λ n. word_before word ++ words_in [] (drop n line)) (sym (add-one end))
 
 -- any other byte belongs to it
-words-at_byte :
+pub words-at_byte :
     (line word : List ℕ) (end : ℕ) → end < length line → is_blank (get_or line end 0) ≡ false
     → words_in word (drop end line) ≡ words_in (word ++ get_or line end 0 ∷ []) (drop (end + 1) line)
 words-at_byte line word end h b =
@@ -31,7 +31,7 @@ words-at_byte line word end h b =
     ∙ ap (λ n. words_in (word ++ get_or line end 0 ∷ []) (drop n line)) (sym (add-one end))
 
 -- a part of a line with one byte more
-slice_range-next :
+pub slice_range-next :
     (line : List ℕ) (start end : ℕ) → start ≤ end → end < length line
     → slice_range line start (end + 1) ≡ slice_range line start end ++ get_or line end 0 ∷ []
 slice_range-next line start end h k =
@@ -43,7 +43,7 @@ slice_range-next line start end h k =
     ∙ ap (λ byte. take (end - start) (drop start line) ++ byte ∷ [])
     (get_or-drop start line (end - start) 0 ∙ ap (λ n. get_or line n 0) place)
 
-slice_range-none : (line : List ℕ) (at : ℕ) → slice_range line at at ≡ []
+pub slice_range-none : (line : List ℕ) (at : ℕ) → slice_range line at at ≡ []
 slice_range-none line at = let none : at - at ≡ 0 = omega arith in ap (λ n. take n (drop at line)) none
 
 -- the words up to a blank were said, and then those after it
@@ -72,7 +72,7 @@ words_after_byte line start end before state old new h k b rest =
     (subst Q (slice_range-next line start end h k) rest)
 
 -- all of a line from a place on
-all_left : (line : List ℕ) (start : ℕ) → slice_range line start (length line) ≡ drop start line
+pub all_left : (line : List ℕ) (start : ℕ) → slice_range line start (length line) ≡ drop start line
 all_left line start = take_rest line start
 
 -- at the end of a line its last word is what is left

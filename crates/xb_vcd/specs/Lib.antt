@@ -1,5 +1,6 @@
 pub mod VcdWords
 pub mod VcdChanges
 pub mod VcdTexts
+pub mod VcdEvents
 pub mod WorkedVcd
 pub mod WrittenVcd

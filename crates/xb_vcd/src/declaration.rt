@@ -1,5 +1,5 @@
 // The declarations of wires in a VCD.
-ghost use Rattle.std.specs.Prelude.{◌≡◌, Err, IfErr, Ok, OnOk, map};
+ghost use Rattle.std.specs.Prelude.{◌≡◌, ◌≢◌, Err, IfErr, Ok, OnOk, map};
 ghost use Rattle.xb_vcd.specs.VcdTexts.{declared_code, declared_codes, found_code};
 
 use xb_contact::Refusal;
@@ -24,7 +24,8 @@ pub const NO_WORDS: VarWords = VarWords {
 
 // The code of a wire that is declared, which had none.
 fn found_code(words: VarWords, own: Option<u64>) -> Result<Option<u64>, Refusal>
-    ensures { result ≡ found_code words own }
+    ensures code { result ≡ found_code words own }
+    ensures memory { IfErr result (λ e. e ≢ Refusal.NoMemory) }
 {
     match own {
         _ if !words.is_bit => Err(Refusal::Bits),
@@ -40,7 +41,8 @@ fn declared_code(
     wanted: &str,
     own: Option<u64>,
 ) -> Result<Option<u64>, Refusal>
-    ensures { result ≡ declared_code words name.now wanted.now own }
+    ensures code { result ≡ declared_code words name.now wanted.now own }
+    ensures memory { IfErr result (λ e. e ≢ Refusal.NoMemory) }
 {
     if wanted.as_bytes() == name {
         found_code(words, own)
@@ -60,6 +62,7 @@ pub(crate) fn declare(
         (declared_codes words name.now (map (λ wanted. wanted.now) names.now) codes.old ≡ Ok codes.new) }
     ensures refused { IfErr result (λ e.
         declared_codes words name.now (map (λ wanted. wanted.now) names.now) codes.old ≡ Err e) }
+    ensures memory { IfErr result (λ e. e ≢ Refusal.NoMemory) }
 {
     for (i, code) in codes.iter_mut().enumerate() {
         match names.get(i) {

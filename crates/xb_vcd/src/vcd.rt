@@ -1,8 +1,9 @@
 // A value change dump, line by line.
-ghost use Rattle.std.specs.Prelude.{◌≡◌, ◌++◌, ◌∷◌, ◌↔◌, [], Err, Ok, IfErr, IfOk, IsErr, IsTrue, OnOk, is_some, map};
+ghost use Rattle.std.specs.Prelude.{◌≡◌, ◌≢◌, ◌++◌, ◌∷◌, ◌↔◌, [], Err, Ok, IfErr, IfOk, IsErr, IsTrue, OnErr, OnOk, is_some, map};
 ghost use Rattle.std.specs.List.{list_all, list_any};
 ghost use Rattle.xb_contact.specs.Steps.{Adds, IsRefusedBy, all_say};
 ghost use Rattle.xb_vcd.specs.VcdChanges.{change_taken, code_taken, has_code, level_events, time_taken, value_taken, vcd_state};
+ghost use Rattle.xb_vcd.specs.VcdEvents.{HasEvent, SayAnEvent};
 ghost use Rattle.xb_vcd.specs.VcdTexts.{begun_vcd, end_says, header_taken, is_blank, is_header, scale_said, scale_taken, var_taken, vcd_line_says, vcd_says, word_before, word_says, words_of};
 
 use crate::declaration::{NO_WORDS, VarWords, declare};
@@ -63,6 +64,7 @@ fn is_header(place: VcdPlace) -> bool
 fn end_at(place: VcdPlace) -> Result<(), Refusal>
     ensures said { OnOk result (end_says place ≡ Ok []) }
     ensures refused { IfErr result (λ e. end_says place ≡ Err e) }
+    ensures memory { IfErr result (λ e. e ≢ Refusal.NoMemory) }
 {
     match place {
         VcdPlace::Changes => Ok(()),
@@ -107,6 +109,7 @@ impl<'a> Vcd<'a> {
         ensures said { OnOk result (events.new.items
             ≡ events.old.items ++ level_events 0 code level self.now.codes.items) }
         ensures only { IfErr result (λ e. e ≡ Refusal.NoMemory) }
+        ensures memory { OnErr result (IsTrue (list_any (has_code code) self.now.codes.items)) }
     {
         for (i, own) in self.codes.iter().enumerate() {
             if *own == Some(code) {
@@ -130,6 +133,7 @@ impl<'a> Vcd<'a> {
     }
 
     // The wire of this code has a level, or neither.
+    #[tactic(auto, using(crate::proofs::EventLemmas::some_level))]
     fn take_value(
         &self,
         value: Option<Level>,
@@ -139,6 +143,8 @@ impl<'a> Vcd<'a> {
         ensures said { OnOk result (Adds (value_taken (vcd_state self.now) value code)
             events.old.items events.new.items (vcd_state self.now)) }
         ensures refused { IfErr result (IsRefusedBy (value_taken (vcd_state self.now) value code)) }
+        ensures memory { IfErr result (λ e. e ≡ Refusal.NoMemory
+            → HasEvent (value_taken (vcd_state self.now) value code)) }
     {
         match value {
             Some(level) => self.change(code, level, events),
@@ -151,6 +157,8 @@ impl<'a> Vcd<'a> {
         ensures said { OnOk result (Adds (time_taken (vcd_state self.old) time)
             events.old.items events.new.items (vcd_state self.new)) }
         ensures refused { IfErr result (IsRefusedBy (time_taken (vcd_state self.old) time)) }
+        ensures memory { IfErr result (λ e. e ≡ Refusal.NoMemory
+            → HasEvent (time_taken (vcd_state self.old) time)) }
         ensures kept { self.new ≡ record self.old {
           place = self.new.place;
           last = self.new.last;
@@ -174,6 +182,8 @@ impl<'a> Vcd<'a> {
         ensures said { OnOk result (Adds (scale_said (vcd_state self.old) number unit.now)
             events.old.items events.new.items (vcd_state self.new)) }
         ensures refused { IfErr result (IsRefusedBy (scale_said (vcd_state self.old) number unit.now)) }
+        ensures memory { IfErr result (λ e. e ≡ Refusal.NoMemory
+            → HasEvent (scale_said (vcd_state self.old) number unit.now)) }
     {
         if unit.is_empty() {
             self.place = VcdPlace::Timescale(Some(number));
@@ -200,6 +210,8 @@ impl<'a> Vcd<'a> {
         ensures said { OnOk result (Adds (scale_taken (vcd_state self.old) number word.now)
             events.old.items events.new.items (vcd_state self.new)) }
         ensures refused { IfErr result (IsRefusedBy (scale_taken (vcd_state self.old) number word.now)) }
+        ensures memory { IfErr result (λ e. e ≡ Refusal.NoMemory
+            → HasEvent (scale_taken (vcd_state self.old) number word.now)) }
     {
         if let Some(number) = number {
             return self.say_scale(number, word, events);
@@ -216,6 +228,7 @@ impl<'a> Vcd<'a> {
         ensures said { OnOk result
             (var_taken (vcd_state self.old) words word.now ≡ Ok ([], vcd_state self.new)) }
         ensures refused { IfErr result (λ e. var_taken (vcd_state self.old) words word.now ≡ Err e) }
+        ensures memory { IfErr result (λ e. e ≢ Refusal.NoMemory) }
     {
         let VarWords {
             count,
@@ -257,6 +270,7 @@ impl<'a> Vcd<'a> {
         ensures said { OnOk result
             (header_taken (vcd_state self.old) word.now ≡ Ok ([], vcd_state self.new)) }
         ensures refused { IfErr result (λ e. header_taken (vcd_state self.old) word.now ≡ Err e) }
+        ensures memory { IfErr result (λ e. e ≢ Refusal.NoMemory) }
     {
         match word_of(word) {
             Word::Timescale if self.has_scale => Err(Refusal::Timescale),
@@ -287,6 +301,8 @@ impl<'a> Vcd<'a> {
         ensures said { OnOk result (Adds (change_taken (vcd_state self.old) word.now)
             events.old.items events.new.items (vcd_state self.new)) }
         ensures refused { IfErr result (IsRefusedBy (change_taken (vcd_state self.old) word.now)) }
+        ensures memory { IfErr result (λ e. e ≡ Refusal.NoMemory
+            → HasEvent (change_taken (vcd_state self.old) word.now)) }
         ensures kept { self.new ≡ record self.old {
           place = self.new.place;
           last = self.new.last;
@@ -318,6 +334,8 @@ impl<'a> Vcd<'a> {
         ensures said { OnOk result (Adds (code_taken (vcd_state self.old) value word.now)
             events.old.items events.new.items (vcd_state self.new)) }
         ensures refused { IfErr result (IsRefusedBy (code_taken (vcd_state self.old) value word.now)) }
+        ensures memory { IfErr result (λ e. e ≡ Refusal.NoMemory
+            → HasEvent (code_taken (vcd_state self.old) value word.now)) }
         ensures kept { self.new ≡ record self.old {
           place = self.new.place;
           last = self.new.last;
@@ -335,6 +353,8 @@ impl<'a> Vcd<'a> {
         ensures said { OnOk result (Adds (word_says (vcd_state self.old) word.now)
             events.old.items events.new.items (vcd_state self.new)) }
         ensures refused { IfErr result (IsRefusedBy (word_says (vcd_state self.old) word.now)) }
+        ensures memory { IfErr result (λ e. e ≡ Refusal.NoMemory
+            → HasEvent (word_says (vcd_state self.old) word.now)) }
     {
         match self.place {
             VcdPlace::Header => self.take_header(word),
@@ -361,6 +381,8 @@ impl<'a> Vcd<'a> {
             events.old.items events.new.items (vcd_state self.new)) }
         ensures refused { IfErr result (IsRefusedBy
             (all_say word_says (vcd_state self.old) (word_before piece.now))) }
+        ensures memory { IfErr result (λ e. e ≡ Refusal.NoMemory
+            → SayAnEvent (vcd_state self.old) (word_before piece.now)) }
     {
         if piece.is_empty() {
             return Ok(());
@@ -374,6 +396,8 @@ impl<'a> Vcd<'a> {
             events.old.items events.new.items (vcd_state self.new)) }
         ensures refused { IfErr result (IsRefusedBy
             (all_say word_says (vcd_state self.old) (words_of line.now))) }
+        ensures memory { IfErr result (λ e. e ≡ Refusal.NoMemory
+            → SayAnEvent (vcd_state self.old) (words_of line.now)) }
     {
         let mut start = 0;
         for end in 0..line.len() {
@@ -390,6 +414,8 @@ impl<'a> Vcd<'a> {
         ensures said { OnOk result (Adds (vcd_line_says (vcd_state self.old) line.now)
             events.old.items events.new.items (vcd_state self.new)) }
         ensures refused { IfErr result (IsRefusedBy (vcd_line_says (vcd_state self.old) line.now)) }
+        ensures memory { IfErr result (λ e. e ≡ Refusal.NoMemory
+            → SayAnEvent (vcd_state self.old) (words_of line.now)) }
     {
         if line.starts_with(b"META ") && is_header(self.place) {
             return Ok(());
@@ -404,6 +430,8 @@ impl<'a> Vcd<'a> {
         ensures said { OnOk result
             (vcd_says (vcd_state self.old) (line.now ∷ []) ≡ Ok events.new.items) }
         ensures refused { IfErr result (IsRefusedBy (vcd_says (vcd_state self.old) (line.now ∷ []))) }
+        ensures memory { IfErr result (λ e. e ≡ Refusal.NoMemory
+            → SayAnEvent (vcd_state self.old) (words_of line.now)) }
     {
         self.take_line(line, events)?;
         end_at(self.place)

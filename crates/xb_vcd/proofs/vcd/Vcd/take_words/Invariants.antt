@@ -4,6 +4,7 @@ use Rattle.xb_contact.specs.declared.event.Event.{Event}
 use Rattle.xb_contact.specs.declared.event.Refusal.{Refusal}
 use Rattle.xb_contact.specs.Steps.{Adds, all_say}
 use Rattle.xb_vcd.specs.VcdChanges.{VcdState, vcd_state}
+use Rattle.xb_vcd.specs.VcdEvents.{SayAnEvent}
 use Rattle.xb_vcd.specs.VcdTexts.{word_says, words_in}
 use Rattle.xb_vcd.proofs.vcd.Vcd.take_words.Given as goal
 
@@ -17,4 +18,6 @@ invariant-loop-end l = record {
   refused : (refusal : Refusal)
       → all_say word_says (vcd_state l.self) (words_in (slice_range l.line l.start l.end) (drop l.end l.line)) ≡ Err refusal
       → all_say word_says (vcd_state l.initial.self) (words_in [] l.line) ≡ Err refusal;
+  memory : SayAnEvent (vcd_state l.self) (words_in (slice_range l.line l.start l.end) (drop l.end l.line))
+      → SayAnEvent (vcd_state l.initial.self) (words_in [] l.line);
 }
