@@ -1,5 +1,5 @@
 -- What is told of a deck, as `mfcheck` tells it.
-use Rattle.std.specs.Prelude.{ℕ, ◌≡◌, ◌≤◌, List, codes, false, length, take, Some}
+use Rattle.std.specs.Prelude.{ℕ, ◌≡◌, ◌<◌, ◌≤◌, List, codes, false, length, take, Some}
 use Rattle.xb_check.specs.declared.fault.CheckFault.{CheckFault}
 use Rattle.xb_check.specs.declared.fault.CheckFault.TheVariants as fault
 use Rattle.xb_check.specs.Judged.{IsVerdict}
@@ -19,3 +19,8 @@ IsUntold deck f = Unit {0}
 pub record AreTold (deck room : List ℕ) (count : ℕ) : Type 0 where
   pub lines : take count room ≡ report_text (codes "deck") false deck
   pub few : count ≤ length room
+
+-- the lines are longer than the room, and have as many bytes as are counted
+pub record NeedsRoomForLines (deck room : List ℕ) (count : ℕ) : Type 0 where
+  pub is : count ≡ length (report_text (codes "deck") false deck)
+  pub longer : length room < count

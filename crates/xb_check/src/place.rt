@@ -186,7 +186,8 @@ fn push_there<'a>(
     wrong: Option<(What, Option<Key>)>,
 ) -> Result<(), AllocError>
     requires { place ≡ spec.place_of text.now at }
-    ensures { OnOk result (tallied tally.new ≡ with_all (tallied tally.old) (spec.found_where text.now at wrong)) }
+    ensures { OnOk result (tallied tally.new
+        ≡ with_all (tallied tally.old) (spec.found_where text.now at wrong)) }
 {
     if let Some((what, meant)) = wrong {
         tally.push(finding_there(text, at, place, what, meant))?;

@@ -90,7 +90,8 @@ fn is_closing(byte: u8) -> bool
 
 // Passes over the rest of a text line, which is no TOML.
 fn broken<'a>(total: usize, walk: &mut Walk, text: &'a str) -> Result<&'a str, AllocError>
-    ensures { IfOk result (λ rest. (walk_of walk.new, rest.now) ≡ spec.broken total text.now (walk_of walk.old)) }
+    ensures { IfOk result (λ rest. (walk_of walk.new, rest.now)
+        ≡ spec.broken total text.now (walk_of walk.old)) }
 {
     walk.spots.push(Spot {
         at: total.saturating_sub(text.len()),
@@ -119,7 +120,8 @@ fn take_heading<'a>(
 ) -> Result<&'a str, AllocError>
     requires { first text.now ≡ 91 }
     ensures { IfOk result (λ rest.
-        (walk_of walk.new, rest.now) ≡ spec.heading_read total text.now (walk_of walk.old) (spec.heading text.now)) }
+        (walk_of walk.new, rest.now)
+        ≡ spec.heading_read total text.now (walk_of walk.old) (spec.heading text.now)) }
 {
     match read_heading(alloc, text)? {
         Some((section, rest)) => {
@@ -147,7 +149,8 @@ fn take_key<'a>(
     text: &'a str,
 ) -> Result<&'a str, AllocError>
     ensures { IfOk result (λ rest.
-        (walk_of walk.new, rest.now) ≡ spec.key_read total text.now (walk_of walk.old) (key_equals text.now)) }
+        (walk_of walk.new, rest.now)
+        ≡ spec.key_read total text.now (walk_of walk.old) (key_equals text.now)) }
 {
     match read_key_equals(alloc, text)? {
         Some((key, rest)) => {
@@ -189,7 +192,8 @@ fn take_scalar<'a>(
     text: &'a str,
 ) -> Result<&'a str, AllocError>
     ensures { IfOk result (λ rest.
-        (walk_of walk.new, rest.now) ≡ spec.scalar_read total text.now (walk_of walk.old) (spec.after_scalar text.now)) }
+        (walk_of walk.new, rest.now)
+        ≡ spec.scalar_read total text.now (walk_of walk.old) (spec.after_scalar text.now)) }
 {
     match after_scalar(alloc, text)? {
         Some(rest) => {
@@ -224,7 +228,8 @@ fn turn_key<'a>(
     walk: &mut Walk,
     text: &'a str,
 ) -> Result<&'a str, AllocError>
-    ensures { IfOk result (λ rest. (walk_of walk.new, rest.now) ≡ spec.key_turn total (walk_of walk.old) text.now) }
+    ensures { IfOk result (λ rest. (walk_of walk.new, rest.now)
+        ≡ spec.key_turn total (walk_of walk.old) text.now) }
 {
     let outside = walk.nests.is_empty();
     if outside && text.is_empty() {
@@ -328,7 +333,8 @@ fn turn<'a>(
     walk: &mut Walk,
     text: &'a str,
 ) -> Result<&'a str, AllocError>
-    ensures { IfOk result (λ rest. (walk_of walk.new, rest.now) ≡ spec.turn total (walk_of walk.old) text.now) }
+    ensures { IfOk result (λ rest. (walk_of walk.new, rest.now)
+        ≡ spec.turn total (walk_of walk.old) text.now) }
 {
     match walk.want {
         Want::Key => turn_key(alloc, total, walk, skip_blank(text, true)),

@@ -167,7 +167,6 @@ pub fn asked_by_words<'a>(alloc: Global, words: &'a [String]) -> Result<Asked<'a
     ensures form { IfOk result (λ asked. HasForm asked.request.input) }
     ensures refused { IfErr result (λ f. f ≡ WordsFault.Refused → AreRefused (texts_of words.entry.now)) }
 {
-    let _written: Option<Written> = None;
     let words = read_words(alloc, PROGRAM, &OPTIONS, words)?;
     let against = words.text("against");
     match request_against(options_of(&words), against.is_some()) {
