@@ -5,6 +5,7 @@ const FIRST_CALL = '411';
 const CALLS_AT_ONCE = ['2345678', '411', '0'];
 const TOLD_EACH_MS = 20;
 const TYPING_ENDS_MS = 300;
+const RESTS_MS = 250;
 
 class Office {
   constructor(module, reader, wasm) {
@@ -22,6 +23,7 @@ class Office {
     this.recordings = new Recordings(module);
     this.coming = [];
     this.demonstrated = 0;     // how many calls of a demonstration are still to give their entry
+    this.resting = null;       // the timer of the next picture, where nothing moves
     this.telephones = LINES.map((line) => new Telephone(line, module, this.clock, this));
     $('telephones').replaceWith(...this.telephones.map((telephone) => telephone.top));
     this.readColours();
@@ -198,6 +200,7 @@ class Office {
     matchMedia('(prefers-color-scheme: dark)').addEventListener('change', () => this.readColours());
     for (const size of [narrow, low]) size.addEventListener('change', () => this.foldWords());
     addEventListener('resize', () => { this.redraw(); this.sender.redraw(); });
+    for (const name of ['pointerdown', 'keydown', 'click']) addEventListener(name, () => this.stir(), true);
   }
 
   setSound(on) {
@@ -253,6 +256,18 @@ class Office {
   // What stands still is drawn once more.
   redraw() { for (const telephone of this.telephones) telephone.isStill = false; }
 
+  // What the telephones do is told fifty times a second; where nothing moves, less often, until somebody does something.
+  beat() {
+    this.move();
+    const rests = this.coming.length === 0 && this.standsStill();
+    this.beating = setTimeout(() => this.beat(), rests ? RESTS_MS : TOLD_EACH_MS);
+  }
+
+  stir() {
+    clearTimeout(this.beating);
+    this.beating = setTimeout(() => this.beat());
+  }
+
   // Each thing that is due is done as at its own moment, with all that the telephones did before it.
   move() {
     const now = this.clock.now();
@@ -264,15 +279,30 @@ class Office {
       });
     }
     this.telephones.forEach((telephone) => telephone.move());
+    if (this.resting && !this.standsStill()) this.wake();
   }
 
   nextDue(now) {
     return this.coming.filter(({ at }) => at <= now).sort((one, other) => one.at - other.at)[0];
   }
 
-  // The next picture is asked for first, so that a fault in one does not end them all.
+  // No picture would be another one than the last.
+  standsStill() {
+    return this.sender.isIdle() && this.telephones.every((it) => it.top.hidden || it.standsStill());
+  }
+
+  wake() {
+    clearTimeout(this.resting);
+    this.resting = null;
+    requestAnimationFrame(() => this.show());
+  }
+
+  // The next picture is asked for first, so that a fault in one does not end them all. Where nothing moves, none is
+  // asked for at each frame of the screen.
   show() {
-    if (lessMotion.matches) setTimeout(() => this.show(), 250);
+    this.resting = null;
+    if (lessMotion.matches) setTimeout(() => this.show(), RESTS_MS);
+    else if (this.standsStill()) this.resting = setTimeout(() => this.show(), RESTS_MS);
     else requestAnimationFrame(() => this.show());
     this.sender.move();
     for (const telephone of this.telephones) if (!telephone.top.hidden) telephone.show(this.colours);
@@ -288,7 +318,7 @@ class Office {
       addEventListener(name, () => this.setSaid(true), { capture: true, once: true });
     }
     this.readExample();
-    setInterval(() => this.move(), TOLD_EACH_MS);
+    this.beat();
     this.show();
     const { look, seconds } = lookAsked();
     if (look) document.body.classList.add(look);

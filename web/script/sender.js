@@ -30,6 +30,8 @@ class Sender {
   // tell: is given what the far end heard of these keys, once they have sounded.
   send(name, marks, tell) { this.waiting.push({ name, keys: keysOf(marks), tell }); }
 
+  isIdle() { return !this.playing && this.waiting.length === 0; }
+
   sendAgain() { if (this.last && !this.playing) this.waiting.push(this.last); }
 
   clear() {

@@ -188,6 +188,9 @@ class Telephone {
     this.showState();
   }
 
+  // What is shown of it is drawn, and nothing on it moves.
+  standsStill() { return this.isStill && this.isAtRest(); }
+
   show(colours) {
     this.dial.show();
     const isStill = this.isAtRest() && this.trace.isEmpty();

@@ -10,6 +10,27 @@ const sleep = (ms) => new Promise((done) => { setTimeout(done, ms); });
 
 const WORDS = ['--headless', '--no-sandbox', '--disable-gpu', '--hide-scrollbars', '--remote-debugging-port=0'];
 
+const TICKS_A_SECOND = 100;
+
+// What Linux tells of a process: its words, and the fields of its state behind its name; null where it has ended.
+function processOf(id) {
+  try {
+    const stat = fs.readFileSync(`/proc/${id}/stat`, 'utf8');
+    const words = fs.readFileSync(`/proc/${id}/cmdline`, 'utf8');
+    return { words, fields: stat.slice(stat.lastIndexOf(')') + 2).split(' ') };
+  } catch {
+    return null;
+  }
+}
+
+const processes = () => fs.readdirSync('/proc').filter((id) => /^[0-9]+$/.test(id)).map(processOf).filter(Boolean);
+
+// Whether a process is another one, or comes from it.
+function descends(id, from) {
+  for (let it = id; it > 1; it = Number(processOf(it)?.fields[1] ?? 0)) if (it === from) return true;
+  return false;
+}
+
 class Browser {
   // sound: a WAV file, which the browser hears over and over in place of a microphone, and asks nobody.
   async open(sound) {
@@ -132,12 +153,22 @@ class Browser {
     fs.writeFileSync(file, Buffer.from((await this.send('Page.captureScreenshot', words)).data, 'base64'));
   }
 
+  // The seconds of a processor that the processes of pages have taken, by Linux.
+  seconds() {
+    let ticks = 0;
+    for (const { words, fields } of processes()) {
+      const isOurs = words.includes('--type=renderer') && descends(Number(fields[1]), this.process.pid);
+      if (isOurs) ticks += Number(fields[11]) + Number(fields[12]);
+    }
+    return ticks / TICKS_A_SECOND;
+  }
+
   async close() {
     this.socket.close();
     const ended = new Promise((done) => { this.process.once('exit', done); });
     this.process.kill();
     await ended;
-    fs.rmSync(this.home, { recursive: true, force: true });
+    fs.rmSync(this.home, { recursive: true, force: true, maxRetries: 20, retryDelay: 100 });
   }
 }
 

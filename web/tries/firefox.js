@@ -112,7 +112,7 @@ class Firefox {
     await this.send('browser.close', {}).catch(() => this.process.kill());
     await ended;
     this.socket.close();
-    fs.rmSync(this.home, { recursive: true, force: true });
+    fs.rmSync(this.home, { recursive: true, force: true, maxRetries: 20, retryDelay: 100 });
   }
 }
 

@@ -112,8 +112,9 @@ async function tryLacking(it) {
 
 // Timers as those of a hidden tab: one a second, and no frames.
 const HIDE = `
-  const interval = setInterval;
-  window.setInterval = (what, ms) => interval(what, Math.max(ms, 1000));
+  const { setInterval: interval, setTimeout: timeout } = window;
+  window.setInterval = (what, ms = 0) => interval(what, Math.max(ms, 1000));
+  window.setTimeout = (what, ms = 0) => timeout(what, Math.max(ms, 1000));
   window.requestAnimationFrame = () => 0;`;
 
 async function tryHidden(it) {
@@ -141,7 +142,33 @@ async function tryFirstScreen(it) {
   await it.look();
 }
 
+const COUNT_PICTURES = `
+  window.pictures = 0;
+  const ask = requestAnimationFrame;
+  window.requestAnimationFrame = (what) => { pictures += 1; return ask(what); };`;
+const RESTS_MS = 10000;
+const MOST_SHARE = 0.02;
+
+// The page at rest asks for no picture at each frame of the screen, and moves once it is touched.
+async function tryRest(it) {
+  await visitWith(it, COUNT_PICTURES);
+  await it.click('[data-number="411"]');
+  await it.untilEntries(1, 8000);
+  await it.hangUp();
+  // until its last break has left the trace
+  await sleep(RESTS_MS);
+  const [pictures, seconds] = [await it.run('pictures'), it.seconds()];
+  await sleep(RESTS_MS);
+  is('at rest no picture is drawn', await it.run('pictures') - pictures, 0);
+  const share = (it.seconds() - seconds) / (RESTS_MS / 1000);
+  is(`and the page takes ${(100 * share).toFixed(1)} % of a processor, under ${100 * MOST_SHARE}`, share < MOST_SHARE, true);
+  await it.click('.hook');
+  await sleep(300);
+  is('and it moves at once when it is touched', await it.run('pictures') > pictures + 3, true);
+}
+
 async function tryFirst(it) {
+  await tryRest(it);
   await tryButtons(it);
   await tryHook(it);
   await trySilence(it);
