@@ -32,6 +32,15 @@ function actsOf(it, { throwOf, oneOf, happens }) {
   ];
 }
 
+// Hangs up what is up, and what a button that was pressed before lifts meanwhile.
+async function hangAllUp(it) {
+  const hang = `[...document.querySelectorAll('.hook.up')].map((hook) => hook.click()).length`;
+  for (let looks = 0; looks < 2;) {
+    looks = await it.run(hang) > 0 ? 0 : looks + 1;
+    await sleep(1500);
+  }
+}
+
 async function tryChance(it, table, programs) {
   await it.visit('#quiet');
   await it.listen();
@@ -40,8 +49,7 @@ async function tryChance(it, table, programs) {
   let count = 0;
   for (const end = Date.now() + MOST_MS; Date.now() < end; count++) await dice.oneOf(...acts)();
   await it.choose('#pace', '1');
-  await it.run('document.querySelectorAll(".hook.up").forEach((hook) => hook.click())');
-  await sleep(1500);
+  await hangAllUp(it);
   const entries = await it.entries();
   is(`${entries.length} entries of ${count} acts by chance`, entries.length > 5, true);
   await new TapeTry(it, programs).compare(table, 0);
