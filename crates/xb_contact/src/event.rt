@@ -63,6 +63,24 @@ pub enum Refusal {
     /// A file whose head is that of no WAV whose samples can be read.
     #[error("a WAV of 8 or 16 bits or mu-law was wanted: sox IN.wav -e signed -b 16 OUT.wav")]
     Wav,
+    /// Two edges of one direction, with none between them.
+    #[error("an edge is lost: two of one direction follow each other")]
+    LostEdge,
+    /// A file of several files, as PulseView and Saleae save their recordings.
+    #[error("a .sr or .sal is no stream: sigrok-cli -i FILE.sr -O vcd, or export the .sal as CSV")]
+    Archive,
+    /// Sound that ends before all bytes have come that its head counts; so many are missing.
+    #[error("the sound is cut off: {0} bytes are missing")]
+    CutOff(u64),
+    /// Sound without a sample.
+    #[error("the sound has no samples")]
+    Empty,
+    /// Sound that goes on behind all bytes that its head counts.
+    #[error("more follows than the head counts: sox IN.wav OUT.wav")]
+    MoreFollows,
+    /// Sound whose greatest sample is under three times the threshold; such a threshold would fit.
+    #[error("the sound is too quiet for the threshold: give --threshold {0}")]
+    Quiet(u8),
     /// The form is told by nothing.
     #[error("the form of the recording cannot be told: give --format")]
     Form,
