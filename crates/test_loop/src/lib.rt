@@ -14,3 +14,5 @@ mod refusals;
 mod settling;
 #[cfg(test)]
 mod statuses;
+#[cfg(test)]
+mod tables;

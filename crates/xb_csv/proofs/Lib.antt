@@ -2,6 +2,7 @@ pub mod CellLemmas
 pub mod DigitLemmas
 pub mod WrittenSeconds
 pub mod WrittenEdges
+pub mod NamedLines
 pub mod WrittenRows
 pub mod WrittenCells
 pub mod WrittenSigrok

@@ -1,13 +1,15 @@
 -- Edges that are written are read back.
-use Rattle.std.proofs.Common.{◌≡◌, ℕ, suc, ◌+◌, ◌-◌, ◌^◌, ◌<◌, ◌≤◌, List, [], ◌∷◌, ◌++◌, Bool, true, false, cond, Option, Some, None, length, length-append, take, drop, get_or, reverse, refl, ap, subst, ◌∙◌, arith, ne_eqb, not, codes, ◌&&◌}
+use Rattle.std.proofs.Common.{◌≡◌, ℕ, suc, ◌+◌, ◌-◌, ◌^◌, ◌<◌, ◌≤◌, List, [], ◌∷◌, ◌++◌, Bool, true, false, cond, Option, Some, None, length, length-append, take, drop, get_or, reverse, refl, ap, subst, ◌∙◌, arith, ne_eqb, not, codes, ◌&&◌, ◌||◌}
 use Rattle.std.proofs.Math.Seq.{drop-append_seam, split_at, take-append_seam, take-length}
 use Rattle.std.proofs.lemmas.List.{length-reverse, length-take-le, reverse-append}
-use Rattle.std.specs.Prelude.{Ok, Err, bytes_eq, nat_lt, ◌==◌, option_map}
+use Rattle.std.specs.Prelude.{Ok, Err, bytes_eq, decimal, is_some, nat_lt, ◌==◌, option_map}
 use Rattle.std.specs.Char.{is_ascii_whitespace}
 use Rattle.std.specs.List.{AllByRecursion, IsDistinct, list_all, position, prefix_len, suffix_len}
 use Rattle.std.specs.Option.{ok_or}
 use Rattle.std.proofs.lemmas.Bool.{and_parts}
 use Rattle.std.proofs.lemmas.Bool.Decides.{nat_tests}
+use Rattle.std.proofs.lemmas.Fmt.{decimal_nonempty}
+use Rattle.std.proofs.lemmas.Slice.Eq.{bytes_eq-Decides}
 use Rattle.xb_contact.specs.declared.event.Event.{Event}
 use Rattle.xb_contact.specs.declared.event.Event.TheVariants as events
 use Rattle.xb_contact.specs.declared.event.Refusal.TheVariants as refusals
@@ -15,13 +17,14 @@ use Rattle.xb_contact.specs.declared.level.Level.{Level}
 use Rattle.xb_contact.specs.declared.level.Level.TheVariants.{Open, Closed}
 use Rattle.xb_contact.specs.declared.scale.TheConstants.{NANOSECONDS}
 use Rattle.xb_contact.specs.Changes.{AreInOrder, AreNames, Change, IsName, change_events}
+use Rattle.xb_contact.specs.Numbers.{number_of}
 use Rattle.xb_contact.specs.Steps.{result_and_then, result_map, then_later}
 use Rattle.xb_contact.proofs.StepLemmas.{line_says}
-use Rattle.xb_contact.proofs.Written.{AreOthers, all_weaker, never_after_end, one_of, others_differ, same_bytes}
+use Rattle.xb_contact.proofs.Written.{AreOthers, all_weaker, digits_are, never_after_end, one_of, others_differ, same_bytes}
 use Rattle.xb_csv.specs.Cells.{trimmed, trimmed_end}
-use Rattle.xb_csv.specs.Gpiomons.{EdgeSaid, GpiomonState, cut_word, edge_line_says, edge_of, edge_says, edge_with, first_kind, first_word, gpiomon_ends, gpiomon_line_says, gpiomon_says, gpiomon_with, is_gap, level_after, named_levels, second_kind, time_said, between, wire_by, wire_of}
+use Rattle.xb_csv.specs.Gpiomons.{EdgeSaid, GpiomonState, cut_word, edge_line_says, edge_of, edge_says, edge_with, first_kind, first_word, gpiomon_ends, gpiomon_line_says, gpiomon_says, gpiomon_with, is_gap, is_name, is_numbered, level_after, named_levels, names_by, names_wire, second_kind, time_said, between}
 use Rattle.xb_csv.specs.Written.{WrittenEdgesAreRead, edge_line, edge_lines, seconds_text, way_text}
-use Rattle.xb_csv.proofs.WrittenSeconds.{place_of, seconds_are_read, seconds_nonempty, seconds_pass, seconds_start}
+use Rattle.xb_csv.proofs.WrittenSeconds.{no_place, place_of, seconds_are_read, seconds_nonempty, seconds_pass, seconds_start}
 use Rattle.xb_csv.specs.Seconds.{nanoseconds_of}
 
 -- a text that begins, and that ends, with no blank
@@ -41,8 +44,8 @@ begins_more (byte ∷ text) rest some none = at (is_ascii_whitespace byte) none
     at true e = absurd (omega arith)
     at false e = refl
 
-ends-after : (byte : ℕ) (text : List ℕ) → EndsBare text → EndsBare (byte ∷ text)
-ends-after byte text ends =
+pub ends_more : (byte : ℕ) (text : List ℕ) → EndsBare text → EndsBare (byte ∷ text)
+ends_more byte text ends =
     let some : 0 < length (reverse text) = omega (arith, length-reverse text) in (
       omega arith,
       ap (prefix_len is_ascii_whitespace) (reverse-append (byte ∷ []) text)
@@ -51,7 +54,7 @@ ends-after byte text ends =
 
 pub ends_append : (text rest : List ℕ) → EndsBare rest → EndsBare (text ++ rest)
 ends_append [] rest ends = ends
-ends_append (byte ∷ text) rest ends = ends-after byte (text ++ rest) (ends_append text rest ends)
+ends_append (byte ∷ text) rest ends = ends_more byte (text ++ rest) (ends_append text rest ends)
 
 not-blank : (byte : ℕ) → nat_lt 32 byte ≡ true → is_ascii_whitespace byte ≡ false
 not-blank byte high = grind (arith, nat_tests)
@@ -67,7 +70,7 @@ name_ends [] is = absurd (omega arith)
 name_ends (byte ∷ []) is = (omega arith, name_begins (byte ∷ []) is)
 name_ends (byte ∷ next ∷ name) is =
     let parts = and_parts (nat_lt 32 byte) (list_all (nat_lt 32) (next ∷ name)) is.1 in
-    ends-after byte (next ∷ name) (name_ends (next ∷ name) (omega arith, parts.1))
+    ends_more byte (next ∷ name) (name_ends (next ∷ name) (omega arith, parts.1))
 
 trimmed-end : (text : List ℕ) → EndsBare text → trimmed_end text ≡ text
 trimmed-end text ends =
@@ -82,42 +85,86 @@ pub trimmed_blank : (text : List ℕ) → BeginsBare text → EndsBare text → 
 unfolding trimmed
 trimmed_blank text begins ends = ap (λ n. trimmed_end (drop (1 + n) (32 ∷ text))) begins ∙ trimmed-end text ends
 
+no-gap : (word : List ℕ) → IsName word → list_all (λ b. not (is_gap b)) word ≡ true
+no-gap word is = all_weaker (nat_lt 32) (λ b. not (is_gap b)) (λ b h. grind (arith, nat_tests)) word is.1
+
 -- the first word of a text
-first-word :
+pub word_cut :
     (word rest : List ℕ) → IsName word → BeginsBare rest → EndsBare rest → first_word (word ++ 32 ∷ rest) ≡ (word, rest)
 unfolding first_word
-first-word word rest is begins ends =
+word_cut word rest is begins ends =
     let text : List ℕ = word ++ 32 ∷ rest in
     let same : trimmed text ≡ text =
     trimmed_same text (begins_more word (32 ∷ rest) is.0 (name_begins word is))
-    (ends_append word (32 ∷ rest) (ends-after 32 rest ends)) in
+    (ends_append word (32 ∷ rest) (ends_more 32 rest ends)) in
     let gap : position is_gap text ≡ Some (length word) =
-    place_of is_gap word rest 32 (all_weaker (nat_lt 32) (λ b. not (is_gap b)) (λ b h. grind (arith, nat_tests)) word is.1) refl in
+    place_of is_gap word rest 32 (no-gap word is) refl in
     ap (λ t. cut_word t (position is_gap t)) same
     ∙ ap (cut_word text) gap
     ∙ ap (λ front. (front, trimmed (drop (length word) text))) (take-append_seam word (32 ∷ rest))
     ∙ ap (λ back. (word, trimmed back)) (drop-append_seam word (32 ∷ rest))
     ∙ ap (λ back. (word, back)) (trimmed_blank rest begins ends)
 
--- the wire is the number after the chip
-chip-wire : (name : List ℕ) → IsName name → wire_of (codes "gpiochip0 " ++ name) ≡ name
+-- a name is one word
+one-word : (word : List ℕ) → IsName word → first_word word ≡ (word, [])
+unfolding first_word
+one-word word is =
+    ap (λ t. cut_word t (position is_gap t)) (trimmed_same word (name_begins word is) (name_ends word is))
+    ∙ ap (cut_word word) (no_place is_gap word (no-gap word is))
+
+-- what gpiomon writes of a wire after a chip is no name, which has no blank
+chip-other : (own name : List ℕ) → IsName own → bytes_eq own (codes "gpiochip0 " ++ name) ≡ false
+chip-other own name is = at (bytes_eq own (codes "gpiochip0 " ++ name)) refl
+  where
+    at : (b : Bool) → bytes_eq own (codes "gpiochip0 " ++ name) ≡ b → b ≡ false
+    at false e = refl
+    at true e =
+        let same : own ≡ codes "gpiochip0 " ++ name = (bytes_eq-Decides own (codes "gpiochip0 " ++ name)).0 e in
+        let P : List ℕ → Type 0 = λ t. list_all (nat_lt 32) t ≡ true in
+        let blank : false ≡ true = subst P same is.1 in
+        cc
+
+none-other : (own : List ℕ) → IsName own → is_name own [] ≡ false
 unfolding between
-chip-wire name is =
+none-other [] is = absurd (omega (arith, is.0))
+none-other (byte ∷ own) is = refl
+
+-- it stands in no quotes
+pub chip_bare : (rest : List ℕ) → between 34 34 (codes "gpiochip0 " ++ rest) ≡ None
+unfolding between
+chip_bare rest = no-quotes _ _ _
+  where
+    no-quotes : (long last : Bool) (inner : List ℕ) → cond ((long && false) && last) (Some inner) None ≡ None
+    no-quotes true last inner = refl
+    no-quotes false last inner = refl
+
+-- it names the wire whose name stands after the chip
+chip-named :
+    (own name : List ℕ) → IsName own → IsName name → names_wire own (codes "gpiochip0 " ++ name) ≡ bytes_eq own name
+unfolding names_wire
+chip-named own name mine is =
     let text : List ℕ = codes "gpiochip0 " ++ name in
     let words : first_word text ≡ (codes "gpiochip0", name) =
-    first-word (codes "gpiochip0") name (omega arith, refl) (name_begins name is) (name_ends name is) in
-    let quoted : between 34 34 text ≡ None = no-quotes _ _ _ in
-    ap (wire_by text) quoted
-    ∙ ap (λ w. cond (length w.1 == 0) text w.1) words
-    ∙ ap (λ t. cond t text name) (ne_eqb (length name) 0 (λ e. absurd (omega (arith, is.0))))
+    word_cut (codes "gpiochip0") name (omega arith, refl) (name_begins name is) (name_ends name is) in
+    let same : Bool = bytes_eq own name in
+    ap (names_by own text) (chip_bare name)
+    ∙ ap (λ t. t || (bytes_eq own (first_word text).1 || is_numbered own (first_word text).1)) (chip-other own name mine)
+    ∙ ap (λ (w : List ℕ × List ℕ). bytes_eq own w.1 || is_numbered own w.1) words
+    ∙ ap (λ (w : List ℕ × List ℕ). same || (is_some (number_of w.0) && (bytes_eq own w.0 || is_name own w.1))) (one-word name is)
+    ∙ ap (λ t. same || (is_some (number_of name) && (same || t))) (none-other own mine)
+    ∙ either same (is_some (number_of name))
   where
-    no-quotes : (long last : Bool) (name : List ℕ) → cond ((long && false) && last) (Some name) None ≡ None
-    no-quotes true last name = refl
-    no-quotes false last name = refl
+    either : (same number : Bool) → (same || (number && (same || false))) ≡ same
+    either true number = refl
+    either false true = refl
+    either false false = refl
 
 abbrev by-kind : List ℕ → List ℕ × List ℕ → Option EdgeSaid
 by-kind time kind =
-    cond (length kind.1 == 0) None (option_map (λ level. edge_with time (wire_of kind.1) level) (level_after kind.0))
+    cond (length kind.1 == 0) None (option_map (λ level. edge_with time kind.1 level) (level_after kind.0))
+
+pub decimal_name : (number : ℕ) → number < 2 ^ 64 → IsName (decimal number)
+decimal_name number small = (decimal_nonempty number small, digits_are (nat_lt 32) (λ digit low. grind (arith, nat_tests)) number small)
 
 way-name : (level : Level) → IsName (way_text level)
 way-name Open = (omega arith, refl)
@@ -135,7 +182,7 @@ seconds_name tick small =
 second-read :
     (tick : ℕ) (level : Level) (name : List ℕ) → tick < 2 ^ 64 → IsName name
     → second_kind (seconds_text tick ++ 32 ∷ (way_text level ++ (codes " gpiochip0 " ++ name)))
-    ≡ Some (edge_with (seconds_text tick) name level)
+    ≡ Some (edge_with (seconds_text tick) (codes "gpiochip0 " ++ name) level)
 unfolding second_kind
 second-read tick level name small is =
     let time : List ℕ = seconds_text tick in
@@ -145,40 +192,43 @@ second-read tick level name small is =
     let begins : BeginsBare later =
     begins_more (way_text level) (32 ∷ chip) (way-name level).0 (name_begins (way_text level) (way-name level)) in
     ap (λ w. by-kind w.0 (first_word w.1))
-    (first-word time later (seconds_name tick small) begins (ends_append (way_text level) (32 ∷ chip) (ends-after 32 chip ends)))
-    ∙ ap (by-kind time) (first-word (way_text level) chip (way-name level) refl ends)
-    ∙ ap (λ t. cond t None (option_map (λ l. edge_with time (wire_of chip) l) (level_after (way_text level))))
+    (word_cut time later (seconds_name tick small) begins (ends_append (way_text level) (32 ∷ chip) (ends_more 32 chip ends)))
+    ∙ ap (by-kind time) (word_cut (way_text level) chip (way-name level) refl ends)
+    ∙ ap (λ t. cond t None (option_map (λ l. edge_with time chip l) (level_after (way_text level))))
     (ne_eqb (length chip) 0 (λ e. absurd (omega (arith, ends.0))))
-    ∙ ap (option_map (λ l. edge_with time (wire_of chip) l)) (way-read level)
-    ∙ ap (λ wire. Some (edge_with time wire level)) (chip-wire name is)
+    ∙ ap (option_map (λ l. edge_with time chip l)) (way-read level)
 
--- the wires of a name
+-- the wires that a text after a chip names
 named-none :
-    (i : ℕ) (name : List ℕ) (level : Level) (names : List (List ℕ)) → AreOthers name names → named_levels i name level names ≡ []
-named-none i name level [] all = refl
-named-none i name level (own ∷ names) all =
-    let rest = named_levels (i + 1) name level names in
-    ap (λ t. cond t (events.Level i level ∷ rest) rest) all.0 ∙ named-none (i + 1) name level names all.1
+    (i : ℕ) (name : List ℕ) (level : Level) (names : List (List ℕ)) → IsName name → AllByRecursion IsName names
+    → AreOthers name names → named_levels i (codes "gpiochip0 " ++ name) level names ≡ []
+named-none i name level [] is words all = refl
+named-none i name level (own ∷ names) is words all =
+    let rest = named_levels (i + 1) (codes "gpiochip0 " ++ name) level names in
+    ap (λ t. cond t (events.Level i level ∷ rest) rest) (chip-named own name words.0 is ∙ all.0)
+    ∙ named-none (i + 1) name level names is words.1 all.1
 
 named-one :
-    (i : ℕ) (name : List ℕ) (level : Level) (before after : List (List ℕ)) → AreOthers name before → AreOthers name after
-    → named_levels i name level (before ++ name ∷ after) ≡ events.Level (i + length before) level ∷ []
-named-one i name level [] after first last =
-    let rest = named_levels (i + 1) name level after in
+    (i : ℕ) (name : List ℕ) (level : Level) (before after : List (List ℕ)) → IsName name
+    → AllByRecursion IsName (before ++ name ∷ after) → AreOthers name before → AreOthers name after
+    → named_levels i (codes "gpiochip0 " ++ name) level (before ++ name ∷ after) ≡ events.Level (i + length before) level ∷ []
+named-one i name level [] after is words first last =
+    let rest = named_levels (i + 1) (codes "gpiochip0 " ++ name) level after in
     let here : i ≡ i + 0 = omega arith in
-    ap (λ t. cond t (events.Level i level ∷ rest) rest) (same_bytes name)
-    ∙ ap (λ later. events.Level i level ∷ later) (named-none (i + 1) name level after last)
+    ap (λ t. cond t (events.Level i level ∷ rest) rest) (chip-named name name is is ∙ same_bytes name)
+    ∙ ap (λ later. events.Level i level ∷ later) (named-none (i + 1) name level after is words.1 last)
     ∙ ap (λ k. events.Level k level ∷ []) here
-named-one i name level (own ∷ before) after first last =
-    let rest = named_levels (i + 1) name level (before ++ name ∷ after) in
+named-one i name level (own ∷ before) after is words first last =
+    let rest = named_levels (i + 1) (codes "gpiochip0 " ++ name) level (before ++ name ∷ after) in
     let there : i + 1 + length before ≡ i + length (own ∷ before) = omega arith in
-    ap (λ t. cond t (events.Level i level ∷ rest) rest) first.0
-    ∙ named-one (i + 1) name level before after first.1 last
+    ap (λ t. cond t (events.Level i level ∷ rest) rest) (chip-named own name words.0 is ∙ first.0)
+    ∙ named-one (i + 1) name level before after is words.1 first.1 last
     ∙ ap (λ k. events.Level k level ∷ []) there
 
 pub own_name :
     (names : List (List ℕ)) (wire : ℕ) (level : Level) → AreNames names → wire < length names
-    → IsName (get_or names wire []) × (named_levels 0 (get_or names wire []) level names ≡ events.Level wire level ∷ [])
+    → IsName (get_or names wire [])
+    × (named_levels 0 (codes "gpiochip0 " ++ get_or names wire []) level names ≡ events.Level wire level ∷ [])
 own_name names wire level lawful within =
     let name : List ℕ = get_or names wire [] in
     let before : List (List ℕ) = take wire names in
@@ -186,10 +236,12 @@ own_name names wire level lawful within =
     let all : names ≡ before ++ name ∷ after = split_at names wire [] within in
     let P : List (List ℕ) → Type 0 = λ them. AllByRecursion IsName them in
     let Q : List (List ℕ) → Type 0 = λ them. IsDistinct bytes_eq them in
+    let words : AllByRecursion IsName (before ++ name ∷ after) = subst P all lawful.words in
+    let is : IsName name = one_of IsName name before after words in
     let apart = others_differ name before after (subst Q all lawful.distinct) in
     let count : 0 + length before ≡ wire = omega (arith, length-take-le wire names (omega arith)) in (
-      one_of IsName name before after (subst P all lawful.words),
-      ap (named_levels 0 name level) all ∙ named-one 0 name level before after apart.0 apart.1
+      is,
+      ap (named_levels 0 (codes "gpiochip0 " ++ name) level) all ∙ named-one 0 name level before after is words apart.0 apart.1
           ∙ ap (λ k. events.Level k level ∷ []) count,
     )
 
@@ -209,17 +261,18 @@ line-read names last edge said lawful within late early times =
     let small : edge.tick < 2 ^ 64 = omega arith in
     let some : 0 < length line = omega (arith, length-append time later, seconds_nonempty edge.tick small) in
     let ends : EndsBare line =
-    ends_append time later (ends-after 32 _ (ends_append (way_text edge.level) _ (ends_append (codes " gpiochip0 ") name (name_ends name own.0)))) in
+    ends_append time later (ends_more 32 _ (ends_append (way_text edge.level) _ (ends_append (codes " gpiochip0 ") name (name_ends name own.0)))) in
     let same : trimmed line ≡ line =
     trimmed_same line (begins_more time later (seconds_nonempty edge.tick small) (name_begins time (seconds_name edge.tick small))) ends in
-    let read : edge_of line ≡ Some (edge_with time name edge.level) =
+    let chip : List ℕ = codes "gpiochip0 " ++ name in
+    let read : edge_of line ≡ Some (edge_with time chip edge.level) =
     ap (λ t. cond t (first_kind line) (second_kind line)) (seconds_start 101 (codes "vent:") edge.tick later small refl)
     ∙ second-read edge.tick edge.level name small own.0 in
     ap (λ t. cond (length t == 0) (Ok ([], state)) (edge_line_says state t)) same
     ∙ ap (λ t. cond t (Ok ([], state)) (edge_line_says state line)) (ne_eqb (length line) 0 (λ e. absurd (omega (arith, some))))
     ∙ ap (λ found. result_and_then (λ edge. result_and_then (λ time. edge_says state edge time) (ok_or (nanoseconds_of edge.time) refusals.Time)) (ok_or found refusals.Edge)) read
-    ∙ ap (λ found. result_and_then (λ time. edge_says state (edge_with (seconds_text edge.tick) name edge.level) time) (ok_or found refusals.Time)) (seconds_are_read edge.tick late early)
-    ∙ ap (result_map (λ said. (said ++ named_levels 0 name edge.level names, gpiomon_with names (Some edge.tick)))) times
+    ∙ ap (λ found. result_and_then (λ time. edge_says state (edge_with (seconds_text edge.tick) chip edge.level) time) (ok_or found refusals.Time)) (seconds_are_read edge.tick late early)
+    ∙ ap (result_map (λ said. (said ++ named_levels 0 chip edge.level names, gpiomon_with names (Some edge.tick)))) times
     ∙ ap (λ levels. Ok (said ++ levels, gpiomon_with names (Some edge.tick))) own.1
 
 -- the edges after one at this tick

@@ -68,6 +68,23 @@ place_of test bytes rest byte none here =
     ap (λ n. cond (nat_lt n (length (bytes ++ byte ∷ rest))) (Some n) None) at
     ∙ ap (λ t. cond t (Some (length bytes)) None) within
 
+-- where no byte passes, there is no place
+all-pass : (test : ℕ → Bool) (bytes : List ℕ) → list_all test bytes ≡ true → prefix_len test bytes ≡ length bytes
+all-pass test [] all = refl
+all-pass test (byte ∷ bytes) all =
+    let parts = and_parts (test byte) (list_all test bytes) all in
+    ap (λ t. cond t (1 + prefix_len test bytes) 0) parts.0 ∙ ap (λ n. 1 + n) (all-pass test bytes parts.1) ∙ (omega arith)
+
+pub no_place : (test : ℕ → Bool) (bytes : List ℕ) → list_all (λ b. not (test b)) bytes ≡ true → position test bytes ≡ None
+no_place test bytes none =
+    let past : nat_lt (length bytes) (length bytes) ≡ false = grind (arith, nat_tests) in
+    ap (λ n. cond (nat_lt n (length bytes)) (Some n) None) (all-pass (λ b. not (test b)) bytes none)
+    ∙ ap (λ t. cond t (Some (length bytes)) None) past
+
+pub no_cut : (at : ℕ) (bytes : List ℕ) → list_all (λ b. not (b == at)) bytes ≡ true → cut_at at bytes ≡ None
+no_cut at bytes none =
+    ap (option_map (λ n. (take n bytes, drop (n + 1) bytes))) (no_place (λ b. b == at) bytes none)
+
 pub cut_there :
     (at : ℕ) (bytes rest : List ℕ) → list_all (λ b. not (b == at)) bytes ≡ true → (at == at) ≡ true
     → cut_at at (bytes ++ at ∷ rest) ≡ Some (bytes, rest)

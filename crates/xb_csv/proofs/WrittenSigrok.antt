@@ -29,7 +29,7 @@ use Rattle.xb_csv.specs.Tables.{TableState, begins_rows, begun_table, columns_in
 use Rattle.xb_csv.specs.Written.{AreRows, TableRow, level_text, levels_said, rows_said}
 use Rattle.xb_csv.specs.WrittenTables.{AreAmong, AreLabels, Heading, IsHeading, IsLabel, SigrokSamplesAreRead, SigrokTimesAreRead, cells_line, counts_text, heading_lines, hertz, levels_at, logic_labels, names_at, names_text, rate_text, row_of, rows_at, rows_from, samples_text, time_label, time_scale, timed_lines, times_text, unit_text}
 use Rattle.xb_csv.proofs.WrittenSeconds.{cut_there, no_start}
-use Rattle.xb_csv.proofs.WrittenEdges.{BeginsBare, EndsBare, begins_more, ends_append, name_begins, trimmed_blank}
+use Rattle.xb_csv.proofs.WrittenEdges.{BeginsBare, EndsBare, begins_more, decimal_name, ends_append, name_begins, trimmed_blank}
 use Rattle.xb_csv.proofs.WrittenCells.{IsOne, among, bare_taken, columns_found, joined_cells, joined_ends, joined_pieces, joined_taken, levels_labels, row_read, timed_rows, word_label}
 
 -- the names of a comment, with a blank before each
@@ -138,9 +138,6 @@ rate-some number (suc (suc zero)) few = omega arith
 rate-some number (suc (suc (suc zero))) few = omega arith
 rate-some number (suc (suc (suc (suc unit)))) few = absurd (omega arith)
 
-decimal-name : (number : ℕ) → number < 2 ^ 64 → IsName (decimal number)
-decimal-name number small = (decimal_nonempty number small, digits_are (nat_lt 32) (λ digit low. grind (arith, nat_tests)) number small)
-
 rate-ends : (number unit : ℕ) → unit < 4 → EndsBare (rate_text number unit)
 rate-ends number unit few = ends_append (decimal number) _ (ends_append (codes " ") (unit_text unit) (unit-ends unit few))
 
@@ -151,7 +148,7 @@ unfolding rate_of
 rate-read number unit few small =
     let text : List ℕ = rate_text number unit in
     let own : number < 2 ^ 64 = omega (arith, rate-some number unit few) in
-    let name : IsName (decimal number) = decimal-name number own in
+    let name : IsName (decimal number) = decimal_name number own in
     let begins : BeginsBare text = begins_more (decimal number) (32 ∷ unit_text unit) name.0 (name_begins (decimal number) name) in
     let fits : nat_lt (number * 1000 ^ unit) (2 ^ 64) ≡ true = grind (arith, nat_tests) in
     ap (λ t. rate_in_parts t (cut_at 32 t)) (trimmed_blank text begins (rate-ends number unit few))
@@ -372,7 +369,7 @@ number-plain number (cell ∷ cells) small =
 
 number-label : (number : ℕ) → number < 2 ^ 64 → IsLabel (decimal number)
 number-label number small =
-    word_label (decimal number) (decimal-name number small)
+    word_label (decimal number) (decimal_name number small)
     (digits_are (λ b. not (b == 44)) (λ digit low. ap not (ne_eqb (48 + digit) 44 (λ e. absurd (omega arith)))) number small)
 
 -- a row with its time

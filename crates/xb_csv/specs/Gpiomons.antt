@@ -1,8 +1,9 @@
 -- What gpiomon writes, line by line.
-use Rattle.std.specs.Prelude.{ℕ, ◌+◌, ◌-◌, List, [], ◌∷◌, ◌++◌, Bool, Option, Some, None, Result, Ok, Err, bytes_eq, codes, drop, length, map, nat_le, nat_lt, nat_eq, slice_index, take, ◌==◌, ◌&&◌, ◌||◌, if◌then◌else◌, option_map}
+use Rattle.std.specs.Prelude.{ℕ, ◌+◌, ◌-◌, List, [], ◌∷◌, ◌++◌, Bool, false, Option, Some, None, Result, Ok, Err, bytes_eq, codes, drop, is_some, length, map, nat_le, nat_lt, nat_eq, slice_index, take, ◌==◌, ◌&&◌, ◌||◌, if◌then◌else◌, option_map}
 use Rattle.std.specs.List.{position, starts_with}
 use Rattle.std.specs.Option.{ok_or, option_and_then}
 use Rattle.xb_contact.specs.declared.scale.TheConstants.{NANOSECONDS}
+use Rattle.xb_contact.specs.Numbers.{number_of}
 use Rattle.xb_csv.specs.Cells.{trimmed}
 use Rattle.xb_csv.specs.Seconds.{nanoseconds_of}
 use Rattle.xb_contact.specs.declared.event.Event.{Event}
@@ -39,7 +40,7 @@ level_after word =
     if bytes_eq word (codes "RISING") || bytes_eq word (codes "rising") then Some Closed
     else (if bytes_eq word (codes "FALLING") || bytes_eq word (codes "falling") then Some Open else None)
 
--- what a line says: a time in seconds, a wire, and its level from then on
+-- what a line says: a time in seconds, what it writes of a wire, and the level of that from then on
 pub record EdgeSaid : Type 0 where
   pub time : List ℕ
   pub level : Level
@@ -71,13 +72,29 @@ first_kind line =
     let wire = word_after offset in
     edge_by kind edge offset wire (word_after wire)
 
--- the wire is the number after the chip, or a name in quotes
-abbrev pub wire_by : List ℕ → Option (List ℕ) → List ℕ
-wire_by text (Some name) = name
-wire_by text None = if length (first_word text).1 == 0 then text else (first_word text).1
+-- a text is this name, as it stands or in quotes
+abbrev pub is_text : List ℕ → Option (List ℕ) → Bool
+is_text name None = false
+is_text name (Some text) = bytes_eq name text
 
-abbrev pub wire_of : List ℕ → List ℕ
-wire_of text = wire_by text (between 34 34 text)
+abbrev pub is_name : List ℕ → List ℕ → Bool
+is_name name text = bytes_eq name text || is_text name (between 34 34 text)
+
+-- a number, by itself or before a name: it names the wire, and so does the name
+abbrev pub is_numbered : List ℕ → List ℕ → Bool
+is_numbered name text =
+    is_some (number_of (first_word text).0)
+    && (bytes_eq name (first_word text).0 || is_name name (first_word text).1)
+
+-- the names of a wire: all that gpiomon writes of it, and that without its quotes; where it begins with a chip, what
+-- stands after the chip; and where that begins with a number, the number, and the name after it
+abbrev pub names_by : List ℕ → List ℕ → Option (List ℕ) → Bool
+names_by name text (Some inner) = bytes_eq name text || bytes_eq name inner
+names_by name text None =
+    bytes_eq name text || (bytes_eq name (first_word text).1 || is_numbered name (first_word text).1)
+
+unfoldable pub names_wire : List ℕ → List ℕ → Bool
+names_wire name text = names_by name text (between 34 34 text)
 
 -- what libgpiod 2 writes: the time, how it changes, and the wire
 unfoldable pub second_kind : List ℕ → Option EdgeSaid
@@ -85,7 +102,7 @@ second_kind line =
     let time = first_word line in
     let kind = word_after time in
     if length kind.1 == 0 then None
-    else option_map (λ level. edge_with time.0 (wire_of kind.1) level) (level_after kind.0)
+    else option_map (λ level. edge_with time.0 kind.1 level) (level_after kind.0)
 
 abbrev pub edge_of : List ℕ → Option EdgeSaid
 edge_of line = if starts_with nat_eq line (codes "event:") then first_kind line else second_kind line
@@ -101,12 +118,12 @@ gpiomon_with names last = record { names = names; last = last }
 abbrev pub gpiomon_state : Gpiomon → GpiomonState
 gpiomon_state gpiomon = gpiomon_with (map (λ name. name.now) gpiomon.names.now) gpiomon.last
 
--- the wires of this name, from this one on, have a level
+-- the wires that a text names, from this one on, have a level
 abbrev pub named_levels : ℕ → List ℕ → Level → List (List ℕ) → List Event
-named_levels wire name level [] = []
-named_levels wire name level (own ∷ rest) =
-    if bytes_eq own name then events.Level wire level ∷ named_levels (wire + 1) name level rest
-    else named_levels (wire + 1) name level rest
+named_levels wire text level [] = []
+named_levels wire text level (name ∷ rest) =
+    if names_wire name text then events.Level wire level ∷ named_levels (wire + 1) text level rest
+    else named_levels (wire + 1) text level rest
 
 -- a time never falls; the first one says that ticks are nanoseconds
 abbrev pub time_said : Option ℕ → ℕ → Result (List Event) Refusal

@@ -1,5 +1,7 @@
 -- Times, edges and tables as they are written.
-use Rattle.std.specs.Prelude.{◌≡◌, ℕ, zero, suc, ◌+◌, ◌-◌, ◌/◌, ◌%◌, ◌^◌, ◌<◌, ◌≤◌, List, [], ◌∷◌, ◌++◌, Option, None, Ok, codes, decimal, length, slice_index_or}
+use Rattle.std.specs.Prelude.{◌≡◌, ℕ, zero, suc, ◌+◌, ◌-◌, ◌/◌, ◌%◌, ◌^◌, ◌<◌, ◌≤◌, List, [], ◌∷◌, ◌++◌, Option, None, Ok, bytes_eq, codes, decimal, length, slice_index_or}
+use Rattle.std.specs.Char.{is_ascii_whitespace}
+use Rattle.std.specs.List.{list_any, prefix_len, suffix_len}
 use Rattle.xb_contact.specs.declared.event.Event.{Event}
 use Rattle.xb_contact.specs.declared.event.Event.TheVariants as events
 use Rattle.xb_contact.specs.declared.level.Level.{Level}
@@ -7,7 +9,7 @@ use Rattle.xb_contact.specs.declared.level.Level.TheVariants.{Open, Closed}
 use Rattle.xb_contact.specs.declared.scale.TheConstants.{NANOSECONDS}
 use Rattle.xb_contact.specs.Changes.{AreInOrder, AreNames, Change, change_events}
 use Rattle.xb_csv.specs.declared.columns.TableForm.TheVariants as forms
-use Rattle.xb_csv.specs.Gpiomons.{gpiomon_says, gpiomon_with}
+use Rattle.xb_csv.specs.Gpiomons.{gpiomon_says, gpiomon_with, names_wire}
 use Rattle.xb_csv.specs.Tables.{begun_table, table_says}
 
 -- so many last digits of a number
@@ -44,6 +46,25 @@ WrittenEdgesAreRead =
     (names : List (List ℕ)) (edges : List Change) (end : ℕ) → AreNames names
     → AreInOrder (length names) (2 ^ 62) edges end → end < 2 ^ 63
     → gpiomon_says (gpiomon_with names None) (edge_lines names edges) ≡ Ok (edge_events edges)
+
+-- what libgpiod 2 writes of a line of a chip that has a name: the chip, the number, and the name in quotes
+abbrev pub quoted_text : List ℕ → List ℕ
+quoted_text name = codes "\"" ++ (name ++ codes "\"")
+
+abbrev pub number_text : ℕ → List ℕ → List ℕ
+number_text number name = decimal number ++ (codes " " ++ quoted_text name)
+
+abbrev pub line_text : ℕ → List ℕ → List ℕ
+line_text number name = codes "gpiochip0 " ++ number_text number name
+
+-- the wire has exactly these names: the number, the name, with quotes and without, both together, and all of it
+abbrev pub LinesAreNamed : Type 0
+LinesAreNamed =
+    (number : ℕ) (name own : List ℕ) → number < 2 ^ 64 → 0 < length name → prefix_len is_ascii_whitespace name ≡ 0
+    → suffix_len is_ascii_whitespace name ≡ 0
+    → names_wire own (line_text number name)
+    ≡ list_any (bytes_eq own)
+    (line_text number name ∷ number_text number name ∷ decimal number ∷ quoted_text name ∷ name ∷ [])
 
 -- a row of a table: the level of each wire at a time
 pub record TableRow : Type 0 where

@@ -2,14 +2,14 @@
 ghost use Rattle.std.specs.Prelude.{◌≡◌, ◌++◌, ◌∷◌, ◌<◌, [], IfErr, IfSome, Ok, OnOk, is_some, length, map, option_copied, option_map};
 ghost use Rattle.std.specs.List.{position};
 ghost use Rattle.xb_contact.specs.Steps.{Adds, AddsAll, IsRefusedBy};
-ghost use Rattle.xb_csv.specs.Gpiomons.{between, edge_line_says, edge_of, edge_said, edge_says, first_kind, first_word, gpiomon_line_says, gpiomon_says, gpiomon_state, gpiomon_with, is_gap, level_after, named_levels, second_kind, time_said, wire_of};
+ghost use Rattle.xb_csv.specs.Gpiomons.{between, edge_line_says, edge_of, edge_said, edge_says, first_kind, first_word, gpiomon_line_says, gpiomon_says, gpiomon_state, gpiomon_with, is_gap, is_name, is_numbered, level_after, named_levels, names_wire, second_kind, time_said};
 
 use crate::cells::trimmed;
 use crate::seconds::nanoseconds_of;
-use xb_contact::{Event, Level, NANOSECONDS, Refusal, say};
+use xb_contact::{Event, Level, NANOSECONDS, Refusal, number_of, say};
 
 /// The reader of what gpiomon writes, of libgpiod 1 and 2: a line for each edge. A wire has the number of its
-/// line, or, where libgpiod 2 writes it, its name.
+/// line, and, where libgpiod 2 writes it, its name, with quotes or without.
 #[derive(Drop)]
 pub struct Gpiomon<'a> {
     names: &'a [&'a str],
@@ -21,6 +21,7 @@ pub struct Gpiomon<'a> {
 struct Edge<'b> {
     time: &'b [u8],
     level: Level,
+    // All that is written of the wire.
     wire: &'b [u8],
 }
 
@@ -100,18 +101,46 @@ fn edge_of_first_kind(line: &[u8]) -> Option<Edge<'_>>
     Some(Edge { time, level, wire })
 }
 
-// The line of a chip, by its number, or the name that stands between quotes.
-fn wire_of(text: &[u8]) -> &[u8]
-    ensures { result.now ≡ wire_of text.now }
+// Whether a text is this name, as it stands or in quotes.
+fn is_name(name: &[u8], text: &[u8]) -> bool
+    ensures { result ≡ is_name name.now text.now }
 {
-    if let Some(name) = between(text, b'"', b'"') {
-        return name;
+    if name == text {
+        return true;
     }
-    let (_, rest) = first_word(text);
-    if rest.is_empty() { text } else { rest }
+    match between(text, b'"', b'"') {
+        Some(inner) => name == inner,
+        None => false,
+    }
 }
 
-// `123.456789012 rising gpiochip0 17`, or with a name in place of a chip and a number.
+// Whether a number, or the name after it, is this name.
+fn is_numbered(name: &[u8], text: &[u8]) -> bool
+    ensures { result ≡ is_numbered name.now text.now }
+{
+    let (number, rest) = first_word(text);
+    number_of(number).is_some() && (name == number || is_name(name, rest))
+}
+
+// Whether a name is one of a wire, of which gpiomon writes this text: `gpiochip0 17`, `gpiochip0 17 "GPIO17"`,
+// `"GPIO17"`, or without quotes.
+#[tactic(auto, unfolding(crate::specs::Gpiomons::names_wire))]
+fn names_wire(name: &[u8], text: &[u8]) -> bool
+    ensures { result ≡ names_wire name.now text.now }
+{
+    if name == text {
+        return true;
+    }
+    match between(text, b'"', b'"') {
+        Some(inner) => name == inner,
+        None => {
+            let (_, rest) = first_word(text);
+            name == rest || is_numbered(name, rest)
+        }
+    }
+}
+
+// `123.456789012 rising gpiochip0 17 "GPIO17"`, or with less of what stands after the direction.
 #[tactic(auto, unfolding(crate::specs::Gpiomons::second_kind))]
 fn edge_of_second_kind(line: &[u8]) -> Option<Edge<'_>>
     ensures { option_map edge_said result ≡ second_kind line.now }
@@ -122,7 +151,7 @@ fn edge_of_second_kind(line: &[u8]) -> Option<Edge<'_>>
         Some(level) if !rest.is_empty() => Some(Edge {
             time,
             level,
-            wire: wire_of(rest),
+            wire: rest,
         }),
         _ => None,
     }
@@ -146,19 +175,19 @@ pub fn is_of_gpiomon(line: &[u8]) -> bool
     edge_of(line).is_some()
 }
 
-// Says the levels of the wires of this name.
+// Says the levels of the wires that a text names.
 fn say_named(
     names: &[&str],
-    wire: &[u8],
+    text: &[u8],
     level: Level,
     events: &mut Vec<Event>,
 ) -> Result<(), Refusal>
     ensures said { OnOk result (events.new.items ≡ events.old.items
-        ++ named_levels 0 wire.now level (map (λ name. name.now) names.now)) }
+        ++ named_levels 0 text.now level (map (λ name. name.now) names.now)) }
     ensures only { IfErr result (λ e. e ≡ Refusal.NoMemory) }
 {
     for (i, name) in names.iter().enumerate() {
-        if name.as_bytes() == wire {
+        if names_wire(name.as_bytes(), text) {
             say(events, Event::Level(i, level))?;
         }
     }

@@ -1,6 +1,7 @@
 //! What the definitions of `specs/` come to: each law is the contract of a function that does nothing.
+ghost use Rattle.xb_csv.specs.WorkedEdges.{EdgesAreRead, WiresAreNamed};
 ghost use Rattle.xb_csv.specs.WorkedTables.{SecondsAreRead, TablesAreRead};
-ghost use Rattle.xb_csv.specs.Written.{WrittenEdgesAreRead, WrittenRowsAreRead};
+ghost use Rattle.xb_csv.specs.Written.{LinesAreNamed, WrittenEdgesAreRead, WrittenRowsAreRead};
 ghost use Rattle.xb_csv.specs.WrittenTables.{SaleaeIsRead, SigrokSamplesAreRead, SigrokTimesAreRead, TablesAreWritten};
 
 /// What some times in seconds say.
@@ -11,6 +12,22 @@ pub fn seconds_are_read()
 /// What some tables say, and why others say nothing.
 pub fn tables_are_read()
     ensures { TablesAreRead }
+{}
+
+/// Which names a wire has of which gpiomon writes some texts, and which it has not.
+pub fn wires_are_named()
+    ensures { WiresAreNamed }
+{}
+
+/// A line of a chip that has a name, as libgpiod 2 writes it where the chip is given, is found by its number, by its name,
+/// with quotes or without, by both together, by all of it, and by nothing else.
+pub fn lines_are_named()
+    ensures { LinesAreNamed }
+{}
+
+/// What some lines of gpiomon say, and why others say nothing.
+pub fn edges_are_read()
+    ensures { EdgesAreRead }
 {}
 
 /// Edges, written as gpiomon writes them, are read back as they are: each at its time, of its wire, in order. The wires

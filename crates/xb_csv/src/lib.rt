@@ -9,6 +9,7 @@
 //!   times and levels, are read back as they are.
 //! - `laws::sigrok_samples_are_read`, `sigrok_times_are_read` and `saleae_is_read` (`WrittenTables`): tables as sigrok and
 //!   Saleae Logic write them are read back as they are, whichever of their channels are asked for.
+//! - `names_wire` (`Gpiomons`): the names of a wire, by what gpiomon writes of it.
 //! - `trimmed` and `cell_at` (`Cells`): the cells of a line, without the blanks around them.
 //! - `nanoseconds_of` (`Seconds`): a time in seconds, with a sign where it is below 0, to the nanosecond.
 #![tactic(auto)]
