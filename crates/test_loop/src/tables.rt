@@ -42,3 +42,32 @@ fn gives_the_rows_of_each(rt: HostRuntime) -> Result<(), Fail> {
     }
     Ok(())
 }
+
+// Words, a recording, and the line that says why it is refused.
+const REFUSED: &[(&[&str], &[u8], &[u8])] = &[
+    (
+        &["7=A"],
+        b"Time [s],A,B,A\n0,0,1,1\n",
+        b"mfloop: text line 1: two wires have a name that is asked for: Time [s],A,B,A\n",
+    ),
+    (
+        &["7=A"],
+        b"; Channels (3/3): A, B, A\n",
+        b"mfloop: text line 1: two wires have a name that is asked for: ; Channels (3/3): A, B, A\n",
+    ),
+];
+
+#[test]
+fn refuses_what_it_could_take_for_another(rt: HostRuntime) -> Result<(), Fail> {
+    for (words, recording, told) in REFUSED {
+        let mut reader = *recording;
+        let case = Case {
+            words,
+            recording,
+            rows: b"line,state,ms\n",
+            told,
+        };
+        check_reader(&rt, rt.alloc(), &mut reader, &case, 1)?;
+    }
+    Ok(())
+}

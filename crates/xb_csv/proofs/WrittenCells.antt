@@ -1,11 +1,11 @@
 -- Lines of cells that are written are read back: their cells, the columns of wires, and the levels of a row.
-use Rattle.std.proofs.Common.{◌≡◌, ℕ, suc, ◌+◌, ◌<◌, ◌≤◌, ◌^◌, List, [], ◌∷◌, ◌++◌, true, false, cond, Option, Some, None, length, length-append, take, drop, get_or, map, refl, ap, sym, subst, ◌∙◌, arith, ne_eqb, not, codes}
+use Rattle.std.proofs.Common.{◌≡◌, ℕ, suc, ◌+◌, ◌<◌, ◌≤◌, ◌^◌, List, [], ◌∷◌, ◌++◌, true, false, cond, Option, Some, None, length, length-append, take, drop, get_or, map, refl, ap, sym, subst, ◌∙◌, add-one, arith, ne_eqb, not, codes, ◌||◌}
 use Rattle.std.proofs.Math.Seq.{split_at}
 use Rattle.std.proofs.lemmas.List.{get_or-append-add, length-take-le, take_all}
 use Rattle.std.proofs.lemmas.Option.{slice_get-get_or, slice_get-map}
 use Rattle.std.proofs.lemmas.Bool.Decides.{nat_tests}
 use Rattle.std.specs.Prelude.{Ok, Err, bytes_eq, ◌==◌, option_map, slice_get}
-use Rattle.std.specs.List.{AllByRecursion, IsDistinct, join_with_byte, list_all, position_from, slice_split}
+use Rattle.std.specs.List.{AllByRecursion, IsDistinct, join_with_byte, list_all, list_any, position_from, slice_split}
 use Rattle.std.specs.Option.{ok_or}
 use Rattle.xb_contact.specs.declared.event.Event.{Event}
 use Rattle.xb_contact.specs.declared.event.Event.TheVariants as events
@@ -18,8 +18,8 @@ use Rattle.xb_contact.proofs.StepLemmas.{line_says}
 use Rattle.xb_contact.proofs.Written.{AreOthers, others_differ, same_bytes}
 use Rattle.xb_csv.specs.declared.columns.Clock.{Clock}
 use Rattle.xb_csv.specs.declared.columns.TableForm.{TableForm}
-use Rattle.xb_csv.specs.Cells.{cell_number, cells_of, trimmed}
-use Rattle.xb_csv.specs.Tables.{TableState, columns_before, columns_in, level_in, levels_from, line_of_form, row_at, row_says, row_time, table_ends, table_line_says, table_says}
+use Rattle.xb_csv.specs.Cells.{cell_number, cells_of, stands_after, trimmed}
+use Rattle.xb_csv.specs.Tables.{TableState, column_by, column_of, columns_before, columns_in, level_in, levels_from, line_of_form, row_at, row_says, row_time, table_ends, table_line_says, table_says}
 use Rattle.xb_csv.specs.Written.{AreRows, TableRow, level_text, levels_said, rows_said}
 use Rattle.xb_csv.specs.WrittenTables.{AreAmong, AreLabels, IsLabel, cells_line, levels_at, names_at, rows_at, timed_lines}
 use Rattle.xb_csv.proofs.WrittenEdges.{BeginsBare, EndsBare, begins_more, ends_append, name_begins, name_ends, trimmed_same}
@@ -144,6 +144,29 @@ own-number cells k lawful within =
     ∙ position-at name before after 0 apart.0
     ∙ ap Some count
 
+others-none : (name : List ℕ) (names : List (List ℕ)) → AreOthers name names → list_any (λ cell. bytes_eq cell name) names ≡ false
+others-none name [] all = refl
+others-none name (own ∷ names) all =
+    ap (λ t. t || list_any (λ cell. bytes_eq cell name) names) all.0 ∙ others-none name names all.1
+
+own-once :
+    (cells : List (List ℕ)) (k : ℕ) → AreLabels cells → k < length cells → stands_after (get_or cells k []) k cells ≡ false
+unfolding stands_after
+own-once cells k lawful within =
+    let name : List ℕ = get_or cells k [] in
+    let all : cells ≡ take k cells ++ name ∷ drop (suc k) cells = split_at cells k [] within in
+    let Q : List (List ℕ) → Type 0 = λ them. IsDistinct bytes_eq them in
+    let apart = others_differ name (take k cells) (drop (suc k) cells) (subst Q all lawful.distinct) in
+    let whole : take 65535 cells ≡ cells = take_all 65535 cells (omega (arith, lawful.few)) in
+    ap (λ them. list_any (λ cell. bytes_eq cell name) (drop (k + 1) them)) whole
+    ∙ ap (λ n. list_any (λ cell. bytes_eq cell name) (drop n cells)) (add-one k)
+    ∙ others-none name (drop (suc k) cells) apart.1
+
+own-column : (cells : List (List ℕ)) (k : ℕ) → AreLabels cells → k < length cells → column_of (get_or cells k []) cells ≡ Ok k
+own-column cells k lawful within =
+    ap (column_by (get_or cells k []) cells) (own-number cells k lawful within)
+    ∙ ap (λ t. cond t (Err refusals.Twice) (Ok k)) (own-once cells k lawful within)
+
 -- the columns of wires by their names
 pub columns_found :
     (front channels : List (List ℕ)) (wires : List ℕ) → AreLabels (front ++ channels) → AreAmong wires (length channels)
@@ -153,12 +176,12 @@ columns_found front channels (wire ∷ wires) lawful all =
     let cells : List (List ℕ) = front ++ channels in
     let within : length front + wire < length cells = omega (arith, length-append front channels, all.0) in
     let place : length front + wire ≡ wire + length front = omega arith in
-    let there : cell_number (get_or channels wire []) cells ≡ Some (wire + length front) =
-    ap (λ name. cell_number name cells) (sym (get_or-append-add front channels wire []))
-    ∙ own-number cells (length front + wire) lawful within
-    ∙ ap Some place in
+    let there : column_of (get_or channels wire []) cells ≡ Ok (wire + length front) =
+    ap (λ name. column_of name cells) (sym (get_or-append-add front channels wire []))
+    ∙ own-column cells (length front + wire) lawful within
+    ∙ ap Ok place in
     let rest = columns_in cells (names_at channels wires) in
-    ap (λ found. result_and_then (λ column. result_map (λ later. column ∷ later) rest) (ok_or found refusals.NoWire)) there
+    ap (result_and_then (λ column. result_map (λ later. column ∷ later) rest)) there
     ∙ ap (result_map (λ later. (wire + length front) ∷ later)) (columns_found front channels wires lawful all.1)
 
 -- the levels of wires in their columns

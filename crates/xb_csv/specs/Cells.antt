@@ -1,7 +1,7 @@
 -- The cells of a line.
-use Rattle.std.specs.Prelude.{ℕ, ◌-◌, List, Option, Some, None, bytes_eq, drop, length, map, nat_eq, take, if◌then◌else◌}
+use Rattle.std.specs.Prelude.{ℕ, ◌+◌, ◌-◌, List, Bool, Option, Some, None, bytes_eq, drop, length, map, nat_eq, take, if◌then◌else◌}
 use Rattle.std.specs.Char.{is_ascii_whitespace}
-use Rattle.std.specs.List.{position_from, prefix_len, starts_with, suffix_len}
+use Rattle.std.specs.List.{list_any, position_from, prefix_len, starts_with, suffix_len}
 use Rattle.xb_text.specs.Pieces.{pieces}
 
 -- a text without the blanks before it, after it, and around it
@@ -25,3 +25,7 @@ cells_of line = map trimmed (pieces 44 line)
 -- the number of the first cell that is this text, among the first 65,535
 unfoldable pub cell_number : List ℕ → List (List ℕ) → Option ℕ
 cell_number text cells = position_from (λ cell. bytes_eq cell text) 0 (take 65535 cells)
+
+-- whether a cell after the one of this number is this text too, among the first 65,535
+unfoldable pub stands_after : List ℕ → ℕ → List (List ℕ) → Bool
+stands_after text number cells = list_any (λ cell. bytes_eq cell text) (drop (number + 1) (take 65535 cells))

@@ -18,7 +18,7 @@ use Rattle.xb_csv.specs.declared.columns.Clock.TheVariants as clocks
 use Rattle.xb_csv.specs.declared.columns.Columns.{Columns}
 use Rattle.xb_csv.specs.declared.columns.TableForm.{TableForm}
 use Rattle.xb_csv.specs.declared.columns.TableForm.TheVariants as forms
-use Rattle.xb_csv.specs.Cells.{after, cell_number, cells_of, trimmed}
+use Rattle.xb_csv.specs.Cells.{after, cell_number, cells_of, stands_after, trimmed}
 use Rattle.xb_csv.specs.Seconds.{fitting, nanoseconds_of}
 
 -- the form, the wires that are asked for, their columns, when a row is, how many samples a second has, where that is
@@ -53,12 +53,18 @@ begun_table form names rate = record {
   last = None;
 }
 
--- the columns of wires: each is the first cell that is the wire's name
+-- the column of a wire: the cell that is its name, of which there is one
+abbrev pub column_by : List ℕ → List (List ℕ) → Option ℕ → Result ℕ Refusal
+column_by name cells None = Err refusals.NoWire
+column_by name cells (Some column) = if stands_after name column cells then Err refusals.Twice else Ok column
+
+abbrev pub column_of : List ℕ → List (List ℕ) → Result ℕ Refusal
+column_of name cells = column_by name cells (cell_number name cells)
+
 abbrev pub columns_in : List (List ℕ) → List (List ℕ) → Result (List ℕ) Refusal
 columns_in cells [] = Ok []
 columns_in cells (name ∷ names) =
-    result_and_then (λ column. result_map (λ rest. column ∷ rest) (columns_in cells names))
-    (ok_or (cell_number name cells) refusals.NoWire)
+    result_and_then (λ column. result_map (λ rest. column ∷ rest) (columns_in cells names)) (column_of name cells)
 
 -- a rate as `10 kHz` or `10000`
 abbrev pub hertz_of : List ℕ → Option ℕ

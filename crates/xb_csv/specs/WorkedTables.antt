@@ -43,6 +43,7 @@ pub record TablesAreRead : Type 0 where
       table_says of_sigrok
       (two_names ∷ codes "; Samplerate: 10 kHz" ∷ codes "logic,logic" ∷ codes "1,0" ∷ codes "1,1" ∷ [])
       ≡ Ok (Ticks (scale_by 1000 10000) ∷ At 0 ∷ Level 0 Open ∷ At 1 ∷ Level 0 Closed ∷ At 2 ∷ [])
+  pub twice_in_sigrok : table_says of_sigrok (codes "; Channels (3/3): D1, D0, D1" ∷ []) ≡ Err refusals.Twice
   pub no_rate : table_says of_sigrok (two_names ∷ codes "logic,logic" ∷ codes "1,0" ∷ []) ≡ Err refusals.NoRate
   pub no_unit : table_says of_sigrok (two_names ∷ codes "Time,logic,logic" ∷ codes "0,1,0" ∷ []) ≡ Err refusals.NoUnit
   pub no_names : table_says of_sigrok (codes "milliseconds,logic,logic" ∷ codes "5,1,0" ∷ []) ≡ Err refusals.Header
@@ -50,6 +51,7 @@ pub record TablesAreRead : Type 0 where
       table_says of_saleae
       (codes "Time [s],D0,D1" ∷ codes "-0.005000000,1,0" ∷ codes "0.005000000,1,1" ∷ [])
       ≡ Ok (Ticks (scale_by 1 1000000) ∷ At (2 ^ 62 - 5000000) ∷ Level 0 Open ∷ At (2 ^ 62 + 5000000) ∷ Level 0 Closed ∷ [])
+  pub twice : table_says of_saleae (codes "Time [s],D1,D1" ∷ codes "0,1,1" ∷ []) ≡ Err refusals.Twice
   pub no_wire : table_says of_saleae (codes "Time [s],D0" ∷ codes "0,1" ∷ []) ≡ Err refusals.NoWire
   pub edges :
       table_says of_edges (codes "1.5, 0" ∷ [] ∷ codes "1.51,1" ∷ [])

@@ -1,6 +1,6 @@
 // The cells of a line.
-ghost use Rattle.std.specs.Prelude.{◌≡◌, option_copied, slice_get};
-ghost use Rattle.xb_csv.specs.Cells.{after, cell_number, cells_of, trimmed};
+ghost use Rattle.std.specs.Prelude.{◌≡◌, ◌&&◌, bytes_eq, nat_lt, option_copied, slice_get};
+ghost use Rattle.xb_csv.specs.Cells.{after, cell_number, cells_of, stands_after, trimmed};
 
 use xb_text::first_piece;
 
@@ -56,4 +56,29 @@ pub(crate) fn cell_of(line: &[u8], text: &[u8]) -> Option<u16>
         }
     }
     None
+}
+
+// Whether a cell with the number `step` comes after the one of this number, and is this text.
+fn is_later(step: u16, number: u16, cell: &[u8], text: &[u8]) -> bool
+    ensures { result ≡ (nat_lt number step && bytes_eq (trimmed cell.now) text.now) }
+{
+    step > number && trimmed(cell) == text
+}
+
+/// Whether a cell after the one of this number is this text too, among the first 65,535.
+pub(crate) fn stands_after(line: &[u8], text: &[u8], number: u16) -> bool
+    ensures { result ≡ stands_after text.now number (cells_of line.now) }
+{
+    let mut rest = line;
+    for step in 0..u16::MAX {
+        let (cell, later) = first_piece(b',', rest);
+        if is_later(step, number, cell, text) {
+            return true;
+        }
+        match later {
+            Some(later) => rest = later,
+            None => return false,
+        }
+    }
+    false
 }

@@ -2,11 +2,27 @@
 ghost use Rattle.std.specs.Prelude.{◌≡◌, Ok, IfErr, OnOk, map};
 ghost use Rattle.xb_contact.specs.Steps.{IsRefusedBy};
 ghost use Rattle.xb_csv.specs.Cells.{cells_of};
-ghost use Rattle.xb_csv.specs.Tables.{column_number, columns_in, numbered_columns};
+ghost use Rattle.xb_csv.specs.Tables.{column_number, column_of, columns_in, numbered_columns};
 
-use crate::cells::cell_of;
+use crate::cells::{cell_of, stands_after};
 use std::alloc::AllocError;
 use xb_contact::{Refusal, number_of};
+
+// The column of a wire in a line with the names.
+fn column_of(line: &[u8], name: &[u8]) -> Result<u16, Refusal>
+    ensures { result ≡ column_of name.now (cells_of line.now) }
+{
+    match cell_of(line, name) {
+        Some(column) => {
+            if stands_after(line, name, column) {
+                Err(Refusal::Twice)
+            } else {
+                Ok(column)
+            }
+        }
+        None => Err(Refusal::NoWire),
+    }
+}
 
 // The columns of wires in a line with their names.
 pub(crate) fn find_columns(
@@ -21,9 +37,9 @@ pub(crate) fn find_columns(
 {
     columns.clear();
     for name in names {
-        match cell_of(line, name.as_bytes()) {
-            Some(column) => columns.push(column).map_err(AllocError::from)?,
-            None => return Err(Refusal::NoWire),
+        match column_of(line, name.as_bytes()) {
+            Ok(column) => columns.push(column).map_err(AllocError::from)?,
+            Err(refusal) => return Err(refusal),
         }
     }
     Ok(())
