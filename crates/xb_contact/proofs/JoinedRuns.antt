@@ -74,7 +74,7 @@ runs_of-joined (h ∷ hs) =
     ∙ sym (runs_of-cons h hs)
 
 -- what is given of a hold that another level ends is that hold, if it lasts
-runs_of-left : (last : Hold) (X : List Hold) → runs_of (pieces_of (left_of last) ++ X) ≡ runs_of (last ∷ X)
+pub runs_of-left : (last : Hold) (X : List Hold) → runs_of (pieces_of (left_of last) ++ X) ≡ runs_of (last ∷ X)
 runs_of-left last X = by (last.ticks == 0) refl
   where
     by :

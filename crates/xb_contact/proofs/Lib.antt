@@ -7,3 +7,5 @@ pub mod JoinedRuns
 pub mod Told
 pub mod StepLemmas
 pub mod Written
+pub mod SeizedRuns
+pub mod Seized

@@ -39,6 +39,9 @@ total_of-lasting [] = refl
 total_of-lasting (h ∷ hs) =
     total_of-lasting_by h hs (h.ticks == 0) refl ∙ ap (λ n. h.ticks + n) (total_of-lasting hs)
 
+pub total_of-runs : (holds : List Hold) → total_of (runs_of holds) ≡ total_of holds
+total_of-runs holds = total_of-joined (lasting holds) ∙ total_of-lasting holds
+
 -- what waits and what comes are gathered
 total_of-gathered :
     (least : ℕ) (b : Level) (w : ℕ) (R : List Hold) → total_of (gathered least b w R) ≡ w + total_of R

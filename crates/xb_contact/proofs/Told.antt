@@ -3,11 +3,11 @@ use Rattle.std.proofs.Common.{◌≡◌, ℕ, ◌+◌, ◌<◌, ◌≤◌, List,
 use Rattle.xb_contact.specs.declared.level.Level.{Level}
 use Rattle.xb_contact.specs.declared.hold.Hold.{Hold}
 use Rattle.xb_contact.specs.declared.settling.Phase.{Phase}
-use Rattle.xb_contact.specs.Holds.{hold_of, joined, lasting, runs_of, total_of}
+use Rattle.xb_contact.specs.Holds.{hold_of, joined, runs_of, total_of}
 use Rattle.xb_contact.specs.Settled.{settled}
 use Rattle.xb_contact.specs.Machine.{begun, given_by, phase_after, at_end, pieces_of, all_given}
 use Rattle.xb_contact.proofs.Remaining.{all_given-cons, settles_the_record}
-use Rattle.xb_contact.proofs.Records.{keeps_time, total_of-joined, total_of-lasting}
+use Rattle.xb_contact.proofs.Records.{keeps_time, total_of-runs}
 use Rattle.xb_contact.specs.declared.scale.Scale.{Scale}
 use Rattle.xb_contact.specs.Times.{ms_at, rounded_hold, rounded}
 use Rattle.xb_contact.specs.Joints.{joined_by, left_of, all_joined}
@@ -68,9 +68,6 @@ tells_the_record least scale most first holds z some =
     ∙ sym (runs_of-joined (rounded scale 0 given))
     ∙ ap runs_of (joined-rounded scale 0 given some)
     ∙ ap (λ runs. runs_of (rounded scale 0 runs)) (settles_the_record least z first holds)
-
-total_of-runs : (holds : List Hold) → total_of (runs_of holds) ≡ total_of holds
-total_of-runs holds = total_of-joined (lasting holds) ∙ total_of-lasting holds
 
 -- its time
 pub rounds_once : RoundsOnce

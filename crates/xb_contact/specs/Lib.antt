@@ -10,3 +10,6 @@ pub mod Joints
 pub mod Listening
 pub mod TimeLaws
 pub mod Changes
+pub mod Seizures
+pub mod Seizing
+pub mod SeizingLaws

@@ -1,10 +1,13 @@
-//! What settling and listening come to: each law is the contract of a function that does nothing. The
-//! definitions are in `specs/`: `Holds` (recordings), `Settled` (the settled record), `Machine` (the machine
-//! hold by hold), `Bounces` (records that bounce), `Times` (from ticks to ms), `Joints` (holds joined as they
-//! come), `Listening` (a contact that is listened to), and the statements in `SettledLaws` and `TimeLaws`.
+//! What settling, listening and watching for seizures come to: each law is the contract of a function that does
+//! nothing. The definitions are in `specs/`: `Holds` (recordings), `Settled` (the settled record), `Machine` (the
+//! machine hold by hold), `Bounces` (records that bounce), `Times` (from ticks to ms), `Joints` (holds joined as they
+//! come), `Listening` (a contact that is listened to), `Seizures` (which makes seize), `Seizing` (the machine that
+//! passes them, hold by hold), and the statements in `SettledLaws`, `TimeLaws` and `SeizingLaws`.
 ghost use Rattle.std.specs.Prelude.{ℕ, ◌<◌};
 ghost use Rattle.xb_contact.specs.SettledLaws.{SettlesTheRecord, GivesForGood, IsExactUnderBounces, LeavesLongRuns};
 ghost use Rattle.xb_contact.specs.SettledLaws.{IsSettledForGood, KeepsTime, HasLongRuns, HasRuns, GoesByRuns};
+ghost use Rattle.xb_contact.specs.SeizingLaws.{KeepsAllTime, LeavesAllAtZero, LeavesSeizures, PassesAllTime, PassesEachHold};
+ghost use Rattle.xb_contact.specs.SeizingLaws.{PassesForGood, PassesTheSeized};
 ghost use Rattle.xb_contact.specs.TimeLaws.{TellsTheRecord, RoundsOnce, PlacesHold};
 
 /// What the machine gives of any recording, and what is left at its end, are the settled record; what it has
@@ -48,4 +51,22 @@ pub fn tells_the_record()
 pub fn rounds_once()
     ensures all { RoundsOnce }
     ensures places { PlacesHold }
+{}
+
+/// What is given of a line has the runs of its record in which each make on hook that is too short to seize is a
+/// break; what was given stands, whatever comes later; no time is lost or added; and where each make seizes, each hold
+/// is given as it is.
+pub fn passes_the_seized()
+    ensures whole { (least release most : ℕ) → 0 < release → PassesTheSeized least release most }
+    ensures for_good { PassesForGood }
+    ensures time { PassesAllTime }
+    ensures each { PassesEachHold }
+{}
+
+/// No time of the record is lost or added, and it stays as it is where each make on hook lasts long enough, so where
+/// each make seizes.
+pub fn leaves_seizures()
+    ensures time { KeepsAllTime }
+    ensures long { LeavesSeizures }
+    ensures zero { LeavesAllAtZero }
 {}

@@ -4,6 +4,8 @@
 //! - `Settler::new` (`settles`): what the machine gives of any recording, hold by hold, and what is left at its end,
 //!   are the settled record. `Settler::take` is exactly the machine's step, and what it gives stands for good.
 //! - `Listener::take_until` and `end` are exactly the machine that settles a contact and gives it in ms.
+//! - `Seizer::new` (`passes`): what is given of a line in ms is its record, in which makes on hook that are too short to
+//!   seize are breaks. `Seizer::take` is exactly the machine, and what it gives stands for good.
 //! - `laws::is_exact_under_bounces`: bounces shorter than a settled run leave no trace. `laws::tells_the_record` and
 //!   `rounds_once`: each end of a run is rounded once, so that sums do not drift.
 //! - `Event` and `Refusal`: what a recording says of its wires, and why a part of it is refused. A form of recordings is
@@ -12,6 +14,7 @@
 //!   forms write them. `Changes` is what wires do, from which each form of text has a law that it is read back.
 #![tactic(auto)]
 
+mod certain;
 mod event;
 mod hold;
 mod joint;
@@ -20,9 +23,11 @@ mod level;
 mod listener;
 mod number;
 mod scale;
+mod seizer;
 mod settler;
 mod settling;
 
+pub use certain::Certain;
 pub use event::{Event, Refusal, is_before, say};
 pub use hold::Hold;
 pub use joint::{Joint, joined_by};
@@ -30,5 +35,6 @@ pub use level::Level;
 pub use listener::Listener;
 pub use number::{cut_digits, digit_after, is_digit, level_of, number_after, number_of};
 pub use scale::{NANOSECONDS, Scale};
+pub use seizer::Seizer;
 pub use settler::Settler;
 pub use settling::Settling;
