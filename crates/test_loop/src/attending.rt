@@ -8,13 +8,14 @@ use test_kit::words_of;
 use xb_command::Files;
 use xb_loop::attend;
 
-/// Two route tables: one that is right, and one that is not TOML.
+/// Three route tables: one that is right, one of another release limit, and one that is not TOML.
 pub struct Tables;
 
 impl Files for Tables {
     fn read(&self, alloc: Global, name: &str) -> io::Result<Vec<u8>> {
         let text = match name {
             "good.toml" => b"route = []".as_slice(),
+            "fast.toml" => b"[limits]\nrelease = 200\n".as_slice(),
             "wrong.toml" => b"route = [".as_slice(),
             _ => return Err(io::Error::from(ErrorKind::NotFound)),
         };

@@ -6,7 +6,7 @@ use test_kit::{Halting, Short, words_of};
 use xb_loop::attend;
 
 const USAGE: &[u8] = b"mfloop: usage: mfloop [--line N=WIRE]... [--table FILE] \
-[--format vcd|sigrok|saleae|edges|gpiomon|bits|s16|wav] [--rate HZ] [--settle MS] [--tick MS] \
+[--format vcd|sigrok|saleae|edges|gpiomon|bits|s16|wav] [--rate HZ] [--settle MS] [--seize MS] [--tick MS] \
 [--threshold PERCENT] [--inverted] [--said]\n";
 
 const WORDS: &[&str] = &["--line", "7=1"];
@@ -29,6 +29,7 @@ const REFUSED: &[&[&str]] = &[
     &["--line", "7=1", "--threshold", "0"],
     &["--line", "7=1", "--threshold", "100"],
     &["--line", "7=1", "--rate", "x"],
+    &["--line", "7=1", "--seize", "x"],
     &["--help"],
 ];
 

@@ -1,16 +1,14 @@
 -- No line stands twice among those that words name.
-use Rattle.std.proofs.Common.{◌≡◌, ℕ, zero, suc, ◌+◌, List, [], ◌∷◌, ◌++◌, Bool, true, false, Option, Some, None, length, refl, ap, sym, subst, ◌∙◌, ◌==◌, arith, inl, inr, ◌⊎◌, ◌||◌}
+use Rattle.std.proofs.Common.{◌≡◌, ℕ, zero, suc, List, [], ◌∷◌, ◌++◌, Bool, true, false, Option, Some, None, length, refl, ap, sym, subst, ◌∙◌, ◌==◌, inl, inr, ◌⊎◌, ◌||◌}
 use Rattle.std.specs.Prelude.{option_and_then, slice_get, if◌then◌else◌}
 use Rattle.std.specs.List.{list_any}
 use Rattle.std.proofs.lemmas.Bool.{eq-eqb}
 use Rattle.clap.specs.Walk.{Text}
-use Rattle.xb_loop.specs.declared.request.Request.{Request}
 use Rattle.clap.specs.Simple.{matches_of}
 use Rattle.xb_recording.specs.Says.{names_in}
 use Rattle.xb_loop.specs.Rules.{command_of_words}
-use Rattle.xb_loop.specs.Options.{Asks, lone_words, plain_words, wire_added, wire_of, wires_after}
+use Rattle.xb_loop.specs.Options.{lone_words, plain_words, wire_added, wire_of, wires_after}
 use Rattle.xb_loop.specs.RecordingLaws.{AsksForEachOnce}
-use Rattle.xb_loop.specs.WireRecords.{IsAlone}
 
 -- no number stands at two places
 abbrev AreApart : List ℕ → Type 0

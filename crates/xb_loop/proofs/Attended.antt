@@ -1,5 +1,5 @@
 -- What the program did, by its status.
-use Rattle.std.proofs.Common.{◌≡◌, ℕ, List, Option, None, Some, Err, inl, inr, subst, arith}
+use Rattle.std.proofs.Common.{◌≡◌, ℕ, List, None, inl, inr, arith}
 use Rattle.clap.specs.Walk.{Text}
 use Rattle.xb_command.specs.Files.{Bytes}
 use Rattle.xb_command.specs.Programs.{Streams}

@@ -1,5 +1,5 @@
 -- The text of what is told of the bounces.
-use Rattle.std.proofs.Common.{◌≢◌, Bool, true, false, Result, Ok, Err, ◌==◌, cond, eq-eqb, ◌≡◌, ℕ, ◌+◌, ◌*◌, ◌/◌, ◌%◌, ◌^◌, ◌<◌, ◌≤◌, List, [], ◌∷◌, ◌++◌, decimal, ap, ◌∙◌, sym, append_assoc, codes, arith}
+use Rattle.std.proofs.Common.{Result, Ok, Err, cond, eq-eqb, ◌≡◌, ℕ, ◌+◌, ◌*◌, ◌/◌, ◌%◌, ◌^◌, ◌<◌, List, [], ◌∷◌, ◌++◌, decimal, ap, ◌∙◌, sym, append_assoc, codes, arith}
 use Rattle.std.specs.Prelude.{OnOk, is_ok, if◌then◌else◌}
 use Rattle.std.proofs.lemmas.Bool.{ne_eqb}
 use Rattle.std.proofs.lemmas.Fmt.{decimal_digit, decimal_step_wide}

@@ -1,5 +1,5 @@
 -- What was taken of a recording, put down, and written.
-use Rattle.std.proofs.Common.{◌≡◌, ◌≢◌, ◌⊎◌, ℕ, List, [], ◌∷◌, ◌++◌, Bool, Option, Some, None, Ok, true, false, refl, ap, sym, subst, ◌∙◌, append_assoc, append-nil, inl, inr, string_bytes, ◌+◌, ◌<◌, suc, take, drop, get_or, length, take-append-drop, drop-cons}
+use Rattle.std.proofs.Common.{◌≡◌, ◌⊎◌, ℕ, List, [], ◌∷◌, ◌++◌, Bool, true, false, refl, ap, sym, subst, ◌∙◌, append_assoc, append-nil, inl, inr, string_bytes, ◌+◌, ◌<◌, suc, take, drop, get_or, length, take-append-drop, drop-cons}
 use Rattle.std.specs.List.{flat_map}
 use Rattle.std.proofs.lemmas.Grind.{flat_map-append}
 use Rattle.std.proofs.lemmas.List.{take_more}
@@ -11,15 +11,15 @@ use Rattle.xb_recording.specs.declared.format.Format.{Format}
 use Rattle.xb_recording.specs.declared.reader.Reader.{Reader}
 use Rattle.xb_recording.specs.declared.wanted.Wanted.{Wanted}
 use Rattle.xb_recording.specs.Places.{line_number, lines_ended, lines_ended_by, one_more}
-use Rattle.xb_recording.specs.Says.{Begins, BeginsRefusals, IsRefused, KeepsRefusals, Refuses, RestRefused, RestSays, Says, Takes, is_text}
+use Rattle.xb_recording.specs.Says.{Begins, BeginsRefusals, IsRefused, Refuses, RestRefused, RestSays, Says, Takes, is_text}
 use Rattle.xb_loop.specs.declared.feed.Intake.{Intake}
 use Rattle.xb_loop.specs.declared.fault.RecordingFault.{RecordingFault}
 use Rattle.xb_loop.specs.declared.fault.RecordingFault.TheVariants as faults
 use Rattle.xb_loop.specs.declared.request.Request.{Request}
 use Rattle.xb_loop.specs.Faults.{IsFaultAfter, IsFaultAtEnd, IsFaultOf, IsTooLate}
-use Rattle.xb_loop.specs.Feeding.{CannotBegin, Follows, GoesOn, Halts, IsFaultOfPiece, IsFaultOfRest, IsLateFault, PutsDown, StandsAfter, lines_ended_after, watch_asked}
+use Rattle.xb_loop.specs.Feeding.{CannotBegin, Follows, GoesOn, IsFaultOfPiece, IsLateFault, PutsDown, StandsAfter, lines_ended_after, watch_asked}
 use Rattle.xb_loop.specs.Watches.{watch_of}
-use Rattle.xb_loop.specs.Watching.{CanHear, CanHearAll, Watch, certain_rows, certain_text, event_rows, heard_event, left_text, rows_of_events, line_left, text_of_events, watch_after}
+use Rattle.xb_loop.specs.Watching.{CanHear, CanHearAll, Watch, certain_rows, certain_text, event_rows, heard_event, left_text, line_left, text_of_events, watch_after}
 
 -- one part after the other
 pub watch_after-append :

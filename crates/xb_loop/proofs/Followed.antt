@@ -1,6 +1,6 @@
 -- One wire through all that a recording says.
-use Rattle.std.proofs.Common.{◌≡◌, ℕ, zero, suc, ◌+◌, ◌-◌, max, List, [], ◌∷◌, ◌++◌, Bool, true, false, Option, Some, None, map, refl, ap, sym, subst, ◌∙◌, ◌==◌, cond, arith, append_assoc, nat_le}
-use Rattle.std.specs.Prelude.{slice_get, option_map, if◌then◌else◌}
+use Rattle.std.proofs.Common.{◌≡◌, ℕ, ◌+◌, ◌-◌, max, List, [], ◌∷◌, ◌++◌, Bool, true, false, Option, Some, None, map, refl, ap, sym, subst, ◌∙◌, ◌==◌, cond, arith, append_assoc, nat_le}
+use Rattle.std.specs.Prelude.{slice_get, option_map}
 use Rattle.std.specs.Option.{option_and_then, option_map_or}
 use Rattle.std.specs.List.{flat_map}
 use Rattle.std.proofs.lemmas.Bool.{eqb-true}
@@ -16,15 +16,17 @@ use Rattle.xb_contact.specs.declared.settling.Phase.{Phase}
 use Rattle.xb_contact.specs.declared.settling.Phase.TheVariants.{Settled, Unsettled}
 use Rattle.xb_contact.specs.Holds.{hold_of, same_level}
 use Rattle.xb_contact.specs.Listening.{Heard, all_told, given_now, heard_after, heard_of, now_of, told_of}
-use Rattle.xb_contact.specs.Machine.{given_by, phase_after, pieces_of, reach, step, step_of, stretch_of, take, unsettled}
+use Rattle.xb_contact.specs.Machine.{given_by, phase_after, reach, step, step_of, stretch_of, take, unsettled}
+use Rattle.xb_contact.specs.Seizing.{all_passed}
+use Rattle.xb_contact.proofs.Seized.{piece_passes}
 use Rattle.xb_loop.specs.declared.line.Manner.{Manner}
 use Rattle.xb_loop.specs.declared.tally.Bounces.{Bounces}
-use Rattle.xb_loop.specs.Contacts.{Followed, followed_of, given_until, held_until, hold_to}
+use Rattle.xb_loop.specs.Contacts.{Followed, given_until, held_until, hold_to}
 use Rattle.xb_loop.specs.BounceLines.{bounces_heard}
 use Rattle.xb_loop.specs.RowsOfHolds.{written_rows}
-use Rattle.xb_loop.specs.Tallies.{tally_after, tally_at_end}
-use Rattle.xb_loop.specs.Watching.{Watch, Watched, all_held, begun_contact, begun_watch, certain_rows, event_rows, heard_event, level_heard, level_seen, line_changed, line_held, line_left, line_rows, rows_of_events, watch_after, watched_of, wire_changed}
-use Rattle.xb_loop.specs.WireRecords.{GivesEachRecord, GivesTheRecord, IsAlone, WireRecord, bounces_at, bounces_of_record, holds_from, record_from, rows_of_record}
+use Rattle.xb_loop.specs.Tallies.{tally_at_end}
+use Rattle.xb_loop.specs.Watching.{Watch, Watched, all_held, begun_contact, certain_rows, event_rows, heard_event, level_heard, level_seen, line_held, line_left, line_rows, rows_of_events, watch_after, watched_of, wire_changed}
+use Rattle.xb_loop.specs.WireRecords.{GivesEachRecord, IsAlone, WireRecord, bounces_at, bounces_of_record, holds_from, record_from, rows_of_record}
 use Rattle.xb_loop.proofs.WireRows.{changed-here, changed-there, left-own, numbers-changed, numbers-held, numbers_of, one_given, rows_of-append, rows_until-own, written-append}
 
 -- a hold is given, or waits
@@ -126,7 +128,7 @@ module _ (manner : Manner) (wire line : ℕ) where
 
   -- a contact is followed
   abbrev heard_rows : Followed → List Hold → List LoopRow
-  heard_rows contact holds = written_rows line (all_told contact.heard holds)
+  heard_rows contact holds = written_rows line (all_passed contact.seizing (all_told contact.heard holds))
 
   abbrev heard_bounces : Followed → List Hold → Option Bounces
   heard_bounces contact holds = Some (tally_at_end contact.tally holds).bounces
@@ -143,7 +145,10 @@ module _ (manner : Manner) (wire line : ℕ) where
       (comes_same watch rest
       (written_rows line (given_until contact tick) ++ heard_rows (held_until contact tick) holds)
       (heard_rows contact (hold_to contact tick ∷ holds)) (heard_bounces (held_until contact tick) holds)
-      (sym (written-append line (given_until contact tick) (all_told (held_until contact tick).heard holds))) c)
+      (sym (written-append line (given_until contact tick)
+      (all_passed (held_until contact tick).seizing (all_told (held_until contact tick).heard holds)))
+      ∙ sym (ap (written_rows line) (piece_passes contact.seizing (given_now contact.heard (hold_to contact tick))
+      (all_told (held_until contact tick).heard holds)))) c)
 
   abbrev Follows : List Event → Type 0
   Follows said =

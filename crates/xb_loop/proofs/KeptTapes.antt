@@ -10,7 +10,8 @@ use Rattle.xb_model.specs.Lines.{row_line}
 use Rattle.xb_model.specs.LawfulLimits.{AreLimits}
 use Rattle.xb_model.specs.Numbers.{outcome_of}
 use Rattle.xb_model.specs.Records as records
-use Rattle.xb_model.specs.Records.{Run, record_up_to_close, has_runs, pieces_of, without_first_break}
+use Rattle.xb_model.specs.Records.{Run, record_up_to_close, has_runs, pieces_of, rows_of, without_first_break}
+use Rattle.xb_model.specs.Rows.{LoopRow}
 use Rattle.xb_model.specs.Routing.{CodedRoute, order_of}
 use Rattle.xb_model.proofs.Lines.{of_line-all}
 use Rattle.xb_contact.specs.declared.level.Level.{Level}
@@ -39,17 +40,29 @@ tape_by plan limits routes runs =
     (map (λ attempt. outcome_of plan limits attempt.runs)
     (filter (λ piece. has_runs piece.runs) (pieces_of limits (without_first_break runs))))
 
+pub one_record :
+    (line : ℕ) (rows others : List LoopRow)
+    → records.joined (record_up_to_close (rows_of line rows)) ≡ records.joined (record_up_to_close (rows_of line others))
+    → MakeOneTape line rows others
+one_record line rows others same plan limits routes = ap (tape_by plan limits routes) same
+
+-- the record of a line of the rows of its holds
+pub record_of_own :
+    (line : ℕ) (holds : List Hold)
+    → records.joined (record_up_to_close (rows_of line (rows_of_holds line holds)))
+    ≡ records.joined (record_up_to_close (rows_of_holds line holds))
+record_of_own line holds =
+    ap (λ rows. records.joined (record_up_to_close rows))
+    (of_line-all row_line line (rows_of_holds line holds) (rows_own line holds))
+
 one_tape :
     (line : ℕ) (holds others : List Hold)
     → records.joined (record_up_to_close (rows_of_holds line holds))
     ≡ records.joined (record_up_to_close (rows_of_holds line others))
     → MakeOneTape line (rows_of_holds line holds) (rows_of_holds line others)
-one_tape line holds others same plan limits routes =
-    ap (λ rows. tape_by plan limits routes (records.joined (record_up_to_close rows)))
-    (of_line-all row_line line (rows_of_holds line holds) (rows_own line holds))
-    ∙ ap (tape_by plan limits routes) same
-    ∙ sym (ap (λ rows. tape_by plan limits routes (records.joined (record_up_to_close rows)))
-    (of_line-all row_line line (rows_of_holds line others) (rows_own line others)))
+one_tape line holds others same =
+    one_record line (rows_of_holds line holds) (rows_of_holds line others)
+    (record_of_own line holds ∙ same ∙ sym (record_of_own line others))
 
 pub keeps_the_tape : KeepsTheTape
 keeps_the_tape line least bounce scale most first runs z some alternating within =

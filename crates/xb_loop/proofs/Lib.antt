@@ -6,6 +6,7 @@ pub mod TallyLemmas
 pub mod BounceTexts
 pub mod WireRows
 pub mod Followed
+pub mod PassedTexts
 pub mod AloneLines
 pub mod Recordings
 pub mod Fed

@@ -1,7 +1,7 @@
 -- The whole of what is written of a recording.
-use Rattle.std.proofs.Common.{◌≡◌, ◌⊎◌, ℕ, List, [], ◌++◌, Bool, Option, Some, None, refl, ap, sym, subst, ◌∙◌, append_assoc, append-nil, inl, inr, string_bytes}
+use Rattle.std.proofs.Common.{◌≡◌, ℕ, List, [], ◌++◌, Option, Some, None, refl, ap, sym, subst, ◌∙◌, append_assoc, append-nil, inl, inr, string_bytes}
 use Rattle.std.specs.Prelude.{IfNone, IfSome, codes}
-use Rattle.std.specs.Io.KnownBytes.{Appends, Consumes, Keeps, prepend_known}
+use Rattle.std.specs.Io.KnownBytes.{Appends, Consumes, prepend_known}
 use Rattle.std.proofs.KnownBytes.{Appends-trans, Keeps-refl}
 use Rattle.xb_text.specs.Writing.{AppendsBeginning}
 use Rattle.xb_text.proofs.Beginnings.{AppendsBeginning-first, AppendsBeginning-second}
@@ -14,7 +14,7 @@ use Rattle.xb_loop.specs.declared.feed.Intake.{Intake}
 use Rattle.xb_loop.specs.declared.fault.RecordingFault.{RecordingFault}
 use Rattle.xb_loop.specs.declared.fault.RecordingFault.TheVariants as faults
 use Rattle.xb_loop.specs.declared.request.Request.{Request}
-use Rattle.xb_loop.specs.Feeding.{CannotBegin, Ends, EndsOf, FailsAtOnce, FailsLater, FailsToListen, IsFaultOfRest, IsOfForm, Listens, ListensTo, Starts, Stops, StopsOf, Wrote, watch_asked}
+use Rattle.xb_loop.specs.Feeding.{CannotBegin, Ends, EndsOf, FailsLater, FailsToListen, IsFaultOfRest, IsOfForm, Listens, ListensTo, Starts, Stops, StopsOf, Wrote, watch_asked}
 use Rattle.xb_loop.specs.Watches.{watch_of}
 use Rattle.xb_loop.specs.Watching.{Watch, certain_rows, certain_text, silent_line, text_of_events, watch_after}
 use Rattle.xb_loop.proofs.Fed.{certain-append, hears_then, stands_then, text_then, watch_after-append}

@@ -1,31 +1,24 @@
 -- The rows of one line, of those of all.
-use Rattle.std.proofs.Common.{◌≡◌, ℕ, zero, suc, ◌+◌, ◌-◌, max, List, [], ◌∷◌, ◌++◌, Bool, true, false, Option, Some, None, map, refl, ap, sym, subst, ◌∙◌, ◌==◌, cond, arith, append-nil, append_assoc}
-use Rattle.std.specs.Prelude.{slice_get, slice_set, option_map, if◌then◌else◌}
+use Rattle.std.proofs.Common.{◌≡◌, ℕ, zero, suc, List, [], ◌∷◌, ◌++◌, false, Option, Some, None, map, refl, ap, sym, ◌∙◌, ◌==◌, cond, arith, append-nil}
+use Rattle.std.specs.Prelude.{slice_get, slice_set}
 use Rattle.std.specs.Option.{option_map_or}
-use Rattle.std.specs.List.{AllByRecursion, filter, flat_map}
-use Rattle.std.proofs.lemmas.Bool.{eqb-true, eqb-false, eq-eqb, ne_eqb}
+use Rattle.std.specs.List.{flat_map}
+use Rattle.std.proofs.lemmas.Bool.{eqb-false, ne_eqb}
 use Rattle.std.proofs.lemmas.Grind.{flat_map-append}
 use Rattle.std.proofs.lemmas.List.{map-append}
 use Rattle.std.proofs.lemmas.List.Elements.{filter-append}
-use Rattle.std.proofs.lemmas.Option.{slice_get-map}
 use Rattle.xb_model.specs.Lines.{row_line}
 use Rattle.xb_model.specs.Records.{rows_of}
 use Rattle.xb_model.specs.Rows.{LoopRow}
 use Rattle.xb_model.proofs.Lines.{of_line-all}
-use Rattle.xb_contact.specs.declared.event.Event.{Event}
-use Rattle.xb_contact.specs.declared.event.Event.TheVariants as events
 use Rattle.xb_contact.specs.declared.hold.Hold.{Hold}
 use Rattle.xb_contact.specs.declared.level.Level.{Level}
 use Rattle.xb_contact.specs.declared.scale.Scale.{Scale}
-use Rattle.xb_contact.specs.Holds.{hold_of}
-use Rattle.xb_contact.specs.Listening.{Heard, all_told, begun_at, given_now, heard_after, now_of, told_at_end}
-use Rattle.xb_contact.specs.Machine.{pieces_of}
 use Rattle.xb_loop.specs.declared.line.Manner.{Manner}
-use Rattle.xb_loop.specs.Contacts.{Followed, followed_of, given_until, held_until, hold_to}
+use Rattle.xb_loop.specs.Contacts.{Followed, given_until, left_at_end}
 use Rattle.xb_loop.specs.RowsOfHolds.{day_parts, row_of_hold, rows_of_holds, written_rows}
-use Rattle.xb_loop.specs.Tallies.{tally_after, tally_at_end}
-use Rattle.xb_loop.specs.Watching.{Watch, Watched, all_held, begun_contact, certain_rows, contact_changed, contact_held, contact_left, contact_rows, event_rows, heard_event, level_heard, level_seen, line_changed, line_held, line_left, line_rows, rows_of_events, rows_until, watch_after, watched_of, wire_changed}
-use Rattle.xb_loop.specs.WireRecords.{IsAlone, holds_from}
+use Rattle.xb_loop.specs.Watching.{Watched, all_held, contact_left, contact_rows, line_changed, line_left, line_rows, wire_changed}
+use Rattle.xb_loop.specs.WireRecords.{IsAlone}
 use Rattle.xb_loop.proofs.KeptTapes.{rows_own}
 
 -- rows of another line are none of this one
@@ -105,12 +98,12 @@ contact_rows_other tick line other (Some contact) ne = rows_other line other (fl
 contact_left_own :
     (line : ℕ) (contact : Option Followed) → rows_of line (contact_left line contact) ≡ contact_left line contact
 contact_left_own line None = refl
-contact_left_own line (Some contact) = own_rows line (told_at_end contact.heard)
+contact_left_own line (Some contact) = own_rows line (left_at_end contact)
 
 contact_left_other :
     (line other : ℕ) (contact : Option Followed) → (other == line) ≡ false → rows_of line (contact_left other contact) ≡ []
 contact_left_other line other None ne = refl
-contact_left_other line other (Some contact) ne = rows_other line other (flat_map day_parts (told_at_end contact.heard)) ne
+contact_left_other line other (Some contact) ne = rows_other line other (flat_map day_parts (left_at_end contact)) ne
 
 pub rows_until-own : (tick : ℕ) → GivesOwn (line_rows tick)
 rows_until-own tick = record {

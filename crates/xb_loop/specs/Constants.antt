@@ -3,11 +3,12 @@ use Rattle.std.specs.Prelude.{◌≡◌}
 use Rattle.xb_loop.specs.declared.beginning.TheConstants.{MOST_BEGINNING_BYTES}
 use Rattle.xb_loop.specs.declared.feed.TheConstants.{MOST_SHOWN_BYTES}
 use Rattle.xb_loop.specs.declared.lines.TheConstants.{MOST_GAP_MS}
-use Rattle.xb_loop.specs.declared.words.TheConstants.{SETTLE_MS, THRESHOLD_PERCENT}
+use Rattle.xb_loop.specs.declared.words.TheConstants.{SEIZE_MS, SETTLE_MS, THRESHOLD_PERCENT}
 
 -- a definition that cites a constant means this number
 pub record AreConstants : Type 0 where
   pub settle_ms : SETTLE_MS ≡ 5
+  pub seize_ms : SEIZE_MS ≡ 0
   pub threshold_percent : THRESHOLD_PERCENT ≡ 6
   pub most_beginning_bytes : MOST_BEGINNING_BYTES ≡ 131072
   pub most_shown_bytes : MOST_SHOWN_BYTES ≡ 40

@@ -10,8 +10,9 @@ use Rattle.xb_recording.specs.declared.format.Format.{Format}
 use Rattle.xb_recording.specs.Formats.{format_of}
 use Rattle.xb_recording.specs.Says.{names_in}
 use Rattle.xb_model.specs.Fields.{line_of}
+use Rattle.xb_model.specs.LawfulLimits.{standard_limits}
 use Rattle.xb_loop.specs.declared.request.Request.{Request}
-use Rattle.xb_loop.specs.declared.words.TheConstants.{SETTLE_MS, THRESHOLD_PERCENT}
+use Rattle.xb_loop.specs.declared.words.TheConstants.{SEIZE_MS, SETTLE_MS, THRESHOLD_PERCENT}
 use Rattle.xb_loop.specs.declared.words.Wires.{Wires}
 use Rattle.xb_loop.specs.Rules.{command_of_words}
 
@@ -64,6 +65,8 @@ pub record Say (rows : List Row) (request : Request) : Type 0 where
   pub format : form_named (first_of (codes "format") rows) ≡ Some request.format
   pub rate : ReadsNumber (given_by rows (codes "rate")) request.wanted.rate
   pub settle : ReadsOr (given_by rows (codes "settle")) SETTLE_MS request.manner.settle_ms
+  pub seize : ReadsOr (given_by rows (codes "seize")) SEIZE_MS request.manner.seize_ms
+  pub release : request.manner.release_ms ≡ standard_limits.release
   pub tick : ReadsOr (given_by rows (codes "tick")) (2 ^ 32 - 1) request.manner.most_ms
   pub threshold : ReadsOr (given_by rows (codes "threshold")) THRESHOLD_PERCENT request.wanted.threshold.percent
   pub inverted : ReadsFlag (given_by rows (codes "inverted")) request.manner.inverted

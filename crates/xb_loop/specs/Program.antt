@@ -12,7 +12,7 @@ use Rattle.xb_loop.specs.declared.fault.LoopFault.TheVariants as faults
 use Rattle.xb_loop.specs.declared.request.Request.{Request}
 use Rattle.xb_loop.specs.Feeding.{FailsToListen, ListensTo}
 use Rattle.xb_loop.specs.Options.{AreRefused, Asks}
-use Rattle.xb_loop.specs.Tables.{IsBeforeRows, IsFaultOfTable}
+use Rattle.xb_loop.specs.Tables.{IsBeforeRows, IsFaultOfTable, IsReleaseOf}
 
 -- the program's name
 abbrev pub program : List ℕ
@@ -22,20 +22,29 @@ program = codes "mfloop"
 abbrev pub usage_line : List ℕ
 usage_line =
     codes "mfloop: usage: mfloop [--line N=WIRE]... [--table FILE] "
-    ++ codes "[--format vcd|sigrok|saleae|edges|gpiomon|bits|s16|wav] [--rate HZ] [--settle MS] [--tick MS] "
-    ++ codes "[--threshold PERCENT] [--inverted] [--said]\n"
+    ++ codes "[--format vcd|sigrok|saleae|edges|gpiomon|bits|s16|wav] [--rate HZ] [--settle MS] [--seize MS] "
+    ++ codes "[--tick MS] [--threshold PERCENT] [--inverted] [--said]\n"
+
+-- what is asked for, where so long a break releases a line
+abbrev pub with_release : Request → ℕ → Request
+with_release request release = record request { manner = record request.manner { release_ms = release } }
+
+-- what comes before the rows, and the release limit, by the table that is asked for, if one is
+pub record HasBegun (files : Bytes) (request : Request) (before : List ℕ) (release : ℕ) : Type 0 where
+  pub text : IsBeforeRows files (option_map (λ name. name.now) request.table) before
+  pub release_is : IsReleaseOf files (option_map (λ name. name.now) request.table) release
 
 -- an output got the table that is asked for, if one is, and then exactly the rows of the recording
 abbrev pub PrintsDeck : Bytes → Request → List ℕ → Option (List ℕ) → Option (List ℕ) → Option (List ℕ) → Type 0
 PrintsDeck files request told input output after =
-    (before : List ℕ) × IsBeforeRows files (option_map (λ name. name.now) request.table) before
-    × ListensTo request before told input output after
+    (before : List ℕ) × (release : ℕ) × HasBegun files request before release
+    × ListensTo (with_release request release) before told input output after
 
 -- what a fault says of the table and the recording, and what an output got before it
 abbrev pub FailsToPrint : Bytes → Request → LoopFault → Option (List ℕ) → Option (List ℕ) → Option (List ℕ) → Type 0
 FailsToPrint files request (faults.Recording fault) input output after =
-    (before : List ℕ) × IsBeforeRows files (option_map (λ name. name.now) request.table) before
-    × FailsToListen request before fault input output after
+    (before : List ℕ) × (release : ℕ) × HasBegun files request before release
+    × FailsToListen (with_release request release) before fault input output after
 FailsToPrint files request fault input output after =
     Keeps output after × IsFaultOfTable files (option_map (λ name. name.now) request.table) fault
 

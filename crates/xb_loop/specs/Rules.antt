@@ -13,6 +13,7 @@ options =
     ∷ (codes "format", takes.Text)
     ∷ (codes "rate", takes.Number)
     ∷ (codes "settle", takes.Number)
+    ∷ (codes "seize", takes.Number)
     ∷ (codes "tick", takes.Number)
     ∷ (codes "threshold", takes.Number)
     ∷ (codes "inverted", takes.Nothing)
@@ -20,7 +21,7 @@ options =
     ∷ (codes "line", takes.AllThatFollow)
     ∷ []
 
--- `mfloop [--table FILE] [--format FORM] [--rate HZ] [--settle MS] [--tick MS] [--threshold PERCENT]
+-- `mfloop [--table FILE] [--format FORM] [--rate HZ] [--settle MS] [--seize MS] [--tick MS] [--threshold PERCENT]
 -- [--inverted] [--said] N=WIRE..`
 abbrev pub command_of_words : App
 command_of_words = command_of (codes "mfloop") options

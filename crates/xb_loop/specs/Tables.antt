@@ -1,7 +1,8 @@
 -- What comes before the rows of a deck.
-use Rattle.std.specs.Prelude.{ℕ, ◌≡◌, ◌≢◌, ◌⊎◌, ◌++◌, List, [], ◌∷◌, Option, Some, None, IfSome, Ok, Err, codes, nat_eq, if◌then◌else◌}
+use Rattle.std.specs.Prelude.{ℕ, ◌≡◌, ◌≢◌, ◌⊎◌, ◌++◌, List, [], ◌∷◌, Option, Some, None, IfOk, IfSome, Ok, Err, codes, nat_eq, if◌then◌else◌}
 use Rattle.std.specs.List.{ends_with}
 use Rattle.xb_command.specs.Files.{Bytes}
+use Rattle.xb_model.specs.LawfulLimits.{standard_limits}
 use Rattle.xb_routes.specs.declared.fault.RouteFault.{RouteFault}
 use Rattle.xb_routes.specs.declared.fault.RouteFault.TheVariants as route_faults
 use Rattle.xb_routes.specs.Table.{Table}
@@ -24,6 +25,12 @@ abbrev pub IsBeforeRows : Bytes → Option (List ℕ) → List ℕ → Type 0
 IsBeforeRows files None text = text ≡ []
 IsBeforeRows files (Some name) text =
     IfSome (files name) (λ bytes. ((table : Table) × (table_of_text bytes ≡ Ok table)) × (text ≡ table_ended bytes))
+
+-- the release limit of the table of the name, where its bytes are known, and the standard one where no table is named
+abbrev pub IsReleaseOf : Bytes → Option (List ℕ) → ℕ → Type 0
+IsReleaseOf files None release = release ≡ standard_limits.release
+IsReleaseOf files (Some name) release =
+    IfSome (files name) (λ bytes. IfOk (table_of_text bytes) (λ table. release ≡ table.limits.release))
 
 -- why it does not come, where one is named: that file could not be read, its table is refused, or memory ran out
 abbrev pub IsFaultOfTable : Bytes → Option (List ℕ) → LoopFault → Type 0

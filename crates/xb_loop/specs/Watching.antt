@@ -11,9 +11,10 @@ use Rattle.xb_contact.specs.Holds.{other_level}
 use Rattle.xb_loop.specs.declared.line.Manner.{Manner}
 use Rattle.xb_loop.specs.declared.lines.TheConstants.{MOST_GAP_MS}
 use Rattle.xb_contact.specs.declared.scale.Scale.{Scale}
-use Rattle.xb_contact.specs.Listening.{begun_at, told_at_end}
+use Rattle.xb_contact.specs.Listening.{begun_at}
+use Rattle.xb_contact.specs.Seizing.{Seizing, begun_seizing}
 use Rattle.xb_contact.specs.Times.{CanCount}
-use Rattle.xb_loop.specs.Contacts.{Followed, CanHold, followed_of, given_until, held_until}
+use Rattle.xb_loop.specs.Contacts.{Followed, CanHold, followed_of, given_until, held_until, left_at_end}
 use Rattle.xb_loop.specs.RowsOfHolds.{written_rows}
 use Rattle.xb_loop.specs.Tallies.{begun_tally}
 
@@ -57,7 +58,7 @@ all_held tick lines = map (line_held tick) lines
 -- the rows that are left of a line where the recording ends
 abbrev pub contact_left : ℕ → Option Followed → List LoopRow
 contact_left number None = []
-contact_left number (Some contact) = written_rows number (told_at_end contact.heard)
+contact_left number (Some contact) = written_rows number (left_at_end contact)
 
 abbrev pub line_left : Watched → List LoopRow
 line_left line = contact_left line.number line.contact
@@ -66,10 +67,18 @@ line_left line = contact_left line.number line.contact
 abbrev pub least_ticks : Scale → ℕ → ℕ
 least_ticks scale ms = max 1 ((ms * scale.ticks + (scale.ms - 1)) / scale.ms)
 
+-- a line is on hook again after a break of so many ms, and of 1 at least
+abbrev pub release_of : Manner → ℕ
+release_of manner = max manner.release_ms 1
+
+-- a line before its first hold
+abbrev pub begun_line : Manner → Seizing
+begun_line manner = begun_seizing manner.seize_ms (release_of manner) manner.most_ms
+
 -- a contact that has its first level
 abbrev pub begun_contact : Manner → Scale → ℕ → Level → Followed
 begun_contact manner scale tick level =
-    followed_of (begun_at (least_ticks scale manner.settle_ms) scale manner.most_ms level) tick level
+    followed_of (begun_at (least_ticks scale manner.settle_ms) scale manner.most_ms level) (begun_line manner) tick level
     (begun_tally (least_ticks scale manner.settle_ms) level)
 
 -- a contact that has a level from a tick on

@@ -10,12 +10,13 @@ use Rattle.xb_contact.specs.declared.level.Level.{Level}
 use Rattle.xb_contact.specs.declared.scale.Scale.{Scale}
 use Rattle.xb_contact.specs.Holds.{hold_of}
 use Rattle.xb_contact.specs.Listening.{all_told, begun_at}
+use Rattle.xb_contact.specs.Seizing.{all_passed}
 use Rattle.xb_loop.specs.declared.line.Manner.{Manner}
 use Rattle.xb_loop.specs.declared.tally.Bounces.{Bounces}
 use Rattle.xb_loop.specs.BounceLines.{bounces_heard}
 use Rattle.xb_loop.specs.RowsOfHolds.{written_rows}
 use Rattle.xb_loop.specs.Tallies.{begun_tally, tally_at_end}
-use Rattle.xb_loop.specs.Watching.{Watched, begun_watch, least_ticks, level_seen, rows_of_events, watch_after}
+use Rattle.xb_loop.specs.Watching.{Watched, begun_line, begun_watch, least_ticks, level_seen, rows_of_events, watch_after}
 
 -- the record of a loop by its wire: how long a tick is, the level that comes first, and then how long each holds
 pub record WireRecord : Type 0 where
@@ -55,7 +56,8 @@ abbrev pub rows_of_record : Manner → ℕ → Option WireRecord → List LoopRo
 rows_of_record manner line None = []
 rows_of_record manner line (Some wire) =
     written_rows line
-    (all_told (begun_at (least_ticks wire.scale manner.settle_ms) wire.scale manner.most_ms wire.first) wire.holds)
+    (all_passed (begun_line manner)
+    (all_told (begun_at (least_ticks wire.scale manner.settle_ms) wire.scale manner.most_ms wire.first) wire.holds))
 
 abbrev pub bounces_of_record : Manner → Option WireRecord → Option Bounces
 bounces_of_record manner wires =

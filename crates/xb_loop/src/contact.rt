@@ -2,24 +2,29 @@
 ghost use Rattle.std.specs.Prelude.{◌≡◌, ◌++◌, ◌↔◌, ◌<◌, IfSome, IsTrue, OnOk, string_bytes};
 ghost use Rattle.std.specs.List.{flat_map};
 ghost use Rattle.xb_rows.specs.WrittenRows.{record_text};
-ghost use Rattle.xb_loop.specs.Contacts.{CanHold, followed_of, given_until, held_until};
-ghost use Rattle.xb_contact.specs.Listening.{begun_at, told_at_end};
+ghost use Rattle.xb_loop.specs.Contacts.{CanHold, followed_of, given_until, held_until, left_at_end};
+ghost use Rattle.xb_contact.specs.Listening.{begun_at};
 ghost use Rattle.xb_contact.specs.Machine.{pieces_of};
+ghost use Rattle.xb_contact.specs.Seizing.{line_past, piece_passed, pieces_in};
 ghost use Rattle.xb_loop.specs.RowsOfHolds.{written_rows};
 ghost use Rattle.xb_loop.specs.Tallies.{begun_tally};
+ghost use Rattle.xb_loop.specs.Watching.{begun_line};
 ghost use Rattle.xb_contact.specs.Times.{CanCount};
 
+use crate::line::Manner;
 use crate::rows::write_rows;
 use crate::tally::{Bounces, Tally};
 use std::alloc::AllocError;
 use std::marker::Model;
-use xb_contact::{Hold, Level, Listener, Scale, Settler};
+use xb_contact::{Certain, Hold, Level, Listener, Scale, Seizer, Settler};
 use xb_model::LineNo;
 
 /// A contact from its first level on.
 #[derive(Drop)]
 pub(crate) struct Contact {
     listener: Listener,
+    // It takes what the listener gives.
+    seizer: Seizer,
     // The tick of the recording at which its first level came.
     start: u64,
     level: Level,
@@ -31,7 +36,7 @@ impl Model for Contact {
 
     ghost Value = { Followed };
 
-    ghost view = { λ s. followed_of s.listener s.start s.level s.tally };
+    ghost view = { λ s. followed_of s.listener s.seizer s.start s.level s.tally };
 }
 
 // Adds the records of a hold, if there is one.
@@ -45,18 +50,49 @@ fn write_given(rows: &mut String, line: LineNo, given: Option<Hold>) -> Result<(
     }
 }
 
+// Adds the records of what is certain of a line.
+fn write_certain(rows: &mut String, line: LineNo, certain: Certain) -> Result<(), AllocError>
+    ensures { OnOk result (string_bytes rows.new
+        ≡ string_bytes rows.old ++ flat_map record_text (written_rows line (pieces_in certain))) }
+{
+    write_given(rows, line, certain.first)?;
+    write_given(rows, line, certain.second)?;
+    write_given(rows, line, certain.third)
+}
+
+// Adds the records of what is certain of a line with a hold that has settled, if there is one.
+fn write_passed(
+    rows: &mut String,
+    line: LineNo,
+    seizer: &mut Seizer,
+    piece: Option<Hold>,
+) -> Result<(), AllocError>
+    ensures rows { OnOk result (string_bytes rows.new
+        ≡ string_bytes rows.old ++ flat_map record_text (written_rows line (piece_passed seizer.old piece))) }
+    ensures past { seizer.new ≡ line_past seizer.old piece }
+{
+    match piece {
+        Some(hold) => {
+            let certain = seizer.take(hold);
+            write_certain(rows, line, certain)
+        }
+        None => Ok(()),
+    }
+}
+
 impl Contact {
-    /// A contact that has its first level at this tick. A run of `least` ticks is settled, and one of `most` ms
-    /// is given in parts.
-    pub fn new(scale: Scale, least: u64, most: u32, start: u64, level: Level) -> Contact
+    /// A contact that has its first level at this tick. A run of `least` ticks is settled.
+    pub fn new(manner: Manner, scale: Scale, least: u64, start: u64, level: Level) -> Contact
         requires least { 0 < least }
         requires some { 0 < scale.ticks }
         requires fits { CanCount scale 0 }
-        ensures { result ≡ followed_of (begun_at least scale most level) start level
-            (begun_tally least level) }
+        ensures { result ≡ followed_of (begun_at least scale manner.most_ms level) (begun_line manner) start
+            level (begun_tally least level) }
     {
+        let most = u64::from(manner.most_ms);
         Contact {
-            listener: Listener::new(Settler::new(least), scale, u64::from(most), level),
+            listener: Listener::new(Settler::new(least), scale, most, level),
+            seizer: Seizer::new(manner.seize_ms, manner.release_ms.max(1), manner.most_ms),
             start,
             level,
             tally: Tally::new(least, level),
@@ -85,8 +121,8 @@ impl Contact {
         let (level, until) = (self.level, tick - self.start);
         let ticks = until - self.listener.now();
         self.tally = self.tally.take(Hold { level, ticks });
-        let given = self.listener.take_until(level, until);
-        write_given(rows, line, given)
+        let piece = self.listener.take_until(level, until);
+        write_passed(rows, line, &mut self.seizer, piece)
     }
 
     /// It has a level from then on.
@@ -106,10 +142,12 @@ impl Contact {
     /// The recording ends, and the records of what is left are added.
     pub fn end(self, line: LineNo, rows: &mut String) -> Result<(), AllocError>
         ensures { OnOk result (string_bytes rows.new
-            ≡ string_bytes rows.old ++ flat_map record_text (written_rows line (told_at_end self.heard))) }
+            ≡ string_bytes rows.old ++ flat_map record_text (written_rows line (left_at_end self))) }
     {
+        let mut seizer = self.seizer;
         let (first, last) = self.listener.end();
-        write_given(rows, line, first)?;
-        write_given(rows, line, last)
+        write_passed(rows, line, &mut seizer, first)?;
+        write_passed(rows, line, &mut seizer, last)?;
+        write_given(rows, line, seizer.end())
     }
 }

@@ -2,14 +2,15 @@
 //! `RowsOfHolds` (the rows that are written), and the statements in `HeardLaws` and `TapeLaws`.
 ghost use Rattle.xb_loop.specs.Constants.{AreConstants};
 ghost use Rattle.xb_loop.specs.HeardLaws.{HearsEachCleanRun, HearsTheCleanRecord, HearsTheSettledRecord};
-ghost use Rattle.xb_loop.specs.RecordingLaws.{AsksForEachOnce, HearsTheRecording, KeepsTheTapeOfRecordings, TellsTheShortRuns};
+ghost use Rattle.xb_loop.specs.RecordingLaws.{AsksForEachOnce, HearsTheRecording, KeepsTheTapeOfRecordings, KeepsTheTapeOfSeizures};
+ghost use Rattle.xb_loop.specs.RecordingLaws.{KeepsTheTapeUnlessAsked, TellsTheShortRuns};
 ghost use Rattle.xb_loop.specs.Tallies.{CountsTheShortRuns};
 ghost use Rattle.xb_loop.specs.WireRecords.{GivesEachRecord};
 ghost use Rattle.xb_loop.specs.TapeLaws.{HearsNothingOtherwise, KeepsTheTape, LeavesLongRunsTheirTape};
 
-/// From how many ms on a run is settled and which percent of the range is a threshold, where neither is asked for; the
-/// most bytes that tell a form, the most that are shown of a refused line, and the longest gap between two times; each
-/// as it is.
+/// From how many ms on a run is settled, from how many a make seizes and which percent of the range is a threshold,
+/// where these are not asked for; the most bytes that tell a form, the most that are shown of a refused line, and the
+/// longest gap between two times; each as it is.
 pub fn constants()
     ensures { AreConstants }
 {}
@@ -49,13 +50,17 @@ pub fn each_line_has_the_record_of_its_wire()
     ensures { GivesEachRecord }
 {}
 
-/// So of all rows that are written of a recording (`rows_of_events`, which are those of `listen`) the chain hears, of each
-/// line, the settled record of its contact; where short bounces disturb a clean record, it makes the tape of the clean
-/// one; and exactly the short runs are told. It is so of each line of a recording whose wires are of other lines, as those
-/// are that words ask for.
+/// So of all rows that are written of a recording (`rows_of_events`, which are those of `listen`) the chain hears, of
+/// each line, the settled record of its contact, in ms, in which each make on hook that is too short to seize is a
+/// break. Where short bounces disturb a clean record, it makes the tape of the clean one with such breaks (`tape`), so
+/// that of the clean one itself where each make on hook lasts long enough (`long`), and where each make seizes
+/// (`plain`). Exactly the short runs are told. It is so of each line of a recording whose wires are of other lines, as
+/// those are that words ask for.
 pub fn the_tape_of_a_recording_is_kept()
     ensures heard { HearsTheRecording }
     ensures tape { KeepsTheTapeOfRecordings }
+    ensures long { KeepsTheTapeOfSeizures }
+    ensures plain { KeepsTheTapeUnlessAsked }
     ensures told { TellsTheShortRuns }
     ensures once { AsksForEachOnce }
 {}

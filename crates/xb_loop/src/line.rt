@@ -17,6 +17,10 @@ use xb_model::LineNo;
 pub struct Manner {
     /// From how many ms on a run is settled.
     pub settle_ms: u32,
+    /// From how many ms on a make seizes where the line is on hook; a shorter one there is a break, and at 0 none is.
+    pub seize_ms: u32,
+    /// After a break of how many ms a line is on hook; 0 is as 1.
+    pub release_ms: u32,
     /// From how many ms on a run is given in parts.
     pub most_ms: u32,
     /// Whether a low wire is a closed loop.
@@ -62,7 +66,7 @@ fn begun(manner: Manner, scale: Scale, tick: u64, level: Level) -> Option<Contac
     if scale.ticks == 0 || !scale.can_count(0) {
         return None;
     }
-    Some(Contact::new(scale, least, manner.most_ms, tick, level))
+    Some(Contact::new(manner, scale, least, tick, level))
 }
 
 impl Line {

@@ -19,24 +19,25 @@ pub(crate) const PROGRAM: &str = "mfloop";
 
 // The line of refused words.
 const USAGE: &[u8] = b"mfloop: usage: mfloop [--line N=WIRE]... [--table FILE] \
-[--format vcd|sigrok|saleae|edges|gpiomon|bits|s16|wav] [--rate HZ] [--settle MS] [--tick MS] \
+[--format vcd|sigrok|saleae|edges|gpiomon|bits|s16|wav] [--rate HZ] [--settle MS] [--seize MS] [--tick MS] \
 [--threshold PERCENT] [--inverted] [--said]\n";
 
-// Writes the rows that are asked for, after a route table, if one is.
+// Writes the rows that are asked for, after a route table, if one is; its release limit is that of the lines.
 fn run<'a, F: Files, R: Read, W: Write>(
     alloc: Global,
     files: &F,
-    request: &Request<'a>,
+    mut request: Request<'a>,
     recording: &mut R,
     out: &mut W,
 ) -> Result<String, LoopFault<'a>>
-    ensures prints { IfOk result (λ told. PrintsDeck (F.bytes files.now) request.now (string_bytes told)
+    ensures prints { IfOk result (λ told. PrintsDeck (F.bytes files.now) request.entry (string_bytes told)
         (R.remaining recording.old) (W.contents out.old) (W.contents out.new)) }
-    ensures fault { IfErr result (λ fault. FailsToPrint (F.bytes files.now) request.now fault
+    ensures fault { IfErr result (λ fault. FailsToPrint (F.bytes files.now) request.entry fault
         (R.remaining recording.old) (W.contents out.old) (W.contents out.new)) }
 {
-    let before = beginning_of(alloc, files, request.table)?;
-    match listen(alloc, request, &before, recording, out) {
+    let (before, release_ms) = beginning_of(alloc, files, request.table)?;
+    request.manner.release_ms = release_ms;
+    match listen(alloc, &request, &before, recording, out) {
         Ok(told) => Ok(told),
         Err(fault) => Err(LoopFault::Recording(fault)),
     }
@@ -81,7 +82,7 @@ pub fn attend<F: Files, R: Read, W: Write, E: Write>(
         return tell_words(err, PROGRAM, USAGE, WordsFault::NoMemory);
     };
     match request_of_words(alloc, &words) {
-        Ok(request) => match run(alloc, files, &request, recording, out) {
+        Ok(request) => match run(alloc, files, request, recording, out) {
             Ok(told) => tell_bounces(alloc, err, &told),
             Err(fault) => tell_fault(alloc, err, PROGRAM, fault),
         },

@@ -9,22 +9,26 @@ use crate::program::PROGRAM;
 use crate::request::Request;
 use std::alloc::{AllocError, Global};
 use xb_command::{Takes, Words, WordsFault, read_words};
-use xb_model::{LineNo, line_of};
+use xb_model::{Limits, LineNo, line_of};
 use xb_recording::{Format, Wanted, format_of};
 use xb_samples::Threshold;
 
 // 5 ms settle all contacts of a dial.
 const SETTLE_MS: u32 = 5;
 
+// Each make seizes.
+const SEIZE_MS: u32 = 0;
+
 // A sixteenth of the range.
 const THRESHOLD_PERCENT: u32 = 6;
 
 // The options of the program, each under its name, and the wires of the lines, which stand alone.
-const OPTIONS: [(&str, Takes); 9] = [
+const OPTIONS: [(&str, Takes); 10] = [
     ("table", Takes::Text),
     ("format", Takes::Text),
     ("rate", Takes::Number),
     ("settle", Takes::Number),
+    ("seize", Takes::Number),
     ("tick", Takes::Number),
     ("threshold", Takes::Number),
     ("inverted", Takes::Nothing),
@@ -145,6 +149,8 @@ fn request_of<'a>(alloc: Global, words: &Words<'a>) -> Result<Request<'a>, Words
         },
         manner: Manner {
             settle_ms: words.number("settle").unwrap_or(SETTLE_MS),
+            seize_ms: words.number("seize").unwrap_or(SEIZE_MS),
+            release_ms: Limits::standard().release,
             most_ms: words.number("tick").unwrap_or(u32::MAX),
             inverted: words.flag("inverted"),
         },
@@ -152,8 +158,9 @@ fn request_of<'a>(alloc: Global, words: &Words<'a>) -> Result<Request<'a>, Words
     })
 }
 
-/// What the words ask for, the program's name first. Runs are given whole, unless a tick is given. The words are
-/// refused where `clap` refuses them, there is no such form or threshold, or a word is no wire or names a line again.
+/// What the words ask for, the program's name first. Runs are given whole, unless a tick is given, and a line is
+/// released by the standard limit. The words are refused where `clap` refuses them, there is no such form or threshold,
+/// or a word is no wire or names a line again.
 pub fn request_of_words<'a>(alloc: Global, words: &'a [String]) -> Result<Request<'a>, WordsFault>
     ensures asks { IfOk result (λ request. AsksPlainly (texts_of words.entry.now) request) }
     ensures refused { IfErr result (λ f. f ≡ WordsFault.Refused

@@ -1,5 +1,5 @@
 use Rattle.xb_loop.proofs.AloneLines.{asks_for_each_once}
-use Rattle.xb_loop.proofs.Recordings.{hears_the_recording, keeps_the_tape_of_recordings, tells_the_short_runs}
+use Rattle.xb_loop.proofs.Recordings.{hears_the_recording, keeps_the_tape_of_recordings, keeps_the_tape_of_seizures, keeps_the_tape_unless_asked, tells_the_short_runs}
 use Rattle.xb_loop.proofs.laws.the_tape_of_a_recording_is_kept.Goals as goal
 
 pub returns-clause-heard : goal.returns-clause-heard
@@ -7,6 +7,12 @@ returns-clause-heard c = hears_the_recording
 
 pub returns-clause-tape : goal.returns-clause-tape
 returns-clause-tape c = keeps_the_tape_of_recordings
+
+pub returns-clause-long : goal.returns-clause-long
+returns-clause-long c = keeps_the_tape_of_seizures
+
+pub returns-clause-plain : goal.returns-clause-plain
+returns-clause-plain c = keeps_the_tape_unless_asked
 
 pub returns-clause-told : goal.returns-clause-told
 returns-clause-told c = tells_the_short_runs

@@ -1,6 +1,7 @@
 use Rattle.std.proofs.Common.{rules, ap, inl, inr, refl, sym, ◌∙◌}
 use Rattle.std.proofs.lemmas.Result.{err_from_is_err_and}
 use Rattle.std.specs.Prelude.{unwrap_or}
+use Rattle.xb_model.specs.declared.limits.Limits.{Limits}
 use Rattle.xb_loop.specs.declared.words.TheConstants.{THRESHOLD_PERCENT}
 use Rattle.xb_loop.specs.Options.{form_named}
 use Rattle.xb_loop.proofs.words.request_of.Goals as goal
@@ -18,7 +19,9 @@ returns-clause-says c = record {
   format = ap form_named (sym c.text.ensures) ∙ c.in_ok-format.ensures.named;
   rate = search rules;
   settle = (c.number-3.result, c.number-3.ensures, c.unwrap_or-2.ensures);
-  tick = (c.number-4.result, c.number-4.ensures, c.unwrap_or-3.ensures);
+  seize = (c.number-4.result, c.number-4.ensures, c.unwrap_or-3.ensures);
+  release = ap (λ (limits : Limits). limits.release) c.standard.ensures.value;
+  tick = (c.number-5.result, c.number-5.ensures, c.unwrap_or-4.ensures);
   threshold = (c.number.result, c.number.ensures, c.in_ok-threshold.ensures.given);
   inverted = c.flag.ensures;
   said = c.flag-2.ensures;
