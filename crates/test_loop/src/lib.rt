@@ -11,6 +11,8 @@ mod forms;
 #[cfg(test)]
 mod refusals;
 #[cfg(test)]
+mod samples;
+#[cfg(test)]
 mod seizing;
 #[cfg(test)]
 mod settling;

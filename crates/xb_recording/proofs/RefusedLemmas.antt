@@ -1,5 +1,5 @@
 -- Why a recording is refused.
-use Rattle.std.proofs.Common.{◌≡◌, ℕ, List, [], ◌++◌, true, None, Some, drop, ap, inl, inr, refl, sym, subst, ◌∙◌}
+use Rattle.std.proofs.Common.{◌≡◌, ℕ, List, [], ◌++◌, true, Option, None, Some, drop, ap, inl, inr, refl, sym, subst, ◌∙◌}
 use Rattle.std.specs.Prelude.{Err, Ok, Result, length}
 use Rattle.xb_csv.specs.Tables.{table_says}
 use Rattle.xb_csv.specs.declared.columns.TableForm.{TableForm}
@@ -11,11 +11,14 @@ use Rattle.xb_contact.specs.declared.event.Refusal.TheVariants as refusals
 use Rattle.xb_contact.specs.Steps.{IsOnly}
 use Rattle.xb_samples.specs.declared.bits.Bits.{Bits}
 use Rattle.xb_samples.specs.declared.sound.Sound.{Sound}
+use Rattle.xb_riff.specs.declared.coding.Coding.{Coding}
 use Rattle.xb_riff.specs.declared.coding.Coding.TheVariants as coding
 use Rattle.xb_riff.specs.declared.head.WavFormat.{WavFormat}
-use Rattle.xb_samples.specs.Pieces.{RunsOver}
-use Rattle.xb_samples.specs.Samples.{bits_state}
-use Rattle.xb_samples.specs.Sounds.{high_of, sound_state}
+use Rattle.xb_samples.specs.Pieces.{RunsOver, samples_events}
+use Rattle.xb_samples.specs.declared.bits.Width.{Width}
+use Rattle.xb_samples.specs.declared.bits.Width.TheVariants as widths
+use Rattle.xb_samples.specs.Samples.{bits_say, bits_state}
+use Rattle.xb_samples.specs.Sounds.{high_of, samples_left, sound_fault, sound_reading, sound_state, unless}
 use Rattle.xb_riff.specs.Heads.{HeadBegins, HeadSoFar, Samples, TakesHead, head_of, rest_of}
 use Rattle.xb_samples.specs.Wavs.{BeginsNothing, EndsBefore}
 use Rattle.xb_recording.specs.declared.format.Format.{Format}
@@ -25,7 +28,8 @@ use Rattle.xb_recording.specs.declared.reader.Source.{Source}
 use Rattle.xb_recording.specs.declared.reader.Source.TheVariants as sources
 use Rattle.xb_recording.specs.declared.wanted.Wanted.{Wanted}
 use Rattle.xb_csv.specs.Gpiomons.{gpiomon_says}
-use Rattle.xb_recording.specs.Says.{IsBegunBits, IsBegunGpiomon, IsBegunSound, IsBegunTable, IsBegunVcd, IsBegunWav, IsLongText, IsOfFormat, IsRefused, IsTooLong, KeepsRefusals, LinesComeTo, Refuses, RefusesSamples, RefusesText, SamplesRefused, SourceRefused, TableRefused, TakesText, WavRefused, is_text, lines_in, lines_left, names_in, plain_lines, text_lines}
+use Rattle.xb_recording.specs.Says.{IsBegunBits, IsBegunGpiomon, IsBegunSound, IsBegunTable, IsBegunVcd, IsBegunWav, IsLongText, IsOfFormat, IsRefused, IsTooLong, KeepsRefusals, LinesComeTo, Refuses, RefusesSamples, RefusesText, RestRefused, SamplesRefused, SoundRefused, SourceRefused, TableRefused, TakesText, WavRefused, is_text, lines_in, lines_left, names_in, plain_lines, text_lines}
+use Rattle.xb_recording.proofs.SaidLemmas.{sound_whole}
 
 -- a text is refused by its lines
 lines_refused :
@@ -91,18 +95,24 @@ head_is_refused reader head bytes refusal is refused only = λ other.
     subst P (sym is) all)
 
 -- those whose samples are refused
+pub samples_keep :
+    (reader : Reader) (head after : HeadSoFar) (bytes text : List ℕ) (found : WavFormat × ℕ) (refusal : Refusal)
+    → reader.source ≡ sources.WavHead head → TakesHead head bytes (Some found) after
+    → SamplesRefused reader.wanted.now (found.0, drop found.1 bytes ++ text) refusal → RestRefused reader (bytes ++ text) refusal
+samples_keep reader head after bytes text found refusal is taken refused =
+    let P : Source → Type 0 = λ s. SourceRefused reader.wanted.now s (lines_left reader (bytes ++ text)) (bytes ++ text) refusal in
+    let Q : Samples → Type 0 = λ samples. SamplesRefused reader.wanted.now samples refusal in
+    let first : Samples = (found.0, drop found.1 bytes ++ text) in
+    let all : WavRefused (HeadBegins head (bytes ++ text)) reader.wanted.now refusal =
+    (λ samples k. subst Q (same_ok (rest_of head (bytes ++ text)) (taken text) k) refused, λ none. absurd (none first (taken text))) in
+    subst P (sym is) all
+
 pub samples_are_refused :
     (reader : Reader) (head after : HeadSoFar) (bytes : List ℕ) (found : WavFormat × ℕ) (refusal : Refusal)
     → reader.source ≡ sources.WavHead head → TakesHead head bytes (Some found) after
     → RefusesSamples found.0 reader (drop found.1 bytes) refusal → Refuses reader bytes refusal
 samples_are_refused reader head after bytes found refusal is taken refused = λ other.
-    inl (λ text.
-    let P : Source → Type 0 = λ s. SourceRefused reader.wanted.now s (lines_left reader (bytes ++ text)) (bytes ++ text) refusal in
-    let Q : Samples → Type 0 = λ samples. SamplesRefused reader.wanted.now samples refusal in
-    let first : Samples = (found.0, drop found.1 bytes ++ text) in
-    let all : WavRefused (HeadBegins head (bytes ++ text)) reader.wanted.now refusal =
-    (λ samples k. subst Q (same_ok (rest_of head (bytes ++ text)) (taken text) k) (refused other text), λ none. absurd (none first (taken text))) in
-    subst P (sym is) all)
+    inl (λ text. samples_keep reader head after bytes text found refusal is taken (refused other text))
 
 -- what is refused later is refused: of a text
 refused_lines :
@@ -133,6 +143,30 @@ keeps_head reader head after bytes is taken text refusal k =
       λ none. k.1 (λ samples b. none samples (taken text ∙ b)),
     ) in
     subst P (sym is) all
+
+-- of sound
+pub keeps_sound :
+    (reader : Reader) (sound after : Sound) (bytes : List ℕ) → reader.source ≡ sources.Sound sound
+    → ((text : List ℕ) → sound_fault after text ≡ sound_fault sound (bytes ++ text))
+    → KeepsRefusals reader (record reader { source = sources.Sound after }) bytes
+keeps_sound reader sound after bytes is faults text refusal k =
+    let P : Source → Type 0 = λ s. SourceRefused reader.wanted.now s (lines_left reader (bytes ++ text)) (bytes ++ text) refusal in
+    subst P (sym is) (sym (faults text) ∙ k)
+
+-- of sound that has begun
+pub sound_is_refused :
+    (how : Coding) (channels : ℕ) (rate size : Option ℕ) (wanted : Wanted) (source : Source) (said : List Event)
+    → IsBegunSound how channels rate size (high_of wanted.threshold) (names_in wanted) source said
+    → (lines : List (List ℕ)) (text : List ℕ) (refusal : Refusal) → SourceRefused wanted source lines text refusal
+    → SoundRefused how channels rate size wanted text refusal
+sound_is_refused how channels rate size wanted (sources.Sound sound) said h lines text refusal k =
+    sound_whole how channels rate size wanted sound said h text
+    ∙ ap (λ (f : Option Refusal). unless f (said ++ samples_events sound_reading (sound_state sound) (samples_left sound text))) k
+sound_is_refused how channels rate size wanted (sources.Vcd vcd) said h lines text refusal k = elim h [ ]
+sound_is_refused how channels rate size wanted (sources.Columns table) said h lines text refusal k = elim h [ ]
+sound_is_refused how channels rate size wanted (sources.Gpiomon gpiomon) said h lines text refusal k = elim h [ ]
+sound_is_refused how channels rate size wanted (sources.Bits bits) said h lines text refusal k = elim h [ ]
+sound_is_refused how channels rate size wanted (sources.WavHead head) said h lines text refusal k = elim h [ ]
 
 -- what is refused from the beginning on is the recording
 table_refusals :
@@ -172,27 +206,16 @@ gpiomon_refusals wanted (sources.WavHead head) said h text refusal k = elim h [ 
 gpiomon_refusals wanted (sources.Sound sound) said h text refusal k = elim h [ ]
 
 bits_refusals :
-    (wanted : Wanted) (source : Source) (said : List Event) → IsBegunBits (names_in wanted) wanted.rate source said
+    (width : Width) (wanted : Wanted) (source : Source) (said : List Event)
+    → IsBegunBits width (names_in wanted) wanted.rate source said
     → (text : List ℕ) (refusal : Refusal) → SourceRefused wanted source (text_lines text) text refusal
-    → IsRefused formats.Bits wanted text refusal
-bits_refusals wanted (sources.Bits bits) said h text refusal k = elim k [ ]
-bits_refusals wanted (sources.Vcd vcd) said h text refusal k = elim h [ ]
-bits_refusals wanted (sources.Columns table) said h text refusal k = elim h [ ]
-bits_refusals wanted (sources.Gpiomon gpiomon) said h text refusal k = elim h [ ]
-bits_refusals wanted (sources.WavHead head) said h text refusal k = elim h [ ]
-bits_refusals wanted (sources.Sound sound) said h text refusal k = elim h [ ]
-
-sound_refusals :
-    (wanted : Wanted) (source : Source) (said : List Event)
-    → IsBegunSound coding.Signed16 1 wanted.rate None (high_of wanted.threshold) (names_in wanted) source said
-    → (text : List ℕ) (refusal : Refusal) → SourceRefused wanted source (text_lines text) text refusal
-    → IsRefused formats.Sixteen wanted text refusal
-sound_refusals wanted (sources.Sound sound) said h text refusal k = elim k [ ]
-sound_refusals wanted (sources.Vcd vcd) said h text refusal k = elim h [ ]
-sound_refusals wanted (sources.Columns table) said h text refusal k = elim h [ ]
-sound_refusals wanted (sources.Gpiomon gpiomon) said h text refusal k = elim h [ ]
-sound_refusals wanted (sources.Bits bits) said h text refusal k = elim h [ ]
-sound_refusals wanted (sources.WavHead head) said h text refusal k = elim h [ ]
+    → bits_say width (names_in wanted) wanted.rate text ≡ Err refusal
+bits_refusals width wanted (sources.Bits bits) said h text refusal k = elim k [ ]
+bits_refusals width wanted (sources.Vcd vcd) said h text refusal k = elim h [ ]
+bits_refusals width wanted (sources.Columns table) said h text refusal k = elim h [ ]
+bits_refusals width wanted (sources.Gpiomon gpiomon) said h text refusal k = elim h [ ]
+bits_refusals width wanted (sources.WavHead head) said h text refusal k = elim h [ ]
+bits_refusals width wanted (sources.Sound sound) said h text refusal k = elim h [ ]
 
 wav_refusals :
     (wanted : Wanted) (source : Source) (said : List Event) → IsBegunWav source said
@@ -216,8 +239,10 @@ refusals_begin formats.Sigrok wanted source said h text refusal k = table_refusa
 refusals_begin formats.Saleae wanted source said h text refusal k = table_refusals forms.Saleae wanted source said h text refusal k
 refusals_begin formats.Edges wanted source said h text refusal k = table_refusals forms.Edges wanted source said h text refusal k
 refusals_begin formats.Gpiomon wanted source said h text refusal k = gpiomon_refusals wanted source said h text refusal k
-refusals_begin formats.Bits wanted source said h text refusal k = bits_refusals wanted source said h text refusal k
-refusals_begin formats.Sixteen wanted source said h text refusal k = sound_refusals wanted source said h text refusal k
+refusals_begin formats.Bits wanted source said h text refusal k = bits_refusals widths.Eight wanted source said h text refusal k
+refusals_begin formats.WideBits wanted source said h text refusal k = bits_refusals widths.Sixteen wanted source said h text refusal k
+refusals_begin formats.Sixteen wanted source said h text refusal k =
+    sound_is_refused coding.Signed16 1 wanted.rate None wanted source said h (text_lines text) text refusal k
 refusals_begin formats.Wav wanted source said h text refusal k = wav_refusals wanted source said h text refusal k
 
 -- of a reader whose line is empty

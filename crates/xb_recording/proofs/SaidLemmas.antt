@@ -1,5 +1,5 @@
 -- What a recording says.
-use Rattle.std.proofs.Common.{◌≡◌, ℕ, ℤ, List, [], ◌∷◌, ◌++◌, true, false, Option, None, Some, refl, ap, sym, subst, ◌∙◌, append_assoc, drop}
+use Rattle.std.proofs.Common.{◌≡◌, ℕ, List, [], ◌∷◌, ◌++◌, true, false, Option, None, Some, refl, ap, sym, subst, ◌∙◌, append_assoc, drop}
 use Rattle.std.specs.Prelude.{Result, Ok, Err}
 use Rattle.std.specs.Result.{result_unwrap_or}
 use Rattle.xb_contact.specs.declared.event.Event.{Event}
@@ -24,9 +24,12 @@ use Rattle.xb_csv.specs.Gpiomons.{GpiomonState, gpiomon_says, gpiomon_with}
 use Rattle.xb_recording.specs.declared.wanted.Wanted.{Wanted}
 use Rattle.xb_csv.specs.Tables.{table_says}
 use Rattle.xb_samples.specs.Pieces.{SamplesSay, samples_events}
-use Rattle.xb_samples.specs.Samples.{BitsState, bits_of, bits_reading, bits_say, bits_state, masks_of, rate_says}
-use Rattle.xb_samples.specs.Sounds.{SoundSays, SoundState, begun_sound, high_of, own_bytes, samples_after, samples_left, samples_of, sound_begins, sound_reading, sound_says, sound_state, wires_of}
-use Rattle.xb_recording.specs.Says.{BitsSay, BytesSay, IsBegunBits, IsBegunGpiomon, IsBegunSound, IsBegunTable, IsBegunVcd, IsBegunWav, IsOfFormat, LinesSay, Says, SoundSaid, TableSays, Takes, TakesBytes, TakesText, WavSays, is_text, lines_in, lines_left, names_in, plain_lines, text_lines}
+use Rattle.xb_samples.specs.declared.bits.Width.{Width}
+use Rattle.xb_samples.specs.declared.bits.Width.TheVariants as widths
+use Rattle.xb_samples.specs.Samples.{BitsState, bits_reading, bits_say, bits_state, masks_of, new_bits, rate_says}
+use Rattle.xb_samples.specs.Sounds.{SoundSays, begun_sound, high_of, samples_left, sound_begins, sound_fault, sound_reading, sound_state, unless, wires_of}
+use Rattle.xb_recording.specs.Says.{BitsSay, BytesSay, IsBegunBits, IsBegunGpiomon, IsBegunSound, IsBegunTable, IsBegunVcd, IsBegunWav, IsOfFormat, LinesSay, Says, SoundSaid, TableSays, Takes, TakesBytes, TakesText, WavSays, is_text, lines_in, lines_left, names_in, plain_lines, sound_comes_to, text_lines}
+use Rattle.xb_samples.proofs.EndLemmas.{new_sound_says}
 use Rattle.xb_samples.proofs.WaitLemmas.{same-after}
 
 ok_is : {A : Type 0} {x y : A} → ◌≡◌ {A = Result A Refusal} (Ok x) (Ok y) → x ≡ y
@@ -104,66 +107,78 @@ all-added (Err refusal) said h = elim h [ ]
 all-added (Ok told) said h = ap Ok (sym h)
 
 bits_begin :
-    (wanted : Wanted) (source : Source) (said : List Event) → IsBegunBits (names_in wanted) wanted.rate source said
-    → (text : List ℕ) (later : List Event) → BytesSay wanted source text later → BitsSay wanted text (said ++ later)
-bits_begin wanted (sources.Bits bits) said h text later k = at (masks_of (names_in wanted)) refl h.0
+    (width : Width) (wanted : Wanted) (source : Source) (said : List Event)
+    → IsBegunBits width (names_in wanted) wanted.rate source said
+    → (text : List ℕ) (later : List Event) → BytesSay wanted source text later → BitsSay width wanted text (said ++ later)
+bits_begin width wanted (sources.Bits bits) said h text later k = at (masks_of width (names_in wanted)) refl h.0
   where
     at :
-        (found : Result (List ℕ) Refusal) → masks_of (names_in wanted) ≡ found
-        → result_map (λ masks. bits_of masks None 0) found ≡ Ok (bits_state bits)
-        → BitsSay wanted text (said ++ later)
+        (found : Result (List ℕ) Refusal) → masks_of width (names_in wanted) ≡ found
+        → result_map (new_bits width) found ≡ Ok (bits_state bits)
+        → BitsSay width wanted text (said ++ later)
     at (Err refusal) e f = absurd (err_is f)
     at (Ok masks) e f =
-        let state : bits_of masks None 0 ≡ bits_state bits = ok_is f in
-        let all : List Event = said ++ samples_events bits_reading (bits_of masks None 0) text in
-        let whole : bits_say (names_in wanted) wanted.rate text ≡ Ok all =
-        ap (result_and_then (λ found. result_map (λ told. told ++ samples_events bits_reading (bits_of found None 0) text) (rate_says wanted.rate))) e
-        ∙ ap (result_map (λ told. told ++ samples_events bits_reading (bits_of masks None 0) text)) (all-added (rate_says wanted.rate) said h.1) in
+        let state : new_bits width masks ≡ bits_state bits = ok_is f in
+        let all : List Event = said ++ samples_events bits_reading (new_bits width masks) text in
+        let whole : bits_say width (names_in wanted) wanted.rate text ≡ Ok all =
+        ap (result_and_then (λ found. result_map (λ told. told ++ samples_events bits_reading (new_bits width found) text) (rate_says wanted.rate))) e
+        ∙ ap (result_map (λ told. told ++ samples_events bits_reading (new_bits width masks) text)) (all-added (rate_says wanted.rate) said h.1) in
         let P : BitsState → Type 0 = λ s. SamplesSay bits_reading s text later in
-        (all, whole, same-after said later (samples_events bits_reading (bits_of masks None 0) text) (subst P (sym state) k))
-bits_begin wanted (sources.Vcd vcd) said h text later k = elim h [ ]
-bits_begin wanted (sources.Columns table) said h text later k = elim h [ ]
-bits_begin wanted (sources.Gpiomon gpiomon) said h text later k = elim h [ ]
-bits_begin wanted (sources.WavHead head) said h text later k = elim h [ ]
-bits_begin wanted (sources.Sound sound) said h text later k = elim h [ ]
+        (all, whole, same-after said later (samples_events bits_reading (new_bits width masks) text) (subst P (sym state) k))
+bits_begin width wanted (sources.Vcd vcd) said h text later k = elim h [ ]
+bits_begin width wanted (sources.Columns table) said h text later k = elim h [ ]
+bits_begin width wanted (sources.Gpiomon gpiomon) said h text later k = elim h [ ]
+bits_begin width wanted (sources.WavHead head) said h text later k = elim h [ ]
+bits_begin width wanted (sources.Sound sound) said h text later k = elim h [ ]
+
+-- what sound comes to that has begun
+pub sound_whole :
+    (how : Coding) (channels : ℕ) (rate size : Option ℕ) (wanted : Wanted) (sound : Sound) (said : List Event)
+    → IsBegunSound how channels rate size (high_of wanted.threshold) (names_in wanted) (sources.Sound sound) said
+    → (text : List ℕ)
+    → sound_comes_to how channels rate size wanted text
+    ≡ unless (sound_fault sound text) (said ++ samples_events sound_reading (sound_state sound) (samples_left sound text))
+sound_whole how channels rate size wanted sound said h text = at (wires_of channels (names_in wanted)) refl h.0.0 h.1
+  where
+    at :
+        (found : Result (List Channel) Refusal) → wires_of channels (names_in wanted) ≡ found
+        → result_map (begun_sound channels (high_of wanted.threshold)) found ≡ Ok (sound_state sound)
+        → AddsAll (result_and_then (sound_begins rate) found) [] said
+        → sound_comes_to how channels rate size wanted text
+        ≡ unless (sound_fault sound text) (said ++ samples_events sound_reading (sound_state sound) (samples_left sound text))
+    at (Err refusal) e f g = absurd (err_is f)
+    at (Ok wires) e f g =
+        new_sound_says how channels (high_of wanted.threshold) (names_in wanted) rate size wires sound said text e
+        (all-added (sound_begins rate wires) said g) (ok_is f) h.0.1 h.0.2 h.0.3 h.0.4
 
 -- the beginning of sound
 sound_begin :
-    (how : Coding) (channels : ℕ) (rate length : Option ℕ) (wanted : Wanted) (source : Source) (said : List Event)
-    → IsBegunSound how channels rate length (high_of wanted.threshold) (names_in wanted) source said
+    (how : Coding) (channels : ℕ) (rate size : Option ℕ) (wanted : Wanted) (source : Source) (said : List Event)
+    → IsBegunSound how channels rate size (high_of wanted.threshold) (names_in wanted) source said
     → (text : List ℕ) (later : List Event) → BytesSay wanted source text later
-    → SoundSaid how channels rate wanted (own_bytes length text) (said ++ later)
-sound_begin how channels rate length wanted (sources.Sound sound) said h text later k =
-    at (wires_of channels (names_in wanted)) refl h.0.0 h.1
-  where
-    high : ℤ
-    high = high_of wanted.threshold
+    → SoundSaid how channels rate size wanted text (said ++ later)
+sound_begin how channels rate size wanted (sources.Sound sound) said h text later k =
+    let more : List Event = samples_events sound_reading (sound_state sound) (samples_left sound text) in (
+      said ++ more,
+      sound_whole how channels rate size wanted sound said h text ∙ ap (λ (f : Option Refusal). unless f (said ++ more)) k.1,
+      same-after said later more k.0,
+    )
+sound_begin how channels rate size wanted (sources.Vcd vcd) said h text later k = elim h [ ]
+sound_begin how channels rate size wanted (sources.Columns table) said h text later k = elim h [ ]
+sound_begin how channels rate size wanted (sources.Gpiomon gpiomon) said h text later k = elim h [ ]
+sound_begin how channels rate size wanted (sources.Bits bits) said h text later k = elim h [ ]
+sound_begin how channels rate size wanted (sources.WavHead head) said h text later k = elim h [ ]
 
-    at :
-        (found : Result (List Channel) Refusal) → wires_of channels (names_in wanted) ≡ found
-        → result_map (begun_sound channels high) found ≡ Ok (sound_state sound)
-        → AddsAll (result_and_then (sound_begins rate) found) [] said
-        → SoundSaid how channels rate wanted (own_bytes length text) (said ++ later)
-    at (Err refusal) e f g = absurd (err_is f)
-    at (Ok wires) e f g =
-        let state : begun_sound channels high wires ≡ sound_state sound = ok_is f in
-        let samples : List ℤ = samples_of how (own_bytes length text) in
-        let more : List Event = samples_events sound_reading (begun_sound channels high wires) samples in
-        let whole : sound_says channels high (names_in wanted) rate samples ≡ Ok (said ++ more) =
-        ap (result_and_then (λ found. result_map (λ told. told ++ samples_events sound_reading (begun_sound channels high found) samples) (sound_begins rate found))) e
-        ∙ ap (result_map (λ told. told ++ more)) (all-added (sound_begins rate wires) said g) in
-        let same : samples_left sound text ≡ samples =
-        ap (λ lower. samples_after sound.coding lower (own_bytes sound.left text)) h.0.1
-        ∙ ap (λ left. samples_after sound.coding None (own_bytes left text)) h.0.2
-        ∙ ap (λ (c : Coding). samples_after c None (own_bytes length text)) h.0.3 in
-        let P : SoundState → Type 0 = λ s. SamplesSay sound_reading s samples later in
-        let Q : List ℤ → Type 0 = λ s. SamplesSay sound_reading (sound_state sound) s later in
-        (said ++ more, whole, same-after said later more (subst P (sym state) (subst Q same k)))
-sound_begin how channels rate length wanted (sources.Vcd vcd) said h text later k = elim h [ ]
-sound_begin how channels rate length wanted (sources.Columns table) said h text later k = elim h [ ]
-sound_begin how channels rate length wanted (sources.Gpiomon gpiomon) said h text later k = elim h [ ]
-sound_begin how channels rate length wanted (sources.Bits bits) said h text later k = elim h [ ]
-sound_begin how channels rate length wanted (sources.WavHead head) said h text later k = elim h [ ]
+-- more of it
+pub takes_sound :
+    (reader : Reader) (sound after : Sound) (bytes : List ℕ) (events said : List Event) → reader.source ≡ sources.Sound sound
+    → events ≡ said
+    → ((text : List ℕ) (later : List Event) → SoundSays after text later → SoundSays sound (bytes ++ text) (said ++ later))
+    → TakesBytes reader (record reader { source = sources.Sound after }) bytes events
+takes_sound reader sound after bytes events said is all took text later rest =
+    let P : Source → Type 0 = λ s. BytesSay reader.wanted.now s (bytes ++ text) (events ++ later) in
+    let Q : List Event → Type 0 = λ e. SoundSays sound (bytes ++ text) (e ++ later) in
+    subst P (sym is) (subst Q (sym all) (took text later rest))
 
 -- the beginning of a WAV
 wav_begin :
@@ -215,7 +230,8 @@ begins formats.Sigrok wanted source said h text later k = table_begins forms.Sig
 begins formats.Saleae wanted source said h text later k = table_begins forms.Saleae wanted source said h text later k.0
 begins formats.Edges wanted source said h text later k = table_begins forms.Edges wanted source said h text later k.0
 begins formats.Gpiomon wanted source said h text later k = gpiomon_begins wanted source said h text later k.0
-begins formats.Bits wanted source said h text later k = bits_begin wanted source said h text later k.1
+begins formats.Bits wanted source said h text later k = bits_begin widths.Eight wanted source said h text later k.1
+begins formats.WideBits wanted source said h text later k = bits_begin widths.Sixteen wanted source said h text later k.1
 begins formats.Sixteen wanted source said h text later k = sound_begin coding.Signed16 1 wanted.rate None wanted source said h text later k.1
 begins formats.Wav wanted source said h text later k = wav_begin wanted source said h text later k.1
 

@@ -1,11 +1,12 @@
 -- What is told by a beginning stays told.
 use Rattle.std.proofs.Common.{◌≡◌, ℕ, ◌≤◌, List, [], ◌∷◌, ◌++◌, Bool, true, false, cond, not, codes, nat_eq, nat_lt, length, refl, ap, sym, ◌∙◌, arith, append-nil, length-append, true≢false}
-use Rattle.std.proofs.lemmas.Bool.{le-ltb, ltb-false}
+use Rattle.std.proofs.lemmas.Bool.{and_parts, le-ltb, ltb-false}
 use Rattle.std.proofs.lemmas.List.{take-append-le}
 use Rattle.std.specs.Prelude.{◌==◌, ◌&&◌, ◌||◌}
 use Rattle.std.specs.Cmp.Lexicographic.{pointwise}
 use Rattle.std.specs.List.{starts_with}
-use Rattle.xb_recording.specs.Beginnings.{all_passed_over, is_passed_over, tells_nothing_yet}
+use Rattle.xb_contact.specs.declared.event.Refusal.TheVariants as refusals
+use Rattle.xb_recording.specs.Beginnings.{all_passed_over, is_archive, is_passed_over, tells_nothing_yet, why_untold}
 use Rattle.xb_recording.specs.Says.{lines_in, plain_line, plain_lines, text_lines}
 use Rattle.xb_recording.proofs.ToldLemmas.{later_lines, passed_cut}
 
@@ -42,14 +43,40 @@ some-tells true all longer f h = refl
 some-tells false all true f h = absurd (true≢false (sym (f refl) ∙ h))
 some-tells false all false f h = refl
 
--- what begins no WAV, and has four bytes or ends, is none
-pub is_no_wav :
-    (text later : List ℕ) (is_end : Bool) → starts_with nat_eq text (codes "RIFF") ≡ false → (is_end ≡ true → later ≡ [])
-    → (is_end ≡ false → 4 ≤ length text) → starts_with nat_eq (text ++ later) (codes "RIFF") ≡ false
-is_no_wav text later true plain end four =
-    ap (λ t. starts_with nat_eq t (codes "RIFF")) (ap (λ l. text ++ l) (end refl) ∙ append-nil text) ∙ plain
-is_no_wav text later false plain end four =
-    ap (pointwise nat_eq (codes "RIFF")) (take-append-le 4 text later (four refl)) ∙ plain
+-- four bytes begin a text that has them, or ends, whatever follows
+pub begins_same :
+    (a b c d : ℕ) (text later : List ℕ) (is_end : Bool) → (is_end ≡ true → later ≡ [])
+    → (is_end ≡ false → 4 ≤ length text)
+    → starts_with nat_eq (text ++ later) (a ∷ b ∷ c ∷ d ∷ []) ≡ starts_with nat_eq text (a ∷ b ∷ c ∷ d ∷ [])
+begins_same a b c d text later true end four =
+    ap (λ t. starts_with nat_eq t (a ∷ b ∷ c ∷ d ∷ [])) (ap (λ l. text ++ l) (end refl) ∙ append-nil text)
+begins_same a b c d text later false end four =
+    ap (pointwise nat_eq (a ∷ b ∷ c ∷ d ∷ [])) (take-append-le 4 text later (four refl))
+
+-- and why it tells no form
+pub why_same :
+    (text later : List ℕ) (is_end : Bool) → (is_end ≡ true → later ≡ []) → (is_end ≡ false → 4 ≤ length text)
+    → why_untold (text ++ later) ≡ why_untold text
+why_same text later is_end end four =
+    ap (λ archive. cond archive refusals.Archive refusals.Form) (begins_same 80 75 3 4 text later is_end end four)
+
+-- what tells nothing yet is no file of several files
+pub why_form :
+    (text : List ℕ) → 4 ≤ length text → tells_nothing_yet text ≡ true → why_untold text ≡ refusals.Form
+why_form text four none = at (is_archive text) single
+  where
+    later : Bool
+    later = not (is_archive text) && all_passed_over (text_lines text)
+
+    plain : not (starts_with nat_eq text (codes "RIFF")) && later ≡ true
+    plain = ap (λ few. few || (not (starts_with nat_eq text (codes "RIFF")) && later)) (sym (le-ltb (length text) 4 four)) ∙ none
+
+    single : not (is_archive text) ≡ true
+    single = (and_parts (not (is_archive text)) (all_passed_over (text_lines text)) (and_parts (not (starts_with nat_eq text (codes "RIFF"))) later plain).1).0
+
+    at : (archive : Bool) → not archive ≡ true → cond archive refusals.Archive refusals.Form ≡ refusals.Form
+    at true e = cc
+    at false e = refl
 
 -- what tells something goes on to do so
 pub told_stays :
@@ -58,7 +85,7 @@ told_stays text more h = at (nat_lt (length text) 4) refl h
   where
     at :
         (few : Bool) → nat_lt (length text) 4 ≡ few
-        → few || (not (starts_with nat_eq text (codes "RIFF")) && all_passed_over (text_lines text)) ≡ false
+        → few || (not (starts_with nat_eq text (codes "RIFF")) && (not (is_archive text) && all_passed_over (text_lines text))) ≡ false
         → tells_nothing_yet (text ++ more) ≡ false
     at true is e = absurd (true≢false e)
     at false is e =
@@ -66,8 +93,13 @@ told_stays text more h = at (nat_lt (length text) 4) refl h
         let size : 4 ≤ length (text ++ more) = omega (arith, four, length-append text more) in
         let same : starts_with nat_eq (text ++ more) (codes "RIFF") ≡ starts_with nat_eq text (codes "RIFF") =
         ap (pointwise nat_eq (codes "RIFF")) (take-append-le 4 text more four) in
-        ap (λ short. short || (not (starts_with nat_eq (text ++ more) (codes "RIFF")) && all_passed_over (text_lines (text ++ more))))
+        let other : is_archive (text ++ more) ≡ is_archive text =
+        ap (pointwise nat_eq (80 ∷ 75 ∷ 3 ∷ 4 ∷ [])) (take-append-le 4 text more four) in
+        let all : Bool = all_passed_over (text_lines (text ++ more)) in
+        ap (λ short. short || (not (starts_with nat_eq (text ++ more) (codes "RIFF")) && (not (is_archive (text ++ more)) && all)))
         (le-ltb (length (text ++ more)) 4 size)
-        ∙ ap (λ is_wav. not is_wav && all_passed_over (text_lines (text ++ more))) same
-        ∙ some-tells (starts_with nat_eq text (codes "RIFF")) (all_passed_over (text_lines text)) (all_passed_over (text_lines (text ++ more)))
-        (passed-before true [] text more) e
+        ∙ ap (λ is_wav. not is_wav && (not (is_archive (text ++ more)) && all)) same
+        ∙ ap (λ archive. not (starts_with nat_eq text (codes "RIFF")) && (not archive && all)) other
+        ∙ some-tells (starts_with nat_eq text (codes "RIFF")) (not (is_archive text) && all_passed_over (text_lines text))
+        (not (is_archive text) && all)
+        (λ k. both (not (is_archive text)) all (all_passed_over (text_lines text)) k (passed-before true [] text more)) e

@@ -19,7 +19,7 @@ use Rattle.xb_csv.proofs.WrittenEdges.{begins_more, ends_append, name_begins, na
 use Rattle.xb_csv.proofs.WrittenSeconds.{seconds_pass, seconds_start}
 use Rattle.xb_recording.specs.declared.format.Format.{Format}
 use Rattle.xb_recording.specs.declared.format.Format.TheVariants as formats
-use Rattle.xb_recording.specs.Beginnings.{form_told, format_by, is_label, is_of_saleae, is_row, told_by_lines}
+use Rattle.xb_recording.specs.Beginnings.{form_told, format_by, is_archive, is_label, is_of_saleae, is_row, told_by_lines}
 use Rattle.xb_recording.specs.Says.{text_lines}
 use Rattle.xb_recording.specs.Written.{text_of}
 use Rattle.xb_recording.specs.WrittenForms.{WrittenFormsAreTold}
@@ -127,8 +127,10 @@ edge-told names edge edges end lawful order early =
     is-edge names line (edge_events (edge ∷ [])) same some (written_edges_are_read names (edge ∷ []) end lawful one early) in
     let low : list_all is-low time ≡ true =
     seconds_pass is-low (λ digit few. grind (arith, nat_tests)) refl edge.tick small in
-    ap (λ t. cond t (Some formats.Wav) (told_by_lines (text_lines (line ++ 10 ∷ rest))))
+    ap (λ t. cond t (Some formats.Wav) (cond (is_archive (line ++ 10 ∷ rest)) None (told_by_lines (text_lines (line ++ 10 ∷ rest)))))
     (ap (λ t. starts_with nat_eq t (codes "RIFF")) (append_assoc time later (10 ∷ rest)) ∙ seconds_start 82 (codes "IFF") edge.tick (later ++ 10 ∷ rest) small refl)
+    ∙ ap (λ t. cond t None (told_by_lines (text_lines (line ++ 10 ∷ rest))))
+    (ap is_archive (append_assoc time later (10 ∷ rest)) ∙ seconds_start 80 (75 ∷ 3 ∷ 4 ∷ []) edge.tick (later ++ 10 ∷ rest) small refl)
     ∙ ap told_by_lines (edges_back names (edge ∷ edges) end lawful order early)
     ∙ told-first line others same some (seconds_start 77 (codes "ETA ") edge.tick later small refl)
     ∙ ap (λ t. cond t (Some formats.Vcd) (not-vcd line)) (seconds_start 36 [] edge.tick later small refl)

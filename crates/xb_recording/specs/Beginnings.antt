@@ -2,6 +2,8 @@
 use Rattle.std.specs.Prelude.{◌≡◌, ℕ, List, [], ◌∷◌, Bool, true, false, Option, Some, None, bytes_eq, codes, is_some, length, nat_eq, nat_le, nat_lt, not, slice_get, take, ◌==◌, ◌&&◌, ◌||◌, if◌then◌else◌}
 use Rattle.std.specs.List.{starts_with}
 use Rattle.std.specs.Option.{option_and_then}
+use Rattle.xb_contact.specs.declared.event.Refusal.{Refusal}
+use Rattle.xb_contact.specs.declared.event.Refusal.TheVariants as refusals
 use Rattle.xb_csv.specs.Cells.{cells_of, trimmed}
 use Rattle.xb_csv.specs.Seconds.{nanoseconds_of}
 use Rattle.xb_recording.specs.declared.beginning.Told.{Told}
@@ -49,9 +51,19 @@ told_by_lines (line ∷ rest) = if is_passed_over line then told_by_lines rest e
 abbrev pub last_told : List ℕ → Option Format
 last_told line = told_by_lines (line ∷ [])
 
--- the form of a recording: a WAV begins with RIFF, and else it is a text
+-- a file of several files, as PulseView and Saleae save their recordings, begins with PK and the bytes 3 and 4
+abbrev pub is_archive : List ℕ → Bool
+is_archive text = starts_with nat_eq text (80 ∷ 75 ∷ 3 ∷ 4 ∷ [])
+
+-- the form of a recording: a WAV begins with RIFF, such a file has none, and else it is a text
 abbrev pub form_told : List ℕ → Option Format
-form_told text = if starts_with nat_eq text (codes "RIFF") then Some formats.Wav else told_by_lines (text_lines text)
+form_told text =
+    if starts_with nat_eq text (codes "RIFF") then Some formats.Wav
+    else (if is_archive text then None else told_by_lines (text_lines text))
+
+-- why none is told
+abbrev pub why_untold : List ℕ → Refusal
+why_untold text = if is_archive text then refusals.Archive else refusals.Form
 
 -- what a reader was told is so, if it was told
 abbrev pub IsTold : Told → Option Format → Type 0
@@ -65,11 +77,13 @@ all_passed_over [] = true
 all_passed_over (line ∷ []) = true
 all_passed_over (line ∷ next ∷ rest) = is_passed_over line && all_passed_over (next ∷ rest)
 
--- a beginning tells nothing yet: it has not four bytes, or it begins no WAV and no line that has ended says anything
+-- a beginning tells nothing yet: it has not four bytes, or it begins no WAV and no file of several, and no line that has
+-- ended says anything
 abbrev pub tells_nothing_yet : List ℕ → Bool
 tells_nothing_yet beginning =
     nat_lt (length beginning) 4
-    || (not (starts_with nat_eq beginning (codes "RIFF")) && all_passed_over (text_lines beginning))
+    || (not (starts_with nat_eq beginning (codes "RIFF"))
+    && (not (is_archive beginning) && all_passed_over (text_lines beginning)))
 
 -- the form that so many first bytes of a recording tell, or all of it where it has fewer
 abbrev pub told_within : ℕ → List ℕ → Option Format

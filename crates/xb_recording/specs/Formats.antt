@@ -12,5 +12,6 @@ format_of name =
     else (if bytes_eq name (codes "edges") then Some formats.Edges
     else (if bytes_eq name (codes "gpiomon") then Some formats.Gpiomon
     else (if bytes_eq name (codes "bits") then Some formats.Bits
+    else (if bytes_eq name (codes "bits16") then Some formats.WideBits
     else (if bytes_eq name (codes "s16") then Some formats.Sixteen
-    else (if bytes_eq name (codes "wav") then Some formats.Wav else None)))))))
+    else (if bytes_eq name (codes "wav") then Some formats.Wav else None))))))))

@@ -18,13 +18,15 @@ use Rattle.xb_contact.specs.Steps.{AddsAll, result_and_then, then_later}
 use Rattle.xb_vcd.specs.VcdChanges.{vcd_state}
 use Rattle.xb_vcd.specs.VcdTexts.{begun_vcd, vcd_says}
 use Rattle.xb_samples.specs.Pieces.{SamplesSay, SayTheSame}
+use Rattle.xb_samples.specs.declared.bits.Width.{Width}
+use Rattle.xb_samples.specs.declared.bits.Width.TheVariants as widths
 use Rattle.xb_samples.specs.Samples.{IsNewBits, bits_reading, bits_say, bits_state, rate_says}
 use Rattle.xb_riff.specs.declared.coding.Coding.{Coding}
 use Rattle.xb_riff.specs.declared.coding.Coding.TheVariants as coding
 use Rattle.xb_riff.specs.declared.head.WavFormat.{WavFormat}
 use Rattle.xb_csv.specs.Gpiomons.{gpiomon_says, gpiomon_state, gpiomon_with}
 use Rattle.xb_riff.specs.Heads.{HeadBegins, IsNewHead, IsWav, Samples}
-use Rattle.xb_samples.specs.Sounds.{IsNewSound, SoundSays, high_of, own_bytes, samples_of, sound_begins, sound_says, sound_state, wires_of}
+use Rattle.xb_samples.specs.Sounds.{IsNewSound, SoundSays, high_of, sound_begins, sound_fault, sound_says, sound_state, wires_of}
 use Rattle.xb_csv.specs.Tables.{begun_table, table_says, table_state}
 
 -- the lines of a text, of whose first line this has come
@@ -60,26 +62,29 @@ LinesSay source lines events = LinesComeTo source lines (Ok events)
 abbrev pub names_in : Wanted → List (List ℕ)
 names_in wanted = map (λ wire. wire.now) wanted.wires.items
 
--- samples that are so written, of so many channels
-abbrev pub SoundSaid : Coding → ℕ → Option ℕ → Wanted → List ℕ → List Event → Type 0
-SoundSaid how channels rate wanted bytes events =
-    (all : List Event)
-    × (sound_says channels (high_of wanted.threshold) (names_in wanted) rate (samples_of how bytes) ≡ Ok all)
-    × SayTheSame events all
+-- what sound comes to, whose samples are so written, of so many channels, samples a second and bytes, where these are
+-- known
+abbrev pub sound_comes_to : Coding → ℕ → Option ℕ → Option ℕ → Wanted → List ℕ → Result (List Event) Refusal
+sound_comes_to how channels rate length wanted bytes =
+    sound_says how channels (high_of wanted.threshold) (names_in wanted) rate length bytes
 
--- they are refused for this reason
-abbrev pub SoundRefused : Coding → ℕ → Option ℕ → Wanted → List ℕ → Refusal → Type 0
-SoundRefused how channels rate wanted bytes refusal =
-    sound_says channels (high_of wanted.threshold) (names_in wanted) rate (samples_of how bytes) ≡ Err refusal
+-- it says these events, or is refused for this reason
+abbrev pub SoundSaid : Coding → ℕ → Option ℕ → Option ℕ → Wanted → List ℕ → List Event → Type 0
+SoundSaid how channels rate length wanted bytes events =
+    (all : List Event) × (sound_comes_to how channels rate length wanted bytes ≡ Ok all) × SayTheSame events all
 
--- those of a WAV
+abbrev pub SoundRefused : Coding → ℕ → Option ℕ → Option ℕ → Wanted → List ℕ → Refusal → Type 0
+SoundRefused how channels rate length wanted bytes refusal =
+    sound_comes_to how channels rate length wanted bytes ≡ Err refusal
+
+-- that of a WAV
 abbrev pub WavSays : Wanted → Samples → List Event → Type 0
 WavSays wanted samples events =
-    SoundSaid samples.0.coding samples.0.channels (Some samples.0.rate) wanted (own_bytes samples.0.length samples.1) events
+    SoundSaid samples.0.coding samples.0.channels (Some samples.0.rate) samples.0.length wanted samples.1 events
 
 abbrev pub SamplesRefused : Wanted → Samples → Refusal → Type 0
 SamplesRefused wanted samples refusal =
-    SoundRefused samples.0.coding samples.0.channels (Some samples.0.rate) wanted (own_bytes samples.0.length samples.1) refusal
+    SoundRefused samples.0.coding samples.0.channels (Some samples.0.rate) samples.0.length wanted samples.1 refusal
 
 -- a WAV is refused for this reason: that of its samples, where any begin
 abbrev pub WavRefused : (Samples → Type 0) → Wanted → Refusal → Type 0
@@ -135,15 +140,15 @@ IsBegunGpiomon names (sources.Bits bits) said = ⊥
 IsBegunGpiomon names (sources.WavHead head) said = ⊥
 IsBegunGpiomon names (sources.Sound sound) said = ⊥
 
--- and of samples, of which the rate was said
-abbrev pub IsBegunBits : List (List ℕ) → Option ℕ → Source → List Event → Type 0
-IsBegunBits names rate (sources.Bits bits) said =
-    IsNewBits names bits × AddsAll (rate_says rate) [] said
-IsBegunBits names rate (sources.Vcd vcd) said = ⊥
-IsBegunBits names rate (sources.Columns table) said = ⊥
-IsBegunBits names rate (sources.Gpiomon gpiomon) said = ⊥
-IsBegunBits names rate (sources.WavHead head) said = ⊥
-IsBegunBits names rate (sources.Sound sound) said = ⊥
+-- and of samples of so many wires, of which the rate was said
+abbrev pub IsBegunBits : Width → List (List ℕ) → Option ℕ → Source → List Event → Type 0
+IsBegunBits width names rate (sources.Bits bits) said =
+    IsNewBits width names bits × AddsAll (rate_says rate) [] said
+IsBegunBits width names rate (sources.Vcd vcd) said = ⊥
+IsBegunBits width names rate (sources.Columns table) said = ⊥
+IsBegunBits width names rate (sources.Gpiomon gpiomon) said = ⊥
+IsBegunBits width names rate (sources.WavHead head) said = ⊥
+IsBegunBits width names rate (sources.Sound sound) said = ⊥
 
 -- and of sound of so many channels and samples a second, and of so many bytes, where that is known
 abbrev pub IsBegunSound : Coding → ℕ → Option ℕ → Option ℕ → ℤ → List (List ℕ) → Source → List Event → Type 0
@@ -172,7 +177,8 @@ IsOfFormat formats.Sigrok wanted source said = IsBegunTable forms.Sigrok (names_
 IsOfFormat formats.Saleae wanted source said = IsBegunTable forms.Saleae (names_in wanted) wanted.rate source said
 IsOfFormat formats.Edges wanted source said = IsBegunTable forms.Edges (names_in wanted) wanted.rate source said
 IsOfFormat formats.Gpiomon wanted source said = IsBegunGpiomon (names_in wanted) source said
-IsOfFormat formats.Bits wanted source said = IsBegunBits (names_in wanted) wanted.rate source said
+IsOfFormat formats.Bits wanted source said = IsBegunBits widths.Eight (names_in wanted) wanted.rate source said
+IsOfFormat formats.WideBits wanted source said = IsBegunBits widths.Sixteen (names_in wanted) wanted.rate source said
 IsOfFormat formats.Sixteen wanted source said =
     IsBegunSound coding.Signed16 1 wanted.rate None (high_of wanted.threshold) (names_in wanted) source said
 IsOfFormat formats.Wav wanted source said = IsBegunWav source said
@@ -222,9 +228,9 @@ abbrev pub TableSays : TableForm → Wanted → List ℕ → List Event → Type
 TableSays form wanted text events =
     table_says (begun_table form (names_in wanted) wanted.rate) (text_lines text) ≡ Ok events
 
-abbrev pub BitsSay : Wanted → List ℕ → List Event → Type 0
-BitsSay wanted samples events =
-    (all : List Event) × (bits_say (names_in wanted) wanted.rate samples ≡ Ok all) × SayTheSame events all
+abbrev pub BitsSay : Width → Wanted → List ℕ → List Event → Type 0
+BitsSay width wanted bytes events =
+    (all : List Event) × (bits_say width (names_in wanted) wanted.rate bytes ≡ Ok all) × SayTheSame events all
 
 -- a recording of a form says these events of the wires that are wanted: exactly, but that pieces of samples may end in
 -- waits
@@ -235,8 +241,9 @@ Says formats.Saleae wanted text events = TableSays forms.Saleae wanted text even
 Says formats.Edges wanted text events = TableSays forms.Edges wanted text events
 Says formats.Gpiomon wanted text events =
     gpiomon_says (gpiomon_with (names_in wanted) None) (text_lines text) ≡ Ok events
-Says formats.Bits wanted text events = BitsSay wanted text events
-Says formats.Sixteen wanted text events = SoundSaid coding.Signed16 1 wanted.rate wanted text events
+Says formats.Bits wanted text events = BitsSay widths.Eight wanted text events
+Says formats.WideBits wanted text events = BitsSay widths.Sixteen wanted text events
+Says formats.Sixteen wanted text events = SoundSaid coding.Signed16 1 wanted.rate None wanted text events
 Says formats.Wav wanted text events = (samples : Samples) × IsWav text samples × WavSays wanted samples events
 
 -- what a reader that has read nothing says after what was said already is what the recording says
@@ -256,8 +263,10 @@ IsRefused formats.Saleae wanted text refusal = TableRefused forms.Saleae wanted 
 IsRefused formats.Edges wanted text refusal = TableRefused forms.Edges wanted text refusal
 IsRefused formats.Gpiomon wanted text refusal =
     gpiomon_says (gpiomon_with (names_in wanted) None) (text_lines text) ≡ Err refusal
-IsRefused formats.Bits wanted text refusal = bits_say (names_in wanted) wanted.rate text ≡ Err refusal
-IsRefused formats.Sixteen wanted text refusal = SoundRefused coding.Signed16 1 wanted.rate wanted text refusal
+IsRefused formats.Bits wanted text refusal = bits_say widths.Eight (names_in wanted) wanted.rate text ≡ Err refusal
+IsRefused formats.WideBits wanted text refusal =
+    bits_say widths.Sixteen (names_in wanted) wanted.rate text ≡ Err refusal
+IsRefused formats.Sixteen wanted text refusal = SoundRefused coding.Signed16 1 wanted.rate None wanted text refusal
 IsRefused formats.Wav wanted text refusal = WavRefused (IsWav text) wanted refusal
 
 -- it was refused, unless memory ran out: a form, for a reason that refuses each recording of it
@@ -274,7 +283,8 @@ abbrev pub RefusesSamples : WavFormat → Reader → List ℕ → Refusal → Ty
 RefusesSamples format reader bytes refusal =
     refusal ≢ refusals.NoMemory → (text : List ℕ) → SamplesRefused reader.wanted.now (format, bytes ++ text) refusal
 
--- further lines of a text, or further bytes, are refused for this reason; samples that have begun never are
+-- further lines of a text, or further bytes up to the end, are refused for this reason: raw samples never are, and sound
+-- that has begun is where something is wrong at its end
 abbrev pub SourceRefused : Wanted → Source → List (List ℕ) → List ℕ → Refusal → Type 0
 SourceRefused wanted (sources.Vcd vcd) lines bytes refusal = vcd_says (vcd_state vcd) lines ≡ Err refusal
 SourceRefused wanted (sources.Columns table) lines bytes refusal = table_says (table_state table) lines ≡ Err refusal
@@ -282,7 +292,7 @@ SourceRefused wanted (sources.Gpiomon gpiomon) lines bytes refusal =
     gpiomon_says (gpiomon_state gpiomon) lines ≡ Err refusal
 SourceRefused wanted (sources.WavHead head) lines bytes refusal = WavRefused (HeadBegins head bytes) wanted refusal
 SourceRefused wanted (sources.Bits bits) lines bytes refusal = ⊥
-SourceRefused wanted (sources.Sound sound) lines bytes refusal = ⊥
+SourceRefused wanted (sources.Sound sound) lines bytes refusal = sound_fault sound bytes ≡ Some refusal
 
 -- what a reader reads is refused for this reason, where these bytes follow
 abbrev pub RestRefused : Reader → List ℕ → Refusal → Type 0
@@ -293,6 +303,12 @@ RestRefused reader text refusal =
 abbrev pub KeepsRefusals : Reader → Reader → List ℕ → Type 0
 KeepsRefusals old new bytes =
     (text : List ℕ) (refusal : Refusal) → RestRefused new text refusal → RestRefused old (bytes ++ text) refusal
+
+-- what is refused after the first samples of a WAV is refused with them
+abbrev pub KeepsSamples : WavFormat → Reader → Reader → List ℕ → Type 0
+KeepsSamples format old new bytes =
+    (text : List ℕ) (refusal : Refusal) → RestRefused new text refusal
+    → SamplesRefused old.wanted.now (format, bytes ++ text) refusal
 
 -- what is refused after nothing is the recording
 abbrev pub BeginsRefusals : Format → Wanted → Reader → Type 0

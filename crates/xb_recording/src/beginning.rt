@@ -1,9 +1,10 @@
 // How the form of a recording is told by its beginning.
 ghost use Rattle.std.specs.Prelude.{◌≡◌, ◌≢◌, ◌++◌, [], ℕ, List, false, true};
-ghost use Rattle.xb_recording.specs.Beginnings.{IsTold, all_passed_over, form_told, format_of_line, is_of_saleae, is_passed_over, is_row, last_told, tells_nothing_yet, told_by_lines};
+ghost use Rattle.xb_recording.specs.Beginnings.{IsTold, all_passed_over, form_told, format_of_line, is_archive, is_of_saleae, is_passed_over, is_row, last_told, tells_nothing_yet, told_by_lines, why_untold};
 ghost use Rattle.xb_recording.specs.Says.{text_lines};
 
 use crate::format::{Format, without_mark};
+use xb_contact::Refusal;
 use xb_csv::{cell_at, is_of_gpiomon, nanoseconds_of, trimmed};
 use xb_text::cut_at;
 
@@ -111,8 +112,27 @@ fn told_by_lines(text: &[u8], is_end: bool) -> Told
     told_by_last(without_mark(rest, is_first), is_end)
 }
 
-/// What the beginning of a recording tells of its form, or all of it: a WAV begins with `RIFF`; a text is told by its
-/// first line that says anything. That is a line neither empty nor `META ..`, and it tells once it has ended.
+// Whether a file of several files begins so.
+fn is_archive(beginning: &[u8]) -> bool
+    ensures { result ≡ is_archive beginning.now }
+{
+    beginning.starts_with(b"PK\x03\x04")
+}
+
+/// Why the beginning of a recording tells no form: it is a file of several files, `Archive`, or else `Form`.
+pub fn why_untold(beginning: &[u8]) -> Refusal
+    ensures { result ≡ why_untold beginning.now }
+{
+    if is_archive(beginning) {
+        Refusal::Archive
+    } else {
+        Refusal::Form
+    }
+}
+
+/// What the beginning of a recording tells of its form, or all of it: a WAV begins with `RIFF`; a file of several files
+/// begins with `PK`, 3 and 4, and has none; a text is told by its first line that says anything. That is a line neither
+/// empty nor `META ..`, and it tells once it has ended.
 ///
 /// What is told stays, whatever follows. More is wanted exactly where neither four bytes nor such a line have come.
 pub fn told_format(beginning: &[u8], is_end: bool) -> Told
@@ -127,6 +147,9 @@ pub fn told_format(beginning: &[u8], is_end: bool) -> Told
     }
     if beginning.starts_with(b"RIFF") {
         return Told::Form(Format::Wav);
+    }
+    if is_archive(beginning) {
+        return Told::Nothing;
     }
     told_by_lines(beginning, is_end)
 }

@@ -21,6 +21,8 @@ pub enum Format {
     Gpiomon,
     /// A byte for each sample; the wires are its bits, 0 to 7.
     Bits,
+    /// Two bytes for each sample, the lower one first; the wires are its bits, 0 to 15.
+    WideBits,
     /// Two bytes for each sample, the lower one first.
     Sixteen,
     /// A WAV file of such samples.
@@ -38,6 +40,7 @@ pub fn format_of(name: &str) -> Option<Format>
         "edges" => Some(Format::Edges),
         "gpiomon" => Some(Format::Gpiomon),
         "bits" => Some(Format::Bits),
+        "bits16" => Some(Format::WideBits),
         "s16" => Some(Format::Sixteen),
         "wav" => Some(Format::Wav),
         _ => None,

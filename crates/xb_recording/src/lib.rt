@@ -11,7 +11,8 @@
 //!   ran out. `text_line` and `line` then tell the line that is refused (`Places`).
 //! - `laws::written_is_read`: what wires do, written in a form of text, is what the text says (`Written`).
 //!   `laws::written_forms_are_told`: its beginning tells the form (`WrittenForms`).
-//! - `told_format` (`form_told` in `Beginnings`): the form that the beginning tells, whatever follows.
+//! - `told_format` (`form_told` in `Beginnings`): the form that the beginning tells, whatever follows; `why_untold`: why
+//!   it tells none.
 #![tactic(auto)]
 
 mod beginning;
@@ -20,7 +21,7 @@ pub mod laws;
 mod reader;
 mod wanted;
 
-pub use beginning::{Told, told_format};
+pub use beginning::{Told, told_format, why_untold};
 pub use format::{Format, format_of};
 pub use reader::Reader;
 pub use wanted::Wanted;

@@ -6,7 +6,7 @@ ghost use Rattle.xb_contact.specs.declared.event.Refusal.TheVariants.{NoMemory};
 ghost use Rattle.xb_contact.specs.Steps.{then_later};
 ghost use Rattle.xb_recording.specs.declared.wanted.Wanted.{Wanted as WantedHere};
 ghost use Rattle.xb_recording.specs.Places.{line_number, lines_ended, lines_ended_by, sample_number};
-ghost use Rattle.xb_recording.specs.Says.{Begins, BeginsRefusals, BytesSay, IsOfFormat, KeepsRefusals, LinesComeTo, LinesSay, Refuses, RefusesEnd, RefusesForm, RefusesLine, RefusesSamples, RefusesText, RestRefused, RestSays, SourceRefused, Takes, TakesBytes, TakesSamples, TakesText, is_in_first, is_text, line_so_far, plain_line};
+ghost use Rattle.xb_recording.specs.Says.{Begins, BeginsRefusals, BytesSay, IsOfFormat, KeepsRefusals, KeepsSamples, LinesComeTo, LinesSay, Refuses, RefusesEnd, RefusesForm, RefusesLine, RefusesSamples, RefusesText, RestSays, SourceRefused, Takes, TakesBytes, TakesSamples, TakesText, is_in_first, is_text, line_so_far, plain_line};
 
 use crate::format::{Format, without_mark};
 use crate::wanted::Wanted;
@@ -14,7 +14,7 @@ use std::alloc::{AllocError, Global};
 use xb_contact::{Event, Refusal};
 use xb_csv::{Columns, Gpiomon, TableForm};
 use xb_riff::{Coding, WavFormat, WavHead};
-use xb_samples::{Bits, Sound, end_head, take_head};
+use xb_samples::{Bits, Sound, Width, end_head, take_head};
 use xb_vcd::Vcd;
 
 // The longest line of a recording.
@@ -62,7 +62,8 @@ fn source_of<'a>(
         Format::Saleae => Source::Columns(Columns::new(alloc, TableForm::Saleae, names, rate)),
         Format::Edges => Source::Columns(Columns::new(alloc, TableForm::Edges, names, rate)),
         Format::Gpiomon => Source::Gpiomon(Gpiomon::new(names)),
-        Format::Bits => Source::Bits(Bits::new(alloc, names, rate, events)?),
+        Format::Bits => Source::Bits(Bits::new(alloc, Width::Eight, names, rate, events)?),
+        Format::WideBits => Source::Bits(Bits::new(alloc, Width::Sixteen, names, rate, events)?),
         Format::Wav => Source::WavHead(WavHead::new()),
         Format::Sixteen => {
             let (how, threshold) = (Coding::Signed16, wanted.threshold);
@@ -237,8 +238,7 @@ impl<'a> Reader<'a> {
     ) -> Result<(), Refusal>
         requires { events.old.items ≡ [] }
         ensures said { OnOk result (TakesSamples format self.old self.new bytes.now events.new.items) }
-        ensures begun { OnOk result ((text : List ℕ) (refusal : Reason)
-            → RestRefused self.new text refusal → ⊥) }
+        ensures refusals { OnOk result (KeepsSamples format self.old self.new bytes.now) }
         ensures refused { IfErr result (RefusesSamples format self.old bytes.now) }
         ensures form { is_text self.old.source ≡ false → is_text self.new.source ≡ false }
     {

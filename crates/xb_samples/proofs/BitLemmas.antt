@@ -8,18 +8,27 @@ use Rattle.xb_contact.specs.declared.event.Event.{Event}
 use Rattle.xb_contact.specs.declared.event.Event.TheVariants as events
 use Rattle.xb_contact.specs.declared.level.Level.{Level}
 use Rattle.xb_samples.specs.Pieces.{begins_from, without_waits}
-use Rattle.xb_samples.specs.Samples.{BitsState, after_sample, bits_of, bit_level, bits_reading, is_same, sample_events, sample_levels}
+use Rattle.xb_samples.specs.declared.bits.Width.{Width}
+use Rattle.xb_samples.specs.Samples.{BitsState, after_sample, bits_of, bit_level, bits_reading, events_by, is_same, sample_events, sample_levels, sample_with, state_by}
 use Rattle.xb_samples.proofs.WaitLemmas.{SayWhen, until-begins}
 
 pub bits_say_when : SayWhen bits_reading
-bits_say_when state sample = (omega arith, λ tick later less h. at tick later less h (is_same state.last sample))
+bits_say_when state byte = at (sample_with state.width state.lower byte)
   where
-    at :
-        (tick : ℕ) (later : List Event) → tick ≤ state.count → begins_from tick (without_waits later) ≡ true → (same : Bool)
+    when :
+        (sample tick : ℕ) (later : List Event) → tick ≤ state.count → begins_from tick (without_waits later) ≡ true → (same : Bool)
         → begins_from tick (without_waits (cond same [] (events.At state.count ∷ sample_levels 0 state.masks sample) ++ later)) ≡ true
-    at tick later less h true = h
-    at tick later less h false =
+    when sample tick later less h true = h
+    when sample tick later less h false =
         until-begins tick state.count (without_waits (sample_levels 0 state.masks sample ++ later)) less
+
+    at :
+        (found : Option ℕ)
+        → (state.count ≤ (state_by state byte found).count)
+        × ((tick : ℕ) (later : List Event) → tick ≤ state.count → begins_from tick (without_waits later) ≡ true
+        → begins_from tick (without_waits (events_by state found ++ later)) ≡ true)
+    at None = (omega arith, λ tick later less h. h)
+    at (Some sample) = (omega arith, λ tick later less h. when sample tick later less h (is_same state.last sample))
 
 -- the level of one more wire
 pub level_more :
@@ -81,9 +90,11 @@ pub last_stays :
 last_stays last sample differs e is = last-is last sample (same-by last sample differs e ∙ ap not is)
 
 pub sample_counted :
-    (state : BitsState) (sample : ℕ) (masks : List ℕ) (last : Option ℕ) (before count : ℕ) → masks ≡ state.masks
-    → last ≡ Some sample → before ≡ state.count → count ≡ before + 1
-    → bits_of masks last count ≡ after_sample state sample
-sample_counted state sample masks last before count e f g h =
-    ap (λ (m : List ℕ). bits_of m last count) e ∙ ap (λ (l : Option ℕ). bits_of state.masks l count) f
-    ∙ ap (λ (n : ℕ). bits_of state.masks (Some sample) n) (h ∙ ap (λ (n : ℕ). n + 1) g)
+    (state : BitsState) (sample : ℕ) (width : Width) (masks : List ℕ) (last : Option ℕ) (before count : ℕ)
+    → width ≡ state.width → masks ≡ state.masks → last ≡ Some sample → before ≡ state.count → count ≡ before + 1
+    → bits_of width masks None last count ≡ after_sample state sample
+sample_counted state sample width masks last before count w e f g h =
+    ap (λ (x : Width). bits_of x masks None last count) w
+    ∙ ap (λ (m : List ℕ). bits_of state.width m None last count) e
+    ∙ ap (λ (l : Option ℕ). bits_of state.width state.masks None l count) f
+    ∙ ap (λ (n : ℕ). bits_of state.width state.masks None (Some sample) n) (h ∙ ap (λ (n : ℕ). n + 1) g)

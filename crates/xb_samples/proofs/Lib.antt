@@ -3,4 +3,7 @@ pub mod RefusedLemmas
 pub mod WaitLemmas
 pub mod BitLemmas
 pub mod NameLemmas
+pub mod TailLemmas
 pub mod SoundLemmas
+pub mod EndLemmas
+pub mod GreatestSamples

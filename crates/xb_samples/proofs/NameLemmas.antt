@@ -7,6 +7,7 @@ use Rattle.std.specs.Prelude.{Err, None, Ok, Option, Result, Some}
 use Rattle.xb_contact.specs.declared.event.Refusal.{Refusal}
 use Rattle.xb_contact.specs.declared.event.Refusal.TheVariants.{NoWire}
 use Rattle.xb_contact.specs.Steps.{result_and_then, result_map}
+use Rattle.xb_samples.specs.declared.bits.Width.{Width}
 use Rattle.xb_samples.specs.declared.sound.Channel.{Channel}
 use Rattle.xb_samples.specs.Samples.{mask_of, masks_of}
 use Rattle.xb_samples.specs.Sounds.{channel_of, open_wire, wires_of}
@@ -35,33 +36,33 @@ named-more item before now value (Ok later) found is e =
 
 -- the bits of wires
 pub masks_more :
-    (names : List (Bor (List ℕ))) (i : ℕ) (none : Bor (List ℕ)) (before now : List ℕ) (mask : ℕ)
+    (width : Width) (names : List (Bor (List ℕ))) (i : ℕ) (none : Bor (List ℕ)) (before now : List ℕ) (mask : ℕ)
     (all : Result (List ℕ) Refusal)
-    → i < length names → Some mask ≡ mask_of (get_or names i none).now → now ≡ before ++ mask ∷ []
-    → result_map (λ later. before ++ later) (masks_of (texts (drop i names))) ≡ all
-    → result_map (λ later. now ++ later) (masks_of (texts (drop (i + 1) names))) ≡ all
+    → i < length names → Some mask ≡ mask_of width (get_or names i none).now → now ≡ before ++ mask ∷ []
+    → result_map (λ later. before ++ later) (masks_of width (texts (drop i names))) ≡ all
+    → result_map (λ later. now ++ later) (masks_of width (texts (drop (i + 1) names))) ≡ all
 unfolding named
-masks_more names i none before now mask all h is e so_far =
-    named-more (λ m. m) before now mask (masks_of (texts (drop (i + 1) names))) (mask_of (get_or names i none).now) is e
-    ∙ sym (at_drop_more (λ more. result_map (λ later. before ++ later) (masks_of (texts more))) names i none h)
+masks_more width names i none before now mask all h is e so_far =
+    named-more (λ m. m) before now mask (masks_of width (texts (drop (i + 1) names))) (mask_of width (get_or names i none).now) is e
+    ∙ sym (at_drop_more (λ more. result_map (λ later. before ++ later) (masks_of width (texts more))) names i none h)
     ∙ so_far
 
 pub masks_whole :
-    (names : List (Bor (List ℕ))) (i : ℕ) (masks : List ℕ) (all : Result (List ℕ) Refusal) → length names ≤ i
-    → result_map (λ later. masks ++ later) (masks_of (texts (drop i names))) ≡ all → all ≡ Ok masks
-masks_whole names i masks all h so_far =
-    sym so_far ∙ at_drop_all (λ more. result_map (λ later. masks ++ later) (masks_of (texts more))) names i h
+    (width : Width) (names : List (Bor (List ℕ))) (i : ℕ) (masks : List ℕ) (all : Result (List ℕ) Refusal) → length names ≤ i
+    → result_map (λ later. masks ++ later) (masks_of width (texts (drop i names))) ≡ all → all ≡ Ok masks
+masks_whole width names i masks all h so_far =
+    sym so_far ∙ at_drop_all (λ more. result_map (λ later. masks ++ later) (masks_of width (texts more))) names i h
     ∙ ap Ok (append-nil masks)
 
 pub masks_refused :
-    (names : List (Bor (List ℕ))) (i : ℕ) (none : Bor (List ℕ)) (masks : List ℕ) (all : Result (List ℕ) Refusal)
-    → i < length names → None ≡ mask_of (get_or names i none).now
-    → result_map (λ later. masks ++ later) (masks_of (texts (drop i names))) ≡ all → all ≡ Err NoWire
+    (width : Width) (names : List (Bor (List ℕ))) (i : ℕ) (none : Bor (List ℕ)) (masks : List ℕ) (all : Result (List ℕ) Refusal)
+    → i < length names → None ≡ mask_of width (get_or names i none).now
+    → result_map (λ later. masks ++ later) (masks_of width (texts (drop i names))) ≡ all → all ≡ Err NoWire
 unfolding named
-masks_refused names i none masks all h is so_far =
+masks_refused width names i none masks all h is so_far =
     sym so_far
-    ∙ at_drop_more (λ more. result_map (λ later. masks ++ later) (masks_of (texts more))) names i none h
-    ∙ ap (named (λ m. m) masks (masks_of (texts (drop (i + 1) names)))) (sym is)
+    ∙ at_drop_more (λ more. result_map (λ later. masks ++ later) (masks_of width (texts more))) names i none h
+    ∙ ap (named (λ m. m) masks (masks_of width (texts (drop (i + 1) names)))) (sym is)
 
 -- the wires that are channels
 pub wires_more :

@@ -18,7 +18,8 @@ use Rattle.xb_samples.specs.Samples.{rate_says}
 use Rattle.xb_riff.specs.declared.coding.Coding.{Coding}
 use Rattle.xb_riff.specs.declared.coding.Coding.TheVariants as coding
 use Rattle.xb_riff.specs.Codings.{mu_law_sample, narrow_sample, wide_sample}
-use Rattle.xb_samples.specs.Sounds.{SoundSays, SoundState, begun_sound, change_said, changes_said, left_after, level_by, levels_said, lower_left, own_bytes, samples_after, samples_left, sound_begins, sound_reading, sound_says, sound_state, turned, wide_after, wide_left, wire_after, wires_of}
+use Rattle.xb_samples.specs.Sounds.{SoundSays, SoundState, begun_sound, bytes_say, change_said, changes_said, greatest_after, level_by, levels_said, lower_left, own_bytes, samples_after, samples_left, sound_begins, sound_fault, sound_reading, sound_says, sound_state, turned, wide_after, wide_left, wire_after, wires_of, wires_say}
+use Rattle.xb_samples.specs.Tails.{left_after}
 use Rattle.xb_samples.proofs.WaitLemmas.{SayWhen, after-piece, piece-piece, piece_says, until-begins}
 
 -- what is heard of a sample
@@ -64,7 +65,10 @@ turn-grows state false = omega arith
 
 pub sound_say_when : SayWhen sound_reading
 sound_say_when state sample = (
-  turn-grows (record state { wires = map (wire_after state.channel state.high sample) state.wires })
+  turn-grows (record state {
+    wires = map (wire_after state.channel state.high sample) state.wires;
+    greatest = greatest_after state.channel state.wires state.greatest sample;
+  })
       (nat_lt state.channel state.channels),
   λ tick later less h. changes-when tick state.channel state.high state.count sample 0 state.wires later less h,
 )
@@ -123,10 +127,11 @@ pub sound_takes :
     (old new : Sound) (bytes own : List ℕ) (before mid all : List Event) → own ≡ own_bytes old.left bytes
     → mid ≡ before ++ piece_events sound_reading (sound_state old) (samples_after old.coding old.lower own)
     → sound_state new ≡ after_piece sound_reading (sound_state old) (samples_after old.coding old.lower own)
-    → new.lower ≡ lower_left old.coding old.lower own → new.left ≡ left_after old.left bytes → new.coding ≡ old.coding → all ≡ mid ++ events.At new.count ∷ []
+    → new.lower ≡ lower_left old.coding old.lower own → new.left ≡ left_after old.left bytes → new.coding ≡ old.coding
+    → ((text : List ℕ) → sound_fault new text ≡ sound_fault old (bytes ++ text)) → all ≡ mid ++ events.At new.count ∷ []
     → (said : List Event) × (all ≡ before ++ said)
     × ((text : List ℕ) (later : List Event) → SoundSays new text later → SoundSays old (bytes ++ text) (said ++ later))
-sound_takes old new bytes own before mid all is said state lower left how waits =
+sound_takes old new bytes own before mid all is said state lower left how faults waits =
     let piece : List ℤ = samples_left old bytes in
     let heard : List Event = piece_events sound_reading (sound_state old) piece in
     let here : samples_after old.coding old.lower own ≡ piece = ap (samples_after old.coding old.lower) is in
@@ -137,10 +142,12 @@ sound_takes old new bytes own before mid all is said state lower left how waits 
       heard ++ events.At new.count ∷ [],
       waits ∙ ap (λ m. m ++ events.At new.count ∷ []) told ∙ append_assoc before heard (events.At new.count ∷ []),
       λ text later rest.
-          let P : List ℤ → Type 0 = λ s. SamplesSay sound_reading (sound_state old) s ((heard ++ events.At new.count ∷ []) ++ later) in
-          subst P (sym (samples_left-append old new bytes text low left how))
-          (piece_says sound_reading (sound_state old) (sound_state new) piece (samples_left new text) heard
-          (heard ++ events.At new.count ∷ []) later sound_say_when refl now refl rest),
+          let P : List ℤ → Type 0 = λ s. SamplesSay sound_reading (sound_state old) s ((heard ++ events.At new.count ∷ []) ++ later) in (
+            subst P (sym (samples_left-append old new bytes text low left how))
+                (piece_says sound_reading (sound_state old) (sound_state new) piece (samples_left new text) heard
+                (heard ++ events.At new.count ∷ []) later sound_say_when refl now refl rest.0),
+            sym (faults text) ∙ rest.1,
+          ),
     )
 
 -- one more byte of a piece, of which these are left
@@ -204,7 +211,7 @@ byte_lower how low lower all bytes i h l so_far =
     ∙ sym (at_drop_more (lower_left how low) bytes i 0 h) ∙ so_far
 
 -- all of it
-none-after : (how : Coding) (lower : Option ℕ) → samples_after how lower [] ≡ []
+pub none-after : (how : Coding) (lower : Option ℕ) → samples_after how lower [] ≡ []
 none-after coding.Unsigned8 lower = refl
 none-after coding.Signed16 lower = refl
 none-after coding.MuLaw lower = refl
@@ -344,23 +351,20 @@ sound_begun rate all wires said old told waits new is h e f g =
 
 -- a sound whose wires or rate are refused
 pub wires_refuse :
-    (channels : ℕ) (high : ℤ) (names : List (List ℕ)) (rate : Option ℕ) (refusal : Refusal)
-    → IsRefusedBy (wires_of channels names) refusal → (samples : List ℤ)
-    → IsRefusedBy (sound_says channels high names rate samples) refusal
-wires_refuse channels high names rate refusal h = λ samples other.
-    ap (result_and_then
-    (λ wires. result_map (λ said. said ++ samples_events sound_reading (begun_sound channels high wires) samples)
-    (sound_begins rate wires))) (h other)
+    (how : Coding) (channels : ℕ) (high : ℤ) (names : List (List ℕ)) (rate size : Option ℕ) (refusal : Refusal)
+    → IsRefusedBy (wires_of channels names) refusal → (bytes : List ℕ)
+    → IsRefusedBy (sound_says how channels high names rate size bytes) refusal
+wires_refuse how channels high names rate size refusal h = λ bytes other.
+    ap (result_and_then (wires_say how channels high rate size bytes)) (h other)
 
 pub rate_refuses :
-    (channels : ℕ) (high : ℤ) (names : List (List ℕ)) (wires : List Channel) (rate : Option ℕ) (refusal : Refusal)
-    → wires_of channels names ≡ Ok wires → IsRefusedBy (rate_says rate) refusal → (samples : List ℤ)
-    → IsRefusedBy (sound_says channels high names rate samples) refusal
-rate_refuses channels high names wires rate refusal is h = λ samples other.
-    ap (result_and_then
-    (λ own. result_map (λ said. said ++ samples_events sound_reading (begun_sound channels high own) samples)
-    (sound_begins rate own))) is
-    ∙ ap (λ r. result_map (λ said. said ++ samples_events sound_reading (begun_sound channels high wires) samples)
+    (how : Coding) (channels : ℕ) (high : ℤ) (names : List (List ℕ)) (wires : List Channel) (rate size : Option ℕ)
+    (refusal : Refusal)
+    → wires_of channels names ≡ Ok wires → IsRefusedBy (rate_says rate) refusal → (bytes : List ℕ)
+    → IsRefusedBy (sound_says how channels high names rate size bytes) refusal
+rate_refuses how channels high names wires rate size refusal is h = λ bytes other.
+    ap (result_and_then (wires_say how channels high rate size bytes)) is
+    ∙ ap (λ r. result_and_then (bytes_say how channels high size bytes wires)
     (result_map (λ said. said ++ events.At 0 ∷ levels_said 0 wires) r)) (h other)
 
 -- the own bytes of a sound are no more than all of them

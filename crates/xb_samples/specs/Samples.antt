@@ -1,5 +1,6 @@
--- Raw samples, a byte for eight wires.
+-- Raw samples, a byte for eight wires, or two for sixteen.
 use Rattle.std.specs.Prelude.{◌≡◌, ℕ, ◌+◌, ◌^◌, List, [], ◌∷◌, ◌++◌, Bool, false, Option, Some, None, Result, Ok, Err, bit_and, nat_eq, nat_lt, ◌==◌, if◌then◌else◌}
+use Rattle.std.specs.Int.{from_le_bytes, w16}
 use Rattle.std.specs.Option.{ok_or, option_and_then}
 use Rattle.xb_contact.specs.declared.event.Event.{Event}
 use Rattle.xb_contact.specs.declared.event.Event.TheVariants as events
@@ -11,16 +12,24 @@ use Rattle.xb_contact.specs.declared.level.Level.{Level}
 use Rattle.xb_contact.specs.declared.level.Level.TheVariants.{Open, Closed}
 use Rattle.xb_contact.specs.Times.{scale_by}
 use Rattle.xb_samples.specs.declared.bits.Bits.{Bits}
+use Rattle.xb_samples.specs.declared.bits.Width.{Width}
+use Rattle.xb_samples.specs.declared.bits.Width.TheVariants as widths
 use Rattle.xb_samples.specs.Pieces.{Reading, samples_events}
 
--- a wire is a bit of a sample, 0 to 7
-abbrev pub mask_of : List ℕ → Option ℕ
-mask_of name = option_and_then (λ bit. if nat_lt bit 8 then Some (2 ^ bit) else None) (number_of name)
+-- a wire is a bit of a sample, which has eight of them, or sixteen
+abbrev pub wires_in : Width → ℕ
+wires_in widths.Eight = 8
+wires_in widths.Sixteen = 16
 
-abbrev pub masks_of : List (List ℕ) → Result (List ℕ) Refusal
-masks_of [] = Ok []
-masks_of (name ∷ names) =
-    result_and_then (λ mask. result_map (λ rest. mask ∷ rest) (masks_of names)) (ok_or (mask_of name) refusals.NoWire)
+abbrev pub mask_of : Width → List ℕ → Option ℕ
+mask_of width name =
+    option_and_then (λ bit. if nat_lt bit (wires_in width) then Some (2 ^ bit) else None) (number_of name)
+
+abbrev pub masks_of : Width → List (List ℕ) → Result (List ℕ) Refusal
+masks_of width [] = Ok []
+masks_of width (name ∷ names) =
+    result_and_then (λ mask. result_map (λ rest. mask ∷ rest) (masks_of width names))
+    (ok_or (mask_of width name) refusals.NoWire)
 
 -- the levels of the wires in a sample
 abbrev pub bit_level : ℕ → ℕ → Level
@@ -31,21 +40,27 @@ sample_levels wire [] sample = []
 sample_levels wire (mask ∷ masks) sample =
     events.Level wire (bit_level sample mask) ∷ sample_levels (wire + 1) masks sample
 
--- the wires, the last sample, and how many have come
+-- the wires, the lower byte of a sample whose upper one has not come, the last sample, and how many have come
 pub record BitsState : Type 0 where
+  pub width : Width
   pub masks : List ℕ
+  pub lower : Option ℕ
   pub last : Option ℕ
   pub count : ℕ
 
-abbrev pub bits_of : List ℕ → Option ℕ → ℕ → BitsState
-bits_of masks last count = record { masks = masks; last = last; count = count }
+abbrev pub bits_of : Width → List ℕ → Option ℕ → Option ℕ → ℕ → BitsState
+bits_of width masks lower last count =
+    record { width = width; masks = masks; lower = lower; last = last; count = count }
 
 abbrev pub bits_state : Bits → BitsState
-bits_state bits = bits_of bits.masks.items bits.last bits.count
+bits_state bits = bits_of bits.width bits.masks.items bits.lower bits.last bits.count
 
 -- nothing was taken of the wires of these names
-abbrev pub IsNewBits : List (List ℕ) → Bits → Type 0
-IsNewBits names bits = result_map (λ masks. bits_of masks None 0) (masks_of names) ≡ Ok (bits_state bits)
+abbrev pub new_bits : Width → List ℕ → BitsState
+new_bits width masks = bits_of width masks None None 0
+
+abbrev pub IsNewBits : Width → List (List ℕ) → Bits → Type 0
+IsNewBits width names bits = result_map (new_bits width) (masks_of width names) ≡ Ok (bits_state bits)
 
 abbrev pub is_same : Option ℕ → ℕ → Bool
 is_same None sample = false
@@ -57,19 +72,38 @@ sample_events state sample =
     if is_same state.last sample then [] else events.At state.count ∷ sample_levels 0 state.masks sample
 
 abbrev pub after_sample : BitsState → ℕ → BitsState
-after_sample state sample = bits_of state.masks (Some sample) (state.count + 1)
+after_sample state sample = bits_of state.width state.masks None (Some sample) (state.count + 1)
+
+-- the sample that a byte completes: of sixteen wires the lower byte comes first
+abbrev pub sample_with : Width → Option ℕ → ℕ → Option ℕ
+sample_with widths.Eight lower byte = Some byte
+sample_with widths.Sixteen None byte = None
+sample_with widths.Sixteen (Some lower) byte = Some (from_le_bytes w16 (lower ∷ byte ∷ []))
+
+-- what is said and known with it, or with a lower byte
+abbrev pub events_by : BitsState → Option ℕ → List Event
+events_by state None = []
+events_by state (Some sample) = sample_events state sample
+
+abbrev pub state_by : BitsState → ℕ → Option ℕ → BitsState
+state_by state byte None = bits_of state.width state.masks (Some byte) state.last state.count
+state_by state byte (Some sample) = after_sample state sample
 
 abbrev pub bits_reading : Reading BitsState ℕ
-bits_reading = record { says = sample_events; next = after_sample; now = λ state. state.count }
+bits_reading = record {
+  says = λ state byte. events_by state (sample_with state.width state.lower byte);
+  next = λ state byte. state_by state byte (sample_with state.width state.lower byte);
+  now = λ state. state.count;
+}
 
 -- how long a tick is where a second has so many samples
 abbrev pub rate_says : Option ℕ → Result (List Event) Refusal
 rate_says None = Err refusals.NoRate
 rate_says (Some rate) = if rate == 0 then Err refusals.NoRate else Ok (events.Ticks (scale_by 1000 rate) ∷ [])
 
--- all samples
-abbrev pub bits_say : List (List ℕ) → Option ℕ → List ℕ → Result (List Event) Refusal
-bits_say names rate samples =
+-- all bytes
+abbrev pub bits_say : Width → List (List ℕ) → Option ℕ → List ℕ → Result (List Event) Refusal
+bits_say width names rate bytes =
     result_and_then
-    (λ masks. result_map (λ said. said ++ samples_events bits_reading (bits_of masks None 0) samples) (rate_says rate))
-    (masks_of names)
+    (λ masks. result_map (λ said. said ++ samples_events bits_reading (new_bits width masks) bytes) (rate_says rate))
+    (masks_of width names)

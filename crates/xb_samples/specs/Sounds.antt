@@ -1,5 +1,6 @@
 -- What sound says: samples, each channel's in turn.
-use Rattle.std.specs.Prelude.{◌≡◌, ℕ, ◌+◌, ◌-◌, ◌*◌, ℤ, pos, neg_ℤ, int_le, List, [], ◌∷◌, ◌++◌, Option, Some, None, Result, Ok, length, map, nat_le, nat_lt, take, ◌==◌, ◌&&◌, if◌then◌else◌, option_map}
+use Rattle.std.specs.Prelude.{◌≡◌, ℕ, ◌+◌, ◌*◌, ◌/◌, ℤ, pos, neg_ℤ, int_le, List, [], ◌∷◌, ◌++◌, Bool, Option, Some, None, Result, Ok, Err, map, nat_le, nat_lt, take, unsigned_abs, unwrap_or, ◌==◌, ◌&&◌, if◌then◌else◌}
+use Rattle.std.specs.List.{list_any}
 use Rattle.std.specs.Option.{ok_or, option_and_then}
 use Rattle.xb_contact.specs.declared.event.Event.{Event}
 use Rattle.xb_contact.specs.declared.event.Event.TheVariants as events
@@ -16,8 +17,9 @@ use Rattle.xb_samples.specs.Thresholds.{Percent}
 use Rattle.xb_riff.specs.declared.coding.Coding.{Coding}
 use Rattle.xb_riff.specs.declared.coding.Coding.TheVariants as coding
 use Rattle.xb_riff.specs.Codings.{mu_law_sample, narrow_sample, wide_sample}
-use Rattle.xb_samples.specs.Pieces.{Reading, SamplesSay, samples_events}
+use Rattle.xb_samples.specs.Pieces.{Reading, SamplesSay, after_piece, samples_events}
 use Rattle.xb_samples.specs.Samples.{rate_says}
+use Rattle.xb_samples.specs.Tails.{IsNewTail, follows_more, left_after, more_follows}
 
 -- the samples of 16 bits of bytes, of whose first one the lower byte may have come; a last byte by itself is none
 abbrev pub wide_after : Option ℕ → List ℕ → List ℤ
@@ -45,13 +47,10 @@ lower_left coding.Unsigned8 lower bytes = lower
 lower_left coding.Signed16 lower bytes = wide_left lower bytes
 lower_left coding.MuLaw lower bytes = lower
 
--- bytes up to a length, where that is known, and how many are wanted then
+-- bytes up to a length, where that is known
 abbrev pub own_bytes : Option ℕ → List ℕ → List ℕ
 own_bytes None bytes = bytes
 own_bytes (Some left) bytes = take left bytes
-
-abbrev pub left_after : Option ℕ → List ℕ → Option ℕ
-left_after left bytes = option_map (λ n. n - length bytes) left
 
 -- the least sample that is high: so many hundredths of the greatest one
 abbrev pub high_of : Percent → ℤ
@@ -78,14 +77,15 @@ changes_said channel high tick sample wire (own ∷ rest) =
     change_said tick wire own.level (wire_after channel high sample own).level
     ++ changes_said channel high tick sample (wire + 1) rest
 
--- the wires with their levels, how many channels there are, the least sample that is high, whose turn it is, and how
--- many ticks have gone by
+-- the wires with their levels, how many channels there are, the least sample that is high, whose turn it is, how many
+-- ticks have gone by, and the greatest sample of the wires, whatever its sign
 pub record SoundState : Type 0 where
   pub wires : List Channel
   pub channels : ℕ
   pub high : ℤ
   pub channel : ℕ
   pub count : ℕ
+  pub greatest : ℕ
 
 abbrev pub sound_state : Sound → SoundState
 sound_state sound = record {
@@ -94,12 +94,13 @@ sound_state sound = record {
   high = high_of sound.threshold;
   channel = sound.channel;
   count = sound.count;
+  greatest = sound.greatest;
 }
 
 -- the first channel's turn, before any tick
 abbrev pub begun_sound : ℕ → ℤ → List Channel → SoundState
 begun_sound channels high wires =
-    record { wires = wires; channels = channels; high = high; channel = 1; count = 0 }
+    record { wires = wires; channels = channels; high = high; channel = 1; count = 0; greatest = 0 }
 
 -- the samples of all channels are a tick
 abbrev pub turned : SoundState → SoundState
@@ -107,19 +108,61 @@ turned state =
     if nat_lt state.channel state.channels then record state { channel = state.channel + 1 }
     else record state { channel = 1; count = state.count + 1 }
 
+-- whether a wire is this channel
+abbrev pub is_channel : ℕ → Channel → Bool
+is_channel channel wire = wire.number == channel
+
+-- a sample counts where its channel is a wire, and it is greater than those before
+abbrev pub greatest_after : ℕ → List Channel → ℕ → ℤ → ℕ
+greatest_after channel wires greatest sample =
+    if nat_lt greatest (unsigned_abs sample) && list_any (is_channel channel) wires then unsigned_abs sample
+    else greatest
+
+-- what is known after a sample
+abbrev pub heard_state : SoundState → ℤ → SoundState
+heard_state state sample =
+    turned (record state {
+      wires = map (wire_after state.channel state.high sample) state.wires;
+      greatest = greatest_after state.channel state.wires state.greatest sample;
+    })
+
 abbrev pub sound_reading : Reading SoundState ℤ
 sound_reading = record {
   says = λ state sample. changes_said state.channel state.high state.count sample 0 state.wires;
-  next = λ state sample. turned (record state { wires = map (wire_after state.channel state.high sample) state.wires });
+  next = heard_state;
   now = λ state. state.count;
 }
 
--- further bytes of a sound say these events
+-- a greatest sample is quiet under three times the least one that is high
+abbrev pub is_quiet : ℤ → ℕ → Bool
+is_quiet high greatest = nat_lt greatest (3 * unsigned_abs high)
+
+-- the greatest threshold for which it is not, but at least 1
+abbrev pub fitting : ℕ → ℕ
+fitting greatest = if (greatest / 981) == 0 then 1 else greatest / 981
+
+-- what is wrong at the end of a sound: so many bytes of it are wanted, more follows it, no tick has gone by, or its
+-- greatest sample is quiet
+abbrev pub end_fault : Option ℕ → Bool → SoundState → Option Refusal
+end_fault left more state =
+    if nat_lt 0 (unwrap_or left 0) then Some (refusals.CutOff (unwrap_or left 0))
+    else (if more then Some refusals.MoreFollows
+    else (if state.count == 0 then Some refusals.Empty
+    else (if is_quiet state.high state.greatest then Some (refusals.Quiet (fitting state.greatest)) else None)))
+
+-- after further bytes
 abbrev pub samples_left : Sound → List ℕ → List ℤ
 samples_left sound bytes = samples_after sound.coding sound.lower (own_bytes sound.left bytes)
 
+abbrev pub sound_fault : Sound → List ℕ → Option Refusal
+sound_fault sound bytes =
+    end_fault (left_after sound.left bytes) (follows_more sound.tail bytes)
+    (after_piece sound_reading (sound_state sound) (samples_left sound bytes))
+
+-- further bytes of a sound, up to its end, say these events, and nothing is wrong there
 abbrev pub SoundSays : Sound → List ℕ → List Event → Type 0
-SoundSays sound bytes events = SamplesSay sound_reading (sound_state sound) (samples_left sound bytes) events
+SoundSays sound bytes events =
+    SamplesSay sound_reading (sound_state sound) (samples_left sound bytes) events × (sound_fault sound bytes ≡ None)
 
 -- a wire is a channel, by its number from 1 on, and open at the beginning
 abbrev pub channel_of : ℕ → List ℕ → Option ℕ
@@ -139,7 +182,7 @@ wires_of channels (name ∷ names) =
 abbrev pub IsNewSound : Coding → ℕ → ℤ → List (List ℕ) → Option ℕ → Sound → Type 0
 IsNewSound how channels high names length sound =
     (result_map (begun_sound channels high) (wires_of channels names) ≡ Ok (sound_state sound))
-    × (sound.lower ≡ None) × (sound.left ≡ length) × (sound.coding ≡ how)
+    × (sound.lower ≡ None) × (sound.left ≡ length) × (sound.coding ≡ how) × IsNewTail length sound.tail
 
 abbrev pub levels_said : ℕ → List Channel → List Event
 levels_said wire [] = []
@@ -149,10 +192,26 @@ levels_said wire (own ∷ rest) = events.Level wire own.level ∷ levels_said (w
 abbrev pub sound_begins : Option ℕ → List Channel → Result (List Event) Refusal
 sound_begins rate wires = result_map (λ said. said ++ events.At 0 ∷ levels_said 0 wires) (rate_says rate)
 
--- all samples of so many channels
-abbrev pub sound_says : ℕ → ℤ → List (List ℕ) → Option ℕ → List ℤ → Result (List Event) Refusal
-sound_says channels high names rate samples =
-    result_and_then
-    (λ wires. result_map (λ said. said ++ samples_events sound_reading (begun_sound channels high wires) samples)
-    (sound_begins rate wires))
-    (wires_of channels names)
+-- events, unless something is wrong
+abbrev pub unless : Option Refusal → List Event → Result (List Event) Refusal
+unless None said = Ok said
+unless (Some refusal) said = Err refusal
+
+-- what is said before the first sample, and what all bytes from there on say of wires then
+abbrev pub bytes_say :
+    Coding → ℕ → ℤ → Option ℕ → List ℕ → List Channel → List Event → Result (List Event) Refusal
+bytes_say how channels high length bytes wires said =
+    unless
+    (end_fault (left_after length bytes) (more_follows length bytes)
+    (after_piece sound_reading (begun_sound channels high wires) (samples_of how (own_bytes length bytes))))
+    (said ++ samples_events sound_reading (begun_sound channels high wires) (samples_of how (own_bytes length bytes)))
+
+abbrev pub wires_say : Coding → ℕ → ℤ → Option ℕ → Option ℕ → List ℕ → List Channel → Result (List Event) Refusal
+wires_say how channels high rate length bytes wires =
+    result_and_then (bytes_say how channels high length bytes wires) (sound_begins rate wires)
+
+-- all bytes of a sound of so many channels from the first sample on, and so many bytes, where that is known
+abbrev pub sound_says :
+    Coding → ℕ → ℤ → List (List ℕ) → Option ℕ → Option ℕ → List ℕ → Result (List Event) Refusal
+sound_says how channels high names rate length bytes =
+    result_and_then (wires_say how channels high rate length bytes) (wires_of channels names)

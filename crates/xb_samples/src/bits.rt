@@ -1,9 +1,9 @@
 // Raw samples.
-ghost use Rattle.std.specs.Prelude.{◌≡◌, ◌+◌, ◌++◌, [], ℕ, Ok, IfErr, IfOk, List, OnOk, length, map};
+ghost use Rattle.std.specs.Prelude.{◌≡◌, ◌+◌, ◌++◌, ◌<◌, ◌≤◌, ◌^◌, [], ℕ, Ok, IfErr, IfOk, List, OnOk, length, map};
 ghost use Rattle.xb_contact.specs.declared.event.Event.{Event as Saying};
 ghost use Rattle.xb_contact.specs.Steps.{AddsAll, IsOnly, IsRefusedBy};
 ghost use Rattle.xb_samples.specs.Pieces.{RunsOver, SamplesSay, after_piece, piece_events};
-ghost use Rattle.xb_samples.specs.Samples.{IsNewBits, after_sample, bit_level, bits_reading, bits_say, bits_state, mask_of, masks_of, rate_says, sample_events, sample_levels};
+ghost use Rattle.xb_samples.specs.Samples.{IsNewBits, after_sample, bit_level, bits_reading, bits_say, bits_state, mask_of, masks_of, rate_says, sample_events, sample_levels, sample_with, wires_in};
 
 use std::alloc::{AllocError, Global};
 use xb_contact::{Event, Level, Refusal, Scale, number_of, say};
@@ -19,41 +19,66 @@ pub(crate) fn say_rate(events: &mut Vec<Event>, rate: Option<u64>) -> Result<(),
     }
 }
 
-/// Samples of eight wires, a byte each, as `sigrok-cli -O binary` writes them. Each sample is a tick.
+/// How many wires raw samples have.
+#[derive(Clone, Copy, Debug, PartialEq, Eq)]
+pub enum Width {
+    /// Eight, in a byte.
+    Eight,
+    /// Sixteen, in two bytes, the lower one first.
+    Sixteen,
+}
+
+/// Samples of eight wires or sixteen, as `sigrok-cli -O binary` writes them. Each sample is a tick.
 #[derive(Drop)]
 pub struct Bits {
+    width: Width,
     // For each wire that is asked for, its bit alone.
-    masks: Vec<u8>,
+    masks: Vec<u16>,
+    // The lower byte of the next sample, if it has come.
+    lower: Option<u8>,
     // The last sample, and how many have come.
-    last: Option<u8>,
+    last: Option<u16>,
     count: u64,
 }
 
-// The bit of a wire that is named by its number, 0 to 7.
-fn mask_of(name: &str) -> Option<u8>
-    ensures { result ≡ mask_of name.now }
+// How many wires a sample has.
+fn wires_in(width: Width) -> u64
+    ensures value { result ≡ wires_in width }
+    ensures most { result ≤ 16 }
+{
+    match width {
+        Width::Eight => 8,
+        Width::Sixteen => 16,
+    }
+}
+
+// A bit alone.
+#[tactic(auto, using(std::proofs::lemmas::Nat::one_shl))]
+fn bit_alone(bit: u64) -> u16
+    requires { bit < 16 }
+    ensures { result ≡ 2 ^ bit }
+{
+    1 << (bit as u32)
+}
+
+// The bit of a wire that is named by its number, from 0 on.
+fn mask_of(width: Width, name: &str) -> Option<u16>
+    ensures { result ≡ mask_of width name.now }
 {
     match number_of(name.as_bytes()) {
-        Some(0) => Some(1),
-        Some(1) => Some(2),
-        Some(2) => Some(4),
-        Some(3) => Some(8),
-        Some(4) => Some(16),
-        Some(5) => Some(32),
-        Some(6) => Some(64),
-        Some(7) => Some(128),
+        Some(bit) if bit < wires_in(width) => Some(bit_alone(bit)),
         _ => None,
     }
 }
 
 // The bits of wires.
-fn masks_of(alloc: Global, names: &[&str]) -> Result<Vec<u8>, Refusal>
-    ensures said { IfOk result (λ masks. masks_of (map (λ name. name.now) names.now) ≡ Ok masks.items) }
-    ensures refused { IfErr result (IsRefusedBy (masks_of (map (λ name. name.now) names.now))) }
+fn masks_of(alloc: Global, width: Width, names: &[&str]) -> Result<Vec<u16>, Refusal>
+    ensures said { IfOk result (λ masks. masks_of width (map (λ name. name.now) names.now) ≡ Ok masks.items) }
+    ensures refused { IfErr result (IsRefusedBy (masks_of width (map (λ name. name.now) names.now))) }
 {
     let mut masks = Vec::new(alloc);
     for name in names {
-        match mask_of(name) {
+        match mask_of(width, name) {
             Some(mask) => masks.push(mask).map_err(AllocError::from)?,
             None => return Err(Refusal::NoWire),
         }
@@ -62,7 +87,7 @@ fn masks_of(alloc: Global, names: &[&str]) -> Result<Vec<u8>, Refusal>
 }
 
 // The level of a wire in a sample.
-fn bit_level(sample: u8, mask: u8) -> Level
+fn bit_level(sample: u16, mask: u16) -> Level
     ensures { result ≡ bit_level sample mask }
 {
     if sample & mask == 0 {
@@ -72,31 +97,47 @@ fn bit_level(sample: u8, mask: u8) -> Level
     }
 }
 
+// The sample that a byte completes, after the lower one, if that has come.
+fn sample_with(width: Width, lower: Option<u8>, byte: u8) -> Option<u16>
+    ensures { result ≡ sample_with width lower byte }
+{
+    match width {
+        Width::Eight => Some(u16::from(byte)),
+        Width::Sixteen => match lower {
+            None => None,
+            Some(lower) => Some(u16::from_le_bytes([lower, byte])),
+        },
+    }
+}
+
 impl Bits {
-    /// A reader of the wires of these names, which are their numbers, 0 to 7. Without a rate, or with another name,
+    /// A reader of the wires of these names, which are their numbers, from 0 on. Without a rate, or with another name,
     /// it is refused, and so is any such recording.
     pub fn new(
         alloc: Global,
+        width: Width,
         names: &[&str],
         rate: Option<u64>,
         events: &mut Vec<Event>,
     ) -> Result<Bits, Refusal>
-        ensures wires { IfOk result (IsNewBits (map (λ name. name.now) names.now)) }
+        ensures wires { IfOk result (IsNewBits width (map (λ name. name.now) names.now)) }
         ensures rate { OnOk result (AddsAll (rate_says rate) events.old.items events.new.items) }
-        ensures refused { IfErr result (λ e. (samples : List ℕ)
-            → IsRefusedBy (bits_say (map (λ name. name.now) names.now) rate samples) e) }
+        ensures refused { IfErr result (λ e. (bytes : List ℕ)
+            → IsRefusedBy (bits_say width (map (λ name. name.now) names.now) rate bytes) e) }
     {
-        let masks = masks_of(alloc, names)?;
+        let masks = masks_of(alloc, width, names)?;
         say_rate(events, rate)?;
         Ok(Bits {
+            width,
             masks,
+            lower: None,
             last: None,
             count: 0,
         })
     }
 
     // The levels of the wires in a sample.
-    fn say_sample(&self, sample: u8, events: &mut Vec<Event>) -> Result<(), Refusal>
+    fn say_sample(&self, sample: u16, events: &mut Vec<Event>) -> Result<(), Refusal>
         ensures said { OnOk result
             (events.new.items ≡ events.old.items ++ sample_levels 0 self.now.masks.items sample) }
         ensures only { IfErr result (λ e. e ≡ Refusal.NoMemory) }
@@ -108,7 +149,7 @@ impl Bits {
     }
 
     // A sample.
-    fn take_sample(&mut self, sample: u8, events: &mut Vec<Event>) -> Result<(), Refusal>
+    fn take_sample(&mut self, sample: u16, events: &mut Vec<Event>) -> Result<(), Refusal>
         ensures events { OnOk result
             (events.new.items ≡ events.old.items ++ sample_events (bits_state self.old) sample) }
         ensures state { OnOk result (bits_state self.new ≡ after_sample (bits_state self.old) sample) }
@@ -120,6 +161,7 @@ impl Bits {
             self.say_sample(sample, events)?;
             self.last = Some(sample);
         }
+        self.lower = None;
         match self.count.checked_add(1) {
             Some(count) => self.count = count,
             None => return Err(Refusal::TooLate),
@@ -127,34 +169,52 @@ impl Bits {
         Ok(())
     }
 
-    // Samples, one after the other.
-    fn take_samples(&mut self, samples: &[u8], events: &mut Vec<Event>) -> Result<(), Refusal>
+    // A byte.
+    fn take_byte(&mut self, byte: u8, events: &mut Vec<Event>) -> Result<(), Refusal>
         ensures events { OnOk result
-            (events.new.items ≡ events.old.items
-            ++ piece_events bits_reading (bits_state self.old) samples.now) }
-        ensures state { OnOk result
-            (bits_state self.new ≡ after_piece bits_reading (bits_state self.old) samples.now) }
-        ensures over { IfErr result (RunsOver self.old.count (length samples.now)) }
+            (events.new.items ≡ events.old.items ++ bits_reading.says (bits_state self.old) byte) }
+        ensures state { OnOk result (bits_state self.new ≡ bits_reading.next (bits_state self.old) byte) }
+        ensures count { OnOk result (self.new.count ≤ self.old.count + 1) }
+        ensures over { IfErr result (RunsOver self.old.count 1) }
         ensures only { IfErr result (IsOnly Refusal.TooLate) }
     {
-        for sample in samples {
-            self.take_sample(*sample, events)?;
+        match sample_with(self.width, self.lower, byte) {
+            Some(sample) => self.take_sample(sample, events),
+            None => {
+                self.lower = Some(byte);
+                Ok(())
+            }
+        }
+    }
+
+    // Bytes, one after the other.
+    fn take_bytes(&mut self, bytes: &[u8], events: &mut Vec<Event>) -> Result<(), Refusal>
+        ensures events { OnOk result
+            (events.new.items ≡ events.old.items
+            ++ piece_events bits_reading (bits_state self.old) bytes.now) }
+        ensures state { OnOk result
+            (bits_state self.new ≡ after_piece bits_reading (bits_state self.old) bytes.now) }
+        ensures over { IfErr result (RunsOver self.old.count (length bytes.now)) }
+        ensures only { IfErr result (IsOnly Refusal.TooLate) }
+    {
+        for byte in bytes {
+            self.take_byte(*byte, events)?;
         }
         Ok(())
     }
 
-    /// Takes samples, and adds what they say to `events`, also up to where they go. More than 2^64 - 1 of them are
-    /// refused. After an `Err` the reader is not to be used again.
-    pub fn take(&mut self, samples: &[u8], events: &mut Vec<Event>) -> Result<(), Refusal>
+    /// Takes bytes of samples, and adds what they say to `events`, also up to where they go. More than 2^64 - 1 samples
+    /// are refused. After an `Err` the reader is not to be used again.
+    pub fn take(&mut self, bytes: &[u8], events: &mut Vec<Event>) -> Result<(), Refusal>
         requires { events.old.items ≡ [] }
         ensures said { OnOk result ((text : List ℕ) (later : List Saying)
             → SamplesSay bits_reading (bits_state self.new) text later
-            → SamplesSay bits_reading (bits_state self.old) (samples.now ++ text)
+            → SamplesSay bits_reading (bits_state self.old) (bytes.now ++ text)
             (events.new.items ++ later)) }
-        ensures over { IfErr result (RunsOver (bits_state self.old).count (length samples.now)) }
+        ensures over { IfErr result (RunsOver (bits_state self.old).count (length bytes.now)) }
         ensures only { IfErr result (IsOnly Refusal.TooLate) }
     {
-        self.take_samples(samples, events)?;
+        self.take_bytes(bytes, events)?;
         say(events, Event::At(self.count))
     }
 

@@ -1,8 +1,15 @@
 //! What the definitions of `specs/` come to: each law is the contract of a function that does nothing.
+ghost use Rattle.xb_samples.specs.Greatest.{MeasuresTheGreatest};
 ghost use Rattle.xb_samples.specs.Hysteresis.{HearsEachLevel};
 
 /// Where samples differ from the values of their two levels by less than the thresholds do, what is heard of
 /// them are the levels.
 pub fn each_level_is_heard()
     ensures { HearsEachLevel }
+{}
+
+/// What is known at the end of a sound as its greatest sample is the greatest, whatever its sign, of all samples of the
+/// channels that are wires.
+pub fn the_greatest_is_measured()
+    ensures { MeasuresTheGreatest }
 {}

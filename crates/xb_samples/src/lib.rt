@@ -1,18 +1,26 @@
-//! Recordings of contacts by samples, in pieces as they come: raw samples of eight wires, and sound.
+//! Recordings of contacts by samples, in pieces as they come: raw samples of eight wires or sixteen, and sound.
 //!
-//! - `Bits` (`Samples`): a byte for eight wires. `Sound` (`Sounds`): samples of any `Coding`, each channel's in turn,
-//!   heard by two thresholds. `take_head` and `end_head` (`Wavs`): the head of a WAV file, which `xb_riff` reads.
+//! - `Bits` (`Samples`): a byte for eight wires, or two for sixteen. `Sound` (`Sounds`): samples of any `Coding`, each
+//!   channel's in turn, heard by two thresholds. `take_head` and `end_head` (`Wavs`): the head of a WAV file, which
+//!   `xb_riff` reads.
 //! - `take` and `end` of each: exactly what the samples say, in pieces of any length (`Pieces`: a piece may also say up
 //!   to when the levels hold). A refusal comes only where the whole is refused, and for its reason (`IsRefusedBy`,
 //!   `BeginsNothing`), 2^64 ticks have gone by (`RunsOver`), or memory ran out.
+//! - `Sound::end` gives what the samples say exactly where the whole sound has no fault (`end_fault`): each byte that
+//!   its head counts has come, nothing but chunks follows (`Tails`), a tick has gone by, and the greatest sample of the
+//!   wires is at least three times the threshold.
 //! - `laws::each_level_is_heard`: two thresholds hear each level of a sound that is disturbed by less than they differ.
+//!   `laws::the_greatest_is_measured`: the greatest sample that is known is that of all samples of the wires (`Greatest`).
 #![tactic(auto)]
 
 mod bits;
 pub mod laws;
 mod sound;
+mod tail;
+mod threshold;
 mod wav;
 
-pub use bits::Bits;
-pub use sound::{Sound, Threshold, heard_level};
+pub use bits::{Bits, Width};
+pub use sound::Sound;
+pub use threshold::{Threshold, heard_level};
 pub use wav::{end_head, take_head};

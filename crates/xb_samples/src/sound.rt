@@ -1,71 +1,18 @@
 // Sound: a contact on a sound card.
-ghost use Rattle.std.specs.Prelude.{◌≡◌, ◌<ℤ◌, ◌≤◌, ◌+◌, ◌++◌, ◌∷◌, ◌↔◌, [], ℕ, ℤ, IfErr, IfOk, IfSome, IsSome, List, Ok, OnOk, length, map, pos};
+ghost use Rattle.std.specs.Prelude.{◌≡◌, ◌≢◌, ◌<ℤ◌, ◌≤◌, ◌+◌, ◌++◌, ◌∷◌, [], ℕ, IfErr, IfOk, List, Ok, OnOk, Some, length, map, pos};
+ghost use Rattle.std.specs.List.{list_any};
 ghost use Rattle.xb_contact.specs.Steps.{AddsAll, IsOnly, IsRefusedBy, result_and_then};
 ghost use Rattle.xb_contact.specs.declared.event.Event.{Event as Saying};
-ghost use Rattle.xb_samples.specs.Hysteresis.{IsHeard};
 ghost use Rattle.xb_samples.specs.Pieces.{RunsOver, after_piece, piece_events};
-ghost use Rattle.xb_samples.specs.Sounds.{IsNewSound, SoundSays, change_said, changes_said, channel_of, high_of, left_after, levels_said, lower_left, own_bytes, samples_after, sound_begins, sound_reading, sound_says, sound_state, turned, wire_after, wires_of};
+ghost use Rattle.xb_samples.specs.Sounds.{IsNewSound, SoundSays, change_said, changes_said, channel_of, end_fault, greatest_after, high_of, is_channel, levels_said, lower_left, own_bytes, samples_after, sound_begins, sound_fault, sound_reading, sound_says, sound_state, turned, wire_after, wires_of};
+ghost use Rattle.xb_samples.specs.Tails.{follows_more, left_after};
 
 use crate::bits::say_rate;
+use crate::tail::Tail;
+use crate::threshold::{Threshold, fitting, heard_level, high_of, is_quiet};
 use std::alloc::{AllocError, Global};
-use std::marker::Model;
 use xb_contact::{Event, Level, Refusal, number_of, say};
 use xb_riff::Coding;
-
-/// How far from 0 a sample has to be, in parts of a hundred of the greatest one of 16 bits.
-#[derive(Clone, Copy, Debug, PartialEq, Eq)]
-pub struct Threshold {
-    percent: u8,
-}
-
-impl Model for Threshold {
-    ghost use Rattle.xb_samples.specs.Thresholds.{IsPercent, Percent, percent_of};
-
-    ghost Value = { Percent };
-
-    ghost view = { λ threshold. percent_of threshold.percent };
-
-    ghost invariant = { λ threshold. IsPercent threshold.percent };
-
-    ghost inverse = { λ value. record { percent = value.percent } };
-}
-
-impl Threshold {
-    /// So many parts of a hundred, 1 to 99; `None` for any other number.
-    pub fn new(percent: u32) -> Option<Threshold>
-        ensures valid { IsSome result ↔ ((1 ≤ percent) × (percent ≤ 99)) }
-        ensures value { IfSome result (λ threshold. threshold.percent ≡ percent) }
-    {
-        match percent {
-            1..=99 => Some(Threshold {
-                percent: percent as u8,
-            }),
-            _ => None,
-        }
-    }
-}
-
-// The least sample that is high.
-fn high_of(threshold: Threshold) -> i16
-    ensures high { result ≡ high_of threshold }
-    ensures some { pos 0 <ℤ result }
-{
-    i16::from(threshold.percent) * 327
-}
-
-/// The level of a sample after another one: closed from `high` on, open up to `low`, and between them as before.
-pub fn heard_level(low: i16, high: i16, was: Level, sample: i16) -> Level
-    requires { low <ℤ high }
-    ensures { IsHeard low high was sample result }
-{
-    if sample >= high {
-        Level::Closed
-    } else if sample <= low {
-        Level::Open
-    } else {
-        was
-    }
-}
 
 // A wire that is a channel of the sound.
 #[derive(Clone, Copy)]
@@ -173,6 +120,30 @@ fn hear_sample(
     Ok(())
 }
 
+// Whether a channel is a wire.
+fn is_wire(channel: u8, wires: &[Channel]) -> bool
+    ensures { result ≡ list_any (is_channel channel) wires.now }
+{
+    for wire in wires {
+        if wire.number == channel {
+            return true;
+        }
+    }
+    false
+}
+
+// The greatest sample of the wires after a sample of a channel.
+fn greatest_after(channel: u8, wires: &[Channel], greatest: u16, sample: i16) -> u16
+    ensures { result ≡ greatest_after channel wires.now greatest sample }
+{
+    let height = sample.unsigned_abs();
+    if height > greatest && is_wire(channel, wires) {
+        height
+    } else {
+        greatest
+    }
+}
+
 /// The reader of samples, each channel's in turn. The samples of all channels are a tick.
 /// A channel is closed from a threshold on, open from its opposite on, and between them as before; it begins open.
 #[derive(Drop)]
@@ -185,8 +156,11 @@ pub struct Sound {
     channel: u8,
     lower: Option<u8>,
     count: u64,
-    // How many bytes are left, where that is known.
+    // The greatest sample of the wires, whatever its sign.
+    greatest: u16,
+    // How many bytes are left, where that is known, and what has followed them.
     left: Option<u64>,
+    tail: Tail,
 }
 
 impl Sound {
@@ -206,8 +180,8 @@ impl Sound {
             (IsNewSound coding channels (high_of threshold) (map (λ name. name.now) names.now) length) }
         ensures said { OnOk result (AddsAll (result_and_then (sound_begins rate)
             (wires_of channels (map (λ name. name.now) names.now))) events.old.items events.new.items) }
-        ensures refused { IfErr result (λ e. (samples : List ℤ) → IsRefusedBy
-            (sound_says channels (high_of threshold) (map (λ name. name.now) names.now) rate samples) e) }
+        ensures refused { IfErr result (λ e. (bytes : List ℕ) → IsRefusedBy (sound_says coding channels
+            (high_of threshold) (map (λ name. name.now) names.now) rate length bytes) e) }
     {
         let wires = wires_of(alloc, names, channels)?;
         say_rate(events, rate)?;
@@ -221,7 +195,9 @@ impl Sound {
             channel: 1,
             lower: None,
             count: 0,
+            greatest: 0,
             left: length,
+            tail: Tail::new(alloc, length),
         })
     }
 
@@ -246,6 +222,7 @@ impl Sound {
         ensures state { OnOk result (sound_state self.new ≡ turned (sound_state self.old)) }
         ensures lower { self.new.lower ≡ self.old.lower }
         ensures left { self.new.left ≡ self.old.left }
+        ensures tail { self.new.tail ≡ self.old.tail }
         ensures coding { self.new.coding ≡ self.old.coding }
         ensures count { OnOk result (self.new.count ≤ self.old.count + 1) }
         ensures over { IfErr result (RunsOver self.old.count 1) }
@@ -271,6 +248,7 @@ impl Sound {
             (sound_state self.new ≡ sound_reading.next (sound_state self.old) sample) }
         ensures lower { self.new.lower ≡ self.old.lower }
         ensures left { self.new.left ≡ self.old.left }
+        ensures tail { self.new.tail ≡ self.old.tail }
         ensures coding { self.new.coding ≡ self.old.coding }
         ensures count { OnOk result (self.new.count ≤ self.old.count + 1) }
         ensures over { IfErr result (RunsOver self.old.count 1) }
@@ -278,6 +256,7 @@ impl Sound {
     {
         let (channel, count) = (self.channel, self.count);
         let high = high_of(self.threshold);
+        self.greatest = greatest_after(channel, &self.wires, self.greatest, sample);
         hear_sample(&mut self.wires, channel, high, count, sample, events)?;
         self.turn()
     }
@@ -292,6 +271,7 @@ impl Sound {
             (samples_after self.old.coding self.old.lower (byte ∷ []))) }
         ensures lower { OnOk result (self.new.lower ≡ lower_left self.old.coding self.old.lower (byte ∷ [])) }
         ensures left { self.new.left ≡ self.old.left }
+        ensures tail { self.new.tail ≡ self.old.tail }
         ensures coding { self.new.coding ≡ self.old.coding }
         ensures count { OnOk result (self.new.count ≤ self.old.count + 1) }
         ensures over { IfErr result (RunsOver self.old.count 1) }
@@ -322,6 +302,7 @@ impl Sound {
             (samples_after self.old.coding self.old.lower bytes.now)) }
         ensures lower { OnOk result (self.new.lower ≡ lower_left self.old.coding self.old.lower bytes.now) }
         ensures left { self.new.left ≡ self.old.left }
+        ensures tail { self.new.tail ≡ self.old.tail }
         ensures coding { self.new.coding ≡ self.old.coding }
         ensures over { IfErr result (RunsOver self.old.count (length bytes.now)) }
         ensures only { IfErr result (IsOnly Refusal.TooLate) }
@@ -332,27 +313,55 @@ impl Sound {
         Ok(())
     }
 
-    /// Takes bytes of samples, and adds what they say to `events`, also up to where they go. More than 2^64 - 1 ticks
-    /// are refused. After an `Err` the reader is not to be used again.
+    /// Takes bytes of samples and of what follows them, and adds what they say to `events`, also up to where they go.
+    /// More than 2^64 - 1 ticks are refused. After an `Err` the reader is not to be used again.
     pub fn take(&mut self, bytes: &[u8], events: &mut Vec<Event>) -> Result<(), Refusal>
         ensures said { OnOk result ((said : List Saying) × (events.new.items ≡ events.old.items ++ said)
             × ((text : List ℕ) (later : List Saying) → SoundSays self.new text later
             → SoundSays self.old (bytes.now ++ text) (said ++ later))) }
+        ensures faults { OnOk result ((text : List ℕ)
+            → sound_fault self.new text ≡ sound_fault self.old (bytes.now ++ text)) }
         ensures over { IfErr result (RunsOver (sound_state self.old).count (length bytes.now)) }
         ensures only { IfErr result (IsOnly Refusal.TooLate) }
     {
+        self.tail.take(bytes)?;
         let own = self.own(bytes);
         self.take_bytes(own, events)?;
         say(events, Event::At(self.count))
     }
 
-    /// The end: the wires hold their levels up to where the samples go.
+    // What is wrong where it ends here.
+    fn fault(&self) -> Option<Refusal>
+        ensures { result ≡ end_fault self.now.left (follows_more self.now.tail []) (sound_state self.now) }
+    {
+        let missing = self.left.unwrap_or(0);
+        if missing > 0 {
+            return Some(Refusal::CutOff(missing));
+        }
+        if self.tail.is_more() {
+            return Some(Refusal::MoreFollows);
+        }
+        if self.count == 0 {
+            return Some(Refusal::Empty);
+        }
+        if is_quiet(self.threshold, self.greatest) {
+            return Some(Refusal::Quiet(fitting(self.greatest)));
+        }
+        None
+    }
+
+    /// The end: the wires hold their levels up to where the samples go. It is refused where bytes are missing that the
+    /// head counts (`CutOff`), where more follows these than chunks (`MoreFollows`), where no tick has gone by
+    /// (`Empty`), and where the greatest sample of the wires is under three times the threshold (`Quiet`).
     pub fn end(&self, events: &mut Vec<Event>) -> Result<(), Refusal>
         requires { events.old.items ≡ [] }
         ensures said { OnOk result (SoundSays self.now [] events.new.items) }
-        ensures only { IfErr result (λ e. e ≡ Refusal.NoMemory) }
+        ensures refused { IfErr result (λ e. e ≢ Refusal.NoMemory → sound_fault self.now [] ≡ Some e) }
     {
-        say(events, Event::At(self.count))
+        match self.fault() {
+            Some(refusal) => Err(refusal),
+            None => say(events, Event::At(self.count)),
+        }
     }
 
     /// How many ticks have gone by.

@@ -35,3 +35,11 @@ returns-in-WavHead-clause-refused c = λ other wanted.
     let P : Refusal → Type 0 = λ refusal. SourceRefused wanted c.args.source.now (c.args.line.now ∷ []) [] refusal in
     subst P (sym c.end_head.ensures.only)
     (head_ends wanted c.args.source.now c.in-WavHead.head (c.args.line.now ∷ []) c.in-WavHead.is c.end_head.ensures.ended)
+
+pub returns-in-Sound-clause-refused : goal.returns-in-Sound-clause-refused
+returns-in-Sound-clause-refused c =
+    IfErr-weaker c.end-in-Sound.result _ _
+    (λ refusal refused other wanted.
+    let P : Source → Type 0 = λ s. SourceRefused wanted s (c.args.line.now ∷ []) [] refusal in
+    subst P (sym c.in-Sound.is) (refused other))
+    c.end-in-Sound.ensures.refused

@@ -6,15 +6,15 @@ use Rattle.xb_samples.proofs.bits.masks_of.Goals as goal
 pub loop-name-preserved : goal.loop-name-preserved
 loop-name-preserved c =
     let pushed : c.push.new.self.items ≡ c.loop-name.masks.items ++ c.in-Some.mask ∷ [] = search rules in
-    masks_more c.args.names.now c.loop-name.name-index _ c.loop-name.masks.items c.push.new.self.items c.in-Some.mask
-    (masks_of (texts c.args.names.now)) c.loop-name-test.true c.in-Some.ensures pushed c.loop-name.invariant
+    masks_more c.args.width c.args.names.now c.loop-name.name-index _ c.loop-name.masks.items c.push.new.self.items c.in-Some.mask
+    (masks_of c.args.width (texts c.args.names.now)) c.loop-name-test.true c.in-Some.ensures pushed c.loop-name.invariant
 
 pub returns-clause-said : goal.returns-clause-said
 returns-clause-said c =
-    masks_whole c.args.names.now c.loop-name.name-index c.loop-name.masks.items (masks_of (texts c.args.names.now))
+    masks_whole c.args.width c.args.names.now c.loop-name.name-index c.loop-name.masks.items (masks_of c.args.width (texts c.args.names.now))
     c.loop-name-test.false c.loop-name.invariant
 
 pub returns-in-None-clause-refused : goal.returns-in-None-clause-refused
 returns-in-None-clause-refused c = λ other.
-    masks_refused c.args.names.now c.loop-name.name-index _ c.loop-name.masks.items (masks_of (texts c.args.names.now))
+    masks_refused c.args.width c.args.names.now c.loop-name.name-index _ c.loop-name.masks.items (masks_of c.args.width (texts c.args.names.now))
     c.loop-name-test.true c.in-None.ensures c.loop-name.invariant

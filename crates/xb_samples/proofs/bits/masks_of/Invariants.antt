@@ -5,5 +5,5 @@ use Rattle.xb_samples.proofs.bits.masks_of.Given as goal
 
 abbrev pub invariant-loop-name : goal.invariant-loop-name
 invariant-loop-name l =
-    result_map (λ later. l.masks.items ++ later) (masks_of (map (λ name. name.now) (drop l.name-index l.names)))
-    ≡ masks_of (map (λ name. name.now) l.names)
+    result_map (λ later. l.masks.items ++ later) (masks_of l.width (map (λ name. name.now) (drop l.name-index l.names)))
+    ≡ masks_of l.width (map (λ name. name.now) l.names)

@@ -1,12 +1,15 @@
-use Rattle.std.proofs.Common.{◌≡◌, ℕ, List, ◌++◌, ◌-◌, Option, drop, length, take, subst, length-drop, arith}
+use Rattle.std.proofs.Common.{◌≡◌, ℕ, List, ◌++◌, ◌-◌, Option, ap, drop, length, take, subst, length-drop, arith, ◌∙◌}
 use Rattle.std.proofs.lemmas.List.{take_all}
 use Rattle.std.proofs.lemmas.Result.{IfErr-weaker, err_from_is_err_and, on_ok_weaker}
 use Rattle.xb_recording.specs.declared.reader.Source.TheVariants as sources
 use Rattle.xb_riff.specs.declared.head.WavFormat.{WavFormat}
-use Rattle.xb_recording.specs.Says.{RefusesSamples, TakesSamples, WavSays}
+use Rattle.xb_recording.specs.Says.{KeepsSamples, RefusesSamples, SamplesRefused, TakesSamples, WavSays}
+use Rattle.xb_samples.specs.declared.sound.Sound.{Sound}
+use Rattle.xb_samples.specs.Sounds.{SoundSays, sound_fault}
+use Rattle.xb_contact.specs.declared.event.Event.{Event}
 use Rattle.xb_riff.specs.Heads.{TakesHead}
-use Rattle.xb_recording.proofs.RefusedLemmas.{head_is_refused, samples_are_refused}
-use Rattle.xb_recording.proofs.SaidLemmas.{head_then}
+use Rattle.xb_recording.proofs.RefusedLemmas.{head_is_refused, keeps_sound, samples_are_refused, samples_keep}
+use Rattle.xb_recording.proofs.SaidLemmas.{head_then, takes_sound}
 use Rattle.xb_recording.proofs.reader.Reader.take_values.Goals as goal
 
 pub returns-in-Some-clause-said : goal.returns-in-Some-clause-said
@@ -30,6 +33,49 @@ returns-in-Some-clause-said c =
     head_then old.wanted.now old.source head after bytes text (format, count) (events ++ later) c.in-WavHead.is taken
     (subst Q rest (begun text later k)))
     c.begin_sound.ensures.said
+
+pub returns-in-Some-clause-refusals : goal.returns-in-Some-clause-refusals
+returns-in-Some-clause-refusals c =
+    let old = c.args.self.now in
+    let bytes : List ℕ = c.args.bytes.now in
+    let format = c.in-Some.format in
+    let count = c.in-Some.count in
+    let head = c.in-WavHead.head in
+    let after = c.take_head.new.head in
+    let new = c.begin_sound.new.self in
+    let P : Option (WavFormat × ℕ) → Type 0 = λ found. TakesHead head bytes found after in
+    let taken = subst P c.in-Some.is c.in_ok-format-in-WavHead.ensures.taken in
+    let rest : take (length bytes - count) (drop count bytes) ≡ drop count bytes =
+    take_all (length bytes - count) (drop count bytes) (omega (arith, length-drop count bytes)) in
+    on_ok_weaker c.begin_sound.result
+    (λ (keeps : KeepsSamples format (record old { source = sources.WavHead after }) new (take (length bytes - count) (drop count bytes))).
+    λ text refusal k.
+    let Q : List ℕ → Type 0 = λ piece. SamplesRefused old.wanted.now (format, piece ++ text) refusal in
+    samples_keep old head after bytes text (format, count) refusal c.in-WavHead.is taken (subst Q rest (keeps text refusal k)))
+    c.begin_sound.ensures.refusals
+
+pub returns-in-Sound-clause-said : goal.returns-in-Sound-clause-said
+returns-in-Sound-clause-said c =
+    let sound : Sound = c.in-Sound.sound in
+    let after : Sound = c.take-in-Sound.new.self in
+    let bytes : List ℕ = c.args.bytes.now in
+    let events : List Event = c.take-in-Sound.new.events.items in
+    on_ok_weaker c.take-in-Sound.result
+    (λ (took : (said : List Event) × (events ≡ c.args.events.now.items ++ said)
+    × ((text : List ℕ) (later : List Event) → SoundSays after text later → SoundSays sound (bytes ++ text) (said ++ later))).
+    takes_sound c.args.self.now sound after bytes events took.0 c.in-Sound.is
+    (took.1 ∙ ap (λ (before : List Event). before ++ took.0) c.requires.none) took.2)
+    c.take-in-Sound.ensures.said
+
+pub returns-in-Sound-clause-refusals : goal.returns-in-Sound-clause-refusals
+returns-in-Sound-clause-refusals c =
+    let sound : Sound = c.in-Sound.sound in
+    let after : Sound = c.take-in-Sound.new.self in
+    let bytes : List ℕ = c.args.bytes.now in
+    on_ok_weaker c.take-in-Sound.result
+    (λ (faults : (text : List ℕ) → sound_fault after text ≡ sound_fault sound (bytes ++ text)).
+    keeps_sound c.args.self.now sound after bytes c.in-Sound.is faults)
+    c.take-in-Sound.ensures.faults
 
 pub returns-in-Some-clause-refused : goal.returns-in-Some-clause-refused
 returns-in-Some-clause-refused c =

@@ -12,24 +12,24 @@ use Rattle.xb_samples.proofs.bits.Bits.take.Goals as goal
 pub returns-clause-said : goal.returns-clause-said
 returns-clause-said c =
     let old = bits_state c.args.self.now in
-    let new = bits_state c.take_samples.new.self in
-    let mid = c.take_samples.new.events.items in
+    let new = bits_state c.take_bytes.new.self in
+    let mid = c.take_bytes.new.events.items in
     on_ok_weaker c.say.result
     (λ (told : c.say.new.events.items ≡ mid ++ At new.count ∷ []).
-    λ text later rest. piece_says bits_reading old new c.args.samples.now text mid c.say.new.events.items later bits_say_when
-    (c.in_ok-take_samples.ensures.events ∙ ap (λ before. before ++ piece_events bits_reading old c.args.samples.now) c.requires)
-    c.in_ok-take_samples.ensures.state told rest)
+    λ text later rest. piece_says bits_reading old new c.args.bytes.now text mid c.say.new.events.items later bits_say_when
+    (c.in_ok-take_bytes.ensures.events ∙ ap (λ before. before ++ piece_events bits_reading old c.args.bytes.now) c.requires)
+    c.in_ok-take_bytes.ensures.state told rest)
     c.say.ensures.said
 
 pub returns-clause-over : goal.returns-clause-over
 returns-clause-over c =
-    out_of_memory c.say.result (λ refusal. 2 ^ 64 ≤ c.args.self.now.count + length c.args.samples.now) c.say.ensures.only
+    out_of_memory c.say.result (λ refusal. 2 ^ 64 ≤ c.args.self.now.count + length c.args.bytes.now) c.say.ensures.only
 
 pub returns-clause-only : goal.returns-clause-only
 returns-clause-only c = out_of_memory c.say.result (λ refusal. refusal ≡ TooLate) c.say.ensures.only
 
-pub returns-in_err-take_samples-clause-over : goal.returns-in_err-take_samples-clause-over
-returns-in_err-take_samples-clause-over c =
-    refused_with c.from_residual.result c.in_err-take_samples.field-0.0
-    (RunsOver c.args.self.now.count (length c.args.samples.now)) c.from_residual.ensures.1
-    c.in_err-take_samples.ensures.over
+pub returns-in_err-take_bytes-clause-over : goal.returns-in_err-take_bytes-clause-over
+returns-in_err-take_bytes-clause-over c =
+    refused_with c.from_residual.result c.in_err-take_bytes.field-0.0
+    (RunsOver c.args.self.now.count (length c.args.bytes.now)) c.from_residual.ensures.1
+    c.in_err-take_bytes.ensures.over

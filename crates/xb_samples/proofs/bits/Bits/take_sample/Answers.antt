@@ -21,10 +21,12 @@ returns-clause-state c =
     let state = bits_state c.args.self.now in
     let now = c.if-ne.self in
     elim c.if-ne.branch [
-      | then-ne+in_ok-say+in_ok-say_sample w ↦ sample_counted state c.args.sample now.masks.items now.last now.count c.in-Some.count
+      | then-ne+in_ok-say+in_ok-say_sample w ↦ sample_counted state c.args.sample now.width now.masks.items now.last now.count c.in-Some.count
+          (ap (λ bits. bits.width) w.self-is)
           (ap (λ bits. bits.masks.items) w.self-is) (ap (λ bits. bits.last) w.self-is) (ap (λ bits. bits.count) w.self-is)
           c.in-Some.ensures.1
-      | else-ne w ↦ sample_counted state c.args.sample now.masks.items now.last now.count c.in-Some.count
+      | else-ne w ↦ sample_counted state c.args.sample now.width now.masks.items now.last now.count c.in-Some.count
+          (ap (λ bits. bits.width) w.self-is)
           (ap (λ bits. bits.masks.items) w.self-is)
           (ap (λ bits. bits.last) w.self-is ∙ sym (last_stays state.last c.args.sample c.ne.result c.ne.ensures w.if-ne.false))
           (ap (λ bits. bits.count) w.self-is) c.in-Some.ensures.1

@@ -1,4 +1,4 @@
-use Rattle.std.proofs.Common.{ℤ, List, ap, refl}
+use Rattle.std.proofs.Common.{ℕ, List, ap, refl}
 use Rattle.xb_contact.specs.declared.event.Refusal.{Refusal}
 use Rattle.xb_contact.specs.Steps.{IsRefusedBy, result_map}
 use Rattle.xb_samples.specs.Sounds.{begun_sound, high_of, sound_says, wires_of}
@@ -9,7 +9,7 @@ use Rattle.xb_samples.proofs.sound.Sound.new.Goals as goal
 
 pub returns-clause-begun : goal.returns-clause-begun
 returns-clause-begun c =
-    (ap (result_map (begun_sound c.args.channels (high_of c.args.threshold))) c.in_ok-wires.ensures.said, refl, refl, refl)
+    (ap (result_map (begun_sound c.args.channels (high_of c.args.threshold))) c.in_ok-wires.ensures.said, refl, refl, refl, c.new.ensures)
 
 pub returns-clause-said : goal.returns-clause-said
 returns-clause-said c =
@@ -24,9 +24,9 @@ returns-in_err-wires-clause-refused c =
     let high = high_of c.args.threshold in
     let names = texts c.args.names.now in
     let P : Refusal → Type 0 =
-    λ e. (samples : List ℤ) → IsRefusedBy (sound_says c.args.channels high names c.args.rate samples) e in
+    λ e. (bytes : List ℕ) → IsRefusedBy (sound_says c.args.coding c.args.channels high names c.args.rate c.args.length bytes) e in
     refused_with c.from_residual.result refusal P c.from_residual.ensures.1
-    (wires_refuse c.args.channels high names c.args.rate refusal c.in_err-wires.ensures.refused)
+    (wires_refuse c.args.coding c.args.channels high names c.args.rate c.args.length refusal c.in_err-wires.ensures.refused)
 
 pub returns-in_err-say_rate-clause-refused : goal.returns-in_err-say_rate-clause-refused
 returns-in_err-say_rate-clause-refused c =
@@ -34,7 +34,8 @@ returns-in_err-say_rate-clause-refused c =
     let high = high_of c.args.threshold in
     let names = texts c.args.names.now in
     let P : Refusal → Type 0 =
-    λ e. (samples : List ℤ) → IsRefusedBy (sound_says c.args.channels high names c.args.rate samples) e in
+    λ e. (bytes : List ℕ) → IsRefusedBy (sound_says c.args.coding c.args.channels high names c.args.rate c.args.length bytes) e in
     refused_with c.from_residual-in_err-say_rate.result refusal P c.from_residual-in_err-say_rate.ensures.1
-    (rate_refuses c.args.channels high names c.in_ok-wires.wires.items c.args.rate refusal c.in_ok-wires.ensures.said
+    (rate_refuses c.args.coding c.args.channels high names c.in_ok-wires.wires.items c.args.rate c.args.length refusal
+    c.in_ok-wires.ensures.said
     c.in_err-say_rate.ensures.refused)

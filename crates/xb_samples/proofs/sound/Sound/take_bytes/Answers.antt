@@ -28,6 +28,7 @@ loop-byte-preserved c =
       state = byte_state how (sound_state old) (sound_state new) _ old.lower new.lower bytes i inside state lower so_far.state;
       lower = byte_lower how old.lower new.lower _ bytes i inside lower so_far.lower;
       left = took.left ∙ so_far.left;
+      tail = took.tail ∙ so_far.tail;
       coding = took.coding ∙ so_far.coding;
       count = omega (arith, took.count, so_far.count);
     }
@@ -48,7 +49,7 @@ returns-clause-lower c =
     c.loop-byte.invariant.lower
 
 pub loop-byte-init : goal.loop-byte-init
-loop-byte-init c = record { events = refl; state = refl; lower = refl; left = refl; coding = refl; count = omega arith }
+loop-byte-init c = record { events = refl; state = refl; lower = refl; left = refl; tail = refl; coding = refl; count = omega arith }
 
 pub returns-in_err-take_byte-clause-over : goal.returns-in_err-take_byte-clause-over
 returns-in_err-take_byte-clause-over c =

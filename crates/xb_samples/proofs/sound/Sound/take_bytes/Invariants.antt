@@ -16,6 +16,7 @@ invariant-loop-byte l = record {
   lower : lower_left l.initial.self.coding l.self.lower (drop l.byte-index l.bytes)
       ≡ lower_left l.initial.self.coding l.initial.self.lower l.bytes;
   left : l.self.left ≡ l.initial.self.left;
+  tail : l.self.tail ≡ l.initial.self.tail;
   coding : l.self.coding ≡ l.initial.self.coding;
   count : l.self.count ≤ l.initial.self.count + l.byte-index;
 }

@@ -1,0 +1,186 @@
+// Samples of sixteen wires, and sound that ends before its length, goes on behind it, or is quiet.
+use crate::attending::{Case, check_reader};
+use std::test::Fail;
+use test_kit::Halting;
+
+// One channel of eight bits, 200 samples a second, up to the length of its samples.
+const HEAD: &[u8] = b"RIFF\x2a\x00\x00\x00WAVE\
+fmt \x10\x00\x00\x00\x01\x00\x01\x00\xc8\x00\x00\x00\xc8\x00\x00\x00\x01\x00\x08\x00data";
+
+const HEADER: &[u8] = b"line,state,ms\n";
+
+const BREAK: &[u8] = b"line,state,ms\n7,B,10\n";
+
+const ROWS: &[u8] = b"line,state,ms\n7,B,10\n7,M,15\n";
+
+const MORE: &[u8] =
+    b"mfloop: the end of the recording: more follows than the head counts: sox IN.wav OUT.wav\n";
+
+// What follows the head, what is printed, and what is told.
+const ENDS: &[(&[u8], &[u8], &[u8])] = &[
+    // whole: nothing follows an odd number of bytes, or a byte, or a chunk behind it
+    (b"\x05\x00\x00\x00\x00\x80\xff\x80\x7b", ROWS, b""),
+    (b"\x05\x00\x00\x00\x00\x80\xff\x80\x7b\x00", ROWS, b""),
+    (
+        b"\x05\x00\x00\x00\x00\x80\xff\x80\x7b\x00LIST\x03\x00\x00\x00abc\x00id3 \x00\x00\x00\x00",
+        ROWS,
+        b"",
+    ),
+    // its samples break off
+    (
+        b"\x07\x00\x00\x00\x00\x80\xff\x80\x7b",
+        BREAK,
+        b"mfloop: the end of the recording: the sound is cut off: 2 bytes are missing\n",
+    ),
+    // none, of a length that is 0, and of one that was not known
+    (
+        b"\x00\x00\x00\x00",
+        HEADER,
+        b"mfloop: the end of the recording: the sound has no samples\n",
+    ),
+    (
+        b"\xff\xff\xff\xff",
+        HEADER,
+        b"mfloop: the end of the recording: the sound has no samples\n",
+    ),
+    // the length was never written, or is that of the first piece
+    (b"\x00\x00\x00\x00\x00\x80\xff\x80\x7b", HEADER, MORE),
+    (
+        b"\x02\x00\x00\x00\x00\x80\xff\x80\x7b\x90\x80\x80\x80\x80\x80\x80",
+        HEADER,
+        MORE,
+    ),
+    // a chunk that is cut off, one whose name is none, bytes behind one, and another file
+    (
+        b"\x05\x00\x00\x00\x00\x80\xff\x80\x7b\x00LIST\x03\x00\x00\x00ab",
+        BREAK,
+        MORE,
+    ),
+    (
+        b"\x05\x00\x00\x00\x00\x80\xff\x80\x7b\x00LIS\x00\x00\x00\x00\x00",
+        BREAK,
+        MORE,
+    ),
+    (
+        b"\x05\x00\x00\x00\x00\x80\xff\x80\x7b\x00LIST\x01\x00\x00\x00a\x00\x80\x80",
+        BREAK,
+        MORE,
+    ),
+    (
+        b"\x05\x00\x00\x00\x00\x80\xff\x80\x7b\x00RIFF\x04\x00\x00\x00WAVE",
+        BREAK,
+        MORE,
+    ),
+];
+
+// Two channels of eight bits, 200 samples of each a second, up to the length of its samples.
+const STEREO: &[u8] = b"RIFF\x2c\x00\x00\x00WAVE\
+fmt \x10\x00\x00\x00\x01\x00\x02\x00\xc8\x00\x00\x00\x90\x01\x00\x00\x02\x00\x08\x00data";
+
+// The channel that is asked for, the head, what follows it, what is printed, and the threshold that is advised, if one
+// is. Three times 6 parts of a hundred are 5886; samples of 8 bits are 256 apart.
+const LEVELS: &[(&str, &[u8], &[u8], &[u8], &str)] = &[
+    (
+        "7=1",
+        HEAD,
+        b"\x05\x00\x00\x00\x80\x80\x97\x80\x80",
+        ROWS,
+        "",
+    ),
+    (
+        "7=1",
+        HEAD,
+        b"\x05\x00\x00\x00\x69\x69\x96\x80\x80",
+        ROWS,
+        "",
+    ),
+    (
+        "7=1",
+        HEAD,
+        b"\x05\x00\x00\x00\x80\x80\x96\x80\x80",
+        BREAK,
+        "5",
+    ),
+    (
+        "7=1",
+        HEAD,
+        b"\x05\x00\x00\x00\x80\x80\x83\x80\x80",
+        HEADER,
+        "1",
+    ),
+    // the other channel is loud
+    (
+        "7=2",
+        STEREO,
+        b"\x08\x00\x00\x00\xff\x80\x00\x80\xff\x90\xff\x80",
+        BREAK,
+        "4",
+    ),
+];
+
+// Wire 10 closes with the third sample; half a sample is none.
+const SIXTEEN: &[u8] = b"\xff\xfb\x00\x00\x00\x04\x10\x05\x04\x04\xff";
+
+#[test]
+fn reads_sixteen_wires(rt: HostRuntime) -> Result<(), Fail> {
+    for step in [1, 3, 8_192] {
+        let mut reader = Halting::new(SIXTEEN, step);
+        let case = Case {
+            words: &["--format", "bits16", "--rate", "200", "--line", "7=10"],
+            recording: SIXTEEN,
+            rows: ROWS,
+            told: b"",
+        };
+        check_reader(&rt, rt.alloc(), &mut reader, &case, 0)?;
+    }
+    Ok(())
+}
+
+#[test]
+fn judges_the_end_of_a_sound(rt: HostRuntime) -> Result<(), Fail> {
+    for step in [1, 8_192] {
+        for (bytes, rows, told) in ENDS {
+            let mut recording = Vec::new(rt.alloc());
+            recording.extend_from_slice(HEAD)?;
+            recording.extend_from_slice(bytes)?;
+            let mut reader = Halting::new(&recording, step);
+            let case = Case {
+                words: &["--line", "7=1"],
+                recording: &recording,
+                rows,
+                told,
+            };
+            let status = if told.is_empty() { 0 } else { 1 };
+            check_reader(&rt, rt.alloc(), &mut reader, &case, status)?;
+        }
+    }
+    Ok(())
+}
+
+#[test]
+fn advises_a_threshold_for_quiet_sound(rt: HostRuntime) -> Result<(), Fail> {
+    for (wire, head, bytes, rows, percent) in LEVELS {
+        let mut recording = Vec::new(rt.alloc());
+        recording.extend_from_slice(head)?;
+        recording.extend_from_slice(bytes)?;
+        let mut told = Vec::new(rt.alloc());
+        if !percent.is_empty() {
+            told.extend_from_slice(
+                b"mfloop: the end of the recording: the sound is too quiet for the threshold: ",
+            )?;
+            told.extend_from_slice(b"give --threshold ")?;
+            told.extend_from_slice(percent.as_bytes())?;
+            told.extend_from_slice(b"\n")?;
+        }
+        let mut reader = recording.as_slice();
+        let case = Case {
+            words: &["--line", *wire],
+            recording: &recording,
+            rows,
+            told: &told,
+        };
+        let status = if percent.is_empty() { 0 } else { 1 };
+        check_reader(&rt, rt.alloc(), &mut reader, &case, status)?;
+    }
+    Ok(())
+}
