@@ -31,7 +31,7 @@ const PASSED_OVER: &[u8] =
 delte = 3\n---\n\nline,state,ms\n7,M,500\n";
 
 const TOLD: &[u8] =
-    b"a.deck:1:1: no rule names this key; here are plan, limits and route (did you mean plan?): plann = 10?
+    b"a.deck:1:1: no rule names this key; here are plan, limits and route (did you mean plan?): plann = 10
 a.deck:2:1: no rule names this heading; there are [limits] and [[route]]: [limit]
 a.deck:7:1: no rule names this key; here are code, trunk, delete and prefix (did you mean delete?): delte = 3
 ";
@@ -165,6 +165,49 @@ t:10:1: no rule names this heading; there are [limits] and [[route]]: [j]
 t:11:1: no rule names this heading; there are [limits] and [[route]]: [k]
 ";
 
+// A deck as a spreadsheet writes it, with semicolons, and other rows.
+const SEMICOLONS: &[u8] = b"---\nline;state;ms\n7;M;500\n7;X;60\n7\tB\t60\n10000,M,1\n7;B\n";
+
+const SEMICOLONS_TOLD: &[u8] = b"deck:2:1: the fields are separated by ; and not by ,: line;state;ms
+deck:4:3: the state is not M, B or C: 7;X;60
+deck:6:1: the line is not 0 to 9999: 10000,M,1
+deck:7:1: the record has not three fields: 7;B
+";
+
+// A deck with a header by hand, and records with quotes and tabs.
+const TABS: &[u8] = b"---\nline,state,ms\n7,M,500\n\"7\"\t\"B\"\t\"60\"\n8\tM\t-1\n";
+
+const TABS_TOLD: &[u8] =
+    b"deck:4:1: the fields are separated by tabs and not by ,: \"7\"?\"B\"?\"60\"
+deck:5:5: the ms are not 0 to 86400000, or not 0 in a close: 8?M?-1
+";
+
+// A deck with CR LF at the ends of some text lines, and CRs alone at those of others.
+const LONE_CRS: &[u8] =
+    b"# one\r\nplam = 10\r\n---\r\n\rline,state,ms\r8386,X,15\r7,C,0\r\n7,M,5\r\r\n7,C\n";
+
+const LONE_CRS_TOLD: &[u8] =
+    b"deck:2:1: no rule names this key; here are plan, limits and route (did you mean plan?): plam = 10
+deck:6:6: the state is not M, B or C: 8386,X,15
+deck:8:1: this record is ignored; its line was closed in text line 7: 7,M,5
+deck:10:1: the record has not three fields: 7,C
+";
+
+// A deck of an old Mac, with CRs alone.
+const OLD_MAC: &[u8] = b"[[route]]\rcode = \"0\"\rtrunk = 1\r---\rline,state,ms\r7,M,500\r";
+
+// A deck whose cut is nearly one, and other text lines that are, or are not.
+const NEARLY_CUT: &[u8] =
+    b"\xEF\xBB\xBF--\nplan = 10\n - --,\n---;;\n\xE2\x80\x94\n-\n--- # cut\n\"---\"\t,\nline,state,ms\n";
+
+const NEARLY_CUT_TOLD: &[u8] =
+    b"deck:1:1: this line is nearly ---; three hyphens have to stand alone, and LF or CR LF after them: ???--
+deck:3:1: this line is nearly ---; three hyphens have to stand alone, and LF or CR LF after them:  - --,
+deck:4:1: this line is nearly ---; three hyphens have to stand alone, and LF or CR LF after them: ---;;
+deck:5:1: this line is nearly ---; three hyphens have to stand alone, and LF or CR LF after them: ???
+deck:8:1: this line is nearly ---; three hyphens have to stand alone, and LF or CR LF after them: \"---\"?,
+";
+
 const USAGE: &[u8] = b"mfcheck: usage: mfcheck [--name NAME] [--all]\n";
 
 // The words after the program's name, the deck, the status, and what stands on standard output and error.
@@ -229,8 +272,43 @@ const CASES: &[(&[&str], &[u8], u8, &[u8], &[u8])] = &[
         &[],
         b"plan = 10\n--- \nline,state,ms\n7,M,500\n",
         1,
-        b"",
+        b"deck:2:1: this line is nearly ---; three hyphens have to stand alone, and LF or CR LF after them: --- \n",
         b"mfcheck: the deck has no line ---\n",
+    ),
+    (
+        &[],
+        NEARLY_CUT,
+        1,
+        NEARLY_CUT_TOLD,
+        b"mfcheck: the deck has no line ---\n",
+    ),
+    (
+        &[],
+        OLD_MAC,
+        1,
+        b"deck:4:1: this line is nearly ---; three hyphens have to stand alone, and LF or CR LF after them: ---\n",
+        b"mfcheck: the deck has no line ---\n",
+    ),
+    (
+        &[],
+        SEMICOLONS,
+        1,
+        SEMICOLONS_TOLD,
+        b"mfcheck: loop rows: the header is not line,state,ms\n",
+    ),
+    (
+        &[],
+        TABS,
+        1,
+        TABS_TOLD,
+        b"mfcheck: loop rows: record 2 has not three fields\n",
+    ),
+    (
+        &[],
+        LONE_CRS,
+        1,
+        LONE_CRS_TOLD,
+        b"mfcheck: loop rows: record 1 has a wrong state\n",
     ),
     (
         &[],

@@ -1,5 +1,8 @@
 mod Tellings
+mod TextLines
 mod TakenLines
+mod SeparatedRecords
+mod NearCuts
 mod RowActivities
 mod Walking
 mod Placing

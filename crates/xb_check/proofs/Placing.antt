@@ -1,10 +1,10 @@
 -- Where the bytes of a text stand in its text lines.
 use Rattle.std.proofs.Common.{◌≡◌, ◌∙◌, ℕ, ◌+◌, ◌-◌, ◌≤◌, cond, Bool, true, false, List, [], ◌∷◌, ◌++◌, length, take, drop, min, refl, sym, ap, arith}
-use Rattle.std.specs.Prelude.{◌==◌}
 use Rattle.std.specs.List.{slice_range}
 use Rattle.std.proofs.lemmas.List.{drop-take, length-take, take-append-drop, take-take, take_min}
 use Rattle.xb_check.specs.declared.place.Place.{Place}
-use Rattle.xb_check.specs.Places.{first_place, next_place, place_after, place_of}
+use Rattle.xb_check.specs.Places.{first_place, is_same_end, next_place, place_after, place_of}
+use Rattle.xb_check.specs.TextLines.{ends_line}
 
 -- the place after bytes and others
 pub place_after-append : (p : Place) (xs ys : List ℕ) → place_after p (xs ++ ys) ≡ place_after (place_after p xs) ys
@@ -12,13 +12,15 @@ unfolding place_after
 place_after-append p [] ys = refl
 place_after-append p (x ∷ xs) ys = place_after-append (next_place p x) xs ys
 
-more_lines : (b : Bool) (n : ℕ) → cond b (n + 1) n ≤ n + 1
-more_lines true n = omega arith
-more_lines false n = omega arith
+more_lines : (same ends : Bool) (n : ℕ) → cond same n (cond ends (n + 1) n) ≤ n + 1
+more_lines true ends n = omega arith
+more_lines false true n = omega arith
+more_lines false false n = omega arith
 
-more_columns : (b : Bool) (n : ℕ) → cond b 1 (n + 1) ≤ n + 1
-more_columns true n = omega arith
-more_columns false n = omega arith
+more_columns : (same ends : Bool) (n : ℕ) → cond same n (cond ends 1 (n + 1)) ≤ n + 1
+more_columns true ends n = omega arith
+more_columns false true n = omega arith
+more_columns false false n = omega arith
 
 -- no more text lines than bytes
 pub few_lines : (p : Place) (xs : List ℕ) → (place_after p xs).line ≤ p.line + length xs
@@ -26,14 +28,14 @@ unfolding place_after
 few_lines p [] = omega arith
 few_lines p (x ∷ xs) =
     let more = few_lines (next_place p x) xs in
-    let one = more_lines (x == 10) p.line in omega (arith, more, one)
+    let one = more_lines (is_same_end p x) (ends_line x) p.line in omega (arith, more, one)
 
 pub few_columns : (p : Place) (xs : List ℕ) → (place_after p xs).column ≤ p.column + length xs
 unfolding place_after
 few_columns p [] = omega arith
 few_columns p (x ∷ xs) =
     let more = few_columns (next_place p x) xs in
-    let one = more_columns (x == 10) p.column in omega (arith, more, one)
+    let one = more_columns (is_same_end p x) (ends_line x) p.column in omega (arith, more, one)
 
 -- the place after more bytes of a text
 pub place_on : (text : List ℕ) (a b : ℕ) → a ≤ b → place_after (place_of text a) (slice_range text a b) ≡ place_of text b

@@ -1,6 +1,6 @@
 -- That what is told one after the other is what is told of the whole list.
-use Rattle.std.proofs.Common.{◌≡◌, ◌≢◌, ◌∙◌, ℕ, ◌+◌, ◌-◌, ◌<◌, ◌≤◌, min, cond, Bool, true, false, List, [], ◌∷◌, ◌++◌, length, get_or, set, refl, sym, ap, append_assoc, append-nil, subst, ⊎_elim, arith}
-use Rattle.std.specs.Prelude.{◌==◌, ◌||◌, nat_lt, if◌then◌else◌, count_by}
+use Rattle.std.proofs.Common.{◌≡◌, ◌∙◌, ℕ, ◌+◌, ◌-◌, ◌<◌, ◌≤◌, min, cond, Bool, true, List, [], ◌∷◌, ◌++◌, length, get_or, set, refl, sym, ap, append_assoc, append-nil, subst, ⊎_elim, arith}
+use Rattle.std.specs.Prelude.{◌==◌, ◌||◌, nat_lt, if◌then◌else◌}
 use Rattle.std.specs.List.{flat_map}
 use Rattle.std.proofs.Math.Path.{fun_ext}
 use Rattle.std.proofs.lemmas.Bool.{cases_eq, cases_lt, cond-true, cond-false, eq-eqb, ne_eqb, lt-ltb, le-ltb}
@@ -10,7 +10,7 @@ use Rattle.xb_check.specs.declared.finding.What.{What}
 use Rattle.xb_check.specs.declared.finding.What.TheVariants as what
 use Rattle.xb_check.specs.Findings.{Found}
 use Rattle.xb_check.specs.Judged.{judged}
-use Rattle.xb_check.specs.Records.{faults_of_deck}
+use Rattle.xb_check.specs.DeckFaults.{faults_of_deck}
 use Rattle.xb_check.specs.Reports.{found_text, more_text, report_text, told_of, told_text}
 use Rattle.xb_check.specs.Tallies.{Tallied, nothing_told, untold_of, with_all, with_one}
 use Rattle.xb_check.specs.TallyTexts.{more_of, text_of_tally}
@@ -23,15 +23,18 @@ with_all-append tally (x ∷ xs) ys = with_all-append (with_one x tally) xs ys
 
 -- the counts are those of what was found
 pub record Counts (tally : Tallied) (found : List Found) : Type 0 where
-  pub many : length tally.counts ≡ 15
-  pub each : (kind : ℕ) → kind < 15 → get_or tally.counts kind 0 ≡ min (how_many kind found) 1000000000
+  pub many : length tally.counts ≡ 18
+  pub each : (kind : ℕ) → kind < 18 → get_or tally.counts kind 0 ≡ min (how_many kind found) 1000000000
 
-below_kinds : (wrong : What) → kind_of wrong < 15
+below_kinds : (wrong : What) → kind_of wrong < 18
 below_kinds what.Table = omega arith
 below_kinds what.TopKey = omega arith
 below_kinds what.LimitKey = omega arith
 below_kinds what.RouteKey = omega arith
 below_kinds (what.Routes f) = omega arith
+below_kinds what.NearCut = omega arith
+below_kinds what.Semicolons = omega arith
+below_kinds what.Tabs = omega arith
 below_kinds what.Header = omega arith
 below_kinds what.Fields = omega arith
 below_kinds what.Line = omega arith
@@ -88,7 +91,7 @@ module _ (tally : Tallied) (found : List Found) (f : Found) (counts : Counts tal
       ap (λ k. get_or counts' k 0) is ∙ at_same
       ∙ sym (ap (λ k. min (how_many k (found ++ f ∷ [])) 1000000000) is)
 
-  at_other : (kind : ℕ) → kind < 15 → (kind ≡ kind' → ⊥)
+  at_other : (kind : ℕ) → kind < 18 → (kind ≡ kind' → ⊥)
       → get_or counts' kind 0 ≡ min (how_many kind (found ++ f ∷ [])) 1000000000
   at_other kind below other =
       get_or-set_other tally.counts kind' kind (min (count' + 1) 1000000000) 0 other ∙ counts.each kind below
@@ -128,7 +131,7 @@ same_all tally (f ∷ later) = same_all (with_one f tally) later
 none_counted : (all : Bool) → Counts (nothing_told all) []
 none_counted all = record {
   many = refl;
-  each = λ kind below. get_or-replicate 15 kind 0 0 below;
+  each = λ kind below. get_or-replicate 18 kind 0 0 below;
 }
 
 -- what is told of a list

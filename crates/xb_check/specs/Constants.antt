@@ -10,6 +10,6 @@ pub record AreConstants : Type 0 where
   pub most_shown_bytes : MOST_SHOWN_BYTES ≡ 60
   pub told_of_a_kind : TOLD_OF_A_KIND ≡ 10
   pub most_counted : MOST_COUNTED ≡ 1_000_000_000
-  pub kinds : KINDS ≡ 15
+  pub kinds : KINDS ≡ 18
   pub least_breaks : LEAST_BREAKS ≡ 10
   pub bounce_ms : BOUNCE_MS ≡ 5

@@ -1,13 +1,15 @@
 -- Text lines of a deck of which more may be said once the whole deck is known.
-use Rattle.std.specs.Prelude.{ℕ, ◌+◌, ◌==◌, List, [], ◌∷◌, ◌++◌, Bool, true, false, if◌then◌else◌, slice_index_or}
-use Rattle.xb_deck.specs.Deck.{is_cut}
-use Rattle.xb_text.specs.Pieces.{pieces}
+use Rattle.std.specs.Prelude.{ℕ, ◌+◌, ◌==◌, List, [], ◌∷◌, ◌++◌, Bool, true, false, if◌then◌else◌, Option, Some, None, slice_index_or}
+use Rattle.xb_deck.specs.Deck.{Parts, deck_parts}
 use Rattle.xb_check.specs.declared.kept.KeptLine.{KeptLine}
 use Rattle.xb_check.specs.declared.kept.LineKind.{LineKind}
 use Rattle.xb_check.specs.declared.kept.LineKind.TheVariants as kind
 use Rattle.xb_check.specs.declared.records.Record.{Record}
 use Rattle.xb_check.specs.declared.records.Record.TheVariants as read
-use Rattle.xb_check.specs.Records.{is_empty, record_of_line}
+use Rattle.xb_check.specs.DeckFaults.{is_empty}
+use Rattle.xb_check.specs.Places.{line_after_cut}
+use Rattle.xb_check.specs.Separators.{record_in}
+use Rattle.xb_check.specs.TextLines.{text_lines}
 
 -- a text line with its number, and what it is
 pub record Kept : Type 0 where
@@ -49,7 +51,7 @@ first_at seen n text other = []
 unfoldable pub firsts_of_records : WhichSeen → ℕ → List (List ℕ) → List Kept
 firsts_of_records seen n [] = []
 firsts_of_records seen n (text ∷ later) =
-    first_at seen n text (record_of_line text) ++ firsts_of_records (seen_after seen (record_of_line text)) (n + 1) later
+    first_at seen n text (record_in text) ++ firsts_of_records (seen_after seen (record_in text)) (n + 1) later
 
 -- of the text lines from n on, before the header, the header and the first record of each line
 unfoldable pub kept_of_lines : ℕ → List (List ℕ) → List Kept
@@ -58,12 +60,11 @@ kept_of_lines n (text ∷ later) =
     if is_empty text then kept_of_lines (n + 1) later
     else (kept_at n text kind.Header ∷ []) ++ firsts_of_records none_seen (n + 1) later
 
--- the same from a text line on before the line that cuts
-unfoldable pub kept_of_table : ℕ → List (List ℕ) → List Kept
-kept_of_table n [] = []
-kept_of_table n (text ∷ later) =
-    if is_cut text then kept_of_lines (n + 1) later else kept_of_table (n + 1) later
+-- the same of the rows, if a line cuts the deck
+abbrev pub kept_of_rows : List ℕ → Option Parts → List Kept
+kept_of_rows deck None = []
+kept_of_rows deck (Some parts) = kept_of_lines (line_after_cut deck parts) (text_lines parts.rows)
 
 -- the header of a deck, and the first record of each line of the office
 abbrev pub kept_of_deck : List ℕ → List Kept
-kept_of_deck deck = kept_of_table 1 (pieces 10 deck)
+kept_of_deck deck = kept_of_rows deck (deck_parts deck)

@@ -3,11 +3,15 @@ pub mod Keys
 pub mod Findings
 pub mod Told
 pub mod Tallies
+pub mod TextLines
 pub mod Table
 pub mod Spots
 pub mod Walks
 pub mod Places
 pub mod Records
+pub mod Separators
+pub mod DeckFaults
+pub mod NearCuts
 pub mod Sites
 pub mod Alone
 pub mod Judged

@@ -1,8 +1,7 @@
 -- Where the spots of a route table stand in the text lines of a deck, and what is told of them.
-use Rattle.std.specs.Prelude.{ℕ, ◌≡◌, ◌≤◌, ◌+◌, ◌-◌, ◌==◌, List, [], ◌∷◌, ◌++◌, drop, length, take, if◌then◌else◌, Option, Some, None}
+use Rattle.std.specs.Prelude.{ℕ, ◌≡◌, ◌≤◌, ◌+◌, ◌-◌, ◌==◌, ◌&&◌, List, [], ◌∷◌, drop, length, take, Bool, false, if◌then◌else◌, Option, Some, None}
 use Rattle.std.specs.List.{flat_map}
 use Rattle.xb_deck.specs.Deck.{Parts, deck_parts}
-use Rattle.xb_text.specs.Pieces.{pieces}
 use Rattle.xb_check.specs.declared.finding.What.{What}
 use Rattle.xb_check.specs.declared.key.Key.{Key}
 use Rattle.xb_check.specs.declared.place.Place.{Place}
@@ -15,16 +14,22 @@ use Rattle.xb_check.specs.declared.table.Section.TheVariants as section
 use Rattle.xb_check.specs.Findings.{Found}
 use Rattle.xb_check.specs.Spots.{spots_of}
 use Rattle.xb_check.specs.Table.{unnamed, with_meant, wrong_heading}
+use Rattle.xb_check.specs.TextLines.{ends_line, text_lines}
 
 -- the first byte of the first text line
 abbrev pub first_place : Place
-first_place = record { line = 1; column = 1 }
+first_place = record { line = 1; column = 1; returned = false }
+
+-- whether a byte is an LF that ends a text line together with the CR before it
+abbrev pub is_same_end : Place → ℕ → Bool
+is_same_end place byte = place.returned && (byte == 10)
 
 -- the place after a byte
 abbrev pub next_place : Place → ℕ → Place
 next_place place byte = record {
-  line = if byte == 10 then place.line + 1 else place.line;
-  column = if byte == 10 then 1 else place.column + 1;
+  line = if is_same_end place byte then place.line else if ends_line byte then place.line + 1 else place.line;
+  column = if is_same_end place byte then place.column else if ends_line byte then 1 else place.column + 1;
+  returned = byte == 13;
 }
 
 -- the place after bytes
@@ -42,7 +47,7 @@ first_line (line ∷ lines) = line
 
 -- the text line in which a place stands, which so many bytes stand before
 abbrev pub line_at : List ℕ → ℕ → Place → List ℕ
-line_at text at place = first_line (pieces 10 (drop (at - (place.column - 1)) text))
+line_at text at place = first_line (text_lines (drop (at - (place.column - 1)) text))
 
 -- a place of a text was reached
 pub record IsReached (text : List ℕ) (reached : Reached) : Type 0 where
@@ -56,6 +61,10 @@ table_by deck (Some parts) = parts.table
 
 abbrev pub table_of : List ℕ → List ℕ
 table_of deck = table_by deck (deck_parts deck)
+
+-- the number of the text line after the one that cuts a deck into these parts
+abbrev pub line_after_cut : List ℕ → Parts → ℕ
+line_after_cut deck parts = (place_of deck (length parts.table)).line + 1
 
 -- what is wrong at a spot, with the key that may have been meant
 abbrev pub wrong_key : Section → Option Key → Option (What × Option Key)

@@ -1,22 +1,17 @@
--- What is wrong in the text lines of a deck, each read by itself.
-use Rattle.std.specs.Prelude.{ℕ, ◌+◌, ◌-◌, ◌==◌, ◌||◌, ◌&&◌, nat_lt, List, [], ◌∷◌, ◌++◌, codes, length, Bool, false, if◌then◌else◌, bytes_eq, Option, Some, None, Result, Ok, Err, unwrap_or, slice_index_or}
-use Rattle.xb_deck.specs.declared.deck.TheConstants.{MOST_DECK_BYTES}
-use Rattle.xb_deck.specs.Deck.{is_cut}
+-- What is wrong with a text line of the rows, read by itself.
+use Rattle.std.specs.Prelude.{ℕ, ◌+◌, ◌-◌, ◌==◌, ◌||◌, ◌&&◌, nat_lt, List, [], ◌∷◌, ◌++◌, codes, drop, length, position, Bool, false, if◌then◌else◌, Option, Some, None, Result, Ok, Err, unwrap_or, slice_index_or}
 use Rattle.xb_model.specs.declared.fault.RowFault.{RowFault}
 use Rattle.xb_model.specs.declared.fault.RowFault.TheVariants as fault
 use Rattle.xb_model.specs.Rows.{LoopRow}
 use Rattle.xb_model.specs.declared.row.Contact.{Contact}
 use Rattle.xb_model.specs.declared.row.Contact.TheVariants.{Make, Brk, Close}
 use Rattle.xb_rows.specs.RowTexts.{rest_of_text}
-use Rattle.xb_text.specs.Pieces.{cut_at, pieces}
 use Rattle.xb_check.specs.declared.key.Key.{Key}
 use Rattle.xb_check.specs.declared.finding.What.{What}
 use Rattle.xb_check.specs.declared.finding.What.TheVariants as what
 use Rattle.xb_check.specs.declared.records.Record.{Record}
 use Rattle.xb_check.specs.declared.records.Record.TheVariants as read
 use Rattle.xb_check.specs.Findings.{Found}
-use Rattle.xb_check.specs.Places.{faults_of_table}
-use Rattle.xb_check.specs.Table.{with_meant}
 
 -- a record that has this fault
 abbrev pub record_of_fault : RowFault → Record
@@ -99,31 +94,38 @@ abbrev pub what_of_record : Closed → Record → Option What
 what_of_record closed (read.Row row) = what_of_row (closed row.line) row
 what_of_record closed other = wrong_in other
 
--- what follows the first comma of a text
-abbrev pub after_cut : Option (List ℕ × List ℕ) → List ℕ
-after_cut None = []
-after_cut (Some parts) = parts.1
+-- what stands between fields: a comma, or a semicolon or a tab in its place
+abbrev pub is_separator : ℕ → Bool
+is_separator byte = (byte == 44) || (byte == 59) || (byte == 9)
 
-abbrev pub after_comma : List ℕ → List ℕ
-after_comma text = after_cut (cut_at 44 text)
+-- what follows the first of these in a text
+abbrev pub after_place : List ℕ → Option ℕ → List ℕ
+after_place text None = []
+after_place text (Some n) = drop (n + 1) text
 
--- a text line from the field on that is wrong
+abbrev pub after_separator : List ℕ → List ℕ
+after_separator text = after_place text (position is_separator text)
+
+-- a text line from the field on that is wrong, before which none is, so that no field before it has such a byte
 abbrev pub from_field : What → List ℕ → List ℕ
 from_field what.Table line = line
 from_field what.TopKey line = line
 from_field what.LimitKey line = line
 from_field what.RouteKey line = line
 from_field (what.Routes f) line = line
+from_field what.NearCut line = line
+from_field what.Semicolons line = line
+from_field what.Tabs line = line
 from_field what.Header line = line
 from_field what.Fields line = line
 from_field what.Line line = line
-from_field what.State line = after_comma line
-from_field what.Ms line = after_comma (after_comma line)
+from_field what.State line = after_separator line
+from_field what.Ms line = after_separator (after_separator line)
 from_field (what.Ignored n) line = line
-from_field what.Short line = after_comma (after_comma line)
+from_field what.Short line = after_separator (after_separator line)
 from_field what.Quiet line = line
-from_field what.Seconds line = after_comma (after_comma line)
-from_field what.Microseconds line = after_comma (after_comma line)
+from_field what.Seconds line = after_separator (after_separator line)
+from_field what.Microseconds line = after_separator (after_separator line)
 
 -- the byte of a text line, from 1, at which what is wrong begins
 abbrev pub column_of : What → List ℕ → ℕ
@@ -134,34 +136,3 @@ abbrev pub found_at : ℕ → List ℕ → Option (What × Option Key) → List 
 found_at n line None = []
 found_at n line (Some wrong) =
     record { line = n; column = column_of wrong.0 line; what = wrong.0; meant = wrong.1; text = line } ∷ []
-
--- a text line that is passed over before the header, since nothing is written in it
-abbrev pub is_empty : List ℕ → Bool
-is_empty line = bytes_eq line [] || bytes_eq line (codes "\r")
-
--- the text lines from n on, which are records, each with what is wrong or suspicious; these lines of the office
--- were closed before
-unfoldable pub faults_of_records : Closed → ℕ → List (List ℕ) → List Found
-faults_of_records closed n [] = []
-faults_of_records closed n (line ∷ lines) =
-    found_at n line (with_meant (what_of_record closed (record_of_line line)) None)
-    ++ faults_of_records (closed_after closed n (record_of_line line)) (n + 1) lines
-
--- the text lines from n on, before the header
-unfoldable pub faults_of_lines : ℕ → List (List ℕ) → List Found
-faults_of_lines n [] = []
-faults_of_lines n (line ∷ lines) =
-    if is_empty line then faults_of_lines (n + 1) lines
-    else found_at n line (with_meant (wrong_header line) None) ++ faults_of_records no_closes (n + 1) lines
-
--- the text lines from n on, where none before them is the line that cuts
-unfoldable pub faults_after_table : ℕ → List (List ℕ) → List Found
-faults_after_table n [] = []
-faults_after_table n (line ∷ lines) =
-    if is_cut line then faults_of_lines (n + 1) lines else faults_after_table (n + 1) lines
-
--- what is wrong in a deck that is not too long: in its route table, and in each text line of its rows, read by itself
-abbrev pub faults_of_deck : List ℕ → List Found
-faults_of_deck deck =
-    if nat_lt MOST_DECK_BYTES (length deck) then []
-    else faults_of_table deck ++ faults_after_table 1 (pieces 10 deck)

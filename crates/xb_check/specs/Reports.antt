@@ -9,12 +9,12 @@ use Rattle.xb_text.specs.Writing.{AppendsBeginning}
 use Rattle.xb_check.specs.declared.fault.CheckFault.{CheckFault}
 use Rattle.xb_check.specs.declared.fault.CheckFault.TheVariants as fault
 use Rattle.xb_check.specs.declared.reporting.TheConstants.{MOST_SHOWN_BYTES}
+use Rattle.xb_check.specs.DeckFaults.{faults_of_deck}
 use Rattle.xb_check.specs.Doubts.{doubts_of}
 use Rattle.xb_check.specs.declared.finding.What.{What}
 use Rattle.xb_check.specs.Findings.{Found, kind_text, note_text, what_text}
 use Rattle.xb_check.specs.Judged.{IsVerdict, judged}
-use Rattle.xb_check.specs.Records.{faults_of_deck}
-use Rattle.xb_check.specs.Sites.{fault_of_table, told_of_table}
+use Rattle.xb_check.specs.Sites.{told_of_fault}
 use Rattle.xb_check.specs.Told.{each_kind, kind_of, told, untold}
 use Rattle.xb_deck.specs.Contents.{Contents}
 
@@ -37,11 +37,11 @@ found_text name found =
     place_text name found ++ note_text found ++ codes ": " ++ shown found.text ++ codes "\n"
 
 -- what is told of a text after its text lines, by what was judged of it: what is suspicious in a deck that is taken, or
--- the text line of the fault of a table
+-- the text lines that its fault is about
 abbrev pub told_of : Result (Option Contents) DeckFault → List ℕ → List Found
 told_of (Ok None) deck = []
 told_of (Ok (Some contents)) deck = doubts_of contents deck
-told_of (Err f) deck = told_of_table (fault_of_table f) deck
+told_of (Err f) deck = told_of_fault f deck
 
 -- how many more there are, in words
 abbrev pub count_words : ℕ → List ℕ

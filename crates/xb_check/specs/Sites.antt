@@ -1,4 +1,4 @@
--- Which spot of a route table its fault is about.
+-- Which place of a text its fault is about.
 use Rattle.std.specs.Prelude.{ℕ, ◌+◌, ◌==◌, ◌&&◌, List, [], ◌∷◌, Bool, true, false, if◌then◌else◌, nat_lt, is_some, Option, Some, None}
 use Rattle.xb_deck.specs.declared.fault.DeckFault.{DeckFault}
 use Rattle.xb_deck.specs.declared.fault.DeckFault.TheVariants as deck_fault
@@ -17,8 +17,10 @@ use Rattle.xb_check.specs.declared.table.Section.{Section}
 use Rattle.xb_check.specs.declared.table.Section.TheVariants as section
 use Rattle.xb_check.specs.Findings.{Found}
 use Rattle.xb_check.specs.Keys.{key_named, key_text}
+use Rattle.xb_check.specs.NearCuts.{near_cuts}
 use Rattle.xb_check.specs.Places.{found_there, table_of}
 use Rattle.xb_check.specs.Spots.{spots_of}
+use Rattle.xb_check.specs.TextLines.{text_lines}
 
 -- the limits that a rule of limits is about
 abbrev pub limits_about : LimitFault → List Key
@@ -114,16 +116,15 @@ abbrev pub listed : List ℕ → RouteFault → Option Spot → List Found
 listed deck f None = []
 listed deck f (Some spot) = found_there deck spot.at (what.Routes f, None) ∷ []
 
--- the fault of the route table, if it is by one that `mfbank` refuses a deck
-abbrev pub fault_of_table : DeckFault → Option RouteFault
-fault_of_table deck_fault.Read = None
-fault_of_table deck_fault.TooLong = None
-fault_of_table deck_fault.NoCut = None
-fault_of_table (deck_fault.Routes f) = Some f
-fault_of_table (deck_fault.Rows f) = None
-fault_of_table deck_fault.NoMemory = None
-
 -- what is told of a fault of the route table of a deck: the first spot that it is about
-abbrev pub told_of_table : Option RouteFault → List ℕ → List Found
-told_of_table None deck = []
-told_of_table (Some f) deck = listed deck f (first_about f 0 (spots_of (table_of deck)))
+abbrev pub told_of_table : RouteFault → List ℕ → List Found
+told_of_table f deck = listed deck f (first_about f 0 (spots_of (table_of deck)))
+
+-- what is told of the fault by which a text is refused: where no line cuts it, the text lines that are nearly such a line
+abbrev pub told_of_fault : DeckFault → List ℕ → List Found
+told_of_fault deck_fault.Read deck = []
+told_of_fault deck_fault.TooLong deck = []
+told_of_fault deck_fault.NoCut deck = near_cuts 1 (text_lines deck)
+told_of_fault (deck_fault.Routes f) deck = told_of_table f deck
+told_of_fault (deck_fault.Rows f) deck = []
+told_of_fault deck_fault.NoMemory deck = []

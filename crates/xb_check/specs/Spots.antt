@@ -1,5 +1,5 @@
 -- Where the keys and the headings of a route table stand, as TOML reads them.
-use Rattle.std.specs.Prelude.{ℕ, zero, suc, ◌+◌, ◌-◌, ◌*◌, ◌==◌, ◌||◌, ◌&&◌, not, nat_lt, List, [], ◌∷◌, ◌++◌, codes, drop, length, map, slice_get, slice_index, take, Bool, false, true, if◌then◌else◌, bytes_eq, Option, Some, None, option_map, option_and_then}
+use Rattle.std.specs.Prelude.{ℕ, zero, suc, ◌-◌, ◌*◌, ◌==◌, ◌||◌, ◌&&◌, not, nat_lt, List, [], ◌∷◌, ◌++◌, codes, drop, length, map, slice_get, slice_index, take, Bool, false, true, if◌then◌else◌, bytes_eq, Option, Some, None, option_map, option_and_then}
 use Rattle.std.specs.List.{after_first}
 use Rattle.toml.specs.Parse.{after_byte, ends_line, header_key, key_equals}
 use Rattle.toml_parser.specs.Lexical.{Read, first, skip_blank, skip_ws}

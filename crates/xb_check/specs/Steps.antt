@@ -1,12 +1,13 @@
 -- How text lines are taken, one after the other.
 use Rattle.std.specs.Prelude.{ℕ, ◌≡◌, ◌+◌, List, ◌∷◌, ◌++◌, map}
-use Rattle.xb_check.specs.declared.lines.DeckPart.{DeckPart}
-use Rattle.xb_check.specs.declared.lines.DeckPart.TheVariants as part
 use Rattle.xb_check.specs.declared.lines.LinesRead.{LinesRead}
+use Rattle.xb_check.specs.declared.lines.RowsPart.{RowsPart}
+use Rattle.xb_check.specs.declared.lines.RowsPart.TheVariants as part
+use Rattle.xb_check.specs.DeckFaults.{faults_of_lines, faults_of_records}
 use Rattle.xb_check.specs.Findings.{Found}
-use Rattle.xb_check.specs.Kept.{Kept, firsts_of_records, kept_line_of, kept_of_lines, kept_of_table, seen_of}
+use Rattle.xb_check.specs.Kept.{Kept, firsts_of_records, kept_line_of, kept_of_lines, seen_of}
 use Rattle.xb_check.specs.Tallies.{Tallied, tallied, with_all}
-use Rattle.xb_check.specs.Records.{closed_of, faults_after_table, faults_of_lines, faults_of_records}
+use Rattle.xb_check.specs.Records.{closed_of}
 
 -- what is told of text lines, and which of them are kept
 pub record Lines : Type 0 where
@@ -16,20 +17,18 @@ pub record Lines : Type 0 where
 abbrev pub lines_of : LinesRead → Lines
 lines_of lines = record { tally = tallied lines.tally; kept = map kept_line_of lines.kept.items }
 
--- what is wrong in the text lines from n on, of a part of a deck
-abbrev pub faults_after : DeckPart → ℕ → List (List ℕ) → List Found
-faults_after part.Table n lines = faults_after_table n lines
+-- what is wrong in the text lines from n on, of a part of the rows
+abbrev pub faults_after : RowsPart → ℕ → List (List ℕ) → List Found
 faults_after part.Header n lines = faults_of_lines n lines
-faults_after (part.Records closes seen) n lines = faults_of_records (closed_of closes) n lines
+faults_after (part.Records closes seen told) n lines = faults_of_records (closed_of closes) told n lines
 
 -- those of them that are kept
-abbrev pub kept_after : DeckPart → ℕ → List (List ℕ) → List Kept
-kept_after part.Table n lines = kept_of_table n lines
+abbrev pub kept_after : RowsPart → ℕ → List (List ℕ) → List Kept
 kept_after part.Header n lines = kept_of_lines n lines
-kept_after (part.Records closes seen) n lines = firsts_of_records (seen_of seen) n lines
+kept_after (part.Records closes seen told) n lines = firsts_of_records (seen_of seen) n lines
 
 -- text line n of a part is taken, whatever lines come after it
-abbrev pub TakesLine : DeckPart → ℕ → List ℕ → Lines → Lines → DeckPart → Type 0
+abbrev pub TakesLine : RowsPart → ℕ → List ℕ → Lines → Lines → RowsPart → Type 0
 TakesLine old n text before after new = (later : List (List ℕ))
     → (with_all before.tally (faults_after old n (text ∷ later)) ≡ with_all after.tally (faults_after new (n + 1) later))
     × (before.kept ++ kept_after old n (text ∷ later) ≡ after.kept ++ kept_after new (n + 1) later)

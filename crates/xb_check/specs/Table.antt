@@ -1,10 +1,8 @@
 -- Which text lines of a route table have a key or a table that no rule names, each read by itself.
-use Rattle.std.specs.Prelude.{ℕ, nat_eq, drop, length, ◌==◌, ◌||◌, ◌&&◌, not, List, [], ◌∷◌, codes, Bool, true, false, if◌then◌else◌, bytes_eq, Option, Some, None, is_some}
-use Rattle.std.specs.List.{filter, list_all, starts_with}
+use Rattle.std.specs.Prelude.{ℕ, nat_eq, drop, ◌==◌, ◌||◌, not, List, [], ◌∷◌, Bool, false, if◌then◌else◌, Option, Some, None}
+use Rattle.std.specs.List.{filter, starts_with}
 use Rattle.std.specs.Char.{is_ascii_alphanumeric}
-use Rattle.xb_text.specs.Pieces.{cut_at}
 use Rattle.xb_check.specs.declared.key.Key.{Key}
-use Rattle.xb_check.specs.Keys.{key_named, keys_of, nearest}
 use Rattle.xb_check.specs.declared.finding.What.{What}
 use Rattle.xb_check.specs.declared.finding.What.TheVariants as what
 use Rattle.xb_check.specs.declared.table.Section.{Section}

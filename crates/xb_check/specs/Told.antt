@@ -13,22 +13,25 @@ kind_of what.TopKey = 1
 kind_of what.LimitKey = 2
 kind_of what.RouteKey = 3
 kind_of (what.Routes f) = 4
-kind_of what.Header = 5
-kind_of what.Fields = 6
-kind_of what.Line = 7
-kind_of what.State = 8
-kind_of what.Ms = 9
-kind_of (what.Ignored n) = 10
-kind_of what.Short = 11
-kind_of what.Quiet = 12
-kind_of what.Seconds = 13
-kind_of what.Microseconds = 14
+kind_of what.NearCut = 5
+kind_of what.Semicolons = 6
+kind_of what.Tabs = 7
+kind_of what.Header = 8
+kind_of what.Fields = 9
+kind_of what.Line = 10
+kind_of what.State = 11
+kind_of what.Ms = 12
+kind_of (what.Ignored n) = 13
+kind_of what.Short = 14
+kind_of what.Quiet = 15
+kind_of what.Seconds = 16
+kind_of what.Microseconds = 17
 
 -- each kind, by one of it
 abbrev pub each_kind : List What
-each_kind = what.Table ∷ what.TopKey ∷ what.LimitKey ∷ what.RouteKey ∷ what.Routes fault.NotToml ∷ what.Header
-    ∷ what.Fields ∷ what.Line ∷ what.State ∷ what.Ms ∷ what.Ignored 0 ∷ what.Short ∷ what.Quiet ∷ what.Seconds
-    ∷ what.Microseconds ∷ []
+each_kind = what.Table ∷ what.TopKey ∷ what.LimitKey ∷ what.RouteKey ∷ what.Routes fault.NotToml ∷ what.NearCut
+    ∷ what.Semicolons ∷ what.Tabs ∷ what.Header ∷ what.Fields ∷ what.Line ∷ what.State ∷ what.Ms
+    ∷ what.Ignored 0 ∷ what.Short ∷ what.Quiet ∷ what.Seconds ∷ what.Microseconds ∷ []
 
 abbrev pub is_of_kind : ℕ → Found → Bool
 is_of_kind kind found = kind_of found.what == kind

@@ -3,11 +3,13 @@ ghost use Rattle.std.specs.Prelude.{◌≡◌, IfOk};
 ghost use Rattle.std.specs.List.{list_any};
 ghost use Rattle.xb_check.specs.Alone.{is_bare_key, is_of_deck, is_of_table, is_table};
 ghost use Rattle.xb_check.specs.Table.{squeezed};
-ghost use Rattle.xb_text.specs.Pieces.{cut_at, pieces};
+ghost use Rattle.xb_check.specs.TextLines.{text_lines};
+ghost use Rattle.xb_text.specs.Pieces.{cut_at};
 
 use crate::table::{is_bare, is_heading, squeezed};
+use crate::text_lines::first_line;
 use std::alloc::{AllocError, Global};
-use xb_text::{cut_at, first_piece};
+use xb_text::cut_at;
 
 // Whether a text line is one that no table has.
 fn is_of_deck(line: &[u8]) -> bool
@@ -35,11 +37,11 @@ fn is_of_table(line: &[u8]) -> bool
 
 // Whether a text has a text line that no table has.
 fn has_line_of_deck(text: &[u8]) -> bool
-    ensures { result ≡ list_any is_of_deck (pieces 10 text.now) }
+    ensures { result ≡ list_any is_of_deck (text_lines text.now) }
 {
     let mut left = Some(text);
     while let Some(lines) = left {
-        let (line, later) = first_piece(b'\n', lines);
+        let (line, later) = first_line(lines);
         if is_of_deck(line) {
             return true;
         }
@@ -51,11 +53,11 @@ fn has_line_of_deck(text: &[u8]) -> bool
 // Whether a text has a text line of a table.
 fn has_line_of_table(alloc: Global, text: &[u8]) -> Result<bool, AllocError>
     ensures { IfOk result (λ has. has
-        ≡ list_any (λ line. is_of_table (squeezed line)) (pieces 10 text.now)) }
+        ≡ list_any (λ line. is_of_table (squeezed line)) (text_lines text.now)) }
 {
     let mut left = Some(text);
     while let Some(lines) = left {
-        let (line, later) = first_piece(b'\n', lines);
+        let (line, later) = first_line(lines);
         if is_of_table(&squeezed(alloc, line)?) {
             return Ok(true);
         }

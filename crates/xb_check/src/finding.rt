@@ -19,6 +19,12 @@ pub enum What {
     RouteKey,
     /// By this the route table is refused.
     Routes(RouteFault),
+    /// The deck has no line that cuts it, and this one may be meant.
+    NearCut,
+    /// The fields are separated by semicolons.
+    Semicolons,
+    /// The fields are separated by tabs.
+    Tabs,
     /// The first record is not the header, or there is none.
     Header,
     /// The record has not three fields.
@@ -131,6 +137,11 @@ impl What {
             }
             What::RouteKey => "no rule names this key; here are code, trunk, delete and prefix",
             What::Routes(fault) => route_words(fault),
+            What::NearCut => {
+                "this line is nearly ---; three hyphens have to stand alone, and LF or CR LF after them"
+            }
+            What::Semicolons => "the fields are separated by ; and not by ,",
+            What::Tabs => "the fields are separated by tabs and not by ,",
             What::Header => "the first record is not line,state,ms",
             What::Fields => "the record has not three fields",
             What::Line => "the line is not 0 to 9999",

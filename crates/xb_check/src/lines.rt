@@ -1,38 +1,38 @@
-// The text lines of a deck, each read once.
-ghost use Rattle.std.specs.Prelude.{◌≡◌, ℕ, ◌≤◌, ◌++◌, ◌∷◌, [], IfOk, OnOk, length, map};
+// The text lines of a deck's rows, each read once.
+ghost use Rattle.std.specs.Prelude.{◌≡◌, ◌+◌, ◌<◌, ◌≤◌, ◌^◌, ◌++◌, ◌∷◌, [], IfOk, OnOk, length, map};
 ghost use Rattle.xb_deck.specs.declared.deck.TheConstants.{MOST_DECK_BYTES};
-ghost use Rattle.xb_check.specs.declared.lines.DeckPart.TheVariants as part;
-ghost use Rattle.xb_check.specs.declared.records.Record.TheVariants as read;
+ghost use Rattle.xb_deck.specs.Deck.{deck_parts};
+ghost use Rattle.xb_check.specs.declared.lines.RowsPart.TheVariants as part;
+ghost use Rattle.xb_check.specs.DeckFaults.{faults_of_deck, faults_of_lines, faults_of_rows};
 ghost use Rattle.xb_check.specs.Findings.{found_of};
-ghost use Rattle.xb_check.specs.Kept.{first_at, kept_at, kept_line_of, kept_of_deck, seen_after, seen_of};
-ghost use Rattle.xb_check.specs.Records.{closed_after, closed_of, faults_of_deck, is_empty};
-ghost use Rattle.xb_check.specs.Steps.{Lines, TakesLine, lines_of};
+ghost use Rattle.xb_check.specs.Kept.{first_at, kept_at, kept_line_of, kept_of_deck, kept_of_lines, kept_of_rows, seen_after, seen_of};
 ghost use Rattle.xb_check.specs.Places.{faults_of_table};
+ghost use Rattle.xb_check.specs.Records.{closed_after, closed_of};
+ghost use Rattle.xb_check.specs.Steps.{TakesLine, lines_of};
 ghost use Rattle.xb_check.specs.Tallies.{nothing_told, tallied, with_all};
+ghost use Rattle.xb_check.specs.TextLines.{text_lines};
 
 use crate::closes::Closes;
 use crate::finding::Finding;
 use crate::kept::{KeptLine, LineKind, Seen};
-use crate::place::{push_spots, table_of};
-use crate::records::{
-    Record, push_found, record_of_line, what_of_record, without_key, wrong_header,
-};
+use crate::place::{place_at, push_spots, table_of};
+use crate::records::{Record, push_found, what_of_record, without_key, wrong_header};
+use crate::separators::{is_other, is_told, separated_record, separator_of_header, what_of_line};
 use crate::tally::Tally;
+use crate::text_lines::first_line;
 use crate::walk::spots_of;
 use std::alloc::{AllocError, Global};
-use xb_deck::is_cut;
+use xb_deck::Deck;
 use xb_model::Contact;
-use xb_text::first_piece;
 
-// The part of a deck in which a text line stands.
+// The part of a deck's rows in which a text line stands.
 #[derive(Drop)]
-pub(crate) enum DeckPart {
-    // The route table.
-    Table,
-    // Before the header of the rows.
+pub(crate) enum RowsPart {
+    // Before the header.
     Header,
-    // After it, where these lines of the office were closed, and these have a record.
-    Records(Closes, Seen),
+    // After it, where these lines of the office were closed, these have a record, and by what fields are separated was
+    // told, or not.
+    Records(Closes, Seen, bool),
 }
 
 /// What was found in the text lines of a deck.
@@ -42,13 +42,6 @@ pub(crate) struct LinesRead<'a> {
     pub(crate) tally: Tally<'a>,
     /// Those of which more may be said once the whole deck is known, in order.
     pub(crate) kept: Vec<KeptLine<'a>>,
-}
-
-/// Whether nothing is written in a text line.
-pub(crate) fn is_empty(line: &[u8]) -> bool
-    ensures { result ≡ is_empty line.now }
-{
-    line == b"".as_slice() || line == b"\r".as_slice()
 }
 
 // Keeps text line `n`, which is of this kind.
@@ -65,37 +58,25 @@ fn keep<'a>(
     Ok(())
 }
 
-// The part of a deck after a text line of the route table.
-fn after_table(text: &[u8]) -> DeckPart
-    ensures { (n : ℕ) → (lines : Lines) → TakesLine part.Table n text.now lines lines result }
-{
-    if is_cut(text) {
-        DeckPart::Header
-    } else {
-        DeckPart::Table
-    }
-}
-
 // Takes text line `n` before the header.
 fn take_before_header<'a>(
     alloc: Global,
     lines: &mut LinesRead<'a>,
     n: usize,
     text: &'a [u8],
-) -> Result<DeckPart, AllocError>
+) -> Result<RowsPart, AllocError>
     ensures { IfOk result (TakesLine part.Header n text.now (lines_of lines.old) (lines_of lines.new)) }
 {
-    if is_empty(text) {
-        return Ok(DeckPart::Header);
+    if text.is_empty() {
+        return Ok(RowsPart::Header);
     }
-    push_found(
-        &mut lines.tally,
-        n,
-        text,
-        without_key(wrong_header(alloc, text)?),
-    )?;
+    let separator = separator_of_header(alloc, text)?;
+    let header = wrong_header(alloc, text)?;
+    let wrong = what_of_line(false, separator, header);
+    push_found(&mut lines.tally, n, text, without_key(wrong))?;
     keep(&mut lines.kept, n, text, LineKind::Header)?;
-    Ok(DeckPart::Records(Closes::new(alloc)?, Seen::new(alloc)?))
+    let told = is_other(separator);
+    Ok(RowsPart::Records(Closes::new(alloc)?, Seen::new(alloc)?, told))
 }
 
 // Text line `n`, read so, closes the line of its record, where that is a close.
@@ -132,46 +113,90 @@ fn keep_first<'a>(
     Ok(())
 }
 
-// Takes text line `n` after the header.
+// Takes text line `n` after the header, and whether by what fields are separated was told after it.
 fn take_record<'a>(
+    alloc: Global,
     lines: &mut LinesRead<'a>,
     closes: &mut Closes,
     seen: &mut Seen,
+    told: bool,
     n: usize,
     text: &'a [u8],
-) -> Result<(), AllocError>
-    ensures { OnOk result (TakesLine (part.Records closes.old seen.old) n text.now
-        (lines_of lines.old) (lines_of lines.new) (part.Records closes.new seen.new)) }
+) -> Result<bool, AllocError>
+    ensures { IfOk result (λ after. TakesLine (part.Records closes.old seen.old told) n text.now
+        (lines_of lines.old) (lines_of lines.new) (part.Records closes.new seen.new after)) }
 {
-    let read = record_of_line(text);
-    push_found(
-        &mut lines.tally,
-        n,
-        text,
-        without_key(what_of_record(closes, &read)),
-    )?;
-    close_by(closes, n, &read);
-    keep_first(&mut lines.kept, seen, n, text, &read)?;
-    Ok(())
+    let read = separated_record(alloc, text)?;
+    let what = what_of_record(closes, &read.said);
+    let wrong = what_of_line(told, read.separator, what);
+    push_found(&mut lines.tally, n, text, without_key(wrong))?;
+    close_by(closes, n, &read.said);
+    keep_first(&mut lines.kept, seen, n, text, &read.said)?;
+    Ok(is_told(told, read.separator))
 }
 
 // Takes text line `n` of a part.
 fn take_line<'a>(
     alloc: Global,
     lines: &mut LinesRead<'a>,
-    part: DeckPart,
+    part: RowsPart,
     n: usize,
     text: &'a [u8],
-) -> Result<DeckPart, AllocError>
+) -> Result<RowsPart, AllocError>
     ensures { IfOk result (TakesLine part n text.now (lines_of lines.old) (lines_of lines.new)) }
 {
     match part {
-        DeckPart::Table => Ok(after_table(text)),
-        DeckPart::Header => take_before_header(alloc, lines, n, text),
-        DeckPart::Records(mut closes, mut seen) => {
-            take_record(lines, &mut closes, &mut seen, n, text)?;
-            Ok(DeckPart::Records(closes, seen))
+        RowsPart::Header => take_before_header(alloc, lines, n, text),
+        RowsPart::Records(mut closes, mut seen, told) => {
+            let after = take_record(alloc, lines, &mut closes, &mut seen, told, n, text)?;
+            Ok(RowsPart::Records(closes, seen, after))
         }
+    }
+}
+
+// Reads the text lines of rows, before which so many stand.
+fn read_rows<'a>(
+    alloc: Global,
+    lines: &mut LinesRead<'a>,
+    before: usize,
+    rows: &'a [u8],
+) -> Result<(), AllocError>
+    requires { before + length rows.now + 1 < 2 ^ 64 }
+    ensures found { OnOk result ((lines_of lines.new).tally
+        ≡ with_all (lines_of lines.old).tally (faults_of_lines (before + 1) (text_lines rows.now))) }
+    ensures kept { OnOk result ((lines_of lines.new).kept
+        ≡ (lines_of lines.old).kept ++ kept_of_lines (before + 1) (text_lines rows.now)) }
+{
+    let mut part = RowsPart::Header;
+    let mut n = before;
+    let mut left = Some(rows);
+    while let Some(texts) = left {
+        let (text, later) = first_line(texts);
+        n += 1;
+        part = take_line(alloc, lines, part, n, text)?;
+        left = later;
+    }
+    Ok(())
+}
+
+// Reads the text lines of a deck's rows, if a line cuts it.
+fn read_rows_of<'a>(
+    alloc: Global,
+    lines: &mut LinesRead<'a>,
+    deck: &'a [u8],
+) -> Result<(), AllocError>
+    requires { length deck.now ≤ MOST_DECK_BYTES }
+    ensures found { OnOk result ((lines_of lines.new).tally
+        ≡ with_all (lines_of lines.old).tally (faults_of_rows deck.now (deck_parts deck.now))) }
+    ensures kept { OnOk result ((lines_of lines.new).kept
+        ≡ (lines_of lines.old).kept ++ kept_of_rows deck.now (deck_parts deck.now)) }
+{
+    match Deck::cut(deck) {
+        Some(parts) => {
+            let cut = place_at(deck, parts.table.len());
+            read_rows(alloc, lines, cut.line, parts.rows)
+        }
+        None => Ok(()),
     }
 }
 
@@ -186,7 +211,8 @@ fn read_table<'a>(alloc: Global, all: bool, deck: &'a [u8]) -> Result<Tally<'a>,
     Ok(tally)
 }
 
-/// Reads the route table of a deck, and its text lines, each by itself and once, and tells all that is wrong, or the first of each kind.
+/// Reads the route table of a deck, and the text lines of its rows, each by itself and once, and tells all that is
+/// wrong, or the first of each kind.
 pub(crate) fn read_lines<'a>(
     alloc: Global,
     all: bool,
@@ -200,15 +226,7 @@ pub(crate) fn read_lines<'a>(
     let tally = read_table(alloc, all, deck)?;
     let kept = Vec::new(alloc);
     let mut lines = LinesRead { tally, kept };
-    let mut part = DeckPart::Table;
-    let mut n = 0;
-    let mut left = Some(deck);
-    while let Some(texts) = left {
-        let (text, later) = first_piece(b'\n', texts);
-        n += 1;
-        part = take_line(alloc, &mut lines, part, n, text)?;
-        left = later;
-    }
+    read_rows_of(alloc, &mut lines, deck)?;
     Ok(lines)
 }
 

@@ -10,15 +10,17 @@ use crate::key::Key;
 use crate::spots::{Mark, Spot};
 use crate::table::{Section, unnamed, wrong_heading};
 use crate::tally::Tally;
+use crate::text_lines::{ends_line, first_line};
 use std::alloc::AllocError;
 use xb_deck::Deck;
-use xb_text::first_piece;
 
 /// A text line, from 1, and a byte of it, from 1.
 #[derive(Clone, Copy)]
 pub(crate) struct Place {
     pub(crate) line: usize,
     pub(crate) column: usize,
+    /// Whether a CR stands right before it.
+    pub(crate) returned: bool,
 }
 
 /// The place in a text that so many bytes stand before.
@@ -29,23 +31,45 @@ pub(crate) struct Reached {
 }
 
 // The first byte of the first text line.
-const FIRST_PLACE: Place = Place { line: 1, column: 1 };
+const FIRST_PLACE: Place = Place {
+    line: 1,
+    column: 1,
+    returned: false,
+};
+
+// Whether a byte is an LF that ends a text line together with the CR before it.
+fn is_same_end(place: Place, byte: u8) -> bool
+    ensures { result ≡ spec.is_same_end place byte }
+{
+    place.returned && byte == b'\n'
+}
 
 // The place after a byte.
 fn next_place(place: Place, byte: u8) -> Place
     requires line { place.line + 1 < 2 ^ 64 }
     requires column { place.column + 1 < 2 ^ 64 }
-    ensures { result ≡ spec.next_place place byte }
+    ensures next { result ≡ spec.next_place place byte }
+    ensures line { result.line ≤ place.line + 1 }
+    ensures column { result.column ≤ place.column + 1 }
 {
-    if byte == b'\n' {
+    let returned = byte == b'\r';
+    if is_same_end(place, byte) {
+        Place {
+            line: place.line,
+            column: place.column,
+            returned,
+        }
+    } else if ends_line(byte) {
         Place {
             line: place.line + 1,
             column: 1,
+            returned,
         }
     } else {
         Place {
             line: place.line,
             column: place.column + 1,
+            returned,
         }
     }
 }
@@ -92,6 +116,19 @@ fn reach(text: &[u8], from: Reached, at: usize) -> Reached
     Reached { at: end, place }
 }
 
+/// The place in a text that so many bytes stand before, or all.
+pub(crate) fn place_at(text: &[u8], at: usize) -> Place
+    requires { length text.now ≤ MOST_DECK_BYTES }
+    ensures place { result ≡ spec.place_of text.now at }
+    ensures few { result.line ≤ MOST_DECK_BYTES + 1 }
+{
+    let start = Reached {
+        at: 0,
+        place: FIRST_PLACE,
+    };
+    reach(text, start, at).place
+}
+
 // A text from a byte on.
 fn from_byte(text: &[u8], start: usize) -> &[u8]
     ensures { result.now ≡ drop start text.now }
@@ -108,7 +145,7 @@ fn line_at(text: &[u8], at: usize, place: Place) -> &[u8]
     ensures { result.now ≡ spec.line_at text.now at place }
 {
     let start = at.saturating_sub(place.column.saturating_sub(1));
-    first_piece(b'\n', from_byte(text, start)).0
+    first_line(from_byte(text, start)).0
 }
 
 /// The route table of a deck: what stands before the line that cuts it, or all where none does.
@@ -170,11 +207,7 @@ pub(crate) fn finding_at<'a>(text: &'a [u8], at: usize, what: What) -> Finding<'
     requires { length text.now ≤ MOST_DECK_BYTES }
     ensures { found_of result ≡ spec.found_there text.now at (what, None) }
 {
-    let start = Reached {
-        at: 0,
-        place: FIRST_PLACE,
-    };
-    finding_there(text, at, reach(text, start, at).place, what, None)
+    finding_there(text, at, place_at(text, at), what, None)
 }
 
 // Puts what is wrong after so many bytes of a text after what was found.

@@ -1,8 +1,8 @@
 // Text lines of the rows, read by themselves: what they are, what is wrong with them, and where.
-ghost use Rattle.std.specs.Prelude.{◌≡◌, ◌≢◌, Err, IfOk, None, OnOk};
+ghost use Rattle.std.specs.Prelude.{◌≡◌, ◌≢◌, Err, IfOk, None, OnOk, position};
 ghost use Rattle.xb_model.specs.declared.fault.RowFault.TheVariants.{NoMemory};
 ghost use Rattle.xb_rows.specs.RowTexts.{rest_of_text};
-ghost use Rattle.xb_check.specs.Records.{after_comma, closed_of, column_of, first_record, found_at, from_field, is_short, record_of_fault, record_of_line, record_read, what_of_record, what_of_row, wrong_header, wrong_in};
+ghost use Rattle.xb_check.specs.Records.{after_separator, closed_of, column_of, first_record, found_at, from_field, is_separator, is_short, record_of_fault, record_of_line, record_read, what_of_record, what_of_row, wrong_header, wrong_in};
 ghost use Rattle.xb_check.specs.Table.{with_meant};
 ghost use Rattle.xb_check.specs.Tallies.{tallied, with_all};
 
@@ -13,7 +13,6 @@ use crate::tally::Tally;
 use std::alloc::{AllocError, Global};
 use xb_model::{Contact, Row, RowFault, RowSource};
 use xb_rows::{Scan, row_of_line};
-use xb_text::cut_at;
 
 // The number of the record after the header.
 const FIRST_RECORD: u64 = 1;
@@ -106,12 +105,26 @@ pub(crate) fn what_of_record(closes: &Closes, read: &Record) -> Option<What>
     }
 }
 
-// What follows the first comma of a text.
-fn after_comma(text: &[u8]) -> &[u8]
-    ensures { result.now ≡ after_comma text.now }
+// Whether a byte stands between fields.
+fn is_separator(byte: u8) -> bool
+    ensures { result ≡ is_separator byte }
 {
-    match cut_at(b',', text) {
-        Some((_, later)) => later,
+    byte == b',' || byte == b';' || byte == b'\t'
+}
+
+// Where the first such byte of a text is.
+fn first_separator(text: &[u8]) -> Option<usize>
+    ensures { result ≡ position is_separator text.now }
+{
+    text.iter().position(|byte| is_separator(*byte))
+}
+
+// What follows it.
+fn after_separator(text: &[u8]) -> &[u8]
+    ensures { result.now ≡ after_separator text.now }
+{
+    match first_separator(text) {
+        Some(n) => &text[n + 1..],
         None => &[],
     }
 }
@@ -126,14 +139,17 @@ fn from_field(what: What, line: &[u8]) -> &[u8]
         | What::LimitKey
         | What::RouteKey
         | What::Routes(_)
+        | What::NearCut
+        | What::Semicolons
+        | What::Tabs
         | What::Header
         | What::Fields
         | What::Line
         | What::Ignored(_)
         | What::Quiet => line,
-        What::State => after_comma(line),
+        What::State => after_separator(line),
         What::Ms | What::Short | What::Seconds | What::Microseconds => {
-            after_comma(after_comma(line))
+            after_separator(after_separator(line))
         }
     }
 }

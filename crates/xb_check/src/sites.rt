@@ -1,12 +1,13 @@
-// Which spot of a route table its fault is about.
-ghost use Rattle.std.specs.Prelude.{◌≡◌, ◌≤◌, ◌<◌, ◌+◌, ◌^◌, OnOk, Some, length};
+// Which place of a text its fault is about.
+ghost use Rattle.std.specs.Prelude.{◌≡◌, ◌≤◌, ◌<◌, ◌+◌, ◌^◌, OnOk, length};
 ghost use Rattle.xb_deck.specs.declared.deck.TheConstants.{MOST_DECK_BYTES};
-ghost use Rattle.xb_check.specs.Sites.{fault_of_table, first_about, is_about, is_about_heading, is_about_key, is_not_toml, keys_about, limits_about, limits_of_rule, route_about, route_here, routes_after, told_of_table};
+ghost use Rattle.xb_check.specs.Sites.{first_about, is_about, is_about_heading, is_about_key, is_not_toml, keys_about, limits_about, limits_of_rule, route_about, route_here, routes_after, told_of_fault, told_of_table};
 ghost use Rattle.xb_check.specs.Tallies.{tallied, with_all};
 ghost use Rattle.xb_routes.specs.LimitFaults.{limit_fault};
 
 use crate::finding::What;
 use crate::key::{Key, key_named};
+use crate::near_cuts::push_near_cuts;
 use crate::place::{finding_at, table_of};
 use crate::spots::{Mark, Spot};
 use crate::table::Section;
@@ -148,20 +149,6 @@ fn first_about(fault: RouteFault, spots: &[Spot]) -> Option<Spot>
     None
 }
 
-// The fault of the route table, if it is by one that a text is refused.
-fn fault_of_table(fault: DeckFault) -> Option<RouteFault>
-    ensures { result ≡ fault_of_table fault }
-{
-    match fault {
-        DeckFault::Routes(fault) => Some(fault),
-        DeckFault::Read
-        | DeckFault::TooLong
-        | DeckFault::NoCut
-        | DeckFault::Rows(_)
-        | DeckFault::NoMemory => None,
-    }
-}
-
 // Puts the first spot of a deck that a fault of its route table is about after what was found.
 fn push_told_of_table<'a>(
     alloc: Global,
@@ -171,7 +158,7 @@ fn push_told_of_table<'a>(
 ) -> Result<(), AllocError>
     requires { length deck.now ≤ MOST_DECK_BYTES }
     ensures { OnOk result (tallied tally.new
-        ≡ with_all (tallied tally.old) (told_of_table (Some fault) deck.now)) }
+        ≡ with_all (tallied tally.old) (told_of_table fault deck.now)) }
 {
     let spots = spots_of(alloc, table_of(deck))?;
     if let Some(spot) = first_about(fault, &spots) {
@@ -189,10 +176,11 @@ pub(crate) fn push_fault<'a>(
 ) -> Result<(), AllocError>
     requires { length deck.now ≤ MOST_DECK_BYTES }
     ensures { OnOk result (tallied tally.new
-        ≡ with_all (tallied tally.old) (told_of_table (fault_of_table fault) deck.now)) }
+        ≡ with_all (tallied tally.old) (told_of_fault fault deck.now)) }
 {
-    match fault_of_table(fault) {
-        Some(fault) => push_told_of_table(alloc, tally, fault, deck),
-        None => Ok(()),
+    match fault {
+        DeckFault::NoCut => push_near_cuts(tally, deck),
+        DeckFault::Routes(fault) => push_told_of_table(alloc, tally, fault, deck),
+        DeckFault::Read | DeckFault::TooLong | DeckFault::Rows(_) | DeckFault::NoMemory => Ok(()),
     }
 }

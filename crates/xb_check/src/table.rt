@@ -19,8 +19,8 @@ pub enum Section {
     Other,
 }
 
-// Whether a byte is a blank or a tab.
-fn is_blank(byte: u8) -> bool
+/// Whether a byte is a blank or a tab.
+pub(crate) fn is_blank(byte: u8) -> bool
     ensures { result ≡ is_blank byte }
 {
     byte == b' ' || byte == b'\t'

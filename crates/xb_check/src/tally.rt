@@ -13,7 +13,7 @@ pub const TOLD_OF_A_KIND: usize = 10;
 pub(crate) const MOST_COUNTED: usize = 1_000_000_000;
 
 /// How many kinds there are.
-pub(crate) const KINDS: usize = 15;
+pub(crate) const KINDS: usize = 18;
 
 /// Each kind, by one of it.
 pub(crate) const EACH_KIND: &[What] = &[
@@ -22,6 +22,9 @@ pub(crate) const EACH_KIND: &[What] = &[
     What::LimitKey,
     What::RouteKey,
     What::Routes(RouteFault::NotToml),
+    What::NearCut,
+    What::Semicolons,
+    What::Tabs,
     What::Header,
     What::Fields,
     What::Line,
@@ -37,7 +40,7 @@ pub(crate) const EACH_KIND: &[What] = &[
 // The number of a kind.
 fn kind_of(what: What) -> usize
     ensures number { result ≡ kind_of what }
-    ensures below { result < 15 }
+    ensures below { result < 18 }
 {
     match what {
         What::Table => 0,
@@ -45,16 +48,19 @@ fn kind_of(what: What) -> usize
         What::LimitKey => 2,
         What::RouteKey => 3,
         What::Routes(_) => 4,
-        What::Header => 5,
-        What::Fields => 6,
-        What::Line => 7,
-        What::State => 8,
-        What::Ms => 9,
-        What::Ignored(_) => 10,
-        What::Short => 11,
-        What::Quiet => 12,
-        What::Seconds => 13,
-        What::Microseconds => 14,
+        What::NearCut => 5,
+        What::Semicolons => 6,
+        What::Tabs => 7,
+        What::Header => 8,
+        What::Fields => 9,
+        What::Line => 10,
+        What::State => 11,
+        What::Ms => 12,
+        What::Ignored(_) => 13,
+        What::Short => 14,
+        What::Quiet => 15,
+        What::Seconds => 16,
+        What::Microseconds => 17,
     }
 }
 

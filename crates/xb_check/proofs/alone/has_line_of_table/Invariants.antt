@@ -1,15 +1,15 @@
 use Rattle.std.proofs.Common.{◌≡◌, length}
 use Rattle.std.specs.List.{list_any}
 use Rattle.std.specs.Prelude.{option_copied}
-use Rattle.xb_text.specs.Pieces.{pieces, pieces_left}
 use Rattle.xb_check.specs.Alone.{is_of_table}
 use Rattle.xb_check.specs.Table.{squeezed}
+use Rattle.xb_check.specs.TextLines.{lines_left, text_lines}
 use Rattle.xb_check.proofs.alone.has_line_of_table.Given as goal
 
 abbrev pub invariant-loop-left : goal.invariant-loop-left
 invariant-loop-left l =
-    list_any (λ line. is_of_table (squeezed line)) (pieces 10 l.fn.text)
-    ≡ list_any (λ line. is_of_table (squeezed line)) (pieces_left 10 (option_copied l.left))
+    list_any (λ line. is_of_table (squeezed line)) (text_lines l.fn.text)
+    ≡ list_any (λ line. is_of_table (squeezed line)) (lines_left (option_copied l.left))
 
 abbrev pub decreases-loop-left : goal.decreases-loop-left
-decreases-loop-left l = length (pieces_left 10 (option_copied l.left))
+decreases-loop-left l = length (lines_left (option_copied l.left))

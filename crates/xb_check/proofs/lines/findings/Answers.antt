@@ -1,5 +1,5 @@
 use Rattle.std.proofs.Common.{[], true, ap, ◌∙◌}
-use Rattle.xb_check.specs.Records.{faults_of_deck}
+use Rattle.xb_check.specs.DeckFaults.{faults_of_deck}
 use Rattle.xb_check.specs.Tallies.{Tallied}
 use Rattle.xb_check.proofs.Tellings.{all_told, told_is}
 use Rattle.xb_check.proofs.lines.findings.Goals as goal

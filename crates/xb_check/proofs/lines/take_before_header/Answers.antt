@@ -1,4 +1,5 @@
-use Rattle.std.proofs.Common.{sym, ap, ◌∙◌, None}
+use Rattle.std.proofs.Common.{sym, ap, ◌∙◌, None, false}
+use Rattle.xb_check.specs.Separators.{is_other, separator_of_header, what_of_line}
 use Rattle.xb_check.specs.Steps.{lines_of}
 use Rattle.xb_check.specs.Table.{with_meant}
 use Rattle.xb_check.proofs.TakenLines.{passes_empty, takes_header}
@@ -10,6 +11,10 @@ returns-then-is_empty c =
 
 pub returns : goal.returns
 returns c =
-    takes_header c.args.n c.args.text.now c.without_key.result _ _ _ _ (sym c.if-is_empty.ensures)
-    (c.without_key.ensures ∙ ap (λ wrong. with_meant wrong None) c.in_ok-wrong_header.ensures) c.in_ok-new.ensures
-    c.in_ok-new-2.ensures c.in_ok-push_found.ensures c.in_ok-keep.ensures
+    let text = c.args.text.now in
+    takes_header c.args.n text c.without_key.result _ _ c.is_other-told.result _ _ (sym c.if-is_empty.ensures)
+    (c.without_key.ensures ∙ ap (λ wrong. with_meant wrong None) (c.what_of_line-wrong.ensures
+    ∙ ap (λ separator. what_of_line false separator c.in_ok-header.header) c.in_ok-separator.ensures
+    ∙ ap (λ header. what_of_line false (separator_of_header text) header) c.in_ok-header.ensures))
+    c.in_ok-new.ensures c.in_ok-new-2.ensures (c.is_other-told.ensures ∙ ap is_other c.in_ok-separator.ensures)
+    c.in_ok-push_found.ensures c.in_ok-keep.ensures

@@ -1,4 +1,4 @@
-use Rattle.std.proofs.Common.{◌≡◌, ◌∙◌, ◌+◌, ◌-◌, ◌≤◌, ap, arith, length, sym, take, drop}
+use Rattle.std.proofs.Common.{◌∙◌, ◌-◌, ap, arith, take, drop}
 use Rattle.std.proofs.lemmas.List.{length-take, length-drop}
 use Rattle.xb_check.specs.Places.{place_after, place_of}
 use Rattle.xb_check.proofs.Placing.{place_min, place_on, small_column, small_line}
