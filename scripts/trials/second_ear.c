@@ -10,7 +10,7 @@
 
 enum { HOP = 20, WINDOW = 80, TONES = 6, NONE = -1 };
 enum { LEAST_LEVEL = 500 * 500, TWIST = 16, CLEAR = 2, SHARE = 3, SHARE_OF = 5 };
-enum { GAP_WINDOWS = 6, KEY_WINDOWS = 8, KP_WINDOWS = 18, TAIL_WINDOWS = 60, TAIL_WEAKER = 21 };
+enum { GAP_WINDOWS = 8, PART_WINDOWS = 5, KEY_WINDOWS = 8, KP_WINDOWS = 18, TAIL_WINDOWS = 60, TAIL_WEAKER = 21 };
 
 struct sight { int low, high; int64_t low_level, high_level; };  /* places among the six */
 struct heard { struct sight sight; int64_t first, past; };       /* numbers of windows */
@@ -61,10 +61,7 @@ static struct sight without_tail(struct sight seen, int64_t at)
     return is_tail ? (struct sight) { NONE, NONE, 0, 0 } : seen;
 }
 
-static int needed(struct sight sight)
-{
-    return sight.low == NONE ? GAP_WINDOWS : sight.low == 2 && sight.high == 5 ? KP_WINDOWS : KEY_WINDOWS;
-}
+static int needed(struct sight sight) { return sight.low == 2 && sight.high == 5 ? KP_WINDOWS : KEY_WINDOWS; }
 
 static const char *name(struct sight sight)
 {
@@ -118,32 +115,40 @@ static void give(struct heard key)
 
 int main(void)
 {
+    const struct sight none = { NONE, NONE, 0, 0 };
     int16_t window[WINDOW];
     int filled = 0, low, high;
-    struct sight run = { NONE, NONE, 0, 0 };
-    struct heard sounding = { { NONE, NONE, 0, 0 }, 0, 0 };
-    int64_t at = 0, first = 0, count = 0;
+    struct sight run = none;
+    struct heard sounding = { none, 0, 0 };
+    int64_t at = 0, first = 0, count = 0, part = 0, away = 0;  /* windows of the run, those in a row, and those since */
     for (int n = 0; n < 80; n++) sine[n] = (int) lround(10000 * sin(2 * M_PI * n / 80));
     while ((low = getchar()) != EOF && (high = getchar()) != EOF) {
         window[filled++] = (int16_t) (low | high << 8);
         if (filled < WINDOW) continue;
-        struct sight seen = without_tail(sees(window), at);
+        struct sight seen = without_tail(sees(window), at++);
         memmove(window, window + HOP, sizeof window - HOP * sizeof *window);
         filled = WINDOW - HOP;
-        if (is_same(run, seen)) {
+        if (seen.low == NONE) {
+            if (++away < GAP_WINDOWS) continue;
+            if (sounding.sight.low != NONE) give(sounding);
+            run = sounding.sight = none;
+            continue;
+        }
+        if (is_same(run, seen) && (away == 0 || part >= PART_WINDOWS)) {
             count++;
+            part = away ? 1 : part + 1;
             if (strength(run) < strength(seen)) run = seen;
         } else {
             run = seen;
-            count = 1;
-            first = at;
+            count = part = 1;
+            first = at - 1;
         }
-        at++;
-        if (count < needed(run)) continue;
+        away = 0;
+        if (part < PART_WINDOWS || count < needed(run)) continue;
         if (!is_same(sounding.sight, run)) {
             if (sounding.sight.low != NONE) give(sounding);
             sounding = (struct heard) { run, first, at };
-        } else if (run.low != NONE) {
+        } else {
             if (strength(sounding.sight) < strength(run)) sounding.sight = run;
             sounding.past = at;
         }

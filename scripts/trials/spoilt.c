@@ -24,10 +24,11 @@ static const struct { const char *key; int low, high; } pairs[] = {
     { "ST", 1500, 1700 },
 };
 
-/* Times in ms, levels of a tone in dBm0, twist in dB, detuning as a part; of what is beside, its level and its Hz. */
+/* Times in ms, levels of a tone in dBm0, twist in dB, detuning as a part; of what is beside, its level and its Hz. A hole
+   is silence in the middle of each key. */
 struct row {
     const char *must, *name;
-    double kp, key, gap, level, twist, detuning, hz, noise, beside, beside_hz, echo, clip, wow;
+    double kp, key, gap, hole, level, twist, detuning, hz, noise, beside, beside_hz, echo, clip, wow;
     int is_mu_law;
 };
 #define SILENT (-200)
@@ -41,6 +42,7 @@ static const struct row rows[] = {
     ROW("may", "KP of 50 ms", .kp = 50), ROW("must", "gaps of 38 ms", .gap = 38), ROW("must", "gaps of 30 ms", .gap = 30),
     ROW("must", "gaps of 25 ms", .gap = 25), ROW("may", "gaps of 20 ms", .gap = 20),
     ROW("must", "keys of 30, KP of 55 and gaps of 25 ms", .key = 30, .kp = 55, .gap = 25),
+    ROW("must", "holes of 10 ms", .hole = 10), ROW("may", "holes of 12 ms", .hole = 12),
     ROW("must", "0 dBm0", .level = 0), ROW("must", "-14 dBm0", .level = -14), ROW("must", "-22 dBm0", .level = -22),
     ROW("must", "-28 dBm0", .level = -28), ROW("may", "-32 dBm0", .level = -32), ROW("may", "-34 dBm0", .level = -34),
     ROW("must", "6 dB of twist", .twist = 6), ROW("must", "-6 dB of twist", .twist = -6),
@@ -85,6 +87,7 @@ static int key_at(const struct row *row, const char *key, double *mix, int n)
 {
     int pair = 0;
     double low = 0, high = 0;
+    const int start = n, hole = (int) (row->hole * RATE / 1000);
     while (strcmp(pairs[pair].key, key)) pair++;
     for (int length = (int) ((key[0] == 'K' ? row->kp : row->key) * RATE / 1000); length > 0; length--) {
         double speed = (1 + row->wow * sin(2 * M_PI * 4 * n / RATE)) * 2 * M_PI / RATE;
@@ -92,6 +95,7 @@ static int key_at(const struct row *row, const char *key, double *mix, int n)
         low += (pairs[pair].low * (1 + row->detuning) + row->hz) * speed;
         high += (pairs[pair].high * (1 + row->detuning) + row->hz) * speed;
     }
+    memset(mix + (start + n - hole) / 2, 0, hole * sizeof *mix);
     for (int length = (int) (row->gap * RATE / 1000); length > 0; length--) mix[n++] = 0;
     return n;
 }

@@ -33,6 +33,8 @@ parts_in ear = record {
     seen = sight_in ear.seen;
     first = ear.first;
     count = ear.count;
+    part = ear.part;
+    away = ear.away;
     sounding = key_in ear.sounding;
   };
 }

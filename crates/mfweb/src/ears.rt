@@ -43,11 +43,15 @@ pub struct WebHeard {
 pub struct WebEar {
     /// How many windows there were.
     pub at: u64,
-    /// The first of the last ones in a row that saw the same.
+    /// The first one of the run that goes on.
     pub first: u64,
-    /// How many they are.
+    /// How many of the run saw its pair.
     pub count: u64,
-    /// What they saw.
+    /// How many of these are in a row at the end.
+    pub part: u64,
+    /// How many windows after them saw none.
+    pub away: u64,
+    /// The pair of the run.
     pub seen: WebSight,
     /// The key that sounds.
     pub sounding: WebHeard,
@@ -166,6 +170,8 @@ pub(crate) fn receiver_of(ear: &WebEar) -> Option<Receiver>
             seen: sight_of(ear.seen),
             first: ear.first,
             count: ear.count,
+            part: ear.part,
+            away: ear.away,
             sounding: key_of(ear.sounding),
         },
     })
@@ -183,6 +189,8 @@ pub(crate) fn ear_of(receiver: &Receiver) -> WebEar
         at: parts.hearing.at,
         first: parts.hearing.first,
         count: parts.hearing.count,
+        part: parts.hearing.part,
+        away: parts.hearing.away,
         seen: optional_sight(parts.hearing.seen),
         sounding: plain_optional(parts.hearing.sounding),
         held,

@@ -19,10 +19,10 @@ use Rattle.xb_ear.proofs.Fading.{sees-silence}
 use Rattle.xb_ear.proofs.Near.{one-bound, within-drop, within-take}
 use Rattle.xb_ear.proofs.OneTone.{one-tone-is-no-key, sees-none-in, weak_at}
 use Rattle.xb_ear.proofs.Received.{nothing-sounds}
-use Rattle.xb_ear.proofs.Runs.{IsLoose, loose-step, same-goes}
+use Rattle.xb_ear.proofs.Runs.{IsLoose, loose-step, none-resets}
 use Rattle.xb_ear.proofs.Segments.{between, drops, sees}
 use Rattle.xb_ear.proofs.Shown.{silence-shows, still}
-use Rattle.xb_ear.proofs.Steps.{Known, after, after_all, gives_all, known}
+use Rattle.xb_ear.proofs.Steps.{Known, after, after_all, gives, gives_all, known}
 use Rattle.xb_ear.proofs.WholeSounds.{quiet-within}
 
 -- 80 samples that lie in one part of samples
@@ -79,11 +79,12 @@ module _ (j : ℕ → Option Pair) (n : ℕ) (next : (w : ℕ) → w < n → (d 
     | inl none ↦
         let here : w + 0 ≡ w = omega arith in
         let this : j w ≡ None = ap j (sym here) ∙ none in
-        let goes = same-goes None k loose.sounds (j w) this in
-        let next_loose : IsLoose None 0 (after k (j w)) = record { sounds = goes.0; sees = inl this } in
+        let goes : IsLoose None 0 (after k (j w)) × (gives k (j w) ≡ []) =
+        subst (λ (l : Option Pair). IsLoose None 0 (after k l) × (gives k l ≡ [])) (sym this)
+        (none-resets c k loose (omega (arith, few))) in
         let later = after-none m w all
         (λ d soon k loose. still-from m (w + 1) 0 d k loose (omega (arith, soon.soon)) soon.sees (omega (arith, all)))
-        (after k (j w)) next_loose in
+        (after k (j w)) goes.0 in
         record {
           given = ap (λ ps. ps ++ gives_all (after k (j w)) (map j (range_with_len (w + 1) m))) goes.1 ∙ later.given;
           sounds = later.sounds;
@@ -194,7 +195,7 @@ module _ (h : ℕ) (weak : list_all (λ n. weak_at (h * 100) n) (range_with_len 
       let same : n ≡ n - 0 = omega arith in
       let quiet : IsStill (known silent) (between (sees all) 0 (length all)) =
       subst (λ (m : ℕ). IsStill (known silent) (map (sees all) (range_with_len 0 m))) same
-      (still-all (sees all) n soon-none (known silent) (record { sounds = refl; sees = inl refl })) in
+      (still-all (sees all) n soon-none (known silent) (record { sounds = refl; sees = inl refl; near = inl refl })) in
       nothing-sounds all quiet.given quiet.sounds
 
 no-key : (h : ℕ) → list_all (λ n. weak_at (h * 100) n) (range_with_len 0 80) ≡ true → IsNoKey (h * 100)

@@ -1,5 +1,5 @@
 -- What is keyed is heard, disturbed too.
-use Rattle.std.proofs.Common.{◌≡◌, ◌∙◌, ℕ, zero, suc, ◌+◌, ◌-◌, ◌*◌, ◌≤◌, false, List, [], ◌∷◌, ◌++◌, map, replicate, length, sym, ap, subst, arith, refl, ℤ, pos, Option, Some, None, inl, inr, ◌⊎◌, append_assoc, append-nil, length-append}
+use Rattle.std.proofs.Common.{◌≡◌, ◌∙◌, ℕ, zero, suc, ◌+◌, ◌-◌, ◌*◌, ◌≤◌, Bool, true, false, List, [], ◌∷◌, ◌++◌, map, replicate, length, sym, ap, subst, arith, refl, ℤ, pos, Option, Some, None, inl, inr, ◌⊎◌, append_assoc, append-nil, length-append}
 use Rattle.std.specs.List.{range_with_len}
 use Rattle.std.proofs.lemmas.List.{length-map, length-replicate}
 use Rattle.std.proofs.lemmas.Simd.{map-map}
@@ -18,16 +18,16 @@ use Rattle.xb_tone.specs.Sounds.{silence}
 use Rattle.xb_tone.proofs.KeyWaves.{each_digit}
 use Rattle.xb_ear.specs.Disturbed.{AreWithin, bounded}
 use Rattle.xb_ear.specs.Ears.{heard, seen_at, sights, windows_in}
-use Rattle.xb_ear.specs.HeardKeys.{IsHearable, MOST_NOISE, MOST_NOISE_IN_TONES, disturbable, mark_disturbable, pairs_in, tones_of}
+use Rattle.xb_ear.specs.HeardKeys.{AreUnlike, IsHearableUnlike, MOST_NOISE, MOST_NOISE_IN_TONES, disturbable, mark_disturbable, pairs_in, tones_of}
 use Rattle.xb_ear.specs.Hearings.{silent}
 use Rattle.xb_ear.specs.LongRuns.{is_same_label, label, needed_of, one}
 use Rattle.xb_ear.proofs.Fading.{AreLow, sees-key, sees-silence}
 use Rattle.xb_ear.proofs.Near.{within-length}
-use Rattle.xb_ear.proofs.Runs.{Gives, HasArrived, gives-then, needed-range, stays}
-use Rattle.xb_ear.proofs.Segments.{all-in-range, between, part-turns, part_of, range-split, sees, sees-part}
+use Rattle.xb_ear.proofs.Runs.{Gives, HasArrived, gives-then, label-same, stays}
+use Rattle.xb_ear.proofs.Segments.{all-in-range, between, part-turns, part_of, pause-turns, pause-whole, range-split, sees, sees-part}
 use Rattle.xb_ear.proofs.Shown.{Shows, silence-shows, still}
 use Rattle.xb_ear.proofs.ShownKeys.{shows-key}
-use Rattle.xb_ear.proofs.Steps.{Known, after_all, gives_all, known, pairs-heard}
+use Rattle.xb_ear.proofs.Steps.{Known, after_all, gives_all, known, pairs-heard, whole, whole-append}
 
 -- silence, as a part
 zeros : (n i : ℕ) → bounded MOST_NOISE (replicate n (pos 0)) ≡ map (λ k. (still k, MOST_NOISE)) (range_with_len i n)
@@ -54,7 +54,7 @@ between-split j a b c ab bc =
     ∙ ap (λ (i : ℕ). between j a b ++ map j (range_with_len i (windows_in c - windows_in b))) place
 
 -- how long the tone of a key is
-long-enough : (cadence : Cadence) → IsHearable cadence → (key : Key) → IsKey key
+long-enough : (cadence : Cadence) → IsHearableUnlike cadence → (key : Key) → IsKey key
     → needed_of (Some (mf_pair key)) * 20 + 80 ≤ tone_ms cadence key * 8
 long-enough cadence lawful Kp is = omega (arith, lawful.kp)
 long-enough cadence lawful St is = omega (arith, lawful.key)
@@ -63,59 +63,132 @@ long-enough cadence lawful (Digit d) is =
     each_digit (λ d. needed_of (Some (mf_pair (Digit d))) ≡ 8) refl refl refl refl refl refl refl refl refl refl d is in
     omega (arith, lawful.key, eight)
 
+-- each gap of so many samples is silence, or tells a pair from another one before it
+abbrev pub AreTold : ℕ → Option Pair → List Pair → Type 0
+AreTold gap before [] = Unit {0}
+AreTold gap before (p ∷ ps) = ((240 ≤ gap) ⊎ (is_same_label before (Some p) ≡ false)) × AreTold gap (Some p) ps
+
+pub told-by-gaps : (gap : ℕ) → 240 ≤ gap → (before : Option Pair) (ps : List Pair) → AreTold gap before ps
+told-by-gaps gap wide before [] = tt
+told-by-gaps gap wide before (p ∷ ps) = (inl wide, told-by-gaps gap wide (Some p) ps)
+
+pub told-by-pairs : (gap : ℕ) (before : Option Pair) (ps : List Pair) → AreUnlike before ps → AreTold gap before ps
+told-by-pairs gap before [] unlike = tt
+told-by-pairs gap before (p ∷ ps) unlike =
+    (inr (by (is_same_label before (Some p)) refl), told-by-pairs gap (Some p) ps unlike.1)
+  where
+    by : (b : Bool) → is_same_label before (Some p) ≡ b → is_same_label before (Some p) ≡ false
+    by true e = absurd (unlike.0 (label-same before (Some p) e))
+    by false e = e
+
 -- a silence that is long enough, or the first one
 abbrev IsReady : Option Pair → List (ℤ × ℕ) → ℕ → Type 0
-IsReady a past z = ((a ≡ None) × (length past ≡ 0)) ⊎ ((is_same_label a None ≡ false) × (200 ≤ z))
+IsReady a past z = ((a ≡ None) × (length past ≡ 0)) ⊎ ((is_same_label a None ≡ false) × (240 ≤ z))
 
-module _ (cadence : Cadence) (lawful : IsHearable cadence) (samples : List ℤ) (low : AreLow samples) where
+-- a gap, or the first silence
+abbrev IsPaused : ℕ → Option Pair → List (ℤ × ℕ) → ℕ → Type 0
+IsPaused gap a past z = ((a ≡ None) × (length past ≡ 0)) ⊎ ((is_same_label a None ≡ false) × (gap ≤ z))
+
+-- before p there is such a silence, or a gap after another pair
+told-ready : (gap : ℕ) (a : Option Pair) (p : Pair) (past : List (ℤ × ℕ)) (z : ℕ) → IsPaused gap a past z
+    → (240 ≤ gap) ⊎ (is_same_label a (Some p) ≡ false)
+    → IsReady a past z ⊎ ((is_same_label a (Some p) ≡ false) × (gap ≤ z))
+told-ready gap a p past z paused told = elim paused [
+  | inl first ↦ inl (inl first)
+  | inr later ↦ elim told [
+    | inl wide ↦ inl (inr (later.0, omega (arith, later.1, wide)))
+    | inr differ ↦ inr (differ, later.1)
+  ]
+]
+
+gives-whole : (k : Known) (ls : List (Option Pair)) (what : List Pair) (b : Option Pair) → Gives k ls what b
+    → whole k ls ≡ what ++ one b
+gives-whole k ls what b run =
+    ap (λ (ps : List Pair). ps ++ one (after_all k ls).sounding) run.given
+    ∙ ap (λ (s : Option Pair). what ++ one s) run.arrived.sounds
+
+module _ (cadence : Cadence) (lawful : IsHearableUnlike cadence) (samples : List ℤ) (low : AreLow samples) where
+  sees-still : (past rest : List (ℤ × ℕ)) (z : ℕ) → AreWithin (past ++ (part_of still MOST_NOISE z ++ rest)) samples
+      → (w : ℕ) → length past ≤ 20 * w → 20 * w + 80 ≤ length past + z → sees samples w ≡ None
+  sees-still past rest z near w from to =
+      sees-silence samples w (sees-part still MOST_NOISE None silence-shows past rest samples z w near from to).pair
+
   quiet-part : (past rest : List (ℤ × ℕ)) (z : ℕ) (a : Option Pair) (k : Known) → HasArrived a k → IsReady a past z
       → AreWithin (past ++ (part_of still MOST_NOISE z ++ rest)) samples
       → Gives k (between (sees samples) (length past) (length past + z)) (one a) None
-  quiet-part past rest z a k arrived ready near =
-      let sees-still : (w : ℕ) → length past ≤ 20 * w → 20 * w + 80 ≤ length past + z → sees samples w ≡ None =
-      λ w from to. sees-silence samples w
-      (sees-part still MOST_NOISE None silence-shows past rest samples z w near from to).pair in
+  quiet-part past rest z a k arrived ready near = elim ready [
+    | inl first ↦
+        let all = all-in-range (sees samples) None (windows_in (length past))
+        (windows_in (length past + z) - windows_in (length past))
+        (λ w low high. sees-still past rest z near w (omega (arith, first.1)) (omega (arith, high))) in
+        let run = stays None (between (sees samples) (length past) (length past + z)) all k
+        (subst (λ (s : Option Pair). HasArrived s k) first.0 arrived) in
+        subst (λ (s : Option Pair). Gives k (between (sees samples) (length past) (length past + z)) (one s) None) (sym first.0) run
+    | inr later ↦
+        part-turns (sees samples) a None later.0 (length past) z (length past + z) refl (omega (arith, later.1))
+        (sees-still past rest z near) k arrived
+  ]
+
+  -- a silence, and then a tone
+  quiet-tone : (past rest : List (ℤ × ℕ)) (z m : ℕ) (a : Option Pair) (p : Pair) (k : Known) → HasArrived a k
+      → IsReady a past z ⊎ ((is_same_label a (Some p) ≡ false) × (cadence.gap_ms * 8 ≤ z))
+      → AreWithin (past ++ (part_of still MOST_NOISE z ++ rest)) samples → needed_of (Some p) * 20 + 80 ≤ m
+      → ((w : ℕ) → length past + z ≤ 20 * w → 20 * w + 80 ≤ length past + z + m → sees samples w ≡ Some p)
+      → Gives k (between (sees samples) (length past) (length past + z)
+      ++ between (sees samples) (length past + z) (length past + z + m)) (one a) (Some p)
+  quiet-tone past rest z m a p k arrived ready near long sees-tone =
+      let j = sees samples in
+      let from : ℕ = length past in
+      let to : ℕ = from + z in
+      let end : ℕ = to + m in
       elim ready [
-        | inl first ↦
-            let all = all-in-range (sees samples) None (windows_in (length past))
-            (windows_in (length past + z) - windows_in (length past))
-            (λ w low high. sees-still w (omega (arith, first.1)) (omega (arith, high))) in
-            let run = stays None (between (sees samples) (length past) (length past + z)) all k
-            (subst (λ (s : Option Pair). HasArrived s k) first.0 arrived) in
-            subst (λ (s : Option Pair). Gives k (between (sees samples) (length past) (length past + z)) (one s) None) (sym first.0) run
-        | inr later ↦
-            part-turns (sees samples) a None later.0 (length past) z (length past + z) refl (omega (arith, later.1)) sees-still k arrived
+        | inl quiet ↦
+            let run = quiet-part past rest z a k arrived quiet near in
+            let k1 : Known = after_all k (between j from to) in
+            let next = part-turns j None (Some p) refl to m end refl long sees-tone k1 run.arrived in
+            subst (λ ps. Gives k (between j from to ++ between j to end) ps (Some p)) (append-nil (one a))
+            (gives-then k (between j from to) (between j to end) (one a) [] None (Some p) run next)
+        | inr short ↦
+            pause-turns j a p short.0 from z m (omega (arith, short.1, lawful.gap)) long (sees-still past rest z near) sees-tone
+            k arrived
       ]
 
   from-quiet : (marks : List Mark) → AreKeyed marks → (past : List (ℤ × ℕ)) (z : ℕ) (a : Option Pair) (k : Known)
-      → HasArrived a k → IsReady a past z
+      → HasArrived a k → IsPaused (cadence.gap_ms * 8) a past z → AreTold (cadence.gap_ms * 8) a (tones_of marks)
       → AreWithin (past ++ (part_of still MOST_NOISE z ++ disturbable cadence marks)) samples
       → (total : ℕ) → total ≡ length past + z + length (disturbable cadence marks)
-      → Gives k (between (sees samples) (length past) total) (one a ++ tones_of marks) None
-  from-quiet [] keyed past z a k arrived ready near total is =
-      let run = quiet-part past [] z a k arrived ready near in
-      let end : total ≡ length past + z = omega (arith, is) in
-      subst (λ (n : ℕ). Gives k (between (sees samples) (length past) n) (one a ++ []) None) (sym end)
-      (subst (λ ps. Gives k (between (sees samples) (length past) (length past + z)) ps None) (sym (append-nil (one a))) run)
-  from-quiet (Trunk t ∷ marks) keyed past z a k arrived ready near total is =
+      → whole k (between (sees samples) (length past) total) ≡ one a ++ tones_of marks
+  from-quiet [] keyed past z a k arrived paused told near total is =
+      let j = sees samples in
+      let from : ℕ = length past in
+      let end : total ≡ from + z = omega (arith, is) in
+      let last : whole k (between j from (from + z)) ≡ one a ++ [] = elim paused [
+        | inl first ↦
+            gives-whole k (between j from (from + z)) (one a) None (quiet-part past [] z a k arrived (inl first) near)
+        | inr later ↦
+            pause-whole j a from z (omega (arith, later.1, lawful.gap)) (sees-still past [] z near) k arrived
+            ∙ sym (append-nil (one a))
+      ] in
+      subst (λ (n : ℕ). whole k (between j from n) ≡ one a ++ []) (sym end) last
+  from-quiet (Trunk t ∷ marks) keyed past z a k arrived paused told near total is =
       let lead : ℕ = cadence.lead_ms * 8 in
       let rest = disturbable cadence marks in
       let pause = bounded MOST_NOISE (silence cadence.lead_ms) in
       let same : part_of still MOST_NOISE z ++ (pause ++ rest) ≡ part_of still MOST_NOISE (z + lead) ++ rest =
       sym (append_assoc (part_of still MOST_NOISE z) pause rest)
       ∙ ap (λ (xs : List (ℤ × ℕ)). xs ++ rest) (more-zeros z lead) in
-      let more : IsReady a past (z + lead) = elim ready [
+      let more : IsPaused (cadence.gap_ms * 8) a past (z + lead) = elim paused [
         | inl first ↦ inl first
         | inr later ↦ inr (later.0, omega (arith, later.1))
       ] in
       let pause-long : length pause ≡ lead =
       length-map (silence cadence.lead_ms) (λ x. (x, MOST_NOISE)) ∙ length-replicate lead (pos 0) in
-      from-quiet marks keyed.1 past (z + lead) a k arrived more
+      from-quiet marks keyed.1 past (z + lead) a k arrived more told
       (subst (λ (xs : List (ℤ × ℕ)). AreWithin (past ++ xs) samples) same near) total
       (omega (arith, is, length-append pause rest, pause-long))
-  from-quiet (Refused reason count ∷ marks) keyed past z a k arrived ready near total is =
-      from-quiet marks keyed.1 past z a k arrived ready near total is
-  from-quiet (Tone key p ∷ marks) keyed past z a k arrived ready near total is =
+  from-quiet (Refused reason count ∷ marks) keyed past z a k arrived paused told near total is =
+      from-quiet marks keyed.1 past z a k arrived paused told near total is
+  from-quiet (Tone key p ∷ marks) keyed past z a k arrived paused told near total is =
       let j = sees samples in
       let f : ℕ → ℤ = λ n. pair_sample p n in
       let m : ℕ = tone_ms cadence key * 8 in
@@ -138,11 +211,8 @@ module _ (cadence : Cadence) (lawful : IsHearable cadence) (samples : List ℤ) 
       subst (λ (q : Pair). Shows MOST_NOISE_IN_TONES (λ n. pair_sample q n) (Some q)) (sym keyed.0.1) (shows-key key keyed.0.0) in
       let long : needed_of (Some p) * 20 + 80 ≤ m =
       subst (λ (q : Pair). needed_of (Some q) * 20 + 80 ≤ m) (sym keyed.0.1) (long-enough cadence lawful key keyed.0.0) in
-      let wide : 200 ≤ m = omega (arith, long, (needed-range (Some p)).0) in
       let near1 : AreWithin (past ++ (quiet ++ ((tone ++ pause) ++ later))) samples =
       subst (λ (xs : List (ℤ × ℕ)). AreWithin (past ++ (quiet ++ (xs ++ later))) samples) parts near in
-      let run = quiet-part past ((tone ++ pause) ++ later) z a k arrived ready near1 in
-      let k1 : Known = after_all k (between j from to) in
       let past2 = past ++ quiet in
       let at2 : length past2 ≡ to = omega (arith, length-append past quiet, quiet-long) in
       let near2 : AreWithin (past2 ++ (tone ++ (pause ++ later))) samples =
@@ -162,8 +232,9 @@ module _ (cadence : Cadence) (lawful : IsHearable cadence) (samples : List ℤ) 
       λ w from to. sees-key samples low p w (omega (arith, to, ends))
       (sees-part f MOST_NOISE_IN_TONES (Some p) shows past2 (pause ++ later) samples m w near2
       (omega (arith, at2, from)) (omega (arith, at2, to))) in
-      let run2 = part-turns j None (Some p) refl to m end refl long sees-tone k1 run.arrived in
-      let k2 : Known = after_all k1 (between j to end) in
+      let turned = quiet-tone past ((tone ++ pause) ++ later) z m a p k arrived
+      (told-ready (cadence.gap_ms * 8) a p past z paused told.0) near1 long sees-tone in
+      let k2 : Known = after_all k (between j from to ++ between j to end) in
       let past3 = past2 ++ tone in
       let at3 : length past3 ≡ end = omega (arith, length-append past2 tone, at2, tone-long) in
       let near3 : AreWithin (past3 ++ (pause ++ later)) samples =
@@ -173,18 +244,17 @@ module _ (cadence : Cadence) (lawful : IsHearable cadence) (samples : List ℤ) 
       ∙ ap (λ (n : ℕ). n + length later) (ap (λ (xs : List (ℤ × ℕ)). length xs) parts ∙ length-append tone pause
       ∙ ap (λ (n : ℕ). n + length pause) tone-long ∙ ap (λ (n : ℕ). m + n) pause-long) in
       let all : total ≡ length past3 + gap + length later = omega (arith, is, at3, sound-long) in
-      let wide-gap : 200 ≤ gap = omega (arith, lawful.gap) in
-      let rest = from-quiet marks keyed.1 past3 gap (Some p) k2 run2.arrived (inr (refl, wide-gap)) near3 total all in
-      let rest-at : Gives k2 (between j end total) (p ∷ tones_of marks) None =
-      subst (λ (n : ℕ). Gives k2 (between j n total) (p ∷ tones_of marks) None) at3 rest in
+      let rest = from-quiet marks keyed.1 past3 gap (Some p) k2 turned.arrived (inr (refl, omega arith)) told.1 near3 total all in
+      let rest-at : whole k2 (between j end total) ≡ p ∷ tones_of marks =
+      subst (λ (n : ℕ). whole k2 (between j n total) ≡ p ∷ tones_of marks) at3 rest in
       let before : end ≤ total = omega (arith, all, at3) in
-      let split : between j from total ≡ between j from to ++ (between j to end ++ between j end total) =
-      between-split j from to total (omega arith) (omega (arith, before))
-      ∙ ap (λ xs. between j from to ++ xs) (between-split j to end total (omega arith) before) in
-      let tail = gives-then k1 (between j to end) (between j end total) [] (p ∷ tones_of marks) (Some p) None run2 rest-at in
-      let whole = gives-then k (between j from to) (between j to end ++ between j end total) (one a) (p ∷ tones_of marks)
-      None None run tail in
-      subst (λ xs. Gives k xs (one a ++ (p ∷ tones_of marks)) None) (sym split) whole
+      let split : between j from total ≡ (between j from to ++ between j to end) ++ between j end total =
+      between-split j from end total (omega arith) before
+      ∙ ap (λ xs. xs ++ between j end total) (between-split j from to end (omega arith) (omega arith)) in
+      ap (λ (xs : List (Option Pair)). whole k xs) split
+      ∙ whole-append (between j from to ++ between j to end) (between j end total) k
+      ∙ ap (λ (ps : List Pair). ps ++ whole k2 (between j end total)) turned.given
+      ∙ ap (λ (ps : List Pair). one a ++ ps) rest-at
 
 -- the pairs that the windows of samples see
 pub labels-are : (samples : List ℤ) → map label (sights samples) ≡ between (sees samples) 0 (length samples)
@@ -201,9 +271,10 @@ heard-pairs samples =
     pairs-heard silent (sights samples) ∙ ap (λ xs. gives_all (known silent) xs) (labels-are samples)
 
 -- of a disturbed sound of keys
-pub outcome : (cadence : Cadence) → IsHearable cadence → (marks : List Mark) → AreKeyed marks → (samples : List ℤ)
-    → AreLow samples → AreWithin (disturbable cadence marks) samples
-    → Gives (known silent) (between (sees samples) 0 (length samples)) (tones_of marks) None
-outcome cadence lawful marks keyed samples low within =
-    from-quiet cadence lawful samples low marks keyed [] 0 None (known silent) (record { sees = refl; sounds = refl })
-    (inl (refl, refl)) within (length samples) (omega (arith, within-length (disturbable cadence marks) samples within))
+pub outcome : (cadence : Cadence) → IsHearableUnlike cadence → (marks : List Mark) → AreKeyed marks
+    → AreTold (cadence.gap_ms * 8) None (tones_of marks) → (samples : List ℤ) → AreLow samples
+    → AreWithin (disturbable cadence marks) samples
+    → whole (known silent) (between (sees samples) 0 (length samples)) ≡ tones_of marks
+outcome cadence lawful marks keyed told samples low within =
+    from-quiet cadence lawful samples low marks keyed [] 0 None (known silent) (record { sees = refl; sounds = refl; near = inl refl })
+    (inl (refl, refl)) told within (length samples) (omega (arith, within-length (disturbable cadence marks) samples within))

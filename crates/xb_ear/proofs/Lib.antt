@@ -10,12 +10,16 @@ pub mod Shown
 pub mod ShownKeys
 pub mod Steps
 pub mod Runs
+pub mod Pauses
 pub mod Segments
 pub mod Loudness
 pub mod Fading
 pub mod HeardKeys
 pub mod Received
+pub mod FirstRuns
 pub mod LongRuns
+pub mod Alike
+pub mod Holes
 pub mod WholeSounds
 pub mod Coded
 pub mod Scaled

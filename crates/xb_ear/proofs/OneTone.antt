@@ -1,5 +1,5 @@
 -- Of a single tone nothing is heard.
-use Rattle.std.proofs.Common.{◌≡◌, ◌∙◌, ℕ, ◌+◌, ◌-◌, ◌*◌, ◌/◌, ◌%◌, ◌<◌, ◌≤◌, ◌^◌, Bool, true, List, [], map, take, drop, length, sym, ap, subst, arith, refl, ℤ, pos, ◌-ℤ◌, ◌*ℤ◌, unsigned_abs, Option, None}
+use Rattle.std.proofs.Common.{◌≡◌, ◌∙◌, ℕ, ◌+◌, ◌-◌, ◌*◌, ◌/◌, ◌%◌, ◌<◌, ◌≤◌, ◌^◌, Bool, true, List, [], map, take, drop, length, sym, ap, subst, arith, refl, ℤ, pos, ◌-ℤ◌, ◌*ℤ◌, unsigned_abs, Option, None, inl}
 use Rattle.std.specs.List.{list_all, range_with_len}
 use Rattle.std.proofs.lemmas.Int.{ints}
 use Rattle.std.proofs.lemmas.List.{length-map}
@@ -127,4 +127,4 @@ module _ (h : ℕ) (weak : list_all (λ n. weak_at (h * 100) n) (range_with_len 
       let all = all-in-range (sees samples) None (windows_in 0) (windows_in n - windows_in 0)
       (λ w low high. sees-none-at w (omega (arith, high))) in
       nothing-heard samples
-      (stays None (between (sees samples) 0 n) all (known silent) (record { sees = refl; sounds = refl }))
+      (stays None (between (sees samples) 0 n) all (known silent) (record { sees = refl; sounds = refl; near = inl refl }))

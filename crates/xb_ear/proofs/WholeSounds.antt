@@ -1,5 +1,5 @@
 -- The laws of what is heard.
-use Rattle.std.proofs.Common.{◌≡◌, ◌∙◌, ℕ, ◌+◌, ◌-◌, ◌≤◌, List, [], ◌∷◌, ◌++◌, map, fold, length, sym, ap, subst, arith, refl, ℤ, ◌-ℤ◌, unsigned_abs, Option, None, append_assoc, append-nil, length-append, zero-add}
+use Rattle.std.proofs.Common.{◌≡◌, ◌∙◌, ℕ, ◌+◌, ◌-◌, ◌*◌, ◌≤◌, List, [], ◌∷◌, ◌++◌, map, fold, length, sym, ap, subst, arith, refl, ℤ, ◌-ℤ◌, unsigned_abs, Option, None, inl, append_assoc, append-nil, length-append, zero-add}
 use Rattle.std.specs.List.{AllByRecursion, flat_map, range_with_len}
 use Rattle.std.proofs.lemmas.Int.{ints}
 use Rattle.xb_model.specs.declared.key.Key.{Key}
@@ -19,13 +19,13 @@ use Rattle.xb_ear.specs.declared.sight.Sight.{Sight}
 use Rattle.xb_ear.specs.declared.hearing.Heard.{Heard}
 use Rattle.xb_ear.specs.Disturbed.{AreWithin, IsNear, bounded}
 use Rattle.xb_ear.specs.Ears.{heard, seen_at, sights, windows_in}
-use Rattle.xb_ear.specs.HeardKeys.{CleanKeysAreHeard, DisturbedKeyingsAreHeard, DisturbedKeysAreHeard, HearsSoFar, MOST_NOISE, MOST_NOISE_IN_TONES, NoisyKeysAreHeard, SilenceIsSilent, disturbable, pairs_in, tones_of}
+use Rattle.xb_ear.specs.HeardKeys.{CleanKeysAreHeard, DisturbedKeyingsAreHeard, DisturbedKeysAreHeard, HearsSoFar, IsHearableUnlike, IsHeardAs, MOST_NOISE, MOST_NOISE_IN_TONES, NoisyKeysAreHeard, SilenceIsSilent, UnlikeKeysAreHeard, disturbable, pairs_in, tones_of}
 use Rattle.xb_ear.specs.Hearings.{hearer, silent}
 use Rattle.xb_ear.specs.Receivers.{keys_of_sound}
 use Rattle.xb_ear.proofs.Fading.{sees-silence}
-use Rattle.xb_ear.proofs.HeardKeys.{heard-pairs, outcome}
+use Rattle.xb_ear.proofs.HeardKeys.{AreTold, outcome, told-by-gaps, told-by-pairs}
 use Rattle.xb_ear.proofs.Loudness.{sound-low}
-use Rattle.xb_ear.proofs.Received.{ends-quiet, keys-whole, nothing-heard}
+use Rattle.xb_ear.proofs.Received.{nothing-heard, sound-pairs}
 use Rattle.xb_ear.proofs.Runs.{stays}
 use Rattle.xb_ear.proofs.Segments.{all-in-range, between, part_of, range-split, sees, sees-part}
 use Rattle.xb_ear.proofs.Shown.{silence-shows, still}
@@ -46,13 +46,26 @@ keys-of-tones (Tone key p ∷ marks) keyed =
     ∙ ap (λ (keys : List Key). key ∷ keys) (keys-of-tones marks keyed.1)
 keys-of-tones (Refused reason count ∷ marks) keyed = keys-of-tones marks keyed.1
 
+-- where each gap is silence, or stands between keys that differ
+heard-as : (cadence : Cadence) (marks : List Mark) (samples : List ℤ) → IsHearableUnlike cadence → AreKeyed marks
+    → AreTold (cadence.gap_ms * 8) None (tones_of marks) → AreWithin (disturbable cadence marks) samples
+    → IsHeardAs samples marks
+heard-as cadence marks samples lawful keyed told within =
+    let low = sound-low cadence marks samples within in
+    let pairs : pairs_in (keys_of_sound samples) ≡ tones_of marks =
+    sound-pairs samples ∙ outcome cadence lawful marks keyed told samples low within in
+    record { pairs = pairs; keys = ap (λ (ps : List Pair). flat_map keys_with_pair ps) pairs ∙ keys-of-tones marks keyed }
+
 pub disturbed_keys_are_heard : DisturbedKeysAreHeard
 disturbed_keys_are_heard cadence marks samples lawful keyed within =
-    let gives = outcome cadence lawful marks keyed samples (sound-low cadence marks samples within) within in
-    let whole : keys_of_sound samples ≡ heard samples = keys-whole samples (ends-quiet samples (tones_of marks) gives) in
-    let pairs : pairs_in (keys_of_sound samples) ≡ tones_of marks =
-    ap (λ (ks : List Heard). pairs_in ks) whole ∙ heard-pairs samples ∙ gives.given in
-    record { pairs = pairs; keys = ap (λ (ps : List Pair). flat_map keys_with_pair ps) pairs ∙ keys-of-tones marks keyed }
+    let shorter : IsHearableUnlike cadence =
+    record { kp = lawful.kp; key = lawful.key; gap = omega (arith, lawful.gap) } in
+    heard-as cadence marks samples shorter keyed
+    (told-by-gaps (cadence.gap_ms * 8) (omega (arith, lawful.gap)) None (tones_of marks)) within
+
+pub unlike_keys_are_heard : UnlikeKeysAreHeard
+unlike_keys_are_heard cadence marks samples lawful keyed unlike within =
+    heard-as cadence marks samples lawful keyed (told-by-pairs (cadence.gap_ms * 8) None (tones_of marks) unlike) within
 
 keys-of-digits : (digits : List ℕ)
     → keys_of (map (λ d. tone (Digit d)) digits ++ tone St ∷ []) ≡ map (λ d. Digit d) digits ++ St ∷ []
@@ -123,7 +136,7 @@ silence_is_silent samples small =
     (λ w low high. sees-silence samples w
     (sees-part still MOST_NOISE None silence-shows [] [] samples n w within (omega arith) (omega (arith, high))).pair) in
     nothing-heard samples
-    (stays None (between (sees samples) 0 n) all (known silent) (record { sees = refl; sounds = refl }))
+    (stays None (between (sees samples) 0 n) all (known silent) (record { sees = refl; sounds = refl; near = inl refl }))
 
 -- what is heard of more samples is what was heard, and more
 pub hears_so_far : HearsSoFar

@@ -1,12 +1,13 @@
 -- The numbers of the receiver, each as it is.
 use Rattle.std.specs.Prelude.{◌≡◌}
-use Rattle.xb_ear.specs.declared.hearing.TheConstants.{GAP_WINDOWS, KEY_WINDOWS, KP_WINDOWS}
+use Rattle.xb_ear.specs.declared.hearing.TheConstants.{GAP_WINDOWS, KEY_WINDOWS, KP_WINDOWS, PART_WINDOWS}
 use Rattle.xb_ear.specs.declared.sight.TheConstants.{CLEAR, LEAST_LEVEL, SHARE, SHARE_OF, TWIST}
 use Rattle.xb_ear.specs.declared.tails.TheConstants.{TAIL_WEAKER, TAIL_WINDOWS}
 
 -- a definition that cites a constant means this number
 pub record AreConstants : Type 0 where
-  pub gap_windows : GAP_WINDOWS ≡ 6
+  pub gap_windows : GAP_WINDOWS ≡ 8
+  pub part_windows : PART_WINDOWS ≡ 5
   pub key_windows : KEY_WINDOWS ≡ 8
   pub kp_windows : KP_WINDOWS ≡ 18
   pub least_level : LEAST_LEVEL ≡ 250000

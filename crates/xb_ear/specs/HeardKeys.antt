@@ -1,5 +1,5 @@
 -- What is keyed is heard, disturbed too.
-use Rattle.std.specs.Prelude.{◌≡◌, ℕ, ◌<◌, ◌≤◌, List, [], ◌∷◌, ◌++◌, map, ℤ, unsigned_abs}
+use Rattle.std.specs.Prelude.{◌≡◌, ◌≢◌, ℕ, ◌<◌, ◌≤◌, List, [], ◌∷◌, ◌++◌, map, Option, Some, None, ℤ, unsigned_abs}
 use Rattle.std.specs.List.{AllByRecursion, flat_map}
 use Rattle.xb_model.specs.declared.digit.TheConstants.{DIGITS}
 use Rattle.xb_model.specs.declared.key.Key.{Key}
@@ -29,7 +29,13 @@ MOST_NOISE_IN_TONES = 923
 pub record IsHearable (cadence : Cadence) : Type 0 where
   pub kp : 55 ≤ cadence.kp_ms
   pub key : 30 ≤ cadence.key_ms
-  pub gap : 25 ≤ cadence.gap_ms
+  pub gap : 30 ≤ cadence.gap_ms
+
+-- nor than these, where each key is another than the one before it
+pub record IsHearableUnlike (cadence : Cadence) : Type 0 where
+  pub kp : 55 ≤ cadence.kp_ms
+  pub key : 30 ≤ cadence.key_ms
+  pub gap : 13 ≤ cadence.gap_ms
 
 -- the pairs of what is heard, in order
 abbrev pub pairs_in : List Heard → List Pair
@@ -46,6 +52,11 @@ tones_of_mark (Refused reason count) = []
 
 abbrev pub tones_of : List Mark → List Pair
 tones_of marks = flat_map tones_of_mark marks
+
+-- each pair is another than the one before it
+abbrev pub AreUnlike : Option Pair → List Pair → Type 0
+AreUnlike before [] = Unit {0}
+AreUnlike before (p ∷ ps) = (before ≢ Some p) × AreUnlike (Some p) ps
 
 -- the sound of marks, and how much each of its samples may be changed
 abbrev pub mark_disturbable : Cadence → Mark → List (ℤ × ℕ)
@@ -66,6 +77,12 @@ pub record IsHeardAs (samples : List ℤ) (marks : List Mark) : Type 0 where
 abbrev pub DisturbedKeysAreHeard : Type 0
 DisturbedKeysAreHeard = (cadence : Cadence) (marks : List Mark) (samples : List ℤ) → IsHearable cadence → AreKeyed marks
     → AreWithin (disturbable cadence marks) samples → IsHeardAs samples marks
+
+-- gaps may be shorter where no key is followed by the same one
+abbrev pub UnlikeKeysAreHeard : Type 0
+UnlikeKeysAreHeard = (cadence : Cadence) (marks : List Mark) (samples : List ℤ) → IsHearableUnlike cadence
+    → AreKeyed marks → AreUnlike None (tones_of marks) → AreWithin (disturbable cadence marks) samples
+    → IsHeardAs samples marks
 
 -- of the sound of marks with a disturbance that is nowhere greater than silence bears
 abbrev pub NoisyKeysAreHeard : Type 0

@@ -6,18 +6,21 @@
 //!   has taken none. `parts` and `of_parts`: what one knows, and one that goes on from there. `seen`: the pair that
 //!   stands out in a window; it counts but where it is the tail that a room leaves of a key.
 //! - `laws::keys_are_long_runs`: what is heard are the runs of windows that see the same and are long enough,
-//!   joined. `hears_so_far`: what was given is not taken back, so a stream may be cut anywhere.
+//!   across holes too, joined. `holes_change_nothing`: fewer than 8 windows in a row that see none change nothing of a
+//!   key that 5 see before them and 5 after. `hears_so_far`: what was given is not taken back, so a stream may be cut
+//!   anywhere.
 //! - `laws::disturbed_keys_are_heard`: of the sound of keyed marks, by each cadence of keys from 30 ms, KP from 55
-//!   and gaps from 25, exactly the pairs of the marks are heard, in order, and so their keys, whatever disturbs
-//!   each sample of a tone by at most 923 and of silence by at most 277. `noisy_keys_are_heard` says so of 277
-//!   everywhere, `disturbed_keyings_are_heard` of KP, digits and ST, `clean_keys_are_heard` of the sound itself,
-//!   and `mu_law_is_heard` of the nearest bytes of mu-law.
+//!   and gaps from 30, exactly the pairs of the marks are heard, in order, and so their keys, whatever disturbs
+//!   each sample of a tone by at most 923 and of silence by at most 277. `unlike_keys_are_heard` says so of gaps from
+//!   13 ms, where no key is followed by the same one; `noisy_keys_are_heard` of 277 everywhere,
+//!   `disturbed_keyings_are_heard` of KP, digits and ST, `clean_keys_are_heard` of the sound itself, and
+//!   `mu_law_is_heard` of the nearest bytes of mu-law.
 //! - `laws::silence_is_silent`: of samples that are each at most 277 nothing is heard; `single_tones_are_no_keys`:
 //!   nor of one of the six tones alone, of any amplitude, also where it begins and ends in such a silence (of 12.5
 //!   ms or more).
 //!
-//! Not said: what is heard of tones of other amplitudes, twisted or detuned, of more noise, or in a room; that is
-//! measured.
+//! Not said: what is heard of tones of other amplitudes, twisted or detuned, of more noise, or in a room, and what
+//! windows across the edges of a hole see; that is measured.
 #![tactic(auto)]
 
 mod correlation;
@@ -30,7 +33,7 @@ mod sight;
 mod tails;
 mod waves;
 
-pub use hearing::{GAP_WINDOWS, Heard, Hearing, KEY_WINDOWS, KP_WINDOWS};
+pub use hearing::{GAP_WINDOWS, Heard, Hearing, KEY_WINDOWS, KP_WINDOWS, PART_WINDOWS};
 pub use levels::{Levels, levels_of};
 pub use plain::PlainEar;
 pub use receiver::Receiver;
