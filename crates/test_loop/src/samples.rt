@@ -14,7 +14,7 @@ const BREAK: &[u8] = b"line,state,ms\n7,B,10\n";
 const ROWS: &[u8] = b"line,state,ms\n7,B,10\n7,M,15\n";
 
 const MORE: &[u8] =
-    b"mfloop: the end of the recording: more follows than the head counts: sox IN.wav OUT.wav\n";
+    b"mfloop: the end of the recording: more follows than the head counts: sox --ignore-length IN.wav OUT.wav\n";
 
 // What follows the head, what is printed, and what is told.
 const ENDS: &[(&[u8], &[u8], &[u8])] = &[

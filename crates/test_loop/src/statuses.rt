@@ -6,7 +6,7 @@ use test_kit::{Halting, Short, words_of};
 use xb_loop::attend;
 
 const USAGE: &[u8] = b"mfloop: usage: mfloop [--line N=WIRE]... [--table FILE] \
-[--format vcd|sigrok|saleae|edges|gpiomon|bits|s16|wav] [--rate HZ] [--settle MS] [--seize MS] [--tick MS] \
+[--format vcd|sigrok|saleae|edges|gpiomon|bits|bits16|s16|wav] [--rate HZ] [--settle MS] [--seize MS] [--tick MS] \
 [--threshold PERCENT] [--inverted] [--said]\n";
 
 const WORDS: &[&str] = &["--line", "7=1"];

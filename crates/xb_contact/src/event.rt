@@ -76,7 +76,7 @@ pub enum Refusal {
     #[error("the sound has no samples")]
     Empty,
     /// Sound that goes on behind all bytes that its head counts.
-    #[error("more follows than the head counts: sox IN.wav OUT.wav")]
+    #[error("more follows than the head counts: sox --ignore-length IN.wav OUT.wav")]
     MoreFollows,
     /// Sound whose greatest sample is under three times the threshold; such a threshold would fit.
     #[error("the sound is too quiet for the threshold: give --threshold {0}")]

@@ -22,7 +22,7 @@ program = codes "mfloop"
 abbrev pub usage_line : List ℕ
 usage_line =
     codes "mfloop: usage: mfloop [--line N=WIRE]... [--table FILE] "
-    ++ codes "[--format vcd|sigrok|saleae|edges|gpiomon|bits|s16|wav] [--rate HZ] [--settle MS] [--seize MS] "
+    ++ codes "[--format vcd|sigrok|saleae|edges|gpiomon|bits|bits16|s16|wav] [--rate HZ] [--settle MS] [--seize MS] "
     ++ codes "[--tick MS] [--threshold PERCENT] [--inverted] [--said]\n"
 
 -- what is asked for, where so long a break releases a line
