@@ -28,6 +28,10 @@ const TAKEN: &[(&[&str], &[u8])] = &[
     (&["7=my line"], UNQUOTED),
 ];
 
+// An edge of another wire that is lost is passed over.
+const LOST: &[u8] =
+    b"1.0 rising gpiochip0 4\n1.1 rising gpiochip0 4\n1.2 rising gpiochip0 17\n1.3 rising gpiochip0 17\n";
+
 #[test]
 fn gives_the_rows_of_each(rt: HostRuntime) -> Result<(), Fail> {
     for (words, recording) in TAKEN {
@@ -54,6 +58,11 @@ const REFUSED: &[(&[&str], &[u8], &[u8])] = &[
         &["7=A"],
         b"; Channels (3/3): A, B, A\n",
         b"mfloop: text line 1: two wires have a name that is asked for: ; Channels (3/3): A, B, A\n",
+    ),
+    (
+        &["7=17"],
+        LOST,
+        b"mfloop: text line 4: an edge is lost: two of one direction follow each other: 1.3 rising gpiochip0 17\n",
     ),
 ];
 

@@ -1,6 +1,7 @@
 pub mod CellLemmas
 pub mod DigitLemmas
 pub mod WrittenSeconds
+pub mod TurnLemmas
 pub mod WrittenEdges
 pub mod NamedLines
 pub mod WrittenRows

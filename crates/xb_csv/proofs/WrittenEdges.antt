@@ -1,7 +1,7 @@
 -- Edges that are written are read back.
-use Rattle.std.proofs.Common.{◌≡◌, ℕ, suc, ◌+◌, ◌-◌, ◌^◌, ◌<◌, ◌≤◌, List, [], ◌∷◌, ◌++◌, Bool, true, false, cond, Option, Some, None, length, length-append, take, drop, get_or, reverse, refl, ap, subst, ◌∙◌, arith, ne_eqb, not, codes, ◌&&◌, ◌||◌}
+use Rattle.std.proofs.Common.{◌≡◌, ℕ, suc, ◌+◌, ◌-◌, ◌^◌, ◌<◌, ◌≤◌, List, [], ◌∷◌, ◌++◌, Bool, true, false, cond, Option, Some, None, length, length-append, take, drop, get_or, replicate, reverse, refl, ap, subst, ◌∙◌, arith, ne_eqb, not, codes, ◌&&◌, ◌||◌}
 use Rattle.std.proofs.Math.Seq.{drop-append_seam, split_at, take-append_seam, take-length}
-use Rattle.std.proofs.lemmas.List.{length-reverse, length-take-le, reverse-append}
+use Rattle.std.proofs.lemmas.List.{length-replicate, length-reverse, length-take-le, reverse-append}
 use Rattle.std.specs.Prelude.{Ok, Err, bytes_eq, decimal, is_some, nat_lt, ◌==◌, option_map}
 use Rattle.std.specs.Char.{is_ascii_whitespace}
 use Rattle.std.specs.List.{AllByRecursion, IsDistinct, list_all, position, prefix_len, suffix_len}
@@ -18,12 +18,13 @@ use Rattle.xb_contact.specs.declared.level.Level.TheVariants.{Open, Closed}
 use Rattle.xb_contact.specs.declared.scale.TheConstants.{NANOSECONDS}
 use Rattle.xb_contact.specs.Changes.{AreInOrder, AreNames, Change, IsName, change_events}
 use Rattle.xb_contact.specs.Numbers.{number_of}
-use Rattle.xb_contact.specs.Steps.{result_and_then, result_map, then_later}
+use Rattle.xb_contact.specs.Steps.{is_before, result_and_then, result_map, then_later}
 use Rattle.xb_contact.proofs.StepLemmas.{line_says}
 use Rattle.xb_contact.proofs.Written.{AreOthers, all_weaker, digits_are, never_after_end, one_of, others_differ, same_bytes}
 use Rattle.xb_csv.specs.Cells.{trimmed, trimmed_end}
-use Rattle.xb_csv.specs.Gpiomons.{EdgeSaid, GpiomonState, cut_word, edge_line_says, edge_of, edge_says, edge_with, first_kind, first_word, gpiomon_ends, gpiomon_line_says, gpiomon_says, gpiomon_with, is_gap, is_name, is_numbered, level_after, named_levels, names_by, names_wire, second_kind, time_said, between}
-use Rattle.xb_csv.specs.Written.{WrittenEdgesAreRead, edge_line, edge_lines, seconds_text, way_text}
+use Rattle.xb_csv.specs.Gpiomons.{EdgeSaid, GpiomonState, cut_word, edge_line_says, edge_of, edge_says, edge_taken, edge_with, first_kind, first_word, gpiomon_by, gpiomon_ends, gpiomon_line_says, gpiomon_says, gpiomon_with, is_gap, is_name, is_numbered, level_after, levels_after, named_levels, names_by, names_wire, second_kind, time_said, between}
+use Rattle.xb_csv.specs.Written.{WrittenEdgesAreRead, are_edges, edge_line, edge_lines, next_differs, seconds_text, way_text}
+use Rattle.xb_csv.proofs.TurnLemmas.{AreFollowed, none_followed, turn_followed, turn_taken}
 use Rattle.xb_csv.proofs.WrittenSeconds.{no_place, place_of, seconds_are_read, seconds_nonempty, seconds_pass, seconds_start}
 use Rattle.xb_csv.specs.Seconds.{nanoseconds_of}
 
@@ -245,19 +246,95 @@ own_name names wire level lawful within =
           ∙ ap (λ k. events.Level k level ∷ []) count,
     )
 
+-- the levels of wires after an edge: that of other ones, and of its own
+levels-none :
+    (name : List ℕ) (level : Level) (names : List (List ℕ)) (levels : List (Option Level)) → IsName name
+    → AllByRecursion IsName names → AreOthers name names
+    → levels_after (codes "gpiochip0 " ++ name) level names levels ≡ Ok levels
+levels-none name level [] [] is words all = refl
+levels-none name level (own ∷ names) [] is words all = refl
+levels-none name level [] (last ∷ levels) is words all = refl
+levels-none name level (own ∷ names) (last ∷ levels) is words all =
+    let rest = levels_after (codes "gpiochip0 " ++ name) level names levels in
+    ap (λ t. result_and_then (λ now. result_map (λ later. now ∷ later) rest) (cond t (edge_taken last level) (Ok last)))
+    (chip-named own name words.0 is ∙ all.0)
+    ∙ ap (result_map (λ later. last ∷ later)) (levels-none name level names levels is words.1 all.1)
+
+levels-one :
+    (name : List ℕ) (level : Level) (before after : List (List ℕ)) (firsts : List (Option Level)) (last : Option Level)
+    (lasts : List (Option Level)) → IsName name → AllByRecursion IsName (before ++ name ∷ after) → AreOthers name before
+    → AreOthers name after → length firsts ≡ length before → edge_taken last level ≡ Ok (Some level)
+    → levels_after (codes "gpiochip0 " ++ name) level (before ++ name ∷ after) (firsts ++ last ∷ lasts)
+    ≡ Ok (firsts ++ Some level ∷ lasts)
+levels-one name level [] after [] last lasts is words first others even taken =
+    let rest = levels_after (codes "gpiochip0 " ++ name) level after lasts in
+    ap (λ t. result_and_then (λ now. result_map (λ later. now ∷ later) rest) (cond t (edge_taken last level) (Ok last)))
+    (chip-named name name is is ∙ same_bytes name)
+    ∙ ap (result_and_then (λ now. result_map (λ later. now ∷ later) rest)) taken
+    ∙ ap (result_map (λ later. Some level ∷ later)) (levels-none name level after lasts is words.1 others)
+levels-one name level (own ∷ before) after (one ∷ firsts) last lasts is words first others even taken =
+    let rest = levels_after (codes "gpiochip0 " ++ name) level (before ++ name ∷ after) (firsts ++ last ∷ lasts) in
+    ap (λ t. result_and_then (λ now. result_map (λ later. now ∷ later) rest) (cond t (edge_taken one level) (Ok one)))
+    (chip-named own name words.0 is ∙ first.0)
+    ∙ ap (result_map (λ later. one ∷ later))
+    (levels-one name level before after firsts last lasts is words.1 first.1 others (omega arith) taken)
+levels-one name level [] after (one ∷ firsts) last lasts is words first others even taken = absurd (omega arith)
+levels-one name level (own ∷ before) after [] last lasts is words first others even taken = absurd (omega arith)
+
+-- so an edge is taken, after which the rest are still edges
+edge-taken :
+    (names : List (List ℕ)) (levels : List (Option Level)) (edge : Change) (rest : List Change) → AreNames names
+    → edge.wire < length names → length levels ≡ length names → are_edges (edge ∷ rest) ≡ true
+    → AreFollowed levels (edge ∷ rest)
+    → (new : List (Option Level))
+    × (levels_after (codes "gpiochip0 " ++ get_or names edge.wire []) edge.level names levels ≡ Ok new)
+    × (length new ≡ length names) × AreFollowed new rest
+edge-taken names levels edge rest lawful within same turns follows =
+    let wire : ℕ = edge.wire in
+    let name : List ℕ = get_or names wire [] in
+    let text : List ℕ = codes "gpiochip0 " ++ name in
+    let before : List (List ℕ) = take wire names in
+    let after : List (List ℕ) = drop (suc wire) names in
+    let firsts : List (Option Level) = take wire levels in
+    let old : Option Level = get_or levels wire None in
+    let lasts : List (Option Level) = drop (suc wire) levels in
+    let new : List (Option Level) = firsts ++ Some edge.level ∷ lasts in
+    let all : names ≡ before ++ name ∷ after = split_at names wire [] within in
+    let own : levels ≡ firsts ++ old ∷ lasts = split_at levels wire None (omega (arith, same)) in
+    let P : List (List ℕ) → Type 0 = λ them. AllByRecursion IsName them in
+    let Q : List (List ℕ) → Type 0 = λ them. IsDistinct bytes_eq them in
+    let R : List (Option Level) → Type 0 = λ them. AreFollowed them (edge ∷ rest) in
+    let words : AllByRecursion IsName (before ++ name ∷ after) = subst P all lawful.words in
+    let is : IsName name = one_of IsName name before after words in
+    let apart = others_differ name before after (subst Q all lawful.distinct) in
+    let count : wire ≡ length firsts = omega (arith, same, length-take-le wire levels (omega (arith, same))) in
+    let even : length firsts ≡ length before = omega (arith, count, length-take-le wire names (omega arith)) in
+    let longer : length new ≡ length names =
+    omega (arith, same, ap length own, length-append firsts (old ∷ lasts), length-append firsts (Some edge.level ∷ lasts)) in (
+      new,
+      ap (λ them. levels_after text edge.level them levels) all
+          ∙ ap (levels_after text edge.level (before ++ name ∷ after)) own
+          ∙ levels-one name edge.level before after firsts old lasts is words apart.0 apart.1 even
+          (turn_taken edge rest old (follows wire)),
+      longer,
+      turn_followed firsts lasts old edge rest count turns (subst R own follows),
+    )
+
 -- a line
 line-read :
-    (names : List (List ℕ)) (last : Option ℕ) (edge : Change) (said : List Event) → AreNames names → edge.wire < length names
-    → 2 ^ 62 ≤ edge.tick → edge.tick < 2 ^ 63 → time_said last edge.tick ≡ Ok said
-    → gpiomon_line_says (gpiomon_with names last) (edge_line names edge)
-    ≡ Ok (said ++ events.Level edge.wire edge.level ∷ [], gpiomon_with names (Some edge.tick))
-line-read names last edge said lawful within late early times =
+    (names : List (List ℕ)) (levels new : List (Option Level)) (last : Option ℕ) (edge : Change) → AreNames names
+    → edge.wire < length names → 2 ^ 62 ≤ edge.tick → edge.tick < 2 ^ 63 → is_before edge.tick last ≡ false
+    → levels_after (codes "gpiochip0 " ++ get_or names edge.wire []) edge.level names levels ≡ Ok new
+    → gpiomon_line_says (gpiomon_by names levels last) (edge_line names edge)
+    ≡ Ok (time_said last edge.tick ++ events.Level edge.wire edge.level ∷ [], gpiomon_by names new (Some edge.tick))
+line-read names levels new last edge lawful within late early order taken =
     let name : List ℕ = get_or names edge.wire [] in
     let own = own_name names edge.wire edge.level lawful within in
     let time : List ℕ = seconds_text edge.tick in
     let later : List ℕ = 32 ∷ (way_text edge.level ++ (codes " gpiochip0 " ++ name)) in
     let line : List ℕ = time ++ later in
-    let state : GpiomonState = gpiomon_with names last in
+    let state : GpiomonState = gpiomon_by names levels last in
+    let said : List Event = time_said last edge.tick in
     let small : edge.tick < 2 ^ 64 = omega arith in
     let some : 0 < length line = omega (arith, length-append time later, seconds_nonempty edge.tick small) in
     let ends : EndsBare line =
@@ -272,36 +349,42 @@ line-read names last edge said lawful within late early times =
     ∙ ap (λ t. cond t (Ok ([], state)) (edge_line_says state line)) (ne_eqb (length line) 0 (λ e. absurd (omega (arith, some))))
     ∙ ap (λ found. result_and_then (λ edge. result_and_then (λ time. edge_says state edge time) (ok_or (nanoseconds_of edge.time) refusals.Time)) (ok_or found refusals.Edge)) read
     ∙ ap (λ found. result_and_then (λ time. edge_says state (edge_with (seconds_text edge.tick) chip edge.level) time) (ok_or found refusals.Time)) (seconds_are_read edge.tick late early)
-    ∙ ap (result_map (λ said. (said ++ named_levels 0 chip edge.level names, gpiomon_with names (Some edge.tick)))) times
-    ∙ ap (λ levels. Ok (said ++ levels, gpiomon_with names (Some edge.tick))) own.1
+    ∙ ap (λ t. cond t (Err refusals.Backwards) (result_map (λ now. (said ++ named_levels 0 chip edge.level names, gpiomon_by names now (Some edge.tick))) (levels_after chip edge.level names levels))) order
+    ∙ ap (result_map (λ now. (said ++ named_levels 0 chip edge.level names, gpiomon_by names now (Some edge.tick)))) taken
+    ∙ ap (λ named. Ok (said ++ named, gpiomon_by names new (Some edge.tick))) own.1
 
 -- the edges after one at this tick
 rest-read :
-    (names : List (List ℕ)) (tick end : ℕ) (edges : List Change) → AreNames names → AreInOrder (length names) tick edges end
-    → 2 ^ 62 ≤ tick → end < 2 ^ 63
-    → gpiomon_says (gpiomon_with names (Some tick)) (edge_lines names edges) ≡ Ok (change_events edges)
-rest-read names tick end [] lawful order late early = refl
-rest-read names tick end (edge ∷ rest) lawful order late early =
+    (names : List (List ℕ)) (levels : List (Option Level)) (tick end : ℕ) (edges : List Change) → AreNames names
+    → are_edges edges ≡ true → AreInOrder (length names) tick edges end → length levels ≡ length names
+    → AreFollowed levels edges → 2 ^ 62 ≤ tick → end < 2 ^ 63
+    → gpiomon_says (gpiomon_by names levels (Some tick)) (edge_lines names edges) ≡ Ok (change_events edges)
+rest-read names levels tick end [] lawful turns order same follows late early = refl
+rest-read names levels tick end (edge ∷ rest) lawful turns order same follows late early =
     let after : edge.tick ≤ end = never_after_end (length names) edge.tick rest end order.2 in
     let next : tick ≤ edge.tick = order.1 in
+    let parts = and_parts (next_differs edge.wire edge.level rest) (are_edges rest) turns in
+    let taken = edge-taken names levels edge rest lawful order.0 same turns follows in
     let said : List Event = events.At edge.tick ∷ [] in
-    let times : time_said (Some tick) edge.tick ≡ Ok said =
-    let before : nat_lt edge.tick tick ≡ false = grind (arith, nat_tests) in
-    ap (λ t. cond t (Err refusals.Backwards) (Ok said)) before in
-    line_says gpiomon_line_says gpiomon_ends (gpiomon_with names (Some tick)) (gpiomon_with names (Some edge.tick)) (edge_line names edge)
-    (edge_lines names rest) (said ++ events.Level edge.wire edge.level ∷ [])
-    (line-read names (Some tick) edge said lawful order.0 (omega arith) (omega arith) times)
+    let times : is_before edge.tick (Some tick) ≡ false = grind (arith, nat_tests) in
+    line_says gpiomon_line_says gpiomon_ends (gpiomon_by names levels (Some tick)) (gpiomon_by names taken.0 (Some edge.tick))
+    (edge_line names edge) (edge_lines names rest) (said ++ events.Level edge.wire edge.level ∷ [])
+    (line-read names levels taken.0 (Some tick) edge lawful order.0 (omega arith) (omega arith) times taken.1)
     ∙ ap (then_later (said ++ events.Level edge.wire edge.level ∷ []))
-    (rest-read names edge.tick end rest lawful order.2 (omega arith) early)
+    (rest-read names taken.0 edge.tick end rest lawful parts.1 order.2 taken.2 taken.3 (omega arith) early)
 
 pub written_edges_are_read : WrittenEdgesAreRead
-written_edges_are_read names [] end lawful order early = refl
-written_edges_are_read names (edge ∷ rest) end lawful order early =
+written_edges_are_read names [] end lawful turns order early = refl
+written_edges_are_read names (edge ∷ rest) end lawful turns order early =
     let after : edge.tick ≤ end = never_after_end (length names) edge.tick rest end order.2 in
     let late : 2 ^ 62 ≤ edge.tick = order.1 in
+    let parts = and_parts (next_differs edge.wire edge.level rest) (are_edges rest) turns in
+    let levels : List (Option Level) = replicate (length names) None in
+    let same : length levels ≡ length names = length-replicate (length names) None in
+    let taken = edge-taken names levels edge rest lawful order.0 same turns (none_followed (length names) (edge ∷ rest)) in
     let said : List Event = events.Ticks NANOSECONDS ∷ events.At edge.tick ∷ [] in
-    line_says gpiomon_line_says gpiomon_ends (gpiomon_with names None) (gpiomon_with names (Some edge.tick)) (edge_line names edge)
-    (edge_lines names rest) (said ++ events.Level edge.wire edge.level ∷ [])
-    (line-read names None edge said lawful order.0 late (omega arith) refl)
+    line_says gpiomon_line_says gpiomon_ends (gpiomon_with names None) (gpiomon_by names taken.0 (Some edge.tick))
+    (edge_line names edge) (edge_lines names rest) (said ++ events.Level edge.wire edge.level ∷ [])
+    (line-read names levels taken.0 None edge lawful order.0 late (omega arith) refl taken.1)
     ∙ ap (then_later (said ++ events.Level edge.wire edge.level ∷ []))
-    (rest-read names edge.tick end rest lawful order.2 late early)
+    (rest-read names taken.0 edge.tick end rest lawful parts.1 order.2 taken.2 taken.3 late early)

@@ -1,8 +1,9 @@
 -- What gpiomon writes, line by line.
-use Rattle.std.specs.Prelude.{ℕ, ◌+◌, ◌-◌, List, [], ◌∷◌, ◌++◌, Bool, false, Option, Some, None, Result, Ok, Err, bytes_eq, codes, drop, is_some, length, map, nat_le, nat_lt, nat_eq, slice_index, take, ◌==◌, ◌&&◌, ◌||◌, if◌then◌else◌, option_map}
+use Rattle.std.specs.Prelude.{ℕ, ◌+◌, ◌-◌, List, [], ◌∷◌, ◌++◌, Bool, false, Option, Some, None, Result, Ok, Err, bytes_eq, codes, drop, is_some, length, map, nat_le, nat_eq, replicate, slice_index, take, ◌==◌, ◌&&◌, ◌||◌, if◌then◌else◌, option_map}
 use Rattle.std.specs.List.{position, starts_with}
 use Rattle.std.specs.Option.{ok_or, option_and_then}
 use Rattle.xb_contact.specs.declared.scale.TheConstants.{NANOSECONDS}
+use Rattle.xb_contact.specs.Holds.{same_level}
 use Rattle.xb_contact.specs.Numbers.{number_of}
 use Rattle.xb_csv.specs.Cells.{trimmed}
 use Rattle.xb_csv.specs.Seconds.{nanoseconds_of}
@@ -10,7 +11,7 @@ use Rattle.xb_contact.specs.declared.event.Event.{Event}
 use Rattle.xb_contact.specs.declared.event.Event.TheVariants as events
 use Rattle.xb_contact.specs.declared.event.Refusal.{Refusal}
 use Rattle.xb_contact.specs.declared.event.Refusal.TheVariants as refusals
-use Rattle.xb_contact.specs.Steps.{Said, result_and_then, result_map, say_to_end}
+use Rattle.xb_contact.specs.Steps.{Said, is_before, result_and_then, result_map, say_to_end}
 use Rattle.xb_contact.specs.declared.level.Level.{Level}
 use Rattle.xb_contact.specs.declared.level.Level.TheVariants.{Open, Closed}
 use Rattle.xb_csv.specs.declared.gpiomon.Edge.{Edge}
@@ -107,16 +108,38 @@ second_kind line =
 abbrev pub edge_of : List ℕ → Option EdgeSaid
 edge_of line = if starts_with nat_eq line (codes "event:") then first_kind line else second_kind line
 
--- the wires that are asked for, and the last time, if there is one
+-- the wires that are asked for, the level of each that an edge has told, and the last time, if there is one
 pub record GpiomonState : Type 0 where
   pub names : List (List ℕ)
+  pub levels : List (Option Level)
   pub last : Option ℕ
 
+abbrev pub gpiomon_by : List (List ℕ) → List (Option Level) → Option ℕ → GpiomonState
+gpiomon_by names levels last = record { names = names; levels = levels; last = last }
+
+-- no edge of them has come
 abbrev pub gpiomon_with : List (List ℕ) → Option ℕ → GpiomonState
-gpiomon_with names last = record { names = names; last = last }
+gpiomon_with names last = gpiomon_by names (replicate (length names) None) last
 
 abbrev pub gpiomon_state : Gpiomon → GpiomonState
-gpiomon_state gpiomon = gpiomon_with (map (λ name. name.now) gpiomon.names.now) gpiomon.last
+gpiomon_state gpiomon =
+    gpiomon_by (map (λ name. name.now) gpiomon.names.now) gpiomon.levels.items gpiomon.last
+
+-- a wire rises and falls in turn: where it does the same again, the edge between is lost
+abbrev pub edge_taken : Option Level → Level → Result (Option Level) Refusal
+edge_taken None level = Ok (Some level)
+edge_taken (Some last) level = if same_level last level then Err refusals.LostEdge else Ok (Some level)
+
+-- the levels of the wires after an edge of those that a text names
+abbrev pub level_taken : List ℕ → Level → List ℕ → Option Level → Result (Option Level) Refusal
+level_taken text level name own = if names_wire name text then edge_taken own level else Ok own
+
+abbrev pub levels_after : List ℕ → Level → List (List ℕ) → List (Option Level) → Result (List (Option Level)) Refusal
+levels_after text level names [] = Ok []
+levels_after text level [] (own ∷ rest) = Ok (own ∷ rest)
+levels_after text level (name ∷ names) (own ∷ rest) =
+    result_and_then (λ now. result_map (λ later. now ∷ later) (levels_after text level names rest))
+    (level_taken text level name own)
 
 -- the wires that a text names, from this one on, have a level
 abbrev pub named_levels : ℕ → List ℕ → Level → List (List ℕ) → List Event
@@ -125,16 +148,21 @@ named_levels wire text level (name ∷ rest) =
     if names_wire name text then events.Level wire level ∷ named_levels (wire + 1) text level rest
     else named_levels (wire + 1) text level rest
 
--- a time never falls; the first one says that ticks are nanoseconds
-abbrev pub time_said : Option ℕ → ℕ → Result (List Event) Refusal
-time_said None time = Ok (events.Ticks NANOSECONDS ∷ events.At time ∷ [])
-time_said (Some last) time = if nat_lt time last then Err refusals.Backwards else Ok (events.At time ∷ [])
+-- a time, the first of which says that ticks are nanoseconds
+abbrev pub time_said : Option ℕ → ℕ → List Event
+time_said None time = events.Ticks NANOSECONDS ∷ events.At time ∷ []
+time_said (Some last) time = events.At time ∷ []
 
+-- an edge: its time, not before the last one, and the levels of the wires from then on
 abbrev pub edge_says : GpiomonState → EdgeSaid → ℕ → Said GpiomonState
 edge_says state edge time =
-    result_map
-    (λ said. (said ++ named_levels 0 edge.wire edge.level state.names, gpiomon_with state.names (Some time)))
-    (time_said state.last time)
+    if is_before time state.last then Err refusals.Backwards
+    else result_map
+    (λ levels. (
+      time_said state.last time ++ named_levels 0 edge.wire edge.level state.names,
+      gpiomon_by state.names levels (Some time),
+    ))
+    (levels_after edge.wire edge.level state.names state.levels)
 
 -- a line that is not empty
 abbrev pub edge_line_says : GpiomonState → List ℕ → Said GpiomonState

@@ -41,5 +41,10 @@ pub record EdgesAreRead : Type 0 where
       ≡ Ok (Ticks (scale_by 1 1000000) ∷ At (2 ^ 62 + 1500000000) ∷ Level 0 Open ∷ At (2 ^ 62 + 1500000000) ∷ Level 1 Closed ∷ [])
   pub backwards :
       gpiomon_says two_lines (codes "1.5 rising gpiochip0 4" ∷ codes "1.4 falling gpiochip0 4" ∷ []) ≡ Err refusals.Backwards
+  pub lost :
+      gpiomon_says two_lines (codes "1.5 rising gpiochip0 17" ∷ codes "1.6 rising gpiochip0 17" ∷ []) ≡ Err refusals.LostEdge
+  pub lost_elsewhere :
+      gpiomon_says two_lines (codes "1.5 rising gpiochip0 4" ∷ codes "1.6 rising gpiochip0 4" ∷ [])
+      ≡ Ok (Ticks (scale_by 1 1000000) ∷ At (2 ^ 62 + 1500000000) ∷ At (2 ^ 62 + 1600000000) ∷ [])
   pub no_time : gpiomon_says two_lines (codes "12:00:00 rising gpiochip0 4" ∷ []) ≡ Err refusals.Time
   pub no_edge : gpiomon_says two_lines (codes "1.5 17" ∷ []) ≡ Err refusals.Edge

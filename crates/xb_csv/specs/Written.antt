@@ -1,5 +1,5 @@
 -- Times, edges and tables as they are written.
-use Rattle.std.specs.Prelude.{◌≡◌, ℕ, zero, suc, ◌+◌, ◌-◌, ◌/◌, ◌%◌, ◌^◌, ◌<◌, ◌≤◌, List, [], ◌∷◌, ◌++◌, Option, None, Ok, bytes_eq, codes, decimal, length, slice_index_or}
+use Rattle.std.specs.Prelude.{◌≡◌, ℕ, zero, suc, ◌+◌, ◌-◌, ◌/◌, ◌%◌, ◌^◌, ◌<◌, ◌≤◌, List, [], ◌∷◌, ◌++◌, Bool, true, Option, None, Ok, bytes_eq, codes, decimal, if◌then◌else◌, length, not, slice_index_or, ◌==◌, ◌&&◌}
 use Rattle.std.specs.Char.{is_ascii_whitespace}
 use Rattle.std.specs.List.{list_any, prefix_len, suffix_len}
 use Rattle.xb_contact.specs.declared.event.Event.{Event}
@@ -7,6 +7,7 @@ use Rattle.xb_contact.specs.declared.event.Event.TheVariants as events
 use Rattle.xb_contact.specs.declared.level.Level.{Level}
 use Rattle.xb_contact.specs.declared.level.Level.TheVariants.{Open, Closed}
 use Rattle.xb_contact.specs.declared.scale.TheConstants.{NANOSECONDS}
+use Rattle.xb_contact.specs.Holds.{same_level}
 use Rattle.xb_contact.specs.Changes.{AreInOrder, AreNames, Change, change_events}
 use Rattle.xb_csv.specs.declared.columns.TableForm.TheVariants as forms
 use Rattle.xb_csv.specs.Gpiomons.{gpiomon_says, gpiomon_with, names_wire}
@@ -40,10 +41,21 @@ abbrev pub edge_events : List Change → List Event
 edge_events [] = []
 edge_events (edge ∷ rest) = events.Ticks NANOSECONDS ∷ change_events (edge ∷ rest)
 
+-- the next change of this wire is to another level
+abbrev pub next_differs : ℕ → Level → List Change → Bool
+next_differs wire level [] = true
+next_differs wire level (change ∷ rest) =
+    if change.wire == wire then not (same_level level change.level) else next_differs wire level rest
+
+-- changes that are edges: each wire rises and falls in turn
+abbrev pub are_edges : List Change → Bool
+are_edges [] = true
+are_edges (change ∷ rest) = next_differs change.wire change.level rest && are_edges rest
+
 -- edges that are written so are read back as they are
 abbrev pub WrittenEdgesAreRead : Type 0
 WrittenEdgesAreRead =
-    (names : List (List ℕ)) (edges : List Change) (end : ℕ) → AreNames names
+    (names : List (List ℕ)) (edges : List Change) (end : ℕ) → AreNames names → are_edges edges ≡ true
     → AreInOrder (length names) (2 ^ 62) edges end → end < 2 ^ 63
     → gpiomon_says (gpiomon_with names None) (edge_lines names edges) ≡ Ok (edge_events edges)
 

@@ -1,18 +1,21 @@
 // The lines that gpiomon writes.
-ghost use Rattle.std.specs.Prelude.{◌≡◌, ◌++◌, ◌∷◌, ◌<◌, [], IfErr, IfSome, Ok, OnOk, is_some, length, map, option_copied, option_map};
+ghost use Rattle.std.specs.Prelude.{◌≡◌, ◌++◌, ◌∷◌, ◌<◌, [], Err, IfErr, IfOk, IfSome, Ok, OnOk, is_some, length, map, option_copied, option_map};
 ghost use Rattle.std.specs.List.{position};
-ghost use Rattle.xb_contact.specs.Steps.{Adds, AddsAll, IsRefusedBy};
-ghost use Rattle.xb_csv.specs.Gpiomons.{between, edge_line_says, edge_of, edge_said, edge_says, first_kind, first_word, gpiomon_line_says, gpiomon_says, gpiomon_state, gpiomon_with, is_gap, is_name, is_numbered, level_after, named_levels, names_wire, second_kind, time_said};
+ghost use Rattle.xb_contact.specs.Steps.{Adds, IsRefusedBy};
+ghost use Rattle.xb_csv.specs.Gpiomons.{between, edge_line_says, edge_of, edge_said, edge_says, edge_taken, first_kind, first_word, gpiomon_line_says, gpiomon_says, gpiomon_state, gpiomon_with, is_gap, is_name, is_numbered, level_after, level_taken, levels_after, named_levels, names_wire, second_kind, time_said};
 
 use crate::cells::trimmed;
 use crate::seconds::nanoseconds_of;
-use xb_contact::{Event, Level, NANOSECONDS, Refusal, number_of, say};
+use std::alloc::Global;
+use xb_contact::{Event, Level, NANOSECONDS, Refusal, is_before, number_of, say};
 
 /// The reader of what gpiomon writes, of libgpiod 1 and 2: a line for each edge. A wire has the number of its
-/// line, and, where libgpiod 2 writes it, its name, with quotes or without.
+/// line, and, where libgpiod 2 writes it, its name, with quotes or without. It rises and falls in turn.
 #[derive(Drop)]
 pub struct Gpiomon<'a> {
     names: &'a [&'a str],
+    // The level of each wire, once an edge has told it.
+    levels: Vec<Option<Level>>,
     last: Option<u64>,
 }
 
@@ -175,6 +178,53 @@ pub fn is_of_gpiomon(line: &[u8]) -> bool
     edge_of(line).is_some()
 }
 
+// The level of a wire after an edge, which was not that level before.
+fn edge_taken(own: Option<Level>, level: Level) -> Result<Option<Level>, Refusal>
+    ensures { result ≡ edge_taken own level }
+{
+    match own {
+        Some(last) if last == level => Err(Refusal::LostEdge),
+        Some(_) | None => Ok(Some(level)),
+    }
+}
+
+// The level of the wire of this name after an edge of those that a text names.
+fn level_taken(
+    name: &str,
+    text: &[u8],
+    own: Option<Level>,
+    level: Level,
+) -> Result<Option<Level>, Refusal>
+    ensures { result ≡ level_taken text.now level name.now own }
+{
+    if names_wire(name.as_bytes(), text) {
+        edge_taken(own, level)
+    } else {
+        Ok(own)
+    }
+}
+
+// The wires that a text names have an edge.
+fn take_levels(
+    names: &[&str],
+    text: &[u8],
+    level: Level,
+    levels: &mut [Option<Level>],
+) -> Result<(), Refusal>
+    ensures said { OnOk result
+        (levels_after text.now level (map (λ name. name.now) names.now) levels.old ≡ Ok levels.new) }
+    ensures refused { IfErr result (λ e.
+        levels_after text.now level (map (λ name. name.now) names.now) levels.old ≡ Err e) }
+{
+    for (i, own) in levels.iter_mut().enumerate() {
+        match names.get(i) {
+            Some(name) => *own = level_taken(name, text, *own, level)?,
+            None => return Ok(()),
+        }
+    }
+    Ok(())
+}
+
 // Says the levels of the wires that a text names.
 fn say_named(
     names: &[&str],
@@ -194,25 +244,38 @@ fn say_named(
     Ok(())
 }
 
-// Says a time, which is not before the last one.
+// Says a time after the last one.
 fn say_time(last: Option<u64>, time: u64, events: &mut Vec<Event>) -> Result<(), Refusal>
-    ensures said { OnOk result (AddsAll (time_said last time) events.old.items events.new.items) }
-    ensures refused { IfErr result (IsRefusedBy (time_said last time)) }
+    ensures said { OnOk result (events.new.items ≡ events.old.items ++ time_said last time) }
+    ensures only { IfErr result (λ e. e ≡ Refusal.NoMemory) }
 {
     match last {
-        None => say(events, Event::Ticks(NANOSECONDS))?,
-        Some(last) if time < last => return Err(Refusal::Backwards),
-        Some(_) => {}
+        None => {
+            say(events, Event::Ticks(NANOSECONDS))?;
+            say(events, Event::At(time))
+        }
+        Some(_) => say(events, Event::At(time)),
     }
-    say(events, Event::At(time))
 }
 
 impl<'a> Gpiomon<'a> {
-    /// A reader that has read nothing. The wires are those of these names.
-    pub fn new(names: &'a [&'a str]) -> Gpiomon<'a>
-        ensures { gpiomon_state result ≡ gpiomon_with (map (λ name. name.now) names.now) None }
+    /// A reader that has read nothing. The wires are those of these names. It is refused where memory runs out.
+    pub fn new(alloc: Global, names: &'a [&'a str]) -> Result<Gpiomon<'a>, Refusal>
+        ensures begun { IfOk result (λ gpiomon.
+            gpiomon_state gpiomon ≡ gpiomon_with (map (λ name. name.now) names.now) None) }
+        ensures only { IfErr result (λ e. e ≡ Refusal.NoMemory) }
     {
-        Gpiomon { names, last: None }
+        let mut levels = Vec::new(alloc);
+        for _name in names {
+            if levels.push(None).is_err() {
+                return Err(Refusal::NoMemory);
+            }
+        }
+        Ok(Gpiomon {
+            names,
+            levels,
+            last: None,
+        })
     }
 
     // An edge at this time.
@@ -227,6 +290,10 @@ impl<'a> Gpiomon<'a> {
         ensures refused { IfErr result (IsRefusedBy
             (edge_says (gpiomon_state self.old) (edge_said edge.entry) time)) }
     {
+        if is_before(time, self.last) {
+            return Err(Refusal::Backwards);
+        }
+        take_levels(self.names, edge.wire, edge.level, &mut self.levels)?;
         say_time(self.last, time, events)?;
         self.last = Some(time);
         say_named(self.names, edge.wire, edge.level, events)

@@ -31,7 +31,7 @@ pub fn edges_are_read()
 {}
 
 /// Edges, written as gpiomon writes them, are read back as they are: each at its time, of its wire, in order. The wires
-/// have names of their own, no time is before the one above, and all are below 2^62 ns.
+/// have names of their own, each rises and falls in turn, no time is before the one above, and all are below 2^62 ns.
 pub fn written_edges_are_read()
     ensures { WrittenEdgesAreRead }
 {}

@@ -124,7 +124,7 @@ edge-told names edge edges end lawful order early =
     let others : List (List ℕ) = edge_lines names edges ++ [] ∷ [] in
     let one : AreInOrder (length names) (2 ^ 62) (edge ∷ []) end = (order.0, order.1, within) in
     let found : is_some (edge_of line) ≡ true =
-    is-edge names line (edge_events (edge ∷ [])) same some (written_edges_are_read names (edge ∷ []) end lawful one early) in
+    is-edge names line (edge_events (edge ∷ [])) same some (written_edges_are_read names (edge ∷ []) end lawful refl one early) in
     let low : list_all is-low time ≡ true =
     seconds_pass is-low (λ digit few. grind (arith, nat_tests)) refl edge.tick small in
     ap (λ t. cond t (Some formats.Wav) (cond (is_archive (line ++ 10 ∷ rest)) None (told_by_lines (text_lines (line ++ 10 ∷ rest)))))

@@ -10,8 +10,8 @@ pub fn constants()
     ensures { AreConstants }
 {}
 
-/// Whatever wires do, written as a VCD, as edges of gpiomon, or as rows of times and levels, a text says just that of
-/// them: nothing is lost, added or moved.
+/// Whatever wires do, written as a VCD, as rows of times and levels, or, where each rises and falls in turn, as edges of
+/// gpiomon, a text says just that of them: nothing is lost, added or moved.
 pub fn written_is_read()
     ensures { (wanted : Wanted) → WrittenIsRead wanted }
 {}

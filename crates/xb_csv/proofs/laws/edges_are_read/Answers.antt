@@ -10,6 +10,8 @@ returns c = record {
   of_libgpiod_1 = refl;
   of_libgpiod_2 = refl;
   backwards = refl;
+  lost = refl;
+  lost_elsewhere = refl;
   no_time = refl;
   no_edge = refl;
 }
