@@ -1,5 +1,6 @@
 pub mod CellLemmas
 pub mod DigitLemmas
+pub mod RowLemmas
 pub mod WrittenSeconds
 pub mod TurnLemmas
 pub mod WrittenEdges
@@ -7,4 +8,6 @@ pub mod NamedLines
 pub mod WrittenRows
 pub mod WrittenCells
 pub mod WrittenSigrok
+pub mod WrittenTimes
+pub mod WrittenCutTimes
 pub mod WrittenSaleae

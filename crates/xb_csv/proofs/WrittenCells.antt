@@ -16,7 +16,7 @@ use Rattle.xb_contact.specs.Changes.{IsName}
 use Rattle.xb_contact.specs.Steps.{is_before, result_and_then, result_map, then_later}
 use Rattle.xb_contact.proofs.StepLemmas.{line_says}
 use Rattle.xb_contact.proofs.Written.{AreOthers, others_differ, same_bytes}
-use Rattle.xb_csv.specs.declared.columns.Clock.{Clock}
+use Rattle.xb_csv.specs.declared.clock.Clock.{Clock}
 use Rattle.xb_csv.specs.declared.columns.TableForm.{TableForm}
 use Rattle.xb_csv.specs.Cells.{cell_number, cells_of, stands_after, trimmed}
 use Rattle.xb_csv.specs.Tables.{TableState, column_by, column_of, columns_before, columns_in, level_in, levels_from, line_of_form, row_at, row_says, row_time, table_ends, table_line_says, table_says}
@@ -244,23 +244,27 @@ row_read form names wires shift clock rate last front levels line first tick cel
 
 -- the rows of a table with times, after one at this tick: by what a row says, and that nothing is said at the end
 pub timed_rest :
-    (state : Option ℕ → TableState) (text : ℕ → List ℕ) (wires : List ℕ) (count low : ℕ)
-    → ((last : Option ℕ) (row : TableRow) → low ≤ row.tick → row.tick < 2 ^ 63 → length row.levels ≡ count
+    (state : Option ℕ → TableState) (text : ℕ → List ℕ) (wires : List ℕ) (count low : ℕ) (Fits : ℕ → Type 0)
+    → ((last : Option ℕ) (row : TableRow) → low ≤ row.tick → row.tick < 2 ^ 63 → Fits row.tick → length row.levels ≡ count
     → is_before row.tick last ≡ false
     → table_line_says (state last) (cells_line (text row.tick ∷ map level_text row.levels))
     ≡ Ok (events.At row.tick ∷ levels_said 0 (levels_at row.levels wires), state (Some row.tick)))
     → ((tick : ℕ) → table_ends (state (Some tick)) ≡ Ok [])
-    → (tick : ℕ) (rows : List TableRow) → low ≤ tick → AreRows count tick rows
+    → (tick : ℕ) (rows : List TableRow) → low ≤ tick → AreRows count tick rows → AllByRecursion (λ row. Fits row.tick) rows
     → table_says (state (Some tick)) (timed_lines text rows) ≡ Ok (rows_said (rows_at rows wires))
-timed_rest state text wires count low says ends tick [] late lawful = ends tick
-timed_rest state text wires count low says ends tick (row ∷ rows) late lawful =
+timed_rest state text wires count low Fits says ends tick [] late lawful fits = ends tick
+timed_rest state text wires count low Fits says ends tick (row ∷ rows) late lawful fits =
     let next : tick ≤ row.tick = lawful.1 in
     let after : low ≤ row.tick = omega arith in
     let order : is_before row.tick (Some tick) ≡ false = grind (arith, nat_tests) in
     let own : List Event = events.At row.tick ∷ levels_said 0 (levels_at row.levels wires) in
     line_says table_line_says table_ends (state (Some tick)) (state (Some row.tick)) (cells_line (text row.tick ∷ map level_text row.levels))
-    (timed_lines text rows) own (says (Some tick) row after lawful.2 lawful.0 order)
-    ∙ ap (then_later own) (timed_rest state text wires count low says ends row.tick rows after lawful.3)
+    (timed_lines text rows) own (says (Some tick) row after lawful.2 fits.0 lawful.0 order)
+    ∙ ap (then_later own) (timed_rest state text wires count low Fits says ends row.tick rows after lawful.3 fits.1)
+
+any-fits : (rows : List TableRow) → AllByRecursion (λ row. Unit {0}) rows
+any-fits [] = tt
+any-fits (row ∷ rows) = (tt, any-fits rows)
 
 -- all of them
 pub timed_rows :
@@ -273,7 +277,9 @@ pub timed_rows :
     → (row : TableRow) (rows : List TableRow) → AreRows count low (row ∷ rows)
     → table_says (state None) (timed_lines text (row ∷ rows)) ≡ Ok (rows_said (rows_at (row ∷ rows) wires))
 timed_rows state text wires count low says ends row rows lawful =
+    let Fits : ℕ → Type 0 = λ tick. Unit {0} in
     let own : List Event = events.At row.tick ∷ levels_said 0 (levels_at row.levels wires) in
     line_says table_line_says table_ends (state None) (state (Some row.tick)) (cells_line (text row.tick ∷ map level_text row.levels))
     (timed_lines text rows) own (says None row lawful.1 lawful.2 lawful.0 refl)
-    ∙ ap (then_later own) (timed_rest state text wires count low says ends row.tick rows lawful.1 lawful.3)
+    ∙ ap (then_later own) (timed_rest state text wires count low Fits
+    (λ last row late early fits same order. says last row late early same order) ends row.tick rows lawful.1 lawful.3 (any-fits rows))

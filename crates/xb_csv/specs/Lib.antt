@@ -2,6 +2,7 @@ pub mod Cells
 pub mod Seconds
 pub mod Tables
 pub mod WorkedTables
+pub mod WorkedRates
 pub mod Gpiomons
 pub mod WorkedEdges
 pub mod Written

@@ -12,6 +12,10 @@ is_number text = list_all is_digit text
 abbrev pub fitting : ℕ → Option ℕ
 fitting number = if nat_lt number (2 ^ 64) then Some number else None
 
+-- what stands before the point of a number, and after it
+abbrev pub point_parts : List ℕ → List ℕ × List ℕ
+point_parts text = unwrap_or (cut_at 46 text) (text, [])
+
 -- the nanoseconds of a fraction: its first nine digits, zeros where it has fewer
 abbrev pub nine_digits : List ℕ → List ℕ
 nine_digits text = take 9 (text ++ replicate 9 48)
@@ -27,7 +31,7 @@ nanoseconds_by parts =
     (number_of parts.0)
 
 abbrev pub unsigned_nanoseconds : List ℕ → Option ℕ
-unsigned_nanoseconds text = nanoseconds_by (unwrap_or (cut_at 46 text) (text, []))
+unsigned_nanoseconds text = nanoseconds_by (point_parts text)
 
 -- times below 0 are counted back from a moment 2^62 nanoseconds before it, the others on from it
 abbrev pub from_origin : Bool → ℕ → Option ℕ

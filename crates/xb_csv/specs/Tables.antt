@@ -1,5 +1,5 @@
 -- Tables of levels, line by line.
-use Rattle.std.specs.Prelude.{ℕ, ◌+◌, ◌*◌, List, [], ◌∷◌, Bool, Option, Some, None, Result, Ok, Err, bytes_eq, codes, length, map, nat_eq, nat_lt, ◌==◌, ◌&&◌, ◌||◌, if◌then◌else◌, slice_get}
+use Rattle.std.specs.Prelude.{ℕ, ◌+◌, ◌*◌, ◌/◌, ◌%◌, List, [], ◌∷◌, Bool, false, Option, Some, None, Result, Ok, Err, bytes_eq, codes, is_some, length, map, nat_eq, nat_lt, not, ◌==◌, ◌&&◌, ◌||◌, if◌then◌else◌, slice_get}
 use Rattle.std.specs.List.{starts_with}
 use Rattle.std.specs.Option.{ok_or, option_and_then}
 use Rattle.xb_contact.specs.declared.scale.Scale.{Scale}
@@ -13,13 +13,14 @@ use Rattle.xb_contact.specs.declared.level.Level.{Level}
 use Rattle.xb_contact.specs.Numbers.{level_of, number_of}
 use Rattle.xb_contact.specs.Steps.{Said, is_before, result_and_then, result_map, said_before, say_to_end}
 use Rattle.xb_contact.specs.Times.{scale_by}
-use Rattle.xb_csv.specs.declared.columns.Clock.{Clock}
-use Rattle.xb_csv.specs.declared.columns.Clock.TheVariants as clocks
+use Rattle.xb_csv.specs.declared.clock.Clock.{Clock}
+use Rattle.xb_csv.specs.declared.clock.Clock.TheVariants as clocks
 use Rattle.xb_csv.specs.declared.columns.Columns.{Columns}
+use Rattle.xb_csv.specs.declared.periods.CutTimes.{CutTimes}
 use Rattle.xb_csv.specs.declared.columns.TableForm.{TableForm}
 use Rattle.xb_csv.specs.declared.columns.TableForm.TheVariants as forms
 use Rattle.xb_csv.specs.Cells.{after, cell_number, cells_of, stands_after, trimmed}
-use Rattle.xb_csv.specs.Seconds.{fitting, nanoseconds_of}
+use Rattle.xb_csv.specs.Seconds.{fitting, fraction_of, nanoseconds_of, point_parts}
 
 -- the form, the wires that are asked for, their columns, when a row is, how many samples a second has, where that is
 -- known, and the time of the last row, if there is one
@@ -66,7 +67,7 @@ columns_in cells [] = Ok []
 columns_in cells (name ∷ names) =
     result_and_then (λ column. result_map (λ rest. column ∷ rest) (columns_in cells names)) (column_of name cells)
 
--- a rate as `10 kHz` or `10000`
+-- a rate as `12.5 kHz` or `12500`
 abbrev pub hertz_of : List ℕ → Option ℕ
 hertz_of unit =
     if bytes_eq unit (codes "Hz") then Some 1
@@ -74,9 +75,22 @@ hertz_of unit =
     else (if bytes_eq unit (codes "MHz") then Some 1000000
     else (if bytes_eq unit (codes "GHz") then Some 1000000000 else None)))
 
+-- so many billionths of a unit, which have to be whole Hz
+abbrev pub whole_hertz : ℕ → Option ℕ
+whole_hertz billionths = if billionths % 1000000000 == 0 then Some (billionths / 1000000000) else None
+
+abbrev pub hertz_in_part : ℕ → ℕ → Option ℕ
+hertz_in_part hertz billionths = option_and_then whole_hertz (fitting (billionths * hertz))
+
+-- what stands before the point of a number, and after it, in units of so many Hz
+abbrev pub hertz_in_parts : ℕ → List ℕ × List ℕ → Option ℕ
+hertz_in_parts hertz parts =
+    option_and_then
+    (λ whole. option_and_then (λ part. fitting (whole + part)) (option_and_then (hertz_in_part hertz) (fraction_of parts.1)))
+    (option_and_then (λ n. fitting (n * hertz)) (number_of parts.0))
+
 abbrev pub rate_by : List ℕ → List ℕ → Option ℕ
-rate_by number unit =
-    option_and_then (λ hertz. option_and_then (λ n. fitting (n * hertz)) (number_of number)) (hertz_of unit)
+rate_by number unit = option_and_then (λ hertz. hertz_in_parts hertz (point_parts number)) (hertz_of unit)
 
 abbrev pub rate_in_parts : List ℕ → Option (List ℕ × List ℕ) → Option ℕ
 rate_in_parts text None = rate_by text (codes "Hz")
@@ -125,30 +139,48 @@ samples_begin state None = Err refusals.NoRate
 samples_begin state (Some rate) =
     if rate == 0 then Err refusals.NoRate else begins_rows state clocks.Rows (scale_by 1000 rate)
 
--- the unit of a time column, by its label
-abbrev pub unit_of_label : List ℕ → Option Scale
-unit_of_label label =
-    if bytes_eq label (codes "seconds") then Some (scale_by 1000 1)
-    else (if bytes_eq label (codes "milliseconds") then Some (scale_by 1 1)
-    else (if bytes_eq label (codes "microseconds") then Some (scale_by 1 1000)
-    else (if bytes_eq label (codes "nanoseconds") then Some (scale_by 1 1000000)
-    else (if bytes_eq label (codes "picoseconds") then Some (scale_by 1 1000000000) else None))))
+-- the unit of a time column, by its label: so many are a second
+abbrev pub units_of_label : List ℕ → Option ℕ
+units_of_label label =
+    if bytes_eq label (codes "seconds") then Some 1
+    else (if bytes_eq label (codes "milliseconds") then Some 1000
+    else (if bytes_eq label (codes "microseconds") then Some 1000000
+    else (if bytes_eq label (codes "nanoseconds") then Some 1000000000
+    else (if bytes_eq label (codes "picoseconds") then Some 1000000000000 else None))))
+
+abbrev pub scale_of_units : ℕ → Scale
+scale_of_units units = if nat_lt units 1000 then scale_by 1000 units else scale_by 1 (units / 1000)
+
+-- sigrok counts times by the units of a sample, of which it cuts off what is not whole: where something is cut off, and
+-- a unit is no longer than a sample, these are the units of a second and the samples, and the units that it counts by
+abbrev pub cut_by : ℕ → ℕ → CutTimes
+cut_by units rate = record { units = units; rate = rate; period = units / rate }
+
+abbrev pub cut_times : ℕ → Option ℕ → Option CutTimes
+cut_times units None = None
+cut_times units (Some rate) =
+    if nat_lt 0 rate && (nat_lt rate units && not (units % rate == 0)) then Some (cut_by units rate) else None
+
+-- such times begin with the first row; others are times in units
+abbrev pub times_begin : TableState → ℕ → Option CutTimes → Said TableState
+times_begin state units None = begins_rows state clocks.Ticks (scale_of_units units)
+times_begin state units (Some cut) = Ok ([], record state { clock = clocks.Undecided cut })
 
 -- a label that is no unit: sigrok has written it where the time counts nothing
 abbrev pub label_refused : List ℕ → Refusal
 label_refused label =
     if bytes_eq label (codes "samples") || bytes_eq label (codes "Time") then refusals.NoUnit else refusals.Header
 
-abbrev pub sigrok_by_unit : TableState → List ℕ → Option Scale → Said TableState
-sigrok_by_unit state label (Some scale) = begins_rows state clocks.Ticks scale
-sigrok_by_unit state label None =
+abbrev pub sigrok_by_units : TableState → List ℕ → Option ℕ → Said TableState
+sigrok_by_units state label (Some units) = times_begin state units (cut_times units state.rate)
+sigrok_by_units state label None =
     if bytes_eq label (codes "logic") then samples_begin state state.rate else Err (label_refused label)
 
 -- the header of sigrok, after the comment with the names
 abbrev pub sigrok_header : TableState → List ℕ → Said TableState
 sigrok_header state line =
     if length state.columns == length state.names
-    then result_and_then (λ label. sigrok_by_unit state label (unit_of_label label))
+    then result_and_then (λ label. sigrok_by_units state label (units_of_label label))
     (ok_or (slice_get (cells_of line) 0) refusals.Header)
     else Err refusals.Header
 
@@ -185,10 +217,16 @@ abbrev pub tick_after : Option ℕ → Option ℕ
 tick_after None = Some 0
 tick_after (Some last) = fitting (last + 1)
 
+-- the number of periods that a time is, if they are whole
+abbrev pub in_periods : ℕ → ℕ → Option ℕ
+in_periods period time = if nat_lt 0 period && (time % period == 0) then Some (time / period) else None
+
 -- when a row is: its first cell says it, or each row is a tick
 abbrev pub row_time : Clock → Option ℕ → List ℕ → Option ℕ
 row_time clocks.Unknown last cell = None
+row_time (clocks.Undecided cut) last cell = None
 row_time clocks.Ticks last cell = number_of cell
+row_time (clocks.Periods period) last cell = option_and_then (in_periods period) (number_of cell)
 row_time clocks.Seconds last cell = nanoseconds_of cell
 row_time clocks.Rows last cell = tick_after last
 
@@ -207,7 +245,9 @@ levels_from wire before cells (column ∷ columns) =
 -- the columns before those that sigrok names: that of the time
 abbrev pub columns_before : Clock → ℕ
 columns_before clocks.Unknown = 0
+columns_before (clocks.Undecided cut) = 1
 columns_before clocks.Ticks = 1
+columns_before (clocks.Periods period) = 1
 columns_before clocks.Seconds = 0
 columns_before clocks.Rows = 0
 
@@ -225,10 +265,30 @@ row_says state line =
     (ok_or (row_time state.clock state.last cell) refusals.Time))
     (ok_or (slice_get (cells_of line) 0) refusals.Columns)
 
+-- the first of times that may be cut tells whether they are: then it is some whole periods, and not none. Each is a
+-- sample then, and else times are in units
+abbrev pub counts_periods : ℕ → Option ℕ → Bool
+counts_periods period None = false
+counts_periods period (Some time) = nat_lt 0 time && is_some (in_periods period time)
+
+abbrev pub times_decided : TableState → CutTimes → Option ℕ → Said TableState
+times_decided state cut time =
+    if counts_periods cut.period time then begins_rows state (clocks.Periods cut.period) (scale_by 1000 cut.rate)
+    else begins_rows state clocks.Ticks (scale_of_units cut.units)
+
+abbrev pub first_number : List ℕ → Option ℕ
+first_number line = option_and_then number_of (slice_get (cells_of line) 0)
+
+abbrev pub first_time : TableState → CutTimes → List ℕ → Said TableState
+first_time state cut line =
+    result_and_then (λ said. said_before said.0 (row_says said.1 line)) (times_decided state cut (first_number line))
+
 -- a line of each form, by whether its header has come
 abbrev pub sigrok_row : TableState → Clock → List ℕ → Said TableState
 sigrok_row state clocks.Unknown line = sigrok_header state line
+sigrok_row state (clocks.Undecided cut) line = first_time state cut line
 sigrok_row state clocks.Ticks line = row_says state line
+sigrok_row state (clocks.Periods period) line = row_says state line
 sigrok_row state clocks.Seconds line = row_says state line
 sigrok_row state clocks.Rows line = row_says state line
 
@@ -237,14 +297,18 @@ sigrok_line state line = if is_comment line then comment_says state line else si
 
 abbrev pub saleae_row : TableState → Clock → List ℕ → Said TableState
 saleae_row state clocks.Unknown line = saleae_header state line
+saleae_row state (clocks.Undecided cut) line = row_says state line
 saleae_row state clocks.Ticks line = row_says state line
+saleae_row state (clocks.Periods period) line = row_says state line
 saleae_row state clocks.Seconds line = row_says state line
 saleae_row state clocks.Rows line = row_says state line
 
 abbrev pub edges_row : TableState → Clock → List ℕ → Said TableState
 edges_row state clocks.Unknown line =
     result_and_then (λ said. said_before said.0 (row_says said.1 line)) (no_header state)
+edges_row state (clocks.Undecided cut) line = row_says state line
 edges_row state clocks.Ticks line = row_says state line
+edges_row state (clocks.Periods period) line = row_says state line
 edges_row state clocks.Seconds line = row_says state line
 edges_row state clocks.Rows line = row_says state line
 
@@ -261,7 +325,9 @@ table_line_says state line =
 -- the end: there has to be a row, and where each row is a tick, the last one lasts a tick too
 abbrev pub ends_at : Clock → ℕ → Result (List Event) Refusal
 ends_at clocks.Unknown last = Ok []
+ends_at (clocks.Undecided cut) last = Ok []
 ends_at clocks.Ticks last = Ok []
+ends_at (clocks.Periods period) last = Ok []
 ends_at clocks.Seconds last = Ok []
 ends_at clocks.Rows last = result_map (λ time. events.At time ∷ []) (ok_or (fitting (last + 1)) refusals.Time)
 

@@ -27,6 +27,9 @@ of_sigrok = begun_table forms.Sigrok (codes "D1" ∷ []) None
 abbrev pub two_names : List ℕ
 two_names = codes "; Channels (2/2): D0, D1"
 
+abbrev pub at_12_kilohertz : List ℕ
+at_12_kilohertz = codes "; Samplerate: 12 kHz"
+
 abbrev pub of_saleae : TableState
 of_saleae = begun_table forms.Saleae (codes "D1" ∷ []) None
 
@@ -43,6 +46,18 @@ pub record TablesAreRead : Type 0 where
       table_says of_sigrok
       (two_names ∷ codes "; Samplerate: 10 kHz" ∷ codes "logic,logic" ∷ codes "1,0" ∷ codes "1,1" ∷ [])
       ≡ Ok (Ticks (scale_by 1000 10000) ∷ At 0 ∷ Level 0 Open ∷ At 1 ∷ Level 0 Closed ∷ At 2 ∷ [])
+  pub cut :
+      table_says of_sigrok
+      (two_names ∷ at_12_kilohertz ∷ codes "microseconds,logic,logic" ∷ codes "83,1,0" ∷ codes "581,1,1" ∷ [])
+      ≡ Ok (Ticks (scale_by 1000 12000) ∷ At 1 ∷ Level 0 Open ∷ At 7 ∷ Level 0 Closed ∷ [])
+  pub begins_at_0 :
+      table_says of_sigrok
+      (two_names ∷ at_12_kilohertz ∷ codes "microseconds,logic,logic" ∷ codes "0,1,0" ∷ codes "583,1,1" ∷ [])
+      ≡ Ok (Ticks (scale_by 1 1000) ∷ At 0 ∷ Level 0 Open ∷ At 583 ∷ Level 0 Closed ∷ [])
+  pub no_sample :
+      table_says of_sigrok
+      (two_names ∷ at_12_kilohertz ∷ codes "microseconds,logic,logic" ∷ codes "83,1,0" ∷ codes "583,1,1" ∷ [])
+      ≡ Err refusals.Time
   pub twice_in_sigrok : table_says of_sigrok (codes "; Channels (3/3): D1, D0, D1" ∷ []) ≡ Err refusals.Twice
   pub no_rate : table_says of_sigrok (two_names ∷ codes "logic,logic" ∷ codes "1,0" ∷ []) ≡ Err refusals.NoRate
   pub no_unit : table_says of_sigrok (two_names ∷ codes "Time,logic,logic" ∷ codes "0,1,0" ∷ []) ≡ Err refusals.NoUnit

@@ -1,5 +1,5 @@
 -- Tables of levels, as sigrok and Saleae Logic write them.
-use Rattle.std.specs.Prelude.{◌≡◌, ℕ, ◌+◌, ◌-◌, ◌*◌, ◌^◌, ◌<◌, List, [], ◌∷◌, ◌++◌, Option, None, Ok, bytes_eq, codes, decimal, if◌then◌else◌, length, map, nat_lt, not, slice_index_or, true, ◌==◌}
+use Rattle.std.specs.Prelude.{◌≡◌, ℕ, ◌+◌, ◌-◌, ◌*◌, ◌/◌, ◌%◌, ◌^◌, ◌<◌, List, [], ◌∷◌, ◌++◌, Bool, false, Option, None, Ok, bytes_eq, codes, decimal, if◌then◌else◌, length, map, nat_lt, not, slice_index_or, true, ◌==◌, ◌&&◌}
 use Rattle.std.specs.Char.{is_ascii_whitespace}
 use Rattle.std.specs.List.{AllByRecursion, IsDistinct, join_with_byte, list_all, prefix_len, suffix_len}
 use Rattle.xb_contact.specs.declared.event.Event.{Event}
@@ -145,15 +145,41 @@ times_text heading unit rows =
     heading_lines heading
     ++ cells_line (time_label unit ∷ logic_labels heading.channels) ∷ timed_lines decimal rows
 
--- sigrok's table with a column of times is read back: at each time the levels of the wires that are asked for
+-- something of a sample is cut off: a unit is shorter than it, and it is no whole units
+abbrev pub is_cut : Heading → ℕ → Bool
+is_cut heading unit = nat_lt (hertz heading) (1000 ^ unit) && not (1000 ^ unit % hertz heading == 0)
+
+-- where nothing is cut off, sigrok's table with a column of times is read back: at each time the levels of the wires that
+-- are asked for
 abbrev pub SigrokTimesAreRead : Type 0
 SigrokTimesAreRead =
     (heading : Heading) (unit : ℕ) (wires : List ℕ) (row : TableRow) (rows : List TableRow)
-    → IsHeading heading → unit < 5
+    → IsHeading heading → unit < 5 → is_cut heading unit ≡ false
     → AreAmong wires (length heading.channels) → AreRows (length heading.channels) 0 (row ∷ rows)
     → table_says (begun_table forms.Sigrok (names_at heading.channels wires) None)
     (times_text heading unit (row ∷ rows))
     ≡ Ok (events.Ticks (time_scale unit) ∷ rows_said (rows_at (row ∷ rows) wires))
+
+-- rows of samples, counted from 1, each with the time that sigrok writes: so many times the whole units of a sample
+abbrev pub cut_period : Heading → ℕ → ℕ
+cut_period heading unit = 1000 ^ unit / hertz heading
+
+abbrev pub cut_text : Heading → ℕ → List TableRow → List (List ℕ)
+cut_text heading unit rows =
+    heading_lines heading
+    ++ cells_line (time_label unit ∷ logic_labels heading.channels)
+    ∷ timed_lines (λ sample. decimal (sample * cut_period heading unit)) rows
+
+-- where something is cut off, each such time is read as its sample, whatever was cut off
+abbrev pub SigrokCutTimesAreRead : Type 0
+SigrokCutTimesAreRead =
+    (heading : Heading) (unit : ℕ) (wires : List ℕ) (row : TableRow) (rows : List TableRow)
+    → IsHeading heading → unit < 5 → is_cut heading unit ≡ true
+    → AreAmong wires (length heading.channels) → AreRows (length heading.channels) 1 (row ∷ rows)
+    → AllByRecursion (λ own. own.tick * cut_period heading unit < 2 ^ 64) (row ∷ rows)
+    → table_says (begun_table forms.Sigrok (names_at heading.channels wires) None)
+    (cut_text heading unit (row ∷ rows))
+    ≡ Ok (events.Ticks (scale_by 1000 (hertz heading)) ∷ rows_said (rows_at (row ∷ rows) wires))
 
 -- a time in seconds, with a sign where it is before 0 s, which is at tick 2^62
 abbrev pub signed_text : ℕ → List ℕ

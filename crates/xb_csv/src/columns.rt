@@ -1,40 +1,28 @@
 // Tables of levels, row by row.
-ghost use Rattle.std.specs.Prelude.{◌≡◌, ◌+◌, ◌∷◌, ◌≤◌, [], Ok, IfErr, OnOk, map};
+ghost use Rattle.std.specs.Prelude.{◌≡◌, ◌+◌, ◌∷◌, [], Ok, IfErr, OnOk, map};
 ghost use Rattle.xb_contact.specs.Steps.{Adds, AddsAll, IsRefusedBy};
 ghost use Rattle.xb_csv.specs.Cells.{cells_of};
-ghost use Rattle.xb_csv.specs.Tables.{begun_table, begins_rows, columns_before, comment_says, edges_row, ends_at, levels_from, line_of_form, names_say, no_header, row_at, row_says, row_time, saleae_begins, saleae_header, saleae_row, samples_begin, sigrok_by_unit, sigrok_header, sigrok_line, sigrok_row, table_ends, table_line_says, table_says, table_state, unit_of_label};
+ghost use Rattle.xb_csv.specs.Tables.{begun_table, begins_rows, columns_before, comment_says, cut_times, edges_row, first_time, levels_from, line_of_form, names_say, no_header, row_at, row_says, saleae_begins, saleae_header, saleae_row, samples_begin, sigrok_by_units, sigrok_header, sigrok_line, sigrok_row, table_ends, table_line_says, table_says, table_state, times_begin, times_decided, units_of_label};
 
 use crate::cells::{after, cell_at, trimmed};
-use crate::labels::{is_comment, rate_in, refusal_of_label, unit_of_label};
-use crate::seconds::nanoseconds_of;
+use crate::clock::{Clock, columns_before, end_at, first_number, row_time};
+use crate::labels::{is_comment, rate_in, refusal_of_label, scale_of_units, units_of_label};
+use crate::periods::{CutTimes, counts_periods, cut_times};
 use crate::wires::{find_columns, number_columns};
 use std::alloc::Global;
-use xb_contact::{Event, NANOSECONDS, Refusal, Scale, is_before, level_of, number_of, say};
+use xb_contact::{Event, NANOSECONDS, Refusal, Scale, is_before, level_of, say};
 use xb_text::cut_at;
 
 /// The form of a table.
 #[derive(Clone, Copy, Debug, PartialEq, Eq)]
 pub enum TableForm {
-    /// What `sigrok-cli -O csv` writes: comments with `;`, a header with the unit of the time column, if there
-    /// is one, and rows. Wires have the names of the comment `; Channels`.
+    /// What `sigrok-cli -O csv` writes: comments with `;`, a header with the unit of the times, if there are any, and
+    /// rows. Wires have the names of the comment `; Channels`. Times that sigrok cuts are those of the samples.
     Sigrok,
     /// What Saleae Logic exports: a header `Time [s],NAME,..`, and rows.
     Saleae,
     /// No header, rows `SECONDS,LEVEL,..`; the wires are 1, 2 and so on.
     Edges,
-}
-
-// When a row is.
-#[derive(Clone, Copy, Debug, PartialEq, Eq)]
-enum Clock {
-    // The header has not come.
-    Unknown,
-    // Its first column says it, a whole number of ticks.
-    Ticks,
-    // Its first column says it, in seconds.
-    Seconds,
-    // Each row is a tick.
-    Rows,
 }
 
 /// The reader of a table of levels.
@@ -47,17 +35,6 @@ pub struct Columns<'a> {
     clock: Clock,
     rate: Option<u64>,
     last: Option<u64>,
-}
-
-// The columns before those that sigrok names: that of the time.
-fn columns_before(clock: Clock) -> usize
-    ensures value { result ≡ columns_before clock }
-    ensures few { result ≤ 1 }
-{
-    match clock {
-        Clock::Ticks => 1,
-        Clock::Unknown | Clock::Seconds | Clock::Rows => 0,
-    }
 }
 
 impl<'a> Columns<'a> {
@@ -140,16 +117,33 @@ impl<'a> Columns<'a> {
         }
     }
 
+    // Times of so many units a second.
+    fn begin_times(&mut self, units: u64, events: &mut Vec<Event>) -> Result<(), Refusal>
+        ensures said { OnOk result
+            (Adds (times_begin (table_state self.old) units (cut_times units self.old.rate))
+            events.old.items events.new.items (table_state self.new)) }
+        ensures refused { IfErr result (IsRefusedBy
+            (times_begin (table_state self.old) units (cut_times units self.old.rate))) }
+    {
+        match cut_times(units, self.rate) {
+            Some(cut) => {
+                self.clock = Clock::Undecided(cut);
+                Ok(())
+            }
+            None => self.begin_rows(Clock::Ticks, scale_of_units(units), events),
+        }
+    }
+
     // The header of sigrok, whose first column has this label.
     fn take_label(&mut self, label: &[u8], events: &mut Vec<Event>) -> Result<(), Refusal>
         ensures said { OnOk result
-            (Adds (sigrok_by_unit (table_state self.old) label.now (unit_of_label label.now))
+            (Adds (sigrok_by_units (table_state self.old) label.now (units_of_label label.now))
             events.old.items events.new.items (table_state self.new)) }
         ensures refused { IfErr result (IsRefusedBy
-            (sigrok_by_unit (table_state self.old) label.now (unit_of_label label.now))) }
+            (sigrok_by_units (table_state self.old) label.now (units_of_label label.now))) }
     {
-        match unit_of_label(label) {
-            Some(scale) => self.begin_rows(Clock::Ticks, scale, events),
+        match units_of_label(label) {
+            Some(units) => self.begin_times(units, events),
             None if label == b"logic".as_slice() => self.begin_samples(events),
             None => Err(refusal_of_label(label)),
         }
@@ -202,21 +196,6 @@ impl<'a> Columns<'a> {
         self.begin_rows(Clock::Seconds, NANOSECONDS, events)
     }
 
-    // The time of a row with this first cell.
-    fn row_time(&self, cell: &[u8]) -> Option<u64>
-        ensures { result ≡ row_time self.now.clock self.now.last cell.now }
-    {
-        match self.clock {
-            Clock::Seconds => nanoseconds_of(cell),
-            Clock::Ticks => number_of(cell),
-            Clock::Rows => match self.last {
-                Some(last) => last.checked_add(1),
-                None => Some(0),
-            },
-            Clock::Unknown => None,
-        }
-    }
-
     // The levels of the wires in a row.
     fn say_levels(&self, line: &[u8], events: &mut Vec<Event>) -> Result<(), Refusal>
         ensures said { OnOk result (AddsAll
@@ -267,10 +246,47 @@ impl<'a> Columns<'a> {
         let Some(cell) = cell_at(line, 0) else {
             return Err(Refusal::Columns);
         };
-        let Some(time) = self.row_time(cell) else {
+        let Some(time) = row_time(self.clock, self.last, cell) else {
             return Err(Refusal::Time);
         };
         self.take_row_at(line, time, events)
+    }
+
+    // The first row tells what its times are.
+    fn decide(
+        &mut self,
+        cut: CutTimes,
+        time: Option<u64>,
+        events: &mut Vec<Event>,
+    ) -> Result<(), Refusal>
+        ensures said { OnOk result (Adds (times_decided (table_state self.old) cut time)
+            events.old.items events.new.items (table_state self.new)) }
+        ensures refused { IfErr result (IsRefusedBy (times_decided (table_state self.old) cut time)) }
+    {
+        if counts_periods(cut.period, time) {
+            let scale = Scale {
+                ms: 1_000,
+                ticks: cut.rate,
+            };
+            self.begin_rows(Clock::Periods(cut.period), scale, events)
+        } else {
+            self.begin_rows(Clock::Ticks, scale_of_units(cut.units), events)
+        }
+    }
+
+    // The first row of times that may be cut.
+    fn take_first_time(
+        &mut self,
+        cut: CutTimes,
+        line: &[u8],
+        events: &mut Vec<Event>,
+    ) -> Result<(), Refusal>
+        ensures said { OnOk result (Adds (first_time (table_state self.old) cut line.now)
+            events.old.items events.new.items (table_state self.new)) }
+        ensures refused { IfErr result (IsRefusedBy (first_time (table_state self.old) cut line.now)) }
+    {
+        self.decide(cut, first_number(line), events)?;
+        self.take_row(line, events)
     }
 
     // A line of sigrok that is no comment.
@@ -282,7 +298,10 @@ impl<'a> Columns<'a> {
     {
         match self.clock {
             Clock::Unknown => self.take_sigrok_header(line, events),
-            Clock::Ticks | Clock::Seconds | Clock::Rows => self.take_row(line, events),
+            Clock::Undecided(cut) => self.take_first_time(cut, line, events),
+            Clock::Ticks | Clock::Periods(_) | Clock::Seconds | Clock::Rows => {
+                self.take_row(line, events)
+            }
         }
     }
 
@@ -307,7 +326,8 @@ impl<'a> Columns<'a> {
     {
         match self.clock {
             Clock::Unknown => self.take_saleae_header(line, events),
-            Clock::Ticks | Clock::Seconds | Clock::Rows => self.take_row(line, events),
+            Clock::Undecided(_) | Clock::Ticks | Clock::Periods(_) | Clock::Seconds | Clock::Rows =>
+                self.take_row(line, events),
         }
     }
 
@@ -323,7 +343,8 @@ impl<'a> Columns<'a> {
                 self.take_no_header(events)?;
                 self.take_row(line, events)
             }
-            Clock::Ticks | Clock::Seconds | Clock::Rows => self.take_row(line, events),
+            Clock::Undecided(_) | Clock::Ticks | Clock::Periods(_) | Clock::Seconds | Clock::Rows =>
+                self.take_row(line, events),
         }
     }
 
@@ -354,21 +375,6 @@ impl<'a> Columns<'a> {
         self.take_by_form(line, events)
     }
 
-    // The end after a row at this time: one of samples lasts a tick too.
-    fn end_at(&self, last: u64, events: &mut Vec<Event>) -> Result<(), Refusal>
-        ensures said { OnOk result
-            (AddsAll (ends_at self.now.clock last) events.old.items events.new.items) }
-        ensures refused { IfErr result (IsRefusedBy (ends_at self.now.clock last)) }
-    {
-        match self.clock {
-            Clock::Rows => match last.checked_add(1) {
-                Some(time) => say(events, Event::At(time)),
-                None => Err(Refusal::Time),
-            },
-            Clock::Unknown | Clock::Ticks | Clock::Seconds => Ok(()),
-        }
-    }
-
     // The end, after some row.
     fn say_end(&self, events: &mut Vec<Event>) -> Result<(), Refusal>
         ensures said { OnOk result
@@ -376,7 +382,7 @@ impl<'a> Columns<'a> {
         ensures refused { IfErr result (IsRefusedBy (table_ends (table_state self.now))) }
     {
         match self.last {
-            Some(last) => self.end_at(last, events),
+            Some(last) => end_at(self.clock, last, events),
             None => Err(Refusal::Header),
         }
     }

@@ -1,9 +1,10 @@
 // What the words before the rows say: the unit of a time column, and the rate of the samples.
 ghost use Rattle.std.specs.Prelude.{◌≡◌};
 ghost use Rattle.xb_contact.specs.Times.{scale_by};
-ghost use Rattle.xb_csv.specs.Tables.{hertz_of, is_comment, label_refused, rate_by, rate_in, rate_of, unit_of_label};
+ghost use Rattle.xb_csv.specs.Tables.{hertz_in_part, hertz_in_parts, hertz_of, is_comment, label_refused, rate_by, rate_in, rate_of, scale_of_units, units_of_label};
 
 use crate::cells::{after, trimmed};
+use crate::seconds::{fraction_of, point_parts};
 use xb_contact::{Refusal, Scale, number_of};
 use xb_text::cut_at;
 
@@ -14,22 +15,33 @@ fn scale_by(ms: u64, ticks: u64) -> Scale
     Scale { ms, ticks }
 }
 
-// The scale of a time column by its label.
-pub(crate) fn unit_of_label(label: &[u8]) -> Option<Scale>
-    ensures { result ≡ unit_of_label label.now }
+// The unit of a time column by its label: how many are a second.
+pub(crate) fn units_of_label(label: &[u8]) -> Option<u64>
+    ensures { result ≡ units_of_label label.now }
 {
     if label == b"seconds".as_slice() {
-        Some(scale_by(1_000, 1))
+        Some(1)
     } else if label == b"milliseconds".as_slice() {
-        Some(scale_by(1, 1))
+        Some(1_000)
     } else if label == b"microseconds".as_slice() {
-        Some(scale_by(1, 1_000))
+        Some(1_000_000)
     } else if label == b"nanoseconds".as_slice() {
-        Some(scale_by(1, 1_000_000))
+        Some(1_000_000_000)
     } else if label == b"picoseconds".as_slice() {
-        Some(scale_by(1, 1_000_000_000))
+        Some(1_000_000_000_000)
     } else {
         None
+    }
+}
+
+// How long a unit is, of which so many are a second.
+pub(crate) fn scale_of_units(units: u64) -> Scale
+    ensures { result ≡ scale_of_units units }
+{
+    if units < 1_000 {
+        scale_by(1_000, units)
+    } else {
+        scale_by(1, units / 1_000)
     }
 }
 
@@ -57,15 +69,37 @@ fn hertz_of(unit: &[u8]) -> Option<u64>
     }
 }
 
+// So many billionths of a unit of so many Hz, if they are whole Hz.
+fn hertz_in_part(hertz: u64, billionths: u64) -> Option<u64>
+    ensures { result ≡ hertz_in_part hertz billionths }
+{
+    let product = billionths.checked_mul(hertz)?;
+    if product % 1_000_000_000 == 0 {
+        Some(product / 1_000_000_000)
+    } else {
+        None
+    }
+}
+
+// What stands before the point of a number, and after it, in units of so many Hz.
+fn hertz_in_parts(hertz: u64, whole: &[u8], fraction: &[u8]) -> Option<u64>
+    ensures { result ≡ hertz_in_parts hertz (whole.now, fraction.now) }
+{
+    let whole = number_of(whole)?.checked_mul(hertz)?;
+    let part = hertz_in_part(hertz, fraction_of(fraction)?)?;
+    whole.checked_add(part)
+}
+
 // A rate of so many units.
 fn rate_by(number: &[u8], unit: &[u8]) -> Option<u64>
     ensures { result ≡ rate_by number.now unit.now }
 {
     let hertz = hertz_of(unit)?;
-    number_of(number)?.checked_mul(hertz)
+    let (whole, fraction) = point_parts(number);
+    hertz_in_parts(hertz, whole, fraction)
 }
 
-// A rate as `10 kHz` or `10000`.
+// A rate as `12.5 kHz` or `12500`.
 #[tactic(auto, unfolding(crate::specs::Tables::rate_of))]
 fn rate_of(text: &[u8]) -> Option<u64>
     ensures { result ≡ rate_of text.now }

@@ -1,12 +1,23 @@
 //! What the definitions of `specs/` come to: each law is the contract of a function that does nothing.
 ghost use Rattle.xb_csv.specs.WorkedEdges.{EdgesAreRead, WiresAreNamed};
+ghost use Rattle.xb_csv.specs.WorkedRates.{PeriodsAreCut, RatesAreRead};
 ghost use Rattle.xb_csv.specs.WorkedTables.{SecondsAreRead, TablesAreRead};
 ghost use Rattle.xb_csv.specs.Written.{LinesAreNamed, WrittenEdgesAreRead, WrittenRowsAreRead};
-ghost use Rattle.xb_csv.specs.WrittenTables.{SaleaeIsRead, SigrokSamplesAreRead, SigrokTimesAreRead, TablesAreWritten};
+ghost use Rattle.xb_csv.specs.WrittenTables.{SaleaeIsRead, SigrokCutTimesAreRead, SigrokSamplesAreRead, SigrokTimesAreRead, TablesAreWritten};
 
 /// What some times in seconds say.
 pub fn seconds_are_read()
     ensures { SecondsAreRead }
+{}
+
+/// Which rates some texts are.
+pub fn rates_are_read()
+    ensures { RatesAreRead }
+{}
+
+/// The whole units of a sample at some rates.
+pub fn periods_are_cut()
+    ensures { PeriodsAreCut }
 {}
 
 /// What some tables say, and why others say nothing.
@@ -49,10 +60,17 @@ pub fn sigrok_samples_are_read()
     ensures { SigrokSamplesAreRead }
 {}
 
-/// The same of a table with a column of times, in seconds, ms, us, ns or ps: at each time the level of each wire that is
-/// asked for. No time is before the one above, and all are below 2^63.
+/// The same of a table with a column of times, in seconds, ms, us, ns or ps, where a sample is some whole units, or a unit
+/// is longer: at each time the level of each wire that is asked for. No time is before the one above, and all are below
+/// 2^63.
 pub fn sigrok_times_are_read()
     ensures { SigrokTimesAreRead }
+{}
+
+/// The same where a sample is no whole units, and a unit is shorter: sigrok cuts the rest off, and counts times by what is
+/// left. Each is read as exactly its sample, a tick each.
+pub fn sigrok_cut_times_are_read()
+    ensures { SigrokCutTimesAreRead }
 {}
 
 /// A table as Saleae Logic writes it, with times in seconds to the nanosecond, and a sign before 0 s, is read back as it

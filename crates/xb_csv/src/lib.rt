@@ -9,16 +9,19 @@
 //!   times and levels, are read back as they are.
 //! - `laws::sigrok_samples_are_read`, `sigrok_times_are_read` and `saleae_is_read` (`WrittenTables`): tables as sigrok and
 //!   Saleae Logic write them are read back as they are, whichever of their channels are asked for.
+//!   `sigrok_cut_times_are_read`: times of which sigrok cuts something off are read as exactly their samples.
 //! - `names_wire` (`Gpiomons`): the names of a wire, by what gpiomon writes of it.
 //! - `trimmed` and `cell_at` (`Cells`): the cells of a line, without the blanks around them.
 //! - `nanoseconds_of` (`Seconds`): a time in seconds, with a sign where it is below 0, to the nanosecond.
 #![tactic(auto)]
 
 mod cells;
+mod clock;
 mod columns;
 mod gpiomon;
 mod labels;
 pub mod laws;
+mod periods;
 mod seconds;
 mod wires;
 

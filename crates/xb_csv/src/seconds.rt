@@ -1,6 +1,6 @@
 // Times in seconds.
 ghost use Rattle.std.specs.Prelude.{◌≡◌, ◌+◌, ◌<◌, ◌∷◌, drop};
-ghost use Rattle.xb_csv.specs.Seconds.{fraction_of, is_number, nanoseconds_of, nine_digits, unsigned_nanoseconds};
+ghost use Rattle.xb_csv.specs.Seconds.{fraction_of, is_number, nanoseconds_of, nine_digits, point_parts, unsigned_nanoseconds};
 
 use xb_contact::{is_digit, number_after, number_of};
 use xb_text::cut_at;
@@ -30,8 +30,19 @@ fn digit_at(text: &[u8], place: usize) -> u8
     }
 }
 
-// The nanoseconds that the digits of a fraction write.
-fn fraction_of(text: &[u8]) -> Option<u64>
+/// What stands before the point of a number, and after it.
+pub(crate) fn point_parts(text: &[u8]) -> (&[u8], &[u8])
+    ensures whole { result.0.now ≡ (point_parts text.now).0 }
+    ensures fraction { result.1.now ≡ (point_parts text.now).1 }
+{
+    match cut_at(b'.', text) {
+        Some(parts) => parts,
+        None => (text, b"".as_slice()),
+    }
+}
+
+/// The billionths that the digits of a fraction write, as nanoseconds of a second; digits after the ninth are left out.
+pub(crate) fn fraction_of(text: &[u8]) -> Option<u64>
     ensures { result ≡ fraction_of text.now }
 {
     if !is_number(text) {
@@ -51,10 +62,7 @@ fn fraction_of(text: &[u8]) -> Option<u64>
 fn unsigned_nanoseconds(text: &[u8]) -> Option<u64>
     ensures { result ≡ unsigned_nanoseconds text.now }
 {
-    let (whole, fraction) = match cut_at(b'.', text) {
-        Some(parts) => parts,
-        None => (text, b"".as_slice()),
-    };
+    let (whole, fraction) = point_parts(text);
     let whole = number_of(whole)?;
     let fraction = fraction_of(fraction)?;
     whole.checked_mul(1_000_000_000)?.checked_add(fraction)

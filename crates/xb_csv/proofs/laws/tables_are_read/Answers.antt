@@ -9,6 +9,9 @@ unfolding cell_number cells_of stands_after trimmed nanoseconds_of rate_of
 returns c = record {
   sigrok = refl;
   samples = refl;
+  cut = refl;
+  begins_at_0 = refl;
+  no_sample = refl;
   twice_in_sigrok = refl;
   no_rate = refl;
   no_unit = refl;
