@@ -184,6 +184,16 @@ sigrok_header state line =
     (ok_or (slice_get (cells_of line) 0) refusals.Header)
     else Err refusals.Header
 
+-- a time column in seconds, as Saleae Logic 2, Saleae Logic 1, DSView and WaveForms label it
+abbrev pub is_seconds : List ℕ → Bool
+is_seconds label =
+    bytes_eq label (codes "Time [s]") || bytes_eq label (codes "Time[s]")
+    || bytes_eq label (codes "Time(s)") || bytes_eq label (codes "Time (s)")
+
+-- what DSView and WaveForms remark before the header
+abbrev pub is_remark : List ℕ → Bool
+is_remark line = starts_with nat_eq line (codes ";") || starts_with nat_eq line (codes "#")
+
 -- the header of Saleae has the names of the wires after the label of the time
 abbrev pub saleae_begins : TableState → List ℕ → Said TableState
 saleae_begins state line =
@@ -192,8 +202,8 @@ saleae_begins state line =
 
 abbrev pub saleae_header : TableState → List ℕ → Said TableState
 saleae_header state line =
-    result_and_then
-    (λ label. if bytes_eq label (codes "Time [s]") then saleae_begins state line else Err refusals.Header)
+    if is_remark line then Ok ([], state)
+    else result_and_then (λ label. if is_seconds label then saleae_begins state line else Err refusals.Header)
     (ok_or (slice_get (cells_of line) 0) refusals.Header)
 
 -- where no header comes, wires have the numbers of their columns, 1 to 65,535

@@ -6,11 +6,13 @@ ghost use Rattle.xb_csv.specs.Tables.{begun_table, begins_rows, columns_before, 
 
 use crate::cells::{after, cell_at, trimmed};
 use crate::clock::{Clock, columns_before, end_at, first_number, row_time};
-use crate::labels::{is_comment, rate_in, refusal_of_label, scale_of_units, units_of_label};
+use crate::labels::{
+    is_comment, is_remark, is_seconds, rate_in, refusal_of_label, scale_of_units, units_of_label,
+};
 use crate::periods::{CutTimes, counts_periods, cut_times};
-use crate::wires::{find_columns, number_columns};
+use crate::wires::{find_columns, number_columns, say_levels};
 use std::alloc::Global;
-use xb_contact::{Event, NANOSECONDS, Refusal, Scale, is_before, level_of, say};
+use xb_contact::{Event, NANOSECONDS, Refusal, Scale, is_before, say};
 use xb_text::cut_at;
 
 /// The form of a table.
@@ -19,7 +21,8 @@ pub enum TableForm {
     /// What `sigrok-cli -O csv` writes: comments with `;`, a header with the unit of the times, if there are any, and
     /// rows. Wires have the names of the comment `; Channels`. Times that sigrok cuts are those of the samples.
     Sigrok,
-    /// What Saleae Logic exports: a header `Time [s],NAME,..`, and rows.
+    /// What Saleae Logic exports: a header `Time [s],NAME,..`, and rows. DSView and WaveForms write the same, with
+    /// remarks before the header.
     Saleae,
     /// No header, rows `SECONDS,LEVEL,..`; the wires are 1, 2 and so on.
     Edges,
@@ -180,8 +183,11 @@ impl<'a> Columns<'a> {
             events.old.items events.new.items (table_state self.new)) }
         ensures refused { IfErr result (IsRefusedBy (saleae_header (table_state self.old) line.now)) }
     {
+        if is_remark(line) {
+            return Ok(());
+        }
         match cell_at(line, 0) {
-            Some(label) if label == b"Time [s]".as_slice() => self.begin_saleae(line, events),
+            Some(label) if is_seconds(label) => self.begin_saleae(line, events),
             _ => Err(Refusal::Header),
         }
     }
@@ -194,27 +200,6 @@ impl<'a> Columns<'a> {
     {
         number_columns(self.names, &mut self.columns)?;
         self.begin_rows(Clock::Seconds, NANOSECONDS, events)
-    }
-
-    // The levels of the wires in a row.
-    fn say_levels(&self, line: &[u8], events: &mut Vec<Event>) -> Result<(), Refusal>
-        ensures said { OnOk result (AddsAll
-            (levels_from 0 (columns_before self.now.clock) (cells_of line.now) self.now.columns.items)
-            events.old.items events.new.items) }
-        ensures refused { IfErr result (IsRefusedBy
-            (levels_from 0 (columns_before self.now.clock) (cells_of line.now) self.now.columns.items)) }
-    {
-        let before = columns_before(self.clock);
-        for (wire, column) in self.columns.iter().enumerate() {
-            let Some(cell) = cell_at(line, before + usize::from(*column)) else {
-                return Err(Refusal::Columns);
-            };
-            match level_of(cell) {
-                Some(level) => say(events, Event::Level(wire, level))?,
-                None => return Err(Refusal::Level),
-            }
-        }
-        Ok(())
     }
 
     // A row at this time.
@@ -234,7 +219,7 @@ impl<'a> Columns<'a> {
         }
         self.last = Some(time);
         say(events, Event::At(time))?;
-        self.say_levels(line, events)
+        say_levels(&self.columns, columns_before(self.clock), line, events)
     }
 
     // A row.

@@ -1,7 +1,7 @@
 // What the words before the rows say: the unit of a time column, and the rate of the samples.
 ghost use Rattle.std.specs.Prelude.{◌≡◌};
 ghost use Rattle.xb_contact.specs.Times.{scale_by};
-ghost use Rattle.xb_csv.specs.Tables.{hertz_in_part, hertz_in_parts, hertz_of, is_comment, label_refused, rate_by, rate_in, rate_of, scale_of_units, units_of_label};
+ghost use Rattle.xb_csv.specs.Tables.{hertz_in_part, hertz_in_parts, hertz_of, is_comment, is_remark, is_seconds, label_refused, rate_by, rate_in, rate_of, scale_of_units, units_of_label};
 
 use crate::cells::{after, trimmed};
 use crate::seconds::{fraction_of, point_parts};
@@ -129,4 +129,22 @@ pub(crate) fn is_comment(line: &[u8]) -> bool
     ensures { result ≡ is_comment line.now }
 {
     line.starts_with(b";") || line.starts_with(b"META ")
+}
+
+/// Whether a time column has this label and is in seconds: that of Saleae Logic 2 or 1, of DSView or of WaveForms, with
+/// which their header begins.
+pub fn is_seconds(label: &[u8]) -> bool
+    ensures { result ≡ is_seconds label.now }
+{
+    label == b"Time [s]".as_slice()
+        || label == b"Time[s]".as_slice()
+        || label == b"Time(s)".as_slice()
+        || label == b"Time (s)".as_slice()
+}
+
+// A remark before a header, as of DSView and WaveForms.
+pub(crate) fn is_remark(line: &[u8]) -> bool
+    ensures { result ≡ is_remark line.now }
+{
+    line.starts_with(b";") || line.starts_with(b"#")
 }

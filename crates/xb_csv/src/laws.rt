@@ -73,9 +73,9 @@ pub fn sigrok_cut_times_are_read()
     ensures { SigrokCutTimesAreRead }
 {}
 
-/// A table as Saleae Logic writes it, with times in seconds to the nanosecond, and a sign before 0 s, is read back as it
-/// is: at each time the level of each wire that is asked for. No time is before the one above, and all are nearer to 0 s
-/// than 2^62 ns.
+/// A table as Saleae Logic writes it, or with the label of DSView or WaveForms, is read back as it is: at each time, in
+/// seconds to the nanosecond, with a sign before 0 s, the level of each wire that is asked for. No time is before the one
+/// above, and all are nearer to 0 s than 2^62 ns.
 pub fn saleae_is_read()
     ensures { SaleaeIsRead }
 {}

@@ -28,4 +28,5 @@ mod wires;
 pub use cells::{cell_at, trimmed};
 pub use columns::{Columns, TableForm};
 pub use gpiomon::{Gpiomon, is_of_gpiomon};
+pub use labels::is_seconds;
 pub use seconds::nanoseconds_of;

@@ -1,12 +1,12 @@
-// The columns of the wires.
-ghost use Rattle.std.specs.Prelude.{◌≡◌, Ok, IfErr, OnOk, map};
-ghost use Rattle.xb_contact.specs.Steps.{IsRefusedBy};
+// The columns of the wires, and their levels in a row.
+ghost use Rattle.std.specs.Prelude.{◌≡◌, ◌+◌, ◌≤◌, Ok, IfErr, OnOk, map};
+ghost use Rattle.xb_contact.specs.Steps.{AddsAll, IsRefusedBy};
 ghost use Rattle.xb_csv.specs.Cells.{cells_of};
-ghost use Rattle.xb_csv.specs.Tables.{column_number, column_of, columns_in, numbered_columns};
+ghost use Rattle.xb_csv.specs.Tables.{column_number, column_of, columns_in, levels_from, numbered_columns};
 
-use crate::cells::{cell_of, stands_after};
+use crate::cells::{cell_at, cell_of, stands_after};
 use std::alloc::AllocError;
-use xb_contact::{Refusal, number_of};
+use xb_contact::{Event, Refusal, level_of, number_of, say};
 
 // The column of a wire in a line with the names.
 fn column_of(line: &[u8], name: &[u8]) -> Result<u16, Refusal>
@@ -65,6 +65,30 @@ pub(crate) fn number_columns(names: &[&str], columns: &mut Vec<u16>) -> Result<(
         match column_number(name) {
             Some(column) => columns.push(column).map_err(AllocError::from)?,
             None => return Err(Refusal::NoWire),
+        }
+    }
+    Ok(())
+}
+
+// The levels of wires in a row, each in its column after so many others.
+pub(crate) fn say_levels(
+    columns: &[u16],
+    before: usize,
+    line: &[u8],
+    events: &mut Vec<Event>,
+) -> Result<(), Refusal>
+    requires { before ≤ 1 }
+    ensures said { OnOk result (AddsAll
+        (levels_from 0 before (cells_of line.now) columns.now) events.old.items events.new.items) }
+    ensures refused { IfErr result (IsRefusedBy (levels_from 0 before (cells_of line.now) columns.now)) }
+{
+    for (wire, column) in columns.iter().enumerate() {
+        let Some(cell) = cell_at(line, before + usize::from(*column)) else {
+            return Err(Refusal::Columns);
+        };
+        match level_of(cell) {
+            Some(level) => say(events, Event::Level(wire, level))?,
+            None => return Err(Refusal::Level),
         }
     }
     Ok(())
