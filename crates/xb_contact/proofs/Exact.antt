@@ -1,5 +1,5 @@
 -- Short bounces leave no trace.
-use Rattle.std.proofs.Common.{◌≡◌, ℕ, ◌+◌, ◌-◌, ◌<◌, ◌≤◌, List, [], ◌∷◌, ◌++◌, Bool, true, false, cond, Option, Some, None, nat_le, ◌==◌, ◌⊎◌, inl, inr, refl, ap, sym, ◌∙◌, zero-add, add-zero, add_assoc, append_assoc, arith}
+use Rattle.std.proofs.Common.{◌≡◌, ℕ, ◌+◌, ◌-◌, ◌<◌, ◌≤◌, List, [], ◌∷◌, ◌++◌, Bool, true, false, Some, None, nat_le, ◌==◌, refl, ap, sym, ◌∙◌, zero-add, add_assoc, append_assoc, arith}
 use Rattle.std.proofs.lemmas.Bool.{lt-leb, le-leb, leb-true, leb-false, ne_eqb, eqb-true}
 use Rattle.xb_contact.specs.declared.level.Level.{Level}
 use Rattle.xb_contact.specs.declared.level.Level.TheVariants.{Open, Closed}
@@ -8,12 +8,11 @@ use Rattle.xb_contact.specs.declared.settling.Stretch.{Stretch}
 use Rattle.xb_contact.specs.declared.settling.Phase.{Phase}
 use Rattle.xb_contact.specs.declared.settling.Phase.TheVariants.{Settled, Unsettled}
 use Rattle.xb_contact.specs.declared.settler.Step.{Step}
-use Rattle.xb_contact.specs.Holds.{hold_of, same_level, other_level, join, joined, IsAlternating, AllLast}
-use Rattle.xb_contact.specs.Settled.{settled}
-use Rattle.xb_contact.specs.Machine.{stretch_of, begun, unsettled, step_of, reach, step, at_end, pieces_of, given, phase_at, all_given}
+use Rattle.xb_contact.specs.Holds.{hold_of, other_level, join, joined, IsAlternating, AllLast}
+use Rattle.xb_contact.specs.Machine.{stretch_of, begun, unsettled, step_of, reach, step, at_end, pieces_of, all_given}
 use Rattle.xb_contact.specs.Bounces.{Bounce, bounced, Disturbed, bounce_ticks, recorded, clean, AreShort, AllBounceWithin}
 use Rattle.xb_contact.specs.SettledLaws.{IsExactUnderBounces, LeavesLongRuns}
-use Rattle.xb_contact.proofs.JoinedHolds.{same_level-refl, same_level-other, join_sum, join-differs}
+use Rattle.xb_contact.proofs.JoinedHolds.{same_level-other, join_sum, join-differs}
 use Rattle.xb_contact.proofs.Remaining.{given_from, all_given-cons, take-lasts, take-none, settles_the_record}
 
 -- all that is given, joined

@@ -1,14 +1,13 @@
 -- Runs of holds that are joined as they come.
-use Rattle.std.proofs.Common.{◌≡◌, ℕ, ◌+◌, ◌<◌, ◌≤◌, List, [], ◌∷◌, ◌++◌, Bool, true, false, cond, Option, Some, None, nat_le, ◌==◌, refl, ap, sym, ◌∙◌, zero-add, add-zero, add_assoc, arith}
+use Rattle.std.proofs.Common.{◌≡◌, ℕ, ◌+◌, List, [], ◌∷◌, ◌++◌, Bool, true, false, cond, Some, None, nat_le, ◌==◌, refl, ap, sym, ◌∙◌, zero-add, add-zero, arith}
 use Rattle.std.proofs.lemmas.Bool.{eqb-true, eqb-false, ne_eqb}
 use Rattle.xb_contact.specs.declared.level.Level.{Level}
 use Rattle.xb_contact.specs.declared.level.Level.TheVariants.{Open, Closed}
 use Rattle.xb_contact.specs.declared.hold.Hold.{Hold}
-use Rattle.xb_contact.specs.Holds.{hold_of, same_level, join, joined, lasting, runs_of}
+use Rattle.xb_contact.specs.Holds.{hold_of, join, joined, lasting, runs_of}
 use Rattle.xb_contact.specs.Machine.{pieces_of}
 use Rattle.xb_contact.proofs.JoinedHolds.{join_sum}
-use Rattle.xb_contact.specs.declared.joint.Joint.{Joint}
-use Rattle.xb_contact.specs.Joints.{joint_of, full, left_of, joined_by, all_joined}
+use Rattle.xb_contact.specs.Joints.{joint_of, full, left_of, all_joined}
 
 -- a hold before runs, if it lasts
 abbrev pub added : Hold → List Hold → List Hold

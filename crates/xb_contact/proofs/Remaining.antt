@@ -4,12 +4,11 @@ use Rattle.std.proofs.lemmas.Bool.{lt-leb, le-leb, leb-true, leb-false}
 use Rattle.xb_contact.specs.declared.level.Level.{Level}
 use Rattle.xb_contact.specs.declared.level.Level.TheVariants.{Open, Closed}
 use Rattle.xb_contact.specs.declared.hold.Hold.{Hold}
-use Rattle.xb_contact.specs.declared.settling.Stretch.{Stretch}
 use Rattle.xb_contact.specs.declared.settling.Phase.{Phase}
 use Rattle.xb_contact.specs.declared.settling.Phase.TheVariants.{Settled, Unsettled}
 use Rattle.xb_contact.specs.declared.settler.Step.{Step}
 use Rattle.xb_contact.specs.Holds.{hold_of, same_level, join, joined, lasting, runs_of}
-use Rattle.xb_contact.specs.Settled.{gathered, settled}
+use Rattle.xb_contact.specs.Settled.{gathered}
 use Rattle.xb_contact.specs.Machine.{stretch_of, begun, step_of, reach, step, take, given_by, phase_after, at_end, pieces_of, given, phase_at, all_given}
 use Rattle.xb_contact.specs.SettledLaws.{SettlesTheRecord, GivesForGood}
 use Rattle.xb_contact.proofs.JoinedHolds.{same_level-refl, taken_in, left, join_is, join_sum}

@@ -2,7 +2,6 @@
 use Rattle.std.proofs.Common.{◌≡◌, ℕ, ◌+◌, ◌-◌, ◌*◌, ◌/◌, ◌<◌, ◌≤◌, List, [], ◌∷◌, ◌++◌, Bool, true, false, cond, refl, ap, sym, ◌∙◌, zero-add, add-zero, zero-mul, add_assoc, arith}
 use Rattle.std.proofs.Math.Nat.{div-eq_of_lt-le, div-mul-le_self, mul-le-mul_right}
 use Rattle.std.proofs.lemmas.Nat.{le-div}
-use Rattle.xb_contact.specs.declared.level.Level.{Level}
 use Rattle.xb_contact.specs.declared.hold.Hold.{Hold}
 use Rattle.xb_contact.specs.Holds.{hold_of, same_level, join, joined, total_of}
 use Rattle.xb_contact.specs.declared.scale.Scale.{Scale}

@@ -1,7 +1,6 @@
 -- What is passed of a line that is watched for seizures.
-use Rattle.std.proofs.Common.{◌≡◌, ℕ, ◌+◌, ◌-◌, ◌<◌, ◌≤◌, List, [], ◌∷◌, ◌++◌, Bool, true, false, cond, Option, Some, None, nat_lt, ◌==◌, ◌⊎◌, inl, inr, refl, ap, sym, ◌∙◌, zero-add, add-zero, add_assoc, append_assoc, arith}
+use Rattle.std.proofs.Common.{◌≡◌, ℕ, ◌+◌, ◌-◌, ◌<◌, ◌≤◌, List, [], ◌∷◌, ◌++◌, Bool, true, false, cond, Option, Some, None, nat_lt, ◌==◌, ◌⊎◌, inl, inr, refl, ap, sym, ◌∙◌, append_assoc, arith}
 use Rattle.std.proofs.lemmas.Bool.{and_cases, and_parts, and_right, eqb-false, eqb-true, le-ltb, ltb-false, ltb-true, ne_eqb}
-use Rattle.xb_contact.specs.declared.certain.Certain.{Certain}
 use Rattle.xb_contact.specs.declared.level.Level.{Level}
 use Rattle.xb_contact.specs.declared.level.Level.TheVariants.{Open, Closed}
 use Rattle.xb_contact.specs.declared.hold.Hold.{Hold}

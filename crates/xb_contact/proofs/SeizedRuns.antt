@@ -1,12 +1,11 @@
 -- Runs in which makes that are too short to seize are breaks.
 use Rattle.std.proofs.Common.{◌≡◌, ℕ, ◌+◌, ◌-◌, ◌<◌, ◌≤◌, List, [], ◌∷◌, Bool, true, false, cond, nat_lt, ◌==◌, ◌⊎◌, inl, inr, refl, ap, sym, ◌∙◌, arith}
-use Rattle.std.specs.Prelude.{◌&&◌}
 use Rattle.std.proofs.lemmas.Bool.{and_from, and_left, and_right, eq-eqb, le-ltb, lt-ltb, ne_eqb}
 use Rattle.xb_contact.specs.declared.level.Level.{Level}
 use Rattle.xb_contact.specs.declared.level.Level.TheVariants.{Open, Closed}
 use Rattle.xb_contact.specs.declared.hold.Hold.{Hold}
 use Rattle.xb_contact.specs.Holds.{hold_of, joined, lasting, runs_of, total_of}
-use Rattle.xb_contact.specs.Seizures.{all_seize, is_short_on_hook, seized, seizures}
+use Rattle.xb_contact.specs.Seizures.{all_seize, is_short_on_hook, seizures}
 use Rattle.xb_contact.specs.SeizingLaws.{KeepsAllTime, LeavesAllAtZero, LeavesSeizures}
 use Rattle.xb_contact.proofs.JoinedHolds.{left, taken_in}
 use Rattle.xb_contact.proofs.JoinedRuns.{added, added_sum, runs_of-cons, runs_of-joined}

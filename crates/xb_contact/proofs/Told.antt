@@ -1,18 +1,17 @@
 -- What listening tells.
-use Rattle.std.proofs.Common.{◌≡◌, ℕ, ◌+◌, ◌<◌, ◌≤◌, List, [], ◌∷◌, ◌++◌, Bool, true, false, cond, Option, Some, None, refl, ap, sym, ◌∙◌, arith}
+use Rattle.std.proofs.Common.{◌≡◌, ℕ, ◌<◌, List, [], ◌∷◌, ◌++◌, Option, Some, None, refl, ap, sym, ◌∙◌}
 use Rattle.xb_contact.specs.declared.level.Level.{Level}
 use Rattle.xb_contact.specs.declared.hold.Hold.{Hold}
-use Rattle.xb_contact.specs.declared.settling.Phase.{Phase}
-use Rattle.xb_contact.specs.Holds.{hold_of, joined, runs_of, total_of}
+use Rattle.xb_contact.specs.Holds.{hold_of, runs_of, total_of}
 use Rattle.xb_contact.specs.Settled.{settled}
 use Rattle.xb_contact.specs.Machine.{begun, given_by, phase_after, at_end, pieces_of, all_given}
 use Rattle.xb_contact.proofs.Remaining.{all_given-cons, settles_the_record}
 use Rattle.xb_contact.proofs.Records.{keeps_time, total_of-runs}
 use Rattle.xb_contact.specs.declared.scale.Scale.{Scale}
-use Rattle.xb_contact.specs.Times.{ms_at, rounded_hold, rounded}
-use Rattle.xb_contact.specs.Joints.{joined_by, left_of, all_joined}
-use Rattle.xb_contact.specs.Listening.{Heard, heard_of, begun_at, told_of, take_hold, told_at_end, all_told}
-use Rattle.xb_contact.specs.TimeLaws.{TellsTheRecord, RoundsOnce}
+use Rattle.xb_contact.specs.Times.{ms_at, rounded}
+use Rattle.xb_contact.specs.Joints.{left_of, all_joined}
+use Rattle.xb_contact.specs.Listening.{Heard, heard_of, begun_at, told_of, take_hold, all_told}
+use Rattle.xb_contact.specs.TimeLaws.{RoundsOnce}
 use Rattle.xb_contact.proofs.RoundedHolds.{joined-rounded, total_of-rounded_all}
 use Rattle.xb_contact.proofs.JoinedRuns.{runs_of-joined, runs_of-all_joined}
 

@@ -1,12 +1,11 @@
 -- What listening comes to.
-use Rattle.std.specs.Prelude.{◌≡◌, ℕ, ◌+◌, ◌<◌, ◌≤◌, List, [], ◌∷◌, ◌++◌}
+use Rattle.std.specs.Prelude.{◌≡◌, ℕ, ◌<◌, List, ◌++◌}
 use Rattle.xb_contact.specs.declared.level.Level.{Level}
 use Rattle.xb_contact.specs.declared.hold.Hold.{Hold}
-use Rattle.xb_contact.specs.Holds.{joined, runs_of, total_of}
+use Rattle.xb_contact.specs.Holds.{runs_of, total_of}
 use Rattle.xb_contact.specs.Settled.{settled}
 use Rattle.xb_contact.specs.declared.scale.Scale.{Scale}
 use Rattle.xb_contact.specs.Times.{ms_at, rounded}
-use Rattle.xb_contact.specs.Joints.{all_joined}
 use Rattle.xb_contact.specs.Listening.{begun_at, all_told}
 
 -- the runs in ms of what is given are those of the settled record, the times of their ends rounded

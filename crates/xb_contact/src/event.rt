@@ -75,7 +75,7 @@ pub enum Refusal {
     /// Sound without a sample.
     #[error("the sound has no samples")]
     Empty,
-    /// Sound that goes on behind all bytes that its head counts.
+    /// Sound that goes on after all bytes that its head counts.
     #[error("more follows than the head counts: sox --ignore-length IN.wav OUT.wav")]
     MoreFollows,
     /// Sound whose greatest sample is under three times the threshold; such a threshold would fit.
