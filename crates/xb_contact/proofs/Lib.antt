@@ -9,3 +9,9 @@ pub mod StepLemmas
 pub mod Written
 pub mod SeizedRuns
 pub mod Seized
+pub mod Bells
+pub mod RungRuns
+pub mod Rung
+pub mod Answering
+pub mod Apart
+pub mod Calls

@@ -1,13 +1,13 @@
 -- The settled record has the recording's time, and long runs that alternate.
-use Rattle.std.proofs.Common.{◌≡◌, ℕ, ◌+◌, ◌<◌, ◌≤◌, List, [], ◌∷◌, ◌++◌, Bool, true, false, cond, nat_le, ◌==◌, ◌⊎◌, inl, inr, refl, ap, sym, ◌∙◌, subst, zero-add, add-zero, add_assoc, arith}
+use Rattle.std.proofs.Common.{◌≡◌, ℕ, ◌+◌, ◌<◌, ◌≤◌, List, [], ◌∷◌, Bool, true, false, cond, nat_le, ◌==◌, ◌⊎◌, inl, inr, refl, ap, sym, ◌∙◌, zero-add, add_assoc, arith}
 use Rattle.std.proofs.lemmas.Bool.{leb-true, eqb-true, eqb-false, ne_eqb}
 use Rattle.xb_contact.specs.declared.level.Level.{Level}
 use Rattle.xb_contact.specs.declared.level.Level.TheVariants.{Open, Closed}
 use Rattle.xb_contact.specs.declared.hold.Hold.{Hold}
-use Rattle.xb_contact.specs.Holds.{hold_of, same_level, join, joined, lasting, runs_of, total_of, differs_from_first, IsAlternating, AllLast}
+use Rattle.xb_contact.specs.Holds.{hold_of, same_level, join, joined, lasting, runs_of, total_of, IsAlternating, AllLast}
 use Rattle.xb_contact.specs.Settled.{gathered, settled}
 use Rattle.xb_contact.specs.SettledLaws.{IsSettledForGood, KeepsTime, HasLongRuns, HasRuns, IsOneRun}
-use Rattle.xb_contact.proofs.JoinedHolds.{same_level-refl, join_sum}
+use Rattle.xb_contact.proofs.JoinedHolds.{same_level-refl}
 use Rattle.xb_contact.proofs.Exact.{leaves_long_runs}
 
 -- time
@@ -82,7 +82,7 @@ last_by least c n g R true h k all = (omega arith, all)
 last_by least c n g R false h k all = (h, (k, all))
 
 -- a long run in front of long runs
-AllLast-join :
+pub AllLast-join :
     (least : ℕ) (c : Level) (n : ℕ) (R : List Hold) → least ≤ n → AllLast least R
     → AllLast least (join (hold_of c n) R)
 AllLast-join least c n [] h all = (h, tt)

@@ -13,3 +13,7 @@ pub mod Changes
 pub mod Seizures
 pub mod Seizing
 pub mod SeizingLaws
+pub mod Rings
+pub mod Ringing
+pub mod RingingLaws
+pub mod Nights

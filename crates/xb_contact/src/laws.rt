@@ -2,12 +2,17 @@
 //! nothing. The definitions are in `specs/`: `Holds` (recordings), `Settled` (the settled record), `Machine` (the
 //! machine hold by hold), `Bounces` (records that bounce), `Times` (from ticks to ms), `Joints` (holds joined as they
 //! come), `Listening` (a contact that is listened to), `Seizures` (which makes seize), `Seizing` (the machine that
-//! passes them, hold by hold), and the statements in `SettledLaws`, `TimeLaws` and `SeizingLaws`.
+//! passes them, hold by hold), `Rings` (which calls answer the bell), `Ringing` (the machine
+//! that makes breaks of these, hold by hold), and the statements in `SettledLaws`, `TimeLaws`, `SeizingLaws` and
+//! `RingingLaws`.
 ghost use Rattle.std.specs.Prelude.{ℕ, ◌<◌};
 ghost use Rattle.xb_contact.specs.SettledLaws.{SettlesTheRecord, GivesForGood, IsExactUnderBounces, LeavesLongRuns};
 ghost use Rattle.xb_contact.specs.SettledLaws.{IsSettledForGood, KeepsTime, HasLongRuns, HasRuns, GoesByRuns};
 ghost use Rattle.xb_contact.specs.SeizingLaws.{KeepsAllTime, LeavesAllAtZero, LeavesSeizures, PassesAllTime, PassesEachHold};
 ghost use Rattle.xb_contact.specs.SeizingLaws.{PassesForGood, PassesTheSeized};
+ghost use Rattle.xb_contact.specs.Nights.{CountsAfterBursts, LeavesOwnCalls};
+ghost use Rattle.xb_contact.specs.RingingLaws.{LeavesCalls, OpensAnswers, PassesTheAnswered, RingsAllTime};
+ghost use Rattle.xb_contact.specs.RingingLaws.{RingsEachHold, RingsForGood, SeizesTheAnswered};
 ghost use Rattle.xb_contact.specs.TimeLaws.{TellsTheRecord, RoundsOnce, PlacesHold};
 
 /// What the machine gives of any recording, and what is left at its end, are the settled record; what it has
@@ -69,4 +74,25 @@ pub fn leaves_seizures()
     ensures time { KeepsAllTime }
     ensures long { LeavesSeizures }
     ensures zero { LeavesAllAtZero }
+{}
+
+/// What is given of a line has the runs of its record in which each call that answers the bell is a break, and so has
+/// what the seizing takes of it; what was given stands, whatever comes later; no time is lost or added; and where no
+/// answer counts, each hold is given as it is.
+pub fn passes_the_answered()
+    ensures whole { (wait least release : ℕ) → PassesTheAnswered wait least release }
+    ensures seized { SeizesTheAnswered }
+    ensures for_good { RingsForGood }
+    ensures time { RingsAllTime }
+    ensures each { RingsEachHold }
+{}
+
+/// A call that answers a burst leaves only an open line, from the end of the burst to the release. So of a night of
+/// ringing and of calls the seizing gets exactly the calls that begin where no answer counts. One counts after each
+/// burst, which is 8 periods or more, and a record in which no burst stands stays as it is.
+pub fn opens_answers_alone()
+    ensures answers { OpensAnswers }
+    ensures night { LeavesOwnCalls }
+    ensures bursts { CountsAfterBursts }
+    ensures others { LeavesCalls }
 {}

@@ -6,6 +6,8 @@
 //! - `Listener::take_until` and `end` are exactly the machine that settles a contact and gives it in ms.
 //! - `Seizer::new` (`passes`): what is given of a line in ms is its record, in which makes on hook that are too short to
 //!   seize are breaks. `Seizer::take` is exactly the machine, and what it gives stands for good.
+//! - `Ringer::new` (`passes`): what is given of a line in ms is its record, in which calls that answer the bell are
+//!   breaks. It comes before the `Seizer`. `Ringer::take` is exactly the machine, and gives each hold at once.
 //! - `laws::is_exact_under_bounces`: bounces shorter than a settled run leave no trace. `laws::tells_the_record` and
 //!   `rounds_once`: each end of a run is rounded once, so that sums do not drift.
 //! - `Event` and `Refusal`: what a recording says of its wires, and why a part of it is refused. A form of recordings is
@@ -14,6 +16,7 @@
 //!   forms write them. `Changes` is what wires do, from which each form of text has a law that it is read back.
 #![tactic(auto)]
 
+mod bell;
 mod certain;
 mod event;
 mod hold;
@@ -22,6 +25,7 @@ pub mod laws;
 mod level;
 mod listener;
 mod number;
+mod ringer;
 mod scale;
 mod seizer;
 mod settler;
@@ -34,6 +38,7 @@ pub use joint::{Joint, joined_by};
 pub use level::Level;
 pub use listener::Listener;
 pub use number::{cut_digits, digit_after, is_digit, level_of, number_after, number_of};
+pub use ringer::{ANSWER_MS, Ringer};
 pub use scale::{NANOSECONDS, Scale};
 pub use seizer::Seizer;
 pub use settler::Settler;

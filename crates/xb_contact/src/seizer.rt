@@ -39,7 +39,7 @@ impl Model for Seizer {
 }
 
 // Whether a hold of a line that lacks so many ms of a break to be on hook is there, and shorter than `least`.
-fn is_short_on_hook(least: u64, lacks: u64, ticks: u64) -> bool
+pub(crate) fn is_short_on_hook(least: u64, lacks: u64, ticks: u64) -> bool
     ensures value { result ≡ is_short_on_hook least lacks ticks }
     ensures short { result ≡ true → ticks < least }
 {
