@@ -17,6 +17,7 @@ pub mod ToldRows
 pub mod MadeSignals
 pub mod RowTexts
 pub mod EventTexts
+pub mod EventTokens
 pub mod AllTold
 pub mod LeftOut
 pub mod HeardLines

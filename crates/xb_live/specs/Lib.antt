@@ -5,6 +5,7 @@ pub mod TimedEntries
 pub mod Objects
 pub mod Events
 pub mod EventObjects
+pub mod EventTokens
 pub mod Told
 pub mod PageOfObjects
 pub mod Ascending

@@ -1,25 +1,22 @@
 // The text of events.
-ghost use Rattle.std.specs.Prelude.{◌≡◌, codes, false, IfErr, IfOk, map, option_map, string_bytes};
+ghost use Rattle.std.specs.Prelude.{◌≡◌, ◌++◌, codes, IfErr, IfOk, OnOk};
 ghost use Rattle.std.specs.List.{flat_map, list_any};
-ghost use Rattle.serde_json.specs.View.{view};
-ghost use Rattle.serde_json.specs.Written.{has_float};
-ghost use Rattle.xb_json.specs.Objects.{data_of};
 ghost use Rattle.xb_model.specs.Numbers.{digit_of_count};
 ghost use Rattle.xb_live.specs.Clocks.{Clock, IsClockOf, IsClockSince, text_in};
-ghost use Rattle.xb_live.specs.EventObjects.{bare_object, digit_object, digit_value, is_event, line_at, object_by};
+ghost use Rattle.xb_live.specs.EventObjects.{bare_object, digit_object, is_event, line_at, object_by};
+ghost use Rattle.xb_live.specs.EventTokens.{dialled_tokens, name_tokens, time_tokens, tokens_at, tokens_in};
 ghost use Rattle.xb_live.specs.Events.{event_with};
 ghost use Rattle.xb_live.specs.Faults.{IsOfSignals};
-ghost use Rattle.xb_live.specs.Objects.{line_of, with_time};
 ghost use Rattle.xb_live.specs.Texts.{event_text, signals_text};
 
 use crate::fault::EntriesFault;
 use crate::line_hearing::Hearing;
-use crate::printing::{EntryForm, with_time};
+use crate::printing::EntryForm;
 use crate::times::{TimeText, time_of};
 use jiff_core::Timestamp;
-use serde_json::Value;
+use json::Writer;
 use std::alloc::{AllocError, Global};
-use xb_json::{Member, line_of, object_of as object_with};
+use xb_json::text_of_digits;
 use xb_model::{LineNo, MOST_PULSES, Signal};
 
 // The digit of a train of so many breaks, if it is one.
@@ -33,98 +30,126 @@ fn digit_of(breaks: u8, bad: bool) -> Option<u8>
     }
 }
 
-// A digit as a member of an object.
-fn digit_member(digit: Option<u8>) -> Member<'static>
-    ensures { data_of result ≡ digit_value digit }
+// Writes when an event is: the time of day, where it is told, and the ms.
+fn write_time(out: &mut Writer, time: &Option<TimeText>, at: u64) -> Result<(), AllocError>
+    ensures before { out.new.before ≡ out.old.before }
+    ensures tokens { OnOk result (out.new.tokens ≡ out.old.tokens ++ time_tokens (text_in time.now) at) }
 {
+    if let Some(time) = time {
+        out.key("at")?;
+        out.string(time.as_str())?;
+    }
+    out.key("at_ms")?;
+    out.u64(at)
+}
+
+// Writes what an event is, and on which line: the last of its members.
+fn write_name(out: &mut Writer, name: &str, line: LineNo) -> Result<(), AllocError>
+    ensures before { out.new.before ≡ out.old.before }
+    ensures tokens { OnOk result (out.new.tokens ≡ out.old.tokens ++ name_tokens name.now line) }
+{
+    out.key("event")?;
+    out.string(name)?;
+    out.key("line")?;
+    out.u64(u64::from(line.get()))?;
+    out.end_object()
+}
+
+// Writes an event that is no digit.
+fn write_bare(
+    out: &mut Writer,
+    time: &Option<TimeText>,
+    line: LineNo,
+    at: u64,
+    name: &str,
+) -> Result<(), AllocError>
+    ensures before { out.new.before ≡ out.old.before }
+    ensures tokens { OnOk result (out.new.tokens
+        ≡ out.old.tokens ++ tokens_at (text_in time.now) (bare_object line at name.now)) }
+{
+    out.begin_object()?;
+    write_time(out, time, at)?;
+    write_name(out, name, line)
+}
+
+// Writes what is dialled so far, and the digit, or null where it is mutilated.
+fn write_dialled(out: &mut Writer, dialled: &str, digit: Option<u8>) -> Result<(), AllocError>
+    ensures before { out.new.before ≡ out.old.before }
+    ensures tokens { OnOk result (out.new.tokens ≡ out.old.tokens ++ dialled_tokens dialled.now digit) }
+{
+    out.key("dialled")?;
+    out.string(dialled)?;
+    out.key("digit")?;
     match digit {
-        Some(digit) => Member::Number(u64::from(digit)),
-        None => Member::Null,
+        Some(digit) => out.u64(u64::from(digit)),
+        None => out.null(),
     }
 }
 
-// The object of an event that is no digit.
-fn bare_object(
+// Writes the event of a digit, with what is dialled so far.
+fn write_digit(
     alloc: Global,
-    line: LineNo,
-    at: u64,
-    name: &'static str,
-) -> Result<Value, AllocError>
-    ensures { IfOk result (λ value. view value ≡ bare_object line at name.now) }
-{
-    let members = [
-        ("at_ms", Member::Number(at)),
-        ("event", Member::Word(name)),
-        ("line", Member::Number(u64::from(line.get()))),
-    ];
-    object_with(alloc, &members)
-}
-
-// The object of a digit.
-fn digit_object(
-    alloc: Global,
+    out: &mut Writer,
+    time: &Option<TimeText>,
     line: LineNo,
     heard: &Hearing,
     digit: Option<u8>,
-) -> Result<Value, AllocError>
-    ensures { IfOk result (λ value. view value
-        ≡ digit_object line heard.now.at heard.now.dialled digit) }
+) -> Result<(), AllocError>
+    ensures before { out.new.before ≡ out.old.before }
+    ensures tokens { OnOk result (out.new.tokens ≡ out.old.tokens
+        ++ tokens_at (text_in time.now) (digit_object line heard.now.at heard.now.dialled digit)) }
 {
-    let members = [
-        ("at_ms", Member::Number(heard.at)),
-        ("dialled", Member::Digits(heard.dialled.digits())),
-        ("digit", digit_member(digit)),
-        ("event", Member::Word("DIGIT")),
-        ("line", Member::Number(u64::from(line.get()))),
-    ];
-    object_with(alloc, &members)
+    let dialled = text_of_digits(alloc, heard.dialled.digits())?;
+    out.begin_object()?;
+    write_time(out, time, heard.at)?;
+    write_dialled(out, &dialled, digit)?;
+    write_name(out, "DIGIT", line)
 }
 
-// The object of a signal, if it has one.
-fn object_of(
+// Writes a signal that is an event.
+fn write_event(
     alloc: Global,
-    line: LineNo,
-    signal: Signal,
-    heard: &Hearing,
-) -> Result<Option<Value>, AllocError>
-    ensures { IfOk result (λ value. option_map view value
-        ≡ object_by line heard.now.at heard.now.dialled signal) }
-{
-    let object = match signal {
-        Signal::Seize => bare_object(alloc, line, heard.at, "SEIZED")?,
-        Signal::Digit(breaks, bad) => digit_object(alloc, line, heard, digit_of(breaks, bad))?,
-        Signal::TimeOut => bare_object(alloc, line, heard.at, "TIMEDOUT")?,
-        Signal::Release => bare_object(alloc, line, heard.at, "RELEASED")?,
-        Signal::Close => return Ok(None),
-    };
-    Ok(Some(object))
-}
-
-// An object of an event, with this time, if it is one, as a text line.
-fn timed_line(alloc: Global, object: Value, time: &Option<TimeText>) -> Result<String, AllocError>
-    requires { has_float (view object) ≡ false }
-    ensures { IfOk result (λ text. string_bytes text
-        ≡ line_of (with_time (codes "at") (text_in time.now) (view object))) }
-{
-    let object = with_time(alloc, object, "at", time)?;
-    line_of(alloc, &object)
-}
-
-// A signal as a text line, if it is an event.
-fn event_line(
-    alloc: Global,
-    line: LineNo,
-    signal: Signal,
-    heard: &Hearing,
+    out: &mut Writer,
     time: &Option<TimeText>,
-) -> Result<String, AllocError>
-    ensures { IfOk result (λ text. string_bytes text
-        ≡ line_at (text_in time.now) (object_by line heard.now.at heard.now.dialled signal)) }
+    line: LineNo,
+    signal: Signal,
+    heard: &Hearing,
+) -> Result<(), AllocError>
+    ensures before { out.new.before ≡ out.old.before }
+    ensures tokens { OnOk result (out.new.tokens ≡ out.old.tokens
+        ++ tokens_in (text_in time.now) (object_by line heard.now.at heard.now.dialled signal)) }
 {
-    match object_of(alloc, line, signal, heard)? {
-        Some(object) => timed_line(alloc, object, time),
-        None => Ok(String::new(alloc)),
+    match signal {
+        Signal::Seize => write_bare(out, time, line, heard.at, "SEIZED"),
+        Signal::Digit(breaks, bad) => {
+            write_digit(alloc, out, time, line, heard, digit_of(breaks, bad))
+        }
+        Signal::TimeOut => write_bare(out, time, line, heard.at, "TIMEDOUT"),
+        Signal::Release => write_bare(out, time, line, heard.at, "RELEASED"),
+        Signal::Close => Ok(()),
     }
+}
+
+// Text lines with that of a signal after them, if it is an event.
+fn with_event(
+    alloc: Global,
+    lines: Vec<u8>,
+    time: &Option<TimeText>,
+    line: LineNo,
+    signal: Signal,
+    heard: &Hearing,
+) -> Result<Vec<u8>, AllocError>
+    ensures { IfOk result (λ text. text.items ≡ lines.items
+        ++ line_at (text_in time.now) (object_by line heard.now.at heard.now.dialled signal)) }
+{
+    if !is_event(signal) {
+        return Ok(lines);
+    }
+    let mut out = Writer::new(lines);
+    write_event(alloc, &mut out, time, line, signal, heard)?;
+    let mut lines = out.into_inner();
+    lines.push(b'\n')?;
+    Ok(lines)
 }
 
 // The events among signals, each a text line.
@@ -134,14 +159,14 @@ fn event_lines(
     signals: &[Signal],
     heard: &Hearing,
     time: &Option<TimeText>,
-) -> Result<String, AllocError>
-    ensures { IfOk result (λ text. string_bytes text
+) -> Result<Vec<u8>, AllocError>
+    ensures { IfOk result (λ text. text.items
         ≡ flat_map (λ signal. line_at (text_in time.now)
         (object_by line heard.now.at heard.now.dialled signal)) signals.now) }
 {
-    let mut lines = String::new(alloc);
+    let mut lines = Vec::new(alloc);
     for signal in signals {
-        lines.push_str(&event_line(alloc, line, *signal, heard, time)?)?;
+        lines = with_event(alloc, lines, time, line, *signal, heard)?;
     }
     Ok(lines)
 }
@@ -167,13 +192,13 @@ fn text_of_events(
     line: LineNo,
     signals: &[Signal],
     heard: &Hearing,
-) -> Result<String, EntriesFault>
-    ensures text { (clock : Clock) → IsClockSince since clock → IfOk result (λ text. string_bytes text
+) -> Result<Vec<u8>, EntriesFault>
+    ensures text { (clock : Clock) → IsClockSince since clock → IfOk result (λ text. text.items
         ≡ signals_text (EntryForm.Events since) clock line heard.now signals.now) }
     ensures fault { IfErr result (IsOfSignals (EntryForm.Events since) line heard.now.at signals.now) }
 {
     if !has_events(signals) {
-        return Ok(String::new(alloc));
+        return Ok(Vec::new(alloc));
     }
     let Some(time) = time_of(since, heard.at) else {
         return Err(EntriesFault::LateEvent(line.get()));
@@ -188,14 +213,14 @@ pub(crate) fn text_of_signals(
     line: LineNo,
     signals: &[Signal],
     heard: &Hearing,
-) -> Result<String, EntriesFault>
-    ensures text { (clock : Clock) → IsClockOf form clock → IfOk result (λ text. string_bytes text
+) -> Result<Vec<u8>, EntriesFault>
+    ensures text { (clock : Clock) → IsClockOf form clock → IfOk result (λ text. text.items
         ≡ signals_text form clock line heard.now signals.now) }
     ensures fault { IfErr result (IsOfSignals form line heard.now.at signals.now) }
 {
     match form {
         EntryForm::Events(since) => text_of_events(alloc, since, line, signals, heard),
         EntryForm::Entries | EntryForm::Marks | EntryForm::Objects(_) | EntryForm::MarkObjects(_) =>
-            Ok(String::new(alloc)),
+            Ok(Vec::new(alloc)),
     }
 }

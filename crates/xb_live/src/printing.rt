@@ -53,8 +53,8 @@ fn write_mark_lines(
     Ok(())
 }
 
-/// An object that also has this time, if it is one.
-pub(crate) fn with_time(
+// An object that also has this time, if it is one.
+fn with_time(
     alloc: Global,
     object: Value,
     name: &str,
@@ -221,13 +221,15 @@ pub(crate) fn text_of_row(
     number: Option<usize>,
     entry: &[Mark],
     heard: &Hearing,
-) -> Result<String, EntriesFault>
-    ensures text { (clock : Clock) → IsClockOf form clock → IfOk result (λ text. string_bytes text
+) -> Result<Vec<u8>, EntriesFault>
+    ensures text { (clock : Clock) → IsClockOf form clock → IfOk result (λ text. text.items
         ≡ row_text (styled form clock) line signals.now number entry.now heard.now) }
     ensures fault { IfErr result (IsOfRow form line signals.now number entry.now heard.now) }
 {
     let mut text = text_of_signals(alloc, form, line, signals, heard)?;
-    text.push_str(&text_of_completed(alloc, form, line, number, entry, heard)?)?;
+    let completed = text_of_completed(alloc, form, line, number, entry, heard)?;
+    text.extend_from_slice(completed.as_bytes())
+        .map_err(AllocError::from)?;
     Ok(text)
 }
 

@@ -64,7 +64,7 @@ pub fn take_row<W: Write>(
     if text.is_empty() {
         return Ok(());
     }
-    write_whole(out, text.as_bytes())?;
+    write_whole(out, &text)?;
     Ok(())
 }
 

@@ -1,4 +1,4 @@
-use Rattle.std.proofs.Common.{◌≡◌, ap, ◌∙◌, [], string_bytes, sym}
+use Rattle.std.proofs.Common.{◌≡◌, ap, ◌∙◌, [], sym}
 use Rattle.std.specs.List.{flat_map}
 use Rattle.std.proofs.lemmas.List.Folds.{flat_map-map}
 use Rattle.xb_live.specs.Clocks.{text_in}
@@ -12,7 +12,7 @@ use Rattle.xb_live.proofs.events.text_of_events.Goals as goal
 
 pub returns-then-not-has_events-clause-text : goal.returns-then-not-has_events-clause-text
 returns-then-not-has_events-clause-text c = λ clock tells.
-    let empty : string_bytes c.new.result ≡ [] = c.new.ensures.bytes in
+    let empty : c.new.result.items ≡ [] = c.new.ensures.items in
     empty ∙ sym (no-text c.args.since clock c.args.line c.args.heard.now c.args.signals.now (sym c.if-not-has_events.ensures))
 
 pub returns-in_default-clause-fault : goal.returns-in_default-clause-fault

@@ -60,7 +60,7 @@ returns-then-is_empty-clause-written g c = λ clock tells rows start before.
     ∙ ap (λ ms. row_text style row.line c.hear-signals.result.items number ms heard) c.entry.ensures
     ∙ row-told table before.counted.taken.lawful rows row marks c.hear-signals.new.hearings heard below held
     c.args.form clock c.hear-signals.result.items number hears signals in
-    let empty = no_items c.in_ok-text.text.bytes (sym c.if-is_empty.true ∙ c.is_empty.ensures) in
+    let empty = no_items c.in_ok-text.text (sym c.if-is_empty.true ∙ c.is_empty.ensures) in
     written-row style c.args.office.now c.take-number.new.self c.args.hearings.now c.hear-signals.new.hearings row _ c.take-number.ensures.table rows start _ before
     (c.take-number.ensures.counted rows before.counted) hears (c.take-number.ensures.completed rows before.counted)
     (numbered_by row.line marks number) (c.take-number.ensures.number rows before.counted)
@@ -89,7 +89,7 @@ returns-in_err-write_whole-clause-written g c = λ clock tells rows start before
     (written-beginning style c.args.office.now c.take-number.new.self c.args.hearings.now c.hear-signals.new.hearings row _ c.take-number.ensures.table rows start _ before
     (c.take-number.ensures.counted rows before.counted) hears (c.take-number.ensures.completed rows before.counted)
     (numbered_by row.line marks number) (c.take-number.ensures.number rows before.counted)
-    _ (subst (AppendsBeginning _ _) (c.as_bytes.ensures.value ∙ text) c.write_whole.ensures.beginning))
+    _ (subst (AppendsBeginning _ _) (c.deref-2.ensures.value ∙ text) c.write_whole.ensures.beginning))
 
 pub returns-clause-written : goal.returns-clause-written
 returns-clause-written g c = λ clock tells rows start before.
@@ -112,4 +112,4 @@ returns-clause-written g c = λ clock tells rows start before.
     written-row style c.args.office.now c.take-number.new.self c.args.hearings.now c.hear-signals.new.hearings row _ c.take-number.ensures.table rows start _ before
     (c.take-number.ensures.counted rows before.counted) hears (c.take-number.ensures.completed rows before.counted)
     (numbered_by row.line marks number) (c.take-number.ensures.number rows before.counted)
-    _ (subst (Appends _ _) (c.as_bytes.ensures.value ∙ text) c.in_ok-write_whole.ensures.whole)
+    _ (subst (Appends _ _) (c.deref-2.ensures.value ∙ text) c.in_ok-write_whole.ensures.whole)
