@@ -6,10 +6,11 @@ usage: events.py deck SEED > DECK
 
 The first makes a deck by a seed; the second reads one as whole lists: after each record the record of its line so far
 is cut into runs, attempts and trains anew, and what the one before did not yet say is told. It keeps no state of a
-line. The third does both of so many seeds, and compares the program MFLIVE.
+line. The third does both of so many seeds, compares the program MFLIVE, and measures it beside `mflive --json`.
 """
 import json
 import random
+import resource
 import subprocess
 import sys
 import tomllib
@@ -19,6 +20,9 @@ from datetime import datetime, timedelta, timezone
 from io import StringIO
 
 STANDARD = {"pulse_min": 20, "pulse_max": 119, "make_min": 15, "pause": 180, "release": 300, "timeout": 20000}
+
+# How many times the processor time of `--json` that of `--events` may be, over all decks.
+MOST_TIMES = 1.2
 
 
 class Office:
@@ -302,27 +306,36 @@ def printed(call, *words) -> bytes:
     return text.getvalue().encode()
 
 
-def told(mflive: str, words: list, deck: bytes) -> bytes:
-    """What the program prints of a deck."""
-    return subprocess.run([mflive, *words], input=deck, capture_output=True, check=True).stdout
+def told(mflive: str, words: list, deck: bytes) -> tuple:
+    """What the program prints of a deck, and the seconds of a processor that it took."""
+    before = resource.getrusage(resource.RUSAGE_CHILDREN)
+    text = subprocess.run([mflive, *words], input=deck, capture_output=True, check=True).stdout
+    after = resource.getrusage(resource.RUSAGE_CHILDREN)
+    return text, after.ru_utime + after.ru_stime - before.ru_utime - before.ru_stime
 
 
 def compare(mflive: str, decks: int) -> None:
     """Compares the program with what is read here: with a time of day in every third deck."""
-    count = 0
+    count, events_took, json_took = 0, 0.0, 0.0
     for seed in range(1, decks + 1):
         deck = printed(make, seed)
         since = "2027-12-31T20:59:58.75-03:00" if seed % 3 == 0 else None
         words = ["--since", since] if since else []
-        events = told(mflive, ["--events", *words], deck)
+        events, took = told(mflive, ["--events", *words], deck)
+        events_took += took
         if events != printed(read, deck.decode(), datetime.fromisoformat(since) if since else None):
             sys.exit(f"events: deck {seed} is told otherwise")
         lines = events.splitlines(keepends=True)
         entries = [line for line in lines if b'"event":' not in line]
-        if b"".join(entries) != told(mflive, ["--json", *words], deck):
+        objects, took = told(mflive, ["--json", *words], deck)
+        json_took += took
+        if b"".join(entries) != objects:
             sys.exit(f"events: deck {seed} has other entries")
         count += len(lines) - len(entries)
     print(f"{decks} decks, {count} events: each is told as the definitions have it")
+    print(f"--events took {events_took / json_took:.2f} times the processor time of --json")
+    if events_took > MOST_TIMES * json_took:
+        sys.exit(f"events: that is over {MOST_TIMES}")
 
 
 if __name__ == "__main__":
