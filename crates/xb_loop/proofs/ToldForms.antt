@@ -1,39 +1,41 @@
 -- Whether the beginning of a recording tells its form.
-use Rattle.std.proofs.Common.{◌≡◌, ℕ, ◌+◌, ◌-◌, ◌<◌, ◌≤◌, List, [], ◌++◌, Bool, true, false, cond, Option, Some, None, nat_eq, nat_le, min, refl, ap, sym, subst, ◌∙◌, append_assoc, append-nil, inl, inr, true≢false, arith, drop, length, length-append, length-take, take, take-append-drop}
+use Rattle.std.proofs.Common.{◌≡◌, ℕ, ◌+◌, ◌-◌, ◌<◌, ◌≤◌, List, [], ◌++◌, Bool, true, false, cond, not, codes, Option, Some, None, nat_eq, nat_le, nat_lt, min, refl, ap, sym, subst, ◌∙◌, append_assoc, append-nil, inl, inr, true≢false, arith, drop, length, length-append, length-take, take, take-append-drop}
 use Rattle.std.proofs.Math.Bool.{and-false}
 use Rattle.std.proofs.Math.Nat.{min-le_left}
 use Rattle.std.proofs.Math.Seq.{take-append-add}
-use Rattle.std.specs.Prelude.{IfSome, ◌&&◌}
+use Rattle.std.specs.Prelude.{IfSome, ◌&&◌, ◌||◌}
 use Rattle.std.specs.Io.KnownBytes.{Consumes, IsAtEnd}
-use Rattle.std.proofs.lemmas.Bool.{eqb-false, eqb-true, le-leb, lt-leb}
+use Rattle.std.proofs.lemmas.Bool.{eqb-false, eqb-true, le-leb, lt-leb, ltb-false}
+use Rattle.std.specs.List.{starts_with}
 use Rattle.std.proofs.lemmas.List.{drop_all, length-take-le, take-append-le, take_all}
+use Rattle.xb_contact.specs.declared.event.Refusal.{Refusal}
 use Rattle.xb_contact.specs.declared.event.Refusal.TheVariants as refusals
 use Rattle.xb_recording.specs.declared.beginning.Told.{Told}
 use Rattle.xb_recording.specs.declared.beginning.Told.TheVariants as tolds
 use Rattle.xb_recording.specs.declared.format.Format.{Format}
-use Rattle.xb_recording.specs.Beginnings.{form_told, tells_nothing_yet, told_within}
-use Rattle.xb_recording.proofs.ToldWithin.{told_stays}
+use Rattle.xb_recording.specs.Beginnings.{all_passed_over, form_told, is_archive, tells_nothing_yet, told_within, why_untold}
+use Rattle.xb_recording.specs.Says.{text_lines}
+use Rattle.xb_recording.proofs.ToldWithin.{told_stays, why_form, why_same}
 use Rattle.xb_loop.specs.declared.beginning.TheConstants.{MOST_BEGINNING_BYTES}
 use Rattle.xb_loop.specs.declared.fault.RecordingFault.{RecordingFault}
 use Rattle.xb_loop.specs.declared.fault.RecordingFault.TheVariants as faults
 use Rattle.xb_loop.specs.Beginnings.{IsUntold, TellsForm}
 
--- what so many bytes tell, all tell
-pub all_tell :
-    (input left : Option (List ℕ)) (bytes : List ℕ) (most : ℕ) (is_end : Bool) (P : Option Format → Type 0)
+-- what is so of so many bytes, whatever follows, is so of all
+pub all_are :
+    (input left : Option (List ℕ)) (bytes : List ℕ) (most : ℕ) (is_end : Bool) (P : List ℕ → Type 0)
     → Consumes input left bytes → (is_end ≡ true → IsAtEnd left) → (is_end ≡ true → length bytes ≤ most)
-    → ((later : List ℕ) → (is_end ≡ true → later ≡ []) → P (form_told (take most bytes ++ later)))
-    → IfSome input (λ text. P (form_told text))
-all_tell None left bytes most is_end P read end few told = tt
-all_tell (Some text) None bytes most is_end P read end few told = absurd read
-all_tell (Some text) (Some rest) bytes most is_end P read end few told =
+    → ((later : List ℕ) → (is_end ≡ true → later ≡ []) → P (take most bytes ++ later)) → IfSome input P
+all_are None left bytes most is_end P read end few told = tt
+all_are (Some text) None bytes most is_end P read end few told = absurd read
+all_are (Some text) (Some rest) bytes most is_end P read end few told =
     let later : List ℕ = drop most bytes ++ rest in
     let whole : take most bytes ++ later ≡ text =
     sym (append_assoc (take most bytes) (drop most bytes) rest)
     ∙ ap (λ b. b ++ rest) (take-append-drop most bytes) ∙ sym read in
     let none : is_end ≡ true → later ≡ [] =
     λ e. ap (λ b. b ++ rest) (drop_all most bytes (few e)) ∙ end e in
-    subst (λ t. P (form_told t)) whole (told later none)
+    subst P whole (told later none)
 
 -- what a beginning tells
 abbrev within_by : ℕ → List ℕ → Option Format
@@ -91,13 +93,24 @@ not_yet first told more yet = at (tells_nothing_yet first) yet
     at true f = absurd (more (f refl))
     at false f = refl
 
+-- what tells something, and be it that it has no form, has four bytes
+pub has_four : (text : List ℕ) → tells_nothing_yet text ≡ false → 4 ≤ length text
+has_four text some = at (nat_lt (length text) 4) refl some
+  where
+    at :
+        (few : Bool) → nat_lt (length text) 4 ≡ few
+        → few || (not (starts_with nat_eq text (codes "RIFF")) && (not (is_archive text) && all_passed_over (text_lines text))) ≡ false
+        → 4 ≤ length text
+    at true is e = absurd (true≢false e)
+    at false is e = ltb-false (length text) 4 is
+
 -- nothing is told
 pub untold_form :
-    (input : Option (List ℕ)) → IfSome input (λ text. told_within MOST_BEGINNING_BYTES text ≡ None)
-    → IfSome input (λ text. form_told text ≡ None)
-    → IfSome input (λ text. IsUntold text (faults.Beginning refusals.Form))
-untold_form None beginning none = tt
-untold_form (Some text) beginning none = (refl, record { beginning = beginning; whole = inl none })
+    (input : Option (List ℕ)) (why : Refusal) → IfSome input (λ text. told_within MOST_BEGINNING_BYTES text ≡ None)
+    → IfSome input (λ text. form_told text ≡ None) → IfSome input (λ text. why_untold text ≡ why)
+    → IfSome input (λ text. IsUntold text (faults.Beginning why))
+untold_form None why beginning none same = tt
+untold_form (Some text) why beginning none same = (sym same, record { beginning = beginning; whole = inl none })
 
 -- so many bytes tell nothing
 within_none :
@@ -107,6 +120,9 @@ within_none most text long none =
     ap (λ l. cond (l && tells_nothing_yet (take most text)) None (form_told (take most text)))
     (le-leb most (length (take most text)) long)
     ∙ ap (λ b. cond b None (form_told (take most text))) none
+
+most_is : MOST_BEGINNING_BYTES ≡ 131072
+most_is = refl
 
 pub untold_long :
     (input left : Option (List ℕ)) (bytes : List ℕ) → Consumes input left bytes
@@ -120,8 +136,14 @@ untold_long (Some text) (Some rest) bytes read long none =
     let size : length text ≡ length bytes + length rest = ap length read ∙ length-append bytes rest in
     let taken : length (take MOST_BEGINNING_BYTES text) ≡ MOST_BEGINNING_BYTES =
     length-take-le MOST_BEGINNING_BYTES text (omega (arith, size, long)) in
-    let nothing : tells_nothing_yet (take MOST_BEGINNING_BYTES text) ≡ true = ap tells_nothing_yet same ∙ none in (
-      refl,
+    let nothing : tells_nothing_yet (take MOST_BEGINNING_BYTES text) ≡ true = ap tells_nothing_yet same ∙ none in
+    let first : List ℕ = take MOST_BEGINNING_BYTES text in
+    let four : 4 ≤ length first = omega (arith, taken, most_is) in
+    let why : why_untold text ≡ refusals.Form =
+    ap why_untold (sym (take-append-drop MOST_BEGINNING_BYTES text))
+    ∙ why_same first (drop MOST_BEGINNING_BYTES text) false (λ e. absurd (true≢false (sym e))) (λ e. four)
+    ∙ why_form first four nothing in (
+      sym why,
       record {
         beginning = within_none MOST_BEGINNING_BYTES text (omega (arith, taken)) nothing;
         whole = inr (omega (arith, size, long), nothing);

@@ -1,8 +1,7 @@
 -- How much of a recording is read to tell its form.
 use Rattle.std.specs.Prelude.{◌≡◌, ◌⊎◌, ◌≤◌, ℕ, List, None, Some, true, length, take}
-use Rattle.xb_contact.specs.declared.event.Refusal.TheVariants as refusals
 use Rattle.xb_recording.specs.declared.format.Format.{Format}
-use Rattle.xb_recording.specs.Beginnings.{form_told, tells_nothing_yet, told_within}
+use Rattle.xb_recording.specs.Beginnings.{form_told, tells_nothing_yet, told_within, why_untold}
 use Rattle.xb_loop.specs.declared.beginning.TheConstants.{MOST_BEGINNING_BYTES}
 use Rattle.xb_loop.specs.declared.fault.RecordingFault.{RecordingFault}
 use Rattle.xb_loop.specs.declared.fault.RecordingFault.TheVariants as faults
@@ -22,9 +21,10 @@ pub record TellsNone (text : List ℕ) : Type 0 where
   pub beginning : told_within MOST_BEGINNING_BYTES text ≡ None
   pub whole : (form_told text ≡ None) ⊎ IsLongUntold text
 
--- why the form of a recording is not told: it tells none; else a read failed, or memory ran out
+-- why the form of a recording is not told: it tells none, and its beginning says why; else a read failed, or memory
+-- ran out
 abbrev pub IsUntold : List ℕ → RecordingFault → Type 0
-IsUntold text (faults.Beginning reason) = (reason ≡ refusals.Form) × TellsNone text
+IsUntold text (faults.Beginning reason) = (reason ≡ why_untold text) × TellsNone text
 IsUntold text faults.Read = Unit {0}
 IsUntold text faults.NoMemory = Unit {0}
 IsUntold text fault = ⊥

@@ -8,7 +8,7 @@ use crate::fault::RecordingFault;
 use std::alloc::{AllocError, Global};
 use std::io::Read;
 use xb_contact::Refusal;
-use xb_recording::{Format, Told, told_format};
+use xb_recording::{Format, Told, told_format, why_untold};
 
 /// How many bytes are read at once.
 pub(crate) const BUFFER_BYTES: usize = 8_192;
@@ -62,7 +62,7 @@ fn told_beginning<R: Read>(
         let beginning = first_bytes(&bytes, MOST_BEGINNING_BYTES);
         match told_format(beginning, n == 0) {
             Told::Form(format) => return Ok((bytes, format)),
-            Told::Nothing => return Err(RecordingFault::Beginning(Refusal::Form)),
+            Told::Nothing => return Err(RecordingFault::Beginning(why_untold(beginning))),
             Told::More => {}
         }
     }

@@ -5,10 +5,11 @@ use Rattle.std.specs.Prelude.{if◌then◌else◌, is_ok}
 use Rattle.std.specs.Io.KnownBytes.{Consumes, IsAtEnd}
 use Rattle.xb_recording.specs.declared.beginning.Told.{Told}
 use Rattle.xb_recording.specs.declared.beginning.Told.TheVariants as tolds
-use Rattle.xb_recording.specs.Beginnings.{IsTold, form_told, tells_nothing_yet}
+use Rattle.xb_recording.specs.Beginnings.{IsTold, form_told, tells_nothing_yet, why_untold}
+use Rattle.xb_recording.proofs.ToldWithin.{why_same}
 use Rattle.xb_loop.specs.declared.beginning.TheConstants.{MOST_BEGINNING_BYTES}
 use Rattle.xb_loop.specs.declared.fault.RecordingFault.TheVariants.{NoMemory}
-use Rattle.xb_loop.proofs.ToldForms.{all_tell, beginning_tells, few_read, more_read, not_yet, tells_form, untold_form, untold_long, untold_memory, untold_read}
+use Rattle.xb_loop.proofs.ToldForms.{all_are, beginning_tells, few_read, has_four, more_read, not_yet, tells_form, untold_form, untold_long, untold_memory, untold_read}
 use Rattle.xb_loop.proofs.beginning.told_beginning.Goals as goal
 
 pub returns-in_err-n-clause-untold : goal.returns-in_err-n-clause-untold
@@ -60,7 +61,7 @@ returns-in-Form-clause-told g c =
     tells_form input c.in-Form.format
     (beginning_tells input left all MOST_BEGINNING_BYTES (nat_eq c.in_ok-n.n 0) (Some c.in-Form.format) read end short told
     (λ going. subst N same (not_yet first c.told_format.result is_form (c.told_format.ensures.open going))))
-    (all_tell input left all MOST_BEGINNING_BYTES (nat_eq c.in_ok-n.n 0) (λ t. t ≡ Some c.in-Form.format) read end
+    (all_are input left all MOST_BEGINNING_BYTES (nat_eq c.in_ok-n.n 0) (λ t. form_told t ≡ Some c.in-Form.format) read end
     (λ e. let s = short e in omega (arith, s)) told)
 
 pub returns-in-Nothing-clause-untold : goal.returns-in-Nothing-clause-untold
@@ -90,11 +91,20 @@ returns-in-Nothing-clause-untold g c =
     let N : List ℕ → Type 0 = λ b. tells_nothing_yet b ≡ false in
     let short : nat_eq c.in_ok-n.n 0 ≡ true → length all < MOST_BEGINNING_BYTES =
     λ e. few_read c.loop-buffer.bytes.items c.read_once.new.buffer all c.in_ok-n.n MOST_BEGINNING_BYTES items e few in
-    untold_form input
+    let some : nat_eq c.in_ok-n.n 0 ≡ false → tells_nothing_yet first ≡ false =
+    λ going. not_yet first c.told_format.result is_none (c.told_format.ensures.open going) in
+    let W : List ℕ → Type 0 = λ b. (later : List ℕ) → (nat_eq c.in_ok-n.n 0 ≡ true → later ≡ []) → why_untold (b ++ later) ≡ c.why_untold.result in
+    let why : (later : List ℕ) → (nat_eq c.in_ok-n.n 0 ≡ true → later ≡ [])
+    → why_untold (take MOST_BEGINNING_BYTES all ++ later) ≡ c.why_untold.result =
+    subst W same
+    (λ later none. why_same first later (nat_eq c.in_ok-n.n 0) none (λ going. has_four first (some going)) ∙ sym c.why_untold.ensures) in
+    untold_form input c.why_untold.result
     (beginning_tells input left all MOST_BEGINNING_BYTES (nat_eq c.in_ok-n.n 0) None read end short told
-    (λ going. subst N same (not_yet first c.told_format.result is_none (c.told_format.ensures.open going))))
-    (all_tell input left all MOST_BEGINNING_BYTES (nat_eq c.in_ok-n.n 0) (λ t. t ≡ None) read end
+    (λ going. subst N same (some going)))
+    (all_are input left all MOST_BEGINNING_BYTES (nat_eq c.in_ok-n.n 0) (λ t. form_told t ≡ None) read end
     (λ e. let s = short e in omega (arith, s)) told)
+    (all_are input left all MOST_BEGINNING_BYTES (nat_eq c.in_ok-n.n 0) (λ t. why_untold t ≡ c.why_untold.result) read end
+    (λ e. let s = short e in omega (arith, s)) why)
 
 pub loop-buffer-preserved : goal.loop-buffer-preserved
 loop-buffer-preserved g c =
