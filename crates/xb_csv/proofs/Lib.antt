@@ -11,3 +11,5 @@ pub mod WrittenSigrok
 pub mod WrittenTimes
 pub mod WrittenCutTimes
 pub mod WrittenSaleae
+pub mod TenLemmas
+pub mod WrittenExponents

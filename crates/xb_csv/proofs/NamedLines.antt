@@ -1,5 +1,5 @@
 -- The names of a wire of which libgpiod 2 writes number and name.
-use Rattle.std.proofs.Common.{◌≡◌, ℕ, suc, ◌-◌, ◌^◌, ◌<◌, List, [], ◌∷◌, ◌++◌, Bool, true, false, cond, Some, None, length, length-append, take, drop, refl, ap, ◌∙◌, arith, codes, ◌&&◌, ◌||◌}
+use Rattle.std.proofs.Common.{◌≡◌, ℕ, suc, ◌-◌, List, [], ◌∷◌, ◌++◌, Bool, true, false, cond, Some, None, length, length-append, take, drop, refl, ap, ◌∙◌, arith, codes, ◌&&◌, ◌||◌}
 use Rattle.std.proofs.Math.Seq.{take-append_seam}
 use Rattle.std.proofs.lemmas.Bool.Decides.{nat_tests}
 use Rattle.std.specs.Prelude.{bytes_eq, decimal, is_some, nat_le, slice_index, ◌==◌}
@@ -7,7 +7,7 @@ use Rattle.xb_contact.specs.Numbers.{number_of}
 use Rattle.xb_contact.specs.Changes.{IsName}
 use Rattle.xb_contact.proofs.Written.{number_is_read}
 use Rattle.xb_csv.specs.Cells.{trimmed}
-use Rattle.xb_csv.specs.Gpiomons.{between, first_word, is_name, is_numbered, is_text, names_by, names_wire}
+use Rattle.xb_csv.specs.Gpiomons.{between, is_name, is_numbered, is_text, names_by, names_wire}
 use Rattle.xb_csv.specs.Written.{LinesAreNamed, line_text, number_text, quoted_text}
 use Rattle.xb_csv.proofs.WrittenEdges.{BeginsBare, EndsBare, begins_more, chip_bare, decimal_name, ends_append, ends_more, name_begins, trimmed_same, word_cut}
 

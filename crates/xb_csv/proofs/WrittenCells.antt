@@ -1,11 +1,11 @@
 -- Lines of cells that are written are read back: their cells, the columns of wires, and the levels of a row.
-use Rattle.std.proofs.Common.{◌≡◌, ℕ, suc, ◌+◌, ◌<◌, ◌≤◌, ◌^◌, List, [], ◌∷◌, ◌++◌, true, false, cond, Option, Some, None, length, length-append, take, drop, get_or, map, refl, ap, sym, subst, ◌∙◌, add-one, arith, ne_eqb, not, codes, ◌||◌}
+use Rattle.std.proofs.Common.{◌≡◌, ℕ, suc, ◌+◌, ◌<◌, ◌≤◌, ◌^◌, List, [], ◌∷◌, ◌++◌, true, false, cond, Option, Some, None, length, length-append, take, drop, get_or, map, refl, ap, sym, subst, ◌∙◌, add-one, arith, ne_eqb, not, ◌||◌}
 use Rattle.std.proofs.Math.Seq.{split_at}
 use Rattle.std.proofs.lemmas.List.{get_or-append-add, length-take-le, take_all}
 use Rattle.std.proofs.lemmas.Option.{slice_get-get_or, slice_get-map}
 use Rattle.std.proofs.lemmas.Bool.Decides.{nat_tests}
 use Rattle.std.specs.Prelude.{Ok, Err, bytes_eq, ◌==◌, option_map, slice_get}
-use Rattle.std.specs.List.{AllByRecursion, IsDistinct, join_with_byte, list_all, list_any, position_from, slice_split}
+use Rattle.std.specs.List.{AllByRecursion, IsDistinct, list_all, list_any, position_from, slice_split}
 use Rattle.std.specs.Option.{ok_or}
 use Rattle.xb_contact.specs.declared.event.Event.{Event}
 use Rattle.xb_contact.specs.declared.event.Event.TheVariants as events

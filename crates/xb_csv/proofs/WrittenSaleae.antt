@@ -1,5 +1,5 @@
 -- Tables of Saleae Logic that are written are read back.
-use Rattle.std.proofs.Common.{◌≡◌, ℕ, zero, suc, ◌+◌, ◌^◌, ◌<◌, ◌≤◌, List, [], ◌∷◌, ◌++◌, true, false, cond, Option, Some, None, length, map, refl, ap, sym, subst, ◌∙◌, arith, ne_eqb, not, codes}
+use Rattle.std.proofs.Common.{◌≡◌, ℕ, zero, suc, ◌+◌, ◌^◌, ◌<◌, ◌≤◌, List, [], ◌∷◌, true, false, cond, Option, Some, None, length, map, refl, ap, sym, subst, ◌∙◌, arith, ne_eqb, not}
 use Rattle.std.proofs.lemmas.Bool.Decides.{nat_tests}
 use Rattle.std.specs.Prelude.{Ok, Err, nat_lt, ◌==◌, slice_get}
 use Rattle.std.specs.Option.{ok_or}
@@ -8,12 +8,11 @@ use Rattle.xb_contact.specs.declared.event.Event.TheVariants as events
 use Rattle.xb_contact.specs.declared.event.Refusal.TheVariants as refusals
 use Rattle.xb_contact.specs.declared.scale.TheConstants.{NANOSECONDS}
 use Rattle.xb_contact.specs.Changes.{IsName}
-use Rattle.xb_contact.specs.Steps.{is_before, result_and_then, result_map, then_later}
+use Rattle.xb_contact.specs.Steps.{is_before, result_and_then, then_later}
 use Rattle.xb_contact.proofs.StepLemmas.{line_says}
 use Rattle.xb_csv.specs.declared.clock.Clock.TheVariants as clocks
 use Rattle.xb_csv.specs.declared.columns.TableForm.TheVariants as forms
 use Rattle.xb_csv.specs.Cells.{cells_of}
-use Rattle.xb_csv.specs.Seconds.{nanoseconds_of}
 use Rattle.xb_csv.specs.Tables.{TableState, begins_rows, begun_table, columns_in, is_remark, is_seconds, saleae_begins, table_ends, table_line_says}
 use Rattle.xb_csv.specs.Written.{TableRow, level_text, levels_said}
 use Rattle.xb_csv.specs.WrittenTables.{AreAmong, AreLabels, IsLabel, SaleaeIsRead, cells_line, levels_at, names_at, seconds_label, signed_text, timed_lines}

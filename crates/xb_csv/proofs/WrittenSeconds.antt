@@ -11,7 +11,7 @@ use Rattle.std.proofs.lemmas.List.Folds.{list_all-append}
 use Rattle.xb_text.specs.Pieces.{cut_at}
 use Rattle.xb_contact.specs.Numbers.{is_digit, number_in}
 use Rattle.xb_contact.proofs.Written.{digits_are, digits_are_read, number_is_read}
-use Rattle.xb_csv.specs.Seconds.{fitting, fraction_of, from_origin, is_number, nanoseconds_by, nanoseconds_of, nine_digits, unsigned_nanoseconds}
+use Rattle.xb_csv.specs.Seconds.{fitting, fraction_of, from_origin, is_number, nanoseconds_by, nanoseconds_in, nanoseconds_of, nine_digits, unsigned_nanoseconds}
 use Rattle.xb_csv.specs.Written.{last_digits, seconds_text}
 use Rattle.xb_csv.specs.WrittenTables.{signed_text}
 
@@ -141,7 +141,12 @@ unsigned-read tick late early =
     let cut : cut_at 46 text ≡ Some (decimal whole, last_digits 9 part) =
     cut_there 46 (decimal whole) (last_digits 9 part)
     (digits_are (λ b. not (b == 46)) (λ digit low. ap not (ne_eqb (48 + digit) 46 (λ e. absurd (omega arith)))) whole small) refl in
-    ap (λ parts. nanoseconds_by (unwrap_or parts (text, []))) cut
+    let plain : list_all (λ b. not (b == 101)) text ≡ true =
+    list_all-append (λ b. not (b == 101)) (decimal whole) (46 ∷ last_digits 9 part)
+    ∙ and_from _ _ (digits_are (λ b. not (b == 101)) (λ digit low. ap not (ne_eqb (48 + digit) 101 (λ e. absurd (omega arith)))) whole small)
+    (last_digits_are (λ b. not (b == 101)) (λ digit low. ap not (ne_eqb (48 + digit) 101 (λ e. absurd (omega arith)))) 9 part) in
+    ap (nanoseconds_in text) (no_cut 101 text plain)
+    ∙ ap (λ parts. nanoseconds_by (unwrap_or parts (text, []))) cut
     ∙ ap (option_and_then (λ w. option_and_then (λ f. fitting (w * 1000000000 + f)) (fraction_of (last_digits 9 part)))) (number_is_read whole small)
     ∙ ap (option_and_then (λ f. fitting (whole * 1000000000 + f))) (fraction-read part (omega arith))
     ∙ ap fitting sum

@@ -210,7 +210,7 @@ pub header_read :
     (channels : List (List ℕ)) (wires : List ℕ) (rate : ℕ) (line label : List ℕ) (rest : List (List ℕ))
     → is_comment line ≡ false → cells_of line ≡ label ∷ rest
     → sigrok_line (headed (names_at channels wires) wires rate) line
-    ≡ sigrok_by_units (headed (names_at channels wires) wires rate) label (units_of_label label)
+    ≡ sigrok_by_units (headed (names_at channels wires) wires rate) line label (units_of_label label)
 header_read channels wires rate line label rest plain cells =
     let names : List (List ℕ) = names_at channels wires in
     let columns : List ℕ = map (λ wire. wire + 0) wires in
@@ -219,8 +219,8 @@ header_read channels wires rate line label rest plain cells =
     let right = length-map wires (λ wire. get_or channels wire []) in
     let same : (length columns == length names) ≡ true = grind (arith, nat_tests, left, right) in
     ap (λ t. cond t (comment_says state line) (sigrok_header state line)) plain
-    ∙ ap (λ t. cond t (result_and_then (λ own. sigrok_by_units state own (units_of_label own)) (ok_or (slice_get (cells_of line) 0) refusals.Header)) (Err refusals.Header)) same
-    ∙ ap (λ own. result_and_then (λ own. sigrok_by_units state own (units_of_label own)) (ok_or (slice_get own 0) refusals.Header)) cells
+    ∙ ap (λ t. cond t (result_and_then (λ own. sigrok_by_units state line own (units_of_label own)) (ok_or (slice_get (cells_of line) 0) refusals.Header)) (Err refusals.Header)) same
+    ∙ ap (λ own. result_and_then (λ own. sigrok_by_units state line own (units_of_label own)) (ok_or (slice_get own 0) refusals.Header)) cells
 
 logic-label : IsLabel (codes "logic")
 logic-label = record {

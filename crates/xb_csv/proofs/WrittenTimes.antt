@@ -6,7 +6,6 @@ use Rattle.std.specs.Prelude.{Ok, decimal, nat_eq, nat_lt, ◌==◌, ◌&&◌, �
 use Rattle.std.specs.List.{list_all, starts_with}
 use Rattle.xb_contact.specs.declared.event.Event.{Event}
 use Rattle.xb_contact.specs.declared.event.Event.TheVariants as events
-use Rattle.xb_contact.specs.declared.event.Refusal.TheVariants as refusals
 use Rattle.xb_contact.specs.Numbers.{is_digit}
 use Rattle.xb_contact.specs.Steps.{is_before, then_later}
 use Rattle.xb_contact.proofs.StepLemmas.{line_says}
@@ -84,7 +83,7 @@ times_header channels own wires rate unit is few runs cut =
     joined_taken state label (logic_labels own) (unit_label unit few, logic_all own)
     ∙ header_read channels wires rate (cells_line (label ∷ logic_labels own)) label (logic_labels own)
     (unit_plain unit (logic_labels own) few) (joined_cells label (logic_labels own) (unit_label unit few, logic_all own))
-    ∙ ap (sigrok_by_units state label) (units_read unit few)
+    ∙ ap (sigrok_by_units state (cells_line (label ∷ logic_labels own)) label) (units_read unit few)
     ∙ ap (times_begin state (1000 ^ unit)) (cut_read (1000 ^ unit) rate is runs cut)
 
 -- no number begins a comment

@@ -166,21 +166,30 @@ abbrev pub times_begin : TableState → ℕ → Option CutTimes → Said TableSt
 times_begin state units None = begins_rows state clocks.Ticks (scale_of_units units)
 times_begin state units (Some cut) = Ok ([], record state { clock = clocks.Undecided cut })
 
--- a label that is no unit: sigrok has written it where the time counts nothing
-abbrev pub label_refused : List ℕ → Refusal
+-- a label that is no unit: sigrok has written it where the time counts nothing; and a level, which begins a row
+abbrev pub label_refused : List ℕ → Option Refusal
 label_refused label =
-    if bytes_eq label (codes "samples") || bytes_eq label (codes "Time") then refusals.NoUnit else refusals.Header
+    if bytes_eq label (codes "samples") || bytes_eq label (codes "Time") then Some refusals.NoUnit
+    else (if is_some (level_of label) then Some refusals.Header else None)
 
-abbrev pub sigrok_by_units : TableState → List ℕ → Option ℕ → Said TableState
-sigrok_by_units state label (Some units) = times_begin state units (cut_times units state.rate)
-sigrok_by_units state label None =
-    if bytes_eq label (codes "logic") then samples_begin state state.rate else Err (label_refused label)
+-- any other header has the names of the wires once more, and each row is a sample
+abbrev pub named_samples : TableState → List ℕ → Option Refusal → Said TableState
+named_samples state line (Some refusal) = Err refusal
+named_samples state line None =
+    result_and_then (λ columns. samples_begin (record state { columns = columns }) state.rate)
+    (columns_in (cells_of line) state.names)
+
+abbrev pub sigrok_by_units : TableState → List ℕ → List ℕ → Option ℕ → Said TableState
+sigrok_by_units state line label (Some units) = times_begin state units (cut_times units state.rate)
+sigrok_by_units state line label None =
+    if bytes_eq label (codes "logic") then samples_begin state state.rate
+    else named_samples state line (label_refused label)
 
 -- the header of sigrok, after the comment with the names
 abbrev pub sigrok_header : TableState → List ℕ → Said TableState
 sigrok_header state line =
     if length state.columns == length state.names
-    then result_and_then (λ label. sigrok_by_units state label (units_of_label label))
+    then result_and_then (λ label. sigrok_by_units state line label (units_of_label label))
     (ok_or (slice_get (cells_of line) 0) refusals.Header)
     else Err refusals.Header
 

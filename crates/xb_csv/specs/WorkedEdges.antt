@@ -1,5 +1,5 @@
 -- Lines of gpiomon, each with what it says, and the names of the wires that they write.
-use Rattle.std.specs.Prelude.{◌≡◌, ◌+◌, ◌^◌, List, [], ◌∷◌, Bool, true, false, None, Ok, Err, codes, ℕ}
+use Rattle.std.specs.Prelude.{◌≡◌, ◌+◌, ◌^◌, List, [], ◌∷◌, true, false, None, Ok, Err, codes, ℕ}
 use Rattle.xb_contact.specs.declared.event.Event.TheVariants.{At, Level, Ticks}
 use Rattle.xb_contact.specs.declared.event.Refusal.TheVariants as refusals
 use Rattle.xb_contact.specs.declared.level.Level.TheVariants.{Open, Closed}

@@ -16,7 +16,14 @@ pub record SecondsAreRead : Type 0 where
   pub late : nanoseconds_of (codes "4611686018.427387903") ≡ Some (2 ^ 62 + 4611686018427387903)
   pub too_late : nanoseconds_of (codes "4611686018.427387904") ≡ None
   pub decimal_comma : nanoseconds_of (codes "0,5") ≡ None
-  pub exponent : nanoseconds_of (codes "1e-3") ≡ None
+  pub exponent : nanoseconds_of (codes "1e-3") ≡ Some (2 ^ 62 + 1000000)
+  pub exponent_before : nanoseconds_of (codes "-5.0000000e-03") ≡ Some (2 ^ 62 - 5000000)
+  pub exponent_up : nanoseconds_of (codes "1.25e+01") ≡ Some (2 ^ 62 + 12500000000)
+  pub part_of_a_nanosecond : nanoseconds_of (codes "-4.336808689942e-19") ≡ Some (2 ^ 62)
+  pub exponent_alone : nanoseconds_of (codes "e-3") ≡ None
+  pub no_exponent : nanoseconds_of (codes "1e-") ≡ None
+  pub two_exponents : nanoseconds_of (codes "1e3e3") ≡ None
+  pub too_great : nanoseconds_of (codes "5e9") ≡ None
   pub nothing : nanoseconds_of [] ≡ None
 
 -- a table of the wire D1, before it is read

@@ -1,5 +1,5 @@
 -- Tables of levels, as sigrok and Saleae Logic write them.
-use Rattle.std.specs.Prelude.{◌≡◌, ℕ, ◌+◌, ◌-◌, ◌*◌, ◌/◌, ◌%◌, ◌^◌, ◌<◌, List, [], ◌∷◌, ◌++◌, Bool, false, Option, None, Ok, bytes_eq, codes, decimal, if◌then◌else◌, length, map, nat_lt, not, slice_index_or, true, ◌==◌, ◌&&◌}
+use Rattle.std.specs.Prelude.{◌≡◌, ℕ, ◌+◌, ◌-◌, ◌*◌, ◌/◌, ◌%◌, ◌^◌, ◌<◌, List, [], ◌∷◌, ◌++◌, Bool, false, Option, Some, None, Ok, bytes_eq, codes, decimal, if◌then◌else◌, length, map, nat_lt, not, slice_index_or, true, ◌==◌, ◌&&◌}
 use Rattle.std.specs.Char.{is_ascii_whitespace}
 use Rattle.std.specs.List.{AllByRecursion, IsDistinct, join_with_byte, list_all, prefix_len, suffix_len}
 use Rattle.xb_contact.specs.declared.event.Event.{Event}
@@ -11,6 +11,7 @@ use Rattle.xb_contact.specs.declared.scale.TheConstants.{NANOSECONDS}
 use Rattle.xb_contact.specs.Times.{scale_by}
 use Rattle.xb_csv.specs.declared.columns.TableForm.TheVariants as forms
 use Rattle.xb_csv.specs.Tables.{begun_table, table_says}
+use Rattle.xb_csv.specs.Seconds.{nanoseconds_of, shifted}
 use Rattle.xb_csv.specs.Written.{AreRows, TableRow, level_text, rows_said, seconds_text}
 
 -- a cell has a byte, no comma, and no blank before it or after it
@@ -185,6 +186,12 @@ SigrokCutTimesAreRead =
 abbrev pub signed_text : ℕ → List ℕ
 signed_text tick =
     if nat_lt tick (2 ^ 62) then codes "-" ++ seconds_text (2 ^ 62 + (2 ^ 62 - tick)) else seconds_text tick
+
+-- a whole number with an exponent is read: seconds are nine tens up, and it is so many down
+abbrev pub ExponentsAreRead : Type 0
+ExponentsAreRead =
+    (number tens : ℕ) → number < 2 ^ 64 → tens < 1000 → shifted number 9 tens < 2 ^ 62
+    → nanoseconds_of (decimal number ++ (codes "e-" ++ decimal tens)) ≡ Some (2 ^ 62 + shifted number 9 tens)
 
 -- the labels of times in seconds, of Saleae Logic 2, Saleae Logic 1, DSView and WaveForms
 abbrev pub seconds_label : ℕ → List ℕ

@@ -2,7 +2,7 @@
 ghost use Rattle.std.specs.Prelude.{◌≡◌, ◌+◌, ◌∷◌, [], Ok, IfErr, OnOk, map};
 ghost use Rattle.xb_contact.specs.Steps.{Adds, AddsAll, IsRefusedBy};
 ghost use Rattle.xb_csv.specs.Cells.{cells_of};
-ghost use Rattle.xb_csv.specs.Tables.{begun_table, begins_rows, columns_before, comment_says, cut_times, edges_row, first_time, levels_from, line_of_form, names_say, no_header, row_at, row_says, saleae_begins, saleae_header, saleae_row, samples_begin, sigrok_by_units, sigrok_header, sigrok_line, sigrok_row, table_ends, table_line_says, table_says, table_state, times_begin, times_decided, units_of_label};
+ghost use Rattle.xb_csv.specs.Tables.{begun_table, begins_rows, columns_before, comment_says, cut_times, edges_row, first_time, label_refused, levels_from, line_of_form, named_samples, names_say, no_header, row_at, row_says, saleae_begins, saleae_header, saleae_row, samples_begin, sigrok_by_units, sigrok_header, sigrok_line, sigrok_row, table_ends, table_line_says, table_says, table_state, times_begin, times_decided, units_of_label};
 
 use crate::cells::{after, cell_at, trimmed};
 use crate::clock::{Clock, columns_before, end_at, first_number, row_time};
@@ -18,8 +18,9 @@ use xb_text::cut_at;
 /// The form of a table.
 #[derive(Clone, Copy, Debug, PartialEq, Eq)]
 pub enum TableForm {
-    /// What `sigrok-cli -O csv` writes: comments with `;`, a header with the unit of the times, if there are any, and
-    /// rows. Wires have the names of the comment `; Channels`. Times that sigrok cuts are those of the samples.
+    /// What `sigrok-cli -O csv` writes: comments with `;`, a header with the unit of the times, if there are any, or with
+    /// the names of the wires where there are none, and rows. Wires have the names of the comment `; Channels`. Times
+    /// that sigrok cuts are those of the samples.
     Sigrok,
     /// What Saleae Logic exports: a header `Time [s],NAME,..`, and rows. DSView and WaveForms write the same, with
     /// remarks before the header.
@@ -137,18 +138,43 @@ impl<'a> Columns<'a> {
         }
     }
 
-    // The header of sigrok, whose first column has this label.
-    fn take_label(&mut self, label: &[u8], events: &mut Vec<Event>) -> Result<(), Refusal>
+    // The header of sigrok whose first cell is this, which is no label: it has the names of the wires.
+    fn take_wires(
+        &mut self,
+        line: &[u8],
+        label: &[u8],
+        events: &mut Vec<Event>,
+    ) -> Result<(), Refusal>
         ensures said { OnOk result
-            (Adds (sigrok_by_units (table_state self.old) label.now (units_of_label label.now))
+            (Adds (named_samples (table_state self.old) line.now (label_refused label.now))
             events.old.items events.new.items (table_state self.new)) }
         ensures refused { IfErr result (IsRefusedBy
-            (sigrok_by_units (table_state self.old) label.now (units_of_label label.now))) }
+            (named_samples (table_state self.old) line.now (label_refused label.now))) }
+    {
+        if let Some(refusal) = refusal_of_label(label) {
+            return Err(refusal);
+        }
+        find_columns(line, self.names, &mut self.columns)?;
+        self.begin_samples(events)
+    }
+
+    // The header of sigrok, whose first cell is this.
+    fn take_label(
+        &mut self,
+        line: &[u8],
+        label: &[u8],
+        events: &mut Vec<Event>,
+    ) -> Result<(), Refusal>
+        ensures said { OnOk result
+            (Adds (sigrok_by_units (table_state self.old) line.now label.now (units_of_label label.now))
+            events.old.items events.new.items (table_state self.new)) }
+        ensures refused { IfErr result (IsRefusedBy
+            (sigrok_by_units (table_state self.old) line.now label.now (units_of_label label.now))) }
     {
         match units_of_label(label) {
             Some(units) => self.begin_times(units, events),
             None if label == b"logic".as_slice() => self.begin_samples(events),
-            None => Err(refusal_of_label(label)),
+            None => self.take_wires(line, label, events),
         }
     }
 
@@ -162,7 +188,7 @@ impl<'a> Columns<'a> {
             return Err(Refusal::Header);
         }
         match cell_at(line, 0) {
-            Some(label) => self.take_label(label, events),
+            Some(label) => self.take_label(line, label, events),
             None => Err(Refusal::Header),
         }
     }

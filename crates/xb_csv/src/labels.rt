@@ -5,7 +5,7 @@ ghost use Rattle.xb_csv.specs.Tables.{hertz_in_part, hertz_in_parts, hertz_of, i
 
 use crate::cells::{after, trimmed};
 use crate::seconds::{fraction_of, point_parts};
-use xb_contact::{Refusal, Scale, number_of};
+use xb_contact::{Refusal, Scale, level_of, number_of};
 use xb_text::cut_at;
 
 // So many ms are so many ticks.
@@ -45,14 +45,16 @@ pub(crate) fn scale_of_units(units: u64) -> Scale
     }
 }
 
-// Why a time column of this label is refused, which is no unit.
-pub(crate) fn refusal_of_label(label: &[u8]) -> Refusal
+// Why a header is refused whose first cell is this, which is no unit; `None` where it may be the name of a wire.
+pub(crate) fn refusal_of_label(label: &[u8]) -> Option<Refusal>
     ensures { result ≡ label_refused label.now }
 {
     if label == b"samples".as_slice() || label == b"Time".as_slice() {
-        Refusal::NoUnit
+        Some(Refusal::NoUnit)
+    } else if level_of(label).is_some() {
+        Some(Refusal::Header)
     } else {
-        Refusal::Header
+        None
     }
 }
 

@@ -3,11 +3,16 @@ ghost use Rattle.xb_csv.specs.WorkedEdges.{EdgesAreRead, WiresAreNamed};
 ghost use Rattle.xb_csv.specs.WorkedRates.{PeriodsAreCut, RatesAreRead};
 ghost use Rattle.xb_csv.specs.WorkedTables.{SecondsAreRead, TablesAreRead};
 ghost use Rattle.xb_csv.specs.Written.{LinesAreNamed, WrittenEdgesAreRead, WrittenRowsAreRead};
-ghost use Rattle.xb_csv.specs.WrittenTables.{SaleaeIsRead, SigrokCutTimesAreRead, SigrokSamplesAreRead, SigrokTimesAreRead, TablesAreWritten};
+ghost use Rattle.xb_csv.specs.WrittenTables.{ExponentsAreRead, SaleaeIsRead, SigrokCutTimesAreRead, SigrokSamplesAreRead, SigrokTimesAreRead, TablesAreWritten};
 
 /// What some times in seconds say.
 pub fn seconds_are_read()
     ensures { SecondsAreRead }
+{}
+
+/// A number with an exponent is that many nanoseconds, of which no part is kept.
+pub fn exponents_are_read()
+    ensures { ExponentsAreRead }
 {}
 
 /// Which rates some texts are.

@@ -12,12 +12,14 @@
 //!   `sigrok_cut_times_are_read`: times of which sigrok cuts something off are read as exactly their samples.
 //! - `names_wire` (`Gpiomons`): the names of a wire, by what gpiomon writes of it.
 //! - `trimmed` and `cell_at` (`Cells`): the cells of a line, without the blanks around them.
-//! - `nanoseconds_of` (`Seconds`): a time in seconds, with a sign where it is below 0, to the nanosecond.
+//! - `nanoseconds_of` (`Seconds`): a time in seconds, with a sign where it is below 0, and with an exponent or without
+//!   one, to the nanosecond. `laws::exponents_are_read`: what an exponent comes to.
 #![tactic(auto)]
 
 mod cells;
 mod clock;
 mod columns;
+mod exponents;
 mod gpiomon;
 mod labels;
 pub mod laws;

@@ -1,7 +1,8 @@
 // Times in seconds.
 ghost use Rattle.std.specs.Prelude.{◌≡◌, ◌+◌, ◌<◌, ◌∷◌, drop};
-ghost use Rattle.xb_csv.specs.Seconds.{fraction_of, is_number, nanoseconds_of, nine_digits, point_parts, unsigned_nanoseconds};
+ghost use Rattle.xb_csv.specs.Seconds.{fraction_of, is_number, nanoseconds_by, nanoseconds_of, nine_digits, point_parts, unsigned_nanoseconds};
 
+use crate::exponents::scientific;
 use xb_contact::{is_digit, number_after, number_of};
 use xb_text::cut_at;
 
@@ -59,8 +60,8 @@ pub(crate) fn fraction_of(text: &[u8]) -> Option<u64>
 }
 
 // Seconds without a sign, in nanoseconds.
-fn unsigned_nanoseconds(text: &[u8]) -> Option<u64>
-    ensures { result ≡ unsigned_nanoseconds text.now }
+fn plain_nanoseconds(text: &[u8]) -> Option<u64>
+    ensures { result ≡ nanoseconds_by (point_parts text.now) }
 {
     let (whole, fraction) = point_parts(text);
     let whole = number_of(whole)?;
@@ -68,8 +69,18 @@ fn unsigned_nanoseconds(text: &[u8]) -> Option<u64>
     whole.checked_mul(1_000_000_000)?.checked_add(fraction)
 }
 
-/// A time in seconds, as `-0.500000000`, in nanoseconds after a moment 2^62 nanoseconds before 0. Digits after
-/// the ninth of a fraction are left out. `None` for any other text, and for 2^62 nanoseconds and more.
+// The same, with an exponent or without one.
+fn unsigned_nanoseconds(text: &[u8]) -> Option<u64>
+    ensures { result ≡ unsigned_nanoseconds text.now }
+{
+    match cut_at(b'e', text) {
+        Some((mantissa, exponent)) => scientific(mantissa, exponent),
+        None => plain_nanoseconds(text),
+    }
+}
+
+/// A time in seconds, as `-0.500000000` or `-5e-01`, in nanoseconds after a moment 2^62 nanoseconds before 0. What is
+/// less than a nanosecond is left out. `None` for any other text, and for 2^62 nanoseconds and more.
 #[tactic(auto, unfolding(crate::specs::Seconds::nanoseconds_of))]
 pub fn nanoseconds_of(text: &[u8]) -> Option<u64>
     ensures { result ≡ nanoseconds_of text.now }

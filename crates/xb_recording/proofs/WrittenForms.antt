@@ -1,6 +1,6 @@
 -- The forms of recordings that are written are told.
 use Rattle.std.proofs.Common.{◌≡◌, ℕ, zero, suc, ◌-◌, ◌^◌, ◌<◌, ◌≤◌, List, [], ◌∷◌, ◌++◌, Bool, true, false, cond, Option, Some, None, length, length-append, take, drop, map, refl, ap, subst, get_or, ◌+◌, ◌∙◌, arith, append_assoc, codes, ne_eqb, ◌&&◌, ◌||◌}
-use Rattle.std.specs.Prelude.{Ok, bytes_eq, is_some, nat_eq, nat_le, slice_get, ◌==◌}
+use Rattle.std.specs.Prelude.{Ok, is_some, nat_eq, nat_le, slice_get, ◌==◌}
 use Rattle.std.specs.Char.{is_ascii_whitespace}
 use Rattle.std.specs.List.{list_all, onto_first, prefix_len, slice_split, starts_with, suffix_len}
 use Rattle.std.specs.Option.{ok_or}
@@ -14,19 +14,20 @@ use Rattle.xb_contact.proofs.Written.{never_after_end}
 use Rattle.xb_csv.specs.Cells.{cells_of, trimmed, trimmed_end}
 use Rattle.xb_csv.specs.Gpiomons.{EdgeSaid, GpiomonState, edge_line_says, edge_of, edge_says, gpiomon_ends, gpiomon_says, gpiomon_with}
 use Rattle.xb_csv.specs.Seconds.{nanoseconds_of}
+use Rattle.xb_csv.specs.Tables.{is_seconds}
 use Rattle.xb_csv.specs.Written.{edge_events, edge_lines, seconds_text, way_text}
 use Rattle.xb_csv.proofs.WrittenEdges.{begins_more, ends_append, name_begins, name_ends, own_name, seconds_name, trimmed_same, written_edges_are_read}
 use Rattle.xb_csv.proofs.WrittenSeconds.{seconds_pass, seconds_start}
 use Rattle.xb_recording.specs.declared.format.Format.{Format}
 use Rattle.xb_recording.specs.declared.format.Format.TheVariants as formats
-use Rattle.xb_recording.specs.Beginnings.{form_told, format_by, is_archive, is_label, is_of_saleae, is_row, told_by_lines}
+use Rattle.xb_recording.specs.Beginnings.{form_told, format_by, is_archive, is_label, is_of_saleae, is_remark_of_program, is_row, told_by_lines}
 use Rattle.xb_recording.specs.Says.{text_lines}
 use Rattle.xb_recording.specs.Written.{text_of}
 use Rattle.xb_recording.specs.WrittenForms.{WrittenFormsAreTold}
 use Rattle.xb_recording.proofs.WrittenTexts.{edges_back, vcd_back}
 
 -- a cell that begins with a digit or a point is no label
-no-label : (count byte : ℕ) (rest : List ℕ) → nat_le byte 57 ≡ true → bytes_eq (take count (byte ∷ rest)) (codes "Time [s]") ≡ false
+no-label : (count byte : ℕ) (rest : List ℕ) → nat_le byte 57 ≡ true → is_seconds (take count (byte ∷ rest)) ≡ false
 no-label zero byte rest low = refl
 no-label (suc count) byte rest low =
     let other : nat_eq byte 84 ≡ false = grind (arith, nat_tests) in
@@ -42,12 +43,12 @@ unfolding trimmed
 first-cell byte rest [] low =
     let parts = and_parts (nat_le 46 byte) (nat_le byte 57) low in
     let plain : is_ascii_whitespace byte ≡ false = grind (arith, nat_tests) in
-    ap (λ t. bytes_eq (trimmed_end (drop (cond t 1 0) (byte ∷ []))) (codes "Time [s]")) plain
+    ap (λ t. is_seconds (trimmed_end (drop (cond t 1 0) (byte ∷ [])))) plain
     ∙ no-label (length (byte ∷ []) - suffix_len is_ascii_whitespace (byte ∷ [])) byte [] parts.1
 first-cell byte rest (cell ∷ later) low =
     let parts = and_parts (nat_le 46 byte) (nat_le byte 57) low in
     let plain : is_ascii_whitespace byte ≡ false = grind (arith, nat_tests) in
-    ap (λ t. bytes_eq (trimmed_end (drop (cond t (1 + prefix_len is_ascii_whitespace cell) 0) (byte ∷ cell))) (codes "Time [s]")) plain
+    ap (λ t. is_seconds (trimmed_end (drop (cond t (1 + prefix_len is_ascii_whitespace cell) 0) (byte ∷ cell)))) plain
     ∙ no-label (length (byte ∷ cell) - suffix_len is_ascii_whitespace (byte ∷ cell)) byte cell parts.1
 
 not-saleae :
@@ -58,11 +59,19 @@ not-saleae (byte ∷ text) rest some low =
     let parts = and_parts (is-low byte) (list_all is-low text) low in
     let comma : (byte == 44) ≡ false = at byte parts.0 in
     let later : List (List ℕ) = slice_split (λ b. b == 44) (text ++ rest) in
-    ap (λ t. is_label (slice_get (map trimmed (cond t ([] ∷ later) (onto_first byte later))) 0)) comma
+    let no_remark : is_remark_of_program (byte ∷ (text ++ rest)) ≡ false = remarks byte (text ++ rest) parts.0 in
+    ap (λ t. t || is_label (slice_get (cells_of (byte ∷ (text ++ rest))) 0)) no_remark
+    ∙ ap (λ t. is_label (slice_get (map trimmed (cond t ([] ∷ later) (onto_first byte later))) 0)) comma
     ∙ first-cell byte rest later parts.0
   where
     at : (b : ℕ) → is-low b ≡ true → (b == 44) ≡ false
     at b h = grind (arith, nat_tests)
+
+    remarks : (b : ℕ) (more : List ℕ) → is-low b ≡ true → is_remark_of_program (b ∷ more) ≡ false
+    remarks b more h =
+        let semicolon : nat_eq 59 b ≡ false = grind (arith, nat_tests) in
+        let number_sign : nat_eq 35 b ≡ false = grind (arith, nat_tests) in
+        rw semicolon (rw number_sign refl)
 
 -- a line that is read as an edge is one
 was-edge :
@@ -94,14 +103,14 @@ told-first line rest same some plain =
     (ne_eqb (length line) 0 (λ z. absurd (omega (arith, some))))
     ∙ ap (λ t. cond t (told_by_lines rest) (format_by line)) plain
 
--- what format_by asks of a line that is no VCD, and no CSV of sigrok
-abbrev not-sigrok : List ℕ → Option Format
-not-sigrok line =
-    cond (is_of_saleae line) (Some formats.Saleae)
+-- what format_by asks of a line that is no VCD, and no CSV of Saleae
+abbrev not-saleae-but : List ℕ → Option Format
+not-saleae-but line =
+    cond (starts_with nat_eq line (codes ";")) (Some formats.Sigrok)
     (cond (is_some (edge_of line)) (Some formats.Gpiomon) (cond (is_row line) (Some formats.Edges) None))
 
 abbrev not-vcd : List ℕ → Option Format
-not-vcd line = cond (starts_with nat_eq line (codes ";")) (Some formats.Sigrok) (not-sigrok line)
+not-vcd line = cond (is_of_saleae line) (Some formats.Saleae) (not-saleae-but line)
 
 edge-told :
     (names : List (List ℕ)) (edge : Change) (edges : List Change) (end : ℕ) → AreNames names
@@ -134,9 +143,9 @@ edge-told names edge edges end lawful order early =
     ∙ ap told_by_lines (edges_back names (edge ∷ edges) end lawful order early)
     ∙ told-first line others same some (seconds_start 77 (codes "ETA ") edge.tick later small refl)
     ∙ ap (λ t. cond t (Some formats.Vcd) (not-vcd line)) (seconds_start 36 [] edge.tick later small refl)
-    ∙ ap (λ t. cond t (Some formats.Sigrok) (not-sigrok line)) (seconds_start 59 [] edge.tick later small refl)
-    ∙ ap (λ t. cond t (Some formats.Saleae) (cond (is_some (edge_of line)) (Some formats.Gpiomon) (cond (is_row line) (Some formats.Edges) None)))
-    (not-saleae time later is.0 low)
+    ∙ ap (λ t. cond t (Some formats.Saleae) (not-saleae-but line)) (not-saleae time later is.0 low)
+    ∙ ap (λ t. cond t (Some formats.Sigrok) (cond (is_some (edge_of line)) (Some formats.Gpiomon) (cond (is_row line) (Some formats.Edges) None)))
+    (seconds_start 59 [] edge.tick later small refl)
     ∙ ap (λ t. cond t (Some formats.Gpiomon) (cond (is_row line) (Some formats.Edges) None)) found
 
 pub written_forms_are_told : (names : List (List ℕ)) → WrittenFormsAreTold names

@@ -13,7 +13,7 @@ pub enum Format {
     Vcd,
     /// The CSV of sigrok.
     Sigrok,
-    /// The CSV of Saleae.
+    /// The CSV of Saleae, and that of DSView and of WaveForms.
     Saleae,
     /// `SECONDS,LEVEL`.
     Edges,

@@ -10,7 +10,8 @@
 //!   `RefusesEnd`; `IsRefused` for a whole recording), a text line of more than 65,536 bytes, and 2^64 ticks, or memory
 //!   ran out. `text_line` and `line` then tell the line that is refused (`Places`).
 //! - `laws::written_is_read`: what wires do, written in a form of text, is what the text says (`Written`).
-//!   `laws::written_forms_are_told`: its beginning tells the form (`WrittenForms`).
+//!   `laws::written_forms_are_told`: its beginning tells the form (`WrittenForms`). `laws::beginnings_are_told`: so do the
+//!   first lines that other programs write.
 //! - `told_format` (`form_told` in `Beginnings`): the form that the beginning tells, whatever follows; `why_untold`: why
 //!   it tells none.
 #![tactic(auto)]

@@ -1,7 +1,7 @@
-use Rattle.std.proofs.Common.{◌≡◌, ◌∷◌, ◌∙◌, ◌&&◌, Some, None, ap, sym, rules, true, false}
-use Rattle.std.specs.Prelude.{bytes_eq, nat_lt, option_copied}
+use Rattle.std.proofs.Common.{◌≡◌, ◌∷◌, ◌∙◌, Some, None, ap, sym, rules}
+use Rattle.std.specs.Prelude.{option_copied}
 use Rattle.xb_text.specs.Pieces.{pieces, pieces_left}
-use Rattle.xb_csv.specs.Cells.{stands_after, trimmed}
+use Rattle.xb_csv.specs.Cells.{stands_after}
 use Rattle.xb_csv.proofs.CellLemmas.{after_here, after_later, after_none, after_past}
 use Rattle.xb_csv.proofs.cells.stands_after.Goals as goal
 

@@ -13,5 +13,12 @@ returns c = record {
   too_late = refl;
   decimal_comma = refl;
   exponent = refl;
+  exponent_before = refl;
+  exponent_up = refl;
+  part_of_a_nanosecond = refl;
+  exponent_alone = refl;
+  no_exponent = refl;
+  two_exponents = refl;
+  too_great = refl;
   nothing = refl;
 }
