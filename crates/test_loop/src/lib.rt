@@ -7,6 +7,8 @@
 #[cfg(test)]
 mod attending;
 #[cfg(test)]
+mod by_line;
+#[cfg(test)]
 mod forms;
 #[cfg(test)]
 mod refusals;

@@ -1,4 +1,4 @@
-// Samples of sixteen wires, and sound that ends before its length, goes on behind it, or is quiet.
+// Samples of sixteen wires, and sound that ends before its length, goes on after it, or is quiet.
 use crate::attending::{Case, check_reader};
 use std::test::Fail;
 use test_kit::Halting;
@@ -18,7 +18,7 @@ const MORE: &[u8] =
 
 // What follows the head, what is printed, and what is told.
 const ENDS: &[(&[u8], &[u8], &[u8])] = &[
-    // whole: nothing follows an odd number of bytes, or a byte, or a chunk behind it
+    // whole: nothing follows an odd number of bytes, or a byte, or a chunk after it
     (b"\x05\x00\x00\x00\x00\x80\xff\x80\x7b", ROWS, b""),
     (b"\x05\x00\x00\x00\x00\x80\xff\x80\x7b\x00", ROWS, b""),
     (
@@ -50,7 +50,7 @@ const ENDS: &[(&[u8], &[u8], &[u8])] = &[
         HEADER,
         MORE,
     ),
-    // a chunk that is cut off, one whose name is none, bytes behind one, and another file
+    // a chunk that is cut off, one whose name is none, bytes after one, and another file
     (
         b"\x05\x00\x00\x00\x00\x80\xff\x80\x7b\x00LIST\x03\x00\x00\x00ab",
         BREAK,

@@ -5,7 +5,7 @@ use std::test::Fail;
 use test_kit::{Halting, Short, words_of};
 use xb_loop::attend;
 
-const USAGE: &[u8] = b"mfloop: usage: mfloop [--line N=WIRE]... [--table FILE] \
+const USAGE: &[u8] = b"mfloop: usage: mfloop --line N=WIRE[,inverted][,settle=MS][,seize=MS]... [--table FILE] \
 [--format vcd|sigrok|saleae|edges|gpiomon|bits|bits16|s16|wav] [--rate HZ] [--settle MS] [--seize MS] [--tick MS] \
 [--threshold PERCENT] [--inverted] [--said]\n";
 
@@ -25,6 +25,19 @@ const REFUSED: &[&[&str]] = &[
     &["--line", "x=1"],
     // two wires for one line
     &["--line", "7=1", "--line", "7=2"],
+    // words of a line that are none, are no number of 32 bits, or come twice
+    &["--line", "7=1,"],
+    &["--line", "7=1,invert"],
+    &["--line", "7=1, inverted"],
+    &["--line", "7=1,settle"],
+    &["--line", "7=1,settle="],
+    &["--line", "7=1,settle=5ms"],
+    &["--line", "7=1,settle=4294967296"],
+    &["--line", "7=1,tick=5"],
+    &["--line", "7=1,inverted,inverted"],
+    &["--line", "7=1,settle=5,settle=5"],
+    &["--line", "7=1,seize=150,settle=5,seize=150"],
+    &["--line", "7=,inverted"],
     &["--line", "7=1", "--format", "csv"],
     &["--line", "7=1", "--threshold", "0"],
     &["--line", "7=1", "--threshold", "100"],

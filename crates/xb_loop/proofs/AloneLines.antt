@@ -1,13 +1,18 @@
 -- No line stands twice among those that words name.
 use Rattle.std.proofs.Common.{◌≡◌, ℕ, zero, suc, List, [], ◌∷◌, ◌++◌, Bool, true, false, Option, Some, None, length, refl, ap, sym, subst, ◌∙◌, ◌==◌, inl, inr, ◌⊎◌, ◌||◌}
-use Rattle.std.specs.Prelude.{option_and_then, slice_get, if◌then◌else◌}
+use Rattle.std.proofs.lemmas.List.{map-append}
+use Rattle.std.proofs.lemmas.Option.{slice_get-map}
+use Rattle.std.specs.Prelude.{option_and_then, option_map, slice_get, if◌then◌else◌}
 use Rattle.std.specs.List.{list_any}
 use Rattle.std.proofs.lemmas.Bool.{eq-eqb}
 use Rattle.clap.specs.Walk.{Text}
 use Rattle.clap.specs.Simple.{matches_of}
 use Rattle.xb_recording.specs.Says.{names_in}
 use Rattle.xb_loop.specs.Rules.{command_of_words}
-use Rattle.xb_loop.specs.Options.{lone_words, plain_words, wire_added, wire_of, wires_after}
+use Rattle.xb_loop.specs.declared.manner.AskedLine.{AskedLine}
+use Rattle.xb_loop.specs.declared.manner.Manner.{Manner}
+use Rattle.xb_loop.specs.Options.{is_among, lone_words, plain_words, wire_added, wire_of, wires_after}
+use Rattle.xb_loop.specs.WireRecords.{numbers_asked}
 use Rattle.xb_loop.specs.RecordingLaws.{AsksForEachOnce}
 
 -- no number stands at two places
@@ -60,40 +65,61 @@ apart_then lines line none apart i j x a b = both (at_last lines line i x a) (at
     both (inr (last, is)) (inl q) = absurd (never j q is)
     both (inr (last, is)) (inr (other, same)) = last ∙ sym other
 
+-- the numbers of lines
+among_numbers : (lines : List AskedLine) (line : ℕ) → is_among line lines ≡ list_any (λ (n : ℕ). n == line) (numbers_asked lines)
+among_numbers [] line = refl
+among_numbers (first ∷ rest) line = ap (λ b. (first.number == line) || b) (among_numbers rest line)
+
+abbrev StandApart : List AskedLine → Type 0
+StandApart lines = AreApart (numbers_asked lines)
+
+stand_apart_then :
+    (lines : List AskedLine) (line : AskedLine) → is_among line.number lines ≡ false → StandApart lines
+    → StandApart (lines ++ line ∷ [])
+stand_apart_then lines line none apart =
+    subst AreApart (sym (map-append (λ (asked : AskedLine). asked.number) lines (line ∷ [])))
+    (apart_then (numbers_asked lines) line.number (sym (among_numbers lines line.number) ∙ none) apart)
+
 apart_added :
-    (wires all : List ℕ × List Text) (found : Option (ℕ × Text))
-    → option_and_then (λ wire. if list_any (λ (line : ℕ). line == wire.0) wires.0 then None
+    (wires all : List AskedLine × List Text) (found : Option (AskedLine × Text))
+    → option_and_then (λ wire. if is_among wire.0.number wires.0 then None
     else Some (wires.0 ++ wire.0 ∷ [], wires.1 ++ wire.1 ∷ [])) found ≡ Some all
-    → AreApart wires.0 → AreApart all.0
+    → StandApart wires.0 → StandApart all.0
 apart_added wires all None e apart = cc
-apart_added wires all (Some wire) e apart = by (list_any (λ (line : ℕ). line == wire.0) wires.0) refl e
+apart_added wires all (Some wire) e apart = by (is_among wire.0.number wires.0) refl e
   where
     by :
-        (b : Bool) → list_any (λ (line : ℕ). line == wire.0) wires.0 ≡ b
-        → (if b then None else Some (wires.0 ++ wire.0 ∷ [], wires.1 ++ wire.1 ∷ [])) ≡ Some all → AreApart all.0
+        (b : Bool) → is_among wire.0.number wires.0 ≡ b
+        → (if b then None else Some (wires.0 ++ wire.0 ∷ [], wires.1 ++ wire.1 ∷ [])) ≡ Some all → StandApart all.0
     by true there is = cc
     by false there is =
         let lines : wires.0 ++ wire.0 ∷ [] ≡ all.0 = cc in
-        subst AreApart lines (apart_then wires.0 wire.0 there apart)
+        subst StandApart lines (stand_apart_then wires.0 wire.0 there apart)
 
-abbrev StayApart : List Text → Type 0
-StayApart words =
-    (wires all : List ℕ × List Text) → wires_after wires words ≡ Some all → AreApart wires.0 → AreApart all.0
+module _ (manner : Manner) where
+  abbrev StayApart : List Text → Type 0
+  StayApart words =
+      (wires all : List AskedLine × List Text) → wires_after manner wires words ≡ Some all → StandApart wires.0
+      → StandApart all.0
 
-apart_next :
-    (word : Text) (words : List Text) → StayApart words → (wires all : List ℕ × List Text)
-    (added : Option (List ℕ × List Text)) → wire_added wires word ≡ added
-    → option_and_then (λ more. wires_after more words) added ≡ Some all → AreApart wires.0 → AreApart all.0
-apart_next word words later wires all None is e apart = cc
-apart_next word words later wires all (Some more) is e apart =
-    later more all e (apart_added wires more (wire_of word) is apart)
+  apart_next :
+      (word : Text) (words : List Text) → StayApart words → (wires all : List AskedLine × List Text)
+      (added : Option (List AskedLine × List Text)) → wire_added manner wires word ≡ added
+      → option_and_then (λ more. wires_after manner more words) added ≡ Some all → StandApart wires.0 → StandApart all.0
+  apart_next word words later wires all None is e apart = cc
+  apart_next word words later wires all (Some more) is e apart =
+      later more all e (apart_added wires more (wire_of manner word) is apart)
 
-apart_after : (words : List Text) → StayApart words
-apart_after [] wires all e apart = (let is : wires ≡ all = cc in subst (λ (w : List ℕ × List Text). AreApart w.0) is apart)
-apart_after (word ∷ words) wires all e apart =
-    apart_next word words (apart_after words) wires all (wire_added wires word) refl e apart
+  apart_after : (words : List Text) → StayApart words
+  apart_after [] wires all e apart =
+      (let is : wires ≡ all = cc in subst (λ (w : List AskedLine × List Text). StandApart w.0) is apart)
+  apart_after (word ∷ words) wires all e apart =
+      apart_next word words (apart_after words) wires all (wire_added manner wires word) refl e apart
 
 pub asks_for_each_once : AsksForEachOnce
-asks_for_each_once words request asks wire line at other there =
-    apart_after (lone_words (matches_of command_of_words (plain_words words))) ([], [])
-    (request.lines.items, names_in request.wanted) asks.1.wires (λ i j n a b. cc) other wire line there at
+asks_for_each_once words request asks wire asked at other there =
+    let says = asks.1 in
+    apart_after says.all (lone_words (matches_of command_of_words (plain_words words))) ([], [])
+    (request.lines.items, names_in request.wanted) says.wires (λ i j n a b. cc) other wire asked.number there
+    (slice_get-map (λ (line : AskedLine). line.number) request.lines.items wire
+    ∙ ap (option_map (λ (line : AskedLine). line.number)) at)

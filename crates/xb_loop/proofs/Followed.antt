@@ -19,15 +19,21 @@ use Rattle.xb_contact.specs.Listening.{Heard, all_told, given_now, heard_after, 
 use Rattle.xb_contact.specs.Machine.{given_by, phase_after, reach, step, step_of, stretch_of, take, unsettled}
 use Rattle.xb_contact.specs.Seizing.{all_passed}
 use Rattle.xb_contact.proofs.Seized.{piece_passes}
-use Rattle.xb_loop.specs.declared.line.Manner.{Manner}
+use Rattle.xb_loop.specs.declared.manner.AskedLine.{AskedLine}
+use Rattle.xb_loop.specs.declared.manner.Common.{Common}
+use Rattle.xb_loop.specs.declared.manner.Manner.{Manner}
 use Rattle.xb_loop.specs.declared.tally.Bounces.{Bounces}
 use Rattle.xb_loop.specs.Contacts.{Followed, given_until, held_until, hold_to}
 use Rattle.xb_loop.specs.BounceLines.{bounces_heard}
 use Rattle.xb_loop.specs.RowsOfHolds.{written_rows}
 use Rattle.xb_loop.specs.Tallies.{tally_at_end}
-use Rattle.xb_loop.specs.Watching.{Watch, Watched, all_held, begun_contact, certain_rows, event_rows, heard_event, level_heard, level_seen, line_held, line_left, line_rows, rows_of_events, watch_after, watched_of, wire_changed}
-use Rattle.xb_loop.specs.WireRecords.{GivesEachRecord, IsAlone, WireRecord, bounces_at, bounces_of_record, holds_from, record_from, rows_of_record}
+use Rattle.xb_loop.specs.Watching.{Watch, Watched, all_held, begun_contact, begun_watched, certain_rows, event_rows, heard_event, level_heard, level_seen, line_held, line_left, line_rows, rows_of_events, watch_after, watched_of, wire_changed}
+use Rattle.xb_loop.specs.WireRecords.{GivesEachRecord, IsAlone, WireRecord, bounces_at, bounces_of_record, holds_from, numbers_asked, record_from, rows_of_record}
 use Rattle.xb_loop.proofs.WireRows.{changed-here, changed-there, left-own, numbers-changed, numbers-held, numbers_of, one_given, rows_of-append, rows_until-own, written-append}
+
+-- a line of this number, listened to in this manner
+abbrev asked_as : ℕ → Manner → AskedLine
+asked_as line manner = record { number = line; manner = manner }
 
 -- a hold is given, or waits
 abbrev ticks_in : Option Hold → ℕ
@@ -99,9 +105,9 @@ time-after heard hold =
     (given_by heard.least heard.phase hold) in
     omega (arith, told, take-time heard.least heard.phase hold)
 
-module _ (manner : Manner) (wire line : ℕ) where
+module _ (common : Common) (manner : Manner) (wire line : ℕ) where
   abbrev watching : List Watched → Option Scale → ℕ → Watch
-  watching lines scale now = record { lines = lines; manner = manner; scale = scale; now = now }
+  watching lines scale now = record { lines = lines; common = common; scale = scale; now = now }
 
   -- of what is said these rows of the line come, and these bounces
   abbrev Comes : Watch → List Event → List LoopRow → Option Bounces → Type 0
@@ -153,7 +159,7 @@ module _ (manner : Manner) (wire line : ℕ) where
   abbrev Follows : List Event → Type 0
   Follows said =
       (lines : List Watched) (scale : Scale) (tick : ℕ) (contact : Followed) (now : ℕ)
-      → slice_get lines wire ≡ Some (watched_of line (Some contact)) → IsAlone wire line (numbers_of lines)
+      → slice_get lines wire ≡ Some (watched_of line manner (Some contact)) → IsAlone wire line (numbers_of lines)
       → now ≡ contact.start + now_of contact.heard
       → Comes (watching lines (Some scale) tick) said
       (heard_rows contact (holds_from manner.inverted wire contact.level now said))
@@ -162,28 +168,28 @@ module _ (manner : Manner) (wire line : ℕ) where
   level-step :
       (rest : List Event) → Follows rest → (lines : List Watched) (scale : Scale) (tick : ℕ) (contact : Followed)
       (now other : ℕ) (next : Level) (b : Bool) → (other == wire) ≡ b
-      → slice_get lines wire ≡ Some (watched_of line (Some contact))
+      → slice_get lines wire ≡ Some (watched_of line manner (Some contact))
       → IsAlone wire line (numbers_of lines) → now ≡ contact.start + now_of contact.heard
-      → Comes (watching (wire_changed manner scale tick (level_seen manner.inverted next) other lines) (Some scale) tick) rest
+      → Comes (watching (wire_changed common scale tick next other lines) (Some scale) tick) rest
       (heard_rows contact (holds_from manner.inverted wire (cond b (level_seen manner.inverted next) contact.level) now rest))
       (heard_bounces contact (holds_from manner.inverted wire (cond b (level_seen manner.inverted next) contact.level) now rest))
   level-step rest later lines scale tick contact now other next true e at alone time =
       let level : Level = level_seen manner.inverted next in
-      let K : ℕ → Type 0 = λ w. slice_get (wire_changed manner scale tick level w lines) wire
-      ≡ Some (watched_of line (Some (record contact { level = level }))) in
-      later (wire_changed manner scale tick level other lines) scale tick (record contact { level = level }) now
+      let K : ℕ → Type 0 = λ w. slice_get (wire_changed common scale tick next w lines) wire
+      ≡ Some (watched_of line manner (Some (record contact { level = level }))) in
+      later (wire_changed common scale tick next other lines) scale tick (record contact { level = level }) now
       (subst K (sym (eqb-true other wire e))
-      (changed-here manner scale tick level wire lines (watched_of line (Some contact)) at))
-      (subst (IsAlone wire line) (sym (numbers-changed manner scale tick level other lines)) alone) time
+      (changed-here common scale tick next wire lines (watched_of line manner (Some contact)) at))
+      (subst (IsAlone wire line) (sym (numbers-changed common scale tick next other lines)) alone) time
   level-step rest later lines scale tick contact now other next false e at alone time =
       let level : Level = level_seen manner.inverted next in
-      later (wire_changed manner scale tick level other lines) scale tick contact now
-      (changed-there manner scale tick level other wire lines e ∙ at)
-      (subst (IsAlone wire line) (sym (numbers-changed manner scale tick level other lines)) alone) time
+      later (wire_changed common scale tick next other lines) scale tick contact now
+      (changed-there common scale tick next other wire lines e ∙ at)
+      (subst (IsAlone wire line) (sym (numbers-changed common scale tick next other lines)) alone) time
 
   follows : (said : List Event) → Follows said
   follows [] lines scale tick contact now at alone time = (
-    one_given line_left left-own line lines wire (watched_of line (Some contact)) at refl alone,
+    one_given line_left left-own line lines wire (watched_of line manner (Some contact)) at refl alone,
     ap (option_and_then (λ (watched : Watched). bounces_heard watched.contact)) at,
   )
   follows (events.Ticks next ∷ rest) lines scale tick contact now at alone time =
@@ -195,7 +201,7 @@ module _ (manner : Manner) (wire line : ℕ) where
       let same : hold ≡ hold_of contact.level (until - now) =
       let n : until - contact.start - now_of contact.heard ≡ until - now = omega (arith, time) in
       ap (λ m. hold_of contact.level m) n in
-      let here : slice_get (all_held until lines) wire ≡ Some (watched_of line (Some held)) =
+      let here : slice_get (all_held until lines) wire ≡ Some (watched_of line manner (Some held)) =
       slice_get-map (line_held until) lines wire ∙ ap (option_map (line_held until)) at in
       let later : max now until ≡ contact.start + now_of held.heard =
       omega (arith, time, time-after contact.heard hold) in
@@ -203,7 +209,7 @@ module _ (manner : Manner) (wire line : ℕ) where
       (events.At until ∷ rest) same
       (comes_then (watching lines (Some scale) tick) (events.At until) rest (written_rows line (given_until contact until))
       (heard_rows held holds) (heard_bounces held holds)
-      (one_given (line_rows until) (rows_until-own until) line lines wire (watched_of line (Some contact)) at refl alone)
+      (one_given (line_rows until) (rows_until-own until) line lines wire (watched_of line manner (Some contact)) at refl alone)
       (follows rest (all_held until lines) scale until held (max now until) here
       (subst (IsAlone wire line) (sym (numbers-held until lines)) alone) later))
   follows (events.Level other next ∷ rest) lines scale tick contact now at alone time =
@@ -213,9 +219,9 @@ module _ (manner : Manner) (wire line : ℕ) where
   abbrev Waits : List Event → Type 0
   Waits said =
       (lines : List Watched) (scale : Option Scale) (tick : ℕ)
-      → slice_get lines wire ≡ Some (watched_of line None) → IsAlone wire line (numbers_of lines)
+      → slice_get lines wire ≡ Some (watched_of line manner None) → IsAlone wire line (numbers_of lines)
       → Comes (watching lines scale tick) said
-      (rows_of_record manner line (record_from manner.inverted wire scale tick said))
+      (rows_of_record common (asked_as line manner) (record_from manner.inverted wire scale tick said))
       (bounces_of_record manner (record_from manner.inverted wire scale tick said))
 
   abbrev record_with : Option Scale → ℕ → Level → List Event → Option WireRecord
@@ -228,58 +234,57 @@ module _ (manner : Manner) (wire line : ℕ) where
 
   abbrev ComesBy : List Watched → Option Scale → ℕ → List Event → Option WireRecord → Type 0
   ComesBy lines scale tick rest by =
-      Comes (watching lines scale tick) rest (rows_of_record manner line by) (bounces_of_record manner by)
+      Comes (watching lines scale tick) rest (rows_of_record common (asked_as line manner) by) (bounces_of_record manner by)
 
   begins-step :
       (rest : List Event) → Waits rest → (lines : List Watched) (scale : Option Scale) (tick other : ℕ) (next : Level)
-      (b : Bool) → (other == wire) ≡ b → slice_get lines wire ≡ Some (watched_of line None)
+      (b : Bool) → (other == wire) ≡ b → slice_get lines wire ≡ Some (watched_of line manner None)
       → IsAlone wire line (numbers_of lines)
       → Comes (level_heard (watching lines scale tick) scale other next) rest
-      (rows_of_record manner line (cond b (record_with scale tick next rest) (record_from manner.inverted wire scale tick rest)))
+      (rows_of_record common (asked_as line manner) (cond b (record_with scale tick next rest) (record_from manner.inverted wire scale tick rest)))
       (bounces_of_record manner (cond b (record_with scale tick next rest) (record_from manner.inverted wire scale tick rest)))
   begins-step rest later lines None tick other next true e at alone = later lines None tick at alone
   begins-step rest later lines None tick other next false e at alone = later lines None tick at alone
   begins-step rest later lines (Some scale) tick other next true e at alone =
       let level : Level = level_seen manner.inverted next in
-      let changed : List Watched = wire_changed manner scale tick level other lines in
-      let K : ℕ → Type 0 = λ w. slice_get (wire_changed manner scale tick level w lines) wire
-      ≡ Some (watched_of line (Some (begun_contact manner scale tick level))) in
-      follows rest changed scale tick (begun_contact manner scale tick level) tick
-      (subst K (sym (eqb-true other wire e)) (changed-here manner scale tick level wire lines (watched_of line None) at))
-      (subst (IsAlone wire line) (sym (numbers-changed manner scale tick level other lines)) alone) (omega arith)
+      let changed : List Watched = wire_changed common scale tick next other lines in
+      let K : ℕ → Type 0 = λ w. slice_get (wire_changed common scale tick next w lines) wire
+      ≡ Some (watched_of line manner (Some (begun_contact manner common scale tick level))) in
+      follows rest changed scale tick (begun_contact manner common scale tick level) tick
+      (subst K (sym (eqb-true other wire e)) (changed-here common scale tick next wire lines (watched_of line manner None) at))
+      (subst (IsAlone wire line) (sym (numbers-changed common scale tick next other lines)) alone) (omega arith)
   begins-step rest later lines (Some scale) tick other next false e at alone =
       let level : Level = level_seen manner.inverted next in
-      later (wire_changed manner scale tick level other lines) (Some scale) tick
-      (changed-there manner scale tick level other wire lines e ∙ at)
-      (subst (IsAlone wire line) (sym (numbers-changed manner scale tick level other lines)) alone)
+      later (wire_changed common scale tick next other lines) (Some scale) tick
+      (changed-there common scale tick next other wire lines e ∙ at)
+      (subst (IsAlone wire line) (sym (numbers-changed common scale tick next other lines)) alone)
 
   waits : (said : List Event) → Waits said
   waits [] lines scale tick at alone = (
-    one_given line_left left-own line lines wire (watched_of line None) at refl alone,
+    one_given line_left left-own line lines wire (watched_of line manner None) at refl alone,
     ap (option_and_then (λ (watched : Watched). bounces_heard watched.contact)) at,
   )
   waits (events.Ticks next ∷ rest) lines scale tick at alone = waits rest lines (Some next) tick at alone
   waits (events.At until ∷ rest) lines scale tick at alone =
-      let here : slice_get (all_held until lines) wire ≡ Some (watched_of line None) =
+      let here : slice_get (all_held until lines) wire ≡ Some (watched_of line manner None) =
       slice_get-map (line_held until) lines wire ∙ ap (option_map (line_held until)) at in
       comes_then (watching lines scale tick) (events.At until) rest []
-      (rows_of_record manner line (record_from manner.inverted wire scale until rest))
+      (rows_of_record common (asked_as line manner) (record_from manner.inverted wire scale until rest))
       (bounces_of_record manner (record_from manner.inverted wire scale until rest))
-      (one_given (line_rows until) (rows_until-own until) line lines wire (watched_of line None) at refl alone)
+      (one_given (line_rows until) (rows_until-own until) line lines wire (watched_of line manner None) at refl alone)
       (waits rest (all_held until lines) scale until here (subst (IsAlone wire line) (sym (numbers-held until lines)) alone))
   waits (events.Level other next ∷ rest) lines scale tick at alone =
       begins-step rest (waits rest) lines scale tick other next (other == wire) refl at alone
 
 -- at the beginning
-numbers-begun :
-    (numbers : List ℕ) → numbers_of (map (λ number. watched_of number None) numbers) ≡ numbers
+numbers-begun : (lines : List AskedLine) → numbers_of (map begun_watched lines) ≡ numbers_asked lines
 numbers-begun [] = refl
-numbers-begun (number ∷ rest) = ap (λ more. number ∷ more) (numbers-begun rest)
+numbers-begun (asked ∷ rest) = ap (λ more. asked.number ∷ more) (numbers-begun rest)
 
 pub gives_each_record : GivesEachRecord
-gives_each_record manner numbers wire line said at alone =
-    let lines : List Watched = map (λ number. watched_of number None) numbers in
-    let here : slice_get lines wire ≡ Some (watched_of line None) =
-    slice_get-map (λ number. watched_of number None) numbers wire ∙ ap (option_map (λ number. watched_of number None)) at in
-    let comes = waits manner wire line said lines None 0 here (subst (IsAlone wire line) (sym (numbers-begun numbers)) alone) in
+gives_each_record common lines wire asked said at alone =
+    let here : slice_get (map begun_watched lines) wire ≡ Some (begun_watched asked) =
+    slice_get-map begun_watched lines wire ∙ ap (option_map begun_watched) at in
+    let comes = waits common asked.manner wire asked.number said (map begun_watched lines) None 0 here
+    (subst (IsAlone wire asked.number) (sym (numbers-begun lines)) alone) in
     record { rows = comes.0; bounces = comes.1 }

@@ -18,4 +18,5 @@ pub mod Wholes
 pub mod Listened
 pub mod Attended
 pub mod ToldForms
+pub mod CutNames
 pub mod WordWires

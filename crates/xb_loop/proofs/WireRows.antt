@@ -14,7 +14,7 @@ use Rattle.xb_model.proofs.Lines.{of_line-all}
 use Rattle.xb_contact.specs.declared.hold.Hold.{Hold}
 use Rattle.xb_contact.specs.declared.level.Level.{Level}
 use Rattle.xb_contact.specs.declared.scale.Scale.{Scale}
-use Rattle.xb_loop.specs.declared.line.Manner.{Manner}
+use Rattle.xb_loop.specs.declared.manner.Common.{Common}
 use Rattle.xb_loop.specs.Contacts.{Followed, given_until, left_at_end}
 use Rattle.xb_loop.specs.RowsOfHolds.{day_parts, row_of_hold, rows_of_holds, written_rows}
 use Rattle.xb_loop.specs.Watching.{Watched, all_held, contact_left, contact_rows, line_changed, line_left, line_rows, wire_changed}
@@ -153,40 +153,40 @@ set-there (first ∷ rest) (suc other) (suc wire) watched ne =
 
 -- a wire has a level
 changed-by :
-    (manner : Manner) (scale : Scale) (now : ℕ) (level : Level) (other : ℕ) (lines : List Watched) (found : Option Watched)
+    (common : Common) (scale : Scale) (now : ℕ) (level : Level) (other : ℕ) (lines : List Watched) (found : Option Watched)
     → slice_get lines other ≡ found
-    → numbers_of (option_map_or (λ line. slice_set lines other (line_changed manner scale now level line)) found lines)
+    → numbers_of (option_map_or (λ line. slice_set lines other (line_changed common scale now level line)) found lines)
     ≡ numbers_of lines
-changed-by manner scale now level other lines None at = refl
-changed-by manner scale now level other lines (Some line) at =
-    numbers-set lines other (line_changed manner scale now level line) line at refl
+changed-by common scale now level other lines None at = refl
+changed-by common scale now level other lines (Some line) at =
+    numbers-set lines other (line_changed common scale now level line) line at refl
 
 pub numbers-changed :
-    (manner : Manner) (scale : Scale) (now : ℕ) (level : Level) (other : ℕ) (lines : List Watched)
-    → numbers_of (wire_changed manner scale now level other lines) ≡ numbers_of lines
-numbers-changed manner scale now level other lines =
-    changed-by manner scale now level other lines (slice_get lines other) refl
+    (common : Common) (scale : Scale) (now : ℕ) (level : Level) (other : ℕ) (lines : List Watched)
+    → numbers_of (wire_changed common scale now level other lines) ≡ numbers_of lines
+numbers-changed common scale now level other lines =
+    changed-by common scale now level other lines (slice_get lines other) refl
 
 pub changed-here :
-    (manner : Manner) (scale : Scale) (now : ℕ) (level : Level) (wire : ℕ) (lines : List Watched) (line : Watched)
+    (common : Common) (scale : Scale) (now : ℕ) (level : Level) (wire : ℕ) (lines : List Watched) (line : Watched)
     → slice_get lines wire ≡ Some line
-    → slice_get (wire_changed manner scale now level wire lines) wire ≡ Some (line_changed manner scale now level line)
-changed-here manner scale now level wire lines line at =
-    ap (λ found. slice_get (option_map_or (λ w. slice_set lines wire (line_changed manner scale now level w)) found lines) wire) at
-    ∙ set-here lines wire (line_changed manner scale now level line) line at
+    → slice_get (wire_changed common scale now level wire lines) wire ≡ Some (line_changed common scale now level line)
+changed-here common scale now level wire lines line at =
+    ap (λ found. slice_get (option_map_or (λ w. slice_set lines wire (line_changed common scale now level w)) found lines) wire) at
+    ∙ set-here lines wire (line_changed common scale now level line) line at
 
 changed-there-by :
-    (manner : Manner) (scale : Scale) (now : ℕ) (level : Level) (other wire : ℕ) (lines : List Watched)
+    (common : Common) (scale : Scale) (now : ℕ) (level : Level) (other wire : ℕ) (lines : List Watched)
     (found : Option Watched) → (other == wire) ≡ false
-    → slice_get (option_map_or (λ w. slice_set lines other (line_changed manner scale now level w)) found lines) wire
+    → slice_get (option_map_or (λ w. slice_set lines other (line_changed common scale now level w)) found lines) wire
     ≡ slice_get lines wire
-changed-there-by manner scale now level other wire lines None ne = refl
-changed-there-by manner scale now level other wire lines (Some line) ne =
-    set-there lines other wire (line_changed manner scale now level line) ne
+changed-there-by common scale now level other wire lines None ne = refl
+changed-there-by common scale now level other wire lines (Some line) ne =
+    set-there lines other wire (line_changed common scale now level line) ne
 
 pub changed-there :
-    (manner : Manner) (scale : Scale) (now : ℕ) (level : Level) (other wire : ℕ) (lines : List Watched)
+    (common : Common) (scale : Scale) (now : ℕ) (level : Level) (other wire : ℕ) (lines : List Watched)
     → (other == wire) ≡ false
-    → slice_get (wire_changed manner scale now level other lines) wire ≡ slice_get lines wire
-changed-there manner scale now level other wire lines ne =
-    changed-there-by manner scale now level other wire lines (slice_get lines other) ne
+    → slice_get (wire_changed common scale now level other lines) wire ≡ slice_get lines wire
+changed-there common scale now level other wire lines ne =
+    changed-there-by common scale now level other wire lines (slice_get lines other) ne

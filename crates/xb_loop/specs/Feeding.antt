@@ -202,7 +202,7 @@ EndsOf old said told input output after = IfSome input (λ text. Ends old said t
 
 -- the lines that are asked for, before anything is known of them
 abbrev pub watch_asked : Request → Watch
-watch_asked request = begun_watch request.manner request.lines.items
+watch_asked request = begun_watch request.common request.lines.items
 
 -- nothing has been read of a recording of this form, which says these events already
 pub record Starts (format : Format) (request : Request) (intake : Intake) : Type 0 where

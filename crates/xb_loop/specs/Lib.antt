@@ -11,6 +11,7 @@ pub mod Watches
 pub mod Faults
 pub mod Feeding
 pub mod Rules
+pub mod OwnWords
 pub mod Options
 pub mod Tables
 pub mod Program

@@ -21,13 +21,13 @@ program = codes "mfloop"
 -- the line for words that are refused
 abbrev pub usage_line : List ℕ
 usage_line =
-    codes "mfloop: usage: mfloop [--line N=WIRE]... [--table FILE] "
+    codes "mfloop: usage: mfloop --line N=WIRE[,inverted][,settle=MS][,seize=MS]... [--table FILE] "
     ++ codes "[--format vcd|sigrok|saleae|edges|gpiomon|bits|bits16|s16|wav] [--rate HZ] [--settle MS] [--seize MS] "
     ++ codes "[--tick MS] [--threshold PERCENT] [--inverted] [--said]\n"
 
 -- what is asked for, where so long a break releases a line
 abbrev pub with_release : Request → ℕ → Request
-with_release request release = record request { manner = record request.manner { release_ms = release } }
+with_release request release = record request { common = record request.common { release_ms = release } }
 
 -- what comes before the rows, and the release limit, by the table that is asked for, if one is
 pub record HasBegun (files : Bytes) (request : Request) (before : List ℕ) (release : ℕ) : Type 0 where

@@ -3,4 +3,4 @@ use Rattle.xb_loop.specs.declared.lines.Lines.{Lines}
 use Rattle.xb_loop.specs.Watching.{Watch}
 
 abbrev pub watch_of : Lines → Watch
-watch_of lines = record { lines = lines.lines.items; manner = lines.manner; scale = lines.scale; now = lines.now }
+watch_of lines = record { lines = lines.lines.items; common = lines.common; scale = lines.scale; now = lines.now }

@@ -8,7 +8,9 @@ use Rattle.xb_contact.specs.declared.event.Event.{Event}
 use Rattle.xb_contact.specs.declared.event.Event.TheVariants as events
 use Rattle.xb_contact.specs.declared.level.Level.{Level}
 use Rattle.xb_contact.specs.Holds.{other_level}
-use Rattle.xb_loop.specs.declared.line.Manner.{Manner}
+use Rattle.xb_loop.specs.declared.manner.AskedLine.{AskedLine}
+use Rattle.xb_loop.specs.declared.manner.Common.{Common}
+use Rattle.xb_loop.specs.declared.manner.Manner.{Manner}
 use Rattle.xb_loop.specs.declared.lines.TheConstants.{MOST_GAP_MS}
 use Rattle.xb_contact.specs.declared.scale.Scale.{Scale}
 use Rattle.xb_contact.specs.Listening.{begun_at}
@@ -18,13 +20,14 @@ use Rattle.xb_loop.specs.Contacts.{Followed, CanHold, followed_of, given_until, 
 use Rattle.xb_loop.specs.RowsOfHolds.{written_rows}
 use Rattle.xb_loop.specs.Tallies.{begun_tally}
 
--- a line, and its contact from its first level on
+-- a line, how it is listened to, and its contact from its first level on
 pub record Watched : Type 0 where
   pub number : ℕ
+  pub manner : Manner
   pub contact : Option Followed
 
-abbrev pub watched_of : ℕ → Option Followed → Watched
-watched_of number contact = record { number = number; contact = contact }
+abbrev pub watched_of : ℕ → Manner → Option Followed → Watched
+watched_of number manner contact = record { number = number; manner = manner; contact = contact }
 
 -- up to a tick: whether that can be, the rows that are certain with it, and what is known then
 abbrev pub ContactCanHold : ℕ → Option Followed → Type 0
@@ -46,7 +49,7 @@ contact_held tick None = None
 contact_held tick (Some contact) = Some (held_until contact tick)
 
 abbrev pub line_held : ℕ → Watched → Watched
-line_held tick line = watched_of line.number (contact_held tick line.contact)
+line_held tick line = watched_of line.number line.manner (contact_held tick line.contact)
 
 -- the rows of all lines, in their order
 abbrev pub rows_until : ℕ → List Watched → List LoopRow
@@ -68,27 +71,34 @@ abbrev pub least_ticks : Scale → ℕ → ℕ
 least_ticks scale ms = max 1 ((ms * scale.ticks + (scale.ms - 1)) / scale.ms)
 
 -- a line is on hook again after a break of so many ms, and of 1 at least
-abbrev pub release_of : Manner → ℕ
-release_of manner = max manner.release_ms 1
+abbrev pub release_of : Common → ℕ
+release_of common = max common.release_ms 1
 
 -- a line before its first hold
-abbrev pub begun_line : Manner → Seizing
-begun_line manner = begun_seizing manner.seize_ms (release_of manner) manner.most_ms
+abbrev pub begun_line : Manner → Common → Seizing
+begun_line manner common = begun_seizing manner.seize_ms (release_of common) common.most_ms
 
 -- a contact that has its first level
-abbrev pub begun_contact : Manner → Scale → ℕ → Level → Followed
-begun_contact manner scale tick level =
-    followed_of (begun_at (least_ticks scale manner.settle_ms) scale manner.most_ms level) (begun_line manner) tick level
-    (begun_tally (least_ticks scale manner.settle_ms) level)
+abbrev pub begun_contact : Manner → Common → Scale → ℕ → Level → Followed
+begun_contact manner common scale tick level =
+    followed_of (begun_at (least_ticks scale manner.settle_ms) scale common.most_ms level) (begun_line manner common)
+    tick level (begun_tally (least_ticks scale manner.settle_ms) level)
 
 -- a contact that has a level from a tick on
-abbrev pub contact_changed : Manner → Scale → ℕ → Level → Option Followed → Followed
-contact_changed manner scale tick level None = begun_contact manner scale tick level
-contact_changed manner scale tick level (Some contact) = record contact { level = level }
+abbrev pub contact_changed : Manner → Common → Scale → ℕ → Level → Option Followed → Followed
+contact_changed manner common scale tick level None = begun_contact manner common scale tick level
+contact_changed manner common scale tick level (Some contact) = record contact { level = level }
 
-abbrev pub line_changed : Manner → Scale → ℕ → Level → Watched → Watched
-line_changed manner scale tick level line =
-    watched_of line.number (Some (contact_changed manner scale tick level line.contact))
+-- the level of a loop by that of its wire: the other one where the wire is inverted
+abbrev pub level_seen : Bool → Level → Level
+level_seen true level = other_level level
+level_seen false level = level
+
+-- the wire of a line has a level from a tick on
+abbrev pub line_changed : Common → Scale → ℕ → Level → Watched → Watched
+line_changed common scale tick level line =
+    watched_of line.number line.manner
+    (Some (contact_changed line.manner common scale tick (level_seen line.manner.inverted level) line.contact))
 
 -- whether a contact can have its first level: its settle can be counted in ticks of 64 bits, and its ticks in ms
 abbrev pub CanBegin : Manner → Scale → Type 0
@@ -99,44 +109,39 @@ abbrev pub ContactCanChange : Manner → Scale → Option Followed → Type 0
 ContactCanChange manner scale None = CanBegin manner scale
 ContactCanChange manner scale (Some contact) = Unit {0}
 
-abbrev pub CanChange : Manner → Scale → Watched → Type 0
-CanChange manner scale line = ContactCanChange manner scale line.contact
+abbrev pub CanChange : Scale → Watched → Type 0
+CanChange scale line = ContactCanChange line.manner scale line.contact
 
 -- whether the wire of a line can have a level: a tick is known to last some time
-abbrev pub CanChangeWire : Manner → Option Scale → ℕ → List Watched → Type 0
-CanChangeWire manner None wire lines = ⊥
-CanChangeWire manner (Some scale) wire lines =
-    (line : Watched) × (slice_get lines wire ≡ Some line) × CanChange manner scale line
-
--- the level of a loop by that of its wire: the other one where wires are inverted
-abbrev pub level_seen : Bool → Level → Level
-level_seen true level = other_level level
-level_seen false level = level
+abbrev pub CanChangeWire : Option Scale → ℕ → List Watched → Type 0
+CanChangeWire None wire lines = ⊥
+CanChangeWire (Some scale) wire lines =
+    (line : Watched) × (slice_get lines wire ≡ Some line) × CanChange scale line
 
 -- the wire of a line, counted from 0, has a level from a tick on
-abbrev pub wire_changed : Manner → Scale → ℕ → Level → ℕ → List Watched → List Watched
-wire_changed manner scale tick level wire lines =
-    option_map_or (λ line. slice_set lines wire (line_changed manner scale tick level line)) (slice_get lines wire) lines
+abbrev pub wire_changed : Common → Scale → ℕ → Level → ℕ → List Watched → List Watched
+wire_changed common scale tick level wire lines =
+    option_map_or (λ line. slice_set lines wire (line_changed common scale tick level line)) (slice_get lines wire) lines
 
--- the lines in the order of their wires, how they are listened to, how long a tick is, once that is known, and
+-- the lines in the order of their wires, what holds for all of them, how long a tick is, once that is known, and
 -- the tick up to which the recording goes
 pub record Watch : Type 0 where
   pub lines : List Watched
-  pub manner : Manner
+  pub common : Common
   pub scale : Option Scale
   pub now : ℕ
 
 -- lines whose wires have no level yet
-abbrev pub begun_watch : Manner → List ℕ → Watch
-begun_watch manner numbers =
-    record { lines = map (λ number. watched_of number None) numbers; manner = manner; scale = None; now = 0 }
+abbrev pub begun_watched : AskedLine → Watched
+begun_watched asked = watched_of asked.number asked.manner None
+
+abbrev pub begun_watch : Common → List AskedLine → Watch
+begun_watch common lines = record { lines = map begun_watched lines; common = common; scale = None; now = 0 }
 
 abbrev pub level_heard : Watch → Option Scale → ℕ → Level → Watch
 level_heard watch None wire level = watch
 level_heard watch (Some scale) wire level =
-    record watch {
-      lines = wire_changed watch.manner scale watch.now (level_seen watch.manner.inverted level) wire watch.lines;
-    }
+    record watch { lines = wire_changed watch.common scale watch.now level wire watch.lines }
 
 -- the rows that are certain with what a recording says next, and what is known then
 abbrev pub event_rows : Watch → Event → List LoopRow
@@ -167,7 +172,7 @@ ComesSoon watch tick = has_begun watch.lines ≡ true → IsNoGap watch.scale (t
 abbrev pub CanHear : Watch → Event → Type 0
 CanHear watch (events.Ticks scale) = Unit {0}
 CanHear watch (events.At tick) = AllByRecursion (CanReach tick) watch.lines × ComesSoon watch tick
-CanHear watch (events.Level wire level) = CanChangeWire watch.manner watch.scale wire watch.lines
+CanHear watch (events.Level wire level) = CanChangeWire watch.scale wire watch.lines
 
 abbrev pub CanHearAll : Watch → List Event → Type 0
 CanHearAll watch [] = Unit {0}

@@ -1,5 +1,5 @@
 -- What a recording says of one wire, and the rows of its line.
-use Rattle.std.specs.Prelude.{ℕ, ◌≡◌, ◌-◌, max, List, [], ◌∷◌, Bool, Option, Some, None, option_map, slice_get, ◌==◌, if◌then◌else◌}
+use Rattle.std.specs.Prelude.{ℕ, ◌≡◌, ◌-◌, max, List, [], ◌∷◌, Bool, Option, Some, None, map, option_map, slice_get, ◌==◌, if◌then◌else◌}
 use Rattle.std.specs.Option.{option_and_then, option_map_or}
 use Rattle.xb_model.specs.Records.{rows_of}
 use Rattle.xb_model.specs.Rows.{LoopRow}
@@ -11,7 +11,9 @@ use Rattle.xb_contact.specs.declared.scale.Scale.{Scale}
 use Rattle.xb_contact.specs.Holds.{hold_of}
 use Rattle.xb_contact.specs.Listening.{all_told, begun_at}
 use Rattle.xb_contact.specs.Seizing.{all_passed}
-use Rattle.xb_loop.specs.declared.line.Manner.{Manner}
+use Rattle.xb_loop.specs.declared.manner.AskedLine.{AskedLine}
+use Rattle.xb_loop.specs.declared.manner.Common.{Common}
+use Rattle.xb_loop.specs.declared.manner.Manner.{Manner}
 use Rattle.xb_loop.specs.declared.tally.Bounces.{Bounces}
 use Rattle.xb_loop.specs.BounceLines.{bounces_heard}
 use Rattle.xb_loop.specs.RowsOfHolds.{written_rows}
@@ -52,12 +54,12 @@ abbrev pub record_of_wire : Manner → ℕ → List Event → Option WireRecord
 record_of_wire manner wire said = record_from manner.inverted wire None 0 said
 
 -- the rows of its contact, and the bounces that were counted
-abbrev pub rows_of_record : Manner → ℕ → Option WireRecord → List LoopRow
-rows_of_record manner line None = []
-rows_of_record manner line (Some wire) =
-    written_rows line
-    (all_passed (begun_line manner)
-    (all_told (begun_at (least_ticks wire.scale manner.settle_ms) wire.scale manner.most_ms wire.first) wire.holds))
+abbrev pub rows_of_record : Common → AskedLine → Option WireRecord → List LoopRow
+rows_of_record common asked None = []
+rows_of_record common asked (Some wire) =
+    written_rows asked.number
+    (all_passed (begun_line asked.manner common)
+    (all_told (begun_at (least_ticks wire.scale asked.manner.settle_ms) wire.scale common.most_ms wire.first) wire.holds))
 
 abbrev pub bounces_of_record : Manner → Option WireRecord → Option Bounces
 bounces_of_record manner wires =
@@ -71,15 +73,21 @@ IsAlone wire line numbers = (other : ℕ) → slice_get numbers other ≡ Some l
 abbrev pub bounces_at : ℕ → List Watched → Option Bounces
 bounces_at wire lines = option_and_then (λ line. bounces_heard line.contact) (slice_get lines wire)
 
--- of the rows that are written of a recording those of a line are those of the contact of its wire, and what is counted
--- of it is told
-pub record GivesTheRecord (manner : Manner) (numbers : List ℕ) (wire line : ℕ) (said : List Event) : Type 0 where
-  pub rows : rows_of line (rows_of_events (begun_watch manner numbers) said)
-      ≡ rows_of_record manner line (record_of_wire manner wire said)
-  pub bounces : bounces_at wire (watch_after (begun_watch manner numbers) said).lines
-      ≡ bounces_of_record manner (record_of_wire manner wire said)
+-- the numbers of the lines that are asked for
+abbrev pub numbers_asked : List AskedLine → List ℕ
+numbers_asked lines = map (λ asked. asked.number) lines
+
+-- of the rows that are written of a recording those of a line are those of the contact of its wire, by what is asked for
+-- of this line, and what is counted of it is told
+pub record GivesTheRecord
+    (common : Common) (lines : List AskedLine) (wire : ℕ) (asked : AskedLine) (said : List Event) : Type 0 where
+  pub rows : rows_of asked.number (rows_of_events (begun_watch common lines) said)
+      ≡ rows_of_record common asked (record_of_wire asked.manner wire said)
+  pub bounces : bounces_at wire (watch_after (begun_watch common lines) said).lines
+      ≡ bounces_of_record asked.manner (record_of_wire asked.manner wire said)
 
 abbrev pub GivesEachRecord : Type 0
 GivesEachRecord =
-    (manner : Manner) (numbers : List ℕ) (wire line : ℕ) (said : List Event) → slice_get numbers wire ≡ Some line
-    → IsAlone wire line numbers → GivesTheRecord manner numbers wire line said
+    (common : Common) (lines : List AskedLine) (wire : ℕ) (asked : AskedLine) (said : List Event)
+    → slice_get lines wire ≡ Some asked → IsAlone wire asked.number (numbers_asked lines)
+    → GivesTheRecord common lines wire asked said

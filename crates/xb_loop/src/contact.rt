@@ -11,7 +11,7 @@ ghost use Rattle.xb_loop.specs.Tallies.{begun_tally};
 ghost use Rattle.xb_loop.specs.Watching.{begun_line};
 ghost use Rattle.xb_contact.specs.Times.{CanCount};
 
-use crate::line::Manner;
+use crate::manner::{Common, Manner};
 use crate::rows::write_rows;
 use crate::tally::{Bounces, Tally};
 use std::alloc::AllocError;
@@ -82,17 +82,24 @@ fn write_passed(
 
 impl Contact {
     /// A contact that has its first level at this tick. A run of `least` ticks is settled.
-    pub fn new(manner: Manner, scale: Scale, least: u64, start: u64, level: Level) -> Contact
+    pub fn new(
+        manner: Manner,
+        common: Common,
+        scale: Scale,
+        least: u64,
+        start: u64,
+        level: Level,
+    ) -> Contact
         requires least { 0 < least }
         requires some { 0 < scale.ticks }
         requires fits { CanCount scale 0 }
-        ensures { result ≡ followed_of (begun_at least scale manner.most_ms level) (begun_line manner) start
+        ensures { result ≡ followed_of (begun_at least scale common.most_ms level) (begun_line manner common) start
             level (begun_tally least level) }
     {
-        let most = u64::from(manner.most_ms);
+        let most = u64::from(common.most_ms);
         Contact {
             listener: Listener::new(Settler::new(least), scale, most, level),
-            seizer: Seizer::new(manner.seize_ms, manner.release_ms.max(1), manner.most_ms),
+            seizer: Seizer::new(manner.seize_ms, common.release_ms.max(1), common.most_ms),
             start,
             level,
             tally: Tally::new(least, level),

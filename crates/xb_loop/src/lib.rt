@@ -27,7 +27,9 @@ mod feed;
 pub mod laws;
 mod line;
 mod lines;
+mod manner;
 mod name;
+mod own;
 mod program;
 mod request;
 mod rows;
@@ -37,7 +39,7 @@ mod words;
 
 pub use fault::{LoopFault, RecordingFault};
 pub use feed::listen;
-pub use line::Manner;
+pub use manner::{AskedLine, Common, Manner};
 pub use program::attend;
 pub use request::Request;
 pub use rows::contact_of;

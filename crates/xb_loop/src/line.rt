@@ -3,34 +3,21 @@ ghost use Rattle.std.specs.Prelude.{◌≡◌, ◌++◌, ◌+◌, ◌-◌, ◌*�
 ghost use Rattle.std.specs.List.{flat_map};
 ghost use Rattle.xb_rows.specs.WrittenRows.{record_text};
 ghost use Rattle.xb_loop.specs.BounceLines.{bounces_heard};
-ghost use Rattle.xb_loop.specs.Watching.{CanBegin, CanChange, CanReach, begun_contact, least_ticks, line_changed, line_held, line_left, line_rows, watched_of};
+ghost use Rattle.xb_loop.specs.Watching.{CanBegin, CanChange, CanReach, begun_contact, least_ticks, level_seen, line_changed, line_held, line_left, line_rows, watched_of};
 
 use crate::contact::Contact;
+use crate::manner::{Common, Manner};
 use crate::tally::Bounces;
 use std::alloc::AllocError;
 use std::marker::Model;
 use xb_contact::{Level, Scale};
 use xb_model::LineNo;
 
-/// How lines are listened to.
-#[derive(Clone, Copy, Debug, PartialEq, Eq)]
-pub struct Manner {
-    /// From how many ms on a run is settled.
-    pub settle_ms: u32,
-    /// From how many ms on a make seizes where the line is on hook; a shorter one there is a break, and at 0 none is.
-    pub seize_ms: u32,
-    /// After a break of how many ms a line is on hook; 0 is as 1.
-    pub release_ms: u32,
-    /// From how many ms on a run is given in parts.
-    pub most_ms: u32,
-    /// Whether a low wire is a closed loop.
-    pub inverted: bool,
-}
-
 /// A line that is listened to.
 #[derive(Drop)]
 pub(crate) struct Line {
     number: LineNo,
+    manner: Manner,
     // From the first level of its wire on.
     contact: Option<Contact>,
 }
@@ -40,7 +27,7 @@ impl Model for Line {
 
     ghost Value = { Watched };
 
-    ghost view = { λ s. watched_of s.number s.contact };
+    ghost view = { λ s. watched_of s.number s.manner s.contact };
 }
 
 // The least ticks that last so many ms, and 1 at least.
@@ -58,24 +45,35 @@ fn ticks_of(scale: Scale, ms: u32) -> Option<u64>
 }
 
 // A contact that has its first level at this tick; `None` where no time can be counted.
-fn begun(manner: Manner, scale: Scale, tick: u64, level: Level) -> Option<Contact>
-    ensures contact { IfSome result (λ contact. contact ≡ begun_contact manner scale tick level) }
+fn begun(manner: Manner, common: Common, scale: Scale, tick: u64, level: Level) -> Option<Contact>
+    ensures contact { IfSome result (λ contact. contact ≡ begun_contact manner common scale tick level) }
     ensures can { IsSome result ↔ CanBegin manner scale }
 {
     let least = ticks_of(scale, manner.settle_ms)?;
     if scale.ticks == 0 || !scale.can_count(0) {
         return None;
     }
-    Some(Contact::new(manner, scale, least, tick, level))
+    Some(Contact::new(manner, common, scale, least, tick, level))
+}
+
+// The level of a loop by that of its wire: the other one where the wire is inverted.
+fn level_seen(inverted: bool, level: Level) -> Level
+    ensures { result ≡ level_seen inverted level }
+{
+    match (inverted, level) {
+        (true, Level::Open) | (false, Level::Closed) => Level::Closed,
+        (true, Level::Closed) | (false, Level::Open) => Level::Open,
+    }
 }
 
 impl Line {
     /// A line whose wire has no level yet.
-    pub fn new(number: LineNo) -> Line
-        ensures { result ≡ watched_of number None }
+    pub fn new(number: LineNo, manner: Manner) -> Line
+        ensures { result ≡ watched_of number manner None }
     {
         Line {
             number,
+            manner,
             contact: None,
         }
     }
@@ -105,13 +103,14 @@ impl Line {
     }
 
     /// Its wire has a level from now on. It says false where no time can be counted.
-    pub fn change(&mut self, manner: Manner, scale: Scale, tick: u64, level: Level) -> bool
-        ensures changed { result ≡ true → self.new ≡ line_changed manner scale tick level self.old }
-        ensures can { result ≡ true ↔ CanChange manner scale self.old }
+    pub fn change(&mut self, common: Common, scale: Scale, tick: u64, level: Level) -> bool
+        ensures changed { result ≡ true → self.new ≡ line_changed common scale tick level self.old }
+        ensures can { result ≡ true ↔ CanChange scale self.old }
     {
+        let level = level_seen(self.manner.inverted, level);
         match &mut self.contact {
             Some(contact) => contact.change(level),
-            None => self.contact = begun(manner, scale, tick, level),
+            None => self.contact = begun(self.manner, common, scale, tick, level),
         }
         self.contact.is_some()
     }

@@ -4,10 +4,11 @@ ghost use Rattle.std.specs.List.{AllByRecursion, flat_map};
 ghost use Rattle.xb_rows.specs.WrittenRows.{record_text};
 ghost use Rattle.xb_loop.specs.BounceLines.{lines_told};
 ghost use Rattle.xb_loop.specs.Watches.{watch_of};
-ghost use Rattle.xb_loop.specs.Watching.{CanChangeWire, CanHear, CanReach, ComesSoon, IsNoGap, all_held, begun_watch, event_rows, has_begun, heard_event, level_heard, level_seen, line_left, rows_until, silent_line, wire_changed};
+ghost use Rattle.xb_loop.specs.Watching.{CanChangeWire, CanHear, CanReach, ComesSoon, IsNoGap, all_held, begun_watch, event_rows, has_begun, heard_event, level_heard, line_left, rows_until, silent_line, wire_changed};
 
 use crate::bounce_lines::say_lines;
-use crate::line::{Line, Manner};
+use crate::line::Line;
+use crate::manner::Common;
 use crate::request::Request;
 use std::alloc::{AllocError, Global};
 use xb_contact::{Event, Level, Scale};
@@ -19,7 +20,7 @@ const MOST_GAP_MS: u64 = 8_640_000_000;
 #[derive(Drop)]
 pub struct Lines {
     lines: Vec<Line>,
-    manner: Manner,
+    common: Common,
     scale: Option<Scale>,
     now: u64,
 }
@@ -79,29 +80,19 @@ fn hold_all(lines: &mut [Line], tick: u64, rows: &mut String) -> Result<(), Allo
 fn change_line(
     lines: &mut [Line],
     wire: usize,
-    manner: Manner,
+    common: Common,
     scale: Scale,
     now: u64,
     level: Level,
 ) -> bool
-    ensures changed { result ≡ true → lines.new ≡ wire_changed manner scale now level wire lines.old }
-    ensures can { result ≡ true ↔ CanChangeWire manner (Some scale) wire lines.old }
+    ensures changed { result ≡ true → lines.new ≡ wire_changed common scale now level wire lines.old }
+    ensures can { result ≡ true ↔ CanChangeWire (Some scale) wire lines.old }
 {
     if wire >= lines.len() {
         return false;
     }
     let line = &mut lines[wire];
-    line.change(manner, scale, now, level)
-}
-
-// The level of a loop by that of its wire: the other one where wires are inverted.
-fn level_seen(inverted: bool, level: Level) -> Level
-    ensures { result ≡ level_seen inverted level }
-{
-    match (inverted, level) {
-        (true, Level::Open) | (false, Level::Closed) => Level::Closed,
-        (true, Level::Closed) | (false, Level::Open) => Level::Open,
-    }
+    line.change(common, scale, now, level)
 }
 
 // The recording ends, and the records that are left of all lines are added.
@@ -119,15 +110,15 @@ impl Lines {
     /// The lines that are asked for.
     pub fn new(alloc: Global, request: &Request) -> Result<Lines, AllocError>
         ensures { IfOk result (λ lines.
-            watch_of lines ≡ begun_watch request.now.manner request.now.lines.items) }
+            watch_of lines ≡ begun_watch request.now.common request.now.lines.items) }
     {
         let mut lines = Vec::new(alloc);
-        for number in request.lines.iter() {
-            lines.push(Line::new(*number))?;
+        for asked in request.lines.iter() {
+            lines.push(Line::new(asked.number, asked.manner))?;
         }
         Ok(Lines {
             lines,
-            manner: request.manner,
+            common: request.common,
             scale: None,
             now: 0,
         })
@@ -161,14 +152,12 @@ impl Lines {
     fn change(&mut self, wire: usize, level: Level) -> bool
         ensures changed { result ≡ true → watch_of self.new
             ≡ level_heard (watch_of self.old) (watch_of self.old).scale wire level }
-        ensures can { result ≡ true ↔ CanChangeWire (watch_of self.old).manner (watch_of self.old).scale wire
-            (watch_of self.old).lines }
+        ensures can { result ≡ true ↔ CanChangeWire (watch_of self.old).scale wire (watch_of self.old).lines }
     {
         let Some(scale) = self.scale else {
             return false;
         };
-        let level = level_seen(self.manner.inverted, level);
-        change_line(&mut self.lines, wire, self.manner, scale, self.now, level)
+        change_line(&mut self.lines, wire, self.common, scale, self.now, level)
     }
 
     /// What a recording says next. It says false where the time cannot be counted, or comes over 100 days after the one

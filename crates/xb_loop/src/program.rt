@@ -18,7 +18,8 @@ use xb_text::write_whole;
 pub(crate) const PROGRAM: &str = "mfloop";
 
 // The line of refused words.
-const USAGE: &[u8] = b"mfloop: usage: mfloop [--line N=WIRE]... [--table FILE] \
+const USAGE: &[u8] =
+    b"mfloop: usage: mfloop --line N=WIRE[,inverted][,settle=MS][,seize=MS]... [--table FILE] \
 [--format vcd|sigrok|saleae|edges|gpiomon|bits|bits16|s16|wav] [--rate HZ] [--settle MS] [--seize MS] [--tick MS] \
 [--threshold PERCENT] [--inverted] [--said]\n";
 
@@ -36,7 +37,7 @@ fn run<'a, F: Files, R: Read, W: Write>(
         (R.remaining recording.old) (W.contents out.old) (W.contents out.new)) }
 {
     let (before, release_ms) = beginning_of(alloc, files, request.table)?;
-    request.manner.release_ms = release_ms;
+    request.common.release_ms = release_ms;
     match listen(alloc, &request, &before, recording, out) {
         Ok(told) => Ok(told),
         Err(fault) => Err(LoopFault::Recording(fault)),

@@ -1,7 +1,6 @@
 // What is asked for.
 
-use crate::line::Manner;
-use xb_model::LineNo;
+use crate::manner::{AskedLine, Common};
 use xb_recording::{Format, Wanted};
 
 /// What is asked for.
@@ -12,11 +11,11 @@ pub struct Request<'a> {
     /// The form of the recording; where none is given, its beginning tells it.
     pub format: Option<Format>,
     /// The lines of the office, in the order of their wires.
-    pub lines: Vec<LineNo>,
+    pub lines: Vec<AskedLine>,
     /// What is wanted of the recording.
     pub wanted: Wanted<'a>,
-    /// How the lines are listened to.
-    pub manner: Manner,
+    /// What holds for all lines.
+    pub common: Common,
     /// Whether it is told how many bounces were taken away.
     pub said: bool,
 }

@@ -1,10 +1,12 @@
 // What the words of the command line ask for.
-ghost use Rattle.std.specs.Prelude.{◌≡◌, [], IfErr, IfOk, None, OnOk, Some, map, option_map, unwrap_or};
+ghost use Rattle.std.specs.Prelude.{◌≡◌, ◌∷◌, [], IfErr, IfOk, None, OnOk, Some, map, option_copied, option_map, unwrap_or};
 ghost use Rattle.xb_command.specs.Commands.{texts_of};
 ghost use Rattle.xb_loop.specs.declared.words.TheConstants.{THRESHOLD_PERCENT};
-ghost use Rattle.xb_loop.specs.Options.{ArePlainlyRefused, AsksPlainly, IsPercent, Say, SayNothing, form_named, plain_words, wire_added, wire_of, wires_after, wires_in};
+ghost use Rattle.xb_loop.specs.Options.{ArePlainlyRefused, AsksPlainly, IsForAll, IsPercent, Say, SayNothing, form_named, is_among, plain_words, wire_added, wire_by, wire_of, wires_after, wires_in};
+ghost use Rattle.xb_text.specs.Pieces.{pieces, pieces_left};
 
-use crate::line::Manner;
+use crate::manner::{AskedLine, Common, Manner};
+use crate::own::own_of;
 use crate::program::PROGRAM;
 use crate::request::Request;
 use std::alloc::{AllocError, Global};
@@ -36,10 +38,10 @@ const OPTIONS: [(&str, Takes); 10] = [
     ("line", Takes::AllThatFollow),
 ];
 
-// The lines of the office that are listened to, and the names of their wires, in one order.
+// The lines that are asked for, and the names of their wires, in one order.
 #[derive(Drop)]
 struct Wires<'a> {
-    lines: Vec<LineNo>,
+    lines: Vec<AskedLine>,
     names: Vec<&'a str>,
 }
 
@@ -57,29 +59,61 @@ pub fn plain_words(alloc: Global, words: &[String]) -> Result<Vec<String>, Alloc
     Ok(plain)
 }
 
-// The line of a word as `7=D0`, which is written as in a record, and the name of its wire.
-fn wire_of(word: &str) -> Option<(LineNo, &str)>
-    ensures { option_map (λ wire. (wire.0, wire.1.now)) result ≡ wire_of word.now }
+// The name of a wire, and what stands after its comma, if there is one.
+fn cut_name(text: &str) -> (&str, Option<&[u8]>)
+    ensures { pieces 44 text.now ≡ result.0.now ∷ pieces_left 44 (option_copied result.1) }
 {
-    let (number, name) = word.split_once('=')?;
-    let line = line_of(number.as_bytes())?;
+    match text.split_once(',') {
+        Some((name, words)) => (name, Some(words.as_bytes())),
+        None => (text, None),
+    }
+}
+
+// The wire of a line, and how the line is listened to; of what it says nothing, as all are.
+fn wire_by(all: Manner, number: LineNo, text: &str) -> Option<(AskedLine, &str)>
+    ensures { option_map (λ wire. (wire.0, wire.1.now)) result ≡ wire_by all number (pieces 44 text.now) }
+{
+    let (name, words) = cut_name(text);
     if name.is_empty() {
         return None;
     }
-    Some((line, name))
+    let own = own_of(words)?;
+    let manner = own.manner(all);
+    Some((AskedLine { number, manner }, name))
+}
+
+// The line of a word as `7=D0,inverted`, which is written as in a record, and the name of its wire.
+fn wire_of(all: Manner, word: &str) -> Option<(AskedLine, &str)>
+    ensures { option_map (λ wire. (wire.0, wire.1.now)) result ≡ wire_of all word.now }
+{
+    let (number, text) = word.split_once('=')?;
+    let number = line_of(number.as_bytes())?;
+    wire_by(all, number, text)
+}
+
+// Whether a line is among lines.
+fn is_among(number: LineNo, lines: &[AskedLine]) -> bool
+    ensures { result ≡ is_among number lines.now }
+{
+    for line in lines {
+        if line.number == number {
+            return true;
+        }
+    }
+    false
 }
 
 impl<'a> Wires<'a> {
     // The wire of a word more. No line may stand twice.
-    fn add(&mut self, word: &'a str) -> Result<(), WordsFault>
-        ensures added { OnOk result (wire_added (wires_in self.old) word.now ≡ Some (wires_in self.new)) }
+    fn add(&mut self, all: Manner, word: &'a str) -> Result<(), WordsFault>
+        ensures added { OnOk result (wire_added all (wires_in self.old) word.now ≡ Some (wires_in self.new)) }
         ensures refused { IfErr result (λ f. f ≡ WordsFault.Refused
-            → wire_added (wires_in self.old) word.now ≡ None) }
+            → wire_added all (wires_in self.old) word.now ≡ None) }
     {
-        let Some((line, name)) = wire_of(word) else {
+        let Some((line, name)) = wire_of(all, word) else {
             return Err(WordsFault::Refused);
         };
-        if self.lines.contains(&line) {
+        if is_among(line.number, &self.lines) {
             return Err(WordsFault::Refused);
         }
         if self.lines.push(line).is_err() || self.names.push(name).is_err() {
@@ -90,18 +124,18 @@ impl<'a> Wires<'a> {
 }
 
 // The lines of words and the names of their wires.
-fn wires_of<'a>(alloc: Global, words: &[&'a str]) -> Result<Wires<'a>, WordsFault>
+fn wires_of<'a>(alloc: Global, all: Manner, words: &[&'a str]) -> Result<Wires<'a>, WordsFault>
     ensures named { IfOk result (λ wires.
-        wires_after ([], []) (map (λ word. word.now) words.now) ≡ Some (wires_in wires)) }
+        wires_after all ([], []) (map (λ word. word.now) words.now) ≡ Some (wires_in wires)) }
     ensures refused { IfErr result (λ f. f ≡ WordsFault.Refused
-        → wires_after ([], []) (map (λ word. word.now) words.now) ≡ None) }
+        → wires_after all ([], []) (map (λ word. word.now) words.now) ≡ None) }
 {
     let mut wires = Wires {
         lines: Vec::new(alloc),
         names: Vec::new(alloc),
     };
     for word in words {
-        wires.add(word)?;
+        wires.add(all, word)?;
     }
     Ok(wires)
 }
@@ -130,6 +164,17 @@ fn asked_threshold(percent: Option<u32>) -> Result<Threshold, WordsFault>
     Threshold::new(percent.unwrap_or(THRESHOLD_PERCENT)).ok_or(WordsFault::Refused)
 }
 
+// How the lines are listened to that say nothing of themselves.
+fn manner_of_all(words: &Words<'_>) -> Manner
+    ensures { IsForAll words.now result }
+{
+    Manner {
+        settle_ms: words.number("settle").unwrap_or(SETTLE_MS),
+        seize_ms: words.number("seize").unwrap_or(SEIZE_MS),
+        inverted: words.flag("inverted"),
+    }
+}
+
 // What the words ask for.
 fn request_of<'a>(alloc: Global, words: &Words<'a>) -> Result<Request<'a>, WordsFault>
     ensures says { IfOk result (λ request. Say words.now request) }
@@ -137,7 +182,8 @@ fn request_of<'a>(alloc: Global, words: &Words<'a>) -> Result<Request<'a>, Words
 {
     let format = asked_format(words.text("format"))?;
     let threshold = asked_threshold(words.number("threshold"))?;
-    let Wires { lines, names } = wires_of(alloc, words.texts("line").unwrap_or(&[]))?;
+    let all = manner_of_all(words);
+    let Wires { lines, names } = wires_of(alloc, all, words.texts("line").unwrap_or(&[]))?;
     Ok(Request {
         table: words.text("table"),
         format,
@@ -147,12 +193,9 @@ fn request_of<'a>(alloc: Global, words: &Words<'a>) -> Result<Request<'a>, Words
             rate: words.number("rate").map(|rate| u64::from(rate)),
             threshold,
         },
-        manner: Manner {
-            settle_ms: words.number("settle").unwrap_or(SETTLE_MS),
-            seize_ms: words.number("seize").unwrap_or(SEIZE_MS),
+        common: Common {
             release_ms: Limits::standard().release,
             most_ms: words.number("tick").unwrap_or(u32::MAX),
-            inverted: words.flag("inverted"),
         },
         said: words.flag("said"),
     })
@@ -160,7 +203,7 @@ fn request_of<'a>(alloc: Global, words: &Words<'a>) -> Result<Request<'a>, Words
 
 /// What the words ask for, the program's name first. Runs are given whole, unless a tick is given, and a line is
 /// released by the standard limit. The words are refused where `clap` refuses them, there is no such form or threshold,
-/// or a word is no wire or names a line again.
+/// or a word is no wire, names a line again, or has a word after a comma that is none, or is said twice.
 pub fn request_of_words<'a>(alloc: Global, words: &'a [String]) -> Result<Request<'a>, WordsFault>
     ensures asks { IfOk result (λ request. AsksPlainly (texts_of words.entry.now) request) }
     ensures refused { IfErr result (λ f. f ≡ WordsFault.Refused

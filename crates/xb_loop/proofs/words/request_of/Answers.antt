@@ -18,12 +18,11 @@ returns-clause-says c = record {
   table = c.text-2.ensures;
   format = ap form_named (sym c.text.ensures) ∙ c.in_ok-format.ensures.named;
   rate = search rules;
-  settle = (c.number-3.result, c.number-3.ensures, c.unwrap_or-2.ensures);
-  seize = (c.number-4.result, c.number-4.ensures, c.unwrap_or-3.ensures);
   release = ap (λ (limits : Limits). limits.release) c.standard.ensures.value;
-  tick = (c.number-5.result, c.number-5.ensures, c.unwrap_or-4.ensures);
+  tick = (c.number-3.result, c.number-3.ensures, c.unwrap_or-2.ensures);
   threshold = (c.number.result, c.number.ensures, c.in_ok-threshold.ensures.given);
-  inverted = c.flag.ensures;
-  said = c.flag-2.ensures;
+  said = c.flag.ensures;
+  all = c.manner_of_all-all.result;
+  for_all = c.manner_of_all-all.ensures;
   wires = search rules;
 }

@@ -4,5 +4,5 @@ use Rattle.xb_loop.proofs.words.wires_of.Given as goal
 
 abbrev pub invariant-loop-word : goal.invariant-loop-word
 invariant-loop-word l =
-    wires_after (wires_in l.wires) (map (λ word. word.now) (drop l.word-index l.words))
-    ≡ wires_after ([], []) (map (λ word. word.now) l.words)
+    wires_after l.all (wires_in l.wires) (map (λ word. word.now) (drop l.word-index l.words))
+    ≡ wires_after l.all ([], []) (map (λ word. word.now) l.words)

@@ -1,7 +1,6 @@
-use Rattle.std.proofs.Common.{◌≡◌, None, map, take}
-use Rattle.xb_loop.specs.Watching.{watched_of}
+use Rattle.std.proofs.Common.{◌≡◌, map, take}
+use Rattle.xb_loop.specs.Watching.{begun_watched}
 use Rattle.xb_loop.proofs.lines.Lines.new.Given as goal
 
-abbrev pub invariant-loop-number : goal.invariant-loop-number
-invariant-loop-number l =
-    l.lines.items ≡ map (λ number. watched_of number None) (take l.number-index l.request.lines.items)
+abbrev pub invariant-loop-asked : goal.invariant-loop-asked
+invariant-loop-asked l = l.lines.items ≡ map begun_watched (take l.asked-index l.request.lines.items)
