@@ -9,7 +9,7 @@
 #include <string.h>
 
 enum { HOP = 20, WINDOW = 80, TONES = 6, NONE = -1 };
-enum { LEAST_LEVEL = 500 * 500, TWIST = 16, CLEAR = 2, SHARE = 3, SHARE_OF = 5 };
+enum { LEAST_LEVEL = 500 * 500, TWIST = 16, CLEAR = 2, SHARE = 3, SHARE_OF = 5, STEADY = 20, STEADY_WINDOWS = 1024 };
 enum { GAP_WINDOWS = 8, PART_WINDOWS = 5, KEY_WINDOWS = 8, KP_WINDOWS = 18, TAIL_WINDOWS = 60, TAIL_WEAKER = 21 };
 
 struct sight { int low, high; int64_t low_level, high_level; };  /* places among the six */
@@ -30,18 +30,31 @@ static int64_t level(const int16_t *window, int tone)
     return square(llabs(by_sine) / 400000) + square(llabs(by_cosine) / 400000);
 }
 
+static int64_t least_of(int64_t a, int64_t b) { return a < b ? a : b; }
+
+/* The least that lay beside the six frequencies of late, with one window more; 0 before the first. */
+static int64_t lessened(int64_t least, int64_t now)
+{
+    int64_t next = least == 0 ? now : least_of(now, least + least / STEADY_WINDOWS + 1);
+    return next > 1 ? next : 1;
+}
+
 static struct sight sees(const int16_t *window)
 {
-    int64_t levels[TONES], all = 0, power = 0;
+    static int64_t least;
+    const int64_t before = least;
+    int64_t levels[TONES], all = 0, power = 0, sum = 0;
     for (int tone = 0; tone < TONES; tone++) all += levels[tone] = level(window, tone);
-    for (int n = 0; n < WINDOW; n++) power += square(window[n]);
-    power /= 40;
+    for (int n = 0; n < WINDOW; n++) power += square(window[n]), sum += window[n];
+    power = (80 * power - square(sum)) / 3200;
+    const int64_t beside = power > all ? power - all : 0;
+    least = lessened(before, beside);
     for (int high = 1; high < TONES; high++)
         for (int low = 0; low < high; low++) {
             int64_t two = levels[low] + levels[high];
-            int64_t weaker = levels[low] < levels[high] ? levels[low] : levels[high];
+            int64_t weaker = least_of(levels[low], levels[high]);
             if (weaker >= LEAST_LEVEL && two - weaker <= TWIST * weaker && CLEAR * (all - two) <= weaker
-                && SHARE * power <= SHARE_OF * two)
+                && (SHARE * power <= SHARE_OF * two || beside / STEADY <= before))
                 return (struct sight) { low, high, levels[low], levels[high] };
         }
     return (struct sight) { NONE, NONE, 0, 0 };

@@ -13,7 +13,7 @@
 #include <string.h>
 #include <spandsp.h>
 
-enum { RATE = 8000, MOST = 40000, PAUSE = RATE / 10, ECHO = RATE / 50 };
+enum { RATE = 8000, MOST = 40000, PAUSE = RATE / 10 };
 
 static const char *keys[] = { "KP", "2", "2", "3", "3", "4", "5", "6", "7", "7", "8", "9", "0", "1", "ST" };
 enum { KEYS = sizeof keys / sizeof *keys };
@@ -24,15 +24,17 @@ static const struct { const char *key; int low, high; } pairs[] = {
     { "ST", 1500, 1700 },
 };
 
-/* Times in ms, levels of a tone in dBm0, twist in dB, detuning as a part; of what is beside, its level and its Hz. A hole
-   is silence in the middle of each key. */
+/* Times in ms, levels of a tone in dBm0, twist in dB, detuning as a part; of what is beside, its level and its Hz, and how
+   many harmonics it has, each so many times weaker as its number is; the level is that of all. A voltage is added to
+   each sample. A hole is silence in the middle of each key. An echo is a part of the sound, so many ms later. */
 struct row {
     const char *must, *name;
-    double kp, key, gap, hole, level, twist, detuning, hz, noise, beside, beside_hz, echo, clip, wow;
-    int is_mu_law;
+    double kp, key, gap, hole, level, twist, detuning, hz, noise, beside, beside_hz, voltage, echo, echo_ms, clip, wow;
+    int harmonics, is_mu_law;
 };
 #define SILENT (-200)
-#define USUAL .kp = 100, .key = 68, .gap = 68, .level = -7, .noise = SILENT, .beside = SILENT
+#define QUIET .level = -20, .beside = -10
+#define USUAL .kp = 100, .key = 68, .gap = 68, .level = -7, .noise = SILENT, .beside = SILENT, .echo_ms = 20
 #define ROW(must, name, ...) { must, name, USUAL, __VA_ARGS__ }
 #pragma GCC diagnostic ignored "-Woverride-init"
 static const struct row rows[] = {
@@ -60,6 +62,14 @@ static const struct row rows[] = {
     ROW("may", "2,600 Hz beside, as loud as a tone", .beside = -7, .beside_hz = 2600),
     ROW("must", "60 Hz beside, 13 dB below a tone", .beside = -20, .beside_hz = 60),
     ROW("may", "60 Hz beside, as loud as a tone", .beside = -7, .beside_hz = 60),
+    ROW("must", "60 Hz beside, 10 dB above a tone", QUIET, .beside_hz = 60),
+    ROW("must", "50 Hz beside, 10 dB above a tone", QUIET, .beside_hz = 50),
+    ROW("must", "hum of 60 Hz and 7 harmonics, 10 dB above a tone", QUIET, .beside_hz = 60, .harmonics = 7),
+    ROW("must", "hum of 50 Hz and 7 harmonics, 10 dB above a tone", QUIET, .beside_hz = 50, .harmonics = 7),
+    ROW("must", "180 Hz beside, 10 dB above a tone", QUIET, .beside_hz = 180),
+    ROW("must", "2,600 Hz beside, 10 dB above a tone", QUIET, .beside_hz = 2600),
+    ROW("must", "a steady voltage of 12,000", .voltage = 12000),
+    ROW("must", "a steady voltage of -3,000, tones of -25 dBm0", .voltage = -3000, .level = -25),
     ROW("must", "an echo of 20 ms, 10 dB below", .echo = .316), ROW("may", "an echo of 20 ms, 6 dB below", .echo = .5),
     ROW("must", "clipped at half", .clip = .5), ROW("may", "clipped at a quarter", .clip = .25),
     ROW("must", "by mu-law", .is_mu_law = 1), ROW("must", "by mu-law, -28 dBm0", .is_mu_law = 1, .level = -28),
@@ -100,20 +110,32 @@ static int key_at(const struct row *row, const char *key, double *mix, int n)
     return n;
 }
 
+/* What stands beside at a place: a sine, or with its harmonics a hum whose power is that of the sine. */
+static double beside_at(const struct row *row, int place)
+{
+    double sum = 0, power = 0;
+    for (int k = 1; k <= row->harmonics + 1; k++) {
+        sum += sin(k + 2 * M_PI * k * row->beside_hz * place / RATE) / k;
+        power += 1. / (k * k);
+    }
+    return amplitude(row->beside) * sum / sqrt(power);
+}
+
 static void write_row(const struct row *row, int phase)
 {
     static double mix[MOST];
+    const int late = (int) (row->echo_ms * RATE / 1000);
     int n = PAUSE + phase;
     double most = amplitude(row->level) * 2 * row->clip;
     for (int k = 0; k < KEYS; k++) n = key_at(row, keys[k], mix, n);
-    n += PAUSE;
+    n += row->echo > 0 ? PAUSE + late : PAUSE;
     state = 88172645463325252ull + 7919ull * (phase + 1);
     for (int i = 0; i < 20; i++) uniform();
     if (row->echo > 0)
-        for (int i = n - 1; i >= ECHO; i--) mix[i] += row->echo * mix[i - ECHO];
+        for (int i = n - 1; i >= late; i--) mix[i] += row->echo * mix[i - late];
     for (int i = 0; i < n; i++) {
-        double sum = mix[i];
-        if (row->beside > SILENT) sum += amplitude(row->beside) * sin(2 * M_PI * row->beside_hz * i / RATE);
+        double sum = mix[i] + row->voltage;
+        if (row->beside > SILENT) sum += beside_at(row, i);
         if (row->noise > SILENT) sum += gauss() * amplitude(row->noise) / sqrt(2);
         if (row->clip > 0) sum = fmax(-most, fmin(most, sum));
         long sample = lround(fmax(-32768, fmin(32767, sum)));

@@ -28,6 +28,7 @@ parts_in ear = record {
   window = ear.window;
   filled = ear.filled;
   held = ear.held;
+  least = ear.least;
   hearing = record {
     at = ear.at;
     seen = sight_in ear.seen;

@@ -57,6 +57,8 @@ pub struct WebEar {
     pub sounding: WebHeard,
     /// What the last 60 windows held: both tones' levels together, of silence 0.
     pub held: [u64; 60],
+    /// The least power that lay beside the six frequencies of late; 0 before the first window.
+    pub least: u64,
     /// How many samples of the next window are there: fewer than 80.
     pub filled: u32,
     /// These samples, and room for more.
@@ -165,6 +167,7 @@ pub(crate) fn receiver_of(ear: &WebEar) -> Option<Receiver>
         window,
         filled: ear.filled as usize,
         held,
+        least: ear.least,
         hearing: Hearing {
             at: ear.at,
             seen: sight_of(ear.seen),
@@ -194,6 +197,7 @@ pub(crate) fn ear_of(receiver: &Receiver) -> WebEar
         seen: optional_sight(parts.hearing.seen),
         sounding: plain_optional(parts.hearing.sounding),
         held,
+        least: parts.least,
         filled: parts.filled as u32,
         window,
     }

@@ -7,7 +7,7 @@ use Rattle.std.proofs.lemmas.List.FromFn.{take-map-range_with_len}
 use Rattle.xb_model.specs.declared.key.Tone.{Tone as Pair}
 use Rattle.xb_tone.specs.Sines.{sine_table}
 use Rattle.xb_ear.specs.Disturbed.{AreWithin}
-use Rattle.xb_ear.specs.Ears.{windows_in}
+use Rattle.xb_ear.specs.Ears.{least_before, windows_in}
 use Rattle.xb_ear.specs.HeardKeys.{MOST_NOISE}
 use Rattle.xb_ear.specs.Hearings.{silent}
 use Rattle.xb_ear.specs.Levels.{correlated}
@@ -37,8 +37,9 @@ piece-of past part rest k n at long =
     ∙ take-append-le 80 (drop n part) rest (omega (arith, long, length-drop n part))
 
 -- what is quiet shows nothing, anywhere
-quiet-sees : (xs : List ℤ) → IsQuiet xs → (n : ℕ) → n + 80 ≤ length xs → label (seen (take 80 (drop n xs))) ≡ None
-quiet-sees xs quiet n fits =
+quiet-sees : (least : ℕ) (xs : List ℤ) → IsQuiet xs → (n : ℕ) → n + 80 ≤ length xs
+    → label (seen least (take 80 (drop n xs))) ≡ None
+quiet-sees least xs quiet n fits =
     let m : ℕ = length xs in
     let q : ℕ → ℤ × ℕ = λ k. (still k, MOST_NOISE) in
     let start : n ≡ 0 + n = omega arith in
@@ -46,7 +47,7 @@ quiet-sees xs quiet n fits =
     let cut : take 80 (drop n (map q (range_with_len 0 m))) ≡ map q (range_with_len n 80) =
     ap (λ (zs : List (ℤ × ℕ)). take 80 zs) (drops q n 0 m n (m - n) start covers)
     ∙ take-map-range_with_len q n (m - n) 80 (omega (arith, fits)) in
-    (silence-shows n (take 80 (drop n xs))
+    (silence-shows least n (take 80 (drop n xs))
     (one-bound still MOST_NOISE 80 n (take 80 (drop n xs))
     (subst (λ (zs : List (ℤ × ℕ)). AreWithin zs (take 80 (drop n xs))) cut
     (within-take 80 (drop n (map q (range_with_len 0 m))) (drop n xs)
@@ -121,8 +122,8 @@ module _ (h : ℕ) (weak : list_all (λ n. weak_at (h * 100) n) (range_with_len 
   in-before w fits =
       let at : 20 * w ≡ 0 + 20 * w = omega arith in
       sees-silence all w
-      (ap (λ (xs : List ℤ). label (seen xs)) (piece-of [] before (tone ++ after) (20 * w) (20 * w) at fits)
-      ∙ quiet-sees before quiet_before (20 * w) fits)
+      (ap (λ (xs : List ℤ). label (seen (least_before all w) xs)) (piece-of [] before (tone ++ after) (20 * w) (20 * w) at fits)
+      ∙ quiet-sees (least_before all w) before quiet_before (20 * w) fits)
 
   in-tone : (w : ℕ) → length before ≤ 20 * w → 20 * w + 80 ≤ length before + length tone → sees all w ≡ None
   in-tone w low high =
@@ -130,8 +131,8 @@ module _ (h : ℕ) (weak : list_all (λ n. weak_at (h * 100) n) (range_with_len 
       let at : 20 * w ≡ length before + n = omega (arith, low) in
       let fits : n + 80 ≤ length tone = omega (arith, low, high) in
       sees-silence all w
-      (ap (λ (xs : List ℤ). label (seen xs)) (piece-of before tone after (20 * w) n at fits)
-      ∙ sees-none-in h weak amplitude most tone is n fits)
+      (ap (λ (xs : List ℤ). label (seen (least_before all w) xs)) (piece-of before tone after (20 * w) n at fits)
+      ∙ sees-none-in h weak amplitude most tone is (least_before all w) n fits)
 
   in-after : (w : ℕ) → length before + length tone ≤ 20 * w → 20 * w + 80 ≤ length all → sees all w ≡ None
   in-after w low high =
@@ -145,9 +146,9 @@ module _ (h : ℕ) (weak : list_all (λ n. weak_at (h * 100) n) (range_with_len 
       let same : all ≡ past ++ (after ++ []) =
       sym (append_assoc before tone after) ∙ ap (λ (xs : List ℤ). past ++ xs) (sym (append-nil after)) in
       sees-silence all w
-      (ap (λ (xs : List ℤ). label (seen (take 80 (drop (20 * w) xs)))) same
-      ∙ ap (λ (xs : List ℤ). label (seen xs)) (piece-of past after [] (20 * w) n at fits)
-      ∙ quiet-sees after quiet_after n fits)
+      (ap (λ (xs : List ℤ). label (seen (least_before all w) (take 80 (drop (20 * w) xs)))) same
+      ∙ ap (λ (xs : List ℤ). label (seen (least_before all w) xs)) (piece-of past after [] (20 * w) n at fits)
+      ∙ quiet-sees (least_before all w) after quiet_after n fits)
 
   -- after each window, one of the next four lies in the tone or in a silence, or there is none
   soon-none : (w : ℕ) → w < windows_in (length all) → (d : ℕ) × IsSoon (sees all) (windows_in (length all)) w d

@@ -22,6 +22,7 @@ pub mod Alike
 pub mod Holes
 pub mod WholeSounds
 pub mod Coded
+pub mod Voltages
 pub mod Scaled
 pub mod OneTone
 pub mod BriefTones

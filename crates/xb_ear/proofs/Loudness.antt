@@ -17,7 +17,7 @@ use Rattle.xb_tone.proofs.SineTables.{sine_at-small}
 use Rattle.xb_ear.specs.declared.levels.Levels.{Levels}
 use Rattle.xb_ear.specs.Disturbed.{AreWithin, IsNear, bounded}
 use Rattle.xb_ear.specs.declared.sight.Sight.{Sight}
-use Rattle.xb_ear.specs.Ears.{window}
+use Rattle.xb_ear.specs.Ears.{least_before, sight_at, window}
 use Rattle.xb_ear.specs.HeardKeys.{MOST_NOISE, MOST_NOISE_IN_TONES, disturbable, mark_disturbable}
 use Rattle.xb_ear.specs.Levels.{correlated, levels_of}
 use Rattle.xb_ear.specs.Pairs.{first_pair, is_pair, level_at, mf_pairs, seen, sight}
@@ -109,32 +109,33 @@ tops hz =
     top-at (uppers LOUDEST nothing) TOP (leb-true _ _ refl) (leb-true _ _ refl) (leb-true _ _ refl) (leb-true _ _ refl)
     (leb-true _ _ refl) (leb-true _ _ refl) hz
 
-first-low : (levels : Levels) → ((hz : ℕ) → level_at levels hz ≤ TOP) → (ps : List Pair) → IsLow (first_pair levels ps)
-first-low levels top [] = tt
-first-low levels top (p ∷ ps) = by (is_pair levels p) (first-low levels top ps)
+first-low : (k : ℕ) (levels : Levels) → ((hz : ℕ) → level_at levels hz ≤ TOP) → (ps : List Pair)
+    → IsLow (first_pair k levels ps)
+first-low k levels top [] = tt
+first-low k levels top (p ∷ ps) = by (is_pair k levels p) (first-low k levels top ps)
   where
-    by : (b : Bool) → IsLow (first_pair levels ps) → IsLow (if b then Some (sight levels p) else first_pair levels ps)
+    by : (b : Bool) → IsLow (first_pair k levels ps) → IsLow (if b then Some (sight levels p) else first_pair k levels ps)
     by true rest =
         let low : level_at levels p.low ≤ TOP = top p.low in
         let high : level_at levels p.high ≤ TOP = top p.high in
         omega (arith, low, high)
     by false rest = rest
 
-window-low : (ys : List ℤ) → IsNear LOUDEST nothing ys → IsLow (seen ys)
-window-low ys near =
+window-low : (k : ℕ) (ys : List ℤ) → IsNear LOUDEST nothing ys → IsLow (seen k ys)
+window-low k ys near =
     let below : IsBelow (levels_of ys) (uppers LOUDEST nothing) =
     below-uppers LOUDEST nothing ys (length-map-range_with_len still 0 80) near in
-    first-low (levels_of ys)
+    first-low k (levels_of ys)
     (λ hz. le_trans (at-below (levels_of ys) (uppers LOUDEST nothing) below hz) (tops hz)) mf_pairs
 
 -- no window of a disturbed sound sees a pair that is too strong
 pub sound-low : (cadence : Cadence) (marks : List Mark) (samples : List ℤ) → AreWithin (disturbable cadence marks) samples
-    → (w : ℕ) → 20 * w + 80 ≤ length samples → IsLow (seen (window samples w))
+    → (w : ℕ) → 20 * w + 80 ≤ length samples → IsLow (sight_at samples w)
 sound-low cadence marks samples within w fits =
     let n : ℕ = length samples in
     let all : AreWithin ([] ++ (part_of still LOUDEST n ++ [])) samples =
     subst (λ (xs : List (ℤ × ℕ)). AreWithin xs samples) (sym (append-nil (part_of still LOUDEST n)))
     (near-still (disturbable cadence marks) samples (modest cadence marks) within 0) in
-    window-low (window samples w)
+    window-low (least_before samples w) (window samples w)
     (subst (λ (xs : List ℤ). IsNear LOUDEST xs (window samples w)) (still-anywhere 80 (20 * w - 0) 0)
     (near-part still LOUDEST [] [] samples n w all (omega arith) (omega (arith, fits))))

@@ -12,7 +12,7 @@ use Rattle.xb_tone.proofs.SineTables.{holds_below}
 use Rattle.xb_ear.specs.declared.levels.Levels.{Levels}
 use Rattle.xb_ear.specs.declared.sight.Sight.{Sight}
 use Rattle.xb_ear.specs.Disturbed.{IsNear}
-use Rattle.xb_ear.specs.Ears.{windows_in}
+use Rattle.xb_ear.specs.Ears.{least_before, windows_in}
 use Rattle.xb_ear.specs.Hearings.{silent}
 use Rattle.xb_ear.specs.Levels.{correlated, cosine_of, level, levels_of, part, sine_of, squares}
 use Rattle.xb_ear.specs.Pairs.{mf_pairs, seen}
@@ -72,8 +72,8 @@ module _ (amplitude : ℕ) (most : amplitude ≤ 40000) (clean xs : List ℤ) (l
       let pc : part (correlated (cosine_of hz) 0 xs) ≤ (4 * unsigned_abs (correlated (cosine_of hz) 0 clean) + REACH) / 400000 = omega (arith, c) in
       omega (arith, square-mono _ _ ps, square-mono _ _ pc)
 
-  sees-no-pair : list_all (is_weak (tops clean 0)) mf_pairs ≡ true → label (seen xs) ≡ None
-  sees-no-pair weak =
+  sees-no-pair : (k : ℕ) → list_all (is_weak (tops clean 0)) mf_pairs ≡ true → label (seen k xs) ≡ None
+  sees-no-pair k weak =
       let below : IsBelow (levels_of xs) (tops clean (squares xs / 40)) = record {
         b700 = level-top 700 reach-700;
         b900 = level-top 900 reach-900;
@@ -83,15 +83,15 @@ module _ (amplitude : ℕ) (most : amplitude ≤ 40000) (clean xs : List ℤ) (l
         b1700 = level-top 1700 reach-1700;
         all = omega arith;
       } in
-      ap (λ (s : Option Sight). label s) (none-shown (levels_of xs) (tops clean (squares xs / 40)) below mf_pairs weak)
+      ap (λ (s : Option Sight). label s) (none-shown k (levels_of xs) (tops clean (squares xs / 40)) below mf_pairs weak)
 
 abbrev pub weak_at : ℕ → ℕ → Bool
 weak_at hz n = list_all (is_weak (tops (map (λ k. sine_of hz k) (range_with_len n 80)) 0)) mf_pairs
 
 module _ (h : ℕ) (weak : list_all (λ n. weak_at (h * 100) n) (range_with_len 0 80) ≡ true) (amplitude : ℕ)
     (most : amplitude ≤ 40000) (samples : List ℤ) (tone : IsToneOf (h * 100) amplitude samples) where
-  pub sees-none-in : (n : ℕ) → n + 80 ≤ length samples → label (seen (take 80 (drop n samples))) ≡ None
-  sees-none-in n fits =
+  pub sees-none-in : (k n : ℕ) → n + 80 ≤ length samples → label (seen k (take 80 (drop n samples))) ≡ None
+  sees-none-in k n fits =
       let f : ℕ → ℤ = λ n. pos amplitude *ℤ sine_of (h * 100) n in
       let g : ℕ → ℤ = λ n. sine_of (h * 100) n in
       let m : ℕ = length samples in
@@ -115,11 +115,11 @@ module _ (h : ℕ) (weak : list_all (λ n. weak_at (h * 100) n) (range_with_len 
       let near2 : IsNear 10000 (scaled amplitude clean) (scaled 10000 piece) =
       subst (λ (ys : List ℤ). IsNear 10000 (scaled amplitude clean) ys) ours
       (subst (λ (xs : List ℤ). IsNear 10000 xs (take 80 (drop n (scaled 10000 samples)))) (cut ∙ is-scaled) near) in
-      sees-no-pair amplitude most clean piece (length-map-range_with_len g (n % 80) 80) near2
-      (holds_below (λ k. weak_at (h * 100) k) 80 0 weak (n % 80) (omega arith) (omega arith))
+      sees-no-pair amplitude most clean piece (length-map-range_with_len g (n % 80) 80) near2 k
+      (holds_below (λ i. weak_at (h * 100) i) 80 0 weak (n % 80) (omega arith) (omega arith))
 
   sees-none-at : (w : ℕ) → w < windows_in (length samples) → sees samples w ≡ None
-  sees-none-at w below = sees-silence samples w (sees-none-in (20 * w) (omega (arith, below)))
+  sees-none-at w below = sees-silence samples w (sees-none-in (least_before samples w) (20 * w) (omega (arith, below)))
 
   pub one-tone-is-no-key : keys_of_sound samples ≡ []
   one-tone-is-no-key =

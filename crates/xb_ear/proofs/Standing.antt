@@ -1,5 +1,5 @@
 -- What a window surely sees, by bounds on its levels.
-use Rattle.std.proofs.Common.{◌≡◌, ◌∙◌, ℕ, ◌+◌, ◌-◌, ◌*◌, ◌<◌, ◌≤◌, Bool, true, false, ◌&&◌, ◌||◌, List, [], ◌∷◌, length, min, max, ap, subst, arith, refl, ℤ, Option, Some, None, eqb, eqb-true, inl, inr, ◌⊎◌}
+use Rattle.std.proofs.Common.{◌≡◌, ◌∙◌, ℕ, ◌+◌, ◌-◌, ◌*◌, ◌/◌, ◌<◌, ◌≤◌, Bool, true, false, ◌&&◌, ◌||◌, List, [], ◌∷◌, length, min, max, ap, subst, arith, refl, ℤ, Option, Some, None, eqb, eqb-true, inl, inr, ◌⊎◌}
 use Rattle.std.specs.Prelude.{if◌then◌else◌, nat_le, nat_lt}
 use Rattle.std.specs.List.{AllByRecursion, list_all, list_any}
 use Rattle.std.proofs.lemmas.Bool.{false≢true, le-leb, leb-true, lt-leb, ltb-true}
@@ -7,7 +7,7 @@ use Rattle.xb_model.specs.declared.key.Tone.{Tone as Pair}
 use Rattle.xb_model.specs.MfPairs.{pair}
 use Rattle.xb_ear.specs.declared.levels.Levels.{Levels}
 use Rattle.xb_ear.specs.declared.sight.Sight.{Sight}
-use Rattle.xb_ear.specs.declared.sight.TheConstants.{LEAST_LEVEL, TWIST, CLEAR, SHARE_OF, SHARE}
+use Rattle.xb_ear.specs.declared.sight.TheConstants.{LEAST_LEVEL, TWIST, CLEAR, SHARE_OF, SHARE, STEADY}
 use Rattle.xb_ear.specs.Disturbed.{IsNear}
 use Rattle.xb_ear.specs.Hearings.{is_same_pair}
 use Rattle.xb_ear.specs.LongRuns.{label}
@@ -61,9 +61,13 @@ and-false : (b : Bool) → (b && false) ≡ false
 and-false true = refl
 and-false false = refl
 
-surely-stands : (l h ul uh others power x y sum p : ℕ) → surely l h ul uh others power ≡ true
-    → l ≤ x → x ≤ ul → h ≤ y → y ≤ uh → sum - (x + y) ≤ others → p ≤ power → stand_out x y sum p ≡ true
-surely-stands l h ul uh others power x y sum p is lx xu hy yu rest powers =
+-- the two hold most of the power, or the rest is steady
+abbrev is_most_or_steady : ℕ → ℕ → ℕ → ℕ → ℕ → Bool
+is_most_or_steady k x y sum p = nat_le (SHARE * p) (SHARE_OF * (x + y)) || nat_le ((p - sum) / STEADY) k
+
+surely-stands : (k l h ul uh others power x y sum p : ℕ) → surely l h ul uh others power ≡ true
+    → l ≤ x → x ≤ ul → h ≤ y → y ≤ uh → sum - (x + y) ≤ others → p ≤ power → stand_out k x y sum p ≡ true
+surely-stands k l h ul uh others power x y sum p is lx xu hy yu rest powers =
     let s0 = and-both _ _ is in
     let s1 = and-both _ _ s0.0 in
     let s2 = and-both _ _ s1.0 in
@@ -78,25 +82,26 @@ surely-stands l h ul uh others power x y sum p is lx xu hy yu rest powers =
     (and-true _ _ (le-leb LEAST_LEVEL (min x y) (omega (arith, loud, more)))
     (le-leb (max x y) (TWIST * min x y) (omega (arith, even, more, top))))
     (le-leb (CLEAR * (sum - (x + y))) (min x y) (omega (arith, clear, more, rest))))
-    (le-leb (SHARE * p) (SHARE_OF * (x + y)) (omega (arith, most, powers, lx, hy)))
+    (ap (λ (b : Bool). b || nat_le ((p - sum) / STEADY) k)
+    (le-leb (SHARE * p) (SHARE_OF * (x + y)) (omega (arith, most, powers, lx, hy))))
 
-weak-fails : (x y sum p : ℕ) → min x y < LEAST_LEVEL → stand_out x y sum p ≡ false
-weak-fails x y sum p weak =
+weak-fails : (k x y sum p : ℕ) → min x y < LEAST_LEVEL → stand_out k x y sum p ≡ false
+weak-fails k x y sum p weak =
     ap (λ (b : Bool). b && nat_le (max x y) (TWIST * min x y) && nat_le (CLEAR * (sum - (x + y))) (min x y)
-    && nat_le (SHARE * p) (SHARE_OF * (x + y))) (lt-leb LEAST_LEVEL (min x y) weak)
+    && is_most_or_steady k x y sum p) (lt-leb LEAST_LEVEL (min x y) weak)
 
-twisted-fails : (x y sum p : ℕ) → TWIST * min x y < max x y → stand_out x y sum p ≡ false
-twisted-fails x y sum p twisted =
+twisted-fails : (k x y sum p : ℕ) → TWIST * min x y < max x y → stand_out k x y sum p ≡ false
+twisted-fails k x y sum p twisted =
     ap (λ (b : Bool). nat_le LEAST_LEVEL (min x y) && b && nat_le (CLEAR * (sum - (x + y))) (min x y)
-    && nat_le (SHARE * p) (SHARE_OF * (x + y))) (lt-leb (max x y) (TWIST * min x y) twisted)
-    ∙ ap (λ (b : Bool). b && nat_le (CLEAR * (sum - (x + y))) (min x y) && nat_le (SHARE * p) (SHARE_OF * (x + y)))
+    && is_most_or_steady k x y sum p) (lt-leb (max x y) (TWIST * min x y) twisted)
+    ∙ ap (λ (b : Bool). b && nat_le (CLEAR * (sum - (x + y))) (min x y) && is_most_or_steady k x y sum p)
     (and-false (nat_le LEAST_LEVEL (min x y)))
 
-drowned-fails : (x y sum p : ℕ) → min x y < CLEAR * (sum - (x + y)) → stand_out x y sum p ≡ false
-drowned-fails x y sum p drowned =
+drowned-fails : (k x y sum p : ℕ) → min x y < CLEAR * (sum - (x + y)) → stand_out k x y sum p ≡ false
+drowned-fails k x y sum p drowned =
     ap (λ (b : Bool). nat_le LEAST_LEVEL (min x y) && nat_le (max x y) (TWIST * min x y) && b
-    && nat_le (SHARE * p) (SHARE_OF * (x + y))) (lt-leb (CLEAR * (sum - (x + y))) (min x y) drowned)
-    ∙ ap (λ (b : Bool). b && nat_le (SHARE * p) (SHARE_OF * (x + y)))
+    && is_most_or_steady k x y sum p) (lt-leb (CLEAR * (sum - (x + y))) (min x y) drowned)
+    ∙ ap (λ (b : Bool). b && is_most_or_steady k x y sum p)
     (and-false (nat_le LEAST_LEVEL (min x y) && nat_le (max x y) (TWIST * min x y)))
 
 pub same-pair : (q p : Pair) → is_same_pair q p ≡ true → q ≡ p
@@ -108,12 +113,13 @@ pub or-cases : (b c : Bool) → (b || c) ≡ true → (b ≡ true) ⊎ (c ≡ tr
 or-cases true c e = inl refl
 or-cases false c e = inr e
 
-weak-pair : (levels u : Levels) → IsBelow levels u → (q : Pair) → is_weak u q ≡ true → is_pair levels q ≡ false
-weak-pair levels u below q weak =
+weak-pair : (k : ℕ) (levels u : Levels) → IsBelow levels u → (q : Pair) → is_weak u q ≡ true
+    → is_pair k levels q ≡ false
+weak-pair k levels u below q weak =
     let a = at-below levels u below q.low in
     let b = at-below levels u below q.high in
     let small : min (level_at u q.low) (level_at u q.high) < LEAST_LEVEL = ltb-true _ _ weak in
-    weak-fails (level_at levels q.low) (level_at levels q.high) (all_levels levels) levels.power (omega (arith, a, b, small))
+    weak-fails k (level_at levels q.low) (level_at levels q.high) (all_levels levels) levels.power (omega (arith, a, b, small))
 
 -- what the other four hold grows with the levels
 abbrev IsRestBelow : Levels → Levels → Pair → Type 0
@@ -155,9 +161,9 @@ at-pair P p (q ∷ ps) all any = elim (or-cases (is_same_pair q p) (list_any (λ
   | inr later ↦ at-pair P p ps all.1 later
 ]
 
-out-pair : (levels l u : Levels) → IsBelow l levels → IsBelow levels u → (q : Pair) → IsRestBelow l levels q
-    → is_out l u q ≡ true → is_pair levels q ≡ false
-out-pair levels l u above below q rest out =
+out-pair : (k : ℕ) (levels l u : Levels) → IsBelow l levels → IsBelow levels u → (q : Pair) → IsRestBelow l levels q
+    → is_out l u q ≡ true → is_pair k levels q ≡ false
+out-pair k levels l u above below q rest out =
     let x : ℕ = level_at levels q.low in
     let y : ℕ = level_at levels q.high in
     let al : level_at l q.low ≤ x = at-below l levels above q.low in
@@ -166,53 +172,53 @@ out-pair levels l u above below q rest out =
     let bh : y ≤ level_at u q.high = at-below levels u below q.high in
     elim (or-cases (is_weak u q || is_twisted l u q) (is_drowned l u q) out) [
       | inl other ↦ elim (or-cases (is_weak u q) (is_twisted l u q) other) [
-        | inl weak ↦ weak-pair levels u below q weak
+        | inl weak ↦ weak-pair k levels u below q weak
         | inr twisted ↦
             let is : TWIST * min (level_at u q.low) (level_at u q.high) < max (level_at l q.low) (level_at l q.high) =
             ltb-true _ _ twisted in
-            twisted-fails x y (all_levels levels) levels.power (omega (arith, is, al, ah, bl, bh))
+            twisted-fails k x y (all_levels levels) levels.power (omega (arith, is, al, ah, bl, bh))
       ]
       | inr drowned ↦
           let is : min (level_at u q.low) (level_at u q.high) < CLEAR * rest_of l q = ltb-true _ _ drowned in
-          drowned-fails x y (all_levels levels) levels.power (omega (arith, is, rest, bl, bh))
+          drowned-fails k x y (all_levels levels) levels.power (omega (arith, is, rest, bl, bh))
     ]
 
 -- all that levels show is weak
-pub none-shown : (levels u : Levels) → IsBelow levels u → (ps : List Pair) → list_all (is_weak u) ps ≡ true
-    → first_pair levels ps ≡ None
-none-shown levels u below [] all = refl
-none-shown levels u below (q ∷ ps) all =
+pub none-shown : (k : ℕ) (levels u : Levels) → IsBelow levels u → (ps : List Pair) → list_all (is_weak u) ps ≡ true
+    → first_pair k levels ps ≡ None
+none-shown k levels u below [] all = refl
+none-shown k levels u below (q ∷ ps) all =
     let both = and-both (is_weak u q) (list_all (is_weak u) ps) all in
-    ap (λ (b : Bool). if b then Some (sight levels q) else first_pair levels ps) (weak-pair levels u below q both.0)
-    ∙ none-shown levels u below ps both.1
+    ap (λ (b : Bool). if b then Some (sight levels q) else first_pair k levels ps) (weak-pair k levels u below q both.0)
+    ∙ none-shown k levels u below ps both.1
 
 -- all but one pair are out of the question, and that one stands out
-one-shown : (levels l u : Levels) (p : Pair) → IsBelow l levels → IsBelow levels u → is_pair levels p ≡ true
+one-shown : (k : ℕ) (levels l u : Levels) (p : Pair) → IsBelow l levels → IsBelow levels u → is_pair k levels p ≡ true
     → (ps : List Pair) → AllByRecursion (IsRestBelow l levels) ps
     → list_all (λ q. is_same_pair q p || is_out l u q) ps ≡ true → list_any (λ q. is_same_pair q p) ps ≡ true
-    → label (first_pair levels ps) ≡ Some p
-one-shown levels l u p above below is [] rests all any = absurd (false≢true any)
-one-shown levels l u p above below is (q ∷ ps) rests all any =
-    by (is_same_pair q p) refl (λ a b. one-shown levels l u p above below is ps rests.1 a b)
+    → label (first_pair k levels ps) ≡ Some p
+one-shown k levels l u p above below is [] rests all any = absurd (false≢true any)
+one-shown k levels l u p above below is (q ∷ ps) rests all any =
+    by (is_same_pair q p) refl (λ a b. one-shown k levels l u p above below is ps rests.1 a b)
   where
     both : (is_same_pair q p || is_out l u q ≡ true) × (list_all (λ q. is_same_pair q p || is_out l u q) ps ≡ true)
     both = and-both (is_same_pair q p || is_out l u q) (list_all (λ q. is_same_pair q p || is_out l u q) ps) all
 
     by : (b : Bool) → is_same_pair q p ≡ b
         → (list_all (λ q. is_same_pair q p || is_out l u q) ps ≡ true → list_any (λ q. is_same_pair q p) ps ≡ true
-        → label (first_pair levels ps) ≡ Some p)
-        → label (first_pair levels (q ∷ ps)) ≡ Some p
+        → label (first_pair k levels ps) ≡ Some p)
+        → label (first_pair k levels (q ∷ ps)) ≡ Some p
     by true e rest =
         let same : q ≡ p = same-pair q p e in
-        let shown : is_pair levels q ≡ true = ap (λ (k : Pair). is_pair levels k) same ∙ is in
-        ap (λ (b : Bool). label (if b then Some (sight levels q) else first_pair levels ps)) shown
-        ∙ ap (λ (k : Pair). Some k) same
+        let shown : is_pair k levels q ≡ true = ap (λ (r : Pair). is_pair k levels r) same ∙ is in
+        ap (λ (b : Bool). label (if b then Some (sight levels q) else first_pair k levels ps)) shown
+        ∙ ap (λ (r : Pair). Some r) same
     by false e rest =
         let out : is_out l u q ≡ true = subst (λ (b : Bool). b || is_out l u q ≡ true) e both.0 in
         let later : list_any (λ q. is_same_pair q p) ps ≡ true =
         subst (λ (b : Bool). b || list_any (λ q. is_same_pair q p) ps ≡ true) e any in
-        ap (λ (b : Bool). label (if b then Some (sight levels q) else first_pair levels ps))
-        (out-pair levels l u above below q rests.0 out)
+        ap (λ (b : Bool). label (if b then Some (sight levels q) else first_pair k levels ps))
+        (out-pair k levels l u above below q rests.0 out)
         ∙ rest both.1 later
 
 -- what is seen holds as much as the pair of a key does; of nothing there is no such question
@@ -220,14 +226,14 @@ abbrev pub is_strong : Option Sight → Bool
 is_strong None = true
 is_strong (Some s) = nat_le LEAST_STRENGTH (s.low + s.high)
 
-first-strong : (levels : Levels) (p : Pair) → LEAST_STRENGTH ≤ level_at levels p.low + level_at levels p.high
-    → (ps : List Pair) → label (first_pair levels ps) ≡ Some p → is_strong (first_pair levels ps) ≡ true
-first-strong levels p strong [] is = refl
-first-strong levels p strong (q ∷ ps) is = by (is_pair levels q) is (λ e. first-strong levels p strong ps e)
+first-strong : (k : ℕ) (levels : Levels) (p : Pair) → LEAST_STRENGTH ≤ level_at levels p.low + level_at levels p.high
+    → (ps : List Pair) → label (first_pair k levels ps) ≡ Some p → is_strong (first_pair k levels ps) ≡ true
+first-strong k levels p strong [] is = refl
+first-strong k levels p strong (q ∷ ps) is = by (is_pair k levels q) is (λ e. first-strong k levels p strong ps e)
   where
-    by : (b : Bool) → label (if b then Some (sight levels q) else first_pair levels ps) ≡ Some p
-        → (label (first_pair levels ps) ≡ Some p → is_strong (first_pair levels ps) ≡ true)
-        → is_strong (if b then Some (sight levels q) else first_pair levels ps) ≡ true
+    by : (b : Bool) → label (if b then Some (sight levels q) else first_pair k levels ps) ≡ Some p
+        → (label (first_pair k levels ps) ≡ Some p → is_strong (first_pair k levels ps) ≡ true)
+        → is_strong (if b then Some (sight levels q) else first_pair k levels ps) ≡ true
     by true e rest =
         let same : q ≡ p = cc in
         ap (λ (r : Pair). nat_le LEAST_STRENGTH (level_at levels r.low + level_at levels r.high)) same
@@ -242,17 +248,17 @@ pub record Sees (what : Option Pair) (s : Option Sight) : Type 0 where
   pub pair : label s ≡ what
   pub strong : is_strong s ≡ true
 
-module _ (n : ℕ) (clean ys : List ℤ) (long : length clean ≡ 80) (near : IsNear n clean ys) where
+module _ (k n : ℕ) (clean ys : List ℤ) (long : length clean ≡ 80) (near : IsNear n clean ys) where
   -- a window that is near a clean one of weak levels sees nothing
-  pub sees-none : list_all (is_weak (uppers n clean)) mf_pairs ≡ true → Sees None (seen ys)
+  pub sees-none : list_all (is_weak (uppers n clean)) mf_pairs ≡ true → Sees None (seen k ys)
   sees-none weak =
-      let none : label (seen ys) ≡ None =
-      ap (λ (s : Option Sight). label s) (none-shown (levels_of ys) (uppers n clean) (below-uppers n clean ys long near) mf_pairs weak) in
-      record { pair = none; strong = none-strong (seen ys) none }
+      let none : label (seen k ys) ≡ None =
+      ap (λ (s : Option Sight). label s) (none-shown k (levels_of ys) (uppers n clean) (below-uppers n clean ys long near) mf_pairs weak) in
+      record { pair = none; strong = none-strong (seen k ys) none }
 
   -- and one that is near a clean one that surely shows a pair sees that pair
   pub sees-pair : (p : Pair) → list_any (λ q. is_same_pair q p) mf_pairs ≡ true
-      → shows (lowers n clean) (uppers n clean) p ≡ true → Sees (Some p) (seen ys)
+      → shows (lowers n clean) (uppers n clean) p ≡ true → Sees (Some p) (seen k ys)
   sees-pair p known is =
       let l = lowers n clean in
       let u = uppers n clean in
@@ -262,13 +268,13 @@ module _ (n : ℕ) (clean ys : List ℤ) (long : length clean ≡ 80) (near : Is
       (list_all (λ q. is_same_pair q p || is_out l u q) mf_pairs) parts.0 in
       let low = at-below l v (lowers-below n clean ys long near) p.low in
       let high = at-below l v (lowers-below n clean ys long near) p.high in
-      let stands : is_pair v p ≡ true =
-      surely-stands (level_at l p.low) (level_at l p.high) (level_at u p.low) (level_at u p.high) (rest_of u p) u.power
+      let stands : is_pair k v p ≡ true =
+      surely-stands k (level_at l p.low) (level_at l p.high) (level_at u p.low) (level_at u p.high) (rest_of u p) u.power
       (level_at v p.low) (level_at v p.high) (all_levels v) v.power both.0
       low (at-below v u (below-uppers n clean ys long near) p.low) high (at-below v u (below-uppers n clean ys long near) p.high)
       (at-pair (IsRestBelow v u) p mf_pairs (rests-below v u (below-uppers n clean ys long near)) known) (below-uppers n clean ys long near).all in
-      let pair : label (seen ys) ≡ Some p =
-      one-shown v l u p (lowers-below n clean ys long near) (below-uppers n clean ys long near) stands mf_pairs (rests-below l v (lowers-below n clean ys long near)) both.1 known in
+      let pair : label (seen k ys) ≡ Some p =
+      one-shown k v l u p (lowers-below n clean ys long near) (below-uppers n clean ys long near) stands mf_pairs (rests-below l v (lowers-below n clean ys long near)) both.1 known in
       let enough : LEAST_STRENGTH ≤ level_at l p.low + level_at l p.high = leb-true _ _ parts.1 in
       let strong : LEAST_STRENGTH ≤ level_at v p.low + level_at v p.high = omega (arith, enough, low, high) in
-      record { pair = pair; strong = first-strong v p strong mf_pairs pair }
+      record { pair = pair; strong = first-strong k v p strong mf_pairs pair }

@@ -9,7 +9,9 @@ use Rattle.xb_model.specs.Image.{Machine, image_from}
 use Rattle.xb_ear.specs.declared.sight.Sight.{Sight}
 use Rattle.xb_ear.specs.declared.tails.TheConstants.{TAIL_WINDOWS}
 use Rattle.xb_ear.specs.Pairs.{seen}
-use Rattle.xb_ear.specs.Ears.{held, held_before, recent_of, seen_at, sight_at, sights, window, windows_in}
+use Rattle.xb_ear.specs.Levels.{levels_of}
+use Rattle.xb_ear.specs.Steady.{beside, lessened}
+use Rattle.xb_ear.specs.Ears.{held, held_before, least_before, recent_of, seen_at, sight_at, sights, window, windows_in}
 use Rattle.xb_ear.specs.Tails.{strength, without_tail}
 
 -- what is sent for one item more, and for many
@@ -39,10 +41,20 @@ window-early xs ys w fits =
 pub window-fits : (n w : ℕ) → w < windows_in n → 20 * w + 80 ≤ n
 window-fits n w below = omega arith
 
+-- what lay beside in the first samples
+least-early : (xs ys : List ℤ) (w : ℕ) → w ≤ windows_in (length xs) → least_before (xs ++ ys) w ≡ least_before xs w
+least-early xs ys zero below = refl
+least-early xs ys (suc w) below =
+    ap (λ (zs : List ℤ). lessened (least_before (xs ++ ys) w) (beside (levels_of zs)))
+    (window-early xs ys w (window-fits (length xs) w (omega (arith, below))))
+    ∙ ap (λ (least : ℕ). lessened least (beside (levels_of (window xs w)))) (least-early xs ys w (omega (arith, below)))
+
 -- what stands out in a window of the first samples
 sight-early : (xs ys : List ℤ) (w : ℕ) → w < windows_in (length xs) → sight_at (xs ++ ys) w ≡ sight_at xs w
 sight-early xs ys w below =
-    ap (λ (zs : List ℤ). seen zs) (window-early xs ys w (window-fits (length xs) w (omega (arith, below))))
+    ap (λ (zs : List ℤ). seen (least_before (xs ++ ys) w) zs)
+    (window-early xs ys w (window-fits (length xs) w (omega (arith, below))))
+    ∙ ap (λ (least : ℕ). seen least (window xs w)) (least-early xs ys w (omega (arith, below)))
 
 held-early : (xs ys : List ℤ) (n : ℕ) → n < windows_in (length xs) + 60 → held (xs ++ ys) n ≡ held xs n
 held-early xs ys n below = by (nat_lt n TAIL_WINDOWS) refl
@@ -106,23 +118,51 @@ held-same xs x few =
     (ap (λ (n : ℕ). windows_in n) (longer xs x) ∙ count-same (length xs) few)
     ∙ held-before-early xs (x ∷ []) (windows_in (length xs)) (omega arith)
 
+pub least-same : (xs : List ℤ) (x : ℤ) → length xs + 1 < 20 * windows_in (length xs) + 80
+    → least_before (xs ++ x ∷ []) (windows_in (length (xs ++ x ∷ []))) ≡ least_before xs (windows_in (length xs))
+least-same xs x few =
+    ap (λ (n : ℕ). least_before (xs ++ x ∷ []) n)
+    (ap (λ (n : ℕ). windows_in n) (longer xs x) ∙ count-same (length xs) few)
+    ∙ least-early xs (x ∷ []) (windows_in (length xs)) (omega arith)
+
 -- a sample that completes one
+window-more : (xs : List ℤ) (x : ℤ) → length xs + 1 ≡ 20 * windows_in (length xs) + 80
+    → window (xs ++ x ∷ []) (windows_in (length xs)) ≡ recent_of xs ++ x ∷ []
+window-more xs x full =
+    let w = windows_in (length xs) in
+    ap (λ (zs : List ℤ). take 80 zs) (drop-append-le (20 * w) xs (x ∷ []) (omega arith))
+    ∙ take_all 80 (recent_of xs ++ x ∷ [])
+    (omega (arith, length-append (recent_of xs) (x ∷ []), length-drop (20 * w) xs))
+
+pub least-more : (xs : List ℤ) (x : ℤ) → length xs + 1 ≡ 20 * windows_in (length xs) + 80
+    → least_before (xs ++ x ∷ []) (windows_in (length (xs ++ x ∷ [])))
+    ≡ lessened (least_before xs (windows_in (length xs))) (beside (levels_of (recent_of xs ++ x ∷ [])))
+least-more xs x full =
+    let w = windows_in (length xs) in
+    let all = xs ++ x ∷ [] in
+    let next : w + 1 ≡ suc w = omega arith in
+    ap (λ (n : ℕ). least_before all n)
+    (ap (λ (n : ℕ). windows_in n) (longer xs x) ∙ count-more (length xs) full ∙ next)
+    ∙ ap (λ (least : ℕ). lessened least (beside (levels_of (window all w)))) (least-early xs (x ∷ []) w (omega arith))
+    ∙ ap (λ (zs : List ℤ). lessened (least_before xs w) (beside (levels_of zs))) (window-more xs x full)
+
 sight-more : (xs : List ℤ) (x : ℤ) → length xs + 1 ≡ 20 * windows_in (length xs) + 80
-    → sight_at (xs ++ x ∷ []) (windows_in (length xs)) ≡ seen (recent_of xs ++ x ∷ [])
+    → sight_at (xs ++ x ∷ []) (windows_in (length xs))
+    ≡ seen (least_before xs (windows_in (length xs))) (recent_of xs ++ x ∷ [])
 sight-more xs x full =
     let w = windows_in (length xs) in
-    ap (λ (zs : List ℤ). seen zs)
-    (ap (λ (zs : List ℤ). take 80 zs) (drop-append-le (20 * w) xs (x ∷ []) (omega arith))
-    ∙ take_all 80 (recent_of xs ++ x ∷ [])
-    (omega (arith, length-append (recent_of xs) (x ∷ []), length-drop (20 * w) xs)))
+    ap (λ (zs : List ℤ). seen (least_before (xs ++ x ∷ []) w) zs) (window-more xs x full)
+    ∙ ap (λ (least : ℕ). seen least (recent_of xs ++ x ∷ [])) (least-early xs (x ∷ []) w (omega arith))
 
 pub sights-more : (xs : List ℤ) (x : ℤ) → length xs + 1 ≡ 20 * windows_in (length xs) + 80
     → sights (xs ++ x ∷ [])
-    ≡ sights xs ++ without_tail (held_before xs (windows_in (length xs))) (seen (recent_of xs ++ x ∷ [])) ∷ []
+    ≡ sights xs
+    ++ without_tail (held_before xs (windows_in (length xs)))
+    (seen (least_before xs (windows_in (length xs))) (recent_of xs ++ x ∷ [])) ∷ []
 sights-more xs x full =
     let w = windows_in (length xs) in
     let f = seen_at (xs ++ x ∷ []) in
-    let this : f w ≡ without_tail (held_before xs w) (seen (recent_of xs ++ x ∷ [])) =
+    let this : f w ≡ without_tail (held_before xs w) (seen (least_before xs w) (recent_of xs ++ x ∷ [])) =
     ap (λ (before : List ℕ). without_tail before (sight_at (xs ++ x ∷ []) w))
     (held-before-early xs (x ∷ []) w (omega arith))
     ∙ ap (λ (s : Option Sight). without_tail (held_before xs w) s) (sight-more xs x full) in
@@ -147,7 +187,8 @@ held-last xs w =
 
 pub held-more : (xs : List ℤ) (x : ℤ) → length xs + 1 ≡ 20 * windows_in (length xs) + 80
     → held_before (xs ++ x ∷ []) (windows_in (length (xs ++ x ∷ [])))
-    ≡ drop 1 (held_before xs (windows_in (length xs))) ++ strength (seen (recent_of xs ++ x ∷ [])) ∷ []
+    ≡ drop 1 (held_before xs (windows_in (length xs)))
+    ++ strength (seen (least_before xs (windows_in (length xs))) (recent_of xs ++ x ∷ [])) ∷ []
 held-more xs x full =
     let w = windows_in (length xs) in
     let all = xs ++ x ∷ [] in

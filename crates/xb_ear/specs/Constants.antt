@@ -1,7 +1,8 @@
 -- The numbers of the receiver, each as it is.
 use Rattle.std.specs.Prelude.{◌≡◌}
 use Rattle.xb_ear.specs.declared.hearing.TheConstants.{GAP_WINDOWS, KEY_WINDOWS, KP_WINDOWS, PART_WINDOWS}
-use Rattle.xb_ear.specs.declared.sight.TheConstants.{CLEAR, LEAST_LEVEL, SHARE, SHARE_OF, TWIST}
+use Rattle.xb_ear.specs.declared.sight.TheConstants.{CLEAR, LEAST_LEVEL, SHARE, SHARE_OF, STEADY, TWIST}
+use Rattle.xb_ear.specs.declared.steady.TheConstants.{STEADY_WINDOWS}
 use Rattle.xb_ear.specs.declared.tails.TheConstants.{TAIL_WEAKER, TAIL_WINDOWS}
 
 -- a definition that cites a constant means this number
@@ -15,5 +16,7 @@ pub record AreConstants : Type 0 where
   pub clear : CLEAR ≡ 2
   pub share : SHARE ≡ 3
   pub share_of : SHARE_OF ≡ 5
+  pub steady : STEADY ≡ 20
+  pub steady_windows : STEADY_WINDOWS ≡ 1024
   pub tail_windows : TAIL_WINDOWS ≡ 60
   pub tail_weaker : TAIL_WEAKER ≡ 21

@@ -1,12 +1,14 @@
 -- What is heard of samples.
-use Rattle.std.specs.Prelude.{ℕ, ◌-◌, ◌*◌, ◌/◌, if◌then◌else◌, nat_lt, List, map, take, drop, length, fold, Option, ℤ}
+use Rattle.std.specs.Prelude.{ℕ, zero, suc, ◌-◌, ◌*◌, ◌/◌, if◌then◌else◌, nat_lt, List, map, take, drop, length, fold, Option, ℤ}
 use Rattle.std.specs.List.{range_with_len}
 use Rattle.xb_model.specs.Image.{image_on}
 use Rattle.xb_ear.specs.declared.sight.Sight.{Sight}
 use Rattle.xb_ear.specs.declared.hearing.Heard.{Heard}
 use Rattle.xb_ear.specs.declared.hearing.Hearing.{Hearing}
 use Rattle.xb_ear.specs.declared.tails.TheConstants.{TAIL_WINDOWS}
+use Rattle.xb_ear.specs.Levels.{levels_of}
 use Rattle.xb_ear.specs.Pairs.{seen}
+use Rattle.xb_ear.specs.Steady.{beside, lessened}
 use Rattle.xb_ear.specs.Hearings.{hearer}
 use Rattle.xb_ear.specs.Tails.{strength, without_tail}
 
@@ -18,9 +20,14 @@ window samples w = take 80 (drop (20 * w) samples)
 abbrev pub windows_in : ℕ → ℕ
 windows_in n = (n - 60) / 20
 
+-- the least that lay beside the six of late, in the windows before one
+abbrev pub least_before : List ℤ → ℕ → ℕ
+least_before samples zero = 0
+least_before samples (suc w) = lessened (least_before samples w) (beside (levels_of (window samples w)))
+
 -- the pair that stands out in a window, by its number
 abbrev pub sight_at : List ℤ → ℕ → Option Sight
-sight_at samples w = seen (window samples w)
+sight_at samples w = seen (least_before samples w) (window samples w)
 
 -- what windows held, where 60 silent ones stand before the first
 abbrev pub held : List ℤ → ℕ → ℕ

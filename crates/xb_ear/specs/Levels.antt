@@ -1,5 +1,5 @@
 -- How strong each MF frequency is in a window of samples.
-use Rattle.std.specs.Prelude.{ℕ, ◌+◌, ◌*◌, ◌/◌, ◌%◌, ◌^◌, ◌<◌, List, [], ◌∷◌, ℤ, pos, ◌+ℤ◌, ◌*ℤ◌, unsigned_abs}
+use Rattle.std.specs.Prelude.{ℕ, ◌+◌, ◌-◌, ◌*◌, ◌/◌, ◌%◌, ◌^◌, ◌<◌, List, [], ◌∷◌, ℤ, pos, ◌+ℤ◌, ◌*ℤ◌, unsigned_abs}
 use Rattle.xb_ear.specs.declared.levels.Levels.{Levels}
 use Rattle.xb_tone.specs.Sines.{sine_at, sine_sample}
 
@@ -28,6 +28,15 @@ unfoldable pub squares : List ℤ → ℕ
 squares [] = 0
 squares (x ∷ xs) = unsigned_abs x * unsigned_abs x + squares xs
 
+-- the sum
+unfoldable pub total : List ℤ → ℤ
+total [] = pos 0
+total (x ∷ xs) = x +ℤ total xs
+
+-- the power of 80 samples but for their mean, which is what a steady voltage adds
+abbrev pub power : List ℤ → ℕ
+power window = (80 * squares window - unsigned_abs (total window) * unsigned_abs (total window)) / 3200
+
 -- what a window holds: the level of each frequency, and the power of all, in the same measure
 abbrev pub levels_of : List ℤ → Levels
 levels_of window = record {
@@ -37,7 +46,7 @@ levels_of window = record {
   hz1300 = level window 1300;
   hz1500 = level window 1500;
   hz1700 = level window 1700;
-  power = squares window / 40;
+  power = power window;
 }
 
 -- each is below 2^40

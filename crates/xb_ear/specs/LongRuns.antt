@@ -1,6 +1,6 @@
 -- The keys in other words: of the runs of windows that see the same, those that are long enough, across holes too, equal
 -- ones joined.
-use Rattle.std.specs.Prelude.{◌≡◌, ℕ, ◌+◌, List, [], ◌∷◌, ◌++◌, ◌<◌, ◌≤◌, Bool, true, false, ◌&&◌, ◌==◌, if◌then◌else◌, nat_le, map, replicate, Option, Some, None, ℤ}
+use Rattle.std.specs.Prelude.{◌≡◌, ℕ, ◌+◌, List, [], ◌∷◌, ◌++◌, ◌<◌, ◌≤◌, Bool, true, false, ◌&&◌, if◌then◌else◌, nat_le, map, replicate, Option, Some, None, ℤ}
 use Rattle.std.specs.List.{flat_map}
 use Rattle.xb_model.specs.declared.key.Key.TheVariants.{Kp}
 use Rattle.xb_model.specs.declared.key.Tone.{Tone as Pair}

@@ -7,5 +7,6 @@ abbrev pub receiving_in : PlainEar → Receiving
 receiving_in plain = record {
   recent = take plain.filled plain.window;
   held = plain.held;
+  least = plain.least;
   hearing = plain.hearing;
 }

@@ -1,6 +1,6 @@
 // Sums over a window.
 ghost use Rattle.std.specs.Prelude.{◌≡◌, ◌≤◌, ◌*◌, ◌*ℤ◌, length, unsigned_abs};
-ghost use Rattle.xb_ear.specs.Levels.{correlated, sine_of, cosine_of, squares};
+ghost use Rattle.xb_ear.specs.Levels.{correlated, sine_of, cosine_of, squares, total};
 
 use crate::waves::cosine_sample;
 use xb_tone::sine_sample;
@@ -54,6 +54,19 @@ pub(crate) fn squares(window: &[i16]) -> u64
     for x in window {
         let size = u64::from(x.unsigned_abs());
         sum += size * size;
+    }
+    sum
+}
+
+// The sum of a window.
+pub(crate) fn total(window: &[i16]) -> i64
+    requires { length window.now ≤ 80 }
+    ensures value { result ≡ total window.now }
+    ensures bound { unsigned_abs result ≤ 32768 * length window.now }
+{
+    let mut sum = 0i64;
+    for x in window {
+        sum += i64::from(*x);
     }
     sum
 }

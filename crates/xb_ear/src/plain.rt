@@ -11,6 +11,8 @@ pub struct PlainEar {
     pub filled: usize,
     /// What both tones held that the last windows saw: their levels together, of silence 0.
     pub held: [u64; TAIL_WINDOWS],
+    /// The least power that lay beside the six frequencies of late.
+    pub least: u64,
     /// What is known after the windows so far.
     pub hearing: Hearing,
 }

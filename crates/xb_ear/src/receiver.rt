@@ -2,8 +2,10 @@
 ghost use Rattle.std.specs.Prelude.{◌≡◌, take, drop};
 
 use crate::hearing::{Heard, Hearing, hear, silent};
+use crate::levels::levels_of;
 use crate::plain::PlainEar;
 use crate::sight::seen;
+use crate::steady::{beside, lessened};
 use crate::tails::{TAIL_WINDOWS, moved_on, strength, without_tail};
 use std::marker::Model;
 
@@ -13,12 +15,13 @@ const WINDOW: usize = 80;
 const HOP: usize = 20;
 
 /// A receiver that takes one sample at a time, for as long as they come, and gives the keys but for the tails that a
-/// room leaves of them. It keeps 80 samples, and what the last 60 windows held.
+/// room leaves of them. It keeps 80 samples, what the last 60 windows held, and the least that lay beside of late.
 #[derive(Drop)]
 pub struct Receiver {
     window: [i16; WINDOW],
     filled: usize,
     held: [u64; TAIL_WINDOWS],
+    least: u64,
     hearing: Hearing,
 }
 
@@ -32,6 +35,7 @@ impl Model for Receiver {
     ghost view = { λ receiver. record {
       recent = take receiver.filled receiver.window;
       held = receiver.held;
+      least = receiver.least;
       hearing = receiver.hearing;
     } };
 
@@ -62,6 +66,7 @@ impl Receiver {
             window: [0; WINDOW],
             filled: 0,
             held: [0; TAIL_WINDOWS],
+            least: 0,
             hearing: silent(),
         }
     }
@@ -76,10 +81,12 @@ impl Receiver {
         if self.filled < WINDOW {
             return None;
         }
-        let sight = seen(&self.window);
+        let levels = levels_of(&self.window);
+        let sight = seen(self.least, levels);
         let (hearing, key) = hear(self.hearing, without_tail(&self.held, sight));
         self.hearing = hearing;
         self.held = moved_on(self.held, strength(sight));
+        self.least = lessened(self.least, beside(levels));
         self.window = shifted(self.window);
         self.filled = WINDOW - HOP;
         key
@@ -107,6 +114,7 @@ impl Receiver {
             window,
             filled: plain.filled,
             held,
+            least: plain.least,
             hearing: plain.hearing,
         })
     }
@@ -122,6 +130,7 @@ impl Receiver {
             window,
             filled: self.filled,
             held,
+            least: self.least,
             hearing: self.hearing,
         }
     }

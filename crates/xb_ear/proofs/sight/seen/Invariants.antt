@@ -4,4 +4,4 @@ use Rattle.xb_ear.proofs.sight.seen.Given as goal
 
 abbrev pub invariant-loop-place : goal.invariant-loop-place
 invariant-loop-place l =
-    first_pair l.levels (pairs_among (take l.place six) (drop l.place six)) ≡ first_pair l.levels mf_pairs
+    first_pair l.least l.levels (pairs_among (take l.place six) (drop l.place six)) ≡ first_pair l.least l.levels mf_pairs

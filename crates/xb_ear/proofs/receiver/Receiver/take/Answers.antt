@@ -5,7 +5,10 @@ use Rattle.std.proofs.lemmas.List.{take_all, take_more_set}
 use Rattle.xb_ear.specs.declared.sight.Sight.{Sight}
 use Rattle.xb_ear.specs.declared.hearing.Heard.{Heard}
 use Rattle.xb_ear.specs.Hearings.{hearer, listed}
-use Rattle.xb_ear.specs.Pairs.{seen}
+use Rattle.xb_ear.specs.declared.levels.Levels.{Levels}
+use Rattle.xb_ear.specs.Levels.{levels_of}
+use Rattle.xb_ear.specs.Pairs.{first_pair, mf_pairs, seen}
+use Rattle.xb_ear.specs.Steady.{beside, lessened}
 use Rattle.xb_ear.specs.Receivers.{HasReceived}
 use Rattle.xb_ear.specs.Tails.{strength, without_tail}
 use Rattle.xb_ear.proofs.Taken.{sees_next, taken-more, taken-same}
@@ -22,7 +25,7 @@ returns-then-self-lt-WINDOW c samples keys taken =
     ∙ take_more_set window filled x below in
     let before = subst (λ receiver. HasReceived receiver samples keys) (sym c.self.view_is) taken in
     let few : length (take filled window) + 1 < 80 = omega (arith, length-take filled window, c.self.told, c.if-self-lt-WINDOW.true) in
-    taken-same _ _ samples keys x before few written refl refl
+    taken-same _ _ samples keys x before few written refl refl refl
 
 pub returns : goal.returns
 returns c samples keys taken =
@@ -39,14 +42,19 @@ returns c samples keys taken =
     ∙ take_more_set window filled x below in
     let before = subst (λ receiver. HasReceived receiver samples keys) (sym c.self.view_is) taken in
     let full : length (take filled window) + 1 ≡ 80 = omega (arith, length-take filled window, c.self.told, last) in
-    let sight : c.seen-sight.result ≡ seen (take filled window ++ x ∷ []) =
-    c.seen-sight.ensures.value ∙ ap (λ (zs : List ℤ). seen zs) written in
-    let sees : c.without_tail.result ≡ sees_next held (take filled window) x =
+    let least : ℕ = c.self.inside.least in
+    let levels : c.levels_of-levels.result ≡ levels_of (take filled window ++ x ∷ []) =
+    c.levels_of-levels.ensures.value ∙ ap (λ (zs : List ℤ). levels_of zs) written in
+    let sight : c.seen-sight.result ≡ seen least (take filled window ++ x ∷ []) =
+    c.seen-sight.ensures.value ∙ ap (λ (ls : Levels). first_pair least ls mf_pairs) levels in
+    let sees : c.without_tail.result ≡ sees_next held least (take filled window) x =
     c.without_tail.ensures ∙ ap (λ (s : Option Sight). without_tail held s) sight in
     let recent : take 60 c.shifted-self-inside.result ≡ drop 20 (take filled window ++ x ∷ []) =
     c.shifted-self-inside.ensures ∙ ap (λ (zs : List ℤ). drop 20 zs) written in
     taken-more _ _ samples keys _ x before full recent
     (c.moved_on-self-inside.ensures ∙ ap (λ (h : ℕ). drop 1 held ++ h ∷ []) (c.strength.ensures.value ∙ ap (λ (s : Option Sight). strength s) sight))
+    (c.lessened-self-inside.ensures
+    ∙ ap (λ (n : ℕ). lessened least n) (c.beside.ensures ∙ ap (λ (ls : Levels). beside ls) levels))
     (c.hear-key.ensures.next ∙ ap (λ (s : Option Sight). hearer.next c.self.inside.hearing s) sees)
     (ap (λ (k : Option Heard). listed k) c.hear-key.ensures.key
     ∙ ap (λ (s : Option Sight). hearer.outs c.self.inside.hearing s) sees)
