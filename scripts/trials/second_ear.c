@@ -10,7 +10,7 @@
 
 enum { HOP = 20, WINDOW = 80, TONES = 6, NONE = -1 };
 enum { LEAST_LEVEL = 500 * 500, TWIST = 16, CLEAR = 2, SHARE = 3, SHARE_OF = 5, STEADY = 20, STEADY_WINDOWS = 1024 };
-enum { GAP_WINDOWS = 8, PART_WINDOWS = 5, KEY_WINDOWS = 8, KP_WINDOWS = 18, TAIL_WINDOWS = 60, TAIL_WEAKER = 21 };
+enum { GAP_WINDOWS = 8, PART_WINDOWS = 5, KEY_WINDOWS = 8, KP_WINDOWS = 18, TAIL_WINDOWS = 64, TAIL_ROW = 6, TAIL_WEAKER = 3 };
 
 struct sight { int low, high; int64_t low_level, high_level; };  /* places among the six */
 struct heard { struct sight sight; int64_t first, past; };       /* numbers of windows */
@@ -68,8 +68,11 @@ static int64_t strength(struct sight sight) { return sight.low_level + sight.hig
 static struct sight without_tail(struct sight seen, int64_t at)
 {
     static int64_t before[TAIL_WINDOWS];
-    int is_tail = 0;
-    for (int n = 0; n < TAIL_WINDOWS; n++) is_tail |= TAIL_WEAKER * strength(seen) < before[n];
+    int is_tail = 0, row = 0;
+    for (int n = 0; n < TAIL_WINDOWS; n++) {
+        row = TAIL_WEAKER * strength(seen) < before[(at + n) % TAIL_WINDOWS] ? row + 1 : 0;
+        is_tail |= row >= TAIL_ROW;
+    }
     before[at % TAIL_WINDOWS] = strength(seen);
     return is_tail ? (struct sight) { NONE, NONE, 0, 0 } : seen;
 }

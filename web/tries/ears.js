@@ -6,7 +6,7 @@ const { is } = require('./checks.js');
 const { seeded } = require('./seeds.js');
 
 const MOST_NOISE = 277;
-const FILLED_AT = 592;      // how many samples of its window an ear has
+const FILLED_AT = 624;      // how many samples of its window an ear has
 const NO_EAR = 21;
 const NOT_BEGUN = 3;
 

@@ -55,8 +55,8 @@ pub struct WebEar {
     pub seen: WebSight,
     /// The key that sounds.
     pub sounding: WebHeard,
-    /// What the last 60 windows held: both tones' levels together, of silence 0.
-    pub held: [u64; 60],
+    /// What the last 64 windows held: both tones' levels together, of silence 0.
+    pub held: [u64; 64],
     /// The least power that lay beside the six frequencies of late; 0 before the first window.
     pub least: u64,
     /// How many samples of the next window are there: fewer than 80.

@@ -27,7 +27,7 @@ wrong:u32@572 digit:u32@576 listens:u32@580
 cadence 8 lead:u16@0 kp:u16@2 key:u16@4 gap:u16@6
 sight 24 low_level:u64@0 high_level:u64@8 low:u16@16 high:u16@18 kind:u16@20 value:u16@22
 heard 40 sight:sight@0 first:u64@24 past:u64@32
-ear 760
+ear 792
 ";
 
 const _: () = prove!(size_of::<WebLimits>() == 24);
@@ -58,7 +58,7 @@ const _: () = prove!(size_of::<WebSight>() == 24);
 
 const _: () = prove!(size_of::<WebHeard>() == 40);
 
-const _: () = prove!(size_of::<WebEar>() == 760);
+const _: () = prove!(size_of::<WebEar>() == 792);
 
 const NO_ROOM: u32 = 7;
 

@@ -1,17 +1,16 @@
 -- What tails leave of what windows see: silence stays, and so does a key beside others that are as loud.
-use Rattle.std.proofs.Common.{◌≡◌, ◌∙◌, ℕ, zero, suc, ◌+◌, ◌-◌, ◌*◌, ◌<◌, ◌≤◌, Bool, true, false, ◌||◌, List, map, length, sym, ap, arith, refl, ℤ, Option, Some, None}
-use Rattle.std.specs.Prelude.{if◌then◌else◌, nat_lt}
+use Rattle.std.proofs.Common.{◌≡◌, ◌∙◌, ℕ, zero, suc, ◌+◌, ◌-◌, ◌*◌, ◌<◌, ◌≤◌, Bool, true, false, ◌||◌, List, map, length, sym, ap, subst, arith, refl, ℤ, Option, Some, None, inl, inr, ◌⊎◌}
+use Rattle.std.specs.Prelude.{if◌then◌else◌, nat_le, nat_lt}
 use Rattle.std.specs.List.{range_with_len}
-use Rattle.std.proofs.lemmas.Bool.{false≢true, le-ltb, leb-true, ltb-false}
+use Rattle.std.proofs.lemmas.Bool.{cases_lt, false≢true, le-ltb, leb-true, lt-leb, lt-ltb}
 use Rattle.xb_model.specs.declared.key.Tone.{Tone as Pair}
 use Rattle.xb_ear.specs.declared.sight.Sight.{Sight}
-use Rattle.xb_ear.specs.declared.tails.TheConstants.{TAIL_WEAKER, TAIL_WINDOWS}
-use Rattle.xb_ear.specs.Ears.{held, held_before, sight_at}
+use Rattle.xb_ear.specs.declared.tails.TheConstants.{TAIL_ROW, TAIL_WEAKER, TAIL_WINDOWS}
+use Rattle.xb_ear.specs.Ears.{held, held_before, sight_at, windows_in}
 use Rattle.xb_ear.specs.LongRuns.{label}
-use Rattle.xb_ear.specs.Tails.{is_outdone, is_tail, strength, without_tail}
-use Rattle.xb_ear.proofs.Loudness.{IsLow, MOST_STRENGTH}
+use Rattle.xb_ear.specs.Tails.{is_tail, outdone_from, strength, without_tail}
 use Rattle.xb_ear.proofs.Segments.{sees}
-use Rattle.xb_ear.proofs.Standing.{LEAST_STRENGTH, Sees}
+use Rattle.xb_ear.proofs.Standing.{LEAST_STRENGTH, MOST_STRENGTH, Sees, is_low}
 
 -- where nothing stands out nothing is seen
 none-kept : (before : List ℕ) (s : Option Sight) → label s ≡ None → label (without_tail before s) ≡ None
@@ -24,34 +23,89 @@ none-kept before s none = by (is_tail before s)
 pub sees-silence : (samples : List ℤ) (w : ℕ) → label (sight_at samples w) ≡ None → sees samples w ≡ None
 sees-silence samples w none = none-kept (held_before samples w) (sight_at samples w) none
 
--- no window that is low outdoes a key
-none-outdoes : (f : ℕ → ℕ) (n a : ℕ) → ((k : ℕ) → k < a + n → f k ≤ MOST_STRENGTH) → (s : ℕ) → LEAST_STRENGTH ≤ s
-    → is_outdone (map f (range_with_len a n)) s ≡ false
-none-outdoes f zero a low s strong = refl
-none-outdoes f (suc n) a low s strong =
-    let this : f a ≤ MOST_STRENGTH = low a (omega arith) in
-    ap (λ (b : Bool). b || is_outdone (map f (range_with_len (a + 1) n)) s)
-    (le-ltb (TAIL_WEAKER * s) (f a) (omega (arith, this, strong)))
-    ∙ none-outdoes f n (a + 1) (λ k below. low k (omega (arith, below))) s strong
+-- one of the next windows holds no more than a key does, or there is none
+pub record IsNext (f : ℕ → ℕ) (end k d : ℕ) : Type 0 where
+  pub soon : d ≤ 4
+  pub low : (f (k + d) ≤ MOST_STRENGTH) ⊎ (end ≤ k + d)
 
-strength-low : (s : Option Sight) → IsLow s → strength s ≤ MOST_STRENGTH
+-- where that is so everywhere, nothing outdoes a key
+module _ (f : ℕ → ℕ) (end s : ℕ) (strong : LEAST_STRENGTH ≤ s)
+    (next : (k : ℕ) → (d : ℕ) × IsNext f end k d) where
+  none-outdoes : (n k r d : ℕ) → k + n ≡ end → r + d ≤ 4 → (f (k + d) ≤ MOST_STRENGTH) ⊎ (end ≤ k + d)
+      → outdone_from r (map f (range_with_len k n)) s ≡ false
+  none-outdoes zero k r d all few low = refl
+  none-outdoes (suc n) k r zero all few low = elim low [
+    | inr ends ↦ absurd (omega (arith, ends, all))
+    | inl less ↦
+        let here : k + 0 ≡ k = omega arith in
+        let this : f k ≤ MOST_STRENGTH = subst (λ (i : ℕ). f i ≤ MOST_STRENGTH) here less in
+        let soon = next (k + 1) in
+        ap (λ (b : Bool). if b then nat_le TAIL_ROW (r + 1) || outdone_from (r + 1) (map f (range_with_len (k + 1) n)) s
+        else outdone_from 0 (map f (range_with_len (k + 1) n)) s)
+        (le-ltb (TAIL_WEAKER * s) (f k) (omega (arith, this, strong)))
+        ∙ none-outdoes n (k + 1) 0 soon.0 (omega (arith, all)) (omega (arith, soon.1.soon)) soon.1.low
+  ]
+  none-outdoes (suc n) k r (suc d) all few low =
+      let place : k + suc d ≡ k + 1 + d = omega arith in
+      let same : (f (k + 1 + d) ≤ MOST_STRENGTH) ⊎ (end ≤ k + 1 + d) =
+      subst (λ (i : ℕ). (f i ≤ MOST_STRENGTH) ⊎ (end ≤ i)) place low in
+      by (nat_lt (TAIL_WEAKER * s) (f k))
+      (none-outdoes n (k + 1) (r + 1) d (omega (arith, all)) (omega (arith, few)) same)
+      (none-outdoes n (k + 1) 0 d (omega (arith, all)) (omega (arith, few)) same)
+    where
+      by : (b : Bool) → outdone_from (r + 1) (map f (range_with_len (k + 1) n)) s ≡ false
+          → outdone_from 0 (map f (range_with_len (k + 1) n)) s ≡ false
+          → (if b then nat_le TAIL_ROW (r + 1) || outdone_from (r + 1) (map f (range_with_len (k + 1) n)) s
+          else outdone_from 0 (map f (range_with_len (k + 1) n)) s) ≡ false
+      by true longer new =
+          ap (λ (b : Bool). b || outdone_from (r + 1) (map f (range_with_len (k + 1) n)) s)
+          (lt-leb TAIL_ROW (r + 1) (omega (arith, few)))
+          ∙ longer
+      by false longer new = new
+
+strength-low : (s : Option Sight) → is_low s ≡ true → strength s ≤ MOST_STRENGTH
 strength-low None low = omega arith
-strength-low (Some s) low = low
+strength-low (Some s) low = leb-true _ _ low
 
--- samples of which no window is louder than a key may be
+-- after each window, one of the next four holds no more than a key does, or there is none
+pub record IsSoonLow (samples : List ℤ) (w d : ℕ) : Type 0 where
+  pub soon : d ≤ 4
+  pub low : (is_low (sight_at samples (w + d)) ≡ true) ⊎ (windows_in (length samples) ≤ w + d)
+
 abbrev pub AreLow : List ℤ → Type 0
-AreLow samples = (w : ℕ) → 20 * w + 80 ≤ length samples → IsLow (sight_at samples w)
+AreLow samples = (w : ℕ) → w < windows_in (length samples) → (d : ℕ) × IsSoonLow samples w d
 
-held-low : (samples : List ℤ) → AreLow samples → (w : ℕ) → 20 * w + 80 ≤ length samples → (n : ℕ) → n < w + 60
-    → held samples n ≤ MOST_STRENGTH
-held-low samples low w fits n below = by (nat_lt n TAIL_WINDOWS) refl
-  where
-    by : (b : Bool) → nat_lt n TAIL_WINDOWS ≡ b
-        → (if b then 0 else strength (sight_at samples (n - TAIL_WINDOWS))) ≤ MOST_STRENGTH
-    by true e = omega arith
-    by false e =
-        let past : 60 ≤ n = ltb-false _ _ e in
-        strength-low (sight_at samples (n - TAIL_WINDOWS)) (low (n - TAIL_WINDOWS) (omega (arith, past, below, fits)))
+held-next : (samples : List ℤ) → AreLow samples → (w : ℕ) → w < windows_in (length samples) → (k : ℕ)
+    → (d : ℕ) × IsNext (held samples) (w + TAIL_WINDOWS) k d
+held-next samples low w below k = elim (cases_lt k TAIL_WINDOWS) [
+  | inl early ↦
+      let none : nat_lt (k + 0) TAIL_WINDOWS ≡ true = lt-ltb (k + 0) TAIL_WINDOWS (omega (arith, early)) in
+      let zero-held : held samples (k + 0) ≡ 0 =
+      ap (λ (b : Bool). if b then 0 else strength (sight_at samples (k + 0 - TAIL_WINDOWS))) none in
+      (0, record { soon = omega arith; low = inl (omega (arith, zero-held)) })
+  | inr late ↦ elim (cases_lt (k - TAIL_WINDOWS) (windows_in (length samples))) [
+    | inr past ↦ (0, record { soon = omega arith; low = inr (omega (arith, past, late, below)) })
+    | inl there ↦
+        let soon = low (k - TAIL_WINDOWS) there in
+        let d : ℕ = soon.0 in
+        let far : nat_lt (k + d) TAIL_WINDOWS ≡ false = le-ltb (k + d) TAIL_WINDOWS (omega (arith, late)) in
+        let place : k + d - TAIL_WINDOWS ≡ k - TAIL_WINDOWS + d = omega (arith, late) in
+        let is : held samples (k + d) ≡ strength (sight_at samples (k - TAIL_WINDOWS + d)) =
+        ap (λ (b : Bool). if b then 0 else strength (sight_at samples (k + d - TAIL_WINDOWS))) far
+        ∙ ap (λ (i : ℕ). strength (sight_at samples i)) place in (
+          d,
+          record {
+            soon = soon.1.soon;
+            low = elim soon.1.low [
+              | inl less ↦
+                  inl (subst (λ (h : ℕ). h ≤ MOST_STRENGTH) (sym is)
+                  (strength-low (sight_at samples (k - TAIL_WINDOWS + d)) less))
+              | inr ends ↦ inr (omega (arith, ends, late, below))
+            ];
+          },
+        )
+  ]
+]
 
 kept : (before : List ℕ) (s : Option Sight) → is_tail before s ≡ false → without_tail before s ≡ s
 kept before s = by (is_tail before s)
@@ -70,8 +124,12 @@ sees-key samples low p w fits sees = by (sight_at samples w) refl sees
     by None is none = absurd (cc)
     by (Some s) is shows =
         let strong : LEAST_STRENGTH ≤ s.low + s.high = leb-true _ _ shows.strong in
+        let below : w < windows_in (length samples) = omega (arith, fits) in
+        let next = held-next samples low w below in
+        let first = next w in
         let no : is_tail (held_before samples w) (Some s) ≡ false =
-        none-outdoes (held samples) TAIL_WINDOWS w (held-low samples low w fits) (s.low + s.high) strong in
+        none-outdoes (held samples) (w + TAIL_WINDOWS) (s.low + s.high) strong next TAIL_WINDOWS w 0 first.0 refl
+        (omega (arith, first.1.soon)) first.1.low in
         ap (λ (o : Option Sight). label (without_tail (held_before samples w) o)) is
         ∙ ap (λ (o : Option Sight). label o) (kept (held_before samples w) (Some s) no)
         ∙ shows.pair

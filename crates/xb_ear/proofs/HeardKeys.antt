@@ -30,17 +30,17 @@ use Rattle.xb_ear.proofs.ShownKeys.{shows-key}
 use Rattle.xb_ear.proofs.Steps.{Known, after_all, gives_all, known, pairs-heard, whole, whole-append}
 
 -- silence, as a part
-zeros : (n i : ℕ) → bounded MOST_NOISE (replicate n (pos 0)) ≡ map (λ k. (still k, MOST_NOISE)) (range_with_len i n)
+pub zeros : (n i : ℕ) → bounded MOST_NOISE (replicate n (pos 0)) ≡ map (λ k. (still k, MOST_NOISE)) (range_with_len i n)
 zeros zero i = refl
 zeros (suc n) i = ap (λ (xs : List (ℤ × ℕ)). (pos 0, MOST_NOISE) ∷ xs) (zeros n (i + 1))
 
-more-zeros : (z n : ℕ) → part_of still MOST_NOISE z ++ bounded MOST_NOISE (replicate n (pos 0)) ≡ part_of still MOST_NOISE (z + n)
+pub more-zeros : (z n : ℕ) → part_of still MOST_NOISE z ++ bounded MOST_NOISE (replicate n (pos 0)) ≡ part_of still MOST_NOISE (z + n)
 more-zeros z n =
     ap (λ (xs : List (ℤ × ℕ)). part_of still MOST_NOISE z ++ xs) (zeros n (0 + z))
     ∙ sym (range-split (λ k. (still k, MOST_NOISE)) 0 z n (z + n) refl)
 
 -- how long a part is
-part-long : (f : ℕ → ℤ) (noise m : ℕ) → length (part_of f noise m) ≡ m
+pub part-long : (f : ℕ → ℤ) (noise m : ℕ) → length (part_of f noise m) ≡ m
 part-long f noise m = length-map-range_with_len (λ k. (f k, noise)) 0 m
 
 -- windows up to a place and from it on
@@ -54,7 +54,7 @@ between-split j a b c ab bc =
     ∙ ap (λ (i : ℕ). between j a b ++ map j (range_with_len i (windows_in c - windows_in b))) place
 
 -- how long the tone of a key is
-long-enough : (cadence : Cadence) → IsHearableUnlike cadence → (key : Key) → IsKey key
+pub long-enough : (cadence : Cadence) → IsHearableUnlike cadence → (key : Key) → IsKey key
     → needed_of (Some (mf_pair key)) * 20 + 80 ≤ tone_ms cadence key * 8
 long-enough cadence lawful Kp is = omega (arith, lawful.kp)
 long-enough cadence lawful St is = omega (arith, lawful.key)

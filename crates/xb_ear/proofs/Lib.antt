@@ -12,9 +12,9 @@ pub mod Steps
 pub mod Runs
 pub mod Pauses
 pub mod Segments
-pub mod Loudness
 pub mod Fading
 pub mod HeardKeys
+pub mod SoonLow
 pub mod Received
 pub mod FirstRuns
 pub mod LongRuns

@@ -19,6 +19,9 @@ use Rattle.xb_ear.proofs.Bounds.{IsBelow, at-below, below-uppers, lowers, lowers
 abbrev pub LEAST_STRENGTH : ℕ
 LEAST_STRENGTH = 139000000
 
+abbrev pub MOST_STRENGTH : ℕ
+MOST_STRENGTH = 417000000
+
 -- what the other four frequencies hold
 abbrev pub rest_of : Levels → Pair → ℕ
 rest_of levels q = all_levels levels - (level_at levels q.low + level_at levels q.high)
@@ -48,6 +51,7 @@ shows l u p =
     surely (level_at l p.low) (level_at l p.high) (level_at u p.low) (level_at u p.high) (rest_of u p) u.power
     && list_all (λ q. is_same_pair q p || is_out l u q) mf_pairs
     && nat_le LEAST_STRENGTH (level_at l p.low + level_at l p.high)
+    && nat_le (level_at u p.low + level_at u p.high) MOST_STRENGTH
 
 pub and-both : (b c : Bool) → (b && c) ≡ true → (b ≡ true) × (c ≡ true)
 and-both true c e = (refl, e)
@@ -240,6 +244,29 @@ first-strong k levels p strong (q ∷ ps) is = by (is_pair k levels q) is (λ e.
         ∙ le-leb LEAST_STRENGTH (level_at levels p.low + level_at levels p.high) strong
     by false e rest = rest e
 
+-- nor more than it does by far
+abbrev pub is_low : Option Sight → Bool
+is_low None = true
+is_low (Some s) = nat_le (s.low + s.high) MOST_STRENGTH
+
+first-low : (k : ℕ) (levels : Levels) (p : Pair) → level_at levels p.low + level_at levels p.high ≤ MOST_STRENGTH
+    → (ps : List Pair) → label (first_pair k levels ps) ≡ Some p → is_low (first_pair k levels ps) ≡ true
+first-low k levels p low [] is = refl
+first-low k levels p low (q ∷ ps) is = by (is_pair k levels q) is (λ e. first-low k levels p low ps e)
+  where
+    by : (b : Bool) → label (if b then Some (sight levels q) else first_pair k levels ps) ≡ Some p
+        → (label (first_pair k levels ps) ≡ Some p → is_low (first_pair k levels ps) ≡ true)
+        → is_low (if b then Some (sight levels q) else first_pair k levels ps) ≡ true
+    by true e rest =
+        let same : q ≡ p = cc in
+        ap (λ (r : Pair). nat_le (level_at levels r.low + level_at levels r.high) MOST_STRENGTH) same
+        ∙ le-leb (level_at levels p.low + level_at levels p.high) MOST_STRENGTH low
+    by false e rest = rest e
+
+none-low : (s : Option Sight) → label s ≡ None → is_low s ≡ true
+none-low None is = refl
+none-low (Some s) is = absurd (cc)
+
 pub none-strong : (s : Option Sight) → label s ≡ None → is_strong s ≡ true
 none-strong None is = refl
 none-strong (Some s) is = absurd (cc)
@@ -247,6 +274,7 @@ none-strong (Some s) is = absurd (cc)
 pub record Sees (what : Option Pair) (s : Option Sight) : Type 0 where
   pub pair : label s ≡ what
   pub strong : is_strong s ≡ true
+  pub low : is_low s ≡ true
 
 module _ (k n : ℕ) (clean ys : List ℤ) (long : length clean ≡ 80) (near : IsNear n clean ys) where
   -- a window that is near a clean one of weak levels sees nothing
@@ -254,7 +282,7 @@ module _ (k n : ℕ) (clean ys : List ℤ) (long : length clean ≡ 80) (near : 
   sees-none weak =
       let none : label (seen k ys) ≡ None =
       ap (λ (s : Option Sight). label s) (none-shown k (levels_of ys) (uppers n clean) (below-uppers n clean ys long near) mf_pairs weak) in
-      record { pair = none; strong = none-strong (seen k ys) none }
+      record { pair = none; strong = none-strong (seen k ys) none; low = none-low (seen k ys) none }
 
   -- and one that is near a clean one that surely shows a pair sees that pair
   pub sees-pair : (p : Pair) → list_any (λ q. is_same_pair q p) mf_pairs ≡ true
@@ -263,7 +291,8 @@ module _ (k n : ℕ) (clean ys : List ℤ) (long : length clean ≡ 80) (near : 
       let l = lowers n clean in
       let u = uppers n clean in
       let v = levels_of ys in
-      let parts = and-both _ _ is in
+      let bounds = and-both _ _ is in
+      let parts = and-both _ _ bounds.0 in
       let both = and-both (surely (level_at l p.low) (level_at l p.high) (level_at u p.low) (level_at u p.high) (rest_of u p) u.power)
       (list_all (λ q. is_same_pair q p || is_out l u q) mf_pairs) parts.0 in
       let low = at-below l v (lowers-below n clean ys long near) p.low in
@@ -277,4 +306,8 @@ module _ (k n : ℕ) (clean ys : List ℤ) (long : length clean ≡ 80) (near : 
       one-shown k v l u p (lowers-below n clean ys long near) (below-uppers n clean ys long near) stands mf_pairs (rests-below l v (lowers-below n clean ys long near)) both.1 known in
       let enough : LEAST_STRENGTH ≤ level_at l p.low + level_at l p.high = leb-true _ _ parts.1 in
       let strong : LEAST_STRENGTH ≤ level_at v p.low + level_at v p.high = omega (arith, enough, low, high) in
-      record { pair = pair; strong = first-strong k v p strong mf_pairs pair }
+      let least : level_at u p.low + level_at u p.high ≤ MOST_STRENGTH = leb-true _ _ bounds.1 in
+      let low-most = at-below v u (below-uppers n clean ys long near) p.low in
+      let high-most = at-below v u (below-uppers n clean ys long near) p.high in
+      let most : level_at v p.low + level_at v p.high ≤ MOST_STRENGTH = omega (arith, least, low-most, high-most) in
+      record { pair = pair; strong = first-strong k v p strong mf_pairs pair; low = first-low k v p most mf_pairs pair }

@@ -206,7 +206,7 @@ module _ (c : ℤ) (samples : List ℤ) where
       ap (λ (ls : Levels). first_pair (least_before all w) ls mf_pairs) (levels-at w below)
       ∙ ap (λ (least : ℕ). seen least (window samples w)) (least-raised w (omega (arith, below)))
 
-  held-raised : (n : ℕ) → n < windows_in (length samples) + 60 → held all n ≡ held samples n
+  held-raised : (n : ℕ) → n < windows_in (length samples) + 64 → held all n ≡ held samples n
   held-raised n below = by (nat_lt n TAIL_WINDOWS) refl
     where
       by : (b : Bool) → nat_lt n TAIL_WINDOWS ≡ b
@@ -214,13 +214,13 @@ module _ (c : ℤ) (samples : List ℤ) where
           ≡ (if b then 0 else strength (sight_at samples (n - TAIL_WINDOWS)))
       by true e = refl
       by false e =
-          let past : 60 ≤ n = ltb-false _ _ e in
+          let past : 64 ≤ n = ltb-false _ _ e in
           ap (λ (s : Option Sight). strength s) (sight-raised (n - TAIL_WINDOWS) (omega (arith, past, below)))
 
   seen-raised : (w : ℕ) → w < windows_in (length samples) → seen_at all w ≡ seen_at samples w
   seen-raised w below =
       ap (λ (before : List ℕ). without_tail before (sight_at all w))
-      (map-agrees (held all) (held samples) w 60 (λ n less. held-raised n (omega (arith, less, below))))
+      (map-agrees (held all) (held samples) w 64 (λ n less. held-raised n (omega (arith, less, below))))
       ∙ ap (λ (s : Option Sight). without_tail (held_before samples w) s) (sight-raised w below)
 
   sights-raised : sights all ≡ sights samples

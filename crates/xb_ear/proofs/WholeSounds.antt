@@ -16,15 +16,14 @@ use Rattle.xb_tone.specs.Sounds.{silence, sound_of, tone_sound}
 use Rattle.xb_tone.proofs.HeardMarks.{digits_are_keyed}
 use Rattle.xb_tone.proofs.KeyWaves.{keys_with-pair}
 use Rattle.xb_ear.specs.declared.sight.Sight.{Sight}
-use Rattle.xb_ear.specs.declared.hearing.Heard.{Heard}
 use Rattle.xb_ear.specs.Disturbed.{AreWithin, IsNear, bounded}
-use Rattle.xb_ear.specs.Ears.{heard, seen_at, sights, windows_in}
+use Rattle.xb_ear.specs.Ears.{seen_at, sights, windows_in}
 use Rattle.xb_ear.specs.HeardKeys.{CleanKeysAreHeard, DisturbedKeyingsAreHeard, DisturbedKeysAreHeard, HearsSoFar, IsHearableUnlike, IsHeardAs, MOST_NOISE, MOST_NOISE_IN_TONES, NoisyKeysAreHeard, SilenceIsSilent, UnlikeKeysAreHeard, disturbable, pairs_in, tones_of}
 use Rattle.xb_ear.specs.Hearings.{hearer, silent}
 use Rattle.xb_ear.specs.Receivers.{keys_of_sound}
 use Rattle.xb_ear.proofs.Fading.{sees-silence}
 use Rattle.xb_ear.proofs.HeardKeys.{AreTold, outcome, told-by-gaps, told-by-pairs}
-use Rattle.xb_ear.proofs.Loudness.{sound-low}
+use Rattle.xb_ear.proofs.SoonLow.{sound-low}
 use Rattle.xb_ear.proofs.Received.{nothing-heard, sound-pairs}
 use Rattle.xb_ear.proofs.Runs.{stays}
 use Rattle.xb_ear.proofs.Segments.{all-in-range, between, part_of, range-split, sees, sees-part}
@@ -51,7 +50,7 @@ heard-as : (cadence : Cadence) (marks : List Mark) (samples : List ℤ) → IsHe
     → AreTold (cadence.gap_ms * 8) None (tones_of marks) → AreWithin (disturbable cadence marks) samples
     → IsHeardAs samples marks
 heard-as cadence marks samples lawful keyed told within =
-    let low = sound-low cadence marks samples within in
+    let low = sound-low cadence lawful marks keyed samples within in
     let pairs : pairs_in (keys_of_sound samples) ≡ tones_of marks =
     sound-pairs samples ∙ outcome cadence lawful marks keyed told samples low within in
     record { pairs = pairs; keys = ap (λ (ps : List Pair). flat_map keys_with_pair ps) pairs ∙ keys-of-tones marks keyed }

@@ -56,7 +56,7 @@ sight-early xs ys w below =
     (window-early xs ys w (window-fits (length xs) w (omega (arith, below))))
     ∙ ap (λ (least : ℕ). seen least (window xs w)) (least-early xs ys w (omega (arith, below)))
 
-held-early : (xs ys : List ℤ) (n : ℕ) → n < windows_in (length xs) + 60 → held (xs ++ ys) n ≡ held xs n
+held-early : (xs ys : List ℤ) (n : ℕ) → n < windows_in (length xs) + 64 → held (xs ++ ys) n ≡ held xs n
 held-early xs ys n below = by (nat_lt n TAIL_WINDOWS) refl
   where
     by : (b : Bool) → nat_lt n TAIL_WINDOWS ≡ b
@@ -64,13 +64,13 @@ held-early xs ys n below = by (nat_lt n TAIL_WINDOWS) refl
         ≡ (if b then 0 else strength (sight_at xs (n - TAIL_WINDOWS)))
     by true e = refl
     by false e =
-        let past : 60 ≤ n = ltb-false _ _ e in
+        let past : 64 ≤ n = ltb-false _ _ e in
         ap (λ (s : Option Sight). strength s) (sight-early xs ys (n - TAIL_WINDOWS) (omega (arith, past, below)))
 
 held-before-early : (xs ys : List ℤ) (w : ℕ) → w ≤ windows_in (length xs)
     → held_before (xs ++ ys) w ≡ held_before xs w
 held-before-early xs ys w most =
-    map-agrees (held (xs ++ ys)) (held xs) w 60 (λ n below. held-early xs ys n (omega (arith, below, most)))
+    map-agrees (held (xs ++ ys)) (held xs) w 64 (λ n below. held-early xs ys n (omega (arith, below, most)))
 
 seen-early : (xs ys : List ℤ) (w : ℕ) → w < windows_in (length xs) → seen_at (xs ++ ys) w ≡ seen_at xs w
 seen-early xs ys w below =
@@ -178,11 +178,11 @@ range-moved f a n =
     let one : suc n ≡ n + 1 = omega arith in
     ap (λ (k : ℕ). map f (range_with_len (a + 1) k)) one ∙ map-range_with_len_more f (a + 1) n (a + suc n) (omega arith)
 
-held-last : (xs : List ℤ) (w : ℕ) → held xs (w + 60) ≡ strength (sight_at xs w)
+held-last : (xs : List ℤ) (w : ℕ) → held xs (w + 64) ≡ strength (sight_at xs w)
 held-last xs w =
-    let late : nat_lt (w + 60) TAIL_WINDOWS ≡ false = le-ltb (w + 60) TAIL_WINDOWS (omega arith) in
-    let back : w + 60 - TAIL_WINDOWS ≡ w = omega arith in
-    ap (λ (b : Bool). if b then 0 else strength (sight_at xs (w + 60 - TAIL_WINDOWS))) late
+    let late : nat_lt (w + 64) TAIL_WINDOWS ≡ false = le-ltb (w + 64) TAIL_WINDOWS (omega arith) in
+    let back : w + 64 - TAIL_WINDOWS ≡ w = omega arith in
+    ap (λ (b : Bool). if b then 0 else strength (sight_at xs (w + 64 - TAIL_WINDOWS))) late
     ∙ ap (λ (n : ℕ). strength (sight_at xs n)) back
 
 pub held-more : (xs : List ℤ) (x : ℤ) → length xs + 1 ≡ 20 * windows_in (length xs) + 80
@@ -193,8 +193,8 @@ held-more xs x full =
     let w = windows_in (length xs) in
     let all = xs ++ x ∷ [] in
     ap (λ (n : ℕ). held_before all n) (ap (λ (n : ℕ). windows_in n) (longer xs x) ∙ count-more (length xs) full)
-    ∙ range-moved (held all) w 59
-    ∙ ap (λ (before : List ℕ). drop 1 before ++ held all (w + 60) ∷ []) (held-before-early xs (x ∷ []) w (omega arith))
+    ∙ range-moved (held all) w 63
+    ∙ ap (λ (before : List ℕ). drop 1 before ++ held all (w + 64) ∷ []) (held-before-early xs (x ∷ []) w (omega arith))
     ∙ ap (λ (h : ℕ). drop 1 (held_before xs w) ++ h ∷ [])
     (held-last all w ∙ ap (λ (s : Option Sight). strength s) (sight-more xs x full))
 

@@ -29,11 +29,11 @@ least_before samples (suc w) = lessened (least_before samples w) (beside (levels
 abbrev pub sight_at : List ℤ → ℕ → Option Sight
 sight_at samples w = seen (least_before samples w) (window samples w)
 
--- what windows held, where 60 silent ones stand before the first
+-- what windows held, where 64 silent ones stand before the first
 abbrev pub held : List ℤ → ℕ → ℕ
 held samples n = if nat_lt n TAIL_WINDOWS then 0 else strength (sight_at samples (n - TAIL_WINDOWS))
 
--- what the 60 windows before a window held, which is 150 ms
+-- what the 64 windows before a window held: 160 ms
 abbrev pub held_before : List ℤ → ℕ → List ℕ
 held_before samples w = map (held samples) (range_with_len w TAIL_WINDOWS)
 

@@ -1,11 +1,11 @@
 //! A receiver of MF tones: samples in, one by one, and the keys that sounded in them out, each as it ends. It
-//! takes no memory but its own 80 samples and 61 levels, and counts in whole numbers alone.
+//! takes no memory but its own 80 samples and 65 levels, and counts in whole numbers alone.
 //!
 //! - `Receiver::take`: after one sample more the receiver has given exactly the keys of `heard` of all samples that it
 //!   was given, whatever they are. With what `finish` gives they are `keys_of_sound` of the samples. `Receiver::new`
 //!   has taken none. `parts` and `of_parts`: what one knows, and one that goes on from there. `seen`: the pair that
-//!   stands out in a window, of all or of all but a steady hum; it counts but where it is the tail that a room leaves of
-//!   a key.
+//!   stands out in a window, of all or of all but a steady hum; it counts but where it is the tail that a room or an echo
+//!   leaves of a key.
 //! - `laws::keys_are_long_runs`: what is heard are the runs of windows that see the same and are long enough,
 //!   across holes too, joined. `holes_change_nothing`: fewer than 8 windows in a row that see none change nothing of a
 //!   key that 5 see before them and 5 after. `hears_so_far`: what was given is not taken back, so a stream may be cut
@@ -22,8 +22,8 @@
 //! - `laws::voltages_change_nothing`: a steady voltage that is added to a sound, of any size, changes nothing that is
 //!   heard of it.
 //!
-//! Not said: what is heard of tones of other amplitudes, twisted or detuned, of more noise, hum or 2,600 Hz beside, or in
-//! a room, and what windows across the edges of a hole see; that is measured.
+//! Not said: what is heard of tones of other amplitudes, twisted or detuned, of more noise, hum or 2,600 Hz beside, in a
+//! room or with an echo, and what windows across the edges of a hole see; that is measured.
 #![tactic(auto)]
 
 mod correlation;
@@ -43,4 +43,4 @@ pub use plain::PlainEar;
 pub use receiver::Receiver;
 pub use sight::{CLEAR, LEAST_LEVEL, SHARE, SHARE_OF, STEADY, Sight, TWIST, seen};
 pub use steady::STEADY_WINDOWS;
-pub use tails::{TAIL_WEAKER, TAIL_WINDOWS};
+pub use tails::{TAIL_ROW, TAIL_WEAKER, TAIL_WINDOWS};

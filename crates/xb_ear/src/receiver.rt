@@ -15,7 +15,7 @@ const WINDOW: usize = 80;
 const HOP: usize = 20;
 
 /// A receiver that takes one sample at a time, for as long as they come, and gives the keys but for the tails that a
-/// room leaves of them. It keeps 80 samples, what the last 60 windows held, and the least that lay beside of late.
+/// room leaves of them. It keeps 80 samples, what the last 64 windows held, and the least that lay beside of late.
 #[derive(Drop)]
 pub struct Receiver {
     window: [i16; WINDOW],

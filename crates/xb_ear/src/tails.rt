@@ -5,12 +5,15 @@ ghost use Rattle.xb_ear.specs.Tails.{is_outdone, strength, without_tail};
 
 use crate::sight::Sight;
 
-/// A tail lasts for at most so many windows: 150 ms.
-pub const TAIL_WINDOWS: usize = 60;
+/// A tail is sought in so many windows before it: it lasts for 147 ms at most.
+pub const TAIL_WINDOWS: usize = 64;
 
-/// So many times what a tail holds is less than what its key did: a tail is 13 dB weaker. The keys of a keying are
-/// alike, also where they are disturbed, and what a room leaves of one is weaker by far.
-pub const TAIL_WEAKER: u64 = 21;
+/// So many windows in a row have to outdo a tail: more than lie across an edge, so that one of them lies in the key.
+pub const TAIL_ROW: u64 = 6;
+
+/// So many times what a tail holds is less than what its key did: a tail is 4.8 dB weaker. The keys of a keying are
+/// alike, also where they are disturbed, and what a room or a line leaves of one is weaker.
+pub const TAIL_WEAKER: u64 = 3;
 
 /// What both tones hold that a window sees.
 pub(crate) fn strength(seen: Option<Sight>) -> u64
@@ -24,14 +27,19 @@ pub(crate) fn strength(seen: Option<Sight>) -> u64
     }
 }
 
-// Whether a window before held more than so many times as much.
+// Whether so many windows in a row before held more than so many times as much.
 fn is_outdone(before: &[u64], strength: u64) -> bool
     requires { strength < 2 ^ 41 }
     ensures { result ≡ is_outdone before.now strength }
 {
+    let mut row = 0u64;
     for held in before {
-        if TAIL_WEAKER * strength < *held {
+        if *held <= TAIL_WEAKER * strength {
+            row = 0;
+        } else if TAIL_ROW <= row + 1 {
             return true;
+        } else {
+            row += 1;
         }
     }
     false
