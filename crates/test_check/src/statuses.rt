@@ -73,7 +73,7 @@ deck:10:1: this record is ignored; its line was closed in text line 5: 7,M,1
 
 // A deck that `mfbank` takes, with breaks that may be bounces: not those of 0 and 5 ms, a make, nor an ignored one.
 const BOUNCED: &[u8] =
-    b"---\nline,state,ms\n7,M,4\n7,B,1\n7,B,0\n7,B,5\n\"0009\",B,4\n9,C,0\n9,B,2\n";
+    b"---\nline,state,ms\n7,M,4\n7,B,1\n7,B,0\n7,B,5\n\"0009\",B,4\n9,C,0\n9,B,2\n7,M,600\n";
 
 const BOUNCES: &[u8] =
     b"deck:4:5: a break of 1 to 4 ms may be a bounce; mfloop settles those of a recording: 7,B,1
@@ -84,7 +84,7 @@ deck:7:1: no make of this line is heard, so no number is dialled on it: \"0009\"
 
 // A deck that `mfbank` takes, with lines on which no make is heard, all but 11.
 const QUIET: &[u8] =
-    b"---\nline,state,ms\n7,B,60\n8,C,0\n9,M,0\n7,M,0\n10,C,0\n8,B,1\n10,M,500\n7,B,60\n11,M,1\n";
+    b"---\nline,state,ms\n7,B,60\n8,C,0\n9,M,0\n7,M,0\n10,C,0\n8,B,1\n10,M,500\n7,B,60\n11,M,600\n";
 
 const QUIET_LINES: &[u8] =
     b"deck:8:1: this record is ignored; its line was closed in text line 4: 8,B,1
@@ -95,19 +95,54 @@ deck:5:1: no make of this line is heard, so no number is dialled on it: 9,M,0
 deck:7:1: no make of this line is heard, so no number is dialled on it: 10,C,0
 ";
 
-// Decks that `mfbank` takes, of ten breaks and of nine: in seconds, and in microseconds.
-const SECONDS: &[u8] =
-    b"---\nline,state,ms\n7,M,1\n7,B,0\n7,B,0\n7,B,0\n7,B,0\n7,B,0\n7,B,0\n7,B,0\n7,B,0\n7,B,0\n7,B,0\n";
+// Decks that `mfbank` takes whose times look like seconds: no break lasts, or no line lasts for a pulse of 20 ms and a
+// pause of 180; and one that lasts for these.
+const SECONDS: &[u8] = b"---\nline,state,ms\n7,M,500\n7,B,0\n7,M,1\n7,B,0\n";
 
-const FEW_BREAKS: &[u8] =
-    b"---\nline,state,ms\n7,M,1\n7,B,0\n7,B,0\n7,B,0\n7,B,0\n7,B,0\n7,B,0\n7,B,0\n7,B,0\n7,B,0\n";
+const TOO_SHORT: &[u8] = b"---\nline,state,ms\n7,M,150\n8,M,60\n7,B,49\n8,B,60\n";
 
+const LONG_ENOUGH: &[u8] = b"---\nline,state,ms\n7,M,150\n8,M,60\n7,B,50\n8,B,60\n";
+
+const NO_DIGIT_FITS: &[u8] =
+    b"deck:2:12: no digit fits into the times of the deck; are they seconds?: line,state,ms\n";
+
+// Decks whose times look like microseconds: ten breaks and their makes are as long as pulses in these; or a digit is
+// dialled in them.
 const MICROSECONDS: &[u8] =
     b"---\n\nline,state,ms\n7,M,15000\n7,B,60000\n7,B,60000\n7,B,60000\n7,B,60000\n\
 7,B,60000\n7,B,60000\n7,B,60000\n7,B,60000\n7,B,60000\n7,B,20000\n";
 
-const MISREAD: &[u8] =
-    b"deck:3:12: every time of the deck is at least a thousand times a pulse's; are they microseconds?: line,state,ms\n";
+const ONE_LONG_PULSE: &[u8] = b"---\n\nline,state,ms\n7,M,500000\n7,B,60000\n7,M,600000\n";
+
+const TOO_LONG: &[u8] =
+    b"deck:3:12: the times of the deck look a thousand times too long; has a recording ms for seconds, or are they microseconds?: line,state,ms\n";
+
+// The same of nanoseconds, with a pause in rows of a day.
+const NANOSECONDS: &[u8] =
+    b"---\nline,state,ms\n7,M,86400000\n7,B,60000000\n7,M,86400000\n7,M,86400000\n7,M,86400000\n";
+
+const MUCH_TOO_LONG: &[u8] =
+    b"deck:2:12: the times of the deck look a million times too long; has a recording us for seconds, or are they nanoseconds?: line,state,ms\n";
+
+// Decks of long times that are right: a digit is dialled, and nobody dials but takes up the receiver for half a minute.
+const TALKED: &[u8] = b"---\nline,state,ms\n7,M,500\n7,B,60\n7,M,600000\n7,B,60000\n7,M,600000\n";
+
+const LIFTED: &[u8] =
+    b"---\nline,state,ms\n7,M,30000\n7,B,60000\n7,M,30000\n7,B,60000\n7,M,30000\n";
+
+// A deck of two lines that ring, each five times; and one of nine times, of a receiver that is taken up for 100 ms, and of
+// a digit after a short make.
+const RINGING: &[u8] =
+    b"---\nline,state,ms\n7,M,25\n8,M,99\n7,B,25\n7,M,25\n7,B,4000\n8,B,4000\n7,M,25\n8,M,1\n7,B,4000\n8,B,300\n\
+7,M,25\n8,M,40\n7,B,4000\n8,B,4000\n7,M,25\n8,M,40\n7,B,4000\n8,B,4000\n7,M,25\n8,M,40\n7,B,4000\n";
+
+const RINGS: &[u8] =
+    b"deck:2:1: ten attempts or more begin with a make of under 100 ms and have no digit; if the line rings, see mfloop --seize and --ringing: line,state,ms\n";
+
+const NINE_RINGS: &[u8] =
+    b"---\nline,state,ms\n7,M,25\n8,M,99\n7,B,25\n7,M,25\n7,B,4000\n8,B,4000\n7,M,25\n8,M,1\n7,B,4000\n8,B,300\n\
+7,M,25\n8,M,40\n7,B,4000\n8,B,4000\n7,M,25\n8,M,100\n7,B,4000\n8,B,4000\n7,M,25\n8,M,40\n7,B,4000\n\
+9,M,40\n9,B,60\n9,M,180\n";
 
 // A route table alone, with inline tables.
 const TABLE: &[u8] =
@@ -238,15 +273,16 @@ const CASES: &[(&[&str], &[u8], u8, &[u8], &[u8])] = &[
         b"mfcheck: loop rows: the header is not line,state,ms\n",
     ),
     (&[], QUIET, 0, QUIET_LINES, b""),
-    (
-        &[],
-        SECONDS,
-        0,
-        b"deck:2:12: every break of the deck has 0 ms; are its times seconds?: line,state,ms\n",
-        b"",
-    ),
-    (&[], FEW_BREAKS, 0, b"", b""),
-    (&[], MICROSECONDS, 0, MISREAD, b""),
+    (&[], SECONDS, 0, NO_DIGIT_FITS, b""),
+    (&[], TOO_SHORT, 0, NO_DIGIT_FITS, b""),
+    (&[], LONG_ENOUGH, 0, b"", b""),
+    (&[], ONE_LONG_PULSE, 0, TOO_LONG, b""),
+    (&[], NANOSECONDS, 0, MUCH_TOO_LONG, b""),
+    (&[], TALKED, 0, b"", b""),
+    (&[], LIFTED, 0, b"", b""),
+    (&[], RINGING, 0, RINGS, b""),
+    (&[], NINE_RINGS, 0, b"", b""),
+    (&[], MICROSECONDS, 0, TOO_LONG, b""),
     (
         &[],
         TABLE,

@@ -2,8 +2,8 @@
 use Rattle.std.specs.Prelude.{ℕ, nat_eq, ◌||◌, ◌&&◌, not, List, codes, Bool, false, Option, Some, None}
 use Rattle.std.specs.List.{list_all, list_any, starts_with}
 use Rattle.xb_text.specs.Pieces.{cut_at}
-use Rattle.xb_check.specs.Table.{is_bare, is_heading, squeezed}
-use Rattle.xb_check.specs.TextLines.{text_lines}
+use Rattle.xb_keys.specs.Table.{is_bare, is_heading, squeezed}
+use Rattle.xb_findings.specs.TextLines.{text_lines}
 
 -- a text line that no table has: it begins as the line that cuts a deck, or as the header
 abbrev pub is_of_deck : List ℕ → Bool

@@ -1,31 +1,51 @@
 -- What is suspicious in a deck that is taken, beside what its text lines have by themselves.
-use Rattle.std.specs.Prelude.{ℕ, List, [], if◌then◌else◌, Option, Some, None}
+use Rattle.std.specs.Prelude.{ℕ, List, [], ◌++◌, Bool, if◌then◌else◌, Option, Some, None}
 use Rattle.std.specs.List.{flat_map}
 use Rattle.xb_deck.specs.Contents.{Contents}
-use Rattle.xb_check.specs.declared.finding.What.{What}
-use Rattle.xb_check.specs.declared.finding.What.TheVariants as what
-use Rattle.xb_check.specs.declared.kept.LineKind.{LineKind}
-use Rattle.xb_check.specs.declared.kept.LineKind.TheVariants as kind
-use Rattle.xb_check.specs.Activities.{Does, activities, is_quiet_line}
-use Rattle.xb_check.specs.Findings.{Found}
-use Rattle.xb_check.specs.Kept.{Kept, kept_of_deck}
-use Rattle.xb_check.specs.Records.{found_at}
-use Rattle.xb_check.specs.Table.{with_meant}
-use Rattle.xb_check.specs.Units.{wrong_unit}
+use Rattle.xb_doubts.specs.declared.units.Unit.{Unit}
+use Rattle.xb_doubts.specs.declared.units.Unit.TheVariants as unit
+use Rattle.xb_doubts.specs.Activities.{Does, activities, is_quiet_line}
+use Rattle.xb_doubts.specs.Ringing.{is_ringing}
+use Rattle.xb_doubts.specs.Units.{wrong_unit}
+use Rattle.xb_findings.specs.declared.finding.What.{What}
+use Rattle.xb_findings.specs.declared.finding.What.TheVariants as what
+use Rattle.xb_findings.specs.declared.kept.LineKind.{LineKind}
+use Rattle.xb_findings.specs.declared.kept.LineKind.TheVariants as kind
+use Rattle.xb_findings.specs.Findings.{Found, with_meant}
+use Rattle.xb_findings.specs.Kept.{Kept, kept_of_deck}
+use Rattle.xb_findings.specs.Records.{found_at}
 
--- what is suspicious at a text line, by what it is: beside the header the unit of the times is told, and at its
--- first record a line that has no attempt
-abbrev pub doubt_of : Option What → Does → ℕ → List ℕ → LineKind → List Found
-doubt_of unit does n text kind.Header = found_at n text (with_meant unit None)
-doubt_of unit does n text (kind.First line) =
+-- of which other unit the times look
+abbrev pub what_of_unit : Option Unit → Option What
+what_of_unit None = None
+what_of_unit (Some unit.Seconds) = Some what.Seconds
+what_of_unit (Some unit.Microseconds) = Some what.Microseconds
+what_of_unit (Some unit.Nanoseconds) = Some what.Nanoseconds
+
+-- whether its lines ring
+abbrev pub what_of_ringing : Bool → Option What
+what_of_ringing rings = if rings then Some what.Ringing else None
+
+-- what is suspicious in all rows together
+abbrev pub doubts_of_rows : Option Unit → Bool → ℕ → List ℕ → List Found
+doubts_of_rows other rings n text =
+    found_at n text (with_meant (what_of_unit other) None) ++ found_at n text (with_meant (what_of_ringing rings) None)
+
+-- what is suspicious at a text line, by what it is: beside the header the unit of the times is told and that lines ring,
+-- and at its first record a line that has no attempt
+abbrev pub doubt_of : Option Unit → Bool → Does → ℕ → List ℕ → LineKind → List Found
+doubt_of other rings does n text kind.Header = doubts_of_rows other rings n text
+doubt_of other rings does n text (kind.First line) =
     if is_quiet_line does line then found_at n text (Some (what.Quiet, None)) else []
 
-abbrev pub doubt_at : Option What → Does → Kept → List Found
-doubt_at unit does kept = doubt_of unit does kept.n kept.text kept.kind
+abbrev pub doubt_at : Option Unit → Bool → Does → Kept → List Found
+doubt_at other rings does kept = doubt_of other rings does kept.n kept.text kept.kind
 
 -- what is suspicious in a deck with these contents, at these text lines
 abbrev pub doubts_in : Contents → List Kept → List Found
-doubts_in contents kept = flat_map (doubt_at (wrong_unit contents.table.limits contents.rows) (activities contents.rows)) kept
+doubts_in contents kept =
+    let limits = contents.table.limits in
+    flat_map (doubt_at (wrong_unit limits contents.rows) (is_ringing limits contents.rows) (activities contents.rows)) kept
 
 -- what is suspicious in a deck with these contents
 abbrev pub doubts_of : Contents → List ℕ → List Found

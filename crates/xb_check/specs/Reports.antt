@@ -9,13 +9,13 @@ use Rattle.xb_text.specs.Writing.{AppendsBeginning}
 use Rattle.xb_check.specs.declared.fault.CheckFault.{CheckFault}
 use Rattle.xb_check.specs.declared.fault.CheckFault.TheVariants as fault
 use Rattle.xb_check.specs.declared.reporting.TheConstants.{MOST_SHOWN_BYTES}
-use Rattle.xb_check.specs.DeckFaults.{faults_of_deck}
+use Rattle.xb_findings.specs.DeckFaults.{faults_of_deck}
 use Rattle.xb_check.specs.Doubts.{doubts_of}
-use Rattle.xb_check.specs.declared.finding.What.{What}
-use Rattle.xb_check.specs.Findings.{Found, kind_text, note_text, what_text}
+use Rattle.xb_findings.specs.declared.finding.What.{What}
+use Rattle.xb_findings.specs.Findings.{Found, kind_text, note_text, what_text}
 use Rattle.xb_check.specs.Judged.{IsVerdict, judged}
-use Rattle.xb_check.specs.Sites.{told_of_fault}
-use Rattle.xb_check.specs.Told.{each_kind, kind_of, told, untold}
+use Rattle.xb_findings.specs.Sites.{told_of_fault}
+use Rattle.xb_findings.specs.Told.{each_kind, kind_of, told, untold}
 use Rattle.xb_deck.specs.Contents.{Contents}
 
 -- a byte as it is shown: what is not printable ASCII is a question mark

@@ -2,13 +2,13 @@
 ghost use Rattle.std.specs.Prelude.{◌≡◌, IfOk};
 ghost use Rattle.std.specs.List.{list_any};
 ghost use Rattle.xb_check.specs.Alone.{is_bare_key, is_of_deck, is_of_table, is_table};
-ghost use Rattle.xb_check.specs.Table.{squeezed};
-ghost use Rattle.xb_check.specs.TextLines.{text_lines};
+ghost use Rattle.xb_keys.specs.Table.{squeezed};
+ghost use Rattle.xb_findings.specs.TextLines.{text_lines};
 ghost use Rattle.xb_text.specs.Pieces.{cut_at};
 
-use crate::table::{is_bare, is_heading, squeezed};
-use crate::text_lines::first_line;
 use std::alloc::{AllocError, Global};
+use xb_findings::first_line;
+use xb_keys::{is_bare, is_heading, squeezed};
 use xb_text::cut_at;
 
 // Whether a text line is one that no table has.

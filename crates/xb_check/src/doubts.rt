@@ -1,32 +1,66 @@
 // What is suspicious in a deck that is taken, beside what its text lines have by themselves.
 ghost use Rattle.std.specs.Prelude.{◌≡◌, OnOk, map};
 ghost use Rattle.std.specs.List.{flat_map};
-ghost use Rattle.xb_check.specs.Activities.{activities_of};
-ghost use Rattle.xb_check.specs.Doubts.{doubt_at, doubts_in};
-ghost use Rattle.xb_check.specs.Kept.{kept_line_of};
-ghost use Rattle.xb_check.specs.Tallies.{tallied, with_all};
+ghost use Rattle.xb_check.specs.Doubts.{doubt_at, doubts_in, doubts_of_rows, what_of_ringing, what_of_unit};
+ghost use Rattle.xb_doubts.specs.Activities.{activities_of};
+ghost use Rattle.xb_findings.specs.Kept.{kept_line_of};
+ghost use Rattle.xb_findings.specs.Tallies.{tallied, with_all};
 
-use crate::activities::Activities;
-use crate::finding::What;
 use crate::judging::Contents;
-use crate::kept::{KeptLine, LineKind};
-use crate::records::{push_found, without_key};
-use crate::tally::Tally;
-use crate::units::wrong_unit;
 use std::alloc::{AllocError, Global};
+use xb_doubts::{Activities, Unit, Whole, whole_of};
+use xb_findings::{KeptLine, LineKind, Tally, What, push_found, without_key};
+
+// Of which other unit the times look.
+fn what_of_unit(unit: Option<Unit>) -> Option<What>
+    ensures { result ≡ what_of_unit unit }
+{
+    match unit {
+        None => None,
+        Some(Unit::Seconds) => Some(What::Seconds),
+        Some(Unit::Microseconds) => Some(What::Microseconds),
+        Some(Unit::Nanoseconds) => Some(What::Nanoseconds),
+    }
+}
+
+// Whether its lines ring.
+fn what_of_ringing(rings: bool) -> Option<What>
+    ensures { result ≡ what_of_ringing rings }
+{
+    if rings { Some(What::Ringing) } else { None }
+}
+
+// Puts what is suspicious in all rows together after what was found.
+fn push_whole<'a>(
+    tally: &mut Tally<'a>,
+    whole: Whole,
+    n: usize,
+    text: &'a [u8],
+) -> Result<(), AllocError>
+    ensures { OnOk result (tallied tally.new ≡ with_all (tallied tally.old)
+        (doubts_of_rows whole.unit whole.is_ringing n text.now)) }
+{
+    push_found(tally, n, text, without_key(what_of_unit(whole.unit)))?;
+    push_found(
+        tally,
+        n,
+        text,
+        without_key(what_of_ringing(whole.is_ringing)),
+    )
+}
 
 // Puts what is suspicious at a text line after what was found.
 fn push_doubt<'a>(
     tally: &mut Tally<'a>,
-    unit: Option<What>,
+    whole: Whole,
     lines: &Activities,
     kept: KeptLine<'a>,
 ) -> Result<(), AllocError>
     ensures { OnOk result (tallied tally.new ≡ with_all (tallied tally.old)
-        (doubt_at unit (activities_of lines.now) (kept_line_of kept.entry))) }
+        (doubt_at whole.unit whole.is_ringing (activities_of lines.now) (kept_line_of kept.entry))) }
 {
     match kept.kind {
-        LineKind::Header => push_found(tally, kept.n, kept.text, without_key(unit)),
+        LineKind::Header => push_whole(tally, whole, kept.n, kept.text),
         LineKind::First(number) => {
             if lines.is_quiet(number) {
                 push_found(tally, kept.n, kept.text, Some((What::Quiet, None)))
@@ -40,15 +74,15 @@ fn push_doubt<'a>(
 // Puts what is suspicious at text lines after what was found.
 fn push_each<'a>(
     tally: &mut Tally<'a>,
-    unit: Option<What>,
+    whole: Whole,
     lines: &Activities,
     kept: &[KeptLine<'a>],
 ) -> Result<(), AllocError>
     ensures { OnOk result (tallied tally.new ≡ with_all (tallied tally.old)
-        (flat_map (doubt_at unit (activities_of lines.now)) (map kept_line_of kept.now))) }
+        (flat_map (doubt_at whole.unit whole.is_ringing (activities_of lines.now)) (map kept_line_of kept.now))) }
 {
     for line in kept {
-        push_doubt(tally, unit, lines, *line)?;
+        push_doubt(tally, whole, lines, *line)?;
     }
     Ok(())
 }
@@ -63,7 +97,7 @@ pub(crate) fn push_doubts<'a>(
     ensures { OnOk result (tallied tally.new ≡ with_all (tallied tally.old)
         (doubts_in contents.now (map kept_line_of kept.now))) }
 {
-    let unit = wrong_unit(&contents.limits(), contents.rows());
+    let whole = whole_of(alloc, contents.limits(), contents.rows())?;
     let lines = Activities::of_rows(alloc, contents.rows())?;
-    push_each(tally, unit, &lines, kept)
+    push_each(tally, whole, &lines, kept)
 }

@@ -2,8 +2,7 @@
 ghost use Rattle.xb_check.specs.Constants.{AreConstants};
 ghost use Rattle.xb_check.specs.Program.{UsageNamesTheOptions};
 
-/// The most bytes of a text line that are shown, the most of a kind that are told and are counted, the kinds, the least
-/// breaks by which times are judged, and the least ms of a run that is no bounce, each as it is.
+/// The most bytes of a text line that are shown, as it is.
 pub fn constants()
     ensures { AreConstants }
 {}

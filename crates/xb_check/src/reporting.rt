@@ -2,24 +2,20 @@
 ghost use Rattle.std.specs.Prelude.{◌≡◌, ◌≤◌, ◌++◌, IfOk, OnOk, Some, length, map, string_bytes, take};
 ghost use Rattle.xb_deck.specs.declared.deck.TheConstants.{MOST_DECK_BYTES};
 ghost use Rattle.std.specs.List.{flat_map};
-ghost use Rattle.xb_check.specs.declared.finding.What.TheVariants as what;
-ghost use Rattle.xb_check.specs.Findings.{closed_text, found_of, meant_text, note_text};
+ghost use Rattle.xb_findings.specs.declared.finding.What.TheVariants as what;
+ghost use Rattle.xb_findings.specs.Findings.{closed_text, found_of, meant_text, note_text};
 ghost use Rattle.xb_check.specs.Judged.{judged};
-ghost use Rattle.xb_check.specs.Kept.{kept_of_deck, kept_line_of};
+ghost use Rattle.xb_findings.specs.Kept.{kept_of_deck, kept_line_of};
 ghost use Rattle.xb_check.specs.Reports.{count_words, found_text, more_text, more_words, place_text, report_text, shown, told_of, visible};
-ghost use Rattle.xb_check.specs.Tallies.{tallied, untold_of, with_all};
+ghost use Rattle.xb_findings.specs.Tallies.{tallied, untold_of, with_all};
 ghost use Rattle.xb_check.specs.TallyTexts.{more_of, text_of_tally};
 
 use crate::doubts::push_doubts;
-use crate::finding::{Finding, What};
 use crate::judging::Contents;
-use crate::kept::KeptLine;
-use crate::key::Key;
-use crate::lines::{LinesRead, read_lines};
-use crate::sites::push_fault;
-use crate::tally::{EACH_KIND, Tally};
 use std::alloc::{AllocError, Global};
 use xb_deck::DeckFault;
+use xb_findings::{EACH_KIND, Finding, KeptLine, LinesRead, Tally, What, push_fault, read_lines};
+use xb_keys::Key;
 
 /// The most bytes of a text line that are shown beside what is wrong with it.
 pub const MOST_SHOWN_BYTES: usize = 60;
@@ -244,7 +240,7 @@ fn push_told<'a>(
 
 /// What is told of a text in a file of this name, of which this was judged: what is wrong with its text lines, in
 /// order, and then what is told of it as a whole; all, or the first of each kind with the number of the others.
-#[tactic(auto, using(crate::proofs::Tellings::report_is))]
+#[tactic(auto, using(crate::proofs::ReportTexts::report_is))]
 pub(crate) fn report(
     alloc: Global,
     name: &str,

@@ -2,7 +2,7 @@ use Rattle.std.proofs.Common.{◌≡◌, length}
 use Rattle.std.specs.List.{list_any}
 use Rattle.std.specs.Prelude.{option_copied}
 use Rattle.xb_check.specs.Alone.{is_of_deck}
-use Rattle.xb_check.specs.TextLines.{lines_left, text_lines}
+use Rattle.xb_findings.specs.TextLines.{lines_left, text_lines}
 use Rattle.xb_check.proofs.alone.has_line_of_deck.Given as goal
 
 abbrev pub invariant-loop-left : goal.invariant-loop-left

@@ -2,8 +2,8 @@ use Rattle.std.proofs.Common.{◌≡◌, length}
 use Rattle.std.specs.List.{list_any}
 use Rattle.std.specs.Prelude.{option_copied}
 use Rattle.xb_check.specs.Alone.{is_of_table}
-use Rattle.xb_check.specs.Table.{squeezed}
-use Rattle.xb_check.specs.TextLines.{lines_left, text_lines}
+use Rattle.xb_keys.specs.Table.{squeezed}
+use Rattle.xb_findings.specs.TextLines.{lines_left, text_lines}
 use Rattle.xb_check.proofs.alone.has_line_of_table.Given as goal
 
 abbrev pub invariant-loop-left : goal.invariant-loop-left

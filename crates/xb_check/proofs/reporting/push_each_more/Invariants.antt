@@ -1,6 +1,6 @@
 use Rattle.std.proofs.Common.{◌≡◌, ◌++◌, drop}
 use Rattle.std.specs.List.{flat_map}
-use Rattle.xb_check.specs.Tallies.{tallied}
+use Rattle.xb_findings.specs.Tallies.{tallied}
 use Rattle.xb_check.specs.TallyTexts.{more_of}
 use Rattle.xb_check.proofs.reporting.push_each_more.Given as goal
 

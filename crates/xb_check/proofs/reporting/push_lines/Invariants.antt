@@ -1,6 +1,6 @@
 use Rattle.std.proofs.Common.{◌≡◌, ◌++◌, map, drop}
 use Rattle.std.specs.List.{flat_map}
-use Rattle.xb_check.specs.Findings.{found_of}
+use Rattle.xb_findings.specs.Findings.{found_of}
 use Rattle.xb_check.specs.Reports.{found_text}
 use Rattle.xb_check.proofs.reporting.push_lines.Given as goal
 

@@ -1,11 +1,11 @@
 use Rattle.std.proofs.Common.{◌≡◌, ◌∙◌, ◌++◌, ℕ, List, map, ap, append_assoc, Result, Ok, Err}
 use Rattle.std.specs.Prelude.{OnOk}
 use Rattle.std.specs.List.{flat_map}
-use Rattle.xb_check.specs.Findings.{found_of}
+use Rattle.xb_findings.specs.Findings.{found_of}
 use Rattle.xb_check.specs.Reports.{found_text}
-use Rattle.xb_check.specs.Tallies.{tallied}
+use Rattle.xb_findings.specs.Tallies.{tallied}
 use Rattle.xb_check.specs.TallyTexts.{more_of, text_of_tally}
-use Rattle.xb_check.specs.Told.{each_kind}
+use Rattle.xb_findings.specs.Told.{each_kind}
 use Rattle.xb_check.proofs.reporting.push_tally.Goals as goal
 
 on_ok : {T E : Type 0} (result : Result T E) (P Q : Type 0) → (P → Q) → OnOk result P → OnOk result Q

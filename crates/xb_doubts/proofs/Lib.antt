@@ -1,0 +1,5 @@
+mod RowActivities
+mod Tails
+mod RowStories
+mod HeardLines
+mod PartRows

@@ -1,0 +1,13 @@
+pub mod Activities
+pub mod RowSteps
+pub mod Runs
+pub mod Attempts
+pub mod Ringing
+pub mod Trains
+pub mod Counted
+pub mod Tails
+pub mod Stories
+pub mod Parts
+pub mod Heard
+pub mod Units
+pub mod Constants

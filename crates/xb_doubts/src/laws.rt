@@ -1,0 +1,8 @@
+//! What the definitions give: each law is the contract of a function that does nothing.
+ghost use Rattle.xb_doubts.specs.Constants.{AreConstants};
+
+/// The least attempts that are told as ringing, the ms under which a make is ringing's, and the least breaks by which
+/// times are judged that dial nothing, each as it is.
+pub fn constants()
+    ensures { AreConstants }
+{}

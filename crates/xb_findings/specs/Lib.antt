@@ -1,0 +1,13 @@
+pub mod Constants
+pub mod Findings
+pub mod Told
+pub mod Tallies
+pub mod TextLines
+pub mod Places
+pub mod Records
+pub mod Separators
+pub mod DeckFaults
+pub mod NearCuts
+pub mod Sites
+pub mod Kept
+pub mod Steps

@@ -1,0 +1,130 @@
+-- Which place of a text its fault is about.
+use Rattle.std.specs.Prelude.{ℕ, ◌+◌, ◌==◌, ◌&&◌, List, [], ◌∷◌, Bool, true, false, if◌then◌else◌, nat_lt, is_some, Option, Some, None}
+use Rattle.xb_deck.specs.declared.fault.DeckFault.{DeckFault}
+use Rattle.xb_deck.specs.declared.fault.DeckFault.TheVariants as deck_fault
+use Rattle.xb_routes.specs.LimitFaults.{limit_fault}
+use Rattle.xb_routes.specs.declared.fault.LimitFault.{LimitFault}
+use Rattle.xb_routes.specs.declared.fault.LimitFault.TheVariants as broken
+use Rattle.xb_routes.specs.declared.fault.RouteFault.{RouteFault}
+use Rattle.xb_routes.specs.declared.fault.RouteFault.TheVariants as fault
+use Rattle.xb_findings.specs.declared.finding.What.TheVariants as what
+use Rattle.xb_keys.specs.declared.key.Key.{Key}
+use Rattle.xb_keys.specs.declared.key.Key.TheVariants as key
+use Rattle.xb_keys.specs.declared.spots.Mark.{Mark}
+use Rattle.xb_keys.specs.declared.spots.Mark.TheVariants as mark
+use Rattle.xb_keys.specs.declared.spots.Spot.{Spot}
+use Rattle.xb_keys.specs.declared.table.Section.{Section}
+use Rattle.xb_keys.specs.declared.table.Section.TheVariants as section
+use Rattle.xb_findings.specs.Findings.{Found}
+use Rattle.xb_keys.specs.Keys.{key_named, key_text}
+use Rattle.xb_findings.specs.NearCuts.{near_cuts}
+use Rattle.xb_findings.specs.Places.{found_there, table_of}
+use Rattle.xb_keys.specs.Spots.{spots_of}
+use Rattle.xb_findings.specs.TextLines.{text_lines}
+
+-- the limits that a rule of limits is about
+abbrev pub limits_about : LimitFault → List Key
+limits_about broken.NotTable = key.Limits ∷ []
+limits_about broken.PulseMin = key.PulseMin ∷ []
+limits_about broken.PulseMax = key.PulseMax ∷ []
+limits_about broken.MakeMin = key.MakeMin ∷ []
+limits_about broken.Pause = key.Pause ∷ []
+limits_about broken.Release = key.Release ∷ []
+limits_about broken.Timeout = key.Timeout ∷ []
+limits_about broken.PulseMinOverPulseMax = key.PulseMin ∷ key.PulseMax ∷ []
+limits_about broken.PulseMaxNotUnderRelease = key.PulseMax ∷ key.Release ∷ []
+limits_about broken.MakeMinOverPause = key.MakeMin ∷ key.Pause ∷ []
+limits_about broken.PauseNotUnderTimeout = key.Pause ∷ key.Timeout ∷ []
+
+abbrev pub limits_of_rule : Option LimitFault → List Key
+limits_of_rule None = []
+limits_of_rule (Some rule) = limits_about rule
+
+-- the keys that a fault is about; where it is about none, it is about the heading of its route
+abbrev pub keys_about : RouteFault → List Key
+keys_about fault.NotToml = []
+keys_about fault.Plan = key.Plan ∷ []
+keys_about (fault.Limits n) = limits_of_rule (limit_fault n)
+keys_about fault.TooMany = []
+keys_about (fault.Shape n) = if n == 0 then key.Route ∷ [] else []
+keys_about (fault.Code n) = key.Code ∷ []
+keys_about (fault.Trunk n) = key.Trunk ∷ []
+keys_about (fault.Delete n) = key.Delete ∷ []
+keys_about (fault.Prefix n) = key.Prefix ∷ []
+keys_about (fault.NothingToKey n) = key.Delete ∷ []
+keys_about (fault.Twice n) = key.Code ∷ []
+keys_about fault.NoMemory = []
+
+-- the route that a fault is about, the first being 1; 0 where it is about none
+abbrev pub route_about : RouteFault → ℕ
+route_about fault.NotToml = 0
+route_about fault.Plan = 0
+route_about (fault.Limits n) = 0
+route_about fault.TooMany = 1001
+route_about (fault.Shape n) = n
+route_about (fault.Code n) = n
+route_about (fault.Trunk n) = n
+route_about (fault.Delete n) = n
+route_about (fault.Prefix n) = n
+route_about (fault.NothingToKey n) = n
+route_about (fault.Twice n) = n
+route_about fault.NoMemory = 0
+
+-- the route that a text line of a section stands in, after this many headings of routes; 0 in another section
+abbrev pub route_here : Section → ℕ → ℕ
+route_here section.Route routes = routes
+route_here section routes = 0
+
+abbrev pub is_none : List Key → Bool
+is_none [] = true
+is_none (k ∷ keys) = false
+
+-- whether a fault is about the heading of a route: it is about none of its keys
+abbrev pub is_about_heading : RouteFault → ℕ → Bool
+is_about_heading f route = is_none (keys_about f) && nat_lt 0 route && route == route_about f
+
+-- whether it is about a key
+abbrev pub is_about_key : RouteFault → Key → ℕ → Bool
+is_about_key f k route = is_some (key_named (key_text k) (keys_about f)) && route == route_about f
+
+abbrev pub is_not_toml : RouteFault → Bool
+is_not_toml fault.NotToml = true
+is_not_toml f = false
+
+-- whether it is about a spot of a section and a route
+abbrev pub is_about : RouteFault → ℕ → Mark → Bool
+is_about f route mark.Heading = is_about_heading f route
+is_about f route (mark.Named k) = is_about_key f k route
+is_about f route (mark.Unnamed near) = false
+is_about f route mark.Broken = is_not_toml f
+
+-- how many routes there are after a spot, which stands in a section
+abbrev pub routes_after : Section → ℕ → Mark → ℕ
+routes_after here routes mark.Heading = routes + route_here here 1
+routes_after here routes (mark.Named k) = routes
+routes_after here routes (mark.Unnamed near) = routes
+routes_after here routes mark.Broken = routes
+
+-- the first of these spots that a fault is about, after this many routes
+abbrev pub first_about : RouteFault → ℕ → List Spot → Option Spot
+first_about f routes [] = None
+first_about f routes (spot ∷ spots) =
+    let count = routes_after spot.section routes spot.mark in
+    if is_about f (route_here spot.section count) spot.mark then Some spot else first_about f count spots
+
+abbrev pub listed : List ℕ → RouteFault → Option Spot → List Found
+listed deck f None = []
+listed deck f (Some spot) = found_there deck spot.at (what.Routes f, None) ∷ []
+
+-- what is told of a fault of the route table of a deck: the first spot that it is about
+abbrev pub told_of_table : RouteFault → List ℕ → List Found
+told_of_table f deck = listed deck f (first_about f 0 (spots_of (table_of deck)))
+
+-- what is told of the fault by which a text is refused: where no line cuts it, the text lines that are nearly such a line
+abbrev pub told_of_fault : DeckFault → List ℕ → List Found
+told_of_fault deck_fault.Read deck = []
+told_of_fault deck_fault.TooLong deck = []
+told_of_fault deck_fault.NoCut deck = near_cuts 1 (text_lines deck)
+told_of_fault (deck_fault.Routes f) deck = told_of_table f deck
+told_of_fault (deck_fault.Rows f) deck = []
+told_of_fault deck_fault.NoMemory deck = []

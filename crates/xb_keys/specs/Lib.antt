@@ -1,0 +1,4 @@
+pub mod Keys
+pub mod Table
+pub mod Spots
+pub mod Walks

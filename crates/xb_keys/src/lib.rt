@@ -1,0 +1,19 @@
+//! The keys and headings of a route table, whether or not it is TOML throughout.
+//!
+//! - `spots_of`: each key and heading that a walk over the table meets, with where it stands (`spots_of`,
+//!   `specs/Spots.antt`). The walk reads keys, texts and scalars as TOML has them, and goes on in the next text line after
+//!   what is none.
+//! - `Section`, `Key`: the sections of a table, and the keys that rules name in them (`keys_of`, `specs/Keys.antt`). A key
+//!   that no rule names has the key of its section that one edit makes of it, or else two (`nearest`).
+//! - `is_heading`, `is_bare`, `squeezed`: a text line of a table by itself (`specs/Table.antt`).
+#![tactic(auto)]
+
+mod key;
+mod spots;
+mod table;
+mod walk;
+
+pub use key::{Key, key_named};
+pub use spots::{Mark, Spot};
+pub use table::{Section, is_bare, is_blank, is_heading, squeezed, without_mark};
+pub use walk::spots_of;
