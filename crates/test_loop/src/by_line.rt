@@ -12,9 +12,7 @@ const CASES: &[Case<'static>] = &[
     },
     // what a line does not say of itself, the command says
     Case {
-        words: &[
-            "--settle", "0", "--line", "7=1,settle=5", "--line", "8=2",
-        ],
+        words: &["--settle", "0", "--line", "7=1,settle=5", "--line", "8=2"],
         recording: b"0,0,0\n0.100,1,1\n0.103,0,0\n0.200,0,0\n",
         rows: b"line,state,ms\n8,B,100\n8,M,3\n7,B,200\n8,B,97\n",
         told: b"",
@@ -29,7 +27,10 @@ const CASES: &[Case<'static>] = &[
     // all three at once, in another order; 4294967295 ms are the most
     Case {
         words: &[
-            "--line", "7=1,seize=150,inverted,settle=4", "--line", "8=2,settle=4294967295",
+            "--line",
+            "7=1,seize=150,inverted,settle=4",
+            "--line",
+            "8=2,settle=4294967295",
         ],
         recording: b"0,1,0\n1.000,0,1\n1.004,1,0\n2.000,0,0\n2.150,1,0\n2.500,1,0\n",
         rows: b"line,state,ms\n7,B,2000\n7,M,150\n7,B,350\n8,B,2500\n",

@@ -13,6 +13,8 @@ mod forms;
 #[cfg(test)]
 mod refusals;
 #[cfg(test)]
+mod ringing;
+#[cfg(test)]
 mod samples;
 #[cfg(test)]
 mod seizing;

@@ -5,9 +5,10 @@ use std::test::Fail;
 use test_kit::{Halting, Short, words_of};
 use xb_loop::attend;
 
-const USAGE: &[u8] = b"mfloop: usage: mfloop --line N=WIRE[,inverted][,settle=MS][,seize=MS]... [--table FILE] \
-[--format vcd|sigrok|saleae|edges|gpiomon|bits|bits16|s16|wav] [--rate HZ] [--settle MS] [--seize MS] [--tick MS] \
-[--threshold PERCENT] [--inverted] [--said]\n";
+const USAGE: &[u8] =
+    b"mfloop: usage: mfloop --line N=WIRE[,inverted][,settle=MS][,seize=MS][,ringing]... \
+[--table FILE] [--format vcd|sigrok|saleae|edges|gpiomon|bits|bits16|s16|wav] [--rate HZ] [--settle MS] \
+[--seize MS] [--ringing] [--tick MS] [--threshold PERCENT] [--inverted] [--said]\n";
 
 const WORDS: &[&str] = &["--line", "7=1"];
 
@@ -38,6 +39,10 @@ const REFUSED: &[&[&str]] = &[
     &["--line", "7=1,settle=5,settle=5"],
     &["--line", "7=1,seize=150,settle=5,seize=150"],
     &["--line", "7=,inverted"],
+    &["--line", "7=1,ringing,ringing"],
+    // a make of a period of ringing would seize
+    &["--line", "7=1", "--ringing", "--seize", "65"],
+    &["--line", "7=1,seize=0,ringing"],
     &["--line", "7=1", "--format", "csv"],
     &["--line", "7=1", "--threshold", "0"],
     &["--line", "7=1", "--threshold", "100"],

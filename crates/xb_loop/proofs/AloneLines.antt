@@ -10,7 +10,7 @@ use Rattle.clap.specs.Simple.{matches_of}
 use Rattle.xb_recording.specs.Says.{names_in}
 use Rattle.xb_loop.specs.Rules.{command_of_words}
 use Rattle.xb_loop.specs.declared.manner.AskedLine.{AskedLine}
-use Rattle.xb_loop.specs.declared.manner.Manner.{Manner}
+use Rattle.xb_loop.specs.declared.own.Own.{Own}
 use Rattle.xb_loop.specs.Options.{is_among, lone_words, plain_words, wire_added, wire_of, wires_after}
 use Rattle.xb_loop.specs.WireRecords.{numbers_asked}
 use Rattle.xb_loop.specs.RecordingLaws.{AsksForEachOnce}
@@ -96,25 +96,25 @@ apart_added wires all (Some wire) e apart = by (is_among wire.0.number wires.0) 
         let lines : wires.0 ++ wire.0 ∷ [] ≡ all.0 = cc in
         subst StandApart lines (stand_apart_then wires.0 wire.0 there apart)
 
-module _ (manner : Manner) where
+module _ (said : Own) where
   abbrev StayApart : List Text → Type 0
   StayApart words =
-      (wires all : List AskedLine × List Text) → wires_after manner wires words ≡ Some all → StandApart wires.0
+      (wires all : List AskedLine × List Text) → wires_after said wires words ≡ Some all → StandApart wires.0
       → StandApart all.0
 
   apart_next :
       (word : Text) (words : List Text) → StayApart words → (wires all : List AskedLine × List Text)
-      (added : Option (List AskedLine × List Text)) → wire_added manner wires word ≡ added
-      → option_and_then (λ more. wires_after manner more words) added ≡ Some all → StandApart wires.0 → StandApart all.0
+      (added : Option (List AskedLine × List Text)) → wire_added said wires word ≡ added
+      → option_and_then (λ more. wires_after said more words) added ≡ Some all → StandApart wires.0 → StandApart all.0
   apart_next word words later wires all None is e apart = cc
   apart_next word words later wires all (Some more) is e apart =
-      later more all e (apart_added wires more (wire_of manner word) is apart)
+      later more all e (apart_added wires more (wire_of said word) is apart)
 
   apart_after : (words : List Text) → StayApart words
   apart_after [] wires all e apart =
       (let is : wires ≡ all = cc in subst (λ (w : List AskedLine × List Text). StandApart w.0) is apart)
   apart_after (word ∷ words) wires all e apart =
-      apart_next word words (apart_after words) wires all (wire_added manner wires word) refl e apart
+      apart_next word words (apart_after words) wires all (wire_added said wires word) refl e apart
 
 pub asks_for_each_once : AsksForEachOnce
 asks_for_each_once words request asks wire asked at other there =

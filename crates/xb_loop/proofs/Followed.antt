@@ -17,18 +17,20 @@ use Rattle.xb_contact.specs.declared.settling.Phase.TheVariants.{Settled, Unsett
 use Rattle.xb_contact.specs.Holds.{hold_of, same_level}
 use Rattle.xb_contact.specs.Listening.{Heard, all_told, given_now, heard_after, heard_of, now_of, told_of}
 use Rattle.xb_contact.specs.Machine.{given_by, phase_after, reach, step, step_of, stretch_of, take, unsettled}
+use Rattle.xb_contact.specs.Ringing.{Ringing, all_rung, piece_rung, rung_past}
 use Rattle.xb_contact.specs.Seizing.{all_passed}
 use Rattle.xb_contact.proofs.Seized.{piece_passes}
 use Rattle.xb_loop.specs.declared.manner.AskedLine.{AskedLine}
 use Rattle.xb_loop.specs.declared.manner.Common.{Common}
 use Rattle.xb_loop.specs.declared.manner.Manner.{Manner}
 use Rattle.xb_loop.specs.declared.tally.Bounces.{Bounces}
-use Rattle.xb_loop.specs.Contacts.{Followed, given_until, held_until, hold_to}
+use Rattle.xb_loop.specs.Contacts.{Followed, given_until, held_until, hold_to, piece_until}
 use Rattle.xb_loop.specs.BounceLines.{bounces_heard}
 use Rattle.xb_loop.specs.RowsOfHolds.{written_rows}
 use Rattle.xb_loop.specs.Tallies.{tally_at_end}
 use Rattle.xb_loop.specs.Watching.{Watch, Watched, all_held, begun_contact, begun_watched, certain_rows, event_rows, heard_event, level_heard, level_seen, line_held, line_left, line_rows, rows_of_events, watch_after, watched_of, wire_changed}
 use Rattle.xb_loop.specs.WireRecords.{GivesEachRecord, IsAlone, WireRecord, bounces_at, bounces_of_record, holds_from, numbers_asked, record_from, rows_of_record}
+use Rattle.xb_loop.proofs.PassedTexts.{piece_rings}
 use Rattle.xb_loop.proofs.WireRows.{changed-here, changed-there, left-own, numbers-changed, numbers-held, numbers_of, one_given, rows_of-append, rows_until-own, written-append}
 
 -- a line of this number, listened to in this manner
@@ -134,7 +136,12 @@ module _ (common : Common) (manner : Manner) (wire line : ℕ) where
 
   -- a contact is followed
   abbrev heard_rows : Followed → List Hold → List LoopRow
-  heard_rows contact holds = written_rows line (all_passed contact.seizing (all_told contact.heard holds))
+  heard_rows contact holds =
+      written_rows line (all_passed contact.seizing (all_rung contact.ringing (all_told contact.heard holds)))
+
+  abbrev rung_later : Followed → ℕ → List Hold → List Hold
+  rung_later contact tick holds =
+      all_rung (held_until contact tick).ringing (all_told (held_until contact tick).heard holds)
 
   abbrev heard_bounces : Followed → List Hold → Option Bounces
   heard_bounces contact holds = Some (tally_at_end contact.tally holds).bounces
@@ -152,9 +159,11 @@ module _ (common : Common) (manner : Manner) (wire line : ℕ) where
       (written_rows line (given_until contact tick) ++ heard_rows (held_until contact tick) holds)
       (heard_rows contact (hold_to contact tick ∷ holds)) (heard_bounces (held_until contact tick) holds)
       (sym (written-append line (given_until contact tick)
-      (all_passed (held_until contact tick).seizing (all_told (held_until contact tick).heard holds)))
-      ∙ sym (ap (written_rows line) (piece_passes contact.seizing (given_now contact.heard (hold_to contact tick))
-      (all_told (held_until contact tick).heard holds)))) c)
+      (all_passed (held_until contact tick).seizing (rung_later contact tick holds)))
+      ∙ sym (ap (written_rows line) (piece_passes contact.seizing (piece_rung contact.ringing (piece_until contact tick))
+      (rung_later contact tick holds)))
+      ∙ sym (ap (λ them. written_rows line (all_passed contact.seizing them)) (piece_rings contact.ringing
+      (piece_until contact tick) (all_told (held_until contact tick).heard holds)))) c)
 
   abbrev Follows : List Event → Type 0
   Follows said =

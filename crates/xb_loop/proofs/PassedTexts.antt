@@ -1,14 +1,37 @@
 -- The texts of what is given of a line.
-use Rattle.std.proofs.Common.{◌≡◌, ℕ, List, [], ◌++◌, Option, ap, sym, ◌∙◌, append-nil, append_assoc}
+use Rattle.std.proofs.Common.{◌≡◌, ℕ, List, [], ◌++◌, Option, Some, None, refl, ap, sym, ◌∙◌, append-nil, append_assoc}
 use Rattle.std.specs.List.{flat_map}
 use Rattle.std.proofs.lemmas.Grind.{flat_map-append}
 use Rattle.xb_rows.specs.WrittenRows.{record_text}
 use Rattle.xb_contact.specs.declared.hold.Hold.{Hold}
 use Rattle.xb_contact.specs.Machine.{pieces_of}
+use Rattle.xb_contact.specs.Ringing.{Ringing, all_rung, piece_rung, rung_past}
 use Rattle.xb_contact.specs.Seizing.{Seizing, all_passed, line_past, piece_passed, withheld}
 use Rattle.xb_contact.proofs.Seized.{piece_passes}
 use Rattle.xb_loop.specs.RowsOfHolds.{written_rows}
 use Rattle.xb_loop.proofs.WireRows.{written-append}
+
+-- what is given of a piece, and then of what comes later
+pub piece_rings :
+    (line : Ringing) (piece : Option Hold) (later : List Hold)
+    → all_rung line (pieces_of piece ++ later) ≡ pieces_of (piece_rung line piece) ++ all_rung (rung_past line piece) later
+piece_rings line None later = refl
+piece_rings line (Some hold) later = refl
+
+last_rings : (line : Ringing) (piece : Option Hold) → pieces_of (piece_rung line piece) ≡ all_rung line (pieces_of piece)
+last_rings line None = refl
+last_rings line (Some hold) = refl
+
+-- of two pieces
+pub both_rung :
+    (line next : Ringing) (first last : Option Hold) (told : List Hold) → pieces_of first ++ pieces_of last ≡ told
+    → next ≡ rung_past line first
+    → pieces_of (piece_rung line first) ++ pieces_of (piece_rung next last) ≡ all_rung line told
+both_rung line next first last told is past =
+    ap (λ n. pieces_of (piece_rung line first) ++ pieces_of (piece_rung n last)) past
+    ∙ ap (λ them. pieces_of (piece_rung line first) ++ them) (last_rings (rung_past line first) last)
+    ∙ sym (piece_rings line first (pieces_of last))
+    ∙ ap (all_rung line) is
 
 -- the text of holds
 abbrev pub text : ℕ → List Hold → List ℕ

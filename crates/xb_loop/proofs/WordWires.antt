@@ -5,7 +5,7 @@ use Rattle.std.specs.Prelude.{option_and_then, if◌then◌else◌}
 use Rattle.std.specs.Borrow.{Bor}
 use Rattle.clap.specs.Walk.{Text}
 use Rattle.xb_loop.specs.declared.manner.AskedLine.{AskedLine}
-use Rattle.xb_loop.specs.declared.manner.Manner.{Manner}
+use Rattle.xb_loop.specs.declared.own.Own.{Own}
 use Rattle.xb_loop.specs.Options.{is_among, wire_added, wire_of}
 
 abbrev pub now_of : List (Bor Text) → List Text
@@ -13,7 +13,7 @@ now_of names = map (λ (name : Bor Text). name.now) names
 
 -- a word that is a wire: its line is among them, or it is added
 pub with-wire :
-    (all : Manner) (lines : List AskedLine) (names : List Text) (word : Text) (line : AskedLine) (name : Text) (taken : Bool)
+    (all : Own) (lines : List AskedLine) (names : List Text) (word : Text) (line : AskedLine) (name : Text) (taken : Bool)
     → wire_of all word ≡ Some (line, name) → is_among line.number lines ≡ taken
     → wire_added all (lines, names) word ≡ (if taken then None else Some (lines ++ line ∷ [], names ++ name ∷ []))
 with-wire all lines names word line name taken is there =
@@ -22,7 +22,7 @@ with-wire all lines names word line name taken is there =
     ∙ ap (λ t. if t then None else Some (lines ++ line ∷ [], names ++ name ∷ [])) there
 
 pub wire-added :
-    (all : Manner) (lines more : List AskedLine) (names further : List (Bor Text)) (word : Text) (line : AskedLine)
+    (all : Own) (lines more : List AskedLine) (names further : List (Bor Text)) (word : Text) (line : AskedLine)
     (name : Bor Text) → wire_of all word ≡ Some (line, name.now) → is_among line.number lines ≡ false
     → more ≡ lines ++ line ∷ [] → further ≡ names ++ name ∷ []
     → wire_added all (lines, now_of names) word ≡ Some (more, now_of further)

@@ -1,25 +1,27 @@
 -- A contact that is followed through a recording.
-use Rattle.std.specs.Prelude.{ℕ, ◌-◌, ◌≤◌, List}
+use Rattle.std.specs.Prelude.{ℕ, ◌-◌, ◌≤◌, List, Option}
 use Rattle.xb_contact.specs.declared.level.Level.{Level}
 use Rattle.xb_contact.specs.declared.hold.Hold.{Hold}
 use Rattle.xb_contact.specs.Holds.{hold_of}
 use Rattle.xb_contact.specs.Listening.{Heard, CanTake, given_now, heard_after, now_of, told_at_end}
+use Rattle.xb_contact.specs.Ringing.{Ringing, all_rung, piece_rung, rung_past}
 use Rattle.xb_contact.specs.Seizing.{Seizing, all_passed, line_past, piece_passed}
 use Rattle.xb_loop.specs.declared.tally.Tally.{Tally}
 use Rattle.xb_loop.specs.Tallies.{tally_after}
 
--- what is heard of it so far, how it is watched for seizures, the tick of its first level, its level, and what was
+-- what is heard of it so far, how it is watched for ringing and for seizures, the tick of its first level, its level, and what was
 -- counted of its short runs
 pub record Followed : Type 0 where
   pub heard : Heard
+  pub ringing : Ringing
   pub seizing : Seizing
   pub start : ℕ
   pub level : Level
   pub tally : Tally
 
-abbrev pub followed_of : Heard → Seizing → ℕ → Level → Tally → Followed
-followed_of heard seizing start level tally =
-    record { heard = heard; seizing = seizing; start = start; level = level; tally = tally }
+abbrev pub followed_of : Heard → Ringing → Seizing → ℕ → Level → Tally → Followed
+followed_of heard ringing seizing start level tally =
+    record { heard = heard; ringing = ringing; seizing = seizing; start = start; level = level; tally = tally }
 
 -- it may hold its level up to a tick
 abbrev pub CanHold : Followed → ℕ → Type 0
@@ -30,17 +32,21 @@ abbrev pub hold_to : Followed → ℕ → Hold
 hold_to contact tick = hold_of contact.level (tick - contact.start - now_of contact.heard)
 
 -- what it gives, and what is known then
+abbrev pub piece_until : Followed → ℕ → Option Hold
+piece_until contact tick = given_now contact.heard (hold_to contact tick)
+
 abbrev pub given_until : Followed → ℕ → List Hold
-given_until contact tick = piece_passed contact.seizing (given_now contact.heard (hold_to contact tick))
+given_until contact tick = piece_passed contact.seizing (piece_rung contact.ringing (piece_until contact tick))
 
 abbrev pub held_until : Followed → ℕ → Followed
 held_until contact tick =
     record contact {
       heard = heard_after contact.heard (hold_to contact tick);
-      seizing = line_past contact.seizing (given_now contact.heard (hold_to contact tick));
+      ringing = rung_past contact.ringing (piece_until contact tick);
+      seizing = line_past contact.seizing (piece_rung contact.ringing (piece_until contact tick));
       tally = tally_after contact.tally (hold_to contact tick);
     }
 
 -- what is left to be given where the recording ends
 abbrev pub left_at_end : Followed → List Hold
-left_at_end contact = all_passed contact.seizing (told_at_end contact.heard)
+left_at_end contact = all_passed contact.seizing (all_rung contact.ringing (told_at_end contact.heard))

@@ -12,12 +12,13 @@ use Rattle.xb_recording.specs.Says.{names_in}
 use Rattle.xb_model.specs.Fields.{line_of}
 use Rattle.xb_model.specs.LawfulLimits.{standard_limits}
 use Rattle.xb_loop.specs.declared.request.Request.{Request}
-use Rattle.xb_loop.specs.declared.words.TheConstants.{SEIZE_MS, SETTLE_MS, THRESHOLD_PERCENT}
+use Rattle.xb_loop.specs.declared.own.Own.{Own}
+use Rattle.xb_loop.specs.declared.words.TheConstants.{THRESHOLD_PERCENT}
 use Rattle.xb_loop.specs.declared.words.Wires.{Wires}
 use Rattle.xb_text.specs.Pieces.{pieces}
 use Rattle.xb_loop.specs.declared.manner.AskedLine.{AskedLine}
 use Rattle.xb_loop.specs.declared.manner.Manner.{Manner}
-use Rattle.xb_loop.specs.OwnWords.{manner_with, no_own, own_after}
+use Rattle.xb_loop.specs.OwnWords.{manner_of, no_own, own_after, own_or}
 use Rattle.xb_loop.specs.Rules.{command_of_words}
 
 -- the words without each `--line`, after which the wire of a line stands
@@ -25,21 +26,22 @@ abbrev pub plain_words : List Text → List Text
 plain_words words = filter (λ word. not (bytes_eq word (codes "--line"))) words
 
 -- a line, the name of its wire, which ends at the first comma, and what the line says of itself in words after commas;
--- of the rest it is as all are
+-- what it does not say is as of all. None for a line whose ringing is not told
 abbrev pub asked_line : ℕ → Manner → AskedLine
 asked_line number manner = record { number = number; manner = manner }
 
-abbrev pub wire_by : Manner → ℕ → List Text → Option (AskedLine × Text)
+abbrev pub wire_by : Own → ℕ → List Text → Option (AskedLine × Text)
 wire_by all number [] = None
 wire_by all number (name ∷ words) =
     if length name == 0 then None
-    else option_map (λ own. (asked_line number (manner_with all own), name)) (own_after no_own words)
+    else option_map (λ manner. (asked_line number manner, name))
+    (option_and_then (λ own. manner_of (own_or own all)) (own_after no_own words))
 
 -- a line, written as in a record, and its wire, as `7=D0` or `7=D0,inverted,settle=8`
-abbrev pub wire_from : Manner → Text → Text → Option (AskedLine × Text)
+abbrev pub wire_from : Own → Text → Text → Option (AskedLine × Text)
 wire_from all number text = option_and_then (λ line. wire_by all line (pieces 44 text)) (line_of number)
 
-abbrev pub wire_of : Manner → Text → Option (AskedLine × Text)
+abbrev pub wire_of : Own → Text → Option (AskedLine × Text)
 wire_of all word = wire_from all (before_first (λ byte. byte == 61) word) (after_first (λ byte. byte == 61) word)
 
 -- whether a line is among lines
@@ -48,12 +50,12 @@ is_among number lines = list_any (λ line. line.number == number) lines
 
 -- the lines that are named and the names of their wires, in one order, after a word more; None where it is no wire, or
 -- its line is among them
-abbrev pub wire_added : Manner → List AskedLine × List Text → Text → Option (List AskedLine × List Text)
+abbrev pub wire_added : Own → List AskedLine × List Text → Text → Option (List AskedLine × List Text)
 wire_added all wires word =
     option_and_then (λ wire. if is_among wire.0.number wires.0 then None
     else Some (wires.0 ++ wire.0 ∷ [], wires.1 ++ wire.1 ∷ [])) (wire_of all word)
 
-abbrev pub wires_after : Manner → List AskedLine × List Text → List Text → Option (List AskedLine × List Text)
+abbrev pub wires_after : Own → List AskedLine × List Text → List Text → Option (List AskedLine × List Text)
 wires_after all wires [] = Some wires
 wires_after all wires (word ∷ words) =
     option_and_then (λ more. wires_after all more words) (wire_added all wires word)
@@ -78,10 +80,11 @@ lone_words rows = unwrap_or (all_of (codes "line") rows) []
 abbrev pub ReadsOr : Option Text → ℕ → ℕ → Type 0
 ReadsOr text standard number = (given : Option ℕ) × ReadsNumber text given × (number ≡ unwrap_or given standard)
 
--- how the lines are listened to that say nothing of themselves
-pub record IsForAll (rows : List Row) (all : Manner) : Type 0 where
-  pub settle : ReadsOr (given_by rows (codes "settle")) SETTLE_MS all.settle_ms
-  pub seize : ReadsOr (given_by rows (codes "seize")) SEIZE_MS all.seize_ms
+-- what is said of all lines
+pub record IsForAll (rows : List Row) (all : Own) : Type 0 where
+  pub settle : ReadsNumber (given_by rows (codes "settle")) all.settle_ms
+  pub seize : ReadsNumber (given_by rows (codes "seize")) all.seize_ms
+  pub ringing : ReadsFlag (given_by rows (codes "ringing")) all.ringing
   pub inverted : ReadsFlag (given_by rows (codes "inverted")) all.inverted
 
 -- what clap matched says this
@@ -93,7 +96,7 @@ pub record Say (rows : List Row) (request : Request) : Type 0 where
   pub tick : ReadsOr (given_by rows (codes "tick")) (2 ^ 32 - 1) request.common.most_ms
   pub threshold : ReadsOr (given_by rows (codes "threshold")) THRESHOLD_PERCENT request.wanted.threshold.percent
   pub said : ReadsFlag (given_by rows (codes "said")) request.said
-  pub all : Manner
+  pub all : Own
   pub for_all : IsForAll rows all
   pub wires : wires_after all ([], []) (lone_words rows) ≡ Some (request.lines.items, names_in request.wanted)
 
@@ -103,7 +106,7 @@ abbrev pub SayNothing : List Row → Type 0
 SayNothing rows =
     (form_named (first_of (codes "format") rows) ≡ None)
     ⊎ (((percent : ℕ) × ReadsOr (given_by rows (codes "threshold")) THRESHOLD_PERCENT percent × (IsPercent percent → ⊥))
-    ⊎ ((all : Manner) × IsForAll rows all × (wires_after all ([], []) (lone_words rows) ≡ None)))
+    ⊎ ((all : Own) × IsForAll rows all × (wires_after all ([], []) (lone_words rows) ≡ None)))
 
 -- clap takes plain words, and they ask for this
 abbrev pub AsksPlainly : List Text → Request → Type 0

@@ -21,9 +21,9 @@ program = codes "mfloop"
 -- the line for words that are refused
 abbrev pub usage_line : List ℕ
 usage_line =
-    codes "mfloop: usage: mfloop --line N=WIRE[,inverted][,settle=MS][,seize=MS]... [--table FILE] "
+    codes "mfloop: usage: mfloop --line N=WIRE[,inverted][,settle=MS][,seize=MS][,ringing]... [--table FILE] "
     ++ codes "[--format vcd|sigrok|saleae|edges|gpiomon|bits|bits16|s16|wav] [--rate HZ] [--settle MS] [--seize MS] "
-    ++ codes "[--tick MS] [--threshold PERCENT] [--inverted] [--said]\n"
+    ++ codes "[--ringing] [--tick MS] [--threshold PERCENT] [--inverted] [--said]\n"
 
 -- what is asked for, where so long a break releases a line
 abbrev pub with_release : Request → ℕ → Request

@@ -1,5 +1,5 @@
 -- From a recording to what the chain hears of it, and the tape that it makes.
-use Rattle.std.specs.Prelude.{◌≡◌, ◌^◌, ◌<◌, ℕ, List, Some, slice_get, true}
+use Rattle.std.specs.Prelude.{◌≡◌, ◌^◌, ◌<◌, ℕ, List, [], Some, slice_get, false, true}
 use Rattle.clap.specs.Walk.{Text}
 use Rattle.xb_model.specs.Records.{joined, record_of}
 use Rattle.xb_model.specs.Rows.{LoopRow}
@@ -7,6 +7,8 @@ use Rattle.xb_contact.specs.declared.event.Event.{Event}
 use Rattle.xb_contact.specs.Bounces.{AllBounceWithin, Disturbed, clean, recorded}
 use Rattle.xb_contact.specs.declared.hold.Hold.{Hold}
 use Rattle.xb_contact.specs.Holds.{IsAlternating, runs_of, total_of}
+use Rattle.xb_contact.specs.Nights.{AreParts, Part, night_left, night_runs}
+use Rattle.xb_contact.specs.Rings.{answered}
 use Rattle.xb_contact.specs.Seizures.{all_seize, seized}
 use Rattle.xb_contact.specs.Settled.{settled}
 use Rattle.xb_contact.specs.Times.{rounded}
@@ -18,7 +20,7 @@ use Rattle.xb_loop.specs.Options.{Asks}
 use Rattle.xb_loop.specs.RowsOfHolds.{rows_of_holds, runs_of_holds}
 use Rattle.xb_loop.specs.Tallies.{bounces_in}
 use Rattle.xb_loop.specs.TapeLaws.{MakeOneTape}
-use Rattle.xb_loop.specs.Watching.{begun_watch, least_ticks, release_of, rows_of_events, watch_after}
+use Rattle.xb_loop.specs.Watching.{begun_watch, least_ticks, release_of, rows_of_events, wait_of, watch_after}
 use Rattle.xb_loop.specs.WireRecords.{IsAlone, WireRecord, bounces_at, numbers_asked, record_of_wire}
 
 -- a recording of wires, each of one line, has this record of a wire, in ticks that last
@@ -37,9 +39,11 @@ rows_written common lines said = rows_of_events (begun_watch common lines) said
 abbrev pub least_of_record : Manner → WireRecord → ℕ
 least_of_record manner has = least_ticks has.scale manner.settle_ms
 
--- the runs of holds in ms of which makes on hook that are too short to seize are breaks
+-- the runs of holds in ms of which calls that answer ringing are breaks, where that is asked for, and makes on hook that
+-- are too short to seize
 abbrev pub seized_runs : Manner → Common → List Hold → List Hold
-seized_runs manner common holds = seized manner.seize_ms (release_of common) holds
+seized_runs manner common holds =
+    seized manner.seize_ms (release_of common) (answered (wait_of manner) manner.seize_ms (release_of common) holds)
 
 -- of them the chain hears the settled record of the contact, in ms, of which these makes are breaks
 abbrev pub HearsTheRecording : Type 0
@@ -68,12 +72,12 @@ KeepsTheTapeOfRecordings =
     → MakeOneTape asked.number (rows_written common lines said)
     (rows_of_holds asked.number (seized_runs asked.manner common (rounded has.scale 0 (clean runs))))
 
--- and so that of the clean one as it is, where each make on hook lasts long enough
+-- and so that of the clean one as it is, where no ringing is asked for and each make on hook lasts long enough
 abbrev pub KeepsTheTapeOfSeizures : Type 0
 KeepsTheTapeOfSeizures =
     (common : Common) (lines : List AskedLine) (wire : ℕ) (asked : AskedLine) (said : List Event) (has : WireRecord)
     (bounce : ℕ) (runs : List Disturbed) → IsDisturbed lines wire asked said has bounce runs
-    → all_seize asked.manner.seize_ms (release_of common) 0 (runs_of (rounded has.scale 0 (clean runs))) ≡ true
+    → asked.manner.ringing ≡ false → all_seize asked.manner.seize_ms (release_of common) 0 (runs_of (rounded has.scale 0 (clean runs))) ≡ true
     → MakeOneTape asked.number (rows_written common lines said)
     (rows_of_holds asked.number (rounded has.scale 0 (clean runs)))
 
@@ -82,9 +86,20 @@ abbrev pub KeepsTheTapeUnlessAsked : Type 0
 KeepsTheTapeUnlessAsked =
     (common : Common) (lines : List AskedLine) (wire : ℕ) (asked : AskedLine) (said : List Event) (has : WireRecord)
     (bounce : ℕ) (runs : List Disturbed) → IsDisturbed lines wire asked said has bounce runs
-    → asked.manner.seize_ms ≡ 0
+    → asked.manner.ringing ≡ false → asked.manner.seize_ms ≡ 0
     → MakeOneTape asked.number (rows_written common lines said)
     (rows_of_holds asked.number (rounded has.scale 0 (clean runs)))
+
+-- of a night, of which the clean record is ringing, calls that answer it and calls of the line's own, it makes the tape
+-- of these alone (`night_left`)
+abbrev pub KeepsTheTapeOfNights : Type 0
+KeepsTheTapeOfNights =
+    (common : Common) (lines : List AskedLine) (wire : ℕ) (asked : AskedLine) (said : List Event) (has : WireRecord)
+    (bounce : ℕ) (runs : List Disturbed) (parts : List Part) → IsDisturbed lines wire asked said has bounce runs
+    → runs_of (rounded has.scale 0 (clean runs)) ≡ night_runs parts
+    → AreParts asked.manner.seize_ms (release_of common) parts
+    → MakeOneTape asked.number (rows_written common lines said)
+    (rows_of_holds asked.number (night_left (wait_of asked.manner) [] parts))
 
 -- exactly its short runs are told
 abbrev pub TellsTheShortRuns : Type 0

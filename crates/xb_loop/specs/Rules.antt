@@ -14,6 +14,7 @@ options =
     ∷ (codes "rate", takes.Number)
     ∷ (codes "settle", takes.Number)
     ∷ (codes "seize", takes.Number)
+    ∷ (codes "ringing", takes.Nothing)
     ∷ (codes "tick", takes.Number)
     ∷ (codes "threshold", takes.Number)
     ∷ (codes "inverted", takes.Nothing)
@@ -21,7 +22,7 @@ options =
     ∷ (codes "line", takes.AllThatFollow)
     ∷ []
 
--- `mfloop [--table FILE] [--format FORM] [--rate HZ] [--settle MS] [--seize MS] [--tick MS] [--threshold PERCENT]
+-- `mfloop [--table FILE] [--format FORM] [--rate HZ] [--settle MS] [--seize MS] [--ringing] [--tick MS] [--threshold PERCENT]
 -- [--inverted] [--said] N=WIRE..`
 abbrev pub command_of_words : App
 command_of_words = command_of (codes "mfloop") options

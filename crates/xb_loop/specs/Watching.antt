@@ -14,6 +14,8 @@ use Rattle.xb_loop.specs.declared.manner.Manner.{Manner}
 use Rattle.xb_loop.specs.declared.lines.TheConstants.{MOST_GAP_MS}
 use Rattle.xb_contact.specs.declared.scale.Scale.{Scale}
 use Rattle.xb_contact.specs.Listening.{begun_at}
+use Rattle.xb_contact.specs.declared.ringer.TheConstants.{ANSWER_MS}
+use Rattle.xb_contact.specs.Ringing.{Ringing, begun_ringing}
 use Rattle.xb_contact.specs.Seizing.{Seizing, begun_seizing}
 use Rattle.xb_contact.specs.Times.{CanCount}
 use Rattle.xb_loop.specs.Contacts.{Followed, CanHold, followed_of, given_until, held_until, left_at_end}
@@ -74,15 +76,22 @@ least_ticks scale ms = max 1 ((ms * scale.ticks + (scale.ms - 1)) / scale.ms)
 abbrev pub release_of : Common → ℕ
 release_of common = max common.release_ms 1
 
+-- for how many ms after a burst an answer counts
+abbrev pub wait_of : Manner → ℕ
+wait_of manner = if manner.ringing then ANSWER_MS else 0
+
 -- a line before its first hold
+abbrev pub begun_bell : Manner → Common → Ringing
+begun_bell manner common = begun_ringing (wait_of manner) manner.seize_ms (release_of common)
+
 abbrev pub begun_line : Manner → Common → Seizing
 begun_line manner common = begun_seizing manner.seize_ms (release_of common) common.most_ms
 
 -- a contact that has its first level
 abbrev pub begun_contact : Manner → Common → Scale → ℕ → Level → Followed
 begun_contact manner common scale tick level =
-    followed_of (begun_at (least_ticks scale manner.settle_ms) scale common.most_ms level) (begun_line manner common)
-    tick level (begun_tally (least_ticks scale manner.settle_ms) level)
+    followed_of (begun_at (least_ticks scale manner.settle_ms) scale common.most_ms level) (begun_bell manner common)
+    (begun_line manner common) tick level (begun_tally (least_ticks scale manner.settle_ms) level)
 
 -- a contact that has a level from a tick on
 abbrev pub contact_changed : Manner → Common → Scale → ℕ → Level → Option Followed → Followed

@@ -10,6 +10,7 @@ use Rattle.xb_contact.specs.declared.level.Level.{Level}
 use Rattle.xb_contact.specs.declared.scale.Scale.{Scale}
 use Rattle.xb_contact.specs.Holds.{hold_of}
 use Rattle.xb_contact.specs.Listening.{all_told, begun_at}
+use Rattle.xb_contact.specs.Ringing.{all_rung}
 use Rattle.xb_contact.specs.Seizing.{all_passed}
 use Rattle.xb_loop.specs.declared.manner.AskedLine.{AskedLine}
 use Rattle.xb_loop.specs.declared.manner.Common.{Common}
@@ -18,7 +19,7 @@ use Rattle.xb_loop.specs.declared.tally.Bounces.{Bounces}
 use Rattle.xb_loop.specs.BounceLines.{bounces_heard}
 use Rattle.xb_loop.specs.RowsOfHolds.{written_rows}
 use Rattle.xb_loop.specs.Tallies.{begun_tally, tally_at_end}
-use Rattle.xb_loop.specs.Watching.{Watched, begun_line, begun_watch, least_ticks, level_seen, rows_of_events, watch_after}
+use Rattle.xb_loop.specs.Watching.{Watched, begun_bell, begun_line, begun_watch, least_ticks, level_seen, rows_of_events, watch_after}
 
 -- the record of a loop by its wire: how long a tick is, the level that comes first, and then how long each holds
 pub record WireRecord : Type 0 where
@@ -59,7 +60,8 @@ rows_of_record common asked None = []
 rows_of_record common asked (Some wire) =
     written_rows asked.number
     (all_passed (begun_line asked.manner common)
-    (all_told (begun_at (least_ticks wire.scale asked.manner.settle_ms) wire.scale common.most_ms wire.first) wire.holds))
+    (all_rung (begun_bell asked.manner common)
+    (all_told (begun_at (least_ticks wire.scale asked.manner.settle_ms) wire.scale common.most_ms wire.first) wire.holds)))
 
 abbrev pub bounces_of_record : Manner → Option WireRecord → Option Bounces
 bounces_of_record manner wires =

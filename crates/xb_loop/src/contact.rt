@@ -5,10 +5,11 @@ ghost use Rattle.xb_rows.specs.WrittenRows.{record_text};
 ghost use Rattle.xb_loop.specs.Contacts.{CanHold, followed_of, given_until, held_until, left_at_end};
 ghost use Rattle.xb_contact.specs.Listening.{begun_at};
 ghost use Rattle.xb_contact.specs.Machine.{pieces_of};
+ghost use Rattle.xb_contact.specs.Ringing.{piece_rung, rung_past};
 ghost use Rattle.xb_contact.specs.Seizing.{line_past, piece_passed, pieces_in};
 ghost use Rattle.xb_loop.specs.RowsOfHolds.{written_rows};
 ghost use Rattle.xb_loop.specs.Tallies.{begun_tally};
-ghost use Rattle.xb_loop.specs.Watching.{begun_line};
+ghost use Rattle.xb_loop.specs.Watching.{begun_bell, begun_line, wait_of};
 ghost use Rattle.xb_contact.specs.Times.{CanCount};
 
 use crate::manner::{Common, Manner};
@@ -16,7 +17,7 @@ use crate::rows::write_rows;
 use crate::tally::{Bounces, Tally};
 use std::alloc::AllocError;
 use std::marker::Model;
-use xb_contact::{Certain, Hold, Level, Listener, Scale, Seizer, Settler};
+use xb_contact::{ANSWER_MS, Certain, Hold, Level, Listener, Ringer, Scale, Seizer, Settler};
 use xb_model::LineNo;
 
 /// A contact from its first level on.
@@ -24,6 +25,8 @@ use xb_model::LineNo;
 pub(crate) struct Contact {
     listener: Listener,
     // It takes what the listener gives.
+    ringer: Ringer,
+    // It takes what the ringer gives.
     seizer: Seizer,
     // The tick of the recording at which its first level came.
     start: u64,
@@ -36,7 +39,7 @@ impl Model for Contact {
 
     ghost Value = { Followed };
 
-    ghost view = { λ s. followed_of s.listener s.seizer s.start s.level s.tally };
+    ghost view = { λ s. followed_of s.listener s.ringer s.seizer s.start s.level s.tally };
 }
 
 // Adds the records of a hold, if there is one.
@@ -64,20 +67,29 @@ fn write_certain(rows: &mut String, line: LineNo, certain: Certain) -> Result<()
 fn write_passed(
     rows: &mut String,
     line: LineNo,
+    ringer: &mut Ringer,
     seizer: &mut Seizer,
     piece: Option<Hold>,
 ) -> Result<(), AllocError>
-    ensures rows { OnOk result (string_bytes rows.new
-        ≡ string_bytes rows.old ++ flat_map record_text (written_rows line (piece_passed seizer.old piece))) }
-    ensures past { seizer.new ≡ line_past seizer.old piece }
+    ensures rows { OnOk result (string_bytes rows.new ≡ string_bytes rows.old
+        ++ flat_map record_text (written_rows line (piece_passed seizer.old (piece_rung ringer.old piece)))) }
+    ensures rung { ringer.new ≡ rung_past ringer.old piece }
+    ensures past { seizer.new ≡ line_past seizer.old (piece_rung ringer.old piece) }
 {
     match piece {
         Some(hold) => {
-            let certain = seizer.take(hold);
+            let certain = seizer.take(ringer.take(hold));
             write_certain(rows, line, certain)
         }
         None => Ok(()),
     }
+}
+
+// For how many ms after a burst an answer counts.
+fn wait_of(manner: Manner) -> u32
+    ensures { result ≡ wait_of manner }
+{
+    if manner.ringing { ANSWER_MS } else { 0 }
 }
 
 impl Contact {
@@ -93,12 +105,14 @@ impl Contact {
         requires least { 0 < least }
         requires some { 0 < scale.ticks }
         requires fits { CanCount scale 0 }
-        ensures { result ≡ followed_of (begun_at least scale common.most_ms level) (begun_line manner common) start
+        ensures { result ≡ followed_of (begun_at least scale common.most_ms level) (begun_bell manner common)
+            (begun_line manner common) start
             level (begun_tally least level) }
     {
         let most = u64::from(common.most_ms);
         Contact {
             listener: Listener::new(Settler::new(least), scale, most, level),
+            ringer: Ringer::new(wait_of(manner), manner.seize_ms, common.release_ms.max(1)),
             seizer: Seizer::new(manner.seize_ms, common.release_ms.max(1), common.most_ms),
             start,
             level,
@@ -129,7 +143,7 @@ impl Contact {
         let ticks = until - self.listener.now();
         self.tally = self.tally.take(Hold { level, ticks });
         let piece = self.listener.take_until(level, until);
-        write_passed(rows, line, &mut self.seizer, piece)
+        write_passed(rows, line, &mut self.ringer, &mut self.seizer, piece)
     }
 
     /// It has a level from then on.
@@ -151,10 +165,10 @@ impl Contact {
         ensures { OnOk result (string_bytes rows.new
             ≡ string_bytes rows.old ++ flat_map record_text (written_rows line (left_at_end self))) }
     {
-        let mut seizer = self.seizer;
+        let (mut ringer, mut seizer) = (self.ringer, self.seizer);
         let (first, last) = self.listener.end();
-        write_passed(rows, line, &mut seizer, first)?;
-        write_passed(rows, line, &mut seizer, last)?;
+        write_passed(rows, line, &mut ringer, &mut seizer, first)?;
+        write_passed(rows, line, &mut ringer, &mut seizer, last)?;
         write_given(rows, line, seizer.end())
     }
 }

@@ -3,7 +3,7 @@
 ghost use Rattle.xb_loop.specs.Constants.{AreConstants};
 ghost use Rattle.xb_loop.specs.HeardLaws.{HearsEachCleanRun, HearsTheCleanRecord, HearsTheSettledRecord};
 ghost use Rattle.xb_loop.specs.RecordingLaws.{AsksForEachOnce, HearsTheRecording, KeepsTheTapeOfRecordings, KeepsTheTapeOfSeizures};
-ghost use Rattle.xb_loop.specs.RecordingLaws.{KeepsTheTapeUnlessAsked, TellsTheShortRuns};
+ghost use Rattle.xb_loop.specs.RecordingLaws.{KeepsTheTapeOfNights, KeepsTheTapeUnlessAsked, TellsTheShortRuns};
 ghost use Rattle.xb_loop.specs.Tallies.{CountsTheShortRuns};
 ghost use Rattle.xb_loop.specs.WireRecords.{GivesEachRecord};
 ghost use Rattle.xb_loop.specs.TapeLaws.{HearsNothingOtherwise, KeepsTheTape, LeavesLongRunsTheirTape};
@@ -51,16 +51,18 @@ pub fn each_line_has_the_record_of_its_wire()
 {}
 
 /// So of all rows that are written of a recording (`rows_of_events`, which are those of `listen`) the chain hears, of
-/// each line, the settled record of its contact, in ms, in which each make on hook that is too short to seize is a
-/// break. Where short bounces disturb a clean record, it makes the tape of the clean one with such breaks (`tape`), so
-/// that of the clean one itself where each make on hook lasts long enough (`long`), and where each make seizes
-/// (`plain`). Exactly the short runs are told. It is so of each line of a recording whose wires are of other lines, as
+/// each line, the settled record of its contact, in ms, in which calls that answer ringing are breaks, where that is asked
+/// for, and each make on hook that is too short to seize. Where short bounces disturb a clean record, it makes the tape
+/// of the clean one with such breaks (`tape`). Where no ringing is asked for that is the clean one itself, if each make
+/// on hook lasts long enough (`long`) or each make seizes (`plain`). Of a night of ringing, answers and calls it is that
+/// of the line's own calls (`night`). Exactly the short runs are told. It is so of each line of a recording whose wires are of other lines, as
 /// those are that words ask for.
 pub fn the_tape_of_a_recording_is_kept()
     ensures heard { HearsTheRecording }
     ensures tape { KeepsTheTapeOfRecordings }
     ensures long { KeepsTheTapeOfSeizures }
     ensures plain { KeepsTheTapeUnlessAsked }
+    ensures night { KeepsTheTapeOfNights }
     ensures told { TellsTheShortRuns }
     ensures once { AsksForEachOnce }
 {}

@@ -1,8 +1,9 @@
 //! `mfloop` but for its process: a recording of contacts in, the loop rows of their lines out, each bounce settled.
 //!
 //! - `laws::the_tape_of_a_recording_is_kept`: of all rows that a recording gives, the chain makes of each line the tape of
-//!   the contact of its wire without its bounces, makes on hook that are too short to seize as breaks, whatever the plan,
-//!   the limits and the routes, and what is told of the bounces are its short runs. The laws before it say that of a
+//!   the contact of its wire without its bounces, by what is asked for of this line: makes on hook that are too short to
+//!   seize, and calls that answer ringing, are breaks. It is so whatever the plan, the limits and the routes, and what is
+//!   told of the bounces are its short runs. The laws before it say that of a
 //!   contact whose makes all seize, hold by hold;
 //!   `laws::each_line_has_the_record_of_its_wire` joins them with the rows (`WireRecords`).
 //! - `listen`: on `Ok` (`ListensTo`) exactly the rows of what the recording says of the wires that are asked for, after the

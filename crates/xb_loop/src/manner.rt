@@ -8,6 +8,8 @@ pub struct Manner {
     pub settle_ms: u32,
     /// From how many ms on a make seizes where the line is on hook; a shorter one there is a break, and at 0 none is.
     pub seize_ms: u32,
+    /// Whether a call that answers ringing is written as a break.
+    pub ringing: bool,
     /// Whether a low wire is a closed loop.
     pub inverted: bool,
 }

@@ -1,6 +1,6 @@
 // What a line says of itself, in words after the name of its wire.
 ghost use Rattle.std.specs.Prelude.{◌≡◌, option_copied};
-ghost use Rattle.xb_loop.specs.OwnWords.{manner_with, no_own, own_added, own_after, own_inverted, own_number, own_seize, own_settle, said_once};
+ghost use Rattle.xb_loop.specs.OwnWords.{hears_ringing, manner_of, manner_said, no_own, own_added, own_after, own_inverted, own_number, own_or, own_ringing, own_seize, own_settle, said_once, said_or, standard_seize};
 ghost use Rattle.xb_text.specs.Pieces.{pieces_left};
 
 use crate::manner::Manner;
@@ -10,14 +10,32 @@ use xb_text::{cut_at, first_piece};
 /// What a line says of itself; of the rest it says nothing.
 #[derive(Clone, Copy)]
 pub(crate) struct Own {
-    settle_ms: Option<u32>,
-    seize_ms: Option<u32>,
-    inverted: bool,
+    /// From how many ms on a run is settled.
+    pub settle_ms: Option<u32>,
+    /// From how many ms on a make seizes.
+    pub seize_ms: Option<u32>,
+    /// Whether it rings.
+    pub ringing: bool,
+    /// Whether its wire is inverted.
+    pub inverted: bool,
 }
+
+// 5 ms settle all contacts of a dial.
+const SETTLE_MS: u32 = 5;
+
+// Each make seizes.
+const SEIZE_MS: u32 = 0;
+
+// An office needs some tenths of a second to attach a register.
+const RINGING_SEIZE_MS: u32 = 150;
+
+// A make of a period of ringing may last 65 ms.
+const LEAST_RINGING_SEIZE_MS: u32 = 66;
 
 const NO_OWN: Own = Own {
     settle_ms: None,
     seize_ms: None,
+    ringing: false,
     inverted: false,
 };
 
@@ -35,6 +53,30 @@ fn said_once(before: Option<u32>, digits: &[u8]) -> Option<u32>
     Some(ms as u32)
 }
 
+// The ms of a line, or else those of all.
+fn said_or(own: Option<u32>, all: Option<u32>) -> Option<u32>
+    ensures { result ≡ said_or own all }
+{
+    match own {
+        Some(_) => own,
+        None => all,
+    }
+}
+
+// From how many ms on a make seizes, unless that is said.
+fn standard_seize(ringing: bool) -> u32
+    ensures { result ≡ standard_seize ringing }
+{
+    if ringing { RINGING_SEIZE_MS } else { SEIZE_MS }
+}
+
+// Whether ringing is told, where it is asked for.
+fn hears_ringing(manner: Manner) -> bool
+    ensures { result ≡ hears_ringing manner }
+{
+    manner.seize_ms >= LEAST_RINGING_SEIZE_MS || !manner.ringing
+}
+
 impl Own {
     // That its wire is inverted, which was not said before.
     fn add_inverted(self) -> Option<Own>
@@ -45,6 +87,19 @@ impl Own {
         }
         Some(Own {
             inverted: true,
+            ..self
+        })
+    }
+
+    // That it rings, which was not said before.
+    fn add_ringing(self) -> Option<Own>
+        ensures { result ≡ own_ringing self }
+    {
+        if self.ringing {
+            return None;
+        }
+        Some(Own {
+            ringing: true,
             ..self
         })
     }
@@ -91,23 +146,53 @@ impl Own {
         if word == b"inverted".as_slice() {
             return self.add_inverted();
         }
+        if word == b"ringing".as_slice() {
+            return self.add_ringing();
+        }
         let (name, digits) = cut_at(b'=', word)?;
         self.add_number(name, digits)
     }
 
-    /// How the line is listened to: as it says itself, and else as all are.
-    pub fn manner(self, all: Manner) -> Manner
-        ensures { result ≡ manner_with all self }
+    /// What holds for a line: what it says itself, and else what is said of all.
+    pub fn or(self, all: Own) -> Own
+        ensures { result ≡ own_or self all }
+    {
+        Own {
+            settle_ms: said_or(self.settle_ms, all.settle_ms),
+            seize_ms: said_or(self.seize_ms, all.seize_ms),
+            ringing: self.ringing || all.ringing,
+            inverted: self.inverted || all.inverted,
+        }
+    }
+
+    // How a line is listened to of which this is said.
+    fn manner_said(self) -> Manner
+        ensures { result ≡ manner_said self }
     {
         Manner {
-            settle_ms: self.settle_ms.unwrap_or(all.settle_ms),
-            seize_ms: self.seize_ms.unwrap_or(all.seize_ms),
-            inverted: self.inverted || all.inverted,
+            settle_ms: self.settle_ms.unwrap_or(SETTLE_MS),
+            seize_ms: self.seize_ms.unwrap_or(standard_seize(self.ringing)),
+            ringing: self.ringing,
+            inverted: self.inverted,
+        }
+    }
+
+    /// How a line is listened to of which this is said. `None` where it rings, and a make of under 66 ms seizes, as a
+    /// period of ringing may have.
+    pub fn manner(self) -> Option<Manner>
+        ensures { result ≡ manner_of self }
+    {
+        let manner = self.manner_said();
+        if hears_ringing(manner) {
+            Some(manner)
+        } else {
+            None
         }
     }
 }
 
-/// What a line says of itself in words between commas: `inverted`, `settle=MS` and `seize=MS`, each once. `None` where
+/// What a line says of itself in words between commas: `inverted`, `ringing`, `settle=MS` and
+/// `seize=MS`, each once. `None` where
 /// a word is another one.
 pub(crate) fn own_of(words: Option<&[u8]>) -> Option<Own>
     ensures { result ≡ own_after no_own (pieces_left 44 (option_copied words.entry)) }

@@ -19,9 +19,9 @@ pub(crate) const PROGRAM: &str = "mfloop";
 
 // The line of refused words.
 const USAGE: &[u8] =
-    b"mfloop: usage: mfloop --line N=WIRE[,inverted][,settle=MS][,seize=MS]... [--table FILE] \
-[--format vcd|sigrok|saleae|edges|gpiomon|bits|bits16|s16|wav] [--rate HZ] [--settle MS] [--seize MS] [--tick MS] \
-[--threshold PERCENT] [--inverted] [--said]\n";
+    b"mfloop: usage: mfloop --line N=WIRE[,inverted][,settle=MS][,seize=MS][,ringing]... \
+[--table FILE] [--format vcd|sigrok|saleae|edges|gpiomon|bits|bits16|s16|wav] [--rate HZ] [--settle MS] \
+[--seize MS] [--ringing] [--tick MS] [--threshold PERCENT] [--inverted] [--said]\n";
 
 // Writes the rows that are asked for, after a route table, if one is; its release limit is that of the lines.
 fn run<'a, F: Files, R: Read, W: Write>(

@@ -5,8 +5,8 @@ ghost use Rattle.xb_loop.specs.declared.words.TheConstants.{THRESHOLD_PERCENT};
 ghost use Rattle.xb_loop.specs.Options.{ArePlainlyRefused, AsksPlainly, IsForAll, IsPercent, Say, SayNothing, form_named, is_among, plain_words, wire_added, wire_by, wire_of, wires_after, wires_in};
 ghost use Rattle.xb_text.specs.Pieces.{pieces, pieces_left};
 
-use crate::manner::{AskedLine, Common, Manner};
-use crate::own::own_of;
+use crate::manner::{AskedLine, Common};
+use crate::own::{Own, own_of};
 use crate::program::PROGRAM;
 use crate::request::Request;
 use std::alloc::{AllocError, Global};
@@ -15,22 +15,17 @@ use xb_model::{Limits, LineNo, line_of};
 use xb_recording::{Format, Wanted, format_of};
 use xb_samples::Threshold;
 
-// 5 ms settle all contacts of a dial.
-const SETTLE_MS: u32 = 5;
-
-// Each make seizes.
-const SEIZE_MS: u32 = 0;
-
 // A sixteenth of the range.
 const THRESHOLD_PERCENT: u32 = 6;
 
 // The options of the program, each under its name, and the wires of the lines, which stand alone.
-const OPTIONS: [(&str, Takes); 10] = [
+const OPTIONS: [(&str, Takes); 11] = [
     ("table", Takes::Text),
     ("format", Takes::Text),
     ("rate", Takes::Number),
     ("settle", Takes::Number),
     ("seize", Takes::Number),
+    ("ringing", Takes::Nothing),
     ("tick", Takes::Number),
     ("threshold", Takes::Number),
     ("inverted", Takes::Nothing),
@@ -69,8 +64,8 @@ fn cut_name(text: &str) -> (&str, Option<&[u8]>)
     }
 }
 
-// The wire of a line, and how the line is listened to; of what it says nothing, as all are.
-fn wire_by(all: Manner, number: LineNo, text: &str) -> Option<(AskedLine, &str)>
+// The wire of a line, and how the line is listened to; what it does not say is as of all.
+fn wire_by(all: Own, number: LineNo, text: &str) -> Option<(AskedLine, &str)>
     ensures { option_map (λ wire. (wire.0, wire.1.now)) result ≡ wire_by all number (pieces 44 text.now) }
 {
     let (name, words) = cut_name(text);
@@ -78,12 +73,12 @@ fn wire_by(all: Manner, number: LineNo, text: &str) -> Option<(AskedLine, &str)>
         return None;
     }
     let own = own_of(words)?;
-    let manner = own.manner(all);
+    let manner = own.or(all).manner()?;
     Some((AskedLine { number, manner }, name))
 }
 
 // The line of a word as `7=D0,inverted`, which is written as in a record, and the name of its wire.
-fn wire_of(all: Manner, word: &str) -> Option<(AskedLine, &str)>
+fn wire_of(all: Own, word: &str) -> Option<(AskedLine, &str)>
     ensures { option_map (λ wire. (wire.0, wire.1.now)) result ≡ wire_of all word.now }
 {
     let (number, text) = word.split_once('=')?;
@@ -105,7 +100,7 @@ fn is_among(number: LineNo, lines: &[AskedLine]) -> bool
 
 impl<'a> Wires<'a> {
     // The wire of a word more. No line may stand twice.
-    fn add(&mut self, all: Manner, word: &'a str) -> Result<(), WordsFault>
+    fn add(&mut self, all: Own, word: &'a str) -> Result<(), WordsFault>
         ensures added { OnOk result (wire_added all (wires_in self.old) word.now ≡ Some (wires_in self.new)) }
         ensures refused { IfErr result (λ f. f ≡ WordsFault.Refused
             → wire_added all (wires_in self.old) word.now ≡ None) }
@@ -124,7 +119,7 @@ impl<'a> Wires<'a> {
 }
 
 // The lines of words and the names of their wires.
-fn wires_of<'a>(alloc: Global, all: Manner, words: &[&'a str]) -> Result<Wires<'a>, WordsFault>
+fn wires_of<'a>(alloc: Global, all: Own, words: &[&'a str]) -> Result<Wires<'a>, WordsFault>
     ensures named { IfOk result (λ wires.
         wires_after all ([], []) (map (λ word. word.now) words.now) ≡ Some (wires_in wires)) }
     ensures refused { IfErr result (λ f. f ≡ WordsFault.Refused
@@ -164,13 +159,14 @@ fn asked_threshold(percent: Option<u32>) -> Result<Threshold, WordsFault>
     Threshold::new(percent.unwrap_or(THRESHOLD_PERCENT)).ok_or(WordsFault::Refused)
 }
 
-// How the lines are listened to that say nothing of themselves.
-fn manner_of_all(words: &Words<'_>) -> Manner
+// What is said of all lines.
+fn said_of_all(words: &Words<'_>) -> Own
     ensures { IsForAll words.now result }
 {
-    Manner {
-        settle_ms: words.number("settle").unwrap_or(SETTLE_MS),
-        seize_ms: words.number("seize").unwrap_or(SEIZE_MS),
+    Own {
+        settle_ms: words.number("settle"),
+        seize_ms: words.number("seize"),
+        ringing: words.flag("ringing"),
         inverted: words.flag("inverted"),
     }
 }
@@ -182,7 +178,7 @@ fn request_of<'a>(alloc: Global, words: &Words<'a>) -> Result<Request<'a>, Words
 {
     let format = asked_format(words.text("format"))?;
     let threshold = asked_threshold(words.number("threshold"))?;
-    let all = manner_of_all(words);
+    let all = said_of_all(words);
     let Wires { lines, names } = wires_of(alloc, all, words.texts("line").unwrap_or(&[]))?;
     Ok(Request {
         table: words.text("table"),
@@ -203,7 +199,7 @@ fn request_of<'a>(alloc: Global, words: &Words<'a>) -> Result<Request<'a>, Words
 
 /// What the words ask for, the program's name first. Runs are given whole, unless a tick is given, and a line is
 /// released by the standard limit. The words are refused where `clap` refuses them, there is no such form or threshold,
-/// or a word is no wire, names a line again, or has a word after a comma that is none, or is said twice.
+/// or a word is no wire, names a line again, or has a word after a comma that is none, or is said twice, or rings where a make of under 66 ms seizes.
 pub fn request_of_words<'a>(alloc: Global, words: &'a [String]) -> Result<Request<'a>, WordsFault>
     ensures asks { IfOk result (λ request. AsksPlainly (texts_of words.entry.now) request) }
     ensures refused { IfErr result (λ f. f ≡ WordsFault.Refused

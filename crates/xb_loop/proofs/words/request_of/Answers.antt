@@ -22,7 +22,7 @@ returns-clause-says c = record {
   tick = (c.number-3.result, c.number-3.ensures, c.unwrap_or-2.ensures);
   threshold = (c.number.result, c.number.ensures, c.in_ok-threshold.ensures.given);
   said = c.flag.ensures;
-  all = c.manner_of_all-all.result;
-  for_all = c.manner_of_all-all.ensures;
+  all = c.said_of_all-all.result;
+  for_all = c.said_of_all-all.ensures;
   wires = search rules;
 }
