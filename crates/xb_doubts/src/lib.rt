@@ -4,7 +4,7 @@
 //! - `whole_of`: the unit of which the times of the deck look, if it is another one than ms (`wrong_unit`,
 //!   `specs/Units.antt`), and whether ten or more attempts begin with a make of under 100 ms and have no digit, as those
 //!   of a line that rings (`is_ringing`, `specs/Ringing.antt`). Attempts and digits are those of the chain's definitions
-//!   (`specs/Attempts.antt`), of which the code keeps 88 bytes for each line of the office, whatever the deck has.
+//!   (`specs/Attempts.antt`); what is held of them is one small value for each line of the office.
 //!
 //! Rows are read from the last one on, with a value for each line, since the definitions of the chain go over them from
 //! the first one on: what is told of rows is known once their later ones are.
