@@ -1,5 +1,6 @@
 // Samples of sixteen wires, and sound that ends before its length, goes on after it, or is quiet.
 use crate::attending::{Case, check_reader};
+use std::alloc::Global;
 use std::test::Fail;
 use test_kit::Halting;
 
@@ -12,6 +13,8 @@ const HEADER: &[u8] = b"line,state,ms\n";
 const BREAK: &[u8] = b"line,state,ms\n7,B,10\n";
 
 const ROWS: &[u8] = b"line,state,ms\n7,B,10\n7,M,15\n";
+
+const CLOSED: &[u8] = b"line,state,ms\n7,B,10\n7,M,200\n";
 
 const MORE: &[u8] =
     b"mfloop: the end of the recording: more follows than the head counts: sox --ignore-length IN.wav OUT.wav\n";
@@ -132,6 +135,52 @@ fn reads_sixteen_wires(rt: HostRuntime) -> Result<(), Fail> {
             told: b"",
         };
         check_reader(&rt, rt.alloc(), &mut reader, &case, 0)?;
+    }
+    Ok(())
+}
+
+// Samples that are open, and then so many pairs of bytes.
+fn pairs(alloc: Global, open: &[u8], pair: &[u8], count: u64) -> Result<Vec<u8>, Fail> {
+    let mut bytes = Vec::new(alloc);
+    bytes.extend_from_slice(open)?;
+    for _ in 0..count {
+        bytes.extend_from_slice(pair)?;
+    }
+    Ok(bytes)
+}
+
+// At 1,000 samples a second wire 0 of sixteen is open for 10 ms and closed for 200; and the same of eight wires, where
+// another one goes to and fro.
+#[test]
+fn refuses_sixteen_wires_as_eight(rt: HostRuntime) -> Result<(), Fail> {
+    let wide = pairs(rt.alloc(), &[0; 20], b"\x01\x00", 200)?;
+    let busy = pairs(
+        rt.alloc(),
+        b"\x00\x02\x00\x02\x00\x02\x00\x02\x00\x02",
+        b"\x01\x03",
+        100,
+    )?;
+    for step in [1, 3, 8_192] {
+        for (form, recording, rows, told) in [
+            ("bits16", wide.as_slice(), CLOSED, b"".as_slice()),
+            ("bits", busy.as_slice(), CLOSED, b"".as_slice()),
+            (
+                "bits",
+                wide.as_slice(),
+                HEADER,
+                b"mfloop: sample 271: the wires go to and fro with each byte: give --format bits16\n".as_slice(),
+            ),
+        ] {
+            let mut reader = Halting::new(recording, step);
+            let case = Case {
+                words: &["--format", form, "--rate", "1000", "--line", "7=0"],
+                recording,
+                rows,
+                told,
+            };
+            let status = if told.is_empty() { 0 } else { 1 };
+            check_reader(&rt, rt.alloc(), &mut reader, &case, status)?;
+        }
     }
     Ok(())
 }

@@ -63,6 +63,9 @@ pub enum Refusal {
     /// A file whose head is that of no WAV whose samples can be read.
     #[error("a WAV of 8 or 16 bits or mu-law was wanted: sox IN.wav -e signed -b 16 OUT.wav")]
     Wav,
+    /// Raw samples whose wires go to and fro with each byte, as where a sample has two.
+    #[error("the wires go to and fro with each byte: give --format bits16")]
+    TwoBytes,
     /// Two edges of one direction, with none between them.
     #[error("an edge is lost: two of one direction follow each other")]
     LostEdge,

@@ -17,7 +17,7 @@ use Rattle.xb_riff.specs.declared.head.WavFormat.{WavFormat}
 use Rattle.xb_samples.specs.Pieces.{RunsOver, samples_events}
 use Rattle.xb_samples.specs.declared.bits.Width.{Width}
 use Rattle.xb_samples.specs.declared.bits.Width.TheVariants as widths
-use Rattle.xb_samples.specs.Samples.{bits_say, bits_state}
+use Rattle.xb_samples.specs.Samples.{RefusesBits, bits_fault, bits_reading, bits_say, bits_state}
 use Rattle.xb_samples.specs.Sounds.{high_of, samples_left, sound_fault, sound_reading, sound_state, unless}
 use Rattle.xb_riff.specs.Heads.{HeadBegins, HeadSoFar, Samples, TakesHead, head_of, rest_of}
 use Rattle.xb_samples.specs.Wavs.{BeginsNothing, EndsBefore}
@@ -29,7 +29,7 @@ use Rattle.xb_recording.specs.declared.reader.Source.TheVariants as sources
 use Rattle.xb_recording.specs.declared.wanted.Wanted.{Wanted}
 use Rattle.xb_csv.specs.Gpiomons.{gpiomon_says}
 use Rattle.xb_recording.specs.Says.{IsBegunBits, IsBegunGpiomon, IsBegunSound, IsBegunTable, IsBegunVcd, IsBegunWav, IsLongText, IsOfFormat, IsRefused, IsTooLong, KeepsRefusals, LinesComeTo, Refuses, RefusesSamples, RefusesText, RestRefused, SamplesRefused, SoundRefused, SourceRefused, TableRefused, TakesText, WavRefused, is_text, lines_in, lines_left, names_in, plain_lines, text_lines}
-use Rattle.xb_recording.proofs.SaidLemmas.{sound_whole}
+use Rattle.xb_recording.proofs.SaidLemmas.{bits_whole, sound_whole}
 
 -- a text is refused by its lines
 lines_refused :
@@ -61,14 +61,20 @@ refuses_text reader bytes refusal h refused = λ other.
       | inr k ↦ inr (long_text reader reader.source bytes refusal h k)
     ]
 
--- samples after which 2^64 ticks have gone by
-pub bits_late :
+-- raw samples: something is wrong with them, or 2^64 of them have come
+pub bits_are_refused :
     (reader : Reader) (bits : Bits) (bytes : List ℕ) (refusal : Refusal) → reader.source ≡ sources.Bits bits
-    → RunsOver (bits_state bits).count (length bytes) refusal → IsOnly refusals.TooLate refusal → Refuses reader bytes refusal
-bits_late reader bits bytes refusal is over only = λ other.
+    → RefusesBits (bits_state bits) bytes refusal → Refuses reader bytes refusal
+bits_are_refused reader bits bytes refusal is refused = λ other.
     let P : Source → Type 0 = λ s. IsTooLong reader s bytes refusal in
-    inr (subst P (sym is) (only other, over other))
+    elim (refused other) [
+      | inl late ↦ inr (subst P (sym is) late)
+      | inr wrong ↦ inl (λ text.
+          let Q : Source → Type 0 = λ s. SourceRefused reader.wanted.now s (lines_left reader (bytes ++ text)) (bytes ++ text) refusal in
+          subst Q (sym is) (wrong text))
+    ]
 
+-- sound after which 2^64 ticks have gone by
 pub sound_late :
     (reader : Reader) (sound : Sound) (bytes : List ℕ) (refusal : Refusal) → reader.source ≡ sources.Sound sound
     → RunsOver (sound_state sound).count (length bytes) refusal → IsOnly refusals.TooLate refusal → Refuses reader bytes refusal
@@ -144,6 +150,15 @@ keeps_head reader head after bytes is taken text refusal k =
     ) in
     subst P (sym is) all
 
+-- of raw samples
+pub keeps_bits :
+    (reader : Reader) (bits after : Bits) (bytes : List ℕ) → reader.source ≡ sources.Bits bits
+    → ((text : List ℕ) → bits_fault (bits_state after) text ≡ bits_fault (bits_state bits) (bytes ++ text))
+    → KeepsRefusals reader (record reader { source = sources.Bits after }) bytes
+keeps_bits reader bits after bytes is faults text refusal k =
+    let P : Source → Type 0 = λ s. SourceRefused reader.wanted.now s (lines_left reader (bytes ++ text)) (bytes ++ text) refusal in
+    subst P (sym is) (sym (faults text) ∙ k)
+
 -- of sound
 pub keeps_sound :
     (reader : Reader) (sound after : Sound) (bytes : List ℕ) → reader.source ≡ sources.Sound sound
@@ -210,7 +225,9 @@ bits_refusals :
     → IsBegunBits width (names_in wanted) wanted.rate source said
     → (text : List ℕ) (refusal : Refusal) → SourceRefused wanted source (text_lines text) text refusal
     → bits_say width (names_in wanted) wanted.rate text ≡ Err refusal
-bits_refusals width wanted (sources.Bits bits) said h text refusal k = elim k [ ]
+bits_refusals width wanted (sources.Bits bits) said h text refusal k =
+    bits_whole width wanted bits said h text
+    ∙ ap (λ (f : Option Refusal). unless f (said ++ samples_events bits_reading (bits_state bits) text)) k
 bits_refusals width wanted (sources.Vcd vcd) said h text refusal k = elim h [ ]
 bits_refusals width wanted (sources.Columns table) said h text refusal k = elim h [ ]
 bits_refusals width wanted (sources.Gpiomon gpiomon) said h text refusal k = elim h [ ]

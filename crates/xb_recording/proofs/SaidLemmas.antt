@@ -1,9 +1,10 @@
 -- What a recording says.
-use Rattle.std.proofs.Common.{◌≡◌, ℕ, List, [], ◌∷◌, ◌++◌, true, false, Option, None, Some, refl, ap, sym, subst, ◌∙◌, append_assoc, drop}
+use Rattle.std.proofs.Common.{◌≡◌, ℕ, List, [], ◌∷◌, ◌++◌, Bool, true, false, cond, Option, None, Some, refl, ap, sym, subst, ◌∙◌, append_assoc, drop}
 use Rattle.std.specs.Prelude.{Result, Ok, Err}
 use Rattle.std.specs.Result.{result_unwrap_or}
 use Rattle.xb_contact.specs.declared.event.Event.{Event}
 use Rattle.xb_contact.specs.declared.event.Refusal.{Refusal}
+use Rattle.xb_contact.specs.declared.event.Refusal.TheVariants as refusals
 use Rattle.xb_contact.specs.Steps.{AddsAll, result_and_then, result_map}
 use Rattle.xb_vcd.specs.VcdChanges.{VcdState}
 use Rattle.xb_vcd.specs.VcdTexts.{begun_vcd, vcd_says}
@@ -26,10 +27,12 @@ use Rattle.xb_csv.specs.Tables.{table_says}
 use Rattle.xb_samples.specs.Pieces.{SamplesSay, samples_events}
 use Rattle.xb_samples.specs.declared.bits.Width.{Width}
 use Rattle.xb_samples.specs.declared.bits.Width.TheVariants as widths
-use Rattle.xb_samples.specs.Samples.{BitsState, bits_reading, bits_say, bits_state, masks_of, new_bits, rate_says}
+use Rattle.xb_samples.specs.declared.bits.Bits.{Bits}
+use Rattle.xb_samples.specs.Samples.{BitsState, are_of_two, bits_fault, bits_reading, bits_say, bits_state, masks_of, new_bits, rate_says, wires_say_bits}
 use Rattle.xb_samples.specs.Sounds.{SoundSays, begun_sound, high_of, samples_left, sound_begins, sound_fault, sound_reading, sound_state, unless, wires_of}
 use Rattle.xb_recording.specs.Says.{BitsSay, BytesSay, IsBegunBits, IsBegunGpiomon, IsBegunSound, IsBegunTable, IsBegunVcd, IsBegunWav, IsOfFormat, LinesSay, Says, SoundSaid, TableSays, Takes, TakesBytes, TakesText, WavSays, is_text, lines_in, lines_left, names_in, plain_lines, sound_comes_to, text_lines}
 use Rattle.xb_samples.proofs.EndLemmas.{new_sound_says}
+use Rattle.xb_samples.proofs.TurnLemmas.{fault_where, fault_whole}
 use Rattle.xb_samples.proofs.WaitLemmas.{same-after}
 
 ok_is : {A : Type 0} {x y : A} → ◌≡◌ {A = Result A Refusal} (Ok x) (Ok y) → x ≡ y
@@ -106,25 +109,46 @@ all-added : (told : Result (List Event) Refusal) (said : List Event) → AddsAll
 all-added (Err refusal) said h = elim h [ ]
 all-added (Ok told) said h = ap Ok (sym h)
 
-bits_begin :
-    (width : Width) (wanted : Wanted) (source : Source) (said : List Event)
-    → IsBegunBits width (names_in wanted) wanted.rate source said
-    → (text : List ℕ) (later : List Event) → BytesSay wanted source text later → BitsSay width wanted text (said ++ later)
-bits_begin width wanted (sources.Bits bits) said h text later k = at (masks_of width (names_in wanted)) refl h.0
+-- what is told unless it is wrong
+unless-wrong :
+    (wrong : Bool) (said : List Event) → cond wrong (Err refusals.TwoBytes) (Ok said) ≡ unless (fault_where wrong) said
+unless-wrong true said = refl
+unless-wrong false said = refl
+
+-- what samples come to that have begun
+pub bits_whole :
+    (width : Width) (wanted : Wanted) (bits : Bits) (said : List Event)
+    → IsBegunBits width (names_in wanted) wanted.rate (sources.Bits bits) said
+    → (text : List ℕ)
+    → bits_say width (names_in wanted) wanted.rate text
+    ≡ unless (bits_fault (bits_state bits) text) (said ++ samples_events bits_reading (bits_state bits) text)
+bits_whole width wanted bits said h text = at (masks_of width (names_in wanted)) refl h.0
   where
     at :
         (found : Result (List ℕ) Refusal) → masks_of width (names_in wanted) ≡ found
         → result_map (new_bits width) found ≡ Ok (bits_state bits)
-        → BitsSay width wanted text (said ++ later)
+        → bits_say width (names_in wanted) wanted.rate text
+        ≡ unless (bits_fault (bits_state bits) text) (said ++ samples_events bits_reading (bits_state bits) text)
     at (Err refusal) e f = absurd (err_is f)
     at (Ok masks) e f =
         let state : new_bits width masks ≡ bits_state bits = ok_is f in
         let all : List Event = said ++ samples_events bits_reading (new_bits width masks) text in
-        let whole : bits_say width (names_in wanted) wanted.rate text ≡ Ok all =
-        ap (result_and_then (λ found. result_map (λ told. told ++ samples_events bits_reading (new_bits width found) text) (rate_says wanted.rate))) e
-        ∙ ap (result_map (λ told. told ++ samples_events bits_reading (new_bits width masks) text)) (all-added (rate_says wanted.rate) said h.1) in
-        let P : BitsState → Type 0 = λ s. SamplesSay bits_reading s text later in
-        (all, whole, same-after said later (samples_events bits_reading (new_bits width masks) text) (subst P (sym state) k))
+        ap (result_and_then (λ found. result_and_then (λ told. wires_say_bits width found told text) (rate_says wanted.rate))) e
+        ∙ ap (result_and_then (λ told. wires_say_bits width masks told text)) (all-added (rate_says wanted.rate) said h.1)
+        ∙ unless-wrong (are_of_two width masks text) all
+        ∙ ap (λ (f : Option Refusal). unless f all) (sym (fault_whole width masks text))
+        ∙ ap (λ (s : BitsState). unless (bits_fault s text) (said ++ samples_events bits_reading s text)) state
+
+bits_begin :
+    (width : Width) (wanted : Wanted) (source : Source) (said : List Event)
+    → IsBegunBits width (names_in wanted) wanted.rate source said
+    → (text : List ℕ) (later : List Event) → BytesSay wanted source text later → BitsSay width wanted text (said ++ later)
+bits_begin width wanted (sources.Bits bits) said h text later k =
+    let more : List Event = samples_events bits_reading (bits_state bits) text in (
+      said ++ more,
+      bits_whole width wanted bits said h text ∙ ap (λ (f : Option Refusal). unless f (said ++ more)) k.1,
+      same-after said later more k.0,
+    )
 bits_begin width wanted (sources.Vcd vcd) said h text later k = elim h [ ]
 bits_begin width wanted (sources.Columns table) said h text later k = elim h [ ]
 bits_begin width wanted (sources.Gpiomon gpiomon) said h text later k = elim h [ ]
@@ -169,7 +193,18 @@ sound_begin how channels rate size wanted (sources.Gpiomon gpiomon) said h text 
 sound_begin how channels rate size wanted (sources.Bits bits) said h text later k = elim h [ ]
 sound_begin how channels rate size wanted (sources.WavHead head) said h text later k = elim h [ ]
 
--- more of it
+-- more of raw samples
+pub takes_bits :
+    (reader : Reader) (bits after : Bits) (bytes : List ℕ) (events : List Event) → reader.source ≡ sources.Bits bits
+    → ((text : List ℕ) (later : List Event) → SamplesSay bits_reading (bits_state after) text later
+    → SamplesSay bits_reading (bits_state bits) (bytes ++ text) (events ++ later))
+    → ((text : List ℕ) → bits_fault (bits_state after) text ≡ bits_fault (bits_state bits) (bytes ++ text))
+    → TakesBytes reader (record reader { source = sources.Bits after }) bytes events
+takes_bits reader bits after bytes events is took faults text later rest =
+    let P : Source → Type 0 = λ s. BytesSay reader.wanted.now s (bytes ++ text) (events ++ later) in
+    subst P (sym is) (took text later rest.0, sym (faults text) ∙ rest.1)
+
+-- more of sound
 pub takes_sound :
     (reader : Reader) (sound after : Sound) (bytes : List ℕ) (events said : List Event) → reader.source ≡ sources.Sound sound
     → events ≡ said

@@ -20,7 +20,7 @@ use Rattle.xb_vcd.specs.VcdTexts.{begun_vcd, vcd_says}
 use Rattle.xb_samples.specs.Pieces.{SamplesSay, SayTheSame}
 use Rattle.xb_samples.specs.declared.bits.Width.{Width}
 use Rattle.xb_samples.specs.declared.bits.Width.TheVariants as widths
-use Rattle.xb_samples.specs.Samples.{IsNewBits, bits_reading, bits_say, bits_state, rate_says}
+use Rattle.xb_samples.specs.Samples.{IsNewBits, bits_fault, bits_reading, bits_say, bits_state, rate_says}
 use Rattle.xb_riff.specs.declared.coding.Coding.{Coding}
 use Rattle.xb_riff.specs.declared.coding.Coding.TheVariants as coding
 use Rattle.xb_riff.specs.declared.head.WavFormat.{WavFormat}
@@ -97,7 +97,8 @@ abbrev pub BytesSay : Wanted → Source → List ℕ → List Event → Type 0
 BytesSay wanted (sources.Vcd vcd) bytes events = Unit {0}
 BytesSay wanted (sources.Columns table) bytes events = Unit {0}
 BytesSay wanted (sources.Gpiomon gpiomon) bytes events = Unit {0}
-BytesSay wanted (sources.Bits bits) bytes events = SamplesSay bits_reading (bits_state bits) bytes events
+BytesSay wanted (sources.Bits bits) bytes events =
+    SamplesSay bits_reading (bits_state bits) bytes events × (bits_fault (bits_state bits) bytes ≡ None)
 BytesSay wanted (sources.WavHead head) bytes events =
     (samples : Samples) × HeadBegins head bytes samples × WavSays wanted samples events
 BytesSay wanted (sources.Sound sound) bytes events = SoundSays sound bytes events
@@ -283,15 +284,15 @@ abbrev pub RefusesSamples : WavFormat → Reader → List ℕ → Refusal → Ty
 RefusesSamples format reader bytes refusal =
     refusal ≢ refusals.NoMemory → (text : List ℕ) → SamplesRefused reader.wanted.now (format, bytes ++ text) refusal
 
--- further lines of a text, or further bytes up to the end, are refused for this reason: raw samples never are, and sound
--- that has begun is where something is wrong at its end
+-- further lines of a text, or further bytes up to the end, are refused for this reason: raw samples where something is
+-- wrong with them, and sound that has begun where something is at its end
 abbrev pub SourceRefused : Wanted → Source → List (List ℕ) → List ℕ → Refusal → Type 0
 SourceRefused wanted (sources.Vcd vcd) lines bytes refusal = vcd_says (vcd_state vcd) lines ≡ Err refusal
 SourceRefused wanted (sources.Columns table) lines bytes refusal = table_says (table_state table) lines ≡ Err refusal
 SourceRefused wanted (sources.Gpiomon gpiomon) lines bytes refusal =
     gpiomon_says (gpiomon_state gpiomon) lines ≡ Err refusal
 SourceRefused wanted (sources.WavHead head) lines bytes refusal = WavRefused (HeadBegins head bytes) wanted refusal
-SourceRefused wanted (sources.Bits bits) lines bytes refusal = ⊥
+SourceRefused wanted (sources.Bits bits) lines bytes refusal = bits_fault (bits_state bits) bytes ≡ Some refusal
 SourceRefused wanted (sources.Sound sound) lines bytes refusal = sound_fault sound bytes ≡ Some refusal
 
 -- what a reader reads is refused for this reason, where these bytes follow

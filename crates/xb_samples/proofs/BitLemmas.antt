@@ -10,6 +10,7 @@ use Rattle.xb_contact.specs.declared.level.Level.{Level}
 use Rattle.xb_samples.specs.Pieces.{begins_from, without_waits}
 use Rattle.xb_samples.specs.declared.bits.Width.{Width}
 use Rattle.xb_samples.specs.Samples.{BitsState, after_sample, bits_of, bit_level, bits_reading, events_by, is_same, sample_events, sample_levels, sample_with, state_by}
+use Rattle.xb_samples.specs.Turns.{TurnsState, turns_after}
 use Rattle.xb_samples.proofs.WaitLemmas.{SayWhen, until-begins}
 
 pub bits_say_when : SayWhen bits_reading
@@ -90,11 +91,12 @@ pub last_stays :
 last_stays last sample differs e is = last-is last sample (same-by last sample differs e ∙ ap not is)
 
 pub sample_counted :
-    (state : BitsState) (sample : ℕ) (width : Width) (masks : List ℕ) (last : Option ℕ) (before count : ℕ)
+    (state : BitsState) (sample : ℕ) (width : Width) (masks : List ℕ) (last : Option ℕ) (before count : ℕ) (turns : TurnsState)
     → width ≡ state.width → masks ≡ state.masks → last ≡ Some sample → before ≡ state.count → count ≡ before + 1
-    → bits_of width masks None last count ≡ after_sample state sample
-sample_counted state sample width masks last before count w e f g h =
-    ap (λ (x : Width). bits_of x masks None last count) w
-    ∙ ap (λ (m : List ℕ). bits_of state.width m None last count) e
-    ∙ ap (λ (l : Option ℕ). bits_of state.width state.masks None l count) f
-    ∙ ap (λ (n : ℕ). bits_of state.width state.masks None (Some sample) n) (h ∙ ap (λ (n : ℕ). n + 1) g)
+    → turns ≡ turns_after state.turns sample → bits_of width masks None last count turns ≡ after_sample state sample
+sample_counted state sample width masks last before count turns w e f g h t =
+    ap (λ (x : Width). bits_of x masks None last count turns) w
+    ∙ ap (λ (m : List ℕ). bits_of state.width m None last count turns) e
+    ∙ ap (λ (l : Option ℕ). bits_of state.width state.masks None l count turns) f
+    ∙ ap (λ (n : ℕ). bits_of state.width state.masks None (Some sample) n turns) (h ∙ ap (λ (n : ℕ). n + 1) g)
+    ∙ ap (λ (own : TurnsState). bits_of state.width state.masks None (Some sample) (state.count + 1) own) t

@@ -7,3 +7,6 @@ pub mod TailLemmas
 pub mod SoundLemmas
 pub mod EndLemmas
 pub mod GreatestSamples
+pub mod FaultLemmas
+pub mod TurnLemmas
+pub mod ToldTurns

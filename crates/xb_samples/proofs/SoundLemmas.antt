@@ -13,12 +13,12 @@ use Rattle.xb_contact.specs.declared.level.Level.TheVariants.{Open, Closed}
 use Rattle.xb_samples.specs.declared.sound.Channel.{Channel}
 use Rattle.xb_samples.specs.declared.sound.Sound.{Sound}
 use Rattle.xb_samples.specs.Hysteresis.{IsHeard}
-use Rattle.xb_samples.specs.Pieces.{RunsOver, SamplesSay, after_piece, begins_from, piece_events, samples_events, without_waits}
+use Rattle.xb_samples.specs.Pieces.{RunsOver, SamplesSay, after_piece, begins_from, piece_events, without_waits}
 use Rattle.xb_samples.specs.Samples.{rate_says}
 use Rattle.xb_riff.specs.declared.coding.Coding.{Coding}
 use Rattle.xb_riff.specs.declared.coding.Coding.TheVariants as coding
 use Rattle.xb_riff.specs.Codings.{mu_law_sample, narrow_sample, wide_sample}
-use Rattle.xb_samples.specs.Sounds.{SoundSays, SoundState, begun_sound, bytes_say, change_said, changes_said, greatest_after, level_by, levels_said, lower_left, own_bytes, samples_after, samples_left, sound_begins, sound_fault, sound_reading, sound_says, sound_state, turned, wide_after, wide_left, wire_after, wires_of, wires_say}
+use Rattle.xb_samples.specs.Sounds.{SoundSays, SoundState, bytes_say, change_said, changes_said, greatest_after, level_by, levels_said, lower_left, own_bytes, samples_after, samples_left, sound_begins, sound_fault, sound_reading, sound_says, sound_state, turned, wide_after, wide_left, wire_after, wires_of, wires_say}
 use Rattle.xb_samples.specs.Tails.{left_after}
 use Rattle.xb_samples.proofs.WaitLemmas.{SayWhen, after-piece, piece-piece, piece_says, until-begins}
 

@@ -1,8 +1,8 @@
 -- What follows the bytes of a sound, byte by byte.
-use Rattle.std.proofs.Common.{◌≡◌, ℕ, zero, suc, ◌-◌, ◌+◌, ◌<◌, ◌≤◌, List, [], ◌∷◌, ◌++◌, Bool, true, false, cond, not, nat_lt, Option, Some, None, drop, get_or, length, ne_eqb, refl, ap, sym, ◌∙◌, append-nil, length-append, arith}
+use Rattle.std.proofs.Common.{◌≡◌, ℕ, zero, suc, ◌-◌, ◌+◌, ◌<◌, ◌≤◌, List, [], ◌∷◌, ◌++◌, Bool, true, false, cond, not, Option, Some, None, drop, get_or, length, ne_eqb, refl, ap, sym, ◌∙◌, length-append, arith}
 use Rattle.std.proofs.lemmas.Bool.{le-ltb, lt-ltb}
 use Rattle.std.proofs.lemmas.List.{at_drop_all, at_drop_more}
-use Rattle.std.specs.Prelude.{◌%◌, ◌&&◌, ◌==◌, is_some, unwrap_or}
+use Rattle.std.specs.Prelude.{◌%◌, ◌&&◌, is_some, unwrap_or}
 use Rattle.xb_riff.specs.Heads.{long_at}
 use Rattle.xb_samples.specs.declared.tail.Tail.{Tail}
 use Rattle.xb_samples.specs.Tails.{IsNewTail, are_chunks, are_more, chunks_left, follows_more, is_name, left_after, more_follows}

@@ -6,3 +6,4 @@ pub mod Sounds
 pub mod Tails
 pub mod Thresholds
 pub mod Wavs
+pub mod Turns

@@ -1,10 +1,11 @@
 // Raw samples.
-ghost use Rattle.std.specs.Prelude.{◌≡◌, ◌+◌, ◌++◌, ◌<◌, ◌≤◌, ◌^◌, [], ℕ, Ok, IfErr, IfOk, List, OnOk, length, map};
+ghost use Rattle.std.specs.Prelude.{◌≡◌, ◌+◌, ◌++◌, ◌∷◌, ◌<◌, ◌≤◌, ◌^◌, [], ℕ, Ok, IfErr, IfOk, List, OnOk, length, map};
 ghost use Rattle.xb_contact.specs.declared.event.Event.{Event as Saying};
 ghost use Rattle.xb_contact.specs.Steps.{AddsAll, IsOnly, IsRefusedBy};
 ghost use Rattle.xb_samples.specs.Pieces.{RunsOver, SamplesSay, after_piece, piece_events};
-ghost use Rattle.xb_samples.specs.Samples.{IsNewBits, after_sample, bit_level, bits_reading, bits_say, bits_state, mask_of, masks_of, rate_says, sample_events, sample_levels, sample_with, wires_in};
+ghost use Rattle.xb_samples.specs.Samples.{IsNewBits, RefusesBits, after_sample, bit_level, bits_fault, bits_reading, bits_say, bits_state, is_of_two_with, mask_of, masks_of, rate_says, sample_events, sample_levels, sample_with, wires_in};
 
+use crate::turns::Turns;
 use std::alloc::{AllocError, Global};
 use xb_contact::{Event, Level, Refusal, Scale, number_of, say};
 
@@ -39,6 +40,7 @@ pub struct Bits {
     // The last sample, and how many have come.
     last: Option<u16>,
     count: u64,
+    turns: Turns,
 }
 
 // How many wires a sample has.
@@ -127,12 +129,14 @@ impl Bits {
     {
         let masks = masks_of(alloc, width, names)?;
         say_rate(events, rate)?;
+        let turns = Turns::new(&masks);
         Ok(Bits {
             width,
             masks,
             lower: None,
             last: None,
             count: 0,
+            turns,
         })
     }
 
@@ -162,6 +166,7 @@ impl Bits {
             self.last = Some(sample);
         }
         self.lower = None;
+        self.turns = self.turns.after(sample);
         match self.count.checked_add(1) {
             Some(count) => self.count = count,
             None => return Err(Refusal::TooLate),
@@ -169,8 +174,18 @@ impl Bits {
         Ok(())
     }
 
-    // A byte.
-    fn take_byte(&mut self, byte: u8, events: &mut Vec<Event>) -> Result<(), Refusal>
+    // Whether a sample has two bytes, by this one more: of eight wires, too many in a row go back.
+    fn is_of_two_with(&self, byte: u8) -> bool
+        ensures { result ≡ is_of_two_with (bits_state self.now) byte }
+    {
+        match self.width {
+            Width::Eight => self.turns.after(u16::from(byte)).are_too_many(),
+            Width::Sixteen => false,
+        }
+    }
+
+    // A byte, whatever the wires do.
+    fn put_byte(&mut self, byte: u8, events: &mut Vec<Event>) -> Result<(), Refusal>
         ensures events { OnOk result
             (events.new.items ≡ events.old.items ++ bits_reading.says (bits_state self.old) byte) }
         ensures state { OnOk result (bits_state self.new ≡ bits_reading.next (bits_state self.old) byte) }
@@ -187,6 +202,22 @@ impl Bits {
         }
     }
 
+    // A byte.
+    fn take_byte(&mut self, byte: u8, events: &mut Vec<Event>) -> Result<(), Refusal>
+        ensures events { OnOk result
+            (events.new.items ≡ events.old.items ++ bits_reading.says (bits_state self.old) byte) }
+        ensures state { OnOk result (bits_state self.new ≡ bits_reading.next (bits_state self.old) byte) }
+        ensures count { OnOk result (self.new.count ≤ self.old.count + 1) }
+        ensures faults { OnOk result ((text : List ℕ)
+            → bits_fault (bits_state self.new) text ≡ bits_fault (bits_state self.old) (byte ∷ text)) }
+        ensures refused { IfErr result (RefusesBits (bits_state self.old) (byte ∷ [])) }
+    {
+        if self.is_of_two_with(byte) {
+            return Err(Refusal::TwoBytes);
+        }
+        self.put_byte(byte, events)
+    }
+
     // Bytes, one after the other.
     fn take_bytes(&mut self, bytes: &[u8], events: &mut Vec<Event>) -> Result<(), Refusal>
         ensures events { OnOk result
@@ -194,8 +225,9 @@ impl Bits {
             ++ piece_events bits_reading (bits_state self.old) bytes.now) }
         ensures state { OnOk result
             (bits_state self.new ≡ after_piece bits_reading (bits_state self.old) bytes.now) }
-        ensures over { IfErr result (RunsOver self.old.count (length bytes.now)) }
-        ensures only { IfErr result (IsOnly Refusal.TooLate) }
+        ensures faults { OnOk result ((text : List ℕ)
+            → bits_fault (bits_state self.new) text ≡ bits_fault (bits_state self.old) (bytes.now ++ text)) }
+        ensures refused { IfErr result (RefusesBits (bits_state self.old) bytes.now) }
     {
         for byte in bytes {
             self.take_byte(*byte, events)?;
@@ -204,15 +236,17 @@ impl Bits {
     }
 
     /// Takes bytes of samples, and adds what they say to `events`, also up to where they go. More than 2^64 - 1 samples
-    /// are refused. After an `Err` the reader is not to be used again.
+    /// are refused, and the first sample of eight wires by which 250 in a row have gone back, of the wires that are asked
+    /// for: `TwoBytes`. After an `Err` the reader is not to be used again.
     pub fn take(&mut self, bytes: &[u8], events: &mut Vec<Event>) -> Result<(), Refusal>
         requires { events.old.items ≡ [] }
         ensures said { OnOk result ((text : List ℕ) (later : List Saying)
             → SamplesSay bits_reading (bits_state self.new) text later
             → SamplesSay bits_reading (bits_state self.old) (bytes.now ++ text)
             (events.new.items ++ later)) }
-        ensures over { IfErr result (RunsOver (bits_state self.old).count (length bytes.now)) }
-        ensures only { IfErr result (IsOnly Refusal.TooLate) }
+        ensures faults { OnOk result ((text : List ℕ)
+            → bits_fault (bits_state self.new) text ≡ bits_fault (bits_state self.old) (bytes.now ++ text)) }
+        ensures refused { IfErr result (RefusesBits (bits_state self.old) bytes.now) }
     {
         self.take_bytes(bytes, events)?;
         say(events, Event::At(self.count))

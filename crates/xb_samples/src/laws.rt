@@ -1,6 +1,7 @@
 //! What the definitions of `specs/` come to: each law is the contract of a function that does nothing.
 ghost use Rattle.xb_samples.specs.Greatest.{MeasuresTheGreatest};
 ghost use Rattle.xb_samples.specs.Hysteresis.{HearsEachLevel};
+ghost use Rattle.xb_samples.specs.Turns.{TurnsAreTold};
 
 /// Where samples differ from the values of their two levels by less than the thresholds do, what is heard of
 /// them are the levels.
@@ -12,4 +13,10 @@ pub fn each_level_is_heard()
 /// channels that are wires.
 pub fn the_greatest_is_measured()
     ensures { MeasuresTheGreatest }
+{}
+
+/// A contact whose levels are held for two samples is never taken for samples of two bytes, and two different bytes that
+/// come 126 times over are.
+pub fn turns_are_told()
+    ensures { TurnsAreTold }
 {}

@@ -5,7 +5,10 @@
 //!   `xb_riff` reads.
 //! - `take` and `end` of each: exactly what the samples say, in pieces of any length (`Pieces`: a piece may also say up
 //!   to when the levels hold). A refusal comes only where the whole is refused, and for its reason (`IsRefusedBy`,
-//!   `BeginsNothing`), 2^64 ticks have gone by (`RunsOver`), or memory ran out.
+//!   `RefusesBits`, `BeginsNothing`), 2^64 ticks have gone by (`RunsOver`), or memory ran out.
+//! - `Bits` of eight wires refuses the sample by which 250 in a row went back, of the wires that are asked for, and
+//!   only that (`bits_fault`): such bytes are samples of sixteen (`are_of_two`, `Turns`). `laws::turns_are_told`: levels
+//!   that are held for two samples never are, and two different bytes that come 126 times over are.
 //! - `Sound::end` gives what the samples say exactly where the whole sound has no fault (`end_fault`): each byte that
 //!   its head counts has come, nothing but chunks follows (`Tails`), a tick has gone by, and the greatest sample of the
 //!   wires is at least three times the threshold.
@@ -18,6 +21,7 @@ pub mod laws;
 mod sound;
 mod tail;
 mod threshold;
+mod turns;
 mod wav;
 
 pub use bits::{Bits, Width};

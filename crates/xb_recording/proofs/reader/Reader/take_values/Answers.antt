@@ -6,10 +6,14 @@ use Rattle.xb_riff.specs.declared.head.WavFormat.{WavFormat}
 use Rattle.xb_recording.specs.Says.{KeepsSamples, RefusesSamples, SamplesRefused, TakesSamples, WavSays}
 use Rattle.xb_samples.specs.declared.sound.Sound.{Sound}
 use Rattle.xb_samples.specs.Sounds.{SoundSays, sound_fault}
+use Rattle.xb_samples.specs.declared.bits.Bits.{Bits}
+use Rattle.xb_samples.specs.Pieces.{SamplesSay}
+use Rattle.xb_samples.specs.Samples.{bits_fault, bits_reading, bits_state}
+use Rattle.std.specs.Prelude.{OnOk, Result as Outcome, Ok, Err}
 use Rattle.xb_contact.specs.declared.event.Event.{Event}
 use Rattle.xb_riff.specs.Heads.{TakesHead}
-use Rattle.xb_recording.proofs.RefusedLemmas.{head_is_refused, keeps_sound, samples_are_refused, samples_keep}
-use Rattle.xb_recording.proofs.SaidLemmas.{head_then, takes_sound}
+use Rattle.xb_recording.proofs.RefusedLemmas.{bits_are_refused, head_is_refused, keeps_bits, keeps_sound, samples_are_refused, samples_keep}
+use Rattle.xb_recording.proofs.SaidLemmas.{head_then, takes_bits, takes_sound}
 use Rattle.xb_recording.proofs.reader.Reader.take_values.Goals as goal
 
 pub returns-in-Some-clause-said : goal.returns-in-Some-clause-said
@@ -53,6 +57,40 @@ returns-in-Some-clause-refusals c =
     let Q : List ℕ → Type 0 = λ piece. SamplesRefused old.wanted.now (format, piece ++ text) refusal in
     samples_keep old head after bytes text (format, count) refusal c.in-WavHead.is taken (subst Q rest (keeps text refusal k)))
     c.begin_sound.ensures.refusals
+
+-- what two clauses say of a step that is taken
+both : {T E : Type 0} (P Q : Type 0) (result : Outcome T E) → OnOk result P → OnOk result Q → OnOk result (P × Q)
+both P Q (Ok value) p q = (p, q)
+both P Q (Err fault) p q = tt
+
+pub returns-in-Bits-clause-said : goal.returns-in-Bits-clause-said
+returns-in-Bits-clause-said c =
+    let bits : Bits = c.in-Bits.bits in
+    let after : Bits = c.take.new.self in
+    let bytes : List ℕ = c.args.bytes.now in
+    let events : List Event = c.take.new.events.items in
+    let Took : Type 0 = (text : List ℕ) (later : List Event) → SamplesSay bits_reading (bits_state after) text later
+    → SamplesSay bits_reading (bits_state bits) (bytes ++ text) (events ++ later) in
+    let Faults : Type 0 = (text : List ℕ) → bits_fault (bits_state after) text ≡ bits_fault (bits_state bits) (bytes ++ text) in
+    on_ok_weaker c.take.result
+    (λ (took : Took × Faults). takes_bits c.args.self.now bits after bytes events c.in-Bits.is took.0 took.1)
+    (both Took Faults c.take.result c.take.ensures.said c.take.ensures.faults)
+
+pub returns-in-Bits-clause-refusals : goal.returns-in-Bits-clause-refusals
+returns-in-Bits-clause-refusals c =
+    let bits : Bits = c.in-Bits.bits in
+    let after : Bits = c.take.new.self in
+    let bytes : List ℕ = c.args.bytes.now in
+    on_ok_weaker c.take.result
+    (λ (faults : (text : List ℕ) → bits_fault (bits_state after) text ≡ bits_fault (bits_state bits) (bytes ++ text)).
+    keeps_bits c.args.self.now bits after bytes c.in-Bits.is faults)
+    c.take.ensures.faults
+
+pub returns-in-Bits-clause-refused : goal.returns-in-Bits-clause-refused
+returns-in-Bits-clause-refused c =
+    IfErr-weaker c.take.result _ _
+    (λ refusal refused. bits_are_refused c.args.self.now c.in-Bits.bits c.args.bytes.now refusal c.in-Bits.is refused)
+    c.take.ensures.refused
 
 pub returns-in-Sound-clause-said : goal.returns-in-Sound-clause-said
 returns-in-Sound-clause-said c =

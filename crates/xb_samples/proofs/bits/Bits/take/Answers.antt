@@ -1,11 +1,12 @@
-use Rattle.std.proofs.Common.{◌≡◌, ◌≤◌, ◌+◌, ◌^◌, [], ◌∷◌, ◌++◌, ap, length, ◌∙◌}
+use Rattle.std.proofs.Common.{◌≡◌, ◌≤◌, ◌+◌, ◌^◌, ℕ, List, [], ◌∷◌, ◌++◌, Some, ap, length, ◌∙◌}
+use Rattle.std.specs.Prelude.{◌⊎◌}
 use Rattle.std.proofs.lemmas.Result.{on_ok_weaker}
 use Rattle.xb_contact.specs.declared.event.Event.TheVariants.{At}
 use Rattle.xb_contact.specs.declared.event.Refusal.TheVariants.{TooLate}
-use Rattle.xb_samples.specs.Pieces.{RunsOver, piece_events}
-use Rattle.xb_samples.specs.Samples.{bits_reading, bits_state}
+use Rattle.xb_samples.specs.Pieces.{piece_events}
+use Rattle.xb_samples.specs.Samples.{RefusesBits, bits_fault, bits_reading, bits_state}
 use Rattle.xb_samples.proofs.BitLemmas.{bits_say_when}
-use Rattle.xb_samples.proofs.RefusedLemmas.{out_of_memory, refused_with}
+use Rattle.xb_samples.proofs.RefusedLemmas.{ok_anyway, out_of_memory, refused_with}
 use Rattle.xb_samples.proofs.WaitLemmas.{piece_says}
 use Rattle.xb_samples.proofs.bits.Bits.take.Goals as goal
 
@@ -21,15 +22,19 @@ returns-clause-said c =
     c.in_ok-take_bytes.ensures.state told rest)
     c.say.ensures.said
 
-pub returns-clause-over : goal.returns-clause-over
-returns-clause-over c =
-    out_of_memory c.say.result (λ refusal. 2 ^ 64 ≤ c.args.self.now.count + length c.args.bytes.now) c.say.ensures.only
+pub returns-clause-refused : goal.returns-clause-refused
+returns-clause-refused c =
+    let old = bits_state c.args.self.now in
+    out_of_memory c.say.result
+    (λ refusal. ((refusal ≡ TooLate) × (2 ^ 64 ≤ old.count + length c.args.bytes.now))
+    ⊎ ((text : List ℕ) → bits_fault old (c.args.bytes.now ++ text) ≡ Some refusal))
+    c.say.ensures.only
 
-pub returns-clause-only : goal.returns-clause-only
-returns-clause-only c = out_of_memory c.say.result (λ refusal. refusal ≡ TooLate) c.say.ensures.only
+pub returns-clause-faults : goal.returns-clause-faults
+returns-clause-faults c = ok_anyway c.say.result c.in_ok-take_bytes.ensures.faults
 
-pub returns-in_err-take_bytes-clause-over : goal.returns-in_err-take_bytes-clause-over
-returns-in_err-take_bytes-clause-over c =
+pub returns-in_err-take_bytes-clause-refused : goal.returns-in_err-take_bytes-clause-refused
+returns-in_err-take_bytes-clause-refused c =
     refused_with c.from_residual.result c.in_err-take_bytes.field-0.0
-    (RunsOver c.args.self.now.count (length c.args.bytes.now)) c.from_residual.ensures.1
-    c.in_err-take_bytes.ensures.over
+    (RefusesBits (bits_state c.args.self.now) c.args.bytes.now) c.from_residual.ensures.1
+    c.in_err-take_bytes.ensures.refused

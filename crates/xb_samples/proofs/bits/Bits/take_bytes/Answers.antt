@@ -1,7 +1,7 @@
-use Rattle.std.proofs.Common.{length, refl, arith}
-use Rattle.xb_samples.specs.Pieces.{RunsOver}
-use Rattle.xb_samples.specs.Samples.{bits_reading, bits_state}
-use Rattle.xb_samples.proofs.RefusedLemmas.{over_later, refused_with}
+use Rattle.std.proofs.Common.{refl, arith}
+use Rattle.xb_samples.specs.Samples.{RefusesBits, bits_reading, bits_state}
+use Rattle.xb_samples.proofs.FaultLemmas.{bits_refuse_later, faults_more, faults_whole}
+use Rattle.xb_samples.proofs.RefusedLemmas.{refused_with}
 use Rattle.xb_samples.proofs.WaitLemmas.{events_more, events_whole, state_more, state_whole}
 use Rattle.xb_samples.proofs.bits.Bits.take_bytes.Goals as goal
 
@@ -19,6 +19,7 @@ loop-byte-preserved c =
           inside took.state took.events so_far.events;
       state = state_more bits_reading old new _ bytes i 0 inside took.state so_far.state;
       count = omega (arith, took.count, so_far.count);
+      faults = faults_more (bits_state c.args.self.now) old new bytes i inside took.faults so_far.faults;
     }
 
 pub returns-clause-events : goal.returns-clause-events
@@ -32,12 +33,17 @@ returns-clause-state c =
     c.loop-byte-test.false c.loop-byte.invariant.state
 
 pub loop-byte-init : goal.loop-byte-init
-loop-byte-init c = record { events = refl; state = refl; count = omega arith }
+loop-byte-init c = record { events = refl; state = refl; count = omega arith; faults = λ text. refl }
 
-pub returns-in_err-take_byte-clause-over : goal.returns-in_err-take_byte-clause-over
-returns-in_err-take_byte-clause-over c =
+pub returns-in_err-take_byte-clause-refused : goal.returns-in_err-take_byte-clause-refused
+returns-in_err-take_byte-clause-refused c =
     let refusal = c.in_err-take_byte.field-0.0 in
-    refused_with c.from_residual.result refusal (RunsOver c.args.self.now.count (length c.args.bytes.now))
+    refused_with c.from_residual.result refusal (RefusesBits (bits_state c.args.self.now) c.args.bytes.now)
     c.from_residual.ensures.1
-    (over_later c.args.self.now.count c.loop-byte.self.count c.loop-byte.byte-index (length c.args.bytes.now) refusal
-    c.loop-byte.invariant.count c.loop-byte-test.true c.in_err-take_byte.ensures.over)
+    (bits_refuse_later (bits_state c.args.self.now) (bits_state c.loop-byte.self) c.args.bytes.now c.loop-byte.byte-index refusal
+    c.loop-byte.invariant.count c.loop-byte-test.true c.loop-byte.invariant.faults c.in_err-take_byte.ensures.refused)
+
+pub returns-clause-faults : goal.returns-clause-faults
+returns-clause-faults c =
+    faults_whole (bits_state c.args.self.now) (bits_state c.loop-byte.self) c.args.bytes.now c.loop-byte.byte-index
+    c.loop-byte-test.false c.loop-byte.invariant.faults

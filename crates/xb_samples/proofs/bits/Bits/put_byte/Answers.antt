@@ -2,7 +2,8 @@ use Rattle.std.proofs.Common.{◌≡◌, ◌++◌, ℕ, Option, Some, ap, append
 use Rattle.std.proofs.lemmas.Result.{on_ok_weaker}
 use Rattle.std.specs.Prelude.{OnOk}
 use Rattle.xb_samples.specs.Samples.{after_sample, bits_of, bits_state, events_by, state_by}
-use Rattle.xb_samples.proofs.bits.Bits.take_byte.Goals as goal
+use Rattle.xb_samples.specs.Turns.{turns_state}
+use Rattle.xb_samples.proofs.bits.Bits.put_byte.Goals as goal
 
 pub returns-in-Some-clause-events : goal.returns-in-Some-clause-events
 returns-in-Some-clause-events c =
@@ -35,5 +36,5 @@ pub returns-in-None-clause-state : goal.returns-in-None-clause-state
 returns-in-None-clause-state c =
     let old = c.args.self.now in
     let P : Option ℕ → Type 0 =
-    λ found. bits_of old.width old.masks.items (Some c.args.byte) old.last old.count ≡ state_by (bits_state old) c.args.byte found in
+    λ found. bits_of old.width old.masks.items (Some c.args.byte) old.last old.count (turns_state old.turns) ≡ state_by (bits_state old) c.args.byte found in
     subst P c.in-None.ensures refl
