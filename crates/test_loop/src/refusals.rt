@@ -26,7 +26,7 @@ const VCDS: &[Refused] = &[
     (
         &["7=D1"],
         b"$timescale 1 ms $end\n$var wire 1 ! D0 $end\n$enddefinitions $end\n",
-        b"mfloop: text line 3: no wire has a name that is asked for: $enddefinitions $end\n",
+        b"mfloop: text line 3: no wire has a name that is asked for: $enddefinitions $end; asked for: D1\n",
     ),
     (
         &["7=D0"],
@@ -77,9 +77,9 @@ const TABLES: &[Refused] = &[
         b"mfloop: text line 2: the sample rate is not known: give --rate: logic\n",
     ),
     (
-        &["7=B"],
+        &["7=A", "--line", "8=B,settle=0"],
         b"; Channels (1/1): A\n",
-        b"mfloop: text line 1: no wire has a name that is asked for: ; Channels (1/1): A\n",
+        b"mfloop: text line 1: no wire has a name that is asked for: ; Channels (1/1): A; asked for: A, B\n",
     ),
     (
         &["7=A"],
@@ -152,7 +152,7 @@ const OTHERS: &[Refused] = &[
     (
         &["7=8", "--format", "bits", "--rate", "100"],
         b"\x00",
-        b"mfloop: the recording: no wire has a name that is asked for\n",
+        b"mfloop: the recording: no wire has a name that is asked for; asked for: 8\n",
     ),
 ];
 

@@ -9,6 +9,7 @@ pub mod BounceLines
 pub mod Beginnings
 pub mod Watches
 pub mod Faults
+pub mod LackedWires
 pub mod Feeding
 pub mod Rules
 pub mod OwnWords

@@ -1,5 +1,5 @@
 -- What the program did, by its status.
-use Rattle.std.specs.Prelude.{ℕ, ◌≡◌, ◌⊎◌, ◌++◌, List, codes, Option, None, option_map}
+use Rattle.std.specs.Prelude.{ℕ, ◌≡◌, ◌⊎◌, ◌++◌, List, codes, Option, None, false, option_map, true}
 use Rattle.std.specs.Io.KnownBytes.{Appends, Keeps}
 use Rattle.clap.specs.Walk.{Text}
 use Rattle.xb_command.specs.Files.{Bytes}
@@ -9,7 +9,9 @@ use Rattle.xb_command.specs.declared.telling.TheConstants.{DONE, FAULT}
 use Rattle.xb_text.specs.Writing.{AppendsBeginning}
 use Rattle.xb_loop.specs.declared.fault.LoopFault.{LoopFault}
 use Rattle.xb_loop.specs.declared.fault.LoopFault.TheVariants as faults
+use Rattle.xb_loop.specs.declared.fault.RecordingFault.{RecordingFault}
 use Rattle.xb_loop.specs.declared.request.Request.{Request}
+use Rattle.xb_loop.specs.LackedWires.{lacks_wire}
 use Rattle.xb_loop.specs.Feeding.{FailsToListen, ListensTo}
 use Rattle.xb_loop.specs.Options.{AreRefused, Asks}
 use Rattle.xb_loop.specs.Tables.{IsBeforeRows, IsFaultOfTable, IsReleaseOf}
@@ -40,11 +42,20 @@ PrintsDeck files request told input output after =
     (before : List ℕ) × (release : ℕ) × HasBegun files request before release
     × ListensTo (with_release request release) before told input output after
 
--- what a fault says of the table and the recording, and what an output got before it
-abbrev pub FailsToPrint : Bytes → Request → LoopFault → Option (List ℕ) → Option (List ℕ) → Option (List ℕ) → Type 0
-FailsToPrint files request (faults.Recording fault) input output after =
+-- the fault of a recording, and what an output got before it
+abbrev pub FailsToGo :
+    Bytes → Request → RecordingFault → Option (List ℕ) → Option (List ℕ) → Option (List ℕ) → Type 0
+FailsToGo files request fault input output after =
     (before : List ℕ) × (release : ℕ) × HasBegun files request before release
     × FailsToListen (with_release request release) before fault input output after
+
+-- what a fault says of the table and the recording, and what an output got before it; where the recording lacks a wire,
+-- all names that are asked for are told
+abbrev pub FailsToPrint : Bytes → Request → LoopFault → Option (List ℕ) → Option (List ℕ) → Option (List ℕ) → Type 0
+FailsToPrint files request (faults.Recording fault) input output after =
+    (lacks_wire fault ≡ false) × FailsToGo files request fault input output after
+FailsToPrint files request (faults.NoWire fault names) input output after =
+    (lacks_wire fault ≡ true) × (names ≡ request.wanted.wires) × FailsToGo files request fault input output after
 FailsToPrint files request fault input output after =
     Keeps output after × IsFaultOfTable files (option_map (λ name. name.now) request.table) fault
 

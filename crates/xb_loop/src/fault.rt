@@ -1,7 +1,8 @@
 // Why no rows are made of a recording, or no further ones.
 ghost use Rattle.std.specs.Prelude.{◌≡◌};
+ghost use Rattle.xb_loop.specs.LackedWires.{lacks_wire};
 
-use crate::name::InOneLine;
+use crate::name::{AllInOneLine, InOneLine};
 use std::alloc::AllocError;
 use std::io;
 use thiserror::Error;
@@ -38,6 +39,22 @@ pub enum RecordingFault {
     NoMemory,
 }
 
+// Whether a recording is refused since it has no wire of a name.
+pub(crate) fn lacks_wire(fault: &RecordingFault) -> bool
+    ensures { result ≡ lacks_wire fault.now }
+{
+    match fault {
+        RecordingFault::Line(_, refusal, _)
+        | RecordingFault::Sample(_, refusal)
+        | RecordingFault::Beginning(refusal)
+        | RecordingFault::End(refusal) => *refusal == Refusal::NoWire,
+        RecordingFault::NoLevel(_)
+        | RecordingFault::Read
+        | RecordingFault::Write
+        | RecordingFault::NoMemory => false,
+    }
+}
+
 /// Why the program writes no deck, or no further rows of it.
 #[derive(Debug, Drop, Error)]
 pub enum LoopFault<'a> {
@@ -50,6 +67,9 @@ pub enum LoopFault<'a> {
     /// The rows of the recording have a fault.
     #[error("{0}")]
     Recording(RecordingFault),
+    /// The recording lacks a wire; the names that are asked for, each in one line.
+    #[error("{}; asked for: {}", .0, AllInOneLine(.1))]
+    NoWire(RecordingFault, Vec<&'a str>),
     /// All rows were written, and the bounces could not be told of.
     #[error("the bounces could not be told of")]
     Tell,

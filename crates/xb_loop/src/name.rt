@@ -1,7 +1,7 @@
-// The name of a file in a line that is told.
+// Names in a line that is told.
 use std::fmt;
 
-/// The name of a file, which is told in one line: a control character of it, as an LF or an escape, is told as
+/// A name, which is told in one line: a control character of it, as an LF or an escape, is told as
 /// `?`.
 #[derive(Clone, Copy)]
 pub(crate) struct InOneLine<'a>(pub(crate) &'a str);
@@ -15,6 +15,22 @@ impl<'a> fmt::Display for InOneLine<'a> {
                 character
             };
             f.write_char(told)?;
+        }
+        Ok(())
+    }
+}
+
+/// Names, which are told in one line with commas between them.
+#[derive(Clone, Copy)]
+pub(crate) struct AllInOneLine<'b, 'a>(pub(crate) &'b [&'a str]);
+
+impl<'b, 'a> fmt::Display for AllInOneLine<'b, 'a> {
+    fn fmt<W: fmt::Write>(&self, f: &mut fmt::Formatter<W>) -> fmt::Result {
+        for (i, name) in self.0.iter().enumerate() {
+            if i > 0 {
+                f.write_str(", ")?;
+            }
+            InOneLine(name).fmt(f)?;
         }
         Ok(())
     }

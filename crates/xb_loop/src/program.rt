@@ -1,10 +1,11 @@
 // The program: its words and a recording in, a status and rows out.
-ghost use Rattle.std.specs.Prelude.{◌≡◌, IfErr, IfOk, string_bytes};
+ghost use Rattle.std.specs.Prelude.{◌≡◌, false, IfErr, IfOk, string_bytes, true};
 ghost use Rattle.xb_command.specs.Programs.{streams};
 ghost use Rattle.xb_command.specs.Commands.{texts_of};
+ghost use Rattle.xb_loop.specs.LackedWires.{lacks_wire};
 ghost use Rattle.xb_loop.specs.Program.{AttendsLoop, FailsToPrint, PrintsDeck, TellsOfBounces};
 
-use crate::fault::LoopFault;
+use crate::fault::{LoopFault, RecordingFault, lacks_wire};
 use crate::feed::listen;
 use crate::request::Request;
 use crate::table::beginning_of;
@@ -23,6 +24,18 @@ const USAGE: &[u8] =
 [--table FILE] [--format vcd|sigrok|saleae|edges|gpiomon|bits|bits16|s16|wav] [--rate HZ] [--settle MS] \
 [--seize MS] [--ringing] [--tick MS] [--threshold PERCENT] [--inverted] [--said]\n";
 
+// The fault of a recording; where it lacks a wire, with the names that are asked for.
+fn fault_of_recording<'a>(fault: RecordingFault, names: Vec<&'a str>) -> LoopFault<'a>
+    ensures plain { lacks_wire fault ≡ false → result ≡ LoopFault.Recording fault }
+    ensures names { lacks_wire fault ≡ true → result ≡ LoopFault.NoWire fault names.entry }
+{
+    if lacks_wire(&fault) {
+        LoopFault::NoWire(fault, names)
+    } else {
+        LoopFault::Recording(fault)
+    }
+}
+
 // Writes the rows that are asked for, after a route table, if one is; its release limit is that of the lines.
 fn run<'a, F: Files, R: Read, W: Write>(
     alloc: Global,
@@ -40,7 +53,7 @@ fn run<'a, F: Files, R: Read, W: Write>(
     request.common.release_ms = release_ms;
     match listen(alloc, &request, &before, recording, out) {
         Ok(told) => Ok(told),
-        Err(fault) => Err(LoopFault::Recording(fault)),
+        Err(fault) => Err(fault_of_recording(fault, request.wanted.wires)),
     }
 }
 

@@ -1,0 +1,17 @@
+use Rattle.std.proofs.Common.{ap, rules, subst, ◌∙◌}
+use Rattle.xb_loop.proofs.Attended.{fails_to_print}
+use Rattle.xb_loop.specs.Feeding.{FailsToListen}
+use Rattle.xb_loop.specs.Program.{with_release}
+use Rattle.xb_loop.proofs.program.run.Goals as goal
+
+pub returns-clause-fault : goal.returns-clause-fault
+returns-clause-fault g c =
+    let files = g.F.Files.bytes c.args.files.now in
+    let request = c.args.request in
+    let before = c.in_ok-before.before.items in
+    let release = c.in_ok-before.release_ms in
+    fails_to_print files request c.in-Err.fault c.fault_of_recording.result _ _ _ c.fault_of_recording.ensures.plain
+    c.fault_of_recording.ensures.names
+    (before, release, record { text = c.in_ok-before.ensures.text; release_is = c.in_ok-before.ensures.release },
+    subst (λ b. FailsToListen (with_release request release) b c.in-Err.fault (g.R.Read.remaining c.args.recording.now)
+    (g.W.Write.contents c.args.out.now) (g.W.Write.contents c.listen.new.out)) c.deref.ensures.value c.in-Err.ensures.fault)
