@@ -81,6 +81,37 @@ fn written(
     Ok(out)
 }
 
+// The page of the first of them without the sound of its 0, and what is told of it: by the times above its 5 ends at
+// 736.25 ms, and its ST begins at 941.25.
+const LACKING: &[u8] =
+    b"0000 1 KEYED 0000 KP:1100+1700 5:900+1300 ST:1500+1700\nKEYED 1 REFUSED 0\n";
+
+const DOUBT: &[u8] =
+    b"mfrx: entry 1 at 0.501 s: 205 ms between its keys 2 and 3: one may be missing\n";
+
+#[test]
+fn tells_what_is_doubtful(rt: HostRuntime) -> Result<(), Fail> {
+    let alloc = rt.alloc();
+    let file = sound(alloc, &[&[5, 0]])?;
+    let whole = file.as_slice();
+    // the samples from 762.5 to 925 ms are silence, after a head of 44 bytes
+    if whole.len() < 14_844 {
+        return Err("too short".into());
+    }
+    let mut lacking = Vec::new(alloc);
+    lacking.extend_from_slice(&whole[..12_244])?;
+    lacking.extend_from_slice(&[0; 2_600])?;
+    lacking.extend_from_slice(&whole[14_844..])?;
+    let words = words_of(alloc, "mfrx", &[])?;
+    let mut reader = lacking.as_slice();
+    let mut out = Vec::new(alloc);
+    let mut err = Vec::new(alloc);
+    let status = attend(alloc, &words, &Folder, &mut reader, &mut out, &mut err);
+    assert!(rt; status == 0 && out.as_slice() == LACKING);
+    assert!(rt; err.as_slice() == DOUBT);
+    Ok(())
+}
+
 #[test]
 fn writes_the_page_of_a_sound(rt: HostRuntime) -> Result<(), Fail> {
     let page = written(rt.alloc(), NUMBERS, &["--line", "42", "--trunk", "17"], 0)?;

@@ -4,7 +4,7 @@
 //! - `Meaning::of` is what a pair stands for, by `key_of` where it is a key of the office: a digit, KP, ST, ST', ST''',
 //!   and KP2/ST'', which are one pair. `Meaning::name` is its name.
 //! - `figures_of`: the figures of a key, by the last key before it. `verdict_of`: GOOD, or the first limit that they
-//!   miss, of length, gap, twist and level.
+//!   miss, of length, gap, twist and level; `length_fits`: whether they keep to the first.
 //! - `key_line`: exactly the line of the figures (`text_line`), or as an object of JSON (`object_line`).
 //! - `laws::tenths_are_nearest`: the tenths of a dB of a level are the nearest to its decibels; `levels_are_as_worked`:
 //!   levels in dBm0, as worked by hand.
@@ -21,4 +21,4 @@ mod verdicts;
 pub use figures::{Figures, figures_of, start_ms};
 pub use lines::{Telling, key_line};
 pub use meaning::Meaning;
-pub use verdicts::{Verdict, verdict_of};
+pub use verdicts::{KEY_MS, KP_MS, MOST_OFF_MS, Verdict, length_fits, verdict_of};

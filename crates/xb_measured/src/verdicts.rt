@@ -59,8 +59,8 @@ fn is_about(wanted: u64, off: u64, number: u64) -> bool
     number.saturating_sub(wanted) <= off && wanted.saturating_sub(number) <= off
 }
 
-// Whether the length fits.
-fn length_fits(figures: &Figures) -> bool
+/// Whether a key lasts as long as a sender keys it: LENGTH is the limit that it misses else.
+pub fn length_fits(figures: &Figures) -> bool
     ensures { result ≡ length_fits figures.now }
 {
     let as_kp = is_about(KP_MS, MOST_OFF_MS, figures.length_ms);

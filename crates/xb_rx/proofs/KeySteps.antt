@@ -5,11 +5,11 @@ use Rattle.std.specs.Io.KnownBytes.{Appends}
 use Rattle.xb_text.specs.Writing.{AppendsBeginning}
 use Rattle.xb_ear.specs.declared.hearing.Heard.{Heard}
 use Rattle.xb_rx.specs.declared.page.PageFault.{PageFault}
-use Rattle.xb_rx.specs.declared.page.Step.TheVariants as steps
-use Rattle.xb_rx.specs.Keyings.{digits_in}
+use Rattle.xb_rx.specs.declared.begun.Step.TheVariants as steps
+use Rattle.xb_rx.specs.Keyings.{digits_in, is_keying}
 use Rattle.xb_rx.specs.Begun.{IsBegun, broken, kept_after, step_of}
-use Rattle.xb_rx.specs.Pages.{Paged, Writes, WritesOf, loose_lines, loose_rest, page_rest, text_rest}
-use Rattle.xb_rx.proofs.WrittenText.{broken-begun, broken-fault, broken-page, broken-told, complete-fault, complete-page, complete-quiet, kept-begun, kept-loose, kept-page, none-written}
+use Rattle.xb_rx.specs.Pages.{Paged, Writes, WritesOf, loose_lines, page_rest, page_told, text_rest, told_parts}
+use Rattle.xb_rx.proofs.WrittenText.{broken-begun, broken-fault, broken-page, broken-told, complete-fault, complete-page, complete-told, complete-told-fault, kept-begun, kept-page, kept-told, none-written}
 
 module _ (page new : Paged) (key : Heard) (r : Result (Unit {0}) PageFault) where
   -- the key is kept
@@ -22,13 +22,13 @@ module _ (page new : Paged) (key : Heard) (r : Result (Unit {0}) PageFault) wher
         by (Ok u) is = kept-page page new key a a is
         by (Err f) is = λ later. none-written a (page_rest page (key ∷ later))
 
-    pub keeps-loose : Writes (λ later. loose_rest page (key ∷ later)) (loose_rest new) r a a
-    keeps-loose = by r after
+    pub keeps-told : Writes (λ later. page_told page (key ∷ later)) (page_told new) r a a
+    keeps-told = by r after
       where
         by : (r : Result (Unit {0}) PageFault) → OnOk r (new ≡ record page { begun = page.begun ++ key ∷ [] })
-            → Writes (λ later. loose_rest page (key ∷ later)) (loose_rest new) r a a
-        by (Ok u) is = kept-loose page new key a a is
-        by (Err f) is = λ later. none-written a (loose_rest page (key ∷ later))
+            → Writes (λ later. page_told page (key ∷ later)) (page_told new) r a a
+        by (Ok u) is = kept-told page new key a a is
+        by (Err f) is = λ later. none-written a (page_told page (key ∷ later))
 
   pub keeps-count : OnOk r (new ≡ record page { begun = page.begun ++ key ∷ [] }) → OnErr r (new ≡ page)
       → new.count ≤ page.count + 1
@@ -62,13 +62,18 @@ module _ (page new : Paged) (key : Heard) (r : Result (Unit {0}) PageFault) wher
         by (Ok u) is wrote = complete-page page new key begun a b step is wrote
         by (Err f) is wrote = complete-fault page new key begun a b step f wrote
 
-    pub completes-loose : (a : Option (List ℕ)) → Writes (λ later. loose_rest page (key ∷ later)) (loose_rest new) r a a
-    completes-loose a = by r after
+    pub completes-told : (a b : Option (List ℕ))
+        → WritesOf (λ parts. told_parts (page.count + 1) (is_keying (page.begun ++ key ∷ []) ∷ parts))
+        (told_parts (new.count + 1)) r a b
+        → Writes (λ later. page_told page (key ∷ later)) (page_told new) r a b
+    completes-told a b wrote = by r after wrote
       where
         by : (r : Result (Unit {0}) PageFault) → OnOk r (new.begun ≡ [])
-            → Writes (λ later. loose_rest page (key ∷ later)) (loose_rest new) r a a
-        by (Ok u) is = complete-quiet page new key begun a a step is
-        by (Err f) is = λ later. none-written a (loose_rest page (key ∷ later))
+            → WritesOf (λ parts. told_parts (page.count + 1) (is_keying (page.begun ++ key ∷ []) ∷ parts))
+            (told_parts (new.count + 1)) r a b
+            → Writes (λ later. page_told page (key ∷ later)) (page_told new) r a b
+        by (Ok u) is wrote = complete-told page new key begun a b step is wrote
+        by (Err f) is wrote = complete-told-fault page new key begun a b step f wrote
 
   pub completes-begun : OnOk r (new.begun ≡ []) → OnOk r (IsBegun new.begun)
   completes-begun after = by r after
@@ -88,15 +93,15 @@ module _ (page new : Paged) (key : Heard) (r : Result (Unit {0}) PageFault) wher
         by (Ok u) is = broken-page page new key begun a a step is
         by (Err f) is = λ later. none-written a (page_rest page (key ∷ later))
 
-    pub breaks-loose : (a b : Option (List ℕ)) → OnOk r (Appends a b (loose_lines (broken page.begun key)))
+    pub breaks-told : (a b : Option (List ℕ)) → OnOk r (Appends a b (loose_lines (broken page.begun key)))
         → IfErr r (λ f. AppendsBeginning a b (loose_lines (broken page.begun key)))
-        → Writes (λ later. loose_rest page (key ∷ later)) (loose_rest new) r a b
-    breaks-loose a b whole beginning = by r after whole beginning
+        → Writes (λ later. page_told page (key ∷ later)) (page_told new) r a b
+    breaks-told a b whole beginning = by r after whole beginning
       where
         by : (r : Result (Unit {0}) PageFault) → OnOk r (new ≡ record page { begun = kept_after key })
             → OnOk r (Appends a b (loose_lines (broken page.begun key)))
             → IfErr r (λ f. AppendsBeginning a b (loose_lines (broken page.begun key)))
-            → Writes (λ later. loose_rest page (key ∷ later)) (loose_rest new) r a b
+            → Writes (λ later. page_told page (key ∷ later)) (page_told new) r a b
         by (Ok u) is whole beginning = broken-told page new key begun a b step is whole
         by (Err f) is whole beginning = broken-fault page new key begun a b step f beginning
 

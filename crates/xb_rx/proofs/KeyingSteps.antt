@@ -1,11 +1,11 @@
 -- What one key more makes of a keying that goes on.
-use Rattle.std.proofs.Common.{◌≡◌, ◌∙◌, ℕ, zero, suc, ◌≤◌, ◌<◌, Bool, true, false, List, [], ◌∷◌, ◌++◌, length, Option, Some, None, sym, ap, refl, arith, append_assoc, append-nil}
+use Rattle.std.proofs.Common.{◌≡◌, ◌∙◌, ℕ, zero, suc, ◌≤◌, ◌<◌, Bool, true, false, List, [], ◌∷◌, ◌++◌, length, map, take, Option, Some, None, sym, ap, refl, arith, append_assoc, append-nil}
 use Rattle.std.specs.Prelude.{if◌then◌else◌}
 use Rattle.std.specs.List.{AllByRecursion}
 use Rattle.std.proofs.lemmas.Bool.{cond-true, cond-false}
 use Rattle.xb_ear.specs.declared.hearing.Heard.{Heard}
 use Rattle.xb_rx.specs.declared.keys.TheConstants.{MOST_DIGITS}
-use Rattle.xb_rx.specs.Keyings.{before_digits, digit_of, digits_in, digits_to_st, is_kp, is_st, keying_at, keyings, listed_digit, loose_after, loose_by, loose_keys, one_more}
+use Rattle.xb_rx.specs.Keyings.{before_digits, digit_of, digits_in, digits_to_st, is_kp, is_st, keying_at, keyings, listed_digit, is_keying, is_loose, one_more, part_by, parts_after, parts_of, Part}
 use Rattle.xb_rx.specs.Begun.{IsDigit, kept_after}
 use Rattle.xb_rx.proofs.KeyPairs.{digit-no-kp, digit-no-st, st-no-kp}
 
@@ -67,21 +67,29 @@ digits-begin-none (d ∷ digits) later (one, all) =
     none-begun d (digits ++ later) (digit-no-kp d one) ∙ digits-begin-none digits later all
 
 -- and stand in none
-loose-one : (key : Heard) (keys : List Heard) → is_kp key ≡ false → loose_keys (key ∷ keys) ≡ key ∷ loose_keys keys
-unfolding loose_after
-loose-one key keys none = ap (λ (o : Option (List ℕ)). loose_by o key (λ n. loose_after n keys)) (no-kp-at key keys none)
+abbrev pub all_loose : List Heard → List Part
+all_loose keys = map is_loose keys
+
+loose-one : (key : Heard) (keys : List Heard) → is_kp key ≡ false → parts_of (key ∷ keys) ≡ is_loose key ∷ parts_of keys
+unfolding parts_after
+loose-one key keys none =
+    ap (λ (o : Option (List ℕ)). part_by o key keys (λ n. parts_after n keys)) (no-kp-at key keys none)
 
 digits-are-loose : (digits later : List Heard) → AreDigits digits
-    → loose_keys (digits ++ later) ≡ digits ++ loose_keys later
+    → parts_of (digits ++ later) ≡ all_loose digits ++ parts_of later
 digits-are-loose [] later all = refl
 digits-are-loose (d ∷ digits) later (one, all) =
-    loose-one d (digits ++ later) (digit-no-kp d one) ∙ ap (λ ks. d ∷ ks) (digits-are-loose digits later all)
+    loose-one d (digits ++ later) (digit-no-kp d one) ∙ ap (λ ps. is_loose d ∷ ps) (digits-are-loose digits later all)
 
 -- those of a keying are passed over
-pass : (keys later : List Heard) → loose_after (length keys) (keys ++ later) ≡ loose_keys later
-unfolding loose_after
+pass : (keys later : List Heard) → parts_after (length keys) (keys ++ later) ≡ parts_of later
+unfolding parts_after
 pass [] later = refl
 pass (key ∷ keys) later = pass keys later
+
+first-of : (keys later : List Heard) → take (length keys) (keys ++ later) ≡ keys
+first-of [] later = refl
+first-of (key ∷ keys) later = ap (λ ks. key ∷ ks) (first-of keys later)
 
 count-digits : (digits : List Heard) → AreDigits digits → length (digits_in digits) ≡ length digits
 count-digits [] all = refl
@@ -99,16 +107,21 @@ module _ (kp : Heard) (digits : List Heard) (is : is_kp kp ≡ true) (all : AreD
       ∙ ap (λ ks. digits_in digits ∷ ks)
       (digits-begin-none digits (st ∷ later) all ∙ none-begun st later (st-no-kp st ends))
 
-  pub none-loose : (st : Heard) (later : List Heard) → is_st st ≡ true
-      → loose_keys (kp ∷ digits ++ st ∷ later) ≡ loose_keys later
-  unfolding loose_after
-  none-loose st later ends =
-      ap (λ (o : Option (List ℕ)). loose_by o kp (λ n. loose_after n (digits ++ st ∷ later)))
-      (kp-at kp (digits ++ st ∷ later) is ∙ number MOST_DIGITS digits st later all few ends)
-      ∙ ap (λ (n : ℕ). loose_after (suc n) (digits ++ st ∷ later)) (count-digits digits all)
-      ∙ ap (λ ks. loose_after (suc (length digits)) ks) (sym (append_assoc digits (st ∷ []) later))
-      ∙ ap (λ (n : ℕ). loose_after n ((digits ++ st ∷ []) ++ later)) (one-longer digits)
-      ∙ pass (digits ++ st ∷ []) later
+  pub completes-part : (st : Heard) (later : List Heard) → is_st st ≡ true
+      → parts_of (kp ∷ digits ++ st ∷ later) ≡ is_keying (kp ∷ digits ++ st ∷ []) ∷ parts_of later
+  unfolding parts_after
+  completes-part st later ends =
+      let rest = digits ++ st ∷ later in
+      let same : rest ≡ (digits ++ st ∷ []) ++ later = sym (append_assoc digits (st ∷ []) later) in
+      let size : suc (length (digits_in digits)) ≡ length (digits ++ st ∷ []) =
+      ap suc (count-digits digits all) ∙ one-longer digits in
+      ap (λ (o : Option (List ℕ)). part_by o kp rest (λ n. parts_after n rest))
+      (kp-at kp rest is ∙ number MOST_DIGITS digits st later all few ends)
+      ∙ ap (λ (n : ℕ). is_keying (kp ∷ take n rest) ∷ parts_after n rest) size
+      ∙ ap (λ ks. is_keying (kp ∷ take (length (digits ++ st ∷ [])) ks) ∷ parts_after (length (digits ++ st ∷ [])) ks) same
+      ∙ ap (λ ks. is_keying (kp ∷ ks) ∷ parts_after (length (digits ++ st ∷ [])) ((digits ++ st ∷ []) ++ later))
+      (first-of (digits ++ st ∷ []) later)
+      ∙ ap (λ ps. is_keying (kp ∷ digits ++ st ∷ []) ∷ ps) (pass (digits ++ st ∷ []) later)
     where
       one-longer : (keys : List Heard) → suc (length keys) ≡ length (keys ++ st ∷ [])
       one-longer [] = refl
@@ -125,12 +138,13 @@ module _ (kp : Heard) (digits : List Heard) (is : is_kp kp ≡ true) (all : AreD
         ap (λ (o : Option (List ℕ)). one_more o (keyings (digits ++ key ∷ later))) (not-at later)
         ∙ digits-begin-none digits (key ∷ later) all
 
-    pub all-loose : (later : List Heard)
-        → loose_keys (kp ∷ digits ++ key ∷ later) ≡ kp ∷ (digits ++ loose_keys (key ∷ later))
-    unfolding loose_after
-    all-loose later =
-        ap (λ (o : Option (List ℕ)). loose_by o kp (λ n. loose_after n (digits ++ key ∷ later))) (not-at later)
-        ∙ ap (λ ks. kp ∷ ks) (digits-are-loose digits (key ∷ later) all)
+    pub breaks-parts : (later : List Heard)
+        → parts_of (kp ∷ digits ++ key ∷ later) ≡ is_loose kp ∷ (all_loose digits ++ parts_of (key ∷ later))
+    unfolding parts_after
+    breaks-parts later =
+        let rest = digits ++ key ∷ later in
+        ap (λ (o : Option (List ℕ)). part_by o kp rest (λ n. parts_after n rest)) (not-at later)
+        ∙ ap (λ ps. is_loose kp ∷ ps) (digits-are-loose digits (key ∷ later) all)
 
   -- so does the end
   pub end-none : keyings (kp ∷ digits) ≡ []
@@ -140,13 +154,13 @@ module _ (kp : Heard) (digits : List Heard) (is : is_kp kp ≡ true) (all : AreD
       ∙ ap keyings (sym (append-nil digits))
       ∙ digits-begin-none digits [] all
 
-  pub end-loose : loose_keys (kp ∷ digits) ≡ kp ∷ digits
-  unfolding loose_after
-  end-loose =
-      ap (λ (o : Option (List ℕ)). loose_by o kp (λ n. loose_after n digits))
+  pub end-parts : parts_of (kp ∷ digits) ≡ is_loose kp ∷ all_loose digits
+  unfolding parts_after
+  end-parts =
+      ap (λ (o : Option (List ℕ)). part_by o kp digits (λ n. parts_after n digits))
       (kp-at kp digits is ∙ no-end MOST_DIGITS digits all)
-      ∙ ap (λ ks. kp ∷ ks)
-      (ap loose_keys (sym (append-nil digits)) ∙ digits-are-loose digits [] all ∙ append-nil digits)
+      ∙ ap (λ ps. is_loose kp ∷ ps)
+      (ap parts_of (sym (append-nil digits)) ∙ digits-are-loose digits [] all ∙ append-nil (all_loose digits))
 
 -- a key that breaks off goes on as a KP, or stands in none keying
 pub goes-on : (key : Heard) (later : List Heard) → keyings (key ∷ later) ≡ keyings (kept_after key ++ later)
@@ -156,11 +170,12 @@ goes-on key later = by (is_kp key) refl
     by true e = refl
     by false e = none-begun key later e
 
-pub goes-loose : (key : Heard) (later : List Heard)
-    → loose_keys (key ∷ later) ≡ (if is_kp key then [] else key ∷ []) ++ loose_keys (kept_after key ++ later)
-goes-loose key later = by (is_kp key) refl
+pub goes-parts : (key : Heard) (later : List Heard)
+    → parts_of (key ∷ later) ≡ all_loose (if is_kp key then [] else key ∷ []) ++ parts_of (kept_after key ++ later)
+goes-parts key later = by (is_kp key) refl
   where
     by : (b : Bool) → is_kp key ≡ b
-        → loose_keys (key ∷ later) ≡ (if b then [] else key ∷ []) ++ loose_keys ((if b then key ∷ [] else []) ++ later)
+        → parts_of (key ∷ later)
+        ≡ all_loose (if b then [] else key ∷ []) ++ parts_of ((if b then key ∷ [] else []) ++ later)
     by true e = refl
     by false e = loose-one key later e

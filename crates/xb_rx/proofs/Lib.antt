@@ -1,4 +1,5 @@
 pub mod KeyPairs
+pub mod DoubtTexts
 pub mod KeyingSteps
 pub mod WrittenText
 pub mod Listings

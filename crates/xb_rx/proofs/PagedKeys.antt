@@ -1,6 +1,6 @@
 -- The keyings among keys whose pairs are those of keyings.
 use Rattle.std.proofs.Common.{◌≡◌, ◌∙◌, ℕ, suc, ◌<◌, ◌≤◌, List, [], ◌∷◌, ◌++◌, length, map, drop, get_or, Some, sym, ap, ap₂, refl, append_assoc, subst, true}
-use Rattle.std.specs.List.{AllByRecursion}
+use Rattle.std.specs.List.{AllByRecursion, flat_map}
 use Rattle.xb_model.specs.declared.digit.TheConstants.{DIGITS}
 use Rattle.xb_model.specs.declared.key.Key.TheVariants.{Digit, Kp, St}
 use Rattle.xb_model.specs.declared.key.Tone.{Tone as Pair}
@@ -18,10 +18,10 @@ use Rattle.xb_ear.proofs.WholeSounds.{disturbed_keys_are_heard}
 use Rattle.xb_rx.specs.declared.keys.TheConstants.{MOST_DIGITS}
 use Rattle.xb_measured.specs.declared.meaning.Meaning.TheVariants as meaning
 use Rattle.xb_measured.specs.Meanings.{meaning_of}
-use Rattle.xb_rx.specs.Keyings.{begins_keying, digit_by, digit_of, digits_in, ends_keying, is_kp, is_st, keyings, listed_digit, loose_after, loose_keys}
+use Rattle.xb_rx.specs.Keyings.{begins_keying, digit_by, digit_of, digits_in, ends_keying, is_kp, is_st, keyings, listed_digit, listed_loose, loose_keys, parts_after, Part}
 use Rattle.xb_rx.specs.PagedKeys.{AreNumbers, KeyedIsPaged, marks_of_numbers}
-use Rattle.xb_rx.specs.Pages.{loose_lines, page_after}
-use Rattle.xb_rx.proofs.KeyingSteps.{AreDigits, completes, none-loose}
+use Rattle.xb_rx.specs.Pages.{page_after}
+use Rattle.xb_rx.proofs.KeyingSteps.{AreDigits, completes, completes-part}
 
 -- the pair of each key stands for it
 pair-digit : (d : ℕ) → d < DIGITS → meaning_of (mf_pair (Digit d)) ≡ meaning.Key (Digit d)
@@ -121,7 +121,7 @@ record AreThese (numbers : List (List ℕ)) (keys : List Heard) : Type 0 where
 
 these : (trunk : ℕ) (numbers : List (List ℕ)) (keys : List Heard) → AreNumbers numbers
     → pairs_in keys ≡ tones_of (marks_of_numbers trunk numbers) → AreThese numbers keys
-unfolding keyings loose_after
+unfolding keyings parts_after
 these trunk [] [] are e = record { keyings_are = refl; none_loose = refl }
 these trunk [] (key ∷ keys) are e = absurd (cc)
 these trunk (digits ∷ numbers) [] are e = absurd (none-there (e ∙ tones-first trunk digits numbers))
@@ -143,7 +143,9 @@ these trunk (digits ∷ numbers) (kp ∷ keys) are e =
           ∙ completes kp b.first is b.all few b.st b.later b.ends
           ∙ ap₂ (λ ds ks. ds ∷ ks) b.are more.keyings_are;
       none_loose =
-          ap (λ ks. loose_keys (kp ∷ ks)) b.parts ∙ none-loose kp b.first is b.all few b.st b.later b.ends ∙ more.none_loose;
+          ap (λ ks. loose_keys (kp ∷ ks)) b.parts
+          ∙ ap (λ (ps : List Part). flat_map listed_loose ps) (completes-part kp b.first is b.all few b.st b.later b.ends)
+          ∙ more.none_loose;
     }
 
 both-keyed : (xs ys : List Mark) → AreKeyed xs → AreKeyed ys → AreKeyed (xs ++ ys)
@@ -162,5 +164,5 @@ keyed_is_paged cadence keyed line trunk numbers samples hearable are within =
     let heard = disturbed_keys_are_heard cadence marks samples hearable (numbers-keyed keyed numbers are) within in
     let those = these keyed numbers (keys_of_sound samples) are heard.pairs in record {
       page = ap (page_after line trunk 0) those.keyings_are;
-      none_loose = ap loose_lines those.none_loose;
+      none_loose = those.none_loose;
     }

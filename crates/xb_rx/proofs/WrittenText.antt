@@ -5,6 +5,7 @@ use Rattle.std.specs.Io.KnownBytes.{Appends}
 use Rattle.std.specs.List.{AllByRecursion}
 use Rattle.std.proofs.KnownBytes.{Appends-nil}
 use Rattle.std.proofs.lemmas.Bool.{cond-false}
+use Rattle.std.proofs.lemmas.List.{map-append}
 use Rattle.xb_model.specs.declared.mark.Mark.{Mark}
 use Rattle.xb_model.specs.Keyings.{keying}
 use Rattle.xb_model.specs.Page.{entries_text, entry_text, totals_text}
@@ -14,13 +15,14 @@ use Rattle.xb_text.specs.declared.writing.WriteFault.{WriteFault}
 use Rattle.xb_text.proofs.Beginnings.{AppendsBeginning-first}
 use Rattle.xb_ear.specs.declared.hearing.Heard.{Heard}
 use Rattle.xb_rx.specs.declared.keys.TheConstants.{MOST_DIGITS}
-use Rattle.xb_rx.specs.declared.page.Step.TheVariants as steps
+use Rattle.xb_rx.specs.declared.begun.Step.TheVariants as steps
 use Rattle.xb_rx.specs.declared.page.PageFault.{PageFault}
-use Rattle.xb_rx.specs.Keyings.{digit_of, digits_in, is_kp, is_st, keyings, loose_after, loose_keys}
+use Rattle.xb_rx.specs.Keyings.{digit_of, digits_in, is_kp, is_st, keyings, is_keying, is_loose, Part, parts_after, parts_of}
 use Rattle.xb_rx.specs.Begun.{IsDigit, IsBegun, broken, kept_after, step_of}
 use Rattle.xb_compared.specs.Entries.{KeyedEntry}
-use Rattle.xb_rx.specs.Pages.{IsTextOf, Paged, Writes, WritesOf, heard_after, loose_line, loose_lines, loose_rest, loose_text, page_after, page_rest, text_after, text_rest}
-use Rattle.xb_rx.proofs.KeyingSteps.{all-loose, breaks, completes, end-loose, end-none, goes-loose, goes-on, none-loose}
+use Rattle.xb_rx.specs.Doubts.{doubts_text}
+use Rattle.xb_rx.specs.Pages.{IsTextOf, Paged, Writes, WritesOf, heard_after, loose_line, loose_lines, page_after, page_rest, page_told, text_after, text_rest, told_parts}
+use Rattle.xb_rx.proofs.KeyingSteps.{all_loose, breaks, breaks-parts, completes, completes-part, end-none, end-parts, goes-on, goes-parts}
 
 -- nothing was written
 pub none-written : (old : Option (List ℕ)) (bytes : List ℕ) → AppendsBeginning old old bytes
@@ -35,11 +37,14 @@ pub wrote-whole : {P : Type 0} (r : Result (Unit {0}) WriteFault) → OnOk r P �
 wrote-whole (Ok u) whole none = whole
 wrote-whole (Err f) whole none = absurd (cc)
 
--- the text of lines one after the other
-lines-both : (xs ys : List Heard) → loose_lines (xs ++ ys) ≡ loose_lines xs ++ loose_lines ys
-lines-both [] ys = refl
-lines-both (x ∷ xs) ys =
-    ap (λ t. loose_line x ++ t) (lines-both xs ys) ∙ sym (append_assoc (loose_line x) (loose_lines xs) (loose_lines ys))
+-- of keys that stand in none their lines are told
+loose-told : (n : ℕ) (keys : List Heard) (parts : List Part)
+    → told_parts n (all_loose keys ++ parts) ≡ loose_lines keys ++ told_parts n parts
+unfolding told_parts
+loose-told n [] parts = refl
+loose-told n (key ∷ keys) parts =
+    ap (λ t. loose_line key ++ t) (loose-told n keys parts)
+    ∙ sym (append_assoc (loose_line key) (loose_lines keys) (told_parts n parts))
 
 -- an entry, and the page after it
 entry-first : (line trunk count : ℕ) (number : List ℕ) (numbers : List (List ℕ))
@@ -102,11 +107,12 @@ module _ (page new : Paged) (key : Heard) (a b : Option (List ℕ)) where
           ∙ ap (λ (p : Paged). page_rest p later) (sym is),
     )
 
-    pub kept-loose : Writes {F = PageFault} (λ later. loose_rest page (key ∷ later)) (loose_rest new) (Ok tt) a a
-    kept-loose = (
+    pub kept-told : Writes {F = PageFault} (λ later. page_told page (key ∷ later)) (page_told new) (Ok tt) a a
+    kept-told = (
       [],
       Appends-nil a,
-      λ later. ap loose_text (kept-later page.begun key later) ∙ ap (λ (p : Paged). loose_rest p later) (sym is),
+      λ later. ap (λ ks. told_parts (page.count + 1) (parts_of ks)) (kept-later page.begun key later)
+          ∙ ap (λ (p : Paged). page_told p later) (sym is),
     )
 
 -- what holds of what a call returned, by what it says
@@ -161,11 +167,12 @@ complete-keyings [] key later is step = absurd (no-complete (is_kp key) step)
 complete-keyings (kp ∷ digits) key later (is, all, few) step =
     completes kp digits is all few key later (is-st kp key digits step)
 
-complete-loose : (begun : List Heard) (key : Heard) (later : List Heard) → IsBegun begun
-    → step_of begun key ≡ steps.Completes → loose_text (begun ++ key ∷ later) ≡ loose_text later
-complete-loose [] key later is step = absurd (no-complete (is_kp key) step)
-complete-loose (kp ∷ digits) key later (is, all, few) step =
-    ap loose_lines (none-loose kp digits is all few key later (is-st kp key digits step))
+pub complete-parts : (begun : List Heard) (key : Heard) (later : List Heard) → IsBegun begun
+    → step_of begun key ≡ steps.Completes
+    → parts_of (begun ++ key ∷ later) ≡ is_keying (begun ++ key ∷ []) ∷ parts_of later
+complete-parts [] key later is step = absurd (no-complete (is_kp key) step)
+complete-parts (kp ∷ digits) key later (is, all, few) step =
+    completes-part kp digits is all few key later (is-st kp key digits step)
 
 -- a keying is broken off
 broken-at : (begun : List Heard) (key : Heard) (later : List Heard) → IsBegun begun → step_of begun key ≡ steps.BreaksOff
@@ -174,21 +181,26 @@ broken-at [] key later is step = goes-on key later
 broken-at (kp ∷ digits) key later (is, all, few) step =
     breaks kp digits is all few key (no-st kp key digits step) (no-room kp key digits step) later ∙ goes-on key later
 
-broken-loose : (begun : List Heard) (key : Heard) (later : List Heard) → IsBegun begun → step_of begun key ≡ steps.BreaksOff
-    → loose_text (begun ++ key ∷ later) ≡ loose_lines (broken begun key) ++ loose_text (kept_after key ++ later)
-broken-loose begun key later is step =
-    ap loose_lines (keys begun is step) ∙ lines-both (broken begun key) (loose_keys (kept_after key ++ later))
-  where
-    rest : List Heard
-    rest = loose_keys (kept_after key ++ later)
+pub broken-parts : (begun : List Heard) (key : Heard) (later : List Heard) → IsBegun begun
+    → step_of begun key ≡ steps.BreaksOff
+    → parts_of (begun ++ key ∷ later) ≡ all_loose (broken begun key) ++ parts_of (kept_after key ++ later)
+broken-parts [] key later is step = goes-parts key later
+broken-parts (kp ∷ digits) key later (is, all, few) step =
+    let rest = parts_of (kept_after key ++ later) in
+    let last : List Heard = if is_kp key then [] else key ∷ [] in
+    breaks-parts kp digits is all few key (no-st kp key digits step) (no-room kp key digits step) later
+    ∙ ap (λ ps. is_loose kp ∷ (all_loose digits ++ ps)) (goes-parts key later)
+    ∙ ap (λ ps. is_loose kp ∷ ps)
+    (sym (append_assoc (all_loose digits) (all_loose last) rest)
+    ∙ ap (λ ps. ps ++ rest) (sym (map-append is_loose digits last)))
 
-    keys : (begun : List Heard) → IsBegun begun → step_of begun key ≡ steps.BreaksOff
-        → loose_keys (begun ++ key ∷ later) ≡ broken begun key ++ rest
-    keys [] is step = goes-loose key later
-    keys (kp ∷ digits) (is, all, few) step =
-        all-loose kp digits is all few key (no-st kp key digits step) (no-room kp key digits step) later
-        ∙ ap (λ ks. kp ∷ (digits ++ ks)) (goes-loose key later)
-        ∙ ap (λ ks. kp ∷ ks) (sym (append_assoc digits (if is_kp key then [] else key ∷ []) rest))
+broken-told-text : (n : ℕ) (begun : List Heard) (key : Heard) (later : List Heard) → IsBegun begun
+    → step_of begun key ≡ steps.BreaksOff
+    → told_parts n (parts_of (begun ++ key ∷ later))
+    ≡ loose_lines (broken begun key) ++ told_parts n (parts_of (kept_after key ++ later))
+broken-told-text n begun key later is step =
+    ap (told_parts n) (broken-parts begun key later is step)
+    ∙ loose-told n (broken begun key) (parts_of (kept_after key ++ later))
 
 module _ (page new : Paged) (key : Heard) (begun : IsBegun page.begun) (a b : Option (List ℕ)) where
   module _ (step : step_of page.begun key ≡ steps.Completes) where
@@ -213,14 +225,28 @@ module _ (page new : Paged) (key : Heard) (begun : IsBegun page.begun) (a b : Op
         → Writes (λ later. page_rest page (key ∷ later)) (page_rest new) (Err f) a b
     complete-fault f wrote = λ later. subst (AppendsBeginning a b) (sym (complete-rest later)) (wrote (keyings later))
 
-    pub complete-quiet : new.begun ≡ []
-        → Writes {F = PageFault} (λ later. loose_rest page (key ∷ later)) (loose_rest new) (Ok tt) a a
-    complete-quiet none = (
-      [],
-      Appends-nil a,
-      λ later. complete-loose page.begun key later begun step
-          ∙ ap (λ (ks : List Heard). loose_text (ks ++ later)) (sym none),
+    complete-told-text : (later : List Heard) → page_told page (key ∷ later)
+        ≡ told_parts (page.count + 1) (is_keying (page.begun ++ key ∷ []) ∷ parts_of later)
+    complete-told-text later = ap (told_parts (page.count + 1)) (complete-parts page.begun key later begun step)
+
+    pub complete-told : new.begun ≡ []
+        → WritesOf {F = PageFault} (λ parts. told_parts (page.count + 1) (is_keying (page.begun ++ key ∷ []) ∷ parts))
+        (told_parts (new.count + 1)) (Ok tt) a b
+        → Writes {F = PageFault} (λ later. page_told page (key ∷ later)) (page_told new) (Ok tt) a b
+    complete-told none (bytes, wrote, is) = (
+      bytes,
+      wrote,
+      λ later. complete-told-text later
+          ∙ is (parts_of later)
+          ∙ ap (λ (ks : List Heard). bytes ++ told_parts (new.count + 1) (parts_of (ks ++ later))) (sym none),
     )
+
+    pub complete-told-fault : (f : PageFault)
+        → WritesOf (λ parts. told_parts (page.count + 1) (is_keying (page.begun ++ key ∷ []) ∷ parts))
+        (told_parts (new.count + 1)) (Err f) a b
+        → Writes (λ later. page_told page (key ∷ later)) (page_told new) (Err f) a b
+    complete-told-fault f wrote =
+        λ later. subst (AppendsBeginning a b) (sym (complete-told-text later)) (wrote (parts_of later))
 
   module _ (step : step_of page.begun key ≡ steps.BreaksOff) where
     pub broken-page : new ≡ record page { begun = kept_after key }
@@ -233,18 +259,18 @@ module _ (page new : Paged) (key : Heard) (begun : IsBegun page.begun) (a b : Op
     )
 
     pub broken-told : new ≡ record page { begun = kept_after key } → Appends a b (loose_lines (broken page.begun key))
-        → Writes {F = PageFault} (λ later. loose_rest page (key ∷ later)) (loose_rest new) (Ok tt) a b
+        → Writes {F = PageFault} (λ later. page_told page (key ∷ later)) (page_told new) (Ok tt) a b
     broken-told is wrote = (
       loose_lines (broken page.begun key),
       wrote,
-      λ later. broken-loose page.begun key later begun step
-          ∙ ap (λ (p : Paged). loose_lines (broken page.begun key) ++ loose_rest p later) (sym is),
+      λ later. broken-told-text (page.count + 1) page.begun key later begun step
+          ∙ ap (λ (p : Paged). loose_lines (broken page.begun key) ++ page_told p later) (sym is),
     )
 
     pub broken-fault : (f : PageFault) → AppendsBeginning a b (loose_lines (broken page.begun key))
-        → Writes (λ later. loose_rest page (key ∷ later)) (loose_rest new) (Err f) a b
+        → Writes (λ later. page_told page (key ∷ later)) (page_told new) (Err f) a b
     broken-fault f wrote = λ later.
-        subst (AppendsBeginning a b) (sym (broken-loose page.begun key later begun step))
+        subst (AppendsBeginning a b) (sym (broken-told-text (page.count + 1) page.begun key later begun step))
         (AppendsBeginning-first a b _ _ wrote)
 
 -- no key comes after those of a keying
@@ -254,14 +280,14 @@ end-keyings [] is = refl
 end-keyings (kp ∷ digits) (is, all, few) =
     ap keyings (append-nil (kp ∷ digits)) ∙ end-none kp digits is all few
 
-nothing-loose : loose_keys [] ≡ []
-unfolding loose_after
-nothing-loose = refl
+no-parts : parts_of [] ≡ []
+unfolding parts_after
+no-parts = refl
 
-end-loose-keys : (begun : List Heard) → IsBegun begun → loose_keys (begun ++ []) ≡ begun
-end-loose-keys [] is = nothing-loose
-end-loose-keys (kp ∷ digits) (is, all, few) =
-    ap loose_keys (append-nil (kp ∷ digits)) ∙ end-loose kp digits is all few
+pub end-all-loose : (begun : List Heard) → IsBegun begun → parts_of (begun ++ []) ≡ all_loose begun
+end-all-loose [] is = no-parts
+end-all-loose (kp ∷ digits) (is, all, few) =
+    ap parts_of (append-nil (kp ∷ digits)) ∙ end-parts kp digits is all few
 
 pub end-page : (page : Paged) → IsBegun page.begun → page_rest page [] ≡ text_rest page []
 end-page page is = ap (text_rest page) (end-keyings page.begun is)
@@ -280,8 +306,42 @@ last-none page text is totals =
     ∙ sym (last-totals page.line page.trunk page.count)
     ∙ ap (λ (o : Option (List KeyedEntry)). text_after o page.line page.trunk page.count []) (sym is)
 
-pub end-told : (page : Paged) → IsBegun page.begun → loose_rest page [] ≡ loose_lines page.begun
-end-told page is = ap loose_lines (end-loose-keys page.begun is)
+pub no-told : (n : ℕ) → told_parts n [] ≡ []
+unfolding told_parts
+no-told n = refl
+
+pub end-told : (page : Paged) → IsBegun page.begun → page_told page [] ≡ loose_lines page.begun
+end-told page is =
+    ap (told_parts (page.count + 1))
+    (end-all-loose page.begun is ∙ sym (append-nil (all_loose page.begun)))
+    ∙ loose-told (page.count + 1) page.begun []
+    ∙ ap (λ t. loose_lines page.begun ++ t) (no-told (page.count + 1))
+    ∙ append-nil (loose_lines page.begun)
+
+-- what is told of an entry
+module _ (n m : ℕ) (keys : List Heard) (bytes : List ℕ) (is : bytes ≡ doubts_text n keys) where
+  told-first : (parts : List Part) → told_parts n (is_keying keys ∷ parts) ≡ bytes ++ told_parts (n + 1) parts
+  unfolding told_parts
+  told-first parts = ap (λ t. t ++ told_parts (n + 1) parts) (sym is)
+
+  pub entry-told : m ≡ n → (a b : Option (List ℕ)) → Appends a b bytes
+      → WritesOf {F = PageFault} (λ parts. told_parts n (is_keying keys ∷ parts)) (told_parts (m + 1)) (Ok tt) a b
+  entry-told same a b wrote = (
+    bytes,
+    wrote,
+    λ parts. told-first parts ∙ ap (λ (k : ℕ). bytes ++ told_parts (k + 1) parts) (sym same),
+  )
+
+  pub entry-told-begun : (after : List Part → List ℕ) (f : PageFault) (a b : Option (List ℕ)) → AppendsBeginning a b bytes
+      → WritesOf (λ parts. told_parts n (is_keying keys ∷ parts)) after (Err f) a b
+  entry-told-begun after f a b wrote =
+      λ parts. subst (AppendsBeginning a b) (sym (told-first parts)) (AppendsBeginning-first a b _ _ wrote)
+
+-- nothing was
+pub no-doubts : (before after : List Part → List ℕ) (r : Result (Unit {0}) PageFault) (f : PageFault)
+    (a : Option (List ℕ)) → r ≡ Err f → WritesOf before after r a a
+no-doubts before after r f a is =
+    subst (λ (s : Result (Unit {0}) PageFault). WritesOf before after s a a) (sym is) (λ parts. none-written a (before parts))
 
 -- a keying that goes on with a key is one
 one-digit : (digits : List Heard) (key : Heard) → AllByRecursion IsDigit digits → IsDigit key

@@ -3,8 +3,8 @@ use Rattle.std.specs.Prelude.{ℕ, ◌≡◌, ◌+◌, ◌≤◌, ◌&&◌, List
 use Rattle.std.specs.List.{AllByRecursion}
 use Rattle.xb_ear.specs.declared.hearing.Heard.{Heard}
 use Rattle.xb_rx.specs.declared.keys.TheConstants.{MOST_DIGITS}
-use Rattle.xb_rx.specs.declared.page.Step.{Step}
-use Rattle.xb_rx.specs.declared.page.Step.TheVariants as step
+use Rattle.xb_rx.specs.declared.begun.Step.{Step}
+use Rattle.xb_rx.specs.declared.begun.Step.TheVariants as step
 use Rattle.xb_rx.specs.Keyings.{digit_of, is_kp, is_st}
 
 abbrev pub IsDigit : Heard → Type 0

@@ -1,5 +1,5 @@
 -- The keyings among keys that are heard, and the keys that stand in none.
-use Rattle.std.specs.Prelude.{ℕ, zero, suc, List, [], ◌∷◌, length, Bool, true, false, if◌then◌else◌, Option, Some, None, option_and_then, option_map}
+use Rattle.std.specs.Prelude.{ℕ, zero, suc, List, [], ◌∷◌, length, Bool, true, false, if◌then◌else◌, Option, Some, None, option_and_then, option_map, take}
 use Rattle.std.specs.List.{flat_map}
 use Rattle.xb_model.specs.declared.key.Key.TheVariants.{Digit, Kp, St}
 use Rattle.xb_ear.specs.declared.hearing.Heard.{Heard}
@@ -53,18 +53,33 @@ unfoldable pub keyings : List Heard → List (List ℕ)
 keyings [] = []
 keyings (key ∷ keys) = one_more (keying_at key keys) (keyings keys)
 
-abbrev pub loose_by : Option (List ℕ) → Heard → (ℕ → List Heard) → List Heard
-loose_by None key next = key ∷ next 0
-loose_by (Some digits) key next = next (suc (length digits))
+-- keys are cut into keyings, each with all its keys, and keys that stand in none
+pub data Part : Type 0 where
+  is_keying : List Heard → Part
+  is_loose : Heard → Part
 
--- the keys that stand in no keying, after n that stand in one
-unfoldable pub loose_after : ℕ → List Heard → List Heard
-loose_after n [] = []
-loose_after zero (key ∷ keys) = loose_by (keying_at key keys) key (λ n. loose_after n keys)
-loose_after (suc n) (key ∷ keys) = loose_after n keys
+-- after its first key a keying has so many digits, and an ST
+abbrev pub part_by : Option (List ℕ) → Heard → List Heard → (ℕ → List Part) → List Part
+part_by None key keys next = is_loose key ∷ next 0
+part_by (Some digits) key keys next =
+    is_keying (key ∷ take (suc (length digits)) keys) ∷ next (suc (length digits))
 
+-- the parts of keys, after n that stand in a keying
+unfoldable pub parts_after : ℕ → List Heard → List Part
+parts_after n [] = []
+parts_after zero (key ∷ keys) = part_by (keying_at key keys) key keys (λ n. parts_after n keys)
+parts_after (suc n) (key ∷ keys) = parts_after n keys
+
+abbrev pub parts_of : List Heard → List Part
+parts_of keys = parts_after 0 keys
+
+abbrev pub listed_loose : Part → List Heard
+listed_loose (is_keying keys) = []
+listed_loose (is_loose key) = key ∷ []
+
+-- the keys that stand in no keying
 abbrev pub loose_keys : List Heard → List Heard
-loose_keys keys = loose_after 0 keys
+loose_keys keys = flat_map listed_loose (parts_of keys)
 
 -- the digits of keys
 abbrev pub listed_digit : Option ℕ → List ℕ

@@ -1,6 +1,7 @@
 pub mod Faults
 pub mod Keyings
 pub mod Begun
+pub mod Doubts
 pub mod Pages
 pub mod Reports
 pub mod Hearing

@@ -9,7 +9,8 @@ use Rattle.xb_ear.specs.Disturbed.{AreWithin}
 use Rattle.xb_ear.specs.HeardKeys.{IsHearable, disturbable}
 use Rattle.xb_ear.specs.Receivers.{keys_of_sound}
 use Rattle.xb_rx.specs.declared.keys.TheConstants.{MOST_DIGITS}
-use Rattle.xb_rx.specs.Pages.{loose_text, page_after, page_of}
+use Rattle.xb_rx.specs.Keyings.{loose_keys}
+use Rattle.xb_rx.specs.Pages.{page_after, page_of}
 
 -- digits, not too many for a keying
 pub record IsNumber (digits : List ℕ) : Type 0 where
@@ -27,7 +28,7 @@ marks_of_numbers trunk numbers = flat_map (λ digits. keying trunk digits) numbe
 -- an entry for each, in order, and no key stands in no keying
 pub record IsPaged (line trunk : ℕ) (numbers : List (List ℕ)) (samples : List ℤ) : Type 0 where
   pub page : page_of line trunk (keys_of_sound samples) ≡ page_after line trunk 0 numbers
-  pub none_loose : loose_text (keys_of_sound samples) ≡ []
+  pub none_loose : loose_keys (keys_of_sound samples) ≡ []
 
 abbrev pub KeyedIsPaged : Type 0
 KeyedIsPaged = (cadence : Cadence) (keyed line trunk : ℕ) (numbers : List (List ℕ)) (samples : List ℤ)

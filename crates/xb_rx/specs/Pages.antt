@@ -1,5 +1,5 @@
--- What is written of keys that are heard: the page of the keyings, or its differences from what was keyed, and a line
--- for each key that stands in none.
+-- What is written of keys that are heard: the page of the keyings, or its differences from what was keyed, and lines
+-- for what is doubtful of each, and for each key that stands in none.
 use Rattle.std.specs.Prelude.{ℕ, ◌≡◌, ◌+◌, List, [], ◌∷◌, ◌++◌, codes, decimal, length, map, Option, Some, None, Result, Ok, Err}
 use Rattle.std.specs.Io.KnownBytes.{Appends}
 use Rattle.std.specs.List.{flat_map}
@@ -15,7 +15,8 @@ use Rattle.xb_compared.specs.Keyed.{keyed_with}
 use Rattle.xb_rx.specs.declared.page.Page.{Page}
 use Rattle.xb_measured.specs.Figures.{start_ms}
 use Rattle.xb_measured.specs.Meanings.{meaning_of, name_text}
-use Rattle.xb_rx.specs.Keyings.{keyings, loose_keys}
+use Rattle.xb_rx.specs.Doubts.{doubts_text}
+use Rattle.xb_rx.specs.Keyings.{Part, is_keying, is_loose, keyings, parts_of}
 
 -- a key that stands in no keying
 abbrev pub loose_line : Heard → List ℕ
@@ -26,9 +27,15 @@ loose_line key =
 abbrev pub loose_lines : List Heard → List ℕ
 loose_lines keys = flat_map loose_line keys
 
+-- what is told of parts of keys, where the next entry has this number
+unfoldable pub told_parts : ℕ → List Part → List ℕ
+told_parts n [] = []
+told_parts n (is_keying keys ∷ parts) = doubts_text n keys ++ told_parts (n + 1) parts
+told_parts n (is_loose key ∷ parts) = loose_line key ++ told_parts n parts
+
 -- what is told of keys
-abbrev pub loose_text : List Heard → List ℕ
-loose_text keys = loose_lines (loose_keys keys)
+abbrev pub told_of : List Heard → List ℕ
+told_of keys = told_parts 1 (parts_of keys)
 
 -- what is left of the page of a line after so many entries
 abbrev pub page_after : ℕ → ℕ → ℕ → List (List ℕ) → List ℕ
@@ -90,8 +97,8 @@ text_rest page numbers = text_after page.against page.line page.trunk page.count
 abbrev pub page_rest : Paged → List Heard → List ℕ
 page_rest page later = text_rest page (keyings (page.begun ++ later))
 
-abbrev pub loose_rest : Paged → List Heard → List ℕ
-loose_rest page later = loose_text (page.begun ++ later)
+abbrev pub page_told : Paged → List Heard → List ℕ
+page_told page later = told_parts (page.count + 1) (parts_of (page.begun ++ later))
 
 -- of a text that is known as far as what comes later a writer got what leaves the second of the first; on an Err
 -- it got the beginning

@@ -8,16 +8,16 @@ use Rattle.xb_rx.specs.declared.report.Report.TheVariants as report
 use Rattle.xb_rx.specs.declared.request.Written.{Written}
 use Rattle.xb_rx.specs.declared.request.Written.TheVariants as written
 use Rattle.xb_rx.specs.Begun.{IsBegun}
-use Rattle.xb_rx.specs.Pages.{Paged, fresh_page, loose_rest, loose_text, page_of, page_rest, paged}
+use Rattle.xb_rx.specs.Pages.{Paged, fresh_page, page_of, page_rest, page_told, paged, told_of}
 
 -- what is written of a sound with these keys
 abbrev pub written_text : Written → List Heard → List ℕ
 written_text (written.Page line trunk) keys = page_of line trunk keys
 written_text (written.Keys telling) keys = key_lines telling None keys
 
--- and what is told of those that stand in no keying, where it is its page
+-- and what is told of what is doubtful of them, and of those that stand in no keying, where it is its page
 abbrev pub told_text : Written → List Heard → List ℕ
-told_text (written.Page line trunk) keys = loose_text keys
+told_text (written.Page line trunk) keys = told_of keys
 told_text (written.Keys telling) keys = []
 
 -- what a page has so far, or the last key that was told
@@ -43,7 +43,7 @@ report_rest (on_page page) later = page_rest page later
 report_rest (by_key listing) later = listing_rest listing later
 
 abbrev pub told_rest : Reported → List Heard → List ℕ
-told_rest (on_page page) later = loose_rest page later
+told_rest (on_page page) later = page_told page later
 told_rest (by_key listing) later = []
 
 -- how many entries a page has

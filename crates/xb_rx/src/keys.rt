@@ -31,8 +31,8 @@ impl Model for NamedKey {
     ghost invariant = { λ key. key.meaning ≡ meaning_of key.heard.sight.pair };
 }
 
-// Whether it begins a keying.
-fn begins_keying(meaning: &Meaning) -> bool
+/// Whether it begins a keying.
+pub(crate) fn begins_keying(meaning: &Meaning) -> bool
     ensures { result ≡ begins_keying meaning.now }
 {
     matches!(meaning, Meaning::Key(Key::Kp))
@@ -69,6 +69,13 @@ impl NamedKey {
             heard,
             meaning: Meaning::of(heard.sight.pair),
         }
+    }
+
+    /// The key as it was heard.
+    pub(crate) fn heard(&self) -> Heard
+        ensures { result ≡ self.now }
+    {
+        self.heard
     }
 
     /// Whether it is KP.

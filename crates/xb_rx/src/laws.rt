@@ -4,7 +4,7 @@ ghost use Rattle.xb_rx.specs.Constants.{AreConstants};
 ghost use Rattle.xb_rx.specs.PagedKeys.{KeyedIsPaged};
 ghost use Rattle.xb_rx.specs.Program.{UsageNamesEachOption};
 
-/// The most digits of a keying, as it is.
+/// The most digits of a keying, and the longest time between its keys that is no doubt, as they are.
 pub fn constants()
     ensures { AreConstants }
 {}

@@ -1,8 +1,8 @@
 //! `mfrx` but for its process: the sound of keyings in, their page out.
 //!
 //! - `receive`: on `Ok` the output is exactly the page of the keyings that are heard (`page_of` of `keys_of_sound` of
-//!   the samples that the bytes say), and standard error has a line for each key that is in no keying; or the output is
-//!   a line for each key (`key_lines`). On an `Err` the beginning of that was written to each. A WAV is refused by the
+//!   the samples that the bytes say), and standard error has exactly a line for each doubt of one of them and for each
+//!   key that is in none (`told_of`); or the output is a line for each key (`key_lines`). On an `Err` the beginning of that was written to each. A WAV is refused by the
 //!   fault that it has (`start_of_file`), and by no other; `Cut` says how many samples are missing at its end. Memory
 //!   does not grow with the sound.
 //! - `compare`: on `Ok` the keyings that are heard are those that a page has keyed; on `Differ` the output is exactly
@@ -15,7 +15,9 @@
 //! `xb_wav` says which samples a file or a stream has, and `xb_ear` what is heard of them.
 #![tactic(auto)]
 
+mod begun;
 mod comparing;
+mod doubts;
 mod fault;
 mod keys;
 pub mod laws;
@@ -28,6 +30,7 @@ mod request;
 mod words;
 
 pub use comparing::{CompareProgramFault, compare};
+pub use doubts::MOST_GAP_MS;
 pub use fault::RxFault;
 pub use keys::MOST_DIGITS;
 pub use program::attend;

@@ -6,7 +6,9 @@ ghost use Rattle.xb_model.specs.Page.{entry_text, totals_text};
 ghost use Rattle.xb_rx.specs.Keyings.{digits_in};
 ghost use Rattle.xb_rx.specs.Pages.{IsTextOf, loose_lines};
 
-use crate::keys::{MOST_DIGITS, NamedKey};
+use crate::begun::{Step, step_of};
+use crate::doubts::doubts_text;
+use crate::keys::NamedKey;
 use std::alloc::{AllocError, Global};
 use std::io::Write;
 use xb_compared::{Comparison, Keyed};
@@ -22,7 +24,7 @@ pub(crate) enum PageFault {
     NoMemory,
     // The page could not be written.
     Write,
-    // A key that is in no keying could not be told of.
+    // What is doubtful of a keying, or a key that is in none, could not be told of.
     Tell,
 }
 
@@ -38,7 +40,8 @@ impl From<AllocError> for PageFault {
 }
 
 /// A page that is written as keys end: of each keying its entry, or what its entry differs by from what was keyed, and
-/// a line of errors for each key that is in none. It holds the keys of one keying, up to `MOST_DIGITS` digits.
+/// lines of errors for what is doubtful of it, and for each key that is in none. It holds the keys of one keying, up to
+/// `MOST_DIGITS` digits.
 #[derive(Drop)]
 pub(crate) struct Page {
     pub(crate) line: LineNo,
@@ -49,17 +52,6 @@ pub(crate) struct Page {
     pub(crate) begun: Vec<NamedKey>,
     // what it is compared with, in place of being written down
     pub(crate) against: Option<Comparison>,
-}
-
-// What is done with a key.
-#[derive(Clone, Copy, Debug, PartialEq, Eq)]
-enum Step {
-    // A keying begins with it, or goes on.
-    Keeps,
-    // It completes the keying.
-    Completes,
-    // The keys so far stand in no keying.
-    BreaksOff,
 }
 
 // Puts the mark of a key after the marks.
@@ -154,9 +146,9 @@ impl Page {
     ghost use Rattle.xb_ear.specs.Hearings.{listed};
     ghost use Rattle.xb_model.specs.Keyings.{keying};
     ghost use Rattle.xb_text.specs.Writing.{AppendsBeginning};
-    ghost use Rattle.xb_rx.specs.Keyings.{digits_in};
-    ghost use Rattle.xb_rx.specs.Begun.{IsBegun, broken, kept_after, step_of};
-    ghost use Rattle.xb_rx.specs.Pages.{Ends, Writes, WritesOf, fresh_against, fresh_page, loose_lines, loose_rest, page_rest, paged, text_rest};
+    ghost use Rattle.xb_rx.specs.Keyings.{Part, digits_in, is_keying};
+    ghost use Rattle.xb_rx.specs.Begun.{IsBegun, broken, kept_after};
+    ghost use Rattle.xb_rx.specs.Pages.{Ends, Writes, WritesOf, fresh_against, fresh_page, loose_lines, page_rest, page_told, paged, text_rest, told_parts};
 
     /// An empty page.
     pub(crate) fn new(alloc: Global, line: LineNo, trunk: Trunk) -> Page
@@ -184,31 +176,12 @@ impl Page {
         }
     }
 
-    // What is done with a key.
-    fn step_of(&self, key: &NamedKey) -> Step
-        ensures { result ≡ step_of self.now.begun.items key.now }
-    {
-        if self.begun.is_empty() {
-            if key.is_kp() {
-                return Step::Keeps;
-            }
-            return Step::BreaksOff;
-        }
-        if key.is_st() {
-            return Step::Completes;
-        }
-        if self.begun.len() <= MOST_DIGITS && key.digit().is_some() {
-            Step::Keeps
-        } else {
-            Step::BreaksOff
-        }
-    }
-
     // Keeps a key of the keying.
     fn keep(&mut self, key: NamedKey) -> Result<(), PageFault>
         ensures kept { OnOk result (paged self.new
             ≡ record (paged self.old) { begun = self.old.begun.items ++ key ∷ [] }) }
         ensures same { OnErr result (paged self.new ≡ paged self.old) }
+        ensures count { self.new.count ≡ self.old.count }
     {
         match self.begun.push(key) {
             Ok(()) => Ok(()),
@@ -229,20 +202,34 @@ impl Page {
         Ok(marks)
     }
 
-    // Writes what there is of the keying that goes on, which is complete.
-    fn complete<W: Write>(&mut self, alloc: Global, out: &mut W) -> Result<(), PageFault>
+    // Writes what there is of the keying that this key completes, and tells what is doubtful of it.
+    fn complete<W: Write, E: Write>(
+        &mut self,
+        alloc: Global,
+        key: NamedKey,
+        out: &mut W,
+        err: &mut E,
+    ) -> Result<(), PageFault>
         requires { self.old.count + 1 < 2 ^ 64 }
         ensures page { WritesOf (λ (numbers : List (List ℕ)).
             text_rest (paged self.old) (digits_in (drop 1 self.old.begun.items) ∷ numbers))
             (text_rest (paged self.new)) result (W.contents out.old) (W.contents out.new) }
+        ensures told { WritesOf (λ (parts : List Part).
+            told_parts (self.old.count + 1) (is_keying (self.old.begun.items ++ key ∷ []) ∷ parts))
+            (told_parts (self.new.count + 1)) result (E.contents err.old) (E.contents err.new) }
         ensures after { OnOk result (self.new.begun.items ≡ []) }
         ensures count { self.new.count ≤ self.old.count + 1 }
     {
         let marks = self.marks(alloc)?;
+        self.keep(key)?;
         let number = self.count + 1;
+        let told = doubts_text(alloc, number, &self.begun)?;
         let text = text_of(alloc, &mut self.against, self.line, number, &marks)?;
         if write_whole(out, text.as_bytes()).is_err() {
             return Err(PageFault::Write);
+        }
+        if write_whole(err, told.as_bytes()).is_err() {
+            return Err(PageFault::Tell);
         }
         self.count = number;
         self.begun.clear();
@@ -299,15 +286,15 @@ impl Page {
         ensures page { Writes (λ later. page_rest (paged self.old) (key ∷ later))
             (page_rest (paged self.new)) result
             (W.contents out.old) (W.contents out.new) }
-        ensures loose { Writes (λ later. loose_rest (paged self.old) (key ∷ later))
-            (loose_rest (paged self.new)) result
+        ensures told { Writes (λ later. page_told (paged self.old) (key ∷ later))
+            (page_told (paged self.new)) result
             (E.contents err.old) (E.contents err.new) }
         ensures count { self.new.count ≤ self.old.count + 1 }
         ensures begun { OnOk result (IsBegun self.new.begun.items) }
     {
-        match self.step_of(&key) {
+        match step_of(&self.begun, &key) {
             Step::Keeps => self.keep(key),
-            Step::Completes => self.complete(alloc, out),
+            Step::Completes => self.complete(alloc, key, out, err),
             Step::BreaksOff => self.break_off(alloc, key, err),
         }
     }
@@ -322,8 +309,9 @@ impl Page {
         }
     }
 
-    /// Takes the key that ended, if one did: writes what there is of the entry that it completes, and tells of the keys
-    /// that stand in no keying because of it. On an `Err` the beginning of this was written.
+    /// Takes the key that ended, if one did: writes what there is of the entry that it completes, and tells what is
+    /// doubtful of that, or of the keys that stand in no keying because of it. On an `Err` the beginning of this was
+    /// written.
     pub(crate) fn take<W: Write, E: Write>(
         &mut self,
         alloc: Global,
@@ -336,8 +324,8 @@ impl Page {
         ensures page { Writes (λ later. page_rest (paged self.old) (listed key ++ later))
             (page_rest (paged self.new)) result
             (W.contents out.old) (W.contents out.new) }
-        ensures loose { Writes (λ later. loose_rest (paged self.old) (listed key ++ later))
-            (loose_rest (paged self.new)) result
+        ensures told { Writes (λ later. page_told (paged self.old) (listed key ++ later))
+            (page_told (paged self.new)) result
             (E.contents err.old) (E.contents err.new) }
         ensures count { self.new.count ≤ self.old.count + 1 }
         ensures begun { OnOk result (IsBegun self.new.begun.items) }
@@ -358,7 +346,7 @@ impl Page {
     ) -> Result<(), PageFault>
         requires { IsBegun self.now.begun.items }
         ensures page { Ends (page_rest (paged self.now) []) result (W.contents out.old) (W.contents out.new) }
-        ensures loose { Ends (loose_rest (paged self.now) []) result
+        ensures told { Ends (page_told (paged self.now) []) result
             (E.contents err.old) (E.contents err.new) }
     {
         let text = loose_lines(alloc, &self.begun)?;
@@ -384,7 +372,7 @@ impl Page {
         requires count { self.old.count + 1 < 2 ^ 64 }
         ensures page { Ends (page_rest (paged self.old) (listed key)) result
             (W.contents out.old) (W.contents out.new) }
-        ensures loose { Ends (loose_rest (paged self.old) (listed key)) result
+        ensures told { Ends (page_told (paged self.old) (listed key)) result
             (E.contents err.old) (E.contents err.new) }
     {
         self.take(alloc, key, out, err)?;

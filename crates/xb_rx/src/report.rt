@@ -56,7 +56,7 @@ impl Report {
         ensures page { Writes (λ later. report_rest (reported self.old) (listed key ++ later))
             (report_rest (reported self.new))
             result (W.contents out.old) (W.contents out.new) }
-        ensures loose { Writes (λ later. told_rest (reported self.old) (listed key ++ later))
+        ensures told { Writes (λ later. told_rest (reported self.old) (listed key ++ later))
             (told_rest (reported self.new))
             result (E.contents err.old) (E.contents err.new) }
         ensures count { count_of (reported self.new) ≤ count_of (reported self.old) + 1 }
@@ -81,7 +81,7 @@ impl Report {
         requires count { count_of (reported self.old) + 1 < 2 ^ 64 }
         ensures page { Ends (report_rest (reported self.old) (listed key)) result
             (W.contents out.old) (W.contents out.new) }
-        ensures loose { Ends (told_rest (reported self.old) (listed key)) result
+        ensures told { Ends (told_rest (reported self.old) (listed key)) result
             (E.contents err.old) (E.contents err.new) }
     {
         match self {

@@ -51,7 +51,7 @@ loop-sample-preserved g c =
           c.in-Some.sample c.take-key.result (sound_left g.R.Read.remaining c.args.source.now) (sound_left g.R.Read.remaining c.loop-sample.source)
           (sound_left g.R.Read.remaining c.next_sample.new.self) _ _
           c.loop-sample.invariant.so_far (rw c.in-Some.is at c.in_ok-sample.ensures.sample)
-          (taken c.loop-sample.receiver c.take-key.new.self _ c.in-Some.sample c.take-key.result (to_z-of_z w16 c.in-Some.sample fits) c.take-key.ensures) c.in_ok-take.ensures.page c.in_ok-take.ensures.loose;
+          (taken c.loop-sample.receiver c.take-key.new.self _ c.in-Some.sample c.take-key.result (to_z-of_z w16 c.in-Some.sample fits) c.take-key.ensures) c.in_ok-take.ensures.page c.in_ok-take.ensures.told;
     }
 
 pub returns-in_err-take : goal.returns-in_err-take
@@ -66,7 +66,7 @@ returns-in_err-take g c =
     c.in-Some.sample c.take-key.result c.in_err-take.field-0.0 (sound_left g.R.Read.remaining c.args.source.now) (sound_left g.R.Read.remaining c.loop-sample.source)
     (sound_left g.R.Read.remaining c.next_sample.new.self) _ _
     c.loop-sample.invariant.so_far (rw c.in-Some.is at c.in_ok-sample.ensures.sample)
-    (taken c.loop-sample.receiver c.take-key.new.self _ c.in-Some.sample c.take-key.result (to_z-of_z w16 c.in-Some.sample fits) c.take-key.ensures) c.in_err-take.ensures.page c.in_err-take.ensures.loose)
+    (taken c.loop-sample.receiver c.take-key.new.self _ c.in-Some.sample c.take-key.result (to_z-of_z w16 c.in-Some.sample fits) c.take-key.ensures) c.in_err-take.ensures.page c.in_err-take.ensures.told)
 
 pub returns-in_err-end : goal.returns-in_err-end
 returns-in_err-end g c =
@@ -78,7 +78,7 @@ returns-in_err-end g c =
     (g.E.Write.contents c.loop-sample.err) c.finish-last.result c.in_err-end.field-0.0
     (sound_left g.R.Read.remaining c.args.source.now) (sound_left g.R.Read.remaining c.loop-sample.source)
     (sound_left g.R.Read.remaining c.next_sample.new.self) _ _ c.loop-sample.invariant.so_far (rw c.in_default.is at c.in_ok-sample.ensures.sample)
-    c.finish-last.ensures c.in_err-end.ensures.page c.in_err-end.ensures.loose)
+    c.finish-last.ensures c.in_err-end.ensures.page c.in_err-end.ensures.told)
 
 pub returns : goal.returns
 returns g c =
@@ -86,4 +86,4 @@ returns g c =
     (g.E.Write.contents c.loop-sample.err) c.finish-last.result
     (sound_left g.R.Read.remaining c.args.source.now) (sound_left g.R.Read.remaining c.loop-sample.source)
     (sound_left g.R.Read.remaining c.next_sample.new.self) _ _ c.loop-sample.invariant.so_far (rw c.in_default.is at c.in_ok-sample.ensures.sample)
-    c.finish-last.ensures c.in_ok-end.ensures.page c.in_ok-end.ensures.loose
+    c.finish-last.ensures c.in_ok-end.ensures.page c.in_ok-end.ensures.told

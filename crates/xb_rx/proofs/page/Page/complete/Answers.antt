@@ -1,31 +1,128 @@
-use Rattle.std.proofs.Common.{◌∙◌, drop, string_bytes, sym}
+use Rattle.std.proofs.Common.{◌≡◌, ◌∙◌, ◌+◌, [], ◌∷◌, ◌++◌, List, ℕ, Option, Result, Ok, Err, ap, drop, string_bytes, subst, sym}
 use Rattle.std.proofs.lemmas.Result.{err_from_is_err_and}
+use Rattle.xb_ear.specs.declared.hearing.Heard.{Heard}
+use Rattle.xb_model.specs.declared.mark.Mark.{Mark}
+use Rattle.xb_model.specs.Keyings.{keying}
+use Rattle.xb_rx.specs.declared.page.PageFault.{PageFault}
 use Rattle.xb_rx.specs.declared.page.PageFault.TheVariants as page_fault
+use Rattle.xb_rx.specs.Doubts.{doubts_text}
 use Rattle.xb_rx.specs.Keyings.{digits_in}
-use Rattle.xb_rx.specs.Pages.{paged, text_rest}
-use Rattle.xb_rx.proofs.WrittenText.{entry-begun, entry-whole, no-entry, wrote-whole}
+use Rattle.xb_rx.specs.Pages.{Paged, WritesOf, paged, text_after, text_rest, told_parts}
+use Rattle.xb_rx.proofs.WrittenText.{all-written, entry-begun, entry-told, entry-told-begun, entry-whole, no-doubts, no-entry, none-written, wrote-whole}
 use Rattle.xb_rx.proofs.page.Page.complete.Goals as goal
+
+-- the key was kept, and the marks are those of before
+same-marks : (page kept : Paged) (key : Heard) (marks : List Mark) → kept ≡ record page { begun = page.begun ++ key ∷ [] }
+    → marks ≡ keying page.trunk (digits_in (drop 1 page.begun)) → marks ≡ keying kept.trunk (digits_in (drop 1 page.begun))
+same-marks page kept key marks is are =
+    are ∙ ap (λ (p : Paged). keying p.trunk (digits_in (drop 1 page.begun))) (sym is)
+
+of-page : (page kept : Paged) (key : Heard) (digits : List ℕ) (after : List (List ℕ) → List ℕ) (r : Result (Unit {0}) PageFault)
+    (a b : Option (List ℕ)) → kept ≡ record page { begun = page.begun ++ key ∷ [] }
+    → WritesOf (λ numbers. text_rest kept (digits ∷ numbers)) after r a b
+    → WritesOf (λ numbers. text_rest page (digits ∷ numbers)) after r a b
+of-page page kept key digits after r a b is wrote =
+    subst (λ (p : Paged). WritesOf (λ numbers. text_rest p (digits ∷ numbers)) after r a b) is wrote
+
+same-doubts : (page kept : Paged) (key : Heard) (bytes : List ℕ) → kept ≡ record page { begun = page.begun ++ key ∷ [] }
+    → bytes ≡ doubts_text (kept.count + 1) kept.begun → bytes ≡ doubts_text (page.count + 1) (page.begun ++ key ∷ [])
+same-doubts page kept key bytes is are = are ∙ ap (λ (p : Paged). doubts_text (p.count + 1) p.begun) is
 
 pub returns-in_err-marks-clause-page : goal.returns-in_err-marks-clause-page
 returns-in_err-marks-clause-page g c =
     let p = err_from_is_err_and c.from_residual.result c.from_residual.ensures.1 in
     no-entry _ _ c.from_residual.result _ _ p.1
 
+pub returns-in_err-marks-clause-told : goal.returns-in_err-marks-clause-told
+returns-in_err-marks-clause-told g c =
+    let p = err_from_is_err_and c.from_residual.result c.from_residual.ensures.1 in
+    no-doubts _ _ c.from_residual.result _ _ p.1
+
+pub returns-in_err-keep-clause-page : goal.returns-in_err-keep-clause-page
+returns-in_err-keep-clause-page g c =
+    let p = err_from_is_err_and c.from_residual-in_err-keep.result c.from_residual-in_err-keep.ensures.1 in
+    no-entry _ _ c.from_residual-in_err-keep.result _ _ p.1
+
+pub returns-in_err-keep-clause-told : goal.returns-in_err-keep-clause-told
+returns-in_err-keep-clause-told g c =
+    let p = err_from_is_err_and c.from_residual-in_err-keep.result c.from_residual-in_err-keep.ensures.1 in
+    no-doubts _ _ c.from_residual-in_err-keep.result _ _ p.1
+
+pub returns-in_err-told-clause-page : goal.returns-in_err-told-clause-page
+returns-in_err-told-clause-page g c =
+    let p = err_from_is_err_and c.from_residual-in_err-told.result c.from_residual-in_err-told.ensures.1 in
+    no-entry _ _ c.from_residual-in_err-told.result _ _ p.1
+
+pub returns-in_err-told-clause-told : goal.returns-in_err-told-clause-told
+returns-in_err-told-clause-told g c =
+    let p = err_from_is_err_and c.from_residual-in_err-told.result c.from_residual-in_err-told.ensures.1 in
+    no-doubts _ _ c.from_residual-in_err-told.result _ _ p.1
+
 pub returns-in_err-text-clause-page : goal.returns-in_err-text-clause-page
 returns-in_err-text-clause-page g c =
     let p = err_from_is_err_and c.from_residual-in_err-text.result c.from_residual-in_err-text.ensures.1 in
     no-entry _ _ c.from_residual-in_err-text.result _ _ p.1
 
+pub returns-in_err-text-clause-told : goal.returns-in_err-text-clause-told
+returns-in_err-text-clause-told g c =
+    let p = err_from_is_err_and c.from_residual-in_err-text.result c.from_residual-in_err-text.ensures.1 in
+    no-doubts _ _ c.from_residual-in_err-text.result _ _ p.1
+
 pub returns-then-is_err-clause-page : goal.returns-then-is_err-clause-page
 returns-then-is_err-clause-page g c =
     let page = paged c.args.self.now in
-    entry-begun page c.text_of.new.against (digits_in (drop 1 page.begun)) c.deref.result.now (string_bytes c.in_ok-text.text)
-    c.as_bytes.result.now (c.deref.ensures.value ∙ c.in_ok-marks.ensures) c.in_ok-text.ensures c.as_bytes.ensures.value
-    (text_rest page) page_fault.Write _ _ c.write_whole.ensures.beginning
+    let kept = paged c.keep.new.self in
+    let is = c.in_ok-keep.ensures.kept in
+    let digits = digits_in (drop 1 page.begun) in
+    of-page page kept c.args.key digits (text_rest page) (Err page_fault.Write) (g.W.Write.contents c.args.out.now) (g.W.Write.contents c.write_whole.new.out) is
+    (entry-begun kept c.text_of.new.against digits c.deref-2.result.now (string_bytes c.in_ok-text.text)
+    c.as_bytes.result.now (same-marks page kept c.args.key _ is (c.deref-2.ensures.value ∙ c.in_ok-marks.ensures)) c.in_ok-text.ensures c.as_bytes.ensures.value
+    (text_rest page) page_fault.Write _ _ c.write_whole.ensures.beginning)
+
+pub returns-then-is_err-clause-told : goal.returns-then-is_err-clause-told
+returns-then-is_err-clause-told g c = λ parts. none-written _ _
+
+pub returns-then-is_err-2-clause-page : goal.returns-then-is_err-2-clause-page
+returns-then-is_err-2-clause-page g c =
+    let page = paged c.args.self.now in
+    let kept = paged c.keep.new.self in
+    let is = c.in_ok-keep.ensures.kept in
+    let digits = digits_in (drop 1 page.begun) in
+    of-page page kept c.args.key digits (text_rest page) (Err page_fault.Tell) (g.W.Write.contents c.args.out.now) (g.W.Write.contents c.write_whole.new.out) is
+    (entry-begun kept c.text_of.new.against digits c.deref-2.result.now (string_bytes c.in_ok-text.text)
+    c.as_bytes.result.now (same-marks page kept c.args.key _ is (c.deref-2.ensures.value ∙ c.in_ok-marks.ensures)) c.in_ok-text.ensures c.as_bytes.ensures.value
+    (text_rest page) page_fault.Tell _ _
+    (all-written _ _ _ (wrote-whole c.write_whole.result c.write_whole.ensures.whole (sym c.is_err.ensures.value ∙ c.if-is_err.false))))
+
+pub returns-then-is_err-2-clause-told : goal.returns-then-is_err-2-clause-told
+returns-then-is_err-2-clause-told g c =
+    let page = paged c.args.self.now in
+    let kept = paged c.keep.new.self in
+    let is = c.in_ok-keep.ensures.kept in
+    let bytes = same-doubts page kept c.args.key c.as_bytes-2.result.now is
+    (c.as_bytes-2.ensures.value ∙ c.in_ok-told.ensures ∙ ap (λ (ks : List Heard). doubts_text (kept.count + 1) ks) c.deref.ensures.value) in
+    entry-told-begun (page.count + 1) (kept.count + 1) (page.begun ++ c.args.key ∷ []) c.as_bytes-2.result.now bytes
+    (told_parts (kept.count + 1)) page_fault.Tell _ _ c.write_whole-2.ensures.beginning
 
 pub returns-clause-page : goal.returns-clause-page
 returns-clause-page g c =
     let page = paged c.args.self.now in
-    entry-whole page c.text_of.new.against (digits_in (drop 1 page.begun)) c.deref.result.now (string_bytes c.in_ok-text.text)
-    c.as_bytes.result.now (c.deref.ensures.value ∙ c.in_ok-marks.ensures) c.in_ok-text.ensures c.as_bytes.ensures.value _ _
-    (wrote-whole c.write_whole.result c.write_whole.ensures.whole (sym c.is_err.ensures.value ∙ c.if-is_err.false))
+    let kept = paged c.keep.new.self in
+    let is = c.in_ok-keep.ensures.kept in
+    let digits = digits_in (drop 1 page.begun) in
+    of-page page kept c.args.key digits (λ numbers. text_after c.text_of.new.against kept.line kept.trunk (kept.count + 1) numbers) (Ok tt)
+    (g.W.Write.contents c.args.out.now) (g.W.Write.contents c.write_whole.new.out) is
+    (entry-whole kept c.text_of.new.against digits c.deref-2.result.now (string_bytes c.in_ok-text.text)
+    c.as_bytes.result.now (same-marks page kept c.args.key _ is (c.deref-2.ensures.value ∙ c.in_ok-marks.ensures)) c.in_ok-text.ensures c.as_bytes.ensures.value _ _
+    (wrote-whole c.write_whole.result c.write_whole.ensures.whole (sym c.is_err.ensures.value ∙ c.if-is_err.false)))
+
+pub returns-clause-told : goal.returns-clause-told
+returns-clause-told g c =
+    let page = paged c.args.self.now in
+    let kept = paged c.keep.new.self in
+    let is = c.in_ok-keep.ensures.kept in
+    let bytes = same-doubts page kept c.args.key c.as_bytes-2.result.now is
+    (c.as_bytes-2.ensures.value ∙ c.in_ok-told.ensures ∙ ap (λ (ks : List Heard). doubts_text (kept.count + 1) ks) c.deref.ensures.value) in
+    entry-told (page.count + 1) (kept.count + 1) (page.begun ++ c.args.key ∷ []) c.as_bytes-2.result.now bytes
+    (ap (λ (p : Paged). p.count + 1) is) _ _
+    (wrote-whole c.write_whole-2.result c.write_whole-2.ensures.whole (sym c.is_err-2.ensures.value ∙ c.if-is_err-2.false))

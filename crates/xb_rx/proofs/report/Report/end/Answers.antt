@@ -11,10 +11,10 @@ returns-in-Page-clause-page g c =
     subst (λ (r : Report). Ends (report_rest (reported r) (listed c.args.key)) c.end.result
     (g.W.Write.contents c.args.out.now) (g.W.Write.contents c.end.new.out)) (sym c.in-Page.is) c.end.ensures.page
 
-pub returns-in-Page-clause-loose : goal.returns-in-Page-clause-loose
-returns-in-Page-clause-loose g c =
+pub returns-in-Page-clause-told : goal.returns-in-Page-clause-told
+returns-in-Page-clause-told g c =
     subst (λ (r : Report). Ends (told_rest (reported r) (listed c.args.key)) c.end.result
-    (g.E.Write.contents c.args.err.now) (g.E.Write.contents c.end.new.err)) (sym c.in-Page.is) c.end.ensures.loose
+    (g.E.Write.contents c.args.err.now) (g.E.Write.contents c.end.new.err)) (sym c.in-Page.is) c.end.ensures.told
 
 pub returns-in-Keys-clause-page : goal.returns-in-Keys-clause-page
 returns-in-Keys-clause-page g c =
@@ -22,8 +22,8 @@ returns-in-Keys-clause-page g c =
     (g.W.Write.contents c.args.out.now) (g.W.Write.contents c.take.new.out)) (sym c.in-Keys.is)
     (listing-ended c.in-Keys.listing c.take.new.self c.args.key c.take.result _ _ c.take.ensures)
 
-pub returns-in-Keys-clause-loose : goal.returns-in-Keys-clause-loose
-returns-in-Keys-clause-loose g c =
+pub returns-in-Keys-clause-told : goal.returns-in-Keys-clause-told
+returns-in-Keys-clause-told g c =
     subst (λ (r : Report). Ends (told_rest (reported r) (listed c.args.key)) c.take.result
     (g.E.Write.contents c.args.err.now) (g.E.Write.contents c.args.err.now)) (sym c.in-Keys.is)
     (nothing-ended c.take.result (g.E.Write.contents c.args.err.now))

@@ -1,7 +1,7 @@
 use Rattle.std.proofs.Common.{[], ◌++◌, sym, subst}
 use Rattle.xb_ear.specs.Hearings.{listed}
 use Rattle.xb_rx.specs.declared.report.Report.{Report}
-use Rattle.xb_rx.specs.Pages.{Writes, loose_rest, page_rest, paged}
+use Rattle.xb_rx.specs.Pages.{Writes, page_told, page_rest, paged}
 use Rattle.xb_rx.specs.Reports.{listing_rest, report_rest, reported, told_rest}
 use Rattle.xb_rx.proofs.Listings.{nothing-told}
 use Rattle.xb_rx.proofs.report.Report.take.Goals as goal
@@ -11,18 +11,18 @@ returns-in-Page-clause-page g c =
     subst (λ (r : Report). Writes (λ later. report_rest (reported r) (listed c.args.key ++ later)) (page_rest (paged c.take.new.self))
     c.take.result (g.W.Write.contents c.args.out.now) (g.W.Write.contents c.take.new.out)) (sym c.in-Page.is) c.take.ensures.page
 
-pub returns-in-Page-clause-loose : goal.returns-in-Page-clause-loose
-returns-in-Page-clause-loose g c =
-    subst (λ (r : Report). Writes (λ later. told_rest (reported r) (listed c.args.key ++ later)) (loose_rest (paged c.take.new.self))
-    c.take.result (g.E.Write.contents c.args.err.now) (g.E.Write.contents c.take.new.err)) (sym c.in-Page.is) c.take.ensures.loose
+pub returns-in-Page-clause-told : goal.returns-in-Page-clause-told
+returns-in-Page-clause-told g c =
+    subst (λ (r : Report). Writes (λ later. told_rest (reported r) (listed c.args.key ++ later)) (page_told (paged c.take.new.self))
+    c.take.result (g.E.Write.contents c.args.err.now) (g.E.Write.contents c.take.new.err)) (sym c.in-Page.is) c.take.ensures.told
 
 pub returns-in-Keys-clause-page : goal.returns-in-Keys-clause-page
 returns-in-Keys-clause-page g c =
     subst (λ (r : Report). Writes (λ later. report_rest (reported r) (listed c.args.key ++ later)) (listing_rest c.take-in-Keys.new.self)
     c.take-in-Keys.result (g.W.Write.contents c.args.out.now) (g.W.Write.contents c.take-in-Keys.new.out)) (sym c.in-Keys.is) c.take-in-Keys.ensures
 
-pub returns-in-Keys-clause-loose : goal.returns-in-Keys-clause-loose
-returns-in-Keys-clause-loose g c =
+pub returns-in-Keys-clause-told : goal.returns-in-Keys-clause-told
+returns-in-Keys-clause-told g c =
     subst (λ (r : Report). Writes (λ later. told_rest (reported r) (listed c.args.key ++ later)) (λ later. [])
     c.take-in-Keys.result (g.E.Write.contents c.args.err.now) (g.E.Write.contents c.args.err.now)) (sym c.in-Keys.is)
     (nothing-told c.take-in-Keys.result (g.E.Write.contents c.args.err.now))
