@@ -11,7 +11,10 @@ returns-clause-fault g c =
     let before = c.in_ok-before.before.items in
     let release = c.in_ok-before.release_ms in
     fails_to_print files request c.in-Err.fault c.fault_of_recording.result _ _ _ c.fault_of_recording.ensures.plain
-    c.fault_of_recording.ensures.names
-    (before, release, record { text = c.in_ok-before.ensures.text; release_is = c.in_ok-before.ensures.release },
-    subst (λ b. FailsToListen (with_release request release) b c.in-Err.fault (g.R.Read.remaining c.args.recording.now)
-    (g.W.Write.contents c.args.out.now) (g.W.Write.contents c.listen.new.out)) c.deref.ensures.value c.in-Err.ensures.fault)
+    c.fault_of_recording.ensures.names (
+      before,
+      release,
+      record { text = c.in_ok-before.ensures.text; release_is = c.in_ok-before.ensures.release },
+      subst (λ b. FailsToListen (with_release request release) b c.in-Err.fault (g.R.Read.remaining c.args.recording.now)
+          (g.W.Write.contents c.args.out.now) (g.W.Write.contents c.listen.new.out)) c.deref.ensures.value c.in-Err.ensures.fault,
+    )
