@@ -93,15 +93,12 @@ const DOUBT: &[u8] =
 fn tells_what_is_doubtful(rt: HostRuntime) -> Result<(), Fail> {
     let alloc = rt.alloc();
     let file = sound(alloc, &[&[5, 0]])?;
-    let whole = file.as_slice();
     // the samples from 762.5 to 925 ms are silence, after a head of 44 bytes
-    if whole.len() < 14_844 {
-        return Err("too short".into());
-    }
     let mut lacking = Vec::new(alloc);
-    lacking.extend_from_slice(&whole[..12_244])?;
-    lacking.extend_from_slice(&[0; 2_600])?;
-    lacking.extend_from_slice(&whole[14_844..])?;
+    for (at, byte) in file.iter().enumerate() {
+        let is_silent = 12_244 <= at && at < 14_844;
+        lacking.push(if is_silent { 0 } else { *byte })?;
+    }
     let words = words_of(alloc, "mfrx", &[])?;
     let mut reader = lacking.as_slice();
     let mut out = Vec::new(alloc);
