@@ -62,7 +62,7 @@ class CallTries {
   async throughNoise() {
     const { it, tape } = this;
     const heard = [];
-    for (const most of ['277', '16000', '0']) {
+    for (const most of ['277', '32000', '0']) {
       await it.choose('#noise', most);
       await it.lift();
       await it.dial('0');
