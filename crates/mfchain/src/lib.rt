@@ -1,11 +1,13 @@
 //! The chain as a C library. `c/mfchain.h` declares what it exports, and says what is asked of the caller.
 //!
-//! - `mfchain_open`, `mfchain_take`, `mfchain_close`, `mfchain_reopen`, `mfchain_entries`, and what a caller hears by
-//!   itself, `mfchain_seize` to `mfchain_dialled`: the chain of `xb_structs`, by statuses. `mfchain_route_number`: the
-//!   marks of a number that is dialled on no line.
-//! - `mfchain_entry`: the line of the page of these marks. `mfchain_sound`: the samples of a mark, as in `xb_tone`, by
-//!   a cadence; `mfchain_cadence` is that of a sender. `laws::plays_what_was_given`: of marks that were given, one after
-//!   the other, they are the sound of what was keyed.
+//! - `mfchain_open`, `mfchain_take`, `mfchain_close`, `mfchain_reopen`, `mfchain_entries`: the chain of
+//!   `xb_structs`, by statuses. `mfchain_seize` to `mfchain_dialled`: the same for what a caller hears by
+//!   itself.
+//! - `mfchain_route_number`: the marks of a number that is dialled on no line.
+//! - `mfchain_entry`: the line of the page of these marks.
+//! - `mfchain_sound`: the samples of a mark, as in `xb_tone`, by a cadence. `mfchain_cadence` is that of a
+//!   sender. `laws::plays_what_was_given`: for marks that were given, the samples, one after the other, are
+//!   the sound of what was keyed.
 //! - `mfchain_digit_of`: the digit that a letter dials. `mfchain_status_text`: what each status says.
 #![tactic(auto)]
 

@@ -1,5 +1,5 @@
-//! The bank: rows of many lines in, a tape for each line out. This crate has nothing of its own: it
-//! passes on, under one name, what its callers use of the chain and of the replay.
+//! The bank: rows of many lines in, a tape for each line out. This crate has nothing of its own. It passes
+//! on, under one name, what its callers use of the chain and of the replay.
 #![tactic(auto)]
 
 pub use xb_closes::fed_rows;

@@ -1,10 +1,10 @@
-//! Between one ring and several: a deal hands items to its outputs in turn, and a gather merges pieces of
-//! its inputs in turn, one turn at a time.
+//! Connects one ring with several, one turn at a time. A deal hands items to its outputs in turn; a gather
+//! merges pieces of its inputs in turn.
 //!
-//! - `Deal::turn`, `Gather::turn`: at each return what was sent, followed by what is held, is what was dealt,
-//!   or merged, of what was received, with the End. `Moved` made exactly one event; the other turns changed
-//!   nothing: `Idle` comes only where no item is known of that could be taken, `Blocked` only where no room
-//!   is known of, `Ended` exactly where the End was sent by an earlier turn, of a deal to every output.
+//! - `Deal::turn`, `Gather::turn`: at each return, what was sent, followed by what is held, is the deal, or
+//!   the merge, of what was received, with the End. `Moved` made exactly one event; the other turns changed
+//!   nothing. `Idle` comes only where no item to take is known of, `Blocked` only where no room is known of.
+//!   `Ended` comes exactly where the End was sent by an earlier turn, for a deal to every output.
 //! - Their `serve`: when it returns, all up to the End was received, all that follows from it was sent, with
 //!   one End to each output, and nothing is held. `into_ends` gives back the same ends. `look` changes no
 //!   list.

@@ -1,14 +1,13 @@
-//! A deck: a route table, a line `---`, and loop rows. Where it is cut, what stands in it, or its first
-//! fault; a deck as bytes or as a stream.
-//!
-//! What is said of bytes is said of streams whose bytes a contract can name.
+//! A deck is a route table, a line `---`, and loop rows. This crate finds where it is cut, and what stands in
+//! it or its first fault, in bytes or in a stream. Contracts speak of bytes only for streams whose bytes a
+//! contract can name.
 //!
 //! - `Deck::cut`: the parts of a deck at its first line `---`, and `None` exactly where there is no such
 //!   line.
-//! - What a deck has in it is said once, by `contents_of` (`specs/Contents.antt`): a table and rows, or the
-//!   first fault of its length, its cut, its table and its rows. By it go `read_deck`, the bytes of a
-//!   stream to its end, and of these `Deck::open`, `Deck::route_table` and `Deck::loop_rows`. `DeckFault`
-//!   is the fault of all four.
+//! - `contents_of` (`specs/Contents.antt`) says once what a deck has in it: a table and rows, or the first
+//!   fault of its length, its cut, its table and its rows. `read_deck` follows it for the bytes of a stream
+//!   to its end; `Deck::open`, `Deck::route_table` and `Deck::loop_rows` for these bytes. `DeckFault` is the
+//!   fault of all four.
 //! - `read_table`, of a stream: the table, and what the stream has left, are those of `Deck::cut`. `NoCut`
 //!   comes exactly as there, and `TooLong` only where the stream has more bytes than the limit and no table
 //!   within it. Of any stream, the table is within the limit.

@@ -1,19 +1,17 @@
-//! `mfbank` but for its process: a deck in, a page out.
+//! `mfbank` without its process: it reads a deck and writes its page. Contracts speak of bytes only for
+//! readers and writers whose bytes a contract can name.
 //!
-//! What is said of bytes is said of readers and writers whose bytes a contract can name.
-//!
-//! - `operate`: on `Ok` the writer got exactly the page of the deck's tapes, and nothing else; on `Write`
-//!   the beginning of it; on any other fault nothing. A fault of the deck is the first that holds; on `Ok`,
-//!   on `Write` and where a post could not be started none of them holds. The reader is read to its end,
-//!   but where reading failed, the deck is too long, or memory ran out. `operate_by` is the same past any
-//!   gate.
+//! - `operate`: on `Ok` the writer got exactly the page of the deck's tapes; on `Write` the beginning of it;
+//!   on any other fault nothing. A fault of the deck is the first that holds. None of them holds on `Ok`, on
+//!   `Write`, or where a post could not be started. The reader is read to its end, unless reading failed, the
+//!   deck is too long, or memory ran out. `operate_by` is the same past any gate.
 //! - `attend`: the status 0, 1 or 2, with what was written (`Attends` of `xb_command`). So words that are
 //!   refused never give a page. `attend_by` is the same past any gate.
 //! - `laws::made_decks_say_their_page`: a deck that is made of a table and rows, and is not too long, says
 //!   their page.
 //!
-//! Not said: that the posts are as many, and the rings as large, as the words say. `test_office` counts
-//! both by a gate.
+//! Not said: that there are as many posts, and rings as large, as the words say. `test_office` counts both by
+//! a gate.
 #![tactic(auto)]
 
 mod fault;

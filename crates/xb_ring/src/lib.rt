@@ -1,10 +1,10 @@
-//! Rings between the stages of the chain, and the posts that pass items through them: the names of `xb_flow`,
-//! `xb_station` and `xb_branches` in one place, and the laws of what they send.
+//! The rings between the stages of the chain, and the posts that pass items through them. This crate puts the
+//! names of `xb_flow`, `xb_station` and `xb_branches` in one place, and adds the laws of what they send.
 //!
-//! - `laws`: an End closes the image (`end_closes`); what was sent so far is the beginning of all
-//!   (`sent_so_far`); images of prefixes are prefixes (`prefix_of_image`); merging what the dealt items
-//!   give is what all items give (`merged_is_whole`, `merged_images`), of prefixes a prefix
-//!   (`prefix_of_merged`).
+//! - `laws::end_closes`: an End closes the image. `laws::sent_so_far`: what was sent so far is the beginning
+//!   of all. `laws::prefix_of_image`: images of prefixes are prefixes.
+//! - `laws::merged_is_whole`, `laws::merged_images`: merging what the dealt items give is what all items
+//!   give. `laws::prefix_of_merged`: merging prefixes gives a prefix.
 #![tactic(auto)]
 
 pub mod laws;

@@ -1,19 +1,19 @@
-//! The chain on lines whose states the caller keeps, as plain values in memory of its own: the route
-//! table, what is known of each line, rows and marks are structs of numbers, as C lays them out. Any
-//! bytes in them have a meaning, so nothing that a caller writes there is undefined. But for `open` no call
-//! takes memory.
+//! The chain on lines whose states the caller keeps in its own memory, as plain values. The route table, what
+//! is known of each line, rows and marks are structs of numbers, as C lays them out. Any bytes in them have a
+//! meaning, so nothing that a caller writes there is undefined. No call but `open` takes memory.
 //!
 //! - `open`: the table holds what a text writes. `begin` and `add`: it holds what the values of a plan, of
-//!   limits and of routes write, in the words of the text's definition (`laws::fills_as_a_text`). Else the fault
-//!   is the first one, and the table is as it was.
+//!   limits and of routes write, in the words of the text's definition (`laws::fills_as_a_text`). Otherwise
+//!   the fault is the first one, and the table is as it was.
 //! - `take`: the marks of a row, one whole entry or none, and what is known of the line after it. `signals`:
-//!   what the register is told by a row. On a refusal nothing has changed.
-//! - `hear`: what a caller hears on a line by itself, as a digit, in place of its rows. `laws::entrances_agree`: the
-//!   signals of a record, and its close, give its tape. `dialled`: the digits so far of an attempt that goes on.
+//!   what a row tells the register. On a refusal nothing has changed.
+//! - `hear`: what a caller hears on a line by itself, as a digit, in place of its rows.
+//!   `laws::entrances_agree`: the signals of a record, and its close, give its tape. `dialled`: the digits so
+//!   far of an attempt that goes on.
 //! - `deciding`: the longest code of the table that the digits of a number begin with.
 //! - `route_number`: the marks of the number that digits complete, by its route: what the chain makes of it.
-//! - `print_entry`: the line of the page of these marks (`entry_text`). `laws::prints_the_tape`: printed in the
-//!   row that gives it, by the line's count of entries, each is the next line of the tape.
+//! - `print_entry`: the line of the page of these marks (`entry_text`). `laws::prints_the_tape`: printed in
+//!   the row that gives it, by the line's count of entries, each is the next line of the tape.
 //! - `laws::keeps_promises`: the marks of a line are those of a live office, nothing taken back or missing.
 //! - `take_by_status`, `refusal_status`, `fault_status`: the answers to callers of other languages.
 #![tactic(auto)]
