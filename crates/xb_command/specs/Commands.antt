@@ -23,6 +23,7 @@ rule_of_word name takes.Number = record (new_rule name) {
 rule_of_word name takes.Text = record (new_rule name) { long = Some name; action = Some Set }
 rule_of_word name takes.Itself = record (new_rule name) { action = Some Set; required = true }
 rule_of_word name takes.AllThatFollow = record (new_rule name) { action = Some Append; required = true }
+rule_of_word name takes.AnyThatFollow = record (new_rule name) { action = Some Append }
 
 -- a command that also takes these words
 abbrev pub with_words : App → List (Text × Takes) → App

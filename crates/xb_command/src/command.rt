@@ -20,6 +20,8 @@ pub enum Takes {
     Itself,
     /// The word itself and each later one that stands alone, of which there is one at least.
     AllThatFollow,
+    /// Each word that stands alone, of which there may be none.
+    AnyThatFollow,
 }
 
 // The argument of a name.
@@ -38,6 +40,7 @@ fn arg_of<'a>(alloc: Global, name: &'a str, takes: Takes) -> Arg<'a>
         Takes::Text => arg.long(name).action(ArgAction::Set),
         Takes::Itself => arg.required(true).action(ArgAction::Set),
         Takes::AllThatFollow => arg.required(true).action(ArgAction::Append),
+        Takes::AnyThatFollow => arg.action(ArgAction::Append),
     }
 }
 
