@@ -1,9 +1,11 @@
-//! Trials of the chain on threads and by schedules: gates that hold posts or refuse their start, sources that
-//! stop, random decks, rounds in which posts have turns in some order or none, and random walks, each beside
-//! the tapes of the chain on one thread; and the short callers of `xb_together`, on whose line 5 the operator
-//! is called and a second call is given up.
+//! Trials of the chain on threads and by schedules, each beside the tapes of the chain on one thread.
 //!
-//! Tests alone, in a crate of their own: in that of `run`, they would have all of it proved once more.
+//! - The trials have gates that hold posts or refuse their start, sources that stop, random decks, rounds in
+//!   which posts have turns in some order or none, and random walks.
+//! - The short callers of `xb_together` are there too: on their line 5 the operator is called and a second
+//!   call is given up.
+//!
+//! These tests have a crate of their own: in that of `run`, they would have all of it proved once more.
 #![tactic(auto)]
 
 #[cfg(test)]

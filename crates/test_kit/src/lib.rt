@@ -1,6 +1,8 @@
-//! What tests share. Worked examples: what lines do, in a short form, beside the page of it, worked out by
-//! hand. And fakes: a reader and a writer that fail or that give and take little at a time, random numbers that
-//! are the same in each run, the words of a command line, and what a program gives on such streams.
+//! What tests share: worked examples and fakes.
+//!
+//! - A worked example is what lines do, in a short form, beside the page of it, worked out by hand.
+//! - The fakes are a reader and a writer that fail, or that give and take little at a time; random numbers
+//!   that are the same in each run; the words of a command line; and what a program gives on such streams.
 #![tactic(auto)]
 
 pub mod attempts;

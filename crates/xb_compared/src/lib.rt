@@ -1,12 +1,13 @@
-//! What was keyed, and what was heard: two pages, compared entry by entry.
+//! Compares what was keyed with what was heard: two pages, entry by entry.
 //!
 //! - `keyed_entries`: the keyed entries of a page, each with its place and the names of its keys.
-//! - `differences`: exactly `differences` of the two lists: in order a line for each entry that was keyed and not
-//!   heard, and for each that was heard and not keyed. What is heard is found at the first place where it was keyed
-//!   after the last one that was found.
-//! - `Comparison`: the same while the entries are heard, one by one. It holds what was keyed, and not what was heard.
-//! - `laws::same_keys_do_not_differ`: there are none just where both have the same keys.
-//! - `keyed_of_page`: the keyed entries of the page that a text is, or the first fault of one that is none.
+//! - `differences`: exactly `differences` of the two lists. In order, a line for each entry that was keyed
+//!   and not heard, and for each that was heard and not keyed. What is heard is found at the first place
+//!   where it was keyed after the last one that was found.
+//! - `Comparison`: the same while the entries are heard, one by one. It holds what was keyed, and not what
+//!   was heard.
+//! - `laws::same_keys_do_not_differ`: there are no differences exactly where both have the same keys.
+//! - `keyed_of_page`: the keyed entries of a text that is a page, or the first fault of one that is none.
 #![tactic(auto)]
 
 mod comparing;

@@ -1,21 +1,21 @@
-//! `mfdial` but for its process: calls in, the loop rows that dial them out.
+//! The program `mfdial` without its process: it reads calls and writes the loop rows that dial them.
 //!
-//! - `rows_of_calls`, of a speed that fits some lawful limits: exactly the rows that dial the calls, in
-//!   either order; and by every plan by which all numbers are complete and all lawful limits that the speed
+//! - `rows_of_calls`, for a speed that fits some lawful limits: exactly the rows that dial the calls, in
+//!   either order. By every plan by which all numbers are complete, and all lawful limits that the speed
 //!   fits, exactly each line's numbers are heard on it, in the order dialled, and its tape is exactly their
-//!   entries (`heard`). `laws::dialled_is_heard`: the same of every list of rows of which each line's are
-//!   those that it dials.
-//! - `Speed::fits`: `Ok` exactly where the five times fit the limits; else the first that does not.
+//!   entries (`heard`). `laws::dialled_is_heard` says the same of every list of rows in which each
+//!   line's rows are those that it dials.
+//! - `Speed::fits` is `Ok` exactly where the five times fit the limits, else the first that does not.
 //!   `Speed::ten` and `twenty` fit the standard limits.
-//! - `calls_of_text`: the calls of the text, or, unless memory ran out, its first fault with its text line,
-//!   and with what stands there in place of a line; with a plan, each number is complete by it.
-//! - `without_mark`, `strip_carriage_return`, `is_passed_over`, `is_grouping` and `add_digit`: what texts of calls and
-//!   of numbers share. `WrongByte`: a byte that may not stand there, and its place.
-//! - `dial`, of readers and writers whose bytes a contract can name: on `Ok` the writer got exactly the
-//!   text of the rows that dial the calls of the text; by the plan, if one is asked for, exactly the
-//!   numbers of each line are heard by the standard limits, and keyed. On `Write` it got the beginning, on
-//!   any other fault nothing. The speed is judged before the calls: every result but a fault of the speed
-//!   comes only of one that fits the standard limits.
+//! - `calls_of_text`: the calls of the text, or, unless memory ran out, its first fault with its text line
+//!   and what stands there in place of a line. With a plan, each number is complete by it.
+//! - `without_mark`, `strip_carriage_return`, `is_passed_over`, `is_grouping` and `add_digit` are shared by
+//!   texts of calls and of numbers. `WrongByte` is a byte that may not stand there, and its place.
+//! - `dial`, for readers and writers whose bytes a contract can name: on `Ok` the writer got exactly the text
+//!   of the rows that dial the calls of the text. By the plan, if one is asked for, exactly the numbers of
+//!   each line are heard by the standard limits, and keyed. On `Write` it got the beginning, on any other
+//!   fault nothing. The speed is judged before the calls: every result but a fault of the speed comes only of
+//!   one that fits the standard limits.
 //! - `attend`: `Attends` of this. `laws::usage_names_each_option`.
 #![tactic(auto)]
 

@@ -1,21 +1,22 @@
-//! The program `mflive` but for the process: a deck from a reader as it comes, and the entries of its rows to
-//! a writer, each in the row that completes it, with its number.
+//! The program `mflive` without its process: it reads a deck as it comes, and writes each entry, with its
+//! number, in the row that completes it.
 //!
-//! - `Counting` is a live office that numbers the entries of each line and counts those of all: what it has
-//!   counted are the entries that the rows so far complete.
-//! - `take_row` and `end` write what is told of rows: exactly that, and on a fault what is told of the first rows.
+//! - `Counting` is a live office that numbers the entries of each line and counts those of all lines. What it
+//!   has counted are the entries that the rows so far complete.
+//! - `take_row` and `end` write exactly what is told of rows, and on a fault what is told of the first rows.
 //!   `SortsIntoPage` (`specs/Pages.antt`): sorted by line and number, what is printed of rows that end is
 //!   their page.
-//! - As JSON an entry has the times of its line, and what was dialled: those of the line's record so far
-//!   (`told_of_rows`, `specs/TimedEntries.antt`). `Hearings` keeps them, row by row. By a table that was read its line
-//!   of the page is made of its object alone (`laws::objects_are_lines`), and the times of a line ascend
-//!   (`laws::times_ascend`).
-//! - With events (`specs/Events.antt`, `specs/Told.antt`) each signal of a line's attempts is an object too, in the row
-//!   that makes it (`TellsAll`). Without them the text is that of the entries' objects (`laws::events_left_out`).
-//! - Counted from a time of day, an object has its times as such too (`specs/Clocks.antt`), as any clock tells them that
-//!   tells the times of `jiff_core`. One past the last of these is a fault.
+//! - As JSON an entry has the times of its line and what was dialled: those of the line's record so far
+//!   (`told_of_rows`, `specs/TimedEntries.antt`). `Hearings` keeps them, row by row. By a table that was
+//!   read, its line of the page is made of its object alone (`laws::objects_are_lines`). The times of a line
+//!   ascend (`laws::times_ascend`).
+//! - With events (`specs/Events.antt`, `specs/Told.antt`) each signal of a line's attempts is an object too,
+//!   in the row that makes it (`TellsAll`). Without them the text is that of the entries' objects
+//!   (`laws::events_left_out`).
+//! - Counted from a time of day, an object also has its times as such (`specs/Clocks.antt`), as told by any
+//!   clock that tells the times of `jiff_core`. A time past the last of these is a fault.
 //! - `run_deck` (`Runs`, `specs/Runs.antt`): what was written of a deck is what its table and its rows say,
-//!   also where a fault stops them; `attend` says the same of the program, by its status.
+//!   also where a fault stops them. `attend` says the same of the program, by its status.
 #![tactic(auto)]
 
 mod counting;

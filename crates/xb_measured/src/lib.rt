@@ -1,13 +1,14 @@
-//! What is told of a key that was heard: its name, when it began and how long it lasted, both levels, and the first
-//! limit of System R1 that it misses.
+//! What is told of a key that was heard: its name, when it began, how long it lasted, both levels, and the
+//! first limit of System R1 that it misses.
 //!
-//! - `Meaning::of` is what a pair stands for, by `key_of` where it is a key of the office: a digit, KP, ST, ST', ST''',
-//!   and KP2/ST'', which are one pair. `Meaning::name` is its name.
-//! - `figures_of`: the figures of a key, by the last key before it. `verdict_of`: GOOD, or the first limit that they
-//!   miss, of length, gap, twist and level; `length_fits`: whether they keep to the first.
-//! - `key_line`: exactly the line of the figures (`text_line`), or as an object of JSON (`object_line`).
-//! - `laws::tenths_are_nearest`: the tenths of a dB of a level are the nearest to its decibels; `levels_are_as_worked`:
-//!   levels in dBm0, as worked by hand.
+//! - `Meaning::of` is what a pair stands for, by `key_of` where it is a key of the office: a digit, KP, ST,
+//!   ST', ST''', or KP2/ST'', which are one pair. `Meaning::name` is its name.
+//! - `figures_of`: the figures of a key, by the last key before it. `verdict_of`: GOOD, or the first limit
+//!   that they miss, of length, gap, twist and level. `length_fits`: whether they keep to the first.
+//! - `key_line` is exactly the line of the figures (`text_line`), or the same as a JSON object
+//!   (`object_line`).
+//! - `laws::tenths_are_nearest`: the tenths of a dB of a level are the nearest to its decibels.
+//!   `levels_are_as_worked`: levels in dBm0, as worked by hand.
 #![tactic(auto)]
 
 mod figures;

@@ -1,10 +1,10 @@
-//! What was heard, as a picture: the loop of a line over time, in SVG.
+//! Draws what was heard as a picture: the loop of a line over time, in SVG.
 //!
-//! - `picture_of`: the texts of the picture, but for words of its own and the seconds of its axis, are in
-//!   their order exactly `picture_words` of the attempts: headings, values, figures and faults of digits,
-//!   the ms of each wrong run that is drawn, and how many attempts and digits are not drawn.
-//! - `push_picture`: exactly the text of the shapes, one element a shape; of a fault the signs are written
-//!   as XML wants them.
+//! - `picture_of`: the texts of the picture, except words of its own and the seconds of its axis, are exactly
+//!   `picture_words` of the attempts, in order: headings, values, figures and faults of digits, the ms of
+//!   each wrong run that is drawn, and how many attempts and digits are not drawn.
+//! - `push_picture` writes exactly the text of the shapes, one element for each shape. The signs of a fault
+//!   are written as XML wants them.
 //!
 //! Not said: where a shape stands, its colours, and that such a text is XML.
 #![tactic(auto)]

@@ -1,15 +1,17 @@
-//! `mfroute` but for its process: a route table and numbers in, what an office does with each number out.
+//! The program `mfroute` without its process: it reads a route table and numbers, and tells what an office
+//! does with each number.
 //!
-//! - `answer_to`: the number that the digits complete, and its order by the table, by the definitions of the
-//!   chain (`shortest_complete`, `routed`); or that they complete none. What is keyed, or refused, is what the
-//!   page says of a line that dials just this number (`AgreesWithPage`).
-//! - `number_of_text`: the digits that a text dials, letters as on a dial, or the fault that it has, with the first
-//!   wrong byte and its place, unless memory ran out.
-//! - `route` and `attend`: with status 0 exactly the lines of the numbers were written, one for each number, of which
-//!   there is one at least, as text (`answer_line`) or as JSON (`object_line`); with status 1 one line was told, and
-//!   nothing was written but the beginning of the lines where a write failed; with status 2 the words are refused.
-//! - `laws::pages_write_bodies`: the page's line of an entry is its line and number, and then exactly what a
-//!   line of `mfroute` has after the number.
+//! - `answer_to`: the number that the digits complete and its order by the table, by the definitions of the
+//!   chain (`shortest_complete`, `routed`); or that they complete none. What is keyed, or refused, is what
+//!   the page says of a line that dials just this number (`AgreesWithPage`).
+//! - `number_of_text`: the digits that a text dials, letters as on a dial, or, unless memory ran out, its
+//!   fault with the first wrong byte and its place.
+//! - `route` and `attend`: with status 0 exactly the lines of the numbers were written, one for each number
+//!   and at least one, as text (`answer_line`) or as JSON (`object_line`). With status 1 one line was told,
+//!   and nothing was written but the beginning of the lines where a write failed. With status 2 the words are
+//!   refused.
+//! - `laws::pages_write_bodies`: the page's line of an entry is its line and number, followed by exactly what
+//!   a line of `mfroute` has after the number.
 //!
 //! What is said of a file is said of the bytes that the caller's `Files` says to be known.
 #![tactic(auto)]
