@@ -49,9 +49,9 @@ fn not_routed_status(why: NotRouted) -> u32
     }
 }
 
-/// Takes what was heard on a line: kind 0 a seizure, 1 this digit, 2 a digit that cannot be told, 3 a time-out, any other
-/// a release. The first `count` of `room` are the marks that this gives. On any other status than 0 the line and the room
-/// are as they were, and `count` is 0.
+/// Takes what was heard on a line: kind 0 a seizure, 1 this digit, 2 a digit that cannot be told, 3 a
+/// time-out, any other a release. The first `count` of `room` are the marks that this gives. On any other
+/// status than 0 the line and the room are as they were, and `count` is 0.
 #[unsafe(no_mangle)]
 pub extern "C" fn mfweb_tell(
     table: &PlainTable,

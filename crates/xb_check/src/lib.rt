@@ -1,16 +1,20 @@
 //! `mfcheck` but for its process: a deck in, what is wrong in it out, one line each, as compilers tell it.
 //!
-//! - What is wrong in the text lines of a deck, each read by itself, is told first (`faults_of_deck` of `xb_findings`).
-//! - `verdict`: nothing exactly where `mfbank` takes the deck, and else the fault by which it refuses, the
-//!   first in its order (`contents_of` of `xb_deck`, by which `mfbank` goes too). A text that no line cuts may be a
-//!   route table alone (`is_table`, `specs/Alone.antt`), which is read as that of a deck (`judged`).
-//! - After its text lines a deck that is taken is told of as a whole (`doubts_of`, `specs/Doubts.antt`), at those that
-//!   were kept: each line of the office that has rows and no make that is heard, at its first record, and at the header
-//!   that times look as if they were of another unit, and that lines ring (`wrong_unit` and `is_ringing` of
-//!   `xb_doubts`). Of one that is refused it is told what its fault is about (`told_of_fault` of `xb_findings`).
-//! - `check`, of readers and writers whose bytes contracts know: it is `Ok` exactly where the text is taken, and
-//!   `Refused` has its first fault; of both the writer got exactly the lines of what was told (`report_text`): of all that
-//!   was found, or of each kind the first ten, and how many more there are (`told` and `untold` of `xb_findings`).
+//! - What is wrong in the text lines of a deck, each read by itself, is told first (`faults_of_deck` of
+//!   `xb_findings`).
+//! - `verdict`: nothing exactly where `mfbank` takes the deck. Otherwise it is the fault by which `mfbank`
+//!   refuses it, the first in its order (`contents_of` of `xb_deck`, which `mfbank` goes by too). A text that
+//!   no line cuts may be a route table alone (`is_table`, `specs/Alone.antt`). It is then read as the table
+//!   of a deck (`judged`).
+//! - A deck that is taken is then told of as a whole, at the text lines that were kept (`doubts_of`,
+//!   `specs/Doubts.antt`). Each line of the office with rows but no make that is heard is told at its first
+//!   record. At the header it is told that the times look as if they were of another unit, and that lines
+//!   ring (`wrong_unit` and `is_ringing` of `xb_doubts`).
+//! - Of a deck that is refused it is told what its fault is about (`told_of_fault` of `xb_findings`).
+//! - `check`, of readers and writers whose bytes contracts know: it is `Ok` exactly where the text is taken,
+//!   and `Refused` has its first fault. In both cases the writer got exactly the lines of what was told
+//!   (`report_text`): all that was found, or the first ten of each kind and how many more there are (`told`
+//!   and `untold` of `xb_findings`).
 //! - `attend`: the status 0, 1 or 2, with what was written (`Attends` of `xb_command`).
 #![tactic(auto)]
 

@@ -1,19 +1,23 @@
-//! A contact as it was recorded, and what it is once its bounces are settled, in ticks and in ms; and what recordings of
-//! all forms say, event by event.
+//! A contact as it was recorded, and as it is once its bounces are settled, in ticks and in ms; and what
+//! recordings of all forms say, event by event.
 //!
-//! - `Settler::new` (`settles`): what the machine gives of any recording, hold by hold, and what is left at its end,
-//!   are the settled record. `Settler::take` is exactly the machine's step, and what it gives stands for good.
+//! - `Settler::new` (`settles`): what the machine gives of any recording, hold by hold, and what is left at
+//!   its end, are the settled record. `Settler::take` is exactly the machine's step, and what it gives stands
+//!   for good.
 //! - `Listener::take_until` and `end` are exactly the machine that settles a contact and gives it in ms.
-//! - `Seizer::new` (`passes`): what is given of a line in ms is its record, in which makes on hook that are too short to
-//!   seize are breaks. `Seizer::take` is exactly the machine, and what it gives stands for good.
-//! - `Ringer::new` (`passes`): what is given of a line in ms is its record, in which calls that answer the bell are
-//!   breaks. It comes before the `Seizer`. `Ringer::take` is exactly the machine, and gives each hold at once.
-//! - `laws::is_exact_under_bounces`: bounces shorter than a settled run leave no trace. `laws::tells_the_record` and
-//!   `rounds_once`: each end of a run is rounded once, so that sums do not drift.
-//! - `Event` and `Refusal`: what a recording says of its wires, and why a part of it is refused. A form of recordings is
-//!   defined by what its lines say, step by step (`Steps`), and a refusal is told for the reason of the first line that
-//!   is refused (`IsRefusedBy`). `number_of`, `cut_digits` and `level_of` (`Numbers`) read numbers and levels as all
-//!   forms write them. `Changes` is what wires do, from which each form of text has a law that it is read back.
+//! - `Seizer::new` (`passes`): what is given of a line in ms is its record, in which makes on hook that are
+//!   too short to seize are breaks. `Seizer::take` is exactly the machine, and what it gives stands for good.
+//! - `Ringer::new` (`passes`): what is given of a line in ms is its record, in which calls that answer the
+//!   bell are breaks. It comes before the `Seizer`. `Ringer::take` is exactly the machine, and gives each
+//!   hold at once.
+//! - `laws::is_exact_under_bounces`: bounces shorter than a settled run leave no trace.
+//! - `laws::tells_the_record` and `rounds_once`: each end of a run is rounded once, so that sums do not
+//!   drift.
+//! - `Event` and `Refusal`: what a recording says of its wires, and why a part of it is refused. What its
+//!   lines say, step by step, defines a form of recordings (`Steps`). The reason of a refusal is that of the
+//!   first line that is refused (`IsRefusedBy`).
+//! - `number_of`, `cut_digits` and `level_of` (`Numbers`) read numbers and levels as all forms write them.
+//! - `Changes` is what wires do. From it each form of text has a law that it is read back.
 #![tactic(auto)]
 
 mod bell;

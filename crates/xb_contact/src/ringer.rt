@@ -13,9 +13,9 @@ use std::marker::Model;
 pub const ANSWER_MS: u32 = 4500;
 
 /// A line whose bell may ring: it takes holds as they come, in ms, and gives each at once, as it is, or as a break where
-/// it is of a call that answers the bell. On hook, 8 periods in a row and more are a burst, each a make and a break of 40
-/// to 65 ms together. A call answers it whose first make begins while an answer counts; until then each make on hook is
-/// given as a break. Memory does not grow with the recording.
+/// it is of a call that answers the bell. On hook, 8 periods in a row and more are a burst, each a make and a
+/// break of 40 to 65 ms together. A call answers it whose first make begins while an answer counts; until
+/// then each make on hook is given as a break. Memory does not grow with the recording.
 #[derive(Debug, Drop)]
 pub struct Ringer {
     // For how many ms after a burst an answer counts.

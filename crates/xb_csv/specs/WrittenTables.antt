@@ -150,8 +150,8 @@ times_text heading unit rows =
 abbrev pub is_cut : Heading → ℕ → Bool
 is_cut heading unit = nat_lt (hertz heading) (1000 ^ unit) && not (1000 ^ unit % hertz heading == 0)
 
--- where nothing is cut off, sigrok's table with a column of times is read back: at each time the levels of the wires that
--- are asked for
+-- where nothing is cut off, sigrok's table with a column of times is read back: at each time the levels of
+-- the wires that are asked for
 abbrev pub SigrokTimesAreRead : Type 0
 SigrokTimesAreRead =
     (heading : Heading) (unit : ℕ) (wires : List ℕ) (row : TableRow) (rows : List TableRow)

@@ -18,9 +18,9 @@ use xb_text::cut_at;
 /// The form of a table.
 #[derive(Clone, Copy, Debug, PartialEq, Eq)]
 pub enum TableForm {
-    /// What `sigrok-cli -O csv` writes: comments with `;`, a header with the unit of the times, if there are any, or with
-    /// the names of the wires where there are none, and rows. Wires have the names of the comment `; Channels`. Times
-    /// that sigrok cuts are those of the samples.
+    /// What `sigrok-cli -O csv` writes: comments with `;`, a header with the unit of the times, if there are
+    /// any, or with the names of the wires where there are none, and rows. Wires have the names of the
+    /// comment `; Channels`. Times that sigrok cuts are those of the samples.
     Sigrok,
     /// What Saleae Logic exports: a header `Time [s],NAME,..`, and rows. DSView and WaveForms write the same, with
     /// remarks before the header.

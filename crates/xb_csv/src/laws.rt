@@ -35,8 +35,8 @@ pub fn wires_are_named()
     ensures { WiresAreNamed }
 {}
 
-/// A line of a chip that has a name, as libgpiod 2 writes it where the chip is given, is found by its number, by its name,
-/// with quotes or without, by both together, by all of it, and by nothing else.
+/// A line of a chip that has a name, as libgpiod 2 writes it where the chip is given, is found by its number,
+/// by its name, with quotes or without, by both together, by all of it, and by nothing else.
 pub fn lines_are_named()
     ensures { LinesAreNamed }
 {}
@@ -58,29 +58,29 @@ pub fn written_rows_are_read()
     ensures { WrittenRowsAreRead }
 {}
 
-/// A table of samples, written as sigrok writes it with comments for its version, the channels and the rate, is read back
-/// as it is: at each sample, a tick each, the level of each wire that is asked for. The channels have names of their own,
-/// fewer than 65,536, and the rate is a whole number of Hz, kHz, MHz or GHz.
+/// A table of samples, written as sigrok writes it with comments for its version, the channels and the rate,
+/// is read back as it is: at each sample, a tick each, the level of each wire that is asked for. The channels
+/// have names of their own, fewer than 65,536, and the rate is a whole number of Hz, kHz, MHz or GHz.
 pub fn sigrok_samples_are_read()
     ensures { SigrokSamplesAreRead }
 {}
 
-/// The same of a table with a column of times, in seconds, ms, us, ns or ps, where a sample is some whole units, or a unit
-/// is longer: at each time the level of each wire that is asked for. No time is before the one above, and all are below
-/// 2^63.
+/// The same of a table with a column of times, in seconds, ms, us, ns or ps, where a sample is some whole
+/// units, or a unit is longer: at each time the level of each wire that is asked for. No time is before the
+/// one above, and all are below 2^63.
 pub fn sigrok_times_are_read()
     ensures { SigrokTimesAreRead }
 {}
 
-/// The same where a sample is no whole units, and a unit is shorter: sigrok cuts the rest off, and counts times by what is
-/// left. Each is read as exactly its sample, a tick each.
+/// The same where a sample is no whole units, and a unit is shorter: sigrok cuts the rest off, and counts
+/// times by what is left. Each is read as exactly its sample, a tick each.
 pub fn sigrok_cut_times_are_read()
     ensures { SigrokCutTimesAreRead }
 {}
 
 /// A table as Saleae Logic writes it, or with the label of DSView or WaveForms, is read back as it is: at each time, in
-/// seconds to the nanosecond, with a sign before 0 s, the level of each wire that is asked for. No time is before the one
-/// above, and all are nearer to 0 s than 2^62 ns.
+/// seconds to the nanosecond, with a sign before 0 s, the level of each wire that is asked for. No time is
+/// before the one above, and all are nearer to 0 s than 2^62 ns.
 pub fn saleae_is_read()
     ensures { SaleaeIsRead }
 {}

@@ -1,13 +1,15 @@
 //! What is suspicious in the rows of a whole deck.
 //!
-//! - `Activities::is_quiet`: whether a line has rows and no make that is heard, so that no attempt begins on it.
-//! - `whole_of`: the unit of which the times of the deck look, if it is another one than ms (`wrong_unit`,
-//!   `specs/Units.antt`), and whether ten or more attempts begin with a make of under 100 ms and have no digit, as those
-//!   of a line that rings (`is_ringing`, `specs/Ringing.antt`). Attempts and digits are those of the chain's definitions
-//!   (`specs/Attempts.antt`); what is held of them is one small value for each line of the office.
+//! - `Activities::is_quiet`: whether a line has rows but no make that is heard, so that no attempt begins on
+//!   it.
+//! - `whole_of`: the unit that the times of the deck seem to have, if it is not ms (`wrong_unit`,
+//!   `specs/Units.antt`); and whether ten or more attempts begin with a make of under 100 ms and have no
+//!   digit, like those of a line that rings (`is_ringing`, `specs/Ringing.antt`). Attempts and digits are
+//!   those of the chain's definitions (`specs/Attempts.antt`). One small value of them is held for each line
+//!   of the office.
 //!
-//! Rows are read from the last one on, with a value for each line, since the definitions of the chain go over them from
-//! the first one on: what is told of rows is known once their later ones are.
+//! The definitions of the chain go over rows from the first one on: what they tell of rows is known once the
+//! later rows are. So rows are read from the last one on, with a value for each line.
 #![tactic(auto)]
 
 mod activities;

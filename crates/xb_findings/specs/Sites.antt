@@ -120,7 +120,8 @@ listed deck f (Some spot) = found_there deck spot.at (what.Routes f, None) ∷ [
 abbrev pub told_of_table : RouteFault → List ℕ → List Found
 told_of_table f deck = listed deck f (first_about f 0 (spots_of (table_of deck)))
 
--- what is told of the fault by which a text is refused: where no line cuts it, the text lines that are nearly such a line
+-- what is told of the fault by which a text is refused: where no line cuts it, the text lines that are nearly
+-- such a line
 abbrev pub told_of_fault : DeckFault → List ℕ → List Found
 told_of_fault deck_fault.Read deck = []
 told_of_fault deck_fault.TooLong deck = []

@@ -226,8 +226,8 @@ pub fn read_lines<'a>(alloc: Global, all: bool, deck: &'a [u8]) -> Result<LinesR
     Ok(lines)
 }
 
-/// What is wrong in a deck: the keys and headings of its route table that no rule names, and then its text lines after the
-/// one that cuts it, each read by itself. `Err` where memory ran out.
+/// What is wrong in a deck: the keys and headings of its route table that no rule names, and then its text
+/// lines after the one that cuts it, each read by itself. `Err` where memory ran out.
 pub fn findings<'a>(alloc: Global, deck: &'a [u8]) -> Result<Vec<Finding<'a>>, AllocError>
     requires { length deck.now ≤ MOST_DECK_BYTES }
     ensures { IfOk result (λ found. map found_of found.items ≡ faults_of_deck deck.now) }

@@ -73,7 +73,7 @@ fn report_of(alloc: Global, limits: Limits, mut told: String) -> Result<String, 
 }
 
 // The page of sections, with a list before them. The sections are told before their list is known, and are too
-// long to be copied behind it.
+// long to be copied after it.
 fn page_of(
     alloc: Global,
     limits: Limits,

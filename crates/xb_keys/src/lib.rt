@@ -1,10 +1,11 @@
-//! The keys and headings of a route table, whether or not it is TOML throughout.
+//! The keys and headings of a route table, whether or not all of it is TOML.
 //!
-//! - `spots_of`: each key and heading that a walk over the table meets, with where it stands (`spots_of`,
-//!   `specs/Spots.antt`). The walk reads keys, texts and scalars as TOML has them, and goes on in the next text line after
-//!   what is none.
-//! - `Section`, `Key`: the sections of a table, and the keys that rules name in them (`keys_of`, `specs/Keys.antt`). A key
-//!   that no rule names has the key of its section that one edit makes of it, or else two (`nearest`).
+//! - `spots_of`: each key and heading that a walk over the table meets, and where it stands
+//!   (`specs/Spots.antt`). The walk reads keys, texts and scalars as TOML has them. After anything else it
+//!   goes on in the next text line.
+//! - `Section`, `Key`: the sections of a table, and the keys that rules name in them (`keys_of`,
+//!   `specs/Keys.antt`). For a key that no rule names, `nearest` is the key of its section that one edit
+//!   makes of it, or else two.
 //! - `is_heading`, `is_bare`, `squeezed`: a text line of a table by itself (`specs/Table.antt`).
 #![tactic(auto)]
 

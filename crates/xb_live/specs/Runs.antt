@@ -26,7 +26,8 @@ rows_taken rows (Some f) = rows
 
 -- what was written of rows and the stop after them: all that is to be printed where they end, which sorted is
 -- their page; where a fault stops them, exactly the entries that they complete; where a write failed, the
--- beginning of what is to be printed; where a time is past the last instant, the entries of the rows before; else the entries of the first of them
+-- beginning of what is to be printed; where a time is past the last instant, the entries of the rows before;
+-- else the entries of the first of them
 abbrev pub Prints :
     Style → Table → Rest → Result (Unit {0}) LiveFault → Option (List ℕ) → Option (List ℕ) → Type 0
 Prints style table rest (Ok u) old new = (rest.stop ≡ None) × GotAll style table rest.rows old new

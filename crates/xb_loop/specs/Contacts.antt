@@ -9,8 +9,8 @@ use Rattle.xb_contact.specs.Seizing.{Seizing, all_passed, line_past, piece_passe
 use Rattle.xb_loop.specs.declared.tally.Tally.{Tally}
 use Rattle.xb_loop.specs.Tallies.{tally_after}
 
--- what is heard of it so far, how it is watched for ringing and for seizures, the tick of its first level, its level, and what was
--- counted of its short runs
+-- what is heard of it so far, how it is watched for ringing and for seizures, the tick of its first level,
+-- its level, and what was counted of its short runs
 pub record Followed : Type 0 where
   pub heard : Heard
   pub ringing : Ringing

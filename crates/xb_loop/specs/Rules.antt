@@ -22,7 +22,7 @@ options =
     ∷ (codes "line", takes.AllThatFollow)
     ∷ []
 
--- `mfloop [--table FILE] [--format FORM] [--rate HZ] [--settle MS] [--seize MS] [--ringing] [--tick MS] [--threshold PERCENT]
--- [--inverted] [--said] N=WIRE..`
+-- `mfloop [--table FILE] [--format FORM] [--rate HZ] [--settle MS] [--seize MS] [--ringing] [--tick MS]
+-- [--threshold PERCENT] [--inverted] [--said] N=WIRE..`
 abbrev pub command_of_words : App
 command_of_words = command_of (codes "mfloop") options

@@ -27,7 +27,8 @@ pub record WireRecord : Type 0 where
   pub first : Level
   pub holds : List Hold
 
--- a level is followed: it holds up to each time that is said, and another one comes with the next that is said of the wire
+-- a level is followed: it holds up to each time that is said, and another one comes with the next that is
+-- said of the wire
 abbrev pub holds_from : Bool → ℕ → Level → ℕ → List Event → List Hold
 holds_from inverted wire level now [] = []
 holds_from inverted wire level now (events.Ticks scale ∷ rest) = holds_from inverted wire level now rest

@@ -44,19 +44,20 @@ pub fn the_short_runs_are_counted()
     ensures { CountsTheShortRuns }
 {}
 
-/// Of the rows that are written of a recording, those of a line are the rows of the contact of its wire, hold by hold, as
-/// all laws here have them; and the bounces that are told of it are those that are counted of it.
+/// Of the rows that are written of a recording, those of a line are the rows of the contact of its wire, hold
+/// by hold, as all laws here have them; and the bounces that are told of it are those that are counted of it.
 pub fn each_line_has_the_record_of_its_wire()
     ensures { GivesEachRecord }
 {}
 
 /// So of all rows that are written of a recording (`rows_of_events`, which are those of `listen`) the chain hears, of
-/// each line, the settled record of its contact, in ms, in which calls that answer ringing are breaks, where that is asked
-/// for, and each make on hook that is too short to seize. Where short bounces disturb a clean record, it makes the tape
-/// of the clean one with such breaks (`tape`). Where no ringing is asked for that is the clean one itself, if each make
-/// on hook lasts long enough (`long`) or each make seizes (`plain`). Of a night of ringing, answers and calls it is that
-/// of the line's own calls (`night`). Exactly the short runs are told. It is so of each line of a recording whose wires are of other lines, as
-/// those are that words ask for.
+/// each line, the settled record of its contact, in ms, in which calls that answer ringing are breaks, where
+/// that is asked for, and each make on hook that is too short to seize. Where short bounces disturb a clean
+/// record, it makes the tape of the clean one with such breaks (`tape`). Where no ringing is asked for that
+/// is the clean one itself, if each make on hook lasts long enough (`long`) or each make seizes (`plain`). Of
+/// a night of ringing, answers and calls it is that of the line's own calls (`night`). Exactly the short runs
+/// are told. It is so of each line of a recording whose wires are of other lines, as those are that words ask
+/// for.
 pub fn the_tape_of_a_recording_is_kept()
     ensures heard { HearsTheRecording }
     ensures tape { KeepsTheTapeOfRecordings }

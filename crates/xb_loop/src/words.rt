@@ -199,7 +199,8 @@ fn request_of<'a>(alloc: Global, words: &Words<'a>) -> Result<Request<'a>, Words
 
 /// What the words ask for, the program's name first. Runs are given whole, unless a tick is given, and a line is
 /// released by the standard limit. The words are refused where `clap` refuses them, there is no such form or threshold,
-/// or a word is no wire, names a line again, or has a word after a comma that is none, or is said twice, or rings where a make of under 66 ms seizes.
+/// or a word is no wire, names a line again, or has a word after a comma that is none, or is said twice, or
+/// rings where a make of under 66 ms seizes.
 pub fn request_of_words<'a>(alloc: Global, words: &'a [String]) -> Result<Request<'a>, WordsFault>
     ensures asks { IfOk result (λ request. AsksPlainly (texts_of words.entry.now) request) }
     ensures refused { IfErr result (λ f. f ≡ WordsFault.Refused

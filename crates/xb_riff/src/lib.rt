@@ -1,9 +1,11 @@
 //! The head of a WAV file, and how the samples after it are written.
 //!
-//! - `WavHead` takes the bytes of a file as they come, up to its samples. What they come to is `head_of` (`Heads`): a
-//!   list of chunks, of which `fmt ` says how the samples are and `data` has them. With the last byte before the samples
-//!   it gives how they are; a refusal comes only where each file that begins so is refused, and is its fault.
-//! - `Coding`: PCM of 8 or 16 bits, or mu-law. `sample_of` gives the sample that bytes begin with (`Codings`).
+//! - `WavHead` takes the bytes of a file as they come, up to its samples. What they come to is `head_of`
+//!   (`Heads`): a list of chunks, of which `fmt ` says how the samples are and `data` has them. With the last
+//!   byte before the samples it gives how they are. A refusal comes only where each file that begins so is
+//!   refused, and is its fault.
+//! - `Coding`: PCM of 8 or 16 bits, or mu-law. `sample_of` gives the sample that bytes begin with
+//!   (`Codings`).
 //!
 //! Nothing takes memory.
 #![tactic(auto)]

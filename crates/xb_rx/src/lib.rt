@@ -1,15 +1,18 @@
 //! `mfrx` but for its process: the sound of keyings in, their page out.
 //!
-//! - `receive`: on `Ok` the output is exactly the page of the keyings that are heard (`page_of` of `keys_of_sound` of
-//!   the samples that the bytes say), and standard error has exactly a line for each doubt of one of them and for each
-//!   key that is in none (`told_of`); or the output is a line for each key (`key_lines`). On an `Err` the beginning of that was written to each. A WAV is refused by the
-//!   fault that it has (`start_of_file`), and by no other; `Cut` says how many samples are missing at its end. Memory
+//! - `receive`: on `Ok` the output is exactly the page of the keyings that are heard (`page_of` of
+//!   `keys_of_sound` of the samples that the bytes say), and standard error has exactly a line for each doubt
+//!   of one of them and for each key that is in none (`told_of`); or the output is a line for each key
+//!   (`key_lines`). On an `Err` the beginning of that was written to each. A WAV is refused by the fault that
+//!   it has (`start_of_file`), and by no other. `Cut` says how many samples are missing at its end. Memory
 //!   does not grow with the sound.
-//! - `compare`: on `Ok` the keyings that are heard are those that a page has keyed; on `Differ` the output is exactly
-//!   the differences (`differences`). Another fault says why they are not known, and no difference was written. Each
-//!   keying is compared as it ends (`Page::against`), and is not kept.
-//! - `laws::keyed_is_paged`: the page of a sound of keyings has an entry for each, in order, also of a disturbed one.
-//! - `laws::heard_is_paged`: the keyings that are compared are the keyed entries of the page that is written of them.
+//! - `compare`: on `Ok` the keyings that are heard are those that a page has keyed. On `Differ` the output is
+//!   exactly the differences (`differences`). Another fault says why they are not known, and no difference
+//!   was written. Each keying is compared as it ends (`Page::against`), and is not kept.
+//! - `laws::keyed_is_paged`: the page of a sound of keyings, even of a disturbed one, has an entry for each,
+//!   in order.
+//! - `laws::heard_is_paged`: the keyings that are compared are the keyed entries of the page that is written
+//!   of them.
 //! - `attend`: `Attends` of this. `laws::usage_names_each_option`.
 //!
 //! `xb_wav` says which samples a file or a stream has, and `xb_ear` what is heard of them.

@@ -33,8 +33,8 @@ begins_from tick (At later ∷ rest) = nat_le tick later
 begins_from tick (Level wire level ∷ rest) = false
 begins_from tick (Ticks scale ∷ rest) = false
 
--- that the levels hold up to a tick says nothing where they hold up to that or a later one: a reader says it where a piece
--- ends. A tick that is greater than the next one stays
+-- that the levels hold up to a tick says nothing where they hold up to that or a later one: a reader says it
+-- where a piece ends. A tick that is greater than the next one stays
 abbrev pub until : ℕ → List Event → List Event
 until tick said = if begins_from tick said then said else At tick ∷ said
 

@@ -41,8 +41,8 @@ sample_levels wire [] sample = []
 sample_levels wire (mask ∷ masks) sample =
     events.Level wire (bit_level sample mask) ∷ sample_levels (wire + 1) masks sample
 
--- the wires, the lower byte of a sample whose upper one has not come, the last sample, how many have come, and how many in
--- a row went back
+-- the wires, the lower byte of a sample whose upper one has not come, the last sample, how many have come,
+-- and how many in a row went back
 pub record BitsState : Type 0 where
   pub width : Width
   pub masks : List ℕ
@@ -105,8 +105,8 @@ abbrev pub rate_says : Option ℕ → Result (List Event) Refusal
 rate_says None = Err refusals.NoRate
 rate_says (Some rate) = if rate == 0 then Err refusals.NoRate else Ok (events.Ticks (scale_by 1000 rate) ∷ [])
 
--- samples of sixteen wires that are read as samples of eight: the wires that are asked for go to and fro, as in each second
--- byte they are others
+-- samples of sixteen wires that are read as samples of eight: the wires that are asked for go to and fro, as
+-- in each second byte they are others
 abbrev pub are_of_two : Width → List ℕ → List ℕ → Bool
 are_of_two widths.Eight masks bytes = go_to_and_fro (wires_alone masks bytes)
 are_of_two widths.Sixteen masks bytes = false

@@ -8,7 +8,8 @@ use Rattle.xb_samples.specs.declared.tail.Tail.{Tail}
 abbrev pub left_after : Option ℕ → List ℕ → Option ℕ
 left_after left bytes = option_map (λ n. n - length bytes) left
 
--- a character of ASCII that is printed; the name of a chunk is four of them, but not RIFF, with which another file begins
+-- a character of ASCII that is printed; the name of a chunk is four of them, but not RIFF, with which another
+-- file begins
 abbrev pub is_printed : ℕ → Bool
 is_printed byte = nat_le 32 byte && nat_le byte 126
 
@@ -19,8 +20,8 @@ is_name bytes =
     && (is_printed (byte_at bytes 2)
     && (is_printed (byte_at bytes 3) && not (starts_with nat_eq bytes (codes "RIFF")))))
 
--- bytes are as many as have to come, then as many as may, and then chunks: each a name, a length in four bytes, and so many
--- bytes, with one more that may come where that is odd
+-- bytes are as many as have to come, then as many as may, and then chunks: each a name, a length in four
+-- bytes, and so many bytes, with one more that may come where that is odd
 abbrev pub are_chunks : ℕ → ℕ → List ℕ → Bool
 are_chunks (suc left) more [] = false
 are_chunks (suc left) more (byte ∷ rest) = are_chunks left more rest

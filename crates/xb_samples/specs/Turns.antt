@@ -28,8 +28,8 @@ any_from bits (mask ∷ masks) = any_from (bit_or bits mask) masks
 abbrev pub wires_alone : List ℕ → List ℕ → List ℕ
 wires_alone masks samples = map (λ sample. bit_and sample (any_from 0 masks)) samples
 
--- what is known of samples one by one: the bits of the wires, the last two of these alone, and how many in a row went back,
--- up to 250
+-- what is known of samples one by one: the bits of the wires, the last two of these alone, and how many in a
+-- row went back, up to 250
 pub record TurnsState : Type 0 where
   pub mask : ℕ
   pub before : Option ℕ

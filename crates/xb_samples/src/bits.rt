@@ -236,8 +236,8 @@ impl Bits {
     }
 
     /// Takes bytes of samples, and adds what they say to `events`, also up to where they go. More than 2^64 - 1 samples
-    /// are refused, and the first sample of eight wires by which 250 in a row have gone back, of the wires that are asked
-    /// for: `TwoBytes`. After an `Err` the reader is not to be used again.
+    /// are refused, and the first sample of eight wires by which 250 in a row have gone back, of the wires
+    /// that are asked for: `TwoBytes`. After an `Err` the reader is not to be used again.
     pub fn take(&mut self, bytes: &[u8], events: &mut Vec<Event>) -> Result<(), Refusal>
         requires { events.old.items ≡ [] }
         ensures said { OnOk result ((text : List ℕ) (later : List Saying)

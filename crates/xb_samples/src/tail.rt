@@ -51,7 +51,7 @@ fn is_name(bytes: &[u8]) -> bool
         && !bytes.starts_with(b"RIFF")
 }
 
-// The length of a chunk, which stands behind its name, the lowest byte first.
+// The length of a chunk, which stands after its name, the lowest byte first.
 fn chunk_length(bytes: &[u8]) -> u32
     ensures { result ≡ long_at bytes.now 4 }
 {

@@ -1,9 +1,10 @@
-//! The reader of recordings of contacts that are value change dumps.
+//! The reader of recordings of contacts that are value change dumps (VCD).
 //!
-//! - `Vcd::take_line` (`vcd_line_says`): exactly what the words of a line say of the wires that are asked for, or why
-//!   they are refused: the reason of the first word that is (`IsRefusedBy`), unless memory ran out. `Vcd::end` is the
-//!   last line, and the end. A text is a VCD where each of its words may stand where it stands, and it ends among its
-//!   changes (`vcd_says`; `VcdTexts` has its lines and words).
+//! - `Vcd::take_line` (`vcd_line_says`): exactly what the words of a line say of the wires that are asked
+//!   for, or why they are refused: the reason of the first refused word (`IsRefusedBy`), unless memory ran
+//!   out. `Vcd::end` is the last line, and the end.
+//! - A text is a VCD where each of its words may stand where it stands, and it ends among its changes
+//!   (`vcd_says`; `VcdTexts` has its lines and words).
 //! - `laws::written_is_read` (`WrittenVcd`): what up to 94 wires do, written as a VCD, is read back as it is.
 #![tactic(auto)]
 
