@@ -12,15 +12,23 @@ one of five pins of the line. A shell does what it prints:
 
     mflive --events DECK | lamps.py --gpio gpiochip0 7=17,27,22,23,24 | sh
 """
-import curses
 import json
 import os
 import sys
 
+try:
+    import curses
+except ImportError:  # some builds of Python have none
+    curses = None
+
 STATES = ("ON HOOK", "SEIZED", "DIALLING", "COMPLETE", "REFUSED")
 WEIGHTS = (0, 1, 2, 4, 7)
-# As of a program that SIGPIPE ends.
-READER_IS_GONE = 141
+# As of programs that SIGPIPE and SIGINT end.
+READER_IS_GONE, INTERRUPTED = 141, 130
+
+
+class LampsError(ValueError):
+    """The lamps cannot be shown, and the text says why."""
 
 
 class Line:
@@ -83,18 +91,37 @@ def draw(screen, lines: dict) -> None:
 
 def show(screen, lines: dict) -> None:
     """Shows what comes of each event."""
-    curses.curs_set(0)
+    try:
+        curses.curs_set(0)
+    except curses.error:
+        pass  # this terminal always shows its cursor
     for told in events():
         lines.setdefault(told["line"], Line()).take(told)
         draw(screen, lines)
 
 
+def event_of(text: bytes) -> dict:
+    """The event, entry or totals of a text line."""
+    told = json.loads(text)
+    if "line" in told:
+        Line().take(told)
+    elif "keyed" not in told:
+        raise KeyError("line")
+    return told
+
+
 def events():
     """Each event and each entry, as it comes; the totals are none."""
-    for text in sys.stdin:
-        told = json.loads(text)
+    number = 0
+    for number, text in enumerate(sys.stdin.buffer, 1):
+        try:
+            told = event_of(text)
+        except (ValueError, KeyError, TypeError, AttributeError):
+            raise LampsError(f"text line {number} is none of mflive --events") from None
         if "line" in told:
             yield told
+    if number == 0:
+        raise LampsError("standard input is empty: mflive --events writes what is shown")
 
 
 def pins_of(words: list) -> dict:
@@ -123,27 +150,52 @@ def light(chip: str, pins: dict) -> None:
             print(command(chip, pins[told["line"]], lines[told["line"]]), flush=True)
 
 
-def main(words: list) -> int:
-    """Does what the words ask."""
-    try:
-        if len(words) > 2 and words[0] == "--gpio":
-            light(words[1], pins_of(words[2:]))
-            return 0
-    except BrokenPipeError:
-        os.dup2(os.open(os.devnull, os.O_WRONLY), sys.stdout.fileno())
-        return READER_IS_GONE
-    except ValueError:
-        words = ["--gpio"]
-    if words:
-        print(__doc__, file=sys.stderr)
-        return 2
+def light_words(words: list) -> None:
+    """Lights the lamps that the words after --gpio ask for."""
+    chip, *lines = words
+    if not lines:
+        raise ValueError("--gpio")
+    light(chip, pins_of(lines))
+
+
+def show_rows() -> None:
+    """Shows the rows until the events end, and leaves them there."""
+    if curses is None:
+        raise LampsError("this Python has no curses: take another, or --gpio")
+    if not sys.stdout.isatty():
+        raise LampsError("standard output is no terminal: leave the pipe behind it out, or take --gpio")
     lines = {}
     try:
         curses.wrapper(show, lines)
     except KeyboardInterrupt:
         pass
+    except curses.error as fault:
+        raise LampsError(f"the terminal shows no rows: {fault}") from None
     print("\n".join(rows_of(lines)))
-    return 0
+
+
+def main(words: list) -> int:
+    """Does what the words ask."""
+    status = 0
+    try:
+        if words[:1] == ["--gpio"]:
+            light_words(words[1:])
+        elif words or sys.stdin.isatty():
+            raise ValueError(words)
+        else:
+            show_rows()
+    except LampsError as fault:
+        print(f"lamps.py: {fault}", file=sys.stderr)
+        status = 1
+    except ValueError:
+        print(__doc__, file=sys.stderr)
+        status = 2
+    except KeyboardInterrupt:
+        status = INTERRUPTED
+    except BrokenPipeError:
+        os.dup2(os.open(os.devnull, os.O_WRONLY), sys.stdout.fileno())
+        status = READER_IS_GONE
+    return status
 
 
 if __name__ == "__main__":
