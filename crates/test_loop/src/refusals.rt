@@ -113,15 +113,19 @@ const TABLES: &[Refused] = &[
     ),
 ];
 
-// The first bytes of a session of sigrok 0.5.2, and of a zip of the members of a capture of Saleae Logic 2.
+// The first bytes of a session of sigrok 0.5.2, of a zip of the members of a capture of Saleae Logic 2, and of a zip of a
+// table, as Info-ZIP 3.0 writes it.
 const SESSION: &[u8] =
     b"PK\x03\x04\x14\x00\x00\x00\x00\x00\xec!|]\x0d\xbe\xd5\x1a\x01\x00\x00\x00\x01\x00\x00\x00\x07\x00\x00\x00version2";
 
 const CAPTURE: &[u8] =
     b"PK\x03\x04\x14\x00\x00\x00\x08\x00\xed!|]\x08K\xad\x9c\x0d\x00\x00\x00D\x00\x00\x00\x0d\x00\x00\x00digital-0.bin";
 
+const TABLE: &[u8] =
+    b"PK\x03\x04\x0a\x00\x00\x00\x00\x00\xe18|]\xf8\xec7+\x08\x00\x00\x00\x08\x00\x00\x00\x08\x00\x00\x00call.csv0,1\x0a1,0\x0a";
+
 const ARCHIVE: &[u8] =
-    b"mfloop: the recording: a .sr or .sal is no stream: sigrok-cli -i FILE.sr -O vcd, or export the .sal as CSV\n";
+    b"mfloop: the recording: this is a ZIP archive: unpack it; of a .sr, sigrok-cli -i FILE -O vcd; export a .sal as CSV from Logic\n";
 
 // Before anything is read.
 const OTHERS: &[Refused] = &[
@@ -135,9 +139,10 @@ const OTHERS: &[Refused] = &[
         b"",
         b"mfloop: the recording: the form of the recording cannot be told: give --format\n",
     ),
-    // files of several files
+    // archives
     (&["7=D0"], SESSION, ARCHIVE),
     (&["7=Channel 0"], CAPTURE, ARCHIVE),
+    (&["7=1"], TABLE, ARCHIVE),
     // what only begins as these do
     (
         &["7=1"],

@@ -69,8 +69,8 @@ pub enum Refusal {
     /// Two edges of one direction, with none between them.
     #[error("an edge is lost: two of one direction follow each other")]
     LostEdge,
-    /// A file of several files, as PulseView and Saleae save their recordings.
-    #[error("a .sr or .sal is no stream: sigrok-cli -i FILE.sr -O vcd, or export the .sal as CSV")]
+    /// A ZIP archive, as PulseView and Saleae save their recordings.
+    #[error("this is a ZIP archive: unpack it; of a .sr, sigrok-cli -i FILE -O vcd; export a .sal as CSV from Logic")]
     Archive,
     /// Sound that ends before all bytes have come that its head counts; so many are missing.
     #[error("the sound is cut off: {0} bytes are missing")]
