@@ -1,0 +1,10 @@
+-- What the register of the next office takes of numbers that are dialled.
+use Rattle.xb_dial.specs.Dialling.{numbers_on}
+use Rattle.xb_dial.specs.Heard.{DialledIsHeard}
+use Rattle.xb_joined.specs.Tandem.{NumbersAreRegistered}
+use Rattle.xb_joined.specs.Dialled.{DialledIsRegistered}
+
+pub dialled-registered : DialledIsHeard → NumbersAreRegistered → DialledIsRegistered
+dialled-registered dialled taken plan limits a b speed calls rows l cadence samples limit are so complete lawful fits have hearable within intime =
+    taken plan limits a b rows l (numbers_on l calls) cadence samples limit
+    ((dialled speed calls rows are so).heard plan limits complete lawful fits l) have hearable within intime

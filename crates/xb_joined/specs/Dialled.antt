@@ -1,0 +1,28 @@
+-- From the dial of office A to the register of office B and its tape.
+use Rattle.std.specs.Prelude.{ℕ, List, ℤ}
+use Rattle.xb_model.specs.declared.limits.Limits.{Limits}
+use Rattle.xb_model.specs.declared.plan.Plan.{Plan}
+use Rattle.xb_model.specs.LawfulLimits.{IsLawful}
+use Rattle.xb_model.specs.Routing.{CodedRoute}
+use Rattle.xb_model.specs.Rows.{LoopRow}
+use Rattle.xb_model.specs.Tapes.{joined_tape}
+use Rattle.xb_dial.specs.declared.speed.Speed.{Speed}
+use Rattle.xb_dial.specs.Calls.{AreCalls, DialledCall}
+use Rattle.xb_dial.specs.Dialling.{numbers_on}
+use Rattle.xb_dial.specs.Heard.{AreComplete, AreDialled}
+use Rattle.xb_dial.specs.Speeds.{Fits}
+use Rattle.xb_tone.specs.declared.cadence.Cadence.{Cadence}
+use Rattle.xb_tone.specs.HeardTapes.{HavePrefixes}
+use Rattle.xb_ear.specs.Disturbed.{AreWithin}
+use Rattle.xb_ear.specs.HeardKeys.{IsHearable, disturbable}
+use Rattle.xb_incoming.specs.Joined.{InTime}
+use Rattle.xb_joined.specs.Tandem.{AreRegistered, keyed_numbers}
+use Rattle.xb_joined.specs.Timed.{timed_keys}
+
+abbrev pub DialledIsRegistered : Type 0
+DialledIsRegistered =
+    (plan : Plan) (limits : Limits) (a b : List CodedRoute) (speed : Speed) (calls : List DialledCall)
+    (rows : List LoopRow) (l : ℕ) (cadence : Cadence) (samples : List ℤ) (limit : ℕ)
+    → AreCalls calls → AreDialled speed calls rows → AreComplete plan calls → IsLawful limits → Fits limits speed
+    → HavePrefixes a → IsHearable cadence → AreWithin (disturbable cadence (joined_tape plan limits a l rows)) samples
+    → InTime limit 0 (timed_keys samples) → AreRegistered limit b (keyed_numbers a (numbers_on l calls)) samples

@@ -1,0 +1,3 @@
+pub mod Timed
+pub mod Tandem
+pub mod Dialled

@@ -1,0 +1,43 @@
+-- What an ear hears, as a register takes it.
+use Rattle.std.specs.Prelude.{ℕ, ◌+◌, ◌-◌, ◌*◌, ◌/◌, List, [], ◌∷◌, map, ℤ}
+use Rattle.xb_model.specs.declared.key.Key.{Key}
+use Rattle.xb_model.specs.declared.key.Key.TheVariants as keys
+use Rattle.xb_model.specs.declared.key.Tone.{Tone as Pair}
+use Rattle.xb_tone.specs.HeardKeys.{frequencies_of, keys_with}
+use Rattle.xb_ear.specs.declared.hearing.Heard.{Heard}
+use Rattle.xb_ear.specs.Receivers.{keys_of_sound}
+use Rattle.xb_incoming.specs.declared.key.Symbol.{Symbol}
+use Rattle.xb_incoming.specs.declared.key.Symbol.TheVariants.{Digit, Kp, St, Other}
+use Rattle.xb_incoming.specs.declared.key.TimedKey.{TimedKey}
+
+abbrev pub symbol_of : Key → Symbol
+symbol_of (keys.Digit d) = Digit d
+symbol_of keys.Kp = Kp
+symbol_of keys.St = St
+
+-- a pair of no key is none of these
+abbrev pub first_symbol : List Key → Symbol
+first_symbol [] = Other
+first_symbol (key ∷ more) = symbol_of key
+
+abbrev pub symbol_of_pair : Pair → Symbol
+symbol_of_pair p = first_symbol (keys_with (frequencies_of p))
+
+-- a window begins with each 20th sample, and speaks for those in its middle, of 8 in a ms; the times are those that are
+-- told of a key: when it begins, and how long it lasts, in whole ms
+abbrev pub begin_of : Heard → ℕ
+begin_of key = (20 * key.first + 30) / 8
+
+abbrev pub length_of : Heard → ℕ
+length_of key = 20 * (key.past - key.first) / 8
+
+abbrev pub timed_of : Heard → TimedKey
+timed_of key = record {
+  what = symbol_of_pair key.sight.pair;
+  begin_ms = begin_of key;
+  end_ms = begin_of key + length_of key;
+}
+
+-- the keys of a sound, with their times
+abbrev pub timed_keys : List ℤ → List TimedKey
+timed_keys samples = map timed_of (keys_of_sound samples)
