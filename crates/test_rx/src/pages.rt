@@ -43,6 +43,14 @@ const OBJECT: &[u8] =
     b"{\"at_ms\":501,\"gap_ms\":null,\"high_dbm0_tenths\":-72,\"high_hz\":1700,\"key\":\"KP\",\
 \"length_ms\":97,\"low_dbm0_tenths\":-72,\"low_hz\":1100,\"twist_db_tenths\":0,\"verdict\":\"GOOD\"}\n";
 
+// The entry of the first of them as an object, and that of the second. The first ST begins at 941.25 ms and lasts 65, and
+// the second at 1,881.25.
+const FIRST_ENTRY: &[u8] =
+    b"{\"doubts\":[],\"entry\":1,\"from_ms\":501,\"keys\":[\"KP\",\"5\",\"0\",\"ST\"],\"sent\":\"50\",\"to_ms\":1006}\n";
+
+const SECOND_ENTRY: &[u8] =
+    b"{\"doubts\":[],\"entry\":2,\"from_ms\":1576,\"keys\":[\"KP\",\"1\",\"ST\"],\"sent\":\"1\",\"to_ms\":1946}\n";
+
 // Keyings that are heard, and their differences from the page of the tests, which has 5 0 as entry 1 and 2 as entry 3:
 // none, two, one that is heard twice, one that is not heard, and both in the other order.
 const DIFFERENCES: &[(&[&[u8]], &[u8])] = &[
@@ -81,31 +89,109 @@ fn written(
     Ok(out)
 }
 
-// The page of the first of them without the sound of its 0, and what is told of it: by the times above its 5 ends at
-// 736.25 ms, and its ST begins at 941.25.
-const LACKING: &[u8] =
-    b"0000 1 KEYED 0000 KP:1100+1700 5:900+1300 ST:1500+1700\nKEYED 1 REFUSED 0\n";
+// What is heard of the first of them where bytes of its file are silence.
+struct Spoilt {
+    // The bytes, of samples from 16 a ms, after a head of 44.
+    from: usize,
+    to: usize,
+    // Its page, and what is told of it.
+    page: &'static [u8],
+    told: &'static [u8],
+    // The object of its entry.
+    object: &'static [u8],
+}
 
-const DOUBT: &[u8] =
-    b"mfrx: entry 1 at 0.501 s: 205 ms between its keys 2 and 3: one may be missing\n";
+// By the times above its 5 ends at 736.25 ms, and its ST begins at 941.25 and ends at 1006.25. The second receiver says
+// how long the keys are that are cut.
+const SPOILT: &[Spoilt] = &[
+    // from 762.5 to 925 ms: all of its 0
+    Spoilt {
+        from: 12_244,
+        to: 14_844,
+        page: b"0000 1 KEYED 0000 KP:1100+1700 5:900+1300 ST:1500+1700\nKEYED 1 REFUSED 0\n",
+        told: b"mfrx: entry 1 at 0.501 s: 205 ms between its keys 2 and 3: one may be missing\n",
+        object: b"{\"doubts\":[{\"key\":3,\"kind\":\"LONG_GAP\",\"may_be\":\"MISSING\",\"ms\":205,\"wanted_ms\":68}],\
+\"entry\":1,\"from_ms\":501,\"keys\":[\"KP\",\"5\",\"ST\"],\"sent\":\"5\",\"to_ms\":1006}\n",
+    },
+    // from 840 to 925 ms: the end of its 0
+    Spoilt {
+        from: 13_484,
+        to: 14_844,
+        page: b"0000 1 KEYED 0000 KP:1100+1700 5:900+1300 0:1300+1500 ST:1500+1700\nKEYED 1 REFUSED 0\n",
+        told: b"mfrx: entry 1 at 0.501 s: its key 3 lasts 35 ms, not 68 give or take 14: one may be too many\n",
+        object: b"{\"doubts\":[{\"key\":3,\"kind\":\"SHORT_KEY\",\"may_be\":\"EXTRA\",\"ms\":35,\"wanted_ms\":68}],\
+\"entry\":1,\"from_ms\":501,\"keys\":[\"KP\",\"5\",\"0\",\"ST\"],\"sent\":\"50\",\"to_ms\":1006}\n",
+    },
+    // from 500 to 525 ms: the beginning of its KP
+    Spoilt {
+        from: 8_044,
+        to: 8_444,
+        page: b"0000 1 KEYED 0000 KP:1100+1700 5:900+1300 0:1300+1500 ST:1500+1700\nKEYED 1 REFUSED 0\n",
+        told: b"mfrx: entry 1 at 0.526 s: its key 1 lasts 72 ms, not 100 give or take 14: it may be cut\n",
+        object: b"{\"doubts\":[{\"key\":1,\"kind\":\"SHORT_KEY\",\"may_be\":\"CUT\",\"ms\":72,\"wanted_ms\":100}],\
+\"entry\":1,\"from_ms\":526,\"keys\":[\"KP\",\"5\",\"0\",\"ST\"],\"sent\":\"50\",\"to_ms\":1006}\n",
+    },
+];
+
+// What the program writes of a file by some words, and what it tells of it.
+fn heard_in(alloc: Global, file: &[u8], options: &[&str]) -> Result<(Vec<u8>, Vec<u8>), Fail> {
+    let words = words_of(alloc, "mfrx", options)?;
+    let mut reader = file;
+    let mut out = Vec::new(alloc);
+    let mut err = Vec::new(alloc);
+    if attend(alloc, &words, &Folder, &mut reader, &mut out, &mut err) != 0 {
+        return Err("another status".into());
+    }
+    Ok((out, err))
+}
+
+// Fails where a spoilt file is heard otherwise.
+fn check_spoilt(alloc: Global, file: &[u8], spoilt: &Spoilt) -> Result<(), Fail> {
+    let mut silenced = Vec::new(alloc);
+    for (at, byte) in file.iter().enumerate() {
+        let is_silent = spoilt.from <= at && at < spoilt.to;
+        silenced.push(if is_silent { 0 } else { *byte })?;
+    }
+    let (page, told) = heard_in(alloc, &silenced, &[])?;
+    if page.as_slice() != spoilt.page || told.as_slice() != spoilt.told {
+        return Err("another page".into());
+    }
+    let (objects, none) = heard_in(alloc, &silenced, &["--json"])?;
+    if !objects.ends_with(spoilt.object) || !none.is_empty() {
+        return Err("another object".into());
+    }
+    Ok(())
+}
 
 #[test]
 fn tells_what_is_doubtful(rt: HostRuntime) -> Result<(), Fail> {
     let alloc = rt.alloc();
     let file = sound(alloc, &[&[5, 0]])?;
-    // the samples from 762.5 to 925 ms are silence, after a head of 44 bytes
-    let mut lacking = Vec::new(alloc);
-    for (at, byte) in file.iter().enumerate() {
-        let is_silent = 12_244 <= at && at < 14_844;
-        lacking.push(if is_silent { 0 } else { *byte })?;
+    for spoilt in SPOILT {
+        check_spoilt(alloc, &file, spoilt)?;
     }
-    let words = words_of(alloc, "mfrx", &[])?;
-    let mut reader = lacking.as_slice();
-    let mut out = Vec::new(alloc);
-    let mut err = Vec::new(alloc);
-    let status = attend(alloc, &words, &Folder, &mut reader, &mut out, &mut err);
-    assert!(rt; status == 0 && out.as_slice() == LACKING);
-    assert!(rt; err.as_slice() == DOUBT);
+    Ok(())
+}
+
+// A keying of 5 by a sender that keys 90 ms in place of 68, and so what the second receiver hears.
+const SLOW: &[u8] =
+    b"mfrx: entry 1 at 0.501 s: its key 2 lasts 87 ms, not 68 give or take 14: one may be missing\n\
+mfrx: entry 1 at 0.501 s: its key 3 lasts 90 ms, not 68 give or take 14: one may be missing\n";
+
+#[test]
+fn tells_keys_that_are_too_long(rt: HostRuntime) -> Result<(), Fail> {
+    let alloc = rt.alloc();
+    let marks = keying(alloc, 3, &[5])?;
+    let slow = Cadence {
+        key_ms: 90,
+        ..Cadence::standard()
+    };
+    let mut file = Vec::new(alloc);
+    if write_wav(alloc, &mut file, &marks, slow).is_err() {
+        return Err("no sound".into());
+    }
+    let (_, told) = heard_in(alloc, &file, &[])?;
+    assert!(rt; told.as_slice() == SLOW);
     Ok(())
 }
 
@@ -122,6 +208,9 @@ fn tells_each_key(rt: HostRuntime) -> Result<(), Fail> {
     assert!(rt; keys.as_slice() == KEYS);
     let objects = written(rt.alloc(), NUMBERS, &["--json"], 0)?;
     assert!(rt; objects.starts_with(OBJECT));
+    assert!(rt; objects.ends_with(SECOND_ENTRY));
+    let first = written(rt.alloc(), &[&[5, 0]], &["--json"], 0)?;
+    assert!(rt; first.ends_with(FIRST_ENTRY));
     Ok(())
 }
 

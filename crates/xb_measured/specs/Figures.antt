@@ -13,6 +13,9 @@ ms_of samples = min (samples / 8) (2 ^ 64 - 1)
 abbrev pub start_ms : Heard → ℕ
 start_ms key = ms_of (20 * key.first + 30)
 
+abbrev pub end_ms : Heard → ℕ
+end_ms key = ms_of (20 * key.past + 30)
+
 abbrev pub length_ms : Heard → ℕ
 length_ms key = ms_of (20 * (key.past - key.first))
 

@@ -1,6 +1,8 @@
 pub mod Meanings
 pub mod Levels
 pub mod Figures
+pub mod Seconds
+pub mod Meters
 pub mod Verdicts
 pub mod Objects
 pub mod Lines

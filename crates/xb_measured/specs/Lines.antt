@@ -3,12 +3,9 @@ use Rattle.std.specs.Prelude.{ℕ, List, [], ◌∷◌, ◌++◌, codes, decimal
 use Rattle.xb_ear.specs.declared.hearing.Heard.{Heard}
 use Rattle.xb_measured.specs.declared.figures.Figures.{Figures}
 use Rattle.xb_measured.specs.declared.levels.TheConstants.{ZERO_DBM0}
-use Rattle.xb_measured.specs.declared.lines.Telling.{Telling}
-use Rattle.xb_measured.specs.declared.lines.Telling.TheVariants as telling
 use Rattle.xb_measured.specs.Figures.{figures_of}
 use Rattle.xb_measured.specs.Levels.{tenths_text}
 use Rattle.xb_measured.specs.Meanings.{name_text}
-use Rattle.xb_measured.specs.Objects.{object_line}
 use Rattle.xb_measured.specs.Verdicts.{verdict_of, verdict_word}
 
 -- when a key began, by the last one
@@ -26,11 +23,7 @@ text_line figures =
     ++ (tenths_text figures.high figures.low ++ (codes " dB, " ++ (gap_text figures.gap_ms ++ (codes ": "
     ++ (verdict_word (verdict_of figures) ++ codes "\n"))))))))))))))))))
 
-abbrev pub key_line : Telling → Figures → List ℕ
-key_line telling.Text figures = text_line figures
-key_line telling.Json figures = object_line figures
-
 -- a line for each key, after one that came before them
-unfoldable pub key_lines : Telling → Option Heard → List Heard → List ℕ
-key_lines how before [] = []
-key_lines how before (key ∷ keys) = key_line how (figures_of before key) ++ key_lines how (Some key) keys
+unfoldable pub text_lines : Option Heard → List Heard → List ℕ
+text_lines before [] = []
+text_lines before (key ∷ keys) = text_line (figures_of before key) ++ text_lines (Some key) keys

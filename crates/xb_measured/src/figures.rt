@@ -1,6 +1,6 @@
 // The figures of a key.
 ghost use Rattle.std.specs.Prelude.{◌≡◌};
-ghost use Rattle.xb_measured.specs.Figures.{figures_of, gap_ms, length_ms, ms_of, start_ms};
+ghost use Rattle.xb_measured.specs.Figures.{end_ms, figures_of, gap_ms, length_ms, ms_of, start_ms};
 
 use crate::levels::tenths_of;
 use crate::meaning::Meaning;
@@ -45,6 +45,13 @@ pub fn start_ms(key: Heard) -> u64
     ensures { result ≡ start_ms key }
 {
     ms_of(HOP * u128::from(key.first) + EDGE)
+}
+
+/// When a key ended, in ms from the first sample.
+pub fn end_ms(key: Heard) -> u64
+    ensures { result ≡ end_ms key }
+{
+    ms_of(HOP * u128::from(key.past) + EDGE)
 }
 
 // How long a key lasted.

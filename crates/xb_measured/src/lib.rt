@@ -5,8 +5,9 @@
 //!   ST', ST''', or KP2/ST'', which are one pair. `Meaning::name` is its name.
 //! - `figures_of`: the figures of a key, by the last key before it. `verdict_of`: GOOD, or the first limit
 //!   that they miss, of length, gap, twist and level. `length_fits`: whether they keep to the first.
-//! - `key_line` is exactly the line of the figures (`text_line`), or the same as a JSON object
-//!   (`object_line`).
+//! - `text_line` is exactly the line of the figures, and `object_line` the same as a JSON object.
+//! - `Meter`: how loud a sound is in which no key was heard (`quiet_line`).
+//! - `end_ms`: when a key ended. `seconds_text`: a time in seconds.
 //! - `laws::tenths_are_nearest`: the tenths of a dB of a level are the nearest to its decibels.
 //!   `levels_are_as_worked`: levels in dBm0, as worked by hand.
 #![tactic(auto)]
@@ -16,10 +17,15 @@ pub mod laws;
 mod levels;
 mod lines;
 mod meaning;
+mod meter;
 mod objects;
+mod seconds;
 mod verdicts;
 
-pub use figures::{Figures, figures_of, start_ms};
-pub use lines::{Telling, key_line};
+pub use figures::{Figures, end_ms, figures_of, start_ms};
+pub use lines::text_line;
 pub use meaning::Meaning;
+pub use meter::Meter;
+pub use objects::object_line;
+pub use seconds::seconds_text;
 pub use verdicts::{KEY_MS, KP_MS, MOST_OFF_MS, Verdict, length_fits, verdict_of};

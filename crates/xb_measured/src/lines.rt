@@ -1,21 +1,11 @@
 // The line of a key.
 ghost use Rattle.std.specs.Prelude.{◌≡◌, IfOk, string_bytes};
-ghost use Rattle.xb_measured.specs.Lines.{gap_text, key_line, text_line};
+ghost use Rattle.xb_measured.specs.Lines.{gap_text, text_line};
 
 use crate::figures::Figures;
 use crate::levels::{ZERO_DBM0, tenths_text};
-use crate::objects::object_line;
 use crate::verdicts::verdict_of;
 use std::alloc::{AllocError, Global};
-
-/// How keys are told.
-#[derive(Clone, Copy, Debug, PartialEq, Eq)]
-pub enum Telling {
-    /// As lines of text.
-    Text,
-    /// As JSON objects, each on a line.
-    Json,
-}
 
 // When the key began, by the last one.
 fn gap_text(alloc: Global, gap: Option<u64>) -> Result<String, AllocError>
@@ -27,8 +17,8 @@ fn gap_text(alloc: Global, gap: Option<u64>) -> Result<String, AllocError>
     }
 }
 
-// The line of a key as text.
-fn text_line(alloc: Global, figures: &Figures) -> Result<String, AllocError>
+/// The line of a key. `Err` says that memory ran out.
+pub fn text_line(alloc: Global, figures: &Figures) -> Result<String, AllocError>
     ensures { IfOk result (λ line. string_bytes line ≡ text_line figures.now) }
 {
     let name = figures.meaning.name();
@@ -44,14 +34,4 @@ fn text_line(alloc: Global, figures: &Figures) -> Result<String, AllocError>
     format!(in alloc;
         "{name} at {start} ms for {length} ms, {low_hz} Hz {low} dBm0, {high_hz} Hz {high} dBm0, twist {twist} dB, {gap}: {word}\n"
     )
-}
-
-/// The line of a key. `Err` says that memory ran out.
-pub fn key_line(alloc: Global, telling: Telling, figures: &Figures) -> Result<String, AllocError>
-    ensures { IfOk result (λ line. string_bytes line ≡ key_line telling figures.now) }
-{
-    match telling {
-        Telling::Text => text_line(alloc, figures),
-        Telling::Json => object_line(alloc, figures),
-    }
 }

@@ -50,8 +50,8 @@ fn object_of(alloc: Global, figures: &Figures) -> Result<Value, AllocError>
     object_of_members(alloc, &members)
 }
 
-/// The object of a key as a line.
-pub(crate) fn object_line(alloc: Global, figures: &Figures) -> Result<String, AllocError>
+/// The object of a key as a line. `Err` says that memory ran out.
+pub fn object_line(alloc: Global, figures: &Figures) -> Result<String, AllocError>
     ensures { IfOk result (λ line. string_bytes line ≡ object_line figures.now) }
 {
     let object = object_of(alloc, figures)?;

@@ -22,8 +22,10 @@ hears-written : (w : Written) (sound : Sound) (result : Result (Unit {0}) RxFaul
     → Hears (Some sound) (fresh_report w) result outs → HearsSound w sound result outs
 hears-written (written.Page line trunk) sound (Ok u) outs heard = heard
 hears-written (written.Page line trunk) sound (Err f) outs heard = heard
-hears-written (written.Keys telling) sound (Ok u) outs heard = heard
-hears-written (written.Keys telling) sound (Err f) outs heard = heard
+hears-written written.Keys sound (Ok u) outs heard = heard
+hears-written written.Keys sound (Err f) outs heard = heard
+hears-written written.Objects sound (Ok u) outs heard = heard
+hears-written written.Objects sound (Err f) outs heard = heard
 
 delivered-sound : (written : Written) (how : Input) (bytes : List ℕ) (result : Result (Unit {0}) RxFault) (outs : Outputs)
     → ((sound : Sound) × (sound_by how bytes ≡ Ok sound) × Hears (Some sound) (fresh_report written) result outs)

@@ -27,9 +27,9 @@ use Rattle.xb_compared.specs.Keyed.{keyed_of, keyed_with, listed_keyed}
 use Rattle.xb_ear.specs.declared.hearing.Heard.{Heard}
 use Rattle.xb_measured.specs.declared.meaning.Meaning.TheVariants as meaning
 use Rattle.xb_measured.specs.Meanings.{meaning_by, meaning_of}
-use Rattle.xb_rx.specs.declared.keys.TheConstants.{MOST_DIGITS}
+use Rattle.xb_told.specs.declared.keys.TheConstants.{MOST_DIGITS}
 use Rattle.xb_rx.specs.Comparing.{HeardIsPaged}
-use Rattle.xb_rx.specs.Keyings.{before_digits, digit_by, digit_of, digits_to_st, is_kp, is_st, keyings, one_more}
+use Rattle.xb_told.specs.Keyings.{before_digits, digit_by, digit_of, digits_to_st, is_kp, is_st, keyings, one_more}
 use Rattle.xb_rx.specs.Pages.{heard_after, page_after}
 
 some-is : {A : Type 0} {x y : A} → Some x ≡ Some y → x ≡ y

@@ -1,10 +1,10 @@
 pub mod KeyPairs
-pub mod DoubtTexts
 pub mod KeyingSteps
 pub mod WrittenText
 pub mod Listings
 pub mod KeySteps
 pub mod LastSteps
+pub mod ObjectSteps
 pub mod SoFar
 pub mod PagedKeys
 pub mod HeardPages

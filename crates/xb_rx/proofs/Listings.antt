@@ -6,27 +6,26 @@ use Rattle.xb_text.specs.Writing.{AppendsBeginning}
 use Rattle.xb_text.proofs.Beginnings.{AppendsBeginning-first}
 use Rattle.xb_ear.specs.declared.hearing.Heard.{Heard}
 use Rattle.xb_ear.specs.Hearings.{listed}
-use Rattle.xb_measured.specs.declared.lines.Telling.{Telling}
 use Rattle.xb_measured.specs.Figures.{figures_of}
-use Rattle.xb_measured.specs.Lines.{key_line, key_lines}
+use Rattle.xb_measured.specs.Lines.{text_line, text_lines}
 use Rattle.xb_rx.specs.declared.listing.Listing.{Listing}
 use Rattle.xb_rx.specs.declared.page.PageFault.{PageFault}
 use Rattle.xb_rx.specs.Pages.{Ends, Writes}
 use Rattle.xb_rx.specs.Reports.{listing_rest}
 use Rattle.xb_rx.proofs.WrittenText.{none-written}
 
-module _ (telling : Telling) (last : Option Heard) (key : Heard) (line : List ℕ) (a b : Option (List ℕ)) where
-  module _ (is : line ≡ key_line telling (figures_of last key)) where
+module _ (last : Option Heard) (key : Heard) (line : List ℕ) (a b : Option (List ℕ)) where
+  module _ (is : line ≡ text_line (figures_of last key)) where
     -- the line of a key was written
     pub wrote-key : Appends a b line
-        → Writes {F = PageFault} (λ later. key_lines telling last (key ∷ later)) (key_lines telling (Some key)) (Ok tt) a b
-    unfolding key_lines
-    wrote-key wrote = (line, wrote, λ later. ap (λ t. t ++ key_lines telling (Some key) later) (sym is))
+        → Writes {F = PageFault} (λ later. text_lines last (key ∷ later)) (text_lines (Some key)) (Ok tt) a b
+    unfolding text_lines
+    wrote-key wrote = (line, wrote, λ later. ap (λ t. t ++ text_lines (Some key) later) (sym is))
 
     -- or its beginning
     pub began-key : (after : List Heard → List ℕ) (f : PageFault) → AppendsBeginning a b line
-        → Writes (λ later. key_lines telling last (key ∷ later)) after (Err f) a b
-    unfolding key_lines
+        → Writes (λ later. text_lines last (key ∷ later)) after (Err f) a b
+    unfolding text_lines
     began-key after f wrote = λ later. AppendsBeginning-first a b _ _ (subst (AppendsBeginning a b) is wrote)
 
 -- nothing was, where there was no memory for it
@@ -44,9 +43,9 @@ pub nothing-ended : (r : Result (Unit {0}) PageFault) (a : Option (List ℕ)) �
 nothing-ended (Ok u) a = Appends-nil a
 nothing-ended (Err f) a = none-written a []
 
-no-lines : (telling : Telling) (last : Option Heard) → key_lines telling last [] ≡ []
-unfolding key_lines
-no-lines telling last = refl
+no-lines : (last : Option Heard) → text_lines last [] ≡ []
+unfolding text_lines
+no-lines last = refl
 
 -- after the last key nothing is left
 pub listing-ended : (listing new : Listing) (key : Option Heard) (r : Result (Unit {0}) PageFault) (a b : Option (List ℕ))
@@ -55,6 +54,6 @@ pub listing-ended : (listing new : Listing) (key : Option Heard) (r : Result (Un
 listing-ended listing new key (Ok u) a b (bytes, wrote, is) =
     subst (Appends a b)
     (sym (ap (listing_rest listing) (sym (append-nil (listed key))) ∙ is []
-    ∙ ap (λ t. bytes ++ t) (no-lines new.telling new.last) ∙ append-nil bytes)) wrote
+    ∙ ap (λ t. bytes ++ t) (no-lines new.last) ∙ append-nil bytes)) wrote
 listing-ended listing new key (Err f) a b begun =
     subst (λ (ks : List Heard). AppendsBeginning a b (listing_rest listing ks)) (append-nil (listed key)) (begun [])

@@ -1,8 +1,7 @@
 pub mod Faults
-pub mod Keyings
 pub mod Begun
-pub mod Doubts
 pub mod Pages
+pub mod Objects
 pub mod Reports
 pub mod Hearing
 pub mod Comparing
@@ -10,4 +9,3 @@ pub mod Rules
 pub mod Options
 pub mod Program
 pub mod PagedKeys
-pub mod Constants

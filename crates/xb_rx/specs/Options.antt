@@ -5,8 +5,6 @@ use Rattle.clap.specs.Walk.{Row, Text, first_of}
 use Rattle.xb_command.specs.Given.{AskForNothing, AsksFor, ReadsFlag, ReadsNumber, given_by}
 use Rattle.xb_model.specs.declared.line.TheConstants.{LINES}
 use Rattle.xb_model.specs.declared.trunk.TheConstants.{TRUNKS}
-use Rattle.xb_measured.specs.declared.lines.Telling.{Telling}
-use Rattle.xb_measured.specs.declared.lines.Telling.TheVariants as telling
 use Rattle.xb_riff.specs.declared.coding.Coding.{Coding}
 use Rattle.xb_riff.specs.declared.coding.Coding.TheVariants as coding
 use Rattle.xb_rx.specs.declared.request.Input.{Input}
@@ -38,8 +36,8 @@ line_of given = below LINES given
 abbrev pub trunk_of : Option ℕ → Option ℕ
 trunk_of given = below TRUNKS given
 
-abbrev pub telling_of : Bool → Telling
-telling_of json = if json then telling.Json else telling.Text
+abbrev pub told_keys : Bool → Written
+told_keys json = if json then written.Objects else written.Keys
 
 abbrev pub page_by : Option ℕ → Option ℕ → Option Written
 page_by line trunk = option_and_then (λ l. option_map (λ t. written.Page l t) trunk) line
@@ -48,7 +46,7 @@ page_by line trunk = option_and_then (λ l. option_map (λ t. written.Page l t) 
 abbrev pub written_of : Options → Option Written
 written_of options =
     if options.tones || options.json
-    then (if is_some options.line || is_some options.trunk then None else Some (written.Keys (telling_of options.json)))
+    then (if is_some options.line || is_some options.trunk then None else Some (told_keys options.json))
     else page_by (line_of options.line) (trunk_of options.trunk)
 
 abbrev pub raw_coding : Bool → Coding

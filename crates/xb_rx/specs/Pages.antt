@@ -1,6 +1,6 @@
 -- What is written of keys that are heard: the page of the keyings, or its differences from what was keyed, and lines
 -- for what is doubtful of each, and for each key that stands in none.
-use Rattle.std.specs.Prelude.{ℕ, ◌≡◌, ◌+◌, List, [], ◌∷◌, ◌++◌, codes, decimal, length, map, Option, Some, None, Result, Ok, Err}
+use Rattle.std.specs.Prelude.{ℕ, ◌≡◌, ◌+◌, List, [], ◌∷◌, ◌++◌, length, map, Option, Some, None, Result, Ok, Err}
 use Rattle.std.specs.Io.KnownBytes.{Appends}
 use Rattle.std.specs.List.{flat_map}
 use Rattle.xb_model.specs.Keyings.{keying}
@@ -13,17 +13,10 @@ use Rattle.xb_compared.specs.Differences.{differences}
 use Rattle.xb_compared.specs.Entries.{KeyedEntry}
 use Rattle.xb_compared.specs.Keyed.{keyed_with}
 use Rattle.xb_rx.specs.declared.page.Page.{Page}
-use Rattle.xb_measured.specs.Figures.{start_ms}
-use Rattle.xb_measured.specs.Meanings.{meaning_of, name_text}
-use Rattle.xb_rx.specs.Doubts.{doubts_text}
-use Rattle.xb_rx.specs.Keyings.{Part, is_keying, is_loose, keyings, parts_of}
+use Rattle.xb_told.specs.DoubtLines.{doubts_text, loose_line}
+use Rattle.xb_told.specs.Keyings.{Part, is_keying, is_loose, keyings, parts_of}
 
--- a key that stands in no keying
-abbrev pub loose_line : Heard → List ℕ
-loose_line key =
-    codes "mfrx: " ++ (name_text (meaning_of key.sight.pair) ++ (codes " at " ++ (decimal (start_ms key)
-    ++ codes " ms belongs to no keying\n")))
-
+-- the lines of keys that stand in no keying
 abbrev pub loose_lines : List Heard → List ℕ
 loose_lines keys = flat_map loose_line keys
 

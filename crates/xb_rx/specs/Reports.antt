@@ -1,57 +1,67 @@
--- What is written of keys that are heard: the page of their keyings, or a line for each.
+-- What is written of keys that are heard: the page of their keyings, or a line for each, or objects.
 use Rattle.std.specs.Prelude.{ℕ, List, [], None}
 use Rattle.xb_ear.specs.declared.hearing.Heard.{Heard}
-use Rattle.xb_measured.specs.Lines.{key_lines}
+use Rattle.xb_measured.specs.Lines.{text_lines}
 use Rattle.xb_rx.specs.declared.listing.Listing.{Listing}
 use Rattle.xb_rx.specs.declared.report.Report.{Report}
 use Rattle.xb_rx.specs.declared.report.Report.TheVariants as report
 use Rattle.xb_rx.specs.declared.request.Written.{Written}
 use Rattle.xb_rx.specs.declared.request.Written.TheVariants as written
 use Rattle.xb_rx.specs.Begun.{IsBegun}
+use Rattle.xb_rx.specs.Objects.{Objected, fresh_objects, object_lines, objected, objects_rest}
 use Rattle.xb_rx.specs.Pages.{Paged, fresh_page, page_of, page_rest, page_told, paged, told_of}
 
 -- what is written of a sound with these keys
 abbrev pub written_text : Written → List Heard → List ℕ
 written_text (written.Page line trunk) keys = page_of line trunk keys
-written_text (written.Keys telling) keys = key_lines telling None keys
+written_text written.Keys keys = text_lines None keys
+written_text written.Objects keys = object_lines keys
 
 -- and what is told of what is doubtful of them, and of those that stand in no keying, where it is its page
 abbrev pub told_text : Written → List Heard → List ℕ
 told_text (written.Page line trunk) keys = told_of keys
-told_text (written.Keys telling) keys = []
+told_text written.Keys keys = []
+told_text written.Objects keys = []
 
--- what a page has so far, or the last key that was told
+-- what a page has so far, or the last key that was told, or what the objects have so far
 pub data Reported : Type 0 where
   on_page : Paged → Reported
   by_key : Listing → Reported
+  by_object : Objected → Reported
 
 abbrev pub reported : Report → Reported
 reported (report.Page page) = on_page (paged page)
 reported (report.Keys listing) = by_key listing
+reported (report.Objects objects) = by_object (objected objects)
 
 -- before the first key
 abbrev pub fresh_report : Written → Reported
 fresh_report (written.Page line trunk) = on_page (fresh_page line trunk)
-fresh_report (written.Keys telling) = by_key (record { telling = telling; last = None })
+fresh_report written.Keys = by_key (record { last = None })
+fresh_report written.Objects = by_object fresh_objects
 
 -- what is still to be written of later keys, and told
 abbrev pub listing_rest : Listing → List Heard → List ℕ
-listing_rest listing later = key_lines listing.telling listing.last later
+listing_rest listing later = text_lines listing.last later
 
 abbrev pub report_rest : Reported → List Heard → List ℕ
 report_rest (on_page page) later = page_rest page later
 report_rest (by_key listing) later = listing_rest listing later
+report_rest (by_object objects) later = objects_rest objects later
 
 abbrev pub told_rest : Reported → List Heard → List ℕ
 told_rest (on_page page) later = page_told page later
 told_rest (by_key listing) later = []
+told_rest (by_object objects) later = []
 
--- how many entries a page has
+-- how many entries there were
 abbrev pub count_of : Reported → ℕ
 count_of (on_page page) = page.count
 count_of (by_key listing) = 0
+count_of (by_object objects) = objects.count
 
 -- a keying that goes on is one
 abbrev pub IsReady : Reported → Type 0
 IsReady (on_page page) = IsBegun page.begun
 IsReady (by_key listing) = Unit {0}
+IsReady (by_object objects) = IsBegun objects.begun

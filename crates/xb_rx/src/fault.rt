@@ -21,8 +21,8 @@ pub enum RxFault {
     /// A write or the flush failed, or a write took no byte. The beginning of the page or of the lines was written.
     #[error("what was heard could not be written")]
     Write,
-    /// A key that is in no keying, or an entry that may lack one, could not be told of.
-    #[error("a key that belongs to no keying, or an entry that may lack one, could not be told of")]
+    /// A line about what was heard could not be told of: a key that is in no keying, or what is doubtful of an entry.
+    #[error("a line about what was heard could not be told of")]
     Tell,
 }
 

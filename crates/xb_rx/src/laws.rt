@@ -1,13 +1,8 @@
 //! What the definitions give: each law is the contract of a function that does nothing.
 ghost use Rattle.xb_rx.specs.Comparing.{HeardIsPaged};
-ghost use Rattle.xb_rx.specs.Constants.{AreConstants};
+ghost use Rattle.xb_rx.specs.Objects.{ObjectsHaveEntries};
 ghost use Rattle.xb_rx.specs.PagedKeys.{KeyedIsPaged};
 ghost use Rattle.xb_rx.specs.Program.{UsageNamesEachOption};
-
-/// The most digits of a keying, and the longest time between its keys that is no doubt, as they are.
-pub fn constants()
-    ensures { AreConstants }
-{}
 
 /// The line of refused words names each option of the command.
 #[tactic(auto, unfolding(clap::proofs::OnLiterals::clap_on_literals, xb_command::specs::Usages::has_part))]
@@ -24,4 +19,9 @@ pub fn keyed_is_paged()
 /// The keyings that are heard are compared as the keyed entries of the page that is written of them.
 pub fn heard_is_paged()
     ensures { HeardIsPaged }
+{}
+
+/// Among the objects of keys those of entries are one for each keying, in order.
+pub fn objects_have_entries()
+    ensures { ObjectsHaveEntries }
 {}

@@ -3,13 +3,12 @@ use crate::page::PageFault;
 use std::alloc::Global;
 use std::io::Write;
 use xb_ear::Heard;
-use xb_measured::{Telling, figures_of, key_line};
+use xb_measured::{figures_of, text_line};
 use xb_text::write_whole;
 
 /// Keys that are told one by one, each by the time since the last.
 #[derive(Clone, Copy)]
 pub(crate) struct Listing {
-    pub(crate) telling: Telling,
     pub(crate) last: Option<Heard>,
 }
 
@@ -30,7 +29,7 @@ impl Listing {
             (W.contents out.old) (W.contents out.new) }
     {
         let figures = figures_of(self.last, key);
-        let line = key_line(alloc, self.telling, &figures)?;
+        let line = text_line(alloc, &figures)?;
         if write_whole(out, line.as_bytes()).is_err() {
             return Err(PageFault::Write);
         }

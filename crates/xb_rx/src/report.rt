@@ -1,5 +1,6 @@
 // What is written of keys, as they end.
 use crate::listing::Listing;
+use crate::objects::Objects;
 use crate::page::{Page, PageFault};
 use crate::request::Written;
 use std::alloc::Global;
@@ -7,13 +8,15 @@ use std::io::Write;
 use xb_compared::Keyed;
 use xb_ear::Heard;
 
-/// The page of keys, or its differences from what was keyed, or a line for each key.
+/// The page of keys, or its differences from what was keyed, or a line for each key, or the objects of keys and entries.
 #[derive(Drop)]
 pub(crate) enum Report {
     // The page of their keyings, which is written, or compared.
     Page(Page),
     // A line for each key.
     Keys(Listing),
+    // An object for each key, and for each entry.
+    Objects(Objects),
 }
 
 impl Report {
@@ -28,10 +31,8 @@ impl Report {
     {
         match written {
             Written::Page(line, trunk) => Report::Page(Page::new(alloc, line, trunk)),
-            Written::Keys(telling) => Report::Keys(Listing {
-                telling,
-                last: None,
-            }),
+            Written::Keys => Report::Keys(Listing { last: None }),
+            Written::Objects => Report::Objects(Objects::new(alloc)),
         }
     }
 
@@ -65,6 +66,7 @@ impl Report {
         match self {
             Report::Page(page) => page.take(alloc, key, out, err),
             Report::Keys(listing) => listing.take(alloc, key, out),
+            Report::Objects(objects) => objects.take(alloc, key, out),
         }
     }
 
@@ -87,6 +89,7 @@ impl Report {
         match self {
             Report::Page(page) => page.end(alloc, key, out, err),
             Report::Keys(listing) => listing.take(alloc, key, out),
+            Report::Objects(objects) => objects.take(alloc, key, out),
         }
     }
 }

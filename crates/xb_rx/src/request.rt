@@ -1,5 +1,4 @@
 // What is asked for.
-use xb_measured::Telling;
 use xb_model::{LineNo, Trunk};
 use xb_wav::SampleForm;
 
@@ -18,7 +17,9 @@ pub enum Written {
     /// The page of its keyings, whose entries are of a line and a trunk group.
     Page(LineNo, Trunk),
     /// A line for each of its keys.
-    Keys(Telling),
+    Keys,
+    /// An object for each of its keys, and for each entry.
+    Objects,
 }
 
 /// How a sound is given, and what is written of it.

@@ -2,13 +2,12 @@
 ghost use Rattle.std.specs.Prelude.{◌≡◌, IfErr, IfOk, IfSome};
 ghost use Rattle.xb_command.specs.Commands.{texts_of};
 ghost use Rattle.xb_rx.specs.Hearing.{HasForm};
-ghost use Rattle.xb_rx.specs.Options.{AreRefused, Asks, Say, input_of, is_plain, line_of, named, raw_coding, request_against, request_of, telling_of, trunk_of, written_of};
+ghost use Rattle.xb_rx.specs.Options.{AreRefused, Asks, Say, input_of, is_plain, line_of, named, raw_coding, request_against, request_of, told_keys, trunk_of, written_of};
 
 use crate::program::PROGRAM;
 use crate::request::{Asked, Input, Request, Written};
 use std::alloc::Global;
 use xb_command::{Takes, Words, WordsFault, read_words};
-use xb_measured::Telling;
 use xb_model::{LINES, LineNo, TRUNKS, Trunk};
 use xb_wav::{Coding, SampleForm, frames_of};
 
@@ -76,10 +75,14 @@ fn trunk_of(given: Option<u32>) -> Option<Trunk>
 }
 
 // How keys are told.
-fn telling_of(json: bool) -> Telling
-    ensures { result ≡ telling_of json }
+fn told_keys(json: bool) -> Written
+    ensures { result ≡ told_keys json }
 {
-    if json { Telling::Json } else { Telling::Text }
+    if json {
+        Written::Objects
+    } else {
+        Written::Keys
+    }
 }
 
 // What is written; `None` where a line or a trunk group is said and no page is written, or there is no such one.
@@ -90,7 +93,7 @@ fn written_of(options: Options) -> Option<Written>
         if options.line.is_some() || options.trunk.is_some() {
             None
         } else {
-            Some(Written::Keys(telling_of(options.json)))
+            Some(told_keys(options.json))
         }
     } else {
         let line = line_of(options.line)?;

@@ -1,7 +1,7 @@
 use Rattle.std.proofs.Common.{◌≡◌, ◌∙◌, ap, sym}
 use Rattle.std.proofs.lemmas.Result.{err_from_is_err_and}
 use Rattle.xb_measured.specs.Figures.{figures_of}
-use Rattle.xb_measured.specs.Lines.{key_line}
+use Rattle.xb_measured.specs.Lines.{text_line}
 use Rattle.xb_rx.specs.declared.page.PageFault.TheVariants as page_fault
 use Rattle.xb_rx.specs.Reports.{listing_rest}
 use Rattle.xb_rx.proofs.Listings.{began-key, no-key, wrote-key}
@@ -16,15 +16,15 @@ returns-in_err-line g c =
 pub returns-then-is_err : goal.returns-then-is_err
 returns-then-is_err g c =
     let listing = c.args.self.now in
-    let text : c.as_bytes.result.now ≡ key_line listing.telling (figures_of listing.last c.args.key) =
-    c.as_bytes.ensures.value ∙ c.in_ok-line.ensures ∙ ap (key_line listing.telling) c.figures_of-figures.ensures in
-    began-key listing.telling listing.last c.args.key _ _ _ text (listing_rest listing) page_fault.Write
+    let text : c.as_bytes.result.now ≡ text_line (figures_of listing.last c.args.key) =
+    c.as_bytes.ensures.value ∙ c.in_ok-line.ensures ∙ ap text_line c.figures_of-figures.ensures in
+    began-key listing.last c.args.key _ _ _ text (listing_rest listing) page_fault.Write
     c.write_whole.ensures.beginning
 
 pub returns : goal.returns
 returns g c =
     let listing = c.args.self.now in
-    let text : c.as_bytes.result.now ≡ key_line listing.telling (figures_of listing.last c.args.key) =
-    c.as_bytes.ensures.value ∙ c.in_ok-line.ensures ∙ ap (key_line listing.telling) c.figures_of-figures.ensures in
-    wrote-key listing.telling listing.last c.args.key _ _ _ text
+    let text : c.as_bytes.result.now ≡ text_line (figures_of listing.last c.args.key) =
+    c.as_bytes.ensures.value ∙ c.in_ok-line.ensures ∙ ap text_line c.figures_of-figures.ensures in
+    wrote-key listing.last c.args.key _ _ _ text
     (wrote-whole c.write_whole.result c.write_whole.ensures.whole (sym c.is_err.ensures.value ∙ c.if-is_err.false))

@@ -5,8 +5,8 @@ use Rattle.xb_model.specs.declared.mark.Mark.{Mark}
 use Rattle.xb_model.specs.Keyings.{keying}
 use Rattle.xb_rx.specs.declared.page.PageFault.{PageFault}
 use Rattle.xb_rx.specs.declared.page.PageFault.TheVariants as page_fault
-use Rattle.xb_rx.specs.Doubts.{doubts_text}
-use Rattle.xb_rx.specs.Keyings.{digits_in}
+use Rattle.xb_told.specs.DoubtLines.{doubts_text}
+use Rattle.xb_told.specs.Keyings.{digits_in}
 use Rattle.xb_rx.specs.Pages.{Paged, WritesOf, paged, text_after, text_rest, told_parts}
 use Rattle.xb_rx.proofs.WrittenText.{all-written, entry-begun, entry-told, entry-told-begun, entry-whole, no-doubts, no-entry, none-written, wrote-whole}
 use Rattle.xb_rx.proofs.page.Page.complete.Goals as goal

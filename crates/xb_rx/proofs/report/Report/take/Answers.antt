@@ -1,6 +1,7 @@
 use Rattle.std.proofs.Common.{[], ◌++◌, sym, subst}
 use Rattle.xb_ear.specs.Hearings.{listed}
 use Rattle.xb_rx.specs.declared.report.Report.{Report}
+use Rattle.xb_rx.specs.Objects.{objected, objects_rest}
 use Rattle.xb_rx.specs.Pages.{Writes, page_told, page_rest, paged}
 use Rattle.xb_rx.specs.Reports.{listing_rest, report_rest, reported, told_rest}
 use Rattle.xb_rx.proofs.Listings.{nothing-told}
@@ -26,3 +27,14 @@ returns-in-Keys-clause-told g c =
     subst (λ (r : Report). Writes (λ later. told_rest (reported r) (listed c.args.key ++ later)) (λ later. [])
     c.take-in-Keys.result (g.E.Write.contents c.args.err.now) (g.E.Write.contents c.args.err.now)) (sym c.in-Keys.is)
     (nothing-told c.take-in-Keys.result (g.E.Write.contents c.args.err.now))
+
+pub returns-in-Objects-clause-page : goal.returns-in-Objects-clause-page
+returns-in-Objects-clause-page g c =
+    subst (λ (r : Report). Writes (λ later. report_rest (reported r) (listed c.args.key ++ later)) (objects_rest (objected c.take-in-Objects.new.self))
+    c.take-in-Objects.result (g.W.Write.contents c.args.out.now) (g.W.Write.contents c.take-in-Objects.new.out)) (sym c.in-Objects.is) c.take-in-Objects.ensures.text
+
+pub returns-in-Objects-clause-told : goal.returns-in-Objects-clause-told
+returns-in-Objects-clause-told g c =
+    subst (λ (r : Report). Writes (λ later. told_rest (reported r) (listed c.args.key ++ later)) (λ later. [])
+    c.take-in-Objects.result (g.E.Write.contents c.args.err.now) (g.E.Write.contents c.args.err.now)) (sym c.in-Objects.is)
+    (nothing-told c.take-in-Objects.result (g.E.Write.contents c.args.err.now))

@@ -1,0 +1,2 @@
+pub mod DoubtTexts
+pub mod EntryValues
