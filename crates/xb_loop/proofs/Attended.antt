@@ -5,17 +5,18 @@ use Rattle.xb_command.specs.Files.{Bytes}
 use Rattle.xb_command.specs.Programs.{Streams}
 use Rattle.xb_command.specs.Telling.{Tells}
 use Rattle.xb_command.specs.declared.telling.TheConstants.{FAULT}
+use Rattle.xb_loop.specs.declared.common.Common.{Common}
 use Rattle.xb_loop.specs.declared.fault.LoopFault.{LoopFault}
 use Rattle.xb_loop.specs.declared.fault.LoopFault.TheVariants as faults
-use Rattle.xb_loop.specs.declared.fault.RecordingFault.{RecordingFault}
-use Rattle.xb_loop.specs.declared.request.Request.{Request}
+use Rattle.xb_feed.specs.declared.fault.RecordingFault.{RecordingFault}
+use Rattle.xb_feed.specs.declared.request.Request.{Request}
 use Rattle.xb_loop.specs.Options.{Asks}
-use Rattle.xb_loop.specs.LackedWires.{lacks_wire}
+use Rattle.xb_feed.specs.LackedWires.{lacks_wire}
 use Rattle.xb_loop.specs.Program.{AttendsLoop, FailsToGo, FailsToPrint, PrintsDeck, TellsOfBounces, program}
 
 -- all was written, and told or not
 pub attends_told :
-    (files : Bytes) (words : List Text) (request : Request) (told : List ℕ) (old new : Streams) (status : ℕ)
+    (files : Bytes) (words : List Text) (request : Request Common) (told : List ℕ) (old new : Streams) (status : ℕ)
     → Asks words request → PrintsDeck files request told old.input old.output new.output
     → TellsOfBounces told old.errors new.errors status → AttendsLoop files words old new status
 attends_told files words request told old new status asks rows (inl (is, wrote)) = record {
@@ -33,7 +34,7 @@ attends_told files words request told old new status asks rows (inr (is, (begun,
 
 -- the fault of a recording as it is told
 pub fails_to_print :
-    (files : Bytes) (request : Request) (fault : RecordingFault) (told : LoopFault) (input output after : Option (List ℕ))
+    (files : Bytes) (request : Request Common) (fault : RecordingFault) (told : LoopFault) (input output after : Option (List ℕ))
     → (lacks_wire fault ≡ false → told ≡ faults.Recording fault)
     → (lacks_wire fault ≡ true → told ≡ faults.NoWire fault request.wanted.wires)
     → FailsToGo files request fault input output after → FailsToPrint files request told input output after
@@ -48,7 +49,7 @@ fails_to_print files request fault told input output after plain names goes = by
 
 -- there was a fault
 pub attends_fault :
-    (files : Bytes) (words : List Text) (request : Request) (fault : LoopFault) (old new : Streams) (status : ℕ)
+    (files : Bytes) (words : List Text) (request : Request Common) (fault : LoopFault) (old new : Streams) (status : ℕ)
     → Asks words request → FailsToPrint files request fault old.input old.output new.output → status ≡ FAULT
     → Tells program None old.errors new.errors → AttendsLoop files words old new status
 attends_fault files words request fault old new status asks fails is line = record {

@@ -5,7 +5,7 @@ use Rattle.std.proofs.lemmas.Bool.{ne_eqb}
 use Rattle.std.proofs.lemmas.Fmt.{decimal_digit, decimal_step_wide}
 use Rattle.std.proofs.lemmas.Nat.{div-add-mod', div-mul-add, mod_below}
 use Rattle.xb_contact.specs.declared.scale.Scale.{Scale}
-use Rattle.xb_loop.specs.declared.tally.Bounces.{Bounces}
+use Rattle.xb_feed.specs.declared.tally.Bounces.{Bounces}
 use Rattle.xb_loop.specs.BounceLines.{bounce_line, micros_of}
 
 -- a number of thousands, and its three last digits

@@ -15,20 +15,21 @@ use Rattle.xb_contact.specs.declared.scale.Scale.{Scale}
 use Rattle.xb_contact.specs.declared.settling.Phase.{Phase}
 use Rattle.xb_contact.specs.declared.settling.Phase.TheVariants.{Settled, Unsettled}
 use Rattle.xb_contact.specs.Holds.{hold_of, same_level}
-use Rattle.xb_contact.specs.Listening.{Heard, all_told, given_now, heard_after, heard_of, now_of, told_of}
+use Rattle.xb_contact.specs.Listening.{Heard, all_told, heard_after, heard_of, now_of, told_of}
 use Rattle.xb_contact.specs.Machine.{given_by, phase_after, reach, step, step_of, stretch_of, take, unsettled}
-use Rattle.xb_contact.specs.Ringing.{Ringing, all_rung, piece_rung, rung_past}
+use Rattle.xb_contact.specs.Ringing.{all_rung, piece_rung}
 use Rattle.xb_contact.specs.Seizing.{all_passed}
 use Rattle.xb_contact.proofs.Seized.{piece_passes}
-use Rattle.xb_loop.specs.declared.manner.AskedLine.{AskedLine}
-use Rattle.xb_loop.specs.declared.manner.Common.{Common}
-use Rattle.xb_loop.specs.declared.manner.Manner.{Manner}
-use Rattle.xb_loop.specs.declared.tally.Bounces.{Bounces}
+use Rattle.xb_feed.specs.declared.manner.AskedLine.{AskedLine}
+use Rattle.xb_loop.specs.declared.common.Common.{Common}
+use Rattle.xb_feed.specs.declared.manner.Manner.{Manner}
+use Rattle.xb_feed.specs.declared.tally.Bounces.{Bounces}
 use Rattle.xb_loop.specs.Contacts.{Followed, given_until, held_until, hold_to, piece_until}
 use Rattle.xb_loop.specs.BounceLines.{bounces_heard}
 use Rattle.xb_loop.specs.RowsOfHolds.{written_rows}
-use Rattle.xb_loop.specs.Tallies.{tally_at_end}
-use Rattle.xb_loop.specs.Watching.{Watch, Watched, all_held, begun_contact, begun_watched, certain_rows, event_rows, heard_event, level_heard, level_seen, line_held, line_left, line_rows, rows_of_events, watch_after, watched_of, wire_changed}
+use Rattle.xb_feed.specs.Tallies.{tally_at_end}
+use Rattle.xb_feed.specs.Watching.{level_seen}
+use Rattle.xb_loop.specs.Watching.{Watch, Watched, all_held, begun_contact, begun_watched, certain_rows, event_rows, heard_event, level_heard, line_held, line_left, line_rows, rows_of_events, watch_after, watched_of, wire_changed}
 use Rattle.xb_loop.specs.WireRecords.{GivesEachRecord, IsAlone, WireRecord, bounces_at, bounces_of_record, holds_from, numbers_asked, record_from, rows_of_record}
 use Rattle.xb_loop.proofs.PassedTexts.{piece_rings}
 use Rattle.xb_loop.proofs.WireRows.{changed-here, changed-there, left-own, numbers-changed, numbers-held, numbers_of, one_given, rows_of-append, rows_until-own, written-append}

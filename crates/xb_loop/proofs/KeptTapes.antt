@@ -24,7 +24,7 @@ use Rattle.xb_contact.specs.Times.{rounded}
 use Rattle.xb_contact.specs.Listening.{begun_at, all_told}
 use Rattle.xb_loop.specs.RowsOfHolds.{rows_of_holds, runs_of_holds, day_parts}
 use Rattle.xb_loop.specs.TapeLaws.{MakeOneTape, KeepsTheTape, LeavesLongRunsTheirTape, NoneIsShorter, HearsNothingOtherwise, least_of}
-use Rattle.xb_loop.specs.Watching.{least_ticks}
+use Rattle.xb_feed.specs.Watching.{least_ticks}
 use Rattle.xb_contact.proofs.Exact.{leaves_long_runs}
 use Rattle.xb_loop.proofs.HeardRows.{hears_the_settled_record, hears_the_clean_record, joined-record}
 

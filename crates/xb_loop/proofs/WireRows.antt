@@ -14,7 +14,7 @@ use Rattle.xb_model.proofs.Lines.{of_line-all}
 use Rattle.xb_contact.specs.declared.hold.Hold.{Hold}
 use Rattle.xb_contact.specs.declared.level.Level.{Level}
 use Rattle.xb_contact.specs.declared.scale.Scale.{Scale}
-use Rattle.xb_loop.specs.declared.manner.Common.{Common}
+use Rattle.xb_loop.specs.declared.common.Common.{Common}
 use Rattle.xb_loop.specs.Contacts.{Followed, given_until, left_at_end}
 use Rattle.xb_loop.specs.RowsOfHolds.{day_parts, row_of_hold, rows_of_holds, written_rows}
 use Rattle.xb_loop.specs.Watching.{Watched, all_held, contact_left, contact_rows, line_changed, line_left, line_rows, wire_changed}

@@ -6,8 +6,8 @@ use Rattle.xb_contact.specs.Holds.{hold_of}
 use Rattle.xb_contact.specs.Listening.{Heard, CanTake, given_now, heard_after, now_of, told_at_end}
 use Rattle.xb_contact.specs.Ringing.{Ringing, all_rung, piece_rung, rung_past}
 use Rattle.xb_contact.specs.Seizing.{Seizing, all_passed, line_past, piece_passed}
-use Rattle.xb_loop.specs.declared.tally.Tally.{Tally}
-use Rattle.xb_loop.specs.Tallies.{tally_after}
+use Rattle.xb_feed.specs.declared.tally.Tally.{Tally}
+use Rattle.xb_feed.specs.Tallies.{tally_after}
 
 -- what is heard of it so far, how it is watched for ringing and for seizures, the tick of its first level,
 -- its level, and what was counted of its short runs

@@ -9,16 +9,22 @@ use Rattle.xb_command.specs.declared.telling.TheConstants.{DONE, FAULT}
 use Rattle.xb_text.specs.Writing.{AppendsBeginning}
 use Rattle.xb_loop.specs.declared.fault.LoopFault.{LoopFault}
 use Rattle.xb_loop.specs.declared.fault.LoopFault.TheVariants as faults
-use Rattle.xb_loop.specs.declared.fault.RecordingFault.{RecordingFault}
-use Rattle.xb_loop.specs.declared.request.Request.{Request}
-use Rattle.xb_loop.specs.LackedWires.{lacks_wire}
-use Rattle.xb_loop.specs.Feeding.{FailsToListen, ListensTo}
+use Rattle.xb_feed.specs.declared.fault.RecordingFault.{RecordingFault}
+use Rattle.xb_feed.specs.declared.request.Request.{Request}
+use Rattle.xb_loop.specs.declared.common.Common.{Common}
+use Rattle.xb_feed.specs.LackedWires.{lacks_wire}
+use Rattle.xb_feed.specs.Feeding.{FailsToListen, ListensTo}
 use Rattle.xb_loop.specs.Options.{AreRefused, Asks}
+use Rattle.xb_loop.specs.Watching.{by_rows}
 use Rattle.xb_loop.specs.Tables.{IsBeforeRows, IsFaultOfTable, IsReleaseOf}
 
 -- the program's name
 abbrev pub program : List ℕ
 program = codes "mfloop"
+
+-- the line before the rows
+abbrev pub header : List ℕ
+header = codes "line,state,ms\n"
 
 -- the line for words that are refused
 abbrev pub usage_line : List ℕ
@@ -28,30 +34,30 @@ usage_line =
     ++ codes "[--ringing] [--tick MS] [--threshold PERCENT] [--inverted] [--said]\n"
 
 -- what is asked for, where so long a break releases a line
-abbrev pub with_release : Request → ℕ → Request
+abbrev pub with_release : Request Common → ℕ → Request Common
 with_release request release = record request { common = record request.common { release_ms = release } }
 
 -- what comes before the rows, and the release limit, by the table that is asked for, if one is
-pub record HasBegun (files : Bytes) (request : Request) (before : List ℕ) (release : ℕ) : Type 0 where
+pub record HasBegun (files : Bytes) (request : Request Common) (before : List ℕ) (release : ℕ) : Type 0 where
   pub text : IsBeforeRows files (option_map (λ name. name.now) request.table) before
   pub release_is : IsReleaseOf files (option_map (λ name. name.now) request.table) release
 
 -- an output got the table that is asked for, if one is, and then exactly the rows of the recording
-abbrev pub PrintsDeck : Bytes → Request → List ℕ → Option (List ℕ) → Option (List ℕ) → Option (List ℕ) → Type 0
+abbrev pub PrintsDeck : Bytes → Request Common → List ℕ → Option (List ℕ) → Option (List ℕ) → Option (List ℕ) → Type 0
 PrintsDeck files request told input output after =
     (before : List ℕ) × (release : ℕ) × HasBegun files request before release
-    × ListensTo (with_release request release) before told input output after
+    × ListensTo by_rows header (with_release request release) before told input output after
 
 -- the fault of a recording, and what an output got before it
 abbrev pub FailsToGo :
-    Bytes → Request → RecordingFault → Option (List ℕ) → Option (List ℕ) → Option (List ℕ) → Type 0
+    Bytes → Request Common → RecordingFault → Option (List ℕ) → Option (List ℕ) → Option (List ℕ) → Type 0
 FailsToGo files request fault input output after =
     (before : List ℕ) × (release : ℕ) × HasBegun files request before release
-    × FailsToListen (with_release request release) before fault input output after
+    × FailsToListen by_rows header (with_release request release) before fault input output after
 
 -- what a fault says of the table and the recording, and what an output got before it; where the recording lacks a wire,
 -- all names that are asked for are told
-abbrev pub FailsToPrint : Bytes → Request → LoopFault → Option (List ℕ) → Option (List ℕ) → Option (List ℕ) → Type 0
+abbrev pub FailsToPrint : Bytes → Request Common → LoopFault → Option (List ℕ) → Option (List ℕ) → Option (List ℕ) → Type 0
 FailsToPrint files request (faults.Recording fault) input output after =
     (lacks_wire fault ≡ false) × FailsToGo files request fault input output after
 FailsToPrint files request (faults.NoWire fault names) input output after =
@@ -61,7 +67,7 @@ FailsToPrint files request fault input output after =
 
 -- the words ask for something, and exactly that was written, and told
 pub record WritesRows (files : Bytes) (words : List Text) (old new : Streams) : Type 0 where
-  pub request : Request
+  pub request : Request Common
   pub asks : Asks words request
   pub told : List ℕ
   pub rows : PrintsDeck files request told old.input old.output new.output
@@ -69,7 +75,7 @@ pub record WritesRows (files : Bytes) (words : List Text) (old new : Streams) : 
 
 -- there was a fault of which a line was told; or all was written, what is told of the bounces was not, and a line that
 -- says so
-abbrev pub HadFault : Bytes → Request → Streams → Streams → Type 0
+abbrev pub HadFault : Bytes → Request Common → Streams → Streams → Type 0
 HadFault files request old new =
     ((fault : LoopFault) × FailsToPrint files request fault old.input old.output new.output
     × Tells program None old.errors new.errors)
@@ -78,7 +84,7 @@ HadFault files request old new =
 
 -- the words ask for something that gave a fault
 pub record HasFault (files : Bytes) (words : List Text) (old new : Streams) : Type 0 where
-  pub request : Request
+  pub request : Request Common
   pub asks : Asks words request
   pub had : HadFault files request old new
 

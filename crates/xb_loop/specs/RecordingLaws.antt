@@ -12,15 +12,16 @@ use Rattle.xb_contact.specs.Rings.{answered}
 use Rattle.xb_contact.specs.Seizures.{all_seize, seized}
 use Rattle.xb_contact.specs.Settled.{settled}
 use Rattle.xb_contact.specs.Times.{rounded}
-use Rattle.xb_loop.specs.declared.manner.AskedLine.{AskedLine}
-use Rattle.xb_loop.specs.declared.manner.Common.{Common}
-use Rattle.xb_loop.specs.declared.manner.Manner.{Manner}
-use Rattle.xb_loop.specs.declared.request.Request.{Request}
+use Rattle.xb_feed.specs.declared.manner.AskedLine.{AskedLine}
+use Rattle.xb_loop.specs.declared.common.Common.{Common}
+use Rattle.xb_feed.specs.declared.manner.Manner.{Manner}
+use Rattle.xb_feed.specs.declared.request.Request.{Request}
 use Rattle.xb_loop.specs.Options.{Asks}
 use Rattle.xb_loop.specs.RowsOfHolds.{rows_of_holds, runs_of_holds}
-use Rattle.xb_loop.specs.Tallies.{bounces_in}
+use Rattle.xb_feed.specs.Tallies.{bounces_in}
 use Rattle.xb_loop.specs.TapeLaws.{MakeOneTape}
-use Rattle.xb_loop.specs.Watching.{begun_watch, least_ticks, release_of, rows_of_events, wait_of, watch_after}
+use Rattle.xb_feed.specs.Watching.{least_ticks}
+use Rattle.xb_loop.specs.Watching.{begun_watch, release_of, rows_of_events, wait_of, watch_after}
 use Rattle.xb_loop.specs.WireRecords.{IsAlone, WireRecord, bounces_at, numbers_asked, record_of_wire}
 
 -- a recording of wires, each of one line, has this record of a wire, in ticks that last
@@ -112,6 +113,6 @@ TellsTheShortRuns =
 -- words name no line twice
 abbrev pub AsksForEachOnce : Type 0
 AsksForEachOnce =
-    (words : List Text) (request : Request) → Asks words request → (wire : ℕ) (asked : AskedLine)
+    (words : List Text) (request : Request Common) → Asks words request → (wire : ℕ) (asked : AskedLine)
     → slice_get request.lines.items wire ≡ Some asked
     → IsAlone wire asked.number (numbers_asked request.lines.items)

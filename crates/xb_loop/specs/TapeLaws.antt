@@ -15,7 +15,7 @@ use Rattle.xb_contact.specs.declared.scale.Scale.{Scale}
 use Rattle.xb_contact.specs.Times.{rounded}
 use Rattle.xb_contact.specs.Listening.{begun_at, all_told}
 use Rattle.xb_loop.specs.RowsOfHolds.{rows_of_holds, written_rows}
-use Rattle.xb_loop.specs.Watching.{least_ticks}
+use Rattle.xb_feed.specs.Watching.{least_ticks}
 
 -- whatever the plan, the limits and the routes, the chain makes the same tape of a line by both
 abbrev pub MakeOneTape : ℕ → List LoopRow → List LoopRow → Type 0

@@ -12,14 +12,15 @@ use Rattle.xb_contact.specs.Holds.{hold_of}
 use Rattle.xb_contact.specs.Listening.{all_told, begun_at}
 use Rattle.xb_contact.specs.Ringing.{all_rung}
 use Rattle.xb_contact.specs.Seizing.{all_passed}
-use Rattle.xb_loop.specs.declared.manner.AskedLine.{AskedLine}
-use Rattle.xb_loop.specs.declared.manner.Common.{Common}
-use Rattle.xb_loop.specs.declared.manner.Manner.{Manner}
-use Rattle.xb_loop.specs.declared.tally.Bounces.{Bounces}
+use Rattle.xb_feed.specs.declared.manner.AskedLine.{AskedLine}
+use Rattle.xb_loop.specs.declared.common.Common.{Common}
+use Rattle.xb_feed.specs.declared.manner.Manner.{Manner}
+use Rattle.xb_feed.specs.declared.tally.Bounces.{Bounces}
 use Rattle.xb_loop.specs.BounceLines.{bounces_heard}
 use Rattle.xb_loop.specs.RowsOfHolds.{written_rows}
-use Rattle.xb_loop.specs.Tallies.{begun_tally, tally_at_end}
-use Rattle.xb_loop.specs.Watching.{Watched, begun_bell, begun_line, begun_watch, least_ticks, level_seen, rows_of_events, watch_after}
+use Rattle.xb_feed.specs.Tallies.{begun_tally, tally_at_end}
+use Rattle.xb_feed.specs.Watching.{least_ticks, level_seen}
+use Rattle.xb_loop.specs.Watching.{Watched, begun_bell, begun_line, begun_watch, rows_of_events, watch_after}
 
 -- the record of a loop by its wire: how long a tick is, the level that comes first, and then how long each holds
 pub record WireRecord : Type 0 where

@@ -1,12 +1,10 @@
 // What is told of the bounces.
 ghost use Rattle.std.specs.Prelude.{◌≡◌, ◌+◌, ◌*◌, ◌<◌, ◌++◌, OnOk, decimal, string_bytes};
-ghost use Rattle.std.specs.List.{flat_map};
-ghost use Rattle.xb_loop.specs.BounceLines.{bounce_line, line_told, micros_of};
+ghost use Rattle.xb_loop.specs.BounceLines.{bounce_line, micros_of};
 
-use crate::line::Line;
-use crate::tally::Bounces;
 use std::alloc::AllocError;
 use xb_contact::Scale;
+use xb_feed::Bounces;
 use xb_model::LineNo;
 
 // Adds the number of so many thousands and units. The number itself may have more than 128 bits.
@@ -37,8 +35,8 @@ fn write_micros(said: &mut String, scale: Scale, ticks: u64) -> Result<(), Alloc
     write_thousands(said, ms, left * 1_000 / per_ms)
 }
 
-// Adds the bounces of a line.
-fn say_bounces(
+/// Adds, as a line, how many short runs were taken away of a line, and how long the longest was.
+pub(crate) fn say_bounces(
     said: &mut String,
     scale: Scale,
     line: LineNo,
@@ -51,25 +49,4 @@ fn say_bounces(
     write!(said, "line {number}: {count} bounces, the longest ")?;
     write_micros(said, scale, bounces.longest)?;
     said.push_str(" us\n")
-}
-
-// Adds those of a line whose wire had a level.
-fn say_line(said: &mut String, scale: Scale, line: &Line) -> Result<(), AllocError>
-    ensures { OnOk result (string_bytes said.new ≡ string_bytes said.old ++ line_told scale line.now) }
-{
-    match line.bounces() {
-        Some(bounces) => say_bounces(said, scale, line.number(), bounces),
-        None => Ok(()),
-    }
-}
-
-/// Adds, as lines, how many short runs were taken away of each line, and how long the longest was.
-pub(crate) fn say_lines(said: &mut String, scale: Scale, lines: &[Line]) -> Result<(), AllocError>
-    ensures { OnOk result (string_bytes said.new
-        ≡ string_bytes said.old ++ flat_map (line_told scale) lines.now) }
-{
-    for line in lines {
-        say_line(said, scale, line)?;
-    }
-    Ok(())
 }

@@ -1,28 +1,26 @@
 // A contact that is followed through a recording.
-ghost use Rattle.std.specs.Prelude.{◌≡◌, ◌++◌, ◌↔◌, ◌<◌, IfSome, IsTrue, OnOk, string_bytes};
+ghost use Rattle.std.specs.Prelude.{◌≡◌, ◌++◌, OnOk, string_bytes};
 ghost use Rattle.std.specs.List.{flat_map};
 ghost use Rattle.xb_rows.specs.WrittenRows.{record_text};
-ghost use Rattle.xb_loop.specs.Contacts.{CanHold, followed_of, given_until, held_until, left_at_end};
-ghost use Rattle.xb_contact.specs.Listening.{begun_at};
+ghost use Rattle.xb_loop.specs.Contacts.{followed_of};
 ghost use Rattle.xb_contact.specs.Machine.{pieces_of};
 ghost use Rattle.xb_contact.specs.Ringing.{piece_rung, rung_past};
 ghost use Rattle.xb_contact.specs.Seizing.{line_past, piece_passed, pieces_in};
 ghost use Rattle.xb_loop.specs.RowsOfHolds.{written_rows};
-ghost use Rattle.xb_loop.specs.Tallies.{begun_tally};
-ghost use Rattle.xb_loop.specs.Watching.{begun_bell, begun_line, wait_of};
-ghost use Rattle.xb_contact.specs.Times.{CanCount};
+ghost use Rattle.xb_loop.specs.Watching.{by_rows, wait_of};
 
-use crate::manner::{Common, Manner};
+use crate::bounce_lines::say_bounces;
+use crate::common::Common;
 use crate::rows::write_rows;
-use crate::tally::{Bounces, Tally};
 use std::alloc::AllocError;
 use std::marker::Model;
 use xb_contact::{ANSWER_MS, Certain, Hold, Level, Listener, Ringer, Scale, Seizer, Settler};
+use xb_feed::{Follow, Manner, Tally};
 use xb_model::LineNo;
 
-/// A contact from its first level on.
+/// A contact from its first level on, of which the rows are told.
 #[derive(Drop)]
-pub(crate) struct Contact {
+pub struct Contact {
     listener: Listener,
     // It takes what the listener gives.
     ringer: Ringer,
@@ -92,23 +90,17 @@ fn wait_of(manner: Manner) -> u32
     if manner.ringing { ANSWER_MS } else { 0 }
 }
 
-impl Contact {
-    /// A contact that has its first level at this tick. A run of `least` ticks is settled.
-    pub fn new(
+impl Follow<Common> for Contact {
+    ghost rules = { by_rows };
+
+    fn begin(
         manner: Manner,
         common: Common,
         scale: Scale,
         least: u64,
         start: u64,
         level: Level,
-    ) -> Contact
-        requires least { 0 < least }
-        requires some { 0 < scale.ticks }
-        requires fits { CanCount scale 0 }
-        ensures { result ≡ followed_of (begun_at least scale common.most_ms level) (begun_bell manner common)
-            (begun_line manner common) start
-            level (begun_tally least level) }
-    {
+    ) -> Contact {
         let most = u64::from(common.most_ms);
         Contact {
             listener: Listener::new(Settler::new(least), scale, most, level),
@@ -120,55 +112,32 @@ impl Contact {
         }
     }
 
-    /// Whether it may hold its level up to this tick: it is not before the last one, and can be counted in ms.
-    pub fn can_hold(&self, tick: u64) -> bool
-        ensures { IsTrue result ↔ CanHold self.now tick }
-    {
+    fn can_hold(&self, tick: u64) -> bool {
         tick >= self.start && self.listener.can_take(tick - self.start)
     }
 
-    /// It has its level up to this tick. The records of what is certain with it are added.
-    pub fn hold_until(
-        &mut self,
-        line: LineNo,
-        tick: u64,
-        rows: &mut String,
-    ) -> Result<(), AllocError>
-        requires { CanHold self.old tick }
-        ensures rows { OnOk result (string_bytes rows.new
-            ≡ string_bytes rows.old ++ flat_map record_text (written_rows line (given_until self.old tick))) }
-        ensures held { self.new ≡ held_until self.old tick }
-    {
+    fn hold_until(&mut self, line: LineNo, tick: u64, text: &mut String) -> Result<(), AllocError> {
         let (level, until) = (self.level, tick - self.start);
         let ticks = until - self.listener.now();
         self.tally = self.tally.take(Hold { level, ticks });
         let piece = self.listener.take_until(level, until);
-        write_passed(rows, line, &mut self.ringer, &mut self.seizer, piece)
+        write_passed(text, line, &mut self.ringer, &mut self.seizer, piece)
     }
 
-    /// It has a level from then on.
-    pub fn change(&mut self, level: Level)
-        ensures { self.new ≡ record self.old { level = level } }
-    {
+    fn change(&mut self, level: Level) {
         self.level = level;
     }
 
-    /// The short runs that were taken away.
-    pub fn bounces(&self) -> Bounces
-        ensures { result ≡ self.now.tally.bounces }
-    {
-        self.tally.bounces()
+    // The short runs that were taken away.
+    fn note(&self, scale: Scale, line: LineNo, notes: &mut String) -> Result<(), AllocError> {
+        say_bounces(notes, scale, line, self.tally.bounces())
     }
 
-    /// The recording ends, and the records of what is left are added.
-    pub fn end(self, line: LineNo, rows: &mut String) -> Result<(), AllocError>
-        ensures { OnOk result (string_bytes rows.new
-            ≡ string_bytes rows.old ++ flat_map record_text (written_rows line (left_at_end self))) }
-    {
+    fn end(self, line: LineNo, text: &mut String) -> Result<(), AllocError> {
         let (mut ringer, mut seizer) = (self.ringer, self.seizer);
         let (first, last) = self.listener.end();
-        write_passed(rows, line, &mut ringer, &mut seizer, first)?;
-        write_passed(rows, line, &mut ringer, &mut seizer, last)?;
-        write_given(rows, line, seizer.end())
+        write_passed(text, line, &mut ringer, &mut seizer, first)?;
+        write_passed(text, line, &mut ringer, &mut seizer, last)?;
+        write_given(text, line, seizer.end())
     }
 }

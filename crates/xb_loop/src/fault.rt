@@ -1,59 +1,11 @@
-// Why no rows are made of a recording, or no further ones.
+// Why the program writes no deck, or no further rows of it.
 ghost use Rattle.std.specs.Prelude.{◌≡◌};
-ghost use Rattle.xb_loop.specs.LackedWires.{lacks_wire};
 
-use crate::name::{AllInOneLine, InOneLine};
 use std::alloc::AllocError;
 use std::io;
 use thiserror::Error;
-use xb_contact::Refusal;
+use xb_feed::{AllInOneLine, InOneLine, RecordingFault};
 use xb_routes::RouteFault;
-use xb_text::WriteFault;
-
-/// Why no rows are made of a recording, or no further ones. What was written before stands.
-#[derive(Debug, Drop, Error)]
-pub enum RecordingFault {
-    /// A text line, counted from 1, is refused; what it begins with.
-    #[error("text line {0}: {1}: {2}")]
-    Line(u64, Refusal, String),
-    /// A sample, counted from 1, is refused.
-    #[error("sample {0}: {1}")]
-    Sample(u64, Refusal),
-    /// The recording is refused before it is read.
-    #[error("the recording: {0}")]
-    Beginning(Refusal),
-    /// Its end is refused.
-    #[error("the end of the recording: {0}")]
-    End(Refusal),
-    /// It ends before the wire of this line has a level.
-    #[error("the wire of line {0} has no level in the recording")]
-    NoLevel(u16),
-    /// A read failed, an interrupted one too.
-    #[error("the recording could not be read")]
-    Read,
-    /// A write or the flush failed, or a write took no byte.
-    #[error("the rows could not be written")]
-    Write,
-    /// Memory ran out.
-    #[error("out of memory")]
-    NoMemory,
-}
-
-// Whether a recording is refused since it has no wire of a name.
-pub(crate) fn lacks_wire(fault: &RecordingFault) -> bool
-    ensures { result ≡ lacks_wire fault.now }
-{
-    match fault {
-        RecordingFault::Line(_, refusal, _)
-        | RecordingFault::Sample(_, refusal)
-        | RecordingFault::Beginning(refusal)
-        | RecordingFault::End(refusal) => *refusal == Refusal::NoWire,
-        RecordingFault::NoLevel(_)
-        | RecordingFault::Read
-        | RecordingFault::Write
-        | RecordingFault::NoMemory => false,
-    }
-}
 
 /// Why the program writes no deck, or no further rows of it.
 #[derive(Debug, Drop, Error)]
@@ -76,26 +28,6 @@ pub enum LoopFault<'a> {
     /// Memory ran out.
     #[error("out of memory")]
     NoMemory,
-}
-
-impl From<AllocError> for RecordingFault {
-    ghost use Rattle.xb_loop.specs.declared.fault.RecordingFault.TheVariants.{NoMemory};
-
-    ghost from_gives = { λ _ e. e ≡ NoMemory };
-
-    fn from(_error: AllocError) -> RecordingFault {
-        RecordingFault::NoMemory
-    }
-}
-
-impl From<WriteFault> for RecordingFault {
-    ghost use Rattle.xb_loop.specs.declared.fault.RecordingFault.TheVariants.{Write};
-
-    ghost from_gives = { λ _ e. e ≡ Write };
-
-    fn from(_fault: WriteFault) -> RecordingFault {
-        RecordingFault::Write
-    }
 }
 
 impl<'a> From<RecordingFault> for LoopFault<'a> {

@@ -1,19 +1,10 @@
 //! What the chain hears of a contact, as the contracts of functions that do nothing. The definitions are in `specs/`:
 //! `RowsOfHolds` (the rows that are written), and the statements in `HeardLaws` and `TapeLaws`.
-ghost use Rattle.xb_loop.specs.Constants.{AreConstants};
 ghost use Rattle.xb_loop.specs.HeardLaws.{HearsEachCleanRun, HearsTheCleanRecord, HearsTheSettledRecord};
 ghost use Rattle.xb_loop.specs.RecordingLaws.{AsksForEachOnce, HearsTheRecording, KeepsTheTapeOfRecordings, KeepsTheTapeOfSeizures};
 ghost use Rattle.xb_loop.specs.RecordingLaws.{KeepsTheTapeOfNights, KeepsTheTapeUnlessAsked, TellsTheShortRuns};
-ghost use Rattle.xb_loop.specs.Tallies.{CountsTheShortRuns};
 ghost use Rattle.xb_loop.specs.WireRecords.{GivesEachRecord};
 ghost use Rattle.xb_loop.specs.TapeLaws.{HearsNothingOtherwise, KeepsTheTape, LeavesLongRunsTheirTape};
-
-/// From how many ms on a run is settled, from how many a make seizes and which percent of the range is a threshold,
-/// where these are not asked for; the most bytes that tell a form, the most that are shown of a refused line, and the
-/// longest gap between two times; each as it is.
-pub fn constants()
-    ensures { AreConstants }
-{}
 
 /// The record that the chain makes of a line's rows, neighbours joined, is the settled record of its contact in
 /// ms, each time rounded once. So where short bounces disturb a clean record, the chain hears the clean one,
@@ -36,12 +27,6 @@ pub fn the_tape_is_kept()
 /// of the limits), a record without shorter runs has the tape that it has unsettled.
 pub fn nothing_is_heard_otherwise()
     ensures { HearsNothingOtherwise }
-{}
-
-/// What is counted of a contact, hold by hold, are the runs of its record that are short, and the longest of them.
-/// The run that is under way where the recording ends is none of them.
-pub fn the_short_runs_are_counted()
-    ensures { CountsTheShortRuns }
 {}
 
 /// Of the rows that are written of a recording, those of a line are the rows of the contact of its wire, hold

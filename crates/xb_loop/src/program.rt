@@ -2,21 +2,25 @@
 ghost use Rattle.std.specs.Prelude.{◌≡◌, false, IfErr, IfOk, string_bytes, true};
 ghost use Rattle.xb_command.specs.Programs.{streams};
 ghost use Rattle.xb_command.specs.Commands.{texts_of};
-ghost use Rattle.xb_loop.specs.LackedWires.{lacks_wire};
+ghost use Rattle.xb_feed.specs.LackedWires.{lacks_wire};
 ghost use Rattle.xb_loop.specs.Program.{AttendsLoop, FailsToPrint, PrintsDeck, TellsOfBounces};
 
-use crate::fault::{LoopFault, RecordingFault, lacks_wire};
-use crate::feed::listen;
-use crate::request::Request;
+use crate::common::Common;
+use crate::contact::Contact;
+use crate::fault::LoopFault;
 use crate::table::beginning_of;
-use crate::words::{plain_words, request_of_words};
+use crate::words::request_of_words;
 use std::alloc::Global;
 use std::io::{Read, Write};
 use xb_command::{DONE, Files, WordsFault, tell_fault, tell_words};
+use xb_feed::{RecordingFault, Request, lacks_wire, listen, plain_words};
 use xb_text::write_whole;
 
 // The program's name.
 pub(crate) const PROGRAM: &str = "mfloop";
+
+// The line before the rows.
+const HEADER: &[u8] = b"line,state,ms\n";
 
 // The line of refused words.
 const USAGE: &[u8] =
@@ -40,7 +44,7 @@ fn fault_of_recording<'a>(fault: RecordingFault, names: Vec<&'a str>) -> LoopFau
 fn run<'a, F: Files, R: Read, W: Write>(
     alloc: Global,
     files: &F,
-    mut request: Request<'a>,
+    mut request: Request<'a, Common>,
     recording: &mut R,
     out: &mut W,
 ) -> Result<String, LoopFault<'a>>
@@ -51,7 +55,7 @@ fn run<'a, F: Files, R: Read, W: Write>(
 {
     let (before, release_ms) = beginning_of(alloc, files, request.table)?;
     request.common.release_ms = release_ms;
-    match listen(alloc, &request, &before, recording, out) {
+    match listen::<Common, Contact, R, W>(alloc, &request, &before, HEADER, recording, out) {
         Ok(told) => Ok(told),
         Err(fault) => Err(fault_of_recording(fault, request.wanted.wires)),
     }

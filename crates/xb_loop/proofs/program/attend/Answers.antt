@@ -3,7 +3,8 @@ use Rattle.std.proofs.KnownBytes.{Keeps-refl}
 use Rattle.clap.specs.Walk.{Text}
 use Rattle.xb_command.specs.Commands.{texts_of}
 use Rattle.xb_command.proofs.WordsTold.{TellsOfWords-attends}
-use Rattle.xb_loop.specs.Options.{ArePlainlyRefused, AsksPlainly, plain_words}
+use Rattle.xb_feed.specs.Options.{plain_words}
+use Rattle.xb_loop.specs.Options.{ArePlainlyRefused, AsksPlainly}
 use Rattle.xb_loop.specs.Program.{TellsOfBounces, program, usage_line}
 use Rattle.xb_loop.proofs.Attended.{attends_fault, attends_told}
 use Rattle.xb_loop.proofs.program.attend.Goals as goal

@@ -1,7 +1,8 @@
-use Rattle.std.proofs.Common.{ap, rules, subst, ◌∙◌}
+use Rattle.std.proofs.Common.{string_bytes, subst}
 use Rattle.xb_loop.proofs.Attended.{fails_to_print}
-use Rattle.xb_loop.specs.Feeding.{FailsToListen}
-use Rattle.xb_loop.specs.Program.{with_release}
+use Rattle.xb_feed.specs.Feeding.{FailsToListen, ListensTo}
+use Rattle.xb_loop.specs.Program.{header, with_release}
+use Rattle.xb_loop.specs.Watching.{by_rows}
 use Rattle.xb_loop.proofs.program.run.Goals as goal
 
 pub returns-clause-fault : goal.returns-clause-fault
@@ -15,6 +16,19 @@ returns-clause-fault g c =
       before,
       release,
       record { text = c.in_ok-before.ensures.text; release_is = c.in_ok-before.ensures.release },
-      subst (λ b. FailsToListen (with_release request release) b c.in-Err.fault (g.R.Read.remaining c.args.recording.now)
+      subst (λ b. FailsToListen by_rows header (with_release request release) b c.in-Err.fault (g.R.Read.remaining c.args.recording.now)
           (g.W.Write.contents c.args.out.now) (g.W.Write.contents c.listen.new.out)) c.deref.ensures.value c.in-Err.ensures.fault,
+    )
+
+pub returns-in-Ok-clause-prints : goal.returns-in-Ok-clause-prints
+returns-in-Ok-clause-prints g c =
+    let request = c.args.request in
+    let before = c.in_ok-before.before.items in
+    let release = c.in_ok-before.release_ms in (
+      before,
+      release,
+      record { text = c.in_ok-before.ensures.text; release_is = c.in_ok-before.ensures.release },
+      subst (λ b. ListensTo by_rows header (with_release request release) b (string_bytes c.in-Ok.told)
+          (g.R.Read.remaining c.args.recording.now) (g.W.Write.contents c.args.out.now)
+          (g.W.Write.contents c.listen.new.out)) c.deref.ensures.value c.in-Ok.ensures.listens,
     )

@@ -1,6 +1,9 @@
-use Rattle.std.proofs.Common.{inl, inr, subst}
+use Rattle.std.proofs.Common.{ap, inl, inr, subst, sym, ◌∙◌}
 use Rattle.std.proofs.lemmas.Result.{IfErr-weaker, IfOk-weaker, err_from_is_err_and}
-use Rattle.xb_loop.specs.Options.{Say, SayNothing}
+use Rattle.xb_model.specs.declared.limits.Limits.{Limits}
+use Rattle.xb_feed.specs.Options.{Say as SaysOf, SayNothing}
+use Rattle.xb_loop.specs.declared.common.Common.{Common}
+use Rattle.xb_loop.specs.Options.{Say}
 use Rattle.xb_loop.proofs.words.request_of_words.Goals as goal
 
 pub returns-in_err-words-clause-refused : goal.returns-in_err-words-clause-refused
@@ -11,7 +14,20 @@ returns-in_err-words-clause-refused c =
 pub returns-clause-asks : goal.returns-clause-asks
 returns-clause-asks c =
     IfOk-weaker c.request_of.result _ _
-    (λ request says. (c.in_ok-words.ensures.taken, subst (λ rows. Say rows request) c.in_ok-words.ensures.words says))
+    (λ request says. (
+      c.in_ok-words.ensures.taken,
+      subst (λ rows. Say rows request) c.in_ok-words.ensures.words (record {
+        release =
+            ap (λ (common : Common). common.release_ms) says.common_is
+            ∙ ap (λ (limits : Limits). limits.release) c.standard.ensures.value;
+        tick = (
+          c.number.result,
+          c.number.ensures,
+          ap (λ (common : Common). common.most_ms) says.common_is ∙ c.unwrap_or.ensures,
+        );
+        rest = subst (λ common. SaysOf c.in_ok-words.words common request) (sym says.common_is) says;
+      }),
+    ))
     c.request_of.ensures.says
 
 pub returns-clause-refused : goal.returns-clause-refused

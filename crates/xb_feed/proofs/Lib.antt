@@ -1,0 +1,11 @@
+pub mod ToldForms
+pub mod Fed
+pub mod Stopped
+pub mod PieceStops
+pub mod Pieces
+pub mod Ended
+pub mod Wholes
+pub mod Listened
+pub mod CutNames
+pub mod WordWires
+pub mod TallyLemmas

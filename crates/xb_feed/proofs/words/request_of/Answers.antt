@@ -1,0 +1,26 @@
+use Rattle.std.proofs.Common.{rules, ap, inl, inr, refl, sym, ◌∙◌}
+use Rattle.std.proofs.lemmas.Result.{err_from_is_err_and}
+use Rattle.std.specs.Prelude.{unwrap_or}
+use Rattle.xb_feed.specs.declared.words.TheConstants.{THRESHOLD_PERCENT}
+use Rattle.xb_feed.specs.Options.{form_named}
+use Rattle.xb_feed.proofs.words.request_of.Goals as goal
+
+pub returns-in_err-threshold-clause-nothing : goal.returns-in_err-threshold-clause-nothing
+returns-in_err-threshold-clause-nothing g c =
+    let p = err_from_is_err_and c.from_residual-in_err-threshold.result c.from_residual-in_err-threshold.ensures.1 in
+    let given = c.number.result in
+    rw p.1 (λ refused.
+    inr (inl (unwrap_or given THRESHOLD_PERCENT, (given, c.number.ensures, refl), c.in_err-threshold.ensures.refused)))
+
+pub returns-clause-says : goal.returns-clause-says
+returns-clause-says g c = record {
+  table = c.text-2.ensures;
+  format = ap form_named (sym c.text.ensures) ∙ c.in_ok-format.ensures.named;
+  rate = search rules;
+  common_is = refl;
+  threshold = (c.number.result, c.number.ensures, c.in_ok-threshold.ensures.given);
+  said = c.flag.ensures;
+  all = c.said_of_all-all.result;
+  for_all = c.said_of_all-all.ensures;
+  wires = search rules;
+}

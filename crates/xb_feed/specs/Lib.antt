@@ -1,0 +1,11 @@
+pub mod Constants
+pub mod Followers
+pub mod Watching
+pub mod Watches
+pub mod Beginnings
+pub mod Faults
+pub mod LackedWires
+pub mod Feeding
+pub mod Tallies
+pub mod OwnWords
+pub mod Options
