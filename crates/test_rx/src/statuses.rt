@@ -27,7 +27,7 @@ impl Program for Mfrx {
 }
 
 const USAGE: &[u8] =
-    b"mfrx: usage: mfrx [--line N] [--trunk T] [--tones] [--json] [--against PAGE] [--raw [--rate HZ] [--ulaw]]\n";
+    b"mfrx: usage: mfrx [--line N] [--trunk T] [--tones] [--json] [--against PAGE] [--channel N] [--raw [--rate HZ] [--ulaw] [--channels N]]\n";
 
 // A file of two samples of silence, after a chunk of three bytes that says nothing.
 const FILE: &[u8] = b"RIFF\x34\0\0\0WAVELIST\x03\0\0\0abc\0\
@@ -37,17 +37,59 @@ fmt \x10\0\0\0\x01\0\x01\0\x40\x1f\0\0\x80\x3e\0\0\x02\0\x10\0data\x04\0\0\0\0\0
 const CUT: &[u8] = b"RIFF\x34\0\0\0WAVELIST\x03\0\0\0abc\0\
 fmt \x10\0\0\0\x01\0\x01\0\x40\x1f\0\0\x80\x3e\0\0\x02\0\x10\0data\x04\0\0\0\0\0";
 
+// What is told of silence that lasts less than a ms.
+const SILENCE: &[u8] = b"mfrx: no key is heard in 0.000 s: silence\n";
+
+// Eight frames of two channels, of which the second is 1,000 throughout: of a sine of that height -27.2 dBm0, and of a
+// sine with that power 3 dB more.
+const TWO: &[u8] = b"\0\0\xe8\x03\0\0\xe8\x03\0\0\xe8\x03\0\0\xe8\x03\
+\0\0\xe8\x03\0\0\xe8\x03\0\0\xe8\x03\0\0\xe8\x03";
+
 // The words after the program's name, the sound, the status, what is written, and what stands on standard error.
+// The bytes by mu-law are -356, -340, -324, -308, -292 and -276, and so the samples -348, -316 and -284.
 const CASES: &[(&[&str], &[u8], u8, &[u8], &[u8])] = &[
-    (&[], FILE, 0, b"KEYED 0 REFUSED 0\n", b""),
-    (&["--raw"], b"", 0, b"KEYED 0 REFUSED 0\n", b""),
+    (&[], FILE, 0, b"KEYED 0 REFUSED 0\n", SILENCE),
+    (&["--raw"], b"", 0, b"KEYED 0 REFUSED 0\n", SILENCE),
     (
         &["--raw", "--ulaw", "--rate", "16000"],
         b"abcdefg",
         0,
         b"KEYED 0 REFUSED 0\n",
-        b"",
+        b"mfrx: no key is heard in 0.000 s: peak -36.3 dBm0, mean -34.1 dBm0\n",
     ),
+    (
+        &["--raw", "--channels", "2", "--channel", "2"],
+        TWO,
+        0,
+        b"KEYED 0 REFUSED 0\n",
+        b"mfrx: no key is heard in 0.001 s: peak -27.2 dBm0, mean -24.2 dBm0\n",
+    ),
+    (
+        &["--raw", "--channels", "2"],
+        TWO,
+        0,
+        b"KEYED 0 REFUSED 0\n",
+        b"mfrx: no key is heard in 0.001 s: silence\n",
+    ),
+    (&["--channel", "1", "--json"], FILE, 0, b"", SILENCE),
+    (
+        &["--channel", "2"],
+        FILE,
+        1,
+        b"",
+        b"mfrx: the sound is no WAV file that can be heard: the chunk \"fmt \" has 1 channels, and --channel names another one\n",
+    ),
+    (&["--channel", "0"], FILE, 2, b"", USAGE),
+    (&["--channel", "9"], FILE, 2, b"", USAGE),
+    (&["--channels", "1"], FILE, 2, b"", USAGE),
+    (
+        &["--raw", "--channels", "2", "--channel", "3"],
+        TWO,
+        2,
+        b"",
+        USAGE,
+    ),
+    (&["--raw", "--channels", "9"], TWO, 2, b"", USAGE),
     (
         &[],
         b"KEYED 0 REFUSED 0\n",
@@ -60,8 +102,8 @@ const CASES: &[(&[&str], &[u8], u8, &[u8], &[u8])] = &[
     (&["--raw", "--rate", "11025"], FILE, 2, b"", USAGE),
     (&["--ulaw"], FILE, 2, b"", USAGE),
     (&["--rate", "8000"], FILE, 2, b"", USAGE),
-    (&["--tones"], FILE, 0, b"", b""),
-    (&["--against", "none"], FILE, 0, b"", b""),
+    (&["--tones"], FILE, 0, b"", SILENCE),
+    (&["--against", "none"], FILE, 0, b"", SILENCE),
     (
         &["--against", "damaged"],
         FILE,

@@ -49,7 +49,7 @@ heard-against how keyed bytes report out page result known a b is none returned 
 pub are-differences : (how : Input) (keyed : List KeyedEntry) (bytes : Option (List ℕ)) (text : List ℕ) (a b : Option (List ℕ))
     → HearsBytes how (on_page (fresh_against keyed)) bytes (Ok tt) (outputs (Some []) (Some text) a b)
     → IsDifferences how bytes keyed text a b
-are-differences how keyed None text a b (keys, wrote) = (heard_entries keys, tt, wrote.page_whole)
+are-differences how keyed None text a b (samples, wrote) = (heard_entries (keys_of_sound samples), tt, wrote.page_whole)
 are-differences how keyed (Some bytes) text a b (sound, is, (lacks, wrote)) =
     (heard_entries (keys_of_sound sound.samples), (sound, is, lacks, wrote.told_whole, refl), wrote.page_whole)
 

@@ -10,7 +10,6 @@ use Rattle.xb_wav.specs.declared.wav_start.OpenFault.{OpenFault}
 use Rattle.xb_wav.specs.declared.wav_start.OpenFault.TheVariants as open_fault
 use Rattle.xb_wav.specs.declared.wav_start.Start.{Start}
 use Rattle.xb_rx.specs.Faults.{of_open}
-use Rattle.xb_ear.specs.Receivers.{keys_of_sound}
 use Rattle.xb_rx.specs.declared.request.Input.{Input}
 use Rattle.xb_rx.specs.Hearing.{Delivers, Hears, HearsBytes, HearsSound, Outputs, outputs, sound_after, sound_by, start_by}
 use Rattle.xb_rx.specs.Reports.{Reported, fresh_report}
@@ -67,7 +66,7 @@ module _ (how : Input) (report : Reported) where
   heard-some : (all : Option Sound) (result : Result (Unit {0}) RxFault) (outs : Outputs) → Hears all report result outs
       → Hears None report result outs
   heard-some None result outs heard = heard
-  heard-some (Some sound) (Ok u) outs heard = (keys_of_sound sound.samples, heard.1)
+  heard-some (Some sound) (Ok u) outs heard = (sound.samples, heard.1)
   heard-some (Some sound) (Err f) outs heard = tt
 
   pub listened : (old mid : Option (List ℕ)) (start : Start) (result : Result (Unit {0}) RxFault) (outs : Outputs)

@@ -6,6 +6,7 @@ pub mod KeySteps
 pub mod LastSteps
 pub mod ObjectSteps
 pub mod SoFar
+pub mod Listened
 pub mod PagedKeys
 pub mod HeardPages
 pub mod Delivered

@@ -13,21 +13,21 @@ use Rattle.xb_rx.specs.declared.comparing.CompareProgramFault.TheVariants as fau
 use Rattle.xb_rx.specs.declared.request.Input.{Input}
 use Rattle.xb_rx.specs.declared.request.Request.{Request}
 use Rattle.xb_rx.specs.declared.request.Written.TheVariants as written
-use Rattle.xb_rx.specs.Hearing.{Delivers, Outputs, outputs, sound_by}
-use Rattle.xb_rx.specs.Pages.{heard_entries, page_of, told_of}
+use Rattle.xb_rx.specs.Hearing.{Delivers, Outputs, outputs, sound_by, told_text_of}
+use Rattle.xb_rx.specs.Pages.{heard_entries, page_of}
 use Rattle.xb_wav.specs.Samples.{Sound}
 
 -- the keyed entries of the page in a file, whose lines end at LF or at CR LF, where its bytes are known
 abbrev pub HasKeyed : Option (List ℕ) → List KeyedEntry → Type 0
 HasKeyed file keyed = IfSome file (λ page. IsKeyed (lf_ended page) keyed)
 
--- a sound is heard to its end, where its bytes are known: these are the keyed entries of its keyings, and what is
--- doubtful of them and its keys without a keying are told
+-- a sound is heard to its end, where its bytes are known: these are the keyed entries of its keyings; what is doubtful
+-- of them, its keys without a keying, and how loud it is where no key is heard, are told
 abbrev pub IsHeard : Input → Option (List ℕ) → List KeyedEntry → Option (List ℕ) → Option (List ℕ) → Type 0
 IsHeard how None heard old new = Unit {0}
 IsHeard how (Some bytes) heard old new =
     (sound : Sound) × (sound_by how bytes ≡ Ok sound) × (sound.lacking ≡ 0)
-    × Appends old new (told_of (keys_of_sound sound.samples)) × (heard ≡ heard_entries (keys_of_sound sound.samples))
+    × Appends old new (told_text_of (written.Page 0 0) sound.samples) × (heard ≡ heard_entries (keys_of_sound sound.samples))
 
 -- why a file gives no keyed entries
 abbrev pub IsFileFault : Option (List ℕ) → CompareProgramFault → Type 0

@@ -1,8 +1,7 @@
 -- What is written of a sound.
-use Rattle.std.specs.Prelude.{ℕ, ◌≡◌, ◌⊎◌, ◌<◌, List, false, Option, Some, None, Result, Ok, Err}
+use Rattle.std.specs.Prelude.{ℕ, ◌≡◌, ◌⊎◌, ◌<◌, List, ◌++◌, ℤ, false, Option, Some, None, Result, Ok, Err}
 use Rattle.std.specs.Io.KnownBytes.{Appends, Keeps}
 use Rattle.xb_text.specs.Writing.{AppendsBeginning}
-use Rattle.xb_ear.specs.declared.hearing.Heard.{Heard}
 use Rattle.xb_ear.specs.Receivers.{keys_of_sound}
 use Rattle.xb_rx.specs.declared.fault.RxFault.{RxFault}
 use Rattle.xb_rx.specs.declared.fault.RxFault.TheVariants as fault
@@ -13,6 +12,7 @@ use Rattle.xb_rx.specs.declared.request.Written.{Written}
 use Rattle.xb_wav.specs.declared.wav_start.Start.{Start}
 use Rattle.xb_wav.specs.declared.wav_start.WavFault.{WavFault}
 use Rattle.xb_wav.specs.declared.wav_start.TheConstants.{UNKNOWN_SAMPLES}
+use Rattle.xb_rx.specs.Listeners.{quiet_of}
 use Rattle.xb_rx.specs.Reports.{Reported, report_rest, told_rest, told_text, written_text}
 use Rattle.xb_wav.specs.Samples.{IsForm, Sound, sound_of}
 use Rattle.xb_wav.specs.Starts.{start_of_file}
@@ -43,25 +43,33 @@ IsFaultOf sound (fault.Cut n) = (sound.lacking ≡ n) × (0 < n)
 IsFaultOf sound (fault.Wav f) = ⊥
 IsFaultOf sound f = Unit {0}
 
--- what was written and told of a sound, after what there is so far: of one that is not known, that of some keys
+-- what is told of samples after what there is so far, and how loud they are where no key is heard
+abbrev pub told_rest_of : Reported → List ℤ → List ℕ
+told_rest_of report samples = told_rest report (keys_of_sound samples) ++ quiet_of samples
+
+abbrev pub told_text_of : Written → List ℤ → List ℕ
+told_text_of written samples = told_text written (keys_of_sound samples) ++ quiet_of samples
+
+-- what was written and told of a sound, after what there is so far: of one that is not known, that of some samples
 abbrev pub Hears : Option Sound → Reported → Result (Unit {0}) RxFault → Outputs → Type 0
-Hears None report (Ok u) outs = (keys : List Heard) × Wrote outs (report_rest report keys) (told_rest report keys)
+Hears None report (Ok u) outs =
+    (samples : List ℤ) × Wrote outs (report_rest report (keys_of_sound samples)) (told_rest_of report samples)
 Hears None report (Err f) outs = Unit {0}
 Hears (Some sound) report (Ok u) outs =
     (sound.lacking ≡ 0)
-    × Wrote outs (report_rest report (keys_of_sound sound.samples)) (told_rest report (keys_of_sound sound.samples))
+    × Wrote outs (report_rest report (keys_of_sound sound.samples)) (told_rest_of report sound.samples)
 Hears (Some sound) report (Err f) outs =
     IsFaultOf sound f
-    × Began outs (report_rest report (keys_of_sound sound.samples)) (told_rest report (keys_of_sound sound.samples))
+    × Began outs (report_rest report (keys_of_sound sound.samples)) (told_rest_of report sound.samples)
 
 -- samples alone are written in some form
 abbrev pub HasForm : Input → Type 0
-HasForm input.Wav = Unit {0}
+HasForm (input.Wav channel) = Unit {0}
 HasForm (input.Raw form) = IsForm form
 
 -- what the samples of bytes begin with
 abbrev pub start_by : Input → List ℕ → Result (Start × List ℕ) WavFault
-start_by input.Wav bytes = start_of_file bytes
+start_by (input.Wav channel) bytes = start_of_file channel bytes
 start_by (input.Raw form) bytes =
     Ok (record { form = form; samples = UNKNOWN_SAMPLES; counted = false }, bytes)
 
@@ -77,10 +85,10 @@ sound_by how bytes = sound_after (start_by how bytes)
 abbrev pub HearsSound : Written → Sound → Result (Unit {0}) RxFault → Outputs → Type 0
 HearsSound written sound (Ok u) outs =
     (sound.lacking ≡ 0)
-    × Wrote outs (written_text written (keys_of_sound sound.samples)) (told_text written (keys_of_sound sound.samples))
+    × Wrote outs (written_text written (keys_of_sound sound.samples)) (told_text_of written sound.samples)
 HearsSound written sound (Err f) outs =
     IsFaultOf sound f
-    × Began outs (written_text written (keys_of_sound sound.samples)) (told_text written (keys_of_sound sound.samples))
+    × Began outs (written_text written (keys_of_sound sound.samples)) (told_text_of written sound.samples)
 
 pub record WroteNothing (outs : Outputs) : Type 0 where
   pub page_kept : Keeps outs.page_old outs.page_new

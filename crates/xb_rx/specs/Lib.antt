@@ -2,6 +2,7 @@ pub mod Faults
 pub mod Begun
 pub mod Pages
 pub mod Objects
+pub mod Listeners
 pub mod Reports
 pub mod Hearing
 pub mod Comparing

@@ -1,5 +1,5 @@
 -- What the words of the command line ask for, as clap reads them.
-use Rattle.std.specs.Prelude.{ℕ, ◌≡◌, ◌&&◌, not, ◌||◌, List, Bool, if◌then◌else◌, Option, Some, None, codes, is_some, nat_lt, option_and_then, option_map, unwrap_or}
+use Rattle.std.specs.Prelude.{ℕ, ◌≡◌, ◌-◌, ◌&&◌, not, ◌||◌, List, Bool, if◌then◌else◌, Option, Some, None, codes, is_some, nat_le, nat_lt, option_and_then, option_map, unwrap_or}
 use Rattle.std.specs.Borrow.{Bor}
 use Rattle.clap.specs.Walk.{Row, Text, first_of}
 use Rattle.xb_command.specs.Given.{AskForNothing, AsksFor, ReadsFlag, ReadsNumber, given_by}
@@ -14,6 +14,8 @@ use Rattle.xb_rx.specs.declared.request.Written.{Written}
 use Rattle.xb_rx.specs.declared.request.Written.TheVariants as written
 use Rattle.xb_rx.specs.declared.words.Options.{Options}
 use Rattle.xb_rx.specs.Rules.{command_of_words}
+use Rattle.xb_wav.specs.declared.coding.SampleForm.{SampleForm}
+use Rattle.xb_wav.specs.declared.coding.TheConstants.{MOST_CHANNELS}
 use Rattle.xb_wav.specs.Starts.{form_with, frames_of}
 
 -- what clap matched says these options
@@ -25,6 +27,8 @@ pub record Say (rows : List Row) (options : Options) : Type 0 where
   pub raw : ReadsFlag (given_by rows (codes "raw")) options.raw
   pub rate : ReadsNumber (given_by rows (codes "rate")) options.rate
   pub ulaw : ReadsFlag (given_by rows (codes "ulaw")) options.ulaw
+  pub channels : ReadsNumber (given_by rows (codes "channels")) options.channels
+  pub channel : ReadsNumber (given_by rows (codes "channel")) options.channel
 
 -- a number below this, or 0 where none is given
 abbrev pub below : ℕ → Option ℕ → Option ℕ
@@ -52,13 +56,29 @@ written_of options =
 abbrev pub raw_coding : Bool → Coding
 raw_coding ulaw = if ulaw then coding.MuLaw else coding.Signed16
 
--- samples alone are of one channel, 8,000 a second where nothing else is said; of a WAV file nothing is said
+-- samples alone have one channel where nothing is said, and up to eight
+abbrev pub channels_of : Option ℕ → Option ℕ
+channels_of given =
+    if nat_lt 0 (unwrap_or given 1) && nat_le (unwrap_or given 1) MOST_CHANNELS then Some (unwrap_or given 1) else None
+
+-- of so many channels the first is heard where nothing is said; they are numbered from 1, and counted from 0
+abbrev pub channel_of : ℕ → Option ℕ → Option ℕ
+channel_of channels given =
+    if nat_lt 0 (unwrap_or given 1) && nat_le (unwrap_or given 1) channels then Some (unwrap_or given 1 - 1) else None
+
+-- and there are 8,000 a second where nothing is said
+abbrev pub raw_form : Options → Option SampleForm
+raw_form options =
+    option_and_then (λ frames. option_and_then (λ channels.
+    option_map (λ channel. form_with (raw_coding options.ulaw) channels channel frames) (channel_of channels options.channel))
+    (channels_of options.channels)) (frames_of (unwrap_or options.rate 8000))
+
+-- of a WAV file only the channel is said
 abbrev pub input_of : Options → Option Input
 input_of options =
-    if options.raw
-    then option_map (λ frames. input.Raw (form_with (raw_coding options.ulaw) 1 frames))
-    (frames_of (unwrap_or options.rate 8000))
-    else (if is_some options.rate || options.ulaw then None else Some input.Wav)
+    if options.raw then option_map (λ form. input.Raw form) (raw_form options)
+    else (if is_some options.rate || options.ulaw || is_some options.channels then None
+    else option_map (λ channel. input.Wav channel) (channel_of MOST_CHANNELS options.channel))
 
 -- what the options ask for
 abbrev pub request_of : Options → Option Request

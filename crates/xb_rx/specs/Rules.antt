@@ -16,9 +16,11 @@ options =
     ∷ (codes "raw", takes.Nothing)
     ∷ (codes "rate", takes.Number)
     ∷ (codes "ulaw", takes.Nothing)
+    ∷ (codes "channels", takes.Number)
+    ∷ (codes "channel", takes.Number)
     ∷ (codes "against", takes.Text)
     ∷ []
 
--- `mfrx [--line N] [--trunk T] [--tones] [--json] [--against PAGE] [--raw [--rate HZ] [--ulaw]]`
+-- `mfrx [--line N] [--trunk T] [--tones] [--json] [--against PAGE] [--channel N] [--raw [--rate HZ] [--ulaw] [--channels N]]`
 abbrev pub command_of_words : App
 command_of_words = command_of (codes "mfrx") options

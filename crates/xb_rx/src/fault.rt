@@ -21,7 +21,8 @@ pub enum RxFault {
     /// A write or the flush failed, or a write took no byte. The beginning of the page or of the lines was written.
     #[error("what was heard could not be written")]
     Write,
-    /// A line about what was heard could not be told of: a key that is in no keying, or what is doubtful of an entry.
+    /// A line about what was heard could not be told of: a key that is in no keying, what is doubtful of an
+    /// entry, or how loud a sound without a key is.
     #[error("a line about what was heard could not be told of")]
     Tell,
 }

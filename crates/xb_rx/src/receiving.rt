@@ -8,11 +8,11 @@ ghost use Rattle.xb_wav.specs.Streams.{sound_left};
 ghost use Rattle.xb_wav.specs.declared.wav_start.TheConstants.{UNKNOWN_SAMPLES};
 
 use crate::fault::RxFault;
+use crate::listener::Listener;
 use crate::report::Report;
 use crate::request::{Input, Request};
 use std::alloc::Global;
 use std::io::{Read, Write};
-use xb_ear::Receiver;
 use xb_wav::{OpenFault, Source, Start, UNKNOWN_SAMPLES, open_wav};
 
 // Takes the samples of a source to their end.
@@ -30,13 +30,14 @@ fn hear<R: Read, W: Write, E: Write>(
     ensures { Hears (sound_left R.remaining source.old) (reported report.old) result
         (outputs (W.contents out.old) (W.contents out.new) (E.contents err.old) (E.contents err.new)) }
 {
-    let mut receiver = Receiver::new();
+    let mut listener = Listener::new();
     while let Some(sample) = source.next_sample()? {
-        let key = receiver.take(sample);
+        let key = listener.take(sample);
         report.take(alloc, key, out, err)?;
     }
-    let last = receiver.finish();
+    let last = listener.finish();
     report.end(alloc, last, out, err)?;
+    listener.tell(alloc, last, err)?;
     Ok(())
 }
 
@@ -48,7 +49,7 @@ fn start_of<R: Read>(input: Input, reader: &mut R) -> Result<Start, OpenFault>
     ensures bytes { Opens (R.remaining reader.old) (start_by input) result (R.remaining reader.new) }
 {
     match input {
-        Input::Wav => open_wav(reader),
+        Input::Wav(channel) => open_wav(reader, channel),
         Input::Raw(form) => Ok(Start {
             form,
             samples: UNKNOWN_SAMPLES,
@@ -83,7 +84,8 @@ pub(crate) fn listen<R: Read, W: Write, E: Write>(
 }
 
 /// Hears a sound, and writes what is asked for: the page of its keyings, an entry for each, from KP to ST, as it ends,
-/// and the totals, and to `err` a line for each key that is in none; or a line for each key, as it ends. Memory
+/// and the totals, and to `err` a line for each key that is in none; or a line for each key, as it ends; and to `err` how
+/// loud the sound is where no key is heard. Memory
 /// does not grow with the sound, which is read a few bytes at a time: hand it a reader with a buffer.
 ///
 /// On an `Err` the beginning of this was written.

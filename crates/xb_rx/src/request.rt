@@ -5,8 +5,8 @@ use xb_wav::SampleForm;
 /// How a sound is given.
 #[derive(Clone, Copy, Debug, PartialEq, Eq)]
 pub enum Input {
-    /// As a WAV file.
-    Wav,
+    /// As a WAV file, of which this channel is heard, counted from 0.
+    Wav(usize),
     /// As samples alone.
     Raw(SampleForm),
 }

@@ -1,15 +1,16 @@
 // What the words of the command line ask for.
-ghost use Rattle.std.specs.Prelude.{◌≡◌, IfErr, IfOk, IfSome};
+ghost use Rattle.std.specs.Prelude.{◌≡◌, ◌<◌, ◌≤◌, IfErr, IfOk, IfSome};
 ghost use Rattle.xb_command.specs.Commands.{texts_of};
 ghost use Rattle.xb_rx.specs.Hearing.{HasForm};
-ghost use Rattle.xb_rx.specs.Options.{AreRefused, Asks, Say, input_of, is_plain, line_of, named, raw_coding, request_against, request_of, told_keys, trunk_of, written_of};
+ghost use Rattle.xb_wav.specs.Samples.{IsForm};
+ghost use Rattle.xb_rx.specs.Options.{AreRefused, Asks, Say, channel_of, channels_of, input_of, is_plain, line_of, named, raw_coding, raw_form, request_against, request_of, told_keys, trunk_of, written_of};
 
 use crate::program::PROGRAM;
 use crate::request::{Asked, Input, Request, Written};
 use std::alloc::Global;
 use xb_command::{Takes, Words, WordsFault, read_words};
 use xb_model::{LINES, LineNo, TRUNKS, Trunk};
-use xb_wav::{Coding, SampleForm, frames_of};
+use xb_wav::{Coding, MOST_CHANNELS, SampleForm, frames_of};
 
 // What the options of the command line say.
 #[derive(Clone, Copy)]
@@ -21,10 +22,12 @@ pub(crate) struct Options {
     pub(crate) raw: bool,
     pub(crate) rate: Option<u32>,
     pub(crate) ulaw: bool,
+    pub(crate) channels: Option<u32>,
+    pub(crate) channel: Option<u32>,
 }
 
 // The options of the program, each under its name.
-const OPTIONS: [(&str, Takes); 8] = [
+const OPTIONS: [(&str, Takes); 10] = [
     ("line", Takes::Number),
     ("trunk", Takes::Number),
     ("tones", Takes::Nothing),
@@ -32,6 +35,8 @@ const OPTIONS: [(&str, Takes); 8] = [
     ("raw", Takes::Nothing),
     ("rate", Takes::Number),
     ("ulaw", Takes::Nothing),
+    ("channels", Takes::Number),
+    ("channel", Takes::Number),
     ("against", Takes::Text),
 ];
 
@@ -47,6 +52,8 @@ fn options_of(words: &Words) -> Options
         raw: words.flag("raw"),
         rate: words.number("rate"),
         ulaw: words.flag("ulaw"),
+        channels: words.number("channels"),
+        channel: words.number("channel"),
     }
 }
 
@@ -113,22 +120,63 @@ fn coding_of(ulaw: bool) -> Coding
     }
 }
 
-// How the sound is given; `None` where the rate or mu-law is said of a WAV file, or the rate is no multiple of 8,000.
+// How many channels samples alone have, 1 where none is given; `None` where they are not 1 to 8.
+fn channels_of(given: Option<u32>) -> Option<usize>
+    ensures value { result ≡ channels_of given }
+    ensures most { IfSome result (λ n. n ≤ MOST_CHANNELS) }
+{
+    let channels = given.unwrap_or(1);
+    if 0 < channels && channels <= MOST_CHANNELS as u32 {
+        Some(channels as usize)
+    } else {
+        None
+    }
+}
+
+// The channel that is heard of so many, the first where none is given, counted from 0; `None` where there is none of that
+// number.
+fn channel_of(channels: usize, given: Option<u32>) -> Option<usize>
+    ensures value { result ≡ channel_of channels given }
+    ensures below { IfSome result (λ n. n < channels) }
+{
+    let channel = given.unwrap_or(1) as usize;
+    if 0 < channel && channel <= channels {
+        Some(channel - 1)
+    } else {
+        None
+    }
+}
+
+// How samples alone are written.
+fn raw_form(options: Options) -> Option<SampleForm>
+    ensures value { result ≡ raw_form options }
+    ensures form { IfSome result IsForm }
+{
+    let frames = frames_of(options.rate.unwrap_or(8_000))?;
+    let channels = channels_of(options.channels)?;
+    let channel = channel_of(channels, options.channel)?;
+    Some(SampleForm {
+        coding: coding_of(options.ulaw),
+        channels,
+        channel,
+        frames,
+    })
+}
+
+// How the sound is given; `None` where the rate, mu-law or a number of channels is said of a WAV file, the rate is no
+// multiple of 8,000, or there is no such channel.
 fn input_of(options: Options) -> Option<Input>
     ensures value { result ≡ input_of options }
     ensures form { IfSome result HasForm }
 {
     if options.raw {
-        let frames = frames_of(options.rate.unwrap_or(8_000))?;
-        Some(Input::Raw(SampleForm {
-            coding: coding_of(options.ulaw),
-            channels: 1,
-            frames,
-        }))
-    } else if options.rate.is_some() || options.ulaw {
+        let form = raw_form(options)?;
+        Some(Input::Raw(form))
+    } else if options.rate.is_some() || options.ulaw || options.channels.is_some() {
         None
     } else {
-        Some(Input::Wav)
+        let channel = channel_of(MOST_CHANNELS, options.channel)?;
+        Some(Input::Wav(channel))
     }
 }
 

@@ -8,7 +8,7 @@ use Rattle.xb_riff.specs.declared.coding.Coding.{Coding}
 use Rattle.xb_riff.specs.declared.coding.Coding.TheVariants as coding
 use Rattle.xb_wav.specs.declared.coding.SampleForm.{SampleForm}
 use Rattle.xb_wav.specs.declared.source.StreamFault.TheVariants as stream_fault
-use Rattle.xb_wav.specs.Samples.{IsForm, Sound, frame_bytes, group_bytes, height, mean_sample, sound_of, sound_with, sum_of}
+use Rattle.xb_wav.specs.Samples.{IsForm, Sound, channel_bytes, frame_bytes, group_bytes, height, mean_sample, sound_of, sound_with, sum_of}
 use Rattle.xb_riff.specs.Codings.{sample_at, width}
 use Rattle.xb_wav.specs.Streams.{FillsUp, GivesSample}
 use Rattle.xb_wav.proofs.Samples.{next-sound, none-said, too-few}
@@ -25,22 +25,36 @@ same-sample coding.Signed16 (x ∷ y ∷ bytes) left enough = refl
 same-sample coding.MuLaw [] left enough = absurd (omega (arith, enough))
 same-sample coding.MuLaw (x ∷ bytes) left enough = refl
 
-a-frame : (how : Coding) (channels : ℕ) → 1 ≤ channels → width how ≤ width how * channels
-a-frame coding.Unsigned8 channels some = omega (arith, some)
-a-frame coding.Signed16 channels some = omega (arith, some)
-a-frame coding.MuLaw channels some = omega (arith, some)
+-- the channel that is heard ends in its frame
+in-frame : (how : Coding) (channel channels : ℕ) → channel < channels
+    → width how * channel + width how ≤ width how * channels
+in-frame coding.Unsigned8 channel channels some = omega (arith, some)
+in-frame coding.Signed16 channel channels some = omega (arith, some)
+in-frame coding.MuLaw channel channels some = omega (arith, some)
 
 -- each frame of a group is there whole
-pub frame-fits : (form : SampleForm) (n frame : ℕ) (bytes : List ℕ) → IsForm form → frame ≡ frame_bytes form → n < form.frames
-    → length bytes ≡ group_bytes form
-    → width form.coding ≤ length (take (length bytes - n * frame) (drop (n * frame) bytes))
-frame-fits form n frame bytes is whole less size =
-    let wide : width form.coding ≤ frame_bytes form = a-frame form.coding form.channels is.one_channel in
+pub frame-there : (form : SampleForm) (n frame before : ℕ) (bytes : List ℕ) → IsForm form → frame ≡ frame_bytes form
+    → before ≡ channel_bytes form → n < form.frames → length bytes ≡ group_bytes form
+    → n * frame + before + width form.coding ≤ length bytes
+frame-there form n frame before bytes is whole starts less size =
+    let wide : channel_bytes form + width form.coding ≤ frame_bytes form =
+    in-frame form.coding form.channel form.channels is.channel in
     let some : suc n * frame ≤ form.frames * frame = mul-le-mul_right frame (omega (arith, less)) in
     let all : length bytes ≡ form.frames * frame =
     size ∙ mul_comm (frame_bytes form) form.frames ∙ ap (λ (m : ℕ). form.frames * m) (sym whole) in
-    let left : n * frame + frame ≤ length bytes = omega (arith, some, all, suc-mul n frame) in
-    omega (arith, wide, whole, left, length-take (length bytes - n * frame) (drop (n * frame) bytes), length-drop (n * frame) bytes)
+    omega (arith, wide, whole, starts, some, all, suc-mul n frame)
+
+pub frame-fits : (form : SampleForm) (n frame before : ℕ) (bytes : List ℕ) → IsForm form → frame ≡ frame_bytes form
+    → before ≡ channel_bytes form → n < form.frames → length bytes ≡ group_bytes form
+    → width form.coding ≤ length (take (length bytes - (n * frame + before)) (drop (n * frame + before) bytes))
+frame-fits form n frame before bytes is whole starts less size =
+    let there = frame-there form n frame before bytes is whole starts less size in
+    omega (
+      arith,
+      there,
+      length-take (length bytes - (n * frame + before)) (drop (n * frame + before) bytes),
+      length-drop (n * frame + before) bytes,
+    )
 
 -- the frames of a buffer are the first ones of all bytes
 same-sum : (form : SampleForm) (n : ℕ) (bytes left : List ℕ) → IsForm form → n * frame_bytes form ≤ length bytes
@@ -48,14 +62,17 @@ same-sum : (form : SampleForm) (n : ℕ) (bytes left : List ℕ) → IsForm form
 unfolding sum_of
 same-sum form zero bytes left is enough = refl
 same-sum form (suc n) bytes left is enough =
-    let frame : width form.coding ≤ frame_bytes form = a-frame form.coding form.channels is.one_channel in
+    let frame : channel_bytes form + width form.coding ≤ frame_bytes form =
+    in-frame form.coding form.channel form.channels is.channel in
+    let at : ℕ = n * frame_bytes form + channel_bytes form in
     let more = suc-mul n (frame_bytes form) in
-    let size = length-drop (n * frame_bytes form) bytes in
+    let size = length-drop at bytes in
     let first : n * frame_bytes form ≤ length bytes = omega (arith, more, enough) in
-    let long : width form.coding ≤ length (drop (n * frame_bytes form) bytes) = omega (arith, more, enough, size, frame) in
+    let there : at ≤ length bytes = omega (arith, more, enough, frame) in
+    let long : width form.coding ≤ length (drop at bytes) = omega (arith, more, enough, size, frame) in
     ap₂ (λ (a b : ℕ). a + b) (same-sum form n bytes left is first)
-    (ap (λ xs. height (sample_at form.coding xs)) (drop-append-le (n * frame_bytes form) bytes left first)
-    ∙ ap height (same-sample form.coding (drop (n * frame_bytes form) bytes) left long))
+    (ap (λ xs. height (sample_at form.coding xs)) (drop-append-le at bytes left there)
+    ∙ ap height (same-sample form.coding (drop at bytes) left long))
 
 same-mean : (form : SampleForm) (bytes left : List ℕ) → IsForm form → length bytes ≡ group_bytes form
     → mean_sample form (bytes ++ left) ≡ mean_sample form bytes

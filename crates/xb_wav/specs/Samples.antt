@@ -1,12 +1,12 @@
 -- The samples that bytes write, 8,000 of them a second.
-use Rattle.std.specs.Prelude.{ℕ, zero, suc, ◌+◌, ◌-◌, ◌*◌, ◌/◌, ◌≤◌, List, [], ◌∷◌, drop, length, min, ℤ, pos, ◌+ℤ◌, ◌-ℤ◌, unsigned_abs, Bool, if◌then◌else◌}
+use Rattle.std.specs.Prelude.{ℕ, zero, suc, ◌+◌, ◌-◌, ◌*◌, ◌/◌, ◌<◌, ◌≤◌, List, [], ◌∷◌, drop, length, min, ℤ, pos, ◌+ℤ◌, ◌-ℤ◌, unsigned_abs, Bool, if◌then◌else◌}
 use Rattle.xb_riff.specs.Codings.{sample_at, width}
 use Rattle.xb_wav.specs.declared.coding.SampleForm.{SampleForm}
 use Rattle.xb_wav.specs.declared.coding.TheConstants.{MOST_CHANNELS, MOST_FRAMES}
 
--- there is a channel, and a frame of it
+-- there are channels, of which one is heard, and a frame of them
 pub record IsForm (form : SampleForm) : Type 0 where
-  pub one_channel : 1 ≤ form.channels
+  pub channel : form.channel < form.channels
   pub channels : form.channels ≤ MOST_CHANNELS
   pub one_frame : 1 ≤ form.frames
   pub frames : form.frames ≤ MOST_FRAMES
@@ -19,14 +19,20 @@ frame_bytes form = width form.coding * form.channels
 abbrev pub group_bytes : SampleForm → ℕ
 group_bytes form = frame_bytes form * form.frames
 
+-- where the channel that is heard stands in a frame
+abbrev pub channel_bytes : SampleForm → ℕ
+channel_bytes form = width form.coding * form.channel
+
 -- a sample, counted from the least that there is
 abbrev pub height : ℤ → ℕ
 height sample = unsigned_abs (sample +ℤ pos 32768)
 
--- what the first n frames have in their first channel, all together
+-- what the first n frames have in the channel that is heard, all together
 unfoldable pub sum_of : SampleForm → ℕ → List ℕ → ℕ
 sum_of form zero bytes = 0
-sum_of form (suc n) bytes = sum_of form n bytes + height (sample_at form.coding (drop (n * frame_bytes form) bytes))
+sum_of form (suc n) bytes =
+    sum_of form n bytes
+    + height (sample_at form.coding (drop (n * frame_bytes form + channel_bytes form) bytes))
 
 -- the mean of the frames that make one sample, rounded down
 abbrev pub mean_sample : SampleForm → List ℕ → ℤ

@@ -14,8 +14,9 @@ use Rattle.xb_wav.specs.declared.wav_start.OpenFault.TheVariants as open_fault
 use Rattle.xb_wav.specs.declared.wav_start.TheConstants.{UNKNOWN_SAMPLES}
 use Rattle.xb_wav.specs.Samples.{group_bytes}
 
-abbrev pub form_with : Coding → ℕ → ℕ → SampleForm
-form_with how channels frames = record { coding = how; channels = channels; frames = frames }
+abbrev pub form_with : Coding → ℕ → ℕ → ℕ → SampleForm
+form_with how channels channel frames =
+    record { coding = how; channels = channels; channel = channel; frames = frames }
 
 -- how many samples make one of 8,000 a second: the rate is a multiple of that
 abbrev pub frames_of : ℕ → Option ℕ
@@ -27,13 +28,16 @@ abbrev pub start_by : SampleForm → Option ℕ → Start
 start_by form (Some bytes) = record { form = form; samples = bytes / group_bytes form; counted = true }
 start_by form None = record { form = form; samples = UNKNOWN_SAMPLES; counted = false }
 
-abbrev pub start_at : WavFormat → Option ℕ → Result Start WavFault
-start_at format None = Err (fault.Rate format.rate)
-start_at format (Some frames) = Ok (start_by (form_with format.coding format.channels frames) format.length)
+abbrev pub start_at : WavFormat → ℕ → Option ℕ → Result Start WavFault
+start_at format channel None = Err (fault.Rate format.rate)
+start_at format channel (Some frames) =
+    if nat_lt channel format.channels
+    then Ok (start_by (form_with format.coding format.channels channel frames) format.length)
+    else Err (fault.Channel format.channels)
 
--- what samples that are so begin with
-abbrev pub start_with : WavFormat → Result Start WavFault
-start_with format = start_at format (frames_of format.rate)
+-- what samples that are so begin with, of which this channel is heard, counted from 0
+abbrev pub start_with : ℕ → WavFormat → Result Start WavFault
+start_with channel format = start_at format channel (frames_of format.rate)
 
 -- what a file says of its samples, and the bytes from there on
 abbrev pub format_by : Result Samples HeadFault → Result (WavFormat × List ℕ) WavFault
@@ -47,12 +51,12 @@ abbrev pub start_and : Result Start WavFault → List ℕ → Result (Start × L
 start_and (Err f) rest = Err f
 start_and (Ok start) rest = Ok (start, rest)
 
-abbrev pub start_after : Result (WavFormat × List ℕ) WavFault → Result (Start × List ℕ) WavFault
-start_after (Err f) = Err f
-start_after (Ok (format, rest)) = start_and (start_with format) rest
+abbrev pub start_after : ℕ → Result (WavFormat × List ℕ) WavFault → Result (Start × List ℕ) WavFault
+start_after channel (Err f) = Err f
+start_after channel (Ok (format, rest)) = start_and (start_with channel format) rest
 
-abbrev pub start_of_file : List ℕ → Result (Start × List ℕ) WavFault
-start_of_file bytes = start_after (format_of_file bytes)
+abbrev pub start_of_file : ℕ → List ℕ → Result (Start × List ℕ) WavFault
+start_of_file channel bytes = start_after channel (format_of_file bytes)
 
 -- what is returned where the file's bytes are known, and what is left of them
 abbrev pub Opens : {A : Type 0} → Option (List ℕ) → (List ℕ → Result (A × List ℕ) WavFault) → Result A OpenFault

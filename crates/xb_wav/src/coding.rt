@@ -1,6 +1,6 @@
 // How a sound is written in bytes.
 ghost use Rattle.std.specs.Prelude.{◌≡◌, ◌≤◌, length};
-ghost use Rattle.xb_wav.specs.Samples.{IsForm, frame_bytes, group_bytes, height, mean_sample};
+ghost use Rattle.xb_wav.specs.Samples.{IsForm, channel_bytes, frame_bytes, group_bytes, height, mean_sample};
 
 use xb_riff::Coding;
 
@@ -18,8 +18,10 @@ pub(crate) const MOST_GROUP_BYTES: usize = 384;
 pub struct SampleForm {
     /// How each sample is.
     pub coding: Coding,
-    /// How many channels there are, 1 to 8. The first is heard.
+    /// How many channels there are, 1 to 8.
     pub channels: usize,
+    /// Which of them is heard, counted from 0.
+    pub channel: usize,
     /// How many samples of a channel make one of 8,000 a second, 1 to 24.
     pub frames: usize,
 }
@@ -45,6 +47,18 @@ impl SampleForm {
         }
     }
 
+    // How many bytes of a frame stand before the channel that is heard.
+    fn channel_bytes(self) -> usize
+        requires { IsForm self }
+        ensures value { result ≡ channel_bytes self }
+        ensures bound { result ≤ 14 }
+    {
+        match self.coding {
+            Coding::Unsigned8 | Coding::MuLaw => self.channel,
+            Coding::Signed16 => 2 * self.channel,
+        }
+    }
+
     /// How many bytes write one sample of 8,000 a second.
     pub(crate) fn group_bytes(self) -> usize
         requires { IsForm self }
@@ -62,9 +76,10 @@ impl SampleForm {
         ensures { result ≡ mean_sample self bytes.now }
     {
         let frame = self.frame_bytes();
+        let before = self.channel_bytes();
         let mut sum = 0u32;
         for n in 0..self.frames {
-            sum += height(self.coding.sample_of(&bytes[n * frame..]));
+            sum += height(self.coding.sample_of(&bytes[n * frame + before..]));
         }
         let mean = sum / self.frames as u32;
         (mean as i32 - 32_768) as i16

@@ -1,4 +1,4 @@
-//! The samples of a WAV file, or of a stream of samples alone: 8,000 a second, of the first channel.
+//! The samples of a WAV file, or of a stream of samples alone: 8,000 a second, of one channel.
 //!
 //! - `open_wav` reads the head of a WAV file, which it hands to `xb_riff` byte by byte. It gives what the
 //!   file says of its samples. It refuses exactly the files that `start_of_file` refuses, by the fault that
@@ -6,7 +6,8 @@
 //! - `frames_of`: how many samples of a rate make one of 8,000 a second.
 //! - `Source::next_sample` gives the samples that the bytes write (`sound_of`), one by one, and says how many
 //!   are missing where the file ends before them.
-//! - `SampleForm` says how they are written: a `Coding`, one channel to eight, and how many make one.
+//! - `SampleForm` says how they are written: a `Coding`, one channel to eight, which
+//!   of them is heard, and how many make one.
 //!
 //! Nothing takes memory. Contracts speak of bytes only for readers whose bytes a contract can name.
 #![tactic(auto)]

@@ -35,7 +35,7 @@ pub(crate) fn fill<R: Read>(reader: &mut R, buffer: &mut [u8]) -> Result<usize, 
     Ok(at)
 }
 
-/// The samples of a stream that is open: 8,000 a second, of the first channel.
+/// The samples of a stream that is open: 8,000 a second, of one channel.
 #[derive(Drop)]
 pub struct Source<R: Read> {
     /// The stream, which stands at its samples. It is read a few bytes at a time.

@@ -26,6 +26,9 @@ pub enum WavFault {
     /// The samples a second are no multiple of 8,000, or more than 192,000.
     #[error("the chunk \"fmt \" has {0} samples a second, and not a multiple of 8000 up to 192000: sox IN.wav -r 8000 OUT.wav")]
     Rate(u32),
+    /// It has so many channels, and not the one that is asked for.
+    #[error("the chunk \"fmt \" has {0} channels, and --channel names another one")]
+    Channel(u8),
 }
 
 /// Why a file was not opened.
@@ -83,17 +86,22 @@ pub fn frames_of(hz: u32) -> Option<usize>
     }
 }
 
-// What samples that are so begin with.
-fn start_with(format: WavFormat) -> Result<Start, WavFault>
+// What samples that are so begin with, of which this channel is heard.
+fn start_with(format: WavFormat, channel: usize) -> Result<Start, WavFault>
     requires { IsFormat format }
-    ensures value { result ≡ start_with format }
+    ensures value { result ≡ start_with channel format }
     ensures form { IfOk result (λ start. IsForm start.form) }
     ensures most { IfOk result (λ start. start.samples ≤ UNKNOWN_SAMPLES) }
 {
     let frames = frames_of(format.rate).ok_or(WavFault::Rate(format.rate))?;
+    let channels = usize::from(format.channels);
+    if channel >= channels {
+        return Err(WavFault::Channel(format.channels));
+    }
     let form = SampleForm {
         coding: format.coding,
-        channels: usize::from(format.channels),
+        channels,
+        channel,
         frames,
     };
     match format.length {
@@ -130,13 +138,13 @@ fn read_head<R: Read>(reader: &mut R) -> Result<WavFormat, OpenFault>
     Err(OpenFault::Read)
 }
 
-/// Reads what stands before the samples of a WAV file. The reader then stands at them; after an `Err` it stands
-/// somewhere in what was read.
-pub fn open_wav<R: Read>(reader: &mut R) -> Result<Start, OpenFault>
+/// Reads what stands before the samples of a WAV file, of which one channel is heard, counted from 0. The reader then
+/// stands at them; after an `Err` it stands somewhere in what was read.
+pub fn open_wav<R: Read>(reader: &mut R, channel: usize) -> Result<Start, OpenFault>
     ensures form { IfOk result (λ start. IsForm start.form) }
     ensures most { IfOk result (λ start. start.samples ≤ UNKNOWN_SAMPLES) }
-    ensures bytes { Opens (R.remaining reader.old) start_of_file result (R.remaining reader.new) }
+    ensures bytes { Opens (R.remaining reader.old) (start_of_file channel) result (R.remaining reader.new) }
 {
     let format = read_head(reader)?;
-    Ok(start_with(format)?)
+    Ok(start_with(format, channel)?)
 }

@@ -4,28 +4,30 @@ use Rattle.std.proofs.lemmas.Int.{to_z-of_z}
 use Rattle.std.proofs.lemmas.Result.{err_from_is_err_and}
 use Rattle.xb_ear.specs.declared.hearing.Heard.{Heard}
 use Rattle.xb_ear.specs.Hearings.{listed}
-use Rattle.xb_ear.specs.Receivers.{HasReceived, Receiving}
 use Rattle.xb_rx.specs.declared.fault.RxFault.{RxFault}
+use Rattle.xb_rx.specs.declared.listener.Listener.{Listener}
 use Rattle.xb_rx.specs.Hearing.{Hears, outputs}
+use Rattle.xb_rx.specs.Listeners.{HasListened}
 use Rattle.xb_rx.specs.Reports.{reported}
 use Rattle.xb_wav.specs.Samples.{IsForm}
 use Rattle.xb_wav.specs.Streams.{sound_left}
-use Rattle.xb_rx.proofs.SoFar.{so_far-end, so_far-end-fault, so_far-fault, so_far-more, so_far-start, so_far-stop}
+use Rattle.xb_rx.proofs.SoFar.{so_far-end, so_far-end-fault, so_far-end-quiet, so_far-fault, so_far-more, so_far-start, so_far-stop}
 use Rattle.xb_rx.proofs.receiving.hear.Goals as goal
 
 -- the sample as it is passed is the sample
-taken : (old new : Receiving) (x y : ℤ) (key : Option Heard) → x ≡ y
-    → ((samples : List ℤ) (keys : List Heard) → HasReceived old samples keys → HasReceived new (samples ++ x ∷ []) (keys ++ listed key))
-    → (samples : List ℤ) (keys : List Heard) → HasReceived old samples keys → HasReceived new (samples ++ y ∷ []) (keys ++ listed key)
+taken : (old new : Listener) (x y : ℤ) (key : Option Heard) → x ≡ y
+    → ((samples : List ℤ) (keys : List Heard) → HasListened old samples keys → HasListened new (samples ++ x ∷ []) (keys ++ listed key))
+    → (samples : List ℤ) (keys : List Heard) → HasListened old samples keys → HasListened new (samples ++ y ∷ []) (keys ++ listed key)
 taken old new x y key same takes samples keys has =
-    subst (λ (z : ℤ). HasReceived new (samples ++ z ∷ []) (keys ++ listed key)) same (takes samples keys has)
+    subst (λ (z : ℤ). HasListened new (samples ++ z ∷ []) (keys ++ listed key)) same (takes samples keys has)
 
 pub loop-sample-init : goal.loop-sample-init
 loop-sample-init g c = record {
   form = c.requires.form;
   ready = c.requires.ready;
   few = omega (arith, c.requires.none, c.requires.said);
-  so_far = so_far-start (reported c.args.report.now) c.new-receiver.result (sound_left g.R.Read.remaining c.args.source.now) (g.W.Write.contents c.args.out.now) (g.E.Write.contents c.args.err.now) c.new-receiver.ensures;
+  fits = omega (arith, c.new-listener.ensures.count, c.requires.said);
+  so_far = so_far-start (reported c.args.report.now) c.new-listener.result (sound_left g.R.Read.remaining c.args.source.now) (g.W.Write.contents c.args.out.now) (g.E.Write.contents c.args.err.now) c.new-listener.ensures.heard;
 }
 
 pub returns-in_err-sample : goal.returns-in_err-sample
@@ -34,7 +36,7 @@ returns-in_err-sample g c =
     subst (λ (r : Result (Unit {0}) RxFault). Hears (sound_left g.R.Read.remaining c.args.source.now) (reported c.args.report.now) r
     (outputs (g.W.Write.contents c.args.out.now) (g.W.Write.contents c.loop-sample.out) (g.E.Write.contents c.args.err.now) (g.E.Write.contents c.loop-sample.err)))
     (sym (p.1 ∙ ap (λ f. Err f) p.2))
-    (so_far-stop (reported c.args.report.now) (reported c.loop-sample.report) c.loop-sample.receiver (g.W.Write.contents c.args.out.now) (g.W.Write.contents c.loop-sample.out) (g.E.Write.contents c.args.err.now)
+    (so_far-stop (reported c.args.report.now) (reported c.loop-sample.report) c.loop-sample.listener (g.W.Write.contents c.args.out.now) (g.W.Write.contents c.loop-sample.out) (g.E.Write.contents c.args.err.now)
     (g.E.Write.contents c.loop-sample.err) c.in_err-sample.field-0.0
     (sound_left g.R.Read.remaining c.args.source.now) (sound_left g.R.Read.remaining c.loop-sample.source)
     (sound_left g.R.Read.remaining c.next_sample.new.self) c.loop-sample.invariant.so_far c.in_err-sample.ensures.sample)
@@ -46,12 +48,13 @@ loop-sample-preserved g c =
       form = subst IsForm (sym c.in_ok-sample.ensures.form) c.loop-sample.invariant.form;
       ready = c.in_ok-take.ensures.ready;
       few = omega (arith, less, c.in_ok-take.ensures.count, c.loop-sample.invariant.few);
-      so_far = so_far-more (reported c.args.report.now) (reported c.loop-sample.report) c.loop-sample.receiver (g.W.Write.contents c.args.out.now) (g.W.Write.contents c.loop-sample.out) (g.E.Write.contents c.args.err.now)
+      fits = omega (arith, less, c.take-key.ensures.count, c.loop-sample.invariant.fits);
+      so_far = so_far-more (reported c.args.report.now) (reported c.loop-sample.report) c.loop-sample.listener (g.W.Write.contents c.args.out.now) (g.W.Write.contents c.loop-sample.out) (g.E.Write.contents c.args.err.now)
           (g.E.Write.contents c.loop-sample.err) (reported c.take.new.self) c.take-key.new.self
           c.in-Some.sample c.take-key.result (sound_left g.R.Read.remaining c.args.source.now) (sound_left g.R.Read.remaining c.loop-sample.source)
           (sound_left g.R.Read.remaining c.next_sample.new.self) _ _
           c.loop-sample.invariant.so_far (rw c.in-Some.is at c.in_ok-sample.ensures.sample)
-          (taken c.loop-sample.receiver c.take-key.new.self _ c.in-Some.sample c.take-key.result (to_z-of_z w16 c.in-Some.sample fits) c.take-key.ensures) c.in_ok-take.ensures.page c.in_ok-take.ensures.told;
+          (taken c.loop-sample.listener c.take-key.new.self _ c.in-Some.sample c.take-key.result (to_z-of_z w16 c.in-Some.sample fits) c.take-key.ensures.heard) c.in_ok-take.ensures.page c.in_ok-take.ensures.told;
     }
 
 pub returns-in_err-take : goal.returns-in_err-take
@@ -61,12 +64,12 @@ returns-in_err-take g c =
     subst (λ (r : Result (Unit {0}) RxFault). Hears (sound_left g.R.Read.remaining c.args.source.now) (reported c.args.report.now) r
     (outputs (g.W.Write.contents c.args.out.now) (g.W.Write.contents c.take.new.out) (g.E.Write.contents c.args.err.now) (g.E.Write.contents c.take.new.err)))
     (sym (p.1 ∙ ap (λ f. Err f) p.2))
-    (so_far-fault (reported c.args.report.now) (reported c.loop-sample.report) c.loop-sample.receiver (g.W.Write.contents c.args.out.now) (g.W.Write.contents c.loop-sample.out) (g.E.Write.contents c.args.err.now)
+    (so_far-fault (reported c.args.report.now) (reported c.loop-sample.report) c.loop-sample.listener (g.W.Write.contents c.args.out.now) (g.W.Write.contents c.loop-sample.out) (g.E.Write.contents c.args.err.now)
     (g.E.Write.contents c.loop-sample.err) (reported c.take.new.self) c.take-key.new.self
     c.in-Some.sample c.take-key.result c.in_err-take.field-0.0 (sound_left g.R.Read.remaining c.args.source.now) (sound_left g.R.Read.remaining c.loop-sample.source)
     (sound_left g.R.Read.remaining c.next_sample.new.self) _ _
     c.loop-sample.invariant.so_far (rw c.in-Some.is at c.in_ok-sample.ensures.sample)
-    (taken c.loop-sample.receiver c.take-key.new.self _ c.in-Some.sample c.take-key.result (to_z-of_z w16 c.in-Some.sample fits) c.take-key.ensures) c.in_err-take.ensures.page c.in_err-take.ensures.told)
+    (taken c.loop-sample.listener c.take-key.new.self _ c.in-Some.sample c.take-key.result (to_z-of_z w16 c.in-Some.sample fits) c.take-key.ensures.heard) c.in_err-take.ensures.page c.in_err-take.ensures.told)
 
 pub returns-in_err-end : goal.returns-in_err-end
 returns-in_err-end g c =
@@ -74,16 +77,28 @@ returns-in_err-end g c =
     subst (λ (r : Result (Unit {0}) RxFault). Hears (sound_left g.R.Read.remaining c.args.source.now) (reported c.args.report.now) r
     (outputs (g.W.Write.contents c.args.out.now) (g.W.Write.contents c.end.new.out) (g.E.Write.contents c.args.err.now) (g.E.Write.contents c.end.new.err)))
     (sym (p.1 ∙ ap (λ f. Err f) p.2))
-    (so_far-end-fault (reported c.args.report.now) (reported c.loop-sample.report) c.loop-sample.receiver (g.W.Write.contents c.args.out.now) (g.W.Write.contents c.loop-sample.out) (g.E.Write.contents c.args.err.now)
+    (so_far-end-fault (reported c.args.report.now) (reported c.loop-sample.report) c.loop-sample.listener (g.W.Write.contents c.args.out.now) (g.W.Write.contents c.loop-sample.out) (g.E.Write.contents c.args.err.now)
     (g.E.Write.contents c.loop-sample.err) c.finish-last.result c.in_err-end.field-0.0
     (sound_left g.R.Read.remaining c.args.source.now) (sound_left g.R.Read.remaining c.loop-sample.source)
     (sound_left g.R.Read.remaining c.next_sample.new.self) _ _ c.loop-sample.invariant.so_far (rw c.in_default.is at c.in_ok-sample.ensures.sample)
     c.finish-last.ensures c.in_err-end.ensures.page c.in_err-end.ensures.told)
 
+pub returns-in_err-tell : goal.returns-in_err-tell
+returns-in_err-tell g c =
+    let p = err_from_is_err_and c.from_residual-in_err-tell.result c.from_residual-in_err-tell.ensures.1 in
+    subst (λ (r : Result (Unit {0}) RxFault). Hears (sound_left g.R.Read.remaining c.args.source.now) (reported c.args.report.now) r
+    (outputs (g.W.Write.contents c.args.out.now) (g.W.Write.contents c.end.new.out) (g.E.Write.contents c.args.err.now) (g.E.Write.contents c.tell.new.err)))
+    (sym (p.1 ∙ ap (λ f. Err f) p.2))
+    (so_far-end-quiet (reported c.args.report.now) (reported c.loop-sample.report) c.loop-sample.listener (g.W.Write.contents c.args.out.now) (g.W.Write.contents c.loop-sample.out) (g.E.Write.contents c.args.err.now)
+    (g.E.Write.contents c.loop-sample.err) c.finish-last.result c.in_err-tell.field-0.0
+    (sound_left g.R.Read.remaining c.args.source.now) (sound_left g.R.Read.remaining c.loop-sample.source)
+    (sound_left g.R.Read.remaining c.next_sample.new.self) _ _ _ c.loop-sample.invariant.so_far (rw c.in_default.is at c.in_ok-sample.ensures.sample)
+    c.finish-last.ensures c.in_ok-end.ensures.page c.in_ok-end.ensures.told c.in_err-tell.ensures)
+
 pub returns : goal.returns
 returns g c =
-    so_far-end (reported c.args.report.now) (reported c.loop-sample.report) c.loop-sample.receiver (g.W.Write.contents c.args.out.now) (g.W.Write.contents c.loop-sample.out) (g.E.Write.contents c.args.err.now)
+    so_far-end (reported c.args.report.now) (reported c.loop-sample.report) c.loop-sample.listener (g.W.Write.contents c.args.out.now) (g.W.Write.contents c.loop-sample.out) (g.E.Write.contents c.args.err.now)
     (g.E.Write.contents c.loop-sample.err) c.finish-last.result
     (sound_left g.R.Read.remaining c.args.source.now) (sound_left g.R.Read.remaining c.loop-sample.source)
-    (sound_left g.R.Read.remaining c.next_sample.new.self) _ _ c.loop-sample.invariant.so_far (rw c.in_default.is at c.in_ok-sample.ensures.sample)
-    c.finish-last.ensures c.in_ok-end.ensures.page c.in_ok-end.ensures.told
+    (sound_left g.R.Read.remaining c.next_sample.new.self) _ _ _ c.loop-sample.invariant.so_far (rw c.in_default.is at c.in_ok-sample.ensures.sample)
+    c.finish-last.ensures c.in_ok-end.ensures.page c.in_ok-end.ensures.told c.in_ok-tell.ensures

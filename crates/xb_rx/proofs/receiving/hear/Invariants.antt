@@ -12,7 +12,8 @@ invariant-loop-sample g l = record {
   form : IsForm l.source.form;
   ready : IsReady (reported l.report);
   few : count_of (reported l.report) + l.source.said ≤ UNKNOWN_SAMPLES;
-  so_far : IsSoFar (reported l.initial.report) (reported l.report) l.receiver (sound_left g.R.Read.remaining l.initial.source) (sound_left g.R.Read.remaining l.source) (outputs (g.W.Write.contents l.initial.out) (g.W.Write.contents l.out) (g.E.Write.contents l.initial.err) (g.E.Write.contents l.err));
+  fits : l.listener.meter.samples + l.source.said ≤ UNKNOWN_SAMPLES;
+  so_far : IsSoFar (reported l.initial.report) (reported l.report) l.listener (sound_left g.R.Read.remaining l.initial.source) (sound_left g.R.Read.remaining l.source) (outputs (g.W.Write.contents l.initial.out) (g.W.Write.contents l.out) (g.E.Write.contents l.initial.err) (g.E.Write.contents l.err));
 }
 
 abbrev pub decreases-loop-sample : goal.decreases-loop-sample

@@ -1,0 +1,20 @@
+-- What is told of a sound without a key.
+use Rattle.std.proofs.Common.{◌≡◌, true, false, List, [], ◌∷◌, ◌++◌, ℤ, Option, Some, None, refl}
+use Rattle.xb_ear.specs.declared.hearing.Heard.{Heard}
+use Rattle.xb_ear.specs.Hearings.{listed}
+use Rattle.xb_measured.specs.Meters.{metered, quiet_line}
+use Rattle.xb_rx.specs.Listeners.{is_keyed, is_keyed_with, quiet_text}
+
+pub keyed-more : (keys : List Heard) (key : Option Heard) → is_keyed_with (is_keyed keys) key ≡ is_keyed (keys ++ listed key)
+keyed-more [] None = refl
+keyed-more [] (Some key) = refl
+keyed-more (k ∷ keys) key = refl
+
+pub keyed-quiet : (samples : List ℤ) (keys : List Heard) → is_keyed keys ≡ true → quiet_text samples keys ≡ []
+keyed-quiet samples [] is = absurd (cc)
+keyed-quiet samples (key ∷ keys) is = refl
+
+pub unkeyed-quiet : (samples : List ℤ) (keys : List Heard) → is_keyed keys ≡ false
+    → quiet_text samples keys ≡ quiet_line (metered samples)
+unkeyed-quiet samples [] is = refl
+unkeyed-quiet samples (key ∷ keys) is = absurd (cc)

@@ -1,0 +1,27 @@
+use Rattle.std.proofs.Common.{◌≡◌, ◌∙◌, ◌++◌, Bool, List, ℤ, ap, string_bytes, sym}
+use Rattle.std.proofs.lemmas.Result.{IfOk-weaker}
+use Rattle.xb_ear.specs.declared.hearing.Heard.{Heard}
+use Rattle.xb_ear.specs.Hearings.{listed}
+use Rattle.xb_measured.specs.Meters.{Metered, quiet_line}
+use Rattle.xb_rx.specs.Listeners.{HasListened, is_keyed_with, quiet_text}
+use Rattle.xb_rx.proofs.Listened.{keyed-more, keyed-quiet, unkeyed-quiet}
+use Rattle.xb_rx.proofs.listener.Listener.quiet_text.Goals as goal
+
+pub returns-then-is_keyed : goal.returns-then-is_keyed
+returns-then-is_keyed c = λ samples keys has.
+    c.new.ensures.bytes
+    ∙ sym (keyed-quiet samples (keys ++ listed c.args.last)
+    (sym (keyed-more keys c.args.last) ∙ ap (λ (b : Bool). is_keyed_with b c.args.last) (sym has.keyed)
+    ∙ sym c.is_keyed_with-is_keyed.ensures ∙ c.if-is_keyed.true))
+
+pub returns-else-is_keyed : goal.returns-else-is_keyed
+returns-else-is_keyed c =
+    IfOk-weaker c.quiet_line.result
+    (λ text. string_bytes text ≡ quiet_line c.args.self.now.meter)
+    (λ text. (samples : List ℤ) (keys : List Heard) → HasListened c.args.self.now samples keys
+    → string_bytes text ≡ quiet_text samples (keys ++ listed c.args.last))
+    (λ text e samples keys has. e ∙ ap (λ (m : Metered). quiet_line m) has.metered
+    ∙ sym (unkeyed-quiet samples (keys ++ listed c.args.last)
+    (sym (keyed-more keys c.args.last) ∙ ap (λ (b : Bool). is_keyed_with b c.args.last) (sym has.keyed)
+    ∙ sym c.is_keyed_with-is_keyed.ensures ∙ c.if-is_keyed.false)))
+    c.quiet_line.ensures

@@ -1,0 +1,21 @@
+use Rattle.std.proofs.Common.{◌∙◌, ◌∷◌, [], ◌++◌, Bool, ℤ, ap, rules, subst, FitsSigned}
+use Rattle.std.specs.Int.{w16}
+use Rattle.std.proofs.lemmas.Int.{to_z-of_z}
+use Rattle.xb_ear.specs.Hearings.{listed}
+use Rattle.xb_ear.specs.Receivers.{HasReceived}
+use Rattle.xb_measured.specs.Meters.{metered}
+use Rattle.xb_rx.specs.Listeners.{is_keyed_with}
+use Rattle.xb_rx.proofs.Listened.{keyed-more}
+use Rattle.xb_rx.proofs.listener.Listener.take.Goals as goal
+
+pub returns-clause-heard : goal.returns-clause-heard
+returns-clause-heard c = λ samples keys has.
+    let fits : FitsSigned w16 c.args.sample = search rules in
+    let same = to_z-of_z w16 c.args.sample fits in record {
+      received = subst (λ (z : ℤ). HasReceived c.take-key.new.self (samples ++ z ∷ []) (keys ++ listed c.take-key.result)) same
+          (c.take-key.ensures samples keys has.received);
+      metered = c.take.ensures.more samples has.metered ∙ ap (λ (z : ℤ). metered (samples ++ z ∷ [])) same;
+      keyed = c.is_keyed_with-self.ensures
+          ∙ ap (λ (b : Bool). is_keyed_with b c.take-key.result) has.keyed
+          ∙ keyed-more keys c.take-key.result;
+    }
