@@ -57,8 +57,8 @@ const FAULTY: &[u8] =
 const FAULTS: &[u8] = b"deck:4:1: the line is not 0 to 9999: 10000,M,1
 deck:5:3: the state is not M, B or C: 7,X,60
 deck:6:1: the record has not three fields: 7,B
-deck:8:7: the ms are not 0 to 86400000, or not 0 in a close: \"7\",M,86400001
-deck:9:5: the ms are not 0 to 86400000, or not 0 in a close: 7,C,1
+deck:8:7: the ms are not whole ms of 0 to 86400000, or not 0 in a close: \"7\",M,86400001
+deck:9:5: the ms are not whole ms of 0 to 86400000, or not 0 in a close: 7,C,1
 ";
 
 // A deck that `mfbank` takes, with records of a line after its close.
@@ -144,6 +144,23 @@ const NINE_RINGS: &[u8] =
 7,M,25\n8,M,40\n7,B,4000\n8,B,4000\n7,M,25\n8,M,100\n7,B,4000\n8,B,4000\n7,M,25\n8,M,40\n7,B,4000\n\
 9,M,40\n9,B,60\n9,M,180\n";
 
+// A deck of two lines, one of which dials 2 ten times with makes for breaks and breaks for makes, which is no
+// ringing; and one whose line dials 2, 1 and 2 so.
+const EXCHANGED: &[u8] = b"---\nline,state,ms\n8,M,500\n7,M,5000\n7,B,800\n\
+7,M,60\n7,B,40\n7,M,60\n7,B,600\n7,M,60\n7,B,40\n7,M,60\n7,B,600\n\
+7,M,60\n7,B,40\n7,M,60\n7,B,600\n7,M,60\n7,B,40\n7,M,60\n7,B,600\n\
+7,M,60\n7,B,40\n7,M,60\n7,B,600\n7,M,60\n7,B,40\n7,M,60\n7,B,600\n\
+7,M,60\n7,B,40\n7,M,60\n7,B,600\n7,M,60\n7,B,40\n7,M,60\n7,B,600\n\
+7,M,60\n7,B,40\n7,M,60\n7,B,600\n7,M,60\n7,B,40\n7,M,60\n7,B,600\n\
+7,M,4000\n";
+
+const EXCHANGED_TOLD: &[u8] =
+    b"deck:4:1: the M and B of this line look exchanged, since only then a number is dialled on it; see mfloop --inverted: 7,M,5000\n";
+
+const HARDLY_EXCHANGED: &[u8] =
+    b"---\nline,state,ms\n7,M,5000\n7,B,800\n7,M,60\n7,B,40\n7,M,60\n7,B,600\n7,M,60\n7,B,600\n\
+7,M,60\n7,B,40\n7,M,60\n7,B,600\n7,M,4000\n";
+
 // A route table alone, with inline tables.
 const TABLE: &[u8] =
     b"route = [ { code = \"234\", trunk = 17 },\n { plan = 10, trunk = 17, \"code\" = \"2345\" } ]\n";
@@ -214,7 +231,7 @@ const TABS: &[u8] = b"---\nline,state,ms\n7,M,500\n\"7\"\t\"B\"\t\"60\"\n8\tM\t-
 
 const TABS_TOLD: &[u8] =
     b"deck:4:1: the fields are separated by tabs and not by ,: \"7\"?\"B\"?\"60\"
-deck:5:5: the ms are not 0 to 86400000, or not 0 in a close: 8?M?-1
+deck:5:5: the ms are not whole ms of 0 to 86400000, or not 0 in a close: 8?M?-1
 ";
 
 // A deck with CR LF at the ends of some text lines, and CRs alone at those of others.
@@ -283,6 +300,15 @@ const CASES: &[(&[&str], &[u8], u8, &[u8], &[u8])] = &[
     (&[], RINGING, 0, RINGS, b""),
     (&[], NINE_RINGS, 0, b"", b""),
     (&[], MICROSECONDS, 0, TOO_LONG, b""),
+    (&[], EXCHANGED, 0, EXCHANGED_TOLD, b""),
+    (&[], HARDLY_EXCHANGED, 0, b"", b""),
+    (
+        &[],
+        b"---\nline,state,ms\n7,M,500\n7,B,0.06\n",
+        1,
+        b"deck:4:5: a time with a point, where whole ms are wanted; are they seconds?: 7,B,0.06\n",
+        b"mfcheck: loop rows: record 2 has a wrong ms\n",
+    ),
     (
         &[],
         TABLE,
@@ -377,6 +403,13 @@ deck:2:2: pulse_min is over pulse_max:  pulse_max = 119\n",
         b"deck:6:2: no rule names this key; here are code, trunk, delete and prefix \
 (did you mean code?):  cod = \"411\"\n\
 deck:4:1: this route lacks code or trunk, or one of its keys has another kind of value: [[route]]\n",
+        b"mfcheck: route table: route 2 has a wrong shape\n",
+    ),
+    (
+        &[],
+        b"[[route]]\ncode = \"0\"\ntrunk = 1\n[[route]]\ntrunk = 2\n code = 234\n---\n",
+        1,
+        b"deck:6:2: this route lacks code or trunk, or one of its keys has another kind of value:  code = 234\n",
         b"mfcheck: route table: route 2 has a wrong shape\n",
     ),
     (

@@ -1,1 +1,2 @@
 mod ReportTexts
+mod Doubting

@@ -1,10 +1,11 @@
 -- What is suspicious in a deck that is taken, beside what its text lines have by themselves.
-use Rattle.std.specs.Prelude.{ℕ, List, [], ◌++◌, Bool, if◌then◌else◌, Option, Some, None}
+use Rattle.std.specs.Prelude.{ℕ, List, ◌++◌, Bool, if◌then◌else◌, Option, Some, None}
 use Rattle.std.specs.List.{flat_map}
 use Rattle.xb_deck.specs.Contents.{Contents}
 use Rattle.xb_doubts.specs.declared.units.Unit.{Unit}
 use Rattle.xb_doubts.specs.declared.units.Unit.TheVariants as unit
 use Rattle.xb_doubts.specs.Activities.{Does, activities, is_quiet_line}
+use Rattle.xb_doubts.specs.Exchanged.{WhichExchanged, is_line_of, looks_exchanged, straight_rows}
 use Rattle.xb_doubts.specs.Ringing.{is_ringing}
 use Rattle.xb_doubts.specs.Units.{wrong_unit}
 use Rattle.xb_findings.specs.declared.finding.What.{What}
@@ -31,21 +32,31 @@ abbrev pub doubts_of_rows : Option Unit → Bool → ℕ → List ℕ → List F
 doubts_of_rows other rings n text =
     found_at n text (with_meant (what_of_unit other) None) ++ found_at n text (with_meant (what_of_ringing rings) None)
 
+-- what is suspicious in a line of the office, which has no attempt, or whose makes and breaks look exchanged
+abbrev pub what_of_line : Bool → Bool → Option What
+what_of_line quiet exchanged =
+    if quiet then Some what.Quiet
+    else if exchanged then Some what.Exchanged
+    else None
+
 -- what is suspicious at a text line, by what it is: beside the header the unit of the times is told and that lines ring,
--- and at its first record a line that has no attempt
-abbrev pub doubt_of : Option Unit → Bool → Does → ℕ → List ℕ → LineKind → List Found
-doubt_of other rings does n text kind.Header = doubts_of_rows other rings n text
-doubt_of other rings does n text (kind.First line) =
-    if is_quiet_line does line then found_at n text (Some (what.Quiet, None)) else []
+-- and a line of the office at its first record
+abbrev pub doubt_of : Option Unit → Bool → Does → WhichExchanged → ℕ → List ℕ → LineKind → List Found
+doubt_of other rings does which n text kind.Header = doubts_of_rows other rings n text
+doubt_of other rings does which n text (kind.First line) =
+    found_at n text (with_meant (what_of_line (is_quiet_line does line) (is_line_of which line)) None)
 
-abbrev pub doubt_at : Option Unit → Bool → Does → Kept → List Found
-doubt_at other rings does kept = doubt_of other rings does kept.n kept.text kept.kind
+abbrev pub doubt_at : Option Unit → Bool → Does → WhichExchanged → Kept → List Found
+doubt_at other rings does which kept = doubt_of other rings does which kept.n kept.text kept.kind
 
--- what is suspicious in a deck with these contents, at these text lines
+-- what is suspicious in a deck with these contents, at these text lines; the unit and ringing are those of the
+-- lines that do not look exchanged
 abbrev pub doubts_in : Contents → List Kept → List Found
 doubts_in contents kept =
     let limits = contents.table.limits in
-    flat_map (doubt_at (wrong_unit limits contents.rows) (is_ringing limits contents.rows) (activities contents.rows)) kept
+    let straight = straight_rows limits contents.rows in
+    flat_map (doubt_at (wrong_unit limits straight) (is_ringing limits straight) (activities contents.rows)
+    (looks_exchanged limits contents.rows)) kept
 
 -- what is suspicious in a deck with these contents
 abbrev pub doubts_of : Contents → List ℕ → List Found

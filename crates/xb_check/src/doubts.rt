@@ -1,14 +1,15 @@
 // What is suspicious in a deck that is taken, beside what its text lines have by themselves.
 ghost use Rattle.std.specs.Prelude.{◌≡◌, OnOk, map};
 ghost use Rattle.std.specs.List.{flat_map};
-ghost use Rattle.xb_check.specs.Doubts.{doubt_at, doubts_in, doubts_of_rows, what_of_ringing, what_of_unit};
+ghost use Rattle.xb_check.specs.Doubts.{doubt_at, doubts_in, doubts_of_rows, what_of_line, what_of_ringing, what_of_unit};
 ghost use Rattle.xb_doubts.specs.Activities.{activities_of};
+ghost use Rattle.xb_doubts.specs.Exchanged.{which_of};
 ghost use Rattle.xb_findings.specs.Kept.{kept_line_of};
 ghost use Rattle.xb_findings.specs.Tallies.{tallied, with_all};
 
 use crate::judging::Contents;
 use std::alloc::{AllocError, Global};
-use xb_doubts::{Activities, Unit, Whole, whole_of};
+use xb_doubts::{Activities, Exchanged, Unit, Whole, whole_of};
 use xb_findings::{KeptLine, LineKind, Tally, What, push_found, without_key};
 
 // Of which other unit the times look.
@@ -49,24 +50,36 @@ fn push_whole<'a>(
     )
 }
 
+// What is suspicious in a line of the office.
+fn what_of_line(is_quiet: bool, is_exchanged: bool) -> Option<What>
+    ensures { result ≡ what_of_line is_quiet is_exchanged }
+{
+    if is_quiet {
+        Some(What::Quiet)
+    } else if is_exchanged {
+        Some(What::Exchanged)
+    } else {
+        None
+    }
+}
+
 // Puts what is suspicious at a text line after what was found.
 fn push_doubt<'a>(
     tally: &mut Tally<'a>,
     whole: Whole,
     lines: &Activities,
+    exchanged: &Exchanged,
     kept: KeptLine<'a>,
 ) -> Result<(), AllocError>
     ensures { OnOk result (tallied tally.new ≡ with_all (tallied tally.old)
-        (doubt_at whole.unit whole.is_ringing (activities_of lines.now) (kept_line_of kept.entry))) }
+        (doubt_at whole.unit whole.is_ringing (activities_of lines.now) (which_of exchanged.now)
+        (kept_line_of kept.entry))) }
 {
     match kept.kind {
         LineKind::Header => push_whole(tally, whole, kept.n, kept.text),
         LineKind::First(number) => {
-            if lines.is_quiet(number) {
-                push_found(tally, kept.n, kept.text, Some((What::Quiet, None)))
-            } else {
-                Ok(())
-            }
+            let what = what_of_line(lines.is_quiet(number), exchanged.is_exchanged(number));
+            push_found(tally, kept.n, kept.text, without_key(what))
         }
     }
 }
@@ -76,13 +89,15 @@ fn push_each<'a>(
     tally: &mut Tally<'a>,
     whole: Whole,
     lines: &Activities,
+    exchanged: &Exchanged,
     kept: &[KeptLine<'a>],
 ) -> Result<(), AllocError>
     ensures { OnOk result (tallied tally.new ≡ with_all (tallied tally.old)
-        (flat_map (doubt_at whole.unit whole.is_ringing (activities_of lines.now)) (map kept_line_of kept.now))) }
+        (flat_map (doubt_at whole.unit whole.is_ringing (activities_of lines.now) (which_of exchanged.now))
+        (map kept_line_of kept.now))) }
 {
     for line in kept {
-        push_doubt(tally, whole, lines, *line)?;
+        push_doubt(tally, whole, lines, exchanged, *line)?;
     }
     Ok(())
 }
@@ -97,7 +112,10 @@ pub(crate) fn push_doubts<'a>(
     ensures { OnOk result (tallied tally.new ≡ with_all (tallied tally.old)
         (doubts_in contents.now (map kept_line_of kept.now))) }
 {
-    let whole = whole_of(alloc, contents.limits(), contents.rows())?;
-    let lines = Activities::of_rows(alloc, contents.rows())?;
-    push_each(tally, whole, &lines, kept)
+    let (limits, rows) = (contents.limits(), contents.rows());
+    let exchanged = Exchanged::of_rows(alloc, limits, rows)?;
+    let straight = exchanged.rows_of_others(alloc, rows)?;
+    let whole = whole_of(alloc, limits, &straight)?;
+    let lines = Activities::of_rows(alloc, rows)?;
+    push_each(tally, whole, &lines, &exchanged, kept)
 }

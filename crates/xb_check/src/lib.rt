@@ -8,8 +8,9 @@
 //!   of a deck (`judged`).
 //! - A deck that is taken is then told of as a whole, at the text lines that were kept (`doubts_of`,
 //!   `specs/Doubts.antt`). Each line of the office with rows but no make that is heard is told at its first
-//!   record. At the header it is told that the times look as if they were of another unit, and that lines
-//!   ring (`wrong_unit` and `is_ringing` of `xb_doubts`).
+//!   record, and each whose makes and breaks look exchanged (`looks_exchanged` of `xb_doubts`). At the header
+//!   it is told of the other lines that the times look as if they were of another unit, and that they ring
+//!   (`wrong_unit` and `is_ringing` there).
 //! - Of a deck that is refused it is told what its fault is about (`told_of_fault` of `xb_findings`).
 //! - `check`, of readers and writers whose bytes contracts know: it is `Ok` exactly where the text is taken,
 //!   and `Refused` has its first fault. In both cases the writer got exactly the lines of what was told

@@ -1,5 +1,5 @@
 -- What is heard on the lines of the office, one after the other.
-use Rattle.std.proofs.Common.{◌≡◌, ◌∙◌, ℕ, ◌+◌, min, Bool, true, false, List, [], ◌∷◌, ◌++◌, refl, ap, sym, arith}
+use Rattle.std.proofs.Common.{◌≡◌, ◌∙◌, ℕ, ◌+◌, min, Bool, true, false, List, [], ◌∷◌, refl, ap, sym, arith}
 use Rattle.std.specs.Prelude.{◌||◌, count_by}
 use Rattle.std.specs.List.{list_any, sum_by}
 use Rattle.std.proofs.lemmas.List.Folds.{list_any-append}
@@ -12,7 +12,7 @@ use Rattle.xb_model.specs.Rows.{LoopRow}
 use Rattle.xb_model.proofs.LinesBelow.{lines_below-more, lines_below-none}
 use Rattle.xb_doubts.specs.declared.heard.Heard.{Heard}
 use Rattle.xb_doubts.specs.declared.counted.Counted.{Counted}
-use Rattle.xb_doubts.specs.Attempts.{attempts_on, has_digit, has_whole_digit, is_ring}
+use Rattle.xb_doubts.specs.Attempts.{attempts_on, has_digit, has_number, has_whole_digit, is_ring}
 use Rattle.xb_doubts.specs.Counted.{counted_below, counted_on, none_counted, with_counted}
 use Rattle.xb_doubts.specs.Heard.{IsHeard, can_dial, heard_below, heard_with, room_below}
 use Rattle.xb_doubts.specs.Runs.{AreToldApart}
@@ -41,9 +41,10 @@ counted_step : (limits : Limits) (rows : List LoopRow) (n : ℕ)
 unfolding counted_below
 counted_step limits rows n =
     let rings = λ (l : ℕ). count_by (is_ring limits) (attempts_on limits rows l) in
-    same_counted _ _ _ _ _ _
+    same_counted _ _ _ _ _ _ _ _
     (any_more (λ l. list_any (has_digit limits) (attempts_on limits rows l)) n)
     (any_more (λ l. list_any (has_whole_digit limits) (attempts_on limits rows l)) n)
+    (any_more (λ l. list_any (has_number limits) (attempts_on limits rows l)) n)
     (capped_more (sum_by rings (lines_below (n + 1))) (sum_by rings (lines_below n)) (rings n) (sum_more rings n))
 
 room_step : (limits : Limits) (rows : List LoopRow) (n : ℕ)

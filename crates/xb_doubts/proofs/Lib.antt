@@ -3,3 +3,4 @@ mod Tails
 mod RowStories
 mod HeardLines
 mod PartRows
+mod BothWays

@@ -1,25 +1,24 @@
 -- What is told of the rows of a line, with one row more before them; and that it is what its attempts are.
-use Rattle.std.proofs.Common.{◌≡◌, ◌∙◌, ℕ, ◌+◌, ◌<◌, ◌≤◌, min, Bool, true, false, cond, eqb, nat_le, nat_lt, List, [], ◌∷◌, ◌++◌, refl, ap, sym, arith, ⊎_elim, Some, None}
+use Rattle.std.proofs.Common.{◌≡◌, ◌∙◌, ℕ, ◌+◌, ◌<◌, Bool, true, false, cond, eqb, nat_le, nat_lt, List, [], ◌∷◌, refl, ap, sym, arith, ⊎_elim, Some}
 use Rattle.std.proofs.Math.Path.{fun_ext}
-use Rattle.std.proofs.lemmas.Bool.{cases_eq, cases_lt, cond-true, cond-false, lt-ltb, le-ltb}
+use Rattle.std.proofs.lemmas.Bool.{cases_eq, cond-true, cond-false}
 use Rattle.std.proofs.lemmas.Bool.Decides.{nat_tests}
 use Rattle.std.specs.Prelude.{◌==◌, ◌||◌, ◌&&◌}
-use Rattle.std.specs.List.{filter, list_any}
+use Rattle.std.specs.List.{filter}
 use Rattle.xb_model.specs.declared.limits.Limits.{Limits}
 use Rattle.xb_model.specs.declared.row.Contact.{Contact}
 use Rattle.xb_model.specs.declared.row.Contact.TheVariants as contact
-use Rattle.xb_model.specs.Records.{Run, attempts_of, ends_train, has_runs, is_break, is_make, is_release, join, joined, pieces_of, reaches_timeout, record_of, record_up_to_close, rows_of, run_of, same_contact, without_first_break}
+use Rattle.xb_model.specs.Records.{Run, has_runs, is_break, is_make, join, joined, pieces_of, record_of, record_up_to_close, rows_of, run_of, same_contact, without_first_break}
 use Rattle.xb_model.specs.Rows.{LoopRow}
 use Rattle.xb_model.specs.Signals.{is_bad_run}
-use Rattle.xb_doubts.specs.declared.counted.Counted.{Counted}
 use Rattle.xb_doubts.specs.declared.judged.Held.{Held}
 use Rattle.xb_doubts.specs.declared.judged.Judged.{Judged}
 use Rattle.xb_doubts.specs.declared.story.Story.{Story}
 use Rattle.xb_doubts.specs.declared.tail.Tail.{Tail}
 use Rattle.xb_doubts.specs.Counted.{counted, counted_on}
 use Rattle.xb_doubts.specs.Heard.{can_dial}
-use Rattle.xb_doubts.specs.Runs.{AreToldApart, capped_ms, held_of, held_run, is_short_make, judged_of}
-use Rattle.xb_doubts.specs.Stories.{counted_before, counted_in, held_for, lasts, stories, stories_with, story_front, story_of, story_of_runs, story_with}
+use Rattle.xb_doubts.specs.Runs.{AreToldApart, capped_ms, held_of, held_run, judged_of}
+use Rattle.xb_doubts.specs.Stories.{counted_before, counted_in, lasts, stories, stories_with, story_front, story_of, story_of_runs, story_with}
 use Rattle.xb_doubts.specs.Tails.{tail_of, tail_with}
 use Rattle.xb_doubts.proofs.Tails.{counted_filtered, tail_step}
 
@@ -41,14 +40,14 @@ bad_capped limits small contact.Brk ms =
     ∙ ap (λ high. nat_lt ms limits.pulse_min || high) (over_capped limits.pulse_max ms small.pulse_max)
 bad_capped limits small contact.Close ms = refl
 
-same_judged : (a b c d e f g h i j : Bool) → a ≡ b → c ≡ d → e ≡ f → g ≡ h → i ≡ j
-    → (let left : Judged = record { releases = a; times_out = c; ends_digit = e; spoils = g; is_short = i } in left)
-    ≡ (record { releases = b; times_out = d; ends_digit = f; spoils = h; is_short = j })
-same_judged a b c d e f g h i j p q r s t = rw (p, q, r, s, t) refl
+same_judged : (a b c d e f g h i j k : Bool) → a ≡ b → c ≡ d → e ≡ f → g ≡ h → i ≡ j
+    → (let left : Judged = record { releases = a; times_out = c; ends_digit = e; spoils = g; is_short = i; is_break = k } in left)
+    ≡ (record { releases = b; times_out = d; ends_digit = f; spoils = h; is_short = j; is_break = k })
+same_judged a b c d e f g h i j k p q r s t = rw (p, q, r, s, t) refl
 
 pub judged_capped : (limits : Limits) → AreToldApart limits → (run : Run)
     → judged_of limits (held_run (held_of run)) ≡ judged_of limits run
-judged_capped limits small run = same_judged _ _ _ _ _ _ _ _ _ _
+judged_capped limits small run = same_judged _ _ _ _ _ _ _ _ _ _ (is_break run)
     (ap (λ long. is_break run && long) (le_capped limits.release run.ms small.release))
     (ap (λ long. is_make run && long) (le_capped limits.timeout run.ms small.timeout))
     (ap (λ long. is_make run && long) (le_capped limits.pause run.ms small.pause))

@@ -3,10 +3,13 @@ use Rattle.std.specs.Prelude.{ℕ, ◌&&◌, not, nat_le, List, [], ◌∷◌, B
 use Rattle.std.specs.List.{list_any, sum_by}
 use Rattle.xb_model.specs.declared.limits.Limits.{Limits}
 use Rattle.xb_model.specs.declared.line.TheConstants.{LINES}
+use Rattle.xb_model.specs.declared.signal.TheConstants.{MOST_PULSES}
 use Rattle.xb_model.specs.Lines.{lines_below}
 use Rattle.xb_model.specs.Records.{Attempt, Run, Train, attempts_of, record_of, trains_of}
 use Rattle.xb_model.specs.Rows.{LoopRow}
-use Rattle.xb_model.specs.Signals.{is_bad_train}
+use Rattle.xb_model.specs.Signals.{breaks_in, is_bad_train}
+use Rattle.xb_doubts.specs.declared.counted.TheConstants.{LEAST_DIGITS}
+use Rattle.xb_doubts.specs.declared.trains.TheConstants.{LEAST_PULSES}
 use Rattle.xb_doubts.specs.Runs.{is_short_make}
 
 abbrev pub has_trains : List Train → Bool
@@ -24,6 +27,15 @@ is_whole limits train = not (is_bad_train limits train)
 -- an attempt in which such a digit is dialled
 abbrev pub has_whole_digit : Limits → Attempt → Bool
 has_whole_digit limits attempt = list_any (is_whole limits) (trains_of limits attempt.runs)
+
+-- such a digit of two to ten pulses, so that no single contact makes it
+abbrev pub is_clear : Limits → Train → Bool
+is_clear limits train =
+    is_whole limits train && (nat_le LEAST_PULSES (breaks_in train) && nat_le (breaks_in train) MOST_PULSES)
+
+-- an attempt in which three or more of these are dialled
+abbrev pub has_number : Limits → Attempt → Bool
+has_number limits attempt = nat_le LEAST_DIGITS (count_by (is_clear limits) (trains_of limits attempt.runs))
 
 abbrev pub begins_short : List Run → Bool
 begins_short [] = false

@@ -10,4 +10,5 @@ pub mod Stories
 pub mod Parts
 pub mod Heard
 pub mod Units
+pub mod Exchanged
 pub mod Constants

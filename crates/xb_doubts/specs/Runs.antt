@@ -1,7 +1,7 @@
 -- The runs of a line's record, and what each is by the limits.
-use Rattle.std.specs.Prelude.{ℕ, ◌<◌, ◌&&◌, nat_lt, min, List, [], ◌∷◌, Bool, Option, Some, None}
+use Rattle.std.specs.Prelude.{ℕ, ◌<◌, ◌&&◌, nat_lt, min, Bool}
 use Rattle.xb_model.specs.declared.limits.Limits.{Limits}
-use Rattle.xb_model.specs.Records.{Run, ends_train, is_make, is_release, reaches_timeout, run_of}
+use Rattle.xb_model.specs.Records.{Run, ends_train, is_break, is_make, is_release, reaches_timeout, run_of}
 use Rattle.xb_model.specs.Signals.{is_bad_run}
 use Rattle.xb_doubts.specs.declared.judged.Held.{Held}
 use Rattle.xb_doubts.specs.declared.judged.Judged.{Judged}
@@ -28,6 +28,7 @@ judged_of limits run = record {
   ends_digit = ends_train limits run;
   spoils = is_bad_run limits run.contact run.ms;
   is_short = is_short_make run;
+  is_break = is_break run;
 }
 
 -- each limit is a number of 32 bits, so it is under the greatest that is told apart

@@ -8,6 +8,9 @@ use crate::trains::{Trains, told_after};
 /// So many attempts that are as ringing makes them are told of.
 pub(crate) const LEAST_RINGS: u32 = 10;
 
+/// An attempt of so many clear digits is a call, whichever way round the wire was.
+pub(crate) const LEAST_DIGITS: u8 = 3;
+
 /// What attempts are.
 #[derive(Clone, Copy)]
 pub(crate) struct Counted {
@@ -15,6 +18,8 @@ pub(crate) struct Counted {
     pub(crate) dials: bool,
     /// Whether one is that no pulse spoils.
     pub(crate) dials_whole: bool,
+    /// Whether three clear digits are dialled in one.
+    pub(crate) numbers: bool,
     /// How many are as ringing makes them, up to ten.
     pub(crate) rings: u32,
 }
@@ -26,6 +31,7 @@ pub(crate) fn none_counted() -> Counted
     Counted {
         dials: false,
         dials_whole: false,
+        numbers: false,
         rings: 0,
     }
 }
@@ -39,6 +45,7 @@ pub(crate) fn counted_attempt(run: Judged, trains: Trains) -> Counted
     Counted {
         dials: heard.any(),
         dials_whole: heard.whole(),
+        numbers: LEAST_DIGITS <= heard.digits(),
         rings: if is_ring { 1 } else { 0 },
     }
 }
@@ -51,6 +58,7 @@ impl Counted {
         Counted {
             dials: self.dials || other.dials,
             dials_whole: self.dials_whole || other.dials_whole,
+            numbers: self.numbers || other.numbers,
             rings: self.rings.saturating_add(other.rings).min(LEAST_RINGS),
         }
     }

@@ -1,7 +1,7 @@
 // A run of a line's record, and what it is by the limits.
 ghost use Rattle.std.specs.Prelude.{◌≡◌};
 ghost use Rattle.xb_doubts.specs.Runs.{AreToldApart, held_run, is_short_make, judged_of};
-ghost use Rattle.xb_model.specs.Records.{ends_train, is_release, reaches_timeout};
+ghost use Rattle.xb_model.specs.Records.{ends_train, is_break, is_release, reaches_timeout};
 ghost use Rattle.xb_model.specs.Signals.{is_bad_run};
 
 use xb_model::{Contact, Limits};
@@ -29,6 +29,8 @@ pub(crate) struct Judged {
     pub(crate) spoils: bool,
     /// A make as short as those of ringing.
     pub(crate) is_short: bool,
+    /// A break.
+    pub(crate) is_break: bool,
 }
 
 /// Each limit is told apart from any greater number of ms.
@@ -91,6 +93,16 @@ fn is_short_make(held: Held) -> bool
     }
 }
 
+// Whether it is a break.
+fn is_break(held: Held) -> bool
+    ensures { result ≡ is_break (held_run held) }
+{
+    match held.contact {
+        Contact::Brk => true,
+        Contact::Make | Contact::Close => false,
+    }
+}
+
 /// What a run is by these limits.
 pub(crate) fn judge(limits: Limits, held: Held) -> Judged
     ensures { result ≡ judged_of limits (held_run held) }
@@ -101,5 +113,6 @@ pub(crate) fn judge(limits: Limits, held: Held) -> Judged
         ends_digit: ends_digit(limits, held),
         spoils: spoils(limits, held),
         is_short: is_short_make(held),
+        is_break: is_break(held),
     }
 }

@@ -7,6 +7,10 @@
 //!   digit, like those of a line that rings (`is_ringing`, `specs/Ringing.antt`). Attempts and digits are
 //!   those of the chain's definitions (`specs/Attempts.antt`). One small value of them is held for each line
 //!   of the office.
+//! - `Exchanged`: the lines whose makes and breaks look exchanged, like those of a wire that was recorded the
+//!   wrong way round (`looks_exchanged`, `specs/Exchanged.antt`): once they are exchanged, three clear digits
+//!   are dialled in an attempt, of pulses that no bell makes, and as they are, in none. The whole deck is
+//!   judged by the rows of the other lines (`rows_of_others`).
 //!
 //! The definitions of the chain go over rows from the first one on: what they tell of rows is known once the
 //! later rows are. So rows are read from the last one on, with a value for each line.
@@ -14,6 +18,7 @@
 
 mod activities;
 mod counted;
+mod exchanged;
 mod heard;
 mod judged;
 pub mod laws;
@@ -25,5 +30,6 @@ mod units;
 mod whole;
 
 pub use activities::Activities;
+pub use exchanged::Exchanged;
 pub use units::Unit;
 pub use whole::{Whole, whole_of};

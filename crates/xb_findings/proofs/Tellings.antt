@@ -17,10 +17,10 @@ with_all-append tally (x ∷ xs) ys = with_all-append (with_one x tally) xs ys
 
 -- the counts are those of what was found
 pub record Counts (tally : Tallied) (found : List Found) : Type 0 where
-  pub many : length tally.counts ≡ 20
-  pub each : (kind : ℕ) → kind < 20 → get_or tally.counts kind 0 ≡ min (how_many kind found) 1000000000
+  pub many : length tally.counts ≡ 22
+  pub each : (kind : ℕ) → kind < 22 → get_or tally.counts kind 0 ≡ min (how_many kind found) 1000000000
 
-below_kinds : (wrong : What) → kind_of wrong < 20
+below_kinds : (wrong : What) → kind_of wrong < 22
 below_kinds what.Table = omega arith
 below_kinds what.TopKey = omega arith
 below_kinds what.LimitKey = omega arith
@@ -34,9 +34,11 @@ below_kinds what.Fields = omega arith
 below_kinds what.Line = omega arith
 below_kinds what.State = omega arith
 below_kinds what.Ms = omega arith
+below_kinds what.Point = omega arith
 below_kinds (what.Ignored n) = omega arith
 below_kinds what.Short = omega arith
 below_kinds what.Quiet = omega arith
+below_kinds what.Exchanged = omega arith
 below_kinds what.Seconds = omega arith
 below_kinds what.Microseconds = omega arith
 below_kinds what.Nanoseconds = omega arith
@@ -87,7 +89,7 @@ module _ (tally : Tallied) (found : List Found) (f : Found) (counts : Counts tal
       ap (λ k. get_or counts' k 0) is ∙ at_same
       ∙ sym (ap (λ k. min (how_many k (found ++ f ∷ [])) 1000000000) is)
 
-  at_other : (kind : ℕ) → kind < 20 → (kind ≡ kind' → ⊥)
+  at_other : (kind : ℕ) → kind < 22 → (kind ≡ kind' → ⊥)
       → get_or counts' kind 0 ≡ min (how_many kind (found ++ f ∷ [])) 1000000000
   at_other kind below other =
       get_or-set_other tally.counts kind' kind (min (count' + 1) 1000000000) 0 other ∙ counts.each kind below
@@ -127,7 +129,7 @@ same_all tally (f ∷ later) = same_all (with_one f tally) later
 none_counted : (all : Bool) → Counts (nothing_told all) []
 none_counted all = record {
   many = refl;
-  each = λ kind below. get_or-replicate 20 kind 0 0 below;
+  each = λ kind below. get_or-replicate 22 kind 0 0 below;
 }
 
 -- what is told of a list

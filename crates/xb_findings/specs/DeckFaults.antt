@@ -5,7 +5,7 @@ use Rattle.xb_deck.specs.Deck.{Parts, deck_parts}
 use Rattle.xb_findings.specs.declared.finding.What.{What}
 use Rattle.xb_findings.specs.Findings.{Found}
 use Rattle.xb_findings.specs.Places.{faults_of_table, line_after_cut}
-use Rattle.xb_findings.specs.Records.{Closed, closed_after, found_at, no_closes, what_of_record, wrong_header}
+use Rattle.xb_findings.specs.Records.{Closed, closed_after, found_at, no_closes, what_of_record, with_point, wrong_header}
 use Rattle.xb_findings.specs.Separators.{is_other, record_in, separator_of, separator_of_header, what_of_line}
 use Rattle.xb_findings.specs.Findings.{with_meant}
 use Rattle.xb_findings.specs.TextLines.{text_lines}
@@ -20,7 +20,8 @@ what_of_header line = what_of_line false (separator_of_header line) (wrong_heade
 
 -- what is wrong with a record, or suspicious in it
 abbrev pub what_of_record_line : Closed → Bool → List ℕ → Option What
-what_of_record_line closed told line = what_of_line told (separator_of line) (what_of_record closed (record_in line))
+what_of_record_line closed told line =
+    what_of_line told (separator_of line) (with_point line (what_of_record closed (record_in line)))
 
 -- the text lines from n on, which are records, each with what is wrong or suspicious; these lines of the office
 -- were closed before, and by what fields are separated was told, or not

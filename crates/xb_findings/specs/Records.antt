@@ -1,5 +1,5 @@
 -- What is wrong with a text line of the rows, read by itself.
-use Rattle.std.specs.Prelude.{ℕ, ◌+◌, ◌-◌, ◌==◌, ◌||◌, ◌&&◌, nat_lt, List, [], ◌∷◌, ◌++◌, codes, drop, length, position, Bool, false, if◌then◌else◌, Option, Some, None, Result, Ok, Err, unwrap_or, slice_index_or}
+use Rattle.std.specs.Prelude.{ℕ, ◌+◌, ◌-◌, ◌==◌, ◌||◌, ◌&&◌, nat_lt, List, [], ◌∷◌, ◌++◌, codes, drop, length, position, is_some, Bool, false, if◌then◌else◌, Option, Some, None, Result, Ok, Err, unwrap_or, slice_index_or}
 use Rattle.xb_model.specs.declared.fault.RowFault.{RowFault}
 use Rattle.xb_model.specs.declared.fault.RowFault.TheVariants as fault
 use Rattle.xb_model.specs.Rows.{LoopRow}
@@ -106,6 +106,22 @@ after_place text (Some n) = drop (n + 1) text
 abbrev pub after_separator : List ℕ → List ℕ
 after_separator text = after_place text (position is_separator text)
 
+-- the third field of a text line, and whether it has a point
+abbrev pub time_field : List ℕ → List ℕ
+time_field line = after_separator (after_separator line)
+
+abbrev pub is_point : ℕ → Bool
+is_point byte = byte == 46
+
+abbrev pub has_point : List ℕ → Bool
+has_point line = is_some (position is_point (time_field line))
+
+-- what is said of a text line with which this is wrong: of a wrong time that has a point, just that
+abbrev pub with_point : List ℕ → Option What → Option What
+with_point line None = None
+with_point line (Some what.Ms) = if has_point line then Some what.Point else Some what.Ms
+with_point line (Some wrong) = Some wrong
+
 -- a text line from the field on that is wrong, before which none is, so that no field before it has such a byte
 abbrev pub from_field : What → List ℕ → List ℕ
 from_field what.Table line = line
@@ -120,13 +136,15 @@ from_field what.Header line = line
 from_field what.Fields line = line
 from_field what.Line line = line
 from_field what.State line = after_separator line
-from_field what.Ms line = after_separator (after_separator line)
+from_field what.Ms line = time_field line
+from_field what.Point line = time_field line
 from_field (what.Ignored n) line = line
-from_field what.Short line = after_separator (after_separator line)
+from_field what.Short line = time_field line
 from_field what.Quiet line = line
-from_field what.Seconds line = after_separator (after_separator line)
-from_field what.Microseconds line = after_separator (after_separator line)
-from_field what.Nanoseconds line = after_separator (after_separator line)
+from_field what.Exchanged line = line
+from_field what.Seconds line = time_field line
+from_field what.Microseconds line = time_field line
+from_field what.Nanoseconds line = time_field line
 from_field what.Ringing line = line
 
 -- the byte of a text line, from 1, at which what is wrong begins

@@ -1,5 +1,5 @@
 -- Which place of a text its fault is about.
-use Rattle.std.specs.Prelude.{ℕ, ◌+◌, ◌==◌, ◌&&◌, List, [], ◌∷◌, Bool, true, false, if◌then◌else◌, nat_lt, is_some, Option, Some, None}
+use Rattle.std.specs.Prelude.{ℕ, ◌+◌, ◌==◌, ◌&&◌, ◌||◌, not, nat_le, List, [], ◌∷◌, Bool, true, false, if◌then◌else◌, nat_lt, is_some, Option, Some, None}
 use Rattle.xb_deck.specs.declared.fault.DeckFault.{DeckFault}
 use Rattle.xb_deck.specs.declared.fault.DeckFault.TheVariants as deck_fault
 use Rattle.xb_routes.specs.LimitFaults.{limit_fault}
@@ -112,13 +112,54 @@ first_about f routes (spot ∷ spots) =
     let count = routes_after spot.section routes spot.mark in
     if is_about f (route_here spot.section count) spot.mark then Some spot else first_about f count spots
 
+-- a text begins with a quote, and a number with a digit or its sign
+abbrev pub begins_text : ℕ → Bool
+begins_text byte = (byte == 34) || (byte == 39)
+
+abbrev pub begins_number : ℕ → Bool
+begins_number byte = (nat_le 48 byte && nat_le byte 57) || (byte == 43) || (byte == 45)
+
+-- whether a value that begins with a byte may be of the kind that the key of a route wants
+abbrev pub may_begin : Key → ℕ → Bool
+may_begin key.Code byte = begins_text byte
+may_begin key.Prefix byte = begins_text byte
+may_begin key.Trunk byte = begins_number byte
+may_begin key.Delete byte = begins_number byte
+may_begin k byte = true
+
+-- whether a fault is that a key of a route has a value of another kind
+abbrev pub is_other_kind : RouteFault → ℕ → Key → ℕ → Bool
+is_other_kind (fault.Shape n) route k byte = route == n && not (may_begin k byte)
+is_other_kind f route k byte = false
+
+abbrev pub is_misfit : RouteFault → ℕ → Mark → ℕ → Bool
+is_misfit f route (mark.Named k) byte = is_other_kind f route k byte
+is_misfit f route other byte = false
+
+-- the first of these spots of which it is that, after this many routes
+abbrev pub first_misfit : RouteFault → ℕ → List Spot → Option Spot
+first_misfit f routes [] = None
+first_misfit f routes (spot ∷ spots) =
+    let count = routes_after spot.section routes spot.mark in
+    if is_misfit f (route_here spot.section count) spot.mark spot.value then Some spot
+    else first_misfit f count spots
+
+abbrev pub or_spot : Option Spot → Option Spot → Option Spot
+or_spot (Some spot) other = Some spot
+or_spot None other = other
+
+-- the spot of a route table that its fault is told at: a key whose value has another kind, or else the first
+-- that it is about
+abbrev pub site_of : RouteFault → List Spot → Option Spot
+site_of f spots = or_spot (first_misfit f 0 spots) (first_about f 0 spots)
+
 abbrev pub listed : List ℕ → RouteFault → Option Spot → List Found
 listed deck f None = []
 listed deck f (Some spot) = found_there deck spot.at (what.Routes f, None) ∷ []
 
--- what is told of a fault of the route table of a deck: the first spot that it is about
+-- what is told of a fault of the route table of a deck: its site
 abbrev pub told_of_table : RouteFault → List ℕ → List Found
-told_of_table f deck = listed deck f (first_about f 0 (spots_of (table_of deck)))
+told_of_table f deck = listed deck f (site_of f (spots_of (table_of deck)))
 
 -- what is told of the fault by which a text is refused: where no line cuts it, the text lines that are nearly
 -- such a line

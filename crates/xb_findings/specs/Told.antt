@@ -21,20 +21,22 @@ kind_of what.Fields = 9
 kind_of what.Line = 10
 kind_of what.State = 11
 kind_of what.Ms = 12
-kind_of (what.Ignored n) = 13
-kind_of what.Short = 14
-kind_of what.Quiet = 15
-kind_of what.Seconds = 16
-kind_of what.Microseconds = 17
-kind_of what.Nanoseconds = 18
-kind_of what.Ringing = 19
+kind_of what.Point = 13
+kind_of (what.Ignored n) = 14
+kind_of what.Short = 15
+kind_of what.Quiet = 16
+kind_of what.Exchanged = 17
+kind_of what.Seconds = 18
+kind_of what.Microseconds = 19
+kind_of what.Nanoseconds = 20
+kind_of what.Ringing = 21
 
 -- each kind, by one of it
 abbrev pub each_kind : List What
 each_kind = what.Table ∷ what.TopKey ∷ what.LimitKey ∷ what.RouteKey ∷ what.Routes fault.NotToml ∷ what.NearCut
     ∷ what.Semicolons ∷ what.Tabs ∷ what.Header ∷ what.Fields ∷ what.Line ∷ what.State ∷ what.Ms
-    ∷ what.Ignored 0 ∷ what.Short ∷ what.Quiet ∷ what.Seconds ∷ what.Microseconds ∷ what.Nanoseconds
-    ∷ what.Ringing ∷ []
+    ∷ what.Point ∷ what.Ignored 0 ∷ what.Short ∷ what.Quiet ∷ what.Exchanged ∷ what.Seconds ∷ what.Microseconds
+    ∷ what.Nanoseconds ∷ what.Ringing ∷ []
 
 abbrev pub is_of_kind : ℕ → Found → Bool
 is_of_kind kind found = kind_of found.what == kind

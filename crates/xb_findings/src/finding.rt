@@ -35,12 +35,16 @@ pub enum What {
     State,
     /// The third field is no time in ms that the state may last.
     Ms,
+    /// It is none, and has a point.
+    Point,
     /// The line of the office was closed before, in this text line: the record is ignored.
     Ignored(usize),
     /// A break so short may be a bounce.
     Short,
     /// No make of the line is heard, so no attempt begins on it.
     Quiet,
+    /// Its makes and breaks look exchanged.
+    Exchanged,
     /// No digit fits into the times of the deck.
     Seconds,
     /// Its times look a thousand times too long.
@@ -150,11 +154,15 @@ impl What {
             What::Fields => "the record has not three fields",
             What::Line => "the line is not 0 to 9999",
             What::State => "the state is not M, B or C",
-            What::Ms => "the ms are not 0 to 86400000, or not 0 in a close",
+            What::Ms => "the ms are not whole ms of 0 to 86400000, or not 0 in a close",
+            What::Point => "a time with a point, where whole ms are wanted; are they seconds?",
             What::Ignored(_) => "this record is ignored; its line was closed in text line",
             What::Short =>
                 "a break of 1 to 4 ms may be a bounce; mfloop settles those of a recording",
             What::Quiet => "no make of this line is heard, so no number is dialled on it",
+            What::Exchanged => {
+                "the M and B of this line look exchanged, since only then a number is dialled on it; see mfloop --inverted"
+            }
             What::Seconds => "no digit fits into the times of the deck; are they seconds?",
             What::Microseconds => {
                 "the times of the deck look a thousand times too long; has a recording ms for seconds, or are they microseconds?"

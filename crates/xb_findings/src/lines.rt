@@ -16,7 +16,7 @@ use crate::closes::Closes;
 use crate::finding::Finding;
 use crate::kept::{KeptLine, LineKind, Seen};
 use crate::place::{place_at, push_spots, table_of};
-use crate::records::{Record, push_found, what_of_record, without_key, wrong_header};
+use crate::records::{Record, push_found, what_of_record, with_point, without_key, wrong_header};
 use crate::separators::{is_other, is_told, separated_record, separator_of_header, what_of_line};
 use crate::tally::Tally;
 use crate::text_lines::first_line;
@@ -127,7 +127,7 @@ fn take_record<'a>(
         (lines_of lines.old) (lines_of lines.new) (part.Records closes.new seen.new after)) }
 {
     let read = separated_record(alloc, text)?;
-    let what = what_of_record(closes, &read.said);
+    let what = with_point(text, what_of_record(closes, &read.said));
     let wrong = what_of_line(told, read.separator, what);
     push_found(&mut lines.tally, n, text, without_key(wrong))?;
     close_by(closes, n, &read.said);

@@ -2,7 +2,7 @@
 ghost use Rattle.std.specs.Prelude.{◌≡◌, ◌≢◌, Err, IfOk, None, OnOk, position};
 ghost use Rattle.xb_model.specs.declared.fault.RowFault.TheVariants.{NoMemory};
 ghost use Rattle.xb_rows.specs.RowTexts.{rest_of_text};
-ghost use Rattle.xb_findings.specs.Records.{after_separator, closed_of, column_of, first_record, found_at, from_field, is_separator, is_short, record_of_fault, record_of_line, record_read, what_of_record, what_of_row, wrong_header, wrong_in};
+ghost use Rattle.xb_findings.specs.Records.{after_separator, closed_of, column_of, first_record, found_at, from_field, has_point, is_point, is_separator, is_short, record_of_fault, record_of_line, record_read, time_field, what_of_record, what_of_row, with_point, wrong_header, wrong_in};
 ghost use Rattle.xb_findings.specs.Findings.{with_meant};
 ghost use Rattle.xb_findings.specs.Tallies.{tallied, with_all};
 
@@ -129,6 +129,44 @@ fn after_separator(text: &[u8]) -> &[u8]
     }
 }
 
+// The third field of a text line.
+fn time_field(line: &[u8]) -> &[u8]
+    ensures { result.now ≡ time_field line.now }
+{
+    after_separator(after_separator(line))
+}
+
+// Whether a byte is a point.
+fn is_point(byte: u8) -> bool
+    ensures { result ≡ is_point byte }
+{
+    byte == b'.'
+}
+
+// Where the first point of a text is.
+fn first_point(text: &[u8]) -> Option<usize>
+    ensures { result ≡ position is_point text.now }
+{
+    text.iter().position(|byte| is_point(*byte))
+}
+
+// Whether that field has one.
+fn has_point(line: &[u8]) -> bool
+    ensures { result ≡ has_point line.now }
+{
+    first_point(time_field(line)).is_some()
+}
+
+/// What is said of a text line with which this is wrong: of a wrong time that has a point, just that.
+pub(crate) fn with_point(line: &[u8], wrong: Option<What>) -> Option<What>
+    ensures { result ≡ with_point line.now wrong }
+{
+    match wrong {
+        Some(What::Ms) if has_point(line) => Some(What::Point),
+        wrong => wrong,
+    }
+}
+
 // A text line from the field on that is wrong.
 fn from_field(what: What, line: &[u8]) -> &[u8]
     ensures { result.now ≡ from_field what line.now }
@@ -147,11 +185,15 @@ fn from_field(what: What, line: &[u8]) -> &[u8]
         | What::Line
         | What::Ignored(_)
         | What::Quiet
+        | What::Exchanged
         | What::Ringing => line,
         What::State => after_separator(line),
-        What::Ms | What::Short | What::Seconds | What::Microseconds | What::Nanoseconds => {
-            after_separator(after_separator(line))
-        }
+        What::Ms
+        | What::Point
+        | What::Short
+        | What::Seconds
+        | What::Microseconds
+        | What::Nanoseconds => time_field(line),
     }
 }
 

@@ -1,7 +1,7 @@
 // Which place of a text its fault is about.
 ghost use Rattle.std.specs.Prelude.{◌≡◌, ◌≤◌, ◌<◌, ◌+◌, ◌^◌, OnOk, length};
 ghost use Rattle.xb_deck.specs.declared.deck.TheConstants.{MOST_DECK_BYTES};
-ghost use Rattle.xb_findings.specs.Sites.{first_about, is_about, is_about_heading, is_about_key, is_not_toml, keys_about, limits_about, limits_of_rule, route_about, route_here, routes_after, told_of_fault, told_of_table};
+ghost use Rattle.xb_findings.specs.Sites.{begins_number, begins_text, first_about, first_misfit, is_about, is_about_heading, is_about_key, is_misfit, is_not_toml, is_other_kind, keys_about, limits_about, limits_of_rule, may_begin, route_about, route_here, routes_after, site_of, told_of_fault, told_of_table};
 ghost use Rattle.xb_findings.specs.Tallies.{tallied, with_all};
 ghost use Rattle.xb_routes.specs.LimitFaults.{limit_fault};
 
@@ -146,7 +146,85 @@ fn first_about(fault: RouteFault, spots: &[Spot]) -> Option<Spot>
     None
 }
 
-// Puts the first spot of a deck that a fault of its route table is about after what was found.
+// Whether a text begins with a byte.
+fn begins_text(byte: u8) -> bool
+    ensures { result ≡ begins_text byte }
+{
+    byte == b'"' || byte == b'\''
+}
+
+// Whether a number does.
+fn begins_number(byte: u8) -> bool
+    ensures { result ≡ begins_number byte }
+{
+    byte.is_ascii_digit() || byte == b'+' || byte == b'-'
+}
+
+// Whether a value that begins with a byte may be of the kind that a key of a route wants.
+fn may_begin(key: Key, byte: u8) -> bool
+    ensures { result ≡ may_begin key byte }
+{
+    match key {
+        Key::Code | Key::Prefix => begins_text(byte),
+        Key::Trunk | Key::Delete => begins_number(byte),
+        Key::Plan
+        | Key::Limits
+        | Key::Route
+        | Key::PulseMin
+        | Key::PulseMax
+        | Key::MakeMin
+        | Key::Pause
+        | Key::Release
+        | Key::Timeout => true,
+    }
+}
+
+// Whether a fault is that a key of a route has a value of another kind.
+fn is_other_kind(fault: RouteFault, route: usize, key: Key, byte: u8) -> bool
+    ensures { result ≡ is_other_kind fault route key byte }
+{
+    match fault {
+        RouteFault::Shape(n) => route == n as usize && !may_begin(key, byte),
+        _ => false,
+    }
+}
+
+// Whether it is that of what stands at a spot of a route, whose value begins with a byte.
+fn is_misfit(fault: RouteFault, route: usize, mark: Mark, byte: u8) -> bool
+    ensures { result ≡ is_misfit fault route mark byte }
+{
+    match mark {
+        Mark::Named(key) => is_other_kind(fault, route, key, byte),
+        Mark::Heading | Mark::Unnamed(_) | Mark::Broken => false,
+    }
+}
+
+// The first of these spots of which it is that.
+fn first_misfit(fault: RouteFault, spots: &[Spot]) -> Option<Spot>
+    ensures { result ≡ first_misfit fault 0 spots.now }
+{
+    let mut routes = 0;
+    for spot in spots {
+        routes = routes_after(spot.section, routes, spot.mark);
+        let route = route_here(spot.section, routes);
+        if is_misfit(fault, route, spot.mark, spot.value) {
+            return Some(*spot);
+        }
+    }
+    None
+}
+
+// The spot that a fault is told at.
+fn site_of(fault: RouteFault, spots: &[Spot]) -> Option<Spot>
+    ensures { result ≡ site_of fault spots.now }
+{
+    match first_misfit(fault, spots) {
+        Some(spot) => Some(spot),
+        None => first_about(fault, spots),
+    }
+}
+
+// Puts the spot of a deck that a fault of its route table is told at after what was found.
 fn push_told_of_table<'a>(
     alloc: Global,
     tally: &mut Tally<'a>,
@@ -158,7 +236,7 @@ fn push_told_of_table<'a>(
         ≡ with_all (tallied tally.old) (told_of_table fault deck.now)) }
 {
     let spots = spots_of(alloc, table_of(deck))?;
-    if let Some(spot) = first_about(fault, &spots) {
+    if let Some(spot) = site_of(fault, &spots) {
         tally.push(finding_at(deck, spot.at, What::Routes(fault)))?;
     }
     Ok(())

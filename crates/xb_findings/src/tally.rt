@@ -13,7 +13,7 @@ pub const TOLD_OF_A_KIND: usize = 10;
 pub(crate) const MOST_COUNTED: usize = 1_000_000_000;
 
 /// How many kinds there are.
-pub(crate) const KINDS: usize = 20;
+pub(crate) const KINDS: usize = 22;
 
 /// Each kind, by one of it.
 pub const EACH_KIND: &[What] = &[
@@ -30,9 +30,11 @@ pub const EACH_KIND: &[What] = &[
     What::Line,
     What::State,
     What::Ms,
+    What::Point,
     What::Ignored(0),
     What::Short,
     What::Quiet,
+    What::Exchanged,
     What::Seconds,
     What::Microseconds,
     What::Nanoseconds,
@@ -42,7 +44,7 @@ pub const EACH_KIND: &[What] = &[
 // The number of a kind.
 fn kind_of(what: What) -> usize
     ensures number { result ≡ kind_of what }
-    ensures below { result < 20 }
+    ensures below { result < 22 }
 {
     match what {
         What::Table => 0,
@@ -58,13 +60,15 @@ fn kind_of(what: What) -> usize
         What::Line => 10,
         What::State => 11,
         What::Ms => 12,
-        What::Ignored(_) => 13,
-        What::Short => 14,
-        What::Quiet => 15,
-        What::Seconds => 16,
-        What::Microseconds => 17,
-        What::Nanoseconds => 18,
-        What::Ringing => 19,
+        What::Point => 13,
+        What::Ignored(_) => 14,
+        What::Short => 15,
+        What::Quiet => 16,
+        What::Exchanged => 17,
+        What::Seconds => 18,
+        What::Microseconds => 19,
+        What::Nanoseconds => 20,
+        What::Ringing => 21,
     }
 }
 

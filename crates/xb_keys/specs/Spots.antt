@@ -46,14 +46,18 @@ mark_by None near = mark.Unnamed near
 abbrev pub mark_of : Section → List ℕ → Mark
 mark_of here part = mark_by (key_named part (keys_of here)) (nearest part (keys_of here))
 
+-- a spot of a key, with the first byte of its value, or another, with 0
+abbrev pub spot_of_key : ℕ → Section → ℕ → Mark → Spot
+spot_of_key at here value it = record { at = at; section = here; mark = it; value = value }
+
 abbrev pub spot_at : ℕ → Section → Mark → Spot
-spot_at at here it = record { at = at; section = here; mark = it }
+spot_at at here it = spot_of_key at here 0 it
 
 -- the parts of a dotted key, each in its section
-abbrev pub spots_of_parts : ℕ → Section → List (List ℕ) → List Spot
-spots_of_parts at here [] = []
-spots_of_parts at here (part ∷ parts) =
-    (spot_at at here (mark_of here part) ∷ []) ++ spots_of_parts at (below here part) parts
+abbrev pub spots_of_parts : ℕ → Section → ℕ → List (List ℕ) → List Spot
+spots_of_parts at here value [] = []
+spots_of_parts at here value (part ∷ parts) =
+    (spot_of_key at here value (mark_of here part) ∷ []) ++ spots_of_parts at (below here part) value parts
 
 -- the section of the keys in the value of a dotted key
 abbrev pub within : Section → List (List ℕ) → Section
@@ -168,10 +172,10 @@ heading_read total text walk None =
     broken total text (record { spots = walk.spots; nests = []; section = section.Other; want = want.Key })
 heading_read total text walk (Some read) = (with_heading (total - length text) read.0 walk, read.1)
 
--- a key and its = were read, in this section
-abbrev pub with_key : ℕ → Section → List (List ℕ) → Walk → Walk
-with_key at here parts walk = record {
-  spots = walk.spots ++ spots_of_parts at here parts;
+-- a key and its = were read, in this section, and this is the first byte of what follows
+abbrev pub with_key : ℕ → Section → ℕ → List (List ℕ) → Walk → Walk
+with_key at here value parts walk = record {
+  spots = walk.spots ++ spots_of_parts at here value parts;
   nests = walk.nests;
   section = walk.section;
   want = want.Value (within here parts);
@@ -179,8 +183,8 @@ with_key at here parts walk = record {
 
 abbrev pub key_read : ℕ → List ℕ → Walk → Read DottedKey → Walk × List ℕ
 key_read total text walk None = broken total text walk
-key_read total text walk (Some read) =
-    (with_key (total - length text) (section_in walk.section (innermost walk.nests)) (parts_of read.0) walk, read.1)
+key_read total text walk (Some read) = let here = section_in walk.section (innermost walk.nests) in
+    (with_key (total - length text) here (first read.1) (parts_of read.0) walk, read.1)
 
 -- a scalar was read
 abbrev pub scalar_read : ℕ → List ℕ → Walk → Option (List ℕ) → Walk × List ℕ

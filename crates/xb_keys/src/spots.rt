@@ -34,6 +34,8 @@ pub struct Spot {
     pub section: Section,
     /// What stands there.
     pub mark: Mark,
+    /// The first byte of the value of a key; 0 where there is none.
+    pub value: u8,
 }
 
 // The section of the keys below a part of a key.
@@ -65,16 +67,18 @@ fn mark_of(alloc: Global, section: Section, part: &[u8]) -> Result<Mark, AllocEr
     }
 }
 
-/// Puts the parts of a dotted key, which stand at a place, after other spots; the section of the keys in its value.
+/// Puts the parts of a dotted key, which stand at a place, and whose value begins with this byte, after other
+/// spots; the section of the keys in its value.
 pub(crate) fn push_parts(
     alloc: Global,
     spots: &mut Vec<Spot>,
     at: usize,
     section: Section,
+    value: u8,
     parts: &[String],
 ) -> Result<Section, AllocError>
     ensures spots { OnOk result
-        (spots.new.items ≡ spots.old.items ++ spots_of_parts at section (map string_bytes parts.now)) }
+        (spots.new.items ≡ spots.old.items ++ spots_of_parts at section value (map string_bytes parts.now)) }
     ensures section { IfOk result (λ inner. inner ≡ within section (map string_bytes parts.now)) }
 {
     let mut here = section;
@@ -85,6 +89,7 @@ pub(crate) fn push_parts(
             at,
             section: here,
             mark,
+            value,
         })?;
         here = below(here, text);
     }

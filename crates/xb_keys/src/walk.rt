@@ -97,6 +97,7 @@ fn broken<'a>(total: usize, walk: &mut Walk, text: &'a str) -> Result<&'a str, A
         at: total.saturating_sub(text.len()),
         section: walk.section,
         mark: Mark::Broken,
+        value: 0,
     })?;
     walk.nests.clear();
     walk.want = Want::Key;
@@ -129,6 +130,7 @@ fn take_heading<'a>(
                 at: total.saturating_sub(text.len()),
                 section,
                 mark: Mark::Heading,
+                value: 0,
             })?;
             walk.section = section;
             walk.want = Want::After;
@@ -157,7 +159,7 @@ fn take_key<'a>(
             let parts = parts_of(key)?;
             let section = section_in(walk.section, innermost(&walk.nests));
             let at = total.saturating_sub(text.len());
-            let inner = push_parts(alloc, &mut walk.spots, at, section, &parts)?;
+            let inner = push_parts(alloc, &mut walk.spots, at, section, first(rest), &parts)?;
             walk.want = Want::Value(inner);
             Ok(rest)
         }
@@ -213,6 +215,7 @@ fn open_table(walk: &mut Walk, at: usize, section: Section) -> Result<(), AllocE
             at,
             section,
             mark: Mark::Heading,
+            value: 0,
         })?,
         Section::Top | Section::Limits | Section::Other => {}
     }

@@ -1,4 +1,3 @@
-use Rattle.std.proofs.Common.{refl}
 use Rattle.xb_doubts.specs.Parts.{rows_in_parts}
 use Rattle.xb_doubts.proofs.HeardLines.{heard_all}
 use Rattle.xb_doubts.proofs.heard.heard_in.Goals as goal

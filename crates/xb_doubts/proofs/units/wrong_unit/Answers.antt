@@ -1,5 +1,5 @@
-use Rattle.std.proofs.Common.{◌≡◌, ◌∙◌, sym}
-use Rattle.std.proofs.lemmas.Bool.{cond-true, cond-false}
+use Rattle.std.proofs.Common.{sym}
+use Rattle.std.proofs.lemmas.Bool.{cond-true}
 use Rattle.xb_doubts.proofs.units.wrong_unit.Goals as goal
 
 pub returns-then-are_seconds : goal.returns-then-are_seconds

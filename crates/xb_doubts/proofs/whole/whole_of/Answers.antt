@@ -1,4 +1,4 @@
-use Rattle.std.proofs.Common.{◌≡◌, ◌∙◌, sym, ap, subst, nat_le}
+use Rattle.std.proofs.Common.{◌∙◌, ap, subst, nat_le}
 use Rattle.xb_doubts.specs.Heard.{IsHeard}
 use Rattle.xb_doubts.proofs.PartRows.{rings_known, whole_parts}
 use Rattle.xb_doubts.proofs.whole.whole_of.Goals as goal

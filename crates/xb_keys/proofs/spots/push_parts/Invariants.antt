@@ -6,8 +6,8 @@ use Rattle.xb_keys.proofs.spots.push_parts.Given as goal
 abbrev pub invariant-loop-part : goal.invariant-loop-part
 invariant-loop-part l = record {
   spots :
-      l.spots.items ++ spots_of_parts l.at l.here (map string_bytes (drop l.part-index l.parts))
-      ≡ l.fn.spots.items ++ spots_of_parts l.at l.fn.section (map string_bytes l.parts);
+      l.spots.items ++ spots_of_parts l.at l.here l.value (map string_bytes (drop l.part-index l.parts))
+      ≡ l.fn.spots.items ++ spots_of_parts l.at l.fn.section l.value (map string_bytes l.parts);
   section :
       within l.here (map string_bytes (drop l.part-index l.parts)) ≡ within l.fn.section (map string_bytes l.parts);
 }
