@@ -1,0 +1,103 @@
+// Words that are refused, and recordings and streams that fail.
+use crate::attending::{BELL, attended};
+use std::io::ErrorKind;
+use std::test::Fail;
+use test_kit::{Halting, Short};
+
+const USAGE: &[u8] = b"mfbench: usage: mfbench --line N=WIRE[,inverted][,settle=MS]... \
+[--dial bell|gpo] [--speed FROM-TO] [--share FROM-TO] \
+[--format vcd|sigrok|saleae|edges|gpiomon|bits|bits16|s16|wav] [--rate HZ] [--settle MS] \
+[--threshold PERCENT] [--inverted]\n";
+
+const REFUSED: &[&[&str]] = &[
+    &[],
+    &["--line", "7"],
+    &["--line", "7=1", "--line", "7=2"],
+    &["--help"],
+    // a run has to settle in some ms, and each make seizes
+    &["--line", "7=1,settle=0"],
+    &["--line", "7=1", "--settle", "0"],
+    &["--line", "7=1,seize=150"],
+    &["--line", "7=1,ringing"],
+    &["--line", "7=1", "--seize", "150"],
+    &["--line", "7=1", "--tick", "20"],
+    &["--line", "7=1", "--table", "routes.toml"],
+    // windows that are none
+    &["--line", "7=1", "--dial", "ibm"],
+    &["--line", "7=1", "--speed", "10"],
+    &["--line", "7=1", "--speed", "10.5-9.5"],
+    &["--line", "7=1", "--speed", "9.55-10.5"],
+    &["--line", "7=1", "--speed", "-10.5"],
+    &["--line", "7=1", "--share", "58-64%"],
+    &["--line", "7=1", "--share", "58-1001"],
+];
+
+const WORDS: &[&str] = &["--line", "7=1"];
+
+// A make, a pulse, a pause, and a time that is none.
+const WRONG: &[u8] = b"0,1\n0.4,0\n0.46,1\n0.7,1\nx,1\n";
+
+const BEFORE: &str =
+    "0007      1       1      -        -         60.0            -        -        0.0        -\n";
+
+#[test]
+fn refuses_words(rt: HostRuntime) -> Result<(), Fail> {
+    for words in REFUSED {
+        let mut out = Vec::new(rt.alloc());
+        let mut reader = WRONG;
+        let (status, told) = attended(rt.alloc(), words, &mut reader, &mut out)?;
+        assert_eq!(rt; status, 2);
+        assert!(rt; told.as_slice() == USAGE, "{}", told.escape_ascii());
+        assert!(rt; out.is_empty());
+    }
+    Ok(())
+}
+
+// The digit whose pause was reached stands there before the fault.
+#[test]
+fn tells_of_what_comes_before_a_fault(rt: HostRuntime) -> Result<(), Fail> {
+    let mut out = Vec::new(rt.alloc());
+    let mut reader = WRONG;
+    let (status, told) = attended(rt.alloc(), WORDS, &mut reader, &mut out)?;
+    assert_eq!(rt; status, 1);
+    assert!(rt;
+        told.as_slice() == b"mfbench: text line 5: a time was wanted: x,1\n".as_slice(),
+        "{}",
+        told.escape_ascii()
+    );
+    assert!(rt; out.starts_with(BELL.as_bytes()));
+    assert!(rt;
+        &out[BELL.len()..] == BEFORE.as_bytes(),
+        "{}",
+        out.escape_ascii()
+    );
+    Ok(())
+}
+
+#[test]
+fn fails_where_a_stream_fails(rt: HostRuntime) -> Result<(), Fail> {
+    let mut out = Vec::new(rt.alloc());
+    let mut reader = Halting::failing(WRONG, 4, 8, ErrorKind::Other);
+    let (status, told) = attended(rt.alloc(), WORDS, &mut reader, &mut out)?;
+    assert_eq!(rt; status, 1);
+    assert!(rt;
+        told.as_slice() == b"mfbench: the recording could not be read\n".as_slice(),
+        "{}",
+        told.escape_ascii()
+    );
+    let mut out = Short::new(rt.alloc(), 5, Some(ErrorKind::Other));
+    let mut reader = WRONG;
+    let (status, told) = attended(rt.alloc(), WORDS, &mut reader, &mut out)?;
+    assert_eq!(rt; status, 1);
+    assert!(rt;
+        told.as_slice() == b"mfbench: the rows could not be written\n".as_slice(),
+        "{}",
+        told.escape_ascii()
+    );
+    assert!(rt;
+        out.taken.as_slice() == b"dial:".as_slice(),
+        "{}",
+        out.taken.escape_ascii()
+    );
+    Ok(())
+}

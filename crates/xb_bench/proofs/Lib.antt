@@ -1,0 +1,3 @@
+pub mod DialRuns
+pub mod Attended
+pub mod Ended

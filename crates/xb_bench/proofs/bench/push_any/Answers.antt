@@ -1,0 +1,11 @@
+use Rattle.std.proofs.Common.{ap, append-nil, sym, ◌∙◌}
+use Rattle.std.specs.List.{flat_map}
+use Rattle.xb_report.proofs.Pushed.{as_defined}
+use Rattle.xb_bench.specs.Benches.{told_by, told_text}
+use Rattle.xb_bench.proofs.bench.push_any.Goals as goal
+
+pub returns-in-Some : goal.returns-in-Some
+returns-in-Some c =
+    as_defined c.push_said.result _ _ _ _ c.push_said.ensures
+    (sym (append-nil _)
+    ∙ ap (λ said. flat_map told_text (told_by c.args.setting c.args.line c.args.scale said)) (sym c.in-Some.is))

@@ -1,0 +1,13 @@
+pub mod Pieces
+pub mod Trains
+pub mod Dials
+pub mod Figures
+pub mod Verdicts
+pub mod Texts
+pub mod Benches
+pub mod Windows
+pub mod Rules
+pub mod Options
+pub mod Program
+pub mod Digits
+pub mod DialLaws

@@ -1,0 +1,52 @@
+-- What the words of the command line ask for, as clap reads them.
+use Rattle.std.specs.Prelude.{◌≡◌, ◌≢◌, ◌⊎◌, ◌==◌, List, [], ◌∷◌, Bool, true, false, Some, None, codes, nat_le, not, ◌&&◌}
+use Rattle.clap.specs.Faults.{fault_of}
+use Rattle.clap.specs.Simple.{matches_of}
+use Rattle.clap.specs.Walk.{Row, Text, first_of}
+use Rattle.xb_command.specs.Given.{IsTaken}
+use Rattle.xb_feed.specs.declared.manner.AskedLine.{AskedLine}
+use Rattle.xb_feed.specs.declared.manner.Manner.{Manner}
+use Rattle.xb_feed.specs.declared.request.Request.{Request}
+use Rattle.xb_feed.specs.Options.{Say as SaysOf, SayNothing as SaysNothingOf, plain_words}
+use Rattle.xb_model.specs.LawfulLimits.{standard_limits}
+use Rattle.xb_bench.specs.declared.setting.Setting.{Setting}
+use Rattle.xb_bench.specs.Rules.{command_of_words}
+use Rattle.xb_bench.specs.Windows.{windows_said}
+
+-- a line is listened to so that its digits can be told: its runs settle in 1 ms or more, and each make seizes
+abbrev pub is_plain : Manner → Bool
+is_plain manner = nat_le 1 manner.settle_ms && (manner.seize_ms == 0) && not manner.ringing
+
+abbrev pub are_plain : List AskedLine → Bool
+are_plain [] = true
+are_plain (line ∷ rest) = is_plain line.manner && are_plain rest
+
+-- what clap matched says this: windows, by the standard limits, and what is asked of a recording
+pub record Say (rows : List Row) (request : Request Setting) : Type 0 where
+  pub windows : windows_said (first_of (codes "dial") rows) (first_of (codes "speed") rows) (first_of (codes "share") rows)
+      ≡ Some request.common.windows
+  pub limits : request.common.limits ≡ standard_limits
+  pub plain : are_plain request.lines.items ≡ true
+  pub rest : SaysOf rows request.common request
+
+-- what clap matched says nothing that there is: a window or a kind of dial that is none, what a recording does not
+-- have, or a line that is listened to otherwise
+abbrev pub SayNothing : List Row → Type 0
+SayNothing rows =
+    (windows_said (first_of (codes "dial") rows) (first_of (codes "speed") rows) (first_of (codes "share") rows) ≡ None)
+    ⊎ (SaysNothingOf rows
+    ⊎ ((request : Request Setting) × SaysOf rows request.common request × (are_plain request.lines.items ≡ false)))
+
+-- clap takes plain words, and they ask for this
+abbrev pub AsksPlainly : List Text → Request Setting → Type 0
+AsksPlainly words request = IsTaken command_of_words words × Say (matches_of command_of_words words) request
+
+abbrev pub Asks : List Text → Request Setting → Type 0
+Asks words request = AsksPlainly (plain_words words) request
+
+-- clap refuses plain words, a request for help too, or they say nothing that there is
+abbrev pub ArePlainlyRefused : List Text → Type 0
+ArePlainlyRefused words = (fault_of command_of_words words ≢ []) ⊎ SayNothing (matches_of command_of_words words)
+
+abbrev pub AreRefused : List Text → Type 0
+AreRefused words = ArePlainlyRefused (plain_words words)

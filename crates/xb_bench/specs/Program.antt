@@ -1,0 +1,67 @@
+-- What the program did, by its status.
+use Rattle.std.specs.Prelude.{ℕ, ◌≡◌, ◌++◌, List, [], codes, Option, None, false, true}
+use Rattle.std.specs.Io.KnownBytes.{Keeps}
+use Rattle.clap.specs.Walk.{Text}
+use Rattle.xb_command.specs.Programs.{Attends, Streams}
+use Rattle.xb_command.specs.Telling.{Tells}
+use Rattle.xb_feed.specs.declared.fault.RecordingFault.{RecordingFault}
+use Rattle.xb_feed.specs.declared.request.Request.{Request}
+use Rattle.xb_feed.specs.LackedWires.{lacks_wire}
+use Rattle.xb_feed.specs.Feeding.{FailsToListen, ListensTo}
+use Rattle.xb_bench.specs.declared.fault.BenchFault.{BenchFault}
+use Rattle.xb_bench.specs.declared.fault.BenchFault.TheVariants as faults
+use Rattle.xb_bench.specs.declared.setting.Setting.{Setting}
+use Rattle.xb_bench.specs.Benches.{by_digits}
+use Rattle.xb_bench.specs.Options.{AreRefused, Asks}
+use Rattle.xb_bench.specs.Windows.{header_text}
+
+-- the program's name
+abbrev pub program : List ℕ
+program = codes "mfbench"
+
+-- the line for words that are refused
+abbrev pub usage_line : List ℕ
+usage_line =
+    codes "mfbench: usage: mfbench --line N=WIRE[,inverted][,settle=MS]... "
+    ++ codes "[--dial bell|gpo] [--speed FROM-TO] [--share FROM-TO] "
+    ++ codes "[--format vcd|sigrok|saleae|edges|gpiomon|bits|bits16|s16|wav] [--rate HZ] [--settle MS] "
+    ++ codes "[--threshold PERCENT] [--inverted]\n"
+
+-- an output got the windows, and then exactly what is told of the digits of the recording
+abbrev pub PrintsDigits : Request Setting → Option (List ℕ) → Option (List ℕ) → Option (List ℕ) → Type 0
+PrintsDigits request input output after =
+    (notes : List ℕ) × ListensTo by_digits (header_text request.common.windows) request [] notes input output after
+
+-- the fault of a recording, and what an output got before it
+abbrev pub FailsToGo : Request Setting → RecordingFault → Option (List ℕ) → Option (List ℕ) → Option (List ℕ) → Type 0
+FailsToGo request fault input output after =
+    FailsToListen by_digits (header_text request.common.windows) request [] fault input output after
+
+-- where the recording lacks a wire, all names that are asked for are told; where memory ran out nothing was written
+abbrev pub FailsToPrint :
+    Request Setting → BenchFault → Option (List ℕ) → Option (List ℕ) → Option (List ℕ) → Type 0
+FailsToPrint request (faults.Recording fault) input output after =
+    (lacks_wire fault ≡ false) × FailsToGo request fault input output after
+FailsToPrint request (faults.NoWire fault names) input output after =
+    (lacks_wire fault ≡ true) × (names ≡ request.wanted.wires) × FailsToGo request fault input output after
+FailsToPrint request faults.NoMemory input output after = Keeps output after
+
+-- the words ask for something, and exactly that was written
+pub record WritesDigits (words : List Text) (old new : Streams) : Type 0 where
+  pub request : Request Setting
+  pub asks : Asks words request
+  pub digits : PrintsDigits request old.input old.output new.output
+  pub errors : Keeps old.errors new.errors
+
+-- the words ask for something that gave a fault, of which a line was told
+pub record HasFault (words : List Text) (old new : Streams) : Type 0 where
+  pub request : Request Setting
+  pub asks : Asks words request
+  pub fault : BenchFault
+  pub fails : FailsToPrint request fault old.input old.output new.output
+  pub told : Tells program None old.errors new.errors
+
+-- what the program did with its words and its streams
+abbrev pub AttendsBench : List Text → Streams → Streams → ℕ → Type 0
+AttendsBench words old new status =
+    Attends program usage_line (WritesDigits words old new) (HasFault words old new) (AreRefused words) old new status

@@ -1,0 +1,130 @@
+// The dial of a line through a recording.
+ghost use Rattle.std.specs.Prelude.{◌≡◌, ◌++◌, OnOk, string_bytes};
+ghost use Rattle.std.specs.List.{flat_map};
+ghost use Rattle.xb_bench.specs.Benches.{bench_past, by_digits, said_past, told_by, told_left, told_text};
+
+use crate::dial::{Dial, Said};
+use crate::pieces::Pieces;
+use crate::setting::Setting;
+use crate::text::{push_ended, push_said};
+use crate::train::Train;
+use std::alloc::AllocError;
+use xb_contact::{Hold, Level, Scale};
+use xb_feed::{Follow, Manner, Tally};
+use xb_model::LineNo;
+
+/// A contact from its first level on, of which the digits are told.
+#[derive(Drop)]
+pub struct Bench {
+    setting: Setting,
+    scale: Scale,
+    pieces: Pieces,
+    // The tick of the recording at which its first level came.
+    start: u64,
+    level: Level,
+    // The short runs since the last piece that settled.
+    tally: Tally,
+    dial: Dial,
+}
+
+// Adds what is told of a line, if anything is.
+fn push_any(
+    setting: Setting,
+    text: &mut String,
+    line: LineNo,
+    scale: Scale,
+    said: Option<Said>,
+) -> Result<(), AllocError>
+    ensures { OnOk result (string_bytes text.new
+        ≡ string_bytes text.old ++ flat_map told_text (told_by setting line scale said)) }
+{
+    match said {
+        Some(said) => push_said(setting, text, line, scale, said),
+        None => Ok(()),
+    }
+}
+
+// Adds that the recording ends, if the line is off hook.
+fn push_left(
+    setting: Setting,
+    text: &mut String,
+    line: LineNo,
+    scale: Scale,
+    left: Option<Option<(Train, u64)>>,
+) -> Result<(), AllocError>
+    ensures { OnOk result (string_bytes text.new
+        ≡ string_bytes text.old ++ flat_map told_text (told_left setting line scale left)) }
+{
+    match left {
+        Some(pulses) => push_ended(setting, text, line, scale, pulses, "the recording ends"),
+        None => Ok(()),
+    }
+}
+
+impl Bench {
+    // A piece of the settled record: what is told with it.
+    fn take(&mut self, piece: Option<Hold>) -> Option<Said>
+        ensures after { self.new ≡ bench_past self.old piece }
+        ensures said { result ≡ said_past self.old piece }
+    {
+        let hold = piece?;
+        let (dial, said) = self.dial.take(hold, self.tally.bounces().longest);
+        self.dial = dial;
+        self.tally = self.tally.counted_anew();
+        said
+    }
+}
+
+impl Follow<Setting> for Bench {
+    ghost rules = { by_digits };
+
+    fn begin(
+        _manner: Manner,
+        common: Setting,
+        scale: Scale,
+        least: u64,
+        start: u64,
+        level: Level,
+    ) -> Bench {
+        Bench {
+            setting: common,
+            scale,
+            pieces: Pieces::new(least, level),
+            start,
+            level,
+            tally: Tally::new(least, level),
+            dial: Dial::new(common.limits, scale, level),
+        }
+    }
+
+    fn can_hold(&self, tick: u64) -> bool {
+        tick >= self.start
+            && tick - self.start >= self.pieces.now()
+            && self.scale.can_count(tick - self.start)
+    }
+
+    fn hold_until(&mut self, line: LineNo, tick: u64, text: &mut String) -> Result<(), AllocError> {
+        let (level, until) = (self.level, tick - self.start);
+        let ticks = until - self.pieces.now();
+        self.tally = self.tally.take(Hold { level, ticks });
+        let piece = self.pieces.take_until(level, until);
+        let said = self.take(piece);
+        push_any(self.setting, text, line, self.scale, said)
+    }
+
+    fn change(&mut self, level: Level) {
+        self.level = level;
+    }
+
+    // Nothing.
+    fn note(&self, _scale: Scale, _line: LineNo, _notes: &mut String) -> Result<(), AllocError> {
+        Ok(())
+    }
+
+    fn end(mut self, line: LineNo, text: &mut String) -> Result<(), AllocError> {
+        let piece = self.pieces.end();
+        let said = self.take(piece);
+        push_any(self.setting, text, line, self.scale, said)?;
+        push_left(self.setting, text, line, self.scale, self.dial.left())
+    }
+}

@@ -1,0 +1,31 @@
+//! `mfbench` but for its process: a recording of contacts in, what each digit says of its dial out.
+//!
+//! - `Bench` (`by_digits`): what follows the contact of a line, and tells of each digit in the moment in which its pause
+//!   is reached, or the line hangs up.
+//! - `attend` (`AttendsBench`): the words and the recording in. On status 0, exactly the lines of the digits that the
+//!   recording has, after the windows by which they are judged; on status 1, the fault of the recording.
+//! - `verdict_of`: how a dial is judged, by the tenths that are printed and the windows alone.
+#![tactic(auto)]
+
+mod bench;
+mod cells;
+mod dial;
+mod fault;
+mod figures;
+pub mod laws;
+mod pieces;
+mod program;
+mod setting;
+mod text;
+mod train;
+mod verdict;
+mod windows;
+mod words;
+
+pub use bench::Bench;
+pub use dial::Said;
+pub use fault::BenchFault;
+pub use program::attend;
+pub use setting::{Setting, Window, Windows};
+pub use train::{Spread, Train, Wrong};
+pub use verdict::{Verdict, verdict_of};

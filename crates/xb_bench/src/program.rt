@@ -1,0 +1,91 @@
+// The program: its words and a recording in, a status and the lines of digits out.
+ghost use Rattle.std.specs.Prelude.{◌≡◌, false, IfErr, OnOk, true};
+ghost use Rattle.xb_command.specs.Programs.{streams};
+ghost use Rattle.xb_command.specs.Commands.{texts_of};
+ghost use Rattle.xb_feed.specs.LackedWires.{lacks_wire};
+ghost use Rattle.xb_bench.specs.Program.{AttendsBench, FailsToPrint, PrintsDigits};
+
+use crate::bench::Bench;
+use crate::fault::BenchFault;
+use crate::setting::Setting;
+use crate::windows::header_of;
+use crate::words::request_of_words;
+use std::alloc::Global;
+use std::io::{Read, Write};
+use xb_command::{DONE, WordsFault, tell_fault, tell_words};
+use xb_feed::{RecordingFault, Request, lacks_wire, listen, plain_words};
+
+// The program's name.
+pub(crate) const PROGRAM: &str = "mfbench";
+
+// The line of refused words.
+const USAGE: &[u8] = b"mfbench: usage: mfbench --line N=WIRE[,inverted][,settle=MS]... \
+[--dial bell|gpo] [--speed FROM-TO] [--share FROM-TO] \
+[--format vcd|sigrok|saleae|edges|gpiomon|bits|bits16|s16|wav] [--rate HZ] [--settle MS] \
+[--threshold PERCENT] [--inverted]\n";
+
+// The fault of a recording; where it lacks a wire, with the names that are asked for.
+fn fault_of_recording<'a>(fault: RecordingFault, names: Vec<&'a str>) -> BenchFault<'a>
+    ensures plain { lacks_wire fault ≡ false → result ≡ BenchFault.Recording fault }
+    ensures names { lacks_wire fault ≡ true → result ≡ BenchFault.NoWire fault names.entry }
+{
+    if lacks_wire(&fault) {
+        BenchFault::NoWire(fault, names)
+    } else {
+        BenchFault::Recording(fault)
+    }
+}
+
+// Writes the windows, and what is told of the digits of a recording.
+fn run<'a, R: Read, W: Write>(
+    alloc: Global,
+    request: Request<'a, Setting>,
+    recording: &mut R,
+    out: &mut W,
+) -> Result<(), BenchFault<'a>>
+    ensures prints { OnOk result (PrintsDigits request.entry
+        (R.remaining recording.old) (W.contents out.old) (W.contents out.new)) }
+    ensures fault { IfErr result (λ fault. FailsToPrint request.entry fault
+        (R.remaining recording.old) (W.contents out.old) (W.contents out.new)) }
+{
+    let Ok(header) = header_of(alloc, request.common.windows) else {
+        return Err(BenchFault::NoMemory);
+    };
+    match listen::<Setting, Bench, R, W>(alloc, &request, b"", header.as_bytes(), recording, out) {
+        Ok(_notes) => Ok(()),
+        Err(fault) => Err(fault_of_recording(fault, request.wanted.wires)),
+    }
+}
+
+/// Reads the words of the command line, the program's name first, and by them writes the lines of the digits of a
+/// recording as it comes, after the windows by which they are judged. It returns the status of the process:
+///
+/// - `DONE`: the words ask for something, and `out` got exactly these lines;
+/// - `FAULT`: the recording has a fault, which `listen` of `xb_feed` has, or memory ran out; `err` gets the fault as one
+///   line, and `out` got the lines before it, or nothing;
+/// - `WORDS_REFUSED`: the words are refused, or ask for help; `err` gets the usage as one line, the recording is not
+///   read and `out` got nothing.
+///
+/// A fault in writing to `err` changes no status.
+pub fn attend<R: Read, W: Write, E: Write>(
+    alloc: Global,
+    words: &[String],
+    recording: &mut R,
+    out: &mut W,
+    err: &mut E,
+) -> u8
+    ensures { AttendsBench (texts_of words.now)
+        (streams (R.remaining recording.old) (W.contents out.old) (E.contents err.old))
+        (streams (R.remaining recording.new) (W.contents out.new) (E.contents err.new)) result }
+{
+    let Ok(words) = plain_words(alloc, words) else {
+        return tell_words(err, PROGRAM, USAGE, WordsFault::NoMemory);
+    };
+    match request_of_words(alloc, &words) {
+        Ok(request) => match run(alloc, request, recording, out) {
+            Ok(()) => DONE,
+            Err(fault) => tell_fault(alloc, err, PROGRAM, fault),
+        },
+        Err(fault) => tell_words(err, PROGRAM, USAGE, fault),
+    }
+}

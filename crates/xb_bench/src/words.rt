@@ -1,0 +1,79 @@
+// What the words of the command line ask for.
+ghost use Rattle.std.specs.Prelude.{◌≡◌, IfErr, IfOk};
+ghost use Rattle.xb_command.specs.Commands.{texts_of};
+ghost use Rattle.xb_bench.specs.Options.{ArePlainlyRefused, AsksPlainly, Say, SayNothing, are_plain, is_plain};
+
+use crate::program::PROGRAM;
+use crate::setting::Setting;
+use crate::windows::windows_said;
+use std::alloc::Global;
+use xb_command::{Takes, Words, WordsFault, read_words};
+use xb_feed::{AskedLine, Manner, Request, request_of};
+use xb_model::Limits;
+
+// The options of the program, each under its name, and the wires of the lines, which stand alone.
+const OPTIONS: [(&str, Takes); 9] = [
+    ("dial", Takes::Text),
+    ("speed", Takes::Text),
+    ("share", Takes::Text),
+    ("format", Takes::Text),
+    ("rate", Takes::Number),
+    ("settle", Takes::Number),
+    ("threshold", Takes::Number),
+    ("inverted", Takes::Nothing),
+    ("line", Takes::AllThatFollow),
+];
+
+// Whether a line is listened to so that its digits can be told: its runs settle in 1 ms or more, and each make seizes.
+fn is_plain(manner: Manner) -> bool
+    ensures { result ≡ is_plain manner }
+{
+    manner.settle_ms >= 1 && manner.seize_ms == 0 && !manner.ringing
+}
+
+// Whether all lines are.
+fn are_plain(lines: &[AskedLine]) -> bool
+    ensures { result ≡ are_plain lines.now }
+{
+    for line in lines {
+        if !is_plain(line.manner) {
+            return false;
+        }
+    }
+    true
+}
+
+// What words ask for.
+fn asked_of<'a>(alloc: Global, words: &Words<'a>) -> Result<Request<'a, Setting>, WordsFault>
+    ensures says { IfOk result (λ request. Say words.now request) }
+    ensures nothing { IfErr result (λ f. f ≡ WordsFault.Refused → SayNothing words.now) }
+{
+    let Some(windows) = windows_said(words.text("dial"), words.text("speed"), words.text("share"))
+    else {
+        return Err(WordsFault::Refused);
+    };
+    let setting = Setting {
+        alloc,
+        limits: Limits::standard(),
+        windows,
+    };
+    let request = request_of(alloc, words, setting)?;
+    if !are_plain(&request.lines) {
+        return Err(WordsFault::Refused);
+    }
+    Ok(request)
+}
+
+/// What the words ask for, the program's name first. They are refused where `clap` refuses them, a window or a kind of
+/// dial is none, a run settles in 0 ms, a make of a line is to seize only from some ms on, or what `request_of` refuses.
+pub(crate) fn request_of_words<'a>(
+    alloc: Global,
+    words: &'a [String],
+) -> Result<Request<'a, Setting>, WordsFault>
+    ensures asks { IfOk result (λ request. AsksPlainly (texts_of words.entry.now) request) }
+    ensures refused { IfErr result (λ f. f ≡ WordsFault.Refused
+        → ArePlainlyRefused (texts_of words.entry.now)) }
+{
+    let words = read_words(alloc, PROGRAM, &OPTIONS, words)?;
+    asked_of(alloc, &words)
+}
