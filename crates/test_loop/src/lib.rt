@@ -11,6 +11,10 @@ mod by_line;
 #[cfg(test)]
 mod forms;
 #[cfg(test)]
+mod listing;
+#[cfg(test)]
+mod losing;
+#[cfg(test)]
 mod refusals;
 #[cfg(test)]
 mod ringing;

@@ -8,7 +8,7 @@ use xb_loop::attend;
 const USAGE: &[u8] =
     b"mfloop: usage: mfloop --line N=WIRE[,inverted][,settle=MS][,seize=MS][,ringing]... \
 [--table FILE] [--format vcd|sigrok|saleae|edges|gpiomon|bits|bits16|s16|wav] [--rate HZ] [--settle MS] \
-[--seize MS] [--ringing] [--tick MS] [--threshold PERCENT] [--inverted] [--said]\n";
+[--seize MS] [--ringing] [--tick MS] [--threshold PERCENT] [--inverted] [--said] [--lossy]\n";
 
 const WORDS: &[&str] = &["--line", "7=1"];
 
@@ -17,7 +17,6 @@ const RECORDING: &[u8] = b"0,0\n0.010,1\n0.030,1\n";
 const ROWS: &[u8] = b"line,state,ms\n7,B,10\n7,M,20\n";
 
 const REFUSED: &[&[&str]] = &[
-    &[],
     &["--line", "7"],
     &["--line", "10000=1"],
     // more than four digits, as a record has none
@@ -44,6 +43,8 @@ const REFUSED: &[&[&str]] = &[
     &["--line", "7=1", "--ringing", "--seize", "65"],
     &["--line", "7=1,seize=0,ringing"],
     &["--line", "7=1", "--format", "csv"],
+    // edges are lost of gpiomon alone
+    &["--line", "7=1", "--lossy", "--format", "edges"],
     &["--line", "7=1", "--threshold", "0"],
     &["--line", "7=1", "--threshold", "100"],
     &["--line", "7=1", "--rate", "x"],

@@ -10,6 +10,7 @@ pub mod Joints
 pub mod Listening
 pub mod TimeLaws
 pub mod Changes
+pub mod Repeats
 pub mod Seizures
 pub mod Seizing
 pub mod SeizingLaws

@@ -1,13 +1,13 @@
 -- The names of a wire of which libgpiod 2 writes number and name.
-use Rattle.std.proofs.Common.{◌≡◌, ℕ, suc, ◌-◌, List, [], ◌∷◌, ◌++◌, Bool, true, false, cond, Some, None, length, length-append, take, drop, refl, ap, ◌∙◌, arith, codes, ◌&&◌, ◌||◌}
+use Rattle.std.proofs.Common.{◌≡◌, ℕ, suc, ◌-◌, List, [], ◌∷◌, ◌++◌, Bool, true, false, cond, Option, Some, None, length, length-append, take, drop, refl, ap, ◌∙◌, arith, codes, ◌&&◌, ◌||◌}
 use Rattle.std.proofs.Math.Seq.{take-append_seam}
 use Rattle.std.proofs.lemmas.Bool.Decides.{nat_tests}
 use Rattle.std.specs.Prelude.{bytes_eq, decimal, is_some, nat_le, slice_index, ◌==◌}
 use Rattle.xb_contact.specs.Numbers.{number_of}
 use Rattle.xb_contact.specs.Changes.{IsName}
-use Rattle.xb_contact.proofs.Written.{number_is_read}
+use Rattle.xb_contact.proofs.Written.{number_is_read, same_bytes}
 use Rattle.xb_csv.specs.Cells.{trimmed}
-use Rattle.xb_csv.specs.Gpiomons.{between, is_name, is_numbered, is_text, names_by, names_wire}
+use Rattle.xb_csv.specs.Gpiomons.{between, first_word, is_name, is_numbered, is_text, name_by, name_of_wire, names_by, names_wire, number_or_all}
 use Rattle.xb_csv.specs.Written.{LinesAreNamed, line_text, number_text, quoted_text}
 use Rattle.xb_csv.proofs.WrittenEdges.{BeginsBare, EndsBare, begins_more, chip_bare, decimal_name, ends_append, ends_more, name_begins, trimmed_same, word_cut}
 
@@ -61,3 +61,36 @@ lines_are_named number name own small some begins ends =
     (quoted-read name begins (some, ends))
     ∙ ap (λ b. bytes_eq own text || (bytes_eq own rest || (bytes_eq own digits || (bytes_eq own quoted || b))))
     (or-nothing (bytes_eq own name))
+
+-- a name that is found is one of the wire
+or-true : (test : Bool) → (test || true) ≡ true
+or-true true = refl
+or-true false = refl
+
+found-by : (text : List ℕ) (inner : Option (List ℕ)) → names_by (name_by text inner) text inner ≡ true
+found-by text (Some inner) = ap (λ t. bytes_eq inner text || t) (same_bytes inner) ∙ or-true (bytes_eq inner text)
+found-by text None = at (length rest == 0)
+  where
+    rest : List ℕ
+    rest = (first_word text).1
+
+    number : List ℕ
+    number = (first_word rest).0
+
+    by : (has : Bool) → is_some (number_of number) ≡ has → names_by (cond has number rest) text None ≡ true
+    by true e =
+        ap (λ t. bytes_eq number text || (bytes_eq number rest || (t && (bytes_eq number number || is_name number (first_word rest).1)))) e
+        ∙ ap (λ t. bytes_eq number text || (bytes_eq number rest || (t || is_name number (first_word rest).1))) (same_bytes number)
+        ∙ ap (λ t. bytes_eq number text || t) (or-true (bytes_eq number rest))
+        ∙ or-true (bytes_eq number text)
+    by false e =
+        ap (λ t. bytes_eq rest text || (t || is_numbered rest rest)) (same_bytes rest)
+        ∙ or-true (bytes_eq rest text)
+
+    at : (empty : Bool) → names_by (cond empty text (cond (is_some (number_of number)) number rest)) text None ≡ true
+    at true = ap (λ t. t || (bytes_eq text rest || is_numbered text rest)) (same_bytes text)
+    at false = by (is_some (number_of number)) refl
+
+pub name_is_found : (text : List ℕ) → names_wire (name_of_wire text) text ≡ true
+unfolding names_wire name_of_wire
+name_is_found text = found-by text (between 34 34 text)

@@ -1,7 +1,7 @@
 -- The levels of wires that rise and fall in turn.
 use Rattle.std.proofs.Common.{◌≡◌, ℕ, zero, suc, List, [], ◌∷◌, ◌++◌, Bool, true, false, cond, Option, Some, None, length, get_or, replicate, refl, ap, sym, ◌∙◌, eq-eqb, eqb-true, ne_eqb, not}
 use Rattle.std.proofs.lemmas.Bool.{and_parts}
-use Rattle.std.specs.Prelude.{Ok, Err, ◌==◌}
+use Rattle.std.specs.Prelude.{Ok, Err, ◌==◌, ◌&&◌}
 use Rattle.std.specs.Option.{unwrap_or}
 use Rattle.xb_contact.specs.declared.event.Refusal.TheVariants as refusals
 use Rattle.xb_contact.specs.declared.level.Level.{Level}
@@ -63,12 +63,13 @@ differs-here change rest level follows =
 
 -- so it is taken
 pub turn_taken :
-    (change : Change) (rest : List Change) (own : Option Level)
+    (lossy : Bool) (change : Change) (rest : List Change) (own : Option Level)
     → ((level : Level) → own ≡ Some level → next_differs change.wire level (change ∷ rest) ≡ true)
-    → edge_taken own change.level ≡ Ok (Some change.level)
-turn_taken change rest None follows = refl
-turn_taken change rest (Some level) follows =
-    ap (λ t. cond t (Err refusals.LostEdge) (Ok (Some change.level))) (differs-here change rest level (follows level refl))
+    → edge_taken lossy own change.level ≡ Ok (Some change.level)
+turn_taken lossy change rest None follows = refl
+turn_taken lossy change rest (Some level) follows =
+    ap (λ t. cond (t && not lossy) (Err refusals.LostEdge) (Ok (Some change.level)))
+    (differs-here change rest level (follows level refl))
 
 -- and the levels after it are followed by the rest
 known-after :

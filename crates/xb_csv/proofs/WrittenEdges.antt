@@ -248,48 +248,48 @@ own_name names wire level lawful within =
 
 -- the levels of wires after an edge: that of other ones, and of its own
 levels-none :
-    (name : List ℕ) (level : Level) (names : List (List ℕ)) (levels : List (Option Level)) → IsName name
+    (lossy : Bool) (name : List ℕ) (level : Level) (names : List (List ℕ)) (levels : List (Option Level)) → IsName name
     → AllByRecursion IsName names → AreOthers name names
-    → levels_after (codes "gpiochip0 " ++ name) level names levels ≡ Ok levels
-levels-none name level [] [] is words all = refl
-levels-none name level (own ∷ names) [] is words all = refl
-levels-none name level [] (last ∷ levels) is words all = refl
-levels-none name level (own ∷ names) (last ∷ levels) is words all =
-    let rest = levels_after (codes "gpiochip0 " ++ name) level names levels in
-    ap (λ t. result_and_then (λ now. result_map (λ later. now ∷ later) rest) (cond t (edge_taken last level) (Ok last)))
+    → levels_after lossy (codes "gpiochip0 " ++ name) level names levels ≡ Ok levels
+levels-none lossy name level [] [] is words all = refl
+levels-none lossy name level (own ∷ names) [] is words all = refl
+levels-none lossy name level [] (last ∷ levels) is words all = refl
+levels-none lossy name level (own ∷ names) (last ∷ levels) is words all =
+    let rest = levels_after lossy (codes "gpiochip0 " ++ name) level names levels in
+    ap (λ t. result_and_then (λ now. result_map (λ later. now ∷ later) rest) (cond t (edge_taken lossy last level) (Ok last)))
     (chip-named own name words.0 is ∙ all.0)
-    ∙ ap (result_map (λ later. last ∷ later)) (levels-none name level names levels is words.1 all.1)
+    ∙ ap (result_map (λ later. last ∷ later)) (levels-none lossy name level names levels is words.1 all.1)
 
 levels-one :
-    (name : List ℕ) (level : Level) (before after : List (List ℕ)) (firsts : List (Option Level)) (last : Option Level)
+    (lossy : Bool) (name : List ℕ) (level : Level) (before after : List (List ℕ)) (firsts : List (Option Level)) (last : Option Level)
     (lasts : List (Option Level)) → IsName name → AllByRecursion IsName (before ++ name ∷ after) → AreOthers name before
-    → AreOthers name after → length firsts ≡ length before → edge_taken last level ≡ Ok (Some level)
-    → levels_after (codes "gpiochip0 " ++ name) level (before ++ name ∷ after) (firsts ++ last ∷ lasts)
+    → AreOthers name after → length firsts ≡ length before → edge_taken lossy last level ≡ Ok (Some level)
+    → levels_after lossy (codes "gpiochip0 " ++ name) level (before ++ name ∷ after) (firsts ++ last ∷ lasts)
     ≡ Ok (firsts ++ Some level ∷ lasts)
-levels-one name level [] after [] last lasts is words first others even taken =
-    let rest = levels_after (codes "gpiochip0 " ++ name) level after lasts in
-    ap (λ t. result_and_then (λ now. result_map (λ later. now ∷ later) rest) (cond t (edge_taken last level) (Ok last)))
+levels-one lossy name level [] after [] last lasts is words first others even taken =
+    let rest = levels_after lossy (codes "gpiochip0 " ++ name) level after lasts in
+    ap (λ t. result_and_then (λ now. result_map (λ later. now ∷ later) rest) (cond t (edge_taken lossy last level) (Ok last)))
     (chip-named name name is is ∙ same_bytes name)
     ∙ ap (result_and_then (λ now. result_map (λ later. now ∷ later) rest)) taken
-    ∙ ap (result_map (λ later. Some level ∷ later)) (levels-none name level after lasts is words.1 others)
-levels-one name level (own ∷ before) after (one ∷ firsts) last lasts is words first others even taken =
-    let rest = levels_after (codes "gpiochip0 " ++ name) level (before ++ name ∷ after) (firsts ++ last ∷ lasts) in
-    ap (λ t. result_and_then (λ now. result_map (λ later. now ∷ later) rest) (cond t (edge_taken one level) (Ok one)))
+    ∙ ap (result_map (λ later. Some level ∷ later)) (levels-none lossy name level after lasts is words.1 others)
+levels-one lossy name level (own ∷ before) after (one ∷ firsts) last lasts is words first others even taken =
+    let rest = levels_after lossy (codes "gpiochip0 " ++ name) level (before ++ name ∷ after) (firsts ++ last ∷ lasts) in
+    ap (λ t. result_and_then (λ now. result_map (λ later. now ∷ later) rest) (cond t (edge_taken lossy one level) (Ok one)))
     (chip-named own name words.0 is ∙ first.0)
     ∙ ap (result_map (λ later. one ∷ later))
-    (levels-one name level before after firsts last lasts is words.1 first.1 others (omega arith) taken)
-levels-one name level [] after (one ∷ firsts) last lasts is words first others even taken = absurd (omega arith)
-levels-one name level (own ∷ before) after [] last lasts is words first others even taken = absurd (omega arith)
+    (levels-one lossy name level before after firsts last lasts is words.1 first.1 others (omega arith) taken)
+levels-one lossy name level [] after (one ∷ firsts) last lasts is words first others even taken = absurd (omega arith)
+levels-one lossy name level (own ∷ before) after [] last lasts is words first others even taken = absurd (omega arith)
 
 -- so an edge is taken, after which the rest are still edges
 edge-taken :
-    (names : List (List ℕ)) (levels : List (Option Level)) (edge : Change) (rest : List Change) → AreNames names
+    (lossy : Bool) (names : List (List ℕ)) (levels : List (Option Level)) (edge : Change) (rest : List Change) → AreNames names
     → edge.wire < length names → length levels ≡ length names → are_edges (edge ∷ rest) ≡ true
     → AreFollowed levels (edge ∷ rest)
     → (new : List (Option Level))
-    × (levels_after (codes "gpiochip0 " ++ get_or names edge.wire []) edge.level names levels ≡ Ok new)
+    × (levels_after lossy (codes "gpiochip0 " ++ get_or names edge.wire []) edge.level names levels ≡ Ok new)
     × (length new ≡ length names) × AreFollowed new rest
-edge-taken names levels edge rest lawful within same turns follows =
+edge-taken lossy names levels edge rest lawful within same turns follows =
     let wire : ℕ = edge.wire in
     let name : List ℕ = get_or names wire [] in
     let text : List ℕ = codes "gpiochip0 " ++ name in
@@ -312,28 +312,28 @@ edge-taken names levels edge rest lawful within same turns follows =
     let longer : length new ≡ length names =
     omega (arith, same, ap length own, length-append firsts (old ∷ lasts), length-append firsts (Some edge.level ∷ lasts)) in (
       new,
-      ap (λ them. levels_after text edge.level them levels) all
-          ∙ ap (levels_after text edge.level (before ++ name ∷ after)) own
-          ∙ levels-one name edge.level before after firsts old lasts is words apart.0 apart.1 even
-          (turn_taken edge rest old (follows wire)),
+      ap (λ them. levels_after lossy text edge.level them levels) all
+          ∙ ap (levels_after lossy text edge.level (before ++ name ∷ after)) own
+          ∙ levels-one lossy name edge.level before after firsts old lasts is words apart.0 apart.1 even
+          (turn_taken lossy edge rest old (follows wire)),
       longer,
       turn_followed firsts lasts old edge rest count turns (subst R own follows),
     )
 
 -- a line
 line-read :
-    (names : List (List ℕ)) (levels new : List (Option Level)) (last : Option ℕ) (edge : Change) → AreNames names
+    (lossy : Bool) (names : List (List ℕ)) (levels new : List (Option Level)) (last : Option ℕ) (edge : Change) → AreNames names
     → edge.wire < length names → 2 ^ 62 ≤ edge.tick → edge.tick < 2 ^ 63 → is_before edge.tick last ≡ false
-    → levels_after (codes "gpiochip0 " ++ get_or names edge.wire []) edge.level names levels ≡ Ok new
-    → gpiomon_line_says (gpiomon_by names levels last) (edge_line names edge)
-    ≡ Ok (time_said last edge.tick ++ events.Level edge.wire edge.level ∷ [], gpiomon_by names new (Some edge.tick))
-line-read names levels new last edge lawful within late early order taken =
+    → levels_after lossy (codes "gpiochip0 " ++ get_or names edge.wire []) edge.level names levels ≡ Ok new
+    → gpiomon_line_says (gpiomon_by lossy names levels last) (edge_line names edge)
+    ≡ Ok (time_said last edge.tick ++ events.Level edge.wire edge.level ∷ [], gpiomon_by lossy names new (Some edge.tick))
+line-read lossy names levels new last edge lawful within late early order taken =
     let name : List ℕ = get_or names edge.wire [] in
     let own = own_name names edge.wire edge.level lawful within in
     let time : List ℕ = seconds_text edge.tick in
     let later : List ℕ = 32 ∷ (way_text edge.level ++ (codes " gpiochip0 " ++ name)) in
     let line : List ℕ = time ++ later in
-    let state : GpiomonState = gpiomon_by names levels last in
+    let state : GpiomonState = gpiomon_by lossy names levels last in
     let said : List Event = time_said last edge.tick in
     let small : edge.tick < 2 ^ 64 = omega arith in
     let some : 0 < length line = omega (arith, length-append time later, seconds_nonempty edge.tick small) in
@@ -349,42 +349,42 @@ line-read names levels new last edge lawful within late early order taken =
     ∙ ap (λ t. cond t (Ok ([], state)) (edge_line_says state line)) (ne_eqb (length line) 0 (λ e. absurd (omega (arith, some))))
     ∙ ap (λ found. result_and_then (λ edge. result_and_then (λ time. edge_says state edge time) (ok_or (nanoseconds_of edge.time) refusals.Time)) (ok_or found refusals.Edge)) read
     ∙ ap (λ found. result_and_then (λ time. edge_says state (edge_with (seconds_text edge.tick) chip edge.level) time) (ok_or found refusals.Time)) (seconds_are_read edge.tick late early)
-    ∙ ap (λ t. cond t (Err refusals.Backwards) (result_map (λ now. (said ++ named_levels 0 chip edge.level names, gpiomon_by names now (Some edge.tick))) (levels_after chip edge.level names levels))) order
-    ∙ ap (result_map (λ now. (said ++ named_levels 0 chip edge.level names, gpiomon_by names now (Some edge.tick)))) taken
-    ∙ ap (λ named. Ok (said ++ named, gpiomon_by names new (Some edge.tick))) own.1
+    ∙ ap (λ t. cond t (Err refusals.Backwards) (result_map (λ now. (said ++ named_levels 0 chip edge.level names, gpiomon_by lossy names now (Some edge.tick))) (levels_after lossy chip edge.level names levels))) order
+    ∙ ap (result_map (λ now. (said ++ named_levels 0 chip edge.level names, gpiomon_by lossy names now (Some edge.tick)))) taken
+    ∙ ap (λ named. Ok (said ++ named, gpiomon_by lossy names new (Some edge.tick))) own.1
 
 -- the edges after one at this tick
 rest-read :
-    (names : List (List ℕ)) (levels : List (Option Level)) (tick end : ℕ) (edges : List Change) → AreNames names
+    (lossy : Bool) (names : List (List ℕ)) (levels : List (Option Level)) (tick end : ℕ) (edges : List Change) → AreNames names
     → are_edges edges ≡ true → AreInOrder (length names) tick edges end → length levels ≡ length names
     → AreFollowed levels edges → 2 ^ 62 ≤ tick → end < 2 ^ 63
-    → gpiomon_says (gpiomon_by names levels (Some tick)) (edge_lines names edges) ≡ Ok (change_events edges)
-rest-read names levels tick end [] lawful turns order same follows late early = refl
-rest-read names levels tick end (edge ∷ rest) lawful turns order same follows late early =
+    → gpiomon_says (gpiomon_by lossy names levels (Some tick)) (edge_lines names edges) ≡ Ok (change_events edges)
+rest-read lossy names levels tick end [] lawful turns order same follows late early = refl
+rest-read lossy names levels tick end (edge ∷ rest) lawful turns order same follows late early =
     let after : edge.tick ≤ end = never_after_end (length names) edge.tick rest end order.2 in
     let next : tick ≤ edge.tick = order.1 in
     let parts = and_parts (next_differs edge.wire edge.level rest) (are_edges rest) turns in
-    let taken = edge-taken names levels edge rest lawful order.0 same turns follows in
+    let taken = edge-taken lossy names levels edge rest lawful order.0 same turns follows in
     let said : List Event = events.At edge.tick ∷ [] in
     let times : is_before edge.tick (Some tick) ≡ false = grind (arith, nat_tests) in
-    line_says gpiomon_line_says gpiomon_ends (gpiomon_by names levels (Some tick)) (gpiomon_by names taken.0 (Some edge.tick))
+    line_says gpiomon_line_says gpiomon_ends (gpiomon_by lossy names levels (Some tick)) (gpiomon_by lossy names taken.0 (Some edge.tick))
     (edge_line names edge) (edge_lines names rest) (said ++ events.Level edge.wire edge.level ∷ [])
-    (line-read names levels taken.0 (Some tick) edge lawful order.0 (omega arith) (omega arith) times taken.1)
+    (line-read lossy names levels taken.0 (Some tick) edge lawful order.0 (omega arith) (omega arith) times taken.1)
     ∙ ap (then_later (said ++ events.Level edge.wire edge.level ∷ []))
-    (rest-read names taken.0 edge.tick end rest lawful parts.1 order.2 taken.2 taken.3 (omega arith) early)
+    (rest-read lossy names taken.0 edge.tick end rest lawful parts.1 order.2 taken.2 taken.3 (omega arith) early)
 
 pub written_edges_are_read : WrittenEdgesAreRead
-written_edges_are_read names [] end lawful turns order early = refl
-written_edges_are_read names (edge ∷ rest) end lawful turns order early =
+written_edges_are_read lossy names [] end lawful turns order early = refl
+written_edges_are_read lossy names (edge ∷ rest) end lawful turns order early =
     let after : edge.tick ≤ end = never_after_end (length names) edge.tick rest end order.2 in
     let late : 2 ^ 62 ≤ edge.tick = order.1 in
     let parts = and_parts (next_differs edge.wire edge.level rest) (are_edges rest) turns in
     let levels : List (Option Level) = replicate (length names) None in
     let same : length levels ≡ length names = length-replicate (length names) None in
-    let taken = edge-taken names levels edge rest lawful order.0 same turns (none_followed (length names) (edge ∷ rest)) in
+    let taken = edge-taken lossy names levels edge rest lawful order.0 same turns (none_followed (length names) (edge ∷ rest)) in
     let said : List Event = events.Ticks NANOSECONDS ∷ events.At edge.tick ∷ [] in
-    line_says gpiomon_line_says gpiomon_ends (gpiomon_with names None) (gpiomon_by names taken.0 (Some edge.tick))
+    line_says gpiomon_line_says gpiomon_ends (gpiomon_with lossy names None) (gpiomon_by lossy names taken.0 (Some edge.tick))
     (edge_line names edge) (edge_lines names rest) (said ++ events.Level edge.wire edge.level ∷ [])
-    (line-read names levels taken.0 None edge lawful order.0 late (omega arith) refl taken.1)
+    (line-read lossy names levels taken.0 None edge lawful order.0 late (omega arith) refl taken.1)
     ∙ ap (then_later (said ++ events.Level edge.wire edge.level ∷ []))
-    (rest-read names taken.0 edge.tick end rest lawful parts.1 order.2 taken.2 taken.3 late early)
+    (rest-read lossy names taken.0 edge.tick end rest lawful parts.1 order.2 taken.2 taken.3 late early)

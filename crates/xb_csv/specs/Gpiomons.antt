@@ -1,5 +1,5 @@
 -- What gpiomon writes, line by line.
-use Rattle.std.specs.Prelude.{ℕ, ◌+◌, ◌-◌, List, [], ◌∷◌, ◌++◌, Bool, false, Option, Some, None, Result, Ok, Err, bytes_eq, codes, drop, is_some, length, map, nat_le, nat_eq, replicate, slice_index, take, ◌==◌, ◌&&◌, ◌||◌, if◌then◌else◌, option_map}
+use Rattle.std.specs.Prelude.{ℕ, ◌+◌, ◌-◌, List, [], ◌∷◌, ◌++◌, Bool, false, Option, Some, None, Result, Ok, Err, bytes_eq, codes, drop, is_some, length, map, nat_le, nat_eq, not, replicate, slice_index, take, ◌==◌, ◌&&◌, ◌||◌, if◌then◌else◌, option_map}
 use Rattle.std.specs.List.{position, starts_with}
 use Rattle.std.specs.Option.{ok_or, option_and_then}
 use Rattle.xb_contact.specs.declared.scale.TheConstants.{NANOSECONDS}
@@ -97,6 +97,20 @@ names_by name text None =
 unfoldable pub names_wire : List ℕ → List ℕ → Bool
 names_wire name text = names_by name text (between 34 34 text)
 
+-- one of these names: what stands in quotes; else what stands after the chip, if anything does, and of that the number, if
+-- it begins with one
+abbrev pub number_or_all : List ℕ → List ℕ → List ℕ
+number_or_all text number = if is_some (number_of number) then number else text
+
+abbrev pub name_by : List ℕ → Option (List ℕ) → List ℕ
+name_by text (Some inner) = inner
+name_by text None =
+    if length (first_word text).1 == 0 then text
+    else number_or_all (first_word text).1 (first_word (first_word text).1).0
+
+unfoldable pub name_of_wire : List ℕ → List ℕ
+name_of_wire text = name_by text (between 34 34 text)
+
 -- what libgpiod 2 writes: the time, how it changes, and the wire
 unfoldable pub second_kind : List ℕ → Option EdgeSaid
 second_kind line =
@@ -108,38 +122,47 @@ second_kind line =
 abbrev pub edge_of : List ℕ → Option EdgeSaid
 edge_of line = if starts_with nat_eq line (codes "event:") then first_kind line else second_kind line
 
--- the wires that are asked for, the level of each that an edge has told, and the last time, if there is one
+-- the name of the wire whose edge a line tells
+abbrev pub wire_of_edge : List ℕ → Option (List ℕ)
+wire_of_edge line = option_map (λ edge. name_of_wire edge.wire) (edge_of (trimmed line))
+
+-- whether edges may be lost, the wires that are asked for, the level of each that an edge has told, and the last time,
+-- if there is one
 pub record GpiomonState : Type 0 where
+  pub lossy : Bool
   pub names : List (List ℕ)
   pub levels : List (Option Level)
   pub last : Option ℕ
 
-abbrev pub gpiomon_by : List (List ℕ) → List (Option Level) → Option ℕ → GpiomonState
-gpiomon_by names levels last = record { names = names; levels = levels; last = last }
+abbrev pub gpiomon_by : Bool → List (List ℕ) → List (Option Level) → Option ℕ → GpiomonState
+gpiomon_by lossy names levels last = record { lossy = lossy; names = names; levels = levels; last = last }
 
 -- no edge of them has come
-abbrev pub gpiomon_with : List (List ℕ) → Option ℕ → GpiomonState
-gpiomon_with names last = gpiomon_by names (replicate (length names) None) last
+abbrev pub gpiomon_with : Bool → List (List ℕ) → Option ℕ → GpiomonState
+gpiomon_with lossy names last = gpiomon_by lossy names (replicate (length names) None) last
 
 abbrev pub gpiomon_state : Gpiomon → GpiomonState
 gpiomon_state gpiomon =
-    gpiomon_by (map (λ name. name.now) gpiomon.names.now) gpiomon.levels.items gpiomon.last
+    gpiomon_by gpiomon.lossy (map (λ name. name.now) gpiomon.names.now) gpiomon.levels.items gpiomon.last
 
--- a wire rises and falls in turn: where it does the same again, the edge between is lost
-abbrev pub edge_taken : Option Level → Level → Result (Option Level) Refusal
-edge_taken None level = Ok (Some level)
-edge_taken (Some last) level = if same_level last level then Err refusals.LostEdge else Ok (Some level)
+-- a wire rises and falls in turn: where it does the same again, the edge between is lost, and that is refused unless edges
+-- may be lost
+abbrev pub edge_taken : Bool → Option Level → Level → Result (Option Level) Refusal
+edge_taken lossy None level = Ok (Some level)
+edge_taken lossy (Some last) level =
+    if same_level last level && not lossy then Err refusals.LostEdge else Ok (Some level)
 
 -- the levels of the wires after an edge of those that a text names
-abbrev pub level_taken : List ℕ → Level → List ℕ → Option Level → Result (Option Level) Refusal
-level_taken text level name own = if names_wire name text then edge_taken own level else Ok own
+abbrev pub level_taken : Bool → List ℕ → Level → List ℕ → Option Level → Result (Option Level) Refusal
+level_taken lossy text level name own = if names_wire name text then edge_taken lossy own level else Ok own
 
-abbrev pub levels_after : List ℕ → Level → List (List ℕ) → List (Option Level) → Result (List (Option Level)) Refusal
-levels_after text level names [] = Ok []
-levels_after text level [] (own ∷ rest) = Ok (own ∷ rest)
-levels_after text level (name ∷ names) (own ∷ rest) =
-    result_and_then (λ now. result_map (λ later. now ∷ later) (levels_after text level names rest))
-    (level_taken text level name own)
+abbrev pub levels_after :
+    Bool → List ℕ → Level → List (List ℕ) → List (Option Level) → Result (List (Option Level)) Refusal
+levels_after lossy text level names [] = Ok []
+levels_after lossy text level [] (own ∷ rest) = Ok (own ∷ rest)
+levels_after lossy text level (name ∷ names) (own ∷ rest) =
+    result_and_then (λ now. result_map (λ later. now ∷ later) (levels_after lossy text level names rest))
+    (level_taken lossy text level name own)
 
 -- the wires that a text names, from this one on, have a level
 abbrev pub named_levels : ℕ → List ℕ → Level → List (List ℕ) → List Event
@@ -160,9 +183,9 @@ edge_says state edge time =
     else result_map
     (λ levels. (
       time_said state.last time ++ named_levels 0 edge.wire edge.level state.names,
-      gpiomon_by state.names levels (Some time),
+      gpiomon_by state.lossy state.names levels (Some time),
     ))
-    (levels_after edge.wire edge.level state.names state.levels)
+    (levels_after state.lossy edge.wire edge.level state.names state.levels)
 
 -- a line that is not empty
 abbrev pub edge_line_says : GpiomonState → List ℕ → Said GpiomonState

@@ -5,5 +5,6 @@ pub mod WorkedTables
 pub mod WorkedRates
 pub mod Gpiomons
 pub mod WorkedEdges
+pub mod LostEdges
 pub mod Written
 pub mod WrittenTables

@@ -4,7 +4,7 @@ use Rattle.xb_contact.specs.declared.event.Event.TheVariants.{At, Level, Ticks}
 use Rattle.xb_contact.specs.declared.event.Refusal.TheVariants as refusals
 use Rattle.xb_contact.specs.declared.level.Level.TheVariants.{Open, Closed}
 use Rattle.xb_contact.specs.Times.{scale_by}
-use Rattle.xb_csv.specs.Gpiomons.{GpiomonState, gpiomon_says, gpiomon_with, names_wire}
+use Rattle.xb_csv.specs.Gpiomons.{GpiomonState, gpiomon_says, gpiomon_with, name_of_wire, names_wire}
 
 -- what libgpiod 2 writes of line 17, by its chip, of which the line has the name `my line`
 abbrev pub of_chip : List ℕ
@@ -24,10 +24,15 @@ pub record WiresAreNamed : Type 0 where
   pub beginning : names_wire (codes "my") of_chip ≡ false
   pub half_a_name : names_wire (codes "line\"") (codes "\"my line\"") ≡ false
   pub chip : names_wire (codes "gpiochip0") of_chip ≡ false
+  pub found : (text : List ℕ) → names_wire (name_of_wire text) text ≡ true
+  pub found_number : name_of_wire of_chip ≡ codes "17"
+  pub found_name : name_of_wire (codes "\"my line\"") ≡ codes "my line"
+  pub found_unquoted : name_of_wire (codes "gpiochip0 my line") ≡ codes "my line"
+  pub found_alone : name_of_wire (codes "17") ≡ codes "17"
 
 -- the wires are 17 and LOOP
 abbrev pub two_lines : GpiomonState
-two_lines = gpiomon_with (codes "17" ∷ codes "LOOP" ∷ []) None
+two_lines = gpiomon_with false (codes "17" ∷ codes "LOOP" ∷ []) None
 
 pub record EdgesAreRead : Type 0 where
   pub of_libgpiod_1 :
@@ -43,6 +48,11 @@ pub record EdgesAreRead : Type 0 where
       gpiomon_says two_lines (codes "1.5 rising gpiochip0 4" ∷ codes "1.4 falling gpiochip0 4" ∷ []) ≡ Err refusals.Backwards
   pub lost :
       gpiomon_says two_lines (codes "1.5 rising gpiochip0 17" ∷ codes "1.6 rising gpiochip0 17" ∷ []) ≡ Err refusals.LostEdge
+  pub lost_and_allowed :
+      gpiomon_says (record two_lines { lossy = true })
+      (codes "1.5 rising gpiochip0 17" ∷ codes "1.6 rising gpiochip0 17" ∷ codes "1.7 falling gpiochip0 17" ∷ [])
+      ≡ Ok (Ticks (scale_by 1 1000000) ∷ At (2 ^ 62 + 1500000000) ∷ Level 0 Closed ∷ At (2 ^ 62 + 1600000000) ∷ Level 0 Closed
+      ∷ At (2 ^ 62 + 1700000000) ∷ Level 0 Open ∷ [])
   pub lost_elsewhere :
       gpiomon_says two_lines (codes "1.5 rising gpiochip0 4" ∷ codes "1.6 rising gpiochip0 4" ∷ [])
       ≡ Ok (Ticks (scale_by 1 1000000) ∷ At (2 ^ 62 + 1500000000) ∷ At (2 ^ 62 + 1600000000) ∷ [])

@@ -55,9 +55,9 @@ are_edges (change ∷ rest) = next_differs change.wire change.level rest && are_
 -- edges that are written so are read back as they are
 abbrev pub WrittenEdgesAreRead : Type 0
 WrittenEdgesAreRead =
-    (names : List (List ℕ)) (edges : List Change) (end : ℕ) → AreNames names → are_edges edges ≡ true
+    (lossy : Bool) (names : List (List ℕ)) (edges : List Change) (end : ℕ) → AreNames names → are_edges edges ≡ true
     → AreInOrder (length names) (2 ^ 62) edges end → end < 2 ^ 63
-    → gpiomon_says (gpiomon_with names None) (edge_lines names edges) ≡ Ok (edge_events edges)
+    → gpiomon_says (gpiomon_with lossy names None) (edge_lines names edges) ≡ Ok (edge_events edges)
 
 -- what libgpiod 2 writes of a line of a chip that has a name: the chip, the number, and the name in quotes
 abbrev pub quoted_text : List ℕ → List ℕ

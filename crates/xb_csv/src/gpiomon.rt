@@ -2,7 +2,7 @@
 ghost use Rattle.std.specs.Prelude.{◌≡◌, ◌++◌, ◌∷◌, ◌<◌, [], Err, IfErr, IfOk, IfSome, Ok, OnOk, is_some, length, map, option_copied, option_map};
 ghost use Rattle.std.specs.List.{position};
 ghost use Rattle.xb_contact.specs.Steps.{Adds, IsRefusedBy};
-ghost use Rattle.xb_csv.specs.Gpiomons.{between, edge_line_says, edge_of, edge_said, edge_says, edge_taken, first_kind, first_word, gpiomon_line_says, gpiomon_says, gpiomon_state, gpiomon_with, is_gap, is_name, is_numbered, level_after, level_taken, levels_after, named_levels, names_wire, second_kind, time_said};
+ghost use Rattle.xb_csv.specs.Gpiomons.{between, edge_line_says, edge_of, edge_said, edge_says, edge_taken, first_kind, first_word, gpiomon_line_says, gpiomon_says, gpiomon_state, gpiomon_with, is_gap, is_name, is_numbered, level_after, level_taken, levels_after, name_of_wire, named_levels, names_wire, second_kind, time_said, wire_of_edge};
 
 use crate::cells::trimmed;
 use crate::seconds::nanoseconds_of;
@@ -10,9 +10,13 @@ use std::alloc::Global;
 use xb_contact::{Event, Level, NANOSECONDS, Refusal, is_before, number_of, say};
 
 /// The reader of what gpiomon writes, of libgpiod 1 and 2: a line for each edge. A wire has the number of its
-/// line, and, where libgpiod 2 writes it, its name, with quotes or without. It rises and falls in turn.
+/// line, and, where libgpiod 2 writes it, its name, with quotes or without. It rises and falls in turn: where two edges of
+/// one direction follow each other, one between them is lost. That is refused, unless edges may be lost; then the
+/// second one is said as it stands, and changes no level.
 #[derive(Drop)]
 pub struct Gpiomon<'a> {
+    // Whether edges may be lost.
+    lossy: bool,
     names: &'a [&'a str],
     // The level of each wire, once an edge has told it.
     levels: Vec<Option<Level>>,
@@ -43,9 +47,9 @@ fn gap_in(text: &[u8]) -> Option<usize>
     text.iter().position(|byte| is_gap(*byte))
 }
 
-// The first word of a text, and what follows it.
+/// The first word of a text, and what follows it. Words are parted by spaces and tabs.
 #[tactic(auto, unfolding(crate::specs::Gpiomons::first_word))]
-fn first_word(text: &[u8]) -> (&[u8], &[u8])
+pub fn first_word(text: &[u8]) -> (&[u8], &[u8])
     ensures word { result.0.now ≡ (first_word text.now).0 }
     ensures rest { result.1.now ≡ (first_word text.now).1 }
 {
@@ -178,27 +182,59 @@ pub fn is_of_gpiomon(line: &[u8]) -> bool
     edge_of(line).is_some()
 }
 
-// The level of a wire after an edge, which was not that level before.
-fn edge_taken(own: Option<Level>, level: Level) -> Result<Option<Level>, Refusal>
-    ensures { result ≡ edge_taken own level }
+// A name of the wire of which gpiomon writes this text: what stands in quotes, or else after the chip, and of that the
+// number, if it begins with one.
+#[tactic(auto, unfolding(crate::specs::Gpiomons::name_of_wire))]
+fn name_of_wire(text: &[u8]) -> &[u8]
+    ensures { result.now ≡ name_of_wire text.now }
+{
+    if let Some(inner) = between(text, b'"', b'"') {
+        return inner;
+    }
+    let (_, rest) = first_word(text);
+    if rest.is_empty() {
+        return text;
+    }
+    let (number, _) = first_word(rest);
+    if number_of(number).is_some() {
+        number
+    } else {
+        rest
+    }
+}
+
+/// A name of the wire whose edge this line of gpiomon tells, if it tells one.
+pub fn wire_of_edge(line: &[u8]) -> Option<&[u8]>
+    ensures { option_copied result ≡ wire_of_edge line.now }
+{
+    match edge_of(trimmed(line)) {
+        Some(edge) => Some(name_of_wire(edge.wire)),
+        None => None,
+    }
+}
+
+// The level of a wire after an edge, which was not that level before, unless edges may be lost.
+fn edge_taken(lossy: bool, own: Option<Level>, level: Level) -> Result<Option<Level>, Refusal>
+    ensures { result ≡ edge_taken lossy own level }
 {
     match own {
-        Some(last) if last == level => Err(Refusal::LostEdge),
+        Some(last) if last == level && !lossy => Err(Refusal::LostEdge),
         Some(_) | None => Ok(Some(level)),
     }
 }
 
 // The level of the wire of this name after an edge of those that a text names.
 fn level_taken(
+    lossy: bool,
     name: &str,
     text: &[u8],
     own: Option<Level>,
     level: Level,
 ) -> Result<Option<Level>, Refusal>
-    ensures { result ≡ level_taken text.now level name.now own }
+    ensures { result ≡ level_taken lossy text.now level name.now own }
 {
     if names_wire(name.as_bytes(), text) {
-        edge_taken(own, level)
+        edge_taken(lossy, own, level)
     } else {
         Ok(own)
     }
@@ -206,19 +242,20 @@ fn level_taken(
 
 // The wires that a text names have an edge.
 fn take_levels(
+    lossy: bool,
     names: &[&str],
     text: &[u8],
     level: Level,
     levels: &mut [Option<Level>],
 ) -> Result<(), Refusal>
     ensures said { OnOk result
-        (levels_after text.now level (map (λ name. name.now) names.now) levels.old ≡ Ok levels.new) }
+        (levels_after lossy text.now level (map (λ name. name.now) names.now) levels.old ≡ Ok levels.new) }
     ensures refused { IfErr result (λ e.
-        levels_after text.now level (map (λ name. name.now) names.now) levels.old ≡ Err e) }
+        levels_after lossy text.now level (map (λ name. name.now) names.now) levels.old ≡ Err e) }
 {
     for (i, own) in levels.iter_mut().enumerate() {
         match names.get(i) {
-            Some(name) => *own = level_taken(name, text, *own, level)?,
+            Some(name) => *own = level_taken(lossy, name, text, *own, level)?,
             None => return Ok(()),
         }
     }
@@ -259,10 +296,11 @@ fn say_time(last: Option<u64>, time: u64, events: &mut Vec<Event>) -> Result<(),
 }
 
 impl<'a> Gpiomon<'a> {
-    /// A reader that has read nothing. The wires are those of these names. It is refused where memory runs out.
-    pub fn new(alloc: Global, names: &'a [&'a str]) -> Result<Gpiomon<'a>, Refusal>
+    /// A reader that has read nothing. The wires are those of these names; `lossy` says whether edges may be lost. It is
+    /// refused where memory runs out.
+    pub fn new(alloc: Global, lossy: bool, names: &'a [&'a str]) -> Result<Gpiomon<'a>, Refusal>
         ensures begun { IfOk result (λ gpiomon.
-            gpiomon_state gpiomon ≡ gpiomon_with (map (λ name. name.now) names.now) None) }
+            gpiomon_state gpiomon ≡ gpiomon_with lossy (map (λ name. name.now) names.now) None) }
         ensures only { IfErr result (λ e. e ≡ Refusal.NoMemory) }
     {
         let mut levels = Vec::new(alloc);
@@ -272,6 +310,7 @@ impl<'a> Gpiomon<'a> {
             }
         }
         Ok(Gpiomon {
+            lossy,
             names,
             levels,
             last: None,
@@ -293,7 +332,13 @@ impl<'a> Gpiomon<'a> {
         if is_before(time, self.last) {
             return Err(Refusal::Backwards);
         }
-        take_levels(self.names, edge.wire, edge.level, &mut self.levels)?;
+        take_levels(
+            self.lossy,
+            self.names,
+            edge.wire,
+            edge.level,
+            &mut self.levels,
+        )?;
         say_time(self.last, time, events)?;
         self.last = Some(time);
         say_named(self.names, edge.wire, edge.level, events)
@@ -326,6 +371,7 @@ impl<'a> Gpiomon<'a> {
         }
         self.take_edge_line(line, events)
     }
+
     /// The last line, after which nothing is left to be said. After an `Err` the reader is not to be used again.
     pub fn end(&mut self, line: &[u8], events: &mut Vec<Event>) -> Result<(), Refusal>
         requires { events.old.items ≡ [] }

@@ -1,4 +1,5 @@
 //! What the definitions of `specs/` come to: each law is the contract of a function that does nothing.
+ghost use Rattle.xb_csv.specs.LostEdges.{LostEdgesAreSaid};
 ghost use Rattle.xb_csv.specs.WorkedEdges.{EdgesAreRead, WiresAreNamed};
 ghost use Rattle.xb_csv.specs.WorkedRates.{PeriodsAreCut, RatesAreRead};
 ghost use Rattle.xb_csv.specs.WorkedTables.{SecondsAreRead, TablesAreRead};
@@ -30,7 +31,8 @@ pub fn tables_are_read()
     ensures { TablesAreRead }
 {}
 
-/// Which names a wire has of which gpiomon writes some texts, and which it has not.
+/// Which names a wire has of which gpiomon writes some texts, and which it has not; and that the name which is found of
+/// any text is one of its wire.
 pub fn wires_are_named()
     ensures { WiresAreNamed }
 {}
@@ -50,6 +52,13 @@ pub fn edges_are_read()
 /// have names of their own, each rises and falls in turn, no time is before the one above, and all are below 2^62 ns.
 pub fn written_edges_are_read()
     ensures { WrittenEdgesAreRead }
+{}
+
+/// What is said of a wire of gpiomon are the levels after its edges, so a lost edge is a level that is said again. Unless
+/// edges may be lost, a recording with a lost edge is refused; one without says the same either way, and where they may be
+/// lost none is refused for that.
+pub fn lost_edges_are_said()
+    ensures { LostEdgesAreSaid }
 {}
 
 /// Rows of times and levels, written without a header, are read back as they are: at each time the level of each wire.

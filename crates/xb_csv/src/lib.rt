@@ -32,6 +32,6 @@ mod wires;
 
 pub use cells::{cell_at, trimmed};
 pub use columns::{Columns, TableForm};
-pub use gpiomon::{Gpiomon, is_of_gpiomon};
+pub use gpiomon::{Gpiomon, first_word, is_of_gpiomon, wire_of_edge};
 pub use labels::is_seconds;
 pub use seconds::nanoseconds_of;

@@ -1,10 +1,11 @@
 -- What words of a command line ask for of a recording, as clap reads them.
-use Rattle.std.specs.Prelude.{ℕ, ◌≡◌, ◌⊎◌, ◌≤◌, ◌==◌, List, [], ◌∷◌, ◌++◌, Bool, Option, Some, None, bytes_eq, codes, length, map, not, option_and_then, option_map, if◌then◌else◌}
+use Rattle.std.specs.Prelude.{ℕ, ◌≡◌, ◌⊎◌, ◌≤◌, ◌==◌, List, [], ◌∷◌, ◌++◌, Bool, false, true, Option, Some, None, bytes_eq, codes, length, map, not, option_and_then, option_map, ◌||◌, if◌then◌else◌}
 use Rattle.std.specs.List.{after_first, before_first, filter, list_any}
 use Rattle.std.specs.Option.{unwrap_or}
 use Rattle.clap.specs.Walk.{Row, Text, all_of, first_of}
 use Rattle.xb_command.specs.Given.{ReadsFlag, ReadsNumber, given_by}
 use Rattle.xb_recording.specs.declared.format.Format.{Format}
+use Rattle.xb_recording.specs.declared.format.Format.TheVariants as formats
 use Rattle.xb_recording.specs.Formats.{format_of}
 use Rattle.xb_recording.specs.Says.{names_in}
 use Rattle.xb_model.specs.Fields.{line_of}
@@ -64,6 +65,23 @@ abbrev pub form_named : Option Text → Option (Option Format)
 form_named None = Some None
 form_named (Some name) = option_map (λ format. Some format) (format_of name)
 
+-- edges are lost of gpiomon alone: that is the form then, and no other may be named
+abbrev pub form_suited : Bool → Option Format → Option (Option Format)
+form_suited false named = Some named
+form_suited true None = Some (Some formats.Gpiomon)
+form_suited true (Some formats.Gpiomon) = Some (Some formats.Gpiomon)
+form_suited true (Some formats.Vcd) = None
+form_suited true (Some formats.Sigrok) = None
+form_suited true (Some formats.Saleae) = None
+form_suited true (Some formats.Edges) = None
+form_suited true (Some formats.Bits) = None
+form_suited true (Some formats.WideBits) = None
+form_suited true (Some formats.Sixteen) = None
+form_suited true (Some formats.Wav) = None
+
+abbrev pub form_asked : Bool → Option Text → Option (Option Format)
+form_asked lossy name = option_and_then (form_suited lossy) (form_named name)
+
 -- so many parts of a hundred make a threshold
 abbrev pub IsPercent : ℕ → Type 0
 IsPercent percent = (1 ≤ percent) × (percent ≤ 99)
@@ -86,11 +104,14 @@ pub record IsForAll (rows : List Row) (all : Own) : Type 0 where
 -- what clap matched says this, where something holds for all lines
 pub record Say {G : Type 0} (rows : List Row) (common : G) (request : Request G) : Type 0 where
   pub table : option_map (λ name. name.now) request.table ≡ first_of (codes "table") rows
-  pub format : form_named (first_of (codes "format") rows) ≡ Some request.format
+  pub lossy : ReadsFlag (given_by rows (codes "lossy")) request.wanted.lossy
+  pub format : form_asked request.wanted.lossy (first_of (codes "format") rows) ≡ Some request.format
   pub rate : ReadsNumber (given_by rows (codes "rate")) request.wanted.rate
   pub common_is : request.common ≡ common
   pub threshold : ReadsOr (given_by rows (codes "threshold")) THRESHOLD_PERCENT request.wanted.threshold.percent
-  pub said : ReadsFlag (given_by rows (codes "said")) request.said
+  pub notes : Bool
+  pub notes_are : ReadsFlag (given_by rows (codes "said")) notes
+  pub said : request.said ≡ (notes || request.wanted.lossy)
   pub all : Own
   pub for_all : IsForAll rows all
   pub wires : wires_after all ([], []) (lone_words rows) ≡ Some (request.lines.items, names_in request.wanted)
@@ -99,6 +120,7 @@ pub record Say {G : Type 0} (rows : List Row) (common : G) (request : Request G)
 -- line twice
 abbrev pub SayNothing : List Row → Type 0
 SayNothing rows =
-    (form_named (first_of (codes "format") rows) ≡ None)
+    ((lossy : Bool) × ReadsFlag (given_by rows (codes "lossy")) lossy
+    × (form_asked lossy (first_of (codes "format") rows) ≡ None))
     ⊎ (((percent : ℕ) × ReadsOr (given_by rows (codes "threshold")) THRESHOLD_PERCENT percent × (IsPercent percent → ⊥))
     ⊎ ((all : Own) × IsForAll rows all × (wires_after all ([], []) (lone_words rows) ≡ None)))

@@ -1,8 +1,8 @@
 // What words of a command line ask for of a recording.
-ghost use Rattle.std.specs.Prelude.{◌≡◌, ◌∷◌, [], IfErr, IfOk, None, OnOk, Some, map, option_copied, option_map, unwrap_or};
+ghost use Rattle.std.specs.Prelude.{◌≡◌, ◌∷◌, [], IfErr, IfOk, None, OnOk, Some, map, option_copied, option_map, true, unwrap_or};
 ghost use Rattle.xb_command.specs.Commands.{texts_of};
 ghost use Rattle.xb_feed.specs.declared.words.TheConstants.{THRESHOLD_PERCENT};
-ghost use Rattle.xb_feed.specs.Options.{IsForAll, IsPercent, Say, SayNothing, form_named, is_among, plain_words, wire_added, wire_by, wire_of, wires_after, wires_in};
+ghost use Rattle.xb_feed.specs.Options.{IsForAll, IsPercent, Say, SayNothing, form_asked, form_named, form_suited, is_among, plain_words, wire_added, wire_by, wire_of, wires_after, wires_in};
 ghost use Rattle.xb_text.specs.Pieces.{pieces, pieces_left};
 
 use crate::manner::AskedLine;
@@ -134,6 +134,32 @@ fn asked_format(name: Option<&str>) -> Result<Option<Format>, WordsFault>
     }
 }
 
+// The form of a recording whose edges may be lost, which is that of gpiomon; no other one may be named.
+fn lossy_format(named: Option<Format>) -> Result<Option<Format>, WordsFault>
+    ensures suited { IfOk result (λ format. form_suited true named ≡ Some format) }
+    ensures refused { IfErr result (λ f. form_suited true named ≡ None) }
+{
+    match named {
+        None | Some(Format::Gpiomon) => Ok(Some(Format::Gpiomon)),
+        Some(_) => Err(WordsFault::Refused),
+    }
+}
+
+// The form that is asked for, if one is.
+fn suited_format(lossy: bool, name: Option<&str>) -> Result<Option<Format>, WordsFault>
+    ensures asked { IfOk result (λ format.
+        form_asked lossy (option_map (λ text. text.now) name.entry) ≡ Some format) }
+    ensures refused { IfErr result (λ f.
+        form_asked lossy (option_map (λ text. text.now) name.entry) ≡ None) }
+{
+    let named = asked_format(name)?;
+    if lossy {
+        lossy_format(named)
+    } else {
+        Ok(named)
+    }
+}
+
 // The threshold that is given, if one is.
 fn asked_threshold(percent: Option<u32>) -> Result<Threshold, WordsFault>
     ensures given { IfOk result (λ threshold.
@@ -155,8 +181,9 @@ fn said_of_all(words: &Words<'_>) -> Own
     }
 }
 
-/// What words ask for, where this holds for all lines. They are refused where there is no such form or threshold,
-/// or a word is no wire, names a line again, or has a word after a comma that is none, or is said twice, or rings where
+/// What words ask for, where this holds for all lines; notes are asked for where edges may be lost too. They are
+/// refused where there is no such form or threshold, or another form than that of gpiomon where edges may be lost; or
+/// a word is no wire, names a line again, or has a word after a comma that is none, or is said twice, or rings where
 /// a make of under 66 ms seizes.
 pub fn request_of<'a, G: Drop>(
     alloc: Global,
@@ -166,7 +193,8 @@ pub fn request_of<'a, G: Drop>(
     ensures says { IfOk result (λ request. Say words.now common request) }
     ensures nothing { IfErr result (λ f. f ≡ WordsFault.Refused → SayNothing words.now) }
 {
-    let format = asked_format(words.text("format"))?;
+    let lossy = words.flag("lossy");
+    let format = suited_format(lossy, words.text("format"))?;
     let threshold = asked_threshold(words.number("threshold"))?;
     let all = said_of_all(words);
     let Wires { lines, names } = wires_of(alloc, all, words.texts("line").unwrap_or(&[]))?;
@@ -178,8 +206,9 @@ pub fn request_of<'a, G: Drop>(
             wires: names,
             rate: words.number("rate").map(|rate| u64::from(rate)),
             threshold,
+            lossy,
         },
         common,
-        said: words.flag("said"),
+        said: words.flag("said") || lossy,
     })
 }

@@ -1,5 +1,7 @@
 -- What the program did, by its status.
-use Rattle.std.proofs.Common.{◌≡◌, ℕ, List, Bool, Option, None, false, inl, inr, refl, subst, sym, true, arith}
+use Rattle.std.proofs.Common.{◌≡◌, ◌==◌, ℕ, List, Bool, length, Option, None, Some, false, inl, inr, refl, subst, sym, true, arith}
+use Rattle.std.specs.Prelude.{IfSome}
+use Rattle.std.proofs.KnownBytes.{Keeps-refl}
 use Rattle.clap.specs.Walk.{Text}
 use Rattle.xb_command.specs.Files.{Bytes}
 use Rattle.xb_command.specs.Programs.{Streams}
@@ -10,22 +12,23 @@ use Rattle.xb_loop.specs.declared.fault.LoopFault.{LoopFault}
 use Rattle.xb_loop.specs.declared.fault.LoopFault.TheVariants as faults
 use Rattle.xb_feed.specs.declared.fault.RecordingFault.{RecordingFault}
 use Rattle.xb_feed.specs.declared.request.Request.{Request}
+use Rattle.xb_wires.specs.declared.listing.ListFault.{ListFault}
 use Rattle.xb_loop.specs.Options.{Asks}
 use Rattle.xb_feed.specs.LackedWires.{lacks_wire}
-use Rattle.xb_loop.specs.Program.{AttendsLoop, FailsToGo, FailsToPrint, PrintsDeck, TellsOfBounces, program}
+use Rattle.xb_loop.specs.Program.{AttendsLoop, FailsToGo, FailsToPrint, PrintsDeck, IsListed, TellsOfBounces, TellsWires, program}
 
 -- all was written, and told or not
 pub attends_told :
     (files : Bytes) (words : List Text) (request : Request Common) (told : List ℕ) (old new : Streams) (status : ℕ)
-    → Asks words request → PrintsDeck files request told old.input old.output new.output
+    → Asks words request → (length request.lines.items == 0) ≡ false → PrintsDeck files request told old.input old.output new.output
     → TellsOfBounces told old.errors new.errors status → AttendsLoop files words old new status
-attends_told files words request told old new status asks rows (inl (is, wrote)) = record {
+attends_told files words request told old new status asks some rows (inl (is, wrote)) = record {
   statuses = omega (arith, is);
-  done = λ e. record { request = request; asks = asks; told = told; rows = rows; errors = wrote };
+  done = λ e. record { request = request; asks = asks; some = some; told = told; rows = rows; errors = wrote };
   fault = λ e. absurd (omega (arith, is, e));
   refused = λ e. absurd (omega (arith, is, e));
 }
-attends_told files words request told old new status asks rows (inr (is, (begun, first, line))) = record {
+attends_told files words request told old new status asks some rows (inr (is, (begun, first, line))) = record {
   statuses = omega (arith, is);
   done = λ e. absurd (omega (arith, is, e));
   fault = λ e. inl (record { request = request; asks = asks; had = inr (told, begun, rows, first, line) });
@@ -58,3 +61,23 @@ attends_fault files words request fault old new status asks fails is line = reco
   fault = λ e. inl (record { request = request; asks = asks; had = inl (fault, fails, line) });
   refused = λ e. absurd (omega (arith, is, e));
 }
+
+-- no line was asked for
+pub lists_instead :
+    (files : Bytes) (request : Request Common) (told : LoopFault) (input output : Option (List ℕ)) → (length request.lines.items == 0) ≡ true
+    → IfSome input (λ text. TellsWires request text told) → IsListed told → FailsToPrint files request told input output output
+lists_instead files request (faults.NoLine listing) input output none tells is = (none, Keeps-refl output, tells)
+lists_instead files request (faults.Unlisted fault) input output none tells is = (none, Keeps-refl output, tells)
+lists_instead files request (faults.Table name error) input output none tells is = absurd is
+lists_instead files request (faults.Routes fault) input output none tells is = absurd is
+lists_instead files request (faults.Recording fault) input output none tells is = absurd is
+lists_instead files request (faults.NoWire fault names) input output none tells is = absurd is
+lists_instead files request faults.Tell input output none tells is = absurd is
+lists_instead files request faults.NoMemory input output none tells is = absurd is
+
+-- the wires could not be listed
+pub unlisted :
+    (request : Request Common) (fault : ListFault) (input : Option (List ℕ))
+    → IfSome input (λ text. TellsWires request text (faults.Unlisted fault))
+unlisted request fault None = tt
+unlisted request fault (Some text) = tt

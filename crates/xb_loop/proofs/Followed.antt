@@ -29,7 +29,7 @@ use Rattle.xb_loop.specs.BounceLines.{bounces_heard}
 use Rattle.xb_loop.specs.RowsOfHolds.{written_rows}
 use Rattle.xb_feed.specs.Tallies.{tally_at_end}
 use Rattle.xb_feed.specs.Watching.{level_seen}
-use Rattle.xb_loop.specs.Watching.{Watch, Watched, all_held, begun_contact, begun_watched, certain_rows, event_rows, heard_event, level_heard, line_held, line_left, line_rows, rows_of_events, watch_after, watched_of, wire_changed}
+use Rattle.xb_loop.specs.Watching.{Watch, Watched, all_held, begun_contact, begun_watched, certain_rows, event_rows, heard_event, level_heard, line_held, line_left, line_rows, rows_of_events, watch_after, watched_of, wire_changed, with_level}
 use Rattle.xb_loop.specs.WireRecords.{GivesEachRecord, IsAlone, WireRecord, bounces_at, bounces_of_record, holds_from, numbers_asked, record_from, rows_of_record}
 use Rattle.xb_loop.proofs.PassedTexts.{piece_rings}
 use Rattle.xb_loop.proofs.WireRows.{changed-here, changed-there, left-own, numbers-changed, numbers-held, numbers_of, one_given, rows_of-append, rows_until-own, written-append}
@@ -186,8 +186,8 @@ module _ (common : Common) (manner : Manner) (wire line : ℕ) where
   level-step rest later lines scale tick contact now other next true e at alone time =
       let level : Level = level_seen manner.inverted next in
       let K : ℕ → Type 0 = λ w. slice_get (wire_changed common scale tick next w lines) wire
-      ≡ Some (watched_of line manner (Some (record contact { level = level }))) in
-      later (wire_changed common scale tick next other lines) scale tick (record contact { level = level }) now
+      ≡ Some (watched_of line manner (Some (with_level contact level))) in
+      later (wire_changed common scale tick next other lines) scale tick (with_level contact level) now
       (subst K (sym (eqb-true other wire e))
       (changed-here common scale tick next wire lines (watched_of line manner (Some contact)) at))
       (subst (IsAlone wire line) (sym (numbers-changed common scale tick next other lines)) alone) time

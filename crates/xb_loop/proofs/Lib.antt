@@ -5,6 +5,7 @@ pub mod KeptTapes
 pub mod BounceTexts
 pub mod WireRows
 pub mod Followed
+pub mod Losses
 pub mod PassedTexts
 pub mod AloneLines
 pub mod Recordings

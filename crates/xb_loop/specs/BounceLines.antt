@@ -1,5 +1,5 @@
 -- What is told of the bounces.
-use Rattle.std.specs.Prelude.{ℕ, ◌*◌, ◌/◌, List, ◌++◌, Option, codes, decimal, option_map, ◌==◌, if◌then◌else◌}
+use Rattle.std.specs.Prelude.{ℕ, ◌*◌, ◌/◌, List, [], ◌++◌, Bool, Option, codes, decimal, not, option_map, ◌==◌, ◌||◌, if◌then◌else◌}
 use Rattle.xb_contact.specs.declared.scale.Scale.{Scale}
 use Rattle.xb_feed.specs.declared.tally.Bounces.{Bounces}
 use Rattle.xb_loop.specs.Contacts.{Followed}
@@ -14,6 +14,22 @@ abbrev pub bounce_line : Scale → ℕ → Bounces → List ℕ
 bounce_line scale number bounces =
     codes "line " ++ decimal number ++ codes ": " ++ decimal bounces.count ++ codes " bounces, the longest "
     ++ decimal (micros_of scale bounces.longest) ++ codes " us\n"
+
+-- and how many edges of it were lost
+abbrev pub lost_line : ℕ → ℕ → List ℕ
+lost_line number count = codes "line " ++ decimal number ++ codes ": lost edges: " ++ decimal count ++ codes "\n"
+
+-- what is told of a contact: its bounces, where they are asked for, and the edges that were lost, where they may be
+abbrev pub bounces_noted : Bool → Scale → ℕ → Bounces → List ℕ
+bounces_noted said scale number bounces = if said then bounce_line scale number bounces else []
+
+abbrev pub edges_noted : Bool → ℕ → ℕ → List ℕ
+edges_noted lossy number count = if not lossy || (count == 0) then [] else lost_line number count
+
+abbrev pub note_of : Scale → ℕ → Followed → List ℕ
+note_of scale number contact =
+    bounces_noted contact.common.said scale number contact.tally.bounces
+    ++ edges_noted contact.common.lossy number contact.repeats
 
 abbrev pub bounces_heard : Option Followed → Option Bounces
 bounces_heard contact = option_map (λ heard. heard.tally.bounces) contact

@@ -7,10 +7,11 @@ use Rattle.xb_contact.specs.Listening.{Heard, CanTake, given_now, heard_after, n
 use Rattle.xb_contact.specs.Ringing.{Ringing, all_rung, piece_rung, rung_past}
 use Rattle.xb_contact.specs.Seizing.{Seizing, all_passed, line_past, piece_passed}
 use Rattle.xb_feed.specs.declared.tally.Tally.{Tally}
+use Rattle.xb_loop.specs.declared.common.Common.{Common}
 use Rattle.xb_feed.specs.Tallies.{tally_after}
 
 -- what is heard of it so far, how it is watched for ringing and for seizures, the tick of its first level,
--- its level, and what was counted of its short runs
+-- its level, what was counted of its short runs, what holds for all lines, and how many levels were said that it had
 pub record Followed : Type 0 where
   pub heard : Heard
   pub ringing : Ringing
@@ -18,10 +19,21 @@ pub record Followed : Type 0 where
   pub start : ℕ
   pub level : Level
   pub tally : Tally
+  pub common : Common
+  pub repeats : ℕ
 
-abbrev pub followed_of : Heard → Ringing → Seizing → ℕ → Level → Tally → Followed
-followed_of heard ringing seizing start level tally =
-    record { heard = heard; ringing = ringing; seizing = seizing; start = start; level = level; tally = tally }
+abbrev pub followed_of : Heard → Ringing → Seizing → ℕ → Level → Tally → Common → ℕ → Followed
+followed_of heard ringing seizing start level tally common repeats =
+    record {
+      heard = heard;
+      ringing = ringing;
+      seizing = seizing;
+      start = start;
+      level = level;
+      tally = tally;
+      common = common;
+      repeats = repeats;
+    }
 
 -- it may hold its level up to a tick
 abbrev pub CanHold : Followed → ℕ → Type 0

@@ -3,7 +3,7 @@ use Rattle.std.specs.Prelude.{◌≡◌, ◌≢◌, ◌⊎◌, ◌^◌, ◌-◌,
 use Rattle.clap.specs.Faults.{fault_of}
 use Rattle.clap.specs.Simple.{matches_of}
 use Rattle.clap.specs.Walk.{Row, Text}
-use Rattle.xb_command.specs.Given.{IsTaken, given_by}
+use Rattle.xb_command.specs.Given.{IsTaken, ReadsFlag, given_by}
 use Rattle.xb_feed.specs.declared.request.Request.{Request}
 use Rattle.xb_feed.specs.Options.{ReadsOr, Say as SaysOf, SayNothing, plain_words}
 use Rattle.xb_model.specs.LawfulLimits.{standard_limits}
@@ -14,6 +14,8 @@ use Rattle.xb_loop.specs.Rules.{command_of_words}
 pub record Say (rows : List Row) (request : Request Common) : Type 0 where
   pub release : request.common.release_ms ≡ standard_limits.release
   pub tick : ReadsOr (given_by rows (codes "tick")) (2 ^ 32 - 1) request.common.most_ms
+  pub said : ReadsFlag (given_by rows (codes "said")) request.common.said
+  pub lossy : ReadsFlag (given_by rows (codes "lossy")) request.common.lossy
   pub rest : SaysOf rows request.common request
 
 -- clap takes plain words, and they ask for this

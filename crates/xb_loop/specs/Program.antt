@@ -1,5 +1,5 @@
 -- What the program did, by its status.
-use Rattle.std.specs.Prelude.{ℕ, ◌≡◌, ◌⊎◌, ◌++◌, List, codes, Option, None, false, option_map, true}
+use Rattle.std.specs.Prelude.{ℕ, ◌≡◌, ◌⊎◌, ◌++◌, ◌==◌, List, codes, length, Option, None, IfSome, false, option_map, true}
 use Rattle.std.specs.Io.KnownBytes.{Appends, Keeps}
 use Rattle.clap.specs.Walk.{Text}
 use Rattle.xb_command.specs.Files.{Bytes}
@@ -16,6 +16,7 @@ use Rattle.xb_feed.specs.LackedWires.{lacks_wire}
 use Rattle.xb_feed.specs.Feeding.{FailsToListen, ListensTo}
 use Rattle.xb_loop.specs.Options.{AreRefused, Asks}
 use Rattle.xb_loop.specs.Watching.{by_rows}
+use Rattle.xb_wires.specs.Listing.{ListsWires}
 use Rattle.xb_loop.specs.Tables.{IsBeforeRows, IsFaultOfTable, IsReleaseOf}
 
 -- the program's name
@@ -31,7 +32,7 @@ abbrev pub usage_line : List ℕ
 usage_line =
     codes "mfloop: usage: mfloop --line N=WIRE[,inverted][,settle=MS][,seize=MS][,ringing]... [--table FILE] "
     ++ codes "[--format vcd|sigrok|saleae|edges|gpiomon|bits|bits16|s16|wav] [--rate HZ] [--settle MS] [--seize MS] "
-    ++ codes "[--ringing] [--tick MS] [--threshold PERCENT] [--inverted] [--said]\n"
+    ++ codes "[--ringing] [--tick MS] [--threshold PERCENT] [--inverted] [--said] [--lossy]\n"
 
 -- what is asked for, where so long a break releases a line
 abbrev pub with_release : Request Common → ℕ → Request Common
@@ -55,6 +56,24 @@ FailsToGo files request fault input output after =
     (before : List ℕ) × (release : ℕ) × HasBegun files request before release
     × FailsToListen by_rows header (with_release request release) before fault input output after
 
+-- a fault that tells the wires of a recording, or that they cannot be listed
+abbrev pub IsListed : LoopFault → Type 0
+IsListed (faults.NoLine listing) = Unit {0}
+IsListed (faults.Unlisted fault) = Unit {0}
+IsListed fault = ⊥
+
+-- where no line is asked for, the wires of the recording are told, unless they cannot be listed
+abbrev pub TellsWires : Request Common → List ℕ → LoopFault → Type 0
+TellsWires request text (faults.NoLine listing) =
+    ListsWires request.format request.wanted.rate request.wanted.threshold text listing
+TellsWires request text (faults.Unlisted fault) = Unit {0}
+TellsWires request text fault = ⊥
+
+-- nothing was written then
+abbrev pub ListsInstead : Request Common → LoopFault → Option (List ℕ) → Option (List ℕ) → Option (List ℕ) → Type 0
+ListsInstead request fault input output after =
+    ((length request.lines.items == 0) ≡ true) × Keeps output after × IfSome input (λ text. TellsWires request text fault)
+
 -- what a fault says of the table and the recording, and what an output got before it; where the recording lacks a wire,
 -- all names that are asked for are told
 abbrev pub FailsToPrint : Bytes → Request Common → LoopFault → Option (List ℕ) → Option (List ℕ) → Option (List ℕ) → Type 0
@@ -62,6 +81,10 @@ FailsToPrint files request (faults.Recording fault) input output after =
     (lacks_wire fault ≡ false) × FailsToGo files request fault input output after
 FailsToPrint files request (faults.NoWire fault names) input output after =
     (lacks_wire fault ≡ true) × (names ≡ request.wanted.wires) × FailsToGo files request fault input output after
+FailsToPrint files request (faults.NoLine listing) input output after =
+    ListsInstead request (faults.NoLine listing) input output after
+FailsToPrint files request (faults.Unlisted fault) input output after =
+    ListsInstead request (faults.Unlisted fault) input output after
 FailsToPrint files request fault input output after =
     Keeps output after × IsFaultOfTable files (option_map (λ name. name.now) request.table) fault
 
@@ -69,6 +92,7 @@ FailsToPrint files request fault input output after =
 pub record WritesRows (files : Bytes) (words : List Text) (old new : Streams) : Type 0 where
   pub request : Request Common
   pub asks : Asks words request
+  pub some : (length request.lines.items == 0) ≡ false
   pub told : List ℕ
   pub rows : PrintsDeck files request told old.input old.output new.output
   pub errors : Appends old.errors new.errors told

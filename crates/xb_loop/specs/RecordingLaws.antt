@@ -1,5 +1,5 @@
 -- From a recording to what the chain hears of it, and the tape that it makes.
-use Rattle.std.specs.Prelude.{◌≡◌, ◌^◌, ◌<◌, ℕ, List, [], Some, slice_get, false, true}
+use Rattle.std.specs.Prelude.{◌≡◌, ◌^◌, ◌-◌, ◌<◌, ℕ, List, [], ◌∷◌, Some, min, slice_get, false, true}
 use Rattle.clap.specs.Walk.{Text}
 use Rattle.xb_model.specs.Records.{joined, record_of}
 use Rattle.xb_model.specs.Rows.{LoopRow}
@@ -9,6 +9,8 @@ use Rattle.xb_contact.specs.declared.hold.Hold.{Hold}
 use Rattle.xb_contact.specs.Holds.{IsAlternating, runs_of, total_of}
 use Rattle.xb_contact.specs.Nights.{AreParts, Part, night_left, night_runs}
 use Rattle.xb_contact.specs.Rings.{answered}
+use Rattle.xb_contact.specs.declared.level.Level.{Level}
+use Rattle.xb_contact.specs.Repeats.{levels_of, repeats_in}
 use Rattle.xb_contact.specs.Seizures.{all_seize, seized}
 use Rattle.xb_contact.specs.Settled.{settled}
 use Rattle.xb_contact.specs.Times.{rounded}
@@ -20,9 +22,9 @@ use Rattle.xb_loop.specs.Options.{Asks}
 use Rattle.xb_loop.specs.RowsOfHolds.{rows_of_holds, runs_of_holds}
 use Rattle.xb_feed.specs.Tallies.{bounces_in}
 use Rattle.xb_loop.specs.TapeLaws.{MakeOneTape}
-use Rattle.xb_feed.specs.Watching.{least_ticks}
-use Rattle.xb_loop.specs.Watching.{begun_watch, release_of, rows_of_events, wait_of, watch_after}
-use Rattle.xb_loop.specs.WireRecords.{IsAlone, WireRecord, bounces_at, numbers_asked, record_of_wire}
+use Rattle.xb_feed.specs.Watching.{CanHearAll, least_ticks}
+use Rattle.xb_loop.specs.Watching.{begun_watch, by_rows, release_of, rows_of_events, wait_of, watch_after}
+use Rattle.xb_loop.specs.WireRecords.{IsAlone, WireRecord, bounces_at, numbers_asked, record_of_wire, repeats_at}
 
 -- a recording of wires, each of one line, has this record of a wire, in ticks that last
 pub record IsRecorded
@@ -109,6 +111,15 @@ TellsTheShortRuns =
     → IsRecorded lines wire asked said has → total_of has.holds < 2 ^ 64
     → bounces_at wire (watch_after (begun_watch common lines) said).lines
     ≡ Some (bounces_in (least_of_record asked.manner has) has.holds)
+
+-- and the levels that are said of its wire and that it had already, up to 2^64 - 1
+abbrev pub TellsTheLostEdges : Type 0
+TellsTheLostEdges =
+    (common : Common) (lines : List AskedLine) (wire : ℕ) (asked : AskedLine) (said : List Event) (own : Level)
+    (levels : List Level) → slice_get lines wire ≡ Some asked → levels_of wire said ≡ own ∷ levels
+    → CanHearAll by_rows (begun_watch common lines) said
+    → repeats_at wire (watch_after (begun_watch common lines) said).lines
+    ≡ Some (min (repeats_in (own ∷ levels)) (2 ^ 64 - 1))
 
 -- words name no line twice
 abbrev pub AsksForEachOnce : Type 0

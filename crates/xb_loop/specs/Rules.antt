@@ -19,10 +19,11 @@ options =
     ∷ (codes "threshold", takes.Number)
     ∷ (codes "inverted", takes.Nothing)
     ∷ (codes "said", takes.Nothing)
-    ∷ (codes "line", takes.AllThatFollow)
+    ∷ (codes "lossy", takes.Nothing)
+    ∷ (codes "line", takes.AnyThatFollow)
     ∷ []
 
 -- `mfloop [--table FILE] [--format FORM] [--rate HZ] [--settle MS] [--seize MS] [--ringing] [--tick MS]
--- [--threshold PERCENT] [--inverted] [--said] N=WIRE..`
+-- [--threshold PERCENT] [--inverted] [--said] [--lossy] [N=WIRE..]`
 abbrev pub command_of_words : App
 command_of_words = command_of (codes "mfloop") options

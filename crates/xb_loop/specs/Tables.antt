@@ -41,6 +41,8 @@ IsFaultOfTable files (Some name) (faults.Routes fault) =
 IsFaultOfTable files (Some name) faults.NoMemory = Unit {0}
 IsFaultOfTable files (Some name) (faults.Recording fault) = ⊥
 IsFaultOfTable files (Some name) (faults.NoWire fault names) = ⊥
+IsFaultOfTable files (Some name) (faults.NoLine listing) = ⊥
+IsFaultOfTable files (Some name) (faults.Unlisted fault) = ⊥
 IsFaultOfTable files (Some name) faults.Tell = ⊥
 
 -- the fault of a table that is refused

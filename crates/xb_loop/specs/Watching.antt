@@ -1,11 +1,12 @@
 -- The lines that are listened to, and the rows that a recording gives of them.
-use Rattle.std.specs.Prelude.{ℕ, max, List, Option, if◌then◌else◌}
+use Rattle.std.specs.Prelude.{ℕ, ◌+◌, ◌-◌, ◌^◌, max, min, List, Option, if◌then◌else◌}
 use Rattle.xb_model.specs.Rows.{LoopRow}
 use Rattle.xb_rows.specs.WrittenRows.{record_text}
 use Rattle.xb_contact.specs.declared.event.Event.{Event}
 use Rattle.xb_contact.specs.declared.level.Level.{Level}
 use Rattle.xb_contact.specs.declared.scale.Scale.{Scale}
 use Rattle.xb_contact.specs.declared.ringer.TheConstants.{ANSWER_MS}
+use Rattle.xb_contact.specs.Holds.{same_level}
 use Rattle.xb_contact.specs.Listening.{begun_at}
 use Rattle.xb_contact.specs.Ringing.{Ringing, begun_ringing}
 use Rattle.xb_contact.specs.Seizing.{Seizing, begun_seizing}
@@ -15,7 +16,7 @@ use Rattle.xb_feed.specs.declared.manner.Manner.{Manner}
 use Rattle.xb_feed.specs.Followers.{Follower}
 use Rattle.xb_feed.specs.Watching as feed
 use Rattle.xb_loop.specs.declared.common.Common.{Common}
-use Rattle.xb_loop.specs.BounceLines.{bounce_line}
+use Rattle.xb_loop.specs.BounceLines.{note_of}
 use Rattle.xb_loop.specs.Contacts.{Followed, CanHold, followed_of, given_until, held_until, left_at_end}
 use Rattle.xb_loop.specs.RowsOfHolds.{written_rows}
 use Rattle.xb_feed.specs.Tallies.{begun_tally}
@@ -39,12 +40,18 @@ begun_line manner common = begun_seizing manner.seize_ms (release_of common) com
 abbrev pub begun_followed : Manner → Common → Scale → ℕ → ℕ → Level → Followed
 begun_followed manner common scale least tick level =
     followed_of (begun_at least scale common.most_ms level) (begun_bell manner common) (begun_line manner common) tick level
-    (begun_tally least level)
+    (begun_tally least level) common 0
+
+-- a level that is said, which may be the one that it had, up to 2^64 - 1 times
+abbrev pub repeats_with : ℕ → Level → Level → ℕ
+repeats_with repeats own level = if same_level own level then min (repeats + 1) (2 ^ 64 - 1) else repeats
 
 abbrev pub with_level : Followed → Level → Followed
-with_level contact level = record contact { level = level }
+with_level contact level =
+    record contact { level = level; repeats = repeats_with contact.repeats contact.level level }
 
--- a contact is followed, and what is told of it are its rows, with their records; its note is of its bounces
+-- a contact is followed, and what is told of it are its rows, with their records; its note is of its bounces and of the edges
+-- that were lost
 abbrev pub by_rows : Follower Followed Common
 by_rows = record {
   Told = LoopRow;
@@ -55,7 +62,7 @@ by_rows = record {
   held = held_until;
   changed = with_level;
   left = λ line contact. written_rows line (left_at_end contact);
-  note = λ scale line contact. bounce_line scale line contact.tally.bounces;
+  note = note_of;
 }
 
 -- so of a line, of all lines and of what a recording says, as `xb_feed` has them

@@ -77,6 +77,10 @@ IsAlone wire line numbers = (other : ℕ) → slice_get numbers other ≡ Some l
 abbrev pub bounces_at : ℕ → List Watched → Option Bounces
 bounces_at wire lines = option_and_then (λ line. bounces_heard line.contact) (slice_get lines wire)
 
+-- how many levels were said of a wire that it had already
+abbrev pub repeats_at : ℕ → List Watched → Option ℕ
+repeats_at wire lines = option_and_then (λ line. option_map (λ contact. contact.repeats) line.contact) (slice_get lines wire)
+
 -- the numbers of the lines that are asked for
 abbrev pub numbers_asked : List AskedLine → List ℕ
 numbers_asked lines = map (λ asked. asked.number) lines

@@ -1,6 +1,6 @@
 // What is told of the bounces.
 ghost use Rattle.std.specs.Prelude.{◌≡◌, ◌+◌, ◌*◌, ◌<◌, ◌++◌, OnOk, decimal, string_bytes};
-ghost use Rattle.xb_loop.specs.BounceLines.{bounce_line, micros_of};
+ghost use Rattle.xb_loop.specs.BounceLines.{bounce_line, bounces_noted, edges_noted, lost_line, micros_of};
 
 use std::alloc::AllocError;
 use xb_contact::Scale;
@@ -36,7 +36,7 @@ fn write_micros(said: &mut String, scale: Scale, ticks: u64) -> Result<(), Alloc
 }
 
 /// Adds, as a line, how many short runs were taken away of a line, and how long the longest was.
-pub(crate) fn say_bounces(
+fn say_bounces(
     said: &mut String,
     scale: Scale,
     line: LineNo,
@@ -49,4 +49,44 @@ pub(crate) fn say_bounces(
     write!(said, "line {number}: {count} bounces, the longest ")?;
     write_micros(said, scale, bounces.longest)?;
     said.push_str(" us\n")
+}
+
+// Adds how many edges of a line were lost.
+fn say_lost(said: &mut String, line: LineNo, count: u64) -> Result<(), AllocError>
+    ensures { OnOk result (string_bytes said.new ≡ string_bytes said.old ++ lost_line line count) }
+{
+    let number = line.get();
+    write!(said, "line {number}: lost edges: {count}\n")
+}
+
+/// Adds the bounces of a line, where these are asked for.
+pub(crate) fn note_bounces(
+    is_said: bool,
+    said: &mut String,
+    scale: Scale,
+    line: LineNo,
+    bounces: Bounces,
+) -> Result<(), AllocError>
+    ensures { OnOk result (string_bytes said.new
+        ≡ string_bytes said.old ++ bounces_noted is_said scale line bounces) }
+{
+    if !is_said {
+        return Ok(());
+    }
+    say_bounces(said, scale, line, bounces)
+}
+
+/// Adds how many edges of a line were lost, where they may be and some were.
+pub(crate) fn note_lost(
+    is_lossy: bool,
+    said: &mut String,
+    line: LineNo,
+    count: u64,
+) -> Result<(), AllocError>
+    ensures { OnOk result (string_bytes said.new ≡ string_bytes said.old ++ edges_noted is_lossy line count) }
+{
+    if !is_lossy || count == 0 {
+        return Ok(());
+    }
+    say_lost(said, line, count)
 }

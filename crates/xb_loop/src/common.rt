@@ -7,4 +7,8 @@ pub struct Common {
     pub release_ms: u32,
     /// From how many ms on a run is given in parts.
     pub most_ms: u32,
+    /// Whether it is told how many bounces were taken away.
+    pub said: bool,
+    /// Whether edges may be lost, and are told.
+    pub lossy: bool,
 }

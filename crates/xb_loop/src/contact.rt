@@ -9,7 +9,7 @@ ghost use Rattle.xb_contact.specs.Seizing.{line_past, piece_passed, pieces_in};
 ghost use Rattle.xb_loop.specs.RowsOfHolds.{written_rows};
 ghost use Rattle.xb_loop.specs.Watching.{by_rows, wait_of};
 
-use crate::bounce_lines::say_bounces;
+use crate::bounce_lines::{note_bounces, note_lost};
 use crate::common::Common;
 use crate::rows::write_rows;
 use std::alloc::AllocError;
@@ -30,6 +30,9 @@ pub struct Contact {
     start: u64,
     level: Level,
     tally: Tally,
+    common: Common,
+    // How many levels were said of it that it had already, up to 2^64 - 1.
+    repeats: u64,
 }
 
 impl Model for Contact {
@@ -37,7 +40,7 @@ impl Model for Contact {
 
     ghost Value = { Followed };
 
-    ghost view = { λ s. followed_of s.listener s.ringer s.seizer s.start s.level s.tally };
+    ghost view = { λ s. followed_of s.listener s.ringer s.seizer s.start s.level s.tally s.common s.repeats };
 }
 
 // Adds the records of a hold, if there is one.
@@ -109,6 +112,8 @@ impl Follow<Common> for Contact {
             start,
             level,
             tally: Tally::new(least, level),
+            common,
+            repeats: 0,
         }
     }
 
@@ -124,13 +129,18 @@ impl Follow<Common> for Contact {
         write_passed(text, line, &mut self.ringer, &mut self.seizer, piece)
     }
 
+    // A level that it has already is one after an edge that was lost, where each edge says one.
     fn change(&mut self, level: Level) {
+        if level == self.level {
+            self.repeats = self.repeats.saturating_add(1);
+        }
         self.level = level;
     }
 
-    // The short runs that were taken away.
+    // The short runs that were taken away, and the edges that were lost, as far as they are asked for.
     fn note(&self, scale: Scale, line: LineNo, notes: &mut String) -> Result<(), AllocError> {
-        say_bounces(notes, scale, line, self.tally.bounces())
+        note_bounces(self.common.said, notes, scale, line, self.tally.bounces())?;
+        note_lost(self.common.lossy, notes, line, self.repeats)
     }
 
     fn end(self, line: LineNo, text: &mut String) -> Result<(), AllocError> {

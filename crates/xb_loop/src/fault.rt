@@ -1,11 +1,13 @@
 // Why the program writes no deck, or no further rows of it.
 ghost use Rattle.std.specs.Prelude.{◌≡◌};
 
+use crate::wires::AllWires;
 use std::alloc::AllocError;
 use std::io;
 use thiserror::Error;
 use xb_feed::{AllInOneLine, InOneLine, RecordingFault};
 use xb_routes::RouteFault;
+use xb_wires::{ListFault, Listing};
 
 /// Why the program writes no deck, or no further rows of it.
 #[derive(Debug, Drop, Error)]
@@ -22,6 +24,12 @@ pub enum LoopFault<'a> {
     /// The recording lacks a wire; the names that are asked for, each in one line.
     #[error("{}; asked for: {}", .0, AllInOneLine(.1))]
     NoWire(RecordingFault, Vec<&'a str>),
+    /// No line is asked for; the wires of the recording, in one line.
+    #[error("no line is asked for; the recording has {}", AllWires(.0))]
+    NoLine(Listing),
+    /// No line is asked for, and the wires cannot be listed.
+    #[error("{0}")]
+    Unlisted(ListFault),
     /// All rows were written, and the bounces could not be told of.
     #[error("the bounces could not be told of")]
     Tell,

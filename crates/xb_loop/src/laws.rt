@@ -2,7 +2,7 @@
 //! `RowsOfHolds` (the rows that are written), and the statements in `HeardLaws` and `TapeLaws`.
 ghost use Rattle.xb_loop.specs.HeardLaws.{HearsEachCleanRun, HearsTheCleanRecord, HearsTheSettledRecord};
 ghost use Rattle.xb_loop.specs.RecordingLaws.{AsksForEachOnce, HearsTheRecording, KeepsTheTapeOfRecordings, KeepsTheTapeOfSeizures};
-ghost use Rattle.xb_loop.specs.RecordingLaws.{KeepsTheTapeOfNights, KeepsTheTapeUnlessAsked, TellsTheShortRuns};
+ghost use Rattle.xb_loop.specs.RecordingLaws.{KeepsTheTapeOfNights, KeepsTheTapeUnlessAsked, TellsTheLostEdges, TellsTheShortRuns};
 ghost use Rattle.xb_loop.specs.WireRecords.{GivesEachRecord};
 ghost use Rattle.xb_loop.specs.TapeLaws.{HearsNothingOtherwise, KeepsTheTape, LeavesLongRunsTheirTape};
 
@@ -41,8 +41,9 @@ pub fn each_line_has_the_record_of_its_wire()
 /// record, it makes the tape of the clean one with such breaks (`tape`). Where no ringing is asked for that
 /// is the clean one itself, if each make on hook lasts long enough (`long`) or each make seizes (`plain`). Of
 /// a night of ringing, answers and calls it is that of the line's own calls (`night`). Exactly the short runs
-/// are told. It is so of each line of a recording whose wires are of other lines, as those are that words ask
-/// for.
+/// are told (`told`), and how many levels are said of a wire that it has already (`lost`): of gpiomon these are
+/// its lost edges (`lost_edges_are_said` of `xb_csv`). It is so of each line of a recording whose wires are of
+/// other lines, as those are that words ask for.
 pub fn the_tape_of_a_recording_is_kept()
     ensures heard { HearsTheRecording }
     ensures tape { KeepsTheTapeOfRecordings }
@@ -50,5 +51,6 @@ pub fn the_tape_of_a_recording_is_kept()
     ensures plain { KeepsTheTapeUnlessAsked }
     ensures night { KeepsTheTapeOfNights }
     ensures told { TellsTheShortRuns }
+    ensures lost { TellsTheLostEdges }
     ensures once { AsksForEachOnce }
 {}

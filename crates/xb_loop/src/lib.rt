@@ -23,6 +23,7 @@ pub mod laws;
 mod program;
 mod rows;
 mod table;
+mod wires;
 mod words;
 
 pub use common::Common;

@@ -11,7 +11,7 @@ use xb_feed::{Request, request_of};
 use xb_model::Limits;
 
 // The options of the program, each under its name, and the wires of the lines, which stand alone.
-const OPTIONS: [(&str, Takes); 11] = [
+const OPTIONS: [(&str, Takes); 12] = [
     ("table", Takes::Text),
     ("format", Takes::Text),
     ("rate", Takes::Number),
@@ -22,13 +22,14 @@ const OPTIONS: [(&str, Takes); 11] = [
     ("threshold", Takes::Number),
     ("inverted", Takes::Nothing),
     ("said", Takes::Nothing),
-    ("line", Takes::AllThatFollow),
+    ("lossy", Takes::Nothing),
+    ("line", Takes::AnyThatFollow),
 ];
 
 /// What the words ask for, the program's name first. Runs are given whole, unless a tick is given, and a line is
-/// released by the standard limit. The words are refused where `clap` refuses them, there is no such form or threshold,
-/// or a word is no wire, names a line again, or has a word after a comma that is none, or is said twice, or
-/// rings where a make of under 66 ms seizes.
+/// released by the standard limit. The words are refused where `clap` refuses them, there is no such form or
+/// threshold, or another form than that of gpiomon where edges may be lost; or a word is no wire, names a line again,
+/// or has a word after a comma that is none, or is said twice, or rings where a make of under 66 ms seizes.
 pub fn request_of_words<'a>(
     alloc: Global,
     words: &'a [String],
@@ -41,6 +42,8 @@ pub fn request_of_words<'a>(
     let common = Common {
         release_ms: Limits::standard().release,
         most_ms: words.number("tick").unwrap_or(u32::MAX),
+        said: words.flag("said"),
+        lossy: words.flag("lossy"),
     };
     request_of(alloc, &words, common)
 }

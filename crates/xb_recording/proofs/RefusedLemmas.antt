@@ -209,7 +209,7 @@ vcd_refusals wanted (sources.WavHead head) said h text refusal k = elim h [ ]
 vcd_refusals wanted (sources.Sound sound) said h text refusal k = elim h [ ]
 
 gpiomon_refusals :
-    (wanted : Wanted) (source : Source) (said : List Event) → IsBegunGpiomon (names_in wanted) source said
+    (wanted : Wanted) (source : Source) (said : List Event) → IsBegunGpiomon wanted.lossy (names_in wanted) source said
     → (text : List ℕ) (refusal : Refusal) → SourceRefused wanted source (text_lines text) text refusal
     → IsRefused formats.Gpiomon wanted text refusal
 gpiomon_refusals wanted (sources.Gpiomon gpiomon) said h text refusal k =

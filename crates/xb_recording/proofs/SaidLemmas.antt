@@ -93,9 +93,9 @@ table_begins form wanted (sources.Sound sound) said h text later k = elim h [ ]
 
 -- the beginning of what gpiomon writes
 gpiomon_begins :
-    (wanted : Wanted) (source : Source) (said : List Event) → IsBegunGpiomon (names_in wanted) source said
+    (wanted : Wanted) (source : Source) (said : List Event) → IsBegunGpiomon wanted.lossy (names_in wanted) source said
     → (text : List ℕ) (later : List Event) → LinesSay source (text_lines text) later
-    → gpiomon_says (gpiomon_with (names_in wanted) None) (text_lines text) ≡ Ok (said ++ later)
+    → gpiomon_says (gpiomon_with wanted.lossy (names_in wanted) None) (text_lines text) ≡ Ok (said ++ later)
 gpiomon_begins wanted (sources.Gpiomon gpiomon) said h text later k =
     ap (λ (s : GpiomonState). gpiomon_says s (text_lines text)) (sym h.0) ∙ k ∙ ap (λ m. Ok (m ++ later)) (sym h.1)
 gpiomon_begins wanted (sources.Vcd vcd) said h text later k = elim h [ ]

@@ -85,9 +85,9 @@ was-edge state events (Some edge) e = refl
 
 is-edge :
     (names : List (List ℕ)) (line : List ℕ) (events : List Event) → trimmed line ≡ line → 0 < length line
-    → gpiomon_says (gpiomon_with names None) (line ∷ []) ≡ Ok events → is_some (edge_of line) ≡ true
+    → gpiomon_says (gpiomon_with false names None) (line ∷ []) ≡ Ok events → is_some (edge_of line) ≡ true
 is-edge names line events same some e =
-    let state : GpiomonState = gpiomon_with names None in
+    let state : GpiomonState = gpiomon_with false names None in
     let G : Said GpiomonState → Type 0 = λ said. result_and_then (λ s. then_later s.0 (gpiomon_ends s.1)) said ≡ Ok events in
     was-edge state events (edge_of line)
     (subst G (ap (λ t. cond (length t == 0) (Ok ([], state)) (edge_line_says state t)) same
@@ -133,7 +133,7 @@ edge-told names edge edges end lawful order early =
     let others : List (List ℕ) = edge_lines names edges ++ [] ∷ [] in
     let one : AreInOrder (length names) (2 ^ 62) (edge ∷ []) end = (order.0, order.1, within) in
     let found : is_some (edge_of line) ≡ true =
-    is-edge names line (edge_events (edge ∷ [])) same some (written_edges_are_read names (edge ∷ []) end lawful refl one early) in
+    is-edge names line (edge_events (edge ∷ [])) same some (written_edges_are_read false names (edge ∷ []) end lawful refl one early) in
     let low : list_all is-low time ≡ true =
     seconds_pass is-low (λ digit few. grind (arith, nat_tests)) refl edge.tick small in
     ap (λ t. cond t (Some formats.Wav) (cond (is_archive (line ++ 10 ∷ rest)) None (told_by_lines (text_lines (line ++ 10 ∷ rest)))))

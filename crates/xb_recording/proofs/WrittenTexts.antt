@@ -164,9 +164,9 @@ written_is_read wanted = record {
       ∙ last_is_quiet vcd_line_says vcd_ends [] (λ state. refl) (begun_vcd (names_in wanted)) (vcd_lines (names_in wanted) changes end)
       ∙ vcd_is_read (names_in wanted) changes end lawful few order small;
   gpiomon = λ edges end lawful turns order early.
-      ap (gpiomon_says (gpiomon_with (names_in wanted) None)) (edges_back (names_in wanted) edges end lawful order early)
-      ∙ last_is_quiet gpiomon_line_says gpiomon_ends [] (λ state. refl) (gpiomon_with (names_in wanted) None) (edge_lines (names_in wanted) edges)
-      ∙ written_edges_are_read (names_in wanted) edges end lawful turns order early;
+      ap (gpiomon_says (gpiomon_with wanted.lossy (names_in wanted) None)) (edges_back (names_in wanted) edges end lawful order early)
+      ∙ last_is_quiet gpiomon_line_says gpiomon_ends [] (λ state. refl) (gpiomon_with wanted.lossy (names_in wanted) None) (edge_lines (names_in wanted) edges)
+      ∙ written_edges_are_read wanted.lossy (names_in wanted) edges end lawful turns order early;
   rows = λ wires row rows own few all.
       ap (table_says (begun_table forms.Edges (names_in wanted) wanted.rate)) (rows-back wires (2 ^ 62) row rows all)
       ∙ last_is_quiet table_line_says table_ends [] (λ state. refl) (begun_table forms.Edges (names_in wanted) wanted.rate) (row_lines (row ∷ rows))

@@ -132,14 +132,14 @@ IsBegunTable form names rate (sources.WavHead head) said = ⊥
 IsBegunTable form names rate (sources.Sound sound) said = ⊥
 
 -- and of what gpiomon writes
-abbrev pub IsBegunGpiomon : List (List ℕ) → Source → List Event → Type 0
-IsBegunGpiomon names (sources.Gpiomon gpiomon) said =
-    (gpiomon_state gpiomon ≡ gpiomon_with names None) × (said ≡ [])
-IsBegunGpiomon names (sources.Vcd vcd) said = ⊥
-IsBegunGpiomon names (sources.Columns table) said = ⊥
-IsBegunGpiomon names (sources.Bits bits) said = ⊥
-IsBegunGpiomon names (sources.WavHead head) said = ⊥
-IsBegunGpiomon names (sources.Sound sound) said = ⊥
+abbrev pub IsBegunGpiomon : Bool → List (List ℕ) → Source → List Event → Type 0
+IsBegunGpiomon lossy names (sources.Gpiomon gpiomon) said =
+    (gpiomon_state gpiomon ≡ gpiomon_with lossy names None) × (said ≡ [])
+IsBegunGpiomon lossy names (sources.Vcd vcd) said = ⊥
+IsBegunGpiomon lossy names (sources.Columns table) said = ⊥
+IsBegunGpiomon lossy names (sources.Bits bits) said = ⊥
+IsBegunGpiomon lossy names (sources.WavHead head) said = ⊥
+IsBegunGpiomon lossy names (sources.Sound sound) said = ⊥
 
 -- and of samples of so many wires, of which the rate was said
 abbrev pub IsBegunBits : Width → List (List ℕ) → Option ℕ → Source → List Event → Type 0
@@ -177,7 +177,7 @@ IsOfFormat formats.Vcd wanted source said = IsBegunVcd (names_in wanted) source 
 IsOfFormat formats.Sigrok wanted source said = IsBegunTable forms.Sigrok (names_in wanted) wanted.rate source said
 IsOfFormat formats.Saleae wanted source said = IsBegunTable forms.Saleae (names_in wanted) wanted.rate source said
 IsOfFormat formats.Edges wanted source said = IsBegunTable forms.Edges (names_in wanted) wanted.rate source said
-IsOfFormat formats.Gpiomon wanted source said = IsBegunGpiomon (names_in wanted) source said
+IsOfFormat formats.Gpiomon wanted source said = IsBegunGpiomon wanted.lossy (names_in wanted) source said
 IsOfFormat formats.Bits wanted source said = IsBegunBits widths.Eight (names_in wanted) wanted.rate source said
 IsOfFormat formats.WideBits wanted source said = IsBegunBits widths.Sixteen (names_in wanted) wanted.rate source said
 IsOfFormat formats.Sixteen wanted source said =
@@ -241,7 +241,7 @@ Says formats.Sigrok wanted text events = TableSays forms.Sigrok wanted text even
 Says formats.Saleae wanted text events = TableSays forms.Saleae wanted text events
 Says formats.Edges wanted text events = TableSays forms.Edges wanted text events
 Says formats.Gpiomon wanted text events =
-    gpiomon_says (gpiomon_with (names_in wanted) None) (text_lines text) ≡ Ok events
+    gpiomon_says (gpiomon_with wanted.lossy (names_in wanted) None) (text_lines text) ≡ Ok events
 Says formats.Bits wanted text events = BitsSay widths.Eight wanted text events
 Says formats.WideBits wanted text events = BitsSay widths.Sixteen wanted text events
 Says formats.Sixteen wanted text events = SoundSaid coding.Signed16 1 wanted.rate None wanted text events
@@ -263,7 +263,7 @@ IsRefused formats.Sigrok wanted text refusal = TableRefused forms.Sigrok wanted 
 IsRefused formats.Saleae wanted text refusal = TableRefused forms.Saleae wanted text refusal
 IsRefused formats.Edges wanted text refusal = TableRefused forms.Edges wanted text refusal
 IsRefused formats.Gpiomon wanted text refusal =
-    gpiomon_says (gpiomon_with (names_in wanted) None) (text_lines text) ≡ Err refusal
+    gpiomon_says (gpiomon_with wanted.lossy (names_in wanted) None) (text_lines text) ≡ Err refusal
 IsRefused formats.Bits wanted text refusal = bits_say widths.Eight (names_in wanted) wanted.rate text ≡ Err refusal
 IsRefused formats.WideBits wanted text refusal =
     bits_say widths.Sixteen (names_in wanted) wanted.rate text ≡ Err refusal

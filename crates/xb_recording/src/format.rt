@@ -48,7 +48,7 @@ pub fn format_of(name: &str) -> Option<Format>
 }
 
 /// A line without the mark that the first one may begin with.
-pub(crate) fn without_mark(line: &[u8], is_first: bool) -> &[u8]
+pub fn without_mark(line: &[u8], is_first: bool) -> &[u8]
     ensures { result.now ≡ plain_line is_first line.now }
 {
     if is_first && line.starts_with(BYTE_ORDER_MARK) {

@@ -23,6 +23,6 @@ mod reader;
 mod wanted;
 
 pub use beginning::{Told, told_format, why_untold};
-pub use format::{Format, format_of};
+pub use format::{Format, format_of, without_mark};
 pub use reader::Reader;
 pub use wanted::Wanted;

@@ -61,7 +61,7 @@ fn source_of<'a>(
         Format::Sigrok => Source::Columns(Columns::new(alloc, TableForm::Sigrok, names, rate)),
         Format::Saleae => Source::Columns(Columns::new(alloc, TableForm::Saleae, names, rate)),
         Format::Edges => Source::Columns(Columns::new(alloc, TableForm::Edges, names, rate)),
-        Format::Gpiomon => Source::Gpiomon(Gpiomon::new(alloc, names)?),
+        Format::Gpiomon => Source::Gpiomon(Gpiomon::new(alloc, wanted.lossy, names)?),
         Format::Bits => Source::Bits(Bits::new(alloc, Width::Eight, names, rate, events)?),
         Format::WideBits => Source::Bits(Bits::new(alloc, Width::Sixteen, names, rate, events)?),
         Format::Wav => Source::WavHead(WavHead::new()),

@@ -11,6 +11,7 @@ returns c = record {
   of_libgpiod_2 = refl;
   backwards = refl;
   lost = refl;
+  lost_and_allowed = refl;
   lost_elsewhere = refl;
   no_time = refl;
   no_edge = refl;

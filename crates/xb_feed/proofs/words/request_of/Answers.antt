@@ -2,7 +2,7 @@ use Rattle.std.proofs.Common.{rules, ap, inl, inr, refl, sym, ◌∙◌}
 use Rattle.std.proofs.lemmas.Result.{err_from_is_err_and}
 use Rattle.std.specs.Prelude.{unwrap_or}
 use Rattle.xb_feed.specs.declared.words.TheConstants.{THRESHOLD_PERCENT}
-use Rattle.xb_feed.specs.Options.{form_named}
+use Rattle.xb_feed.specs.Options.{form_asked}
 use Rattle.xb_feed.proofs.words.request_of.Goals as goal
 
 pub returns-in_err-threshold-clause-nothing : goal.returns-in_err-threshold-clause-nothing
@@ -15,11 +15,14 @@ returns-in_err-threshold-clause-nothing g c =
 pub returns-clause-says : goal.returns-clause-says
 returns-clause-says g c = record {
   table = c.text-2.ensures;
-  format = ap form_named (sym c.text.ensures) ∙ c.in_ok-format.ensures.named;
+  lossy = c.flag-lossy.ensures;
+  format = ap (form_asked c.flag-lossy.result) (sym c.text.ensures) ∙ c.in_ok-format.ensures.asked;
   rate = search rules;
   common_is = refl;
   threshold = (c.number.result, c.number.ensures, c.in_ok-threshold.ensures.given);
-  said = c.flag.ensures;
+  notes = c.flag.result;
+  notes_are = c.flag.ensures;
+  said = search rules;
   all = c.said_of_all-all.result;
   for_all = c.said_of_all-all.ensures;
   wires = search rules;

@@ -1,4 +1,5 @@
 use Rattle.xb_loop.proofs.AloneLines.{asks_for_each_once}
+use Rattle.xb_loop.proofs.Losses.{tells_the_lost_edges}
 use Rattle.xb_loop.proofs.Recordings.{hears_the_recording, keeps_the_tape_of_nights, keeps_the_tape_of_recordings, keeps_the_tape_of_seizures, keeps_the_tape_unless_asked, tells_the_short_runs}
 use Rattle.xb_loop.proofs.laws.the_tape_of_a_recording_is_kept.Goals as goal
 
@@ -22,3 +23,6 @@ returns-clause-once c = asks_for_each_once
 
 pub returns-clause-night : goal.returns-clause-night
 returns-clause-night c = keeps_the_tape_of_nights
+
+pub returns-clause-lost : goal.returns-clause-lost
+returns-clause-lost c = tells_the_lost_edges

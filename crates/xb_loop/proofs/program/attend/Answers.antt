@@ -15,7 +15,7 @@ returns-in-Ok-run g c =
     let P : List Text → Type 0 = λ plain. AsksPlainly plain request in
     attends_told (g.F.Files.bytes c.args.files.now) (texts_of c.args.words.now) request (string_bytes c.in-Ok-run.told) _ _ _
     (subst P (ap (λ words. texts_of words) c.deref.ensures.value ∙ c.in-Ok.ensures) c.in-Ok-request_of_words.ensures.asks)
-    c.in-Ok-run.ensures.prints
+    c.in-Ok-run.ensures.some c.in-Ok-run.ensures.prints
     (let T : List ℕ → Type 0 = λ told. TellsOfBounces told (g.E.Write.contents c.args.err.now) (g.E.Write.contents c.tell_bounces.new.err) c.tell_bounces.result in
     subst T c.deref-in-Ok-run.ensures c.tell_bounces.ensures)
 

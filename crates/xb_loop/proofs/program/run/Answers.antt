@@ -1,9 +1,14 @@
-use Rattle.std.proofs.Common.{string_bytes, subst}
-use Rattle.xb_loop.proofs.Attended.{fails_to_print}
+use Rattle.std.proofs.Common.{rules, string_bytes, subst}
+use Rattle.xb_loop.proofs.Attended.{fails_to_print, lists_instead}
 use Rattle.xb_feed.specs.Feeding.{FailsToListen, ListensTo}
 use Rattle.xb_loop.specs.Program.{header, with_release}
 use Rattle.xb_loop.specs.Watching.{by_rows}
 use Rattle.xb_loop.proofs.program.run.Goals as goal
+
+pub returns-then-is_none_asked-clause-fault : goal.returns-then-is_none_asked-clause-fault
+returns-then-is_none_asked-clause-fault g c =
+    lists_instead (g.F.Files.bytes c.args.files.now) c.args.request c.no_line.result (g.R.Read.remaining c.args.recording.now)
+    (g.W.Write.contents c.args.out.now) (search rules) c.no_line.ensures.wires c.no_line.ensures.listed
 
 pub returns-clause-fault : goal.returns-clause-fault
 returns-clause-fault g c =
@@ -17,7 +22,7 @@ returns-clause-fault g c =
       release,
       record { text = c.in_ok-before.ensures.text; release_is = c.in_ok-before.ensures.release },
       subst (λ b. FailsToListen by_rows header (with_release request release) b c.in-Err.fault (g.R.Read.remaining c.args.recording.now)
-          (g.W.Write.contents c.args.out.now) (g.W.Write.contents c.listen.new.out)) c.deref.ensures.value c.in-Err.ensures.fault,
+          (g.W.Write.contents c.args.out.now) (g.W.Write.contents c.listen.new.out)) c.deref-2.ensures.value c.in-Err.ensures.fault,
     )
 
 pub returns-in-Ok-clause-prints : goal.returns-in-Ok-clause-prints
@@ -30,5 +35,5 @@ returns-in-Ok-clause-prints g c =
       record { text = c.in_ok-before.ensures.text; release_is = c.in_ok-before.ensures.release },
       subst (λ b. ListensTo by_rows header (with_release request release) b (string_bytes c.in-Ok.told)
           (g.R.Read.remaining c.args.recording.now) (g.W.Write.contents c.args.out.now)
-          (g.W.Write.contents c.listen.new.out)) c.deref.ensures.value c.in-Ok.ensures.listens,
+          (g.W.Write.contents c.listen.new.out)) c.deref-2.ensures.value c.in-Ok.ensures.listens,
     )

@@ -1,5 +1,6 @@
-use Rattle.std.proofs.Common.{ap, inl, inr, subst, sym, ◌∙◌}
+use Rattle.std.proofs.Common.{ap, codes, inl, inr, subst, sym, ◌∙◌}
 use Rattle.std.proofs.lemmas.Result.{IfErr-weaker, IfOk-weaker, err_from_is_err_and}
+use Rattle.xb_command.specs.Given.{ReadsFlag, given_by}
 use Rattle.xb_model.specs.declared.limits.Limits.{Limits}
 use Rattle.xb_feed.specs.Options.{Say as SaysOf, SayNothing}
 use Rattle.xb_loop.specs.declared.common.Common.{Common}
@@ -25,6 +26,12 @@ returns-clause-asks c =
           c.number.ensures,
           ap (λ (common : Common). common.most_ms) says.common_is ∙ c.unwrap_or.ensures,
         );
+        said =
+            subst (λ (common : Common). ReadsFlag (given_by c.in_ok-words.words (codes "said")) common.said) (sym says.common_is)
+            c.flag.ensures;
+        lossy =
+            subst (λ (common : Common). ReadsFlag (given_by c.in_ok-words.words (codes "lossy")) common.lossy) (sym says.common_is)
+            c.flag-2.ensures;
         rest = subst (λ common. SaysOf c.in_ok-words.words common request) (sym says.common_is) says;
       }),
     ))

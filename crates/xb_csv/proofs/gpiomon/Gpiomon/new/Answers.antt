@@ -10,5 +10,5 @@ returns-clause-begun c =
     let names : List (List ℕ) = map (λ (name : Bor (List ℕ)). name.now) c.args.names.now in
     let all : c.loop-name._name-index ≡ length names =
     omega (arith, length-map c.args.names.now (λ (name : Bor (List ℕ)). name.now)) in
-    ap (λ (levels : List (Option Level)). gpiomon_by names levels None)
+    ap (λ (levels : List (Option Level)). gpiomon_by c.args.lossy names levels None)
     (c.loop-name.invariant ∙ ap (λ (n : ℕ). replicate n None) all)

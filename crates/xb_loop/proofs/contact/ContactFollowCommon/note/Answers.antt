@@ -1,0 +1,19 @@
+use Rattle.std.proofs.Common.{ap, append_assoc, string_bytes, ◌∙◌, ◌++◌}
+use Rattle.std.proofs.lemmas.Result.{on_ok_weaker}
+use Rattle.xb_loop.specs.BounceLines.{bounces_noted, edges_noted, note_of}
+use Rattle.xb_loop.proofs.contact.ContactFollowCommon.note.Goals as goal
+
+pub returns : goal.returns
+returns c =
+    let old = string_bytes c.args.notes.now in
+    let first = bounces_noted c.self.inside.common.said c.args.scale c.args.line c.self.inside.tally.bounces in
+    let rest = edges_noted c.self.inside.common.lossy c.args.line c.self.inside.repeats in
+    on_ok_weaker c.note_lost.result
+    (λ noted.
+    noted
+    ∙ ap (λ text. text ++ rest)
+    (c.in_ok-note_bounces.ensures
+    ∙ ap (λ bounces. old ++ bounces_noted c.self.inside.common.said c.args.scale c.args.line bounces) c.bounces.ensures)
+    ∙ append_assoc old first rest
+    ∙ ap (λ v. old ++ note_of c.args.scale c.args.line v) c.self.view_is)
+    c.note_lost.ensures

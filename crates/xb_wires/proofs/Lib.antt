@@ -1,0 +1,5 @@
+pub mod EachOnce
+pub mod Heads
+pub mod FoundNames
+pub mod Counted
+pub mod Counting

@@ -1,0 +1,5 @@
+pub mod Names
+pub mod Wires
+pub mod Counts
+pub mod Constants
+pub mod Listing
