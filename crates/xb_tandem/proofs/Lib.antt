@@ -1,0 +1,9 @@
+pub mod Pages
+pub mod KeyLines
+pub mod Reading
+pub mod ObjectValues
+pub mod Written
+pub mod Relayed
+pub mod Taken
+pub mod Delivered
+pub mod AskedTables

@@ -1,0 +1,350 @@
+-- The keys of a text, line by line, and what is written of them.
+use Rattle.std.proofs.Common.{◌≡◌, ◌∙◌, ℕ, ◌+◌, ◌<◌, List, [], ◌∷◌, ◌++◌, length, Bool, true, false, Option, Some, None, Result, Ok, Err, inl, inr, ap, refl, sym, subst, arith, append_assoc, append-nil, length-append}
+use Rattle.std.specs.Io.KnownBytes.{Appends}
+use Rattle.std.specs.Option.{option_to_list}
+use Rattle.std.proofs.KnownBytes.{Appends-nil}
+use Rattle.std.proofs.lemmas.List.{map-append}
+use Rattle.xb_incoming.specs.declared.key.TimedKey.{TimedKey}
+use Rattle.xb_incoming.specs.Attempts.{outcomes}
+use Rattle.xb_incoming.specs.Machine.{phase_after, told_by}
+use Rattle.xb_incoming.proofs.Taken.{all-told, told_from}
+use Rattle.xb_model.specs.Routing.{CodedRoute, order_of}
+use Rattle.xb_routes.specs.Table.{Table}
+use Rattle.xb_text.specs.Writing.{AppendsBeginning}
+use Rattle.xb_text.proofs.Beginnings.{AppendsBeginning-first, AppendsBeginning-second}
+use Rattle.xb_tandem.specs.declared.fault.ReadingFault.{ReadingFault}
+use Rattle.xb_tandem.specs.declared.fault.ReadingFault.TheVariants as reading
+use Rattle.xb_tandem.specs.declared.fault.WritingFault.{WritingFault}
+use Rattle.xb_tandem.specs.declared.fault.WritingFault.TheVariants as writing
+use Rattle.xb_tandem.specs.declared.fault.LineFault.{LineFault}
+use Rattle.xb_tandem.specs.declared.fault.LineFault.TheVariants as line_fault
+use Rattle.xb_tandem.specs.declared.fault.TandemFault.{TandemFault}
+use Rattle.xb_tandem.specs.declared.fault.TandemFault.TheVariants as fault
+use Rattle.xb_tandem.specs.declared.lines.TheConstants.{MOST_LINE_BYTES}
+use Rattle.xb_tandem.specs.declared.office.Office.{Office}
+use Rattle.xb_tandem.specs.Entries.{entry_lines, orders_of, page_of_keys, told_of_keys}
+use Rattle.xb_tandem.specs.Faults.{of_reading, of_writing}
+use Rattle.xb_tandem.specs.KeyLines.{Said, key_of_line}
+use Rattle.xb_tandem.specs.Relaying.{BeganLine, BeganPage, IsFresh, IsOfKeys, TakesLine, WritesPage}
+use Rattle.xb_tandem.specs.TextLines.{Keys, ReadsLine, key_and_rest, key_read, keys_from, keys_of_text, keys_read, text_lines, with_keys}
+use Rattle.xb_tandem.specs.Written.{Ends, HasWritten}
+use Rattle.xb_tandem.proofs.KeyLines.{line-long}
+use Rattle.xb_tandem.proofs.Written.{lines-append, none-written}
+
+with-none : (keys : Keys) → with_keys [] keys ≡ keys
+with-none (Ok keys) = refl
+with-none (Err wrong) = refl
+
+with-two : (first second : List TimedKey) (keys : Keys) → with_keys first (with_keys second keys) ≡ with_keys (first ++ second) keys
+with-two first second (Ok keys) = ap Ok (sym (append_assoc first second keys))
+with-two first second (Err wrong) = refl
+
+with-said : (n : ℕ) (keys : List TimedKey) (key : Option TimedKey) (rest : Keys)
+    → with_keys keys (key_and_rest n (Ok key) rest) ≡ with_keys (keys ++ option_to_list key) rest
+with-said n keys None rest = ap (λ ks. with_keys ks rest) (sym (append-nil keys))
+with-said n keys (Some key) rest = with-two keys (key ∷ []) rest
+
+read-said : (keys : List TimedKey) (key : Option TimedKey) (rest : List TimedKey)
+    → keys ++ key_read (Ok key) rest ≡ (keys ++ option_to_list key) ++ rest
+read-said keys None rest = ap (λ ks. ks ++ rest) (sym (append-nil keys))
+read-said keys (Some key) rest = sym (append_assoc keys (key ∷ []) rest)
+
+from-line : (n : ℕ) (line : List ℕ) (lines : List (List ℕ)) (said : Said) → key_of_line line ≡ said
+    → keys_from n (line ∷ lines) ≡ key_and_rest n said (keys_from (n + 1) lines)
+unfolding keys_from
+from-line n line lines said is = ap (λ s. key_and_rest n s (keys_from (n + 1) lines)) is
+
+read-line : (line : List ℕ) (lines : List (List ℕ)) (said : Said) → key_of_line line ≡ said
+    → keys_read (line ∷ lines) ≡ key_read said (keys_read lines)
+unfolding keys_read
+read-line line lines said is = ap (λ s. key_read s (keys_read lines)) is
+
+from-none : (n : ℕ) → keys_from n [] ≡ Ok []
+unfolding keys_from
+from-none n = refl
+
+read-none : keys_read [] ≡ []
+unfolding keys_read
+read-none = refl
+
+-- a line that is too long is wrong, however it goes on
+long-wrong : (line more : List ℕ) → MOST_LINE_BYTES < length line → key_of_line (line ++ more) ≡ Err line_fault.TooLong
+long-wrong line more long = line-long (line ++ more) (omega (arith, long, length-append line more))
+
+-- the beginning of what is told of keys is that of their page
+module _ (json : Bool) (line limit : ℕ) (routes : List CodedRoute) (keys : List TimedKey) (old new : Option (List ℕ)) where
+  pub told-page : AppendsBeginning old new (told_of_keys json line limit routes keys)
+      → AppendsBeginning old new (page_of_keys json line limit routes keys)
+  told-page begun =
+      let ended = told_from limit (phase_after limit keys) [] in
+      let all : outcomes limit keys ≡ told_by limit keys ++ ended
+      = ap (λ (ks : List TimedKey). outcomes limit ks) (sym (append-nil keys)) ∙ all-told limit keys [] in
+      let told = orders_of routes (told_by limit keys) in
+      let lines : entry_lines json line 1 (orders_of routes (outcomes limit keys))
+      ≡ told_of_keys json line limit routes keys ++ entry_lines json line (1 + length told) (orders_of routes ended)
+      = ap (λ os. entry_lines json line 1 (orders_of routes os)) all
+      ∙ ap (entry_lines json line 1) (map-append (order_of routes) (told_by limit keys) ended)
+      ∙ lines-append json line 1 told (orders_of routes ended) in
+      AppendsBeginning-first old new (entry_lines json line 1 (orders_of routes (outcomes limit keys))) _
+      (subst (AppendsBeginning old new) (sym lines)
+      (AppendsBeginning-first old new (told_of_keys json line limit routes keys) _ begun))
+
+-- so far these keys of a text were taken, and the next line has this number
+pub record SoFar (n limit : ℕ) (office : Office) (text rest : List ℕ) (start out : Option (List ℕ)) : Type 0 where
+  pub keys : List TimedKey
+  pub says : keys_of_text text ≡ with_keys keys (keys_from n (text_lines rest))
+  pub reads : keys_read (text_lines text) ≡ keys ++ keys_read (text_lines rest)
+  pub written : HasWritten limit office keys start out
+
+abbrev pub IsSoFar : ℕ → ℕ → Office → Option (List ℕ) → Option (List ℕ) → Option (List ℕ) → Option (List ℕ) → Type 0
+IsSoFar n limit office None rest start out = Unit {0}
+IsSoFar n limit office (Some text) None start out = ⊥
+IsSoFar n limit office (Some text) (Some rest) start out = SoFar n limit office text rest start out
+
+-- what comes of a text that may be known, as `Relays` says it of an office
+abbrev pub Comes : ℕ → Office → Option (List ℕ) → Result (Unit {0}) TandemFault → Option (List ℕ) → Option (List ℕ) → Type 0
+Comes limit office None result old new = Unit {0}
+Comes limit office (Some text) result old new = WritesPage office.json office.line limit office.table text result old new
+
+pub fresh-written : (office : Office) (start : Option (List ℕ)) → IsFresh office
+    → HasWritten office.register.timeout_ms office [] start start
+unfolding entry_lines
+fresh-written office start fresh = record {
+  taken = fresh.taken;
+  told = record {
+    number = omega (arith, fresh.keyed, fresh.refused);
+    keyed = fresh.keyed;
+    refused = fresh.refused;
+    text = Appends-nil start;
+  };
+}
+
+pub so_far-start : (limit : ℕ) (office : Office) (text start : Option (List ℕ)) → HasWritten limit office [] start start
+    → IsSoFar 1 limit office text text start start
+so_far-start limit office None start written = tt
+so_far-start limit office (Some text) start written =
+    record { keys = []; says = sym (with-none _); reads = refl; written = written }
+
+-- a line was taken
+pub so_far-line : (n limit : ℕ) (before after : Office) (line : List ℕ) (text rest left start mid out : Option (List ℕ))
+    → IsSoFar n limit before text rest start mid → ReadsLine rest left line (Ok true)
+    → ((keys : List TimedKey) → HasWritten limit before keys start mid → TakesLine limit after keys n line (Ok tt) start out)
+    → IsSoFar (n + 1) limit after text left start out
+so_far-line n limit before after line None rest left start mid out so is takes = tt
+so_far-line n limit before after line (Some text) None left start mid out so is takes = absurd so
+so_far-line n limit before after line (Some text) (Some rest) None start mid out so is takes = absurd is
+so_far-line n limit before after line (Some text) (Some rest) (Some left) start mid out so (inl is) takes =
+    let took = takes so.keys so.written in
+    record {
+      keys = so.keys ++ option_to_list took.0;
+      says = so.says
+          ∙ ap (λ lines. with_keys so.keys (keys_from n lines)) is
+          ∙ ap (with_keys so.keys) (from-line n line (text_lines left) (Ok took.0) took.1)
+          ∙ with-said n so.keys took.0 (keys_from (n + 1) (text_lines left));
+      reads = so.reads
+          ∙ ap (λ lines. so.keys ++ keys_read lines) is
+          ∙ ap (λ ks. so.keys ++ ks) (read-line line (text_lines left) (Ok took.0) took.1)
+          ∙ read-said so.keys took.0 (keys_read (text_lines left));
+      written = took.2;
+    }
+so_far-line n limit before after line (Some text) (Some rest) (Some left) start mid out so (inr long) takes =
+    let took = takes so.keys so.written in
+    absurd (apart took.0 (sym (line-long line long.0) ∙ took.1))
+  where
+    apart : (key : Option TimedKey) → Err line_fault.TooLong ≡ Ok key → ⊥
+    apart key e = cc
+
+-- what is read of a line, and then of others
+record IsReadOf (said : Said) (rest : List TimedKey) : Type 0 where
+  later : List TimedKey
+  are : key_read said rest ≡ key_read said [] ++ later
+
+read-of : (said : Said) (rest : List TimedKey) → IsReadOf said rest
+read-of (Err f) rest = record { later = []; are = refl }
+read-of (Ok None) rest = record { later = rest; are = refl }
+read-of (Ok (Some key)) rest = record { later = rest; are = refl }
+
+none-of : (first more : List TimedKey) → [] ≡ first ++ more → first ≡ []
+none-of [] more is = refl
+none-of (key ∷ first) more is = absurd (cc)
+
+-- a line was begun
+began : (n limit : ℕ) (before after : Office) (line text rest : List ℕ) (left start mid out : Option (List ℕ))
+    → SoFar n limit before text rest start mid → ReadsLine (Some rest) left line (Ok true)
+    → ((keys : List TimedKey) → HasWritten limit before keys start mid → BeganLine limit after keys line start out)
+    → BeganPage after.json after.line limit after.table text start out
+began n limit before after line text rest None start mid out so is begins = absurd is
+began n limit before after line text rest (Some left) start mid out so (inl is) begins =
+    let begun = begins so.keys so.written in
+    let of = read-of (key_of_line line) (keys_read (text_lines left)) in record {
+      first = so.keys ++ begun.first;
+      later = begun.more ++ of.later;
+      are = so.reads
+          ∙ ap (λ lines. so.keys ++ keys_read lines) is
+          ∙ ap (λ ks. so.keys ++ ks)
+          (read-line line (text_lines left) (key_of_line line) refl ∙ of.are ∙ ap (λ ks. ks ++ of.later) begun.are
+          ∙ append_assoc begun.first begun.more of.later)
+          ∙ sym (append_assoc so.keys begun.first (begun.more ++ of.later));
+      begun = told-page after.json after.line limit after.table.routes (so.keys ++ begun.first) start out begun.begun;
+    }
+began n limit before after line text rest (Some left) start mid out so (inr long) begins =
+    let begun = begins so.keys so.written in
+    let none : begun.first ≡ []
+    = none-of begun.first begun.more (ap (λ said. key_read said []) (sym (line-long line long.0)) ∙ begun.are) in
+    record {
+      first = so.keys;
+      later = [];
+      are = so.reads
+          ∙ ap (λ lines. so.keys ++ keys_read lines) long.1.1.1
+          ∙ ap (λ ks. so.keys ++ ks)
+          (read-line (line ++ long.1.0) long.1.1.0 (Err line_fault.TooLong) (long-wrong line long.1.0 long.0));
+      begun = told-page after.json after.line limit after.table.routes so.keys start out
+          (subst (λ ks. AppendsBeginning start out (told_of_keys after.json after.line limit after.table.routes ks))
+          (ap (λ ks. so.keys ++ ks) none ∙ append-nil so.keys) begun.begun);
+    }
+
+-- the fault of what a line says
+abbrev fault_in : Said → LineFault
+fault_in (Err f) = f
+fault_in (Ok key) = line_fault.NoMemory
+
+-- a line is wrong
+wrong : (n limit m : ℕ) (f : LineFault) (before after : Office) (line text rest : List ℕ) (left start mid out : Option (List ℕ))
+    → SoFar n limit before text rest start mid → ReadsLine (Some rest) left line (Ok true)
+    → ((keys : List TimedKey) → HasWritten limit before keys start mid
+    → TakesLine limit after keys n line (Err (fault.TextLine m f)) start out)
+    → WritesPage after.json after.line limit after.table text (Err (fault.TextLine m f)) start out
+wrong n limit m f before after line text rest None start mid out so is takes = absurd is
+wrong n limit m f before after line text rest (Some left) start mid out so (inl is) takes =
+    let took = takes so.keys so.written in
+    let reads : keys_read (text_lines text) ≡ so.keys
+    = so.reads ∙ ap (λ lines. so.keys ++ keys_read lines) is
+    ∙ ap (λ ks. so.keys ++ ks) (read-line line (text_lines left) (Err f) took.1) ∙ append-nil so.keys in (
+      so.says ∙ ap (λ lines. with_keys so.keys (keys_from n lines)) is
+          ∙ ap (with_keys so.keys) (from-line n line (text_lines left) (Err f) took.1)
+          ∙ ap (λ k. Err (k, f)) (sym took.0),
+      subst (λ ks. Appends start out (told_of_keys after.json after.line limit after.table.routes ks)) (sym reads)
+          took.2.told.text,
+    )
+wrong n limit m f before after line text rest (Some left) start mid out so (inr long) takes =
+    let took = takes so.keys so.written in
+    let same : line_fault.TooLong ≡ f = ap fault_in (sym (line-long line long.0) ∙ took.1) in
+    let is = long-wrong line long.1.0 long.0 in
+    let reads : keys_read (text_lines text) ≡ so.keys
+    = so.reads ∙ ap (λ lines. so.keys ++ keys_read lines) long.1.1.1
+    ∙ ap (λ ks. so.keys ++ ks) (read-line (line ++ long.1.0) long.1.1.0 (Err line_fault.TooLong) is) ∙ append-nil so.keys in (
+      so.says ∙ ap (λ lines. with_keys so.keys (keys_from n lines)) long.1.1.1
+          ∙ ap (with_keys so.keys) (from-line n (line ++ long.1.0) long.1.1.0 (Err line_fault.TooLong) is)
+          ∙ ap (λ k. Err (k, line_fault.TooLong)) (sym took.0) ∙ ap (λ g. Err (m, g)) same,
+      subst (λ ks. Appends start out (told_of_keys after.json after.line limit after.table.routes ks)) (sym reads)
+          took.2.told.text,
+    )
+
+-- the fault of a line
+pub so_far-fault : (n limit : ℕ) (f : TandemFault) (before after : Office) (line : List ℕ)
+    (text rest left start mid out : Option (List ℕ))
+    → IsSoFar n limit before text rest start mid → ReadsLine rest left line (Ok true)
+    → ((keys : List TimedKey) → HasWritten limit before keys start mid → TakesLine limit after keys n line (Err f) start out)
+    → Comes limit after text (Err f) start out
+so_far-fault n limit f before after line None rest left start mid out so is takes = tt
+so_far-fault n limit f before after line (Some text) None left start mid out so is takes = absurd so
+so_far-fault n limit (fault.TextLine m f) before after line (Some text) (Some rest) left start mid out so is takes =
+    wrong n limit m f before after line text rest left start mid out so is takes
+so_far-fault n limit (fault.File e) before after line (Some text) (Some rest) left start mid out so is takes =
+    takes so.keys so.written
+so_far-fault n limit (fault.Table f) before after line (Some text) (Some rest) left start mid out so is takes =
+    takes so.keys so.written
+so_far-fault n limit fault.Read before after line (Some text) (Some rest) left start mid out so is takes =
+    began n limit before after line text rest left start mid out so is takes
+so_far-fault n limit fault.TooMany before after line (Some text) (Some rest) left start mid out so is takes =
+    began n limit before after line text rest left start mid out so is takes
+so_far-fault n limit fault.NoMemory before after line (Some text) (Some rest) left start mid out so is takes =
+    began n limit before after line text rest left start mid out so is takes
+so_far-fault n limit fault.Write before after line (Some text) (Some rest) left start mid out so is takes =
+    began n limit before after line text rest left start mid out so is takes
+
+-- the keys so far, and nothing more was written
+all-first : (old new : Option (List ℕ)) (bytes : List ℕ) → Appends old new bytes → AppendsBeginning old new bytes
+all-first old new bytes wrote =
+    subst (AppendsBeginning old new) (append-nil bytes)
+    (AppendsBeginning-second old new new bytes [] wrote (none-written new []))
+
+stopped : (n limit : ℕ) (office : Office) (text rest : List ℕ) (start out : Option (List ℕ))
+    → SoFar n limit office text rest start out → BeganPage office.json office.line limit office.table text start out
+stopped n limit office text rest start out so = record {
+  first = so.keys;
+  later = keys_read (text_lines rest);
+  are = so.reads;
+  begun = told-page office.json office.line limit office.table.routes so.keys start out
+      (all-first start out _ so.written.told.text);
+}
+
+pub so_far-read : (n limit : ℕ) (f : ReadingFault) (office : Office) (text rest start out : Option (List ℕ))
+    → IsSoFar n limit office text rest start out → Comes limit office text (Err (of_reading f)) start out
+so_far-read n limit f office None rest start out so = tt
+so_far-read n limit f office (Some text) None start out so = absurd so
+so_far-read n limit reading.Read office (Some text) (Some rest) start out so = stopped n limit office text rest start out so
+so_far-read n limit reading.NoMemory office (Some text) (Some rest) start out so = stopped n limit office text rest start out so
+
+pub so_far-many : (n limit : ℕ) (office : Office) (text rest start out : Option (List ℕ))
+    → IsSoFar n limit office text rest start out → Comes limit office text (Err fault.TooMany) start out
+so_far-many n limit office None rest start out so = tt
+so_far-many n limit office (Some text) None start out so = absurd so
+so_far-many n limit office (Some text) (Some rest) start out so = stopped n limit office text rest start out so
+
+-- the text has ended
+ended-begun : (n limit : ℕ) (office : Office) (line text rest : List ℕ) (left start mid out : Option (List ℕ))
+    → SoFar n limit office text rest start mid → ReadsLine (Some rest) left line (Ok false)
+    → ((keys : List TimedKey) → HasWritten limit office keys start mid
+    → AppendsBeginning start out (page_of_keys office.json office.line limit office.table.routes keys))
+    → BeganPage office.json office.line limit office.table text start out
+ended-begun n limit office line text rest left start mid out so is ends = record {
+  first = so.keys;
+  later = [];
+  are = so.reads ∙ ap (λ lines. so.keys ++ keys_read lines) is ∙ ap (λ ks. so.keys ++ ks) read-none;
+  begun = ends so.keys so.written;
+}
+
+pub so_far-end : (n limit : ℕ) (office : Office) (line : List ℕ) (text rest left start mid out : Option (List ℕ))
+    → IsSoFar n limit office text rest start mid → ReadsLine rest left line (Ok false)
+    → ((keys : List TimedKey) → HasWritten limit office keys start mid → Ends limit office keys (Ok tt) start out)
+    → Comes limit office text (Ok tt) start out
+so_far-end n limit office line None rest left start mid out so is ends = tt
+so_far-end n limit office line (Some text) None left start mid out so is ends = absurd so
+so_far-end n limit office line (Some text) (Some rest) left start mid out so is ends = (
+  so.keys,
+  so.says ∙ ap (λ lines. with_keys so.keys (keys_from n lines)) is ∙ ap (with_keys so.keys) (from-none n)
+      ∙ ap Ok (append-nil so.keys),
+  ends so.keys so.written,
+)
+
+pub so_far-end-fault : (n limit : ℕ) (f : WritingFault) (office : Office) (line : List ℕ)
+    (text rest left start mid out : Option (List ℕ))
+    → IsSoFar n limit office text rest start mid → ReadsLine rest left line (Ok false)
+    → ((keys : List TimedKey) → HasWritten limit office keys start mid → Ends limit office keys (Err f) start out)
+    → Comes limit office text (Err (of_writing f)) start out
+so_far-end-fault n limit f office line None rest left start mid out so is ends = tt
+so_far-end-fault n limit f office line (Some text) None left start mid out so is ends = absurd so
+so_far-end-fault n limit writing.Write office line (Some text) (Some rest) left start mid out so is ends =
+    ended-begun n limit office line text rest left start mid out so is ends
+so_far-end-fault n limit writing.NoMemory office line (Some text) (Some rest) left start mid out so is ends =
+    ended-begun n limit office line text rest left start mid out so is ends
+
+-- the same by an office with other counts
+pub comes-same : (limit : ℕ) (old new : Office) (text : Option (List ℕ)) (result : Result (Unit {0}) TandemFault)
+    (start out : Option (List ℕ)) → new.json ≡ old.json → new.line ≡ old.line → new.table ≡ old.table
+    → Comes limit new text result start out → Comes limit old text result start out
+comes-same limit old new None result start out json line table comes = tt
+comes-same limit old new (Some text) result start out json line table comes =
+    subst (λ (t : Table). WritesPage old.json old.line limit t text result start out) table
+    (subst (λ l. WritesPage old.json l limit new.table text result start out) line
+    (subst (λ j. WritesPage j new.line limit new.table text result start out) json comes))
+
+-- a fault of reading or of writing is none of the table
+pub reading-kind : (f : ReadingFault) → IsOfKeys (of_reading f)
+reading-kind reading.Read = tt
+reading-kind reading.NoMemory = tt
+
+pub writing-kind : (f : WritingFault) → IsOfKeys (of_writing f)
+writing-kind writing.Write = tt
+writing-kind writing.NoMemory = tt

@@ -1,0 +1,15 @@
+-- Faults of reading and of writing, as faults of the office.
+use Rattle.xb_tandem.specs.declared.fault.ReadingFault.{ReadingFault}
+use Rattle.xb_tandem.specs.declared.fault.ReadingFault.TheVariants as reading
+use Rattle.xb_tandem.specs.declared.fault.WritingFault.{WritingFault}
+use Rattle.xb_tandem.specs.declared.fault.WritingFault.TheVariants as writing
+use Rattle.xb_tandem.specs.declared.fault.TandemFault.{TandemFault}
+use Rattle.xb_tandem.specs.declared.fault.TandemFault.TheVariants as fault
+
+abbrev pub of_writing : WritingFault → TandemFault
+of_writing writing.Write = fault.Write
+of_writing writing.NoMemory = fault.NoMemory
+
+abbrev pub of_reading : ReadingFault → TandemFault
+of_reading reading.Read = fault.Read
+of_reading reading.NoMemory = fault.NoMemory

@@ -1,0 +1,11 @@
+pub mod Faults
+pub mod KeyLines
+pub mod TextLines
+pub mod Objects
+pub mod Entries
+pub mod Written
+pub mod Relaying
+pub mod Rules
+pub mod Options
+pub mod Program
+pub mod Constants

@@ -1,0 +1,37 @@
+-- The JSON objects of an entry and of the totals.
+use Rattle.std.specs.Prelude.{ℕ, List, ◌++◌, codes}
+use Rattle.serde_json.specs.Data.{Data, array, member, no_members, number, object, string, unsigned}
+use Rattle.serde_json.specs.View.{items_of}
+use Rattle.serde_json.specs.Written.{compact_text}
+use Rattle.xb_json.specs.Keys.{digits_text, keys_of}
+use Rattle.xb_model.specs.declared.order.Order.{Order}
+use Rattle.xb_model.specs.declared.order.Order.TheVariants as orders
+use Rattle.xb_model.specs.Page.{reason_text}
+
+-- the object of entry n of a line, by its order
+abbrev pub object_of : ℕ → ℕ → Order → Data
+object_of line n (orders.Key trunk sent) = object
+    (member (codes "entry") (number (unsigned n))
+    (member (codes "keys") (array (items_of (keys_of sent)))
+    (member (codes "line") (number (unsigned line))
+    (member (codes "outcome") (string (codes "KEYED"))
+    (member (codes "sent") (string (digits_text sent))
+    (member (codes "trunk") (number (unsigned trunk)) no_members))))))
+object_of line n (orders.Refused reason heard) = object
+    (member (codes "entry") (number (unsigned n))
+    (member (codes "heard") (number (unsigned heard))
+    (member (codes "line") (number (unsigned line))
+    (member (codes "outcome") (string (codes "REFUSED"))
+    (member (codes "reason") (string (reason_text reason)) no_members)))))
+
+abbrev pub totals_object : ℕ → ℕ → Data
+totals_object keyed refused = object
+    (member (codes "keyed") (number (unsigned keyed))
+    (member (codes "refused") (number (unsigned refused)) no_members))
+
+-- each as a line
+abbrev pub object_line : ℕ → ℕ → Order → List ℕ
+object_line line n order = compact_text (object_of line n order) ++ codes "\n"
+
+abbrev pub totals_object_line : ℕ → ℕ → List ℕ
+totals_object_line keyed refused = compact_text (totals_object keyed refused) ++ codes "\n"

@@ -1,0 +1,48 @@
+-- What the program did, by its status.
+use Rattle.std.specs.Prelude.{ℕ, ◌≡◌, List, [], ◌∷◌, codes, true, None, Err, Ok}
+use Rattle.std.specs.List.{list_all}
+use Rattle.std.specs.Io.KnownBytes.{Keeps}
+use Rattle.clap.specs.Walk.{Text}
+use Rattle.xb_command.specs.Files.{Bytes}
+use Rattle.xb_command.specs.Programs.{Attends, Streams}
+use Rattle.xb_command.specs.Telling.{Tells}
+use Rattle.xb_command.specs.Usages.{names_option}
+use Rattle.xb_tandem.specs.declared.fault.TandemFault.{TandemFault}
+use Rattle.xb_tandem.specs.declared.request.Request.{Request}
+use Rattle.xb_tandem.specs.Options.{AreRefused, Asks}
+use Rattle.xb_tandem.specs.Relaying.{Delivers}
+
+-- the program's name
+abbrev pub program : List ℕ
+program = codes "mftandem"
+
+-- the line for words that are refused
+abbrev pub usage_line : List ℕ
+usage_line = codes "mftandem: usage: mftandem [--json] [--line N] [--timeout MS] TABLE [KEYS]\n"
+
+-- it names each option of the command
+abbrev pub UsageNamesEachOption : Type 0
+UsageNamesEachOption = list_all (names_option usage_line) (codes "json" ∷ codes "line" ∷ codes "timeout" ∷ []) ≡ true
+
+-- the words ask for something, and exactly the page of the keys was written
+pub record WritesAll (bytes : Bytes) (words : List Text) (old new : Streams) : Type 0 where
+  pub request : Request
+  pub table : Text
+  pub asks : Asks words request table
+  pub page : Delivers bytes table request old.input (Ok tt) old.output new.output
+  pub quiet : Keeps old.errors new.errors
+
+-- they ask for something that gave a fault, of which a line was told
+pub record HasFault (bytes : Bytes) (words : List Text) (old new : Streams) : Type 0 where
+  pub request : Request
+  pub table : Text
+  pub fault : TandemFault
+  pub asks : Asks words request table
+  pub page : Delivers bytes table request old.input (Err fault) old.output new.output
+  pub line : Tells program None old.errors new.errors
+
+-- what the program did with its words, the files and its streams
+abbrev pub AttendsTandem : Bytes → List Text → Streams → Streams → ℕ → Type 0
+AttendsTandem bytes words old new status =
+    Attends program usage_line (WritesAll bytes words old new) (HasFault bytes words old new)
+    (AreRefused words) old new status

@@ -1,0 +1,120 @@
+// Why a text line says no key, and why an office stops.
+ghost use Rattle.std.specs.Prelude.{◌≡◌};
+
+use std::alloc::AllocError;
+use std::io;
+use thiserror::Error;
+use xb_model::RowFault;
+use xb_routes::RouteFault;
+use xb_text::WriteFault;
+
+/// Why a text line says no key, and may not be passed over.
+#[derive(Clone, Copy, Debug, PartialEq, Eq, Error)]
+pub enum LineFault {
+    /// It has more than 65,536 bytes.
+    #[error("is longer than 65536 bytes")]
+    TooLong,
+    /// It is no JSON object.
+    #[error("is no JSON object")]
+    NoObject,
+    /// Its member `key` is no name that `mfrx --json` writes.
+    #[error("has a key of no such name")]
+    NoName,
+    /// It has a key, and `at_ms` or `length_ms` is missing, or no whole number of 64 bits.
+    #[error("has a key without its times, at_ms and length_ms")]
+    NoTimes,
+    /// Memory ran out.
+    #[error("{}", RowFault::NoMemory)]
+    NoMemory,
+}
+
+/// Why a line is not read.
+#[derive(Clone, Copy, Debug, PartialEq, Eq)]
+pub(crate) enum ReadingFault {
+    /// A read failed, an interrupted one too.
+    Read,
+    /// Memory ran out.
+    NoMemory,
+}
+
+/// Why an entry is not written.
+#[derive(Clone, Copy, Debug, PartialEq, Eq)]
+pub(crate) enum WritingFault {
+    /// A write or the flush failed, or a write took no byte.
+    Write,
+    /// Memory ran out.
+    NoMemory,
+}
+
+/// Why an office stops. The table comes first, and then the keys. Memory may run out at any time, which is always
+/// `NoMemory`.
+#[derive(Debug, Drop, Error)]
+pub enum TandemFault {
+    /// The file of the table could not be read. Nothing was written.
+    #[error("the route table could not be read: {0}")]
+    File(io::Error),
+    /// The table is refused. Nothing was written.
+    #[error("route table: {0}")]
+    Table(RouteFault),
+    /// A read of the keys failed, an interrupted one too.
+    #[error("the keys could not be read")]
+    Read,
+    /// This text line, from 1, is wrong. The entries were written that the keys before it make certain.
+    #[error("text line {0} {1}")]
+    TextLine(u64, LineFault),
+    /// There are more text lines than can be counted: more than 2^63.
+    #[error("more than 9223372036854775808 text lines")]
+    TooMany,
+    /// Memory ran out.
+    #[error("{}", RowFault::NoMemory)]
+    NoMemory,
+    /// A write or the flush failed, or a write took no byte. The beginning of the page was written.
+    #[error("the entries could not be written")]
+    Write,
+}
+
+impl From<AllocError> for WritingFault {
+    ghost use Rattle.xb_tandem.specs.declared.fault.WritingFault.TheVariants.{NoMemory};
+
+    ghost from_gives = { λ _ e. e ≡ NoMemory };
+
+    fn from(_error: AllocError) -> WritingFault {
+        WritingFault::NoMemory
+    }
+}
+
+impl From<WriteFault> for WritingFault {
+    ghost use Rattle.xb_tandem.specs.declared.fault.WritingFault.TheVariants.{Write};
+
+    ghost from_gives = { λ _ e. e ≡ Write };
+
+    fn from(_fault: WriteFault) -> WritingFault {
+        WritingFault::Write
+    }
+}
+
+impl From<WritingFault> for TandemFault {
+    ghost use Rattle.xb_tandem.specs.Faults.{of_writing};
+
+    ghost from_gives = { λ fault e. e ≡ of_writing fault };
+
+    fn from(fault: WritingFault) -> TandemFault {
+        match fault {
+            WritingFault::Write => TandemFault::Write,
+            WritingFault::NoMemory => TandemFault::NoMemory,
+        }
+    }
+}
+
+impl From<ReadingFault> for TandemFault {
+    ghost use Rattle.xb_tandem.specs.Faults.{of_reading};
+
+    ghost from_gives = { λ fault e. e ≡ of_reading fault };
+
+    fn from(fault: ReadingFault) -> TandemFault {
+        match fault {
+            ReadingFault::Read => TandemFault::Read,
+            ReadingFault::NoMemory => TandemFault::NoMemory,
+        }
+    }
+}

@@ -1,0 +1,30 @@
+//! `mftandem` but for its process: the keys of an incoming trunk in, the page of the office behind it out.
+//!
+//! - `relay`: on `Ok` the writer got exactly the page of the tape of the outcomes of the keys that the text says
+//!   (`keys_of_text`, `outcomes` of `xb_incoming`), by the routes of the table in a file, or the same as JSON objects.
+//!   A text line that is wrong is the first that is, and then just the entries were written that the keys before it
+//!   make certain. On any other fault the beginning of the page of the keys so far was written. An entry is written
+//!   whole with the key that makes it certain, and memory does not grow with the text.
+//! - `laws::pages_are_tapes`: without `--json` it is the page of the entries, by the definitions of `mfbank`.
+//! - `laws::constants`, `laws::usage_names_each_option`.
+//! - `attend`: `Attends` of this.
+//!
+//! What is said of bytes is said of readers whose bytes and writers whose contents a contract can name.
+#![tactic(auto)]
+
+mod fault;
+mod key_line;
+pub mod laws;
+mod lines;
+mod objects;
+mod office;
+mod program;
+mod relaying;
+mod request;
+mod words;
+
+pub use fault::{LineFault, TandemFault};
+pub use lines::MOST_LINE_BYTES;
+pub use program::attend;
+pub use relaying::relay;
+pub use request::{Asked, Request};

@@ -1,0 +1,95 @@
+// The JSON objects of an entry and of the totals.
+ghost use Rattle.std.specs.Prelude.{◌≡◌, IfOk, string_bytes};
+ghost use Rattle.serde_json.specs.View.{view};
+ghost use Rattle.xb_model.specs.declared.order.Order.TheVariants as orders;
+ghost use Rattle.xb_tandem.specs.Objects.{object_line, object_of, totals_object, totals_object_line};
+
+use serde_json::Value;
+use std::alloc::{AllocError, Global};
+use xb_json::{Member, line_of, object_of as object_with};
+use xb_model::{Digit, LineNo, Order, Reason, Trunk};
+
+// The object of an entry that is keyed.
+fn keyed_object<'a>(
+    alloc: Global,
+    line: LineNo,
+    number: usize,
+    trunk: Trunk,
+    sent: &'a [Digit],
+) -> Result<Value, AllocError>
+    ensures { IfOk result (λ value. view value ≡ object_of line number (orders.Key trunk sent.now)) }
+{
+    let members = [
+        ("entry", Member::Number(number as u64)),
+        ("keys", Member::Keys(sent)),
+        ("line", Member::Number(u64::from(line.get()))),
+        ("outcome", Member::Word("KEYED")),
+        ("sent", Member::Digits(sent)),
+        ("trunk", Member::Number(u64::from(trunk.get()))),
+    ];
+    object_with(alloc, &members)
+}
+
+// The object of an entry that is refused.
+fn refused_object(
+    alloc: Global,
+    line: LineNo,
+    number: usize,
+    reason: Reason,
+    heard: u8,
+) -> Result<Value, AllocError>
+    ensures { IfOk result (λ value. view value ≡ object_of line number (orders.Refused reason heard)) }
+{
+    let members = [
+        ("entry", Member::Number(number as u64)),
+        ("heard", Member::Number(u64::from(heard))),
+        ("line", Member::Number(u64::from(line.get()))),
+        ("outcome", Member::Word("REFUSED")),
+        ("reason", Member::Word(reason.word())),
+    ];
+    object_with(alloc, &members)
+}
+
+// The object of an entry by its order.
+fn object_of(alloc: Global, line: LineNo, number: usize, order: &Order) -> Result<Value, AllocError>
+    ensures { IfOk result (λ value. view value ≡ object_of line number order.now) }
+{
+    match order {
+        Order::Key(trunk, sent) => keyed_object(alloc, line, number, *trunk, sent.digits()),
+        Order::Refused(reason, heard) => refused_object(alloc, line, number, *reason, *heard),
+    }
+}
+
+/// The object of an entry by its order, as a text line.
+pub(crate) fn object_line(
+    alloc: Global,
+    line: LineNo,
+    number: usize,
+    order: &Order,
+) -> Result<String, AllocError>
+    ensures { IfOk result (λ text. string_bytes text ≡ object_line line number order.now) }
+{
+    let object = object_of(alloc, line, number, order)?;
+    line_of(alloc, &object)
+}
+
+// The object of the totals.
+fn totals_object(alloc: Global, keyed: usize, refused: usize) -> Result<Value, AllocError>
+    ensures { IfOk result (λ value. view value ≡ totals_object keyed refused) }
+{
+    let keyed = ("keyed", Member::Number(keyed as u64));
+    let refused = ("refused", Member::Number(refused as u64));
+    object_with(alloc, &[keyed, refused])
+}
+
+/// The object of the totals, as a text line.
+pub(crate) fn totals_object_line(
+    alloc: Global,
+    keyed: usize,
+    refused: usize,
+) -> Result<String, AllocError>
+    ensures { IfOk result (λ text. string_bytes text ≡ totals_object_line keyed refused) }
+{
+    let object = totals_object(alloc, keyed, refused)?;
+    line_of(alloc, &object)
+}
