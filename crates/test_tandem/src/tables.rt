@@ -8,7 +8,7 @@ pub(crate) struct Folder;
 
 const SEVEN: &[u8] =
     b"[[route]]\ncode = \"0\"\ntrunk = 1\n[[route]]\ncode = \"234\"\ntrunk = 17\ndelete = 3\nprefix = \"56\"\n\
-[[route]]\ncode = \"555\"\ntrunk = 40\ndelete = 7\n";
+[[route]]\ncode = \"555\"\ntrunk = 40\ndelete = 6\n";
 
 const FILES: &[(&str, &[u8])] = &[
     ("seven", SEVEN),
