@@ -1,13 +1,15 @@
 //! What tests share: worked examples and fakes.
 //!
 //! - A worked example is what lines do, in a short form, beside the page of it, worked out by hand.
-//! - The fakes are a reader and a writer that fail, or that give and take little at a time; random numbers
-//!   that are the same in each run; the words of a command line; and what a program gives on such streams.
+//! - The fakes are a reader and a writer that fail, or that give and take little at a time; files by their names;
+//!   random numbers that are the same in each run; the words of a command line; and what a program gives on such
+//!   streams.
 #![tactic(auto)]
 
 pub mod attempts;
 pub mod decks;
 mod dice;
+mod folder;
 pub mod marks;
 mod programs;
 pub mod pulses;
@@ -16,6 +18,7 @@ mod streams;
 mod words;
 
 pub use dice::Dice;
+pub use folder::Folder;
 pub use programs::{Gives, Program, check_reads, check_status, check_writes};
 pub use streams::{Halting, Short};
 pub use words::words_of;

@@ -4,26 +4,15 @@ use std::io;
 use std::io::{ErrorKind, Read, Write};
 use std::process::Abort;
 use std::test::Fail;
-use test_kit::words_of;
-use xb_command::Files;
+use test_kit::{Folder, words_of};
 use xb_loop::attend;
 
 /// Three route tables: one that is right, one of another release limit, and one that is not TOML.
-pub struct Tables;
-
-impl Files for Tables {
-    fn read(&self, alloc: Global, name: &str) -> io::Result<Vec<u8>> {
-        let text = match name {
-            "good.toml" => b"route = []".as_slice(),
-            "fast.toml" => b"[limits]\nrelease = 200\n".as_slice(),
-            "wrong.toml" => b"route = [".as_slice(),
-            _ => return Err(io::Error::from(ErrorKind::NotFound)),
-        };
-        let mut file = Vec::new(alloc);
-        file.extend_from_slice(text)?;
-        Ok(file)
-    }
-}
+pub const TABLES: Folder = Folder(&[
+    ("good.toml", b"route = []"),
+    ("fast.toml", b"[limits]\nrelease = 200\n"),
+    ("wrong.toml", b"route = ["),
+]);
 
 /// Words, a recording, and what has to stand on standard output and on standard error.
 #[derive(Clone, Copy)]
@@ -47,7 +36,7 @@ pub fn attended<R: Read, W: Write>(
 ) -> Result<(u8, Vec<u8>), Fail> {
     let words = words_of(alloc, "mfloop", words)?;
     let mut told = Vec::new(alloc);
-    let status = attend(alloc, &words, &Tables, reader, out, &mut told);
+    let status = attend(alloc, &words, &TABLES, reader, out, &mut told);
     Ok((status, told))
 }
 

@@ -1,5 +1,5 @@
 // Words that are refused, and streams that fail.
-use crate::attending::{Case, Tables, attended, check_reader, check_told};
+use crate::attending::{Case, TABLES, attended, check_reader, check_told};
 use std::io::ErrorKind;
 use std::test::Fail;
 use test_kit::{Halting, Short, words_of};
@@ -86,7 +86,7 @@ fn fails_where_the_bounces_are_not_told(rt: HostRuntime) -> Result<(), Fail> {
         let mut reader = RECORDING;
         let mut out = Vec::new(rt.alloc());
         let mut err = Short::new(rt.alloc(), room, Some(ErrorKind::Other));
-        let status = attend(rt.alloc(), &words, &Tables, &mut reader, &mut out, &mut err);
+        let status = attend(rt.alloc(), &words, &TABLES, &mut reader, &mut out, &mut err);
         assert_eq!(rt; status, 1, "{room}");
         assert!(rt; out.as_slice() == ROWS, "{room}");
         assert!(rt; err.taken.as_slice() == &told[..room], "{room}");

@@ -1,5 +1,5 @@
 // Words, tables and numbers in; a status, lines and lines of faults out.
-use crate::tables::Folder;
+use crate::tables::FOLDER;
 use std::alloc::Global;
 use std::test::Fail;
 use test_kit::{Gives, Halting, Program, Short, check_status};
@@ -22,7 +22,7 @@ impl Program for Mfroute {
         out: &mut Short,
         err: &mut Vec<u8>,
     ) -> u8 {
-        attend(alloc, words, &Folder, reader, out, err)
+        attend(alloc, words, &FOLDER, reader, out, err)
     }
 }
 

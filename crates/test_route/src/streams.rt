@@ -1,6 +1,6 @@
 // Streams that fail.
 use crate::statuses::Mfroute;
-use crate::tables::Folder;
+use crate::tables::FOLDER;
 use std::alloc::Global;
 use std::io::ErrorKind;
 use std::process::Abort;
@@ -13,7 +13,7 @@ fn check_read(rt: &impl Abort, alloc: Global, words: &[String], numbers: &[u8], 
     let mut reader = Halting::failing(numbers, 4, place, ErrorKind::Interrupted);
     let mut out = Vec::new(alloc);
     let mut err = Vec::new(alloc);
-    let got = attend(alloc, words, &Folder, &mut reader, &mut out, &mut err);
+    let got = attend(alloc, words, &FOLDER, &mut reader, &mut out, &mut err);
     assert_eq!(rt; got, 1, "{place}");
     assert!(rt; out.is_empty(), "{place}");
     let line = b"mfroute: the numbers could not be read\n".as_slice();
@@ -49,7 +49,7 @@ fn check_flush(rt: &impl Abort, alloc: Global, words: &[String]) {
     let mut out = Short::new(alloc, 4096, None);
     out.flush = Some(ErrorKind::Other);
     let mut err = Vec::new(alloc);
-    let got = attend(alloc, words, &Folder, &mut numbers, &mut out, &mut err);
+    let got = attend(alloc, words, &FOLDER, &mut numbers, &mut out, &mut err);
     assert_eq!(rt; got, 1);
     assert!(rt; out.taken.as_slice() == LINE);
     assert!(rt; err.as_slice() == NOT_WRITTEN);

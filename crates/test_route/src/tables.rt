@@ -1,10 +1,5 @@
 // The files of tables that tests name.
-use std::alloc::Global;
-use std::io::{self, ErrorKind};
-use xb_command::Files;
-
-// The files that there are.
-pub(crate) struct Folder;
+use test_kit::Folder;
 
 const SEVEN: &[u8] = b"[[route]]\ncode = \"234\"\ntrunk = 17\ndelete = 3\nprefix = \"56\"\n\
 [[route]]\ncode = \"411\"\ntrunk = 3\n[[route]]\ncode = \"0\"\ntrunk = 1\n";
@@ -12,24 +7,12 @@ const SEVEN: &[u8] = b"[[route]]\ncode = \"234\"\ntrunk = 17\ndelete = 3\nprefix
 const TEN: &[u8] = b"plan = 10\n[[route]]\ncode = \"212\"\ntrunk = 212\n\
 [[route]]\ncode = \"212555\"\ntrunk = 9999\ndelete = 10\nprefix = \"0\"\n";
 
-const FILES: &[(&str, &[u8])] = &[
+// The files that there are.
+pub(crate) const FOLDER: Folder = Folder(&[
     ("seven", SEVEN),
     ("ten", TEN),
     ("no routes", b""),
     ("no toml", b"["),
     ("no trunk", b"[[route]]\ncode = \"234\"\n"),
     ("wrong plan", b"plan = 8\n"),
-];
-
-impl Files for Folder {
-    fn read(&self, alloc: Global, name: &str) -> io::Result<Vec<u8>> {
-        for (other, bytes) in FILES {
-            if *other == name {
-                let mut file = Vec::new(alloc);
-                file.extend_from_slice(bytes)?;
-                return Ok(file);
-            }
-        }
-        Err(io::Error::from(ErrorKind::NotFound))
-    }
-}
+]);

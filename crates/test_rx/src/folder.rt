@@ -1,7 +1,5 @@
 // The file of a page that tests name.
-use std::alloc::Global;
-use std::io::{self, ErrorKind};
-use xb_command::Files;
+use test_kit::Folder;
 
 // Two keyings, of which the tests sound other ones.
 const PAGE: &[u8] = b"0007 1 KEYED 0017 KP:1100+1700 5:900+1300 0:1300+1500 ST:1500+1700\n\
@@ -10,17 +8,8 @@ const PAGE: &[u8] = b"0007 1 KEYED 0017 KP:1100+1700 5:900+1300 0:1300+1500 ST:1
 KEYED 2 REFUSED 1\n";
 
 // The files that there are.
-pub(crate) struct Folder;
-
-impl Files for Folder {
-    fn read(&self, alloc: Global, name: &str) -> io::Result<Vec<u8>> {
-        let mut file = Vec::new(alloc);
-        match name {
-            "page" => file.extend_from_slice(PAGE)?,
-            "none" => file.extend_from_slice(b"KEYED 0 REFUSED 0\n")?,
-            "damaged" => file.extend_from_slice(b"KEYED 1 REFUSED 0\n")?,
-            _ => return Err(io::Error::from(ErrorKind::NotFound)),
-        }
-        Ok(file)
-    }
-}
+pub(crate) const FOLDER: Folder = Folder(&[
+    ("page", PAGE),
+    ("none", b"KEYED 0 REFUSED 0\n"),
+    ("damaged", b"KEYED 1 REFUSED 0\n"),
+]);

@@ -1,5 +1,5 @@
 // The page of a sound that xb_tone wrote.
-use crate::folder::Folder;
+use crate::folder::FOLDER;
 use std::alloc::Global;
 use std::test::Fail;
 use test_kit::marks::keying;
@@ -82,7 +82,7 @@ fn written(
     let mut reader = file.as_slice();
     let mut out = Vec::new(alloc);
     let mut err = Vec::new(alloc);
-    let status = attend(alloc, &words, &Folder, &mut reader, &mut out, &mut err);
+    let status = attend(alloc, &words, &FOLDER, &mut reader, &mut out, &mut err);
     if status != wanted || (status == 0 && !err.is_empty()) {
         return Err("another status".into());
     }
@@ -139,7 +139,7 @@ fn heard_in(alloc: Global, file: &[u8], options: &[&str]) -> Result<(Vec<u8>, Ve
     let mut reader = file;
     let mut out = Vec::new(alloc);
     let mut err = Vec::new(alloc);
-    if attend(alloc, &words, &Folder, &mut reader, &mut out, &mut err) != 0 {
+    if attend(alloc, &words, &FOLDER, &mut reader, &mut out, &mut err) != 0 {
         return Err("another status".into());
     }
     Ok((out, err))

@@ -1,5 +1,5 @@
 // Words, sounds and streams in; a status and lines of faults out.
-use crate::folder::Folder;
+use crate::folder::FOLDER;
 use std::alloc::Global;
 use std::test::Fail;
 use test_kit::{Gives, Halting, Program, Short, check_reads, check_status};
@@ -22,7 +22,7 @@ impl Program for Mfrx {
         out: &mut Short,
         err: &mut Vec<u8>,
     ) -> u8 {
-        attend(alloc, words, &Folder, reader, out, err)
+        attend(alloc, words, &FOLDER, reader, out, err)
     }
 }
 

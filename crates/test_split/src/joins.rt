@@ -1,9 +1,7 @@
 // Words and files of pages in; a status, a page and lines of faults out.
 use std::alloc::Global;
-use std::io::{self, ErrorKind};
 use std::test::Fail;
-use test_kit::words_of;
-use xb_command::Files;
+use test_kit::{Folder, words_of};
 use xb_join::attend;
 
 const FIRST: &[u8] = b"0000 1 REFUSED UNKNOWN 3\n\
@@ -30,9 +28,7 @@ const LAST_OF_WINDOWS: &[u8] =
 KEYED 1 REFUSED 0\n";
 
 // The files that there are.
-struct Folder;
-
-const FILES: &[(&str, &[u8])] = &[
+const FOLDER: Folder = Folder(&[
     ("first", FIRST),
     ("last", LAST),
     ("last of windows", LAST_OF_WINDOWS),
@@ -44,20 +40,7 @@ const FILES: &[(&str, &[u8])] = &[
     ),
     ("list", LIST),
     ("no list", b"0000-4999.deck 0 4999 30\n5000-9999.deck 5000"),
-];
-
-impl Files for Folder {
-    fn read(&self, alloc: Global, name: &str) -> io::Result<Vec<u8>> {
-        for (other, bytes) in FILES {
-            if *other == name {
-                let mut file = Vec::new(alloc);
-                file.extend_from_slice(bytes)?;
-                return Ok(file);
-            }
-        }
-        Err(io::Error::from(ErrorKind::NotFound))
-    }
-}
+]);
 
 // The words, the status, the page, and what stands on standard error.
 const CASES: &[(&[&str], u8, &[u8], &[u8])] = &[
@@ -143,7 +126,7 @@ fn each_status(rt: HostRuntime) -> Result<(), Fail> {
     for (words, status, page, line) in CASES {
         let words = words_of(alloc, "mfjoin", words)?;
         let (mut out, mut err) = (Vec::new(alloc), Vec::new(alloc));
-        assert_eq!(rt; attend(alloc, &words, &Folder, &mut out, &mut err), *status);
+        assert_eq!(rt; attend(alloc, &words, &FOLDER, &mut out, &mut err), *status);
         assert_eq!(rt; out.as_slice(), *page);
         assert_eq!(rt; err.as_slice(), *line);
     }

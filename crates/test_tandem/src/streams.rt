@@ -1,6 +1,6 @@
 // Streams that fail, and text lines that are too long.
 use crate::statuses::Mftandem;
-use crate::tables::Folder;
+use crate::tables::FOLDER;
 use std::alloc::Global;
 use std::io::ErrorKind;
 use std::process::Abort;
@@ -22,7 +22,7 @@ fn check_read(rt: &impl Abort, alloc: Global, words: &[String], place: usize) {
     let mut reader = Halting::failing(KEYS, 4, place, ErrorKind::Interrupted);
     let mut out = Vec::new(alloc);
     let mut err = Vec::new(alloc);
-    let got = attend(alloc, words, &Folder, &mut reader, &mut out, &mut err);
+    let got = attend(alloc, words, &FOLDER, &mut reader, &mut out, &mut err);
     assert_eq!(rt; got, 1, "{place}");
     let wanted = if place < CERTAIN {
         b"".as_slice()

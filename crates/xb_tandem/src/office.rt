@@ -96,7 +96,8 @@ impl Office {
         requires { self.old.keyed + self.old.refused + 1 < 2 ^ 64 }
         ensures told { (orders : List Ordered) (start : Option (List ℕ)) →
             HasTold self.old orders start (W.contents out.old) →
-            Tells self.new (orders ++ order_of self.old.table.routes outcome.now ∷ []) result start (W.contents out.new) }
+            Tells self.new (orders ++ order_of self.old.table.routes outcome.now ∷ []) result start
+            (W.contents out.new) }
         ensures one { self.new.keyed + self.new.refused ≤ self.old.keyed + self.old.refused + 1 }
         ensures same { IsWithCounts self.old self.new }
     {
@@ -121,7 +122,8 @@ impl Office {
             HasWritten limit self.old keys start (W.contents out.old) →
             Takes limit self.new (keys ++ key ∷ []) result start (W.contents out.new) }
         ensures one { self.new.keyed + self.new.refused ≤ self.old.keyed + self.old.refused + 1 }
-        ensures same { (self.new.json ≡ self.old.json) × (self.new.line ≡ self.old.line) × (self.new.table ≡ self.old.table) }
+        ensures same { (self.new.json ≡ self.old.json) × (self.new.line ≡ self.old.line)
+            × (self.new.table ≡ self.old.table) }
     {
         match self.register.take(key) {
             Some(outcome) => self.tell(alloc, &outcome, out),

@@ -74,7 +74,8 @@ fn request_of(options: Options) -> Option<Request>
 /// What the words ask for: the file of the table, the line of the entries, the time-out, and how entries are told.
 pub fn asked_by_words<'a>(alloc: Global, words: &'a [String]) -> Result<Asked<'a>, WordsFault>
     ensures asks { IfOk result (λ asked. Asks (texts_of words.entry.now) asked.request asked.table.now) }
-    ensures refused { IfErr result (λ f. f ≡ WordsFault.Refused → AreRefused (texts_of words.entry.now)) }
+    ensures refused { IfErr result (λ f. f ≡ WordsFault.Refused →
+        AreRefused (texts_of words.entry.now)) }
 {
     let words = read_words(alloc, PROGRAM, &OPTIONS, words)?;
     let options = options_of(&words);
