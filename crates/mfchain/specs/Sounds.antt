@@ -2,9 +2,9 @@
 use Rattle.std.specs.Prelude.{◌≡◌, ◌⊎◌, ℕ, ◌<◌, ◌≤◌, ◌^◌, ℤ, List, length, take}
 use Rattle.xb_structs.specs.declared.mark.PlainMark.{PlainMark}
 use Rattle.xb_structs.specs.EntryLines.{IsKind, mark_in}
-use Rattle.xb_tone.specs.declared.cadence.Cadence.{Cadence}
-use Rattle.xb_tone.specs.Cadences.{IsLawful}
-use Rattle.xb_tone.specs.Sounds.{mark_sound}
+use Rattle.xb_sound.specs.declared.cadence.Cadence.{Cadence}
+use Rattle.xb_sound.specs.Cadences.{IsLawful}
+use Rattle.xb_sound.specs.Sounds.{mark_sound}
 use Rattle.mfchain.specs.declared.sounds.PlainCadence.{PlainCadence}
 use Rattle.mfchain.specs.declared.status.TheConstants.{NO_ROOM, WRONG_CADENCE, WRONG_MARKS}
 

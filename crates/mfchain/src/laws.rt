@@ -4,8 +4,8 @@ ghost use Rattle.xb_model.specs.declared.mark.Mark.{Mark};
 ghost use Rattle.xb_model.specs.declared.on.On.{On};
 ghost use Rattle.xb_structs.specs.EntryLines.{mark_in};
 ghost use Rattle.xb_structs.specs.Marks.{plain_mark};
-ghost use Rattle.xb_tone.specs.declared.cadence.Cadence.{Cadence};
-ghost use Rattle.xb_tone.specs.Sounds.{sound_of};
+ghost use Rattle.xb_sound.specs.declared.cadence.Cadence.{Cadence};
+ghost use Rattle.xb_sound.specs.Sounds.{sound_of};
 ghost use Rattle.mfchain.specs.declared.status.TheConstants.{NO_ROOM, WRONG_CADENCE, WRONG_CHARACTER};
 ghost use Rattle.mfchain.specs.declared.status.TheConstants.{WRONG_MARKS};
 

@@ -5,7 +5,7 @@
 //!   itself.
 //! - `mfchain_route_number`: the marks of a number that is dialled on no line.
 //! - `mfchain_entry`: the line of the page of these marks.
-//! - `mfchain_sound`: the samples of a mark, as in `xb_tone`, by a cadence. `mfchain_cadence` is that of a
+//! - `mfchain_sound`: the samples of a mark, as in `xb_sound`, by a cadence. `mfchain_cadence` is that of a
 //!   sender. `laws::plays_what_was_given`: for marks that were given, the samples, one after the other, are
 //!   the sound of what was keyed.
 //! - `mfchain_digit_of`: the digit that a letter dials. `mfchain_status_text`: what each status says.

@@ -2,14 +2,14 @@
 ghost use Rattle.std.specs.Prelude.{◌≡◌, ◌≢◌, ◌≤◌, ◌<◌, ◌++◌, ◌^◌, ◌↔◌, IsSome, IfSome, IfOk, IfErr, OnErr};
 ghost use Rattle.std.specs.Prelude.{length, take};
 ghost use Rattle.xb_structs.specs.EntryLines.{IsKind, mark_in, pair_in};
-ghost use Rattle.xb_tone.specs.Cadences.{standard_cadence};
-ghost use Rattle.xb_tone.specs.Sounds.{mark_sound, silence, tone_sound};
+ghost use Rattle.xb_sound.specs.Cadences.{standard_cadence};
+ghost use Rattle.xb_sound.specs.Sounds.{mark_sound, silence, tone_sound};
 ghost use Rattle.mfchain.specs.Sounds.{DoesNotPlay, IsMark, Plays, cadence_in};
 
 use crate::status::{NO_ROOM, WRONG_CADENCE, WRONG_MARKS};
 use xb_model::Tone;
+use xb_sound::{Cadence, fill_tone};
 use xb_structs::{DONE, PlainMark};
-use xb_tone::{Cadence, fill_tone};
 
 // How many samples a ms has.
 const SAMPLES_PER_MS: usize = 8;

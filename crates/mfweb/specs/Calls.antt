@@ -8,7 +8,7 @@ use Rattle.xb_routes.specs.Table.{Table}
 use Rattle.xb_structs.specs.declared.table.PlainTable.{PlainTable}
 use Rattle.xb_structs.specs.Filling.{IsNotAdded, begun}
 use Rattle.xb_structs.specs.Tables.{Holds}
-use Rattle.xb_tone.specs.declared.cadence.Cadence.{Cadence}
+use Rattle.xb_sound.specs.declared.cadence.Cadence.{Cadence}
 use Rattle.mfweb.specs.declared.exports.WebCadence.{WebCadence}
 use Rattle.mfweb.specs.declared.exports.WebLimits.{WebLimits}
 use Rattle.mfweb.specs.declared.exports.WebRoute.{WebRoute}

@@ -4,8 +4,8 @@ ghost use Rattle.std.specs.Prelude.{◌≡◌, ◌≢◌, ◌<◌, ◌≤◌, le
 ghost use Rattle.std.specs.List.{range_with_len};
 ghost use Rattle.xb_model.specs.LawfulLimits.{standard_limits};
 ghost use Rattle.xb_routes.specs.Keys.{keys_in};
-ghost use Rattle.xb_tone.specs.Cadences.{standard_cadence};
-ghost use Rattle.xb_tone.specs.Sines.{pair_sample};
+ghost use Rattle.xb_sound.specs.Cadences.{standard_cadence};
+ghost use Rattle.xb_sound.specs.Sines.{pair_sample};
 ghost use Rattle.xb_structs.specs.Filling.{HasAdded};
 ghost use Rattle.mfweb.specs.Calls.{Begins, DoesNotAdd, DoesNotBegin};
 ghost use Rattle.mfweb.specs.Calls.{cadence_of, limits_of, pair, words_of};
@@ -14,11 +14,11 @@ ghost use Rattle.mfweb.specs.Showing.{DoesNotPrint, FindsCode, FindsNoCode, Prin
 use crate::status::{NO_CODE, print_status};
 use xb_model::{Limits, Tone};
 use xb_routes::RouteWords;
+use xb_sound::{Cadence, fill_tone};
 use xb_structs::{
     DONE, PlainMark, PlainTable, add, begin, deciding, fault_place, fault_status, print_entry,
     refusal_status,
 };
-use xb_tone::{Cadence, fill_tone};
 
 /// The limits of a line's pulses, each in ms.
 #[repr(C)]

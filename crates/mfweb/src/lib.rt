@@ -14,7 +14,7 @@
 //! - `mfweb_entry`: the line of the page of these marks.
 //! - `mfweb_ear`, `mfweb_hear` and `mfweb_heard`: what a receiver hears of samples, in parts of any lengths:
 //!   the keys are those of `keys_of_sound` of `xb_ear`.
-//! - `mfweb_tone`: the samples of a tone, as in `xb_tone`. `mfweb_limits` and `mfweb_cadence`: the standard
+//! - `mfweb_tone`: the samples of a tone, as in `xb_sound`. `mfweb_limits` and `mfweb_cadence`: the standard
 //!   values. `mfweb_layout`: where the fields of each struct stand.
 #![tactic(auto)]
 

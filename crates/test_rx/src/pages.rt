@@ -1,11 +1,11 @@
-// The page of a sound that xb_tone wrote.
+// The page of a sound that xb_sound wrote.
 use crate::folder::FOLDER;
 use std::alloc::Global;
 use std::test::Fail;
 use test_kit::marks::keying;
 use test_kit::words_of;
 use xb_rx::attend;
-use xb_tone::{Cadence, write_wav};
+use xb_sound::{Cadence, write_wav};
 
 // The page of two keyings, worked out by hand.
 const PAGE: &[u8] = b"0042 1 KEYED 0017 KP:1100+1700 5:900+1300 0:1300+1500 ST:1500+1700\n\

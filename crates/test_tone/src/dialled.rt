@@ -4,8 +4,8 @@ use test_kit::decks::TABLE;
 use xb_dial::{Speed, calls_of_text};
 use xb_model::LineNo;
 use xb_routes::RouteTable;
+use xb_sound::Cadence;
 use xb_together::sound_of_calls;
-use xb_tone::Cadence;
 
 // Line 7 dials 0, and KP, 0 and ST are keyed: 500 ms of silence, then tones of 100, 68 and 68 ms with 68 ms
 // of silence after each, at 8 samples a ms.

@@ -3,7 +3,7 @@ use std::test::Fail;
 use test_kit::marks::keying;
 use xb_ear::Receiver;
 use xb_model::Tone;
-use xb_tone::{Cadence, samples_of};
+use xb_sound::{Cadence, samples_of};
 
 // The pairs of KP, 5, 6, 7 and ST.
 const PAIRS: [Tone; 5] = [

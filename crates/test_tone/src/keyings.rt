@@ -3,7 +3,7 @@ use std::alloc::Global;
 use std::process::Abort;
 use std::test::Fail;
 use xb_model::{Key, Mark, Trunk, mf};
-use xb_tone::{Cadence, HEADER_BYTES, samples_of, wav, write_samples, write_wav};
+use xb_sound::{Cadence, HEADER_BYTES, samples_of, wav, write_samples, write_wav};
 
 // KP from its beginning.
 const OF_KP: [i16; 8] = [0, 17_328, 14_417, -2_379, -11_180, -5_412, 967, -1_549];

@@ -1,7 +1,8 @@
 // The words of each fault, as the table of faults has them.
 use std::test::Fail;
 use xb_page::PageFault;
-use xb_tone::{CadenceFault, ToneFault};
+use xb_sound::CadenceFault;
+use xb_tone::ToneFault;
 
 const WORDS: &[(ToneFault, &str)] = &[
     (

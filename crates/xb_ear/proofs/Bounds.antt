@@ -9,7 +9,7 @@ use Rattle.xb_ear.specs.declared.levels.Levels.{Levels}
 use Rattle.xb_ear.specs.Disturbed.{IsNear}
 use Rattle.xb_ear.specs.Levels.{correlated, cosine_of, level, levels_of, part, sine_of, squares}
 use Rattle.xb_ear.specs.Pairs.{level_at}
-use Rattle.xb_tone.specs.Sines.{sine_table}
+use Rattle.xb_sound.specs.Sines.{sine_table}
 use Rattle.xb_ear.proofs.Near.{far_squares, near-correlated, near-squares, reach}
 
 -- a disturbance of 1 changes a sum by at most so much

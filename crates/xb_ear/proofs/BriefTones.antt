@@ -5,7 +5,7 @@ use Rattle.std.proofs.lemmas.Bool.{cases_lt}
 use Rattle.std.proofs.lemmas.List.{drop-append-le, drop-drop, drop_at, take-append-le}
 use Rattle.std.proofs.lemmas.List.FromFn.{take-map-range_with_len}
 use Rattle.xb_model.specs.declared.key.Tone.{Tone as Pair}
-use Rattle.xb_tone.specs.Sines.{sine_table}
+use Rattle.xb_sound.specs.Sines.{sine_table}
 use Rattle.xb_ear.specs.Disturbed.{AreWithin}
 use Rattle.xb_ear.specs.Ears.{least_before, windows_in}
 use Rattle.xb_ear.specs.HeardKeys.{MOST_NOISE}

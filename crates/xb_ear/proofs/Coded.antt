@@ -11,14 +11,14 @@ use Rattle.xb_model.specs.declared.key.Tone.{Tone as Pair}
 use Rattle.xb_model.specs.declared.mark.Mark.{Mark}
 use Rattle.xb_model.specs.declared.mark.Mark.TheVariants.{Trunk, Tone, Refused}
 use Rattle.xb_model.specs.MfPairs.{mf_pair, pair}
-use Rattle.xb_tone.specs.declared.cadence.Cadence.{Cadence}
-use Rattle.xb_tone.specs.Cadences.{tone_ms}
-use Rattle.xb_tone.specs.HeardKeys.{AreKeyed, IsKey}
-use Rattle.xb_tone.specs.Sines.{pair_sample, sine_table}
-use Rattle.xb_tone.specs.Sounds.{silence, sound_of, tone_sound}
-use Rattle.xb_tone.proofs.KeyWaves.{each_digit}
-use Rattle.xb_tone.proofs.Places.{pair_sample-turns}
-use Rattle.xb_tone.proofs.SineTables.{holds_below}
+use Rattle.xb_sound.specs.declared.cadence.Cadence.{Cadence}
+use Rattle.xb_sound.specs.Cadences.{tone_ms}
+use Rattle.xb_sound.specs.HeardKeys.{AreKeyed, IsKey}
+use Rattle.xb_sound.specs.Sines.{pair_sample, sine_table}
+use Rattle.xb_sound.specs.Sounds.{silence, sound_of, tone_sound}
+use Rattle.xb_sound.proofs.KeyWaves.{each_digit}
+use Rattle.xb_sound.proofs.Places.{pair_sample-turns}
+use Rattle.xb_sound.proofs.SineTables.{holds_below}
 use Rattle.xb_ear.specs.Disturbed.{AreWithin, bounded}
 use Rattle.xb_ear.specs.HeardKeys.{MOST_NOISE, MOST_NOISE_IN_TONES, disturbable}
 use Rattle.xb_ear.specs.MuLaw.{AreCodedAs, IsCodedAs, MuLawIsHeard}

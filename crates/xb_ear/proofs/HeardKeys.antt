@@ -10,12 +10,12 @@ use Rattle.xb_model.specs.declared.key.Tone.{Tone as Pair}
 use Rattle.xb_model.specs.declared.mark.Mark.{Mark}
 use Rattle.xb_model.specs.declared.mark.Mark.TheVariants.{Trunk, Tone, Refused}
 use Rattle.xb_model.specs.MfPairs.{mf_pair}
-use Rattle.xb_tone.specs.declared.cadence.Cadence.{Cadence}
-use Rattle.xb_tone.specs.Cadences.{tone_ms}
-use Rattle.xb_tone.specs.HeardKeys.{AreKeyed, IsKey}
-use Rattle.xb_tone.specs.Sines.{pair_sample}
-use Rattle.xb_tone.specs.Sounds.{silence}
-use Rattle.xb_tone.proofs.KeyWaves.{each_digit}
+use Rattle.xb_sound.specs.declared.cadence.Cadence.{Cadence}
+use Rattle.xb_sound.specs.Cadences.{tone_ms}
+use Rattle.xb_sound.specs.HeardKeys.{AreKeyed, IsKey}
+use Rattle.xb_sound.specs.Sines.{pair_sample}
+use Rattle.xb_sound.specs.Sounds.{silence}
+use Rattle.xb_sound.proofs.KeyWaves.{each_digit}
 use Rattle.xb_ear.specs.Disturbed.{AreWithin, bounded}
 use Rattle.xb_ear.specs.Ears.{heard, seen_at, sights, windows_in}
 use Rattle.xb_ear.specs.HeardKeys.{AreUnlike, IsHearableUnlike, MOST_NOISE, MOST_NOISE_IN_TONES, disturbable, mark_disturbable, pairs_in, tones_of}

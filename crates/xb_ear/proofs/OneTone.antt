@@ -8,7 +8,7 @@ use Rattle.std.proofs.lemmas.Nat.{div-add-mod', mod_below, mul-le}
 use Rattle.std.proofs.lemmas.Simd.{map-map}
 use Rattle.xb_ear.specs.LongRuns.{label}
 use Rattle.xb_ear.proofs.Places.{sine_of-turns}
-use Rattle.xb_tone.proofs.SineTables.{holds_below}
+use Rattle.xb_sound.proofs.SineTables.{holds_below}
 use Rattle.xb_ear.specs.declared.levels.Levels.{Levels}
 use Rattle.xb_ear.specs.declared.sight.Sight.{Sight}
 use Rattle.xb_ear.specs.Disturbed.{IsNear}

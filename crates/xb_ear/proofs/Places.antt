@@ -1,7 +1,7 @@
 -- Where a sample of an MF frequency stands in the table.
 use Rattle.std.proofs.Common.{◌≡◌, ◌∙◌, ℕ, ◌+◌, ◌*◌, ◌/◌, ◌%◌, sym, ap, arith}
 use Rattle.std.proofs.Math.Nat.{mul-div_cancel, add-mul-mod_self_right}
-use Rattle.xb_tone.specs.Sines.{sine_at}
+use Rattle.xb_sound.specs.Sines.{sine_at}
 use Rattle.xb_ear.specs.Levels.{sine_of}
 
 -- of a multiple of 100 Hz each sample stands at a whole place

@@ -5,9 +5,9 @@ use Rattle.std.proofs.lemmas.List.FromFn.{length-map-range_with_len}
 use Rattle.std.proofs.lemmas.Nat.{div-add-mod', mod_below}
 use Rattle.xb_model.specs.declared.key.Tone.{Tone as Pair}
 use Rattle.xb_model.specs.MfPairs.{pair}
-use Rattle.xb_tone.specs.Sines.{pair_sample, sine_table}
-use Rattle.xb_tone.proofs.Places.{pair_sample-turns}
-use Rattle.xb_tone.proofs.SineTables.{holds_below}
+use Rattle.xb_sound.specs.Sines.{pair_sample, sine_table}
+use Rattle.xb_sound.proofs.Places.{pair_sample-turns}
+use Rattle.xb_sound.proofs.SineTables.{holds_below}
 use Rattle.xb_ear.specs.Disturbed.{IsNear}
 use Rattle.xb_ear.specs.HeardKeys.{MOST_NOISE, MOST_NOISE_IN_TONES}
 use Rattle.xb_ear.specs.Hearings.{is_same_pair}

@@ -3,9 +3,9 @@ use Rattle.std.proofs.Common.{refl, Some}
 use Rattle.xb_model.specs.declared.key.Key.{Key}
 use Rattle.xb_model.specs.declared.key.Key.TheVariants.{Digit, Kp, St}
 use Rattle.xb_model.specs.MfPairs.{mf_pair}
-use Rattle.xb_tone.specs.HeardKeys.{IsKey}
-use Rattle.xb_tone.specs.Sines.{pair_sample, sine_table}
-use Rattle.xb_tone.proofs.KeyWaves.{each_digit}
+use Rattle.xb_sound.specs.HeardKeys.{IsKey}
+use Rattle.xb_sound.specs.Sines.{pair_sample, sine_table}
+use Rattle.xb_sound.proofs.KeyWaves.{each_digit}
 use Rattle.xb_ear.specs.HeardKeys.{MOST_NOISE_IN_TONES}
 use Rattle.xb_ear.specs.Levels.{correlated}
 use Rattle.xb_ear.proofs.Near.{far_squares}

@@ -8,7 +8,7 @@ use Rattle.std.proofs.lemmas.Int.{ints}
 use Rattle.std.proofs.lemmas.Bool.{ltb-false}
 use Rattle.std.proofs.lemmas.List.{drop-map, length-map, take-map}
 use Rattle.xb_model.specs.Image.{image_on}
-use Rattle.xb_tone.specs.Sines.{sine_table}
+use Rattle.xb_sound.specs.Sines.{sine_table}
 use Rattle.xb_ear.specs.declared.levels.Levels.{Levels}
 use Rattle.xb_ear.specs.declared.sight.Sight.{Sight}
 use Rattle.xb_ear.specs.declared.hearing.Heard.{Heard}

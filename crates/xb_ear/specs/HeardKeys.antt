@@ -8,10 +8,10 @@ use Rattle.xb_model.specs.declared.key.Tone.{Tone as Pair}
 use Rattle.xb_model.specs.declared.mark.Mark.{Mark}
 use Rattle.xb_model.specs.declared.mark.Mark.TheVariants.{Trunk, Tone, Refused}
 use Rattle.xb_model.specs.Keyings.{keying}
-use Rattle.xb_tone.specs.declared.cadence.Cadence.{Cadence}
-use Rattle.xb_tone.specs.HeardKeys.{AreKeyed, frequencies_of, keys_of, keys_with}
-use Rattle.xb_tone.specs.Cadences.{tone_ms}
-use Rattle.xb_tone.specs.Sounds.{silence, sound_of, tone_sound}
+use Rattle.xb_sound.specs.declared.cadence.Cadence.{Cadence}
+use Rattle.xb_sound.specs.HeardKeys.{AreKeyed, frequencies_of, keys_of, keys_with}
+use Rattle.xb_sound.specs.Cadences.{tone_ms}
+use Rattle.xb_sound.specs.Sounds.{silence, sound_of, tone_sound}
 use Rattle.xb_ear.specs.declared.hearing.Heard.{Heard}
 use Rattle.xb_ear.specs.Disturbed.{AreWithin, IsNear, bounded}
 use Rattle.xb_ear.specs.Ears.{heard}

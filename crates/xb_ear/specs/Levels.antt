@@ -1,7 +1,7 @@
 -- How strong each MF frequency is in a window of samples.
 use Rattle.std.specs.Prelude.{ℕ, ◌+◌, ◌-◌, ◌*◌, ◌/◌, ◌%◌, ◌^◌, ◌<◌, List, [], ◌∷◌, ℤ, pos, ◌+ℤ◌, ◌*ℤ◌, unsigned_abs}
 use Rattle.xb_ear.specs.declared.levels.Levels.{Levels}
-use Rattle.xb_tone.specs.Sines.{sine_at, sine_sample}
+use Rattle.xb_sound.specs.Sines.{sine_at, sine_sample}
 
 -- a sine of a frequency, and one that is a quarter of a period ahead of it
 abbrev pub sine_of : ℕ → ℕ → ℤ

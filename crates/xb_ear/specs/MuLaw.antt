@@ -2,9 +2,9 @@
 use Rattle.std.specs.Prelude.{ℕ, ◌≤◌, ◌<◌, List, [], ◌∷◌, map, ℤ, ◌-ℤ◌, unsigned_abs}
 use Rattle.xb_model.specs.declared.mark.Mark.{Mark}
 use Rattle.xb_riff.specs.Codings.{mu_law_sample}
-use Rattle.xb_tone.specs.declared.cadence.Cadence.{Cadence}
-use Rattle.xb_tone.specs.HeardKeys.{AreKeyed}
-use Rattle.xb_tone.specs.Sounds.{sound_of}
+use Rattle.xb_sound.specs.declared.cadence.Cadence.{Cadence}
+use Rattle.xb_sound.specs.HeardKeys.{AreKeyed}
+use Rattle.xb_sound.specs.Sounds.{sound_of}
 use Rattle.xb_ear.specs.HeardKeys.{IsHearable, IsHeardAs}
 
 -- a byte stands for a sample where no other byte stands for a nearer one

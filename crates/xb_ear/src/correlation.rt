@@ -3,7 +3,7 @@ ghost use Rattle.std.specs.Prelude.{◌≡◌, ◌≤◌, ◌*◌, ◌*ℤ◌, l
 ghost use Rattle.xb_ear.specs.Levels.{correlated, sine_of, cosine_of, squares, total};
 
 use crate::waves::cosine_sample;
-use xb_tone::sine_sample;
+use xb_sound::sine_sample;
 
 // A sample times one of a wave.
 fn product(x: i16, y: i16) -> i64

@@ -2,7 +2,7 @@
 ghost use Rattle.std.specs.Prelude.{◌≡◌, ◌≤◌, unsigned_abs};
 ghost use Rattle.xb_ear.specs.Levels.{cosine_of};
 
-use xb_tone::sine_at;
+use xb_sound::sine_at;
 
 // How many places of the table a cosine is ahead of a sine.
 const QUARTER: u64 = 20;

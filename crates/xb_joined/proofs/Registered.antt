@@ -13,9 +13,9 @@ use Rattle.xb_model.specs.Numbers.{outcomes_of}
 use Rattle.xb_model.specs.Records.{attempts_of, record_of}
 use Rattle.xb_model.specs.Routing.{CodedRoute, order_of, routed}
 use Rattle.xb_model.specs.Tapes.{joined_tape}
-use Rattle.xb_tone.specs.HeardKeys.{AreKeyed}
-use Rattle.xb_tone.proofs.KeyWaves.{keys_with-pair}
-use Rattle.xb_tone.proofs.TapeKeys.{entries-keyed}
+use Rattle.xb_sound.specs.HeardKeys.{AreKeyed}
+use Rattle.xb_sound.proofs.KeyWaves.{keys_with-pair}
+use Rattle.xb_sound.proofs.TapeKeys.{entries-keyed}
 use Rattle.xb_ear.specs.declared.hearing.Heard.{Heard}
 use Rattle.xb_ear.specs.HeardKeys.{DisturbedKeysAreHeard, pairs_in, tones_of}
 use Rattle.xb_ear.specs.Receivers.{keys_of_sound}

@@ -12,8 +12,8 @@ use Rattle.xb_model.specs.Records.{record_of}
 use Rattle.xb_model.specs.Routing.{CodedRoute, order_of, routed}
 use Rattle.xb_model.specs.Rows.{LoopRow}
 use Rattle.xb_model.specs.Tapes.{joined_tape}
-use Rattle.xb_tone.specs.declared.cadence.Cadence.{Cadence}
-use Rattle.xb_tone.specs.HeardTapes.{HavePrefixes}
+use Rattle.xb_sound.specs.declared.cadence.Cadence.{Cadence}
+use Rattle.xb_sound.specs.HeardTapes.{HavePrefixes}
 use Rattle.xb_ear.specs.Disturbed.{AreWithin}
 use Rattle.xb_ear.specs.HeardKeys.{IsHearable, disturbable}
 use Rattle.xb_incoming.specs.Attempts.{entry_of, number_of, outcomes, tape_of}

@@ -3,7 +3,7 @@ use Rattle.std.specs.Prelude.{ℕ, ◌+◌, ◌-◌, ◌*◌, ◌/◌, List, [],
 use Rattle.xb_model.specs.declared.key.Key.{Key}
 use Rattle.xb_model.specs.declared.key.Key.TheVariants as keys
 use Rattle.xb_model.specs.declared.key.Tone.{Tone as Pair}
-use Rattle.xb_tone.specs.HeardKeys.{frequencies_of, keys_with}
+use Rattle.xb_sound.specs.HeardKeys.{frequencies_of, keys_with}
 use Rattle.xb_ear.specs.declared.hearing.Heard.{Heard}
 use Rattle.xb_ear.specs.Receivers.{keys_of_sound}
 use Rattle.xb_incoming.specs.declared.key.Symbol.{Symbol}

@@ -8,9 +8,9 @@ use Rattle.xb_model.specs.declared.mark.Mark.{Mark}
 use Rattle.xb_model.specs.declared.mark.Mark.TheVariants.{Trunk, Tone, Refused}
 use Rattle.xb_model.specs.Keyings.{keying, tone}
 use Rattle.xb_model.specs.MfPairs.{mf_pair}
-use Rattle.xb_tone.specs.HeardKeys.{AreKeyed}
-use Rattle.xb_tone.proofs.HeardMarks.{digits_are_keyed}
-use Rattle.xb_tone.proofs.KeyWaves.{each_digit}
+use Rattle.xb_sound.specs.HeardKeys.{AreKeyed}
+use Rattle.xb_sound.proofs.HeardMarks.{digits_are_keyed}
+use Rattle.xb_sound.proofs.KeyWaves.{each_digit}
 use Rattle.xb_ear.specs.declared.hearing.Heard.{Heard}
 use Rattle.xb_ear.specs.HeardKeys.{pairs_in, tones_of}
 use Rattle.xb_ear.specs.Receivers.{keys_of_sound}

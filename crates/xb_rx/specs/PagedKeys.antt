@@ -4,7 +4,7 @@ use Rattle.std.specs.List.{AllByRecursion, flat_map}
 use Rattle.xb_model.specs.declared.digit.TheConstants.{DIGITS}
 use Rattle.xb_model.specs.declared.mark.Mark.{Mark}
 use Rattle.xb_model.specs.Keyings.{keying}
-use Rattle.xb_tone.specs.declared.cadence.Cadence.{Cadence}
+use Rattle.xb_sound.specs.declared.cadence.Cadence.{Cadence}
 use Rattle.xb_ear.specs.Disturbed.{AreWithin}
 use Rattle.xb_ear.specs.HeardKeys.{IsHearable, disturbable}
 use Rattle.xb_ear.specs.Receivers.{keys_of_sound}

@@ -5,8 +5,8 @@ use Rattle.xb_model.specs.Records.{attempts_of, record_of}
 use Rattle.xb_model.specs.Tapes.{joined_tape, tape_of}
 use Rattle.xb_dial.specs.Dialling.{numbers_on}
 use Rattle.xb_dial.specs.Heard.{DialledIsHeard, entry_of}
-use Rattle.xb_tone.specs.HeardKeys.{AreKeyed, keys_of}
-use Rattle.xb_tone.proofs.TapeKeys.{entries-keyed}
+use Rattle.xb_sound.specs.HeardKeys.{AreKeyed, keys_of}
+use Rattle.xb_sound.proofs.TapeKeys.{entries-keyed}
 use Rattle.xb_ear.specs.HeardKeys.{DisturbedKeysAreHeard}
 use Rattle.xb_together.specs.Received.{DialledIsReceived}
 use Rattle.xb_together.proofs.FarEnds.{keys-numbers, marks_of_numbers}

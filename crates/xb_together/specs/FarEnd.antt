@@ -14,9 +14,9 @@ use Rattle.xb_dial.specs.declared.order.RowOrder.TheVariants.{InTurn}
 use Rattle.xb_dial.specs.declared.speed.Speed.{Speed}
 use Rattle.xb_dial.specs.Calls.{DialledCall}
 use Rattle.xb_dial.specs.Dialling.{dialled}
-use Rattle.xb_tone.specs.declared.cadence.Cadence.{Cadence}
-use Rattle.xb_tone.specs.HeardKeys.{IsKey, keys_heard}
-use Rattle.xb_tone.specs.Sounds.{sound_of}
+use Rattle.xb_sound.specs.declared.cadence.Cadence.{Cadence}
+use Rattle.xb_sound.specs.HeardKeys.{IsKey, keys_heard}
+use Rattle.xb_sound.specs.Sounds.{sound_of}
 
 -- the keys of an order: KP, its digits, ST; of a refusal none
 abbrev pub keys_of_order : Order → List Key

@@ -11,8 +11,8 @@ use Rattle.xb_dial.specs.Calls.{AreCalls, DialledCall}
 use Rattle.xb_dial.specs.Dialling.{numbers_on}
 use Rattle.xb_dial.specs.Heard.{AreComplete, AreDialled}
 use Rattle.xb_dial.specs.Speeds.{Fits}
-use Rattle.xb_tone.specs.declared.cadence.Cadence.{Cadence}
-use Rattle.xb_tone.specs.HeardTapes.{HavePrefixes}
+use Rattle.xb_sound.specs.declared.cadence.Cadence.{Cadence}
+use Rattle.xb_sound.specs.HeardTapes.{HavePrefixes}
 use Rattle.xb_ear.specs.Disturbed.{AreWithin}
 use Rattle.xb_ear.specs.HeardKeys.{IsHearable, disturbable, keys_in}
 use Rattle.xb_ear.specs.Receivers.{keys_of_sound}

@@ -4,7 +4,7 @@ ghost use Rattle.xb_dial.specs.Dialling.{numbers_on};
 ghost use Rattle.xb_dial.specs.Heard.{AreComplete};
 ghost use Rattle.xb_dial.specs.Speeds.{Fits};
 ghost use Rattle.xb_model.specs.LawfulLimits as limits;
-ghost use Rattle.xb_tone.specs.Cadences.{IsLawful};
+ghost use Rattle.xb_sound.specs.Cadences.{IsLawful};
 ghost use Rattle.xb_together.specs.FarEnd.{FarEndHears, HaveDigits, sound_of_line};
 
 use std::alloc::{AllocError, Global};
@@ -12,7 +12,7 @@ use xb_dial::{Call, RowOrder, Speed, rows_of_calls};
 use xb_model::{Key, LineNo, Mark};
 use xb_routes::RouteTable;
 use xb_serial::key_serial;
-use xb_tone::{Cadence, samples_of};
+use xb_sound::{Cadence, samples_of};
 
 // The digits of keys are digits, as those of all keys are.
 fn have_digits(marks: &[Mark])

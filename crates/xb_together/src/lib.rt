@@ -7,7 +7,7 @@
 //! - `far_end`: from the dial to the sound that the far end hears. `sound_of_calls`: the samples are exactly
 //!   the sound of the line's tape, by the cadence asked for. The keys heard in it are, number by number, KP,
 //!   the digits that the number's route sends, and ST; and nothing of a number without a route. What is heard
-//!   are the tone patterns that are keys (`keys_heard` of `xb_tone`).
+//!   are the tone patterns that are keys (`keys_heard` of `xb_sound`).
 //! - `dialled_is_received`: the same of the receiver of `xb_ear`, and of the sound as a disturbance has left
 //!   it.
 //! - `split_decks_make_the_page`: for all rows, and ranges that take all lines, the pages that the decks of

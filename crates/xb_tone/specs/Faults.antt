@@ -4,8 +4,8 @@ use Rattle.xb_text.specs.declared.reading.ReadFault.{ReadFault}
 use Rattle.xb_text.specs.declared.reading.ReadFault.TheVariants as read_fault
 use Rattle.xb_page.specs.declared.fault.PageFault.{PageFault}
 use Rattle.xb_page.specs.declared.fault.PageFault.TheVariants as page_fault
-use Rattle.xb_tone.specs.declared.sounding.SoundFault.{SoundFault}
-use Rattle.xb_tone.specs.declared.sounding.SoundFault.TheVariants as sound_fault
+use Rattle.xb_sound.specs.declared.sounding.SoundFault.{SoundFault}
+use Rattle.xb_sound.specs.declared.sounding.SoundFault.TheVariants as sound_fault
 use Rattle.xb_tone.specs.declared.fault.ToneFault.{ToneFault}
 use Rattle.xb_tone.specs.declared.fault.ToneFault.TheVariants as fault
 

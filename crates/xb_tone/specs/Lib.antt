@@ -1,13 +1,3 @@
-pub mod Sines
-pub mod Cadences
-pub mod Sounds
-pub mod Wavs
-pub mod ReadWavs
-pub mod Receiver
-pub mod SineLaws
-pub mod HeardKeys
-pub mod WorkedSounds
-pub mod HeardTapes
 pub mod Faults
 pub mod Options
 pub mod Rules

@@ -2,8 +2,8 @@
 use Rattle.std.specs.Prelude.{ℕ, List, Option, Some, None, codes, min, option_map}
 use Rattle.clap.specs.Walk.{Row, Text}
 use Rattle.xb_command.specs.Given.{AskForNothing, AsksFor, ReadsFlag, ReadsNumber, given_by}
-use Rattle.xb_tone.specs.Cadences.{standard_cadence}
-use Rattle.xb_tone.specs.declared.cadence.Cadence.{Cadence}
+use Rattle.xb_sound.specs.Cadences.{standard_cadence}
+use Rattle.xb_sound.specs.declared.cadence.Cadence.{Cadence}
 use Rattle.xb_tone.specs.declared.request.Choice.{Choice}
 use Rattle.xb_tone.specs.declared.request.Choice.TheVariants as choice
 use Rattle.xb_tone.specs.declared.request.Request.{Request}

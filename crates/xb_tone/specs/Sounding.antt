@@ -10,10 +10,10 @@ use Rattle.xb_page.specs.Entries.{Entry}
 use Rattle.xb_page.specs.LineEnds.{lf_ended}
 use Rattle.xb_page.specs.ReadPages.{entries_of_page}
 use Rattle.xb_text.specs.Writing.{AppendsBeginning}
-use Rattle.xb_tone.specs.Sounds.{sound_of}
-use Rattle.xb_tone.specs.Cadences.{IsFirstMisfit, IsLawful}
-use Rattle.xb_tone.specs.Wavs.{pcm_of, wav_length, wav_of}
-use Rattle.xb_tone.specs.declared.cadence.Cadence.{Cadence}
+use Rattle.xb_sound.specs.Sounds.{sound_of}
+use Rattle.xb_sound.specs.Cadences.{IsFirstMisfit, IsLawful}
+use Rattle.xb_sound.specs.Wavs.{pcm_of, wav_length, wav_of}
+use Rattle.xb_sound.specs.declared.cadence.Cadence.{Cadence}
 use Rattle.xb_tone.specs.declared.fault.ToneFault.{ToneFault}
 use Rattle.xb_tone.specs.declared.fault.ToneFault.TheVariants as fault
 use Rattle.xb_tone.specs.declared.request.Choice.{Choice}

@@ -1,11 +1,10 @@
 // Why no sound is written.
 ghost use Rattle.std.specs.Prelude.{◌≡◌};
 
-use crate::cadence::CadenceFault;
-use crate::sounding::SoundFault;
 use std::alloc::AllocError;
 use thiserror::Error;
 use xb_page::PageFault;
+use xb_sound::{CadenceFault, SoundFault};
 use xb_text::ReadFault;
 
 /// Why no sound is written: the first of these, in this order. Nothing was written, except on `CutShort`

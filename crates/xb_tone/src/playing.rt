@@ -4,17 +4,17 @@ ghost use Rattle.std.specs.Io.KnownBytes.{Appends, Keeps};
 ghost use Rattle.std.specs.List.{list_any};
 ghost use Rattle.xb_page.specs.declared.reading.TheConstants.{MOST_PAGE_BYTES};
 ghost use Rattle.xb_text.specs.Writing.{AppendsBeginning};
-ghost use Rattle.xb_tone.specs.Sounds.{sound_of};
-ghost use Rattle.xb_tone.specs.Wavs.{wav_length};
+ghost use Rattle.xb_sound.specs.Sounds.{sound_of};
+ghost use Rattle.xb_sound.specs.Wavs.{wav_length};
 ghost use Rattle.xb_tone.specs.Sounding.{Delivers, IsFaultOfPage, JudgesCadence, Names, bytes_of, is_chosen, marks_chosen, sounds};
 
 use crate::fault::ToneFault;
 use crate::request::{Choice, Request};
-use crate::sounding::{SoundFault, write_samples, write_wav};
 use std::alloc::{AllocError, Global};
 use std::io::{Read, Write};
 use xb_model::Mark;
 use xb_page::{MOST_PAGE_BYTES, PageEntry, end_lines_at_lf, page_entries};
+use xb_sound::{SoundFault, write_samples, write_wav};
 use xb_text::read_whole;
 
 // Whether an entry is asked for.

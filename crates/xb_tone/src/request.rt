@@ -1,6 +1,6 @@
 // What the words of the command line ask for.
 
-use crate::cadence::Cadence;
+use xb_sound::Cadence;
 
 /// Which entries of a page are to sound.
 #[derive(Clone, Copy, Debug, PartialEq, Eq)]

@@ -3,11 +3,11 @@ ghost use Rattle.std.specs.Prelude.{◌≡◌, IfErr, IfOk};
 ghost use Rattle.xb_command.specs.Commands.{texts_of};
 ghost use Rattle.xb_tone.specs.Options.{AreRefused, Asks, Say, cadence_of, choice_of, request_of, time_of};
 
-use crate::cadence::Cadence;
 use crate::program::PROGRAM;
 use crate::request::{Choice, Request};
 use std::alloc::Global;
 use xb_command::{Takes, Words, WordsFault, read_words};
+use xb_sound::Cadence;
 
 // What the options of the command line say.
 #[derive(Clone, Copy)]

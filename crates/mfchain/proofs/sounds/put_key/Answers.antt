@@ -1,8 +1,8 @@
 use Rattle.std.proofs.Common.{◌≡◌, ◌*◌, length, arith, pos}
 use Rattle.std.proofs.lemmas.List.{length-append, length-replicate}
 use Rattle.std.proofs.lemmas.List.FromFn.{length-map-range_with_len}
-use Rattle.xb_tone.specs.Sines.{pair_sample}
-use Rattle.xb_tone.specs.Sounds.{silence, tone_sound}
+use Rattle.xb_sound.specs.Sines.{pair_sample}
+use Rattle.xb_sound.specs.Sounds.{silence, tone_sound}
 use Rattle.mfchain.proofs.sounds.put_key.Goals as goal
 
 pub returns-then-count-room-clause-refused : goal.returns-then-count-room-clause-refused

@@ -1,7 +1,7 @@
 use Rattle.std.proofs.Common.{◌∙◌, ℕ, ◌+◌, ◌*◌, ◌/◌, ◌%◌, ap, arith}
 use Rattle.std.proofs.lemmas.Int.{to_z-of_z, fits_signed_from_abs}
 use Rattle.std.specs.Int.{w16}
-use Rattle.xb_tone.specs.Sines.{sine_at}
+use Rattle.xb_sound.specs.Sines.{sine_at}
 use Rattle.xb_ear.proofs.waves.cosine_sample.Goals as goal
 
 pub returns-clause-value : goal.returns-clause-value

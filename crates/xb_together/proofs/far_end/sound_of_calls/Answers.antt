@@ -4,9 +4,9 @@ use Rattle.xb_model.specs.declared.line.TheConstants.{LINES}
 use Rattle.xb_model.specs.Tapes.{joined_tape, tape_of}
 use Rattle.xb_dial.specs.Dialling.{numbers_on}
 use Rattle.xb_dial.specs.Heard.{entry_of}
-use Rattle.xb_tone.specs.HeardKeys.{AreKeyed, keys_heard, keys_of}
-use Rattle.xb_tone.specs.Sounds.{sound_of}
-use Rattle.xb_tone.proofs.HeardMarks.{keys_are_heard}
+use Rattle.xb_sound.specs.HeardKeys.{AreKeyed, keys_heard, keys_of}
+use Rattle.xb_sound.specs.Sounds.{sound_of}
+use Rattle.xb_sound.proofs.HeardMarks.{keys_are_heard}
 use Rattle.xb_together.specs.FarEnd.{HaveDigits}
 use Rattle.xb_together.proofs.FarEnds.{keys-numbers, marks_of_numbers, numbers-keyed}
 use Rattle.xb_together.proofs.far_end.sound_of_calls.Goals as goal
