@@ -7,14 +7,15 @@ use Rattle.xb_live.specs.declared.line_hearing.Hearing.{Hearing}
 use Rattle.xb_live.specs.declared.printing.EntryForm.TheVariants.{Events}
 use Rattle.jiff_core.specs.declared.timestamp.Timestamp.{Timestamp}
 use Rattle.std.specs.Prelude.{Option}
-use Rattle.xb_live.specs.Clocks.{Clock}
+use Rattle.xb_clock.specs.Clocks.{Clock}
 use Rattle.json.specs.Print.{print}
 use Rattle.serde_json.specs.Data.{Data}
 use Rattle.serde_json.proofs.Texts.{print-outline}
 use Rattle.xb_model.specs.Numbers.{digit_of_count}
 use Rattle.xb_live.specs.EventObjects.{bare_object, digit_object, is_event, line_at, object_by}
 use Rattle.xb_live.specs.EventTokens.{tokens_in, tokens_of}
-use Rattle.xb_live.specs.Objects.{line_of, with_time}
+use Rattle.xb_clock.specs.Objects.{with_time}
+use Rattle.xb_live.specs.Objects.{line_of}
 use Rattle.xb_live.specs.Events.{event_with}
 use Rattle.xb_live.specs.Texts.{event_text}
 

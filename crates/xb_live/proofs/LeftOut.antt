@@ -15,11 +15,13 @@ use Rattle.xb_pulse.specs.Machine.{signals_by}
 use Rattle.xb_routes.specs.Table.{Table}
 use Rattle.xb_serial.proofs.OneLine.{both_all}
 use Rattle.xb_live.specs.declared.printing.EntryForm.TheVariants.{Events, Objects}
-use Rattle.xb_live.specs.Clocks.{Clock, styled, time_at}
+use Rattle.xb_clock.specs.Clocks.{Clock, time_at}
+use Rattle.xb_live.specs.Clocks.{styled}
 use Rattle.xb_live.specs.EventObjects.{bare_object, digit_object, is_event, line_at, object_by}
 use Rattle.xb_live.specs.Events.{Event, event_by, events_by, made_by}
 use Rattle.xb_live.specs.LeftOut.{EventsLeftOut, HasEvent}
-use Rattle.xb_live.specs.Objects.{object_by as entry_by, order_in, with_time}
+use Rattle.xb_clock.specs.Objects.{with_time}
+use Rattle.xb_live.specs.Objects.{object_by as entry_by, order_in}
 use Rattle.xb_live.specs.Texts.{event_text, text_of}
 use Rattle.xb_live.specs.TimedEntries.{TimedEntry, told_in, told_of_rows}
 use Rattle.xb_live.specs.Told.{all_after, all_in, event_of, events_among}

@@ -12,7 +12,6 @@ pub mod HeardSignals
 pub mod KeptDigits
 pub mod HeardRows
 pub mod BegunAttempts
-pub mod TimesTold
 pub mod ToldRows
 pub mod MadeSignals
 pub mod RowTexts
@@ -22,7 +21,6 @@ pub mod AllTold
 pub mod LeftOut
 pub mod HeardLines
 pub mod ObjectValues
-pub mod PutTexts
 pub mod SentDigits
 pub mod ObjectLines
 pub mod AscendingTimes

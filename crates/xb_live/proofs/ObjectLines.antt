@@ -19,7 +19,8 @@ use Rattle.xb_model.specs.Rows.{LoopRow}
 use Rattle.xb_routes.specs.Table.{Table}
 use Rattle.xb_routes.specs.Text.{table_of_text}
 use Rattle.xb_routes.proofs.TableRoutes.{table-routes}
-use Rattle.xb_live.specs.Objects.{digits_in, object_by, order_in, timed_object, with_time}
+use Rattle.xb_clock.specs.Objects.{with_time}
+use Rattle.xb_live.specs.Objects.{digits_in, object_by, order_in, timed_object}
 use Rattle.xb_live.specs.PageOfObjects.{ObjectsAreLines, key_named, page_line_of, texts_of, tone_text}
 use Rattle.xb_live.specs.TimedEntries.{TimedEntry, told_of_rows}
 use Rattle.xb_live.proofs.SentDigits.{AreDigits, AreKeyed, Sends, told-keyed}

@@ -1,10 +1,9 @@
 -- The objects of entries have no float, and the order of marks is the one that they are of.
-use Rattle.std.proofs.Common.{◌≡◌, ◌||◌, ℕ, List, Bool, false, true, codes, Option, Some, None, Ordering, Less, Equal, Greater, nat_cmp, refl, sym, ap, ◌∙◌}
-use Rattle.std.proofs.lemmas.Bool.{false≢true}
-use Rattle.std.specs.Cmp.Lexicographic.{slice_cmp}
-use Rattle.std.specs.Ordering.{match_ordering}
-use Rattle.serde_json.specs.Data.{Data, Members, array, boolean, member, no_members, null, number, object, put, string}
-use Rattle.serde_json.specs.Written.{has_float, members_have_float}
+use Rattle.std.proofs.Common.{◌≡◌, ℕ, List, false, codes, Option, Some, None, refl, ap, ◌∙◌}
+use Rattle.serde_json.specs.Data.{Data}
+use Rattle.serde_json.specs.Written.{has_float}
+use Rattle.xb_clock.specs.Objects.{with_time}
+use Rattle.xb_clock.proofs.TimeValues.{with_time-no-floats}
 use Rattle.xb_json.proofs.KeyValues.{no-floats-in-keys}
 use Rattle.xb_model.specs.declared.mark.Mark.{Mark}
 use Rattle.xb_model.specs.declared.mark.Mark.TheVariants as mark
@@ -14,7 +13,7 @@ use Rattle.xb_model.specs.declared.signal.Signal.{Signal}
 use Rattle.xb_model.specs.declared.signal.Signal.TheVariants.{Seize, Digit, TimeOut, Release, Close}
 use Rattle.xb_model.specs.Numbers.{digit_of_count}
 use Rattle.xb_live.specs.EventObjects.{bare_object, digit_object, object_by as event_by}
-use Rattle.xb_live.specs.Objects.{mark_object, object_by, object_of, order_in, timed_mark, timed_object, with_text, with_time}
+use Rattle.xb_live.specs.Objects.{mark_object, object_by, object_of, order_in, timed_mark, timed_object}
 use Rattle.xb_live.specs.TimedEntries.{TimedEntry}
 
 no-floats-by : (told : TimedEntry) (order : Order) → has_float (object_by told order) ≡ false
@@ -28,41 +27,6 @@ no-floats-in-mark : (line entry at : ℕ) (m : Mark) → has_float (mark_object 
 no-floats-in-mark line entry at (mark.Trunk trunk) = refl
 no-floats-in-mark line entry at (mark.Tone k pair) = refl
 no-floats-in-mark line entry at (mark.Refused reason heard) = refl
-
-without_floats : (x y : Bool) → (x || y) ≡ false → (x ≡ false) × (y ≡ false)
-without_floats false y none = (refl, none)
-without_floats true y none = absurd (false≢true (sym none))
-
-neither : (x y : Bool) → x ≡ false → y ≡ false → (x || y) ≡ false
-neither false y p q = q
-neither true y p q = absurd (false≢true (sym p))
-
-picked : (o : Ordering) (a b c : Members) → members_have_float a ≡ false → members_have_float b ≡ false → members_have_float c ≡ false
-    → members_have_float (match_ordering o a b c) ≡ false
-picked Less a b c p q r = p
-picked Equal a b c p q r = q
-picked Greater a b c p q r = r
-
-put-no-floats : (name text : List ℕ) (members : Members) → members_have_float members ≡ false → members_have_float (put name (string text) members) ≡ false
-put-no-floats name text no_members none = refl
-put-no-floats name text (member l value members) none =
-    let both = without_floats (has_float value) (members_have_float members) none in
-    picked (slice_cmp nat_cmp name l) (member name (string text) (member l value members)) (member l (string text) members)
-    (member l value (put name (string text) members)) none both.1
-    (neither (has_float value) (members_have_float (put name (string text) members)) both.0 (put-no-floats name text members both.1))
-
--- a text under a name is no float
-with_text-no-floats : (name text : List ℕ) (value : Data) → has_float value ≡ false → has_float (with_text name text value) ≡ false
-with_text-no-floats name text null none = none
-with_text-no-floats name text (boolean b) none = none
-with_text-no-floats name text (number n) none = none
-with_text-no-floats name text (string s) none = none
-with_text-no-floats name text (array values) none = none
-with_text-no-floats name text (object members) none = put-no-floats name text members none
-
-pub with_time-no-floats : (name : List ℕ) (time : Option (List ℕ)) (value : Data) → has_float value ≡ false → has_float (with_time name time value) ≡ false
-with_time-no-floats name None value none = none
-with_time-no-floats name (Some text) value none = with_text-no-floats name text value none
 
 -- the object of an event has none
 pub event-no-floats : (line at : ℕ) (dialled : List ℕ) (signal : Signal) (value : Data) → Some value ≡ event_by line at dialled signal → has_float value ≡ false

@@ -14,7 +14,8 @@ use Rattle.xb_live.specs.declared.line_hearing.Hearing.{Hearing}
 use Rattle.xb_live.specs.declared.hearings.Hearings.{Hearings}
 use Rattle.xb_live.specs.declared.printing.EntryForm.{EntryForm}
 use Rattle.xb_live.specs.declared.printing.EntryForm.TheVariants.{Entries, Events, Marks, Objects, MarkObjects}
-use Rattle.xb_live.specs.Clocks.{Clock, IsLate, IsLateEvent, styled}
+use Rattle.xb_clock.specs.Clocks.{Clock}
+use Rattle.xb_live.specs.Clocks.{IsLate, IsLateEvent, styled}
 use Rattle.xb_live.specs.Counting.{numbered_by}
 use Rattle.xb_live.specs.Entries.{Numbered}
 use Rattle.xb_live.specs.EventObjects.{is_event}

@@ -20,7 +20,8 @@ use Rattle.xb_live.specs.declared.line_hearing.Hearing.{Hearing}
 use Rattle.xb_live.specs.declared.hearings.Hearings.{Hearings}
 use Rattle.xb_live.specs.declared.printing.EntryForm.{EntryForm}
 use Rattle.xb_live.specs.declared.printing.EntryForm.TheVariants.{Entries, Events, Marks, Objects, MarkObjects}
-use Rattle.xb_live.specs.Clocks.{Clock, IsLate, styled}
+use Rattle.xb_clock.specs.Clocks.{Clock}
+use Rattle.xb_live.specs.Clocks.{IsLate, styled}
 use Rattle.xb_live.specs.Entries.{Entry, Numbered, entries_of_rows, numbered_after}
 use Rattle.xb_live.specs.Faults.{IsOfEntry}
 use Rattle.xb_live.specs.Texts.{text_of}

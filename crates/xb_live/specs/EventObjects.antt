@@ -6,7 +6,8 @@ use Rattle.xb_model.specs.declared.signal.Signal.{Signal}
 use Rattle.xb_model.specs.declared.signal.Signal.TheVariants.{Seize, Digit, TimeOut, Release, Close}
 use Rattle.xb_model.specs.Numbers.{digit_of_count}
 use Rattle.xb_live.specs.Events.{Event}
-use Rattle.xb_live.specs.Objects.{line_of, with_time}
+use Rattle.xb_clock.specs.Objects.{with_time}
+use Rattle.xb_live.specs.Objects.{line_of}
 
 -- each signal is told as an event but a line's close
 abbrev pub is_event : Signal → Bool

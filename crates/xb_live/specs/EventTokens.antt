@@ -5,7 +5,7 @@ use Rattle.json.specs.Tree.{json_tokens}
 use Rattle.serde_json.specs.Data.{Data}
 use Rattle.serde_json.specs.Written.{outline}
 use Rattle.xb_live.specs.EventObjects.{digit_value}
-use Rattle.xb_live.specs.Objects.{with_time}
+use Rattle.xb_clock.specs.Objects.{with_time}
 
 abbrev pub tokens_of : Data → List Token
 tokens_of value = json_tokens (outline value)

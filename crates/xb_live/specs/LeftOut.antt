@@ -7,7 +7,8 @@ use Rattle.serde_json.specs.Find.{get}
 use Rattle.xb_model.specs.Rows.{LoopRow}
 use Rattle.xb_routes.specs.Table.{Table}
 use Rattle.xb_live.specs.declared.printing.EntryForm.TheVariants as form
-use Rattle.xb_live.specs.Clocks.{Clock, styled}
+use Rattle.xb_clock.specs.Clocks.{Clock}
+use Rattle.xb_live.specs.Clocks.{styled}
 use Rattle.xb_live.specs.Events.{Event}
 use Rattle.xb_live.specs.Objects.{line_of, timed_object}
 use Rattle.xb_live.specs.Texts.{entries_text, event_text, text_of}

@@ -13,6 +13,7 @@ use Rattle.xb_model.specs.declared.order.Order.{Order}
 use Rattle.xb_model.specs.declared.order.Order.TheVariants as orders
 use Rattle.xb_model.specs.declared.reason.Reason.{Reason}
 use Rattle.xb_model.specs.Page.{key_text, last_refusal, reason_text}
+use Rattle.xb_clock.specs.Objects.{with_time}
 use Rattle.xb_live.specs.TimedEntries.{TimedEntry}
 
 -- the digit of a key, and of a mark
@@ -91,16 +92,6 @@ mark_object line entry at (mark.Refused reason heard) = object
     (member (codes "heard") (number (unsigned heard))
     (member (codes "line") (number (unsigned line))
     (member (codes "reason") (string (reason_text reason)) no_members)))))
-
--- an object that also has this text under a name
-abbrev pub with_text : List ℕ → List ℕ → Data → Data
-with_text name text (object members) = object (put name (string text) members)
-with_text name text other = other
-
--- or this time, where there is one
-abbrev pub with_time : List ℕ → Option (List ℕ) → Data → Data
-with_time name None value = value
-with_time name (Some text) value = with_text name text value
 
 -- the object of an entry, which also has the times at which its attempt began and at which it is complete
 abbrev pub timed_object : Option (List ℕ) → Option (List ℕ) → TimedEntry → Data

@@ -1,18 +1,17 @@
 -- What the words of the command line ask for, as clap reads them.
-use Rattle.std.specs.Prelude.{◌≡◌, ℤ, List, [], ◌∷◌, codes, Bool, true, false, Option, Some, None, Result, Ok, Err, if◌then◌else◌}
+use Rattle.std.specs.Prelude.{◌≡◌, List, [], ◌∷◌, codes, Bool, true, false, Option, Some, None, if◌then◌else◌}
 use Rattle.clap.specs.Simple.{App}
 use Rattle.clap.specs.Walk.{Row, Text, first_of}
-use Rattle.jiff_core.specs.declared.error.Error.{Error}
 use Rattle.jiff_core.specs.declared.timestamp.Timestamp.{Timestamp}
-use Rattle.jiff_fmt.specs.Temporal.{parse_timestamp}
+use Rattle.xb_clock.specs.Since.{ReadsSince}
+use Rattle.xb_clock.specs.declared.since.Since.{Since}
+use Rattle.xb_clock.specs.declared.since.Since.TheVariants as since
 use Rattle.xb_command.specs.Commands.{command_of}
 use Rattle.xb_command.specs.Given.{AskForNothing, AsksFor, ReadsFlag, given_by}
 use Rattle.xb_command.specs.declared.command.Takes.TheVariants as takes
 use Rattle.xb_live.specs.declared.printing.EntryForm.{EntryForm}
 use Rattle.xb_live.specs.declared.printing.EntryForm.TheVariants as form
 use Rattle.xb_live.specs.declared.words.Options.{Options}
-use Rattle.xb_live.specs.declared.words.Since.{Since}
-use Rattle.xb_live.specs.declared.words.Since.TheVariants as since
 
 -- `mflive [--json [--since TIME]] [--marks] [--events [--since TIME]]`
 abbrev pub command_of_words : App
@@ -20,15 +19,6 @@ command_of_words =
     command_of (codes "mflive")
     ((codes "events", takes.Nothing) ∷ (codes "json", takes.Nothing) ∷ (codes "marks", takes.Nothing)
     ∷ (codes "since", takes.Text) ∷ [])
-
--- what is read of a text as jiff reads an instant: that instant, or no time
-abbrev pub IsRead : Result ℤ Error → Since → Type 0
-IsRead (Ok nanos) given = (time : Timestamp) × (time.nanosecond ≡ nanos) × (given ≡ since.Time time)
-IsRead (Err e) given = given ≡ since.NoTime
-
-abbrev pub ReadsSince : Option Text → Since → Type 0
-ReadsSince None given = given ≡ since.NotGiven
-ReadsSince (Some text) given = IsRead (parse_timestamp text) given
 
 -- what clap matched says whether events are printed, whether JSON is, whether marks are printed by themselves, and the
 -- time that the ms are counted from

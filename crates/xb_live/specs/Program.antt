@@ -8,7 +8,8 @@ use Rattle.xb_command.specs.Telling.{Tells}
 use Rattle.xb_command.specs.Usages.{names_option}
 use Rattle.xb_live.specs.declared.printing.EntryForm.{EntryForm}
 use Rattle.xb_live.specs.declared.fault.LiveFault.{LiveFault}
-use Rattle.xb_live.specs.Clocks.{Clock, IsClockOf, styled}
+use Rattle.xb_clock.specs.Clocks.{Clock}
+use Rattle.xb_live.specs.Clocks.{IsClockOf, styled}
 use Rattle.xb_live.specs.Options.{AreRefused, Asks, command_of_words}
 use Rattle.xb_live.specs.Runs.{Runs}
 

@@ -14,7 +14,8 @@ use Rattle.xb_live.specs.declared.line_hearing.Hearing.{Hearing}
 use Rattle.xb_live.specs.declared.printing.EntryForm.{EntryForm}
 use Rattle.xb_live.specs.declared.printing.EntryForm.TheVariants as form
 use Rattle.xb_live.specs.Entries.{count_keyed, count_refused, entries_of_rows}
-use Rattle.xb_live.specs.Clocks.{Clock, Style, time_at}
+use Rattle.xb_clock.specs.Clocks.{Clock, time_at}
+use Rattle.xb_live.specs.Clocks.{Style}
 use Rattle.xb_live.specs.EventObjects.{event_object, line_at}
 use Rattle.xb_live.specs.Events.{Event, event_with}
 use Rattle.xb_live.specs.Objects.{line_of, timed_mark, timed_object, totals_object}

@@ -2,7 +2,8 @@
 ghost use Rattle.std.specs.Prelude.{◌≡◌, ◌++◌, codes, IfErr, IfOk, OnOk};
 ghost use Rattle.std.specs.List.{flat_map, list_any};
 ghost use Rattle.xb_model.specs.Numbers.{digit_of_count};
-ghost use Rattle.xb_live.specs.Clocks.{Clock, IsClockOf, IsClockSince, text_in};
+ghost use Rattle.xb_clock.specs.Clocks.{Clock, IsClockSince, text_in};
+ghost use Rattle.xb_live.specs.Clocks.{IsClockOf};
 ghost use Rattle.xb_live.specs.EventObjects.{bare_object, digit_object, is_event, line_at, object_by};
 ghost use Rattle.xb_live.specs.EventTokens.{dialled_tokens, name_tokens, time_tokens, tokens_at, tokens_in};
 ghost use Rattle.xb_live.specs.Events.{event_with};
@@ -12,10 +13,10 @@ ghost use Rattle.xb_live.specs.Texts.{event_text, signals_text};
 use crate::fault::EntriesFault;
 use crate::line_hearing::Hearing;
 use crate::printing::EntryForm;
-use crate::times::{TimeText, time_of};
 use jiff_core::Timestamp;
 use json::Writer;
 use std::alloc::{AllocError, Global};
+use xb_clock::{TimeText, time_of};
 use xb_json::text_of_digits;
 use xb_model::{LineNo, MOST_PULSES, Signal};
 

@@ -3,6 +3,7 @@ ghost use Rattle.std.specs.Prelude.{◌≡◌};
 
 use std::alloc::AllocError;
 use thiserror::Error;
+use xb_clock::LAST_TIME;
 use xb_deck::TableFault;
 use xb_model::RowFault;
 use xb_routes::RouteFault;
@@ -16,10 +17,10 @@ pub enum EntriesFault {
     NoMemory,
     /// A time of this entry of this line is past the last that there is, 9999-12-30T22:00:00.999999999Z. Nothing was
     /// written of its row.
-    #[error("line {0}, entry {1}: a time is past 9999-12-30T22:00:00.999999999Z")]
+    #[error("line {}, entry {}: a time is past {}", .0, .1, LAST_TIME)]
     Late(u16, usize),
     /// The time of an event of this line is past that last one. Nothing was written of its row.
-    #[error("line {0}, an event: its time is past 9999-12-30T22:00:00.999999999Z")]
+    #[error("line {}, an event: its time is past {}", .0, LAST_TIME)]
     LateEvent(u16),
     /// A write or the flush failed, or a write took no byte. The beginning of what the row tells was written.
     #[error("the entries could not be written")]

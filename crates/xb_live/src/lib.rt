@@ -13,8 +13,8 @@
 //! - With events (`specs/Events.antt`, `specs/Told.antt`) each signal of a line's attempts is an object too,
 //!   in the row that makes it (`TellsAll`). Without them the text is that of the entries' objects
 //!   (`laws::events_left_out`).
-//! - Counted from a time of day, an object also has its times as such (`specs/Clocks.antt`), as told by any
-//!   clock that tells the times of `jiff_core`. A time past the last of these is a fault.
+//! - Counted from a time of day, an object also has its times as such (`xb_clock`), as told by any clock that
+//!   tells the times of `jiff_core`. A time past the last of these is a fault.
 //! - `run_deck` (`Runs`, `specs/Runs.antt`): what was written of a deck is what its table and its rows say,
 //!   also where a fault stops them. `attend` says the same of the program, by its status.
 #![tactic(auto)]
@@ -29,7 +29,6 @@ mod objects;
 mod printing;
 mod program;
 mod running;
-mod times;
 mod words;
 mod writing;
 

@@ -2,7 +2,8 @@
 ghost use Rattle.std.specs.Prelude.{◌≡◌, [], IfOk};
 ghost use Rattle.serde_json.specs.View.{view};
 ghost use Rattle.xb_model.specs.declared.order.Order.TheVariants as orders;
-ghost use Rattle.xb_live.specs.Objects.{digits_in, mark_object, object_by, object_of, totals_object, trunk_in, with_text};
+ghost use Rattle.xb_clock.specs.Objects.{with_text};
+ghost use Rattle.xb_live.specs.Objects.{digits_in, mark_object, object_by, object_of, totals_object, trunk_in};
 ghost use Rattle.xb_live.specs.TimedEntries.{told_with};
 
 use crate::line_hearing::Hearing;
@@ -149,24 +150,4 @@ pub(crate) fn totals_object(
     let keyed = ("keyed", Member::Number(keyed as u64));
     let refused = ("refused", Member::Number(refused as u64));
     object_with(alloc, &[keyed, refused])
-}
-
-/// An object that also has a text under a name. `Err` says that memory ran out.
-pub(crate) fn with_text(
-    alloc: Global,
-    object: Value,
-    name: &str,
-    text: &str,
-) -> Result<Value, AllocError>
-    ensures { IfOk result (λ value. view value ≡ with_text name.now text.now (view object)) }
-{
-    match object {
-        Value::Object(mut members) => {
-            let name = String::from_str(alloc, name)?;
-            let text = String::from_str(alloc, text)?;
-            members.insert(name, Value::String(text))?;
-            Ok(Value::Object(members))
-        }
-        other => Ok(other),
-    }
 }

@@ -3,20 +3,21 @@ ghost use Rattle.std.specs.Prelude.{◌≡◌, ◌++◌, IfErr, IfOk, OnOk, stri
 ghost use Rattle.std.specs.List.{flat_map};
 ghost use Rattle.serde_json.specs.View.{view};
 ghost use Rattle.xb_tape.specs.MarkLines.{mark_line};
-ghost use Rattle.xb_live.specs.Clocks.{Clock, IsClockOf, IsClockSince, styled, text_in};
+ghost use Rattle.xb_clock.specs.Clocks.{Clock, IsClockSince, text_in};
+ghost use Rattle.xb_live.specs.Clocks.{IsClockOf, styled};
 ghost use Rattle.xb_live.specs.Faults.{IsOfCompleted, IsOfEntry, IsOfRow};
-ghost use Rattle.xb_live.specs.Objects.{line_of, timed_mark, timed_object, totals_object, with_time};
+ghost use Rattle.xb_clock.specs.Objects.{with_time};
+ghost use Rattle.xb_live.specs.Objects.{line_of, timed_mark, timed_object, totals_object};
 ghost use Rattle.xb_live.specs.Texts.{completed_text, row_text, text_by, text_of, totals_of};
 ghost use Rattle.xb_live.specs.TimedEntries.{told_with};
 
 use crate::events::text_of_signals;
 use crate::fault::EntriesFault;
 use crate::line_hearing::Hearing;
-use crate::objects::{mark_object, object_of, totals_object, with_text};
-use crate::times::{TimeText, Times, times_of};
+use crate::objects::{mark_object, object_of, totals_object};
 use jiff_core::Timestamp;
-use serde_json::Value;
 use std::alloc::{AllocError, Global};
+use xb_clock::{TimeText, Times, times_of, with_time};
 use xb_json::line_of;
 use xb_model::{LineNo, Mark, Signal};
 use xb_tape::{write_entry, write_mark_line, write_totals};
@@ -51,21 +52,6 @@ fn write_mark_lines(
         write_mark_line(out, line, number, mark)?;
     }
     Ok(())
-}
-
-// An object that also has this time, if it is one.
-fn with_time(
-    alloc: Global,
-    object: Value,
-    name: &str,
-    time: &Option<TimeText>,
-) -> Result<Value, AllocError>
-    ensures { IfOk result (λ value. view value ≡ with_time name.now (text_in time.now) (view object)) }
-{
-    match time {
-        None => Ok(object),
-        Some(text) => with_text(alloc, object, name, text.as_str()),
-    }
 }
 
 // The object of entry `number` of a line with these times, as a text line.
@@ -138,7 +124,7 @@ fn text_of_object(
 {
     // names a type inside `Times`, without which the check has no plan for the borrow of `times`
     let _text: Option<TimeText> = None;
-    let Some(times) = times_of(since, heard) else {
+    let Some(times) = times_of(since, heard.began, heard.at) else {
         return Err(EntriesFault::Late(line.get(), number));
     };
     Ok(object_line(alloc, line, number, entry, heard, &times)?)
@@ -160,7 +146,7 @@ fn text_of_mark_objects(
 {
     // as in `text_of_object`
     let _text: Option<TimeText> = None;
-    let Some(times) = times_of(since, heard) else {
+    let Some(times) = times_of(since, heard.began, heard.at) else {
         return Err(EntriesFault::Late(line.get(), number));
     };
     Ok(mark_object_lines(alloc, line, number, entry, heard.at, &times.at)?)

@@ -1,7 +1,8 @@
 // From a deck as it comes to the entries of its rows.
 ghost use Rattle.std.specs.Prelude.{◌≡◌, ◌+◌, [], option_map};
 ghost use Rattle.xb_rows.specs.Streams.{rest_of_stream};
-ghost use Rattle.xb_live.specs.Clocks.{Clock, IsClockOf, styled};
+ghost use Rattle.xb_clock.specs.Clocks.{Clock};
+ghost use Rattle.xb_live.specs.Clocks.{IsClockOf, styled};
 ghost use Rattle.xb_live.specs.Counting.{HasCounted};
 ghost use Rattle.xb_live.specs.Hearings.{HasHeard};
 ghost use Rattle.xb_live.specs.Runs.{PrintsRows, Runs};

@@ -1,25 +1,14 @@
 // What the words of the command line ask for.
-ghost use Rattle.std.specs.Prelude.{◌≡◌, IfErr, IfOk, option_map};
+ghost use Rattle.std.specs.Prelude.{◌≡◌, IfErr, IfOk};
 ghost use Rattle.xb_command.specs.Commands.{texts_of};
-ghost use Rattle.xb_live.specs.Options.{AreRefused, Asks, ReadsSince, Say, form_of, form_with_events, objects_since};
+ghost use Rattle.xb_live.specs.Options.{AreRefused, Asks, Say, form_of, form_with_events, objects_since};
 
 use crate::printing::EntryForm;
 use crate::program::PROGRAM;
 use jiff_core::Timestamp;
-use jiff_fmt::temporal::parse_timestamp;
 use std::alloc::Global;
+use xb_clock::{Since, since_of};
 use xb_command::{Takes, Words, WordsFault, read_words};
-
-// The time of day that the ms of a deck are counted from.
-#[derive(Clone, Copy)]
-pub(crate) enum Since {
-    // None is asked for.
-    NotGiven,
-    // This one is.
-    Time(Timestamp),
-    // The word that was given is none.
-    NoTime,
-}
 
 // What the options of the command line say.
 #[derive(Clone, Copy)]
@@ -37,19 +26,6 @@ const OPTIONS: [(&str, Takes); 4] = [
     ("marks", Takes::Nothing),
     ("since", Takes::Text),
 ];
-
-// The time of day that a word says.
-fn since_of(word: Option<&str>) -> Since
-    ensures { ReadsSince (option_map (λ text. text.now) word.entry) result }
-{
-    match word {
-        None => Since::NotGiven,
-        Some(word) => match parse_timestamp(word.as_bytes()) {
-            Ok(time) => Since::Time(time),
-            Err(_) => Since::NoTime,
-        },
-    }
-}
 
 // What the words say.
 fn options_of(words: &Words) -> Options

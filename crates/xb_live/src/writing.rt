@@ -3,7 +3,8 @@ ghost use Rattle.std.specs.Prelude.{◌≡◌, ◌<◌, ◌≤◌, ◌+◌, ℕ,
 ghost use Rattle.xb_model.specs.declared.line.TheConstants.{LINES};
 ghost use Rattle.xb_model.specs.Rows.{LoopRow};
 ghost use Rattle.xb_routes.specs.Table.{Table};
-ghost use Rattle.xb_live.specs.Clocks.{Clock, IsClockOf, styled};
+ghost use Rattle.xb_clock.specs.Clocks.{Clock};
+ghost use Rattle.xb_live.specs.Clocks.{IsClockOf, styled};
 ghost use Rattle.xb_live.specs.Texts.{with_closes};
 ghost use Rattle.xb_live.specs.Writing.{AreSignals, Ends, HasWritten, Hears, Writes};
 ghost use Rattle.xb_live.specs.declared.counting.TheConstants.{MOST_ENTRIES};

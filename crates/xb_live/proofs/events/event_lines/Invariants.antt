@@ -1,6 +1,6 @@
 use Rattle.std.proofs.Common.{◌≡◌, ◌++◌, drop}
 use Rattle.std.specs.List.{flat_map}
-use Rattle.xb_live.specs.Clocks.{text_in}
+use Rattle.xb_clock.specs.Clocks.{text_in}
 use Rattle.xb_live.specs.EventObjects.{line_at, object_by}
 use Rattle.xb_live.proofs.events.event_lines.Given as goal
 

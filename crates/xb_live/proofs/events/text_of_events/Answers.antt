@@ -1,13 +1,13 @@
 use Rattle.std.proofs.Common.{◌≡◌, ap, ◌∙◌, [], sym}
 use Rattle.std.specs.List.{flat_map}
 use Rattle.std.proofs.lemmas.List.Folds.{flat_map-map}
-use Rattle.xb_live.specs.Clocks.{text_in}
+use Rattle.xb_clock.specs.Clocks.{text_in}
 use Rattle.xb_live.specs.EventObjects.{line_at, object_by}
 use Rattle.xb_live.specs.declared.printing.EntryForm.TheVariants.{Events}
 use Rattle.xb_live.specs.Events.{event_with}
 use Rattle.xb_live.specs.Texts.{event_text}
 use Rattle.xb_live.proofs.EventTexts.{no-text, some-events}
-use Rattle.xb_live.proofs.TimesTold.{told-time}
+use Rattle.xb_clock.proofs.TimesTold.{told-time}
 use Rattle.xb_live.proofs.events.text_of_events.Goals as goal
 
 pub returns-then-not-has_events-clause-text : goal.returns-then-not-has_events-clause-text

@@ -1,6 +1,6 @@
 use Rattle.std.proofs.Common.{◌≡◌, ◌++◌, codes, ap, sym, ◌∙◌, append_assoc}
 use Rattle.json.specs.Print.{print}
-use Rattle.xb_live.specs.Clocks.{text_in}
+use Rattle.xb_clock.specs.Clocks.{text_in}
 use Rattle.xb_live.specs.EventObjects.{object_by}
 use Rattle.xb_live.specs.EventTokens.{tokens_in}
 use Rattle.xb_live.proofs.EventTexts.{event-line}

@@ -2,7 +2,7 @@ use Rattle.std.proofs.Common.{rules, ◌≡◌, ◌++◌, ◌∷◌, [], codes, 
 use Rattle.std.proofs.lemmas.Result.{on_ok_weaker}
 use Rattle.json.specs.Token.{begin_object}
 use Rattle.xb_json.specs.Keys.{digits_text}
-use Rattle.xb_live.specs.Clocks.{text_in}
+use Rattle.xb_clock.specs.Clocks.{text_in}
 use Rattle.xb_live.specs.EventObjects.{digit_object}
 use Rattle.xb_live.specs.EventTokens.{dialled_tokens, name_tokens, time_tokens, tokens_at}
 use Rattle.xb_live.proofs.EventTokens.{digit_tokens}

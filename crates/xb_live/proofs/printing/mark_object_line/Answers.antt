@@ -2,8 +2,9 @@ use Rattle.std.proofs.Common.{◌≡◌, ◌++◌, codes, false, ap, ◌∙◌}
 use Rattle.std.proofs.lemmas.Result.{IfOk-weaker}
 use Rattle.serde_json.specs.View.{view}
 use Rattle.serde_json.specs.Written.{compact_text, has_float}
-use Rattle.xb_live.specs.Clocks.{text_in}
-use Rattle.xb_live.specs.Objects.{timed_mark, with_time}
+use Rattle.xb_clock.specs.Clocks.{text_in}
+use Rattle.xb_clock.specs.Objects.{with_time}
+use Rattle.xb_live.specs.Objects.{timed_mark}
 use Rattle.xb_live.proofs.ObjectValues.{timed-no-floats-in-mark}
 use Rattle.xb_live.proofs.printing.mark_object_line.Goals as goal
 

@@ -1,6 +1,6 @@
 use Rattle.std.proofs.Common.{◌≡◌, ◌++◌, drop, string_bytes}
 use Rattle.std.specs.List.{flat_map}
-use Rattle.xb_live.specs.Clocks.{text_in}
+use Rattle.xb_clock.specs.Clocks.{text_in}
 use Rattle.xb_live.specs.Objects.{line_of, timed_mark}
 use Rattle.xb_live.proofs.printing.mark_object_lines.Given as goal
 

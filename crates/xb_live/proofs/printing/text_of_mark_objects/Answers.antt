@@ -1,9 +1,9 @@
 use Rattle.std.proofs.Common.{◌≡◌, ◌∙◌, ap}
 use Rattle.std.specs.List.{flat_map}
-use Rattle.xb_live.specs.Clocks.{text_in}
+use Rattle.xb_clock.specs.Clocks.{text_in}
 use Rattle.xb_live.specs.Objects.{line_of, timed_mark}
 use Rattle.xb_live.specs.TimedEntries.{TimedEntry, told_with}
-use Rattle.xb_live.proofs.TimesTold.{told-time}
+use Rattle.xb_clock.proofs.TimesTold.{told-time}
 use Rattle.xb_live.proofs.printing.text_of_mark_objects.Goals as goal
 
 pub returns-clause-text : goal.returns-clause-text

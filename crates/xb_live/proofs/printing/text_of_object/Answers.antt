@@ -1,8 +1,8 @@
 use Rattle.std.proofs.Common.{◌≡◌, ◌∙◌, ap}
-use Rattle.xb_live.specs.Clocks.{text_in, time_at}
+use Rattle.xb_clock.specs.Clocks.{text_in, time_at}
 use Rattle.xb_live.specs.Objects.{line_of, timed_object}
 use Rattle.xb_live.specs.TimedEntries.{TimedEntry, told_with}
-use Rattle.xb_live.proofs.TimesTold.{told-time}
+use Rattle.xb_clock.proofs.TimesTold.{told-time}
 use Rattle.xb_live.proofs.printing.text_of_object.Goals as goal
 
 pub returns-clause-text : goal.returns-clause-text

@@ -1,5 +1,6 @@
 use Rattle.std.proofs.Common.{◌≡◌, ◌≤◌, ◌+◌}
-use Rattle.xb_live.specs.Clocks.{Clock, IsClockOf, styled}
+use Rattle.xb_clock.specs.Clocks.{Clock}
+use Rattle.xb_live.specs.Clocks.{IsClockOf, styled}
 use Rattle.xb_live.proofs.Runs.{IsSoFar}
 use Rattle.xb_live.proofs.running.print_rows.Given as goal
 

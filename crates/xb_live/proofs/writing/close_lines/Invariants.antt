@@ -1,6 +1,7 @@
 use Rattle.std.proofs.Common.{◌≡◌, ◌≤◌, ◌+◌, ℕ, List, Option}
 use Rattle.xb_model.specs.Rows.{LoopRow}
-use Rattle.xb_live.specs.Clocks.{Clock, IsClockOf, styled}
+use Rattle.xb_clock.specs.Clocks.{Clock}
+use Rattle.xb_live.specs.Clocks.{IsClockOf, styled}
 use Rattle.xb_live.specs.Writing.{HasWritten}
 use Rattle.xb_live.proofs.Written.{with_closes_below}
 use Rattle.xb_live.proofs.writing.close_lines.Given as goal

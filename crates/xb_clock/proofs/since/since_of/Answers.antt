@@ -1,8 +1,8 @@
 use Rattle.std.proofs.Common.{◌≡◌, ◌∙◌, Ok, ap, refl, subst}
 use Rattle.jiff_fmt.specs.Temporal.{parse_timestamp}
-use Rattle.xb_live.specs.declared.words.Since.TheVariants as since
-use Rattle.xb_live.specs.Options.{IsRead}
-use Rattle.xb_live.proofs.words.since_of.Goals as goal
+use Rattle.xb_clock.specs.declared.since.Since.TheVariants as since
+use Rattle.xb_clock.specs.Since.{IsRead}
+use Rattle.xb_clock.proofs.since.since_of.Goals as goal
 
 pub returns-in-Ok : goal.returns-in-Ok
 returns-in-Ok c =

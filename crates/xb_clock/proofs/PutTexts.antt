@@ -5,7 +5,7 @@ use Rattle.serde_json.specs.Data.{object, put, string}
 use Rattle.serde_json.specs.View.{members_view, view}
 use Rattle.serde_json.specs.declared.value.Value.{Value, Object, String as Text, the_lemmas}
 use Rattle.serde_json.proofs.Views.{members_view-insert_entry, view-Object}
-use Rattle.xb_live.specs.Objects.{with_text}
+use Rattle.xb_clock.specs.Objects.{with_text}
 
 view-String : (text : String Global) → view (Text text) ≡ string (string_bytes text)
 view-String text = search (rules, the_lemmas)

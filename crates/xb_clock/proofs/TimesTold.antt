@@ -5,7 +5,7 @@ use Rattle.jiff_fmt.specs.declared.temporal.printer.DateTimePrinter.{DateTimePri
 use Rattle.jiff_core.specs.declared.civil.datetime.DateTime.{DateTime}
 use Rattle.jiff_fmt.specs.Printer.{IsTimestampText, datetime_text as printed_text, options}
 use Rattle.jiff_fmt.specs.Text.{datetime_text, zulu_text}
-use Rattle.xb_live.specs.Clocks.{Clock, IsClockSince, IsTimeText, TellsTime, time_at}
+use Rattle.xb_clock.specs.Clocks.{Clock, IsClockSince, IsTimeText, TellsTime, time_at}
 
 pub told-time : (since : Option Timestamp) (clock : Clock) (ms : ℕ) (text : Option (List ℕ)) → IsClockSince since clock → TellsTime since ms text → text ≡ time_at since clock ms
 told-time None clock ms text tells told = told

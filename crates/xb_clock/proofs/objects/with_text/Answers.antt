@@ -1,8 +1,8 @@
 use Rattle.std.proofs.Common.{◌∙◌, ap, sym}
 use Rattle.serde_json.specs.View.{view}
-use Rattle.xb_live.specs.Objects.{with_text}
-use Rattle.xb_live.proofs.PutTexts.{inserted}
-use Rattle.xb_live.proofs.objects.with_text.Goals as goal
+use Rattle.xb_clock.specs.Objects.{with_text}
+use Rattle.xb_clock.proofs.PutTexts.{inserted}
+use Rattle.xb_clock.proofs.objects.with_text.Goals as goal
 
 pub returns-in_ok-insert-in-Object : goal.returns-in_ok-insert-in-Object
 returns-in_ok-insert-in-Object c =

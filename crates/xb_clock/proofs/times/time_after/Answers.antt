@@ -2,8 +2,8 @@ use Rattle.std.proofs.Common.{◌∙◌, ap, arith, FitsSigned, ◌+ℤ◌}
 use Rattle.std.proofs.lemmas.Int.{to_z-of_z}
 use mir.Syntax.{w128}
 use Rattle.jiff_core.proofs.SignedLemmas.{signed_arith}
-use Rattle.xb_live.proofs.TimesTold.{time-printed}
-use Rattle.xb_live.proofs.times.time_after.Goals as goal
+use Rattle.xb_clock.proofs.TimesTold.{time-printed}
+use Rattle.xb_clock.proofs.times.time_after.Goals as goal
 
 pub returns-in-Ok-clause-told : goal.returns-in-Ok-clause-told
 returns-in-Ok-clause-told c =

@@ -1,22 +1,24 @@
-// The times of day of an entry.
+// The times of day so many ms after one that is given.
 ghost use Rattle.std.specs.Prelude.{◌≡◌, ◌*◌, pos, IfNone, IfSome};
-ghost use Rattle.xb_live.specs.Clocks.{AreTimes, IsLateAfter, IsLateAt, IsLateSince, IsTimeText, TellsTime, text_in};
+ghost use Rattle.xb_clock.specs.Clocks.{AreTimes, IsLateAfter, IsLateAt, IsLateSince, IsTimeText, TellsTime, text_in};
 
-use crate::line_hearing::Hearing;
 use arrayvec::ArrayString;
 use jiff_core::Timestamp;
 use jiff_fmt::temporal::DateTimePrinter;
 
-// The text of a time, as 2026-11-25T20:00:00.5Z.
-pub(crate) type TimeText = ArrayString<33>;
+/// The last instant that there is, as faults name it.
+pub const LAST_TIME: &str = "9999-12-30T22:00:00.999999999Z";
 
-// The texts of the times of an entry, where they are asked for.
+/// The text of a time, as 2026-11-25T20:00:00.5Z.
+pub type TimeText = ArrayString<33>;
+
+/// The texts of the times of an entry, where they are asked for.
 #[derive(Clone, Copy)]
-pub(crate) struct Times {
-    // When its attempt began.
-    pub(crate) from: Option<TimeText>,
-    // When it is complete.
-    pub(crate) at: Option<TimeText>,
+pub struct Times {
+    /// When it began.
+    pub from: Option<TimeText>,
+    /// When it is complete.
+    pub at: Option<TimeText>,
 }
 
 // The ns of ms.
@@ -38,7 +40,7 @@ fn time_after(since: Timestamp, ms: u64) -> Option<TimeText>
 }
 
 /// The time so many ms after one of day, if one is given; nothing where it is past the last instant that there is.
-pub(crate) fn time_of(since: Option<Timestamp>, ms: u64) -> Option<Option<TimeText>>
+pub fn time_of(since: Option<Timestamp>, ms: u64) -> Option<Option<TimeText>>
     ensures told { IfSome result (λ time. TellsTime since ms (text_in time)) }
     ensures late { IfNone result (IsLateAt since ms) }
 {
@@ -48,11 +50,11 @@ pub(crate) fn time_of(since: Option<Timestamp>, ms: u64) -> Option<Option<TimeTe
     }
 }
 
-/// The times of an entry, counted from one of day, if one is given; nothing where one of them is past the last
-/// instant that there is.
-pub(crate) fn times_of(since: Option<Timestamp>, heard: &Hearing) -> Option<Times>
-    ensures told { IfSome result (λ times. AreTimes since heard.now.began heard.now.at times) }
-    ensures late { IfNone result (IsLateSince since heard.now.began heard.now.at) }
+/// The times of an entry that began at so many ms and is complete at so many, counted from one of day, if one is given;
+/// nothing where one of them is past the last instant that there is.
+pub fn times_of(since: Option<Timestamp>, began: u64, at: u64) -> Option<Times>
+    ensures told { IfSome result (λ times. AreTimes since began at times) }
+    ensures late { IfNone result (IsLateSince since began at) }
 {
     match since {
         None => Some(Times {
@@ -60,8 +62,8 @@ pub(crate) fn times_of(since: Option<Timestamp>, heard: &Hearing) -> Option<Time
             at: None,
         }),
         Some(since) => {
-            let from = time_after(since, heard.began)?;
-            let at = time_after(since, heard.at)?;
+            let from = time_after(since, began)?;
+            let at = time_after(since, at)?;
             Some(Times {
                 from: Some(from),
                 at: Some(at),

@@ -1,0 +1,3 @@
+pub mod TimesTold
+pub mod PutTexts
+pub mod TimeValues
