@@ -98,22 +98,29 @@ static int is_about(int64_t wanted, int64_t off, int64_t number) { return llabs(
 static struct heard last;
 static int has_last;
 
-static const char *verdict(struct sight sight, int64_t length, int64_t gap)
+/* Prints a limit that is missed. */
+static void misses(int fits, const char *limit, int *missed)
+{
+    if (!fits) printf(" %s", limit), ++*missed;
+}
+
+/* Prints all limits that a key misses. */
+static void verdict(struct sight sight, int64_t length, int64_t gap)
 {
     int kp = sight.low == 2 && sight.high == 5, kp2 = sight.low == 3 && sight.high == 5;
-    int low = tenths(sight.low_level), high = tenths(sight.high_level);
-    if (!((!kp && is_about(68, 14, length)) || ((kp || kp2) && is_about(100, 14, length)))) return "LENGTH";
-    if (has_last && !kp && !kp2 && !is_about(68, 14, gap)) return "GAP";
-    if (!is_about(low, 10, high)) return "TWIST";
-    if (!is_about(-70, 10, low) || !is_about(-70, 10, high)) return "LEVEL";
-    return "GOOD";
+    int low = tenths(sight.low_level), high = tenths(sight.high_level), missed = 0;
+    misses((!kp && is_about(68, 14, length)) || ((kp || kp2) && is_about(100, 14, length)), "LENGTH", &missed);
+    misses(!has_last || kp || kp2 || is_about(68, 14, gap), "GAP", &missed);
+    misses(is_about(low, 12, high), "TWIST", &missed);
+    misses(is_about(-70, 12, low) && is_about(-70, 12, high), "LEVEL", &missed);
+    puts(missed ? "" : " GOOD");
 }
 
 /* Prints a key that ended. */
 static void give(struct heard key)
 {
-    int64_t start = (HOP * key.first + 30) / 8, length = HOP * (key.past - key.first) / 8;
-    int64_t between = key.first > last.past ? key.first - last.past : 0, gap = HOP * between / 8;
+    int64_t start = (HOP * key.first + 20) / 8, length = (HOP * (key.past - key.first) + 20) / 8;
+    int64_t between = HOP * (key.first - last.past) - 20, gap = between > 0 ? between / 8 : 0;
     int low = tenths(key.sight.low_level), high = tenths(key.sight.high_level);
     printf("%s at %lld ms for %lld ms, %d00 Hz ", name(key.sight), (long long) start, (long long) length, hundreds[key.sight.low]);
     print_tenths(low);
@@ -122,9 +129,10 @@ static void give(struct heard key)
     printf(" dBm0, twist ");
     print_tenths(high - low);
     if (has_last)
-        printf(" dB, after %lld ms: %s\n", (long long) gap, verdict(key.sight, length, gap));
+        printf(" dB, after %lld ms:", (long long) gap);
     else
-        printf(" dB, first: %s\n", verdict(key.sight, length, gap));
+        printf(" dB, first:");
+    verdict(key.sight, length, gap);
     last = key;
     has_last = 1;
 }

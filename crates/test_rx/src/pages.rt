@@ -30,26 +30,26 @@ fn sound(alloc: Global, numbers: &[&[u8]]) -> Result<Vec<u8>, Fail> {
 
 // Its keys, by a second receiver (scripts/trials/second_ear.c).
 const KEYS: &[u8] = b"\
-KP at 501 ms for 97 ms, 1100 Hz -7.2 dBm0, 1700 Hz -7.2 dBm0, twist 0.0 dB, first: GOOD\n\
-5 at 668 ms for 67 ms, 900 Hz -7.2 dBm0, 1300 Hz -7.2 dBm0, twist 0.0 dB, after 70 ms: GOOD\n\
-0 at 803 ms for 65 ms, 1300 Hz -7.2 dBm0, 1500 Hz -7.2 dBm0, twist 0.0 dB, after 67 ms: GOOD\n\
-ST at 941 ms for 65 ms, 1500 Hz -7.2 dBm0, 1700 Hz -7.2 dBm0, twist 0.0 dB, after 72 ms: GOOD\n\
-KP at 1576 ms for 97 ms, 1100 Hz -7.2 dBm0, 1700 Hz -7.2 dBm0, twist 0.0 dB, after 570 ms: GOOD\n\
-1 at 1743 ms for 67 ms, 700 Hz -7.2 dBm0, 900 Hz -7.2 dBm0, twist 0.0 dB, after 70 ms: GOOD\n\
-ST at 1881 ms for 65 ms, 1500 Hz -7.2 dBm0, 1700 Hz -7.2 dBm0, twist 0.0 dB, after 70 ms: GOOD\n";
+KP at 500 ms for 100 ms, 1100 Hz -7.2 dBm0, 1700 Hz -7.2 dBm0, twist 0.0 dB, first: GOOD\n\
+5 at 667 ms for 70 ms, 900 Hz -7.2 dBm0, 1300 Hz -7.2 dBm0, twist 0.0 dB, after 67 ms: GOOD\n\
+0 at 802 ms for 67 ms, 1300 Hz -7.2 dBm0, 1500 Hz -7.2 dBm0, twist 0.0 dB, after 65 ms: GOOD\n\
+ST at 940 ms for 67 ms, 1500 Hz -7.2 dBm0, 1700 Hz -7.2 dBm0, twist 0.0 dB, after 70 ms: GOOD\n\
+KP at 1575 ms for 100 ms, 1100 Hz -7.2 dBm0, 1700 Hz -7.2 dBm0, twist 0.0 dB, after 567 ms: GOOD\n\
+1 at 1742 ms for 70 ms, 700 Hz -7.2 dBm0, 900 Hz -7.2 dBm0, twist 0.0 dB, after 67 ms: GOOD\n\
+ST at 1880 ms for 67 ms, 1500 Hz -7.2 dBm0, 1700 Hz -7.2 dBm0, twist 0.0 dB, after 67 ms: GOOD\n";
 
 // The first of them as an object.
 const OBJECT: &[u8] =
-    b"{\"at_ms\":501,\"gap_ms\":null,\"high_dbm0_tenths\":-72,\"high_hz\":1700,\"key\":\"KP\",\
-\"length_ms\":97,\"low_dbm0_tenths\":-72,\"low_hz\":1100,\"twist_db_tenths\":0,\"verdict\":\"GOOD\"}\n";
+    b"{\"at_ms\":500,\"gap_ms\":null,\"high_dbm0_tenths\":-72,\"high_hz\":1700,\"key\":\"KP\",\
+\"length_ms\":100,\"low_dbm0_tenths\":-72,\"low_hz\":1100,\"twist_db_tenths\":0,\"verdict\":\"GOOD\"}\n";
 
-// The entry of the first of them as an object, and that of the second. The first ST begins at 941.25 ms and lasts 65, and
-// the second at 1,881.25.
+// The entry of the first of them as an object, and that of the second. The first ST begins at 940 ms and lasts 67.5, and
+// the second at 1,880.
 const FIRST_ENTRY: &[u8] =
-    b"{\"doubts\":[],\"entry\":1,\"from_ms\":501,\"keys\":[\"KP\",\"5\",\"0\",\"ST\"],\"sent\":\"50\",\"to_ms\":1006}\n";
+    b"{\"doubts\":[],\"entry\":1,\"from_ms\":500,\"keys\":[\"KP\",\"5\",\"0\",\"ST\"],\"sent\":\"50\",\"to_ms\":1007}\n";
 
 const SECOND_ENTRY: &[u8] =
-    b"{\"doubts\":[],\"entry\":2,\"from_ms\":1576,\"keys\":[\"KP\",\"1\",\"ST\"],\"sent\":\"1\",\"to_ms\":1946}\n";
+    b"{\"doubts\":[],\"entry\":2,\"from_ms\":1575,\"keys\":[\"KP\",\"1\",\"ST\"],\"sent\":\"1\",\"to_ms\":1947}\n";
 
 // Keyings that are heard, and their differences from the page of the tests, which has 5 0 as entry 1 and 2 as entry 3:
 // none, two, one that is heard twice, one that is not heard, and both in the other order.
@@ -101,7 +101,7 @@ struct Spoilt {
     object: &'static [u8],
 }
 
-// By the times above its 5 ends at 736.25 ms, and its ST begins at 941.25 and ends at 1006.25. The second receiver says
+// By the times above its 5 ends at 737.5 ms, and its ST begins at 940 and ends at 1007.5. The second receiver says
 // how long the keys are that are cut.
 const SPOILT: &[Spoilt] = &[
     // from 762.5 to 925 ms: all of its 0
@@ -109,27 +109,27 @@ const SPOILT: &[Spoilt] = &[
         from: 12_244,
         to: 14_844,
         page: b"0000 1 KEYED 0000 KP:1100+1700 5:900+1300 ST:1500+1700\nKEYED 1 REFUSED 0\n",
-        told: b"mfrx: entry 1 at 0.501 s: 205 ms between its keys 2 and 3: one may be missing\n",
-        object: b"{\"doubts\":[{\"key\":3,\"kind\":\"LONG_GAP\",\"may_be\":\"MISSING\",\"ms\":205,\"wanted_ms\":68}],\
-\"entry\":1,\"from_ms\":501,\"keys\":[\"KP\",\"5\",\"ST\"],\"sent\":\"5\",\"to_ms\":1006}\n",
+        told: b"mfrx: entry 1 at 0.500 s: 202 ms between its keys 2 and 3: one may be missing\n",
+        object: b"{\"doubts\":[{\"key\":3,\"kind\":\"LONG_GAP\",\"may_be\":\"MISSING\",\"ms\":202,\"wanted_ms\":68}],\
+\"entry\":1,\"from_ms\":500,\"keys\":[\"KP\",\"5\",\"ST\"],\"sent\":\"5\",\"to_ms\":1007}\n",
     },
     // from 840 to 925 ms: the end of its 0
     Spoilt {
         from: 13_484,
         to: 14_844,
         page: b"0000 1 KEYED 0000 KP:1100+1700 5:900+1300 0:1300+1500 ST:1500+1700\nKEYED 1 REFUSED 0\n",
-        told: b"mfrx: entry 1 at 0.501 s: its key 3 lasts 35 ms, not 68 give or take 14: one may be too many\n",
-        object: b"{\"doubts\":[{\"key\":3,\"kind\":\"SHORT_KEY\",\"may_be\":\"EXTRA\",\"ms\":35,\"wanted_ms\":68}],\
-\"entry\":1,\"from_ms\":501,\"keys\":[\"KP\",\"5\",\"0\",\"ST\"],\"sent\":\"50\",\"to_ms\":1006}\n",
+        told: b"mfrx: entry 1 at 0.500 s: its key 3 lasts 37 ms, not 68 give or take 14: one may be too many\n",
+        object: b"{\"doubts\":[{\"key\":3,\"kind\":\"SHORT_KEY\",\"may_be\":\"EXTRA\",\"ms\":37,\"wanted_ms\":68}],\
+\"entry\":1,\"from_ms\":500,\"keys\":[\"KP\",\"5\",\"0\",\"ST\"],\"sent\":\"50\",\"to_ms\":1007}\n",
     },
     // from 500 to 525 ms: the beginning of its KP
     Spoilt {
         from: 8_044,
         to: 8_444,
         page: b"0000 1 KEYED 0000 KP:1100+1700 5:900+1300 0:1300+1500 ST:1500+1700\nKEYED 1 REFUSED 0\n",
-        told: b"mfrx: entry 1 at 0.526 s: its key 1 lasts 72 ms, not 100 give or take 14: it may be cut\n",
-        object: b"{\"doubts\":[{\"key\":1,\"kind\":\"SHORT_KEY\",\"may_be\":\"CUT\",\"ms\":72,\"wanted_ms\":100}],\
-\"entry\":1,\"from_ms\":526,\"keys\":[\"KP\",\"5\",\"0\",\"ST\"],\"sent\":\"50\",\"to_ms\":1006}\n",
+        told: b"mfrx: entry 1 at 0.525 s: its key 1 lasts 75 ms, not 100 give or take 14: it may be cut\n",
+        object: b"{\"doubts\":[{\"key\":1,\"kind\":\"SHORT_KEY\",\"may_be\":\"CUT\",\"ms\":75,\"wanted_ms\":100}],\
+\"entry\":1,\"from_ms\":525,\"keys\":[\"KP\",\"5\",\"0\",\"ST\"],\"sent\":\"50\",\"to_ms\":1007}\n",
     },
 ];
 
@@ -175,8 +175,8 @@ fn tells_what_is_doubtful(rt: HostRuntime) -> Result<(), Fail> {
 
 // A keying of 5 by a sender that keys 90 ms in place of 68, and so what the second receiver hears.
 const SLOW: &[u8] =
-    b"mfrx: entry 1 at 0.501 s: its key 2 lasts 87 ms, not 68 give or take 14: one may be missing\n\
-mfrx: entry 1 at 0.501 s: its key 3 lasts 90 ms, not 68 give or take 14: one may be missing\n";
+    b"mfrx: entry 1 at 0.500 s: its key 2 lasts 90 ms, not 68 give or take 14: one may be missing\n\
+mfrx: entry 1 at 0.500 s: its key 3 lasts 92 ms, not 68 give or take 14: one may be missing\n";
 
 #[test]
 fn tells_keys_that_are_too_long(rt: HostRuntime) -> Result<(), Fail> {

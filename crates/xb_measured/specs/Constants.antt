@@ -10,4 +10,4 @@ pub record AreConstants : Type 0 where
   pub key_ms : KEY_MS ≡ 68
   pub most_off_ms : MOST_OFF_MS ≡ 14
   pub level_below : LEVEL_BELOW ≡ 70
-  pub most_off_tenths : MOST_OFF_TENTHS ≡ 10
+  pub most_off_tenths : MOST_OFF_TENTHS ≡ 12

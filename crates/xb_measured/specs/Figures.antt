@@ -9,20 +9,23 @@ use Rattle.xb_measured.specs.Meanings.{meaning_of}
 abbrev pub ms_of : ℕ → ℕ
 ms_of samples = min (samples / 8) (2 ^ 64 - 1)
 
--- the first window of a key speaks for the samples from its 31st on, and each window for 20
+-- a window sees a key where 60 of its 80 samples lie in it, in the mean: so a key begins 20 samples after the beginning
+-- of its first window
 abbrev pub start_ms : Heard → ℕ
-start_ms key = ms_of (20 * key.first + 30)
+start_ms key = ms_of (20 * key.first + 20)
 
+-- and ends 20 samples before the end of its last one
 abbrev pub end_ms : Heard → ℕ
-end_ms key = ms_of (20 * key.past + 30)
+end_ms key = ms_of (20 * key.past + 40)
 
+-- from its beginning to its end
 abbrev pub length_ms : Heard → ℕ
-length_ms key = ms_of (20 * (key.past - key.first))
+length_ms key = ms_of (20 * (key.past - key.first) + 20)
 
--- the time between the last key and this one
+-- from the end of the last key to the beginning of this one
 abbrev pub gap_ms : Option Heard → Heard → Option ℕ
 gap_ms None key = None
-gap_ms (Some before) key = Some (ms_of (20 * (key.first - before.past)))
+gap_ms (Some before) key = Some (ms_of (20 * (key.first - before.past) - 20))
 
 -- the figures of a key, by the last key before it
 abbrev pub figures_of : Option Heard → Heard → Figures

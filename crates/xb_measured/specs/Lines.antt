@@ -6,14 +6,14 @@ use Rattle.xb_measured.specs.declared.levels.TheConstants.{ZERO_DBM0}
 use Rattle.xb_measured.specs.Figures.{figures_of}
 use Rattle.xb_measured.specs.Levels.{tenths_text}
 use Rattle.xb_measured.specs.Meanings.{name_text}
-use Rattle.xb_measured.specs.Verdicts.{verdict_of, verdict_word}
+use Rattle.xb_measured.specs.Verdicts.{misses, verdict_text}
 
 -- when a key began, by the last one
 abbrev pub gap_text : Option ℕ → List ℕ
 gap_text None = codes "first"
 gap_text (Some ms) = codes "after " ++ (decimal ms ++ codes " ms")
 
--- its name, its times, the level of each of its tones, and whether it is as it should be
+-- its name, its times, the level of each of its tones, and what it misses
 abbrev pub text_line : Figures → List ℕ
 text_line figures =
     name_text figures.meaning ++ (codes " at " ++ (decimal figures.start_ms ++ (codes " ms for "
@@ -21,7 +21,7 @@ text_line figures =
     ++ (decimal figures.pair.low ++ (codes " Hz " ++ (tenths_text figures.low ZERO_DBM0 ++ (codes " dBm0, "
     ++ (decimal figures.pair.high ++ (codes " Hz " ++ (tenths_text figures.high ZERO_DBM0 ++ (codes " dBm0, twist "
     ++ (tenths_text figures.high figures.low ++ (codes " dB, " ++ (gap_text figures.gap_ms ++ (codes ": "
-    ++ (verdict_word (verdict_of figures) ++ codes "\n"))))))))))))))))))
+    ++ (verdict_text (misses figures) ++ codes "\n"))))))))))))))))))
 
 -- a line for each key, after one that came before them
 unfoldable pub text_lines : Option Heard → List Heard → List ℕ

@@ -6,7 +6,7 @@ use Rattle.serde_json.specs.Written.{compact_text}
 use Rattle.xb_measured.specs.declared.figures.Figures.{Figures}
 use Rattle.xb_measured.specs.declared.levels.TheConstants.{ZERO_DBM0}
 use Rattle.xb_measured.specs.Meanings.{name_text}
-use Rattle.xb_measured.specs.Verdicts.{verdict_of, verdict_word}
+use Rattle.xb_measured.specs.Verdicts.{misses, verdict_text}
 
 -- the time before a key, null where no key came before
 abbrev pub gap_data : Option ℕ → Data
@@ -17,9 +17,9 @@ gap_data (Some ms) = number (unsigned ms)
 abbrev pub tenths_data : ℕ → ℕ → Data
 tenths_data over under = number (of_integer (pos over -ℤ pos under))
 
--- what the line of a key says, in whole numbers
-abbrev pub object_of : Figures → Data
-object_of figures = object
+-- what the line of a key says, in whole numbers, of which this is said
+abbrev pub object_with : Figures → List ℕ → Data
+object_with figures verdict = object
     (member (codes "at_ms") (number (unsigned figures.start_ms))
     (member (codes "gap_ms") (gap_data figures.gap_ms)
     (member (codes "high_dbm0_tenths") (tenths_data figures.high ZERO_DBM0)
@@ -29,7 +29,10 @@ object_of figures = object
     (member (codes "low_dbm0_tenths") (tenths_data figures.low ZERO_DBM0)
     (member (codes "low_hz") (number (unsigned figures.pair.low))
     (member (codes "twist_db_tenths") (tenths_data figures.high figures.low)
-    (member (codes "verdict") (string (verdict_word (verdict_of figures))) no_members))))))))))
+    (member (codes "verdict") (string verdict) no_members))))))))))
+
+abbrev pub object_of : Figures → Data
+object_of figures = object_with figures (verdict_text (misses figures))
 
 -- the object as a line
 abbrev pub object_line : Figures → List ℕ

@@ -1,13 +1,14 @@
 -- Whether a key is as System R1 (Q.322) wants it of a sender.
-use Rattle.std.specs.Prelude.{ℕ, ◌-◌, ◌&&◌, ◌||◌, if◌then◌else◌, List, [], ◌∷◌, codes, Bool, true, nat_le, Option, Some, None}
+use Rattle.std.specs.Prelude.{ℕ, ◌-◌, ◌&&◌, ◌||◌, if◌then◌else◌, List, [], ◌∷◌, ◌++◌, codes, Bool, true, nat_le, Option, Some, None}
+use Rattle.std.specs.List.{flat_map}
 use Rattle.xb_model.specs.declared.key.Key.TheVariants.{Kp}
 use Rattle.xb_measured.specs.declared.figures.Figures.{Figures}
 use Rattle.xb_measured.specs.declared.levels.TheConstants.{ZERO_DBM0}
 use Rattle.xb_measured.specs.declared.meaning.Meaning.{Meaning}
 use Rattle.xb_measured.specs.declared.meaning.Meaning.TheVariants as meaning
 use Rattle.xb_measured.specs.declared.verdicts.TheConstants.{KEY_MS, KP_MS, LEVEL_BELOW, MOST_OFF_MS, MOST_OFF_TENTHS}
-use Rattle.xb_measured.specs.declared.verdicts.Verdict.{Verdict}
-use Rattle.xb_measured.specs.declared.verdicts.Verdict.TheVariants as verdict
+use Rattle.xb_measured.specs.declared.verdicts.Limit.{Limit}
+use Rattle.xb_measured.specs.declared.verdicts.Limit.TheVariants as limit
 
 -- a number is no further than this from what is wanted
 abbrev pub is_about : ℕ → ℕ → ℕ → Bool
@@ -38,26 +39,35 @@ twist_fits figures = is_about figures.low MOST_OFF_TENTHS figures.high
 abbrev pub level_fits : ℕ → Bool
 level_fits tenths = is_about (ZERO_DBM0 - LEVEL_BELOW) MOST_OFF_TENTHS tenths
 
--- the limits in their order, and what is said of a key that misses one
-abbrev pub limits : Figures → List (Bool × Verdict)
+abbrev pub levels_fit : Figures → Bool
+levels_fit figures = level_fits figures.low && level_fits figures.high
+
+-- the limits in their order, each with whether it is kept
+abbrev pub limits : Figures → List (Bool × Limit)
 limits figures =
-    (length_fits figures, verdict.Length)
-    ∷ (gap_fits figures, verdict.Gap)
-    ∷ (twist_fits figures, verdict.Twist)
-    ∷ (level_fits figures.low && level_fits figures.high, verdict.Level)
+    (length_fits figures, limit.Length)
+    ∷ (gap_fits figures, limit.Gap)
+    ∷ (twist_fits figures, limit.Twist)
+    ∷ (levels_fit figures, limit.Level)
     ∷ []
 
-abbrev pub first_missed : List (Bool × Verdict) → Verdict
-first_missed [] = verdict.Good
-first_missed (limit ∷ later) = if limit.0 then first_missed later else limit.1
+abbrev pub missed : Bool × Limit → List Limit
+missed one = if one.0 then [] else one.1 ∷ []
 
--- the first limit that is missed
-abbrev pub verdict_of : Figures → Verdict
-verdict_of figures = first_missed (limits figures)
+-- all that are missed
+abbrev pub misses : Figures → List Limit
+misses figures = flat_map missed (limits figures)
 
-abbrev pub verdict_word : Verdict → List ℕ
-verdict_word verdict.Good = codes "GOOD"
-verdict_word verdict.Length = codes "LENGTH"
-verdict_word verdict.Gap = codes "GAP"
-verdict_word verdict.Twist = codes "TWIST"
-verdict_word verdict.Level = codes "LEVEL"
+abbrev pub limit_word : Limit → List ℕ
+limit_word limit.Length = codes "LENGTH"
+limit_word limit.Gap = codes "GAP"
+limit_word limit.Twist = codes "TWIST"
+limit_word limit.Level = codes "LEVEL"
+
+abbrev pub spaced_word : Limit → List ℕ
+spaced_word one = codes " " ++ limit_word one
+
+-- what is said of a key that misses these
+abbrev pub verdict_text : List Limit → List ℕ
+verdict_text [] = codes "GOOD"
+verdict_text (first ∷ later) = limit_word first ++ flat_map spaced_word later

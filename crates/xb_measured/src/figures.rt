@@ -7,10 +7,11 @@ use crate::meaning::Meaning;
 use xb_ear::Heard;
 use xb_model::Tone;
 
-// A window speaks for the 20 samples in its middle, and the first of them is the 31st.
+// A window begins so many samples after the one before it, and a key as many after its first window.
 const HOP: u128 = 20;
 
-const EDGE: u128 = 30;
+// The last window of a key begins one hop before the next, and has so many samples in it beyond that.
+const PAST_HOP: u128 = 40;
 
 const SAMPLES_PER_MS: u128 = 8;
 
@@ -44,21 +45,21 @@ fn ms_of(samples: u128) -> u64
 pub fn start_ms(key: Heard) -> u64
     ensures { result ≡ start_ms key }
 {
-    ms_of(HOP * u128::from(key.first) + EDGE)
+    ms_of(HOP * u128::from(key.first) + HOP)
 }
 
 /// When a key ended, in ms from the first sample.
 pub fn end_ms(key: Heard) -> u64
     ensures { result ≡ end_ms key }
 {
-    ms_of(HOP * u128::from(key.past) + EDGE)
+    ms_of(HOP * u128::from(key.past) + PAST_HOP)
 }
 
 // How long a key lasted.
 fn length_ms(key: Heard) -> u64
     ensures { result ≡ length_ms key }
 {
-    ms_of(HOP * u128::from(key.past.saturating_sub(key.first)))
+    ms_of(HOP * u128::from(key.past.saturating_sub(key.first)) + HOP)
 }
 
 // The time between the last key and this one.
@@ -66,7 +67,8 @@ fn gap_ms(before: Option<Heard>, key: Heard) -> Option<u64>
     ensures { result ≡ gap_ms before key }
 {
     let before = before?;
-    Some(ms_of(HOP * u128::from(key.first.saturating_sub(before.past))))
+    let windows = u128::from(key.first.saturating_sub(before.past));
+    Some(ms_of((HOP * windows).saturating_sub(HOP)))
 }
 
 /// The figures of a key, by the last key before it.

@@ -1,10 +1,11 @@
-//! What is told of a key that was heard: its name, when it began, how long it lasted, both levels, and the
-//! first limit of System R1 that it misses.
+//! What is told of a key that was heard: its name, when it began, how long it lasted, both levels, and all
+//! limits of System R1 that it misses.
 //!
 //! - `Meaning::of` is what a pair stands for, by `key_of` where it is a key of the office: a digit, KP, ST,
 //!   ST', ST''', or KP2/ST'', which are one pair. `Meaning::name` is its name.
-//! - `figures_of`: the figures of a key, by the last key before it. `verdict_of`: GOOD, or the first limit
-//!   that they miss, of length, gap, twist and level. `length_fits`: whether they keep to the first.
+//! - `figures_of`: the figures of a key, by the last key before it. `misses`: all limits that they miss, of
+//!   length, gap, twist and level; `verdict_text`: their words, or GOOD. `length_fits`: whether they keep to
+//!   the first.
 //! - `text_line` is exactly the line of the figures, and `object_line` the same as a JSON object.
 //! - `Meter`: how loud a sound is in which no key was heard (`quiet_line`).
 //! - `end_ms`: when a key ended. `seconds_text`: a time in seconds.
@@ -28,4 +29,4 @@ pub use meaning::Meaning;
 pub use meter::Meter;
 pub use objects::object_line;
 pub use seconds::seconds_text;
-pub use verdicts::{KEY_MS, KP_MS, MOST_OFF_MS, Verdict, length_fits, verdict_of};
+pub use verdicts::{KEY_MS, KP_MS, Limit, MOST_OFF_MS, length_fits, misses, verdict_text};

@@ -4,7 +4,7 @@ ghost use Rattle.xb_measured.specs.Lines.{gap_text, text_line};
 
 use crate::figures::Figures;
 use crate::levels::{ZERO_DBM0, tenths_text};
-use crate::verdicts::verdict_of;
+use crate::verdicts::verdict_text;
 use std::alloc::{AllocError, Global};
 
 // When the key began, by the last one.
@@ -26,12 +26,12 @@ pub fn text_line(alloc: Global, figures: &Figures) -> Result<String, AllocError>
     let high = tenths_text(alloc, figures.high, ZERO_DBM0)?;
     let twist = tenths_text(alloc, figures.high, figures.low)?;
     let gap = gap_text(alloc, figures.gap_ms)?;
-    let word = verdict_of(figures).word();
+    let verdict = verdict_text(alloc, figures)?;
     let low_hz = figures.pair.low;
     let high_hz = figures.pair.high;
     let start = figures.start_ms;
     let length = figures.length_ms;
     format!(in alloc;
-        "{name} at {start} ms for {length} ms, {low_hz} Hz {low} dBm0, {high_hz} Hz {high} dBm0, twist {twist} dB, {gap}: {word}\n"
+        "{name} at {start} ms for {length} ms, {low_hz} Hz {low} dBm0, {high_hz} Hz {high} dBm0, twist {twist} dB, {gap}: {verdict}\n"
     )
 }

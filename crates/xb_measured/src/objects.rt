@@ -2,17 +2,17 @@
 ghost use Rattle.std.specs.Prelude.{◌≡◌, ◌-ℤ◌, IfOk, pos, string_bytes};
 ghost use Rattle.serde_json.specs.View.{view};
 ghost use Rattle.xb_json.specs.Objects.{data_of};
-ghost use Rattle.xb_measured.specs.Objects.{gap_data, object_line, object_of};
+ghost use Rattle.xb_measured.specs.Objects.{gap_data, object_line, object_of, object_with};
 
 use crate::figures::Figures;
 use crate::levels::ZERO_DBM0;
-use crate::verdicts::verdict_of;
+use crate::verdicts::verdict_text;
 use serde_json::Value;
 use std::alloc::{AllocError, Global};
 use xb_json::{Member, line_of, object_of as object_of_members};
 
 // The time before a key, null where no key came before.
-fn gap_of(gap: Option<u64>) -> Member<'static>
+fn gap_of<'a>(gap: Option<u64>) -> Member<'a>
     ensures { data_of result ≡ gap_data gap }
 {
     match gap {
@@ -28,9 +28,9 @@ fn difference(over: u32, under: u32) -> i64
     i64::from(over) - i64::from(under)
 }
 
-// The object of a key.
-fn object_of(alloc: Global, figures: &Figures) -> Result<Value, AllocError>
-    ensures { IfOk result (λ value. view value ≡ object_of figures.now) }
+// The object of a key of which this is said.
+fn object_with(alloc: Global, figures: &Figures, verdict: &str) -> Result<Value, AllocError>
+    ensures { IfOk result (λ value. view value ≡ object_with figures.now verdict.now) }
 {
     let low = difference(figures.low, ZERO_DBM0);
     let high = difference(figures.high, ZERO_DBM0);
@@ -40,14 +40,22 @@ fn object_of(alloc: Global, figures: &Figures) -> Result<Value, AllocError>
         ("gap_ms", gap_of(figures.gap_ms)),
         ("high_dbm0_tenths", Member::Signed(high)),
         ("high_hz", Member::Number(u64::from(figures.pair.high))),
-        ("key", Member::Text(figures.meaning.name())),
+        ("key", Member::Word(figures.meaning.name())),
         ("length_ms", Member::Number(figures.length_ms)),
         ("low_dbm0_tenths", Member::Signed(low)),
         ("low_hz", Member::Number(u64::from(figures.pair.low))),
         ("twist_db_tenths", Member::Signed(twist)),
-        ("verdict", Member::Word(verdict_of(figures).word())),
+        ("verdict", Member::Text(verdict)),
     ];
     object_of_members(alloc, &members)
+}
+
+// The object of a key.
+fn object_of(alloc: Global, figures: &Figures) -> Result<Value, AllocError>
+    ensures { IfOk result (λ value. view value ≡ object_of figures.now) }
+{
+    let verdict = verdict_text(alloc, figures)?;
+    object_with(alloc, figures, &verdict)
 }
 
 /// The object of a key as a line. `Err` says that memory ran out.

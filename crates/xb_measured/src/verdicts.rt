@@ -1,10 +1,12 @@
 // Whether a key is as System R1 wants it.
-ghost use Rattle.std.specs.Prelude.{◌≡◌};
-ghost use Rattle.xb_measured.specs.Verdicts.{gap_fits, is_about, length_fits, level_fits, verdict_of, verdict_word};
+ghost use Rattle.std.specs.Prelude.{◌≡◌, ◌++◌, IfOk, OnOk, string_bytes};
+ghost use Rattle.std.specs.List.{flat_map};
+ghost use Rattle.xb_measured.specs.Verdicts.{gap_fits, is_about, length_fits, level_fits, levels_fit, missed, misses, spaced_word, twist_fits, verdict_text};
 
 use crate::figures::Figures;
 use crate::levels::ZERO_DBM0;
 use crate::meaning::Meaning;
+use std::alloc::{AllocError, Global};
 use xb_model::Key;
 
 /// A sender keys KP for so many ms (Q.322).
@@ -19,35 +21,36 @@ pub const MOST_OFF_MS: u64 = 14;
 /// A tone has 7 dB less than 0 dBm0, in tenths.
 pub const LEVEL_BELOW: u32 = 70;
 
-/// A level may be so many tenths of a dB off, and one tone so many above the other.
-pub const MOST_OFF_TENTHS: u64 = 10;
+/// A level may be so many tenths of a dB off, and one tone so many above the other: 1 dB, and 0.2 for what the measure
+/// may be off.
+pub const MOST_OFF_TENTHS: u64 = 12;
 
-/// Whether a key is as System R1 wants it of a sender, or the first limit that it misses.
+/// A limit of System R1 for a sender, which a key may miss.
 #[derive(Clone, Copy, Debug, PartialEq, Eq)]
-pub enum Verdict {
-    /// It misses none.
-    Good,
-    /// It lasts too long, or not long enough.
+pub enum Limit {
+    /// How long it lasts.
     Length,
-    /// The time before it is too long, or not long enough. A KP may come at any time.
+    /// The time before it. A KP may come at any time.
     Gap,
-    /// One of its tones is stronger than the other.
+    /// By how much one of its tones is stronger than the other.
     Twist,
-    /// One of its tones is too strong, or too weak.
+    /// How strong each of its tones is.
     Level,
 }
 
-impl Verdict {
+impl Limit {
+    ghost use Rattle.std.specs.Prelude.{◌≡◌};
+    ghost use Rattle.xb_measured.specs.Verdicts.{limit_word};
+
     /// The word for it.
     pub fn word(self) -> &'static str
-        ensures { result.now ≡ verdict_word self }
+        ensures { result.now ≡ limit_word self }
     {
         match self {
-            Verdict::Good => "GOOD",
-            Verdict::Length => "LENGTH",
-            Verdict::Gap => "GAP",
-            Verdict::Twist => "TWIST",
-            Verdict::Level => "LEVEL",
+            Limit::Length => "LENGTH",
+            Limit::Gap => "GAP",
+            Limit::Twist => "TWIST",
+            Limit::Level => "LEVEL",
         }
     }
 }
@@ -96,21 +99,69 @@ fn level_fits(tenths: u32) -> bool
     )
 }
 
-/// What is to be said of a key: the first limit that it misses, of length, gap, twist and level, or that it is good.
-pub fn verdict_of(figures: &Figures) -> Verdict
-    ensures { result ≡ verdict_of figures.now }
+// Whether one tone is no more above the other than it may be.
+fn twist_fits(figures: &Figures) -> bool
+    ensures { result ≡ twist_fits figures.now }
 {
-    let low = u64::from(figures.low);
-    let high = u64::from(figures.high);
-    if !length_fits(figures) {
-        Verdict::Length
-    } else if !gap_fits(figures) {
-        Verdict::Gap
-    } else if !is_about(low, MOST_OFF_TENTHS, high) {
-        Verdict::Twist
-    } else if !(level_fits(figures.low) && level_fits(figures.high)) {
-        Verdict::Level
-    } else {
-        Verdict::Good
+    is_about(
+        u64::from(figures.low),
+        MOST_OFF_TENTHS,
+        u64::from(figures.high),
+    )
+}
+
+// Whether both levels fit.
+fn levels_fit(figures: &Figures) -> bool
+    ensures { result ≡ levels_fit figures.now }
+{
+    level_fits(figures.low) && level_fits(figures.high)
+}
+
+// Puts a limit after others where it is missed.
+fn push_missed(limits: &mut Vec<Limit>, fits: bool, limit: Limit) -> Result<(), AllocError>
+    ensures { OnOk result (limits.new.items ≡ limits.old.items ++ missed (fits, limit)) }
+{
+    if !fits {
+        limits.push(limit)?;
+    }
+    Ok(())
+}
+
+/// All limits that a key misses, in the order of length, gap, twist and level. `Err` says that memory ran out.
+pub fn misses(alloc: Global, figures: &Figures) -> Result<Vec<Limit>, AllocError>
+    ensures { IfOk result (λ limits. limits.items ≡ misses figures.now) }
+{
+    let mut limits = Vec::new(alloc);
+    push_missed(&mut limits, length_fits(figures), Limit::Length)?;
+    push_missed(&mut limits, gap_fits(figures), Limit::Gap)?;
+    push_missed(&mut limits, twist_fits(figures), Limit::Twist)?;
+    push_missed(&mut limits, levels_fit(figures), Limit::Level)?;
+    Ok(limits)
+}
+
+// Appends the words of limits, each after a blank.
+fn push_words(text: &mut String, limits: &[Limit]) -> Result<(), AllocError>
+    ensures { OnOk result (string_bytes text.new ≡ string_bytes text.old ++ flat_map spaced_word limits.now) }
+{
+    for limit in limits {
+        text.push_str(" ")?;
+        text.push_str(limit.word())?;
+    }
+    Ok(())
+}
+
+/// What is said of a key: the words of all limits that it misses, with a blank between, or `GOOD`. `Err` says that memory
+/// ran out.
+pub fn verdict_text(alloc: Global, figures: &Figures) -> Result<String, AllocError>
+    ensures { IfOk result (λ text. string_bytes text ≡ verdict_text (misses figures.now)) }
+{
+    let limits = misses(alloc, figures)?;
+    match limits.split_first() {
+        None => String::from_str(alloc, "GOOD"),
+        Some((first, later)) => {
+            let mut text = String::from_str(alloc, first.word())?;
+            push_words(&mut text, later)?;
+            Ok(text)
+        }
     }
 }

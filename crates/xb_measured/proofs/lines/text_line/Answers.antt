@@ -1,7 +1,6 @@
 use Rattle.std.proofs.Common.{◌≡◌, ◌∙◌, ◌++◌, List, ℕ, ap, append_assoc, string_bytes}
 use Rattle.std.specs.Prelude.{codes, decimal}
 use Rattle.std.proofs.lemmas.Result.{IfOk-weaker}
-use Rattle.xb_measured.specs.Verdicts.{verdict_word}
 use Rattle.xb_measured.specs.Lines.{text_line}
 use Rattle.xb_measured.proofs.lines.text_line.Goals as goal
 
@@ -50,12 +49,12 @@ returns c =
     let name = c.name-name.result.now in
     let low = string_bytes c.in_ok-low.low in
     let end = end_with (string_bytes c.in_ok-high.high) (string_bytes c.in_ok-twist.twist) (string_bytes c.in_ok-gap.gap)
-    c.word-word.result.now in
+    (string_bytes c.in_ok-verdict.verdict) in
     let same = same-parts figures.start_ms figures.length_ms figures.pair.low figures.pair.high
     name low (string_bytes c.in_ok-high.high) (string_bytes c.in_ok-twist.twist) (string_bytes c.in_ok-gap.gap)
-    c.word-word.result.now _ _ _ _ _ _
+    (string_bytes c.in_ok-verdict.verdict) _ _ _ _ _ _
     c.name-name.ensures c.in_ok-low.ensures c.in_ok-high.ensures c.in_ok-twist.ensures c.in_ok-gap.ensures
-    (c.word-word.ensures ∙ ap verdict_word c.verdict_of.ensures) in
+    c.in_ok-verdict.ensures in
     IfOk-weaker c.format.result
     (λ line. string_bytes line ≡ grouped_with figures.start_ms figures.length_ms figures.pair.low figures.pair.high name low end)
     (λ line. string_bytes line ≡ text_line figures)
