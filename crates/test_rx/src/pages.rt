@@ -52,21 +52,22 @@ const SECOND_ENTRY: &[u8] =
     b"{\"doubts\":[],\"entry\":2,\"from_ms\":1575,\"keys\":[\"KP\",\"1\",\"ST\"],\"sent\":\"1\",\"to_ms\":1947}\n";
 
 // Keyings that are heard, and their differences from the page of the tests, which has 5 0 as entry 1 and 2 as entry 3:
-// none, two, one that is heard twice, one that is not heard, and both in the other order.
+// none, two, one that is heard twice, one that is not heard, and both in the other order. The places are those of the KPs
+// by that receiver.
 const DIFFERENCES: &[(&[&[u8]], &[u8])] = &[
     (&[&[5, 0], &[2]], b""),
     (
         NUMBERS,
-        b"heard and not keyed: entry 2: KP 1 ST\nkeyed and not heard: line 7 entry 3: KP 2 ST\n",
+        b"heard and not keyed: entry 2 at 1.576 s: KP 1 ST\nkeyed and not heard: line 7 entry 3: KP 2 ST\n",
     ),
     (
         &[&[5, 0], &[5, 0], &[2]],
-        b"heard and not keyed: entry 2: KP 5 0 ST\n",
+        b"heard and not keyed: entry 2 at 1.576 s: KP 5 0 ST\n",
     ),
     (&[&[2]], b"keyed and not heard: line 7 entry 1: KP 5 0 ST\n"),
     (
         &[&[2], &[5, 0]],
-        b"keyed and not heard: line 7 entry 1: KP 5 0 ST\nheard and not keyed: entry 2: KP 5 0 ST\n",
+        b"keyed and not heard: line 7 entry 1: KP 5 0 ST\nheard and not keyed: entry 2 at 1.441 s: KP 5 0 ST\n",
     ),
 ];
 

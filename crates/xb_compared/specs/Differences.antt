@@ -1,6 +1,7 @@
 -- What was keyed and not heard, and heard and not keyed.
 use Rattle.std.specs.Prelude.{◌≡◌, ℕ, suc, List, [], ◌∷◌, ◌++◌, bytes_eq, codes, decimal, drop, map, take, Option, Some, None}
 use Rattle.std.specs.List.{flat_map, position}
+use Rattle.xb_measured.specs.Seconds.{seconds_text}
 use Rattle.xb_compared.specs.Entries.{KeyedEntry}
 
 -- the first place where keys were keyed
@@ -15,9 +16,15 @@ missed_line entry =
 abbrev pub missed_lines : List KeyedEntry → List ℕ
 missed_lines entries = flat_map missed_line entries
 
+-- when it was heard, in seconds
+abbrev pub place_text : Option ℕ → List ℕ
+place_text None = []
+place_text (Some ms) = codes " at " ++ (seconds_text ms ++ codes " s")
+
 unfoldable pub extra_line : KeyedEntry → List ℕ
 extra_line entry =
-    codes "heard and not keyed: entry " ++ (decimal entry.number ++ (codes ":" ++ (entry.keys ++ codes "\n")))
+    codes "heard and not keyed: entry " ++ (decimal entry.number ++ (place_text entry.at
+    ++ (codes ":" ++ (entry.keys ++ codes "\n"))))
 
 abbrev pub difference_at : List KeyedEntry → KeyedEntry → Option ℕ → (List KeyedEntry → List ℕ) → List ℕ
 difference_at keyed entry None later = extra_line entry ++ later keyed

@@ -1,5 +1,5 @@
 -- The keyed entries of a page, by their keys.
-use Rattle.std.specs.Prelude.{ℕ, List, [], ◌∷◌, ◌++◌, codes, if◌then◌else◌}
+use Rattle.std.specs.Prelude.{ℕ, List, [], ◌∷◌, ◌++◌, codes, if◌then◌else◌, None}
 use Rattle.std.specs.List.{flat_map}
 use Rattle.xb_model.specs.declared.mark.Mark.{Mark}
 use Rattle.xb_model.specs.declared.mark.Mark.TheVariants as mark
@@ -17,7 +17,8 @@ abbrev pub keys_text : List Mark → List ℕ
 keys_text marks = flat_map key_word marks
 
 abbrev pub keyed_with : Entry → KeyedEntry
-keyed_with entry = record { line = entry.line; number = entry.number; keys = keys_text entry.marks }
+keyed_with entry =
+    record { line = entry.line; number = entry.number; keys = keys_text entry.marks; at = None }
 
 -- an entry that is not refused is keyed
 abbrev pub listed_keyed : Entry → List KeyedEntry

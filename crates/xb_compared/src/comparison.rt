@@ -45,7 +45,7 @@ impl Comparison {
         ensures same { OnErr result (self.new ≡ self.old) }
     {
         let mut text = String::new(alloc);
-        let passed = write_up_to(&mut text, &self.keyed[self.passed..], entry)?;
+        let passed = write_up_to(alloc, &mut text, &self.keyed[self.passed..], entry)?;
         self.passed += passed;
         Ok(text)
     }

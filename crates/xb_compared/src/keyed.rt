@@ -8,12 +8,14 @@ use std::marker::Model;
 use xb_model::{Key, LineNo, Mark};
 use xb_page::PageEntry;
 
-/// A keyed entry of a page.
+/// A keyed entry of a page, or one that was heard.
 #[derive(Drop)]
 pub struct Keyed {
     line: LineNo,
     number: usize,
     keys: String,
+    // when it was heard, in ms; a page does not say it
+    at: Option<u64>,
 }
 
 // Clauses see the names of the keys.
@@ -23,11 +25,11 @@ impl Model for Keyed {
 
     ghost Value = { KeyedEntry };
 
-    ghost view = { λ k. record { line = k.line; number = k.number; keys = string_bytes k.keys } };
+    ghost view = { λ k. record { line = k.line; number = k.number; keys = string_bytes k.keys; at = k.at } };
 }
 
 impl Keyed {
-    ghost use Rattle.std.specs.Prelude.{◌≡◌, IfOk};
+    ghost use Rattle.std.specs.Prelude.{◌≡◌, IfOk, Some};
     ghost use Rattle.xb_page.specs.Entries.{entry_with};
     ghost use Rattle.xb_compared.specs.Keyed.{keyed_with};
 
@@ -41,7 +43,24 @@ impl Keyed {
         ensures { IfOk result (λ keyed. keyed ≡ keyed_with (entry_with line number marks.now)) }
     {
         let keys = keys_of(alloc, marks)?;
-        Ok(Keyed { line, number, keys })
+        Ok(Keyed {
+            line,
+            number,
+            keys,
+            at: None,
+        })
+    }
+
+    /// The same entry, as it was heard so many ms from the first sample of a sound.
+    pub fn heard_at(self, ms: u64) -> Keyed
+        ensures { result ≡ record self { at = Some ms } }
+    {
+        Keyed {
+            line: self.line,
+            number: self.number,
+            keys: self.keys,
+            at: Some(ms),
+        }
     }
 
     /// The line of the office.
@@ -63,6 +82,13 @@ impl Keyed {
         ensures { result.now ≡ self.now.keys }
     {
         self.keys.as_str()
+    }
+
+    /// When it was heard, in ms from the first sample; `None` of an entry of a page.
+    pub fn at(&self) -> Option<u64>
+        ensures { result ≡ self.now.at }
+    {
+        self.at
     }
 }
 

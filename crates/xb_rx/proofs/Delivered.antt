@@ -1,6 +1,11 @@
 -- What is written of the bytes of a sound.
 use Rattle.std.proofs.Common.{◌≡◌, ℕ, List, Option, Some, None, Result, Ok, Err, inl, inr, ap, subst, option_map}
+use Rattle.std.specs.Io.KnownBytes.{Appends}
 use Rattle.std.proofs.KnownBytes.{Keeps-refl}
+use Rattle.xb_ear.specs.Receivers.{keys_of_sound}
+use Rattle.xb_text.specs.Writing.{AppendsBeginning}
+use Rattle.xb_rx.specs.Pages.{page_after}
+use Rattle.xb_rx.proofs.PlacedKeyings.{numbers-placed}
 use Rattle.xb_rx.specs.declared.fault.RxFault.{RxFault}
 use Rattle.xb_rx.specs.declared.fault.RxFault.TheVariants as fault
 use Rattle.xb_rx.specs.declared.request.Request.{Request}
@@ -19,8 +24,22 @@ use Rattle.xb_wav.specs.Starts.{Opens}
 -- before the first key all is still to be written
 hears-written : (w : Written) (sound : Sound) (result : Result (Unit {0}) RxFault) (outs : Outputs)
     → Hears (Some sound) (fresh_report w) result outs → HearsSound w sound result outs
-hears-written (written.Page line trunk) sound (Ok u) outs heard = heard
-hears-written (written.Page line trunk) sound (Err f) outs heard = heard
+hears-written (written.Page line trunk) sound (Ok u) outs (lacks, wrote) = (
+  lacks,
+  record {
+    page_whole = subst (λ numbers. Appends outs.page_old outs.page_new (page_after line trunk 0 numbers))
+        (numbers-placed (keys_of_sound sound.samples)) wrote.page_whole;
+    told_whole = wrote.told_whole;
+  },
+)
+hears-written (written.Page line trunk) sound (Err f) outs (of, began) = (
+  of,
+  record {
+    page_begun = subst (λ numbers. AppendsBeginning outs.page_old outs.page_new (page_after line trunk 0 numbers))
+        (numbers-placed (keys_of_sound sound.samples)) began.page_begun;
+    told_begun = began.told_begun;
+  },
+)
 hears-written written.Keys sound (Ok u) outs heard = heard
 hears-written written.Keys sound (Err f) outs heard = heard
 hears-written written.Objects sound (Ok u) outs heard = heard

@@ -28,9 +28,11 @@ use Rattle.xb_ear.specs.declared.hearing.Heard.{Heard}
 use Rattle.xb_measured.specs.declared.meaning.Meaning.TheVariants as meaning
 use Rattle.xb_measured.specs.Meanings.{meaning_by, meaning_of}
 use Rattle.xb_told.specs.declared.keys.TheConstants.{MOST_DIGITS}
-use Rattle.xb_rx.specs.Comparing.{HeardIsPaged}
+use Rattle.xb_rx.specs.Comparing.{HeardIsPaged, as_paged}
 use Rattle.xb_told.specs.Keyings.{before_digits, digit_by, digit_of, digits_to_st, is_kp, is_st, keyings, one_more}
+use Rattle.xb_rx.specs.Placed.{Placed, numbers_of, placed}
 use Rattle.xb_rx.specs.Pages.{heard_after, page_after}
+use Rattle.xb_rx.proofs.PlacedKeyings.{numbers-placed}
 
 some-is : {A : Type 0} {x y : A} → Some x ≡ Some y → x ≡ y
 some-is e = cc
@@ -196,20 +198,22 @@ page-read numbers below =
     (append-nil (entries_of_line 0 1 (entries_of (tape numbers))) ∙ ap (entries_of_line 0 1) (tape-entries numbers))
 
 -- its entries are keyed
-line-keyed : (count : ℕ) (numbers : List (List ℕ))
-    → keyed_of (entries_of_line 0 (count + 1) (map (keying 0) numbers)) ≡ heard_after 0 0 count numbers
+line-keyed : (count : ℕ) (later : List Placed)
+    → keyed_of (entries_of_line 0 (count + 1) (map (keying 0) (numbers_of later))) ≡ map as_paged (heard_after 0 0 count later)
 line-keyed count [] = refl
-line-keyed count (digits ∷ numbers) =
-    let more = keyed_of (entries_of_line 0 (count + 1 + 1) (map (keying 0) numbers)) in
-    ap (λ (o : Option (Reason × ℕ)). listed_keyed (entry_with 0 (count + 1) (said_by (keying 0 digits) o)) ++ more)
-    (keying-keyed digits)
+line-keyed count (keyed ∷ later) =
+    let more = keyed_of (entries_of_line 0 (count + 1 + 1) (map (keying 0) (numbers_of later))) in
+    ap (λ (o : Option (Reason × ℕ)). listed_keyed (entry_with 0 (count + 1) (said_by (keying 0 keyed.digits) o)) ++ more)
+    (keying-keyed keyed.digits)
     ∙ ap (λ (o : Option (Reason × ℕ)).
-    (if is_some o then [] else keyed_with (entry_with 0 (count + 1) (keying 0 digits)) ∷ []) ++ more) (keying-keyed digits)
-    ∙ ap (λ entries. keyed_with (entry_with 0 (count + 1) (keying 0 digits)) ∷ entries) (line-keyed (count + 1) numbers)
+    (if is_some o then [] else keyed_with (entry_with 0 (count + 1) (keying 0 keyed.digits)) ∷ []) ++ more)
+    (keying-keyed keyed.digits)
+    ∙ ap (λ entries. keyed_with (entry_with 0 (count + 1) (keying 0 keyed.digits)) ∷ entries) (line-keyed (count + 1) later)
 
 pub heard_is_paged : HeardIsPaged
 heard_is_paged keys = (
   entries_of_line 0 1 (map (keying 0) (keyings keys)),
   page-read (keyings keys) (keyings-below keys),
-  sym (line-keyed 0 (keyings keys)),
+  sym (line-keyed 0 (placed keys))
+      ∙ ap (λ numbers. keyed_of (entries_of_line 0 1 (map (keying 0) numbers))) (numbers-placed keys),
 )

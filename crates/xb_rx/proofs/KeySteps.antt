@@ -1,12 +1,13 @@
 -- What a key makes of a page, whatever comes of the writing.
-use Rattle.std.proofs.Common.{◌≡◌, ℕ, ◌+◌, ◌≤◌, List, [], ◌∷◌, ◌++◌, Option, Result, Ok, Err, ap, arith, drop, subst, sym}
+use Rattle.std.proofs.Common.{◌≡◌, ℕ, ◌+◌, ◌≤◌, List, [], ◌∷◌, ◌++◌, Option, Result, Ok, Err, ap, arith, subst, sym}
 use Rattle.std.specs.Prelude.{IfErr, OnErr, OnOk}
 use Rattle.std.specs.Io.KnownBytes.{Appends}
 use Rattle.xb_text.specs.Writing.{AppendsBeginning}
 use Rattle.xb_ear.specs.declared.hearing.Heard.{Heard}
 use Rattle.xb_rx.specs.declared.page.PageFault.{PageFault}
 use Rattle.xb_rx.specs.declared.begun.Step.TheVariants as steps
-use Rattle.xb_told.specs.Keyings.{digits_in, is_keying}
+use Rattle.xb_told.specs.Keyings.{is_keying}
+use Rattle.xb_rx.specs.Placed.{placed_of}
 use Rattle.xb_rx.specs.Begun.{IsBegun, broken, kept_after, step_of}
 use Rattle.xb_rx.specs.Pages.{Paged, Writes, WritesOf, loose_lines, page_rest, page_told, text_rest, told_parts}
 use Rattle.xb_rx.proofs.WrittenText.{broken-begun, broken-fault, broken-page, broken-told, complete-fault, complete-page, complete-told, complete-told-fault, kept-begun, kept-page, kept-told, none-written}
@@ -52,12 +53,12 @@ module _ (page new : Paged) (key : Heard) (r : Result (Unit {0}) PageFault) wher
   module _ (begun : IsBegun page.begun) (step : step_of page.begun key ≡ steps.Completes)
       (after : OnOk r (new.begun ≡ [])) where
     pub completes-page : (a b : Option (List ℕ))
-        → WritesOf (λ numbers. text_rest page (digits_in (drop 1 page.begun) ∷ numbers)) (text_rest new) r a b
+        → WritesOf (λ later. text_rest page (placed_of page.begun ∷ later)) (text_rest new) r a b
         → Writes (λ later. page_rest page (key ∷ later)) (page_rest new) r a b
     completes-page a b wrote = by r after wrote
       where
         by : (r : Result (Unit {0}) PageFault) → OnOk r (new.begun ≡ [])
-            → WritesOf (λ numbers. text_rest page (digits_in (drop 1 page.begun) ∷ numbers)) (text_rest new) r a b
+            → WritesOf (λ later. text_rest page (placed_of page.begun ∷ later)) (text_rest new) r a b
             → Writes (λ later. page_rest page (key ∷ later)) (page_rest new) r a b
         by (Ok u) is wrote = complete-page page new key begun a b step is wrote
         by (Err f) is wrote = complete-fault page new key begun a b step f wrote

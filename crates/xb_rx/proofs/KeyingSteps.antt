@@ -5,8 +5,9 @@ use Rattle.std.specs.List.{AllByRecursion}
 use Rattle.std.proofs.lemmas.Bool.{cond-true, cond-false}
 use Rattle.xb_ear.specs.declared.hearing.Heard.{Heard}
 use Rattle.xb_told.specs.declared.keys.TheConstants.{MOST_DIGITS}
-use Rattle.xb_told.specs.Keyings.{before_digits, digit_of, digits_in, digits_to_st, is_kp, is_st, keying_at, keyings, listed_digit, is_keying, is_loose, one_more, part_by, parts_after, parts_of, Part}
+use Rattle.xb_told.specs.Keyings.{before_digits, digit_of, digits_in, digits_to_st, is_kp, is_st, keying_at, listed_digit, is_keying, is_loose, part_by, parts_after, parts_of, Part}
 use Rattle.xb_rx.specs.Begun.{IsDigit, kept_after}
+use Rattle.xb_rx.specs.Placed.{one_placed, placed, placed_of}
 use Rattle.xb_rx.proofs.KeyPairs.{digit-no-kp, digit-no-st, st-no-kp}
 
 abbrev pub AreDigits : List Heard → Type 0
@@ -57,11 +58,11 @@ no-kp-at : (key : Heard) (keys : List Heard) → is_kp key ≡ false → keying_
 no-kp-at key keys none = cond-false _ _ _ none
 
 -- keys without a KP begin none keying
-none-begun : (key : Heard) (keys : List Heard) → is_kp key ≡ false → keyings (key ∷ keys) ≡ keyings keys
-unfolding keyings
-none-begun key keys none = ap (λ (o : Option (List ℕ)). one_more o (keyings keys)) (no-kp-at key keys none)
+none-begun : (key : Heard) (keys : List Heard) → is_kp key ≡ false → placed (key ∷ keys) ≡ placed keys
+unfolding placed
+none-begun key keys none = ap (λ (o : Option (List ℕ)). one_placed key o (placed keys)) (no-kp-at key keys none)
 
-digits-begin-none : (digits later : List Heard) → AreDigits digits → keyings (digits ++ later) ≡ keyings later
+digits-begin-none : (digits later : List Heard) → AreDigits digits → placed (digits ++ later) ≡ placed later
 digits-begin-none [] later all = refl
 digits-begin-none (d ∷ digits) later (one, all) =
     none-begun d (digits ++ later) (digit-no-kp d one) ∙ digits-begin-none digits later all
@@ -99,12 +100,12 @@ count-digits (d ∷ digits) (one, all) =
 module _ (kp : Heard) (digits : List Heard) (is : is_kp kp ≡ true) (all : AreDigits digits) (few : length digits ≤ MOST_DIGITS) where
   -- an ST completes a keying
   pub completes : (st : Heard) (later : List Heard) → is_st st ≡ true
-      → keyings (kp ∷ digits ++ st ∷ later) ≡ digits_in digits ∷ keyings later
-  unfolding keyings
+      → placed (kp ∷ digits ++ st ∷ later) ≡ placed_of (kp ∷ digits) ∷ placed later
+  unfolding placed
   completes st later ends =
-      ap (λ (o : Option (List ℕ)). one_more o (keyings (digits ++ st ∷ later)))
+      ap (λ (o : Option (List ℕ)). one_placed kp o (placed (digits ++ st ∷ later)))
       (kp-at kp (digits ++ st ∷ later) is ∙ number MOST_DIGITS digits st later all few ends)
-      ∙ ap (λ ks. digits_in digits ∷ ks)
+      ∙ ap (λ ks. placed_of (kp ∷ digits) ∷ ks)
       (digits-begin-none digits (st ∷ later) all ∙ none-begun st later (st-no-kp st ends))
 
   pub completes-part : (st : Heard) (later : List Heard) → is_st st ≡ true
@@ -132,10 +133,10 @@ module _ (kp : Heard) (digits : List Heard) (is : is_kp kp ≡ true) (all : AreD
     not-at : (later : List Heard) → keying_at kp (digits ++ key ∷ later) ≡ None
     not-at later = kp-at kp (digits ++ key ∷ later) is ∙ no-number MOST_DIGITS digits key later all few none room
 
-    pub breaks : (later : List Heard) → keyings (kp ∷ digits ++ key ∷ later) ≡ keyings (key ∷ later)
-    unfolding keyings
+    pub breaks : (later : List Heard) → placed (kp ∷ digits ++ key ∷ later) ≡ placed (key ∷ later)
+    unfolding placed
     breaks later =
-        ap (λ (o : Option (List ℕ)). one_more o (keyings (digits ++ key ∷ later))) (not-at later)
+        ap (λ (o : Option (List ℕ)). one_placed kp o (placed (digits ++ key ∷ later))) (not-at later)
         ∙ digits-begin-none digits (key ∷ later) all
 
     pub breaks-parts : (later : List Heard)
@@ -147,11 +148,11 @@ module _ (kp : Heard) (digits : List Heard) (is : is_kp kp ≡ true) (all : AreD
         ∙ ap (λ ps. is_loose kp ∷ ps) (digits-are-loose digits (key ∷ later) all)
 
   -- so does the end
-  pub end-none : keyings (kp ∷ digits) ≡ []
-  unfolding keyings
+  pub end-none : placed (kp ∷ digits) ≡ []
+  unfolding placed
   end-none =
-      ap (λ (o : Option (List ℕ)). one_more o (keyings digits)) (kp-at kp digits is ∙ no-end MOST_DIGITS digits all)
-      ∙ ap keyings (sym (append-nil digits))
+      ap (λ (o : Option (List ℕ)). one_placed kp o (placed digits)) (kp-at kp digits is ∙ no-end MOST_DIGITS digits all)
+      ∙ ap placed (sym (append-nil digits))
       ∙ digits-begin-none digits [] all
 
   pub end-parts : parts_of (kp ∷ digits) ≡ is_loose kp ∷ all_loose digits
@@ -163,10 +164,10 @@ module _ (kp : Heard) (digits : List Heard) (is : is_kp kp ≡ true) (all : AreD
       (ap parts_of (sym (append-nil digits)) ∙ digits-are-loose digits [] all ∙ append-nil (all_loose digits))
 
 -- a key that breaks off goes on as a KP, or stands in none keying
-pub goes-on : (key : Heard) (later : List Heard) → keyings (key ∷ later) ≡ keyings (kept_after key ++ later)
+pub goes-on : (key : Heard) (later : List Heard) → placed (key ∷ later) ≡ placed (kept_after key ++ later)
 goes-on key later = by (is_kp key) refl
   where
-    by : (b : Bool) → is_kp key ≡ b → keyings (key ∷ later) ≡ keyings ((if b then key ∷ [] else []) ++ later)
+    by : (b : Bool) → is_kp key ≡ b → placed (key ∷ later) ≡ placed ((if b then key ∷ [] else []) ++ later)
     by true e = refl
     by false e = none-begun key later e
 

@@ -1,5 +1,6 @@
 pub mod KeyPairs
 pub mod KeyingSteps
+pub mod PlacedKeyings
 pub mod WrittenText
 pub mod Listings
 pub mod KeySteps

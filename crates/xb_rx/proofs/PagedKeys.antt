@@ -21,6 +21,8 @@ use Rattle.xb_measured.specs.Meanings.{meaning_of}
 use Rattle.xb_told.specs.Keyings.{begins_keying, digit_by, digit_of, digits_in, ends_keying, is_kp, is_st, keyings, listed_digit, listed_loose, loose_keys, parts_after, Part}
 use Rattle.xb_rx.specs.PagedKeys.{AreNumbers, KeyedIsPaged, marks_of_numbers}
 use Rattle.xb_rx.specs.Pages.{page_after}
+use Rattle.xb_rx.specs.Placed.{numbers_of}
+use Rattle.xb_rx.proofs.PlacedKeyings.{numbers-placed}
 use Rattle.xb_rx.proofs.KeyingSteps.{AreDigits, completes, completes-part}
 
 -- the pair of each key stands for it
@@ -140,7 +142,9 @@ these trunk (digits ∷ numbers) (kp ∷ keys) are e =
     let more = these trunk numbers b.later are.1 b.rest in record {
       keyings_are =
           ap (λ ks. keyings (kp ∷ ks)) b.parts
-          ∙ completes kp b.first is b.all few b.st b.later b.ends
+          ∙ sym (numbers-placed (kp ∷ b.first ++ b.st ∷ b.later))
+          ∙ ap numbers_of (completes kp b.first is b.all few b.st b.later b.ends)
+          ∙ ap (λ ns. digits_in b.first ∷ ns) (numbers-placed b.later)
           ∙ ap₂ (λ ds ks. ds ∷ ks) b.are more.keyings_are;
       none_loose =
           ap (λ ks. loose_keys (kp ∷ ks)) b.parts

@@ -17,10 +17,11 @@ use Rattle.xb_ear.specs.declared.hearing.Heard.{Heard}
 use Rattle.xb_told.specs.declared.keys.TheConstants.{MOST_DIGITS}
 use Rattle.xb_rx.specs.declared.begun.Step.TheVariants as steps
 use Rattle.xb_rx.specs.declared.page.PageFault.{PageFault}
-use Rattle.xb_told.specs.Keyings.{digit_of, digits_in, is_kp, is_st, keyings, is_keying, is_loose, Part, parts_after, parts_of}
+use Rattle.xb_told.specs.Keyings.{digit_of, is_kp, is_st, is_keying, is_loose, Part, parts_after, parts_of}
 use Rattle.xb_rx.specs.Begun.{IsDigit, IsBegun, broken, kept_after, step_of}
 use Rattle.xb_compared.specs.Entries.{KeyedEntry}
 use Rattle.xb_told.specs.DoubtLines.{doubts_text, loose_line}
+use Rattle.xb_rx.specs.Placed.{Placed, numbers_of, placed, placed_of}
 use Rattle.xb_rx.specs.Pages.{IsTextOf, Paged, Writes, WritesOf, heard_after, loose_lines, page_after, page_rest, page_told, text_after, text_rest, told_parts}
 use Rattle.xb_rx.proofs.KeyingSteps.{all_loose, breaks, breaks-parts, completes, completes-part, end-none, end-parts, goes-on, goes-parts}
 
@@ -103,7 +104,7 @@ module _ (page new : Paged) (key : Heard) (a b : Option (List ℕ)) where
     kept-page = (
       [],
       Appends-nil a,
-      λ later. ap (λ ks. text_rest page (keyings ks)) (kept-later page.begun key later)
+      λ later. ap (λ ks. text_rest page (placed ks)) (kept-later page.begun key later)
           ∙ ap (λ (p : Paged). page_rest p later) (sym is),
     )
 
@@ -121,48 +122,48 @@ if-ok (Ok s) step holds = step s holds
 if-ok (Err e) step holds = tt
 
 -- what an entry makes plain, and what is left after it
-pub text-step : (against next : Option (List KeyedEntry)) (line trunk count : ℕ) (digits text : List ℕ)
-    → IsTextOf against next line (count + 1) (keying trunk digits) text → (numbers : List (List ℕ))
-    → text_after against line trunk count (digits ∷ numbers) ≡ text ++ text_after next line trunk (count + 1) numbers
-text-step None next line trunk count digits text (same, is) numbers =
-    entry-first line trunk count digits numbers
-    ∙ ap (λ t. t ++ page_after line trunk (count + 1) numbers) (sym is)
-    ∙ ap (λ (o : Option (List KeyedEntry)). text ++ text_after o line trunk (count + 1) numbers) (sym same)
-text-step (Some left) next line trunk count digits text (after, same, is) numbers =
-    is (heard_after line trunk (count + 1) numbers)
-    ∙ ap (λ (o : Option (List KeyedEntry)). text ++ text_after o line trunk (count + 1) numbers) (sym same)
+pub text-step : (against next : Option (List KeyedEntry)) (line trunk count : ℕ) (keyed : Placed) (text : List ℕ)
+    → IsTextOf against next line (count + 1) (keying trunk keyed.digits) keyed.at text → (later : List Placed)
+    → text_after against line trunk count (keyed ∷ later) ≡ text ++ text_after next line trunk (count + 1) later
+text-step None next line trunk count keyed text (same, is) later =
+    entry-first line trunk count keyed.digits (numbers_of later)
+    ∙ ap (λ t. t ++ page_after line trunk (count + 1) (numbers_of later)) (sym is)
+    ∙ ap (λ (o : Option (List KeyedEntry)). text ++ text_after o line trunk (count + 1) later) (sym same)
+text-step (Some left) next line trunk count keyed text (after, same, is) later =
+    is (heard_after line trunk (count + 1) later)
+    ∙ ap (λ (o : Option (List KeyedEntry)). text ++ text_after o line trunk (count + 1) later) (sym same)
 
 -- what an entry makes plain is written
-module _ (page : Paged) (next : Option (List KeyedEntry)) (digits : List ℕ) (marks : List Mark) (text bytes : List ℕ)
-    (keyed : marks ≡ keying page.trunk digits) (is : IsTextOf page.against next page.line (page.count + 1) marks text)
-    (same : bytes ≡ text) where
-  entry-rest : (numbers : List (List ℕ)) → text_rest page (digits ∷ numbers)
-      ≡ bytes ++ text_after next page.line page.trunk (page.count + 1) numbers
-  entry-rest numbers =
-      text-step page.against next page.line page.trunk page.count digits text
-      (subst (λ ms. IsTextOf page.against next page.line (page.count + 1) ms text) keyed is) numbers
-      ∙ ap (λ t. t ++ text_after next page.line page.trunk (page.count + 1) numbers) (sym same)
+module _ (page : Paged) (next : Option (List KeyedEntry)) (entry : Placed) (marks : List Mark) (text bytes : List ℕ)
+    (keyed : marks ≡ keying page.trunk entry.digits)
+    (is : IsTextOf page.against next page.line (page.count + 1) marks entry.at text) (same : bytes ≡ text) where
+  entry-rest : (later : List Placed) → text_rest page (entry ∷ later)
+      ≡ bytes ++ text_after next page.line page.trunk (page.count + 1) later
+  entry-rest later =
+      text-step page.against next page.line page.trunk page.count entry text
+      (subst (λ ms. IsTextOf page.against next page.line (page.count + 1) ms entry.at text) keyed is) later
+      ∙ ap (λ t. t ++ text_after next page.line page.trunk (page.count + 1) later) (sym same)
 
   pub entry-whole : (a b : Option (List ℕ)) → Appends a b bytes
-      → WritesOf {F = PageFault} (λ numbers. text_rest page (digits ∷ numbers))
-      (λ numbers. text_after next page.line page.trunk (page.count + 1) numbers) (Ok tt) a b
+      → WritesOf {F = PageFault} (λ later. text_rest page (entry ∷ later))
+      (λ later. text_after next page.line page.trunk (page.count + 1) later) (Ok tt) a b
   entry-whole a b wrote = (bytes, wrote, entry-rest)
 
-  pub entry-begun : (after : List (List ℕ) → List ℕ) (f : PageFault) (a b : Option (List ℕ)) → AppendsBeginning a b bytes
-      → WritesOf (λ numbers. text_rest page (digits ∷ numbers)) after (Err f) a b
+  pub entry-begun : (after : List Placed → List ℕ) (f : PageFault) (a b : Option (List ℕ)) → AppendsBeginning a b bytes
+      → WritesOf (λ later. text_rest page (entry ∷ later)) after (Err f) a b
   entry-begun after f a b wrote =
-      λ numbers. subst (AppendsBeginning a b) (sym (entry-rest numbers)) (AppendsBeginning-first a b _ _ wrote)
+      λ later. subst (AppendsBeginning a b) (sym (entry-rest later)) (AppendsBeginning-first a b _ _ wrote)
 
 -- nothing was, where there was no memory for it
-pub no-entry : (before after : List (List ℕ) → List ℕ) (r : Result (Unit {0}) PageFault) (f : PageFault)
+pub no-entry : (before after : List Placed → List ℕ) (r : Result (Unit {0}) PageFault) (f : PageFault)
     (a : Option (List ℕ)) → r ≡ Err f → WritesOf before after r a a
 no-entry before after r f a is =
-    subst (λ (s : Result (Unit {0}) PageFault). WritesOf before after s a a) (sym is) (λ numbers. none-written a (before numbers))
+    subst (λ (s : Result (Unit {0}) PageFault). WritesOf before after s a a) (sym is) (λ later. none-written a (before later))
 
 -- a keying is complete
 complete-keyings : (begun : List Heard) (key : Heard) (later : List Heard) → IsBegun begun
     → step_of begun key ≡ steps.Completes
-    → keyings (begun ++ key ∷ later) ≡ digits_in (drop 1 begun) ∷ keyings later
+    → placed (begun ++ key ∷ later) ≡ placed_of begun ∷ placed later
 complete-keyings [] key later is step = absurd (no-complete (is_kp key) step)
 complete-keyings (kp ∷ digits) key later (is, all, few) step =
     completes kp digits is all few key later (is-st kp key digits step)
@@ -176,7 +177,7 @@ complete-parts (kp ∷ digits) key later (is, all, few) step =
 
 -- a keying is broken off
 broken-at : (begun : List Heard) (key : Heard) (later : List Heard) → IsBegun begun → step_of begun key ≡ steps.BreaksOff
-    → keyings (begun ++ key ∷ later) ≡ keyings (kept_after key ++ later)
+    → placed (begun ++ key ∷ later) ≡ placed (kept_after key ++ later)
 broken-at [] key later is step = goes-on key later
 broken-at (kp ∷ digits) key later (is, all, few) step =
     breaks kp digits is all few key (no-st kp key digits step) (no-room kp key digits step) later ∙ goes-on key later
@@ -205,25 +206,25 @@ broken-told-text n begun key later is step =
 module _ (page new : Paged) (key : Heard) (begun : IsBegun page.begun) (a b : Option (List ℕ)) where
   module _ (step : step_of page.begun key ≡ steps.Completes) where
     complete-rest : (later : List Heard)
-        → page_rest page (key ∷ later) ≡ text_rest page (digits_in (drop 1 page.begun) ∷ keyings later)
+        → page_rest page (key ∷ later) ≡ text_rest page (placed_of page.begun ∷ placed later)
     complete-rest later = ap (text_rest page) (complete-keyings page.begun key later begun step)
 
     pub complete-page : new.begun ≡ []
-        → WritesOf {F = PageFault} (λ numbers. text_rest page (digits_in (drop 1 page.begun) ∷ numbers)) (text_rest new)
+        → WritesOf {F = PageFault} (λ later. text_rest page (placed_of page.begun ∷ later)) (text_rest new)
         (Ok tt) a b
         → Writes {F = PageFault} (λ later. page_rest page (key ∷ later)) (page_rest new) (Ok tt) a b
     complete-page none (bytes, wrote, is) = (
       bytes,
       wrote,
       λ later. complete-rest later
-          ∙ is (keyings later)
-          ∙ ap (λ (ks : List Heard). bytes ++ text_rest new (keyings (ks ++ later))) (sym none),
+          ∙ is (placed later)
+          ∙ ap (λ (ks : List Heard). bytes ++ text_rest new (placed (ks ++ later))) (sym none),
     )
 
     pub complete-fault : (f : PageFault)
-        → WritesOf (λ numbers. text_rest page (digits_in (drop 1 page.begun) ∷ numbers)) (text_rest new) (Err f) a b
+        → WritesOf (λ later. text_rest page (placed_of page.begun ∷ later)) (text_rest new) (Err f) a b
         → Writes (λ later. page_rest page (key ∷ later)) (page_rest new) (Err f) a b
-    complete-fault f wrote = λ later. subst (AppendsBeginning a b) (sym (complete-rest later)) (wrote (keyings later))
+    complete-fault f wrote = λ later. subst (AppendsBeginning a b) (sym (complete-rest later)) (wrote (placed later))
 
     complete-told-text : (later : List Heard) → page_told page (key ∷ later)
         ≡ told_parts (page.count + 1) (is_keying (page.begun ++ key ∷ []) ∷ parts_of later)
@@ -274,11 +275,11 @@ module _ (page new : Paged) (key : Heard) (begun : IsBegun page.begun) (a b : Op
         (AppendsBeginning-first a b _ _ wrote)
 
 -- no key comes after those of a keying
-end-keyings : (begun : List Heard) → IsBegun begun → keyings (begun ++ []) ≡ []
-unfolding keyings
+end-keyings : (begun : List Heard) → IsBegun begun → placed (begun ++ []) ≡ []
+unfolding placed
 end-keyings [] is = refl
 end-keyings (kp ∷ digits) (is, all, few) =
-    ap keyings (append-nil (kp ∷ digits)) ∙ end-none kp digits is all few
+    ap placed (append-nil (kp ∷ digits)) ∙ end-none kp digits is all few
 
 no-parts : parts_of [] ≡ []
 unfolding parts_after

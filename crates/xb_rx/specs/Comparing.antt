@@ -1,10 +1,16 @@
 -- What was keyed, beside what is heard.
-use Rattle.std.specs.Prelude.{◌≡◌, ◌≢◌, ◌⊎◌, ℕ, List, [], Option, Some, None, IfSome, Result, Ok, Err}
+use Rattle.std.specs.Prelude.{◌≡◌, ◌≢◌, ◌⊎◌, ℕ, List, [], ◌∷◌, ◌++◌, Option, Some, None, IfSome, Result, Ok, Err, map, true}
+use Rattle.std.specs.List.{AllByRecursion}
 use Rattle.std.specs.Io.KnownBytes.{Appends, Keeps}
 use Rattle.xb_text.specs.Writing.{AppendsBeginning}
 use Rattle.xb_compared.specs.Differences.{differences}
 use Rattle.xb_compared.specs.Entries.{KeyedEntry}
+use Rattle.xb_compared.specs.Keyed.{keys_text}
 use Rattle.xb_compared.specs.Pages.{IsFaultOf, IsKeyed}
+use Rattle.xb_measured.specs.Figures.{start_ms}
+use Rattle.xb_model.specs.Keyings.{keying}
+use Rattle.xb_told.specs.declared.keys.TheConstants.{MOST_DIGITS}
+use Rattle.xb_told.specs.Keyings.{digits_to_st, is_kp}
 use Rattle.xb_page.specs.LineEnds.{lf_ended}
 use Rattle.xb_ear.specs.declared.hearing.Heard.{Heard}
 use Rattle.xb_ear.specs.Receivers.{keys_of_sound}
@@ -69,6 +75,27 @@ Compares file how bytes (Err f) outs =
     Keeps outs.page_old outs.page_new
     × ((Keeps outs.told_old outs.told_new × IsFileFault file f) ⊎ IsSoundFault how bytes f outs.told_old outs.told_new)
 
+-- the same entry without its time, as a page has it
+abbrev pub as_paged : KeyedEntry → KeyedEntry
+as_paged entry = record entry { at = None }
+
 -- the entries that are heard are the keyed entries of the page that is written of the same keys
 abbrev pub HeardIsPaged : Type 0
-HeardIsPaged = (keys : List Heard) → IsKeyed (page_of 0 0 keys) (heard_entries keys)
+HeardIsPaged = (keys : List Heard) → IsKeyed (page_of 0 0 keys) (map as_paged (heard_entries keys))
+
+-- among these keys an entry is keyed where it says: it has the digits that stand between the KP that begins at that
+-- time and the first ST after it
+pub record IsKeyedAt (keys : List Heard) (entry : KeyedEntry) : Type 0 where
+  pub before : List Heard
+  pub kp : Heard
+  pub later : List Heard
+  pub digits : List ℕ
+  pub among : keys ≡ before ++ kp ∷ later
+  pub begins : is_kp kp ≡ true
+  pub goes_on : digits_to_st MOST_DIGITS later ≡ Some digits
+  pub keys_are : entry.keys ≡ keys_text (keying 0 digits)
+  pub at_kp : entry.at ≡ Some (start_ms kp)
+
+-- each entry that is heard is told at its KP
+abbrev pub EntriesAreAtTheirKp : Type 0
+EntriesAreAtTheirKp = (keys : List Heard) → AllByRecursion (IsKeyedAt keys) (heard_entries keys)

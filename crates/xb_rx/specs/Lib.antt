@@ -1,5 +1,6 @@
 pub mod Faults
 pub mod Begun
+pub mod Placed
 pub mod Pages
 pub mod Objects
 pub mod Listeners

@@ -12,6 +12,7 @@ use Rattle.xb_page.specs.Entries.{entry_with}
 use Rattle.xb_compared.specs.Differences.{differences}
 use Rattle.xb_compared.specs.Entries.{KeyedEntry}
 use Rattle.xb_compared.specs.Keyed.{keyed_with}
+use Rattle.xb_rx.specs.Placed.{Placed, numbers_of, placed}
 use Rattle.xb_rx.specs.declared.page.Page.{Page}
 use Rattle.xb_told.specs.DoubtLines.{doubts_text, loose_line}
 use Rattle.xb_told.specs.Keyings.{Part, is_keying, is_loose, keyings, parts_of}
@@ -39,29 +40,33 @@ page_after line trunk count numbers =
 abbrev pub page_of : ℕ → ℕ → List Heard → List ℕ
 page_of line trunk keys = page_after line trunk 0 (keyings keys)
 
--- the keyed entries of a line that are heard after so many
-abbrev pub heard_after : ℕ → ℕ → ℕ → List (List ℕ) → List KeyedEntry
+-- an entry with these marks that is heard so many ms from the first sample
+abbrev pub heard_with : ℕ → ℕ → ℕ → List Mark → KeyedEntry
+heard_with at line n marks = record (keyed_with (entry_with line n marks)) { at = Some at }
+
+-- the keyed entries of a line that are heard after so many, each where its KP begins
+abbrev pub heard_after : ℕ → ℕ → ℕ → List Placed → List KeyedEntry
 heard_after line trunk count [] = []
-heard_after line trunk count (digits ∷ numbers) =
-    keyed_with (entry_with line (count + 1) (keying trunk digits)) ∷ heard_after line trunk (count + 1) numbers
+heard_after line trunk count (keyed ∷ later) =
+    heard_with keyed.at line (count + 1) (keying trunk keyed.digits) ∷ heard_after line trunk (count + 1) later
 
 -- the keyings of keys as keyed entries: of line 0 and trunk group 0, as nothing is said of them
 abbrev pub heard_entries : List Heard → List KeyedEntry
-heard_entries keys = heard_after 0 0 0 (keyings keys)
+heard_entries keys = heard_after 0 0 0 (placed keys)
 
 -- what is left to be written after so many entries: the rest of the page, or its differences from what is left of
 -- what was keyed
-abbrev pub text_after : Option (List KeyedEntry) → ℕ → ℕ → ℕ → List (List ℕ) → List ℕ
-text_after None line trunk count numbers = page_after line trunk count numbers
-text_after (Some left) line trunk count numbers = differences left (heard_after line trunk count numbers)
+abbrev pub text_after : Option (List KeyedEntry) → ℕ → ℕ → ℕ → List Placed → List ℕ
+text_after None line trunk count later = page_after line trunk count (numbers_of later)
+text_after (Some left) line trunk count later = differences left (heard_after line trunk count later)
 
--- what an entry makes plain, and what is then left of what was keyed
-abbrev pub IsTextOf : Option (List KeyedEntry) → Option (List KeyedEntry) → ℕ → ℕ → List Mark → List ℕ → Type 0
-IsTextOf None new line n marks text = (new ≡ None) × (text ≡ entry_text line n marks)
-IsTextOf (Some left) new line n marks text =
+-- what an entry that is heard then makes plain, and what is then left of what was keyed
+abbrev pub IsTextOf : Option (List KeyedEntry) → Option (List KeyedEntry) → ℕ → ℕ → List Mark → ℕ → List ℕ → Type 0
+IsTextOf None new line n marks at text = (new ≡ None) × (text ≡ entry_text line n marks)
+IsTextOf (Some left) new line n marks at text =
     (next : List KeyedEntry) × (new ≡ Some next)
     × ((later : List KeyedEntry)
-    → differences left (keyed_with (entry_with line n marks) ∷ later) ≡ text ++ differences next later)
+    → differences left (heard_with at line n marks ∷ later) ≡ text ++ differences next later)
 
 -- what a page has so far: the line and the trunk group, how many entries there were, the keys of a keying that goes
 -- on, and what is left of what was keyed, where it is compared
@@ -84,11 +89,11 @@ abbrev pub fresh_against : List KeyedEntry → Paged
 fresh_against keyed = record { line = 0; trunk = 0; count = 0; begun = []; against = Some keyed }
 
 -- what is still to be written of it and of later keyings, or keys
-abbrev pub text_rest : Paged → List (List ℕ) → List ℕ
-text_rest page numbers = text_after page.against page.line page.trunk page.count numbers
+abbrev pub text_rest : Paged → List Placed → List ℕ
+text_rest page later = text_after page.against page.line page.trunk page.count later
 
 abbrev pub page_rest : Paged → List Heard → List ℕ
-page_rest page later = text_rest page (keyings (page.begun ++ later))
+page_rest page later = text_rest page (placed (page.begun ++ later))
 
 abbrev pub page_told : Paged → List Heard → List ℕ
 page_told page later = told_parts (page.count + 1) (parts_of (page.begun ++ later))

@@ -1,5 +1,5 @@
 //! What the definitions give: each law is the contract of a function that does nothing.
-ghost use Rattle.xb_rx.specs.Comparing.{HeardIsPaged};
+ghost use Rattle.xb_rx.specs.Comparing.{EntriesAreAtTheirKp, HeardIsPaged};
 ghost use Rattle.xb_rx.specs.Objects.{ObjectsHaveEntries};
 ghost use Rattle.xb_rx.specs.PagedKeys.{KeyedIsPaged};
 ghost use Rattle.xb_rx.specs.Program.{UsageNamesEachOption};
@@ -19,6 +19,11 @@ pub fn keyed_is_paged()
 /// The keyings that are heard are compared as the keyed entries of the page that is written of them.
 pub fn heard_is_paged()
     ensures { HeardIsPaged }
+{}
+
+/// Each of them is told at the time of its KP.
+pub fn entries_are_at_their_kp()
+    ensures { EntriesAreAtTheirKp }
 {}
 
 /// Among the objects of keys those of entries are one for each keying, in order.

@@ -13,7 +13,7 @@
 //! - `laws::keyed_is_paged`: the page of a sound of keyings, even of a disturbed one, has an entry for each,
 //!   in order.
 //! - `laws::heard_is_paged`: the keyings that are compared are the keyed entries of the page that is written
-//!   of them.
+//!   of them. `laws::entries_are_at_their_kp`: the time that is told of each is that of its KP.
 //! - `attend`: `Attends` of this. `laws::usage_names_each_option`.
 //!
 //! `xb_wav` says which samples a file or a stream has, and `xb_ear` what is heard of them.

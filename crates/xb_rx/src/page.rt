@@ -14,7 +14,7 @@ use xb_ear::Heard;
 use xb_model::{Key, LineNo, Mark, Trunk, mf};
 use xb_tape::{write_entry, write_totals};
 use xb_text::write_whole;
-use xb_told::{NamedKey, doubts_text};
+use xb_told::{NamedKey, began_ms, doubts_text};
 
 // Why a page is not written.
 #[derive(Clone, Copy, Debug, PartialEq, Eq)]
@@ -119,34 +119,37 @@ fn entry_of(
     Ok(text)
 }
 
-// What is written of an entry that was heard: its text, or what differs before it from what was keyed.
+// What is written of an entry that was heard so many ms from the first sample: its text, or what differs before it from
+// what was keyed.
 fn text_of(
     alloc: Global,
     against: &mut Option<Comparison>,
     line: LineNo,
     number: usize,
     marks: &[Mark],
+    at: u64,
 ) -> Result<String, AllocError>
     ensures { IfOk result (λ text.
-        IsTextOf against.old against.new line number marks.now (string_bytes text)) }
+        IsTextOf against.old against.new line number marks.now at (string_bytes text)) }
 {
     match against {
         None => entry_of(alloc, line, number, marks),
         Some(comparison) => {
             let entry = Keyed::of_marks(alloc, line, number, marks)?;
-            comparison.take(alloc, &entry)
+            comparison.take(alloc, &entry.heard_at(at))
         }
     }
 }
 
 impl Page {
-    ghost use Rattle.std.specs.Prelude.{◌≡◌, ◌≤◌, ◌<◌, ◌+◌, ◌^◌, ℕ, ◌∷◌, [], ◌++◌, IfErr, IfOk, OnErr, OnOk, List, drop, string_bytes};
+    ghost use Rattle.std.specs.Prelude.{◌≡◌, ◌≤◌, ◌<◌, ◌+◌, ◌^◌, ◌∷◌, [], ◌++◌, IfErr, IfOk, OnErr, OnOk, List, drop, string_bytes};
     ghost use Rattle.std.specs.Io.KnownBytes.{Appends};
     ghost use Rattle.xb_ear.specs.Hearings.{listed};
     ghost use Rattle.xb_model.specs.Keyings.{keying};
     ghost use Rattle.xb_text.specs.Writing.{AppendsBeginning};
     ghost use Rattle.xb_told.specs.Keyings.{Part, digits_in, is_keying};
     ghost use Rattle.xb_rx.specs.Begun.{IsBegun, broken, kept_after};
+    ghost use Rattle.xb_rx.specs.Placed.{Placed, placed_of};
     ghost use Rattle.xb_rx.specs.Pages.{Ends, Writes, WritesOf, fresh_against, fresh_page, loose_lines, page_rest, page_told, paged, text_rest, told_parts};
 
     /// An empty page.
@@ -210,8 +213,8 @@ impl Page {
         err: &mut E,
     ) -> Result<(), PageFault>
         requires { self.old.count + 1 < 2 ^ 64 }
-        ensures page { WritesOf (λ (numbers : List (List ℕ)).
-            text_rest (paged self.old) (digits_in (drop 1 self.old.begun.items) ∷ numbers))
+        ensures page { WritesOf (λ (later : List Placed).
+            text_rest (paged self.old) (placed_of self.old.begun.items ∷ later))
             (text_rest (paged self.new)) result (W.contents out.old) (W.contents out.new) }
         ensures told { WritesOf (λ (parts : List Part).
             told_parts (self.old.count + 1) (is_keying (self.old.begun.items ++ key ∷ []) ∷ parts))
@@ -220,10 +223,11 @@ impl Page {
         ensures count { self.new.count ≤ self.old.count + 1 }
     {
         let marks = self.marks(alloc)?;
+        let at = began_ms(&self.begun);
         self.keep(key)?;
         let number = self.count + 1;
         let told = doubts_text(alloc, number, &self.begun)?;
-        let text = text_of(alloc, &mut self.against, self.line, number, &marks)?;
+        let text = text_of(alloc, &mut self.against, self.line, number, &marks, at)?;
         if write_whole(out, text.as_bytes()).is_err() {
             return Err(PageFault::Write);
         }

@@ -75,7 +75,7 @@ fn doubt_lines(alloc: Global, entry: usize, at: u64, doubts: &[Doubt]) -> Result
 }
 
 /// When a keying begins, in ms; 0 where there is no key.
-pub(crate) fn began_ms(keys: &[NamedKey]) -> u64
+pub fn began_ms(keys: &[NamedKey]) -> u64
     ensures { result ≡ began_ms keys.now }
 {
     match keys.first() {

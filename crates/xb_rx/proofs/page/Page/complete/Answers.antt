@@ -5,9 +5,11 @@ use Rattle.xb_model.specs.declared.mark.Mark.{Mark}
 use Rattle.xb_model.specs.Keyings.{keying}
 use Rattle.xb_rx.specs.declared.page.PageFault.{PageFault}
 use Rattle.xb_rx.specs.declared.page.PageFault.TheVariants as page_fault
-use Rattle.xb_told.specs.DoubtLines.{doubts_text}
+use Rattle.xb_told.specs.DoubtLines.{began_ms, doubts_text}
 use Rattle.xb_told.specs.Keyings.{digits_in}
-use Rattle.xb_rx.specs.Pages.{Paged, WritesOf, paged, text_after, text_rest, told_parts}
+use Rattle.xb_compared.specs.Entries.{KeyedEntry}
+use Rattle.xb_rx.specs.Placed.{Placed, placed_of}
+use Rattle.xb_rx.specs.Pages.{IsTextOf, Paged, WritesOf, paged, text_after, text_rest, told_parts}
 use Rattle.xb_rx.proofs.WrittenText.{all-written, entry-begun, entry-told, entry-told-begun, entry-whole, no-doubts, no-entry, none-written, wrote-whole}
 use Rattle.xb_rx.proofs.page.Page.complete.Goals as goal
 
@@ -17,12 +19,19 @@ same-marks : (page kept : Paged) (key : Heard) (marks : List Mark) → kept ≡ 
 same-marks page kept key marks is are =
     are ∙ ap (λ (p : Paged). keying p.trunk (digits_in (drop 1 page.begun))) (sym is)
 
-of-page : (page kept : Paged) (key : Heard) (digits : List ℕ) (after : List (List ℕ) → List ℕ) (r : Result (Unit {0}) PageFault)
+of-page : (page kept : Paged) (key : Heard) (entry : Placed) (after : List Placed → List ℕ) (r : Result (Unit {0}) PageFault)
     (a b : Option (List ℕ)) → kept ≡ record page { begun = page.begun ++ key ∷ [] }
-    → WritesOf (λ numbers. text_rest kept (digits ∷ numbers)) after r a b
-    → WritesOf (λ numbers. text_rest page (digits ∷ numbers)) after r a b
-of-page page kept key digits after r a b is wrote =
-    subst (λ (p : Paged). WritesOf (λ numbers. text_rest p (digits ∷ numbers)) after r a b) is wrote
+    → WritesOf (λ later. text_rest kept (entry ∷ later)) after r a b
+    → WritesOf (λ later. text_rest page (entry ∷ later)) after r a b
+of-page page kept key entry after r a b is wrote =
+    subst (λ (p : Paged). WritesOf (λ later. text_rest p (entry ∷ later)) after r a b) is wrote
+
+-- the entry is told where its keys began before the last
+told-at-began : (page : Paged) (against next : Option (List KeyedEntry)) (begun : List Heard) (at line n : ℕ) (marks : List Mark)
+    (text : List ℕ) → begun ≡ page.begun → at ≡ began_ms begun → IsTextOf against next line n marks at text
+    → IsTextOf against next line n marks (placed_of page.begun).at text
+told-at-began page against next begun at line n marks text are is told =
+    subst (λ (ms : ℕ). IsTextOf against next line n marks ms text) (is ∙ ap began_ms are) told
 
 same-doubts : (page kept : Paged) (key : Heard) (bytes : List ℕ) → kept ≡ record page { begun = page.begun ++ key ∷ [] }
     → bytes ≡ doubts_text (kept.count + 1) kept.begun → bytes ≡ doubts_text (page.count + 1) (page.begun ++ key ∷ [])
@@ -73,10 +82,10 @@ returns-then-is_err-clause-page g c =
     let page = paged c.args.self.now in
     let kept = paged c.keep.new.self in
     let is = c.in_ok-keep.ensures.kept in
-    let digits = digits_in (drop 1 page.begun) in
-    of-page page kept c.args.key digits (text_rest page) (Err page_fault.Write) (g.W.Write.contents c.args.out.now) (g.W.Write.contents c.write_whole.new.out) is
-    (entry-begun kept c.text_of.new.against digits c.deref-2.result.now (string_bytes c.in_ok-text.text)
-    c.as_bytes.result.now (same-marks page kept c.args.key _ is (c.deref-2.ensures.value ∙ c.in_ok-marks.ensures)) c.in_ok-text.ensures c.as_bytes.ensures.value
+    let entry = placed_of page.begun in
+    of-page page kept c.args.key entry (text_rest page) (Err page_fault.Write) (g.W.Write.contents c.args.out.now) (g.W.Write.contents c.write_whole.new.out) is
+    (entry-begun kept c.text_of.new.against entry c.deref-3.result.now (string_bytes c.in_ok-text.text)
+    c.as_bytes.result.now (same-marks page kept c.args.key _ is (c.deref-3.ensures.value ∙ c.in_ok-marks.ensures)) (told-at-began page kept.against c.text_of.new.against c.deref.result.now c.began_ms-at.result _ _ _ _ c.deref.ensures.value c.began_ms-at.ensures c.in_ok-text.ensures) c.as_bytes.ensures.value
     (text_rest page) page_fault.Write _ _ c.write_whole.ensures.beginning)
 
 pub returns-then-is_err-clause-told : goal.returns-then-is_err-clause-told
@@ -87,10 +96,10 @@ returns-then-is_err-2-clause-page g c =
     let page = paged c.args.self.now in
     let kept = paged c.keep.new.self in
     let is = c.in_ok-keep.ensures.kept in
-    let digits = digits_in (drop 1 page.begun) in
-    of-page page kept c.args.key digits (text_rest page) (Err page_fault.Tell) (g.W.Write.contents c.args.out.now) (g.W.Write.contents c.write_whole.new.out) is
-    (entry-begun kept c.text_of.new.against digits c.deref-2.result.now (string_bytes c.in_ok-text.text)
-    c.as_bytes.result.now (same-marks page kept c.args.key _ is (c.deref-2.ensures.value ∙ c.in_ok-marks.ensures)) c.in_ok-text.ensures c.as_bytes.ensures.value
+    let entry = placed_of page.begun in
+    of-page page kept c.args.key entry (text_rest page) (Err page_fault.Tell) (g.W.Write.contents c.args.out.now) (g.W.Write.contents c.write_whole.new.out) is
+    (entry-begun kept c.text_of.new.against entry c.deref-3.result.now (string_bytes c.in_ok-text.text)
+    c.as_bytes.result.now (same-marks page kept c.args.key _ is (c.deref-3.ensures.value ∙ c.in_ok-marks.ensures)) (told-at-began page kept.against c.text_of.new.against c.deref.result.now c.began_ms-at.result _ _ _ _ c.deref.ensures.value c.began_ms-at.ensures c.in_ok-text.ensures) c.as_bytes.ensures.value
     (text_rest page) page_fault.Tell _ _
     (all-written _ _ _ (wrote-whole c.write_whole.result c.write_whole.ensures.whole (sym c.is_err.ensures.value ∙ c.if-is_err.false))))
 
@@ -100,7 +109,7 @@ returns-then-is_err-2-clause-told g c =
     let kept = paged c.keep.new.self in
     let is = c.in_ok-keep.ensures.kept in
     let bytes = same-doubts page kept c.args.key c.as_bytes-2.result.now is
-    (c.as_bytes-2.ensures.value ∙ c.in_ok-told.ensures ∙ ap (λ (ks : List Heard). doubts_text (kept.count + 1) ks) c.deref.ensures.value) in
+    (c.as_bytes-2.ensures.value ∙ c.in_ok-told.ensures ∙ ap (λ (ks : List Heard). doubts_text (kept.count + 1) ks) c.deref-2.ensures.value) in
     entry-told-begun (page.count + 1) (kept.count + 1) (page.begun ++ c.args.key ∷ []) c.as_bytes-2.result.now bytes
     (told_parts (kept.count + 1)) page_fault.Tell _ _ c.write_whole-2.ensures.beginning
 
@@ -109,11 +118,11 @@ returns-clause-page g c =
     let page = paged c.args.self.now in
     let kept = paged c.keep.new.self in
     let is = c.in_ok-keep.ensures.kept in
-    let digits = digits_in (drop 1 page.begun) in
-    of-page page kept c.args.key digits (λ numbers. text_after c.text_of.new.against kept.line kept.trunk (kept.count + 1) numbers) (Ok tt)
+    let entry = placed_of page.begun in
+    of-page page kept c.args.key entry (λ later. text_after c.text_of.new.against kept.line kept.trunk (kept.count + 1) later) (Ok tt)
     (g.W.Write.contents c.args.out.now) (g.W.Write.contents c.write_whole.new.out) is
-    (entry-whole kept c.text_of.new.against digits c.deref-2.result.now (string_bytes c.in_ok-text.text)
-    c.as_bytes.result.now (same-marks page kept c.args.key _ is (c.deref-2.ensures.value ∙ c.in_ok-marks.ensures)) c.in_ok-text.ensures c.as_bytes.ensures.value _ _
+    (entry-whole kept c.text_of.new.against entry c.deref-3.result.now (string_bytes c.in_ok-text.text)
+    c.as_bytes.result.now (same-marks page kept c.args.key _ is (c.deref-3.ensures.value ∙ c.in_ok-marks.ensures)) (told-at-began page kept.against c.text_of.new.against c.deref.result.now c.began_ms-at.result _ _ _ _ c.deref.ensures.value c.began_ms-at.ensures c.in_ok-text.ensures) c.as_bytes.ensures.value _ _
     (wrote-whole c.write_whole.result c.write_whole.ensures.whole (sym c.is_err.ensures.value ∙ c.if-is_err.false)))
 
 pub returns-clause-told : goal.returns-clause-told
@@ -122,7 +131,7 @@ returns-clause-told g c =
     let kept = paged c.keep.new.self in
     let is = c.in_ok-keep.ensures.kept in
     let bytes = same-doubts page kept c.args.key c.as_bytes-2.result.now is
-    (c.as_bytes-2.ensures.value ∙ c.in_ok-told.ensures ∙ ap (λ (ks : List Heard). doubts_text (kept.count + 1) ks) c.deref.ensures.value) in
+    (c.as_bytes-2.ensures.value ∙ c.in_ok-told.ensures ∙ ap (λ (ks : List Heard). doubts_text (kept.count + 1) ks) c.deref-2.ensures.value) in
     entry-told (page.count + 1) (kept.count + 1) (page.begun ++ c.args.key ∷ []) c.as_bytes-2.result.now bytes
     (ap (λ (p : Paged). p.count + 1) is) _ _
     (wrote-whole c.write_whole-2.result c.write_whole-2.ensures.whole (sym c.is_err-2.ensures.value ∙ c.if-is_err-2.false))
