@@ -4,6 +4,7 @@ pub mod RowLemmas
 pub mod WrittenSeconds
 pub mod TurnLemmas
 pub mod WrittenEdges
+pub mod EdgeLines
 pub mod LostEdges
 pub mod NamedLines
 pub mod WrittenRows

@@ -1,234 +1,21 @@
 -- Edges that are lost.
-use Rattle.std.proofs.Common.{◌≡◌, ◌≢◌, ℕ, zero, suc, ◌+◌, ◌<◌, List, [], ◌∷◌, ◌++◌, Bool, true, false, cond, Option, Some, None, length, replicate, refl, ap, sym, subst, ◌∙◌, arith, eq-eqb, ne_eqb, eqb-true, not, zero-add}
+use Rattle.std.proofs.Common.{◌≡◌, ◌≢◌, ℕ, zero, suc, ◌+◌, List, [], ◌∷◌, ◌++◌, Bool, true, false, cond, Option, Some, None, length, replicate, refl, ap, sym, ◌∙◌, not, zero-add}
 use Rattle.std.specs.Prelude.{Result, Ok, Err, slice_get, ◌==◌, ◌&&◌, ◌⊎◌}
 use Rattle.std.proofs.Common.{inl, inr}
-use Rattle.std.specs.List.{flat_map}
 use Rattle.std.specs.Option.{ok_or}
 use Rattle.xb_contact.specs.declared.event.Event.{Event}
-use Rattle.xb_contact.specs.declared.event.Event.TheVariants as events
 use Rattle.xb_contact.specs.declared.event.Refusal.{Refusal}
 use Rattle.xb_contact.specs.declared.event.Refusal.TheVariants as refusals
 use Rattle.xb_contact.specs.declared.level.Level.{Level}
 use Rattle.xb_contact.specs.Holds.{same_level}
-use Rattle.xb_contact.specs.Repeats.{levels_of, repeats_after, repeats_in}
+use Rattle.xb_contact.specs.Repeats.{repeats_after, repeats_in}
 use Rattle.xb_contact.specs.Steps.{Said, is_before, result_and_then, result_map, then_later}
 use Rattle.xb_contact.proofs.StepLemmas.{line_says}
 use Rattle.xb_csv.specs.Cells.{trimmed}
-use Rattle.xb_csv.specs.Gpiomons.{EdgeSaid, GpiomonState, edge_line_says, edge_of, edge_says, edge_taken, first_kind, first_word, gpiomon_by, gpiomon_ends, gpiomon_line_says, gpiomon_says, gpiomon_with, level_taken, levels_after, named_levels, names_wire, second_kind, time_said}
-use Rattle.xb_csv.specs.LostEdges.{LostEdgesAreSaid, edge_levels, levels_by, lost_edges}
+use Rattle.xb_csv.specs.Gpiomons.{EdgeSaid, GpiomonState, edge_line_says, edge_of, edge_says, edge_taken, gpiomon_by, gpiomon_ends, gpiomon_line_says, gpiomon_says, level_taken, levels_after, named_levels, names_wire, time_said}
+use Rattle.xb_csv.specs.LostEdges.{LostEdgesAreSaid, edge_levels, levels_by}
 use Rattle.xb_csv.specs.Seconds.{nanoseconds_of}
-
--- what is said of a wire by the wires that a text names: of one before them nothing, and else that of its own name
-named-later :
-    (wire i : ℕ) (text : List ℕ) (level : Level) (names : List (List ℕ)) → wire < i
-    → levels_of wire (named_levels i text level names) ≡ []
-named-later wire i text level [] below = refl
-named-later wire i text level (name ∷ rest) below =
-    let more : List Event = named_levels (i + 1) text level rest in
-    let later : levels_of wire more ≡ [] = named-later wire (i + 1) text level rest (omega arith) in
-    let other : (i == wire) ≡ false = ne_eqb i wire (λ e. absurd (omega arith)) in
-    elim (names_wire name text) as (λ t. levels_of wire (cond t (events.Level i level ∷ more) more) ≡ []) [
-      | true ↦ ap (λ t. cond t (level ∷ levels_of wire more) (levels_of wire more)) other ∙ later
-      | false ↦ later
-    ]
-
-named-own :
-    (wire i : ℕ) (text : List ℕ) (level : Level) (names : List (List ℕ)) (name : List ℕ)
-    → slice_get names wire ≡ Some name
-    → levels_of (i + wire) (named_levels i text level names) ≡ cond (names_wire name text) (level ∷ []) []
-named-own wire i text level [] name there = cc
-named-own zero i text level (own ∷ rest) name there =
-    let more : List Event = named_levels (i + 1) text level rest in
-    let is : own ≡ name = cc in
-    let at : i + 0 ≡ i = omega arith in
-    let here : (i == i) ≡ true = eq-eqb i i refl in
-    let later : levels_of i more ≡ [] = named-later i (i + 1) text level rest (omega arith) in
-    ap (λ w. levels_of w (named_levels i text level (own ∷ rest))) at
-    ∙ elim (names_wire own text) as (λ t. levels_of i (cond t (events.Level i level ∷ more) more) ≡ cond t (level ∷ []) []) [
-      | true ↦ ap (λ t. cond t (level ∷ levels_of i more) (levels_of i more)) here ∙ ap (λ l. level ∷ l) later
-      | false ↦ later
-    ]
-    ∙ ap (λ n. cond (names_wire n text) (level ∷ []) []) is
-named-own (suc wire) i text level (own ∷ rest) name there =
-    let more : List Event = named_levels (i + 1) text level rest in
-    let at : i + 1 + wire ≡ i + suc wire = omega arith in
-    let later : levels_of (i + suc wire) more ≡ cond (names_wire name text) (level ∷ []) [] =
-    ap (λ w. levels_of w more) (sym at) ∙ named-own wire (i + 1) text level rest name there in
-    let other : (i == (i + suc wire)) ≡ false = ne_eqb i (i + suc wire) (λ e. absurd (omega arith)) in
-    elim (names_wire own text) as (λ t. levels_of (i + suc wire) (cond t (events.Level i level ∷ more) more) ≡ cond (names_wire name text) (level ∷ []) []) [
-      | true ↦ ap (λ t. cond t (level ∷ levels_of (i + suc wire) more) (levels_of (i + suc wire) more)) other ∙ later
-      | false ↦ later
-    ]
-
--- what is said of a wire one after the other
-levels-append :
-    (wire : ℕ) (said later : List Event) → levels_of wire (said ++ later) ≡ levels_of wire said ++ levels_of wire later
-levels-append wire [] later = refl
-levels-append wire (events.Ticks scale ∷ said) later = levels-append wire said later
-levels-append wire (events.At tick ∷ said) later = levels-append wire said later
-levels-append wire (events.Level other level ∷ said) later =
-    let rest : levels_of wire (said ++ later) ≡ levels_of wire said ++ levels_of wire later = levels-append wire said later in
-    elim (other == wire) as (λ t. cond t (level ∷ levels_of wire (said ++ later)) (levels_of wire (said ++ later)) ≡ cond t (level ∷ levels_of wire said) (levels_of wire said) ++ levels_of wire later) [
-      | true ↦ ap (λ l. level ∷ l) rest
-      | false ↦ rest
-    ]
-
-time-quiet :
-    (wire : ℕ) (last : Option ℕ) (time : ℕ) (said : List Event) → levels_of wire (time_said last time ++ said) ≡ levels_of wire said
-time-quiet wire None time said = refl
-time-quiet wire (Some last) time said = refl
-
--- an edge that was said
-record IsEdge
-    (lossy : Bool) (names : List (List ℕ)) (levels : List (Option Level)) (last : Option ℕ) (edge : EdgeSaid) (time : ℕ)
-    (said : List Event × GpiomonState) : Type 0 where
-  new : List (Option Level)
-  order : is_before time last ≡ false
-  taken : levels_after lossy edge.wire edge.level names levels ≡ Ok new
-  is : said ≡ (time_said last time ++ named_levels 0 edge.wire edge.level names, gpiomon_by lossy names new (Some time))
-
-edge-is :
-    (lossy : Bool) (names : List (List ℕ)) (levels : List (Option Level)) (last : Option ℕ) (edge : EdgeSaid) (time : ℕ)
-    (said : List Event × GpiomonState)
-    → edge_says (gpiomon_by lossy names levels last) edge time ≡ Ok said → IsEdge lossy names levels last edge time said
-edge-is lossy names levels last edge time said e =
-    at (is_before time last) (levels_after lossy edge.wire edge.level names levels) refl refl e
-  where
-    at :
-        (before : Bool) (after : Result (List (Option Level)) Refusal) → is_before time last ≡ before
-        → levels_after lossy edge.wire edge.level names levels ≡ after
-        → cond before (Err refusals.Backwards) (result_map (λ new. (time_said last time ++ named_levels 0 edge.wire edge.level names, gpiomon_by lossy names new (Some time))) after) ≡ Ok said
-        → IsEdge lossy names levels last edge time said
-    at true after order taken e = cc
-    at false (Err refusal) order taken e = cc
-    at false (Ok new) order taken e =
-        let is : (time_said last time ++ named_levels 0 edge.wire edge.level names, gpiomon_by lossy names new (Some time)) ≡ said = cc in
-        record { new = new; order = order; taken = taken; is = sym is }
-
--- a line that was said: it is empty, or an edge
-record IsEdgeLine
-    (lossy : Bool) (names : List (List ℕ)) (levels : List (Option Level)) (last : Option ℕ) (line : List ℕ)
-    (said : List Event × GpiomonState) : Type 0 where
-  edge : EdgeSaid
-  time : ℕ
-  some : (length (trimmed line) == 0) ≡ false
-  found : edge_of (trimmed line) ≡ Some edge
-  clock : nanoseconds_of edge.time ≡ Some time
-  is : IsEdge lossy names levels last edge time said
-
-abbrev IsEmpty :
-    Bool → List (List ℕ) → List (Option Level) → Option ℕ → List ℕ → List Event × GpiomonState → Type 0
-IsEmpty lossy names levels last line said =
-    ((length (trimmed line) == 0) ≡ true) × (said ≡ ([], gpiomon_by lossy names levels last))
-
-line-is :
-    (lossy : Bool) (names : List (List ℕ)) (levels : List (Option Level)) (last : Option ℕ) (line : List ℕ)
-    (said : List Event × GpiomonState)
-    → gpiomon_line_says (gpiomon_by lossy names levels last) line ≡ Ok said
-    → IsEmpty lossy names levels last line said ⊎ IsEdgeLine lossy names levels last line said
-line-is lossy names levels last line said e = at (length (trimmed line) == 0) (edge_of (trimmed line)) refl refl e
-  where
-    by :
-        (edge : EdgeSaid) (clock : Option ℕ) → (length (trimmed line) == 0) ≡ false → edge_of (trimmed line) ≡ Some edge
-        → nanoseconds_of edge.time ≡ clock
-        → result_and_then (λ time. edge_says (gpiomon_by lossy names levels last) edge time) (ok_or clock refusals.Time) ≡ Ok said
-        → IsEdgeLine lossy names levels last line said
-    by edge None some found clock e = cc
-    by edge (Some time) some found clock e =
-        record { edge = edge; time = time; some = some; found = found; clock = clock; is = edge-is lossy names levels last edge time said e }
-
-    at :
-        (empty : Bool) (found : Option EdgeSaid) → (length (trimmed line) == 0) ≡ empty → edge_of (trimmed line) ≡ found
-        → cond empty (Ok ([], gpiomon_by lossy names levels last)) (result_and_then (λ edge. result_and_then (λ time. edge_says (gpiomon_by lossy names levels last) edge time) (ok_or (nanoseconds_of edge.time) refusals.Time)) (ok_or found refusals.Edge)) ≡ Ok said
-        → IsEmpty lossy names levels last line said ⊎ IsEdgeLine lossy names levels last line said
-    at true found empty is e = inl (empty, (let nothing : said ≡ ([], gpiomon_by lossy names levels last) = cc in nothing))
-    at false None empty is e = cc
-    at false (Some edge) empty is e = inr (by edge (nanoseconds_of edge.time) empty is refl e)
-
--- what lines say: the first, and then the rest
-record AreSaid (state : GpiomonState) (line : List ℕ) (rest : List (List ℕ)) (events : List Event) : Type 0 where
-  said : List Event × GpiomonState
-  later : List Event
-  first : gpiomon_line_says state line ≡ Ok said
-  then : gpiomon_says said.1 rest ≡ Ok later
-  are : events ≡ said.0 ++ later
-
-lines-are :
-    (state : GpiomonState) (line : List ℕ) (rest : List (List ℕ)) (events : List Event)
-    → gpiomon_says state (line ∷ rest) ≡ Ok events → AreSaid state line rest events
-lines-are state line rest events e = at (gpiomon_line_says state line) refl e
-  where
-    by :
-        (said : List Event × GpiomonState) (later : Result (List Event) Refusal) → gpiomon_line_says state line ≡ Ok said
-        → gpiomon_says said.1 rest ≡ later → then_later said.0 later ≡ Ok events → AreSaid state line rest events
-    by said (Err refusal) first after e = cc
-    by said (Ok later) first after e =
-        let are : said.0 ++ later ≡ events = cc in
-        record { said = said; later = later; first = first; then = after; are = sym are }
-
-    at :
-        (first : Said GpiomonState) → gpiomon_line_says state line ≡ first
-        → result_and_then (λ said. then_later said.0 (gpiomon_says said.1 rest)) first ≡ Ok events
-        → AreSaid state line rest events
-    at (Err refusal) is e = cc
-    at (Ok said) is e = by said (gpiomon_says said.1 rest) is refl e
-
--- an empty line is no edge
-is-empty : (text : List ℕ) → (length text == 0) ≡ true → text ≡ []
-is-empty [] e = refl
-is-empty (byte ∷ text) e = absurd (omega (arith, eqb-true (length (byte ∷ text)) 0 e))
-
-no-edge : edge_of [] ≡ None
-unfolding first_kind first_word second_kind trimmed
-no-edge = refl
-
--- what a line says of a wire
-line-levels :
-    (lossy : Bool) (names : List (List ℕ)) (levels : List (Option Level)) (last : Option ℕ) (line : List ℕ)
-    (said : List Event × GpiomonState) (wire : ℕ) (name : List ℕ) → slice_get names wire ≡ Some name
-    → IsEmpty lossy names levels last line said ⊎ IsEdgeLine lossy names levels last line said
-    → levels_of wire said.0 ≡ levels_by name (edge_of (trimmed line))
-line-levels lossy names levels last line said wire name there (inl empty) =
-    ap (λ s. levels_of wire s.0) empty.1
-    ∙ sym (ap (λ t. levels_by name (edge_of t)) (is-empty (trimmed line) empty.0) ∙ ap (levels_by name) no-edge)
-line-levels lossy names levels last line said wire name there (inr it) =
-    ap (λ s. levels_of wire s.0) it.is.is
-    ∙ time-quiet wire last it.time (named_levels 0 it.edge.wire it.edge.level names)
-    ∙ ap (λ w. levels_of w (named_levels 0 it.edge.wire it.edge.level names)) (sym (zero-add wire))
-    ∙ named-own wire 0 it.edge.wire it.edge.level names name there
-    ∙ sym (ap (levels_by name) it.found)
-
--- the state after a line
-abbrev IsOf : Bool → List (List ℕ) → GpiomonState → Type 0
-IsOf lossy names state = (levels : List (Option Level)) × (last : Option ℕ) × (state ≡ gpiomon_by lossy names levels last)
-
-state-after :
-    (lossy : Bool) (names : List (List ℕ)) (levels : List (Option Level)) (last : Option ℕ) (line : List ℕ)
-    (said : List Event × GpiomonState)
-    → IsEmpty lossy names levels last line said ⊎ IsEdgeLine lossy names levels last line said
-    → IsOf lossy names said.1
-state-after lossy names levels last line said (inl empty) = (levels, last, ap (λ s. s.1) empty.1)
-state-after lossy names levels last line said (inr it) = (it.is.new, Some it.time, ap (λ s. s.1) it.is.is)
-
--- so what is said of a wire are its edges
-edges-said :
-    (lossy : Bool) (names : List (List ℕ)) (wire : ℕ) (name : List ℕ) → slice_get names wire ≡ Some name
-    → (lines : List (List ℕ)) (levels : List (Option Level)) (last : Option ℕ) (events : List Event)
-    → gpiomon_says (gpiomon_by lossy names levels last) lines ≡ Ok events
-    → levels_of wire events ≡ edge_levels name lines
-edges-said lossy names wire name there [] levels last events e =
-    let none : [] ≡ events = cc in
-    ap (levels_of wire) (sym none)
-edges-said lossy names wire name there (line ∷ rest) levels last events e =
-    let them = lines-are (gpiomon_by lossy names levels last) line rest events e in
-    let first = line-is lossy names levels last line them.said them.first in
-    let now = state-after lossy names levels last line them.said first in
-    let later : gpiomon_says (gpiomon_by lossy names now.0 now.1) rest ≡ Ok them.later =
-    ap (λ s. gpiomon_says s rest) (sym now.2) ∙ them.then in
-    ap (levels_of wire) them.are
-    ∙ levels-append wire them.said.0 them.later
-    ∙ ap (λ l. l ++ levels_of wire them.later) (line-levels lossy names levels last line them.said wire name there first)
-    ∙ ap (λ l. levels_by name (edge_of (trimmed line)) ++ l) (edges-said lossy names wire name there rest now.0 now.1 them.later later)
+use Rattle.xb_csv.proofs.EdgeLines.{AreSaid, IsEdgeLine, IsEmpty, edges_said, is_empty, line_is, lines_are, no_edge, state_after}
 
 -- the levels after an edge: of the first wire, and of the others
 record AreTaken
@@ -327,8 +114,8 @@ none-lost :
     → repeats_from own (edge_levels name lines) ≡ 0
 none-lost names wire name there [] levels last events own known e = no-repeat own
 none-lost names wire name there (line ∷ rest) levels last events own known e =
-    let them = lines-are (gpiomon_by false names levels last) line rest events e in
-    at them (line-is false names levels last line them.said them.first)
+    let them = lines_are (gpiomon_by false names levels last) line rest events e in
+    at them (line_is false names levels last line them.said them.first)
     (λ now. none-lost names wire name there rest now)
   where
     at :
@@ -339,7 +126,7 @@ none-lost names wire name there (line ∷ rest) levels last events own known e =
         → repeats_from own (edge_levels name rest) ≡ 0)
         → repeats_from own (edge_levels name (line ∷ rest)) ≡ 0
     at them (inl empty) later =
-        let nothing : edge_of (trimmed line) ≡ None = ap edge_of (is-empty (trimmed line) empty.0) ∙ no-edge in
+        let nothing : edge_of (trimmed line) ≡ None = ap edge_of (is_empty (trimmed line) empty.0) ∙ no_edge in
         ap (λ found. repeats_from own (levels_by name found ++ edge_levels name rest)) nothing
         ∙ later levels last them.later own known (ap (λ s. gpiomon_says s.1 rest) (sym empty.1) ∙ them.then)
     at them (inr it) later =
@@ -409,8 +196,8 @@ reads-same :
     → gpiomon_says (gpiomon_by true names levels last) lines ≡ Ok events
 reads-same names [] levels last events e = e
 reads-same names (line ∷ rest) levels last events e =
-    let them = lines-are (gpiomon_by false names levels last) line rest events e in
-    at them (line-is false names levels last line them.said them.first) (λ now. reads-same names rest now)
+    let them = lines_are (gpiomon_by false names levels last) line rest events e in
+    at them (line_is false names levels last line them.said them.first) (λ now. reads-same names rest now)
   where
     at :
         (them : AreSaid (gpiomon_by false names levels last) line rest events)
@@ -525,14 +312,14 @@ never-lost names (line ∷ rest) levels last refusal e =
         let same : own ≡ refusal = cc in
         other-line names levels last line refusal (is ∙ ap (λ r. Err r) same)
     at (Ok said) is e later =
-        let now = state-after true names levels last line said (line-is true names levels last line said is) in
+        let now = state_after true names levels last line said (line_is true names levels last line said is) in
         later now.0 now.1 refusal
         (ap (λ s. gpiomon_says s rest) (sym now.2) ∙ by said.0 (gpiomon_says said.1 rest) e)
 
 pub lost_edges_are_said : LostEdgesAreSaid
 lost_edges_are_said = record {
   levels = λ lossy names lines events wire name e there.
-      edges-said lossy names wire name there lines (replicate (length names) None) None events e;
+      edges_said lossy names wire name there lines (replicate (length names) None) None events e;
   none = λ names lines events wire name e there.
       none-lost names wire name there lines (replicate (length names) None) None events None
       (nothing-known names wire name there) e;

@@ -1,8 +1,9 @@
 -- The whole of what is written of a recording.
 use Rattle.std.proofs.Common.{◌≡◌, ℕ, List, [], ◌++◌, Option, Some, None, refl, ap, sym, subst, ◌∙◌, append_assoc, append-nil, inl, inr, string_bytes}
-use Rattle.std.specs.Prelude.{IfNone, IfSome}
+use Rattle.std.specs.Prelude.{IfErr, IfNone, IfOk, IfSome, Result}
 use Rattle.std.specs.Io.KnownBytes.{Appends, Consumes, prepend_known}
 use Rattle.std.proofs.KnownBytes.{Appends-trans, Keeps-refl}
+use Rattle.std.proofs.lemmas.Result.{IfErr-weaker, IfOk-weaker}
 use Rattle.xb_text.specs.Writing.{AppendsBeginning}
 use Rattle.xb_text.proofs.Beginnings.{AppendsBeginning-first, AppendsBeginning-second}
 use Rattle.xb_contact.specs.declared.event.Event.{Event}
@@ -215,3 +216,24 @@ module _ {C G : Type 0} (kind : Follower C G) (header : List ℕ) (request : Req
       whole_listens beginning told (Some rest) after (Some text) read is e =
           let P : List ℕ → Type 0 = λ t. Ends kind fed request.said told t begun after in
           listens text told after is (subst P (sym read) e)
+
+  -- what the result of all that follows says
+  pub whole_told :
+      {T : Type 0} (bytes_of : T → List ℕ) (fed : Intake C G) (mid headed begun left after : Option (List ℕ))
+      (beginning bytes : List ℕ) (result : Result T RecordingFault)
+      → Appends out mid before → Appends mid headed header → Appends headed begun (string_bytes intake.text)
+      → fed.reader ≡ intake.reader → watch_of fed.lines ≡ watch_of intake.lines
+      → Consumes input left bytes → beginning ≡ bytes
+      → IfOk result (λ told. EndsOf kind fed request.said (bytes_of told) (prepend_known beginning left) begun after)
+      → IfErr result (λ fault. StopsOf kind fed (prepend_known beginning left) fault begun after)
+      → IfOk result (λ told. ListensTo kind header request before (bytes_of told) input out after)
+      × IfErr result (λ fault. FailsToListen kind header request before fault input out after)
+  whole_told bytes_of fed mid headed begun left after beginning bytes result first second third reader known read same ends stops =
+      let K : List ℕ → Type 0 = λ b. Consumes input left b in
+      let own : K beginning = subst K (sym same) read in
+      let wrote = all_before mid headed begun first second third in (
+        IfOk-weaker result _ _
+            (λ told e. whole_listens fed reader known begun wrote beginning (bytes_of told) left after input own form e) ends,
+        IfErr-weaker result _ _
+            (λ fault s. whole_fails fed reader known begun wrote beginning left after input fault own form s) stops,
+      )

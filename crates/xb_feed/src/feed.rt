@@ -63,10 +63,12 @@ fn take_all_events<G: Copy, C: Follow<G> + Drop>(
     events: &[Event],
     text: &mut String,
 ) -> Result<bool, AllocError>
-    ensures taken { IfOk result (λ taken. taken ≡ true → PutsDown C.rules (string_bytes text.old)
-        (watch_of lines.old) events.now (string_bytes text.new) (watch_of lines.new)) }
-    ensures late { IfOk result (λ taken. taken ≡ false → PutsDownUntilLate C.rules (string_bytes text.old)
-        (watch_of lines.old) events.now (string_bytes text.new)) }
+    ensures taken { IfOk result (λ taken. taken ≡ true
+        → PutsDown C.rules (string_bytes text.old) (watch_of lines.old) events.now
+        (string_bytes text.new) (watch_of lines.new)) }
+    ensures late { IfOk result (λ taken. taken ≡ false
+        → PutsDownUntilLate C.rules (string_bytes text.old) (watch_of lines.old) events.now
+        (string_bytes text.new)) }
 {
     for event in events {
         if !lines.take(*event, text)? {
@@ -261,7 +263,8 @@ impl<'a, G: Copy + Drop, C: Follow<G> + Drop> Intake<'a, C, G> {
         requires { string_bytes self.old.text ≡ [] }
         ensures ends { IfOk result (λ told.
             Ends C.rules self.old said (string_bytes told) [] (W.contents out.old) (W.contents out.new)) }
-        ensures fault { IfErr result (λ fault. Stops C.rules self.old.reader (watch_of self.old.lines) [] fault
+        ensures fault { IfErr result (λ fault.
+            Stops C.rules self.old.reader (watch_of self.old.lines) [] fault
             (W.contents out.old) (W.contents out.new)) }
     {
         self.take_end()?;

@@ -40,7 +40,8 @@ fn begun<G: Copy, C: Follow<G>>(
     tick: u64,
     level: Level,
 ) -> Option<C>
-    ensures contact { IfSome result (λ contact. contact ≡ begun_contact C.rules manner common scale tick level) }
+    ensures contact { IfSome result (λ contact.
+        contact ≡ begun_contact C.rules manner common scale tick level) }
     ensures can { IsSome result ↔ CanBegin manner scale }
 {
     let least = ticks_of(scale, manner.settle_ms)?;
@@ -140,7 +141,8 @@ pub(crate) fn note<G, C: Follow<G>>(
     scale: Scale,
     notes: &mut String,
 ) -> Result<(), AllocError>
-    ensures { OnOk result (string_bytes notes.new ≡ string_bytes notes.old ++ line_noted C.rules scale line.now) }
+    ensures { OnOk result (string_bytes notes.new
+        ≡ string_bytes notes.old ++ line_noted C.rules scale line.now) }
 {
     match &line.contact {
         Some(contact) => contact.note(scale, line.number, notes),

@@ -167,13 +167,18 @@ impl<C, G> Lines<C, G> {
 impl<G: Copy, C: Follow<G> + Drop> Lines<C, G> {
     // All lines hold their levels up to this tick. It says false where the time is too late.
     fn hold_until(&mut self, tick: u64, text: &mut String) -> Result<bool, AllocError>
-        ensures text { IfOk result (λ taken. taken ≡ true → string_bytes text.new ≡ string_bytes text.old
+        ensures text { IfOk result (λ taken. taken ≡ true
+            → string_bytes text.new ≡ string_bytes text.old
             ++ flat_map C.rules.text (told_until C.rules tick (watch_of self.old).lines)) }
-        ensures held { IfOk result (λ taken. taken ≡ true → watch_of self.new
-            ≡ record (watch_of self.old) { lines = all_held C.rules tick (watch_of self.old).lines; now = tick }) }
+        ensures held { IfOk result (λ taken. taken ≡ true
+            → watch_of self.new ≡ record (watch_of self.old) {
+              lines = all_held C.rules tick (watch_of self.old).lines;
+              now = tick;
+            }) }
         ensures can { IfOk result (λ taken.
             taken ≡ true ↔ CanHear C.rules (watch_of self.old) (Event.At tick)) }
-        ensures kept { IfOk result (λ taken. taken ≡ false → string_bytes text.new ≡ string_bytes text.old) }
+        ensures kept { IfOk result (λ taken. taken ≡ false
+            → string_bytes text.new ≡ string_bytes text.old) }
     {
         if !can_all_reach::<G, C>(&self.lines, tick) || !self.comes_soon(tick) {
             return Ok(false);
@@ -187,7 +192,8 @@ impl<G: Copy, C: Follow<G> + Drop> Lines<C, G> {
     fn change(&mut self, wire: usize, level: Level) -> bool
         ensures changed { result ≡ true → watch_of self.new
             ≡ level_heard C.rules (watch_of self.old) (watch_of self.old).scale wire level }
-        ensures can { result ≡ true ↔ CanChangeWire (watch_of self.old).scale wire (watch_of self.old).lines }
+        ensures can { result ≡ true
+            ↔ CanChangeWire (watch_of self.old).scale wire (watch_of self.old).lines }
     {
         let Some(scale) = self.scale else {
             return false;
@@ -198,12 +204,14 @@ impl<G: Copy, C: Follow<G> + Drop> Lines<C, G> {
     /// What a recording says next. It says false where the time cannot be counted, or comes over 100 days after the one
     /// before.
     pub(crate) fn take(&mut self, event: Event, text: &mut String) -> Result<bool, AllocError>
-        ensures text { IfOk result (λ taken. taken ≡ true → string_bytes text.new ≡ string_bytes text.old
+        ensures text { IfOk result (λ taken. taken ≡ true
+            → string_bytes text.new ≡ string_bytes text.old
             ++ flat_map C.rules.text (event_told C.rules (watch_of self.old) event)) }
         ensures heard { IfOk result (λ taken. taken ≡ true
             → watch_of self.new ≡ heard_event C.rules (watch_of self.old) event) }
         ensures can { IfOk result (λ taken. taken ≡ true ↔ CanHear C.rules (watch_of self.old) event) }
-        ensures kept { IfOk result (λ taken. taken ≡ false → string_bytes text.new ≡ string_bytes text.old) }
+        ensures kept { IfOk result (λ taken. taken ≡ false
+            → string_bytes text.new ≡ string_bytes text.old) }
     {
         match event {
             Event::Ticks(scale) => {

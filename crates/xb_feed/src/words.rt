@@ -85,7 +85,8 @@ fn is_among(number: LineNo, lines: &[AskedLine]) -> bool
 impl<'a> Wires<'a> {
     // The wire of a word more. No line may stand twice.
     fn add(&mut self, all: Own, word: &'a str) -> Result<(), WordsFault>
-        ensures added { OnOk result (wire_added all (wires_in self.old) word.now ≡ Some (wires_in self.new)) }
+        ensures added { OnOk result
+            (wire_added all (wires_in self.old) word.now ≡ Some (wires_in self.new)) }
         ensures refused { IfErr result (λ f. f ≡ WordsFault.Refused
             → wire_added all (wires_in self.old) word.now ≡ None) }
     {

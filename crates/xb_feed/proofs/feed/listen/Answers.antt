@@ -1,8 +1,6 @@
-use Rattle.std.proofs.Common.{◌≡◌, ℕ, List, Err, refl, rules, string_bytes, subst, sym}
-use Rattle.std.specs.Io.KnownBytes.{Consumes}
-use Rattle.std.proofs.lemmas.Result.{IfErr-weaker, IfOk-weaker}
+use Rattle.std.proofs.Common.{◌≡◌, Err, refl, rules, string_bytes}
 use Rattle.xb_feed.specs.declared.fault.RecordingFault.TheVariants.{Write}
-use Rattle.xb_feed.proofs.Listened.{all_before, before_unwritten, cannot_begin, form_of, form_untold, header_unwritten, rows_unwritten, whole_fails, whole_listens}
+use Rattle.xb_feed.proofs.Listened.{before_unwritten, cannot_begin, form_of, form_untold, header_unwritten, rows_unwritten, whole_told}
 use Rattle.xb_feed.proofs.feed.listen.Goals as goal
 
 pub returns-in_err-beginning-clause-fault : goal.returns-in_err-beginning-clause-fault
@@ -59,40 +57,28 @@ take_whole-requires g c = c.in_ok-write.ensures.none_left
 
 pub returns-clause-listens : goal.returns-clause-listens
 returns-clause-listens g c =
-    let input = g.R.Read.remaining c.args.input.now in
-    let out = g.W.Write.contents c.args.out.now in
-    let form = form_of c.args.request.now c.in_ok-beginning.format input c.in_ok-beginning.ensures.asked
-    c.in_ok-beginning.ensures.told in
-    let starts = c.in_ok-feed.ensures.starts in
-    let left = g.R.Read.remaining c.beginning_of.new.input in
-    let K : List ℕ → Type 0 = λ bytes. Consumes input left bytes in
-    let read : K c.deref.result.now = subst K (sym c.deref.ensures.value) c.in_ok-beginning.ensures.read in
-    let begun = all_before g.C.Follow.rules c.args.header.now c.args.request.now c.args.before.now c.in_ok-beginning.format c.in_ok-feed.feed starts input form out
-    (g.W.Write.contents c.write_whole.new.out) (g.W.Write.contents c.write_whole-2.new.out) (g.W.Write.contents c.write.new.out)
-    c.in_ok-write_whole.ensures.whole c.in_ok-write_whole-2.ensures.whole c.in_ok-write.ensures.wrote in
-    IfOk-weaker c.take_whole.result _ _
-    (λ told ends. whole_listens g.C.Follow.rules c.args.header.now c.args.request.now c.args.before.now c.in_ok-beginning.format c.in_ok-feed.feed starts input form
-    out c.write.new.self c.in_ok-write.ensures.reader c.in_ok-write.ensures.known (g.W.Write.contents c.write.new.out) begun
-    c.deref.result.now (string_bytes told) (g.R.Read.remaining c.beginning_of.new.input)
-    (g.W.Write.contents c.take_whole.new.out) input read form ends)
-    c.take_whole.ensures.ends
+    (whole_told g.C.Follow.rules c.args.header.now c.args.request.now c.args.before.now c.in_ok-beginning.format c.in_ok-feed.feed
+    c.in_ok-feed.ensures.starts (g.R.Read.remaining c.args.input.now)
+    (form_of c.args.request.now c.in_ok-beginning.format (g.R.Read.remaining c.args.input.now)
+    c.in_ok-beginning.ensures.asked c.in_ok-beginning.ensures.told)
+    (g.W.Write.contents c.args.out.now) string_bytes c.write.new.self (g.W.Write.contents c.write_whole.new.out)
+    (g.W.Write.contents c.write_whole-2.new.out) (g.W.Write.contents c.write.new.out)
+    (g.R.Read.remaining c.beginning_of.new.input) (g.W.Write.contents c.take_whole.new.out) c.deref.result.now
+    c.in_ok-beginning.beginning.items c.take_whole.result c.in_ok-write_whole.ensures.whole
+    c.in_ok-write_whole-2.ensures.whole c.in_ok-write.ensures.wrote c.in_ok-write.ensures.reader
+    c.in_ok-write.ensures.known c.in_ok-beginning.ensures.read c.deref.ensures.value c.take_whole.ensures.ends
+    c.take_whole.ensures.fault).0
 
 pub returns-clause-fault : goal.returns-clause-fault
 returns-clause-fault g c =
-    let input = g.R.Read.remaining c.args.input.now in
-    let out = g.W.Write.contents c.args.out.now in
-    let form = form_of c.args.request.now c.in_ok-beginning.format input c.in_ok-beginning.ensures.asked
-    c.in_ok-beginning.ensures.told in
-    let starts = c.in_ok-feed.ensures.starts in
-    let left = g.R.Read.remaining c.beginning_of.new.input in
-    let K : List ℕ → Type 0 = λ bytes. Consumes input left bytes in
-    let read : K c.deref.result.now = subst K (sym c.deref.ensures.value) c.in_ok-beginning.ensures.read in
-    let begun = all_before g.C.Follow.rules c.args.header.now c.args.request.now c.args.before.now c.in_ok-beginning.format c.in_ok-feed.feed starts input form out
-    (g.W.Write.contents c.write_whole.new.out) (g.W.Write.contents c.write_whole-2.new.out) (g.W.Write.contents c.write.new.out)
-    c.in_ok-write_whole.ensures.whole c.in_ok-write_whole-2.ensures.whole c.in_ok-write.ensures.wrote in
-    IfErr-weaker c.take_whole.result _ _
-    (λ fault stops. whole_fails g.C.Follow.rules c.args.header.now c.args.request.now c.args.before.now c.in_ok-beginning.format c.in_ok-feed.feed starts input form
-    out c.write.new.self c.in_ok-write.ensures.reader c.in_ok-write.ensures.known (g.W.Write.contents c.write.new.out) begun
-    c.deref.result.now (g.R.Read.remaining c.beginning_of.new.input)
-    (g.W.Write.contents c.take_whole.new.out) input fault read form stops)
-    c.take_whole.ensures.fault
+    (whole_told g.C.Follow.rules c.args.header.now c.args.request.now c.args.before.now c.in_ok-beginning.format c.in_ok-feed.feed
+    c.in_ok-feed.ensures.starts (g.R.Read.remaining c.args.input.now)
+    (form_of c.args.request.now c.in_ok-beginning.format (g.R.Read.remaining c.args.input.now)
+    c.in_ok-beginning.ensures.asked c.in_ok-beginning.ensures.told)
+    (g.W.Write.contents c.args.out.now) string_bytes c.write.new.self (g.W.Write.contents c.write_whole.new.out)
+    (g.W.Write.contents c.write_whole-2.new.out) (g.W.Write.contents c.write.new.out)
+    (g.R.Read.remaining c.beginning_of.new.input) (g.W.Write.contents c.take_whole.new.out) c.deref.result.now
+    c.in_ok-beginning.beginning.items c.take_whole.result c.in_ok-write_whole.ensures.whole
+    c.in_ok-write_whole-2.ensures.whole c.in_ok-write.ensures.wrote c.in_ok-write.ensures.reader
+    c.in_ok-write.ensures.known c.in_ok-beginning.ensures.read c.deref.ensures.value c.take_whole.ensures.ends
+    c.take_whole.ensures.fault).1
