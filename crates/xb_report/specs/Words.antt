@@ -4,6 +4,7 @@ use Rattle.xb_model.specs.declared.dialled.Dialled.{Dialled}
 use Rattle.xb_model.specs.declared.dialled.Dialled.TheVariants as dialled
 use Rattle.xb_model.specs.declared.limits.Limits.{Limits}
 use Rattle.xb_model.specs.declared.reason.Reason.TheVariants as reason
+use Rattle.xb_model.specs.declared.signal.TheConstants.{MOST_PULSES}
 use Rattle.xb_model.specs.Page.{reason_text}
 use Rattle.xb_heard.specs.declared.fault.PulseFault.{PulseFault}
 use Rattle.xb_heard.specs.declared.fault.PulseFault.TheVariants as fault
@@ -30,6 +31,19 @@ fault_with less more limits fault.TooManyPulses ms = codes "pulse 11"
 
 abbrev pub fault_text : Limits → PulseFault → ℕ → List ℕ
 fault_text limits fault ms = fault_with (codes "<") (codes ">") limits fault ms
+
+-- the name of a fault, and the limit that it breaks: in ms, or of eleven pulses the most
+abbrev pub fault_name : PulseFault → List ℕ
+fault_name fault.ShortBreak = codes "SHORT_BREAK"
+fault_name fault.LongBreak = codes "LONG_BREAK"
+fault_name fault.ShortMake = codes "SHORT_MAKE"
+fault_name fault.TooManyPulses = codes "TOO_MANY_PULSES"
+
+abbrev pub limit_of : Limits → PulseFault → ℕ
+limit_of limits fault.ShortBreak = limits.pulse_min
+limit_of limits fault.LongBreak = limits.pulse_max
+limit_of limits fault.ShortMake = limits.make_min
+limit_of limits fault.TooManyPulses = MOST_PULSES
 
 -- whether the register takes digit k of an attempt, from 0: it takes none after a complete number, and
 -- none after a mutilated digit, before which so many good ones were heard

@@ -6,6 +6,7 @@
 //!   the number has, or after one that is spoiled. What spoils a digit is told of each, taken or not. A make
 //!   that nothing was heard after is called a time-out exactly where the attempt was refused for it.
 //! - The figures of a digit stand in columns, two blanks before each cell, whatever the width of a figure.
+//!   `push_right` puts any text in such a cell, `push_number` a number, and `push_tenths` one in tenths.
 //! - `push_head`, `push_list`, `push_section` and `push_tail` write exactly these parts of an HTML page. A
 //!   section has one table, with the report's words, and below it the picture that was handed in. The list
 //!   has a link to the section of each line that was handed in, in its order.
@@ -24,7 +25,10 @@ mod signs;
 mod words;
 
 pub use attempt::push_line;
+pub use cells::{push_figure, push_number, push_right, push_tenths};
 pub use page::{push_head, push_list, push_section, push_tail};
 pub use report::{push_attempts, push_limits};
 pub use signs::push_marked_fault;
-pub use words::{is_taken, is_timed_out, push_outcome, push_place};
+pub use words::{
+    fault_name, is_taken, is_timed_out, limit_of, push_fault, push_outcome, push_place,
+};

@@ -2,11 +2,12 @@
 ghost use Rattle.std.specs.Prelude.{◌≡◌, ◌++◌, OnOk, string_bytes};
 ghost use Rattle.xb_report.specs.Cells.{place_text};
 ghost use Rattle.xb_report.specs.ReportTexts.{spoiler_text, spoiler_with};
-ghost use Rattle.xb_report.specs.Words.{digits_text, fault_with, is_taken, is_timed_out, outcome_text};
+ghost use Rattle.xb_report.specs.Words.{digits_text, fault_name, fault_text, fault_with, is_taken, is_timed_out};
+ghost use Rattle.xb_report.specs.Words.{limit_of, outcome_text};
 
 use std::alloc::AllocError;
 use xb_heard::{PlacedRun, PulseFault, Spoiler};
-use xb_model::{Dialled, Digit, Limits, Reason};
+use xb_model::{Dialled, Digit, Limits, MOST_PULSES, Reason};
 
 // Puts digits after the text, one after the other.
 fn push_digits(out: &mut String, digits: &[Digit]) -> Result<(), AllocError>
@@ -63,6 +64,43 @@ pub(crate) fn push_fault_with(
             write!(out, "make {ms} ms {less} {least}")
         }
         PulseFault::TooManyPulses => out.push_str("pulse 11"),
+    }
+}
+
+/// Puts what is wrong with a run of so many ms after the text, and the limit: `break 131 ms > 119`. `Err` says
+/// that memory ran out.
+pub fn push_fault(
+    out: &mut String,
+    limits: Limits,
+    fault: PulseFault,
+    ms: u64,
+) -> Result<(), AllocError>
+    ensures { OnOk result (string_bytes out.new ≡ string_bytes out.old ++ fault_text limits fault ms) }
+{
+    push_fault_with(out, "<", ">", limits, fault, ms)
+}
+
+/// The name of a fault, as programs read it: `SHORT_BREAK`, `LONG_BREAK`, `SHORT_MAKE` or `TOO_MANY_PULSES`.
+pub fn fault_name(fault: PulseFault) -> &'static str
+    ensures { result.now ≡ fault_name fault }
+{
+    match fault {
+        PulseFault::ShortBreak => "SHORT_BREAK",
+        PulseFault::LongBreak => "LONG_BREAK",
+        PulseFault::ShortMake => "SHORT_MAKE",
+        PulseFault::TooManyPulses => "TOO_MANY_PULSES",
+    }
+}
+
+/// The limit that a fault breaks: in ms, or how many pulses a digit has at most.
+pub fn limit_of(limits: Limits, fault: PulseFault) -> u32
+    ensures { result ≡ limit_of limits fault }
+{
+    match fault {
+        PulseFault::ShortBreak => limits.pulse_min,
+        PulseFault::LongBreak => limits.pulse_max,
+        PulseFault::ShortMake => limits.make_min,
+        PulseFault::TooManyPulses => u32::from(MOST_PULSES),
     }
 }
 
