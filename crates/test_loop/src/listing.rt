@@ -18,6 +18,13 @@ $enddefinitions $end\n#0 0! 1\"\n#10 1!\n#20 0!\n#30 1!\n",
         b"$timescale 1 ms $end\n$var wire 1 ! D0 $end\n$var wire 1 \" D1 $end\n$enddefinitions $end\n#0 0! x\"\n",
         b"D0, D1",
     ),
+    // several declarations in one line, between blanks and tabs
+    (
+        &[],
+        b"$timescale 1 ms $end $var wire 1 ! D0 $end\t$var  wire 4 # BUS $end $var reg 1 \" D1 $end\n\
+$enddefinitions $end\n#0 0! 1\"\n#10 1!\n",
+        b"D0 (1 edge), D1 (0 edges)",
+    ),
     // a comment of sigrok, and a header of Saleae
     (
         &[],

@@ -24,9 +24,9 @@ const VCDS: &[Refused] = &[
         b"mfloop: text line 4: no word of a VCD stands there: 7,M,61\n",
     ),
     (
-        &["7=D1"],
+        &["7=D0", "--line", "8=D9", "--line", "9=D8"],
         b"$timescale 1 ms $end\n$var wire 1 ! D0 $end\n$enddefinitions $end\n",
-        b"mfloop: text line 3: no wire has a name that is asked for: $enddefinitions $end; asked for: D1\n",
+        b"mfloop: the recording has no wire D9; text line 3: no wire has a name that is asked for: $enddefinitions $end\n",
     ),
     (
         &["7=D0"],
@@ -79,7 +79,7 @@ const TABLES: &[Refused] = &[
     (
         &["7=A", "--line", "8=B,settle=0"],
         b"; Channels (1/1): A\n",
-        b"mfloop: text line 1: no wire has a name that is asked for: ; Channels (1/1): A; asked for: A, B\n",
+        b"mfloop: the recording has no wire B; text line 1: no wire has a name that is asked for: ; Channels (1/1): A\n",
     ),
     (
         &["7=A"],
@@ -157,7 +157,7 @@ const OTHERS: &[Refused] = &[
     (
         &["7=8", "--format", "bits", "--rate", "100"],
         b"\x00",
-        b"mfloop: the recording: no wire has a name that is asked for; asked for: 8\n",
+        b"mfloop: the recording has no wire 8; the recording: no wire has a name that is asked for\n",
     ),
 ];
 

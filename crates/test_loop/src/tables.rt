@@ -122,7 +122,7 @@ const REFUSED: &[(&[&str], &[u8], &[u8])] = &[
     (
         &["7=A"],
         b"; Channels (1/1): A\n; Samplerate: 12 kHz\nB\n1\n",
-        b"mfloop: text line 3: no wire has a name that is asked for: B; asked for: A\n",
+        b"mfloop: the recording has no wire A; text line 3: no wire has a name that is asked for: B\n",
     ),
     // an exponent of nothing
     (

@@ -42,9 +42,9 @@ pub enum Refusal {
     /// Several wires have a name that is asked for.
     #[error("two wires have a name that is asked for")]
     Twice,
-    /// No wire has a name that is asked for.
+    /// No wire has a name that is asked for; the first such wire, counted from 0 in the order of the names.
     #[error("no wire has a name that is asked for")]
-    NoWire,
+    NoWire(usize),
     /// A row has no such column.
     #[error("a column that is asked for is missing")]
     Columns,

@@ -19,7 +19,7 @@ use Rattle.xb_contact.proofs.Written.{AreOthers, others_differ, same_bytes}
 use Rattle.xb_csv.specs.declared.clock.Clock.{Clock}
 use Rattle.xb_csv.specs.declared.columns.TableForm.{TableForm}
 use Rattle.xb_csv.specs.Cells.{cell_number, cells_of, stands_after, trimmed}
-use Rattle.xb_csv.specs.Tables.{TableState, column_by, column_of, columns_before, columns_in, level_in, levels_from, line_of_form, row_at, row_says, row_time, table_ends, table_line_says, table_says}
+use Rattle.xb_csv.specs.Tables.{TableState, column_by, column_of, columns_before, columns_for, columns_in, level_in, levels_from, line_of_form, row_at, row_says, row_time, table_ends, table_line_says, table_says}
 use Rattle.xb_csv.specs.Written.{AreRows, TableRow, level_text, levels_said, rows_said}
 use Rattle.xb_csv.specs.WrittenTables.{AreAmong, AreLabels, IsLabel, cells_line, levels_at, names_at, rows_at, timed_lines}
 use Rattle.xb_csv.proofs.WrittenEdges.{BeginsBare, EndsBare, begins_more, ends_append, name_begins, name_ends, trimmed_same}
@@ -162,27 +162,35 @@ own-once cells k lawful within =
     ∙ ap (λ n. list_any (λ cell. bytes_eq cell name) (drop n cells)) (add-one k)
     ∙ others-none name (drop (suc k) cells) apart.1
 
-own-column : (cells : List (List ℕ)) (k : ℕ) → AreLabels cells → k < length cells → column_of (get_or cells k []) cells ≡ Ok k
-own-column cells k lawful within =
-    ap (column_by (get_or cells k []) cells) (own-number cells k lawful within)
+own-column :
+    (own : ℕ) (cells : List (List ℕ)) (k : ℕ) → AreLabels cells → k < length cells
+    → column_of own (get_or cells k []) cells ≡ Ok k
+own-column own cells k lawful within =
+    ap (column_by own (get_or cells k []) cells) (own-number cells k lawful within)
     ∙ ap (λ t. cond t (Err refusals.Twice) (Ok k)) (own-once cells k lawful within)
 
 -- the columns of wires by their names
-pub columns_found :
-    (front channels : List (List ℕ)) (wires : List ℕ) → AreLabels (front ++ channels) → AreAmong wires (length channels)
-    → columns_in (front ++ channels) (names_at channels wires) ≡ Ok (map (λ wire. wire + length front) wires)
-columns_found front channels [] lawful all = refl
-columns_found front channels (wire ∷ wires) lawful all =
+columns-found :
+    (own : ℕ) (front channels : List (List ℕ)) (wires : List ℕ) → AreLabels (front ++ channels)
+    → AreAmong wires (length channels)
+    → columns_for own (front ++ channels) (names_at channels wires) ≡ Ok (map (λ wire. wire + length front) wires)
+columns-found own front channels [] lawful all = refl
+columns-found own front channels (wire ∷ wires) lawful all =
     let cells : List (List ℕ) = front ++ channels in
     let within : length front + wire < length cells = omega (arith, length-append front channels, all.0) in
     let place : length front + wire ≡ wire + length front = omega arith in
-    let there : column_of (get_or channels wire []) cells ≡ Ok (wire + length front) =
-    ap (λ name. column_of name cells) (sym (get_or-append-add front channels wire []))
-    ∙ own-column cells (length front + wire) lawful within
+    let there : column_of own (get_or channels wire []) cells ≡ Ok (wire + length front) =
+    ap (λ name. column_of own name cells) (sym (get_or-append-add front channels wire []))
+    ∙ own-column own cells (length front + wire) lawful within
     ∙ ap Ok place in
-    let rest = columns_in cells (names_at channels wires) in
+    let rest = columns_for (own + 1) cells (names_at channels wires) in
     ap (result_and_then (λ column. result_map (λ later. column ∷ later) rest)) there
-    ∙ ap (result_map (λ later. (wire + length front) ∷ later)) (columns_found front channels wires lawful all.1)
+    ∙ ap (result_map (λ later. (wire + length front) ∷ later)) (columns-found (own + 1) front channels wires lawful all.1)
+
+pub columns_found :
+    (front channels : List (List ℕ)) (wires : List ℕ) → AreLabels (front ++ channels) → AreAmong wires (length channels)
+    → columns_in (front ++ channels) (names_at channels wires) ≡ Ok (map (λ wire. wire + length front) wires)
+columns_found front channels wires lawful all = columns-found 0 front channels wires lawful all
 
 -- the levels of wires in their columns
 get-after : (front cells : List (List ℕ)) (i : ℕ) → slice_get (front ++ cells) (length front + i) ≡ slice_get cells i

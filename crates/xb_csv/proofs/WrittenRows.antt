@@ -18,7 +18,7 @@ use Rattle.xb_csv.specs.declared.clock.Clock.TheVariants as clocks
 use Rattle.xb_csv.specs.declared.columns.TableForm.TheVariants as forms
 use Rattle.xb_csv.specs.Cells.{cells_of, trimmed}
 use Rattle.xb_csv.specs.Seconds.{nanoseconds_of}
-use Rattle.xb_csv.specs.Tables.{TableState, begins_rows, begun_table, edges_row, level_in, levels_from, line_of_form, numbered_columns, row_at, row_says, table_ends, table_line_says, table_says}
+use Rattle.xb_csv.specs.Tables.{TableState, begins_rows, begun_table, edges_row, level_in, levels_from, line_of_form, numbered_from, row_at, row_says, table_ends, table_line_says, table_says}
 use Rattle.xb_csv.specs.Written.{AreRows, TableRow, WrittenRowsAreRead, level_text, levels_said, levels_text, numbers_from, row_lines, rows_said, seconds_text}
 use Rattle.xb_csv.proofs.WrittenSeconds.{seconds_are_read, seconds_pass}
 use Rattle.xb_csv.proofs.WrittenEdges.{EndsBare, begins_more, ends_append, name_begins, name_ends, seconds_name, trimmed_same}
@@ -90,16 +90,16 @@ abbrev columns_from : ℕ → ℕ → List ℕ
 columns_from column zero = []
 columns_from column (suc more) = column ∷ columns_from (column + 1) more
 
-columns-read : (column count : ℕ) → 0 < column → column + count ≤ 65536
-    → numbered_columns (numbers_from column count) ≡ Ok (columns_from column count)
-columns-read column zero some few = refl
-columns-read column (suc more) some few =
-    let rest = numbered_columns (numbers_from (column + 1) more) in
+columns-read : (wire column count : ℕ) → 0 < column → column + count ≤ 65536
+    → numbered_from wire (numbers_from column count) ≡ Ok (columns_from column count)
+columns-read wire column zero some few = refl
+columns-read wire column (suc more) some few =
+    let rest = numbered_from (wire + 1) (numbers_from (column + 1) more) in
     let within : (nat_lt 0 column && nat_lt column 65536) ≡ true = grind (arith, nat_tests) in
     ap (λ number. result_and_then (λ own. result_map (λ later. own ∷ later) rest)
-    (ok_or (option_and_then (λ n. cond (nat_lt 0 n && nat_lt n 65536) (Some n) None) number) refusals.NoWire)) (number_is_read column (omega arith))
-    ∙ ap (λ t. result_and_then (λ own. result_map (λ later. own ∷ later) rest) (ok_or (cond t (Some column) None) refusals.NoWire)) within
-    ∙ ap (result_map (λ later. column ∷ later)) (columns-read (column + 1) more (omega arith) (omega arith))
+    (ok_or (option_and_then (λ n. cond (nat_lt 0 n && nat_lt n 65536) (Some n) None) number) (refusals.NoWire wire))) (number_is_read column (omega arith))
+    ∙ ap (λ t. result_and_then (λ own. result_map (λ later. own ∷ later) rest) (ok_or (cond t (Some column) None) (refusals.NoWire wire))) within
+    ∙ ap (result_map (λ later. column ∷ later)) (columns-read (wire + 1) (column + 1) more (omega arith) (omega arith))
 
 -- the levels of a row
 cell-there : (before after : List (List ℕ)) (cell : List ℕ) → slice_get (before ++ cell ∷ after) (length before) ≡ Some cell
@@ -193,7 +193,7 @@ written_rows_are_read wires rate row rows few all =
     line-read begun row all.2 refl
     ∙ ap (λ found. result_and_then (λ said. said_before said.0 (row_says said.1 text))
     (result_and_then (λ columns. begins_rows (record begun { columns = columns }) clocks.Seconds NANOSECONDS) found))
-    (columns-read 1 wires (omega arith) (omega arith))
+    (columns-read 0 1 wires (omega arith) (omega arith))
     ∙ ap (said_before (events.Ticks NANOSECONDS ∷ [])) (subst P all.0 (row-read rate None row late all.2 refl)) in
     line_says table_line_says table_ends begun (among wires rate (Some row.tick)) text (row_lines rows)
     (events.Ticks NANOSECONDS ∷ events.At row.tick ∷ levels_said 0 row.levels) first

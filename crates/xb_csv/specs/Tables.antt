@@ -55,17 +55,22 @@ begun_table form names rate = record {
 }
 
 -- the column of a wire: the cell that is its name, of which there is one
-abbrev pub column_by : List ℕ → List (List ℕ) → Option ℕ → Result ℕ Refusal
-column_by name cells None = Err refusals.NoWire
-column_by name cells (Some column) = if stands_after name column cells then Err refusals.Twice else Ok column
+abbrev pub column_by : ℕ → List ℕ → List (List ℕ) → Option ℕ → Result ℕ Refusal
+column_by wire name cells None = Err (refusals.NoWire wire)
+column_by wire name cells (Some column) = if stands_after name column cells then Err refusals.Twice else Ok column
 
-abbrev pub column_of : List ℕ → List (List ℕ) → Result ℕ Refusal
-column_of name cells = column_by name cells (cell_number name cells)
+abbrev pub column_of : ℕ → List ℕ → List (List ℕ) → Result ℕ Refusal
+column_of wire name cells = column_by wire name cells (cell_number name cells)
+
+-- the columns of names, from this wire on; the first fault is told
+abbrev pub columns_for : ℕ → List (List ℕ) → List (List ℕ) → Result (List ℕ) Refusal
+columns_for wire cells [] = Ok []
+columns_for wire cells (name ∷ names) =
+    result_and_then (λ column. result_map (λ rest. column ∷ rest) (columns_for (wire + 1) cells names))
+    (column_of wire name cells)
 
 abbrev pub columns_in : List (List ℕ) → List (List ℕ) → Result (List ℕ) Refusal
-columns_in cells [] = Ok []
-columns_in cells (name ∷ names) =
-    result_and_then (λ column. result_map (λ rest. column ∷ rest) (columns_in cells names)) (column_of name cells)
+columns_in cells names = columns_for 0 cells names
 
 -- a rate as `12.5 kHz` or `12500`
 abbrev pub hertz_of : List ℕ → Option ℕ
@@ -220,11 +225,14 @@ abbrev pub column_number : List ℕ → Option ℕ
 column_number name =
     option_and_then (λ n. if nat_lt 0 n && nat_lt n 65536 then Some n else None) (number_of name)
 
+abbrev pub numbered_from : ℕ → List (List ℕ) → Result (List ℕ) Refusal
+numbered_from wire [] = Ok []
+numbered_from wire (name ∷ names) =
+    result_and_then (λ column. result_map (λ rest. column ∷ rest) (numbered_from (wire + 1) names))
+    (ok_or (column_number name) (refusals.NoWire wire))
+
 abbrev pub numbered_columns : List (List ℕ) → Result (List ℕ) Refusal
-numbered_columns [] = Ok []
-numbered_columns (name ∷ names) =
-    result_and_then (λ column. result_map (λ rest. column ∷ rest) (numbered_columns names))
-    (ok_or (column_number name) refusals.NoWire)
+numbered_columns names = numbered_from 0 names
 
 abbrev pub no_header : TableState → Said TableState
 no_header state =

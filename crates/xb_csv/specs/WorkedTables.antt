@@ -88,7 +88,7 @@ pub record TablesAreRead : Type 0 where
       ≡ Ok (Ticks (scale_by 1 1000000) ∷ At (2 ^ 62 - 5000000) ∷ Level 0 Open ∷ [])
   pub late_remark : table_says of_saleae (codes "Time [s],D0,D1" ∷ codes "#1,0,1" ∷ []) ≡ Err refusals.Time
   pub twice : table_says of_saleae (codes "Time [s],D1,D1" ∷ codes "0,1,1" ∷ []) ≡ Err refusals.Twice
-  pub no_wire : table_says of_saleae (codes "Time [s],D0" ∷ codes "0,1" ∷ []) ≡ Err refusals.NoWire
+  pub no_wire : table_says of_saleae (codes "Time [s],D0" ∷ codes "0,1" ∷ []) ≡ Err (refusals.NoWire 0)
   pub edges :
       table_says of_edges (codes "1.5, 0" ∷ [] ∷ codes "1.51,1" ∷ [])
       ≡ Ok (Ticks (scale_by 1 1000000) ∷ At (2 ^ 62 + 1500000000) ∷ Level 0 Open ∷ At (2 ^ 62 + 1510000000) ∷ Level 0 Closed ∷ [])

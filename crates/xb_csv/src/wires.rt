@@ -9,8 +9,8 @@ use std::alloc::AllocError;
 use xb_contact::{Event, Refusal, level_of, number_of, say};
 
 // The column of a wire in a line with the names.
-fn column_of(line: &[u8], name: &[u8]) -> Result<u16, Refusal>
-    ensures { result ≡ column_of name.now (cells_of line.now) }
+fn column_of(line: &[u8], wire: usize, name: &[u8]) -> Result<u16, Refusal>
+    ensures { result ≡ column_of wire name.now (cells_of line.now) }
 {
     match cell_of(line, name) {
         Some(column) => {
@@ -20,11 +20,11 @@ fn column_of(line: &[u8], name: &[u8]) -> Result<u16, Refusal>
                 Ok(column)
             }
         }
-        None => Err(Refusal::NoWire),
+        None => Err(Refusal::NoWire(wire)),
     }
 }
 
-// The columns of wires in a line with their names.
+// The columns of wires in a line with their names. The first one that it lacks is told.
 pub(crate) fn find_columns(
     line: &[u8],
     names: &[&str],
@@ -36,8 +36,8 @@ pub(crate) fn find_columns(
         (columns_in (cells_of line.now) (map (λ name. name.now) names.now))) }
 {
     columns.clear();
-    for name in names {
-        match column_of(line, name.as_bytes()) {
+    for (wire, name) in names.iter().enumerate() {
+        match column_of(line, wire, name.as_bytes()) {
             Ok(column) => columns.push(column).map_err(AllocError::from)?,
             Err(refusal) => return Err(refusal),
         }
@@ -55,16 +55,17 @@ fn column_number(name: &str) -> Option<u16>
     }
 }
 
-// The columns of wires that are named by their numbers.
+// The columns of wires that are named by their numbers. The first one that is none is told.
 pub(crate) fn number_columns(names: &[&str], columns: &mut Vec<u16>) -> Result<(), Refusal>
-    ensures said { OnOk result (numbered_columns (map (λ name. name.now) names.now) ≡ Ok columns.new.items) }
+    ensures said { OnOk result
+        (numbered_columns (map (λ name. name.now) names.now) ≡ Ok columns.new.items) }
     ensures refused { IfErr result (IsRefusedBy (numbered_columns (map (λ name. name.now) names.now))) }
 {
     columns.clear();
-    for name in names {
+    for (wire, name) in names.iter().enumerate() {
         match column_number(name) {
             Some(column) => columns.push(column).map_err(AllocError::from)?,
-            None => return Err(Refusal::NoWire),
+            None => return Err(Refusal::NoWire(wire)),
         }
     }
     Ok(())

@@ -1,18 +1,26 @@
--- Whether a recording lacks a wire that is asked for.
-use Rattle.std.specs.Prelude.{Bool, false, true}
+-- Which wire a recording lacks that is asked for.
+use Rattle.std.specs.Prelude.{ℕ, List, Bool, Option, Some, None, is_some, slice_get}
+use Rattle.std.specs.Option.{option_and_then}
 use Rattle.xb_contact.specs.declared.event.Refusal.{Refusal}
 use Rattle.xb_contact.specs.declared.event.Refusal.TheVariants as refusals
 use Rattle.xb_feed.specs.declared.fault.RecordingFault.{RecordingFault}
 use Rattle.xb_feed.specs.declared.fault.RecordingFault.TheVariants as faults
 
--- whether a recording is refused since it has no wire of a name
-abbrev pub is_no_wire : Refusal → Bool
-is_no_wire refusals.NoWire = true
-is_no_wire refusal = false
+-- where a recording is refused since it has no wire of a name, the first such wire of those that are asked for
+abbrev pub missing_in : Refusal → Option ℕ
+missing_in (refusals.NoWire wire) = Some wire
+missing_in refusal = None
+
+abbrev pub missing_wire : RecordingFault → Option ℕ
+missing_wire (faults.Line number reason shown) = missing_in reason
+missing_wire (faults.Sample number reason) = missing_in reason
+missing_wire (faults.Beginning reason) = missing_in reason
+missing_wire (faults.End reason) = missing_in reason
+missing_wire fault = None
 
 abbrev pub lacks_wire : RecordingFault → Bool
-lacks_wire (faults.Line number reason shown) = is_no_wire reason
-lacks_wire (faults.Sample number reason) = is_no_wire reason
-lacks_wire (faults.Beginning reason) = is_no_wire reason
-lacks_wire (faults.End reason) = is_no_wire reason
-lacks_wire fault = false
+lacks_wire fault = is_some (missing_wire fault)
+
+-- its name, of those that are asked for
+abbrev pub missing_name : RecordingFault → List (List ℕ) → Option (List ℕ)
+missing_name fault names = option_and_then (slice_get names) (missing_wire fault)

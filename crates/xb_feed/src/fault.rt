@@ -1,6 +1,6 @@
 // Why nothing is told of a recording, or nothing further.
-ghost use Rattle.std.specs.Prelude.{◌≡◌};
-ghost use Rattle.xb_feed.specs.LackedWires.{lacks_wire};
+ghost use Rattle.std.specs.Prelude.{◌≡◌, map, option_map};
+ghost use Rattle.xb_feed.specs.LackedWires.{lacks_wire, missing_in, missing_name, missing_wire};
 
 use std::alloc::AllocError;
 use thiserror::Error;
@@ -36,20 +36,47 @@ pub enum RecordingFault {
     NoMemory,
 }
 
-/// Whether a recording is refused since it has no wire of a name.
-pub fn lacks_wire(fault: &RecordingFault) -> bool
-    ensures { result ≡ lacks_wire fault.now }
+// The wire that is missing, where that is the reason.
+fn missing_in(refusal: Refusal) -> Option<usize>
+    ensures { result ≡ missing_in refusal }
+{
+    match refusal {
+        Refusal::NoWire(wire) => Some(wire),
+        _ => None,
+    }
+}
+
+// The first wire that is asked for and missing, where a recording is refused for that.
+fn missing_wire(fault: &RecordingFault) -> Option<usize>
+    ensures { result ≡ missing_wire fault.now }
 {
     match fault {
         RecordingFault::Line(_, refusal, _)
         | RecordingFault::Sample(_, refusal)
         | RecordingFault::Beginning(refusal)
-        | RecordingFault::End(refusal) => *refusal == Refusal::NoWire,
+        | RecordingFault::End(refusal) => missing_in(*refusal),
         RecordingFault::NoLevel(_)
         | RecordingFault::Read
         | RecordingFault::Write
-        | RecordingFault::NoMemory => false,
+        | RecordingFault::NoMemory => None,
     }
+}
+
+/// Whether a recording is refused since it has no wire of a name.
+pub fn lacks_wire(fault: &RecordingFault) -> bool
+    ensures { result ≡ lacks_wire fault.now }
+{
+    missing_wire(fault).is_some()
+}
+
+/// The first of these names, which are those that are asked for, that a recording has no wire of, where it is refused
+/// for that.
+pub fn missing_name<'a>(fault: &RecordingFault, names: &[&'a str]) -> Option<&'a str>
+    ensures { option_map (λ name. name.now) result
+        ≡ missing_name fault.now (map (λ name. name.now) names.now) }
+{
+    let wire = missing_wire(fault)?;
+    names.get(wire).copied()
 }
 
 impl From<AllocError> for RecordingFault {

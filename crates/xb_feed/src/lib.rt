@@ -8,7 +8,8 @@
 //!   (`TellsForm`), each wire has had a level; and, where they are asked for, the notes of the lines. On `Err`
 //!   (`FailsToListen`) the fault is that of the reader where it stands, of a time that cannot be counted, of a wire without
 //!   a level, or of a read, a write or memory; and nothing was written, or exactly what is told of what comes before it.
-//! - A refused piece of a recording is told by its place, its reason and what stands there (`Faults`).
+//! - A refused piece of a recording is told by its place, its reason and what stands there (`Faults`). Where it lacks a wire,
+//!   the first such name of the command line is known (`missing_name`).
 //! - `Tally` (`laws::the_short_runs_are_counted`): the runs of a contact that are too short to settle, and the longest.
 //! - `request_of` (`Say`): what the words of a command line ask for of a recording: its lines, their wires, and how each
 //!   line is listened to (`OwnWords`).
@@ -30,7 +31,7 @@ mod request;
 mod tally;
 mod words;
 
-pub use fault::{RecordingFault, lacks_wire};
+pub use fault::{RecordingFault, lacks_wire, missing_name};
 pub use feed::listen;
 pub use follower::Follow;
 pub use line::ticks_of;

@@ -1,5 +1,5 @@
 -- What the program did, by its status.
-use Rattle.std.proofs.Common.{◌≡◌, ◌==◌, ℕ, List, Bool, length, Option, None, Some, false, inl, inr, refl, subst, sym, true, arith}
+use Rattle.std.proofs.Common.{◌≡◌, ◌∙◌, ◌==◌, ℕ, List, length, Option, None, Some, ap, false, inl, inr, subst, sym, true, arith}
 use Rattle.std.specs.Prelude.{IfSome}
 use Rattle.std.proofs.KnownBytes.{Keeps-refl}
 use Rattle.clap.specs.Walk.{Text}
@@ -14,8 +14,10 @@ use Rattle.xb_feed.specs.declared.fault.RecordingFault.{RecordingFault}
 use Rattle.xb_feed.specs.declared.request.Request.{Request}
 use Rattle.xb_wires.specs.declared.listing.ListFault.{ListFault}
 use Rattle.xb_loop.specs.Options.{Asks}
-use Rattle.xb_feed.specs.LackedWires.{lacks_wire}
-use Rattle.xb_loop.specs.Program.{AttendsLoop, FailsToGo, FailsToPrint, PrintsDeck, IsListed, TellsOfBounces, TellsWires, program}
+use Rattle.xb_feed.specs.LackedWires.{missing_name}
+use Rattle.xb_recording.specs.Says.{names_in}
+use Rattle.xb_wires.specs.Listing.{IsUnlisted}
+use Rattle.xb_loop.specs.Program.{AttendsLoop, FailsToGo, FailsToPrint, IsFaultOfRecording, PrintsDeck, IsListed, TellsOfBounces, TellsWires, program}
 
 -- all was written, and told or not
 pub attends_told :
@@ -38,17 +40,20 @@ attends_told files words request told old new status asks some rows (inr (is, (b
 -- the fault of a recording as it is told
 pub fails_to_print :
     (files : Bytes) (request : Request Common) (fault : RecordingFault) (told : LoopFault) (input output after : Option (List ℕ))
-    → (lacks_wire fault ≡ false → told ≡ faults.Recording fault)
-    → (lacks_wire fault ≡ true → told ≡ faults.NoWire fault request.wanted.wires)
+    → IsFaultOfRecording (names_in request.wanted) fault told
     → FailsToGo files request fault input output after → FailsToPrint files request told input output after
-fails_to_print files request fault told input output after plain names goes = by (lacks_wire fault) refl
-  where
-    P : LoopFault → Type 0
-    P it = FailsToPrint files request it input output after
-
-    by : (b : Bool) → lacks_wire fault ≡ b → P told
-    by true e = subst P (sym (names e)) (e, refl, goes)
-    by false e = subst P (sym (plain e)) (e, goes)
+fails_to_print files request fault (faults.Recording own) input output after is goes =
+    let G : RecordingFault → Type 0 = λ f. FailsToGo files request f input output after in
+    (ap (λ f. missing_name f (names_in request.wanted)) is.0 ∙ is.1, subst G (sym is.0) goes)
+fails_to_print files request fault (faults.NoWire own name) input output after is goes =
+    let G : RecordingFault → Type 0 = λ f. FailsToGo files request f input output after in
+    (ap (λ f. missing_name f (names_in request.wanted)) is.0 ∙ is.1, subst G (sym is.0) goes)
+fails_to_print files request fault (faults.Table name error) input output after is goes = absurd is
+fails_to_print files request fault (faults.Routes own) input output after is goes = absurd is
+fails_to_print files request fault (faults.NoLine listing) input output after is goes = absurd is
+fails_to_print files request fault (faults.Unlisted own) input output after is goes = absurd is
+fails_to_print files request fault faults.Tell input output after is goes = absurd is
+fails_to_print files request fault faults.NoMemory input output after is goes = absurd is
 
 -- there was a fault
 pub attends_fault :
@@ -71,13 +76,14 @@ lists_instead files request (faults.Unlisted fault) input output none tells is =
 lists_instead files request (faults.Table name error) input output none tells is = absurd is
 lists_instead files request (faults.Routes fault) input output none tells is = absurd is
 lists_instead files request (faults.Recording fault) input output none tells is = absurd is
-lists_instead files request (faults.NoWire fault names) input output none tells is = absurd is
+lists_instead files request (faults.NoWire fault name) input output none tells is = absurd is
 lists_instead files request faults.Tell input output none tells is = absurd is
 lists_instead files request faults.NoMemory input output none tells is = absurd is
 
 -- the wires could not be listed
 pub unlisted :
     (request : Request Common) (fault : ListFault) (input : Option (List ℕ))
+    → IfSome input (λ text. IsUnlisted request.format text fault)
     → IfSome input (λ text. TellsWires request text (faults.Unlisted fault))
-unlisted request fault None = tt
-unlisted request fault (Some text) = tt
+unlisted request fault None is = tt
+unlisted request fault (Some text) is = is

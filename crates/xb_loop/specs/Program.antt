@@ -1,5 +1,5 @@
 -- What the program did, by its status.
-use Rattle.std.specs.Prelude.{ℕ, ◌≡◌, ◌⊎◌, ◌++◌, ◌==◌, List, codes, length, Option, None, IfSome, false, option_map, true}
+use Rattle.std.specs.Prelude.{ℕ, ◌≡◌, ◌⊎◌, ◌++◌, ◌==◌, List, codes, length, Option, None, Some, IfSome, false, option_map, true}
 use Rattle.std.specs.Io.KnownBytes.{Appends, Keeps}
 use Rattle.clap.specs.Walk.{Text}
 use Rattle.xb_command.specs.Files.{Bytes}
@@ -12,11 +12,12 @@ use Rattle.xb_loop.specs.declared.fault.LoopFault.TheVariants as faults
 use Rattle.xb_feed.specs.declared.fault.RecordingFault.{RecordingFault}
 use Rattle.xb_feed.specs.declared.request.Request.{Request}
 use Rattle.xb_loop.specs.declared.common.Common.{Common}
-use Rattle.xb_feed.specs.LackedWires.{lacks_wire}
+use Rattle.xb_feed.specs.LackedWires.{missing_name}
+use Rattle.xb_recording.specs.Says.{names_in}
 use Rattle.xb_feed.specs.Feeding.{FailsToListen, ListensTo}
 use Rattle.xb_loop.specs.Options.{AreRefused, Asks}
 use Rattle.xb_loop.specs.Watching.{by_rows}
-use Rattle.xb_wires.specs.Listing.{ListsWires}
+use Rattle.xb_wires.specs.Listing.{IsUnlisted, ListsWires}
 use Rattle.xb_loop.specs.Tables.{IsBeforeRows, IsFaultOfTable, IsReleaseOf}
 
 -- the program's name
@@ -62,11 +63,11 @@ IsListed (faults.NoLine listing) = Unit {0}
 IsListed (faults.Unlisted fault) = Unit {0}
 IsListed fault = ⊥
 
--- where no line is asked for, the wires of the recording are told, unless they cannot be listed
+-- where no line is asked for, the wires of the recording are told, or why they cannot be listed
 abbrev pub TellsWires : Request Common → List ℕ → LoopFault → Type 0
 TellsWires request text (faults.NoLine listing) =
     ListsWires request.format request.wanted.rate request.wanted.threshold text listing
-TellsWires request text (faults.Unlisted fault) = Unit {0}
+TellsWires request text (faults.Unlisted fault) = IsUnlisted request.format text fault
 TellsWires request text fault = ⊥
 
 -- nothing was written then
@@ -74,13 +75,20 @@ abbrev pub ListsInstead : Request Common → LoopFault → Option (List ℕ) →
 ListsInstead request fault input output after =
     ((length request.lines.items == 0) ≡ true) × Keeps output after × IfSome input (λ text. TellsWires request text fault)
 
+-- the fault of a recording as it is told: where it lacks a wire, with the first of the names that are asked for of which
+-- it has none
+abbrev pub IsFaultOfRecording : List (List ℕ) → RecordingFault → LoopFault → Type 0
+IsFaultOfRecording names fault (faults.Recording own) = (own ≡ fault) × (missing_name fault names ≡ None)
+IsFaultOfRecording names fault (faults.NoWire own name) = (own ≡ fault) × (missing_name fault names ≡ Some name.now)
+IsFaultOfRecording names fault told = ⊥
+
 -- what a fault says of the table and the recording, and what an output got before it; where the recording lacks a wire,
--- all names that are asked for are told
+-- the first such name that is asked for is told
 abbrev pub FailsToPrint : Bytes → Request Common → LoopFault → Option (List ℕ) → Option (List ℕ) → Option (List ℕ) → Type 0
 FailsToPrint files request (faults.Recording fault) input output after =
-    (lacks_wire fault ≡ false) × FailsToGo files request fault input output after
-FailsToPrint files request (faults.NoWire fault names) input output after =
-    (lacks_wire fault ≡ true) × (names ≡ request.wanted.wires) × FailsToGo files request fault input output after
+    (missing_name fault (names_in request.wanted) ≡ None) × FailsToGo files request fault input output after
+FailsToPrint files request (faults.NoWire fault name) input output after =
+    (missing_name fault (names_in request.wanted) ≡ Some name.now) × FailsToGo files request fault input output after
 FailsToPrint files request (faults.NoLine listing) input output after =
     ListsInstead request (faults.NoLine listing) input output after
 FailsToPrint files request (faults.Unlisted fault) input output after =

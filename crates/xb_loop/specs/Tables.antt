@@ -40,7 +40,7 @@ IsFaultOfTable files (Some name) (faults.Routes fault) =
     IfSome (files name) (λ table. table_of_text table ≡ Err fault)
 IsFaultOfTable files (Some name) faults.NoMemory = Unit {0}
 IsFaultOfTable files (Some name) (faults.Recording fault) = ⊥
-IsFaultOfTable files (Some name) (faults.NoWire fault names) = ⊥
+IsFaultOfTable files (Some name) (faults.NoWire fault wire) = ⊥
 IsFaultOfTable files (Some name) (faults.NoLine listing) = ⊥
 IsFaultOfTable files (Some name) (faults.Unlisted fault) = ⊥
 IsFaultOfTable files (Some name) faults.Tell = ⊥

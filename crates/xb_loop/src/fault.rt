@@ -5,7 +5,7 @@ use crate::wires::AllWires;
 use std::alloc::AllocError;
 use std::io;
 use thiserror::Error;
-use xb_feed::{AllInOneLine, InOneLine, RecordingFault};
+use xb_feed::{InOneLine, RecordingFault};
 use xb_routes::RouteFault;
 use xb_wires::{ListFault, Listing};
 
@@ -21,9 +21,9 @@ pub enum LoopFault<'a> {
     /// The rows of the recording have a fault.
     #[error("{0}")]
     Recording(RecordingFault),
-    /// The recording lacks a wire; the names that are asked for, each in one line.
-    #[error("{}; asked for: {}", .0, AllInOneLine(.1))]
-    NoWire(RecordingFault, Vec<&'a str>),
+    /// The recording lacks a wire; the first such name that is asked for, in one line.
+    #[error("the recording has no wire {}; {}", InOneLine(.1), .0)]
+    NoWire(RecordingFault, &'a str),
     /// No line is asked for; the wires of the recording, in one line.
     #[error("no line is asked for; the recording has {}", AllWires(.0))]
     NoLine(Listing),

@@ -1,9 +1,8 @@
 // The program: its words and a recording in, a status and rows out.
-ghost use Rattle.std.specs.Prelude.{◌≡◌, ◌==◌, false, IfErr, IfOk, IfSome, OnOk, length, string_bytes, true};
+ghost use Rattle.std.specs.Prelude.{◌≡◌, ◌==◌, false, IfErr, IfOk, IfSome, OnOk, length, map, string_bytes};
 ghost use Rattle.xb_command.specs.Programs.{streams};
 ghost use Rattle.xb_command.specs.Commands.{texts_of};
-ghost use Rattle.xb_feed.specs.LackedWires.{lacks_wire};
-ghost use Rattle.xb_loop.specs.Program.{AttendsLoop, FailsToPrint, IsListed, PrintsDeck, TellsOfBounces, TellsWires};
+ghost use Rattle.xb_loop.specs.Program.{AttendsLoop, FailsToPrint, IsFaultOfRecording, IsListed, PrintsDeck, TellsOfBounces, TellsWires};
 
 use crate::common::Common;
 use crate::contact::Contact;
@@ -13,7 +12,7 @@ use crate::words::request_of_words;
 use std::alloc::Global;
 use std::io::{Read, Write};
 use xb_command::{DONE, Files, WordsFault, tell_fault, tell_words};
-use xb_feed::{AskedLine, RecordingFault, Request, lacks_wire, listen, plain_words};
+use xb_feed::{AskedLine, RecordingFault, Request, listen, missing_name, plain_words};
 use xb_text::write_whole;
 use xb_wires::list_wires;
 
@@ -29,15 +28,13 @@ const USAGE: &[u8] =
 [--table FILE] [--format vcd|sigrok|saleae|edges|gpiomon|bits|bits16|s16|wav] [--rate HZ] [--settle MS] \
 [--seize MS] [--ringing] [--tick MS] [--threshold PERCENT] [--inverted] [--said] [--lossy]\n";
 
-// The fault of a recording; where it lacks a wire, with the names that are asked for.
-fn fault_of_recording<'a>(fault: RecordingFault, names: Vec<&'a str>) -> LoopFault<'a>
-    ensures plain { lacks_wire fault ≡ false → result ≡ LoopFault.Recording fault }
-    ensures names { lacks_wire fault ≡ true → result ≡ LoopFault.NoWire fault names.entry }
+// The fault of a recording; where it lacks a wire, with the first name that is asked for and that it lacks.
+fn fault_of_recording<'a>(fault: RecordingFault, names: &[&'a str]) -> LoopFault<'a>
+    ensures { IsFaultOfRecording (map (λ name. name.now) names.now) fault result }
 {
-    if lacks_wire(&fault) {
-        LoopFault::NoWire(fault, names)
-    } else {
-        LoopFault::Recording(fault)
+    match missing_name(&fault, names) {
+        Some(name) => LoopFault::NoWire(fault, name),
+        None => LoopFault::Recording(fault),
     }
 }
 
@@ -85,7 +82,7 @@ fn run<'a, F: Files, R: Read, W: Write>(
     request.common.release_ms = release_ms;
     match listen::<Common, Contact, R, W>(alloc, &request, &before, HEADER, recording, out) {
         Ok(told) => Ok(told),
-        Err(fault) => Err(fault_of_recording(fault, request.wanted.wires)),
+        Err(fault) => Err(fault_of_recording(fault, &request.wanted.wires)),
     }
 }
 

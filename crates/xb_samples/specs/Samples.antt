@@ -26,11 +26,15 @@ abbrev pub mask_of : Width → List ℕ → Option ℕ
 mask_of width name =
     option_and_then (λ bit. if nat_lt bit (wires_in width) then Some (2 ^ bit) else None) (number_of name)
 
+-- those of names, from this wire on; the first name of none is told
+abbrev pub masks_from : ℕ → Width → List (List ℕ) → Result (List ℕ) Refusal
+masks_from wire width [] = Ok []
+masks_from wire width (name ∷ names) =
+    result_and_then (λ mask. result_map (λ rest. mask ∷ rest) (masks_from (wire + 1) width names))
+    (ok_or (mask_of width name) (refusals.NoWire wire))
+
 abbrev pub masks_of : Width → List (List ℕ) → Result (List ℕ) Refusal
-masks_of width [] = Ok []
-masks_of width (name ∷ names) =
-    result_and_then (λ mask. result_map (λ rest. mask ∷ rest) (masks_of width names))
-    (ok_or (mask_of width name) refusals.NoWire)
+masks_of width names = masks_from 0 width names
 
 -- the levels of the wires in a sample
 abbrev pub bit_level : ℕ → ℕ → Level

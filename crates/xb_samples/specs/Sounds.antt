@@ -172,11 +172,15 @@ channel_of channels name =
 abbrev pub open_wire : ℕ → Channel
 open_wire number = record { number = number; level = Open }
 
+-- those of names, from this wire on; the first name of none is told
+abbrev pub wires_from : ℕ → ℕ → List (List ℕ) → Result (List Channel) Refusal
+wires_from wire channels [] = Ok []
+wires_from wire channels (name ∷ names) =
+    result_and_then (λ number. result_map (λ rest. open_wire number ∷ rest) (wires_from (wire + 1) channels names))
+    (ok_or (channel_of channels name) (refusals.NoWire wire))
+
 abbrev pub wires_of : ℕ → List (List ℕ) → Result (List Channel) Refusal
-wires_of channels [] = Ok []
-wires_of channels (name ∷ names) =
-    result_and_then (λ number. result_map (λ rest. open_wire number ∷ rest) (wires_of channels names))
-    (ok_or (channel_of channels name) refusals.NoWire)
+wires_of channels names = wires_from 0 channels names
 
 -- nothing was taken of a sound of so many channels and bytes, where these are known
 abbrev pub IsNewSound : Coding → ℕ → ℤ → List (List ℕ) → Option ℕ → Sound → Type 0

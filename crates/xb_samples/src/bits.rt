@@ -73,16 +73,17 @@ fn mask_of(width: Width, name: &str) -> Option<u16>
     }
 }
 
-// The bits of wires.
+// The bits of wires. The first one that has none is told.
 fn masks_of(alloc: Global, width: Width, names: &[&str]) -> Result<Vec<u16>, Refusal>
-    ensures said { IfOk result (λ masks. masks_of width (map (λ name. name.now) names.now) ≡ Ok masks.items) }
+    ensures said { IfOk result (λ masks.
+        masks_of width (map (λ name. name.now) names.now) ≡ Ok masks.items) }
     ensures refused { IfErr result (IsRefusedBy (masks_of width (map (λ name. name.now) names.now))) }
 {
     let mut masks = Vec::new(alloc);
-    for name in names {
+    for (wire, name) in names.iter().enumerate() {
         match mask_of(width, name) {
             Some(mask) => masks.push(mask).map_err(AllocError::from)?,
-            None => return Err(Refusal::NoWire),
+            None => return Err(Refusal::NoWire(wire)),
         }
     }
     Ok(masks)

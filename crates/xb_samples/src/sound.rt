@@ -31,14 +31,14 @@ fn channel_of(name: &str, channels: u8) -> Option<u8>
     }
 }
 
-// The wires of these names, all open.
+// The wires of these names, all open. The first name of none is told.
 fn wires_of(alloc: Global, names: &[&str], channels: u8) -> Result<Vec<Channel>, Refusal>
     ensures said { IfOk result (λ wires.
         wires_of channels (map (λ name. name.now) names.now) ≡ Ok wires.items) }
     ensures refused { IfErr result (IsRefusedBy (wires_of channels (map (λ name. name.now) names.now))) }
 {
     let mut wires = Vec::new(alloc);
-    for name in names {
+    for (wire, name) in names.iter().enumerate() {
         match channel_of(name, channels) {
             Some(number) => {
                 let level = Level::Open;
@@ -46,7 +46,7 @@ fn wires_of(alloc: Global, names: &[&str], channels: u8) -> Result<Vec<Channel>,
                     .push(Channel { number, level })
                     .map_err(AllocError::from)?
             }
-            None => return Err(Refusal::NoWire),
+            None => return Err(Refusal::NoWire(wire)),
         }
     }
     Ok(wires)

@@ -1,9 +1,8 @@
 -- Which words of a VCD say an event.
-use Rattle.std.proofs.Common.{◌≡◌, ℕ, zero, suc, ◌+◌, ◌<◌, ◌≤◌, ◌==◌, List, [], ◌∷◌, ◌++◌, Bool, true, false, cond, ◌||◌, Option, Some, None, length, get_or, drop, refl, ap, sym, subst, ◌∙◌, append_assoc, arith}
-use Rattle.std.specs.Prelude.{Result, Ok, Err, OnErr, slice_range}
+use Rattle.std.proofs.Common.{◌≡◌, ℕ, ◌+◌, ◌<◌, ◌≤◌, ◌==◌, List, [], ◌∷◌, ◌++◌, Bool, true, false, cond, ◌||◌, Option, length, get_or, drop, refl, ap, sym, subst, ◌∙◌, append_assoc, arith}
+use Rattle.std.specs.Prelude.{Ok, Err, slice_range}
 use Rattle.std.specs.List.{list_any}
 use Rattle.xb_contact.specs.declared.event.Event.{Event}
-use Rattle.xb_contact.specs.declared.event.Refusal.{Refusal}
 use Rattle.xb_contact.specs.declared.level.Level.{Level}
 use Rattle.xb_contact.specs.Steps.{Adds, Said, all_say}
 use Rattle.xb_contact.proofs.StepLemmas.{adds_after}

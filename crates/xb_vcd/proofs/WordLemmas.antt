@@ -117,3 +117,22 @@ refused_after_byte line start end begin before now refusal h k b e g rest =
     let R : List ℕ → Type 0 = λ word. all_say word_says before (words_in word (drop (end + 1) line)) ≡ Err refusal in
     ap (all_say word_says before) (words-at_byte line (slice_range line start end) end k b)
     ∙ subst R (slice_range-next line start end h k) (subst S e (subst Q g rest))
+
+-- no word has come
+pub none_at_blank :
+    (line : List ℕ) (start end : ℕ) → start ≡ end → end < length line → is_blank (get_or line end 0) ≡ true
+    → words_in (slice_range line start end) (drop end line) ≡ words_in [] line
+    → words_in (slice_range line (end + 1) (end + 1)) (drop (end + 1) line) ≡ words_in [] line
+none_at_blank line start end none within blank so_far =
+    ap (λ word. words_in word (drop (end + 1) line)) (slice_range-none line (end + 1))
+    ∙ ap (λ word. word_before word ++ words_in [] (drop (end + 1) line)) (sym (slice_range-none line end))
+    ∙ sym (words-at_blank line (slice_range line end end) end within blank)
+    ∙ ap (λ n. words_in (slice_range line n end) (drop end line)) (sym none) ∙ so_far
+
+pub more_at_byte :
+    (line : List ℕ) (start end : ℕ) → start ≤ end → end < length line → is_blank (get_or line end 0) ≡ false
+    → words_in (slice_range line start end) (drop end line) ≡ words_in [] line
+    → words_in (slice_range line start (end + 1)) (drop (end + 1) line) ≡ words_in [] line
+more_at_byte line start end places within byte so_far =
+    ap (λ word. words_in word (drop (end + 1) line)) (slice_range-next line start end places within)
+    ∙ sym (words-at_byte line (slice_range line start end) end within byte) ∙ so_far

@@ -1,8 +1,8 @@
 -- A VCD that is written is read back.
 use Rattle.std.proofs.Common.{◌≡◌, ℕ, suc, ◌+◌, ◌*◌, ◌^◌, ◌<◌, ◌≤◌, List, [], ◌∷◌, ◌++◌, Bool, true, false, cond, Option, Some, None, length, length-append, replicate, refl, ap, sym, subst, ◌∙◌, arith, append_assoc, append-nil, codes, ne_eqb, eq-eqb, inl, inr, ◌||◌}
-use Rattle.std.specs.Prelude.{Ok, Err, bytes_eq, is_some, nat_lt}
-use Rattle.std.specs.List.{AllByRecursion, IsDistinct, list_all}
-use Rattle.std.specs.Option.{ok_or, option_and_then}
+use Rattle.std.specs.Prelude.{Ok, Err, bytes_eq, nat_lt}
+use Rattle.std.specs.List.{AllByRecursion, IsDistinct, list_all, position_or_len}
+use Rattle.std.specs.Option.{is_none, ok_or, option_and_then}
 use Rattle.std.proofs.lemmas.Bool.{and_from, and_parts, cases_lt}
 use Rattle.std.proofs.lemmas.Bool.Decides.{nat_tests}
 use Rattle.xb_contact.specs.declared.event.Event.{Event}
@@ -17,9 +17,9 @@ use Rattle.xb_contact.specs.Times.{scale_by}
 use Rattle.xb_contact.proofs.StepLemmas.{line_is_quiet, line_says, part_is_quiet, part_says}
 use Rattle.xb_contact.proofs.Written.{AreOthers, digits_are, never_after_end, number_is_read, one_of, others_differ, same_bytes}
 use Rattle.xb_vcd.specs.declared.declaration.VarWords.{VarWords}
-use Rattle.xb_vcd.specs.declared.vcd.VcdPlace.TheVariants as places
+use Rattle.xb_vcd.specs.declared.place.VcdPlace.TheVariants as places
 use Rattle.xb_vcd.specs.VcdChanges.{VcdState, change_by_word, goes_to, level_events}
-use Rattle.xb_vcd.specs.VcdTexts.{begun_vcd, declared_codes, found_code, is_blank, var_words, vcd_ends, vcd_line_says, vcd_says, word_before, word_says, words_in, words_of}
+use Rattle.xb_vcd.specs.VcdTexts.{begun_vcd, declared_codes, ends_without, first_missing, found_code, is_blank, var_words, vcd_ends, vcd_line_says, vcd_says, word_before, word_says, words_in, words_of}
 use Rattle.xb_vcd.specs.VcdWords.{change_by, code_in, code_of, time_by}
 use Rattle.xb_vcd.specs.WrittenVcd.{WrittenIsRead, change_lines, level_text, time_line, var_line, var_lines, wire_code}
 
@@ -69,12 +69,21 @@ abbrev codes_from : ℕ → List (List ℕ) → List (Option ℕ)
 codes_from i [] = []
 codes_from i (name ∷ names) = Some (33 + i) ∷ codes_from (i + 1) names
 
-all-found : (i : ℕ) (names : List (List ℕ)) → list_all is_some (codes_from i names) ≡ true
-all-found i [] = refl
-all-found i (name ∷ names) = all-found (i + 1) names
+all-passed : (i : ℕ) (names : List (List ℕ)) → position_or_len is_none (codes_from i names) ≡ length (codes_from i names)
+all-passed i [] = refl
+all-passed i (name ∷ names) =
+    let own : List (Option ℕ) = codes_from (i + 1) names in
+    let one_more : 1 + length own ≡ suc (length own) = omega arith in
+    ap (λ n. 1 + n) (all-passed (i + 1) names) ∙ one_more
+
+none-missing : (i : ℕ) (names : List (List ℕ)) → first_missing (codes_from i names) ≡ None
+none-missing i names =
+    let own : List (Option ℕ) = codes_from i names in
+    let none : nat_lt (position_or_len is_none own) (length own) ≡ false = grind (arith, nat_tests, all-passed i names) in
+    ap (λ t. cond t (Some (position_or_len is_none own)) None) none
 
 -- after the timescale, where these codes were found
-abbrev in_header : List (List ℕ) → List (Option ℕ) → VcdState
+abbrev pub in_header : List (List ℕ) → List (Option ℕ) → VcdState
 in_header names own = record { names = names; codes = own; place = places.Header; has_scale = true; last = None }
 
 -- in a declaration, after so many words
@@ -117,11 +126,11 @@ var-words wire name is =
     ap (λ rest. codes "$var" ∷ codes "wire" ∷ codes "1" ∷ rest) (word-and-more (wire_code wire) (name ++ codes " $end") (code-is-name wire))
     ∙ ap (λ rest. codes "$var" ∷ codes "wire" ∷ codes "1" ∷ wire_code wire ∷ rest) (word-and-more name (codes "$end") is)
 
-var-says :
+pub var_says :
     (wire : ℕ) (name : List ℕ) (names : List (List ℕ)) (own new : List (Option ℕ)) → IsName name → wire < 94
     → declared_codes (var_words 3 true (33 + wire)) name names own ≡ Ok new
     → vcd_line_says (in_header names own) (var_line wire name) ≡ Ok ([], in_header names new)
-var-says wire name names own new is few declared =
+var_says wire name names own new is few declared =
     let all = var_words 3 true (33 + wire) in
     let code : word_says (in_var names own (var_words 2 true 0)) (wire_code wire) ≡ Ok ([], in_var names own all) =
     ap (λ read. result_and_then (λ code. goes_to (in_var names own (var_words 2 true 0)) (places.Var (var_words 3 true code))) (ok_or read refusals.Word))
@@ -159,16 +168,16 @@ vars-say names before (name ∷ rest) own i lines all at same lawful few =
     (all ∙ sym (append_assoc before (name ∷ []) rest)) (omega (arith, length-append before (name ∷ [])))
     (omega (arith, length-append own (Some (33 + i) ∷ []))) lawful few in
     line_is_quiet vcd_line_says vcd_ends (in_header names (own ++ None ∷ later)) (in_header names (own ++ Some (33 + i) ∷ later)) (var_line i name)
-    (var_lines (i + 1) rest ++ lines) (var-says i name names (own ++ None ∷ later) (own ++ Some (33 + i) ∷ later) is within declared)
+    (var_lines (i + 1) rest ++ lines) (var_says i name names (own ++ None ∷ later) (own ++ Some (33 + i) ∷ later) is within declared)
     ∙ ap (λ found. vcd_says (in_header names found) (var_lines (i + 1) rest ++ lines)) (sym (append_assoc own (Some (33 + i) ∷ []) later))
     ∙ next
     ∙ ap (λ found. vcd_says (in_header names found) lines) (append_assoc own (Some (33 + i) ∷ []) (codes_from (i + 1) rest))
 
-end-says : (names : List (List ℕ)) (own : List (Option ℕ)) → list_all is_some own ≡ true
+end-says : (names : List (List ℕ)) (own : List (Option ℕ)) → first_missing own ≡ None
     → vcd_line_says (in_header names own) (codes "$enddefinitions $end") ≡ Ok ([], among names own None)
 end-says names own all =
-    ap (λ t. result_and_then (λ said. said_before said.0 (all_say word_says said.1 (codes "$end" ∷ [])))
-    (cond t (goes_to (in_header names own) (places.Passed true)) (Err refusals.NoWire))) all
+    ap (λ missing. result_and_then (λ said. said_before said.0 (all_say word_says said.1 (codes "$end" ∷ [])))
+    (ends_without (in_header names own) missing)) all
 
 -- a line of one word among the changes
 word-line :
@@ -274,5 +283,5 @@ written_is_read names changes end lawful few order small =
     ∙ ap (then_later (events.Ticks (scale_by 1 1000) ∷ []))
     (vars-say names [] names [] 0 later refl refl refl lawful few
     ∙ line_is_quiet vcd_line_says vcd_ends (in_header names (codes_from 0 names)) (among names (codes_from 0 names) None)
-    (codes "$enddefinitions $end") rest (end-says names (codes_from 0 names) (all-found 0 names))
+    (codes "$enddefinitions $end") rest (end-says names (codes_from 0 names) (none-missing 0 names))
     ∙ changes-say names changes 0 None end (λ time h. refl) order few small)

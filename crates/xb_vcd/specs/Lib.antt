@@ -4,3 +4,4 @@ pub mod VcdTexts
 pub mod VcdEvents
 pub mod WorkedVcd
 pub mod WrittenVcd
+pub mod MissingWires

@@ -8,8 +8,8 @@ use Rattle.xb_contact.specs.declared.event.Refusal.TheVariants as refusals
 use Rattle.xb_contact.specs.declared.level.Level.{Level}
 use Rattle.xb_vcd.specs.declared.word.Word.{Word}
 use Rattle.xb_vcd.specs.declared.word.Word.TheVariants as words
-use Rattle.xb_vcd.specs.declared.vcd.VcdPlace.{VcdPlace}
-use Rattle.xb_vcd.specs.declared.vcd.VcdPlace.TheVariants as places
+use Rattle.xb_vcd.specs.declared.place.VcdPlace.{VcdPlace}
+use Rattle.xb_vcd.specs.declared.place.VcdPlace.TheVariants as places
 use Rattle.xb_vcd.specs.declared.vcd.Vcd.{Vcd}
 use Rattle.xb_contact.specs.Steps.{Said, is_before, result_and_then}
 use Rattle.xb_vcd.specs.VcdWords.{code_of, word_of}

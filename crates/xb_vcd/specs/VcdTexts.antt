@@ -1,7 +1,7 @@
 -- What a VCD says: its words, one after the other.
-use Rattle.std.specs.Prelude.{ℕ, ◌*◌, List, [], ◌∷◌, ◌++◌, Bool, true, false, Option, Some, None, Result, Ok, Err, codes, bytes_eq, is_some, length, nat_le, ◌==◌, ◌&&◌, ◌||◌, if◌then◌else◌, nat_eq, replicate}
-use Rattle.std.specs.List.{list_all, starts_with}
-use Rattle.std.specs.Option.{ok_or, option_and_then}
+use Rattle.std.specs.Prelude.{ℕ, ◌*◌, List, [], ◌∷◌, ◌++◌, Bool, true, false, Option, Some, None, Result, Ok, Err, codes, bytes_eq, length, nat_le, ◌==◌, ◌&&◌, ◌||◌, if◌then◌else◌, nat_eq, replicate}
+use Rattle.std.specs.List.{position, starts_with}
+use Rattle.std.specs.Option.{is_none, ok_or, option_and_then}
 use Rattle.xb_contact.specs.declared.scale.Scale.{Scale}
 use Rattle.xb_contact.specs.declared.event.Event.{Event}
 use Rattle.xb_contact.specs.declared.event.Event.TheVariants.{Ticks}
@@ -9,8 +9,8 @@ use Rattle.xb_contact.specs.declared.event.Refusal.{Refusal}
 use Rattle.xb_contact.specs.declared.event.Refusal.TheVariants as refusals
 use Rattle.xb_vcd.specs.declared.word.Word.{Word}
 use Rattle.xb_vcd.specs.declared.word.Word.TheVariants as words
-use Rattle.xb_vcd.specs.declared.vcd.VcdPlace.{VcdPlace}
-use Rattle.xb_vcd.specs.declared.vcd.VcdPlace.TheVariants as places
+use Rattle.xb_vcd.specs.declared.place.VcdPlace.{VcdPlace}
+use Rattle.xb_vcd.specs.declared.place.VcdPlace.TheVariants as places
 use Rattle.xb_vcd.specs.declared.declaration.VarWords.{VarWords}
 use Rattle.xb_contact.specs.Numbers.{after_digits, leading_digits, number_of}
 use Rattle.xb_contact.specs.Steps.{Said, all_say, result_and_then, result_map, say_to_end}
@@ -114,12 +114,18 @@ var_taken state found word =
     else result_map (λ own. ([], record state { codes = own; place = places.Passed false }))
     (declared_codes found word state.names state.codes)))
 
--- the header ends once the length of a tick has come, and all wires were found
+-- the first wire, in the order in which they are asked for, that was not found
+abbrev pub first_missing : List (Option ℕ) → Option ℕ
+first_missing codes = position is_none codes
+
+-- the header ends once the length of a tick has come, and no wire is missing
+abbrev pub ends_without : VcdState → Option ℕ → Said VcdState
+ends_without state None = goes_to state (places.Passed true)
+ends_without state (Some wire) = Err (refusals.NoWire wire)
+
 abbrev pub header_ends : VcdState → Said VcdState
 header_ends state =
-    if state.has_scale
-    then (if list_all is_some state.codes then goes_to state (places.Passed true) else Err refusals.NoWire)
-    else Err refusals.Timescale
+    if state.has_scale then ends_without state (first_missing state.codes) else Err refusals.Timescale
 
 -- a word of the header
 abbrev pub header_by : VcdState → Word → Said VcdState

@@ -6,7 +6,7 @@ use Rattle.xb_contact.specs.declared.level.Level.{Level}
 use Rattle.xb_contact.specs.declared.level.Level.TheVariants.{Open, Closed}
 use Rattle.xb_contact.specs.Times.{scale_by}
 use Rattle.xb_vcd.specs.declared.word.Word.TheVariants as words
-use Rattle.xb_vcd.specs.declared.vcd.VcdPlace.TheVariants as places
+use Rattle.xb_vcd.specs.declared.place.VcdPlace.TheVariants as places
 use Rattle.xb_vcd.specs.VcdWords.{word_of}
 use Rattle.xb_vcd.specs.VcdChanges.{VcdState, at_place, change_taken, code_taken}
 use Rattle.xb_vcd.specs.VcdTexts.{begun_vcd, vcd_says}
@@ -76,5 +76,7 @@ pub record VcdsAreRead : Type 0 where
       ≡ Ok (events.Ticks (scale_by 1 1000) ∷ events.At 0 ∷ events.Level 0 Open ∷ events.Level 1 Open
       ∷ events.At 10000 ∷ events.Level 0 Closed ∷ events.At 15000 ∷ events.Level 1 Closed
       ∷ events.At 30000 ∷ events.Level 0 Open ∷ events.At 60000 ∷ [])
-  pub no_wire : vcd_says (begun_vcd (codes "D0" ∷ [])) two_wires ≡ Err refusals.NoWire
+  pub no_wire : vcd_says (begun_vcd (codes "D0" ∷ [])) two_wires ≡ Err (refusals.NoWire 0)
+  pub first_of_two :
+      vcd_says (begun_vcd (codes "BUSY" ∷ codes "D1" ∷ codes "LOOP" ∷ codes "D0" ∷ [])) two_wires ≡ Err (refusals.NoWire 1)
   pub no_end : vcd_says (begun_vcd (codes "LOOP" ∷ [])) (codes "$timescale 1 us $end" ∷ []) ≡ Err refusals.Header

@@ -1,33 +1,18 @@
 // A value change dump, line by line.
-ghost use Rattle.std.specs.Prelude.{◌≡◌, ◌≢◌, ◌++◌, ◌∷◌, ◌↔◌, [], Err, Ok, IfErr, IfOk, IsErr, IsTrue, OnErr, OnOk, is_some, map};
-ghost use Rattle.std.specs.List.{list_all, list_any};
+ghost use Rattle.std.specs.Prelude.{◌≡◌, ◌≢◌, ◌++◌, ◌∷◌, ◌↔◌, [], Err, Ok, IfErr, IfOk, IsErr, IsTrue, OnErr, OnOk, map, true};
+ghost use Rattle.std.specs.List.{list_any};
 ghost use Rattle.xb_contact.specs.Steps.{Adds, IsRefusedBy, all_say};
 ghost use Rattle.xb_vcd.specs.VcdChanges.{change_taken, code_taken, has_code, level_events, time_taken, value_taken, vcd_state};
 ghost use Rattle.xb_vcd.specs.VcdEvents.{HasEvent, SayAnEvent};
-ghost use Rattle.xb_vcd.specs.VcdTexts.{begun_vcd, end_says, header_taken, is_blank, is_header, scale_said, scale_taken, var_taken, vcd_line_says, vcd_says, word_before, word_says, words_of};
+ghost use Rattle.xb_vcd.specs.VcdTexts.{begun_vcd, first_missing, header_ends, header_taken, scale_said, scale_taken, var_taken, vcd_line_says, vcd_says, word_before, word_says, words_of};
 
+use crate::blanks::is_blank;
 use crate::declaration::{NO_WORDS, VarWords, declare};
+use crate::place::{VcdPlace, end_at, is_header};
 use crate::timescale::scale_of;
 use crate::word::{Word, code_of, word_of};
 use std::alloc::Global;
 use xb_contact::{Event, Level, Refusal, cut_digits, is_before, number_of, say};
-
-// Where a VCD stands.
-#[derive(Clone, Copy, Debug, PartialEq, Eq)]
-enum VcdPlace {
-    // Among the sections of the header.
-    Header,
-    // In a section that is passed over; whether the header has ended.
-    Passed(bool),
-    // In the timescale, after this number.
-    Timescale(Option<u64>),
-    // In the declaration of a wire, after so many words.
-    Var(VarWords),
-    // Among the changes.
-    Changes,
-    // After the value of a vector.
-    AfterVector(Option<Level>),
-}
 
 /// The reader of a VCD. Its wires are found by their names, and numbered as these are given.
 #[derive(Drop)]
@@ -37,43 +22,6 @@ pub struct Vcd<'a> {
     place: VcdPlace,
     has_scale: bool,
     last: Option<u64>,
-}
-
-// Whether words are parted by a byte.
-fn is_blank(byte: u8) -> bool
-    ensures { result ≡ is_blank byte }
-{
-    byte == b' ' || (byte >= b'\t' && byte <= b'\r')
-}
-
-// Whether a text stands in its header, outside of a section.
-fn is_header(place: VcdPlace) -> bool
-    ensures { result ≡ is_header place }
-{
-    match place {
-        VcdPlace::Header => true,
-        VcdPlace::Passed(_)
-        | VcdPlace::Timescale(_)
-        | VcdPlace::Var(_)
-        | VcdPlace::Changes
-        | VcdPlace::AfterVector(_) => false,
-    }
-}
-
-// The end of a text that stands there.
-fn end_at(place: VcdPlace) -> Result<(), Refusal>
-    ensures said { OnOk result (end_says place ≡ Ok []) }
-    ensures refused { IfErr result (λ e. end_says place ≡ Err e) }
-    ensures memory { IfErr result (λ e. e ≢ Refusal.NoMemory) }
-{
-    match place {
-        VcdPlace::Changes => Ok(()),
-        VcdPlace::Header
-        | VcdPlace::Passed(_)
-        | VcdPlace::Timescale(_)
-        | VcdPlace::Var(_)
-        | VcdPlace::AfterVector(_) => Err(Refusal::Header),
-    }
 }
 
 impl<'a> Vcd<'a> {
@@ -97,11 +45,27 @@ impl<'a> Vcd<'a> {
         })
     }
 
-    // Whether all wires were found.
-    fn has_all(&self) -> bool
-        ensures { result ≡ list_all is_some self.now.codes.items }
+    // The first wire that was not found.
+    fn first_missing(&self) -> Option<usize>
+        ensures { result ≡ first_missing self.now.codes.items }
     {
-        self.codes.iter().all(|code| code.is_some())
+        self.codes.iter().position(|code| code.is_none())
+    }
+
+    // The end of the header, once the length of a tick has come.
+    fn end_header(&mut self) -> Result<(), Refusal>
+        requires { self.old.has_scale ≡ true }
+        ensures said { OnOk result (header_ends (vcd_state self.old) ≡ Ok ([], vcd_state self.new)) }
+        ensures refused { IfErr result (λ e. header_ends (vcd_state self.old) ≡ Err e) }
+        ensures memory { IfErr result (λ e. e ≢ Refusal.NoMemory) }
+    {
+        match self.first_missing() {
+            Some(wire) => Err(Refusal::NoWire(wire)),
+            None => {
+                self.place = VcdPlace::Passed(true);
+                Ok(())
+            }
+        }
     }
 
     // The wire of this code has a level.
@@ -283,11 +247,7 @@ impl<'a> Vcd<'a> {
                 Ok(())
             }
             Word::EndDefinitions if !self.has_scale => Err(Refusal::Timescale),
-            Word::EndDefinitions if !self.has_all() => Err(Refusal::NoWire),
-            Word::EndDefinitions => {
-                self.place = VcdPlace::Passed(true);
-                Ok(())
-            }
+            Word::EndDefinitions => self.end_header(),
             Word::Section => {
                 self.place = VcdPlace::Passed(false);
                 Ok(())

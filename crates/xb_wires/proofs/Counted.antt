@@ -1,5 +1,5 @@
 -- What is counted of wires, one level after the other.
-use Rattle.std.proofs.Common.{◌≡◌, ℕ, zero, suc, ◌+◌, ◌-◌, ◌^◌, ◌<◌, ◌≤◌, min, List, [], ◌∷◌, ◌++◌, Bool, true, false, cond, Option, Some, None, length, drop, get_or, add-one, refl, ap, sym, ◌∙◌, arith, eq-eqb, eqb-true, not}
+use Rattle.std.proofs.Common.{◌≡◌, ℕ, zero, suc, ◌+◌, ◌-◌, ◌^◌, ◌<◌, ◌≤◌, min, List, [], ◌∷◌, Bool, true, false, cond, Option, Some, None, length, drop, get_or, add-one, refl, ap, sym, ◌∙◌, arith, eq-eqb, eqb-true, not}
 use Rattle.std.specs.Prelude.{option_map, slice_get, slice_set, ◌==◌, ◌||◌}
 use Rattle.std.specs.Option.{option_map_or}
 use Rattle.std.proofs.Math.Seq.{drop-cons}
@@ -10,7 +10,7 @@ use Rattle.xb_contact.specs.declared.level.Level.{Level}
 use Rattle.xb_contact.specs.Holds.{same_level}
 use Rattle.xb_contact.specs.Repeats.{levels_of}
 use Rattle.xb_wires.specs.declared.counts.Seen.{Seen}
-use Rattle.xb_wires.specs.Counts.{IsCountedAfter, changes_after, changes_in, edges_in, event_counted, level_seen, levels_seen, nothing_seen, seen_of}
+use Rattle.xb_wires.specs.Counts.{changes_after, edges_in, event_counted, level_seen, levels_seen, nothing_seen, seen_of}
 
 -- a wire is set, and another one
 set-here :

@@ -1,5 +1,5 @@
 -- Pieces of a recording that are counted one after the other.
-use Rattle.std.proofs.Common.{◌≡◌, ℕ, zero, suc, ◌+◌, ◌-◌, ◌^◌, ◌<◌, ◌≤◌, min, replicate, List, [], ◌∷◌, ◌++◌, Bool, true, false, cond, Option, Some, None, length, take, refl, ap, sym, subst, ◌∙◌, append_assoc, append-nil, add-one, get_or, arith}
+use Rattle.std.proofs.Common.{◌≡◌, ℕ, zero, suc, ◌+◌, ◌-◌, ◌^◌, ◌<◌, ◌≤◌, min, replicate, List, [], ◌∷◌, ◌++◌, Bool, true, false, cond, Option, Some, None, length, take, refl, ap, sym, subst, ◌∙◌, append_assoc, add-one, get_or}
 use Rattle.std.specs.Prelude.{option_map, slice_get, IfNone, IfSome, ◌==◌}
 use Rattle.std.specs.Io.KnownBytes.{Consumes, IsAtEnd, prepend_known}
 use Rattle.std.proofs.Math.Seq.{take-suc}

@@ -1,9 +1,9 @@
 -- Names that are added one after the other.
 use Rattle.std.proofs.Common.{◌≡◌, ℕ, ◌+◌, ◌<◌, ◌≤◌, List, [], ◌∷◌, ◌++◌, Bool, true, false, cond, length, nat_lt, take, refl, ap, sym, ◌∙◌, append_assoc, append-nil, length-append, arith}
 use Rattle.std.proofs.lemmas.Bool.Decides.{nat_tests}
-use Rattle.std.proofs.lemmas.List.{take-append-le, take_all}
+use Rattle.std.proofs.lemmas.List.{take_all}
 use Rattle.std.proofs.Math.Seq.{take-append_seam}
-use Rattle.xb_wires.specs.Names.{Named, all_added, each_once, is_among, name_added, named, named_by, no_names, others_once}
+use Rattle.xb_wires.specs.Names.{Named, all_added, is_among, named, named_by, no_names, others_once}
 
 -- where as many are kept as may be, and there are more, it stays so
 stays-full : (kept names : List (List ℕ)) → 32 ≤ length kept → all_added (named kept true) names ≡ named kept true

@@ -1,11 +1,11 @@
 -- Names that are found one after the other.
 use Rattle.std.proofs.Common.{◌≡◌, ℕ, suc, ◌+◌, ◌-◌, ◌<◌, List, [], ◌∷◌, ◌++◌, Bool, true, false, cond, Option, Some, None, refl, ap, sym, ◌∙◌, append-nil, arith}
-use Rattle.std.specs.Prelude.{decimal, is_some, ◌==◌, ◌||◌}
-use Rattle.std.specs.List.{flat_map, onto_first, slice_split}
+use Rattle.std.specs.Prelude.{bytes_eq, codes, decimal, is_some, ◌==◌, ◌||◌}
+use Rattle.std.specs.List.{onto_first}
 use Rattle.xb_text.specs.Pieces.{pieces, pieces_left}
 use Rattle.xb_recording.specs.declared.format.Format.{Format}
 use Rattle.xb_wires.specs.Names.{Named, all_added, name_added}
-use Rattle.xb_wires.specs.Wires.{ended_lines, line_names, names_in_lines, numbers_from}
+use Rattle.xb_wires.specs.Wires.{declared_name, declared_names, line_names, names_if, names_in_lines, numbers_from}
 
 pub numbers_next :
     (found : Named) (number end : ℕ) → number < end
@@ -68,3 +68,19 @@ lines_skipped found format is_end text line (Some rest) are ended = cc
 lines_skipped found format true text line None are ended = cc
 lines_skipped found format false text line None are ended =
     sym (ap (λ them. all_added found (names_in_lines format false them)) are)
+
+-- a word of a VCD, after which a wire is declared, and another one
+pub declared_more :
+    (found : Named) (left rest : List (List ℕ)) (word : List ℕ) → left ≡ word ∷ rest → bytes_eq word (codes "$var") ≡ true
+    → all_added (all_added found (names_if (declared_name rest))) (declared_names rest) ≡ all_added found (declared_names left)
+declared_more found left rest word are is =
+    sym (ap (λ them. all_added found (declared_names them)) are
+    ∙ ap (λ t. all_added found (cond t (names_if (declared_name rest)) [] ++ declared_names rest)) is
+    ∙ added-append found (names_if (declared_name rest)) (declared_names rest))
+
+pub declared_no_more :
+    (found : Named) (left rest : List (List ℕ)) (word : List ℕ) → left ≡ word ∷ rest → bytes_eq word (codes "$var") ≡ false
+    → all_added found (declared_names rest) ≡ all_added found (declared_names left)
+declared_no_more found left rest word are is =
+    sym (ap (λ them. all_added found (declared_names them)) are
+    ∙ ap (λ t. all_added found (cond t (names_if (declared_name rest)) [] ++ declared_names rest)) is)

@@ -1,9 +1,9 @@
 -- The head of a WAV file that was taken at once.
-use Rattle.std.proofs.Common.{◌≡◌, ℕ, List, [], ◌++◌, Option, Some, None, refl, ap, sym, subst, ◌∙◌, append-nil}
-use Rattle.std.specs.Prelude.{Ok, Err, drop}
+use Rattle.std.proofs.Common.{◌≡◌, ℕ, List, [], ◌++◌, Some, None, ap, sym, ◌∙◌, append-nil}
+use Rattle.std.specs.Prelude.{Ok, Err}
 use Rattle.xb_riff.specs.declared.head.HeadFault.{HeadFault}
 use Rattle.xb_riff.specs.declared.head.WavFormat.{WavFormat}
-use Rattle.xb_riff.specs.Heads.{HeadSoFar, IsNewHead, RefusesHead, Samples, TakesHead, head_of, rest_of}
+use Rattle.xb_riff.specs.Heads.{HeadSoFar, IsNewHead, RefusesHead, TakesHead, head_of, rest_of}
 use Rattle.xb_wires.specs.Wires.{format_in}
 
 all-read : (head : HeadSoFar) (bytes : List ℕ) → IsNewHead head → head_of bytes ≡ rest_of head (bytes ++ [])

@@ -3,3 +3,4 @@ pub mod Heads
 pub mod FoundNames
 pub mod Counted
 pub mod Counting
+pub mod Unlisted

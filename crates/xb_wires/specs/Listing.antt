@@ -1,17 +1,18 @@
 -- The wires of a recording, with how many edges each has.
-use Rattle.std.specs.Prelude.{ℕ, ◌≡◌, ◌-◌, ◌^◌, ◌≤◌, min, List, [], ◌++◌, Bool, true, false, Option, Some, None, IfNone, IfSome, length, map, option_map, slice_get}
+use Rattle.std.specs.Prelude.{ℕ, ◌≡◌, ◌⊎◌, ◌-◌, ◌^◌, ◌≤◌, min, List, [], ◌++◌, Bool, true, false, Option, Some, None, IfNone, IfSome, length, map, option_map, slice_get}
 use Rattle.std.specs.Io.KnownBytes.{Consumes}
 use Rattle.xb_contact.specs.declared.event.Event.{Event}
 use Rattle.xb_contact.specs.Repeats.{levels_of}
 use Rattle.xb_recording.specs.declared.format.Format.{Format}
 use Rattle.xb_recording.specs.declared.format.Format.TheVariants as formats
-use Rattle.xb_recording.specs.declared.reader.Reader.{Reader}
 use Rattle.xb_recording.specs.declared.wanted.Wanted.{Wanted}
-use Rattle.xb_recording.specs.Beginnings.{form_told}
+use Rattle.xb_recording.specs.Beginnings.{form_told, tells_nothing_yet, why_untold}
 use Rattle.xb_recording.specs.Says.{RestSays, Says, Takes, names_in}
 use Rattle.xb_samples.specs.Thresholds.{Percent}
 use Rattle.xb_wires.specs.declared.counts.Seen.{Seen}
 use Rattle.xb_wires.specs.declared.listing.Counter.{Counter}
+use Rattle.xb_wires.specs.declared.listing.ListFault.{ListFault}
+use Rattle.xb_wires.specs.declared.listing.ListFault.TheVariants as faults
 use Rattle.xb_wires.specs.declared.listing.Listing.{Listing}
 use Rattle.xb_wires.specs.declared.listing.TheConstants.{MOST_BEGINNING_BYTES}
 use Rattle.xb_wires.specs.Counts.{IsCountedAfter, edges_in}
@@ -75,6 +76,38 @@ pub record IsCount
 pub record IsFormOf (asked : Option Format) (text : List ℕ) (format : Format) : Type 0 where
   pub named : IfSome asked (λ it. format ≡ it)
   pub told : IfNone asked (form_told text ≡ Some format)
+
+-- a recording tells no form: as a whole, or so many first bytes of it tell nothing yet
+pub record TellsNothingLong (text : List ℕ) : Type 0 where
+  pub beginning : List ℕ
+  pub later : List ℕ
+  pub are : text ≡ beginning ++ later
+  pub long : MOST_BEGINNING_BYTES ≤ length beginning
+  pub nothing : tells_nothing_yet beginning ≡ true
+
+abbrev pub TellsNoForm : List ℕ → Type 0
+TellsNoForm text = (form_told text ≡ None) ⊎ TellsNothingLong text
+
+-- a beginning of it tells none, whatever follows, or it tells nothing yet
+abbrev pub BeginsUntold : List ℕ → Bool → ListFault → Type 0
+BeginsUntold beginning is_end (faults.Untold reason) =
+    (reason ≡ why_untold beginning)
+    × (((later : List ℕ) → (is_end ≡ true → later ≡ []) → form_told (beginning ++ later) ≡ None)
+    ⊎ ((is_end ≡ false) × (tells_nothing_yet beginning ≡ true)))
+BeginsUntold beginning is_end fault = ⊥
+
+-- a read failed, or memory ran out
+abbrev pub IsFromOutside : ListFault → Type 0
+IsFromOutside (faults.Untold reason) = ⊥
+IsFromOutside faults.Read = Unit {0}
+IsFromOutside faults.NoMemory = Unit {0}
+
+-- why the wires of a recording are not listed: no form is asked for, the recording tells none, and why; or a read
+-- failed, or memory ran out
+abbrev pub IsUnlisted : Option Format → List ℕ → ListFault → Type 0
+IsUnlisted asked text (faults.Untold reason) = (asked ≡ None) × (reason ≡ why_untold text) × TellsNoForm text
+IsUnlisted asked text faults.Read = Unit {0}
+IsUnlisted asked text faults.NoMemory = Unit {0}
 
 -- the wires of a recording: the names that its beginning tells, of 131,072 bytes or all of it, and their edges, if these
 -- are counted

@@ -1,11 +1,10 @@
 -- The names of the wires of a recording, as its beginning tells them.
-use Rattle.std.specs.Prelude.{ℕ, ◌+◌, min, List, [], ◌∷◌, ◌++◌, Bool, true, Option, Some, None, Result, Ok, Err, bytes_eq, codes, count_by, length, map, nat_eq, not, ◌==◌, ◌&&◌, if◌then◌else◌, option_map}
+use Rattle.std.specs.Prelude.{ℕ, min, List, [], ◌∷◌, ◌++◌, Bool, Option, Some, None, Result, Ok, Err, bytes_eq, codes, count_by, map, nat_eq, ◌==◌, if◌then◌else◌, option_map}
 use Rattle.std.specs.List.{flat_map, starts_with}
-use Rattle.std.specs.Option.{option_and_then}
 use Rattle.std.specs.Str.Lossy.{utf8_lossy}
 use Rattle.xb_text.specs.Pieces.{cut_at, pieces, pieces_left}
 use Rattle.xb_csv.specs.Cells.{trimmed}
-use Rattle.xb_csv.specs.Gpiomons.{first_word, wire_of_edge, word_after}
+use Rattle.xb_csv.specs.Gpiomons.{wire_of_edge}
 use Rattle.xb_csv.specs.Tables.{is_seconds}
 use Rattle.xb_csv.specs.Written.{numbers_from as decimals_from}
 use Rattle.xb_recording.specs.declared.format.Format.{Format}
@@ -14,22 +13,28 @@ use Rattle.xb_recording.specs.Says.{without_mark}
 use Rattle.xb_riff.specs.declared.head.HeadFault.{HeadFault}
 use Rattle.xb_riff.specs.declared.head.WavFormat.{WavFormat}
 use Rattle.xb_riff.specs.Heads.{Samples, head_of}
+use Rattle.xb_vcd.specs.VcdTexts.{words_of}
 use Rattle.xb_wires.specs.declared.found.TheConstants.{MOST_COLUMNS}
 
 -- the numbers from this one on, so many of them
 abbrev pub numbers_from : ℕ → ℕ → List (List ℕ)
 numbers_from first count = decimals_from first count
 
--- the name that a line of a VCD declares: `$var`, a kind, `1`, which is its bits, a code, and the name
-abbrev pub declared_by : List ℕ × List ℕ → List ℕ × List ℕ → List ℕ → Option (List ℕ)
-declared_by word size name =
-    if bytes_eq word.0 (codes "$var") && bytes_eq size.0 (codes "1") && not (length name == 0) then Some name else None
+-- a text, whose bytes that are no UTF-8 are U+FFFD
+abbrev pub names_if : Option (List ℕ) → List (List ℕ)
+names_if None = []
+names_if (Some name) = utf8_lossy name ∷ []
 
-abbrev pub declared_name : List ℕ → Option (List ℕ)
-declared_name line =
-    let word = first_word line in
-    let size = word_after (word_after word) in
-    declared_by word size (word_after (word_after size)).0
+-- the name that the words after `$var` declare: a kind, `1`, which is its bits, a code, and the name
+abbrev pub declared_name : List (List ℕ) → Option (List ℕ)
+declared_name (kind ∷ size ∷ code ∷ name ∷ rest) = if bytes_eq size (codes "1") then Some name else None
+declared_name words = None
+
+-- the names that words of a VCD declare, after each `$var`
+abbrev pub declared_names : List (List ℕ) → List (List ℕ)
+declared_names [] = []
+declared_names (word ∷ rest) =
+    (if bytes_eq word (codes "$var") then names_if (declared_name rest) else []) ++ declared_names rest
 
 -- the names after the colon of sigrok's comment on its channels
 abbrev pub channel_cells : List ℕ → Option (List ℕ)
@@ -41,11 +46,6 @@ abbrev pub header_cells : List (List ℕ) → List (List ℕ)
 header_cells [] = []
 header_cells (label ∷ cells) = if is_seconds (trimmed label) then cells else []
 
--- a text, whose bytes that are no UTF-8 are U+FFFD
-abbrev pub names_if : Option (List ℕ) → List (List ℕ)
-names_if None = []
-names_if (Some name) = utf8_lossy name ∷ []
-
 abbrev pub cell_names : List (List ℕ) → List (List ℕ)
 cell_names cells = map (λ cell. utf8_lossy (trimmed cell)) cells
 
@@ -55,7 +55,7 @@ column_names line = numbers_from 1 (min (count_by (λ byte. byte == 44) line) MO
 
 -- the names in a line
 abbrev pub line_names : Format → List ℕ → List (List ℕ)
-line_names formats.Vcd line = names_if (declared_name line)
+line_names formats.Vcd line = declared_names (words_of line)
 line_names formats.Gpiomon line = names_if (wire_of_edge line)
 line_names formats.Sigrok line = cell_names (pieces_left 44 (channel_cells line))
 line_names formats.Saleae line = cell_names (header_cells (pieces 44 line))

@@ -2,29 +2,30 @@
 ghost use Rattle.std.specs.Prelude.{◌≡◌, ◌+◌, ◌∷◌, ◌≤◌, [], IfOk, OnOk, Some, is_some, option_copied, option_map, ◌||◌};
 ghost use Rattle.xb_riff.specs.Heads.{head_of};
 ghost use Rattle.xb_text.specs.Pieces.{pieces, pieces_left};
+ghost use Rattle.xb_vcd.specs.VcdTexts.{words_of};
 ghost use Rattle.xb_wires.specs.Names.{all_added, named_by, named_in};
-ghost use Rattle.xb_wires.specs.Wires.{cell_names, channel_cells, channels_of, column_names, declared_name, format_in, header_cells, line_names, names_if, names_told, numbers_from, text_names};
+ghost use Rattle.xb_wires.specs.Wires.{cell_names, channel_cells, channels_of, column_names, declared_name, declared_names, format_in, header_cells, line_names, names_if, names_told, numbers_from, text_names};
 
 use crate::names::WireNames;
 use std::alloc::{AllocError, Global};
-use xb_csv::{first_word, is_seconds, trimmed, wire_of_edge};
+use xb_csv::{is_seconds, trimmed, wire_of_edge};
 use xb_recording::{Format, without_mark};
 use xb_riff::{HeadFault, WavFormat, WavHead};
 use xb_text::{cut_at, first_piece};
+use xb_vcd::next_word;
 
 // Of how many columns of a table the numbers are taken.
 const MOST_COLUMNS: usize = 33;
 
-// The name of the wire that a line of a VCD declares, if that has one bit.
-fn declared_name(line: &[u8]) -> Option<&[u8]>
-    ensures { option_copied result ≡ declared_name line.now }
+// The name of the wire that the words after `$var` declare, if that has one bit.
+fn declared_name(words: &[u8]) -> Option<&[u8]>
+    ensures { option_copied result ≡ declared_name (words_of words.now) }
 {
-    let (word, rest) = first_word(line);
-    let (_, rest) = first_word(rest);
-    let (size, rest) = first_word(rest);
-    let (_, rest) = first_word(rest);
-    let (name, _) = first_word(rest);
-    if word == b"$var".as_slice() && size == b"1".as_slice() && !name.is_empty() {
+    let (_, rest) = next_word(words)?;
+    let (size, rest) = next_word(rest)?;
+    let (_, rest) = next_word(rest)?;
+    let (name, _) = next_word(rest)?;
+    if size == b"1".as_slice() {
         Some(name)
     } else {
         None
@@ -101,10 +102,26 @@ impl Finder {
         }
     }
 
+    // The names that the words of a line of a VCD declare.
+    fn add_declared(&mut self, line: &[u8]) -> Result<(), AllocError>
+        ensures { OnOk result (named_in self.new.found
+            ≡ all_added (named_in self.old.found) (declared_names (words_of line.now))) }
+    {
+        let mut left = line;
+        while let Some((word, rest)) = next_word(left) {
+            if word == b"$var".as_slice() {
+                self.add_if(declared_name(rest))?;
+            }
+            left = rest;
+        }
+        Ok(())
+    }
+
     // The cells of a text, without the blanks around them.
     fn add_cells(&mut self, cells: Option<&[u8]>) -> Result<(), AllocError>
         ensures { OnOk result (named_in self.new.found
-            ≡ all_added (named_in self.old.found) (cell_names (pieces_left 44 (option_copied cells.entry)))) }
+            ≡ all_added (named_in self.old.found)
+            (cell_names (pieces_left 44 (option_copied cells.entry)))) }
     {
         let mut left = cells;
         while let Some(text) = left {
@@ -142,7 +159,7 @@ impl Finder {
             ≡ all_added (named_in self.old.found) (line_names format line.now)) }
     {
         match format {
-            Format::Vcd => self.add_if(declared_name(line)),
+            Format::Vcd => self.add_declared(line),
             Format::Gpiomon => self.add_if(wire_of_edge(line)),
             Format::Sigrok => self.add_cells(channel_cells(line)),
             Format::Saleae => self.add_cells(header_cells(line)),

@@ -1,6 +1,7 @@
 //! The wires of a recording: their names, as its beginning tells them, and how many edges each has.
 //!
-//! - `list_wires` (`ListsWires` in `Listing`): the names and edges of the wires of a recording as it comes.
+//! - `list_wires` (`ListsWires` in `Listing`): the names and edges of the wires of a recording as it comes; or why they
+//!   are not listed (`IsUnlisted`): it tells no form, or a read failed, or memory ran out.
 //! - `wires_named` (`names_told` in `Wires`): the names of the wires of a form, each once, in the order in which they
 //!   come first in the beginning of a recording (`named_by` in `Names`): those that a VCD declares, that a CSV has in
 //!   its header or its comment, or that the edges of gpiomon have, and else numbers. At most 32 are kept.

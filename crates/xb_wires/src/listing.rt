@@ -3,7 +3,7 @@ ghost use Rattle.std.specs.Prelude.{◌≡◌, ◌<◌, ◌≤◌, ◌++◌, ◌
 ghost use Rattle.std.specs.Io.KnownBytes.{Consumes, IsAtEnd, prepend_known};
 ghost use Rattle.xb_recording.specs.Beginnings.{form_told};
 ghost use Rattle.xb_recording.specs.Says.{is_text};
-ghost use Rattle.xb_wires.specs.Listing.{CountsMore, CountsOn, CountsRest, HasEdges, IsCount, ListsWires, edges_of, is_each};
+ghost use Rattle.xb_wires.specs.Listing.{CountsMore, CountsOn, CountsRest, BeginsUntold, HasEdges, IsCount, IsFromOutside, IsUnlisted, ListsWires, edges_of, is_each};
 
 use crate::counts::EdgeCounts;
 use crate::found::wires_named;
@@ -36,9 +36,6 @@ pub enum ListFault {
     /// Its form is told by nothing, or it is a file of several.
     #[error("the recording: {0}")]
     Untold(Refusal),
-    /// It is refused, so that its edges are not counted.
-    #[error("the recording: {0}")]
-    Refused(Refusal),
     /// A read failed, an interrupted one too.
     #[error("the recording could not be read")]
     Read,
@@ -57,27 +54,71 @@ impl From<AllocError> for ListFault {
     }
 }
 
-impl From<Refusal> for ListFault {
-    ghost use Rattle.xb_wires.specs.declared.listing.ListFault.TheVariants.{Refused};
+// A read that failed.
+#[derive(Clone, Copy)]
+struct ReadFailed;
+
+impl From<ReadFailed> for ListFault {
+    ghost use Rattle.xb_wires.specs.declared.listing.ListFault.TheVariants.{Read};
+
+    ghost from_gives = { λ _ e. e ≡ Read };
+
+    fn from(_failed: ReadFailed) -> ListFault {
+        ListFault::Read
+    }
+}
+
+// Why the edges of a recording are not counted.
+#[derive(Clone, Copy)]
+enum CountFault {
+    // It is refused.
+    Refused(Refusal),
+    // A read failed.
+    Read,
+    // Memory ran out.
+    NoMemory,
+}
+
+impl From<AllocError> for CountFault {
+    ghost use Rattle.xb_wires.specs.declared.listing.CountFault.TheVariants.{NoMemory};
+
+    ghost from_gives = { λ _ e. e ≡ NoMemory };
+
+    fn from(_error: AllocError) -> CountFault {
+        CountFault::NoMemory
+    }
+}
+
+impl From<Refusal> for CountFault {
+    ghost use Rattle.xb_wires.specs.declared.listing.CountFault.TheVariants.{Refused};
 
     ghost from_gives = { λ refusal e. e ≡ Refused refusal };
 
-    fn from(refusal: Refusal) -> ListFault {
-        ListFault::Refused(refusal)
+    fn from(refusal: Refusal) -> CountFault {
+        CountFault::Refused(refusal)
+    }
+}
+
+impl From<ReadFailed> for CountFault {
+    ghost use Rattle.xb_wires.specs.declared.listing.CountFault.TheVariants.{Read};
+
+    ghost from_gives = { λ _ e. e ≡ Read };
+
+    fn from(_failed: ReadFailed) -> CountFault {
+        CountFault::Read
     }
 }
 
 // Reads once.
-fn read_once<R: Read>(input: &mut R, buffer: &mut [u8]) -> Result<usize, ListFault>
+fn read_once<R: Read>(input: &mut R, buffer: &mut [u8]) -> Result<usize, ReadFailed>
     ensures within { IfOk result (λ n. n ≤ length buffer.old) }
     ensures bytes { IfOk result (λ n.
         Consumes (R.remaining input.old) (R.remaining input.new) (take n buffer.new)) }
     ensures end { result ≡ Ok 0 → 0 < length buffer.old → IsAtEnd (R.remaining input.new) }
-    ensures failed { IfErr result (λ fault. fault ≡ ListFault.Read) }
 {
     match input.read(buffer) {
         Ok(n) => Ok(n),
-        Err(_) => Err(ListFault::Read),
+        Err(_) => Err(ReadFailed),
     }
 }
 
@@ -87,6 +128,7 @@ fn read_beginning<R: Read>(alloc: Global, input: &mut R) -> Result<(Vec<u8>, boo
         Consumes (R.remaining input.old) (R.remaining input.new) read.0.items) }
     ensures end { IfOk result (λ read. read.1 ≡ true → IsAtEnd (R.remaining input.new)) }
     ensures long { IfOk result (λ read. read.1 ≡ false → MOST_BEGINNING_BYTES ≤ length read.0.items) }
+    ensures failed { IfErr result IsFromOutside }
 {
     let mut bytes = Vec::new(alloc);
     let mut buffer = [0u8; BUFFER_BYTES];
@@ -103,8 +145,11 @@ fn read_beginning<R: Read>(alloc: Global, input: &mut R) -> Result<(Vec<u8>, boo
 // The form of a recording, the one that is asked for or else that which its beginning tells.
 fn form_of(asked: Option<Format>, beginning: &[u8], is_end: bool) -> Result<Format, ListFault>
     ensures asked { IfOk result (λ format. IfSome asked (λ named. format ≡ named)) }
-    ensures told { IfOk result (λ format. IfNone asked ((later : List ℕ) → (is_end ≡ true → later ≡ [])
+    ensures told { IfOk result (λ format. IfNone asked
+        ((later : List ℕ) → (is_end ≡ true → later ≡ [])
         → form_told (beginning.now ++ later) ≡ Some format)) }
+    ensures none { IfErr result (λ fault. asked ≡ None) }
+    ensures untold { IfErr result (BeginsUntold beginning.now is_end) }
 {
     if let Some(format) = asked {
         return Ok(format);
@@ -125,7 +170,7 @@ struct Counter<'a> {
 
 impl<'a> Counter<'a> {
     // A byte of a text.
-    fn take_byte(&mut self, byte: u8) -> Result<(), ListFault>
+    fn take_byte(&mut self, byte: u8) -> Result<(), CountFault>
         ensures { OnOk result (CountsOn self.old (byte ∷ []) self.new) }
     {
         self.reader.take_byte(byte, &mut self.events)?;
@@ -134,7 +179,7 @@ impl<'a> Counter<'a> {
     }
 
     // A piece of a text.
-    fn take_text(&mut self, piece: &[u8]) -> Result<(), ListFault>
+    fn take_text(&mut self, piece: &[u8]) -> Result<(), CountFault>
         ensures { OnOk result (CountsOn self.old piece.now self.new) }
     {
         for byte in piece {
@@ -144,7 +189,7 @@ impl<'a> Counter<'a> {
     }
 
     // A piece of samples.
-    fn take_samples(&mut self, piece: &[u8]) -> Result<(), ListFault>
+    fn take_samples(&mut self, piece: &[u8]) -> Result<(), CountFault>
         requires { is_text self.old.reader.source ≡ false }
         ensures { OnOk result (CountsOn self.old piece.now self.new) }
     {
@@ -154,7 +199,7 @@ impl<'a> Counter<'a> {
     }
 
     // A piece of a recording.
-    fn take(&mut self, piece: &[u8]) -> Result<(), ListFault>
+    fn take(&mut self, piece: &[u8]) -> Result<(), CountFault>
         ensures { OnOk result (CountsOn self.old piece.now self.new) }
     {
         if self.reader.is_text() {
@@ -165,7 +210,7 @@ impl<'a> Counter<'a> {
     }
 
     // All that an input has.
-    fn take_all<R: Read>(&mut self, input: &mut R) -> Result<(), ListFault>
+    fn take_all<R: Read>(&mut self, input: &mut R) -> Result<(), CountFault>
         ensures counted { OnOk result
             (CountsMore self.old self.new (R.remaining input.old) (R.remaining input.new)) }
         ensures end { OnOk result (IsAtEnd (R.remaining input.new)) }
@@ -178,11 +223,11 @@ impl<'a> Counter<'a> {
             }
             self.take(&buffer[..n])?;
         }
-        Err(ListFault::Read)
+        Err(CountFault::Read)
     }
 
     // The end of the recording.
-    fn end(&mut self) -> Result<(), ListFault>
+    fn end(&mut self) -> Result<(), CountFault>
         ensures { OnOk result (CountsRest self.old [] self.new.counts.seen.items) }
     {
         self.reader.end(&mut self.events)?;
@@ -191,7 +236,7 @@ impl<'a> Counter<'a> {
     }
 
     // All of a recording of which this was read already.
-    fn take_whole<R: Read>(&mut self, beginning: &[u8], input: &mut R) -> Result<(), ListFault>
+    fn take_whole<R: Read>(&mut self, beginning: &[u8], input: &mut R) -> Result<(), CountFault>
         ensures { OnOk result (IfSome (prepend_known beginning.now (R.remaining input.old))
             (λ text. CountsRest self.old text self.new.counts.seen.items)) }
     {
@@ -226,7 +271,7 @@ fn count<R: Read>(
     wanted: &Wanted<'_>,
     beginning: &[u8],
     input: &mut R,
-) -> Result<Vec<u64>, ListFault>
+) -> Result<Vec<u64>, CountFault>
     ensures { IfOk result (λ edges. IfSome (prepend_known beginning.now (R.remaining input.old))
         (λ text. HasEdges format wanted.now text edges.items)) }
 {
@@ -263,9 +308,10 @@ fn edges_named<R: Read>(
     beginning: &[u8],
     input: &mut R,
 ) -> Result<Option<Vec<u64>>, ListFault>
-    ensures { IfOk result (λ counted. IfSome counted (λ edges.
+    ensures counted { IfOk result (λ counted. IfSome counted (λ edges.
         IfSome (prepend_known beginning.now (R.remaining input.old))
         (λ text. IsCount format (map string_bytes names.now) sound.0 sound.1 text edges.items))) }
+    ensures failed { IfErr result IsFromOutside }
 {
     let wanted = Wanted {
         wires: lent(alloc, names)?,
@@ -275,9 +321,11 @@ fn edges_named<R: Read>(
     };
     match count(alloc, format, &wanted, beginning, input) {
         Ok(edges) => Ok(Some(edges)),
-        Err(ListFault::Refused(Refusal::NoMemory)) => Err(ListFault::NoMemory),
-        Err(ListFault::Refused(_)) => Ok(None),
-        Err(fault) => Err(fault),
+        Err(CountFault::Refused(Refusal::NoMemory)) | Err(CountFault::NoMemory) => {
+            Err(ListFault::NoMemory)
+        }
+        Err(CountFault::Refused(_)) => Ok(None),
+        Err(CountFault::Read) => Err(ListFault::Read),
     }
 }
 
@@ -291,8 +339,10 @@ pub fn list_wires<R: Read>(
     sound: (Option<u64>, Threshold),
     input: &mut R,
 ) -> Result<Listing, ListFault>
-    ensures { IfOk result (λ listing. IfSome (R.remaining input.old)
+    ensures listed { IfOk result (λ listing. IfSome (R.remaining input.old)
         (λ text. ListsWires asked sound.0 sound.1 text listing)) }
+    ensures fault { IfErr result (λ fault. IfSome (R.remaining input.old)
+        (λ text. IsUnlisted asked text fault)) }
 {
     let (beginning, is_end) = read_beginning(alloc, input)?;
     let format = form_of(asked, &beginning, is_end)?;

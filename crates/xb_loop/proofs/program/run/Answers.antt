@@ -1,7 +1,8 @@
 use Rattle.std.proofs.Common.{rules, string_bytes, subst}
 use Rattle.xb_loop.proofs.Attended.{fails_to_print, lists_instead}
 use Rattle.xb_feed.specs.Feeding.{FailsToListen, ListensTo}
-use Rattle.xb_loop.specs.Program.{header, with_release}
+use Rattle.xb_recording.specs.Says.{names_in}
+use Rattle.xb_loop.specs.Program.{IsFaultOfRecording, header, with_release}
 use Rattle.xb_loop.specs.Watching.{by_rows}
 use Rattle.xb_loop.proofs.program.run.Goals as goal
 
@@ -16,8 +17,9 @@ returns-clause-fault g c =
     let request = c.args.request in
     let before = c.in_ok-before.before.items in
     let release = c.in_ok-before.release_ms in
-    fails_to_print files request c.in-Err.fault c.fault_of_recording.result _ _ _ c.fault_of_recording.ensures.plain
-    c.fault_of_recording.ensures.names (
+    let named : IsFaultOfRecording (names_in request.wanted) c.in-Err.fault c.fault_of_recording.result =
+    (rw c.deref-in-Err.ensures.value at c.fault_of_recording.ensures) in
+    fails_to_print files request c.in-Err.fault c.fault_of_recording.result _ _ _ named (
       before,
       release,
       record { text = c.in_ok-before.ensures.text; release_is = c.in_ok-before.ensures.release },

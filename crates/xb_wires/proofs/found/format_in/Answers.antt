@@ -1,4 +1,4 @@
-use Rattle.std.proofs.Common.{◌≡◌, Err, Some, rules, subst, sym, ◌∙◌, Option, ℕ, ap}
+use Rattle.std.proofs.Common.{◌≡◌, Err, rules, subst, ◌∙◌, Option, ℕ}
 use Rattle.xb_riff.specs.declared.head.WavFormat.{WavFormat}
 use Rattle.xb_riff.specs.Heads.{TakesHead}
 use Rattle.xb_wires.proofs.Heads.{head_found, head_refused}

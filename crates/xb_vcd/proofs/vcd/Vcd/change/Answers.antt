@@ -1,6 +1,5 @@
-use Rattle.std.proofs.Common.{rules, ◌≡◌, true, None, get_or, arith}
+use Rattle.std.proofs.Common.{rules, arith}
 use Rattle.std.proofs.lemmas.List.Folds.{list_any_at}
-use Rattle.xb_vcd.specs.VcdChanges.{has_code}
 use Rattle.xb_vcd.proofs.vcd.Vcd.change.Goals as goal
 
 pub returns-in_err-say-clause-memory : goal.returns-in_err-say-clause-memory

@@ -1,6 +1,6 @@
-use Rattle.std.proofs.Common.{◌≡◌, ◌∷◌, true, ap, sym, rules, ◌∙◌}
+use Rattle.std.proofs.Common.{◌≡◌, true, ap, sym, rules, ◌∙◌}
 use Rattle.std.specs.Prelude.{is_some, option_copied, ◌||◌}
-use Rattle.xb_text.specs.Pieces.{pieces, pieces_left}
+use Rattle.xb_text.specs.Pieces.{pieces_left}
 use Rattle.xb_wires.specs.Names.{all_added, named_in}
 use Rattle.xb_wires.specs.Wires.{names_in_lines}
 use Rattle.xb_wires.proofs.FoundNames.{lines_added}
