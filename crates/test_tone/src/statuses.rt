@@ -27,7 +27,7 @@ impl Program for Mftone {
 }
 
 const USAGE: &[u8] = b"mftone: usage: mftone [--line N] [--entry N] [--lead N] [--kp N] [--key N] \
-[--gap N] [--raw]\n";
+[--gap N] [--raw] [--keys WORDS]\n";
 
 // The words after the program's name, the page, the status, and what stands on standard error; nothing is
 // written.
@@ -105,6 +105,32 @@ const CASES: &[(&[&str], &[u8], u8, &[u8])] = &[
         1,
         b"mftone: cadence: the silence after a tone is too short or too long\n",
     ),
+    // no page is read for words of keys
+    (
+        &["--keys", "  "],
+        PAGE,
+        1,
+        b"mftone: keys: there is no word\n",
+    ),
+    (
+        &["--keys", "KP 5x ST"],
+        PAGE,
+        1,
+        b"mftone: keys: word 2, at byte 4, is no key and no sound\n",
+    ),
+    (
+        &["--keys", " 12  4000:10"],
+        PAGE,
+        1,
+        b"mftone: keys: word 2, at byte 6, is no key and no sound\n",
+    ),
+    (
+        &["--keys", "silence:9 300+301+302+303:10"],
+        PAGE,
+        1,
+        b"mftone: keys: word 2, at byte 11, is too loud for 16 bits\n",
+    ),
+    (&["--keys", "KP", "--line", "7"], PAGE, 2, USAGE),
     (&["--entry", "1"], PAGE, 2, USAGE),
     (&["--line", "x"], PAGE, 2, USAGE),
     (&["--speed", "10"], PAGE, 2, USAGE),

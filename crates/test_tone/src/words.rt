@@ -1,6 +1,7 @@
 // The words of each fault, as the table of faults has them.
 use std::test::Fail;
 use xb_page::PageFault;
+use xb_signal::{KeysFault, Place};
 use xb_sound::CadenceFault;
 use xb_tone::ToneFault;
 
@@ -21,6 +22,19 @@ const WORDS: &[(ToneFault, &str)] = &[
         ToneFault::Cadence(CadenceFault::Gap),
         "cadence: the silence after a tone is too short or too long",
     ),
+    (
+        ToneFault::Keys(KeysFault::NoWord(Place { word: 2, byte: 4 })),
+        "keys: word 2, at byte 4, is no key and no sound",
+    ),
+    (
+        ToneFault::Keys(KeysFault::Loud(Place { word: 3, byte: 10 })),
+        "keys: word 3, at byte 10, is too loud for 16 bits",
+    ),
+    (
+        ToneFault::Keys(KeysFault::NoWords),
+        "keys: there is no word",
+    ),
+    (ToneFault::Keys(KeysFault::NoMemory), "keys: out of memory"),
     (ToneFault::Read, "the page could not be read"),
     (ToneFault::TooLong, "the page is longer than 67108864 bytes"),
     (

@@ -1,6 +1,7 @@
 -- What the words of the command line ask for, as clap reads them.
-use Rattle.std.specs.Prelude.{ℕ, List, Option, Some, None, codes, min, option_map}
-use Rattle.clap.specs.Walk.{Row, Text}
+use Rattle.std.specs.Prelude.{ℕ, ◌≡◌, ◌&&◌, ◌||◌, List, Bool, if◌then◌else◌, Option, Some, None, codes, is_some, min, option_map}
+use Rattle.std.specs.Borrow.{Bor}
+use Rattle.clap.specs.Walk.{Row, Text, first_of}
 use Rattle.xb_command.specs.Given.{AskForNothing, AsksFor, ReadsFlag, ReadsNumber, given_by}
 use Rattle.xb_sound.specs.Cadences.{standard_cadence}
 use Rattle.xb_sound.specs.declared.cadence.Cadence.{Cadence}
@@ -49,10 +50,26 @@ request_of options = option_map (λ entries. record {
   raw = options.raw;
 }) (choice_of options.line options.entry)
 
--- clap takes the words, and they ask for this
-abbrev pub Asks : List Text → Request → Type 0
-Asks words request = AsksFor command_of_words Say request_of words request
+-- words of keys sound in place of a page, so that no line and no entry is named
+abbrev pub request_with : Options → Bool → Option Request
+request_with options has_keys =
+    if has_keys && (is_some options.line || is_some options.entry) then None else request_of options
 
--- clap refuses the words, or they ask for an entry without its line
+-- the words of keys
+abbrev pub named : Option (Bor Text) → Option Text
+named keys = option_map (λ text. text.now) keys
+
+-- what clap matched says these options, and these words of keys
+abbrev pub SayAll : List Row → Options × Option Text → Type 0
+SayAll rows (options, keys) = Say rows options × (keys ≡ first_of (codes "keys") rows)
+
+abbrev pub asked_of : Options × Option Text → Option (Request × Option Text)
+asked_of (options, keys) = option_map (λ request. (request, keys)) (request_with options (is_some keys))
+
+-- clap takes the words, and they ask for this, and for these words of keys
+abbrev pub Asks : List Text → Request → Option Text → Type 0
+Asks words request keys = AsksFor command_of_words SayAll asked_of words (request, keys)
+
+-- clap refuses the words, or they ask for an entry without its line, or for words of keys and a line or an entry
 abbrev pub AreRefused : List Text → Type 0
-AreRefused words = AskForNothing command_of_words Say request_of words
+AreRefused words = AskForNothing command_of_words SayAll asked_of words

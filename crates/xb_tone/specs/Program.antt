@@ -1,5 +1,5 @@
 -- What the program did, by its status.
-use Rattle.std.specs.Prelude.{ℕ, ◌≡◌, ◌++◌, List, codes, true, None, Err, Ok}
+use Rattle.std.specs.Prelude.{ℕ, ◌≡◌, ◌++◌, List, codes, true, Option, None, Err, Ok}
 use Rattle.std.specs.List.{list_all}
 use Rattle.std.specs.Io.KnownBytes.{Keeps}
 use Rattle.clap.specs.Walk.{Text}
@@ -9,7 +9,7 @@ use Rattle.xb_command.specs.Usages.{names_option}
 use Rattle.xb_tone.specs.declared.fault.ToneFault.{ToneFault}
 use Rattle.xb_tone.specs.declared.request.Request.{Request}
 use Rattle.xb_tone.specs.Options.{AreRefused, Asks}
-use Rattle.xb_tone.specs.Sounding.{Delivers, JudgesCadence}
+use Rattle.xb_tone.specs.Sounding.{JudgesCadence, Plays}
 use Rattle.xb_tone.specs.Rules.{command_of_words}
 
 -- the program's name
@@ -20,27 +20,29 @@ program = codes "mftone"
 abbrev pub usage_line : List ℕ
 usage_line =
     codes "mftone: usage: mftone [--line N] [--entry N] [--lead N] [--kp N] [--key N] "
-    ++ codes "[--gap N] [--raw]\n"
+    ++ codes "[--gap N] [--raw] [--keys WORDS]\n"
 
 -- it names each option of the command
 abbrev pub UsageNamesEachOption : Type 0
 UsageNamesEachOption = list_all (λ rule. names_option usage_line rule.id) command_of_words.top.rules ≡ true
 
--- the words ask for something, and exactly the sound of the calls was written
+-- the words ask for something, and exactly the sound of the calls, or of the keys, was written
 pub record WritesSound (words : List Text) (old new : Streams) : Type 0 where
   pub request : Request
-  pub asks : Asks words request
+  pub keys : Option Text
+  pub asks : Asks words request keys
   pub judged : JudgesCadence request.cadence (Ok tt)
-  pub sound : Delivers request old.input (Ok tt) old.output new.output
+  pub sound : Plays request keys (Ok tt) old.input new.input old.output new.output
   pub quiet : Keeps old.errors new.errors
 
 -- they ask for something that gave a fault, of which a line was told
 pub record HasFault (words : List Text) (old new : Streams) : Type 0 where
   pub request : Request
+  pub keys : Option Text
   pub fault : ToneFault
-  pub asks : Asks words request
+  pub asks : Asks words request keys
   pub judged : JudgesCadence request.cadence (Err fault)
-  pub sound : Delivers request old.input (Err fault) old.output new.output
+  pub sound : Plays request keys (Err fault) old.input new.input old.output new.output
   pub line : Tells program None old.errors new.errors
 
 -- what the program did with its words and its streams

@@ -16,8 +16,9 @@ options =
     ∷ (codes "key", takes.Number)
     ∷ (codes "gap", takes.Number)
     ∷ (codes "raw", takes.Nothing)
+    ∷ (codes "keys", takes.Text)
     ∷ []
 
--- `mftone [--line N] [--entry N] [--lead N] [--kp N] [--key N] [--gap N] [--raw]`
+-- `mftone [--line N] [--entry N] [--lead N] [--kp N] [--key N] [--gap N] [--raw] [--keys WORDS]`
 abbrev pub command_of_words : App
 command_of_words = command_of (codes "mftone") options

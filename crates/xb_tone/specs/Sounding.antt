@@ -1,5 +1,5 @@
 -- What is written of a page.
-use Rattle.std.specs.Prelude.{◌≡◌, ℕ, ◌^◌, ◌<◌, ◌≤◌, ◌==◌, ◌&&◌, if◌then◌else◌, List, [], Bool, true, false, length, Option, Result, Ok, Err, IfSome}
+use Rattle.std.specs.Prelude.{◌≡◌, ℕ, ◌^◌, ◌<◌, ◌≤◌, ◌==◌, ◌&&◌, if◌then◌else◌, List, [], Bool, true, false, length, Option, None, Some, Result, Ok, Err, IfSome}
 use Rattle.std.specs.Io.KnownBytes.{Appends, Keeps}
 use Rattle.std.specs.List.{filter, flat_map, list_any}
 use Rattle.xb_model.specs.declared.mark.Mark.{Mark}
@@ -14,6 +14,10 @@ use Rattle.xb_sound.specs.Sounds.{sound_of}
 use Rattle.xb_sound.specs.Cadences.{IsFirstMisfit, IsLawful}
 use Rattle.xb_sound.specs.Wavs.{pcm_of, wav_length, wav_of}
 use Rattle.xb_sound.specs.declared.cadence.Cadence.{Cadence}
+use Rattle.xb_signal.specs.declared.segment.Segment.{Segment}
+use Rattle.xb_signal.specs.Segments.{signal_of}
+use Rattle.xb_signal.specs.Texts.{segments_of_text}
+use Rattle.xb_signal.specs.Writings.{bytes_of as bytes_of_signal}
 use Rattle.xb_tone.specs.declared.fault.ToneFault.{ToneFault}
 use Rattle.xb_tone.specs.declared.fault.ToneFault.TheVariants as fault
 use Rattle.xb_tone.specs.declared.request.Choice.{Choice}
@@ -96,3 +100,30 @@ Delivers request page (Err fault.TooLongSound) old new =
     Keeps old new × IfSome page (λ text. (marks : List Mark) × Names request.choice text marks
     × (2 ^ 32 ≤ wav_length (sound_of request.cadence marks)))
 Delivers request page (Err f) old new = Keeps old new
+
+-- words of keys say segments, of which these are the bytes
+pub record SaysBytes (request : Request) (text bytes : List ℕ) : Type 0 where
+  pub segments : List Segment
+  pub said : segments_of_text request.cadence text ≡ Ok segments
+  pub are_bytes : bytes ≡ bytes_of_signal request.raw segments
+
+-- what is returned for words of keys, and what the writer got of them: the sound on Ok, its beginning where a write
+-- failed, and nothing on any other fault; there are no faults of pages
+abbrev pub DeliversKeys : Request → List ℕ → Result (Unit {0}) ToneFault → Option (List ℕ) → Option (List ℕ) → Type 0
+DeliversKeys request text (Ok u) old new = (bytes : List ℕ) × SaysBytes request text bytes × Appends old new bytes
+DeliversKeys request text (Err fault.Write) old new =
+    (bytes : List ℕ) × SaysBytes request text bytes × AppendsBeginning old new bytes
+DeliversKeys request text (Err (fault.Keys f)) old new =
+    Keeps old new × (segments_of_text request.cadence text ≡ Err f)
+DeliversKeys request text (Err fault.TooLongSound) old new =
+    Keeps old new × ((segments : List Segment) × (segments_of_text request.cadence text ≡ Ok segments)
+    × (2 ^ 32 ≤ wav_length (signal_of segments)))
+DeliversKeys request text (Err fault.NoMemory) old new = Keeps old new
+DeliversKeys request text (Err (fault.Cadence f)) old new = Keeps old new
+DeliversKeys request text (Err f) old new = ⊥
+
+-- words of keys sound in place of a page, which then is not read
+abbrev pub Plays : Request → Option (List ℕ) → Result (Unit {0}) ToneFault
+    → Option (List ℕ) → Option (List ℕ) → Option (List ℕ) → Option (List ℕ) → Type 0
+Plays request None result page left old new = Delivers request page result old new
+Plays request (Some text) result page left old new = Keeps page left × DeliversKeys request text result old new

@@ -4,6 +4,7 @@ ghost use Rattle.std.specs.Prelude.{◌≡◌};
 use std::alloc::AllocError;
 use thiserror::Error;
 use xb_page::PageFault;
+use xb_signal::{KeysFault, SignalFault};
 use xb_sound::{CadenceFault, SoundFault};
 use xb_text::ReadFault;
 
@@ -14,6 +15,9 @@ pub enum ToneFault {
     /// A time of the cadence is out of its range.
     #[error("cadence: {0}")]
     Cadence(CadenceFault),
+    /// The words of keys make no signal.
+    #[error("keys: {0}")]
+    Keys(KeysFault),
     /// A read of the page failed, an interrupted one too.
     #[error("the page could not be read")]
     Read,
@@ -100,6 +104,33 @@ impl From<SoundFault> for ToneFault {
             SoundFault::TooLong => ToneFault::TooLongSound,
             SoundFault::NoMemory => ToneFault::CutShort,
             SoundFault::Write => ToneFault::Write,
+        }
+    }
+}
+
+impl From<KeysFault> for ToneFault {
+    ghost use Rattle.xb_tone.specs.Faults.{IsOfKeys};
+
+    ghost from_gives = { IsOfKeys };
+
+    fn from(fault: KeysFault) -> ToneFault {
+        match fault {
+            KeysFault::NoMemory => ToneFault::NoMemory,
+            fault => ToneFault::Keys(fault),
+        }
+    }
+}
+
+impl From<SignalFault> for ToneFault {
+    ghost use Rattle.xb_tone.specs.Faults.{of_signal};
+
+    ghost from_gives = { λ fault e. e ≡ of_signal fault };
+
+    fn from(fault: SignalFault) -> ToneFault {
+        match fault {
+            SignalFault::TooLong => ToneFault::TooLongSound,
+            SignalFault::NoMemory => ToneFault::NoMemory,
+            SignalFault::Write => ToneFault::Write,
         }
     }
 }

@@ -4,12 +4,15 @@
 //!   they have some mark. On `Write` and `CutShort` it got the beginning of it, on any other fault nothing.
 //!   `NoEntry`, `Refused` and `TooLongSound` come only where they are true of the page. The cadence is judged
 //!   before the page: every result but a fault of the cadence comes only of a lawful one.
+//! - `play_keys`: the same of words of keys (`xb_signal`). `Keys` comes exactly of the first word that is none, or too
+//!   loud, and nothing is read.
 //! - `attend`: `Attends` of this. `laws::usage_names_each_option`.
 //!
 //! Not said: how much memory a run takes.
 #![tactic(auto)]
 
 mod fault;
+mod keying;
 pub mod laws;
 mod playing;
 mod program;
@@ -17,6 +20,7 @@ mod request;
 mod words;
 
 pub use fault::ToneFault;
+pub use keying::play_keys;
 pub use playing::play;
 pub use program::attend;
-pub use request::{Choice, Request};
+pub use request::{Asked, Choice, Request};

@@ -3,8 +3,8 @@ ghost use Rattle.xb_command.specs.Programs.{streams};
 ghost use Rattle.xb_command.specs.Commands.{texts_of};
 ghost use Rattle.xb_tone.specs.Program.{AttendsTone};
 
-use crate::playing::play;
-use crate::words::request_of_words;
+use crate::keying::play_asked;
+use crate::words::asked_by_words;
 use std::alloc::Global;
 use std::io::{Read, Write};
 use xb_command::{DONE, tell_fault, tell_words};
@@ -14,13 +14,14 @@ pub(crate) const PROGRAM: &str = "mftone";
 
 // The line of refused words.
 const USAGE: &[u8] = b"mftone: usage: mftone [--line N] [--entry N] [--lead N] [--kp N] [--key N] \
-[--gap N] [--raw]\n";
+[--gap N] [--raw] [--keys WORDS]\n";
 
 /// Reads the words of the command line, the program's name first, and by them writes the sound of a page's
-/// calls, as `play` does. It returns the status of the process:
+/// calls, as `play` does, or of words of keys, as `play_keys` does, and then the page is not read. It returns the
+/// status of the process:
 ///
 /// - `DONE`: the words ask for something, `out` got exactly its sound, and `err` nothing;
-/// - `FAULT`: `play` has a fault, or memory ran out while the words were read; `err` gets the fault as
+/// - `FAULT`: `play` or `play_keys` has a fault, or memory ran out while the words were read; `err` gets the fault as
 ///   one line, and `out` got nothing, or the beginning of the sound where this was not written whole;
 /// - `WORDS_REFUSED`: the words are refused, or ask for help; `err` gets the usage as one line, the
 ///   page is not read and `out` got nothing.
@@ -37,8 +38,8 @@ pub fn attend<R: Read, W: Write, E: Write>(
         (streams (R.remaining page.old) (W.contents out.old) (E.contents err.old))
         (streams (R.remaining page.new) (W.contents out.new) (E.contents err.new)) result }
 {
-    match request_of_words(alloc, words) {
-        Ok(request) => match play(alloc, request, page, out) {
+    match asked_by_words(alloc, words) {
+        Ok(asked) => match play_asked(alloc, asked.request, asked.keys, page, out) {
             Ok(()) => DONE,
             Err(fault) => tell_fault(alloc, err, PROGRAM, fault),
         },

@@ -23,3 +23,12 @@ pub struct Request {
     /// The samples alone, in place of a WAV file.
     pub raw: bool,
 }
+
+/// What the words ask for.
+#[derive(Clone, Copy, Debug)]
+pub struct Asked<'a> {
+    /// Which calls sound, and how.
+    pub request: Request,
+    /// The words of keys that sound in place of a page's calls.
+    pub keys: Option<&'a str>,
+}

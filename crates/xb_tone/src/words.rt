@@ -1,10 +1,10 @@
 // What the words of the command line ask for.
 ghost use Rattle.std.specs.Prelude.{◌≡◌, IfErr, IfOk};
 ghost use Rattle.xb_command.specs.Commands.{texts_of};
-ghost use Rattle.xb_tone.specs.Options.{AreRefused, Asks, Say, cadence_of, choice_of, request_of, time_of};
+ghost use Rattle.xb_tone.specs.Options.{AreRefused, Asks, Say, cadence_of, choice_of, named, request_of, request_with, time_of};
 
 use crate::program::PROGRAM;
-use crate::request::{Choice, Request};
+use crate::request::{Asked, Choice, Request};
 use std::alloc::Global;
 use xb_command::{Takes, Words, WordsFault, read_words};
 use xb_sound::Cadence;
@@ -22,7 +22,7 @@ pub(crate) struct Options {
 }
 
 // The options of the program, each under its name.
-const OPTIONS: [(&str, Takes); 7] = [
+const OPTIONS: [(&str, Takes); 8] = [
     ("line", Takes::Number),
     ("entry", Takes::Number),
     ("lead", Takes::Number),
@@ -30,6 +30,7 @@ const OPTIONS: [(&str, Takes); 7] = [
     ("key", Takes::Number),
     ("gap", Takes::Number),
     ("raw", Takes::Nothing),
+    ("keys", Takes::Text),
 ];
 
 // What the words say.
@@ -98,13 +99,33 @@ fn request_of(options: Options) -> Option<Request>
     })
 }
 
-/// What the words ask for: all entries of the page, those of a line, or one of these, by the standard
-/// cadence with each time that is given in place of its own, as a WAV file or as samples alone. A time over
-/// 65,535 ms counts as that.
-pub fn request_of_words(alloc: Global, words: &[String]) -> Result<Request, WordsFault>
-    ensures asks { IfOk result (λ request. Asks (texts_of words.now) request) }
-    ensures refused { IfErr result (λ f. f ≡ WordsFault.Refused → AreRefused (texts_of words.now)) }
+// What the options ask for, beside words of keys that are given or not; `None` also where they are, and a line or an
+// entry is named.
+fn request_with(options: Options, has_keys: bool) -> Option<Request>
+    ensures { result ≡ request_with options has_keys }
+{
+    if has_keys && (options.line.is_some() || options.entry.is_some()) {
+        None
+    } else {
+        request_of(options)
+    }
+}
+
+/// What the words ask for: all entries of the page, those of a line, or one of these, or words of keys in their place,
+/// by the standard cadence with each time that is given in place of its own, as a WAV file or as samples alone. A time
+/// over 65,535 ms counts as that.
+pub(crate) fn asked_by_words<'a>(
+    alloc: Global,
+    words: &'a [String],
+) -> Result<Asked<'a>, WordsFault>
+    ensures asks { IfOk result (λ asked. Asks (texts_of words.entry.now) asked.request (named asked.keys)) }
+    ensures refused { IfErr result (λ f. f ≡ WordsFault.Refused
+        → AreRefused (texts_of words.entry.now)) }
 {
     let words = read_words(alloc, PROGRAM, &OPTIONS, words)?;
-    request_of(options_of(&words)).ok_or(WordsFault::Refused)
+    let keys = words.text("keys");
+    match request_with(options_of(&words), keys.is_some()) {
+        Some(request) => Ok(Asked { request, keys }),
+        None => Err(WordsFault::Refused),
+    }
 }

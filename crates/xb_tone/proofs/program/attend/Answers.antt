@@ -1,7 +1,24 @@
+use Rattle.std.proofs.Common.{arith}
 use Rattle.std.proofs.KnownBytes.{Keeps-refl}
 use Rattle.xb_command.proofs.WordsTold.{TellsOfWords-attends}
+use Rattle.xb_tone.specs.Options.{named}
 use Rattle.xb_tone.specs.Program.{program, usage_line}
 use Rattle.xb_tone.proofs.program.attend.Goals as goal
+
+pub returns-in-Ok-play_asked : goal.returns-in-Ok-play_asked
+returns-in-Ok-play_asked g c = record {
+  statuses = omega arith;
+  done = λ e. record {
+    request = c.in-Ok.asked.request;
+    keys = named c.in-Ok.asked.keys;
+    asks = c.in-Ok.ensures.asks;
+    judged = c.in-Ok-play_asked.ensures.judged;
+    sound = c.in-Ok-play_asked.ensures.sound;
+    quiet = Keeps-refl _;
+  };
+  fault = λ e. absurd (omega (arith, e));
+  refused = λ e. absurd (omega (arith, e));
+}
 
 pub returns-in-Err : goal.returns-in-Err
 returns-in-Err g c =

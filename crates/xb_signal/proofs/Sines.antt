@@ -1,0 +1,90 @@
+-- The waves of multiples of 100 Hz are the sines of marks.
+use Rattle.std.proofs.Common.{◌≡◌, ◌∙◌, ℕ, zero, suc, ◌+◌, ◌*◌, ◌/◌, ◌%◌, ◌<◌, ◌≤◌, List, [], ◌∷◌, map, replicate, sym, ap, arith, refl, leb, ℤ, pos, negsuc, ◌+ℤ◌, ◌-ℤ◌, unsigned_abs}
+use Rattle.std.specs.List.{range_with_len}
+use Rattle.std.proofs.lemmas.Bool.{le-leb, leb-true}
+use Rattle.std.proofs.lemmas.Int.{ints}
+use Rattle.std.proofs.lemmas.Nat.{div-add-mod', mod-mul-add, mod_below}
+use Rattle.std.proofs.Math.Nat.{mul-div_cancel}
+use Rattle.xb_model.specs.MfPairs.{pair}
+use Rattle.xb_sound.specs.Sines.{pair_sample, sine_at, sine_sample, sine_table}
+use Rattle.xb_sound.specs.Sounds.{silence, tone_sound}
+use Rattle.xb_sound.proofs.SineTables.{holds_below, sine_at-small}
+use Rattle.xb_signal.specs.Segments.{tones_sound}
+use Rattle.xb_signal.specs.SignalLaws.{QuarterIsRound, WavesAreSines, lie_on_circle}
+use Rattle.xb_signal.specs.Waves.{cut, mixed, quarter, wave_at, wave_sample}
+
+same : (x y : ℤ) → unsigned_abs (x -ℤ y) ≤ 0 → x ≡ y
+same x y near = omega (arith, ints)
+
+at-hundreds : (p : ℕ) → p < 80 → wave_at (p * 100) ≡ sine_at p
+unfolding quarter sine_table
+at-hundreds p below =
+    same _ _ (leb-true _ _ (holds_below (λ p. leb (unsigned_abs (wave_at (p * 100) -ℤ sine_at p)) 0) 80 0 refl p
+    (omega arith) (omega arith)))
+
+-- the place in the period of 8,000 is that of 80, a hundred times
+place : (h n : ℕ) → h * 100 * n % 8000 ≡ h * n % 80 * 100
+place h n =
+    let q : ℕ = h * n / 80 in
+    let r : ℕ = h * n % 80 in
+    let below : r < 80 = mod_below (h * n) 80 (omega arith) in
+    let whole : q * 80 + r ≡ h * n = div-add-mod' (h * n) 80 in
+    let e : h * 100 * n ≡ h * n * 100 = omega arith in
+    let parts : h * n * 100 ≡ q * 8000 + r * 100 = omega (arith, whole) in
+    ap (λ (m : ℕ). m % 8000) (e ∙ parts) ∙ mod-mul-add q 8000 (r * 100) (omega (arith, below))
+
+place-whole : (h n : ℕ) → h * 100 * n / 100 ≡ h * n
+place-whole h n =
+    let e : h * 100 * n ≡ h * n * 100 = omega arith in
+    ap (λ (m : ℕ). m / 100) e ∙ mul-div_cancel (h * n) (omega arith)
+
+pub waves_are_sines : WavesAreSines
+waves_are_sines h n =
+    ap (λ (p : ℕ). wave_at p) (place h n)
+    ∙ at-hundreds (h * n % 80) (mod_below (h * n) 80 (omega arith))
+    ∙ sym (ap (λ (m : ℕ). sine_at (m % 80)) (place-whole h n))
+
+pub quarter_is_round : QuarterIsRound
+unfolding quarter lie_on_circle
+quarter_is_round = refl
+
+cut-small : (x : ℤ) → unsigned_abs x ≤ 20000 → cut x ≡ x
+cut-small (pos x) small = rw (le-leb x 32767 (omega arith)) refl
+cut-small (negsuc x) small = rw (le-leb x 32767 (omega arith)) refl
+
+sum-small : (x y : ℤ) → unsigned_abs x ≤ 10000 → unsigned_abs y ≤ 10000 → unsigned_abs (x +ℤ y) ≤ 20000
+sum-small x y small_x small_y = omega (arith, ints)
+
+sum-zero : (x y : ℤ) → x +ℤ (y +ℤ pos 0) ≡ x +ℤ y
+sum-zero x y = omega (arith, ints)
+
+pair-wave : (a b n : ℕ) → cut (mixed (a * 100 ∷ b * 100 ∷ []) n) ≡ pair_sample (pair (a * 100) (b * 100)) n
+pair-wave a b n =
+    let x : ℤ = sine_sample (a * 100) n in
+    let y : ℤ = sine_sample (b * 100) n in
+    ap cut (sum-zero (wave_sample (a * 100) n) (wave_sample (b * 100) n)
+    ∙ ap (λ (z : ℤ). z +ℤ wave_sample (b * 100) n) (waves_are_sines a n)
+    ∙ ap (λ (z : ℤ). x +ℤ z) (waves_are_sines b n))
+    ∙ cut-small (x +ℤ y) (sum-small x y (sine_at-small _) (sine_at-small _))
+
+same-waves : (f g : ℕ → ℤ) → ((n : ℕ) → f n ≡ g n) → (m i : ℕ) → map f (range_with_len i m) ≡ map g (range_with_len i m)
+same-waves f g is zero i = refl
+same-waves f g is (suc m) i =
+    ap (λ (x : ℤ). x ∷ map f (range_with_len (i + 1) m)) (is i)
+    ∙ ap (λ (xs : List ℤ). g i ∷ xs) (same-waves f g is m (i + 1))
+
+-- two frequencies sound as the tone of a mark
+pub pair-sound : (a b ms : ℕ) → tones_sound (a * 100 ∷ b * 100 ∷ []) ms ≡ tone_sound (pair (a * 100) (b * 100)) ms
+pair-sound a b ms =
+    same-waves (λ n. cut (mixed (a * 100 ∷ b * 100 ∷ []) n)) (λ n. pair_sample (pair (a * 100) (b * 100)) n)
+    (pair-wave a b) (ms * 8) 0
+
+zeros : (f : ℕ → ℤ) → ((n : ℕ) → f n ≡ pos 0) → (m i : ℕ) → map f (range_with_len i m) ≡ replicate m (pos 0)
+zeros f is zero i = refl
+zeros f is (suc m) i =
+    ap (λ (x : ℤ). x ∷ map f (range_with_len (i + 1) m)) (is i)
+    ∙ ap (λ (xs : List ℤ). pos 0 ∷ xs) (zeros f is m (i + 1))
+
+-- no frequency is silence
+pub silent-sound : (ms : ℕ) → tones_sound [] ms ≡ silence ms
+silent-sound ms = zeros (λ n. cut (mixed [] n)) (λ n. refl) (ms * 8) 0

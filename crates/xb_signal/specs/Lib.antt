@@ -1,0 +1,9 @@
+pub mod Waves
+pub mod Segments
+pub mod Names
+pub mod Words
+pub mod ReadTones
+pub mod Texts
+pub mod TextSteps
+pub mod Writings
+pub mod SignalLaws

@@ -1,0 +1,77 @@
+-- What is heard of keys by their names, and what ties the waves to the tones of marks.
+use Rattle.std.specs.Prelude.{◌≡◌, ℕ, ◌+◌, ◌*◌, ◌^◌, List, [], ◌∷◌, Bool, true, ◌&&◌, codes, map, nat_le, reverse, Ok, ℤ}
+use Rattle.std.specs.List.{AllByRecursion, flat_map}
+use Rattle.xb_model.specs.declared.key.Key.{Key as PageKey}
+use Rattle.xb_model.specs.declared.mark.Mark.TheVariants.{Trunk}
+use Rattle.xb_model.specs.Keyings.{tone}
+use Rattle.xb_sound.specs.declared.cadence.Cadence.{Cadence}
+use Rattle.xb_sound.specs.Cadences.{IsLawful}
+use Rattle.xb_sound.specs.HeardKeys.{IsKey, frequencies_of, keys_heard}
+use Rattle.xb_sound.specs.Receiver.{heard}
+use Rattle.xb_sound.specs.Sines.{sine_sample}
+use Rattle.xb_sound.specs.Sounds.{sound_of}
+use Rattle.xb_sound.specs.WorkedSounds.{short}
+use Rattle.xb_signal.specs.declared.name.Name.{Name}
+use Rattle.xb_signal.specs.declared.name.Name.TheVariants.{Key, Kp2, StPrime, StTwoPrimes, StThreePrimes}
+use Rattle.xb_signal.specs.Names.{pair_of}
+use Rattle.xb_signal.specs.Segments.{signal_of, silent}
+use Rattle.xb_signal.specs.Texts.{segments_of_text}
+use Rattle.xb_signal.specs.Waves.{quarter, wave_sample}
+use Rattle.xb_signal.specs.Words.{key_segments}
+
+-- of a multiple of 100 Hz each sample is that of the tones of marks
+abbrev pub WavesAreSines : Type 0
+WavesAreSines = (h n : ℕ) → wave_sample (h * 100) n ≡ sine_sample (h * 100) n
+
+abbrev is_near : ℕ → ℕ → Bool
+is_near x y = nat_le (x ^ 2 + y ^ 2) (10 ^ 8 + 15000) && nat_le (10 ^ 8) (x ^ 2 + y ^ 2 + 15000)
+
+-- whether sample by sample two lists lie on a circle of radius 10,000, to three quarters of a unit
+unfoldable pub lie_on_circle : List ℕ → List ℕ → Bool
+lie_on_circle [] ys = true
+lie_on_circle (x ∷ xs) [] = true
+lie_on_circle (x ∷ xs) (y ∷ ys) = is_near x y && lie_on_circle xs ys
+
+-- the quarter forwards is a sine, and backwards its cosine
+abbrev pub QuarterIsRound : Type 0
+QuarterIsRound = lie_on_circle quarter (reverse quarter) ≡ true
+
+abbrev pub IsName : Name → Type 0
+IsName (Key key) = IsKey key
+IsName Kp2 = Unit {0}
+IsName StPrime = Unit {0}
+IsName StTwoPrimes = Unit {0}
+IsName StThreePrimes = Unit {0}
+
+-- keys by their names, after the silence before them
+abbrev pub named : Cadence → List Name → List ℤ
+named cadence names = signal_of (silent cadence.lead_ms ∷ flat_map (key_segments cadence) names)
+
+abbrev pub names_of : List PageKey → List Name
+names_of keys = map (λ key. Key key) keys
+
+-- keys that a page has sound as its marks do
+abbrev pub KeysSoundAsMarks : Type 0
+KeysSoundAsMarks = (cadence : Cadence) (trunk : ℕ) (keys : List PageKey) → AllByRecursion IsKey keys
+    → named cadence (names_of keys) ≡ sound_of cadence (Trunk trunk ∷ map tone keys)
+
+-- so these keys are heard
+abbrev pub KeysAreHeard : Type 0
+KeysAreHeard = (cadence : Cadence) (keys : List PageKey) → IsLawful cadence → AllByRecursion IsKey keys
+    → keys_heard (named cadence (names_of keys)) ≡ keys
+
+-- and of any keys the two frequencies of each
+abbrev pub NamesAreHeard : Type 0
+NamesAreHeard = (cadence : Cadence) (names : List Name) → IsLawful cadence → AllByRecursion IsName names
+    → heard (named cadence names) ≡ map (λ name. frequencies_of (pair_of name)) names
+
+-- a text with tones and silences of 1 ms
+abbrev pub WorkedText : Type 0
+WorkedText = segments_of_text short (codes "KP 40 ST'' 2600+2400:3 silence:2") ≡ Ok (
+    silent 1
+    ∷ record { tones = 1100 ∷ 1700 ∷ []; ms = 1 } ∷ silent 1
+    ∷ record { tones = 700 ∷ 1300 ∷ []; ms = 1 } ∷ silent 1
+    ∷ record { tones = 1300 ∷ 1500 ∷ []; ms = 1 } ∷ silent 1
+    ∷ record { tones = 1300 ∷ 1700 ∷ []; ms = 1 } ∷ silent 1
+    ∷ record { tones = 2600 ∷ 2400 ∷ []; ms = 3 }
+    ∷ silent 2 ∷ [])

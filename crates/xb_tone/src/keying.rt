@@ -1,0 +1,48 @@
+// From words of keys to their sound on a writer.
+ghost use Rattle.std.specs.Prelude.{◌≡◌, IfErr, IfOk};
+ghost use Rattle.xb_tone.specs.Options.{named};
+ghost use Rattle.xb_tone.specs.Sounding.{DeliversKeys, JudgesCadence, Plays};
+
+use crate::fault::ToneFault;
+use crate::playing::play;
+use crate::request::Request;
+use std::alloc::Global;
+use std::io::{Read, Write};
+use xb_signal::{segments_of_text, write_signal};
+
+/// Writes the sound of words of keys. The cadence is judged before the words, and all words before anything is written.
+/// What the request says of entries counts for nothing.
+///
+/// On an `Err` nothing was written, except on `Write`, where the beginning of the sound was.
+pub fn play_keys<W: Write>(
+    alloc: Global,
+    request: Request,
+    words: &str,
+    out: &mut W,
+) -> Result<(), ToneFault>
+    ensures judged { JudgesCadence request.cadence result }
+    ensures sound { DeliversKeys request words.now result (W.contents out.old) (W.contents out.new) }
+{
+    request.cadence.check()?;
+    let segments = segments_of_text(alloc, request.cadence, words.as_bytes())?;
+    write_signal(alloc, request.raw, &segments, out)?;
+    Ok(())
+}
+
+// Writes the sound of words of keys, where they are given, or else of a page's calls.
+pub(crate) fn play_asked<R: Read, W: Write>(
+    alloc: Global,
+    request: Request,
+    keys: Option<&str>,
+    page: &mut R,
+    out: &mut W,
+) -> Result<(), ToneFault>
+    ensures judged { JudgesCadence request.cadence result }
+    ensures sound { Plays request (named keys.entry) result (R.remaining page.old) (R.remaining page.new)
+        (W.contents out.old) (W.contents out.new) }
+{
+    match keys {
+        Some(words) => play_keys(alloc, request, words, out),
+        None => play(alloc, request, page, out),
+    }
+}
