@@ -28,8 +28,8 @@ fn difference(over: u32, under: u32) -> i64
     i64::from(over) - i64::from(under)
 }
 
-// The object of a key.
-fn object_of(alloc: Global, figures: &Figures) -> Result<Value, AllocError>
+/// The object of a key. `Err` says that memory ran out.
+pub fn object_of(alloc: Global, figures: &Figures) -> Result<Value, AllocError>
     ensures { IfOk result (λ value. view value ≡ object_of figures.now) }
 {
     let low = difference(figures.low, ZERO_DBM0);
