@@ -1,7 +1,8 @@
 """usage: scripts/tries/times.py SINCE OBJECTS TIMED
 
-Compares what mflive prints of one deck as OBJECTS, and as TIMED counted from SINCE: each object has to be the same, and to
-have its ms after SINCE as times of day too, which are added by Python's datetime. scripts/tries/live calls it.
+Compares what mflive prints of one deck, or mfrx of one sound, as OBJECTS, and as TIMED counted from SINCE: each object has
+to be the same, and to have its ms after SINCE as times of day too, which are added by Python's datetime. scripts/tries/live
+and scripts/tries/received call it.
 """
 import json
 import sys
@@ -13,7 +14,7 @@ with open(sys.argv[2]) as plain, open(sys.argv[3]) as timed:
 if len(objects) != len(others):
     sys.exit(f"times.py: {len(objects)} objects, and {len(others)} with times of day")
 for wanted, told in zip(objects, others):
-    for name in ("from", "at"):
+    for name in ("from", "at", "to"):
         if f"{name}_ms" in wanted:
             text = told.get(name, "")
             if not text.endswith("Z"):

@@ -51,6 +51,18 @@ const FIRST_ENTRY: &[u8] =
 const SECOND_ENTRY: &[u8] =
     b"{\"doubts\":[],\"entry\":2,\"from_ms\":1575,\"keys\":[\"KP\",\"1\",\"ST\"],\"sent\":\"1\",\"to_ms\":1947}\n";
 
+// Of the first of them, from 2027-12-31 20:59:58.75 three hours behind UTC on, the first object and the last: the times of
+// day are reckoned with Python's datetime.
+const TIMED_OBJECT: &[u8] = b"{\"at\":\"2027-12-31T23:59:59.25Z\",\"at_ms\":500,\"gap_ms\":null,";
+
+const TIMED_ENTRY: &[u8] =
+    b"{\"doubts\":[],\"entry\":1,\"from\":\"2027-12-31T23:59:59.25Z\",\"from_ms\":500,\
+\"keys\":[\"KP\",\"5\",\"0\",\"ST\"],\"sent\":\"50\",\"to\":\"2027-12-31T23:59:59.757Z\",\"to_ms\":1007}\n";
+
+// The fault where the ST ends after the last instant that there is.
+const LATE: &[u8] =
+    b"mfrx: the time 1007 ms after the first sample is past 9999-12-30T22:00:00.999999999Z\n";
+
 // Keyings that are heard, and their differences from the page of the tests, which has 5 0 as entry 1 and 2 as entry 3:
 // none, two, one that is heard twice, one that is not heard, and both in the other order. The places are those of the KPs
 // by that receiver.
@@ -134,16 +146,26 @@ const SPOILT: &[Spoilt] = &[
     },
 ];
 
-// What the program writes of a file by some words, and what it tells of it.
-fn heard_in(alloc: Global, file: &[u8], options: &[&str]) -> Result<(Vec<u8>, Vec<u8>), Fail> {
+// What the program writes of a file by some words, and what it tells of it, with this status.
+fn heard_by(
+    alloc: Global,
+    file: &[u8],
+    options: &[&str],
+    wanted: u8,
+) -> Result<(Vec<u8>, Vec<u8>), Fail> {
     let words = words_of(alloc, "mfrx", options)?;
     let mut reader = file;
     let mut out = Vec::new(alloc);
     let mut err = Vec::new(alloc);
-    if attend(alloc, &words, &FOLDER, &mut reader, &mut out, &mut err) != 0 {
+    if attend(alloc, &words, &FOLDER, &mut reader, &mut out, &mut err) != wanted {
         return Err("another status".into());
     }
     Ok((out, err))
+}
+
+// The same with status 0.
+fn heard_in(alloc: Global, file: &[u8], options: &[&str]) -> Result<(Vec<u8>, Vec<u8>), Fail> {
+    heard_by(alloc, file, options, 0)
 }
 
 // Fails where a spoilt file is heard otherwise.
@@ -212,6 +234,21 @@ fn tells_each_key(rt: HostRuntime) -> Result<(), Fail> {
     assert!(rt; objects.ends_with(SECOND_ENTRY));
     let first = written(rt.alloc(), &[&[5, 0]], &["--json"], 0)?;
     assert!(rt; first.ends_with(FIRST_ENTRY));
+    Ok(())
+}
+
+#[test]
+fn tells_times_of_day(rt: HostRuntime) -> Result<(), Fail> {
+    let alloc = rt.alloc();
+    let file = sound(alloc, &[&[5, 0]])?;
+    let since = ["--json", "--since", "2027-12-31T20:59:58.75-03:00"];
+    let (objects, _) = heard_in(alloc, &file, &since)?;
+    assert!(rt; objects.starts_with(TIMED_OBJECT));
+    assert!(rt; objects.ends_with(TIMED_ENTRY));
+    let late = ["--json", "--since", "9999-12-30T22:00:00Z"];
+    let (objects, told) = heard_by(alloc, &file, &late, 1)?;
+    assert!(rt; objects.split(|byte| *byte == b'\n').count() == 4);
+    assert!(rt; told.as_slice() == LATE);
     Ok(())
 }
 

@@ -27,7 +27,7 @@ impl Program for Mfrx {
 }
 
 const USAGE: &[u8] =
-    b"mfrx: usage: mfrx [--line N] [--trunk T] [--tones] [--json] [--against PAGE] [--channel N] [--raw [--rate HZ] [--ulaw] [--channels N]]\n";
+    b"mfrx: usage: mfrx [--line N] [--trunk T] [--tones] [--json [--since TIME]] [--against PAGE] [--channel N] [--raw [--rate HZ] [--ulaw] [--channels N]]\n";
 
 // A file of two samples of silence, after a chunk of three bytes that says nothing.
 const FILE: &[u8] = b"RIFF\x34\0\0\0WAVELIST\x03\0\0\0abc\0\
@@ -120,6 +120,8 @@ const CASES: &[(&[&str], &[u8], u8, &[u8], &[u8])] = &[
     ),
     (&["--against", "none", "--tones"], FILE, 2, b"", USAGE),
     (&["--json", "--line", "7"], FILE, 2, b"", USAGE),
+    (&["--since", "2027-12-31T23:59:58.75Z"], FILE, 2, b"", USAGE),
+    (&["--json", "--since", "2027-12-31"], FILE, 2, b"", USAGE),
     (&["--help"], FILE, 2, b"", USAGE),
 ];
 

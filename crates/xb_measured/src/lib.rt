@@ -6,7 +6,7 @@
 //! - `figures_of`: the figures of a key, by the last key before it. `misses`: all limits that they miss, of
 //!   length, gap, twist and level; `verdict_text`: their words, or GOOD. `length_fits`: whether they keep to
 //!   the first.
-//! - `text_line` is exactly the line of the figures, and `object_line` the same as a JSON object.
+//! - `text_line` is exactly the line of the figures, and `object_line` the same as a JSON object (`object_of`).
 //! - `Meter`: how loud a sound is in which no key was heard (`quiet_line`).
 //! - `end_ms`: when a key ended. `seconds_text`: a time in seconds.
 //! - `laws::tenths_are_nearest`: the tenths of a dB of a level are the nearest to its decibels.
@@ -27,6 +27,6 @@ pub use figures::{Figures, end_ms, figures_of, start_ms};
 pub use lines::text_line;
 pub use meaning::Meaning;
 pub use meter::Meter;
-pub use objects::object_line;
+pub use objects::{object_line, object_of};
 pub use seconds::seconds_text;
 pub use verdicts::{KEY_MS, KP_MS, Limit, MOST_OFF_MS, length_fits, misses, verdict_text};

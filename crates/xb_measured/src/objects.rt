@@ -50,8 +50,8 @@ fn object_with(alloc: Global, figures: &Figures, verdict: &str) -> Result<Value,
     object_of_members(alloc, &members)
 }
 
-// The object of a key.
-fn object_of(alloc: Global, figures: &Figures) -> Result<Value, AllocError>
+/// The object of a key. `Err` says that memory ran out.
+pub fn object_of(alloc: Global, figures: &Figures) -> Result<Value, AllocError>
     ensures { IfOk result (λ value. view value ≡ object_of figures.now) }
 {
     let verdict = verdict_text(alloc, figures)?;

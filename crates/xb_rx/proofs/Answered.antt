@@ -10,19 +10,19 @@ use Rattle.xb_rx.specs.declared.comparing.CompareProgramFault.{CompareProgramFau
 use Rattle.xb_rx.specs.declared.fault.RxFault.{RxFault}
 use Rattle.xb_rx.specs.declared.request.Request.{Request}
 use Rattle.xb_rx.specs.Comparing.{Compares}
-use Rattle.xb_rx.specs.Hearing.{Delivers, outputs}
+use Rattle.xb_rx.specs.Hearing.{DeliversTimed, outputs}
 use Rattle.xb_rx.specs.Options.{Asks, named}
 use Rattle.xb_rx.specs.Program.{Answers, AttendsRx, program}
 
 module _ (bytes : Bytes) (old new : Streams) (request : Request) (against : Option (Bor (List ℕ))) (status : ℕ) where
   pub hear-done : against ≡ None → status ≡ DONE
-      → Delivers request old.input (Ok tt) (outputs old.output new.output old.errors new.errors)
+      → DeliversTimed request old.input (Ok tt) (outputs old.output new.output old.errors new.errors)
       → Answers bytes request (named against) old new status
   hear-done none done delivers =
       subst (λ (a : Option (Bor (List ℕ))). Answers bytes request (named a) old new status) (sym none) (inl (done, delivers))
 
   pub hear-fault : (fault : RxFault) (told : Option (List ℕ)) → against ≡ None → status ≡ FAULT
-      → Delivers request old.input (Err fault) (outputs old.output new.output old.errors told)
+      → DeliversTimed request old.input (Err fault) (outputs old.output new.output old.errors told)
       → Tells program None told new.errors → Answers bytes request (named against) old new status
   hear-fault fault told none failed delivers line =
       subst (λ (a : Option (Bor (List ℕ))). Answers bytes request (named a) old new status) (sym none)

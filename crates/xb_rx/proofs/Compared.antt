@@ -15,6 +15,8 @@ use Rattle.xb_rx.specs.declared.request.Written.TheVariants as written
 use Rattle.xb_rx.specs.Comparing.{Compares, HasKeyed, IsDifferences, IsFileFault, IsHeard, IsSoundFault, page_request}
 use Rattle.xb_rx.specs.Hearing.{Delivers, Hears, HearsBytes, HearsSound, Outputs, WroteNothing, outputs, sound_by}
 use Rattle.xb_rx.specs.Pages.{fresh_against, heard_entries}
+use Rattle.xb_clock.specs.Clocks.{Clock}
+use Rattle.xb_rx.specs.Timed.{timing_by}
 use Rattle.xb_rx.specs.Reports.{Reported, on_page}
 use Rattle.xb_rx.proofs.WrittenText.{none-written}
 use Rattle.xb_wav.specs.Samples.{Sound}
@@ -38,52 +40,53 @@ of-file (Some known) page P is holds = subst P is holds
 pub heard-against : (how : Input) (keyed : List KeyedEntry) (bytes : Option (List ℕ)) (report : Reported) (out : List ℕ)
     (page : Option (List ℕ)) (result known : Result (Unit {0}) RxFault) (a b : Option (List ℕ))
     → report ≡ on_page (fresh_against keyed) → out ≡ [] → result ≡ known
-    → HearsBytes how report bytes result (outputs (Some out) page a b)
-    → HearsBytes how (on_page (fresh_against keyed)) bytes known (outputs (Some []) page a b)
+    → HearsBytes how None report bytes result (outputs (Some out) page a b)
+    → HearsBytes how None (on_page (fresh_against keyed)) bytes known (outputs (Some []) page a b)
 heard-against how keyed bytes report out page result known a b is none returned heard =
-    subst (λ (r : Reported). HearsBytes how r bytes known (outputs (Some []) page a b)) is
-    (subst (λ (old : List ℕ). HearsBytes how report bytes known (outputs (Some old) page a b)) none
-    (subst (λ (r : Result (Unit {0}) RxFault). HearsBytes how report bytes r (outputs (Some out) page a b)) returned heard))
+    subst (λ (r : Reported). HearsBytes how None r bytes known (outputs (Some []) page a b)) is
+    (subst (λ (old : List ℕ). HearsBytes how None report bytes known (outputs (Some old) page a b)) none
+    (subst (λ (r : Result (Unit {0}) RxFault). HearsBytes how None report bytes r (outputs (Some out) page a b)) returned heard))
 
 -- what is written of a page that is compared are its differences
 pub are-differences : (how : Input) (keyed : List KeyedEntry) (bytes : Option (List ℕ)) (text : List ℕ) (a b : Option (List ℕ))
-    → HearsBytes how (on_page (fresh_against keyed)) bytes (Ok tt) (outputs (Some []) (Some text) a b)
+    → HearsBytes how None (on_page (fresh_against keyed)) bytes (Ok tt) (outputs (Some []) (Some text) a b)
     → IsDifferences how bytes keyed text a b
 are-differences how keyed None text a b (samples, wrote) = (heard_entries (keys_of_sound samples), tt, wrote.page_whole)
 are-differences how keyed (Some bytes) text a b (sound, is, (lacks, wrote)) =
     (heard_entries (keys_of_sound sound.samples), (sound, is, lacks, wrote.told_whole, refl), wrote.page_whole)
 
 -- why it is not heard, as of a page that is not written
-module _ (how : Input) (page a b : Option (List ℕ)) where
+module _ (clock : Clock) (how : Input) (page a b : Option (List ℕ)) where
   none-paged : WroteNothing (outputs (Some []) page a b) → WroteNothing (outputs (Some []) (Some []) a b)
   none-paged none = record { page_kept = Keeps-refl (Some []); told_kept = none.told_kept }
 
   began-paged : (f : RxFault) (bytes : List ℕ) (keyed : List KeyedEntry)
       → ((sound : Sound) × (sound_by how bytes ≡ Ok sound)
-      × Hears (Some sound) (on_page (fresh_against keyed)) (Err f) (outputs (Some []) page a b))
+      × Hears None (Some sound) (on_page (fresh_against keyed)) (Err f) (outputs (Some []) page a b))
       → ((sound : Sound) × (sound_by how bytes ≡ Ok sound)
-      × HearsSound (written.Page 0 0) sound (Err f) (outputs (Some []) (Some []) a b))
+      × HearsSound (timing_by None clock) (written.Page 0 0) sound (Err f) (outputs (Some []) (Some []) a b))
   began-paged f bytes keyed (sound, is, (of, began)) =
       (sound, is, (of, record { page_begun = none-written (Some []) _; told_begun = began.told_begun }))
 
   not-paged : (keyed : List KeyedEntry) (bytes : Option (List ℕ)) (f : RxFault)
-      → HearsBytes how (on_page (fresh_against keyed)) bytes (Err f) (outputs (Some []) page a b)
-      → Delivers (page_request how) bytes (Err f) (outputs (Some []) (Some []) a b)
+      → HearsBytes how None (on_page (fresh_against keyed)) bytes (Err f) (outputs (Some []) page a b)
+      → Delivers clock (page_request how) bytes (Err f) (outputs (Some []) (Some []) a b)
   not-paged keyed None f heard = tt
   not-paged keyed (Some bytes) (fault.Wav f) (is, none) = (is, none-paged none)
   not-paged keyed (Some bytes) fault.Read (inl none) = inl (none-paged none)
   not-paged keyed (Some bytes) fault.Read (inr heard) = inr (began-paged fault.Read bytes keyed heard)
   not-paged keyed (Some bytes) (fault.Cut n) heard = began-paged (fault.Cut n) bytes keyed heard
+  not-paged keyed (Some bytes) (fault.Late ms) heard = began-paged (fault.Late ms) bytes keyed heard
   not-paged keyed (Some bytes) fault.NoMemory heard = began-paged fault.NoMemory bytes keyed heard
   not-paged keyed (Some bytes) fault.Write heard = began-paged fault.Write bytes keyed heard
   not-paged keyed (Some bytes) fault.Tell heard = began-paged fault.Tell bytes keyed heard
 
 pub not-heard : (how : Input) (keyed : List KeyedEntry) (bytes : Option (List ℕ)) (page : Option (List ℕ)) (f : RxFault)
     (a b : Option (List ℕ))
-    → HearsBytes how (on_page (fresh_against keyed)) bytes (Err f) (outputs (Some []) page a b)
+    → HearsBytes how None (on_page (fresh_against keyed)) bytes (Err f) (outputs (Some []) page a b)
     → IsSoundFault how bytes (compare_fault.Sound f) a b
 not-heard how keyed bytes page f a b heard =
-    (Some [], not-paged how page a b keyed bytes f heard)
+    (Some [], λ clock tells. not-paged clock how page a b keyed bytes f heard)
 
 module _ (file : Option (List ℕ)) (how : Input) (bytes : Option (List ℕ)) where
   -- a fault of the file, of which nothing was written

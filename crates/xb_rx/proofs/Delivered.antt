@@ -17,14 +17,17 @@ use Rattle.xb_wav.specs.declared.wav_start.Start.{Start}
 use Rattle.xb_rx.specs.Faults.{of_open}
 use Rattle.xb_rx.specs.declared.request.Input.{Input}
 use Rattle.xb_rx.specs.Hearing.{Delivers, Hears, HearsBytes, HearsSound, Outputs, outputs, sound_after, sound_by, start_by}
+use Rattle.jiff_core.specs.declared.timestamp.Timestamp.{Timestamp}
+use Rattle.xb_clock.specs.Clocks.{Clock}
+use Rattle.xb_rx.specs.Timed.{Timing, timing_by}
 use Rattle.xb_rx.specs.Reports.{Reported, fresh_report}
 use Rattle.xb_wav.specs.Samples.{Sound, sound_of}
 use Rattle.xb_wav.specs.Starts.{Opens}
 
 -- before the first key all is still to be written
-hears-written : (w : Written) (sound : Sound) (result : Result (Unit {0}) RxFault) (outs : Outputs)
-    → Hears (Some sound) (fresh_report w) result outs → HearsSound w sound result outs
-hears-written (written.Page line trunk) sound (Ok u) outs (lacks, wrote) = (
+hears-written : (timing : Timing) (w : Written) (sound : Sound) (result : Result (Unit {0}) RxFault) (outs : Outputs)
+    → Hears timing.since (Some sound) (fresh_report timing w) result outs → HearsSound timing w sound result outs
+hears-written timing (written.Page line trunk) sound (Ok u) outs (lacks, wrote) = (
   lacks,
   record {
     page_whole = subst (λ numbers. Appends outs.page_old outs.page_new (page_after line trunk 0 numbers))
@@ -32,7 +35,7 @@ hears-written (written.Page line trunk) sound (Ok u) outs (lacks, wrote) = (
     told_whole = wrote.told_whole;
   },
 )
-hears-written (written.Page line trunk) sound (Err f) outs (of, began) = (
+hears-written timing (written.Page line trunk) sound (Err f) outs (of, began) = (
   of,
   record {
     page_begun = subst (λ numbers. AppendsBeginning outs.page_old outs.page_new (page_after line trunk 0 numbers))
@@ -40,68 +43,72 @@ hears-written (written.Page line trunk) sound (Err f) outs (of, began) = (
     told_begun = began.told_begun;
   },
 )
-hears-written written.Keys sound (Ok u) outs heard = heard
-hears-written written.Keys sound (Err f) outs heard = heard
-hears-written written.Objects sound (Ok u) outs heard = heard
-hears-written written.Objects sound (Err f) outs heard = heard
+hears-written timing written.Keys sound (Ok u) outs heard = heard
+hears-written timing written.Keys sound (Err f) outs heard = heard
+hears-written timing written.Objects sound (Ok u) outs heard = heard
+hears-written timing written.Objects sound (Err f) outs heard = heard
 
-delivered-sound : (written : Written) (how : Input) (bytes : List ℕ) (result : Result (Unit {0}) RxFault) (outs : Outputs)
-    → ((sound : Sound) × (sound_by how bytes ≡ Ok sound) × Hears (Some sound) (fresh_report written) result outs)
-    → ((sound : Sound) × (sound_by how bytes ≡ Ok sound) × HearsSound written sound result outs)
-delivered-sound written how bytes result outs (sound, is, heard) =
-    (sound, is, hears-written written sound result outs heard)
+delivered-sound : (timing : Timing) (written : Written) (how : Input) (bytes : List ℕ) (result : Result (Unit {0}) RxFault) (outs : Outputs)
+    → ((sound : Sound) × (sound_by how bytes ≡ Ok sound) × Hears timing.since (Some sound) (fresh_report timing written) result outs)
+    → ((sound : Sound) × (sound_by how bytes ≡ Ok sound) × HearsSound timing written sound result outs)
+delivered-sound timing written how bytes result outs (sound, is, heard) =
+    (sound, is, hears-written timing written sound result outs heard)
 
-pub delivered : (request : Request) (bytes : Option (List ℕ)) (result : Result (Unit {0}) RxFault) (outs : Outputs)
-    → HearsBytes request.input (fresh_report request.written) bytes result outs → Delivers request bytes result outs
-delivered request None result outs heard = tt
-delivered request (Some bytes) (Ok u) outs heard = delivered-sound request.written request.input bytes (Ok u) outs heard
-delivered request (Some bytes) (Err fault.Read) outs (inl none) = inl none
-delivered request (Some bytes) (Err fault.Read) outs (inr heard) =
-    inr (delivered-sound request.written request.input bytes (Err fault.Read) outs heard)
-delivered request (Some bytes) (Err (fault.Wav f)) outs heard = heard
-delivered request (Some bytes) (Err (fault.Cut n)) outs heard =
-    delivered-sound request.written request.input bytes (Err (fault.Cut n)) outs heard
-delivered request (Some bytes) (Err fault.NoMemory) outs heard =
-    delivered-sound request.written request.input bytes (Err fault.NoMemory) outs heard
-delivered request (Some bytes) (Err fault.Write) outs heard =
-    delivered-sound request.written request.input bytes (Err fault.Write) outs heard
-delivered request (Some bytes) (Err fault.Tell) outs heard =
-    delivered-sound request.written request.input bytes (Err fault.Tell) outs heard
+pub delivered : (clock : Clock) (request : Request) (bytes : Option (List ℕ)) (result : Result (Unit {0}) RxFault) (outs : Outputs)
+    → HearsBytes request.input request.since (fresh_report (timing_by request.since clock) request.written) bytes result outs
+    → Delivers clock request bytes result outs
+delivered clock request None result outs heard = tt
+delivered clock request (Some bytes) (Ok u) outs heard = delivered-sound (timing_by request.since clock) request.written request.input bytes (Ok u) outs heard
+delivered clock request (Some bytes) (Err fault.Read) outs (inl none) = inl none
+delivered clock request (Some bytes) (Err fault.Read) outs (inr heard) =
+    inr (delivered-sound (timing_by request.since clock) request.written request.input bytes (Err fault.Read) outs heard)
+delivered clock request (Some bytes) (Err (fault.Wav f)) outs heard = heard
+delivered clock request (Some bytes) (Err (fault.Cut n)) outs heard =
+    delivered-sound (timing_by request.since clock) request.written request.input bytes (Err (fault.Cut n)) outs heard
+delivered clock request (Some bytes) (Err (fault.Late ms)) outs heard =
+    delivered-sound (timing_by request.since clock) request.written request.input bytes (Err (fault.Late ms)) outs heard
+delivered clock request (Some bytes) (Err fault.NoMemory) outs heard =
+    delivered-sound (timing_by request.since clock) request.written request.input bytes (Err fault.NoMemory) outs heard
+delivered clock request (Some bytes) (Err fault.Write) outs heard =
+    delivered-sound (timing_by request.since clock) request.written request.input bytes (Err fault.Write) outs heard
+delivered clock request (Some bytes) (Err fault.Tell) outs heard =
+    delivered-sound (timing_by request.since clock) request.written request.input bytes (Err fault.Tell) outs heard
 
-module _ (how : Input) (report : Reported) where
+module _ (how : Input) (since : Option Timestamp) (report : Reported) where
   -- a sound that was opened, and heard
   heard-sound : (bytes : List ℕ) (sound : Sound) (result : Result (Unit {0}) RxFault) (outs : Outputs)
-      → sound_by how bytes ≡ Ok sound → Hears (Some sound) report result outs
-      → HearsBytes how report (Some bytes) result outs
+      → sound_by how bytes ≡ Ok sound → Hears since (Some sound) report result outs
+      → HearsBytes how since report (Some bytes) result outs
   heard-sound bytes sound (Ok u) outs is heard = (sound, is, heard)
   heard-sound bytes sound (Err fault.Read) outs is heard = inr (sound, is, heard)
   heard-sound bytes sound (Err (fault.Wav f)) outs is heard = absurd heard.0
   heard-sound bytes sound (Err (fault.Cut n)) outs is heard = (sound, is, heard)
+  heard-sound bytes sound (Err (fault.Late ms)) outs is heard = (sound, is, heard)
   heard-sound bytes sound (Err fault.NoMemory) outs is heard = (sound, is, heard)
   heard-sound bytes sound (Err fault.Write) outs is heard = (sound, is, heard)
   heard-sound bytes sound (Err fault.Tell) outs is heard = (sound, is, heard)
 
   -- of a sound that is known less can be said
-  heard-some : (all : Option Sound) (result : Result (Unit {0}) RxFault) (outs : Outputs) → Hears all report result outs
-      → Hears None report result outs
+  heard-some : (all : Option Sound) (result : Result (Unit {0}) RxFault) (outs : Outputs) → Hears since all report result outs
+      → Hears since None report result outs
   heard-some None result outs heard = heard
   heard-some (Some sound) (Ok u) outs heard = (sound.samples, heard.1)
   heard-some (Some sound) (Err f) outs heard = tt
 
   pub listened : (old mid : Option (List ℕ)) (start : Start) (result : Result (Unit {0}) RxFault) (outs : Outputs)
       → Opens old (start_by how) (Ok start) mid
-      → Hears (option_map (sound_of start.form start.samples start.counted) mid) report result outs
-      → HearsBytes how report old result outs
+      → Hears since (option_map (sound_of start.form start.samples start.counted) mid) report result outs
+      → HearsBytes how since report old result outs
   listened None mid start result outs opens heard =
       heard-some (option_map (sound_of start.form start.samples start.counted) mid) result outs heard
   listened (Some bytes) mid start result outs (rest, is, left) heard =
       heard-sound bytes (sound_of start.form start.samples start.counted rest) result outs (ap sound_after is)
-      (subst (λ (known : Option (List ℕ)). Hears (option_map (sound_of start.form start.samples start.counted) known)
+      (subst (λ (known : Option (List ℕ)). Hears since (option_map (sound_of start.form start.samples start.counted) known)
       report result outs) left heard)
 
   -- a sound that was not opened
   pub not-listened : (old mid : Option (List ℕ)) (f : OpenFault) (a b : Option (List ℕ))
-      → Opens {A = Start} old (start_by how) (Err f) mid → HearsBytes how report old (Err (of_open f)) (outputs a a b b)
+      → Opens {A = Start} old (start_by how) (Err f) mid → HearsBytes how since report old (Err (of_open f)) (outputs a a b b)
   not-listened None mid f a b opens = tt
   not-listened (Some bytes) mid open_fault.Read a b opens =
       inl (record { page_kept = Keeps-refl a; told_kept = Keeps-refl b })

@@ -1,6 +1,8 @@
 -- What is written of keys that are told one by one.
 use Rattle.std.proofs.Common.{◌≡◌, ◌∙◌, ℕ, List, [], ◌∷◌, ◌++◌, Option, Some, Result, Ok, Err, ap, append-nil, refl, subst, sym}
+use Rattle.std.specs.Prelude.{IfErr, OnOk}
 use Rattle.std.specs.Io.KnownBytes.{Appends}
+use Rattle.jiff_core.specs.declared.timestamp.Timestamp.{Timestamp}
 use Rattle.std.proofs.KnownBytes.{Appends-nil}
 use Rattle.xb_text.specs.Writing.{AppendsBeginning}
 use Rattle.xb_text.proofs.Beginnings.{AppendsBeginning-first}
@@ -10,6 +12,8 @@ use Rattle.xb_measured.specs.Figures.{figures_of}
 use Rattle.xb_measured.specs.Lines.{text_line, text_lines}
 use Rattle.xb_rx.specs.declared.listing.Listing.{Listing}
 use Rattle.xb_rx.specs.declared.page.PageFault.{PageFault}
+use Rattle.xb_rx.specs.declared.timed.ReportFault.{ReportFault}
+use Rattle.xb_rx.specs.Faults.{IsLateFault, reported_page}
 use Rattle.xb_rx.specs.Pages.{Ends, Writes}
 use Rattle.xb_rx.specs.Reports.{listing_rest}
 use Rattle.xb_rx.proofs.WrittenText.{none-written}
@@ -29,17 +33,49 @@ module _ (last : Option Heard) (key : Heard) (line : List ℕ) (a b : Option (Li
     began-key after f wrote = λ later. AppendsBeginning-first a b _ _ (subst (AppendsBeginning a b) is wrote)
 
 -- nothing was, where there was no memory for it
-pub no-key : (before after : List Heard → List ℕ) (r : Result (Unit {0}) PageFault) (f : PageFault) (a : Option (List ℕ))
+pub no-key : {F : Type 0} (before after : List Heard → List ℕ) (r : Result (Unit {0}) F) (f : F) (a : Option (List ℕ))
     → r ≡ Err f → Writes before after r a a
-no-key before after r f a is =
-    subst (λ (s : Result (Unit {0}) PageFault). Writes before after s a a) (sym is) (λ later. none-written a (before later))
+no-key {F = F} before after r f a is =
+    subst (λ (s : Result (Unit {0}) F). Writes before after s a a) (sym is) (λ later. none-written a (before later))
+
+-- a fault of a page is one of what is written
+module _ (r : Result (Unit {0}) PageFault) (s : Result (Unit {0}) ReportFault) (same : s ≡ reported_page r) where
+  pub page-writes : (before after : List Heard → List ℕ) (a b : Option (List ℕ)) → Writes before after r a b
+      → Writes before after s a b
+  page-writes before after a b wrote =
+      subst (λ (t : Result (Unit {0}) ReportFault). Writes before after t a b) (sym same) (by r wrote)
+    where
+      by : (r : Result (Unit {0}) PageFault) → Writes before after r a b → Writes before after (reported_page r) a b
+      by (Ok u) wrote = wrote
+      by (Err f) wrote = wrote
+
+  pub page-ends : (text : List ℕ) (a b : Option (List ℕ)) → Ends text r a b → Ends text s a b
+  page-ends text a b wrote = subst (λ (t : Result (Unit {0}) ReportFault). Ends text t a b) (sym same) (by r wrote)
+    where
+      by : (r : Result (Unit {0}) PageFault) → Ends text r a b → Ends text (reported_page r) a b
+      by (Ok u) wrote = wrote
+      by (Err f) wrote = wrote
+
+  pub page-ok : (P : Type 0) → OnOk r P → OnOk s P
+  page-ok P holds = subst (λ (t : Result (Unit {0}) ReportFault). OnOk t P) (sym same) (by r holds)
+    where
+      by : (r : Result (Unit {0}) PageFault) → OnOk r P → OnOk (reported_page r) P
+      by (Ok u) holds = holds
+      by (Err f) holds = tt
+
+  pub page-late : (since : Option Timestamp) → IfErr s (IsLateFault since)
+  page-late since = subst (λ (t : Result (Unit {0}) ReportFault). IfErr t (IsLateFault since)) (sym same) (by r)
+    where
+      by : (r : Result (Unit {0}) PageFault) → IfErr (reported_page r) (IsLateFault since)
+      by (Ok u) = tt
+      by (Err f) = tt
 
 -- nor is anything told of such keys
-pub nothing-told : (r : Result (Unit {0}) PageFault) (a : Option (List ℕ)) → Writes (λ later. []) (λ later. []) r a a
+pub nothing-told : {F : Type 0} (r : Result (Unit {0}) F) (a : Option (List ℕ)) → Writes (λ later. []) (λ later. []) r a a
 nothing-told (Ok u) a = ([], Appends-nil a, λ later. refl)
 nothing-told (Err f) a = λ later. none-written a []
 
-pub nothing-ended : (r : Result (Unit {0}) PageFault) (a : Option (List ℕ)) → Ends [] r a a
+pub nothing-ended : {F : Type 0} (r : Result (Unit {0}) F) (a : Option (List ℕ)) → Ends [] r a a
 nothing-ended (Ok u) a = Appends-nil a
 nothing-ended (Err f) a = none-written a []
 

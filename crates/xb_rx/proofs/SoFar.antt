@@ -2,6 +2,7 @@
 use Rattle.std.proofs.Common.{◌≡◌, ◌∙◌, ℕ, List, [], ◌∷◌, ◌++◌, Option, Some, None, IfSome, Ok, Err, sym, ap, subst, refl, append_assoc, append-nil, ℤ}
 use Rattle.std.specs.Io.KnownBytes.{Appends}
 use Rattle.std.proofs.KnownBytes.{Appends-nil, Appends-trans}
+use Rattle.jiff_core.specs.declared.timestamp.Timestamp.{Timestamp}
 use Rattle.xb_text.specs.Writing.{AppendsBeginning}
 use Rattle.xb_text.proofs.Beginnings.{AppendsBeginning-first, AppendsBeginning-second}
 use Rattle.xb_ear.specs.declared.hearing.Heard.{Heard}
@@ -14,7 +15,9 @@ use Rattle.xb_rx.specs.declared.page.PageFault.{PageFault}
 use Rattle.xb_rx.specs.declared.page.PageFault.TheVariants as page_fault
 use Rattle.xb_wav.specs.declared.source.StreamFault.{StreamFault}
 use Rattle.xb_wav.specs.declared.source.StreamFault.TheVariants as stream_fault
-use Rattle.xb_rx.specs.Faults.{of_page, of_stream}
+use Rattle.xb_rx.specs.declared.timed.ReportFault.{ReportFault}
+use Rattle.xb_rx.specs.declared.timed.ReportFault.TheVariants as report_fault
+use Rattle.xb_rx.specs.Faults.{IsLateFault, of_page, of_report, of_stream}
 use Rattle.xb_rx.specs.Listeners.{HasListened, quiet_of, quiet_text}
 use Rattle.xb_rx.specs.Pages.{Writes}
 use Rattle.xb_rx.specs.Reports.{Reported, report_rest, told_rest}
@@ -37,13 +40,13 @@ keys-begin earlier later =
 module _ (text : Reported → List Heard → List ℕ) (first : Reported) where
   -- of the first keys this much was written
   abbrev pub Has : Reported → List Heard → Option (List ℕ) → Option (List ℕ) → Type 0
-  Has page keys start out = Writes {F = PageFault} (λ later. text first (keys ++ later)) (text page) (Ok tt) start out
+  Has page keys start out = Writes {F = ReportFault} (λ later. text first (keys ++ later)) (text page) (Ok tt) start out
 
   pub has-none : (out : Option (List ℕ)) → Has first [] out out
   has-none out = ([], Appends-nil out, λ later. refl)
 
   pub has-more : (page new : Reported) (keys more : List Heard) (start out next : Option (List ℕ))
-      → Has page keys start out → Writes {F = PageFault} (λ later. text page (more ++ later)) (text new) (Ok tt) out next
+      → Has page keys start out → Writes {F = ReportFault} (λ later. text page (more ++ later)) (text new) (Ok tt) out next
       → Has new (keys ++ more) start next
   has-more page new keys more start out next (a, wrote, is) (b, also, goes) = (
     a ++ b,
@@ -65,7 +68,7 @@ module _ (text : Reported → List Heard → List ℕ) (first : Reported) where
       whole a wrote = subst (λ bytes. AppendsBeginning start out bytes) (append-nil a)
           (AppendsBeginning-second start out out a [] wrote (0, Appends-nil out))
 
-  pub has-fault : (page new : Reported) (keys more later : List Heard) (f : PageFault) (start out next : Option (List ℕ))
+  pub has-fault : (page new : Reported) (keys more later : List Heard) (f : ReportFault) (start out next : Option (List ℕ))
       → Has page keys start out → Writes (λ later. text page (more ++ later)) (text new) (Err f) out next
       → AppendsBeginning start next (text first ((keys ++ more) ++ later))
   has-fault page new keys more later f start out next (a, wrote, is) begun =
@@ -86,10 +89,16 @@ module _ (text : Reported → List Heard → List ℕ) (first : Reported) where
       (AppendsBeginning-second start out next a (text page more) wrote rest)
 
 -- a fault of a page says nothing of the sound
-page-fault : (sound : Sound) (f : PageFault) → IsFaultOf sound (of_page f)
-page-fault sound page_fault.NoMemory = tt
-page-fault sound page_fault.Write = tt
-page-fault sound page_fault.Tell = tt
+page-fault : (since : Option Timestamp) (sound : Sound) (f : PageFault) → IsFaultOf since sound (of_page f)
+page-fault since sound page_fault.NoMemory = tt
+page-fault since sound page_fault.Write = tt
+page-fault since sound page_fault.Tell = tt
+
+-- a time of day that is too late is past the last instant
+report-fault : (since : Option Timestamp) (sound : Sound) (f : ReportFault) → IsLateFault since f
+    → IsFaultOf since sound (of_report f)
+report-fault since sound (report_fault.Page f) late = page-fault since sound f
+report-fault since sound (report_fault.Late ms) late = late
 
 -- of a sound these samples were given, and this is left
 abbrev pub IsLeft : Sound → List ℤ → Option Sound → Type 0
@@ -137,7 +146,7 @@ told-begun : (first : Reported) (samples : List ℤ) (old new : Option (List ℕ
     → AppendsBeginning old new (told_rest_of first samples)
 told-begun first samples old new begun = AppendsBeginning-first old new _ _ begun
 
-module _ (first page : Reported) (listener : Listener) (a b c d : Option (List ℕ)) where
+module _ (since : Option Timestamp) (first page : Reported) (listener : Listener) (a b c d : Option (List ℕ)) where
   -- the keys of a sound that ends
   all-keys : (key : Option Heard) (sound here : Sound) (left : Option Sound)
       (so : IsSoFar first page listener (Some sound) (Some here) (outputs a b c d)) → GivesSample (Some here) (Ok None) left
@@ -156,8 +165,8 @@ module _ (first page : Reported) (listener : Listener) (a b c d : Option (List �
       → GivesSample now (Ok (Some x)) left
       → ((samples : List ℤ) (keys : List Heard) → HasListened listener samples keys
       → HasListened after (samples ++ x ∷ []) (keys ++ listed key))
-      → Writes {F = PageFault} (λ later. report_rest page (listed key ++ later)) (report_rest new) (Ok tt) b next
-      → Writes {F = PageFault} (λ later. told_rest page (listed key ++ later)) (told_rest new) (Ok tt) d also
+      → Writes {F = ReportFault} (λ later. report_rest page (listed key ++ later)) (report_rest new) (Ok tt) b next
+      → Writes {F = ReportFault} (λ later. told_rest page (listed key ++ later)) (told_rest new) (Ok tt) d also
       → IsSoFar first new after all left (outputs a next c also)
   so_far-more new after x key all now left next also so gives takes wrote told = record {
     samples = so.samples ++ x ∷ [];
@@ -169,18 +178,18 @@ module _ (first page : Reported) (listener : Listener) (a b c d : Option (List �
   }
 
   -- the key that it ended was not written
-  pub so_far-fault : (new : Reported) (after : Listener) (x : ℤ) (key : Option Heard) (f : PageFault)
+  pub so_far-fault : (new : Reported) (after : Listener) (x : ℤ) (key : Option Heard) (f : ReportFault)
       (all now left : Option Sound) (next also : Option (List ℕ)) → IsSoFar first page listener all now (outputs a b c d)
       → GivesSample now (Ok (Some x)) left
       → ((samples : List ℤ) (keys : List Heard) → HasListened listener samples keys
       → HasListened after (samples ++ x ∷ []) (keys ++ listed key))
       → Writes (λ later. report_rest page (listed key ++ later)) (report_rest new) (Err f) b next
       → Writes (λ later. told_rest page (listed key ++ later)) (told_rest new) (Err f) d also
-      → Hears all first (Err (of_page f)) (outputs a next c also)
-  so_far-fault new after x key f None now left next also so gives takes wrote told = tt
-  so_far-fault new after x key f (Some sound) None left next also so gives takes wrote told = absurd so.is_left
-  so_far-fault new after x key f (Some sound) (Some here) None next also so gives takes wrote told = absurd gives
-  so_far-fault new after x key f (Some sound) (Some here) (Some left) next also so gives takes wrote told =
+      → IsLateFault since f → Hears since all first (Err (of_report f)) (outputs a next c also)
+  so_far-fault new after x key f None now left next also so gives takes wrote told late = tt
+  so_far-fault new after x key f (Some sound) None left next also so gives takes wrote told late = absurd so.is_left
+  so_far-fault new after x key f (Some sound) (Some here) None next also so gives takes wrote told late = absurd gives
+  so_far-fault new after x key f (Some sound) (Some here) (Some left) next also so gives takes wrote told late =
       let taken = takes so.samples so.keys so.listened in
       let samples : sound.samples ≡ (so.samples ++ x ∷ []) ++ left.samples =
       ap (λ (s : Sound). s.samples) so.is_left
@@ -189,7 +198,7 @@ module _ (first page : Reported) (listener : Listener) (a b c d : Option (List �
       let more = keys-begin (so.samples ++ x ∷ []) left.samples in
       let keys : keys_of_sound sound.samples ≡ (so.keys ++ listed key) ++ more.0 =
       ap keys_of_sound samples ∙ more.1 ∙ ap (λ ks. ks ++ more.0) (sym taken.received.given) in (
-        page-fault sound f,
+        report-fault since sound f late,
         record {
           page_begun = subst (λ ks. AppendsBeginning a next (report_rest first ks)) (sym keys)
               (has-fault report_rest first page new so.keys (listed key) more.0 f a b next so.page_has wrote);
@@ -200,7 +209,7 @@ module _ (first page : Reported) (listener : Listener) (a b c d : Option (List �
 
   -- the source gives no more because of a fault
   pub so_far-stop : (f : StreamFault) (all now left : Option Sound) → IsSoFar first page listener all now (outputs a b c d)
-      → GivesSample now (Err f) left → Hears all first (Err (of_stream f)) (outputs a b c d)
+      → GivesSample now (Err f) left → Hears since all first (Err (of_stream f)) (outputs a b c d)
   so_far-stop f None now left so gives = tt
   so_far-stop f (Some sound) None left so gives = absurd so.is_left
   so_far-stop f (Some sound) (Some here) left so gives =
@@ -216,7 +225,7 @@ module _ (first page : Reported) (listener : Listener) (a b c d : Option (List �
         },
       )
     where
-      at : (f : StreamFault) → GivesSample (Some here) (Err f) left → IsFaultOf sound (of_stream f)
+      at : (f : StreamFault) → GivesSample (Some here) (Err f) left → IsFaultOf since sound (of_stream f)
       at stream_fault.Read gives = tt
       at (stream_fault.Cut n) gives =
           (ap (λ (s : Sound). s.lacking) so.is_left ∙ ap (λ (s : Sound). s.lacking) gives.0, gives.1)
@@ -242,7 +251,7 @@ module _ (first page : Reported) (listener : Listener) (a b c d : Option (List �
       → Appends b next (report_rest page (listed key)) → Appends d also (told_rest page (listed key))
       → ((samples : List ℤ) (keys : List Heard) → HasListened listener samples keys
       → Appends also last (quiet_text samples (keys ++ listed key)))
-      → Hears all first (Ok tt) (outputs a next c last)
+      → Hears since all first (Ok tt) (outputs a next c last)
   so_far-end key None now left next also last so gives finishes wrote told quiet =
       let keys = finishes so.samples so.keys so.listened in (
         so.samples,
@@ -278,12 +287,12 @@ module _ (first page : Reported) (listener : Listener) (a b c d : Option (List �
       → Appends b next (report_rest page (listed key)) → Appends d also (told_rest page (listed key))
       → ((samples : List ℤ) (keys : List Heard) → HasListened listener samples keys
       → AppendsBeginning also last (quiet_text samples (keys ++ listed key)))
-      → Hears all first (Err (of_page f)) (outputs a next c last)
+      → Hears since all first (Err (of_page f)) (outputs a next c last)
   so_far-end-quiet key f None now left next also last so gives finishes wrote told quiet = tt
   so_far-end-quiet key f (Some sound) None left next also last so gives finishes wrote told quiet = absurd so.is_left
   so_far-end-quiet key f (Some sound) (Some here) left next also last so gives finishes wrote told quiet =
       let keys = all-keys key sound here left so gives finishes in (
-        page-fault sound f,
+        page-fault since sound f,
         record {
           page_begun = all-written a next _ (subst (λ ks. Appends a next (report_rest first ks)) keys
               (has-last report_rest first page so.keys (listed key) a b next so.page_has wrote));
@@ -297,17 +306,17 @@ module _ (first page : Reported) (listener : Listener) (a b c d : Option (List �
       )
 
   -- or the beginning of the rest was
-  pub so_far-end-fault : (key : Option Heard) (f : PageFault) (all now left : Option Sound) (next also : Option (List ℕ))
+  pub so_far-end-fault : (key : Option Heard) (f : ReportFault) (all now left : Option Sound) (next also : Option (List ℕ))
       → IsSoFar first page listener all now (outputs a b c d) → GivesSample now (Ok None) left
       → ((samples : List ℤ) (keys : List Heard) → HasListened listener samples keys
       → keys ++ listed key ≡ keys_of_sound samples)
       → AppendsBeginning b next (report_rest page (listed key)) → AppendsBeginning d also (told_rest page (listed key))
-      → Hears all first (Err (of_page f)) (outputs a next c also)
-  so_far-end-fault key f None now left next also so gives finishes wrote told = tt
-  so_far-end-fault key f (Some sound) None left next also so gives finishes wrote told = absurd so.is_left
-  so_far-end-fault key f (Some sound) (Some here) left next also so gives finishes wrote told =
+      → IsLateFault since f → Hears since all first (Err (of_report f)) (outputs a next c also)
+  so_far-end-fault key f None now left next also so gives finishes wrote told late = tt
+  so_far-end-fault key f (Some sound) None left next also so gives finishes wrote told late = absurd so.is_left
+  so_far-end-fault key f (Some sound) (Some here) left next also so gives finishes wrote told late =
       let keys = all-keys key sound here left so gives finishes in (
-        page-fault sound f,
+        report-fault since sound f late,
         record {
           page_begun = subst (λ ks. AppendsBeginning a next (report_rest first ks)) keys
               (has-last-begun report_rest first page so.keys (listed key) a b next so.page_has wrote);

@@ -19,7 +19,7 @@ use Rattle.xb_rx.specs.declared.comparing.CompareProgramFault.TheVariants as fau
 use Rattle.xb_rx.specs.declared.request.Input.{Input}
 use Rattle.xb_rx.specs.declared.request.Request.{Request}
 use Rattle.xb_rx.specs.declared.request.Written.TheVariants as written
-use Rattle.xb_rx.specs.Hearing.{Delivers, Outputs, outputs, sound_by, told_text_of}
+use Rattle.xb_rx.specs.Hearing.{DeliversTimed, Outputs, outputs, sound_by, told_text_of}
 use Rattle.xb_rx.specs.Pages.{heard_entries, page_of}
 use Rattle.xb_wav.specs.Samples.{Sound}
 
@@ -43,12 +43,12 @@ IsFileFault file fault.NoMemory = Unit {0}
 IsFileFault file f = ⊥
 
 abbrev pub page_request : Input → Request
-page_request how = record { written = written.Page 0 0; input = how }
+page_request how = record { written = written.Page 0 0; since = None; input = how }
 
 -- why a sound is not heard to its end
 abbrev pub IsSoundFault : Input → Option (List ℕ) → CompareProgramFault → Option (List ℕ) → Option (List ℕ) → Type 0
 IsSoundFault how bytes (fault.Sound f) old new =
-    (page : Option (List ℕ)) × Delivers (page_request how) bytes (Err f) (outputs (Some []) page old new)
+    (page : Option (List ℕ)) × DeliversTimed (page_request how) bytes (Err f) (outputs (Some []) page old new)
 IsSoundFault how bytes fault.NoMemory old new = Unit {0}
 IsSoundFault how bytes f old new = ⊥
 

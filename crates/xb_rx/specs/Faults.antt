@@ -1,9 +1,16 @@
 -- What is returned where a part is refused.
+use Rattle.std.specs.Prelude.{Option, Result, Ok, Err}
+use Rattle.jiff_core.specs.declared.timestamp.Timestamp.{Timestamp}
+use Rattle.xb_clock.specs.Clocks.{IsLateAt}
 use Rattle.xb_rx.specs.declared.fault.RxFault.{RxFault}
 use Rattle.xb_rx.specs.declared.fault.RxFault.TheVariants as fault
 use Rattle.xb_rx.specs.declared.page.PageFault.{PageFault}
 use Rattle.xb_rx.specs.declared.page.PageFault.TheVariants as page_fault
+use Rattle.xb_rx.specs.declared.timed.ReportFault.{ReportFault}
+use Rattle.xb_rx.specs.declared.timed.ReportFault.TheVariants as report_fault
 use Rattle.xb_wav.specs.declared.source.StreamFault.{StreamFault}
+use Rattle.xb_rx.specs.declared.timed.ReportFault.{ReportFault}
+use Rattle.xb_rx.specs.declared.timed.ReportFault.TheVariants as report_fault
 use Rattle.xb_wav.specs.declared.source.StreamFault.TheVariants as stream_fault
 use Rattle.xb_wav.specs.declared.wav_start.OpenFault.{OpenFault}
 use Rattle.xb_wav.specs.declared.wav_start.OpenFault.TheVariants as open_fault
@@ -20,3 +27,17 @@ abbrev pub of_page : PageFault → RxFault
 of_page page_fault.NoMemory = fault.NoMemory
 of_page page_fault.Write = fault.Write
 of_page page_fault.Tell = fault.Tell
+
+abbrev pub of_report : ReportFault → RxFault
+of_report (report_fault.Page f) = of_page f
+of_report (report_fault.Late ms) = fault.Late ms
+
+-- a fault of a page is one of what is written
+abbrev pub reported_page : Result (Unit {0}) PageFault → Result (Unit {0}) ReportFault
+reported_page (Ok u) = Ok u
+reported_page (Err f) = Err (report_fault.Page f)
+
+-- a time of day that is too late is past the last instant
+abbrev pub IsLateFault : Option Timestamp → ReportFault → Type 0
+IsLateFault since (report_fault.Page f) = Unit {0}
+IsLateFault since (report_fault.Late ms) = IsLateAt since ms

@@ -1,6 +1,8 @@
 -- What is written of a sound.
 use Rattle.std.specs.Prelude.{ℕ, ◌≡◌, ◌⊎◌, ◌<◌, List, ◌++◌, ℤ, false, Option, Some, None, Result, Ok, Err}
 use Rattle.std.specs.Io.KnownBytes.{Appends, Keeps}
+use Rattle.jiff_core.specs.declared.timestamp.Timestamp.{Timestamp}
+use Rattle.xb_clock.specs.Clocks.{Clock, IsClockSince, IsLateAt}
 use Rattle.xb_text.specs.Writing.{AppendsBeginning}
 use Rattle.xb_ear.specs.Receivers.{keys_of_sound}
 use Rattle.xb_rx.specs.declared.fault.RxFault.{RxFault}
@@ -13,6 +15,7 @@ use Rattle.xb_wav.specs.declared.wav_start.Start.{Start}
 use Rattle.xb_wav.specs.declared.wav_start.WavFault.{WavFault}
 use Rattle.xb_wav.specs.declared.wav_start.TheConstants.{UNKNOWN_SAMPLES}
 use Rattle.xb_rx.specs.Listeners.{quiet_of}
+use Rattle.xb_rx.specs.Timed.{Timing, timing_by}
 use Rattle.xb_rx.specs.Reports.{Reported, report_rest, told_rest, told_text, written_text}
 use Rattle.xb_wav.specs.Samples.{IsForm, Sound, sound_of}
 use Rattle.xb_wav.specs.Starts.{start_of_file}
@@ -37,11 +40,13 @@ pub record Began (outs : Outputs) (page told : List ℕ) : Type 0 where
   pub page_begun : AppendsBeginning outs.page_old outs.page_new page
   pub told_begun : AppendsBeginning outs.told_old outs.told_new told
 
--- what a fault says of the sound: where samples are missing, so many were to come after it
-abbrev pub IsFaultOf : Sound → RxFault → Type 0
-IsFaultOf sound (fault.Cut n) = (sound.lacking ≡ n) × (0 < n)
-IsFaultOf sound (fault.Wav f) = ⊥
-IsFaultOf sound f = Unit {0}
+-- what a fault says of the sound: where samples are missing, so many were to come after it; where a time of day is too
+-- late, so many ms after the one that is given are past the last instant
+abbrev pub IsFaultOf : Option Timestamp → Sound → RxFault → Type 0
+IsFaultOf since sound (fault.Cut n) = (sound.lacking ≡ n) × (0 < n)
+IsFaultOf since sound (fault.Late ms) = IsLateAt since ms
+IsFaultOf since sound (fault.Wav f) = ⊥
+IsFaultOf since sound f = Unit {0}
 
 -- what is told of samples after what there is so far, and how loud they are where no key is heard
 abbrev pub told_rest_of : Reported → List ℤ → List ℕ
@@ -51,15 +56,15 @@ abbrev pub told_text_of : Written → List ℤ → List ℕ
 told_text_of written samples = told_text written (keys_of_sound samples) ++ quiet_of samples
 
 -- what was written and told of a sound, after what there is so far: of one that is not known, that of some samples
-abbrev pub Hears : Option Sound → Reported → Result (Unit {0}) RxFault → Outputs → Type 0
-Hears None report (Ok u) outs =
+abbrev pub Hears : Option Timestamp → Option Sound → Reported → Result (Unit {0}) RxFault → Outputs → Type 0
+Hears since None report (Ok u) outs =
     (samples : List ℤ) × Wrote outs (report_rest report (keys_of_sound samples)) (told_rest_of report samples)
-Hears None report (Err f) outs = Unit {0}
-Hears (Some sound) report (Ok u) outs =
+Hears since None report (Err f) outs = Unit {0}
+Hears since (Some sound) report (Ok u) outs =
     (sound.lacking ≡ 0)
     × Wrote outs (report_rest report (keys_of_sound sound.samples)) (told_rest_of report sound.samples)
-Hears (Some sound) report (Err f) outs =
-    IsFaultOf sound f
+Hears since (Some sound) report (Err f) outs =
+    IsFaultOf since sound f
     × Began outs (report_rest report (keys_of_sound sound.samples)) (told_rest_of report sound.samples)
 
 -- samples alone are written in some form
@@ -82,33 +87,42 @@ abbrev pub sound_by : Input → List ℕ → Result Sound WavFault
 sound_by how bytes = sound_after (start_by how bytes)
 
 -- what was written and told of a sound
-abbrev pub HearsSound : Written → Sound → Result (Unit {0}) RxFault → Outputs → Type 0
-HearsSound written sound (Ok u) outs =
+abbrev pub HearsSound : Timing → Written → Sound → Result (Unit {0}) RxFault → Outputs → Type 0
+HearsSound timing written sound (Ok u) outs =
     (sound.lacking ≡ 0)
-    × Wrote outs (written_text written (keys_of_sound sound.samples)) (told_text_of written sound.samples)
-HearsSound written sound (Err f) outs =
-    IsFaultOf sound f
-    × Began outs (written_text written (keys_of_sound sound.samples)) (told_text_of written sound.samples)
+    × Wrote outs (written_text timing written (keys_of_sound sound.samples)) (told_text_of written sound.samples)
+HearsSound timing written sound (Err f) outs =
+    IsFaultOf timing.since sound f
+    × Began outs (written_text timing written (keys_of_sound sound.samples)) (told_text_of written sound.samples)
 
 pub record WroteNothing (outs : Outputs) : Type 0 where
   pub page_kept : Keeps outs.page_old outs.page_new
   pub told_kept : Keeps outs.told_old outs.told_new
 
 -- the same of the bytes of a sound: where they are no WAV, or were not read so far, nothing
-abbrev pub HearsBytes : Input → Reported → Option (List ℕ) → Result (Unit {0}) RxFault → Outputs → Type 0
-HearsBytes how report None result outs = Hears None report result outs
-HearsBytes how report (Some bytes) (Err (fault.Wav f)) outs = (sound_by how bytes ≡ Err f) × WroteNothing outs
-HearsBytes how report (Some bytes) (Err fault.Read) outs = WroteNothing outs
-    ⊎ ((sound : Sound) × (sound_by how bytes ≡ Ok sound) × Hears (Some sound) report (Err fault.Read) outs)
-HearsBytes how report (Some bytes) result outs =
-    (sound : Sound) × (sound_by how bytes ≡ Ok sound) × Hears (Some sound) report result outs
+abbrev pub HearsBytes :
+    Input → Option Timestamp → Reported → Option (List ℕ) → Result (Unit {0}) RxFault → Outputs → Type 0
+HearsBytes how since report None result outs = Hears since None report result outs
+HearsBytes how since report (Some bytes) (Err (fault.Wav f)) outs = (sound_by how bytes ≡ Err f) × WroteNothing outs
+HearsBytes how since report (Some bytes) (Err fault.Read) outs = WroteNothing outs
+    ⊎ ((sound : Sound) × (sound_by how bytes ≡ Ok sound) × Hears since (Some sound) report (Err fault.Read) outs)
+HearsBytes how since report (Some bytes) result outs =
+    (sound : Sound) × (sound_by how bytes ≡ Ok sound) × Hears since (Some sound) report result outs
 
--- what is returned for bytes, and what was written of them: where they are no WAV, or were not read so far,
--- nothing
-abbrev pub Delivers : Request → Option (List ℕ) → Result (Unit {0}) RxFault → Outputs → Type 0
-Delivers request None result outs = Unit {0}
-Delivers request (Some bytes) (Err (fault.Wav f)) outs = (sound_by request.input bytes ≡ Err f) × WroteNothing outs
-Delivers request (Some bytes) (Err fault.Read) outs = WroteNothing outs
-    ⊎ ((sound : Sound) × (sound_by request.input bytes ≡ Ok sound) × HearsSound request.written sound (Err fault.Read) outs)
-Delivers request (Some bytes) result outs =
-    (sound : Sound) × (sound_by request.input bytes ≡ Ok sound) × HearsSound request.written sound result outs
+-- what is returned for bytes, and what was written of them, with the times of day that a clock tells: where they are no
+-- WAV, or were not read so far, nothing
+abbrev pub Delivers : Clock → Request → Option (List ℕ) → Result (Unit {0}) RxFault → Outputs → Type 0
+Delivers clock request None result outs = Unit {0}
+Delivers clock request (Some bytes) (Err (fault.Wav f)) outs =
+    (sound_by request.input bytes ≡ Err f) × WroteNothing outs
+Delivers clock request (Some bytes) (Err fault.Read) outs = WroteNothing outs
+    ⊎ ((sound : Sound) × (sound_by request.input bytes ≡ Ok sound)
+    × HearsSound (timing_by request.since clock) request.written sound (Err fault.Read) outs)
+Delivers clock request (Some bytes) result outs =
+    (sound : Sound) × (sound_by request.input bytes ≡ Ok sound)
+    × HearsSound (timing_by request.since clock) request.written sound result outs
+
+-- the same by each clock that tells the times of day
+abbrev pub DeliversTimed : Request → Option (List ℕ) → Result (Unit {0}) RxFault → Outputs → Type 0
+DeliversTimed request bytes result outs =
+    (clock : Clock) → IsClockSince request.since clock → Delivers clock request bytes result outs

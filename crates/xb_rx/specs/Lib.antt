@@ -2,6 +2,7 @@ pub mod Faults
 pub mod Begun
 pub mod Placed
 pub mod Pages
+pub mod Timed
 pub mod Objects
 pub mod Listeners
 pub mod Reports

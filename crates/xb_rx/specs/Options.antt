@@ -2,6 +2,10 @@
 use Rattle.std.specs.Prelude.{ℕ, ◌≡◌, ◌-◌, ◌&&◌, not, ◌||◌, List, Bool, if◌then◌else◌, Option, Some, None, codes, is_some, nat_le, nat_lt, option_and_then, option_map, unwrap_or}
 use Rattle.std.specs.Borrow.{Bor}
 use Rattle.clap.specs.Walk.{Row, Text, first_of}
+use Rattle.jiff_core.specs.declared.timestamp.Timestamp.{Timestamp}
+use Rattle.xb_clock.specs.Since.{ReadsSince}
+use Rattle.xb_clock.specs.declared.since.Since.{Since}
+use Rattle.xb_clock.specs.declared.since.Since.TheVariants as since
 use Rattle.xb_command.specs.Given.{AskForNothing, AsksFor, ReadsFlag, ReadsNumber, given_by}
 use Rattle.xb_model.specs.declared.line.TheConstants.{LINES}
 use Rattle.xb_model.specs.declared.trunk.TheConstants.{TRUNKS}
@@ -29,6 +33,7 @@ pub record Say (rows : List Row) (options : Options) : Type 0 where
   pub ulaw : ReadsFlag (given_by rows (codes "ulaw")) options.ulaw
   pub channels : ReadsNumber (given_by rows (codes "channels")) options.channels
   pub channel : ReadsNumber (given_by rows (codes "channel")) options.channel
+  pub since : ReadsSince (first_of (codes "since") rows) options.since
 
 -- a number below this, or 0 where none is given
 abbrev pub below : ℕ → Option ℕ → Option ℕ
@@ -80,10 +85,20 @@ input_of options =
     else (if is_some options.rate || options.ulaw || is_some options.channels then None
     else option_map (λ channel. input.Wav channel) (channel_of MOST_CHANNELS options.channel))
 
+-- the time of day at which the sound begins goes with objects alone
+abbrev pub time_by : Bool → Since → Option (Option Timestamp)
+time_by json since.NotGiven = Some None
+time_by json (since.Time time) = if json then Some (Some time) else None
+time_by json since.NoTime = None
+
+abbrev pub time_of : Options → Option (Option Timestamp)
+time_of options = time_by options.json options.since
+
 -- what the options ask for
 abbrev pub request_of : Options → Option Request
 request_of options =
-    option_and_then (λ what. option_map (λ how. record { written = what; input = how }) (input_of options))
+    option_and_then (λ what. option_and_then (λ time.
+    option_map (λ how. record { written = what; since = time; input = how }) (input_of options)) (time_of options))
     (written_of options)
 
 abbrev pub is_plain : Options → Bool

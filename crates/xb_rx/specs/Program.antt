@@ -12,7 +12,7 @@ use Rattle.xb_rx.specs.declared.comparing.CompareProgramFault.{CompareProgramFau
 use Rattle.xb_rx.specs.declared.request.Request.{Request}
 use Rattle.xb_rx.specs.Options.{AreRefused, Asks}
 use Rattle.xb_rx.specs.Comparing.{Compares}
-use Rattle.xb_rx.specs.Hearing.{Delivers, outputs}
+use Rattle.xb_rx.specs.Hearing.{DeliversTimed, outputs}
 use Rattle.xb_rx.specs.Rules.{command_of_words}
 
 -- the program's name
@@ -22,7 +22,7 @@ program = codes "mfrx"
 -- the line for words that are refused
 abbrev pub usage_line : List ℕ
 usage_line =
-    codes "mfrx: usage: mfrx [--line N] [--trunk T] [--tones] [--json] [--against PAGE] [--channel N] [--raw [--rate HZ] [--ulaw] [--channels N]]\n"
+    codes "mfrx: usage: mfrx [--line N] [--trunk T] [--tones] [--json [--since TIME]] [--against PAGE] [--channel N] [--raw [--rate HZ] [--ulaw] [--channels N]]\n"
 
 -- it names each option of the command
 abbrev pub UsageNamesEachOption : Type 0
@@ -31,14 +31,14 @@ UsageNamesEachOption = list_all (λ rule. names_option usage_line rule.id) comma
 -- what was asked for was done: the page of the sound was written, or its keys, or no difference was found
 abbrev pub IsDone : Bytes → Request → Option Text → Streams → Streams → Type 0
 IsDone bytes request None old new =
-    Delivers request old.input (Ok tt) (outputs old.output new.output old.errors new.errors)
+    DeliversTimed request old.input (Ok tt) (outputs old.output new.output old.errors new.errors)
 IsDone bytes request (Some name) old new =
     Compares (bytes name) request.input old.input (Ok tt) (outputs old.output new.output old.errors new.errors)
 
 -- there was a fault, before whose line this was told
 abbrev pub HadFault : Bytes → Request → Option Text → Streams → Streams → Option (List ℕ) → Type 0
 HadFault bytes request None old new told =
-    (fault : RxFault) × Delivers request old.input (Err fault) (outputs old.output new.output old.errors told)
+    (fault : RxFault) × DeliversTimed request old.input (Err fault) (outputs old.output new.output old.errors told)
 HadFault bytes request (Some name) old new told =
     (fault : CompareProgramFault)
     × Compares (bytes name) request.input old.input (Err fault) (outputs old.output new.output old.errors told)

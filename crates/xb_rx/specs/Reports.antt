@@ -9,13 +9,14 @@ use Rattle.xb_rx.specs.declared.request.Written.{Written}
 use Rattle.xb_rx.specs.declared.request.Written.TheVariants as written
 use Rattle.xb_rx.specs.Begun.{IsBegun}
 use Rattle.xb_rx.specs.Objects.{Objected, fresh_objects, object_lines, objected, objects_rest}
+use Rattle.xb_rx.specs.Timed.{Timing}
 use Rattle.xb_rx.specs.Pages.{Paged, fresh_page, page_of, page_rest, page_told, paged, told_of}
 
 -- what is written of a sound with these keys
-abbrev pub written_text : Written → List Heard → List ℕ
-written_text (written.Page line trunk) keys = page_of line trunk keys
-written_text written.Keys keys = text_lines None keys
-written_text written.Objects keys = object_lines keys
+abbrev pub written_text : Timing → Written → List Heard → List ℕ
+written_text timing (written.Page line trunk) keys = page_of line trunk keys
+written_text timing written.Keys keys = text_lines None keys
+written_text timing written.Objects keys = object_lines timing keys
 
 -- and what is told of what is doubtful of them, and of those that stand in no keying, where it is its page
 abbrev pub told_text : Written → List Heard → List ℕ
@@ -27,18 +28,18 @@ told_text written.Objects keys = []
 pub data Reported : Type 0 where
   on_page : Paged → Reported
   by_key : Listing → Reported
-  by_object : Objected → Reported
+  by_object : Timing → Objected → Reported
 
-abbrev pub reported : Report → Reported
-reported (report.Page page) = on_page (paged page)
-reported (report.Keys listing) = by_key listing
-reported (report.Objects objects) = by_object (objected objects)
+abbrev pub reported : Timing → Report → Reported
+reported timing (report.Page page) = on_page (paged page)
+reported timing (report.Keys listing) = by_key listing
+reported timing (report.Objects objects) = by_object timing (objected objects)
 
 -- before the first key
-abbrev pub fresh_report : Written → Reported
-fresh_report (written.Page line trunk) = on_page (fresh_page line trunk)
-fresh_report written.Keys = by_key (record { last = None })
-fresh_report written.Objects = by_object fresh_objects
+abbrev pub fresh_report : Timing → Written → Reported
+fresh_report timing (written.Page line trunk) = on_page (fresh_page line trunk)
+fresh_report timing written.Keys = by_key (record { last = None })
+fresh_report timing written.Objects = by_object timing fresh_objects
 
 -- what is still to be written of later keys, and told
 abbrev pub listing_rest : Listing → List Heard → List ℕ
@@ -47,21 +48,21 @@ listing_rest listing later = text_lines listing.last later
 abbrev pub report_rest : Reported → List Heard → List ℕ
 report_rest (on_page page) later = page_rest page later
 report_rest (by_key listing) later = listing_rest listing later
-report_rest (by_object objects) later = objects_rest objects later
+report_rest (by_object timing objects) later = objects_rest timing objects later
 
 abbrev pub told_rest : Reported → List Heard → List ℕ
 told_rest (on_page page) later = page_told page later
 told_rest (by_key listing) later = []
-told_rest (by_object objects) later = []
+told_rest (by_object timing objects) later = []
 
 -- how many entries there were
 abbrev pub count_of : Reported → ℕ
 count_of (on_page page) = page.count
 count_of (by_key listing) = 0
-count_of (by_object objects) = objects.count
+count_of (by_object timing objects) = objects.count
 
 -- a keying that goes on is one
 abbrev pub IsReady : Reported → Type 0
 IsReady (on_page page) = IsBegun page.begun
 IsReady (by_key listing) = Unit {0}
-IsReady (by_object objects) = IsBegun objects.begun
+IsReady (by_object timing objects) = IsBegun objects.begun

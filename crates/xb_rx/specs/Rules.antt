@@ -19,8 +19,10 @@ options =
     ∷ (codes "channels", takes.Number)
     ∷ (codes "channel", takes.Number)
     ∷ (codes "against", takes.Text)
+    ∷ (codes "since", takes.Text)
     ∷ []
 
--- `mfrx [--line N] [--trunk T] [--tones] [--json] [--against PAGE] [--channel N] [--raw [--rate HZ] [--ulaw] [--channels N]]`
+-- `mfrx [--line N] [--trunk T] [--tones] [--json [--since TIME]] [--against PAGE] [--channel N]
+-- [--raw [--rate HZ] [--ulaw] [--channels N]]`
 abbrev pub command_of_words : App
 command_of_words = command_of (codes "mfrx") options

@@ -97,7 +97,7 @@ fn differences_heard<R: Read, E: Write>(
 {
     let mut text = Vec::new(alloc);
     let report = Report::against(alloc, keyed);
-    match listen(alloc, input, report, sound, &mut text, err) {
+    match listen(alloc, input, None, report, sound, &mut text, err) {
         Ok(()) => Ok(text),
         Err(RxFault::Write) => Err(CompareProgramFault::NoMemory),
         Err(fault) => Err(CompareProgramFault::Sound(fault)),

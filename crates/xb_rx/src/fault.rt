@@ -1,6 +1,8 @@
 // Why a sound is not heard to its end.
 use crate::page::PageFault;
+use crate::timed::ReportFault;
 use thiserror::Error;
+use xb_clock::LAST_TIME;
 use xb_wav::{OpenFault, StreamFault, WavFault};
 
 /// Why a sound is not heard to its end. What was written before stays; on `Wav` that is nothing.
@@ -21,6 +23,10 @@ pub enum RxFault {
     /// A write or the flush failed, or a write took no byte. The beginning of the page or of the lines was written.
     #[error("what was heard could not be written")]
     Write,
+    /// The time of day so many ms after the first sample is past the last that there is,
+    /// 9999-12-30T22:00:00.999999999Z. Nothing was written of the key or the entry that begins or ends then.
+    #[error("the time {} ms after the first sample is past {}", .0, LAST_TIME)]
+    Late(u64),
     /// A line about what was heard could not be told of: a key that is in no keying, what is doubtful of an
     /// entry, or how loud a sound without a key is.
     #[error("a line about what was heard could not be told of")]
@@ -38,6 +44,20 @@ impl From<PageFault> for RxFault {
             PageFault::NoMemory => RxFault::NoMemory,
             PageFault::Write => RxFault::Write,
             PageFault::Tell => RxFault::Tell,
+        }
+    }
+}
+
+impl From<ReportFault> for RxFault {
+    ghost use Rattle.std.specs.Prelude.{◌≡◌};
+    ghost use Rattle.xb_rx.specs.Faults.{of_report};
+
+    ghost from_gives = { λ fault e. e ≡ of_report fault };
+
+    fn from(fault: ReportFault) -> RxFault {
+        match fault {
+            ReportFault::Page(fault) => RxFault::from(fault),
+            ReportFault::Late(ms) => RxFault::Late(ms),
         }
     }
 }

@@ -3,8 +3,9 @@
 //! - `receive`: on `Ok` the output is exactly the page of the keyings that are heard (`page_of` of
 //!   `keys_of_sound` of the samples that the bytes say), and standard error has exactly a line for each doubt
 //!   of one of them and for each key that is in none (`told_of`); or the output is a line for each key
-//!   (`text_lines`); or an object for each key, and for each entry after its ST (`object_lines`). Where no key
-//!   is heard, standard error has one line, of how loud the sound is (`quiet_of`). On an `Err` the beginning of
+//!   (`text_lines`); or an object for each key, and for each entry after its ST (`object_lines`), with their
+//!   times of day where `--since` gives the one at which the sound begins (`specs/Timed.antt`). Where no key is
+//!   heard, standard error has one line, of how loud the sound is (`quiet_of`). On an `Err` the beginning of
 //!   that was written to each. A WAV is refused by the fault that it has (`start_of_file`), and by no other.
 //!   `Cut` says how many samples are missing at its end. Memory does not grow with the sound.
 //! - `compare`: on `Ok` the keyings that are heard are those that a page has keyed. On `Differ` the output is
@@ -31,6 +32,7 @@ mod program;
 mod receiving;
 mod report;
 mod request;
+mod timed;
 mod words;
 
 pub use comparing::{CompareProgramFault, compare};

@@ -1,15 +1,17 @@
 // The objects of keys and of entries, as they end.
 use crate::begun::{Step, step_of};
 use crate::page::PageFault;
+use crate::timed::{ReportFault, entry_line, key_line};
+use jiff_core::Timestamp;
 use std::alloc::{AllocError, Global};
 use std::io::Write;
 use xb_ear::Heard;
-use xb_measured::{figures_of, object_line};
+use xb_measured::figures_of;
 use xb_text::write_whole;
-use xb_told::{NamedKey, entry_line};
+use xb_told::NamedKey;
 
-/// Keys that are told one by one as objects, and the entries after the keys that complete them. It holds the keys of one
-/// keying, up to `MOST_DIGITS` digits.
+/// Keys that are told one by one as objects, and the entries after the keys that complete them, with their times of day
+/// where a call gives the one at which the sound begins. It holds the keys of one keying, up to `MOST_DIGITS` digits.
 #[derive(Drop)]
 pub(crate) struct Objects {
     pub(crate) last: Option<Heard>,
@@ -20,12 +22,14 @@ pub(crate) struct Objects {
 }
 
 impl Objects {
-    ghost use Rattle.std.specs.Prelude.{◌≡◌, ◌≤◌, ◌<◌, ◌+◌, ◌^◌, ◌∷◌, [], ◌++◌, IfOk, OnOk, string_bytes};
+    ghost use Rattle.std.specs.Prelude.{◌≡◌, ◌≤◌, ◌<◌, ◌+◌, ◌^◌, ◌∷◌, [], ◌++◌, IfErr, IfOk, OnOk, string_bytes};
+    ghost use Rattle.xb_clock.specs.Clocks.{Clock, IsClockSince};
     ghost use Rattle.xb_ear.specs.Hearings.{listed};
     ghost use Rattle.xb_rx.specs.Begun.{IsBegun, kept_after};
     ghost use Rattle.xb_rx.specs.Objects.{Ended, fresh_objects, objected, objects_rest};
     ghost use Rattle.xb_rx.specs.Pages.{Writes};
-    ghost use Rattle.xb_told.specs.Entries.{entry_line};
+    ghost use Rattle.xb_rx.specs.Faults.{IsLateFault};
+    ghost use Rattle.xb_rx.specs.Timed.{entry_line, timing_by};
 
     /// Before the first key.
     pub(crate) fn new(alloc: Global) -> Objects
@@ -48,17 +52,23 @@ impl Objects {
     }
 
     // The object of the entry that this key completes.
-    fn complete(&mut self, alloc: Global, key: NamedKey) -> Result<String, AllocError>
+    fn complete(
+        &mut self,
+        alloc: Global,
+        since: Option<Timestamp>,
+        key: NamedKey,
+    ) -> Result<String, ReportFault>
         requires { self.old.count + 1 < 2 ^ 64 }
-        ensures line { IfOk result (λ line.
-            string_bytes line ≡ entry_line (self.old.count + 1) (self.old.begun.items ++ key ∷ [])) }
+        ensures line { (clock : Clock) → IsClockSince since clock → IfOk result (λ line. string_bytes line
+            ≡ entry_line (timing_by since clock) (self.old.count + 1) (self.old.begun.items ++ key ∷ [])) }
+        ensures late { IfErr result (IsLateFault since) }
         ensures none { IfOk result (λ _. self.new.begun.items ≡ []) }
         ensures one { IfOk result (λ _. self.new.count ≡ self.old.count + 1) }
         ensures count { self.new.count ≤ self.old.count + 1 }
     {
         self.keep(key)?;
         let number = self.count + 1;
-        let line = entry_line(alloc, number, &self.begun)?;
+        let line = entry_line(alloc, since, number, &self.begun)?;
         self.count = number;
         self.begun.clear();
         Ok(line)
@@ -77,11 +87,17 @@ impl Objects {
     }
 
     // Takes a key, and gives the object of the entry that it completes, if it does.
-    fn entry_of(&mut self, alloc: Global, key: NamedKey) -> Result<String, AllocError>
+    fn entry_of(
+        &mut self,
+        alloc: Global,
+        since: Option<Timestamp>,
+        key: NamedKey,
+    ) -> Result<String, ReportFault>
         requires begun { IsBegun self.old.begun.items }
         requires count { self.old.count + 1 < 2 ^ 64 }
-        ensures ended { IfOk result (λ line.
-            Ended (objected self.old) (objected self.new) key (string_bytes line)) }
+        ensures ended { (clock : Clock) → IsClockSince since clock → IfOk result (λ line.
+            Ended (timing_by since clock) (objected self.old) (objected self.new) key (string_bytes line)) }
+        ensures late { IfErr result (IsLateFault since) }
         ensures begun { IfOk result (λ _. IsBegun self.new.begun.items) }
         ensures count { self.new.count ≤ self.old.count + 1 }
     {
@@ -90,7 +106,7 @@ impl Objects {
                 self.keep(key)?;
                 Ok(String::new(alloc))
             }
-            Step::Completes => self.complete(alloc, key),
+            Step::Completes => self.complete(alloc, since, key),
             Step::BreaksOff => {
                 self.break_off(key)?;
                 Ok(String::new(alloc))
@@ -102,44 +118,52 @@ impl Objects {
     fn take_key<W: Write>(
         &mut self,
         alloc: Global,
+        since: Option<Timestamp>,
         key: Heard,
         out: &mut W,
-    ) -> Result<(), PageFault>
+    ) -> Result<(), ReportFault>
         requires begun { IsBegun self.old.begun.items }
         requires count { self.old.count + 1 < 2 ^ 64 }
-        ensures text { Writes (λ later. objects_rest (objected self.old) (key ∷ later))
-            (objects_rest (objected self.new)) result (W.contents out.old) (W.contents out.new) }
+        ensures text { (clock : Clock) → IsClockSince since clock →
+            Writes (λ later. objects_rest (timing_by since clock) (objected self.old) (key ∷ later))
+            (objects_rest (timing_by since clock) (objected self.new)) result
+            (W.contents out.old) (W.contents out.new) }
+        ensures late { IfErr result (IsLateFault since) }
         ensures count { self.new.count ≤ self.old.count + 1 }
         ensures begun { OnOk result (IsBegun self.new.begun.items) }
     {
         let figures = figures_of(self.last, key);
-        let mut text = object_line(alloc, &figures)?;
-        let entry = self.entry_of(alloc, NamedKey::of(key))?;
+        let mut text = key_line(alloc, since, &figures)?;
+        let entry = self.entry_of(alloc, since, NamedKey::of(key))?;
         text.push_str(&entry)?;
         if write_whole(out, text.as_bytes()).is_err() {
-            return Err(PageFault::Write);
+            return Err(ReportFault::Page(PageFault::Write));
         }
         self.last = Some(key);
         Ok(())
     }
 
     /// Writes the object of the key that ended, if one did, and of the entry that it completes. On an `Err` the
-    /// beginning of that was written.
+    /// beginning of that was written, and nothing where a time of day is past the last.
     pub(crate) fn take<W: Write>(
         &mut self,
         alloc: Global,
+        since: Option<Timestamp>,
         key: Option<Heard>,
         out: &mut W,
-    ) -> Result<(), PageFault>
+    ) -> Result<(), ReportFault>
         requires begun { IsBegun self.old.begun.items }
         requires count { self.old.count + 1 < 2 ^ 64 }
-        ensures text { Writes (λ later. objects_rest (objected self.old) (listed key ++ later))
-            (objects_rest (objected self.new)) result (W.contents out.old) (W.contents out.new) }
+        ensures text { (clock : Clock) → IsClockSince since clock →
+            Writes (λ later. objects_rest (timing_by since clock) (objected self.old) (listed key ++ later))
+            (objects_rest (timing_by since clock) (objected self.new)) result
+            (W.contents out.old) (W.contents out.new) }
+        ensures late { IfErr result (IsLateFault since) }
         ensures count { self.new.count ≤ self.old.count + 1 }
         ensures begun { OnOk result (IsBegun self.new.begun.items) }
     {
         match key {
-            Some(key) => self.take_key(alloc, key, out),
+            Some(key) => self.take_key(alloc, since, key, out),
             None => Ok(()),
         }
     }

@@ -18,7 +18,7 @@ pub(crate) const PROGRAM: &str = "mfrx";
 
 // The line of refused words.
 const USAGE: &[u8] =
-    b"mfrx: usage: mfrx [--line N] [--trunk T] [--tones] [--json] [--against PAGE] [--channel N] [--raw [--rate HZ] [--ulaw] [--channels N]]\n";
+    b"mfrx: usage: mfrx [--line N] [--trunk T] [--tones] [--json [--since TIME]] [--against PAGE] [--channel N] [--raw [--rate HZ] [--ulaw] [--channels N]]\n";
 
 // Does what is asked for, and returns the status of the process.
 fn answer<F: Files, R: Read, W: Write, E: Write>(

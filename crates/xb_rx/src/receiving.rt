@@ -1,7 +1,9 @@
 // From a sound to what is written of its keys.
 ghost use Rattle.std.specs.Prelude.{◌≡◌, ◌≤◌, IfOk};
-ghost use Rattle.xb_rx.specs.Hearing.{Delivers, HasForm, Hears, HearsBytes, outputs, start_by};
+ghost use Rattle.xb_clock.specs.Clocks.{Clock, IsClockSince};
+ghost use Rattle.xb_rx.specs.Hearing.{DeliversTimed, HasForm, Hears, HearsBytes, outputs, start_by};
 ghost use Rattle.xb_rx.specs.Reports.{IsReady, count_of, reported};
+ghost use Rattle.xb_rx.specs.Timed.{timing_by, untimed};
 ghost use Rattle.xb_wav.specs.Samples.{IsForm};
 ghost use Rattle.xb_wav.specs.Starts.{Opens};
 ghost use Rattle.xb_wav.specs.Streams.{sound_left};
@@ -11,6 +13,7 @@ use crate::fault::RxFault;
 use crate::listener::Listener;
 use crate::report::Report;
 use crate::request::{Input, Request};
+use jiff_core::Timestamp;
 use std::alloc::Global;
 use std::io::{Read, Write};
 use xb_wav::{OpenFault, Source, Start, UNKNOWN_SAMPLES, open_wav};
@@ -18,6 +21,7 @@ use xb_wav::{OpenFault, Source, Start, UNKNOWN_SAMPLES, open_wav};
 // Takes the samples of a source to their end.
 fn hear<R: Read, W: Write, E: Write>(
     alloc: Global,
+    since: Option<Timestamp>,
     source: &mut Source<R>,
     report: &mut Report,
     out: &mut W,
@@ -25,18 +29,19 @@ fn hear<R: Read, W: Write, E: Write>(
 ) -> Result<(), RxFault>
     requires form { IsForm source.old.form }
     requires said { source.old.said ≤ UNKNOWN_SAMPLES }
-    requires none { count_of (reported report.old) ≡ 0 }
-    requires ready { IsReady (reported report.old) }
-    ensures { Hears (sound_left R.remaining source.old) (reported report.old) result
+    requires none { count_of (reported untimed report.old) ≡ 0 }
+    requires ready { IsReady (reported untimed report.old) }
+    ensures { (clock : Clock) → IsClockSince since clock →
+        Hears since (sound_left R.remaining source.old) (reported (timing_by since clock) report.old) result
         (outputs (W.contents out.old) (W.contents out.new) (E.contents err.old) (E.contents err.new)) }
 {
     let mut listener = Listener::new();
     while let Some(sample) = source.next_sample()? {
         let key = listener.take(sample);
-        report.take(alloc, key, out, err)?;
+        report.take(alloc, since, key, out, err)?;
     }
     let last = listener.finish();
-    report.end(alloc, last, out, err)?;
+    report.end(alloc, since, last, out, err)?;
     listener.tell(alloc, last, err)?;
     Ok(())
 }
@@ -58,19 +63,22 @@ fn start_of<R: Read>(input: Input, reader: &mut R) -> Result<Start, OpenFault>
     }
 }
 
-/// Hears a sound to its end, and writes what a report makes of it, which has no entry so far.
+/// Hears a sound to its end, and writes what a report makes of it, which has no entry so far: objects with their times of
+/// day, where the one is given at which the sound begins.
 pub(crate) fn listen<R: Read, W: Write, E: Write>(
     alloc: Global,
     input: Input,
+    since: Option<Timestamp>,
     mut report: Report,
     sound: &mut R,
     out: &mut W,
     err: &mut E,
 ) -> Result<(), RxFault>
     requires form { HasForm input }
-    requires none { count_of (reported report) ≡ 0 }
-    requires ready { IsReady (reported report) }
-    ensures { HearsBytes input (reported report) (R.remaining sound.old) result
+    requires none { count_of (reported untimed report) ≡ 0 }
+    requires ready { IsReady (reported untimed report) }
+    ensures { (clock : Clock) → IsClockSince since clock →
+        HearsBytes input since (reported (timing_by since clock) report) (R.remaining sound.old) result
         (outputs (W.contents out.old) (W.contents out.new) (E.contents err.old) (E.contents err.new)) }
 {
     let start = start_of(input, sound)?;
@@ -80,13 +88,13 @@ pub(crate) fn listen<R: Read, W: Write, E: Write>(
         said: start.samples,
         counted: start.counted,
     };
-    hear(alloc, &mut source, &mut report, out, err)
+    hear(alloc, since, &mut source, &mut report, out, err)
 }
 
 /// Hears a sound, and writes what is asked for: the page of its keyings, an entry for each, from KP to ST, as it ends,
-/// and the totals, and to `err` a line for each key that is in none; or a line for each key, as it ends; and to `err` how
-/// loud the sound is where no key is heard. Memory
-/// does not grow with the sound, which is read a few bytes at a time: hand it a reader with a buffer.
+/// and the totals, and to `err` a line for each key that is in none; or a line or an object for each key, as it ends; and
+/// to `err` how loud the sound is where no key is heard. Memory does not grow with the sound, which is read a few bytes at
+/// a time: hand it a reader with a buffer.
 ///
 /// On an `Err` the beginning of this was written.
 ///
@@ -100,9 +108,9 @@ pub fn receive<R: Read, W: Write, E: Write>(
     err: &mut E,
 ) -> Result<(), RxFault>
     requires { HasForm request.input }
-    ensures { Delivers request (R.remaining sound.old) result
+    ensures { DeliversTimed request (R.remaining sound.old) result
         (outputs (W.contents out.old) (W.contents out.new) (E.contents err.old) (E.contents err.new)) }
 {
     let report = Report::new(alloc, request.written);
-    listen(alloc, request.input, report, sound, out, err)
+    listen(alloc, request.input, request.since, report, sound, out, err)
 }

@@ -1,8 +1,13 @@
 // What is written of keys, as they end.
+ghost use Rattle.std.specs.Prelude.{◌≡◌};
+ghost use Rattle.xb_rx.specs.Faults.{reported_page};
+
 use crate::listing::Listing;
 use crate::objects::Objects;
 use crate::page::{Page, PageFault};
 use crate::request::Written;
+use crate::timed::ReportFault;
+use jiff_core::Timestamp;
 use std::alloc::Global;
 use std::io::Write;
 use xb_compared::Keyed;
@@ -19,15 +24,28 @@ pub(crate) enum Report {
     Objects(Objects),
 }
 
+// What comes of a page, or of lines, is what comes of what is written.
+fn reported_page(written: Result<(), PageFault>) -> Result<(), ReportFault>
+    ensures { result ≡ reported_page written }
+{
+    match written {
+        Ok(()) => Ok(()),
+        Err(fault) => Err(ReportFault::Page(fault)),
+    }
+}
+
 impl Report {
-    ghost use Rattle.std.specs.Prelude.{◌≡◌, ◌≤◌, ◌<◌, ◌+◌, ◌^◌, ◌++◌, OnOk};
+    ghost use Rattle.std.specs.Prelude.{◌≡◌, ◌≤◌, ◌<◌, ◌+◌, ◌^◌, ◌++◌, IfErr, OnOk};
+    ghost use Rattle.xb_clock.specs.Clocks.{Clock, IsClockSince};
     ghost use Rattle.xb_ear.specs.Hearings.{listed};
     ghost use Rattle.xb_rx.specs.Pages.{Ends, Writes, fresh_against};
+    ghost use Rattle.xb_rx.specs.Faults.{IsLateFault};
     ghost use Rattle.xb_rx.specs.Reports.{IsReady, count_of, fresh_report, on_page, report_rest, reported, told_rest};
+    ghost use Rattle.xb_rx.specs.Timed.{Timing, timing_by, untimed};
 
     /// What is written where no key has come yet.
     pub(crate) fn new(alloc: Global, written: Written) -> Report
-        ensures { reported result ≡ fresh_report written }
+        ensures { (timing : Timing) → reported timing result ≡ fresh_report timing written }
     {
         match written {
             Written::Page(line, trunk) => Report::Page(Page::new(alloc, line, trunk)),
@@ -38,35 +56,39 @@ impl Report {
 
     /// The differences from what was keyed, where no key has come yet.
     pub(crate) fn against(alloc: Global, keyed: Vec<Keyed>) -> Report
-        ensures { reported result ≡ on_page (fresh_against keyed.items) }
+        ensures { (timing : Timing) → reported timing result ≡ on_page (fresh_against keyed.items) }
     {
         Report::Page(Page::against(alloc, keyed))
     }
 
-    /// Takes the key that ended, if one did, and writes what it makes plain. On an `Err` the beginning of this was
-    /// written.
+    /// Takes the key that ended, if one did, and writes what it makes plain: objects with their times of day, where the
+    /// one is given at which the sound begins. On an `Err` the beginning of this was written.
     pub(crate) fn take<W: Write, E: Write>(
         &mut self,
         alloc: Global,
+        since: Option<Timestamp>,
         key: Option<Heard>,
         out: &mut W,
         err: &mut E,
-    ) -> Result<(), PageFault>
-        requires ready { IsReady (reported self.old) }
-        requires count { count_of (reported self.old) + 1 < 2 ^ 64 }
-        ensures page { Writes (λ later. report_rest (reported self.old) (listed key ++ later))
-            (report_rest (reported self.new))
+    ) -> Result<(), ReportFault>
+        requires ready { IsReady (reported untimed self.old) }
+        requires count { count_of (reported untimed self.old) + 1 < 2 ^ 64 }
+        ensures page { (clock : Clock) → IsClockSince since clock →
+            Writes (λ later. report_rest (reported (timing_by since clock) self.old) (listed key ++ later))
+            (report_rest (reported (timing_by since clock) self.new))
             result (W.contents out.old) (W.contents out.new) }
-        ensures told { Writes (λ later. told_rest (reported self.old) (listed key ++ later))
-            (told_rest (reported self.new))
+        ensures told { (timing : Timing) →
+            Writes (λ later. told_rest (reported timing self.old) (listed key ++ later))
+            (told_rest (reported timing self.new))
             result (E.contents err.old) (E.contents err.new) }
-        ensures count { count_of (reported self.new) ≤ count_of (reported self.old) + 1 }
-        ensures ready { OnOk result (IsReady (reported self.new)) }
+        ensures late { IfErr result (IsLateFault since) }
+        ensures count { count_of (reported untimed self.new) ≤ count_of (reported untimed self.old) + 1 }
+        ensures ready { OnOk result (IsReady (reported untimed self.new)) }
     {
         match self {
-            Report::Page(page) => page.take(alloc, key, out, err),
-            Report::Keys(listing) => listing.take(alloc, key, out),
-            Report::Objects(objects) => objects.take(alloc, key, out),
+            Report::Page(page) => reported_page(page.take(alloc, key, out, err)),
+            Report::Keys(listing) => reported_page(listing.take(alloc, key, out)),
+            Report::Objects(objects) => objects.take(alloc, since, key, out),
         }
     }
 
@@ -75,21 +97,25 @@ impl Report {
     pub(crate) fn end<W: Write, E: Write>(
         &mut self,
         alloc: Global,
+        since: Option<Timestamp>,
         key: Option<Heard>,
         out: &mut W,
         err: &mut E,
-    ) -> Result<(), PageFault>
-        requires ready { IsReady (reported self.old) }
-        requires count { count_of (reported self.old) + 1 < 2 ^ 64 }
-        ensures page { Ends (report_rest (reported self.old) (listed key)) result
+    ) -> Result<(), ReportFault>
+        requires ready { IsReady (reported untimed self.old) }
+        requires count { count_of (reported untimed self.old) + 1 < 2 ^ 64 }
+        ensures page { (clock : Clock) → IsClockSince since clock →
+            Ends (report_rest (reported (timing_by since clock) self.old) (listed key)) result
             (W.contents out.old) (W.contents out.new) }
-        ensures told { Ends (told_rest (reported self.old) (listed key)) result
+        ensures told { (timing : Timing) →
+            Ends (told_rest (reported timing self.old) (listed key)) result
             (E.contents err.old) (E.contents err.new) }
+        ensures late { IfErr result (IsLateFault since) }
     {
         match self {
-            Report::Page(page) => page.end(alloc, key, out, err),
-            Report::Keys(listing) => listing.take(alloc, key, out),
-            Report::Objects(objects) => objects.take(alloc, key, out),
+            Report::Page(page) => reported_page(page.end(alloc, key, out, err)),
+            Report::Keys(listing) => reported_page(listing.take(alloc, key, out)),
+            Report::Objects(objects) => objects.take(alloc, since, key, out),
         }
     }
 }

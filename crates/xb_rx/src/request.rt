@@ -1,4 +1,5 @@
 // What is asked for.
+use jiff_core::Timestamp;
 use xb_model::{LineNo, Trunk};
 use xb_wav::SampleForm;
 
@@ -27,6 +28,8 @@ pub enum Written {
 pub struct Request {
     /// What is written.
     pub written: Written,
+    /// The time of day at which the sound begins, by which objects also have their times as such, where it is given.
+    pub since: Option<Timestamp>,
     /// How the sound is given.
     pub input: Input,
 }

@@ -3,11 +3,13 @@ ghost use Rattle.std.specs.Prelude.{◌≡◌, ◌<◌, ◌≤◌, IfErr, IfOk, 
 ghost use Rattle.xb_command.specs.Commands.{texts_of};
 ghost use Rattle.xb_rx.specs.Hearing.{HasForm};
 ghost use Rattle.xb_wav.specs.Samples.{IsForm};
-ghost use Rattle.xb_rx.specs.Options.{AreRefused, Asks, Say, channel_of, channels_of, input_of, is_plain, line_of, named, raw_coding, raw_form, request_against, request_of, told_keys, trunk_of, written_of};
+ghost use Rattle.xb_rx.specs.Options.{AreRefused, Asks, Say, channel_of, channels_of, input_of, is_plain, line_of, named, raw_coding, raw_form, request_against, request_of, time_of, told_keys, trunk_of, written_of};
 
 use crate::program::PROGRAM;
 use crate::request::{Asked, Input, Request, Written};
+use jiff_core::Timestamp;
 use std::alloc::Global;
+use xb_clock::{Since, since_of};
 use xb_command::{Takes, Words, WordsFault, read_words};
 use xb_model::{LINES, LineNo, TRUNKS, Trunk};
 use xb_wav::{Coding, MOST_CHANNELS, SampleForm, frames_of};
@@ -24,10 +26,11 @@ pub(crate) struct Options {
     pub(crate) ulaw: bool,
     pub(crate) channels: Option<u32>,
     pub(crate) channel: Option<u32>,
+    pub(crate) since: Since,
 }
 
 // The options of the program, each under its name.
-const OPTIONS: [(&str, Takes); 10] = [
+const OPTIONS: [(&str, Takes); 11] = [
     ("line", Takes::Number),
     ("trunk", Takes::Number),
     ("tones", Takes::Nothing),
@@ -38,6 +41,7 @@ const OPTIONS: [(&str, Takes); 10] = [
     ("channels", Takes::Number),
     ("channel", Takes::Number),
     ("against", Takes::Text),
+    ("since", Takes::Text),
 ];
 
 // What the words say.
@@ -54,6 +58,7 @@ fn options_of(words: &Words) -> Options
         ulaw: words.flag("ulaw"),
         channels: words.number("channels"),
         channel: words.number("channel"),
+        since: since_of(words.text("since")),
     }
 }
 
@@ -180,14 +185,30 @@ fn input_of(options: Options) -> Option<Input>
     }
 }
 
+// The time of day at which the sound begins, if one is given; `None` where the word is none, or no objects are written.
+fn time_of(options: Options) -> Option<Option<Timestamp>>
+    ensures { result ≡ time_of options }
+{
+    match options.since {
+        Since::NotGiven => Some(None),
+        Since::Time(time) if options.json => Some(Some(time)),
+        Since::Time(_) | Since::NoTime => None,
+    }
+}
+
 // What the options ask for.
 fn request_of(options: Options) -> Option<Request>
     ensures value { result ≡ request_of options }
     ensures form { IfSome result (λ request. HasForm request.input) }
 {
     let written = written_of(options)?;
+    let since = time_of(options)?;
     let input = input_of(options)?;
-    Some(Request { written, input })
+    Some(Request {
+        written,
+        since,
+        input,
+    })
 }
 
 // Whether nothing is said of what is written.
@@ -210,8 +231,8 @@ fn request_against(options: Options, against: bool) -> Option<Request>
     }
 }
 
-/// What the words ask for: the page of a line, by a trunk group, or a line for each key, of a WAV file or of samples
-/// alone, or that it is compared with a page.
+/// What the words ask for: the page of a line, by a trunk group, or a line for each key, or objects, with times of day
+/// or without them, of a WAV file or of samples alone, or that it is compared with a page.
 pub fn asked_by_words<'a>(alloc: Global, words: &'a [String]) -> Result<Asked<'a>, WordsFault>
     ensures asks { IfOk result (λ asked. Asks (texts_of words.entry.now) asked.request
         (named asked.against)) }

@@ -93,8 +93,8 @@ fn digits_in(alloc: Global, keys: &[NamedKey]) -> Result<Vec<Digit>, AllocError>
     Ok(digits)
 }
 
-// When a keying ends, in ms; 0 where there is no key.
-fn ended_ms(keys: &[NamedKey]) -> u64
+/// When a keying ends, in ms; 0 where there is no key.
+pub fn ended_ms(keys: &[NamedKey]) -> u64
     ensures { result ≡ ended_ms keys.now }
 {
     match keys.last() {
@@ -132,8 +132,9 @@ fn entry_of_parts(
     object_of(alloc, &members)
 }
 
-// The object of the entry of this number.
-fn entry_object(alloc: Global, number: usize, keys: &[NamedKey]) -> Result<Value, AllocError>
+/// The object of a keying: the entry of this number, when it begins and ends, its keys, its digits and its doubts. `Err`
+/// says that memory ran out.
+pub fn entry_object(alloc: Global, number: usize, keys: &[NamedKey]) -> Result<Value, AllocError>
     ensures { IfOk result (λ value. view value ≡ entry_object number keys.now) }
 {
     let doubts = doubts_of(alloc, keys)?;
@@ -144,8 +145,7 @@ fn entry_object(alloc: Global, number: usize, keys: &[NamedKey]) -> Result<Value
     entry_of_parts(alloc, number, began_ms(keys), ended_ms(keys), &parts)
 }
 
-/// The object of a keying as a line: the entry of this number, when it begins and ends, its keys, its digits and its
-/// doubts. `Err` says that memory ran out.
+/// The same as a line. `Err` says that memory ran out.
 pub fn entry_line(alloc: Global, number: usize, keys: &[NamedKey]) -> Result<String, AllocError>
     ensures { IfOk result (λ line. string_bytes line ≡ entry_line number keys.now) }
 {

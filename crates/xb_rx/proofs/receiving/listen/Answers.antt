@@ -1,8 +1,9 @@
 use Rattle.xb_rx.specs.Reports.{reported}
+use Rattle.xb_rx.specs.Timed.{timing_by}
 use Rattle.xb_rx.proofs.Delivered.{listened}
 use Rattle.xb_rx.proofs.receiving.listen.Goals as goal
 
 pub returns : goal.returns
-returns g c =
-    listened c.args.input (reported c.args.report) (g.R.Read.remaining c.args.sound.now) (g.R.Read.remaining c.start_of.new.reader)
-    c.in_ok-start.start c.hear.result _ c.in_ok-start.ensures.bytes c.hear.ensures
+returns g c = λ clock tells.
+    listened c.args.input c.args.since (reported (timing_by c.args.since clock) c.args.report) (g.R.Read.remaining c.args.sound.now) (g.R.Read.remaining c.start_of.new.reader)
+    c.in_ok-start.start c.hear.result _ c.in_ok-start.ensures.bytes (c.hear.ensures clock tells)

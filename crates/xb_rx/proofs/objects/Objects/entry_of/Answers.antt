@@ -4,6 +4,7 @@ use Rattle.xb_ear.specs.declared.hearing.Heard.{Heard}
 use Rattle.xb_rx.specs.declared.begun.Step.{Step}
 use Rattle.xb_rx.specs.Begun.{step_of}
 use Rattle.xb_rx.specs.Objects.{objected}
+use Rattle.xb_rx.specs.Timed.{timing_by}
 use Rattle.xb_rx.proofs.ObjectSteps.{breaks, completes, keeps}
 use Rattle.xb_rx.proofs.objects.Objects.entry_of.Goals as goal
 
@@ -19,23 +20,23 @@ all-ok (Ok s) step p q r = step s p q r
 all-ok (Err e) step p q r = tt
 
 pub returns-in_ok-keep-in-Keeps-clause-ended : goal.returns-in_ok-keep-in-Keeps-clause-ended
-returns-in_ok-keep-in-Keeps-clause-ended c =
-    keeps (objected c.args.self.now) (objected c.keep.new.self) c.args.key c.requires.begun
+returns-in_ok-keep-in-Keeps-clause-ended c = λ clock tells.
+    keeps (timing_by c.args.since clock) (objected c.args.self.now) (objected c.keep.new.self) c.args.key c.requires.begun
     (by-step c.deref.result.now (objected c.args.self.now).begun c.args.key _ _ c.deref.ensures.value c.step_of.ensures c.in-Keeps.is)
     c.in_ok-keep-in-Keeps.ensures.kept (string_bytes c.new.result) c.new.ensures.bytes c.keep.ensures.count
 
 pub returns-in-Completes-clause-ended : goal.returns-in-Completes-clause-ended
-returns-in-Completes-clause-ended c =
+returns-in-Completes-clause-ended c = λ clock tells.
     all-ok c.complete.result
-    (λ line is none one. completes (objected c.args.self.now) (objected c.complete.new.self) c.args.key c.requires.begun
+    (λ line is none one. completes (timing_by c.args.since clock) (objected c.args.self.now) (objected c.complete.new.self) c.args.key c.requires.begun
     (string_bytes line)
     (by-step c.deref.result.now (objected c.args.self.now).begun c.args.key _ _ c.deref.ensures.value c.step_of.ensures c.in-Completes.is)
     none one is)
-    c.complete.ensures.line c.complete.ensures.none c.complete.ensures.one
+    (c.complete.ensures.line clock tells) c.complete.ensures.none c.complete.ensures.one
 
 pub returns-in_ok-break_off-in-BreaksOff-clause-ended : goal.returns-in_ok-break_off-in-BreaksOff-clause-ended
-returns-in_ok-break_off-in-BreaksOff-clause-ended c =
-    breaks (objected c.args.self.now) (objected c.break_off.new.self) c.args.key c.requires.begun
+returns-in_ok-break_off-in-BreaksOff-clause-ended c = λ clock tells.
+    breaks (timing_by c.args.since clock) (objected c.args.self.now) (objected c.break_off.new.self) c.args.key c.requires.begun
     (by-step c.deref.result.now (objected c.args.self.now).begun c.args.key _ _ c.deref.ensures.value c.step_of.ensures c.in-BreaksOff.is)
     c.in_ok-break_off-in-BreaksOff.ensures.after (string_bytes c.new-in-BreaksOff.result) c.new-in-BreaksOff.ensures.bytes
     c.break_off.ensures.count

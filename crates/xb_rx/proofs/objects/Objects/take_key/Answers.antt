@@ -2,48 +2,54 @@ use Rattle.std.proofs.Common.{◌≡◌, ◌∙◌, ◌++◌, List, ℕ, Some, a
 use Rattle.std.proofs.lemmas.Result.{err_from_is_err_and}
 use Rattle.xb_ear.specs.declared.hearing.Heard.{Heard}
 use Rattle.xb_measured.specs.Figures.{figures_of}
-use Rattle.xb_measured.specs.Objects.{object_line}
 use Rattle.xb_rx.specs.declared.page.PageFault.TheVariants as page_fault
+use Rattle.xb_rx.specs.declared.timed.ReportFault.TheVariants as report_fault
+use Rattle.xb_rx.specs.Timed.{key_line, timing_by}
 use Rattle.xb_rx.specs.Objects.{Ended, Objected, objected, objects_rest}
 use Rattle.xb_rx.proofs.Listings.{no-key}
 use Rattle.xb_rx.proofs.ObjectSteps.{began-objects, wrote-objects}
 use Rattle.xb_rx.proofs.WrittenText.{wrote-whole}
 use Rattle.xb_rx.proofs.objects.Objects.take_key.Goals as goal
 
+pub returns-in_err-text-clause-text : goal.returns-in_err-text-clause-text
+returns-in_err-text-clause-text g c = λ clock tells.
+    let p = err_from_is_err_and c.from_residual.result c.from_residual.ensures.1 in
+    no-key _ _ c.from_residual.result _ _ p.1
+
 pub returns-in_err-entry-clause-text : goal.returns-in_err-entry-clause-text
-returns-in_err-entry-clause-text g c =
+returns-in_err-entry-clause-text g c = λ clock tells.
     let p = err_from_is_err_and c.from_residual-in_err-entry.result c.from_residual-in_err-entry.ensures.1 in
     no-key _ _ c.from_residual-in_err-entry.result _ _ p.1
 
 pub returns-in_err-push_str-clause-text : goal.returns-in_err-push_str-clause-text
-returns-in_err-push_str-clause-text g c =
+returns-in_err-push_str-clause-text g c = λ clock tells.
     let p = err_from_is_err_and c.from_residual-in_err-push_str.result c.from_residual-in_err-push_str.ensures.1 in
     no-key _ _ c.from_residual-in_err-push_str.result _ _ p.1
 
 pub returns-then-is_err-clause-text : goal.returns-then-is_err-clause-text
-returns-then-is_err-clause-text g c =
+returns-then-is_err-clause-text g c = λ clock tells.
     let old : Objected = objected c.args.self.now in
     let new : Objected = objected c.entry_of.new.self in
     let line : List ℕ = string_bytes c.in_ok-entry.entry in
-    let ended : Ended old new c.args.key line =
-    subst (λ (k : Heard). Ended old new k line) c.of.ensures c.in_ok-entry.ensures.ended in
-    let text : c.as_bytes.result.now ≡ object_line (figures_of old.last c.args.key) ++ line =
+    let ended : Ended (timing_by c.args.since clock) old new c.args.key line =
+    subst (λ (k : Heard). Ended (timing_by c.args.since clock) old new k line) c.of.ensures (c.in_ok-entry.ensures.ended clock tells) in
+    let text : c.as_bytes.result.now ≡ key_line (timing_by c.args.since clock) (figures_of old.last c.args.key) ++ line =
     c.as_bytes.ensures.value ∙ c.in_ok-push_str.ensures.bytes
-    ∙ ap₂ (λ (x y : List ℕ). x ++ y) (c.in_ok-text.ensures ∙ ap object_line c.figures_of-figures.ensures) c.deref.ensures in
-    began-objects old new c.args.key line c.as_bytes.result.now ended text _ _ (objects_rest new) page_fault.Write
+    ∙ ap₂ (λ (x y : List ℕ). x ++ y) (c.in_ok-text.ensures.line clock tells ∙ ap (key_line (timing_by c.args.since clock)) c.figures_of-figures.ensures) c.deref.ensures in
+    began-objects (timing_by c.args.since clock) old new c.args.key line c.as_bytes.result.now ended text _ _ (objects_rest (timing_by c.args.since clock) new) (report_fault.Page page_fault.Write)
     c.write_whole.ensures.beginning
 
 pub returns-clause-text : goal.returns-clause-text
-returns-clause-text g c =
+returns-clause-text g c = λ clock tells.
     let old : Objected = objected c.args.self.now in
     let mid : Objected = objected c.entry_of.new.self in
     let new : Objected = record { last = Some c.args.key; count = mid.count; begun = mid.begun } in
     let line : List ℕ = string_bytes c.in_ok-entry.entry in
-    let is : Ended old mid c.args.key line =
-    subst (λ (k : Heard). Ended old mid k line) c.of.ensures c.in_ok-entry.ensures.ended in
-    let ended : Ended old new c.args.key line = record { entry = is.entry; goes_on = is.goes_on } in
-    let text : c.as_bytes.result.now ≡ object_line (figures_of old.last c.args.key) ++ line =
+    let is : Ended (timing_by c.args.since clock) old mid c.args.key line =
+    subst (λ (k : Heard). Ended (timing_by c.args.since clock) old mid k line) c.of.ensures (c.in_ok-entry.ensures.ended clock tells) in
+    let ended : Ended (timing_by c.args.since clock) old new c.args.key line = record { entry = is.entry; goes_on = is.goes_on } in
+    let text : c.as_bytes.result.now ≡ key_line (timing_by c.args.since clock) (figures_of old.last c.args.key) ++ line =
     c.as_bytes.ensures.value ∙ c.in_ok-push_str.ensures.bytes
-    ∙ ap₂ (λ (x y : List ℕ). x ++ y) (c.in_ok-text.ensures ∙ ap object_line c.figures_of-figures.ensures) c.deref.ensures in
-    wrote-objects old new c.args.key line c.as_bytes.result.now ended text _ _ refl
+    ∙ ap₂ (λ (x y : List ℕ). x ++ y) (c.in_ok-text.ensures.line clock tells ∙ ap (key_line (timing_by c.args.since clock)) c.figures_of-figures.ensures) c.deref.ensures in
+    wrote-objects (timing_by c.args.since clock) old new c.args.key line c.as_bytes.result.now ended text _ _ refl
     (wrote-whole c.write_whole.result c.write_whole.ensures.whole (sym c.is_err.ensures.value ∙ c.if-is_err.false))
