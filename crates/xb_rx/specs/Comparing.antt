@@ -6,8 +6,8 @@ use Rattle.xb_compared.specs.Differences.{differences}
 use Rattle.xb_compared.specs.Entries.{KeyedEntry}
 use Rattle.xb_compared.specs.Pages.{IsFaultOf, IsKeyed}
 use Rattle.xb_page.specs.LineEnds.{lf_ended}
-use Rattle.xb_ear.specs.declared.hearing.Heard.{Heard}
-use Rattle.xb_ear.specs.Receivers.{keys_of_sound}
+use Rattle.xb_measured.specs.declared.heard.Heard.{Heard}
+use Rattle.xb_measured.specs.Receivers.{keys_of_sound}
 use Rattle.xb_rx.specs.declared.comparing.CompareProgramFault.{CompareProgramFault}
 use Rattle.xb_rx.specs.declared.comparing.CompareProgramFault.TheVariants as fault
 use Rattle.xb_rx.specs.declared.request.Input.{Input}

@@ -3,8 +3,7 @@ use crate::begun::{Step, step_of};
 use crate::page::PageFault;
 use std::alloc::{AllocError, Global};
 use std::io::Write;
-use xb_ear::Heard;
-use xb_measured::{figures_of, object_line};
+use xb_measured::{Heard, figures_of, object_line};
 use xb_text::write_whole;
 use xb_told::{NamedKey, entry_line};
 
@@ -21,7 +20,7 @@ pub(crate) struct Objects {
 
 impl Objects {
     ghost use Rattle.std.specs.Prelude.{◌≡◌, ◌≤◌, ◌<◌, ◌+◌, ◌^◌, ◌∷◌, [], ◌++◌, IfOk, OnOk, string_bytes};
-    ghost use Rattle.xb_ear.specs.Hearings.{listed};
+    ghost use Rattle.xb_measured.specs.Receivers.{listed};
     ghost use Rattle.xb_rx.specs.Begun.{IsBegun, kept_after};
     ghost use Rattle.xb_rx.specs.Objects.{Ended, fresh_objects, objected, objects_rest};
     ghost use Rattle.xb_rx.specs.Pages.{Writes};
