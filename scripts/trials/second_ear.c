@@ -12,13 +12,46 @@ enum { HOP = 20, WINDOW = 80, TONES = 6, NONE = -1 };
 enum { LEAST_LEVEL = 500 * 500, TWIST = 16, CLEAR = 2, SHARE = 3, SHARE_OF = 5, STEADY = 20, STEADY_WINDOWS = 1024 };
 enum { GAP_WINDOWS = 8, PART_WINDOWS = 5, KEY_WINDOWS = 8, KP_WINDOWS = 18, TAIL_WINDOWS = 64, TAIL_ROW = 6, TAIL_WEAKER = 3 };
 
+enum { TAPE = 1040, STRETCH = 200, SPAN = 160, LATER = 40, MOST_OFF = 50 };
+
+struct tone { int hz; int64_t level; };
 struct sight { int low, high; int64_t low_level, high_level; };  /* places among the six */
 struct heard { struct sight sight; int64_t first, past; };       /* numbers of windows */
 
 static const int hundreds[TONES] = { 7, 9, 11, 13, 15, 17 };
 static int sine[80];  /* 10,000 times, rounded */
 
+/* By their definitions: a raised cosine, tangents, and what a tone that is off lacks by the cosine. */
+static int weights[SPAN], tangents[MOST_OFF], gains[MOST_OFF + 1];
+
+static void make_tables(void)
+{
+    double all = 0;
+    for (int n = 0; n < 80; n++) sine[n] = (int) lround(10000 * sin(2 * M_PI * n / 80));
+    for (int n = 0; n < SPAN; n++) all += weights[n] = (int) lround(1000 * (1 - cos(M_PI * (2 * n + 1) / SPAN)));
+    for (int hz = 0; hz < MOST_OFF; hz++) tangents[hz] = (int) lround(10000 * tan(M_PI * (2 * hz + 1) / 200));
+    for (int hz = 0; hz <= MOST_OFF; hz++) {
+        double left = 0;
+        for (int n = 0; n < SPAN; n++) left += weights[n] * cos(2 * M_PI * hz * (n - 79.5) / 8000);
+        gains[hz] = (int) lround(1000 * all / left * all / left);
+    }
+}
+
 static int64_t square(int64_t x) { return x * x; }
+
+/* The last samples, and how many windows before them are gone. */
+static int16_t tape[TAPE];
+static int on_tape;
+static int64_t gone;
+
+static void keep(int16_t sample)
+{
+    tape[on_tape++] = sample;
+    if (on_tape < TAPE) return;
+    memmove(tape, tape + HOP, sizeof tape - HOP * sizeof *tape);
+    on_tape -= HOP;
+    gone++;
+}
 
 static int64_t level(const int16_t *window, int tone)
 {
@@ -93,6 +126,44 @@ static int tenths(int64_t level) { return (int) floorl(100 * log10l(level) - 100
 
 static void print_tenths(int number) { printf("%s%d.%d", number < 0 ? "-" : "", abs(number) / 10, abs(number) % 10); }
 
+/* The sum of the products of weighted samples and a wave, so many places ahead of a sine. */
+static __int128 weighed(const int16_t *stretch, int hundred, int from, int ahead)
+{
+    int64_t sum = 0;
+    for (int n = 0; n < SPAN; n++)
+        sum += (int64_t) weights[n] * stretch[from + n] * sine[(hundred * (from + n) + ahead) % 80];
+    return sum;
+}
+
+/* The tone of a stretch: how far it turns in LATER samples says its frequency, 1 Hz in 200 of a turn. */
+static struct tone tone_of(const int16_t *stretch, int hundred)
+{
+    __int128 c1 = weighed(stretch, hundred, 0, 20), s1 = weighed(stretch, hundred, 0, 0);
+    __int128 c2 = weighed(stretch, hundred, LATER, 20), s2 = weighed(stretch, hundred, LATER, 0);
+    __int128 along = c1 * c2 + s1 * s2, across = s1 * c2 - c1 * s2, size = across < 0 ? -across : across;
+    int off = 0;
+    while (off < MOST_OFF && (along <= 0 || along * tangents[off] <= 10000 * size)) off++;
+    __int128 all = (c1 * c1 + s1 * s1 + c2 * c2 + s2 * s2) * gains[off];
+    return (struct tone) { 100 * hundred + (across < 0 ? -off : off), (int64_t) (all / 1000000000000 / 1280000000) };
+}
+
+static int64_t power_at(int64_t place)
+{
+    int64_t power = 0;
+    for (int n = 0; n < STRETCH; n++) power += square(tape[HOP * place + n]);
+    return power;
+}
+
+/* Where on the tape a key has its strongest stretch; NONE where none lies there. */
+static int64_t strongest(struct heard key)
+{
+    int64_t from = key.first > gone ? key.first - gone : 0, to = least_of(key.past - 6 - gone, (on_tape - 180) / HOP);
+    int64_t best = NONE;
+    for (int64_t place = from; place < to; place++)
+        if (best == NONE || power_at(best) < power_at(place)) best = place;
+    return best;
+}
+
 static int is_about(int64_t wanted, int64_t off, int64_t number) { return llabs(number - wanted) <= off; }
 
 static struct heard last;
@@ -104,13 +175,17 @@ static void misses(int fits, const char *limit, int *missed)
     if (!fits) printf(" %s", limit), ++*missed;
 }
 
+/* 1.5 %, and 2 Hz for the measure. */
+static int is_tuned(struct tone tone, int hundred) { return is_about(100000 * hundred, 1500 * hundred + 2000, 1000 * tone.hz); }
+
 /* Prints all limits that a key misses. */
-static void verdict(struct sight sight, int64_t length, int64_t gap)
+static void verdict(struct sight sight, struct tone low_tone, struct tone high_tone, int64_t length, int64_t gap)
 {
     int kp = sight.low == 2 && sight.high == 5, kp2 = sight.low == 3 && sight.high == 5;
-    int low = tenths(sight.low_level), high = tenths(sight.high_level), missed = 0;
+    int low = tenths(low_tone.level), high = tenths(high_tone.level), missed = 0;
     misses((!kp && is_about(68, 14, length)) || ((kp || kp2) && is_about(100, 14, length)), "LENGTH", &missed);
     misses(!has_last || kp || kp2 || is_about(68, 14, gap), "GAP", &missed);
+    misses(is_tuned(low_tone, hundreds[sight.low]) && is_tuned(high_tone, hundreds[sight.high]), "TUNING", &missed);
     misses(is_about(low, 12, high), "TWIST", &missed);
     misses(is_about(-70, 12, low) && is_about(-70, 12, high), "LEVEL", &missed);
     puts(missed ? "" : " GOOD");
@@ -121,10 +196,17 @@ static void give(struct heard key)
 {
     int64_t start = (HOP * key.first + 20) / 8, length = (HOP * (key.past - key.first) + 20) / 8;
     int64_t between = HOP * (key.first - last.past) - 20, gap = between > 0 ? between / 8 : 0;
-    int low = tenths(key.sight.low_level), high = tenths(key.sight.high_level);
-    printf("%s at %lld ms for %lld ms, %d00 Hz ", name(key.sight), (long long) start, (long long) length, hundreds[key.sight.low]);
+    const int64_t place = strongest(key);
+    struct tone low_tone = { 100 * hundreds[key.sight.low], key.sight.low_level };
+    struct tone high_tone = { 100 * hundreds[key.sight.high], key.sight.high_level };
+    if (place != NONE) {
+        low_tone = tone_of(tape + HOP * place, hundreds[key.sight.low]);
+        high_tone = tone_of(tape + HOP * place, hundreds[key.sight.high]);
+    }
+    int low = tenths(low_tone.level), high = tenths(high_tone.level);
+    printf("%s at %lld ms for %lld ms, %d Hz ", name(key.sight), (long long) start, (long long) length, low_tone.hz);
     print_tenths(low);
-    printf(" dBm0, %d00 Hz ", hundreds[key.sight.high]);
+    printf(" dBm0, %d Hz ", high_tone.hz);
     print_tenths(high);
     printf(" dBm0, twist ");
     print_tenths(high - low);
@@ -132,7 +214,7 @@ static void give(struct heard key)
         printf(" dB, after %lld ms:", (long long) gap);
     else
         printf(" dB, first:");
-    verdict(key.sight, length, gap);
+    verdict(key.sight, low_tone, high_tone, length, gap);
     last = key;
     has_last = 1;
 }
@@ -145,9 +227,10 @@ int main(void)
     struct sight run = none;
     struct heard sounding = { none, 0, 0 };
     int64_t at = 0, first = 0, count = 0, part = 0, away = 0;  /* windows of the run, those in a row, and those since */
-    for (int n = 0; n < 80; n++) sine[n] = (int) lround(10000 * sin(2 * M_PI * n / 80));
+    make_tables();
     while ((low = getchar()) != EOF && (high = getchar()) != EOF) {
         window[filled++] = (int16_t) (low | high << 8);
+        keep(window[filled - 1]);
         if (filled < WINDOW) continue;
         struct sight seen = without_tail(sees(window), at++);
         memmove(window, window + HOP, sizeof window - HOP * sizeof *window);

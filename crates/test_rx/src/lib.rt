@@ -8,6 +8,8 @@ mod folder;
 #[cfg(test)]
 mod heads;
 #[cfg(test)]
+mod measured;
+#[cfg(test)]
 mod pages;
 #[cfg(test)]
 mod statuses;

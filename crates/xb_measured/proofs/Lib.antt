@@ -3,3 +3,8 @@ pub mod KeyValues
 pub mod Steps
 pub mod Nearest
 pub mod Meters
+pub mod WaveSums
+pub mod ToneSteps
+pub mod StrongestPlaces
+pub mod TapeSteps
+pub mod Received

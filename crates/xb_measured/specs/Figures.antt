@@ -1,6 +1,6 @@
 -- The figures of a key.
 use Rattle.std.specs.Prelude.{ℕ, ◌+◌, ◌-◌, ◌*◌, ◌/◌, ◌^◌, min, Option, Some, None}
-use Rattle.xb_ear.specs.declared.hearing.Heard.{Heard}
+use Rattle.xb_measured.specs.declared.heard.Heard.{Heard}
 use Rattle.xb_measured.specs.declared.figures.Figures.{Figures}
 use Rattle.xb_measured.specs.Levels.{tenths_of}
 use Rattle.xb_measured.specs.Meanings.{meaning_of}
@@ -34,7 +34,9 @@ figures_of before key = record {
   meaning = meaning_of key.sight.pair;
   start_ms = start_ms key;
   length_ms = length_ms key;
-  low = tenths_of key.sight.low;
-  high = tenths_of key.sight.high;
+  low_hz = key.low.hz;
+  high_hz = key.high.hz;
+  low = tenths_of key.low.level;
+  high = tenths_of key.high.level;
   gap_ms = gap_ms before key;
 }

@@ -1,5 +1,10 @@
 pub mod Meanings
 pub mod Levels
+pub mod Waves
+pub mod Tones
+pub mod Stretches
+pub mod Tapes
+pub mod Receivers
 pub mod Figures
 pub mod Seconds
 pub mod Meters

@@ -1,6 +1,6 @@
 -- The line of a key.
 use Rattle.std.specs.Prelude.{ℕ, List, [], ◌∷◌, ◌++◌, codes, decimal, Option, Some, None}
-use Rattle.xb_ear.specs.declared.hearing.Heard.{Heard}
+use Rattle.xb_measured.specs.declared.heard.Heard.{Heard}
 use Rattle.xb_measured.specs.declared.figures.Figures.{Figures}
 use Rattle.xb_measured.specs.declared.levels.TheConstants.{ZERO_DBM0}
 use Rattle.xb_measured.specs.Figures.{figures_of}
@@ -13,13 +13,13 @@ abbrev pub gap_text : Option ℕ → List ℕ
 gap_text None = codes "first"
 gap_text (Some ms) = codes "after " ++ (decimal ms ++ codes " ms")
 
--- its name, its times, the level of each of its tones, and what it misses
+-- its name, its times, the frequency and the level of each of its tones, and what it misses
 abbrev pub text_line : Figures → List ℕ
 text_line figures =
     name_text figures.meaning ++ (codes " at " ++ (decimal figures.start_ms ++ (codes " ms for "
     ++ (decimal figures.length_ms ++ (codes " ms, "
-    ++ (decimal figures.pair.low ++ (codes " Hz " ++ (tenths_text figures.low ZERO_DBM0 ++ (codes " dBm0, "
-    ++ (decimal figures.pair.high ++ (codes " Hz " ++ (tenths_text figures.high ZERO_DBM0 ++ (codes " dBm0, twist "
+    ++ (decimal figures.low_hz ++ (codes " Hz " ++ (tenths_text figures.low ZERO_DBM0 ++ (codes " dBm0, "
+    ++ (decimal figures.high_hz ++ (codes " Hz " ++ (tenths_text figures.high ZERO_DBM0 ++ (codes " dBm0, twist "
     ++ (tenths_text figures.high figures.low ++ (codes " dB, " ++ (gap_text figures.gap_ms ++ (codes ": "
     ++ (verdict_text (misses figures) ++ codes "\n"))))))))))))))))))
 

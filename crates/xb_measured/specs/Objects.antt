@@ -23,11 +23,11 @@ object_with figures verdict = object
     (member (codes "at_ms") (number (unsigned figures.start_ms))
     (member (codes "gap_ms") (gap_data figures.gap_ms)
     (member (codes "high_dbm0_tenths") (tenths_data figures.high ZERO_DBM0)
-    (member (codes "high_hz") (number (unsigned figures.pair.high))
+    (member (codes "high_hz") (number (unsigned figures.high_hz))
     (member (codes "key") (string (name_text figures.meaning))
     (member (codes "length_ms") (number (unsigned figures.length_ms))
     (member (codes "low_dbm0_tenths") (tenths_data figures.low ZERO_DBM0)
-    (member (codes "low_hz") (number (unsigned figures.pair.low))
+    (member (codes "low_hz") (number (unsigned figures.low_hz))
     (member (codes "twist_db_tenths") (tenths_data figures.high figures.low)
     (member (codes "verdict") (string verdict) no_members))))))))))
 

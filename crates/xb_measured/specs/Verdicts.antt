@@ -1,12 +1,12 @@
 -- Whether a key is as System R1 (Q.322) wants it of a sender.
-use Rattle.std.specs.Prelude.{ℕ, ◌-◌, ◌&&◌, ◌||◌, if◌then◌else◌, List, [], ◌∷◌, ◌++◌, codes, Bool, true, nat_le, Option, Some, None}
+use Rattle.std.specs.Prelude.{ℕ, ◌+◌, ◌-◌, ◌*◌, ◌&&◌, ◌||◌, if◌then◌else◌, List, [], ◌∷◌, ◌++◌, codes, Bool, true, nat_le, Option, Some, None}
 use Rattle.std.specs.List.{flat_map}
 use Rattle.xb_model.specs.declared.key.Key.TheVariants.{Kp}
 use Rattle.xb_measured.specs.declared.figures.Figures.{Figures}
 use Rattle.xb_measured.specs.declared.levels.TheConstants.{ZERO_DBM0}
 use Rattle.xb_measured.specs.declared.meaning.Meaning.{Meaning}
 use Rattle.xb_measured.specs.declared.meaning.Meaning.TheVariants as meaning
-use Rattle.xb_measured.specs.declared.verdicts.TheConstants.{KEY_MS, KP_MS, LEVEL_BELOW, MOST_OFF_MS, MOST_OFF_TENTHS}
+use Rattle.xb_measured.specs.declared.verdicts.TheConstants.{KEY_MS, KP_MS, LEVEL_BELOW, MOST_OFF_HZ, MOST_OFF_MS, MOST_OFF_PER_MILLE, MOST_OFF_TENTHS}
 use Rattle.xb_measured.specs.declared.verdicts.Limit.{Limit}
 use Rattle.xb_measured.specs.declared.verdicts.Limit.TheVariants as limit
 
@@ -33,6 +33,14 @@ gap_fits_by (Some ms) m = is_about KEY_MS MOST_OFF_MS ms
 abbrev pub gap_fits : Figures → Bool
 gap_fits figures = gap_fits_by figures.gap_ms figures.meaning
 
+-- a tone has its frequency, in thousandths of a Hz
+abbrev pub tone_fits : ℕ → ℕ → Bool
+tone_fits nominal hz =
+    is_about (1000 * nominal) (MOST_OFF_PER_MILLE * nominal + 1000 * MOST_OFF_HZ) (1000 * hz)
+
+abbrev pub tuning_fits : Figures → Bool
+tuning_fits figures = tone_fits figures.pair.low figures.low_hz && tone_fits figures.pair.high figures.high_hz
+
 abbrev pub twist_fits : Figures → Bool
 twist_fits figures = is_about figures.low MOST_OFF_TENTHS figures.high
 
@@ -47,6 +55,7 @@ abbrev pub limits : Figures → List (Bool × Limit)
 limits figures =
     (length_fits figures, limit.Length)
     ∷ (gap_fits figures, limit.Gap)
+    ∷ (tuning_fits figures, limit.Tuning)
     ∷ (twist_fits figures, limit.Twist)
     ∷ (levels_fit figures, limit.Level)
     ∷ []
@@ -61,6 +70,7 @@ misses figures = flat_map missed (limits figures)
 abbrev pub limit_word : Limit → List ℕ
 limit_word limit.Length = codes "LENGTH"
 limit_word limit.Gap = codes "GAP"
+limit_word limit.Tuning = codes "TUNING"
 limit_word limit.Twist = codes "TWIST"
 limit_word limit.Level = codes "LEVEL"
 

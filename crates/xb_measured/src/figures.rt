@@ -2,9 +2,9 @@
 ghost use Rattle.std.specs.Prelude.{◌≡◌};
 ghost use Rattle.xb_measured.specs.Figures.{end_ms, figures_of, gap_ms, length_ms, ms_of, start_ms};
 
+use crate::heard::Heard;
 use crate::levels::tenths_of;
 use crate::meaning::Meaning;
-use xb_ear::Heard;
 use xb_model::Tone;
 
 // A window begins so many samples after the one before it, and a key as many after its first window.
@@ -18,7 +18,7 @@ const SAMPLES_PER_MS: u128 = 8;
 /// The figures of a key that was heard.
 #[derive(Clone, Copy, Debug, PartialEq, Eq)]
 pub struct Figures {
-    /// Its two frequencies.
+    /// The two frequencies that it should have.
     pub pair: Tone,
     /// What they stand for.
     pub meaning: Meaning,
@@ -26,7 +26,11 @@ pub struct Figures {
     pub start_ms: u64,
     /// How long it lasted.
     pub length_ms: u64,
-    /// The level of the lower frequency, in tenths of a dB, of which 872 are 0 dBm0.
+    /// The frequency of its lower tone, in Hz.
+    pub low_hz: u32,
+    /// That of the higher one.
+    pub high_hz: u32,
+    /// The level of the lower tone, in tenths of a dB, of which 872 are 0 dBm0.
     pub low: u32,
     /// The level of the higher one.
     pub high: u32,
@@ -80,8 +84,10 @@ pub fn figures_of(before: Option<Heard>, key: Heard) -> Figures
         meaning: Meaning::of(key.sight.pair),
         start_ms: start_ms(key),
         length_ms: length_ms(key),
-        low: tenths_of(key.sight.low),
-        high: tenths_of(key.sight.high),
+        low_hz: key.low.hz,
+        high_hz: key.high.hz,
+        low: tenths_of(key.low.level),
+        high: tenths_of(key.high.level),
         gap_ms: gap_ms(before, key),
     }
 }

@@ -127,8 +127,8 @@ static STEPS: [u64; 100] = [
 /// The tenths of a level of 0 dBm0.
 pub const ZERO_DBM0: u32 = 872;
 
-// How many bounds a number has reached.
-fn count_up_to(number: u128, bounds: &[u64]) -> usize
+/// How many bounds a number has reached.
+pub(crate) fn count_up_to(number: u128, bounds: &[u64]) -> usize
     ensures value { result ≡ count_up_to number bounds.now }
     ensures bound { result ≤ length bounds.now }
 {

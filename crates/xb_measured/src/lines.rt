@@ -27,8 +27,8 @@ pub fn text_line(alloc: Global, figures: &Figures) -> Result<String, AllocError>
     let twist = tenths_text(alloc, figures.high, figures.low)?;
     let gap = gap_text(alloc, figures.gap_ms)?;
     let verdict = verdict_text(alloc, figures)?;
-    let low_hz = figures.pair.low;
-    let high_hz = figures.pair.high;
+    let low_hz = figures.low_hz;
+    let high_hz = figures.high_hz;
     let start = figures.start_ms;
     let length = figures.length_ms;
     format!(in alloc;

@@ -1,7 +1,7 @@
 // Whether a key is as System R1 wants it.
 ghost use Rattle.std.specs.Prelude.{◌≡◌, ◌++◌, IfOk, OnOk, string_bytes};
 ghost use Rattle.std.specs.List.{flat_map};
-ghost use Rattle.xb_measured.specs.Verdicts.{gap_fits, is_about, length_fits, level_fits, levels_fit, missed, misses, spaced_word, twist_fits, verdict_text};
+ghost use Rattle.xb_measured.specs.Verdicts.{gap_fits, is_about, length_fits, level_fits, levels_fit, missed, misses, spaced_word, tone_fits, tuning_fits, twist_fits, verdict_text};
 
 use crate::figures::Figures;
 use crate::levels::ZERO_DBM0;
@@ -25,6 +25,12 @@ pub const LEVEL_BELOW: u32 = 70;
 /// may be off.
 pub const MOST_OFF_TENTHS: u64 = 12;
 
+/// A frequency may be so many thousandths off by System R1,
+pub const MOST_OFF_PER_MILLE: u64 = 15;
+
+/// and so many Hz more, which the measure may be off.
+pub const MOST_OFF_HZ: u64 = 2;
+
 /// A limit of System R1 for a sender, which a key may miss.
 #[derive(Clone, Copy, Debug, PartialEq, Eq)]
 pub enum Limit {
@@ -32,6 +38,8 @@ pub enum Limit {
     Length,
     /// The time before it. A KP may come at any time.
     Gap,
+    /// How far the frequency of each of its tones is off.
+    Tuning,
     /// By how much one of its tones is stronger than the other.
     Twist,
     /// How strong each of its tones is.
@@ -49,6 +57,7 @@ impl Limit {
         match self {
             Limit::Length => "LENGTH",
             Limit::Gap => "GAP",
+            Limit::Tuning => "TUNING",
             Limit::Twist => "TWIST",
             Limit::Level => "LEVEL",
         }
@@ -99,6 +108,23 @@ fn level_fits(tenths: u32) -> bool
     )
 }
 
+// Whether a tone has its frequency.
+fn tone_fits(nominal: u16, hz: u32) -> bool
+    ensures { result ≡ tone_fits nominal hz }
+{
+    let nominal = u64::from(nominal);
+    let hz = u64::from(hz);
+    let most = MOST_OFF_PER_MILLE * nominal + 1_000 * MOST_OFF_HZ;
+    is_about(1_000 * nominal, most, 1_000 * hz)
+}
+
+// Whether both tones have theirs.
+fn tuning_fits(figures: &Figures) -> bool
+    ensures { result ≡ tuning_fits figures.now }
+{
+    tone_fits(figures.pair.low, figures.low_hz) && tone_fits(figures.pair.high, figures.high_hz)
+}
+
 // Whether one tone is no more above the other than it may be.
 fn twist_fits(figures: &Figures) -> bool
     ensures { result ≡ twist_fits figures.now }
@@ -127,13 +153,14 @@ fn push_missed(limits: &mut Vec<Limit>, fits: bool, limit: Limit) -> Result<(), 
     Ok(())
 }
 
-/// All limits that a key misses, in the order of length, gap, twist and level. `Err` says that memory ran out.
+/// All limits that a key misses, in the order of length, gap, tuning, twist and level. `Err` says that memory ran out.
 pub fn misses(alloc: Global, figures: &Figures) -> Result<Vec<Limit>, AllocError>
     ensures { IfOk result (λ limits. limits.items ≡ misses figures.now) }
 {
     let mut limits = Vec::new(alloc);
     push_missed(&mut limits, length_fits(figures), Limit::Length)?;
     push_missed(&mut limits, gap_fits(figures), Limit::Gap)?;
+    push_missed(&mut limits, tuning_fits(figures), Limit::Tuning)?;
     push_missed(&mut limits, twist_fits(figures), Limit::Twist)?;
     push_missed(&mut limits, levels_fit(figures), Limit::Level)?;
     Ok(limits)
@@ -150,8 +177,8 @@ fn push_words(text: &mut String, limits: &[Limit]) -> Result<(), AllocError>
     Ok(())
 }
 
-/// What is said of a key: the words of all limits that it misses, with a blank between, or `GOOD`. `Err` says that memory
-/// ran out.
+/// What is said of a key: the words of all limits that it misses, with a blank between, or `GOOD`. `Err` says that
+/// memory ran out.
 pub fn verdict_text(alloc: Global, figures: &Figures) -> Result<String, AllocError>
     ensures { IfOk result (λ text. string_bytes text ≡ verdict_text (misses figures.now)) }
 {

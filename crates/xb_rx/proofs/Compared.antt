@@ -5,7 +5,7 @@ use Rattle.std.proofs.KnownBytes.{Keeps-refl}
 use Rattle.xb_text.specs.Writing.{AppendsBeginning}
 use Rattle.xb_compared.specs.Differences.{differences}
 use Rattle.xb_compared.specs.Entries.{KeyedEntry}
-use Rattle.xb_ear.specs.Receivers.{keys_of_sound}
+use Rattle.xb_measured.specs.Receivers.{keys_of_sound}
 use Rattle.xb_rx.specs.declared.comparing.CompareProgramFault.{CompareProgramFault}
 use Rattle.xb_rx.specs.declared.comparing.CompareProgramFault.TheVariants as compare_fault
 use Rattle.xb_rx.specs.declared.fault.RxFault.{RxFault}

@@ -24,7 +24,7 @@ use Rattle.xb_page.specs.ReadPages.{entries_of_page}
 use Rattle.xb_page.proofs.CheckedEntries.{last_refusal-more}
 use Rattle.xb_page.proofs.PagesBack.{pages_are_read_back}
 use Rattle.xb_compared.specs.Keyed.{keyed_of, keyed_with, listed_keyed}
-use Rattle.xb_ear.specs.declared.hearing.Heard.{Heard}
+use Rattle.xb_measured.specs.declared.heard.Heard.{Heard}
 use Rattle.xb_measured.specs.declared.meaning.Meaning.TheVariants as meaning
 use Rattle.xb_measured.specs.Meanings.{meaning_by, meaning_of}
 use Rattle.xb_told.specs.declared.keys.TheConstants.{MOST_DIGITS}

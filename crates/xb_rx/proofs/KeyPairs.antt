@@ -1,7 +1,7 @@
 -- What a pair can stand for: a digit is neither KP nor ST, nor is ST a KP.
 use Rattle.std.proofs.Common.{◌≡◌, ℕ, true, false, Some, refl}
 use Rattle.xb_model.specs.declared.key.Key.TheVariants.{Digit, Kp, St}
-use Rattle.xb_ear.specs.declared.hearing.Heard.{Heard}
+use Rattle.xb_measured.specs.declared.heard.Heard.{Heard}
 use Rattle.xb_measured.specs.declared.meaning.Meaning.{Meaning}
 use Rattle.xb_measured.specs.declared.meaning.Meaning.TheVariants as meaning
 use Rattle.xb_measured.specs.Meanings.{meaning_of}

@@ -4,7 +4,7 @@ use Rattle.std.specs.Io.KnownBytes.{Appends}
 use Rattle.std.proofs.KnownBytes.{Appends-trans}
 use Rattle.xb_text.specs.Writing.{AppendsBeginning}
 use Rattle.xb_text.proofs.Beginnings.{AppendsBeginning-second}
-use Rattle.xb_ear.specs.declared.hearing.Heard.{Heard}
+use Rattle.xb_measured.specs.declared.heard.Heard.{Heard}
 use Rattle.xb_rx.specs.declared.page.PageFault.{PageFault}
 use Rattle.xb_rx.specs.Pages.{Ends, Paged, Writes}
 

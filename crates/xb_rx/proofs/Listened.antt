@@ -1,7 +1,7 @@
 -- What is told of a sound without a key.
 use Rattle.std.proofs.Common.{◌≡◌, true, false, List, [], ◌∷◌, ◌++◌, ℤ, Option, Some, None, refl}
-use Rattle.xb_ear.specs.declared.hearing.Heard.{Heard}
-use Rattle.xb_ear.specs.Hearings.{listed}
+use Rattle.xb_measured.specs.declared.heard.Heard.{Heard}
+use Rattle.xb_measured.specs.Receivers.{listed}
 use Rattle.xb_measured.specs.Meters.{metered, quiet_line}
 use Rattle.xb_rx.specs.Listeners.{is_keyed, is_keyed_with, quiet_text}
 

@@ -6,8 +6,8 @@ use Rattle.jiff_core.specs.declared.timestamp.Timestamp.{Timestamp}
 use Rattle.std.proofs.KnownBytes.{Appends-nil}
 use Rattle.xb_text.specs.Writing.{AppendsBeginning}
 use Rattle.xb_text.proofs.Beginnings.{AppendsBeginning-first}
-use Rattle.xb_ear.specs.declared.hearing.Heard.{Heard}
-use Rattle.xb_ear.specs.Hearings.{listed}
+use Rattle.xb_measured.specs.declared.heard.Heard.{Heard}
+use Rattle.xb_measured.specs.Receivers.{listed}
 use Rattle.xb_measured.specs.Figures.{figures_of}
 use Rattle.xb_measured.specs.Lines.{text_line, text_lines}
 use Rattle.xb_rx.specs.declared.listing.Listing.{Listing}

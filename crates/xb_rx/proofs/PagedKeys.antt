@@ -11,9 +11,10 @@ use Rattle.xb_model.specs.MfPairs.{mf_pair}
 use Rattle.xb_sound.specs.HeardKeys.{AreKeyed}
 use Rattle.xb_sound.proofs.HeardMarks.{digits_are_keyed}
 use Rattle.xb_sound.proofs.KeyWaves.{each_digit}
-use Rattle.xb_ear.specs.declared.hearing.Heard.{Heard}
-use Rattle.xb_ear.specs.HeardKeys.{pairs_in, tones_of}
-use Rattle.xb_ear.specs.Receivers.{keys_of_sound}
+use Rattle.xb_measured.specs.declared.heard.Heard.{Heard}
+use Rattle.xb_ear.specs.HeardKeys.{tones_of}
+use Rattle.xb_measured.specs.Receivers.{keys_of_sound, pairs_in}
+use Rattle.xb_measured.proofs.Received.{pairs-same}
 use Rattle.xb_ear.proofs.WholeSounds.{disturbed_keys_are_heard}
 use Rattle.xb_told.specs.declared.keys.TheConstants.{MOST_DIGITS}
 use Rattle.xb_measured.specs.declared.meaning.Meaning.TheVariants as meaning
@@ -166,7 +167,7 @@ pub keyed_is_paged : KeyedIsPaged
 keyed_is_paged cadence keyed line trunk numbers samples hearable are within =
     let marks = marks_of_numbers keyed numbers in
     let heard = disturbed_keys_are_heard cadence marks samples hearable (numbers-keyed keyed numbers are) within in
-    let those = these keyed numbers (keys_of_sound samples) are heard.pairs in record {
+    let those = these keyed numbers (keys_of_sound samples) are (pairs-same samples ∙ heard.pairs) in record {
       page = ap (page_after line trunk 0) those.keyings_are;
       none_loose = those.none_loose;
     }

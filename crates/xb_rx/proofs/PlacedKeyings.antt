@@ -4,7 +4,7 @@ use Rattle.std.specs.Prelude.{if◌then◌else◌}
 use Rattle.std.specs.List.{AllByRecursion}
 use Rattle.xb_model.specs.Keyings.{keying}
 use Rattle.xb_compared.specs.Entries.{KeyedEntry}
-use Rattle.xb_ear.specs.declared.hearing.Heard.{Heard}
+use Rattle.xb_measured.specs.declared.heard.Heard.{Heard}
 use Rattle.xb_told.specs.declared.keys.TheConstants.{MOST_DIGITS}
 use Rattle.xb_told.specs.Keyings.{digits_to_st, is_kp, keying_at, keyings, one_more}
 use Rattle.xb_rx.specs.Comparing.{EntriesAreAtTheirKp, IsKeyedAt}

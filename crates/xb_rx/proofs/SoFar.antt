@@ -5,11 +5,10 @@ use Rattle.std.proofs.KnownBytes.{Appends-nil, Appends-trans}
 use Rattle.jiff_core.specs.declared.timestamp.Timestamp.{Timestamp}
 use Rattle.xb_text.specs.Writing.{AppendsBeginning}
 use Rattle.xb_text.proofs.Beginnings.{AppendsBeginning-first, AppendsBeginning-second}
-use Rattle.xb_ear.specs.declared.hearing.Heard.{Heard}
-use Rattle.xb_ear.specs.Ears.{heard, hearing_after}
-use Rattle.xb_ear.specs.Hearings.{listed}
-use Rattle.xb_ear.specs.Receivers.{keys_of_sound}
-use Rattle.xb_ear.proofs.WholeSounds.{hears_so_far}
+use Rattle.xb_measured.specs.declared.heard.Heard.{Heard}
+use Rattle.xb_measured.specs.Receivers.{listed}
+use Rattle.xb_measured.specs.Receivers.{keys_of_sound}
+use Rattle.xb_measured.proofs.Received.{keys-begin}
 use Rattle.xb_rx.specs.declared.listener.Listener.{Listener}
 use Rattle.xb_rx.specs.declared.page.PageFault.{PageFault}
 use Rattle.xb_rx.specs.declared.page.PageFault.TheVariants as page_fault
@@ -25,16 +24,6 @@ use Rattle.xb_rx.specs.Hearing.{Hears, IsFaultOf, Outputs, outputs, told_rest_of
 use Rattle.xb_rx.proofs.WrittenText.{all-written}
 use Rattle.xb_wav.specs.Samples.{Sound, sound_with}
 use Rattle.xb_wav.specs.Streams.{GivesSample}
-
--- the keys of samples are those that ended in the first of them, and more
-pub keys-begin : (earlier later : List ℤ)
-    → (rest : List Heard) × (keys_of_sound (earlier ++ later) ≡ heard earlier ++ rest)
-keys-begin earlier later =
-    let more = hears_so_far earlier later in
-    let last : List Heard = listed (hearing_after (earlier ++ later)).sounding in (
-      more.0 ++ last,
-      ap (λ ks. ks ++ last) more.1 ∙ append_assoc (heard earlier) more.0 last,
-    )
 
 -- what was written of keys, and of later ones
 module _ (text : Reported → List Heard → List ℕ) (first : Reported) where

@@ -13,7 +13,7 @@ use Rattle.xb_text.specs.Writing.{AppendsBeginning}
 use Rattle.std.proofs.Math.Seq.{take-length}
 use Rattle.xb_text.specs.declared.writing.WriteFault.{WriteFault}
 use Rattle.xb_text.proofs.Beginnings.{AppendsBeginning-first}
-use Rattle.xb_ear.specs.declared.hearing.Heard.{Heard}
+use Rattle.xb_measured.specs.declared.heard.Heard.{Heard}
 use Rattle.xb_told.specs.declared.keys.TheConstants.{MOST_DIGITS}
 use Rattle.xb_rx.specs.declared.begun.Step.TheVariants as steps
 use Rattle.xb_rx.specs.declared.page.PageFault.{PageFault}

@@ -1,7 +1,7 @@
 -- A keying that goes on, and what one key more makes of it.
 use Rattle.std.specs.Prelude.{ℕ, ◌≡◌, ◌+◌, ◌≤◌, ◌&&◌, List, [], ◌∷◌, ◌++◌, length, true, if◌then◌else◌, Some, is_some, nat_le}
 use Rattle.std.specs.List.{AllByRecursion}
-use Rattle.xb_ear.specs.declared.hearing.Heard.{Heard}
+use Rattle.xb_measured.specs.declared.heard.Heard.{Heard}
 use Rattle.xb_told.specs.declared.keys.TheConstants.{MOST_DIGITS}
 use Rattle.xb_rx.specs.declared.begun.Step.{Step}
 use Rattle.xb_rx.specs.declared.begun.Step.TheVariants as step

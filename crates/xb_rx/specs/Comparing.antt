@@ -12,8 +12,8 @@ use Rattle.xb_model.specs.Keyings.{keying}
 use Rattle.xb_told.specs.declared.keys.TheConstants.{MOST_DIGITS}
 use Rattle.xb_told.specs.Keyings.{digits_to_st, is_kp}
 use Rattle.xb_page.specs.LineEnds.{lf_ended}
-use Rattle.xb_ear.specs.declared.hearing.Heard.{Heard}
-use Rattle.xb_ear.specs.Receivers.{keys_of_sound}
+use Rattle.xb_measured.specs.declared.heard.Heard.{Heard}
+use Rattle.xb_measured.specs.Receivers.{keys_of_sound}
 use Rattle.xb_rx.specs.declared.comparing.CompareProgramFault.{CompareProgramFault}
 use Rattle.xb_rx.specs.declared.comparing.CompareProgramFault.TheVariants as fault
 use Rattle.xb_rx.specs.declared.request.Input.{Input}

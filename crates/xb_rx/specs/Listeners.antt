@@ -1,7 +1,7 @@
 -- What is heard of a sound, and what is told of one without a key.
 use Rattle.std.specs.Prelude.{◌≡◌, ◌||◌, List, [], ◌∷◌, ℕ, ℤ, Bool, true, false, Option, is_some}
-use Rattle.xb_ear.specs.declared.hearing.Heard.{Heard}
-use Rattle.xb_ear.specs.Receivers.{HasReceived, keys_of_sound}
+use Rattle.xb_measured.specs.declared.heard.Heard.{Heard}
+use Rattle.xb_measured.specs.Receivers.{HasReceived, keys_of_sound}
 use Rattle.xb_measured.specs.Meters.{metered, quiet_line}
 use Rattle.xb_rx.specs.declared.listener.Listener.{Listener}
 

@@ -1,7 +1,7 @@
 -- The objects that are written of keys: one of each key, and one of each entry.
 use Rattle.std.specs.Prelude.{ℕ, ◌≡◌, ◌+◌, List, [], ◌∷◌, ◌++◌, Option, Some, None}
 use Rattle.std.specs.List.{flat_map}
-use Rattle.xb_ear.specs.declared.hearing.Heard.{Heard}
+use Rattle.xb_measured.specs.declared.heard.Heard.{Heard}
 use Rattle.xb_measured.specs.Figures.{figures_of}
 use Rattle.xb_told.specs.Keyings.{Part, is_keying, is_loose, parts_of}
 use Rattle.xb_rx.specs.declared.objects.Objects.{Objects}

@@ -7,7 +7,7 @@ use Rattle.xb_model.specs.Keyings.{keying}
 use Rattle.xb_sound.specs.declared.cadence.Cadence.{Cadence}
 use Rattle.xb_ear.specs.Disturbed.{AreWithin}
 use Rattle.xb_ear.specs.HeardKeys.{IsHearable, disturbable}
-use Rattle.xb_ear.specs.Receivers.{keys_of_sound}
+use Rattle.xb_measured.specs.Receivers.{keys_of_sound}
 use Rattle.xb_told.specs.declared.keys.TheConstants.{MOST_DIGITS}
 use Rattle.xb_told.specs.Keyings.{loose_keys}
 use Rattle.xb_rx.specs.Pages.{page_after, page_of}

@@ -6,7 +6,7 @@ use Rattle.std.specs.List.{flat_map}
 use Rattle.xb_model.specs.Keyings.{keying}
 use Rattle.xb_model.specs.declared.mark.Mark.{Mark}
 use Rattle.xb_model.specs.Page.{entries_text, entry_text, totals_text}
-use Rattle.xb_ear.specs.declared.hearing.Heard.{Heard}
+use Rattle.xb_measured.specs.declared.heard.Heard.{Heard}
 use Rattle.xb_text.specs.Writing.{AppendsBeginning}
 use Rattle.xb_page.specs.Entries.{entry_with}
 use Rattle.xb_compared.specs.Differences.{differences}

@@ -1,6 +1,6 @@
 -- The keyings among keys that are heard, each with the place where it begins.
 use Rattle.std.specs.Prelude.{ℕ, List, [], ◌∷◌, Option, Some, None, drop, map}
-use Rattle.xb_ear.specs.declared.hearing.Heard.{Heard}
+use Rattle.xb_measured.specs.declared.heard.Heard.{Heard}
 use Rattle.xb_measured.specs.Figures.{start_ms}
 use Rattle.xb_told.specs.DoubtLines.{began_ms}
 use Rattle.xb_told.specs.Keyings.{digits_in, keying_at}

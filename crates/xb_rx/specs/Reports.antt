@@ -1,6 +1,6 @@
 -- What is written of keys that are heard: the page of their keyings, or a line for each, or objects.
 use Rattle.std.specs.Prelude.{ℕ, List, [], None}
-use Rattle.xb_ear.specs.declared.hearing.Heard.{Heard}
+use Rattle.xb_measured.specs.declared.heard.Heard.{Heard}
 use Rattle.xb_measured.specs.Lines.{text_lines}
 use Rattle.xb_rx.specs.declared.listing.Listing.{Listing}
 use Rattle.xb_rx.specs.declared.report.Report.{Report}

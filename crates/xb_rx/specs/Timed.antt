@@ -5,7 +5,7 @@ use Rattle.serde_json.specs.Data.{Data}
 use Rattle.serde_json.specs.Written.{compact_text}
 use Rattle.xb_clock.specs.Clocks.{Clock, time_at}
 use Rattle.xb_clock.specs.Objects.{with_time}
-use Rattle.xb_ear.specs.declared.hearing.Heard.{Heard}
+use Rattle.xb_measured.specs.declared.heard.Heard.{Heard}
 use Rattle.xb_measured.specs.declared.figures.Figures.{Figures}
 use Rattle.xb_measured.specs.Objects.{object_of}
 use Rattle.xb_told.specs.DoubtLines.{began_ms}

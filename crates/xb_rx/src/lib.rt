@@ -17,7 +17,8 @@
 //!   of them. `laws::entries_are_at_their_kp`: the time that is told of each is that of its KP.
 //! - `attend`: `Attends` of this. `laws::usage_names_each_option`.
 //!
-//! `xb_wav` says which samples a file or a stream has, and `xb_ear` what is heard of them.
+//! `xb_wav` says which samples a file or a stream has, `xb_ear` what is heard of them, and `xb_measured` how each
+//! key is measured.
 #![tactic(auto)]
 
 mod begun;

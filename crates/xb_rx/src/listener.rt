@@ -5,8 +5,7 @@ ghost use Rattle.xb_rx.specs.Listeners.{is_keyed_with};
 use crate::page::PageFault;
 use std::alloc::{AllocError, Global};
 use std::io::Write;
-use xb_ear::{Heard, Receiver};
-use xb_measured::Meter;
+use xb_measured::{Heard, Meter, Receiver};
 use xb_text::write_whole;
 
 /// What was heard of a sound so far, and how loud it was.
@@ -27,9 +26,9 @@ fn is_keyed_with(before: bool, key: Option<Heard>) -> bool
 
 impl Listener {
     ghost use Rattle.std.specs.Prelude.{◌≡◌, ◌<◌, ◌+◌, ◌^◌, [], ◌∷◌, ◌++◌, IfOk, List, ℤ, string_bytes};
-    ghost use Rattle.xb_ear.specs.declared.hearing.Heard.{Heard as HeardKey};
-    ghost use Rattle.xb_ear.specs.Hearings.{listed};
-    ghost use Rattle.xb_ear.specs.Receivers.{keys_of_sound};
+    ghost use Rattle.xb_measured.specs.declared.heard.Heard.{Heard as HeardKey};
+    ghost use Rattle.xb_measured.specs.Receivers.{listed};
+    ghost use Rattle.xb_measured.specs.Receivers.{keys_of_sound};
     ghost use Rattle.xb_rx.specs.Listeners.{HasListened, quiet_text};
     ghost use Rattle.xb_rx.specs.Pages.{Ends};
 

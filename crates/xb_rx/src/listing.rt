@@ -2,8 +2,7 @@
 use crate::page::PageFault;
 use std::alloc::Global;
 use std::io::Write;
-use xb_ear::Heard;
-use xb_measured::{figures_of, text_line};
+use xb_measured::{Heard, figures_of, text_line};
 use xb_text::write_whole;
 
 /// Keys that are told one by one, each by the time since the last.
@@ -14,7 +13,7 @@ pub(crate) struct Listing {
 
 impl Listing {
     ghost use Rattle.std.specs.Prelude.{◌∷◌, ◌++◌};
-    ghost use Rattle.xb_ear.specs.Hearings.{listed};
+    ghost use Rattle.xb_measured.specs.Receivers.{listed};
     ghost use Rattle.xb_rx.specs.Pages.{Writes};
     ghost use Rattle.xb_rx.specs.Reports.{listing_rest};
 

@@ -5,8 +5,7 @@ use crate::timed::{ReportFault, entry_line, key_line};
 use jiff_core::Timestamp;
 use std::alloc::{AllocError, Global};
 use std::io::Write;
-use xb_ear::Heard;
-use xb_measured::figures_of;
+use xb_measured::{Heard, figures_of};
 use xb_text::write_whole;
 use xb_told::NamedKey;
 
@@ -24,7 +23,7 @@ pub(crate) struct Objects {
 impl Objects {
     ghost use Rattle.std.specs.Prelude.{◌≡◌, ◌≤◌, ◌<◌, ◌+◌, ◌^◌, ◌∷◌, [], ◌++◌, IfErr, IfOk, OnOk, string_bytes};
     ghost use Rattle.xb_clock.specs.Clocks.{Clock, IsClockSince};
-    ghost use Rattle.xb_ear.specs.Hearings.{listed};
+    ghost use Rattle.xb_measured.specs.Receivers.{listed};
     ghost use Rattle.xb_rx.specs.Begun.{IsBegun, kept_after};
     ghost use Rattle.xb_rx.specs.Objects.{Ended, fresh_objects, objected, objects_rest};
     ghost use Rattle.xb_rx.specs.Pages.{Writes};

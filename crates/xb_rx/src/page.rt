@@ -10,7 +10,7 @@ use crate::begun::{Step, step_of};
 use std::alloc::{AllocError, Global};
 use std::io::Write;
 use xb_compared::{Comparison, Keyed};
-use xb_ear::Heard;
+use xb_measured::Heard;
 use xb_model::{Key, LineNo, Mark, Trunk, mf};
 use xb_tape::{write_entry, write_totals};
 use xb_text::write_whole;
@@ -144,7 +144,7 @@ fn text_of(
 impl Page {
     ghost use Rattle.std.specs.Prelude.{◌≡◌, ◌≤◌, ◌<◌, ◌+◌, ◌^◌, ◌∷◌, [], ◌++◌, IfErr, IfOk, OnErr, OnOk, List, drop, string_bytes};
     ghost use Rattle.std.specs.Io.KnownBytes.{Appends};
-    ghost use Rattle.xb_ear.specs.Hearings.{listed};
+    ghost use Rattle.xb_measured.specs.Receivers.{listed};
     ghost use Rattle.xb_model.specs.Keyings.{keying};
     ghost use Rattle.xb_text.specs.Writing.{AppendsBeginning};
     ghost use Rattle.xb_told.specs.Keyings.{Part, digits_in, is_keying};

@@ -11,7 +11,7 @@ use jiff_core::Timestamp;
 use std::alloc::Global;
 use std::io::Write;
 use xb_compared::Keyed;
-use xb_ear::Heard;
+use xb_measured::Heard;
 
 /// The page of keys, or its differences from what was keyed, or a line for each key, or the objects of keys and entries.
 #[derive(Drop)]
@@ -37,7 +37,7 @@ fn reported_page(written: Result<(), PageFault>) -> Result<(), ReportFault>
 impl Report {
     ghost use Rattle.std.specs.Prelude.{◌≡◌, ◌≤◌, ◌<◌, ◌+◌, ◌^◌, ◌++◌, IfErr, OnOk};
     ghost use Rattle.xb_clock.specs.Clocks.{Clock, IsClockSince};
-    ghost use Rattle.xb_ear.specs.Hearings.{listed};
+    ghost use Rattle.xb_measured.specs.Receivers.{listed};
     ghost use Rattle.xb_rx.specs.Pages.{Ends, Writes, fresh_against};
     ghost use Rattle.xb_rx.specs.Faults.{IsLateFault};
     ghost use Rattle.xb_rx.specs.Reports.{IsReady, count_of, fresh_report, on_page, report_rest, reported, told_rest};

@@ -2,7 +2,7 @@
 use Rattle.std.proofs.Common.{◌≡◌, ℕ, false, List, [], ◌∷◌, map, refl}
 use Rattle.serde_json.specs.View.{items_of}
 use Rattle.serde_json.specs.Written.{has_float, items_have_float}
-use Rattle.xb_ear.specs.declared.hearing.Heard.{Heard}
+use Rattle.xb_measured.specs.declared.heard.Heard.{Heard}
 use Rattle.xb_json.proofs.KeyValues.{no-floats-in-keys}
 use Rattle.xb_told.specs.declared.doubts.Doubt.{Doubt}
 use Rattle.xb_told.specs.Doubts.{doubts_of}

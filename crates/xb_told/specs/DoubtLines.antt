@@ -1,7 +1,7 @@
 -- The lines of what is doubtful of a keying, and of a key that stands in none.
 use Rattle.std.specs.Prelude.{ℕ, ◌-◌, List, [], ◌∷◌, ◌++◌, codes, decimal}
 use Rattle.std.specs.List.{flat_map}
-use Rattle.xb_ear.specs.declared.hearing.Heard.{Heard}
+use Rattle.xb_measured.specs.declared.heard.Heard.{Heard}
 use Rattle.xb_measured.specs.declared.verdicts.TheConstants.{MOST_OFF_MS}
 use Rattle.xb_measured.specs.Figures.{start_ms}
 use Rattle.xb_measured.specs.Meanings.{meaning_of, name_text}

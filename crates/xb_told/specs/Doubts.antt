@@ -1,6 +1,6 @@
 -- What says of a keying that was heard that it may be another one.
 use Rattle.std.specs.Prelude.{ℕ, ◌+◌, List, [], ◌∷◌, ◌++◌, if◌then◌else◌, is_some, nat_lt, Option, Some, None}
-use Rattle.xb_ear.specs.declared.hearing.Heard.{Heard}
+use Rattle.xb_measured.specs.declared.heard.Heard.{Heard}
 use Rattle.xb_measured.specs.declared.figures.Figures.{Figures}
 use Rattle.xb_measured.specs.declared.meaning.Meaning.{Meaning}
 use Rattle.xb_measured.specs.declared.verdicts.TheConstants.{KEY_MS, KP_MS}

@@ -3,7 +3,7 @@ use Rattle.std.specs.Prelude.{ℕ, List, ◌++◌, ◌-◌, codes, length, map, 
 use Rattle.serde_json.specs.Data.{Data, array, member, no_members, number, object, string, unsigned}
 use Rattle.serde_json.specs.View.{items_of}
 use Rattle.serde_json.specs.Written.{compact_text}
-use Rattle.xb_ear.specs.declared.hearing.Heard.{Heard}
+use Rattle.xb_measured.specs.declared.heard.Heard.{Heard}
 use Rattle.xb_json.specs.Keys.{digits_text, keys_of}
 use Rattle.xb_measured.specs.Figures.{end_ms}
 use Rattle.xb_told.specs.declared.doubts.Doubt.{Doubt}

@@ -4,8 +4,7 @@ ghost use Rattle.xb_told.specs.Keyings.{begins_keying, digit_by, ends_keying};
 
 use std::alloc::AllocError;
 use std::marker::Model;
-use xb_ear::Heard;
-use xb_measured::{Meaning, start_ms};
+use xb_measured::{Heard, Meaning, start_ms};
 use xb_model::{Digit, Key};
 
 /// The most digits of a keying: a limit of our own, some times what a sender keys.
@@ -21,7 +20,7 @@ pub struct NamedKey {
 // Clauses see the key that was heard.
 impl Model for NamedKey {
     ghost use Rattle.std.specs.Prelude.{◌≡◌};
-    ghost use Rattle.xb_ear.specs.declared.hearing.Heard.{Heard as HeardKey};
+    ghost use Rattle.xb_measured.specs.declared.heard.Heard.{Heard as HeardKey};
     ghost use Rattle.xb_measured.specs.Meanings.{meaning_of};
 
     ghost Value = { HeardKey };

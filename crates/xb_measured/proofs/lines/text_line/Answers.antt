@@ -50,13 +50,13 @@ returns c =
     let low = string_bytes c.in_ok-low.low in
     let end = end_with (string_bytes c.in_ok-high.high) (string_bytes c.in_ok-twist.twist) (string_bytes c.in_ok-gap.gap)
     (string_bytes c.in_ok-verdict.verdict) in
-    let same = same-parts figures.start_ms figures.length_ms figures.pair.low figures.pair.high
+    let same = same-parts figures.start_ms figures.length_ms figures.low_hz figures.high_hz
     name low (string_bytes c.in_ok-high.high) (string_bytes c.in_ok-twist.twist) (string_bytes c.in_ok-gap.gap)
     (string_bytes c.in_ok-verdict.verdict) _ _ _ _ _ _
     c.name-name.ensures c.in_ok-low.ensures c.in_ok-high.ensures c.in_ok-twist.ensures c.in_ok-gap.ensures
     c.in_ok-verdict.ensures in
     IfOk-weaker c.format.result
-    (λ line. string_bytes line ≡ grouped_with figures.start_ms figures.length_ms figures.pair.low figures.pair.high name low end)
+    (λ line. string_bytes line ≡ grouped_with figures.start_ms figures.length_ms figures.low_hz figures.high_hz name low end)
     (λ line. string_bytes line ≡ text_line figures)
-    (λ line is. is ∙ regrouped figures.start_ms figures.length_ms figures.pair.low figures.pair.high name low end ∙ same)
+    (λ line is. is ∙ regrouped figures.start_ms figures.length_ms figures.low_hz figures.high_hz name low end ∙ same)
     c.format.ensures.ok

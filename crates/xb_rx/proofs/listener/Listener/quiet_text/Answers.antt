@@ -1,7 +1,7 @@
 use Rattle.std.proofs.Common.{◌≡◌, ◌∙◌, ◌++◌, Bool, List, ℤ, ap, string_bytes, sym}
 use Rattle.std.proofs.lemmas.Result.{IfOk-weaker}
-use Rattle.xb_ear.specs.declared.hearing.Heard.{Heard}
-use Rattle.xb_ear.specs.Hearings.{listed}
+use Rattle.xb_measured.specs.declared.heard.Heard.{Heard}
+use Rattle.xb_measured.specs.Receivers.{listed}
 use Rattle.xb_measured.specs.Meters.{Metered, quiet_line}
 use Rattle.xb_rx.specs.Listeners.{HasListened, is_keyed_with, quiet_text}
 use Rattle.xb_rx.proofs.Listened.{keyed-more, keyed-quiet, unkeyed-quiet}

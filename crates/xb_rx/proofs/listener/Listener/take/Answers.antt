@@ -1,8 +1,8 @@
 use Rattle.std.proofs.Common.{◌∙◌, ◌∷◌, [], ◌++◌, Bool, ℤ, ap, rules, subst, FitsSigned}
 use Rattle.std.specs.Int.{w16}
 use Rattle.std.proofs.lemmas.Int.{to_z-of_z}
-use Rattle.xb_ear.specs.Hearings.{listed}
-use Rattle.xb_ear.specs.Receivers.{HasReceived}
+use Rattle.xb_measured.specs.Receivers.{listed}
+use Rattle.xb_measured.specs.Receivers.{HasReceived}
 use Rattle.xb_measured.specs.Meters.{metered}
 use Rattle.xb_rx.specs.Listeners.{is_keyed_with}
 use Rattle.xb_rx.proofs.Listened.{keyed-more}

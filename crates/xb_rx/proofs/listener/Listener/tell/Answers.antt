@@ -2,7 +2,7 @@ use Rattle.std.proofs.Common.{◌≡◌, ◌∙◌, ◌++◌, Result, subst, sym
 use Rattle.std.specs.Io.KnownBytes.{Appends}
 use Rattle.std.proofs.lemmas.Result.{err_from_is_err_and}
 use Rattle.xb_text.specs.Writing.{AppendsBeginning}
-use Rattle.xb_ear.specs.Hearings.{listed}
+use Rattle.xb_measured.specs.Receivers.{listed}
 use Rattle.xb_rx.specs.declared.page.PageFault.{PageFault}
 use Rattle.xb_rx.specs.Listeners.{quiet_text}
 use Rattle.xb_rx.specs.Pages.{Ends}

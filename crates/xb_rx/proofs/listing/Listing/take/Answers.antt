@@ -1,6 +1,6 @@
 use Rattle.std.proofs.Common.{◌++◌, Option, sym, subst}
-use Rattle.xb_ear.specs.declared.hearing.Heard.{Heard}
-use Rattle.xb_ear.specs.Hearings.{listed}
+use Rattle.xb_measured.specs.declared.heard.Heard.{Heard}
+use Rattle.xb_measured.specs.Receivers.{listed}
 use Rattle.xb_rx.specs.Pages.{Writes}
 use Rattle.xb_rx.specs.Reports.{listing_rest}
 use Rattle.xb_rx.proofs.listing.Listing.take.Goals as goal

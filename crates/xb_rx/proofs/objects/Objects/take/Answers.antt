@@ -1,6 +1,6 @@
 use Rattle.std.proofs.Common.{◌++◌, Option, subst, sym}
-use Rattle.xb_ear.specs.declared.hearing.Heard.{Heard}
-use Rattle.xb_ear.specs.Hearings.{listed}
+use Rattle.xb_measured.specs.declared.heard.Heard.{Heard}
+use Rattle.xb_measured.specs.Receivers.{listed}
 use Rattle.xb_rx.specs.Objects.{objected, objects_rest}
 use Rattle.xb_rx.specs.Pages.{Writes}
 use Rattle.xb_rx.specs.Timed.{timing_by}

@@ -1,6 +1,6 @@
 use Rattle.std.proofs.Common.{◌∙◌, Err, ap}
 use Rattle.std.proofs.lemmas.Result.{err_from_is_err_and}
-use Rattle.xb_ear.specs.Hearings.{listed}
+use Rattle.xb_measured.specs.Receivers.{listed}
 use Rattle.xb_rx.specs.Pages.{page_told, page_rest, paged}
 use Rattle.xb_rx.proofs.LastSteps.{end-after, end-fault}
 use Rattle.xb_rx.proofs.page.Page.end.Goals as goal

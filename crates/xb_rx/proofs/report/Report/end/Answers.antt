@@ -1,5 +1,5 @@
 use Rattle.std.proofs.Common.{sym, subst}
-use Rattle.xb_ear.specs.Hearings.{listed}
+use Rattle.xb_measured.specs.Receivers.{listed}
 use Rattle.xb_rx.specs.declared.report.Report.{Report}
 use Rattle.xb_rx.specs.Objects.{objected}
 use Rattle.xb_rx.specs.Timed.{timing_by}

@@ -1,0 +1,61 @@
+// A receiver that measures what it hears.
+use crate::heard::Heard;
+use crate::tape::Tape;
+use std::marker::Model;
+use xb_ear::Receiver as Ear;
+
+/// A receiver that takes one sample at a time, and gives each key as it ends, with its tones as they are measured then
+/// on the last samples. It keeps 1,040 of these beside what the receiver of `xb_ear` keeps.
+#[derive(Drop)]
+pub struct Receiver {
+    ear: Ear,
+    tape: Tape,
+}
+
+// Clauses see what the ear knows, and the tape.
+impl Model for Receiver {
+    ghost use Rattle.xb_measured.specs.Receivers.{Receiving};
+
+    ghost Value = { Receiving };
+
+    ghost view = { λ receiver. record { ear = receiver.ear; tape = receiver.tape } };
+}
+
+impl Receiver {
+    ghost use Rattle.std.specs.Prelude.{◌≡◌, [], ◌∷◌, ◌++◌, List, ℤ};
+    ghost use Rattle.xb_measured.specs.declared.heard.Heard.{Heard as HeardKey};
+    ghost use Rattle.xb_measured.specs.Receivers.{HasReceived, keys_of_sound, listed};
+
+    /// A receiver that has taken no sample.
+    pub fn new() -> Receiver
+        ensures { HasReceived result [] [] }
+    {
+        Receiver {
+            ear: Ear::new(),
+            tape: Tape::new(),
+        }
+    }
+
+    /// Takes a sample, and gives the key that it ends.
+    pub fn take(&mut self, sample: i16) -> Option<Heard>
+        ensures { (samples : List ℤ) (keys : List HeardKey) → HasReceived self.old samples keys
+            → HasReceived self.new (samples ++ sample ∷ []) (keys ++ listed result) }
+    {
+        self.tape.take(sample);
+        match self.ear.take(sample) {
+            Some(key) => Some(self.tape.measure(key)),
+            None => None,
+        }
+    }
+
+    /// The key that sounds where the samples end.
+    pub fn finish(&self) -> Option<Heard>
+        ensures { (samples : List ℤ) (keys : List HeardKey) → HasReceived self.now samples keys
+            → keys ++ listed result ≡ keys_of_sound samples }
+    {
+        match self.ear.finish() {
+            Some(key) => Some(self.tape.measure(key)),
+            None => None,
+        }
+    }
+}
