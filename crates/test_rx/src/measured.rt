@@ -1,5 +1,5 @@
 // A key whose tones are off, in a sound that is reckoned here.
-use crate::folder::Folder;
+use crate::folder::FOLDER;
 use std::alloc::Global;
 use std::test::Fail;
 use test_kit::words_of;
@@ -76,7 +76,7 @@ fn measures_tones_that_are_off(rt: HostRuntime) -> Result<(), Fail> {
     let mut reader = bytes.as_slice();
     let mut out = Vec::new(alloc);
     let mut err = Vec::new(alloc);
-    let status = attend(alloc, &words, &Folder, &mut reader, &mut out, &mut err);
+    let status = attend(alloc, &words, &FOLDER, &mut reader, &mut out, &mut err);
     assert!(rt; status == 0 && err.is_empty());
     assert!(rt; out.as_slice() == KEY);
     Ok(())
