@@ -1,8 +1,8 @@
 """usage: scripts/tries/times.py SINCE OBJECTS TIMED
 
-Compares what mflive prints of one deck, or mfrx of one sound, as OBJECTS, and as TIMED counted from SINCE: each object has
-to be the same, and to have its ms after SINCE as times of day too, which are added by Python's datetime. scripts/tries/live
-and scripts/tries/received call it.
+Compares what mflive prints of one deck, or mfrx of one sound, as OBJECTS, and as TIMED counted from SINCE: each object
+has to be the same, and to have its ms after SINCE as times of day too, which are added by Python's datetime.
+scripts/tries/live and scripts/tries/received call it.
 """
 import json
 import sys

@@ -51,8 +51,8 @@ const FIRST_ENTRY: &[u8] =
 const SECOND_ENTRY: &[u8] =
     b"{\"doubts\":[],\"entry\":2,\"from_ms\":1575,\"keys\":[\"KP\",\"1\",\"ST\"],\"sent\":\"1\",\"to_ms\":1947}\n";
 
-// Of the first of them, from 2027-12-31 20:59:58.75 three hours behind UTC on, the first object and the last: the times of
-// day are reckoned with Python's datetime.
+// Of the first of them, from 2027-12-31 20:59:58.75 three hours behind UTC on, the first object and the last: the times
+// of day are reckoned with Python's datetime.
 const TIMED_OBJECT: &[u8] = b"{\"at\":\"2027-12-31T23:59:59.25Z\",\"at_ms\":500,\"gap_ms\":null,";
 
 const TIMED_ENTRY: &[u8] =
@@ -64,8 +64,8 @@ const LATE: &[u8] =
     b"mfrx: the time 1007 ms after the first sample is past 9999-12-30T22:00:00.999999999Z\n";
 
 // Keyings that are heard, and their differences from the page of the tests, which has 5 0 as entry 1 and 2 as entry 3:
-// none, two, one that is heard twice, one that is not heard, and both in the other order. The places are those of the KPs
-// by that receiver.
+// none, two, one that is heard twice, one that is not heard, and both in the other order. The places are those of the
+// KPs by that receiver.
 const DIFFERENCES: &[(&[&[u8]], &[u8])] = &[
     (&[&[5, 0], &[2]], b""),
     (

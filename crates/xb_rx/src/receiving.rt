@@ -63,8 +63,8 @@ fn start_of<R: Read>(input: Input, reader: &mut R) -> Result<Start, OpenFault>
     }
 }
 
-/// Hears a sound to its end, and writes what a report makes of it, which has no entry so far: objects with their times of
-/// day, where the one is given at which the sound begins.
+/// Hears a sound to its end, and writes what a report makes of it, which has no entry so far: objects with their times
+/// of day, where the one is given at which the sound begins.
 pub(crate) fn listen<R: Read, W: Write, E: Write>(
     alloc: Global,
     input: Input,
@@ -92,9 +92,9 @@ pub(crate) fn listen<R: Read, W: Write, E: Write>(
 }
 
 /// Hears a sound, and writes what is asked for: the page of its keyings, an entry for each, from KP to ST, as it ends,
-/// and the totals, and to `err` a line for each key that is in none; or a line or an object for each key, as it ends; and
-/// to `err` how loud the sound is where no key is heard. Memory does not grow with the sound, which is read a few bytes at
-/// a time: hand it a reader with a buffer.
+/// and the totals, and to `err` a line for each key that is in none; or a line or an object for each key, as it ends;
+/// and to `err` how loud the sound is where no key is heard. Memory does not grow with the sound, which is read a few
+/// bytes at a time: hand it a reader with a buffer.
 ///
 /// On an `Err` the beginning of this was written.
 ///

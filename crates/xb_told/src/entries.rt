@@ -132,8 +132,8 @@ fn entry_of_parts(
     object_of(alloc, &members)
 }
 
-/// The object of a keying: the entry of this number, when it begins and ends, its keys, its digits and its doubts. `Err`
-/// says that memory ran out.
+/// The object of a keying: the entry of this number, when it begins and ends, its keys, its digits and its doubts.
+/// `Err` says that memory ran out.
 pub fn entry_object(alloc: Global, number: usize, keys: &[NamedKey]) -> Result<Value, AllocError>
     ensures { IfOk result (λ value. view value ≡ entry_object number keys.now) }
 {
