@@ -23,10 +23,16 @@ abbrev pub frames_of : ℕ → Option ℕ
 frames_of hz =
     if (hz % 8000 == 0) && nat_lt 0 hz && nat_lt hz (8000 * MOST_FRAMES + 1) then Some (hz / 8000) else None
 
--- what samples of a form begin with: how many they are said to be, where that is said
+-- samples of a form whose number is not known
+abbrev pub uncounted : SampleForm → Start
+uncounted form = record { form = form; samples = UNKNOWN_SAMPLES; counted = false }
+
+-- what samples of a form begin with: how many they are said to be, where that is said; 0 bytes are said in a pipe
 abbrev pub start_by : SampleForm → Option ℕ → Start
-start_by form (Some bytes) = record { form = form; samples = bytes / group_bytes form; counted = true }
-start_by form None = record { form = form; samples = UNKNOWN_SAMPLES; counted = false }
+start_by form (Some bytes) =
+    if nat_lt 0 bytes then record { form = form; samples = bytes / group_bytes form; counted = true }
+    else uncounted form
+start_by form None = uncounted form
 
 abbrev pub start_at : WavFormat → ℕ → Option ℕ → Result Start WavFault
 start_at format channel None = Err (fault.Rate format.rate)

@@ -105,12 +105,12 @@ fn start_with(format: WavFormat, channel: usize) -> Result<Start, WavFault>
         frames,
     };
     match format.length {
-        Some(bytes) => Ok(Start {
+        Some(bytes) if bytes > 0 => Ok(Start {
             form,
             samples: bytes / form.group_bytes() as u64,
             counted: true,
         }),
-        None => Ok(Start {
+        _ => Ok(Start {
             form,
             samples: UNKNOWN_SAMPLES,
             counted: false,
