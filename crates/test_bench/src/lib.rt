@@ -9,6 +9,8 @@ mod attending;
 #[cfg(test)]
 mod digits;
 #[cfg(test)]
+mod objects;
+#[cfg(test)]
 mod phases;
 #[cfg(test)]
 mod verdicts;

@@ -7,6 +7,7 @@ use std::test::Fail;
 const LINES: &str =
     "0007      0      10   10.0     61.5         61.5         38.5      0.0        0.0     GOOD
 0007  hung up
+0007  digits 1, spoiled 0; p/s 10.0 (10.0); % break 61.5 (61.5); bounce 0.0 ms; GOOD 1
 ";
 
 // Adds an edge at so many us.

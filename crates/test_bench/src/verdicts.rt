@@ -9,6 +9,7 @@ const BY_BELL: [(&[u8], &str); 13] = [
 0.761500,1\n0.800000,0\n0.861500,1\n1.361500,0\n1.761500,0\n",
         "0007      5       5   10.0     61.5         61.5         38.5      0.0        0.0     GOOD
 0007  hung up
+0007  digits 1, spoiled 0; p/s 10.0 (10.0); % break 61.5 (61.5); bounce 0.0 ms; GOOD 1
 ",
     ),
     (
@@ -16,6 +17,7 @@ const BY_BELL: [(&[u8], &str); 13] = [
 0.779200,1\n0.820200,0\n0.884250,1\n1.384250,0\n1.784250,0\n",
         "0007      5       5    9.5     61.0         64.1         41.0      0.0        0.0     GOOD
 0007  hung up
+0007  digits 1, spoiled 0; p/s 9.5 (9.5); % break 61.0 (61.0); bounce 0.0 ms; GOOD 1
 ",
     ),
     (
@@ -23,6 +25,7 @@ const BY_BELL: [(&[u8], &str); 13] = [
 0.781880,1\n0.822880,0\n0.887600,1\n1.387600,0\n1.787600,0\n",
         "0007      5       5    9.5     61.2         64.7         41.0      0.0        0.0     GOOD
 0007  hung up
+0007  digits 1, spoiled 0; p/s 9.5 (9.5); % break 61.2 (61.2); bounce 0.0 ms; GOOD 1
 ",
     ),
     (
@@ -30,6 +33,7 @@ const BY_BELL: [(&[u8], &str); 13] = [
 0.785000,1\n0.826000,0\n0.891500,1\n1.391500,0\n1.791500,0\n",
         "0007      5       5    9.4     61.5         65.5         41.0      0.0        0.0     PASS
 0007  hung up
+0007  digits 1, spoiled 0; p/s 9.4 (9.4); % break 61.5 (61.5); bounce 0.0 ms; PASS 1
 ",
     ),
     (
@@ -37,6 +41,7 @@ const BY_BELL: [(&[u8], &str); 13] = [
 0.727700,1\n0.763600,0\n0.818600,1\n1.318600,0\n1.718600,0\n",
         "0007      5       5   11.0     60.5         55.0         35.9      0.0        0.0     PASS
 0007  hung up
+0007  digits 1, spoiled 0; p/s 11.0 (11.0); % break 60.5 (60.5); bounce 0.0 ms; PASS 1
 ",
     ),
     (
@@ -44,6 +49,7 @@ const BY_BELL: [(&[u8], &str); 13] = [
 0.724700,1\n0.759600,0\n0.814600,1\n1.314600,0\n1.714600,0\n",
         "0007      5       5   11.1     61.2         55.0         34.9      0.0        0.0     FAST
 0007  hung up
+0007  digits 1, spoiled 0; p/s 11.1 (11.1); % break 61.2 (61.2); bounce 0.0 ms; FAST 1
 ",
     ),
     (
@@ -51,6 +57,7 @@ const BY_BELL: [(&[u8], &str); 13] = [
 0.853000,1\n0.900000,0\n0.978000,1\n1.478000,0\n1.878000,0\n",
         "0007      5       5    8.0     62.4         78.0         47.0      0.0        0.0     PASS
 0007  hung up
+0007  digits 1, spoiled 0; p/s 8.0 (8.0); % break 62.4 (62.4); bounce 0.0 ms; PASS 1
 ",
     ),
     (
@@ -58,6 +65,7 @@ const BY_BELL: [(&[u8], &str); 13] = [
 0.861000,1\n0.908000,0\n0.988000,1\n1.488000,0\n1.888000,0\n",
         "0007      5       5    7.9     63.0         80.0         47.0      0.0        0.0     SLOW
 0007  hung up
+0007  digits 1, spoiled 0; p/s 7.9 (7.9); % break 63.0 (63.0); bounce 0.0 ms; SLOW 1
 ",
     ),
     (
@@ -65,6 +73,7 @@ const BY_BELL: [(&[u8], &str); 13] = [
 0.764040,1\n0.800000,0\n0.864040,1\n1.364040,0\n1.764040,0\n",
         "0007      5       5   10.0     64.0         64.0         36.0      0.0        0.0     GOOD
 0007  hung up
+0007  digits 1, spoiled 0; p/s 10.0 (10.0); % break 64.0 (64.0); bounce 0.0 ms; GOOD 1
 ",
     ),
     (
@@ -72,6 +81,7 @@ const BY_BELL: [(&[u8], &str); 13] = [
 0.764050,1\n0.800000,0\n0.864050,1\n1.364050,0\n1.764050,0\n",
         "0007      5       5   10.0     64.1         64.1         36.0      0.0        0.0     HIGH
 0007  hung up
+0007  digits 1, spoiled 0; p/s 10.0 (10.0); % break 64.1 (64.1); bounce 0.0 ms; HIGH 1
 ",
     ),
     (
@@ -79,6 +89,7 @@ const BY_BELL: [(&[u8], &str); 13] = [
 0.757950,1\n0.800000,0\n0.857950,1\n1.357950,0\n1.757950,0\n",
         "0007      5       5   10.0     58.0         58.0         42.1      0.0        0.0     GOOD
 0007  hung up
+0007  digits 1, spoiled 0; p/s 10.0 (10.0); % break 58.0 (58.0); bounce 0.0 ms; GOOD 1
 ",
     ),
     (
@@ -86,6 +97,7 @@ const BY_BELL: [(&[u8], &str); 13] = [
 0.757940,1\n0.800000,0\n0.857940,1\n1.357940,0\n1.757940,0\n",
         "0007      5       5   10.0     57.9         57.9         42.1      0.0        0.0      LOW
 0007  hung up
+0007  digits 1, spoiled 0; p/s 10.0 (10.0); % break 57.9 (57.9); bounce 0.0 ms; LOW 1
 ",
     ),
     (
@@ -93,6 +105,7 @@ const BY_BELL: [(&[u8], &str); 13] = [
 0.761500,1\n1.261500,0\n1.661500,0\n",
         "0007      4       4   10.0     61.5         61.5         38.5      0.0        0.0        -
 0007  hung up
+0007  digits 1, spoiled 0; p/s 10.0 (10.0); % break 61.5 (61.5); bounce 0.0 ms
 ",
     ),
 ];
@@ -108,6 +121,7 @@ line  digit  pulses    p/s  % break     break ms      make ms  drift %  bounce m
 ",
         "0007      5       5   10.0     66.0         66.0         34.0      0.0        0.0     GOOD
 0007  hung up
+0007  digits 1, spoiled 0; p/s 10.0 (10.0); % break 66.0 (66.0); bounce 0.0 ms; GOOD 1
 ",
     ),
     (
@@ -119,6 +133,7 @@ line  digit  pulses    p/s  % break     break ms      make ms  drift %  bounce m
 ",
         "0007      5       5   10.0     61.5         61.5         38.5      0.0        0.0      LOW
 0007  hung up
+0007  digits 1, spoiled 0; p/s 10.0 (10.0); % break 61.5 (61.5); bounce 0.0 ms; LOW 1
 ",
     ),
     (
@@ -130,6 +145,7 @@ line  digit  pulses    p/s  % break     break ms      make ms  drift %  bounce m
 ",
         "0007      5       5   10.0     66.0         66.0         34.0      0.0        0.0     GOOD
 0007  hung up
+0007  digits 1, spoiled 0; p/s 10.0 (10.0); % break 66.0 (66.0); bounce 0.0 ms; GOOD 1
 ",
     ),
     (
@@ -141,6 +157,7 @@ line  digit  pulses    p/s  % break     break ms      make ms  drift %  bounce m
 ",
         "0007      5       5   10.0     66.0         66.0         34.0      0.0        0.0     SLOW
 0007  hung up
+0007  digits 1, spoiled 0; p/s 10.0 (10.0); % break 66.0 (66.0); bounce 0.0 ms; SLOW 1
 ",
     ),
 ];

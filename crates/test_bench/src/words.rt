@@ -7,7 +7,7 @@ use test_kit::{Halting, Short};
 const USAGE: &[u8] = b"mfbench: usage: mfbench --line N=WIRE[,inverted][,settle=MS]... \
 [--dial bell|gpo] [--speed FROM-TO] [--share FROM-TO] \
 [--format vcd|sigrok|saleae|edges|gpiomon|bits|bits16|s16|wav] [--rate HZ] [--settle MS] \
-[--threshold PERCENT] [--inverted]\n";
+[--threshold PERCENT] [--inverted] [--json]\n";
 
 const REFUSED: &[&[&str]] = &[
     &[],
@@ -90,7 +90,7 @@ fn fails_where_a_stream_fails(rt: HostRuntime) -> Result<(), Fail> {
     let (status, told) = attended(rt.alloc(), WORDS, &mut reader, &mut out)?;
     assert_eq!(rt; status, 1);
     assert!(rt;
-        told.as_slice() == b"mfbench: the rows could not be written\n".as_slice(),
+        told.as_slice() == b"mfbench: the lines could not be written\n".as_slice(),
         "{}",
         told.escape_ascii()
     );

@@ -1,18 +1,15 @@
 -- What the program did, by its status.
-use Rattle.std.proofs.Common.{◌≡◌, ℕ, List, Bool, Option, None, false, inl, refl, subst, sym, true, arith}
+use Rattle.std.proofs.Common.{◌≡◌, ℕ, List, Option, None, inl, arith}
 use Rattle.std.proofs.KnownBytes.{Keeps-refl}
 use Rattle.clap.specs.Walk.{Text}
 use Rattle.xb_command.specs.Programs.{Streams, streams}
 use Rattle.xb_command.specs.Telling.{Tells}
 use Rattle.xb_command.specs.declared.telling.TheConstants.{DONE, FAULT}
-use Rattle.xb_feed.specs.declared.fault.RecordingFault.{RecordingFault}
 use Rattle.xb_feed.specs.declared.request.Request.{Request}
-use Rattle.xb_feed.specs.LackedWires.{lacks_wire}
 use Rattle.xb_bench.specs.declared.fault.BenchFault.{BenchFault}
-use Rattle.xb_bench.specs.declared.fault.BenchFault.TheVariants as faults
 use Rattle.xb_bench.specs.declared.setting.Setting.{Setting}
 use Rattle.xb_bench.specs.Options.{Asks}
-use Rattle.xb_bench.specs.Program.{AttendsBench, FailsToGo, FailsToPrint, PrintsDigits, program}
+use Rattle.xb_bench.specs.Program.{AttendsBench, FailsToPrint, PrintsDigits, program}
 
 -- all was written
 pub attends_told :
@@ -25,21 +22,6 @@ attends_told words request input left output after errors asks digits = record {
   fault = λ e. absurd (omega (arith, e));
   refused = λ e. absurd (omega (arith, e));
 }
-
--- the fault of a recording as it is told
-pub fails_to_print :
-    (request : Request Setting) (fault : RecordingFault) (told : BenchFault) (input output after : Option (List ℕ))
-    → (lacks_wire fault ≡ false → told ≡ faults.Recording fault)
-    → (lacks_wire fault ≡ true → told ≡ faults.NoWire fault request.wanted.wires)
-    → FailsToGo request fault input output after → FailsToPrint request told input output after
-fails_to_print request fault told input output after plain names goes = by (lacks_wire fault) refl
-  where
-    P : BenchFault → Type 0
-    P it = FailsToPrint request it input output after
-
-    by : (b : Bool) → lacks_wire fault ≡ b → P told
-    by true e = subst P (sym (names e)) (e, refl, goes)
-    by false e = subst P (sym (plain e)) (e, goes)
 
 -- there was a fault
 pub attends_fault :

@@ -19,7 +19,7 @@ use Rattle.xb_bench.specs.Digits.{Run, joined_runs, merged, onto_runs, run_by, s
 use Rattle.xb_bench.specs.DialLaws.{Piece, TellsTheRuns, holds_in, run_of_piece, told_of_pieces}
 
 -- levels
-same-closed : (a b c : Level) → same_level a b ≡ true → same_level a c ≡ same_level b c
+pub same-closed : (a b c : Level) → same_level a b ≡ true → same_level a c ≡ same_level b c
 same-closed Open Open c e = refl
 same-closed Closed Closed c e = refl
 same-closed Open Closed c e = cc
@@ -220,7 +220,7 @@ tells [] dial some le room = tells-one dial le
 tells (piece ∷ rest) dial some le room = tells-next piece rest (tells rest) dial some le room
 
 -- nothing is told of a line on hook
-silent : (limits : Limits) (level : Level) (run : Timed) (edge : ℕ) → said_of limits OnHook level run edge ≡ None
+pub silent : (limits : Limits) (level : Level) (run : Timed) (edge : ℕ) → said_of limits OnHook level run edge ≡ None
 silent limits Closed run edge = refl
 silent limits Open run edge = by (nat_le limits.release run.ms)
   where

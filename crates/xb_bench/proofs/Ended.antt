@@ -1,46 +1,45 @@
 -- What is told of a line where the recording ends.
-use Rattle.std.proofs.Common.{◌≡◌, ℕ, List, ◌++◌, Option, Some, None, refl, ap, sym, ◌∙◌}
+use Rattle.std.proofs.Common.{◌≡◌, ℕ, List, ◌++◌, Option, ap, sym, ◌∙◌}
 use Rattle.std.specs.List.{flat_map}
 use Rattle.std.proofs.lemmas.Grind.{flat_map-append}
+use Rattle.std.proofs.lemmas.List.{append-nil}
 use Rattle.xb_contact.specs.declared.hold.Hold.{Hold}
-use Rattle.xb_contact.specs.declared.scale.Scale.{Scale}
 use Rattle.xb_contact.specs.Machine.{at_end}
 use Rattle.xb_report.proofs.Pushed.{both}
 use Rattle.xb_bench.specs.declared.bench.Bench.{Bench}
 use Rattle.xb_bench.specs.declared.dial.Said.{Said}
-use Rattle.xb_bench.specs.declared.setting.Setting.{Setting}
+use Rattle.xb_bench.specs.declared.told.What.TheVariants.{ComesTo}
 use Rattle.xb_bench.specs.declared.train.Train.{Train}
-use Rattle.xb_bench.specs.Benches.{Told, bench_past, left_of, said_past, told_by, told_left, told_text}
+use Rattle.xb_bench.specs.Benches.{Told, bench_past, left_of, said_past, told_by, told_last, told_left, told_of, told_text}
 use Rattle.xb_bench.specs.Dials.{left_by}
+use Rattle.xb_bench.specs.Told.{what_text}
 
--- a piece leaves what holds for the line
-setting-past : (bench : Bench) (piece : Option Hold) → (bench_past bench piece).setting ≡ bench.setting
-setting-past bench None = refl
-setting-past bench (Some hold) = refl
-
-scale-past : (bench : Bench) (piece : Option Hold) → (bench_past bench piece).scale ≡ bench.scale
-scale-past bench None = refl
-scale-past bench (Some hold) = refl
+-- three texts, one after the other
+three : (a b c : List Told)
+    → flat_map told_text a ++ (flat_map told_text b ++ flat_map told_text c) ≡ flat_map told_text (a ++ (b ++ c))
+three a b c =
+    ap (λ t. flat_map told_text a ++ t) (sym (flat_map-append told_text b c))
+    ∙ sym (flat_map-append told_text a (b ++ c))
 
 pub ended :
     (line : ℕ) (bench after : Bench) (piece : Option Hold) (said : Option Said) (left : Option (Option (Train × ℕ)))
-    (o o1 o2 : List ℕ) → piece ≡ at_end bench.pieces.phase → after ≡ bench_past bench piece
+    (o o1 o2 o3 : List ℕ) → piece ≡ at_end bench.pieces.phase → after ≡ bench_past bench piece
     → said ≡ said_past bench piece → left ≡ left_by after.dial
     → o1 ≡ o ++ flat_map told_text (told_by after.setting line after.scale said)
     → o2 ≡ o1 ++ flat_map told_text (told_left after.setting line after.scale left)
-    → o2 ≡ o ++ flat_map told_text (left_of line bench)
-ended line bench after piece said left o o1 o2 last past says ends first second =
-    let all : Setting → Scale → Option Said → Option (Option (Train × ℕ)) → List Told =
-    λ setting scale s l. told_by setting line scale s ++ told_left setting line scale l in
-    let setting : after.setting ≡ bench.setting = ap (λ (b : Bench). b.setting) past ∙ setting-past bench piece in
-    let scale : after.scale ≡ bench.scale = ap (λ (b : Bench). b.scale) past ∙ scale-past bench piece in
-    both o o1 o2 _ _ first second
-    ∙ ap (λ text. o ++ text)
-    (sym (flat_map-append told_text (told_by after.setting line after.scale said)
-    (told_left after.setting line after.scale left)))
-    ∙ ap (λ told. o ++ flat_map told_text told)
-    (ap (λ s. all s after.scale said left) setting
-    ∙ ap (λ s. all bench.setting s said left) scale
-    ∙ ap (λ s. all bench.setting bench.scale s left) (says ∙ ap (said_past bench) last)
-    ∙ ap (λ l. all bench.setting bench.scale (said_past bench (at_end bench.pieces.phase)) l)
-    (ends ∙ ap (λ (b : Bench). left_by b.dial) (past ∙ ap (bench_past bench) last)))
+    → o3 ≡ o2 ++ what_text after.setting line after.scale (ComesTo after.sums)
+    → o3 ≡ o ++ flat_map told_text (left_of line bench)
+ended line bench after piece said left o o1 o2 o3 last past says ends first second third =
+    let first_told : List Told = told_by after.setting line after.scale said in
+    let left_told : List Told = told_left after.setting line after.scale left in
+    let summary : List Told = told_of after.setting line after.scale (ComesTo after.sums) in
+    let third_told : o3 ≡ o2 ++ flat_map told_text summary = third ∙ ap (λ t. o2 ++ t) (sym (append-nil _)) in
+    let all : o3 ≡ o ++ (flat_map told_text first_told ++ (flat_map told_text left_told ++ flat_map told_text summary)) =
+    both o o1 o3 (flat_map told_text first_told) (flat_map told_text left_told ++ flat_map told_text summary) first
+    (both o1 o2 o3 (flat_map told_text left_told) (flat_map told_text summary) second third_told) in
+    all
+    ∙ ap (λ t. o ++ t) (three first_told left_told summary)
+    ∙ ap (λ (l : Option (Option (Train × ℕ))). o ++ flat_map told_text (first_told ++ (told_left after.setting line after.scale l ++ summary))) ends
+    ∙ ap (λ (b : Bench). o ++ flat_map told_text (told_last line b said)) (past ∙ ap (bench_past bench) last)
+    ∙ ap (λ (s : Option Said). o ++ flat_map told_text (told_last line (bench_past bench (at_end bench.pieces.phase)) s))
+    (says ∙ ap (said_past bench) last)

@@ -1,5 +1,5 @@
 -- The dial of a line through a recording, and what is told of it.
-use Rattle.std.specs.Prelude.{ℕ, ◌-◌, ◌≤◌, List, [], ◌∷◌, ◌++◌, Option, Some, None, codes}
+use Rattle.std.specs.Prelude.{ℕ, ◌-◌, ◌≤◌, List, [], ◌∷◌, ◌++◌, Option, Some, None}
 use Rattle.xb_contact.specs.declared.hold.Hold.{Hold}
 use Rattle.xb_contact.specs.declared.level.Level.{Level}
 use Rattle.xb_contact.specs.declared.scale.Scale.{Scale}
@@ -12,25 +12,20 @@ use Rattle.xb_feed.specs.Tallies.{begun_tally, counted_anew, tally_after}
 use Rattle.xb_bench.specs.declared.bench.Bench.{Bench}
 use Rattle.xb_bench.specs.declared.dial.Said.{Said}
 use Rattle.xb_bench.specs.declared.setting.Setting.{Setting}
+use Rattle.xb_bench.specs.declared.told.What.{What}
+use Rattle.xb_bench.specs.declared.told.What.TheVariants.{Says, Ends, ComesTo}
 use Rattle.xb_bench.specs.declared.train.Train.{Train}
 use Rattle.xb_bench.specs.Dials.{begun_dial, dial_after, left_by, said_now}
 use Rattle.xb_bench.specs.Pieces.{begun_pieces, now_of, piece_given, pieces_after}
-use Rattle.xb_bench.specs.Texts.{ended_text, said_text}
+use Rattle.xb_bench.specs.Sums.{sums_after, sums_of}
+use Rattle.xb_bench.specs.Told.{what_text}
 
--- what is told of a line: of its dial, or that the recording ends
-pub data What : Type 0 where
-  Says : Said → What
-  Ends : Option (Train × ℕ) → What
-
+-- what is told of a line
 pub record Told : Type 0 where
   pub setting : Setting
   pub line : ℕ
   pub scale : Scale
   pub what : What
-
-abbrev pub what_text : Setting → ℕ → Scale → What → List ℕ
-what_text setting line scale (Says said) = said_text setting line scale said
-what_text setting line scale (Ends pulses) = ended_text setting line scale pulses (codes "the recording ends")
 
 abbrev pub told_text : Told → List ℕ
 told_text told = what_text told.setting told.line told.scale told.what
@@ -57,6 +52,7 @@ begun_bench manner setting scale least start level = record {
   level = level;
   tally = begun_tally least level;
   dial = begun_dial setting.limits scale level;
+  sums = sums_of setting.windows scale [];
 }
 
 -- it may hold its level up to a tick: it is not before the last one, and can be counted in ms
@@ -70,6 +66,8 @@ bench_past bench None = bench
 bench_past bench (Some hold) = record bench {
   dial = dial_after bench.dial hold bench.tally.bounces.longest;
   tally = counted_anew bench.tally;
+  sums = sums_after bench.setting.windows bench.scale bench.sums
+      (said_now bench.dial hold bench.tally.bounces.longest);
 }
 
 abbrev pub said_past : Bench → Option Hold → Option Said
@@ -95,14 +93,19 @@ held_until bench tick = bench_past (taken_to bench tick) (piece_given bench.piec
 abbrev pub with_level : Bench → Level → Bench
 with_level bench level = record bench { level = level }
 
--- where the recording ends: what is told of the last piece, and of an attempt that is under way
+-- where the recording ends: what is told of the last piece, of an attempt that is under way, and what all digits of the
+-- line come to
 abbrev pub last_of : Bench → Bench
 last_of bench = bench_past bench (at_end bench.pieces.phase)
 
+abbrev pub told_last : ℕ → Bench → Option Said → List Told
+told_last line bench said =
+    told_by bench.setting line bench.scale said
+    ++ (told_left bench.setting line bench.scale (left_by bench.dial)
+    ++ told_of bench.setting line bench.scale (ComesTo bench.sums))
+
 abbrev pub left_of : ℕ → Bench → List Told
-left_of line bench =
-    told_by bench.setting line bench.scale (said_past bench (at_end bench.pieces.phase))
-    ++ told_left bench.setting line bench.scale (left_by (last_of bench).dial)
+left_of line bench = told_last line (last_of bench) (said_past bench (at_end bench.pieces.phase))
 
 -- a contact is followed, and its digits are told
 abbrev pub by_digits : Follower Bench Setting

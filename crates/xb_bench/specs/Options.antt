@@ -1,14 +1,17 @@
 -- What the words of the command line ask for, as clap reads them.
-use Rattle.std.specs.Prelude.{◌≡◌, ◌≢◌, ◌⊎◌, ◌==◌, List, [], ◌∷◌, Bool, true, false, Some, None, codes, nat_le, not, ◌&&◌}
+use Rattle.std.specs.Prelude.{◌≡◌, ◌-◌, ◌^◌, ◌≢◌, ◌⊎◌, ◌==◌, List, [], ◌∷◌, Bool, true, false, Some, None, codes, nat_le, not, ◌&&◌}
 use Rattle.clap.specs.Faults.{fault_of}
 use Rattle.clap.specs.Simple.{matches_of}
 use Rattle.clap.specs.Walk.{Row, Text, first_of}
-use Rattle.xb_command.specs.Given.{IsTaken}
+use Rattle.xb_command.specs.Given.{IsTaken, ReadsFlag, given_by}
 use Rattle.xb_feed.specs.declared.manner.AskedLine.{AskedLine}
 use Rattle.xb_feed.specs.declared.manner.Manner.{Manner}
 use Rattle.xb_feed.specs.declared.request.Request.{Request}
 use Rattle.xb_feed.specs.Options.{Say as SaysOf, SayNothing as SaysNothingOf, plain_words}
+use Rattle.xb_model.specs.declared.limits.Limits.{Limits}
 use Rattle.xb_model.specs.LawfulLimits.{standard_limits}
+use Rattle.xb_bench.specs.declared.setting.Form.{Form}
+use Rattle.xb_bench.specs.declared.setting.Form.TheVariants.{Lines, Objects}
 use Rattle.xb_bench.specs.declared.setting.Setting.{Setting}
 use Rattle.xb_bench.specs.Rules.{command_of_words}
 use Rattle.xb_bench.specs.Windows.{windows_said}
@@ -21,11 +24,23 @@ abbrev pub are_plain : List AskedLine → Bool
 are_plain [] = true
 are_plain (line ∷ rest) = is_plain line.manner && are_plain rest
 
--- what clap matched says this: windows, by the standard limits, and what is asked of a recording
+-- the standard limits without a time-out, since on the bench no register waits
+abbrev pub bench_limits : Limits
+bench_limits = record standard_limits { timeout = 2 ^ 32 - 1 }
+
+-- objects where they are asked for
+abbrev pub form_of : Bool → Form
+form_of true = Objects
+form_of false = Lines
+
+-- what clap matched says this: windows, by the limits of the bench, and what is asked of a recording
 pub record Say (rows : List Row) (request : Request Setting) : Type 0 where
   pub windows : windows_said (first_of (codes "dial") rows) (first_of (codes "speed") rows) (first_of (codes "share") rows)
       ≡ Some request.common.windows
-  pub limits : request.common.limits ≡ standard_limits
+  pub limits : request.common.limits ≡ bench_limits
+  pub json : Bool
+  pub objects : ReadsFlag (given_by rows (codes "json")) json
+  pub form : request.common.form ≡ form_of json
   pub plain : are_plain request.lines.items ≡ true
   pub rest : SaysOf rows request.common request
 

@@ -1,10 +1,11 @@
 -- What the program did, by its status.
-use Rattle.std.specs.Prelude.{ℕ, ◌≡◌, ◌++◌, List, [], codes, Option, None, false, true}
+use Rattle.std.specs.Prelude.{ℕ, ◌≡◌, ◌⊎◌, ◌++◌, List, [], codes, Option, None, if◌then◌else◌}
 use Rattle.std.specs.Io.KnownBytes.{Keeps}
 use Rattle.clap.specs.Walk.{Text}
 use Rattle.xb_command.specs.Programs.{Attends, Streams}
 use Rattle.xb_command.specs.Telling.{Tells}
 use Rattle.xb_feed.specs.declared.fault.RecordingFault.{RecordingFault}
+use Rattle.xb_feed.specs.declared.fault.RecordingFault.TheVariants as recording
 use Rattle.xb_feed.specs.declared.request.Request.{Request}
 use Rattle.xb_feed.specs.LackedWires.{lacks_wire}
 use Rattle.xb_feed.specs.Feeding.{FailsToListen, ListensTo}
@@ -13,7 +14,7 @@ use Rattle.xb_bench.specs.declared.fault.BenchFault.TheVariants as faults
 use Rattle.xb_bench.specs.declared.setting.Setting.{Setting}
 use Rattle.xb_bench.specs.Benches.{by_digits}
 use Rattle.xb_bench.specs.Options.{AreRefused, Asks}
-use Rattle.xb_bench.specs.Windows.{header_text}
+use Rattle.xb_bench.specs.Told.{first_text}
 
 -- the program's name
 abbrev pub program : List ℕ
@@ -25,26 +26,30 @@ usage_line =
     codes "mfbench: usage: mfbench --line N=WIRE[,inverted][,settle=MS]... "
     ++ codes "[--dial bell|gpo] [--speed FROM-TO] [--share FROM-TO] "
     ++ codes "[--format vcd|sigrok|saleae|edges|gpiomon|bits|bits16|s16|wav] [--rate HZ] [--settle MS] "
-    ++ codes "[--threshold PERCENT] [--inverted]\n"
+    ++ codes "[--threshold PERCENT] [--inverted] [--json]\n"
 
 -- an output got the windows, and then exactly what is told of the digits of the recording
 abbrev pub PrintsDigits : Request Setting → Option (List ℕ) → Option (List ℕ) → Option (List ℕ) → Type 0
 PrintsDigits request input output after =
-    (notes : List ℕ) × ListensTo by_digits (header_text request.common.windows) request [] notes input output after
+    (notes : List ℕ) × ListensTo by_digits (first_text request.common) request [] notes input output after
 
 -- the fault of a recording, and what an output got before it
 abbrev pub FailsToGo : Request Setting → RecordingFault → Option (List ℕ) → Option (List ℕ) → Option (List ℕ) → Type 0
 FailsToGo request fault input output after =
-    FailsToListen by_digits (header_text request.common.windows) request [] fault input output after
+    FailsToListen by_digits (first_text request.common) request [] fault input output after
 
--- where the recording lacks a wire, all names that are asked for are told; where memory ran out nothing was written
+-- the fault of a recording as it is told: where it lacks a wire, with all names that are asked for
+abbrev pub fault_told : Request Setting → RecordingFault → BenchFault
+fault_told request recording.Write = faults.Write
+fault_told request fault =
+    if lacks_wire fault then faults.NoWire fault request.wanted.wires else faults.Recording fault
+
+-- where memory ran out nothing was written
 abbrev pub FailsToPrint :
     Request Setting → BenchFault → Option (List ℕ) → Option (List ℕ) → Option (List ℕ) → Type 0
-FailsToPrint request (faults.Recording fault) input output after =
-    (lacks_wire fault ≡ false) × FailsToGo request fault input output after
-FailsToPrint request (faults.NoWire fault names) input output after =
-    (lacks_wire fault ≡ true) × (names ≡ request.wanted.wires) × FailsToGo request fault input output after
-FailsToPrint request faults.NoMemory input output after = Keeps output after
+FailsToPrint request told input output after =
+    ((told ≡ faults.NoMemory) × Keeps output after)
+    ⊎ ((fault : RecordingFault) × (told ≡ fault_told request fault) × FailsToGo request fault input output after)
 
 -- the words ask for something, and exactly that was written
 pub record WritesDigits (words : List Text) (old new : Streams) : Type 0 where

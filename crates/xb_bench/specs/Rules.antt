@@ -17,10 +17,11 @@ options =
     ∷ (codes "settle", takes.Number)
     ∷ (codes "threshold", takes.Number)
     ∷ (codes "inverted", takes.Nothing)
+    ∷ (codes "json", takes.Nothing)
     ∷ (codes "line", takes.AllThatFollow)
     ∷ []
 
 -- `mfbench [--dial KIND] [--speed FROM-TO] [--share FROM-TO] [--format FORM] [--rate HZ] [--settle MS]
--- [--threshold PERCENT] [--inverted] N=WIRE..`
+-- [--threshold PERCENT] [--inverted] [--json] N=WIRE..`
 abbrev pub command_of_words : App
 command_of_words = command_of (codes "mfbench") options

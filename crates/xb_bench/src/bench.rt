@@ -6,7 +6,8 @@ ghost use Rattle.xb_bench.specs.Benches.{bench_past, by_digits, said_past, told_
 use crate::dial::{Dial, Said};
 use crate::pieces::Pieces;
 use crate::setting::Setting;
-use crate::text::{push_ended, push_said};
+use crate::sums::{NO_SUMS, Sums};
+use crate::told::{What, push_told};
 use crate::train::Train;
 use std::alloc::AllocError;
 use xb_contact::{Hold, Level, Scale};
@@ -25,6 +26,8 @@ pub struct Bench {
     // The short runs since the last piece that settled.
     tally: Tally,
     dial: Dial,
+    // What its digits come to so far.
+    sums: Sums,
 }
 
 // Adds what is told of a line, if anything is.
@@ -39,7 +42,7 @@ fn push_any(
         ≡ string_bytes text.old ++ flat_map told_text (told_by setting line scale said)) }
 {
     match said {
-        Some(said) => push_said(setting, text, line, scale, said),
+        Some(said) => push_told(setting, text, line, scale, What::Says(said)),
         None => Ok(()),
     }
 }
@@ -56,7 +59,7 @@ fn push_left(
         ≡ string_bytes text.old ++ flat_map told_text (told_left setting line scale left)) }
 {
     match left {
-        Some(pulses) => push_ended(setting, text, line, scale, pulses, "the recording ends"),
+        Some(pulses) => push_told(setting, text, line, scale, What::Ends(pulses)),
         None => Ok(()),
     }
 }
@@ -71,6 +74,7 @@ impl Bench {
         let (dial, said) = self.dial.take(hold, self.tally.bounces().longest);
         self.dial = dial;
         self.tally = self.tally.counted_anew();
+        self.sums = self.sums.after(self.setting.windows, self.scale, said);
         said
     }
 }
@@ -94,6 +98,7 @@ impl Follow<Setting> for Bench {
             level,
             tally: Tally::new(least, level),
             dial: Dial::new(common.limits, scale, level),
+            sums: NO_SUMS,
         }
     }
 
@@ -125,6 +130,8 @@ impl Follow<Setting> for Bench {
         let piece = self.pieces.end();
         let said = self.take(piece);
         push_any(self.setting, text, line, self.scale, said)?;
-        push_left(self.setting, text, line, self.scale, self.dial.left())
+        push_left(self.setting, text, line, self.scale, self.dial.left())?;
+        let summary = What::ComesTo(self.sums);
+        push_told(self.setting, text, line, self.scale, summary)
     }
 }

@@ -1,8 +1,9 @@
 // The dial of a line, settled run by settled run.
 ghost use Rattle.std.specs.Prelude.{◌≡◌, ◌<◌};
 ghost use Rattle.xb_contact.specs.Times.{ms_at};
-ghost use Rattle.xb_bench.specs.Dials.{begun_dial, dial_after, left_by, lengthened, ms_between, place_after, place_after_break};
-ghost use Rattle.xb_bench.specs.Dials.{place_after_make, run_of, said_by, said_now, said_of, turned};
+ghost use Rattle.xb_bench.specs.Dials.{begun_dial, dial_after, left_by, lengthened, ms_between, place_after};
+ghost use Rattle.xb_bench.specs.Dials.{place_after_break, place_after_make, run_of, said_by, said_now, said_of};
+ghost use Rattle.xb_bench.specs.Dials.{turned};
 
 use crate::figures::product;
 use crate::train::{Timed, Train};

@@ -11,6 +11,9 @@ pub enum BenchFault<'a> {
     /// The recording lacks a wire; the names that are asked for, each in one line.
     #[error("{}; asked for: {}", .0, AllInOneLine(.1))]
     NoWire(RecordingFault, Vec<&'a str>),
+    /// A write or the flush failed, or a write took no byte.
+    #[error("the lines could not be written")]
+    Write,
     /// Memory ran out.
     #[error("out of memory")]
     NoMemory,

@@ -25,8 +25,8 @@ pub(crate) fn product(one: u64, other: u64) -> u128
     u128::from(one) * u128::from(other)
 }
 
-// A quotient in tenths, a half rounded up; none by 0, or by 2^64 or more.
-fn figure_of(number: u128, divisor: u128) -> Option<u128>
+/// A quotient in tenths, a half rounded up; `None` by 0, or by 2^64 or more.
+pub(crate) fn figure_of(number: u128, divisor: u128) -> Option<u128>
     requires { number < 2 ^ 100 }
     ensures { result ≡ figure_of number divisor }
 {

@@ -1,14 +1,13 @@
 // The program: its words and a recording in, a status and the lines of digits out.
-ghost use Rattle.std.specs.Prelude.{◌≡◌, false, IfErr, OnOk, true};
+ghost use Rattle.std.specs.Prelude.{◌≡◌, IfErr, OnOk};
 ghost use Rattle.xb_command.specs.Programs.{streams};
 ghost use Rattle.xb_command.specs.Commands.{texts_of};
-ghost use Rattle.xb_feed.specs.LackedWires.{lacks_wire};
-ghost use Rattle.xb_bench.specs.Program.{AttendsBench, FailsToPrint, PrintsDigits};
+ghost use Rattle.xb_bench.specs.Program.{AttendsBench, FailsToPrint, PrintsDigits, fault_told};
 
 use crate::bench::Bench;
 use crate::fault::BenchFault;
 use crate::setting::Setting;
-use crate::windows::header_of;
+use crate::told::first_text;
 use crate::words::request_of_words;
 use std::alloc::Global;
 use std::io::{Read, Write};
@@ -22,17 +21,17 @@ pub(crate) const PROGRAM: &str = "mfbench";
 const USAGE: &[u8] = b"mfbench: usage: mfbench --line N=WIRE[,inverted][,settle=MS]... \
 [--dial bell|gpo] [--speed FROM-TO] [--share FROM-TO] \
 [--format vcd|sigrok|saleae|edges|gpiomon|bits|bits16|s16|wav] [--rate HZ] [--settle MS] \
-[--threshold PERCENT] [--inverted]\n";
+[--threshold PERCENT] [--inverted] [--json]\n";
 
-// The fault of a recording; where it lacks a wire, with the names that are asked for.
-fn fault_of_recording<'a>(fault: RecordingFault, names: Vec<&'a str>) -> BenchFault<'a>
-    ensures plain { lacks_wire fault ≡ false → result ≡ BenchFault.Recording fault }
-    ensures names { lacks_wire fault ≡ true → result ≡ BenchFault.NoWire fault names.entry }
+// The fault of a recording as it is told; where it lacks a wire, with the names that are asked for.
+fn fault_told<'a>(request: Request<'a, Setting>, fault: RecordingFault) -> BenchFault<'a>
+    ensures { result ≡ fault_told request.entry fault }
 {
-    if lacks_wire(&fault) {
-        BenchFault::NoWire(fault, names)
-    } else {
-        BenchFault::Recording(fault)
+    let lacks = lacks_wire(&fault);
+    match fault {
+        RecordingFault::Write => BenchFault::Write,
+        fault if lacks => BenchFault::NoWire(fault, request.wanted.wires),
+        fault => BenchFault::Recording(fault),
     }
 }
 
@@ -48,12 +47,12 @@ fn run<'a, R: Read, W: Write>(
     ensures fault { IfErr result (λ fault. FailsToPrint request.entry fault
         (R.remaining recording.old) (W.contents out.old) (W.contents out.new)) }
 {
-    let Ok(header) = header_of(alloc, request.common.windows) else {
+    let Ok(first) = first_text(request.common) else {
         return Err(BenchFault::NoMemory);
     };
-    match listen::<Setting, Bench, R, W>(alloc, &request, b"", header.as_bytes(), recording, out) {
+    match listen::<Setting, Bench, R, W>(alloc, &request, b"", first.as_bytes(), recording, out) {
         Ok(_notes) => Ok(()),
-        Err(fault) => Err(fault_of_recording(fault, request.wanted.wires)),
+        Err(fault) => Err(fault_told(request, fault)),
     }
 }
 

@@ -22,6 +22,15 @@ pub struct Windows {
     pub share: Window,
 }
 
+/// As what it is told.
+#[derive(Clone, Copy, Debug, PartialEq, Eq)]
+pub enum Form {
+    /// A table, with a line for each digit.
+    Lines,
+    /// JSON, an object in each text line.
+    Objects,
+}
+
 /// What holds for all lines.
 #[derive(Clone, Copy)]
 pub struct Setting {
@@ -31,4 +40,6 @@ pub struct Setting {
     pub limits: Limits,
     /// By what a dial is judged.
     pub windows: Windows,
+    /// As what it is told.
+    pub form: Form,
 }

@@ -1,9 +1,9 @@
 // The lines of digits and of attempts that end.
 ghost use Rattle.std.specs.Prelude.{◌≡◌, ◌++◌, OnOk, string_bytes};
-ghost use Rattle.xb_bench.specs.Texts.{digit_text, drift_text, ended_text, extent_of, figures_text, name_text, said_text, sign_of, spread_text, times_text, unended_text, wrong_text};
-ghost use Rattle.xb_report.specs.Cells.{at_right, gap, tenths_or_dash};
+ghost use Rattle.xb_bench.specs.Texts.{digit_text, drift_text, ended_text, extent_of, figures_text, name_text};
+ghost use Rattle.xb_bench.specs.Texts.{said_text, sign_of, spread_text, times_text, unended_text, wrong_text};
+ghost use Rattle.xb_report.specs.Cells.{at_right};
 
-use crate::cells::{push_fault, push_figure, push_number, push_right, push_tenths};
 use crate::dial::Said;
 use crate::figures::{Drift, drift_of, share_of, speed_of, tenths_of_ms};
 use crate::setting::Setting;
@@ -12,7 +12,7 @@ use crate::verdict::{verdict_of, word_of};
 use std::alloc::AllocError;
 use xb_contact::Scale;
 use xb_model::{Limits, LineNo, MOST_PULSES};
-use xb_report::push_line;
+use xb_report::{push_fault, push_figure, push_line, push_number, push_right, push_tenths};
 
 // What stands before each cell.
 const GAP: &str = "  ";
@@ -41,8 +41,13 @@ fn push_name(
     }
 }
 
-// Puts from the least to the greatest of two figures after the text; one where both are the same.
-fn push_extent(out: &mut String, least: Option<u128>, most: Option<u128>) -> Result<(), AllocError>
+/// Puts from the least to the greatest of two figures after the text; one where both are the same. `Err` says that
+/// memory ran out.
+pub(crate) fn push_extent(
+    out: &mut String,
+    least: Option<u128>,
+    most: Option<u128>,
+) -> Result<(), AllocError>
     ensures { OnOk result (string_bytes out.new ≡ string_bytes out.old ++ extent_of least most) }
 {
     match (least, most) {
@@ -130,7 +135,8 @@ fn push_times(
     train: &Train,
     bounce: u64,
 ) -> Result<(), AllocError>
-    ensures { OnOk result (string_bytes out.new ≡ string_bytes out.old ++ times_text scale train.now bounce) }
+    ensures { OnOk result (string_bytes out.new
+        ≡ string_bytes out.old ++ times_text scale train.now bounce) }
 {
     out.push_str(GAP)?;
     push_spread(setting, out, scale, Some(train.breaks))?;

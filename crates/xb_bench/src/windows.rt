@@ -1,6 +1,7 @@
 // The windows that words name.
 ghost use Rattle.std.specs.Prelude.{◌≡◌, ◌++◌, IfOk, OnOk, option_map, string_bytes};
-ghost use Rattle.xb_bench.specs.Windows.{dial_named, header_text, number_said, tenths_said, window_said, window_text, windows_said, with_speed, with_share};
+ghost use Rattle.xb_bench.specs.Windows.{dial_named, header_text, number_said, tenths_said, window_said};
+ghost use Rattle.xb_bench.specs.Windows.{window_text, windows_said, with_speed, with_share};
 
 use crate::setting::{Window, Windows};
 use std::alloc::{AllocError, Global};
@@ -154,8 +155,8 @@ fn push_header(out: &mut String, windows: Windows) -> Result<(), AllocError>
     out.push_str(COLUMNS)
 }
 
-/// The first lines: the windows, and the names of the columns.
-pub(crate) fn header_of(alloc: Global, windows: Windows) -> Result<String, AllocError>
+/// The first lines of a table: the windows, and the names of the columns. `Err` says that memory ran out.
+pub(crate) fn header_lines(alloc: Global, windows: Windows) -> Result<String, AllocError>
     ensures { IfOk result (λ text. string_bytes text ≡ header_text windows) }
 {
     let mut text = String::new(alloc);

@@ -1,10 +1,11 @@
 // What the words of the command line ask for.
 ghost use Rattle.std.specs.Prelude.{◌≡◌, IfErr, IfOk};
 ghost use Rattle.xb_command.specs.Commands.{texts_of};
-ghost use Rattle.xb_bench.specs.Options.{ArePlainlyRefused, AsksPlainly, Say, SayNothing, are_plain, is_plain};
+ghost use Rattle.xb_bench.specs.Options.{ArePlainlyRefused, AsksPlainly, Say, SayNothing, are_plain};
+ghost use Rattle.xb_bench.specs.Options.{bench_limits, form_of, is_plain};
 
 use crate::program::PROGRAM;
-use crate::setting::Setting;
+use crate::setting::{Form, Setting};
 use crate::windows::windows_said;
 use std::alloc::Global;
 use xb_command::{Takes, Words, WordsFault, read_words};
@@ -12,7 +13,7 @@ use xb_feed::{AskedLine, Manner, Request, request_of};
 use xb_model::Limits;
 
 // The options of the program, each under its name, and the wires of the lines, which stand alone.
-const OPTIONS: [(&str, Takes); 9] = [
+const OPTIONS: [(&str, Takes); 10] = [
     ("dial", Takes::Text),
     ("speed", Takes::Text),
     ("share", Takes::Text),
@@ -21,6 +22,7 @@ const OPTIONS: [(&str, Takes); 9] = [
     ("settle", Takes::Number),
     ("threshold", Takes::Number),
     ("inverted", Takes::Nothing),
+    ("json", Takes::Nothing),
     ("line", Takes::AllThatFollow),
 ];
 
@@ -43,6 +45,23 @@ fn are_plain(lines: &[AskedLine]) -> bool
     true
 }
 
+// The standard limits without a time-out, since on the bench no register waits: it is 2^32 - 1 ms.
+fn bench_limits() -> Limits
+    ensures { result ≡ bench_limits }
+{
+    Limits {
+        timeout: u32::MAX,
+        ..Limits::standard()
+    }
+}
+
+// Objects where they are asked for.
+fn form_of(json: bool) -> Form
+    ensures { result ≡ form_of json }
+{
+    if json { Form::Objects } else { Form::Lines }
+}
+
 // What words ask for.
 fn asked_of<'a>(alloc: Global, words: &Words<'a>) -> Result<Request<'a, Setting>, WordsFault>
     ensures says { IfOk result (λ request. Say words.now request) }
@@ -54,8 +73,9 @@ fn asked_of<'a>(alloc: Global, words: &Words<'a>) -> Result<Request<'a, Setting>
     };
     let setting = Setting {
         alloc,
-        limits: Limits::standard(),
+        limits: bench_limits(),
         windows,
+        form: form_of(words.flag("json")),
     };
     let request = request_of(alloc, words, setting)?;
     if !are_plain(&request.lines) {

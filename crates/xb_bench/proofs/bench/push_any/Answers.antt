@@ -6,6 +6,6 @@ use Rattle.xb_bench.proofs.bench.push_any.Goals as goal
 
 pub returns-in-Some : goal.returns-in-Some
 returns-in-Some c =
-    as_defined c.push_said.result _ _ _ _ c.push_said.ensures
+    as_defined c.push_told.result _ _ _ _ c.push_told.ensures
     (sym (append-nil _)
     ∙ ap (λ said. flat_map told_text (told_by c.args.setting c.args.line c.args.scale said)) (sym c.in-Some.is))

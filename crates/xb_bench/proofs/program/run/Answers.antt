@@ -1,14 +1,13 @@
-use Rattle.std.proofs.Common.{◌≡◌, [], string_bytes, subst, ◌∙◌}
+use Rattle.std.proofs.Common.{◌≡◌, [], inr, string_bytes, subst, ◌∙◌}
 use Rattle.xb_feed.specs.Feeding.{FailsToListen, ListensTo}
 use Rattle.xb_bench.specs.Benches.{by_digits}
-use Rattle.xb_bench.specs.Windows.{header_text}
-use Rattle.xb_bench.proofs.Attended.{fails_to_print}
+use Rattle.xb_bench.specs.Told.{first_text}
 use Rattle.xb_bench.proofs.program.run.Goals as goal
 
 pub returns-in-Ok-listen-clause-prints : goal.returns-in-Ok-listen-clause-prints
 returns-in-Ok-listen-clause-prints g c =
     let notes = string_bytes c.in-Ok-listen._notes in
-    let header : c.as_bytes.result.now ≡ header_text c.args.request.common.windows =
+    let header : c.as_bytes.result.now ≡ first_text c.args.request.common =
     c.as_bytes.ensures.value ∙ c.in-Ok.ensures in (
       notes,
       subst (λ h. ListensTo by_digits h c.args.request [] notes (g.R.Read.remaining c.args.recording.now)
@@ -17,9 +16,11 @@ returns-in-Ok-listen-clause-prints g c =
 
 pub returns-clause-fault : goal.returns-clause-fault
 returns-clause-fault g c =
-    let header : c.as_bytes.result.now ≡ header_text c.args.request.common.windows =
+    let header : c.as_bytes.result.now ≡ first_text c.args.request.common =
     c.as_bytes.ensures.value ∙ c.in-Ok.ensures in
-    fails_to_print c.args.request c.in-Err.fault c.fault_of_recording.result _ _ _ c.fault_of_recording.ensures.plain
-    c.fault_of_recording.ensures.names
-    (subst (λ h. FailsToListen by_digits h c.args.request [] c.in-Err.fault (g.R.Read.remaining c.args.recording.now)
-    (g.W.Write.contents c.args.out.now) (g.W.Write.contents c.listen.new.out)) header c.in-Err.ensures.fault)
+    inr (
+      c.in-Err.fault,
+      c.fault_told.ensures,
+      subst (λ h. FailsToListen by_digits h c.args.request [] c.in-Err.fault (g.R.Read.remaining c.args.recording.now)
+          (g.W.Write.contents c.args.out.now) (g.W.Write.contents c.listen.new.out)) header c.in-Err.ensures.fault,
+    )

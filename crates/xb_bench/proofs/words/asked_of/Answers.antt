@@ -1,5 +1,6 @@
 use Rattle.std.proofs.Common.{◌≡◌, ◌∙◌, ap, false, inr, rules, subst, sym}
 use Rattle.xb_feed.specs.Options.{Say as SaysOf}
+use Rattle.xb_bench.specs.declared.setting.Setting.{Setting}
 use Rattle.xb_bench.specs.Options.{are_plain}
 use Rattle.xb_bench.proofs.words.asked_of.Goals as goal
 
@@ -15,3 +16,16 @@ returns-then-not-are_plain-clause-nothing c = λ e.
       subst (λ common. SaysOf c.args.words.now common request) (sym says.common_is) says,
       plain,
     ))
+
+pub returns-clause-says : goal.returns-clause-says
+returns-clause-says c =
+    let request = c.in_ok-request.request in
+    let says = c.in_ok-request.ensures.says in record {
+      windows = search rules;
+      limits = ap (λ (s : Setting). s.limits) says.common_is ∙ c.bench_limits.ensures;
+      json = c.flag.result;
+      objects = c.flag.ensures;
+      form = ap (λ (s : Setting). s.form) says.common_is ∙ c.form_of.ensures;
+      plain = search rules;
+      rest = subst (λ common. SaysOf c.args.words.now common request) (sym says.common_is) says;
+    }

@@ -5,8 +5,10 @@ use Rattle.xb_bench.proofs.bench.BenchFollowSetting.end.Goals as goal
 
 pub returns : goal.returns
 returns c =
-    on_ok_weaker c.push_left.result
+    on_ok_weaker c.push_told.result
     (λ e. ended c.args.line c.args.self c.take-said.new.self c.end-piece.result c.take-said.result c.left.result
     (string_bytes c.args.text.now) (string_bytes c.push_any.new.text) (string_bytes c.push_left.new.text)
-    c.end-piece.ensures c.take-said.ensures.after c.take-said.ensures.said c.left.ensures c.in_ok-push_any.ensures e)
-    c.push_left.ensures
+    (string_bytes c.push_told.new.out)
+    c.end-piece.ensures c.take-said.ensures.after c.take-said.ensures.said c.left.ensures c.in_ok-push_any.ensures
+    c.in_ok-push_left.ensures e)
+    c.push_told.ensures

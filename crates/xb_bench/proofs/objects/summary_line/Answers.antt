@@ -1,0 +1,16 @@
+use Rattle.std.proofs.Common.{◌≡◌, ◌++◌, codes, false, ap, ◌∙◌}
+use Rattle.std.proofs.lemmas.Result.{IfOk-weaker}
+use Rattle.serde_json.specs.Data.{Data}
+use Rattle.serde_json.specs.View.{view}
+use Rattle.serde_json.specs.Written.{compact_text, has_float}
+use Rattle.xb_bench.specs.Objects.{summary_object}
+use Rattle.xb_bench.proofs.ObjectValues.{none-in-summary}
+use Rattle.xb_bench.proofs.objects.summary_line.Goals as goal
+
+pub returns : goal.returns
+returns c =
+    let told : Data = summary_object c.args.line c.args.scale c.args.sums in
+    let is : view c.in_ok-object.object ≡ told = c.in_ok-object.ensures in
+    let none : has_float (view c.in_ok-object.object) ≡ false = ap has_float is ∙ none-in-summary c.args.line c.args.scale c.args.sums in
+    IfOk-weaker c.line_of.result _ _ (λ line text. text none ∙ ap (λ value. compact_text value ++ codes "\n") is)
+    c.line_of.ensures.text

@@ -1,0 +1,35 @@
+-- What is told of a line, as a text.
+use Rattle.std.specs.Prelude.{ℕ, List, codes}
+use Rattle.xb_contact.specs.declared.scale.Scale.{Scale}
+use Rattle.xb_bench.specs.declared.setting.Form.{Form}
+use Rattle.xb_bench.specs.declared.setting.Form.TheVariants.{Lines, Objects}
+use Rattle.xb_bench.specs.declared.setting.Setting.{Setting}
+use Rattle.xb_bench.specs.declared.setting.Windows.{Windows}
+use Rattle.xb_bench.specs.declared.told.What.{What}
+use Rattle.xb_bench.specs.declared.told.What.TheVariants.{Says, Ends, ComesTo}
+use Rattle.xb_bench.specs.Objects.{object_text, windows_line}
+use Rattle.xb_bench.specs.SummaryTexts.{summary_text}
+use Rattle.xb_bench.specs.Texts.{ended_text, said_text}
+use Rattle.xb_bench.specs.Windows.{header_text}
+
+-- as lines
+abbrev pub line_text : Setting → ℕ → Scale → What → List ℕ
+line_text setting line scale (Says said) = said_text setting line scale said
+line_text setting line scale (Ends pulses) = ended_text setting line scale pulses (codes "the recording ends")
+line_text setting line scale (ComesTo sums) = summary_text line scale sums
+
+-- in the form that is asked for
+abbrev pub text_by : Form → Setting → ℕ → Scale → What → List ℕ
+text_by Lines setting line scale what = line_text setting line scale what
+text_by Objects setting line scale what = object_text setting line scale what
+
+abbrev pub what_text : Setting → ℕ → Scale → What → List ℕ
+what_text setting line scale what = text_by setting.form setting line scale what
+
+-- what stands first
+abbrev pub first_by : Form → Windows → List ℕ
+first_by Lines windows = header_text windows
+first_by Objects windows = windows_line windows
+
+abbrev pub first_text : Setting → List ℕ
+first_text setting = first_by setting.form setting.windows

@@ -1,0 +1,72 @@
+// What is told of a line, as a text.
+ghost use Rattle.std.specs.Prelude.{◌≡◌, ◌++◌, IfOk, OnOk, string_bytes};
+ghost use Rattle.xb_bench.specs.Told.{first_text, line_text, what_text};
+
+use crate::dial::Said;
+use crate::objects::{push_object, windows_line};
+use crate::setting::{Form, Setting};
+use crate::summary::push_summary;
+use crate::sums::Sums;
+use crate::text::{push_ended, push_said};
+use crate::train::Train;
+use crate::windows::header_lines;
+use std::alloc::AllocError;
+use xb_contact::Scale;
+use xb_model::LineNo;
+
+/// What is told of a line.
+#[derive(Clone, Copy, Debug, PartialEq, Eq)]
+pub enum What {
+    /// What its dial said.
+    Says(Said),
+    /// The recording ends while it is off hook, after these pulses, which no pause ended, if there are any.
+    Ends(Option<(Train, u64)>),
+    /// What its digits come to, at the end of the recording.
+    ComesTo(Sums),
+}
+
+// Puts what is told of a line after the text, as lines.
+fn push_line_of(
+    setting: Setting,
+    out: &mut String,
+    line: LineNo,
+    scale: Scale,
+    what: What,
+) -> Result<(), AllocError>
+    ensures { OnOk result (string_bytes out.new
+        ≡ string_bytes out.old ++ line_text setting line scale what) }
+{
+    match what {
+        What::Says(said) => push_said(setting, out, line, scale, said),
+        What::Ends(pulses) => push_ended(setting, out, line, scale, pulses, "the recording ends"),
+        What::ComesTo(sums) => push_summary(out, line, scale, sums),
+    }
+}
+
+/// Puts what is told of a line after the text, in the form that is asked for. `Err` says that memory ran out.
+pub(crate) fn push_told(
+    setting: Setting,
+    out: &mut String,
+    line: LineNo,
+    scale: Scale,
+    what: What,
+) -> Result<(), AllocError>
+    ensures { OnOk result (string_bytes out.new
+        ≡ string_bytes out.old ++ what_text setting line scale what) }
+{
+    match setting.form {
+        Form::Lines => push_line_of(setting, out, line, scale, what),
+        Form::Objects => push_object(setting, out, line, scale, what),
+    }
+}
+
+/// What stands first, in the form that is asked for: the windows by which digits are judged. `Err` says that memory ran
+/// out.
+pub(crate) fn first_text(setting: Setting) -> Result<String, AllocError>
+    ensures { IfOk result (λ text. string_bytes text ≡ first_text setting) }
+{
+    match setting.form {
+        Form::Lines => header_lines(setting.alloc, setting.windows),
+        Form::Objects => windows_line(setting.alloc, setting.windows),
+    }
+}
