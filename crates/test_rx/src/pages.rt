@@ -70,16 +70,16 @@ const DIFFERENCES: &[(&[&[u8]], &[u8])] = &[
     (&[&[5, 0], &[2]], b""),
     (
         NUMBERS,
-        b"heard and not keyed: entry 2 at 1.576 s: KP 1 ST\nkeyed and not heard: line 7 entry 3: KP 2 ST\n",
+        b"heard and not keyed: entry 2 at 1.575 s: KP 1 ST\nkeyed and not heard: line 7 entry 3: KP 2 ST\n",
     ),
     (
         &[&[5, 0], &[5, 0], &[2]],
-        b"heard and not keyed: entry 2 at 1.576 s: KP 5 0 ST\n",
+        b"heard and not keyed: entry 2 at 1.575 s: KP 5 0 ST\n",
     ),
     (&[&[2]], b"keyed and not heard: line 7 entry 1: KP 5 0 ST\n"),
     (
         &[&[2], &[5, 0]],
-        b"keyed and not heard: line 7 entry 1: KP 5 0 ST\nheard and not keyed: entry 2 at 1.441 s: KP 5 0 ST\n",
+        b"keyed and not heard: line 7 entry 1: KP 5 0 ST\nheard and not keyed: entry 2 at 1.440 s: KP 5 0 ST\n",
     ),
 ];
 
