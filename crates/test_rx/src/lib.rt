@@ -6,6 +6,8 @@
 #[cfg(test)]
 mod folder;
 #[cfg(test)]
+mod forms;
+#[cfg(test)]
 mod heads;
 #[cfg(test)]
 mod measured;

@@ -46,7 +46,8 @@ const TWO: &[u8] = b"\0\0\xe8\x03\0\0\xe8\x03\0\0\xe8\x03\0\0\xe8\x03\
 \0\0\xe8\x03\0\0\xe8\x03\0\0\xe8\x03\0\0\xe8\x03";
 
 // The words after the program's name, the sound, the status, what is written, and what stands on standard error.
-// The bytes by mu-law are -356, -340, -324, -308, -292 and -276, and so the samples -348, -316 and -284.
+// The bytes by mu-law are -356, -340, -324, -308, -292 and -276, and so the samples after silence -1, 0 and 11, by the
+// formula of DEFINITIONS in Python.
 const CASES: &[(&[&str], &[u8], u8, &[u8], &[u8])] = &[
     (&[], FILE, 0, b"KEYED 0 REFUSED 0\n", SILENCE),
     (&["--raw"], b"", 0, b"KEYED 0 REFUSED 0\n", SILENCE),
@@ -55,7 +56,7 @@ const CASES: &[(&[&str], &[u8], u8, &[u8], &[u8])] = &[
         b"abcdefg",
         0,
         b"KEYED 0 REFUSED 0\n",
-        b"mfrx: no key is heard in 0.000 s: peak -36.3 dBm0, mean -34.1 dBm0\n",
+        b"mfrx: no key is heard in 0.000 s: peak -66.3 dBm0, mean -68.1 dBm0\n",
     ),
     (
         &["--raw", "--channels", "2", "--channel", "2"],

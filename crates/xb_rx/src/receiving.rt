@@ -82,12 +82,7 @@ pub(crate) fn listen<R: Read, W: Write, E: Write>(
         (outputs (W.contents out.old) (W.contents out.new) (E.contents err.old) (E.contents err.new)) }
 {
     let start = start_of(input, sound)?;
-    let mut source = Source {
-        reader: sound,
-        form: start.form,
-        said: start.samples,
-        counted: start.counted,
-    };
+    let mut source = Source::new(sound, start);
     hear(alloc, since, &mut source, &mut report, out, err)
 }
 

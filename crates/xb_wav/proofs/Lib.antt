@@ -1,3 +1,5 @@
 pub mod Samples
 pub mod Walks
 pub mod Sounds
+pub mod SmallWeights
+pub mod Slides

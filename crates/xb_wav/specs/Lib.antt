@@ -2,3 +2,4 @@ pub mod Constants
 pub mod Samples
 pub mod Streams
 pub mod Starts
+pub mod Weights

@@ -18,10 +18,10 @@ abbrev pub form_with : Coding → ℕ → ℕ → ℕ → SampleForm
 form_with how channels channel frames =
     record { coding = how; channels = channels; channel = channel; frames = frames }
 
--- how many samples make one of 8,000 a second: the rate is a multiple of that
+-- how many samples there are to one of 8,000 a second: the rate is a multiple of that, of which 192,000 is one
 abbrev pub frames_of : ℕ → Option ℕ
 frames_of hz =
-    if (hz % 8000 == 0) && nat_lt 0 hz && nat_lt hz (8000 * MOST_FRAMES + 1) then Some (hz / 8000) else None
+    if (hz % 8000 == 0) && nat_lt 0 (hz / 8000) && (MOST_FRAMES % (hz / 8000) == 0) then Some (hz / 8000) else None
 
 -- samples of a form whose number is not known
 abbrev pub uncounted : SampleForm → Start

@@ -1,9 +1,11 @@
 // The samples of a stream, one at a time.
 ghost use Rattle.std.specs.Prelude.{◌≡◌, ◌+◌, length, IfOk, IfSome};
-ghost use Rattle.xb_wav.specs.Samples.{IsForm};
+ghost use Rattle.std.specs.Option.{option_map};
+ghost use Rattle.xb_wav.specs.Samples.{IsForm, sound_of};
 ghost use Rattle.xb_wav.specs.Streams.{FillsUp, GivesSample, sound_left};
 
-use crate::coding::{MOST_GROUP_BYTES, SampleForm};
+use crate::coding::{MOST_WINDOW_BYTES, SampleForm, silent_window};
+use crate::wav_start::Start;
 use std::io::Read;
 
 /// Why a stream gives no more.
@@ -46,9 +48,28 @@ pub struct Source<R: Read> {
     pub said: u64,
     /// Whether each of them has to.
     pub counted: bool,
+    // What was written in the time of the last seven samples, and room for the next one.
+    window: [u8; MOST_WINDOW_BYTES],
 }
 
 impl<R: Read> Source<R> {
+    /// The samples of a stream that stands at them, which begins after silence.
+    pub fn new(reader: R, start: Start) -> Source<R>
+        requires { IsForm start.form }
+        ensures sound { sound_left R.remaining result
+            ≡ option_map (sound_of start.form start.samples start.counted) (R.remaining reader) }
+        ensures form { result.form ≡ start.form }
+        ensures said { result.said ≡ start.samples }
+    {
+        Source {
+            reader,
+            form: start.form,
+            said: start.samples,
+            counted: start.counted,
+            window: silent_window(start.form.coding),
+        }
+    }
+
     /// The next sample, `None` at the end. `Cut` says how many are missing there. What is given after an `Err` is not
     /// said.
     pub fn next_sample(&mut self) -> Result<Option<i16>, StreamFault>
@@ -62,12 +83,14 @@ impl<R: Read> Source<R> {
             return Ok(None);
         }
         let size = self.form.group_bytes();
-        let mut buffer = [0u8; MOST_GROUP_BYTES];
-        let group = &mut buffer[..size];
+        let whole = self.form.window_bytes();
+        let group = &mut self.window[whole - size..whole];
         match fill(&mut self.reader, group) {
             Ok(count) if count == size => {
                 self.said -= 1;
-                Ok(Some(self.form.sample_of(&*group)))
+                let sample = self.form.heard(&self.window[..whole]);
+                self.window.copy_within(size..whole, 0);
+                Ok(Some(sample))
             }
             Ok(_) if self.counted => Err(StreamFault::Cut(self.said)),
             Ok(_) => Ok(None),

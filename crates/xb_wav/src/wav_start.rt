@@ -1,5 +1,5 @@
 // What stands before the samples of a WAV file.
-ghost use Rattle.std.specs.Prelude.{◌≡◌, ◌≤◌, IfOk, IfSome};
+ghost use Rattle.std.specs.Prelude.{◌≡◌, ◌%◌, ◌≤◌, IfOk, IfSome};
 ghost use Rattle.xb_riff.specs.Heads.{IsFormat};
 ghost use Rattle.xb_wav.specs.Samples.{IsForm};
 ghost use Rattle.xb_wav.specs.declared.wav_start.TheConstants.{UNKNOWN_SAMPLES};
@@ -23,8 +23,8 @@ pub enum WavFault {
     /// It has no head that says how its samples are.
     #[error("{0}")]
     Head(HeadFault),
-    /// The samples a second are no multiple of 8,000, or more than 192,000.
-    #[error("the chunk \"fmt \" has {0} samples a second, and not a multiple of 8000 up to 192000: sox IN.wav -r 8000 OUT.wav")]
+    /// The samples a second are not 8,000 times a divisor of 24.
+    #[error("the chunk \"fmt \" has {0} samples a second, and not 8000 times 1, 2, 3, 4, 6, 8, 12 or 24: sox IN.wav -r 8000 OUT.wav")]
     Rate(u32),
     /// It has so many channels, and not the one that is asked for.
     #[error("the chunk \"fmt \" has {0} channels, and --channel names another one")]
@@ -73,14 +73,16 @@ pub struct Start {
     pub counted: bool,
 }
 
-/// How many samples make one of 8,000 a second; `None` where the rate is no multiple of that.
+/// How many samples there are to one of 8,000 a second; `None` where they are no divisor of 24.
 pub fn frames_of(hz: u32) -> Option<usize>
     ensures value { result ≡ frames_of hz }
     ensures one { IfSome result (λ n. 1 ≤ n) }
     ensures most { IfSome result (λ n. n ≤ 24) }
+    ensures whole { IfSome result (λ n. 24 % n ≡ 0) }
 {
-    if hz % SAMPLES_PER_SECOND == 0 && 0 < hz && hz < SAMPLES_PER_SECOND * MOST_FRAMES as u32 + 1 {
-        Some((hz / SAMPLES_PER_SECOND) as usize)
+    let frames = (hz / SAMPLES_PER_SECOND) as usize;
+    if hz % SAMPLES_PER_SECOND == 0 && 0 < frames && MOST_FRAMES % frames == 0 {
+        Some(frames)
     } else {
         None
     }
