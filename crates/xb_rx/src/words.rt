@@ -168,8 +168,8 @@ fn raw_form(options: Options) -> Option<SampleForm>
     })
 }
 
-// How the sound is given; `None` where the rate, mu-law or a number of channels is said of a WAV file, the rate is no
-// multiple of 8,000, or there is no such channel.
+// How the sound is given; `None` where the rate, mu-law or a number of channels is said of a WAV file, the rate is not
+// 8,000 times a divisor of 24, or there is no such channel.
 fn input_of(options: Options) -> Option<Input>
     ensures value { result ≡ input_of options }
     ensures form { IfSome result HasForm }
