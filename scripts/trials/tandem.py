@@ -97,8 +97,17 @@ CASES = [
     (at(50000, "KP", 1) + at(0, 2, "ST"), [("NUMBER", "12")]),
 ]
 
-ROUTES = [("0", 1, 0, ""), ("2", 30, 1, ""), ("234", 17, 3, "56"), ("23", 9999, 10, "0123"), ("555", 40, 7, "")]
-TABLE = "".join('[[route]]\ncode = "%s"\ntrunk = %d\ndelete = %d\nprefix = "%s"\n' % route for route in ROUTES)
+# Two thirds of the offices that the digits of the lists can name, areas, and an office within one of them, whose code is
+# the longer one.
+OFFICES = [(a, b, c) for a in (2, 3, 4, 5, 9) for b in (2, 3, 4, 5, 9) for c in (0, 2, 3, 4, 5, 9) if (a + b + c) % 3]
+ROUTES = [("0", 1, 0, ""), ("203", 30, 1, ""), ("203234", 17, 10, "56"), ("404", 9999, 10, "0123"), ("505", 0, 0, "9")]
+ROUTES += [
+    ("%d%d%d" % (a, b, c), 100 * a + 10 * b + c, (a + b * c) % 7, ("", "56", "0123", "00000000")[(a + c) % 4])
+    for a, b, c in OFFICES
+]
+TABLE = "plan = 10\n" + "".join(
+    '[[route]]\ncode = "%s"\ntrunk = %d\ndelete = %d\nprefix = "%s"\n' % route for route in ROUTES
+)
 
 
 def names(dice):
