@@ -7,10 +7,7 @@ use Rattle.xb_json.specs.Keys.{digits_text}
 use Rattle.xb_model.specs.declared.dialled.Dialled.{Dialled}
 use Rattle.xb_model.specs.declared.dialled.Dialled.TheVariants as dialled
 use Rattle.xb_model.specs.declared.limits.Limits.{Limits}
-use Rattle.xb_model.specs.declared.signal.TheConstants.{MOST_PULSES}
 use Rattle.xb_model.specs.Page.{reason_text}
-use Rattle.xb_heard.specs.declared.fault.PulseFault.{PulseFault}
-use Rattle.xb_heard.specs.declared.fault.PulseFault.TheVariants as fault
 use Rattle.xb_heard.specs.declared.fault.Spoiler.{Spoiler}
 use Rattle.xb_heard.specs.declared.figures.Extent.{Extent}
 use Rattle.xb_heard.specs.declared.figures.Times.{Times}
@@ -20,7 +17,7 @@ use Rattle.xb_heard.specs.Attempts.{AttemptOfRuns}
 use Rattle.xb_heard.specs.DigitRows.{row_of}
 use Rattle.xb_heard.specs.Digits.{DigitOfRuns}
 use Rattle.xb_heard.specs.Figures.{times_of, whole_periods}
-use Rattle.xb_report.specs.Words.{is_taken}
+use Rattle.xb_report.specs.Words.{fault_name, is_taken, limit_of}
 
 -- a count; it stops at 2^64 - 1
 abbrev pub count_value : ℕ → Data
@@ -55,19 +52,6 @@ times_object times = object
     (member (codes "count") (number (unsigned times.breaks))
     (member (codes "ms") (count_value times.all_ms)
     (member (codes "open_ms") (count_value times.open_ms) no_members)))
-
--- the name of a fault, and the limit that it breaks: in ms, or of eleven pulses the most
-abbrev pub fault_name : PulseFault → List ℕ
-fault_name fault.ShortBreak = codes "SHORT_BREAK"
-fault_name fault.LongBreak = codes "LONG_BREAK"
-fault_name fault.ShortMake = codes "SHORT_MAKE"
-fault_name fault.TooManyPulses = codes "TOO_MANY_PULSES"
-
-abbrev pub limit_of : Limits → PulseFault → ℕ
-limit_of limits fault.ShortBreak = limits.pulse_min
-limit_of limits fault.LongBreak = limits.pulse_max
-limit_of limits fault.ShortMake = limits.make_min
-limit_of limits fault.TooManyPulses = MOST_PULSES
 
 -- what spoils a digit, and where
 abbrev pub fault_object : Option ℕ → Limits → Spoiler → Data

@@ -5,17 +5,15 @@ ghost use Rattle.serde_json.specs.View.{items_of, view};
 ghost use Rattle.xb_heard.specs.Digits.{digit_in};
 ghost use Rattle.xb_heard.specs.Figures.{times_of, whole_periods};
 ghost use Rattle.xb_json.specs.Objects.{data_of};
-ghost use Rattle.xb_hear.specs.Objects.{count_value, digit_object, digit_of_parts, digits_from, extent_object, fault_name};
-ghost use Rattle.xb_hear.specs.Objects.{fault_object, first_run, limit_of, or_null, run_object, text_line, times_object};
+ghost use Rattle.xb_hear.specs.Objects.{count_value, digit_object, digit_of_parts, digits_from, extent_object};
+ghost use Rattle.xb_hear.specs.Objects.{fault_object, first_run, or_null, run_object, text_line, times_object};
 
 use serde_json::Value;
 use std::alloc::{AllocError, Global};
-use xb_heard::{
-    DigitRow, Extent, HeardDigit, PlacedRun, PulseFault, Spoiler, Times, row_of, times_of,
-};
+use xb_heard::{DigitRow, Extent, HeardDigit, PlacedRun, Spoiler, Times, row_of, times_of};
 use xb_json::{Member, object_of};
-use xb_model::{Dialled, Limits, MOST_PULSES};
-use xb_report::is_taken;
+use xb_model::{Dialled, Limits};
+use xb_report::{fault_name, is_taken, limit_of};
 
 // A count, which stops at 2^64 - 1.
 fn count_of(count: u128) -> Member<'static>
@@ -110,30 +108,6 @@ fn times_object(alloc: Global, times: Times) -> Result<Value, AllocError>
         ("open_ms", count_of(times.open_ms)),
     ];
     object_of(alloc, &members)
-}
-
-// The name of a fault.
-fn fault_name(fault: PulseFault) -> &'static str
-    ensures { result.now ≡ fault_name fault }
-{
-    match fault {
-        PulseFault::ShortBreak => "SHORT_BREAK",
-        PulseFault::LongBreak => "LONG_BREAK",
-        PulseFault::ShortMake => "SHORT_MAKE",
-        PulseFault::TooManyPulses => "TOO_MANY_PULSES",
-    }
-}
-
-// The limit that a fault breaks: in ms, or how many pulses a digit has at most.
-fn limit_of(limits: Limits, fault: PulseFault) -> u32
-    ensures { result ≡ limit_of limits fault }
-{
-    match fault {
-        PulseFault::ShortBreak => limits.pulse_min,
-        PulseFault::LongBreak => limits.pulse_max,
-        PulseFault::ShortMake => limits.make_min,
-        PulseFault::TooManyPulses => u32::from(MOST_PULSES),
-    }
 }
 
 // What spoils a digit, and where, or null.
