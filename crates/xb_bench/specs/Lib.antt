@@ -1,9 +1,4 @@
 pub mod Pieces
-pub mod Trains
-pub mod Dials
-pub mod Figures
-pub mod Verdicts
-pub mod Sums
 pub mod Texts
 pub mod SummaryTexts
 pub mod Objects
@@ -13,7 +8,3 @@ pub mod Benches
 pub mod Rules
 pub mod Options
 pub mod Program
-pub mod Digits
-pub mod DialLaws
-pub mod ReportLaws
-pub mod SumLaws
