@@ -4,7 +4,7 @@
 //! - `Receiver`: the receiver of `xb_ear`, which gives each key with its tones as they are measured. After each
 //!   sample it has given exactly the keys of `ended_keys` of all samples so far, and with what `finish` gives
 //!   they are `keys_of_sound`. They have the pairs of the keys that the ear hears (`proofs/Received.antt`).
-//! - A tone is measured in the strongest 200 samples of its key, of the last 1,020 before it was given
+//! - A tone is measured in the strongest 200 samples of its key, of the last 1,400 before it was given
 //!   (`heard_in`): its frequency by how far it turns in 40 samples, and its level at that (`tone_of`).
 //! - `Meaning::of` is what a pair stands for, by `key_of` where it is a key of the office: a digit, KP, ST,
 //!   ST', ST''', or KP2/ST'', which are one pair. `Meaning::name` is its name.
@@ -18,6 +18,7 @@
 //!   `levels_are_as_worked`: levels in dBm0, as worked by hand.
 #![tactic(auto)]
 
+mod blanks;
 mod figures;
 mod heard;
 pub mod laws;
@@ -26,6 +27,7 @@ mod lines;
 mod meaning;
 mod meter;
 mod objects;
+mod onsets;
 mod receiver;
 mod seconds;
 mod stretches;
@@ -35,7 +37,7 @@ mod verdicts;
 mod waves;
 
 pub use figures::{Figures, end_ms, figures_of, start_ms};
-pub use heard::{Heard, MeasuredTone};
+pub use heard::{Heard, MeasuredTone, Onsets};
 pub use lines::text_line;
 pub use meaning::Meaning;
 pub use meter::Meter;
@@ -43,6 +45,6 @@ pub use objects::{object_line, object_of};
 pub use receiver::Receiver;
 pub use seconds::seconds_text;
 pub use verdicts::{
-    KEY_MS, KP_MS, Limit, MOST_OFF_HZ, MOST_OFF_MS, MOST_OFF_PER_MILLE, length_fits, misses,
+    KEY_MS, KP_MS, Limit, MOST_OFF_HZ, MOST_OFF_MS, MOST_OFF_PER_MILLE, MOST_SKEW_TENTHS, length_fits, misses,
     verdict_text,
 };
