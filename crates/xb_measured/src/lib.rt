@@ -45,6 +45,6 @@ pub use objects::{object_line, object_of};
 pub use receiver::Receiver;
 pub use seconds::seconds_text;
 pub use verdicts::{
-    KEY_MS, KP_MS, Limit, MOST_OFF_HZ, MOST_OFF_MS, MOST_OFF_PER_MILLE, MOST_SKEW_TENTHS, length_fits, misses,
-    verdict_text,
+    KEY_MS, KP_MS, Limit, MOST_OFF_HZ, MOST_OFF_MS, MOST_OFF_PER_MILLE, MOST_SKEW_TENTHS,
+    length_fits, misses, verdict_text,
 };

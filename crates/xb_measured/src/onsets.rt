@@ -1,5 +1,5 @@
 // When each tone of a key began.
-ghost use Rattle.std.specs.Prelude.{◌≡◌, ◌≤◌, ◌<◌, ◌*◌, ◌/◌, length};
+ghost use Rattle.std.specs.Prelude.{◌≡◌, ◌≤◌, ◌+◌, ◌*◌, length};
 ghost use Rattle.xb_measured.specs.Onsets.{level_at, level_in, onsets_in, onsets_of, round_at, share_of, sounded};
 
 use crate::heard::Onsets;

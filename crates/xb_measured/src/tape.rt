@@ -89,6 +89,11 @@ impl Tape {
     pub(crate) fn measure(&self, key: HeardKey, blank: u64) -> Heard
         ensures { result ≡ heard_on self.now.kept self.now.gone key blank }
     {
-        heard_on(&self.samples[self.begun..self.filled], self.gone, key, blank)
+        heard_on(
+            &self.samples[self.begun..self.filled],
+            self.gone,
+            key,
+            blank,
+        )
     }
 }
