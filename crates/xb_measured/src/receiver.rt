@@ -8,7 +8,7 @@ use crate::blanks::blank_of;
 use crate::heard::Heard;
 use crate::tape::Tape;
 use std::marker::Model;
-use xb_ear::{Heard as HeardKey, Receiver as Ear};
+use xb_ear::{Heard as EarKey, Receiver as Ear};
 
 /// A receiver that takes one sample at a time, and gives each key as it ends, with its tones as they are measured then
 /// on the last samples. It keeps 1,420 of these beside what the receiver of `xb_ear` keeps.
@@ -28,7 +28,7 @@ impl Model for Receiver {
 }
 
 // A key that is given now, with its tones.
-fn measured(ear: &Ear, tape: &Tape, key: HeardKey) -> Heard
+fn measured(ear: &Ear, tape: &Tape, key: EarKey) -> Heard
     ensures { (samples : List ℤ) (keys : List GivenKey) → HasEarReceived ear.now samples keys
         → IsTapeOf tape.now samples → result ≡ heard_in samples key }
 {

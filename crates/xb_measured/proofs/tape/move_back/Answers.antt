@@ -5,4 +5,4 @@ use Rattle.xb_measured.proofs.tape.move_back.Goals as goal
 pub returns-clause-moved : goal.returns-clause-moved
 returns-clause-moved c =
     ap (λ (w : List ℤ). take (c.args.filled - c.args.begun) w) c.copy_within.ensures.after
-    ∙ kept-back c.args.samples.old c.args.begun c.args.filled c.requires.order c.requires.within
+    ∙ kept-back c.args.samples.now c.args.begun c.args.filled c.requires.order c.requires.within
