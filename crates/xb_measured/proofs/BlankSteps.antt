@@ -1,5 +1,5 @@
 -- The blank windows so far.
-use Rattle.std.proofs.Common.{◌≡◌, ◌∙◌, ℕ, ◌+◌, ◌<◌, ◌≤◌, List, ap, arith, drop, get_or, length}
+use Rattle.std.proofs.Common.{◌≡◌, ℕ, ◌+◌, ◌<◌, ◌≤◌, List, ap, arith, drop, get_or, length}
 use Rattle.std.proofs.lemmas.List.{drop_all, drop_more}
 use Rattle.xb_measured.specs.Blanks.{blank_by, blanks_after}
 

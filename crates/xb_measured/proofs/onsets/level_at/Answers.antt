@@ -1,4 +1,4 @@
-use Rattle.std.proofs.Common.{◌≡◌, ◌∙◌, ◌+◌, ◌-◌, ◌*◌, List, ℕ, ℤ, ap, arith, drop, take}
+use Rattle.std.proofs.Common.{◌≡◌, ◌∙◌, ◌+◌, ◌-◌, ◌*◌, ℕ, ap, arith, drop, take}
 use Rattle.xb_measured.specs.Onsets.{level_in}
 use Rattle.xb_measured.proofs.onsets.level_at.Goals as goal
 

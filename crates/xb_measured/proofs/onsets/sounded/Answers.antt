@@ -1,4 +1,4 @@
-use Rattle.std.proofs.Common.{◌≡◌, ◌∙◌, ◌/◌, ℕ, ap, arith, sym}
+use Rattle.std.proofs.Common.{◌∙◌, ◌/◌, ℕ, ap, arith}
 use Rattle.std.specs.List.{range_with_len, sum_by}
 use Rattle.xb_measured.specs.Onsets.{level_at, share_of}
 use Rattle.xb_measured.proofs.OnsetSteps.{shares-end, shares-more}

@@ -1,4 +1,4 @@
-use Rattle.std.proofs.Common.{◌≡◌, ◌∙◌, List, ℕ, ℤ, ap, ap₂}
+use Rattle.std.proofs.Common.{◌∙◌, List, ℕ, ℤ, ap, ap₂}
 use Rattle.xb_ear.specs.declared.hearing.Hearing.{Hearing}
 use Rattle.xb_measured.specs.Blanks.{blank_at, blank_in}
 use Rattle.xb_measured.specs.Stretches.{heard_on}

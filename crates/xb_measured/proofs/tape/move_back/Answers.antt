@@ -1,4 +1,4 @@
-use Rattle.std.proofs.Common.{◌≡◌, ◌∙◌, ◌-◌, List, ap, take, ℤ}
+use Rattle.std.proofs.Common.{◌∙◌, ◌-◌, List, ap, take, ℤ}
 use Rattle.xb_measured.proofs.TapeSteps.{kept-back}
 use Rattle.xb_measured.proofs.tape.move_back.Goals as goal
 
