@@ -8,9 +8,11 @@
 //!   (`heard_in`): its frequency by how far it turns in 40 samples, and its level at that (`tone_of`).
 //! - `Meaning::of` is what a pair stands for, by `key_of` where it is a key of the office: a digit, KP, ST,
 //!   ST', ST''', or KP2/ST'', which are one pair. `Meaning::name` is its name.
+//! - When each tone began is told by how much of it there is in the samples round the beginning of the key
+//!   (`onsets_of`), and the holes by the windows of the key in which no pair stood out (`blank_in`).
 //! - `figures_of`: the figures of a key, by the last key before it. `misses`: all limits that they miss, of
-//!   length, gap, tuning, twist and level; `verdict_text`: their words, or GOOD. `length_fits`: whether they keep to
-//!   the first.
+//!   length, gap, tuning, twist, level, skew and holes; `verdict_text`: their words, or GOOD. `length_fits`:
+//!   whether they keep to the first.
 //! - `text_line` is exactly the line of the figures, and `object_line` the same as a JSON object (`object_of`).
 //! - `Meter`: how loud a sound is in which no key was heard (`quiet_line`).
 //! - `end_ms`: when a key ended. `seconds_text`: a time in seconds.
