@@ -66,7 +66,10 @@ def play(random_, contact, stream):
         while (now := time.monotonic()) < due:
             time.sleep(due - now)
         late = max(late, now - due)
-        stream.write(block)
+        try:
+            stream.write(block)
+        except BrokenPipeError:
+            sys.exit(f"delay: the program ended after {place / RATE:.1f} s")
     return began, late
 
 

@@ -23,7 +23,8 @@ enum dtmf { NONE, ALONE, WITHIN, IN_GAPS };
    what the times of keys and gaps differ by, either way. One tone of a key is late by the skew. Of what is beside, the
    level and the Hz. An echo and another keying are so many dB below a tone, or above it; speech is as it was recorded
    at 0. Tones that are folded are those that fall onto the tones of the keys where one of several samples is taken.
-   Digits of DTMF are those of which each tone is within 50 Hz of one of a key's where `is_near`, and the others else. */
+   Digits of DTMF are those that are known to be heard as keys, whose tones are theirs but for 50 Hz, where `is_near`, and
+   the others else. */
 struct row {
     const char *use, *must, *codec, *name;
     double kp, key, gap, off, hole, skew, twist, detuning, beside, beside_hz, voltage, echo, echo_ms, crosstalk, speech;
