@@ -17,6 +17,7 @@ RATE = 20000  # samples a second
 LONGEST_BLOCK = 200  # samples: 10 ms
 PAUSE = 180  # ms: the standard limit of DEFINITIONS
 MOST_DELAY = 0.35  # s
+MOST_EARLY = 0.001  # s: a pause is reckoned in ms, and each of its ends is rounded to one
 MOST_KB = 3000
 CLOSED, OPEN = b"\1", b"\0"
 
@@ -82,7 +83,7 @@ def faults_of(dialled, lines, began):
         delays.append(at - paused / RATE)
         if words[1:3] != [str(pulses % 10), str(pulses)]:
             faults.append(f"digit {number} is told as {words[1:3]}, of {pulses} pulses")
-        if not 0 <= delays[-1] <= MOST_DELAY:
+        if not -MOST_EARLY <= delays[-1] <= MOST_DELAY:
             faults.append(f"the line of digit {number} comes {delays[-1]:.3f} s after its pause")
     if delays:
         delays.sort()
