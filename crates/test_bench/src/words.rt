@@ -43,7 +43,9 @@ const REFUSED: &[&[&str]] = &[
 const WORDS: &[&str] = &["--line", "7=1"];
 
 // Of two wires that a recording of one lacks the first is told.
-const MISSING: &[&str] = &["--line", "7=1", "--line", "8=2", "--line", "9=3"];
+const MISSING: &[&str] = &["--line", "7=A", "--line", "8=B", "--line", "9=C"];
+
+const ONE_WIRE: &[u8] = b"; Channels (1/1): A\n";
 
 // A make, a pulse, a pause, and a time that is none.
 const WRONG: &[u8] = b"0,1\n0.4,0\n0.46,1\n0.7,1\nx,1\n";
@@ -88,11 +90,11 @@ fn tells_of_what_comes_before_a_fault(rt: HostRuntime) -> Result<(), Fail> {
 #[test]
 fn tells_the_first_missing_wire(rt: HostRuntime) -> Result<(), Fail> {
     let mut out = Vec::new(rt.alloc());
-    let mut reader = WRONG;
+    let mut reader = ONE_WIRE;
     let (status, told) = attended(rt.alloc(), MISSING, &mut reader, &mut out)?;
     assert_eq!(rt; status, 1);
     assert!(rt;
-        told.starts_with(b"mfbench: the recording has no wire 2; ".as_slice()),
+        told.starts_with(b"mfbench: the recording has no wire B; ".as_slice()),
         "{}",
         told.escape_ascii()
     );

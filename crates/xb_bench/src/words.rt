@@ -79,7 +79,8 @@ fn asked_of<'a>(alloc: Global, words: &Words<'a>) -> Result<Request<'a, Setting>
 }
 
 /// What the words ask for, the program's name first. They are refused where `clap` refuses them, a window or a kind of
-/// dial is none, a limit is none or a route table may not have the limits, a run settles in 0 ms, a make of a line is to seize only from some ms on, or what `request_of` refuses.
+/// dial is none, a limit is none or a route table may not have the limits, a run settles in 0 ms, a make of a line is to
+/// seize only from some ms on, or what `request_of` refuses.
 pub(crate) fn request_of_words<'a>(
     alloc: Global,
     words: &'a [String],
