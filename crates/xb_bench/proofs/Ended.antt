@@ -7,11 +7,11 @@ use Rattle.xb_contact.specs.declared.hold.Hold.{Hold}
 use Rattle.xb_contact.specs.Machine.{at_end}
 use Rattle.xb_report.proofs.Pushed.{both}
 use Rattle.xb_bench.specs.declared.bench.Bench.{Bench}
-use Rattle.xb_bench.specs.declared.dial.Said.{Said}
+use Rattle.xb_turns.specs.declared.dial.Said.{Said}
 use Rattle.xb_bench.specs.declared.told.What.TheVariants.{ComesTo}
-use Rattle.xb_bench.specs.declared.train.Train.{Train}
+use Rattle.xb_turns.specs.declared.train.Train.{Train}
 use Rattle.xb_bench.specs.Benches.{Told, bench_past, left_of, said_past, told_by, told_last, told_left, told_of, told_text}
-use Rattle.xb_bench.specs.Dials.{left_by}
+use Rattle.xb_turns.specs.Dials.{left_by}
 use Rattle.xb_bench.specs.Told.{what_text}
 
 -- three texts, one after the other

@@ -6,17 +6,17 @@ use Rattle.serde_json.specs.Written.{has_float}
 use Rattle.xb_model.specs.declared.limits.Limits.{Limits}
 use Rattle.xb_contact.specs.declared.scale.Scale.{Scale}
 use Rattle.xb_bench.specs.declared.setting.Setting.{Setting}
-use Rattle.xb_bench.specs.declared.setting.Windows.{Windows}
-use Rattle.xb_bench.specs.declared.sums.Series.{Series}
-use Rattle.xb_bench.specs.declared.sums.Sums.{Sums}
-use Rattle.xb_bench.specs.declared.train.Spread.{Spread}
-use Rattle.xb_bench.specs.declared.train.Train.{Train}
-use Rattle.xb_bench.specs.declared.train.Wrong.{Wrong}
-use Rattle.xb_bench.specs.declared.verdict.Verdict.{Verdict}
-use Rattle.xb_bench.specs.Figures.{drift_of, share_of, speed_of, tenths_of_ms}
+use Rattle.xb_turns.specs.declared.windows.Windows.{Windows}
+use Rattle.xb_turns.specs.declared.sums.Series.{Series}
+use Rattle.xb_turns.specs.declared.sums.Sums.{Sums}
+use Rattle.xb_turns.specs.declared.train.Spread.{Spread}
+use Rattle.xb_turns.specs.declared.train.Train.{Train}
+use Rattle.xb_turns.specs.declared.train.Wrong.{Wrong}
+use Rattle.xb_turns.specs.declared.verdict.Verdict.{Verdict}
+use Rattle.xb_turns.specs.Figures.{drift_of, share_of, speed_of, tenths_of_ms}
 use Rattle.xb_bench.specs.Objects.{digit_object, drift_by, ended_object, extent_data, figure_data, name_by, name_data, series_data, signed_of, spread_data, summary_object, verdict_data, windows_object, wrong_data}
-use Rattle.xb_bench.specs.Sums.{mean_of}
-use Rattle.xb_bench.specs.Verdicts.{verdict_of}
+use Rattle.xb_turns.specs.Sums.{mean_of}
+use Rattle.xb_turns.specs.Verdicts.{verdict_of}
 
 none-in-figure : (figure : Option ℕ) → has_float (figure_data figure) ≡ false
 none-in-figure None = refl

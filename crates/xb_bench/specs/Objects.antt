@@ -8,23 +8,23 @@ use Rattle.xb_model.specs.declared.limits.Limits.{Limits}
 use Rattle.xb_model.specs.declared.signal.TheConstants.{MOST_PULSES}
 use Rattle.xb_contact.specs.declared.scale.Scale.{Scale}
 use Rattle.xb_report.specs.Words.{fault_name, limit_of}
-use Rattle.xb_bench.specs.declared.dial.Said.TheVariants.{Digit, HungUp}
-use Rattle.xb_bench.specs.declared.figures.Drift.{Drift}
+use Rattle.xb_turns.specs.declared.dial.Said.TheVariants.{Digit, HungUp}
+use Rattle.xb_turns.specs.declared.figures.Drift.{Drift}
 use Rattle.xb_bench.specs.declared.setting.Setting.{Setting}
-use Rattle.xb_bench.specs.declared.setting.Window.{Window}
-use Rattle.xb_bench.specs.declared.setting.Windows.{Windows}
-use Rattle.xb_bench.specs.declared.sums.Series.{Series}
-use Rattle.xb_bench.specs.declared.sums.Sums.{Sums}
-use Rattle.xb_bench.specs.declared.sums.Verdicts.{Verdicts}
+use Rattle.xb_turns.specs.declared.windows.Window.{Window}
+use Rattle.xb_turns.specs.declared.windows.Windows.{Windows}
+use Rattle.xb_turns.specs.declared.sums.Series.{Series}
+use Rattle.xb_turns.specs.declared.sums.Sums.{Sums}
+use Rattle.xb_turns.specs.declared.sums.Verdicts.{Verdicts}
 use Rattle.xb_bench.specs.declared.told.What.{What}
 use Rattle.xb_bench.specs.declared.told.What.TheVariants.{Says, Ends, ComesTo}
-use Rattle.xb_bench.specs.declared.train.Spread.{Spread}
-use Rattle.xb_bench.specs.declared.train.Train.{Train}
-use Rattle.xb_bench.specs.declared.train.Wrong.{Wrong}
-use Rattle.xb_bench.specs.declared.verdict.Verdict.{Verdict}
-use Rattle.xb_bench.specs.Figures.{drift_of, share_of, speed_of, tenths_of_ms}
-use Rattle.xb_bench.specs.Sums.{mean_of}
-use Rattle.xb_bench.specs.Verdicts.{verdict_of, word_of}
+use Rattle.xb_turns.specs.declared.train.Spread.{Spread}
+use Rattle.xb_turns.specs.declared.train.Train.{Train}
+use Rattle.xb_turns.specs.declared.train.Wrong.{Wrong}
+use Rattle.xb_turns.specs.declared.verdict.Verdict.{Verdict}
+use Rattle.xb_turns.specs.Figures.{drift_of, share_of, speed_of, tenths_of_ms}
+use Rattle.xb_turns.specs.Sums.{mean_of}
+use Rattle.xb_turns.specs.Verdicts.{verdict_of, word_of}
 
 -- a figure; it stops at 2^64 - 1
 abbrev pub figure_data : Option ℕ → Data

@@ -3,11 +3,11 @@ use Rattle.std.specs.Prelude.{ℕ, ◌==◌, List, [], ◌++◌, codes, decimal,
 use Rattle.xb_model.specs.Page.{four_digits}
 use Rattle.xb_contact.specs.declared.scale.Scale.{Scale}
 use Rattle.xb_report.specs.Cells.{gap, tenths_or_dash}
-use Rattle.xb_bench.specs.declared.sums.Series.{Series}
-use Rattle.xb_bench.specs.declared.sums.Sums.{Sums}
-use Rattle.xb_bench.specs.declared.sums.Verdicts.{Verdicts}
-use Rattle.xb_bench.specs.Figures.{tenths_of_ms}
-use Rattle.xb_bench.specs.Sums.{mean_of}
+use Rattle.xb_turns.specs.declared.sums.Series.{Series}
+use Rattle.xb_turns.specs.declared.sums.Sums.{Sums}
+use Rattle.xb_turns.specs.declared.sums.Verdicts.{Verdicts}
+use Rattle.xb_turns.specs.Figures.{tenths_of_ms}
+use Rattle.xb_turns.specs.Sums.{mean_of}
 use Rattle.xb_bench.specs.Texts.{extent_of}
 
 -- the mean of figures, and from the least to the greatest, as 10.0 (9.8-10.2)

@@ -6,15 +6,15 @@ use Rattle.xb_model.specs.Page.{four_digits}
 use Rattle.xb_contact.specs.declared.scale.Scale.{Scale}
 use Rattle.xb_report.specs.Cells.{at_right, gap, tenths_or_dash, tenths_text}
 use Rattle.xb_report.specs.Words.{fault_text}
-use Rattle.xb_bench.specs.declared.dial.Said.{Said}
-use Rattle.xb_bench.specs.declared.dial.Said.TheVariants.{Digit, HungUp}
-use Rattle.xb_bench.specs.declared.figures.Drift.{Drift}
+use Rattle.xb_turns.specs.declared.dial.Said.{Said}
+use Rattle.xb_turns.specs.declared.dial.Said.TheVariants.{Digit, HungUp}
+use Rattle.xb_turns.specs.declared.figures.Drift.{Drift}
 use Rattle.xb_bench.specs.declared.setting.Setting.{Setting}
-use Rattle.xb_bench.specs.declared.train.Spread.{Spread}
-use Rattle.xb_bench.specs.declared.train.Train.{Train}
-use Rattle.xb_bench.specs.declared.train.Wrong.{Wrong}
-use Rattle.xb_bench.specs.Figures.{drift_of, share_of, speed_of, tenths_of_ms}
-use Rattle.xb_bench.specs.Verdicts.{verdict_of, word_of}
+use Rattle.xb_turns.specs.declared.train.Spread.{Spread}
+use Rattle.xb_turns.specs.declared.train.Train.{Train}
+use Rattle.xb_turns.specs.declared.train.Wrong.{Wrong}
+use Rattle.xb_turns.specs.Figures.{drift_of, share_of, speed_of, tenths_of_ms}
+use Rattle.xb_turns.specs.Verdicts.{verdict_of, word_of}
 
 -- the digit that a pause ended, or x where it is spoiled; a dash for pulses that none ended
 abbrev pub name_of : ℕ → Option Wrong → List ℕ

@@ -4,7 +4,7 @@ use Rattle.xb_contact.specs.declared.scale.Scale.{Scale}
 use Rattle.xb_bench.specs.declared.setting.Form.{Form}
 use Rattle.xb_bench.specs.declared.setting.Form.TheVariants.{Lines, Objects}
 use Rattle.xb_bench.specs.declared.setting.Setting.{Setting}
-use Rattle.xb_bench.specs.declared.setting.Windows.{Windows}
+use Rattle.xb_turns.specs.declared.windows.Windows.{Windows}
 use Rattle.xb_bench.specs.declared.told.What.{What}
 use Rattle.xb_bench.specs.declared.told.What.TheVariants.{Says, Ends, ComesTo}
 use Rattle.xb_bench.specs.Objects.{object_text, windows_line}

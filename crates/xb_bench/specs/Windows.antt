@@ -5,8 +5,8 @@ use Rattle.clap.specs.Walk.{Text}
 use Rattle.xb_contact.specs.Numbers.{number_of}
 use Rattle.xb_report.specs.Cells.{tenths_text}
 use Rattle.xb_text.specs.Pieces.{cut_at}
-use Rattle.xb_bench.specs.declared.setting.Window.{Window}
-use Rattle.xb_bench.specs.declared.setting.Windows.{Windows}
+use Rattle.xb_turns.specs.declared.windows.Window.{Window}
+use Rattle.xb_turns.specs.declared.windows.Windows.{Windows}
 
 abbrev pub window_of : ℕ → ℕ → Window
 window_of least most = record { least = least; most = most }

@@ -3,16 +3,14 @@ ghost use Rattle.std.specs.Prelude.{◌≡◌, ◌++◌, OnOk, string_bytes};
 ghost use Rattle.std.specs.List.{flat_map};
 ghost use Rattle.xb_bench.specs.Benches.{bench_past, by_digits, said_past, told_by, told_left, told_text};
 
-use crate::dial::{Dial, Said};
 use crate::pieces::Pieces;
 use crate::setting::Setting;
-use crate::sums::{NO_SUMS, Sums};
 use crate::told::{What, push_told};
-use crate::train::Train;
 use std::alloc::AllocError;
 use xb_contact::{Hold, Level, Scale};
 use xb_feed::{Follow, Manner, Tally};
 use xb_model::LineNo;
+use xb_turns::{Dial, NO_SUMS, Said, Sums, Train};
 
 /// A contact from its first level on, of which the digits are told.
 #[derive(Drop)]

@@ -6,16 +6,17 @@ ghost use Rattle.xb_json.specs.Objects.{data_of};
 ghost use Rattle.xb_bench.specs.Objects.{digit_object, digit_of_parts, drift_data, event_of, extent_data};
 ghost use Rattle.xb_bench.specs.Objects.{figure_data, name_data, signed_of, spread_data, verdict_data, wrong_data};
 
-use crate::figures::{Drift, drift_of, share_of, speed_of, tenths_of_ms};
 use crate::setting::Setting;
-use crate::train::{Spread, Train, Wrong};
-use crate::verdict::{Verdict, verdict_of, word_of};
 use serde_json::Value;
 use std::alloc::{AllocError, Global};
 use xb_contact::Scale;
 use xb_json::{Member, object_of};
 use xb_model::{Limits, LineNo, MOST_PULSES};
 use xb_report::{fault_name, limit_of};
+use xb_turns::{
+    Drift, Spread, Train, Verdict, Wrong, drift_of, share_of, speed_of, tenths_of_ms, verdict_of,
+    word_of,
+};
 
 /// A figure in tenths, or null; it stops at 2^64 - 1.
 pub(crate) fn figure_data(figure: Option<u128>) -> Member<'static>

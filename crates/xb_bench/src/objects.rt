@@ -4,18 +4,16 @@ ghost use Rattle.serde_json.specs.View.{view};
 ghost use Rattle.xb_bench.specs.Objects.{digit_line, ended_lines, ended_object, line_of, object_text};
 ghost use Rattle.xb_bench.specs.Objects.{summary_object, unended_line, windows_line, windows_object};
 
-use crate::dial::Said;
 use crate::digit_object::digit_object;
-use crate::setting::{Setting, Windows};
-use crate::sums::Sums;
+use crate::setting::Setting;
 use crate::sums_object::{summary_object, windows_object};
 use crate::told::What;
-use crate::train::Train;
 use serde_json::Value;
 use std::alloc::{AllocError, Global};
 use xb_contact::Scale;
 use xb_json::{Member, line_of, object_of};
 use xb_model::LineNo;
+use xb_turns::{Said, Sums, Train, Windows};
 
 // The end of an attempt.
 fn ended_object(alloc: Global, line: LineNo, event: &'static str) -> Result<Value, AllocError>

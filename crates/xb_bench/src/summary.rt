@@ -3,13 +3,12 @@ ghost use Rattle.std.specs.Prelude.{◌≡◌, ◌++◌, OnOk, string_bytes};
 ghost use Rattle.xb_bench.specs.SummaryTexts.{counts_text, figures_text, series_text, summary_text};
 ghost use Rattle.xb_bench.specs.SummaryTexts.{verdict_text, verdicts_text};
 
-use crate::figures::tenths_of_ms;
-use crate::sums::{Series, Sums, Verdicts, mean_of};
 use crate::text::push_extent;
 use std::alloc::AllocError;
 use xb_contact::Scale;
 use xb_model::LineNo;
 use xb_report::{push_figure, push_line};
+use xb_turns::{Series, Sums, Verdicts, mean_of, tenths_of_ms};
 
 // Puts the mean of figures after the text, and from the least to the greatest.
 fn push_series(out: &mut String, series: Series) -> Result<(), AllocError>

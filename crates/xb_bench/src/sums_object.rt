@@ -5,14 +5,12 @@ ghost use Rattle.xb_bench.specs.Objects.{series_data, summary_object, summary_of
 ghost use Rattle.xb_bench.specs.Objects.{windows_object, windows_of_parts};
 
 use crate::digit_object::{extent_data, figure_data};
-use crate::figures::tenths_of_ms;
-use crate::setting::{Window, Windows};
-use crate::sums::{Series, Sums, Verdicts, mean_of};
 use serde_json::Value;
 use std::alloc::{AllocError, Global};
 use xb_contact::Scale;
 use xb_json::{Member, object_of};
 use xb_model::LineNo;
+use xb_turns::{Series, Sums, Verdicts, Window, Windows, mean_of, tenths_of_ms};
 
 // What figures come to.
 fn series_data(alloc: Global, series: Series) -> Result<Value, AllocError>

@@ -4,15 +4,15 @@ ghost use Rattle.xb_bench.specs.Texts.{digit_text, drift_text, ended_text, exten
 ghost use Rattle.xb_bench.specs.Texts.{said_text, sign_of, spread_text, times_text, unended_text, wrong_text};
 ghost use Rattle.xb_report.specs.Cells.{at_right};
 
-use crate::dial::Said;
-use crate::figures::{Drift, drift_of, share_of, speed_of, tenths_of_ms};
 use crate::setting::Setting;
-use crate::train::{Spread, Train, Wrong};
-use crate::verdict::{verdict_of, word_of};
 use std::alloc::AllocError;
 use xb_contact::Scale;
 use xb_model::{Limits, LineNo, MOST_PULSES};
 use xb_report::{push_fault, push_figure, push_line, push_number, push_right, push_tenths};
+use xb_turns::{
+    Drift, Said, Spread, Train, Wrong, drift_of, share_of, speed_of, tenths_of_ms, verdict_of,
+    word_of,
+};
 
 // What stands before each cell.
 const GAP: &str = "  ";

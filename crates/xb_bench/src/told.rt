@@ -2,17 +2,15 @@
 ghost use Rattle.std.specs.Prelude.{◌≡◌, ◌++◌, IfOk, OnOk, string_bytes};
 ghost use Rattle.xb_bench.specs.Told.{first_text, line_text, what_text};
 
-use crate::dial::Said;
 use crate::objects::{push_object, windows_line};
 use crate::setting::{Form, Setting};
 use crate::summary::push_summary;
-use crate::sums::Sums;
 use crate::text::{push_ended, push_said};
-use crate::train::Train;
 use crate::windows::header_lines;
 use std::alloc::AllocError;
 use xb_contact::Scale;
 use xb_model::LineNo;
+use xb_turns::{Said, Sums, Train};
 
 /// What is told of a line.
 #[derive(Clone, Copy, Debug, PartialEq, Eq)]

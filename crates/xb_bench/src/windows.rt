@@ -3,10 +3,10 @@ ghost use Rattle.std.specs.Prelude.{◌≡◌, ◌++◌, IfOk, OnOk, option_map,
 ghost use Rattle.xb_bench.specs.Windows.{dial_named, header_text, number_said, tenths_said, window_said};
 ghost use Rattle.xb_bench.specs.Windows.{window_text, windows_said, with_speed, with_share};
 
-use crate::setting::{Window, Windows};
 use std::alloc::{AllocError, Global};
 use xb_contact::number_of;
 use xb_text::cut_at;
+use xb_turns::{Window, Windows};
 
 // What the Bell System asks of a dial.
 const BELL: Windows = Windows {

@@ -1,4 +1,3 @@
-pub mod Looks
 pub mod Labels
 pub mod Shapes
 pub mod Said

@@ -10,12 +10,12 @@ use crate::course::{TRAIN, drawn, fitting, put_runs, width_of};
 use crate::digit::put_digits;
 use crate::figures::put_make;
 use crate::label::{Caption, Label};
-use crate::look::{BESIDE, DOTS, FROM, HEAD, Ink, Look, SMALL};
+use crate::look::{BESIDE, DOTS, FROM, HEAD, SMALL};
 use crate::places::{
     AFTER_END, AFTER_NUMBER, END_FOOT, END_TOP, END_WORDS, HEADING, LEFT, MARK_WIDTH, NOT_HEARD,
     RIGHT, UNDER, UNDER_THAT, VALUE,
 };
-use crate::shape::{Shape, Step};
+use crate::shape::Shape;
 use crate::sheet::{
     Sheet, begin_row, begin_words, below, make_room, put, put_band, put_caption, put_line,
 };
@@ -23,6 +23,7 @@ use std::alloc::{AllocError, Global};
 use xb_heard::{HeardAttempt, HeardDigit, PlacedRun, times_of};
 use xb_model::{Dialled, Limits};
 use xb_report::is_timed_out;
+use xb_svg::{Ink, Look, Step};
 
 /// How many digits of an attempt are drawn at most.
 pub const MOST_DIGITS: usize = 24;

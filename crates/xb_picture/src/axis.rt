@@ -4,12 +4,13 @@ ghost use Rattle.xb_picture.specs.Said.{says};
 
 use crate::course::{SHOWN, drawn};
 use crate::label::Label;
-use crate::look::{Ink, SMALL};
+use crate::look::SMALL;
 use crate::places::{AXIS, AXIS_WIDTH, LONG_TICK, MARK_WIDTH, SECONDS, SHORT_TICK};
-use crate::shape::{Shape, Step};
+use crate::shape::Shape;
 use crate::sheet::{Sheet, below, put, put_line};
 use std::alloc::{AllocError, Global};
 use xb_heard::PlacedRun;
+use xb_svg::{Ink, Step};
 
 // How many ms stand between a tear and the ends of what is drawn of a run.
 const BESIDE_TEAR: u32 = 680;

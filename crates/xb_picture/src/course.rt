@@ -4,13 +4,12 @@ ghost use Rattle.xb_picture.specs.Courses.{drawn, fitting};
 ghost use Rattle.xb_picture.specs.Said.{says};
 
 use crate::axis::put_axis;
-use crate::look::Ink;
 use crate::places::{HIGH, LOOP_WIDTH, LOW};
-use crate::shape::Step;
 use crate::sheet::{Sheet, below, put_line};
 use std::alloc::{AllocError, Global};
 use xb_heard::PlacedRun;
 use xb_model::Contact;
+use xb_svg::{Ink, Step};
 
 // How many ms of a run are drawn at most; a longer one has a tear.
 pub(crate) const SHOWN: u64 = 1600;

@@ -7,7 +7,7 @@ ghost use Rattle.xb_picture.specs.Said.{says};
 use crate::course::{TRAIN, drawn, fitting, put_runs, width_of};
 use crate::figures::{put_figures, put_make, put_value};
 use crate::label::Caption;
-use crate::look::{Ink, SMALL};
+use crate::look::SMALL;
 use crate::places::UNDER;
 use crate::sheet::{Sheet, make_room, put_band, put_caption};
 use crate::wrong::{put_fault, put_wrong};
@@ -15,6 +15,7 @@ use std::alloc::{AllocError, Global};
 use xb_heard::{DigitRow, HeardDigit, PlacedRun, Remark, row_of};
 use xb_model::{Dialled, Limits};
 use xb_report::{is_taken, is_timed_out};
+use xb_svg::Ink;
 
 // The colours of a digit: of its ground, and of its value.
 fn inks_of(remark: Remark) -> (Ink, Ink) {

@@ -4,7 +4,7 @@ ghost use Rattle.xb_heard.specs.Attempts.{attempt_in};
 ghost use Rattle.xb_picture.specs.Drawing.{IsPicture, many, skipped};
 
 use crate::picture::{MOST_ATTEMPTS, WIDTH, picture_of};
-use crate::svg::push_picture;
+use crate::writing::push_picture;
 use std::alloc::{AllocError, Global};
 use xb_heard::HeardAttempt;
 use xb_model::{Limits, LineNo};

@@ -5,12 +5,13 @@ ghost use Rattle.xb_picture.specs.Said.{says};
 
 use crate::course::drawn;
 use crate::label::{Caption, Label};
-use crate::look::{BIG_VALUE, Ink, Look, PLAIN_RED, RED, SMALL};
+use crate::look::{BIG_VALUE, PLAIN_RED, RED, SMALL};
 use crate::places::{OVER_TIME, TIME, UNDER, UNDER_THAT, VALUE};
 use crate::shape::Shape;
 use crate::sheet::{Sheet, below, put, put_caption};
 use std::alloc::AllocError;
 use xb_heard::{DigitRow, PlacedRun};
+use xb_svg::{Ink, Look};
 
 // A make of so many ms has its time over it.
 pub(crate) const TOLD: u64 = 300;

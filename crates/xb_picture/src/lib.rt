@@ -21,14 +21,12 @@ mod picture;
 mod places;
 mod shape;
 mod sheet;
-mod svg;
 mod writing;
 mod wrong;
 
 pub use attempt::MOST_DIGITS;
 pub use drawing::draw_attempts;
 pub use label::{Caption, Label};
-pub use look::{Anchor, Ink, Look};
 pub use picture::{MOST_ATTEMPTS, Picture, WIDTH, picture_of};
-pub use shape::{Shape, Step};
-pub use svg::push_picture;
+pub use shape::Shape;
+pub use writing::push_picture;

@@ -3,13 +3,14 @@ ghost use Rattle.std.specs.Prelude.{◌≡◌, ◌++◌, [], OnOk};
 ghost use Rattle.xb_picture.specs.Said.{said_by, says};
 
 use crate::label::{Caption, Label};
-use crate::look::{Ink, Look, NAME};
+use crate::look::NAME;
 use crate::places::{
     BAND, BAND_HEIGHT, FIRST, FOOT, HIGH, LEAD_IN, LEFT, LOOP_WIDTH, LOW, NAME_DROP, NAMES, RIGHT,
     ROW_SLOTS, SLOT,
 };
-use crate::shape::{Shape, Step};
+use crate::shape::Shape;
 use std::alloc::{AllocError, Global};
+use xb_svg::{Ink, Look, Step};
 
 // Shapes, and where the next one is drawn.
 #[derive(Drop)]

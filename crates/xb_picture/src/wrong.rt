@@ -6,15 +6,16 @@ ghost use Rattle.xb_picture.specs.Said.{says};
 
 use crate::course::drawn;
 use crate::label::Label;
-use crate::look::{Ink, Look, PLAIN_RED, RED, SHORT_RED, SMALL};
+use crate::look::{PLAIN_RED, RED, SHORT_RED, SMALL};
 use crate::places::{
     FAULT_MIDDLE, HIGH, LEFT, LOW, OVER_WRONG, UNDER, UNDER_THAT, UNDER_WRONG, WRONG_WIDTH,
 };
-use crate::shape::{Shape, Step};
+use crate::shape::Shape;
 use crate::sheet::{Sheet, below, put, put_line};
 use std::alloc::{AllocError, Global};
 use xb_heard::{PlacedRun, Spoiler, fault_at};
 use xb_model::{Contact, Limits};
+use xb_svg::{Ink, Look, Step};
 
 // Draws a run in red over the loop, and says how long it is: a break below it, a make above.
 fn put_red(alloc: Global, sheet: &mut Sheet, run: &PlacedRun, x: u32) -> Result<(), AllocError>

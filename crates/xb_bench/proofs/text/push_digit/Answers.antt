@@ -1,9 +1,9 @@
 use Rattle.std.proofs.Common.{◌≡◌, ◌++◌, ◌∙◌, ap, codes, refl, string_bytes}
 use Rattle.xb_report.specs.Cells.{at_right}
 use Rattle.xb_report.proofs.Pushed.{both, last, str}
-use Rattle.xb_bench.specs.Figures.{speed_of}
+use Rattle.xb_turns.specs.Figures.{speed_of}
 use Rattle.xb_bench.specs.Texts.{digit_text, verdict_text}
-use Rattle.xb_bench.specs.Verdicts.{verdict_of, word_of}
+use Rattle.xb_turns.specs.Verdicts.{verdict_of, word_of}
 use Rattle.xb_bench.proofs.text.push_digit.Goals as goal
 
 pub returns : goal.returns

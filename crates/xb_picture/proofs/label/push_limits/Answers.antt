@@ -1,5 +1,5 @@
 use Rattle.std.proofs.Common.{append_assoc}
-use Rattle.xb_report.proofs.Pushed.{last}
+use Rattle.xb_svg.proofs.Pushed.{last}
 use Rattle.xb_picture.specs.Labels.{limits_words}
 use Rattle.xb_picture.proofs.label.push_limits.Goals as goal
 

@@ -1,6 +1,6 @@
 use Rattle.std.proofs.Common.{append_assoc, string_bytes}
 use Rattle.xb_picture.specs.Labels.{left_out_text}
-use Rattle.xb_report.proofs.Pushed.{as_defined}
+use Rattle.xb_svg.proofs.Pushed.{as_defined}
 use Rattle.xb_picture.proofs.label.push_others.Goals as goal
 
 pub returns : goal.returns

@@ -1,0 +1,5 @@
+pub mod DialRuns
+pub mod ReportParts
+pub mod Reported
+pub mod ReportedRuns
+pub mod AllDigits

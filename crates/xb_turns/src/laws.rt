@@ -1,0 +1,22 @@
+//! What is told of a dial over a whole record, as the contracts of functions that do nothing.
+ghost use Rattle.xb_turns.specs.DialLaws.{TellsTheRuns};
+ghost use Rattle.xb_turns.specs.ReportLaws.{TellsTheReport};
+ghost use Rattle.xb_turns.specs.SumLaws.{SumsAllDigits};
+
+/// What is told of a dial, piece by piece of a settled record, is what is told of the runs that the pieces make: each is
+/// told once, in the moment in which it is certain.
+pub fn the_runs_are_told()
+    ensures { TellsTheRuns }
+{}
+
+/// The digits that are told are those of the report of the same runs in ms: as many, with as many pulses each, and with
+/// the same first fault of the same run.
+pub fn the_report_is_told()
+    ensures { TellsTheReport }
+{}
+
+/// What the digits of a line come to is what all of them come to: how many they are, their means, the least and the
+/// greatest, the longest bounce, and how often each verdict was given.
+pub fn all_digits_are_summed()
+    ensures { SumsAllDigits }
+{}
