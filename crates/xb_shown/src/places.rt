@@ -14,7 +14,7 @@ pub(crate) const LEFT: u64 = 330;
 pub(crate) const WIDTH: u64 = 5_900;
 
 // How high a row is with its heading, and how far below its top the lanes begin.
-pub(crate) const ROW_HEIGHT: u64 = 1_430;
+pub(crate) const ROW_HEIGHT: u64 = 1_530;
 
 pub(crate) const LANES_TOP: u64 = 230;
 
