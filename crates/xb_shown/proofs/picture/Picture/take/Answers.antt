@@ -9,20 +9,20 @@ pub returns-then-self-ge-MOST_DRAWN : goal.returns-then-self-ge-MOST_DRAWN
 returns-then-self-ge-MOST_DRAWN c = λ parts has.
     let part = part_of c.args.title c.args.before c.args.keys.now in
     let count : c.args.self.now.came ≡ min (length parts) (2 ^ 64 - 1) = has.count in
-    let enough : 40 ≤ length parts = omega arith in
+    let enough : 40 ≤ length parts = omega (arith, count, c.if-self-ge-MOST_DRAWN.true) in
     let same = take-append-le 40 parts (part ∷ []) enough in
     record {
       body = has.body ∙ ap (parts_text 0) (sym same);
       rows = has.rows ∙ ap (below_parts 0) (sym same);
-      count = c.saturating_add.ensures ∙ ap (λ n. min (n + 1) (2 ^ 64 - 1)) has.count ∙ sym (came-after parts part);
+      count = c.saturating_add-self.ensures ∙ ap (λ n. min (n + 1) (2 ^ 64 - 1)) has.count ∙ sym (came-after parts part);
     }
 
 pub returns : goal.returns
 returns c = λ parts has.
     let part = part_of c.args.title c.args.before c.args.keys.now in
     let count : c.args.self.now.came ≡ min (length parts) (2 ^ 64 - 1) = has.count in
-    let room : length parts < 40 = omega arith in
-    let few : came parts + 1 ≡ min (came parts + 1) (2 ^ 64 - 1) = omega arith in
+    let room : length parts < 40 = omega (arith, count, c.if-self-ge-MOST_DRAWN.false) in
+    let few : came parts + 1 ≡ min (came parts + 1) (2 ^ 64 - 1) = omega (arith, room) in
     let more = drawn-after parts part room in
     record {
       body = c.in_ok-draw.ensures.text
