@@ -1,0 +1,9 @@
+pub mod Places
+pub mod Rows
+pub mod Ground
+pub mod Bars
+pub mod Misses
+pub mod Headings
+pub mod Keyings
+pub mod Pictures
+pub mod Sections
