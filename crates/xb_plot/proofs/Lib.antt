@@ -1,0 +1,2 @@
+mod LastTurns
+mod Joined
