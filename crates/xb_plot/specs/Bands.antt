@@ -26,10 +26,11 @@ adjust_text Share windows = []
 abbrev pub ground_text : Figure → List ℕ
 ground_text figure = band_text LEFT (top_of figure) PANEL_WIDTH PANEL_HEIGHT PaleGrey
 
+abbrev pub accept_text : Figure → Windows → List ℕ
+accept_text figure windows = ground_text figure ++ window_text figure windows (window_of figure windows) PaleGreen
+
 abbrev pub bands_text : Figure → Windows → List ℕ
-bands_text figure windows =
-    ground_text figure ++ window_text figure windows (window_of figure windows) PaleGreen
-    ++ adjust_text figure windows
+bands_text figure windows = accept_text figure windows ++ adjust_text figure windows
 
 -- a number of the axis, and a line at its height
 abbrev pub limit_text : Figure → Windows → ℕ → List ℕ
@@ -58,6 +59,8 @@ narrow_text Speed windows =
     ++ other_limit_text windows windows.adjust.most windows.accept.most
 narrow_text Share windows = []
 
+abbrev pub wide_text : Figure → Windows → List ℕ
+wide_text figure windows = ends_text figure windows ++ edges_text figure windows
+
 abbrev pub limits_text : Figure → Windows → List ℕ
-limits_text figure windows =
-    ends_text figure windows ++ edges_text figure windows ++ narrow_text figure windows
+limits_text figure windows = wide_text figure windows ++ narrow_text figure windows

@@ -1,8 +1,8 @@
 // The windows of a figure as bands, and their limits.
 ghost use Rattle.std.specs.Prelude.{◌≡◌, ◌++◌, OnOk, string_bytes};
-ghost use Rattle.xb_plot.specs.Bands.{adjust_text, bands_text, edges_text, ends_text, ground_text};
+ghost use Rattle.xb_plot.specs.Bands.{accept_text, adjust_text, bands_text, edges_text, ends_text, ground_text};
 ghost use Rattle.xb_plot.specs.Bands.{limit_text, limits_text, narrow_text};
-ghost use Rattle.xb_plot.specs.Bands.{other_limit_text, window_text};
+ghost use Rattle.xb_plot.specs.Bands.{other_limit_text, wide_text, window_text};
 
 use crate::figure::{Figure, axis_least, axis_most, place_of, top_of, window_of};
 use crate::places::{BESIDE, DROP, LEFT, LIMIT_WIDTH, PANEL_HEIGHT, PANEL_WIDTH, RIGHT};
@@ -61,6 +61,15 @@ fn push_ground(out: &mut String, figure: Figure) -> Result<(), AllocError>
     )
 }
 
+// Puts the ground of a panel, and what is accepted, after the text.
+fn push_accept(out: &mut String, figure: Figure, windows: Windows) -> Result<(), AllocError>
+    ensures { OnOk result (string_bytes out.new ≡ string_bytes out.old ++ accept_text figure windows) }
+{
+    let window = window_of(figure, windows);
+    push_ground(out, figure)?;
+    push_window(out, figure, windows, window, Ink::PaleGreen)
+}
+
 // Puts the bands of a panel after the text.
 pub(crate) fn push_bands(
     out: &mut String,
@@ -69,14 +78,7 @@ pub(crate) fn push_bands(
 ) -> Result<(), AllocError>
     ensures { OnOk result (string_bytes out.new ≡ string_bytes out.old ++ bands_text figure windows) }
 {
-    push_ground(out, figure)?;
-    push_window(
-        out,
-        figure,
-        windows,
-        window_of(figure, windows),
-        Ink::PaleGreen,
-    )?;
+    push_accept(out, figure, windows)?;
     push_adjust(out, figure, windows)
 }
 
@@ -144,6 +146,14 @@ fn push_narrow(out: &mut String, figure: Figure, windows: Windows) -> Result<(),
     }
 }
 
+// Puts the ends of the axis and the limits of what is accepted after the text.
+fn push_wide(out: &mut String, figure: Figure, windows: Windows) -> Result<(), AllocError>
+    ensures { OnOk result (string_bytes out.new ≡ string_bytes out.old ++ wide_text figure windows) }
+{
+    push_ends(out, figure, windows)?;
+    push_edges(out, figure, windows)
+}
+
 // Puts the numbers of the axis after the text.
 pub(crate) fn push_limits(
     out: &mut String,
@@ -152,7 +162,6 @@ pub(crate) fn push_limits(
 ) -> Result<(), AllocError>
     ensures { OnOk result (string_bytes out.new ≡ string_bytes out.old ++ limits_text figure windows) }
 {
-    push_ends(out, figure, windows)?;
-    push_edges(out, figure, windows)?;
+    push_wide(out, figure, windows)?;
     push_narrow(out, figure, windows)
 }
