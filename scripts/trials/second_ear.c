@@ -12,7 +12,8 @@ enum { HOP = 20, WINDOW = 80, TONES = 6, NONE = -1 };
 enum { LEAST_LEVEL = 500 * 500, TWIST = 16, CLEAR = 2, SHARE = 3, SHARE_OF = 5, STEADY = 20, STEADY_WINDOWS = 1024 };
 enum { GAP_WINDOWS = 8, PART_WINDOWS = 5, KEY_WINDOWS = 8, KP_WINDOWS = 18, TAIL_WINDOWS = 64, TAIL_ROW = 6, TAIL_WEAKER = 3 };
 
-enum { TAPE = 1040, STRETCH = 200, SPAN = 160, LATER = 40, MOST_OFF = 50 };
+enum { TAPE = 1420, STRETCH = 200, SPAN = 160, LATER = 40, MOST_OFF = 50 };
+enum { BEFORE = 8, AFTER = 10, STEP = 40, LAST_STEP = 5 };
 
 struct tone { int hz; int64_t level; };
 struct sight { int low, high; int64_t low_level, high_level; };  /* places among the six */
@@ -97,16 +98,19 @@ static int is_same(struct sight a, struct sight b) { return a.low == b.low && a.
 
 static int64_t strength(struct sight sight) { return sight.low_level + sight.high_level; }
 
-/* What a window sees, but for tails: the strengths of the pairs that stood out in the last windows are kept. */
+/* The strengths of the pairs that stood out in the last windows, and how many windows there were. */
+static int64_t before[TAIL_WINDOWS], windows;
+
+/* What a window sees, but for tails. */
 static struct sight without_tail(struct sight seen, int64_t at)
 {
-    static int64_t before[TAIL_WINDOWS];
     int is_tail = 0, row = 0;
     for (int n = 0; n < TAIL_WINDOWS; n++) {
         row = TAIL_WEAKER * strength(seen) < before[(at + n) % TAIL_WINDOWS] ? row + 1 : 0;
         is_tail |= row >= TAIL_ROW;
     }
     before[at % TAIL_WINDOWS] = strength(seen);
+    windows = at + 1;
     return is_tail ? (struct sight) { NONE, NONE, 0, 0 } : seen;
 }
 
@@ -164,6 +168,40 @@ static int64_t strongest(struct heard key)
     return best;
 }
 
+/* For how many tenths of a ms a tone has sounded by the middle of the last of these steps: each has 5 ms for as much of the
+   tone as there is in it, in thousandths of what there is in the last. */
+static int sounded(const int16_t *round, int hundred)
+{
+    __int128 levels[LAST_STEP + 1];
+    int shares = 0;
+    for (int step = 0; step <= LAST_STEP; step++) {
+        __int128 c = weighed(round + STEP * step, hundred, 0, 20), s = weighed(round + STEP * step, hundred, 0, 0);
+        levels[step] = c * c + s * s;
+    }
+    for (int step = 0; step < LAST_STEP; step++) {
+        __int128 last = levels[LAST_STEP] > 0 ? levels[LAST_STEP] : 1, share = 1000 * levels[step] / last;
+        shares += share < 1000 ? (int) share : 1000;
+    }
+    return shares / 20;
+}
+
+/* Where on the tape the steps round the beginning of a key begin; NONE where not all of them lie there. */
+static int64_t round_of(struct heard key)
+{
+    int64_t first = key.first > gone ? key.first - gone : 0;
+    return first < BEFORE || first + AFTER > on_tape / HOP ? NONE : HOP * (first - BEFORE);
+}
+
+/* How many ms the holes of a key last: 20 samples for each window in which no pair stood out, nor in the one before it. */
+static int64_t hole_of(struct heard key)
+{
+    int64_t blank = 0, from = windows > TAIL_WINDOWS ? windows - TAIL_WINDOWS : 0;
+    if (from < key.first) from = key.first;
+    for (int64_t at = from + 1; at < key.past; at++)
+        blank += before[at % TAIL_WINDOWS] == 0 && before[(at - 1) % TAIL_WINDOWS] == 0;
+    return HOP * blank / 8;
+}
+
 static int is_about(int64_t wanted, int64_t off, int64_t number) { return llabs(number - wanted) <= off; }
 
 static struct heard last;
@@ -179,7 +217,8 @@ static void misses(int fits, const char *limit, int *missed)
 static int is_tuned(struct tone tone, int hundred) { return is_about(100000 * hundred, 1500 * hundred + 2000, 1000 * tone.hz); }
 
 /* Prints all limits that a key misses. */
-static void verdict(struct sight sight, struct tone low_tone, struct tone high_tone, int64_t length, int64_t gap)
+static void verdict(struct sight sight, struct tone low_tone, struct tone high_tone, int64_t length, int64_t gap, int knows,
+    int skew, int64_t hole)
 {
     int kp = sight.low == 2 && sight.high == 5, kp2 = sight.low == 3 && sight.high == 5;
     int low = tenths(low_tone.level), high = tenths(high_tone.level), missed = 0;
@@ -188,6 +227,8 @@ static void verdict(struct sight sight, struct tone low_tone, struct tone high_t
     misses(is_tuned(low_tone, hundreds[sight.low]) && is_tuned(high_tone, hundreds[sight.high]), "TUNING", &missed);
     misses(is_about(low, 12, high), "TWIST", &missed);
     misses(is_about(-70, 12, low) && is_about(-70, 12, high), "LEVEL", &missed);
+    misses(!knows || is_about(0, 30, skew), "SKEW", &missed);
+    misses(hole == 0, "HOLE", &missed);
     puts(missed ? "" : " GOOD");
 }
 
@@ -210,11 +251,19 @@ static void give(struct heard key)
     print_tenths(high);
     printf(" dBm0, twist ");
     print_tenths(high - low);
-    if (has_last)
-        printf(" dB, after %lld ms:", (long long) gap);
+    int64_t round = round_of(key), hole = hole_of(key);
+    int skew = round == NONE ? 0 : sounded(tape + round, hundreds[key.sight.low]) - sounded(tape + round, hundreds[key.sight.high]);
+    printf(" dB, skew ");
+    if (round == NONE)
+        printf("unknown");
     else
-        printf(" dB, first:");
-    verdict(key.sight, low_tone, high_tone, length, gap);
+        print_tenths(skew), printf(" ms");
+    printf(", hole %lld ms", (long long) hole);
+    if (has_last)
+        printf(", after %lld ms:", (long long) gap);
+    else
+        printf(", first:");
+    verdict(key.sight, low_tone, high_tone, length, gap, round != NONE, skew, hole);
     last = key;
     has_last = 1;
 }

@@ -6,23 +6,13 @@
        spoilt keys           prints the keys of the keying
 
    A row is 'must' where a receiver that is better than the field's has to hear it wherever it begins, and 'may' else. */
-#include <math.h>
-#include <stdint.h>
-#include <stdio.h>
-#include <stdlib.h>
-#include <string.h>
+#include "seeded.h"
 #include <spandsp.h>
 
 enum { RATE = 8000, MOST = 40000, PAUSE = RATE / 10 };
 
 static const char *keys[] = { "KP", "2", "2", "3", "3", "4", "5", "6", "7", "7", "8", "9", "0", "1", "ST" };
 enum { KEYS = sizeof keys / sizeof *keys };
-
-static const struct { const char *key; int low, high; } pairs[] = {
-    { "1", 700, 900 }, { "2", 700, 1100 }, { "3", 900, 1100 }, { "4", 700, 1300 }, { "5", 900, 1300 }, { "6", 1100, 1300 },
-    { "7", 700, 1500 }, { "8", 900, 1500 }, { "9", 1100, 1500 }, { "0", 1300, 1500 }, { "KP", 1100, 1700 },
-    { "ST", 1500, 1700 },
-};
 
 /* Times in ms, levels of a tone in dBm0, twist in dB, detuning as a part; of what is beside, its level and its Hz, and how
    many harmonics it has, each so many times weaker as its number is; the level is that of all. A voltage is added to
@@ -84,48 +74,21 @@ static const struct row rows[] = {
 };
 enum { ROWS = sizeof rows / sizeof *rows };
 
-static uint64_t state;
-
-static double uniform(void)
-{
-    state ^= state << 13;
-    state ^= state >> 7;
-    state ^= state << 17;
-    return (state >> 11) / 9007199254740992.0;
-}
-
-static double gauss(void) { return sqrt(-2 * log(uniform() + 1e-300)) * cos(2 * M_PI * uniform()); }
-
-/* The amplitude of a sine of so many dBm0, where 32,767 is 3.14. */
-static double amplitude(double dbm0) { return 32767 * pow(10, (dbm0 - 3.14) / 20); }
-
 /* Puts the tones of a key, and the gap after it, from place n on. */
 static int key_at(const struct row *row, const char *key, double *mix, int n)
 {
-    int pair = 0;
+    const struct pair pair = pair_of(key);
     double low = 0, high = 0;
     const int start = n, hole = (int) (row->hole * RATE / 1000);
-    while (strcmp(pairs[pair].key, key)) pair++;
     for (int length = (int) ((key[0] == 'K' ? row->kp : row->key) * RATE / 1000); length > 0; length--) {
         double speed = (1 + row->wow * sin(2 * M_PI * 4 * n / RATE)) * 2 * M_PI / RATE;
         mix[n++] = amplitude(row->level + row->twist / 2) * sin(low) + amplitude(row->level - row->twist / 2) * sin(high);
-        low += (pairs[pair].low * (1 + row->detuning) + row->hz) * speed;
-        high += (pairs[pair].high * (1 + row->detuning) + row->hz) * speed;
+        low += (pair.low * (1 + row->detuning) + row->hz) * speed;
+        high += (pair.high * (1 + row->detuning) + row->hz) * speed;
     }
     memset(mix + (start + n - hole) / 2, 0, hole * sizeof *mix);
     for (int length = (int) (row->gap * RATE / 1000); length > 0; length--) mix[n++] = 0;
     return n;
-}
-
-/* What stands beside at a place: a sine, or with its harmonics a hum whose power is that of the sine. */
-static double beside_at(const struct row *row, int place)
-{
-    double sum = 0, power = 0;
-    for (int k = 1; k <= row->harmonics + 1; k++) {
-        sum += sin(k + 2 * M_PI * k * row->beside_hz * place / RATE) / k;
-        power += 1. / (k * k);
-    }
-    return amplitude(row->beside) * sum / sqrt(power);
 }
 
 static void write_row(const struct row *row, int phase)
@@ -136,19 +99,17 @@ static void write_row(const struct row *row, int phase)
     double most = amplitude(row->level) * 2 * row->clip;
     for (int k = 0; k < KEYS; k++) n = key_at(row, keys[k], mix, n);
     n += row->echo > 0 ? PAUSE + late : PAUSE;
-    state = 88172645463325252ull + 7919ull * (phase + 1);
-    for (int i = 0; i < 20; i++) uniform();
+    begin(phase);
     if (row->echo > 0)
         for (int i = n - 1; i >= late; i--) mix[i] += row->echo * mix[i - late];
     for (int i = 0; i < n; i++) {
         double sum = mix[i] + row->voltage;
-        if (row->beside > SILENT) sum += beside_at(row, i);
+        if (row->beside > SILENT) sum += amplitude(row->beside) * hum_at(row->beside_hz * i / RATE, row->harmonics);
         if (row->noise > SILENT) sum += gauss() * amplitude(row->noise) / sqrt(2);
         if (row->clip > 0) sum = fmax(-most, fmin(most, sum));
-        long sample = lround(fmax(-32768, fmin(32767, sum)));
+        long sample = sample_of(sum);
         if (row->is_mu_law) sample = ulaw_to_linear(linear_to_ulaw((int) sample));
-        putchar((int) (sample & 255));
-        putchar((int) (sample >> 8 & 255));
+        put_sample(sample);
     }
 }
 

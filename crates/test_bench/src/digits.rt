@@ -81,12 +81,53 @@ const IDLE: (&[u8], &str) = (
 ",
 );
 
+// A pulse of 60 ms, and two of them with a make of 40 ms between.
+const SHORT: &[u8] = b"0,1\n0.4,0\n0.46,1\n0.7,1\n";
+
+const TWO: &[u8] = b"0,1\n0.4,0\n0.46,1\n0.5,0\n0.56,1\n0.8,1\n";
+
+// Limits, a recording, and what is told by them: a break that is too long, and a make that is a pause.
+const LIMITS: [(&str, &[u8], &str); 2] = [
+    (
+        "pulse_max=59",
+        SHORT,
+        "0007      x       1      -        -         60.0            -        -        0.0        -  break 60 ms > 59
+0007  the recording ends
+0007  digits 1, spoiled 1; p/s - (-); % break - (-); bounce 0.0 ms
+",
+    ),
+    (
+        "make_min=10,pause=40",
+        TWO,
+        "0007      1       1      -        -         60.0            -        -        0.0        -
+0007      1       1      -        -         60.0            -        -        0.0        -
+0007  the recording ends
+0007  digits 2, spoiled 0; p/s - (-); % break - (-); bounce 0.0 ms
+",
+    ),
+];
+
 const CASES: [(&[u8], &str); 6] = [GOOD, UNENDED, SPOILED, DRIFT, BOUNCED, IDLE];
 
 #[test]
 fn tells_of_each_digit(rt: HostRuntime) -> Result<(), Fail> {
     for (recording, lines) in CASES {
         check_lines(&rt, rt.alloc(), &["--line", "7=1"], recording, BELL, lines)?;
+    }
+    Ok(())
+}
+
+#[test]
+fn goes_by_other_limits(rt: HostRuntime) -> Result<(), Fail> {
+    for (limits, recording, lines) in LIMITS {
+        check_lines(
+            &rt,
+            rt.alloc(),
+            &["--line", "7=1", "--limit", limits],
+            recording,
+            BELL,
+            lines,
+        )?;
     }
     Ok(())
 }

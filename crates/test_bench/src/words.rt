@@ -5,7 +5,7 @@ use std::test::Fail;
 use test_kit::{Halting, Short};
 
 const USAGE: &[u8] = b"mfbench: usage: mfbench --line N=WIRE[,inverted][,settle=MS]... \
-[--dial bell|gpo] [--speed FROM-TO] [--share FROM-TO] \
+[--dial bell|gpo] [--speed FROM-TO] [--share FROM-TO] [--limit NAME=MS[,NAME=MS]...] \
 [--format vcd|sigrok|saleae|edges|gpiomon|bits|bits16|s16|wav] [--rate HZ] [--settle MS] \
 [--threshold PERCENT] [--inverted] [--json]\n";
 
@@ -30,9 +30,20 @@ const REFUSED: &[&[&str]] = &[
     &["--line", "7=1", "--speed", "-10.5"],
     &["--line", "7=1", "--share", "58-64%"],
     &["--line", "7=1", "--share", "58-1001"],
+    // limits that are none, that a route table may not have, or that are said twice
+    &["--line", "7=1", "--limit", "seize=150"],
+    &["--line", "7=1", "--limit", "pause"],
+    &["--line", "7=1", "--limit", "pause=0"],
+    &["--line", "7=1", "--limit", "pause=1000000"],
+    &["--line", "7=1", "--limit", "pulse_max=300"],
+    &["--line", "7=1", "--limit", "pause=200,timeout=200"],
+    &["--line", "7=1", "--limit", "pause=200,pause=210"],
 ];
 
 const WORDS: &[&str] = &["--line", "7=1"];
+
+// Of two wires that a recording of one lacks the first is told.
+const MISSING: &[&str] = &["--line", "7=1", "--line", "8=2", "--line", "9=3"];
 
 // A make, a pulse, a pause, and a time that is none.
 const WRONG: &[u8] = b"0,1\n0.4,0\n0.46,1\n0.7,1\nx,1\n";
@@ -70,6 +81,20 @@ fn tells_of_what_comes_before_a_fault(rt: HostRuntime) -> Result<(), Fail> {
         &out[BELL.len()..] == BEFORE.as_bytes(),
         "{}",
         out.escape_ascii()
+    );
+    Ok(())
+}
+
+#[test]
+fn tells_the_first_missing_wire(rt: HostRuntime) -> Result<(), Fail> {
+    let mut out = Vec::new(rt.alloc());
+    let mut reader = WRONG;
+    let (status, told) = attended(rt.alloc(), MISSING, &mut reader, &mut out)?;
+    assert_eq!(rt; status, 1);
+    assert!(rt;
+        told.starts_with(b"mfbench: the recording has no wire 2; ".as_slice()),
+        "{}",
+        told.escape_ascii()
     );
     Ok(())
 }

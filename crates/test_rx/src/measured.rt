@@ -63,7 +63,7 @@ fn push_tones(bytes: &mut Vec<u8>) -> Result<(), Fail> {
 
 // By the truth, and by the second receiver (scripts/trials/second_ear.c).
 const KEY: &[u8] =
-    b"5 at 100 ms for 67 ms, 918 Hz -7.0 dBm0, 1301 Hz -7.0 dBm0, twist 0.0 dB, first: TUNING\n";
+    b"5 at 100 ms for 67 ms, 918 Hz -7.0 dBm0, 1301 Hz -7.0 dBm0, twist 0.0 dB, skew 0.6 ms, hole 0 ms, first: TUNING\n";
 
 #[test]
 fn measures_tones_that_are_off(rt: HostRuntime) -> Result<(), Fail> {

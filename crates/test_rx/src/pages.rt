@@ -30,18 +30,18 @@ fn sound(alloc: Global, numbers: &[&[u8]]) -> Result<Vec<u8>, Fail> {
 
 // Its keys, by a second receiver (scripts/trials/second_ear.c).
 const KEYS: &[u8] = b"\
-KP at 500 ms for 100 ms, 1100 Hz -7.2 dBm0, 1700 Hz -7.2 dBm0, twist 0.0 dB, first: GOOD\n\
-5 at 667 ms for 70 ms, 900 Hz -7.2 dBm0, 1300 Hz -7.2 dBm0, twist 0.0 dB, after 67 ms: GOOD\n\
-0 at 802 ms for 67 ms, 1300 Hz -7.2 dBm0, 1500 Hz -7.2 dBm0, twist 0.0 dB, after 65 ms: GOOD\n\
-ST at 940 ms for 67 ms, 1500 Hz -7.2 dBm0, 1700 Hz -7.2 dBm0, twist 0.0 dB, after 70 ms: GOOD\n\
-KP at 1575 ms for 100 ms, 1100 Hz -7.2 dBm0, 1700 Hz -7.2 dBm0, twist 0.0 dB, after 567 ms: GOOD\n\
-1 at 1742 ms for 70 ms, 700 Hz -7.2 dBm0, 900 Hz -7.2 dBm0, twist 0.0 dB, after 67 ms: GOOD\n\
-ST at 1880 ms for 67 ms, 1500 Hz -7.2 dBm0, 1700 Hz -7.2 dBm0, twist 0.0 dB, after 67 ms: GOOD\n";
+KP at 500 ms for 100 ms, 1100 Hz -7.2 dBm0, 1700 Hz -7.2 dBm0, twist 0.0 dB, skew 0.0 ms, hole 0 ms, first: GOOD\n\
+5 at 667 ms for 70 ms, 900 Hz -7.2 dBm0, 1300 Hz -7.2 dBm0, twist 0.0 dB, skew 0.0 ms, hole 0 ms, after 67 ms: GOOD\n\
+0 at 802 ms for 67 ms, 1300 Hz -7.2 dBm0, 1500 Hz -7.2 dBm0, twist 0.0 dB, skew 0.0 ms, hole 0 ms, after 65 ms: GOOD\n\
+ST at 940 ms for 67 ms, 1500 Hz -7.2 dBm0, 1700 Hz -7.2 dBm0, twist 0.0 dB, skew 0.0 ms, hole 0 ms, after 70 ms: GOOD\n\
+KP at 1575 ms for 100 ms, 1100 Hz -7.2 dBm0, 1700 Hz -7.2 dBm0, twist 0.0 dB, skew 0.0 ms, hole 0 ms, after 567 ms: GOOD\n\
+1 at 1742 ms for 70 ms, 700 Hz -7.2 dBm0, 900 Hz -7.2 dBm0, twist 0.0 dB, skew 0.1 ms, hole 0 ms, after 67 ms: GOOD\n\
+ST at 1880 ms for 67 ms, 1500 Hz -7.2 dBm0, 1700 Hz -7.2 dBm0, twist 0.0 dB, skew 0.0 ms, hole 0 ms, after 67 ms: GOOD\n";
 
 // The first of them as an object.
 const OBJECT: &[u8] =
-    b"{\"at_ms\":500,\"gap_ms\":null,\"high_dbm0_tenths\":-72,\"high_hz\":1700,\"key\":\"KP\",\
-\"length_ms\":100,\"low_dbm0_tenths\":-72,\"low_hz\":1100,\"twist_db_tenths\":0,\"verdict\":\"GOOD\"}\n";
+    b"{\"at_ms\":500,\"gap_ms\":null,\"high_dbm0_tenths\":-72,\"high_hz\":1700,\"hole_ms\":0,\"key\":\"KP\",\
+\"length_ms\":100,\"low_dbm0_tenths\":-72,\"low_hz\":1100,\"skew_ms_tenths\":0,\"twist_db_tenths\":0,\"verdict\":\"GOOD\"}\n";
 
 // The entry of the first of them as an object, and that of the second. The first ST begins at 940 ms and lasts 67.5, and
 // the second at 1,880.

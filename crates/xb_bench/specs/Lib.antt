@@ -3,6 +3,7 @@ pub mod Texts
 pub mod SummaryTexts
 pub mod Objects
 pub mod Windows
+pub mod LimitWords
 pub mod Told
 pub mod Benches
 pub mod Rules

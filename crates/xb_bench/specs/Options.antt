@@ -1,5 +1,5 @@
 -- What the words of the command line ask for, as clap reads them.
-use Rattle.std.specs.Prelude.{◌≡◌, ◌-◌, ◌^◌, ◌≢◌, ◌⊎◌, ◌==◌, List, [], ◌∷◌, Bool, true, false, Some, None, codes, nat_le, not, ◌&&◌}
+use Rattle.std.specs.Prelude.{◌≡◌, ◌≢◌, ◌⊎◌, ◌==◌, List, [], ◌∷◌, Bool, true, false, Some, None, codes, nat_le, not, ◌&&◌}
 use Rattle.clap.specs.Faults.{fault_of}
 use Rattle.clap.specs.Simple.{matches_of}
 use Rattle.clap.specs.Walk.{Row, Text, first_of}
@@ -8,11 +8,10 @@ use Rattle.xb_feed.specs.declared.manner.AskedLine.{AskedLine}
 use Rattle.xb_feed.specs.declared.manner.Manner.{Manner}
 use Rattle.xb_feed.specs.declared.request.Request.{Request}
 use Rattle.xb_feed.specs.Options.{Say as SaysOf, SayNothing as SaysNothingOf, plain_words}
-use Rattle.xb_model.specs.declared.limits.Limits.{Limits}
-use Rattle.xb_model.specs.LawfulLimits.{standard_limits}
 use Rattle.xb_bench.specs.declared.setting.Form.{Form}
 use Rattle.xb_bench.specs.declared.setting.Form.TheVariants.{Lines, Objects}
 use Rattle.xb_bench.specs.declared.setting.Setting.{Setting}
+use Rattle.xb_bench.specs.LimitWords.{limits_said}
 use Rattle.xb_bench.specs.Rules.{command_of_words}
 use Rattle.xb_bench.specs.Windows.{windows_said}
 
@@ -24,33 +23,30 @@ abbrev pub are_plain : List AskedLine → Bool
 are_plain [] = true
 are_plain (line ∷ rest) = is_plain line.manner && are_plain rest
 
--- the standard limits without a time-out, since on the bench no register waits
-abbrev pub bench_limits : Limits
-bench_limits = record standard_limits { timeout = 2 ^ 32 - 1 }
-
 -- objects where they are asked for
 abbrev pub form_of : Bool → Form
 form_of true = Objects
 form_of false = Lines
 
--- what clap matched says this: windows, by the limits of the bench, and what is asked of a recording
+-- what clap matched says this: windows, limits, and what is asked of a recording
 pub record Say (rows : List Row) (request : Request Setting) : Type 0 where
   pub windows : windows_said (first_of (codes "dial") rows) (first_of (codes "speed") rows) (first_of (codes "share") rows)
       ≡ Some request.common.windows
-  pub limits : request.common.limits ≡ bench_limits
+  pub limits : limits_said (first_of (codes "limit") rows) ≡ Some request.common.limits
   pub json : Bool
   pub objects : ReadsFlag (given_by rows (codes "json")) json
   pub form : request.common.form ≡ form_of json
   pub plain : are_plain request.lines.items ≡ true
   pub rest : SaysOf rows request.common request
 
--- what clap matched says nothing that there is: a window or a kind of dial that is none, what a recording does not
--- have, or a line that is listened to otherwise
+-- what clap matched says nothing that there is: a window or a kind of dial that is none, limits that are none, what a
+-- recording does not have, or a line that is listened to otherwise
 abbrev pub SayNothing : List Row → Type 0
 SayNothing rows =
     (windows_said (first_of (codes "dial") rows) (first_of (codes "speed") rows) (first_of (codes "share") rows) ≡ None)
+    ⊎ ((limits_said (first_of (codes "limit") rows) ≡ None)
     ⊎ (SaysNothingOf rows
-    ⊎ ((request : Request Setting) × SaysOf rows request.common request × (are_plain request.lines.items ≡ false)))
+    ⊎ ((request : Request Setting) × SaysOf rows request.common request × (are_plain request.lines.items ≡ false))))
 
 -- clap takes plain words, and they ask for this
 abbrev pub AsksPlainly : List Text → Request Setting → Type 0

@@ -1,5 +1,5 @@
 -- What the program did, by its status.
-use Rattle.std.specs.Prelude.{ℕ, ◌≡◌, ◌⊎◌, ◌++◌, List, [], codes, Option, None, if◌then◌else◌}
+use Rattle.std.specs.Prelude.{ℕ, ◌≡◌, ◌≢◌, ◌⊎◌, ◌++◌, List, [], codes, Option, Some, None}
 use Rattle.std.specs.Io.KnownBytes.{Keeps}
 use Rattle.clap.specs.Walk.{Text}
 use Rattle.xb_command.specs.Programs.{Attends, Streams}
@@ -7,8 +7,9 @@ use Rattle.xb_command.specs.Telling.{Tells}
 use Rattle.xb_feed.specs.declared.fault.RecordingFault.{RecordingFault}
 use Rattle.xb_feed.specs.declared.fault.RecordingFault.TheVariants as recording
 use Rattle.xb_feed.specs.declared.request.Request.{Request}
-use Rattle.xb_feed.specs.LackedWires.{lacks_wire}
+use Rattle.xb_feed.specs.LackedWires.{missing_name}
 use Rattle.xb_feed.specs.Feeding.{FailsToListen, ListensTo}
+use Rattle.xb_recording.specs.Says.{names_in}
 use Rattle.xb_bench.specs.declared.fault.BenchFault.{BenchFault}
 use Rattle.xb_bench.specs.declared.fault.BenchFault.TheVariants as faults
 use Rattle.xb_bench.specs.declared.setting.Setting.{Setting}
@@ -24,7 +25,7 @@ program = codes "mfbench"
 abbrev pub usage_line : List ℕ
 usage_line =
     codes "mfbench: usage: mfbench --line N=WIRE[,inverted][,settle=MS]... "
-    ++ codes "[--dial bell|gpo] [--speed FROM-TO] [--share FROM-TO] "
+    ++ codes "[--dial bell|gpo] [--speed FROM-TO] [--share FROM-TO] [--limit NAME=MS[,NAME=MS]...] "
     ++ codes "[--format vcd|sigrok|saleae|edges|gpiomon|bits|bits16|s16|wav] [--rate HZ] [--settle MS] "
     ++ codes "[--threshold PERCENT] [--inverted] [--json]\n"
 
@@ -38,18 +39,22 @@ abbrev pub FailsToGo : Request Setting → RecordingFault → Option (List ℕ) 
 FailsToGo request fault input output after =
     FailsToListen by_digits (first_text request.common) request [] fault input output after
 
--- the fault of a recording as it is told: where it lacks a wire, with all names that are asked for
-abbrev pub fault_told : Request Setting → RecordingFault → BenchFault
-fault_told request recording.Write = faults.Write
-fault_told request fault =
-    if lacks_wire fault then faults.NoWire fault request.wanted.wires else faults.Recording fault
+-- the fault of a recording as it is told: where it lacks a wire, with the first of the names that are asked for of which
+-- it has none
+abbrev pub IsFaultTold : List (List ℕ) → RecordingFault → BenchFault → Type 0
+IsFaultTold names fault faults.Write = fault ≡ recording.Write
+IsFaultTold names fault (faults.NoWire own name) = (own ≡ fault) × (missing_name fault names ≡ Some name.now)
+IsFaultTold names fault (faults.Recording own) =
+    (own ≡ fault) × (fault ≢ recording.Write) × (missing_name fault names ≡ None)
+IsFaultTold names fault faults.NoMemory = ⊥
 
 -- where memory ran out nothing was written
 abbrev pub FailsToPrint :
     Request Setting → BenchFault → Option (List ℕ) → Option (List ℕ) → Option (List ℕ) → Type 0
 FailsToPrint request told input output after =
     ((told ≡ faults.NoMemory) × Keeps output after)
-    ⊎ ((fault : RecordingFault) × (told ≡ fault_told request fault) × FailsToGo request fault input output after)
+    ⊎ ((fault : RecordingFault) × IsFaultTold (names_in request.wanted) fault told
+    × FailsToGo request fault input output after)
 
 -- the words ask for something, and exactly that was written
 pub record WritesDigits (words : List Text) (old new : Streams) : Type 0 where

@@ -12,6 +12,7 @@ options =
     (codes "dial", takes.Text)
     ∷ (codes "speed", takes.Text)
     ∷ (codes "share", takes.Text)
+    ∷ (codes "limit", takes.Text)
     ∷ (codes "format", takes.Text)
     ∷ (codes "rate", takes.Number)
     ∷ (codes "settle", takes.Number)
@@ -21,7 +22,7 @@ options =
     ∷ (codes "line", takes.AllThatFollow)
     ∷ []
 
--- `mfbench [--dial KIND] [--speed FROM-TO] [--share FROM-TO] [--format FORM] [--rate HZ] [--settle MS]
--- [--threshold PERCENT] [--inverted] [--json] N=WIRE..`
+-- `mfbench [--dial KIND] [--speed FROM-TO] [--share FROM-TO] [--limit NAME=MS[,NAME=MS]..] [--format FORM] [--rate HZ]
+-- [--settle MS] [--threshold PERCENT] [--inverted] [--json] N=WIRE..`
 abbrev pub command_of_words : App
 command_of_words = command_of (codes "mfbench") options

@@ -13,8 +13,10 @@ use xb_contact::Scale;
 use xb_json::{Member, object_of};
 use xb_model::{Limits, LineNo, MOST_PULSES};
 use xb_report::{fault_name, limit_of};
-use xb_turns::{Drift, Spread, Train, Verdict, Wrong};
-use xb_turns::{drift_of, share_of, speed_of, tenths_of_ms, verdict_of, word_of};
+use xb_turns::{
+    Drift, Spread, Train, Verdict, Wrong, drift_of, share_of, speed_of, tenths_of_ms, verdict_of,
+    word_of,
+};
 
 /// A figure in tenths, or null; it stops at 2^64 - 1.
 pub(crate) fn figure_data(figure: Option<u128>) -> Member<'static>

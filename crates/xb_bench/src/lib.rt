@@ -10,6 +10,7 @@
 mod bench;
 mod digit_object;
 mod fault;
+mod limits;
 mod objects;
 mod pieces;
 mod program;

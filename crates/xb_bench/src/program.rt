@@ -1,8 +1,8 @@
 // The program: its words and a recording in, a status and the lines of digits out.
-ghost use Rattle.std.specs.Prelude.{◌≡◌, IfErr, OnOk};
+ghost use Rattle.std.specs.Prelude.{IfErr, OnOk, map};
 ghost use Rattle.xb_command.specs.Programs.{streams};
 ghost use Rattle.xb_command.specs.Commands.{texts_of};
-ghost use Rattle.xb_bench.specs.Program.{AttendsBench, FailsToPrint, PrintsDigits, fault_told};
+ghost use Rattle.xb_bench.specs.Program.{AttendsBench, FailsToPrint, IsFaultTold, PrintsDigits};
 
 use crate::bench::Bench;
 use crate::fault::BenchFault;
@@ -12,26 +12,25 @@ use crate::words::request_of_words;
 use std::alloc::Global;
 use std::io::{Read, Write};
 use xb_command::{DONE, WordsFault, tell_fault, tell_words};
-use xb_feed::{RecordingFault, Request, lacks_wire, listen, plain_words};
+use xb_feed::{RecordingFault, Request, listen, missing_name, plain_words};
 
 // The program's name.
 pub(crate) const PROGRAM: &str = "mfbench";
 
 // The line of refused words.
 const USAGE: &[u8] = b"mfbench: usage: mfbench --line N=WIRE[,inverted][,settle=MS]... \
-[--dial bell|gpo] [--speed FROM-TO] [--share FROM-TO] \
+[--dial bell|gpo] [--speed FROM-TO] [--share FROM-TO] [--limit NAME=MS[,NAME=MS]...] \
 [--format vcd|sigrok|saleae|edges|gpiomon|bits|bits16|s16|wav] [--rate HZ] [--settle MS] \
 [--threshold PERCENT] [--inverted] [--json]\n";
 
-// The fault of a recording as it is told; where it lacks a wire, with the names that are asked for.
-fn fault_told<'a>(request: Request<'a, Setting>, fault: RecordingFault) -> BenchFault<'a>
-    ensures { result ≡ fault_told request.entry fault }
+// The fault of a recording as it is told; where it lacks a wire, with the first name that is asked for and that it lacks.
+fn fault_told<'a>(fault: RecordingFault, names: &[&'a str]) -> BenchFault<'a>
+    ensures { IsFaultTold (map (λ name. name.now) names.now) fault result }
 {
-    let lacks = lacks_wire(&fault);
-    match fault {
-        RecordingFault::Write => BenchFault::Write,
-        fault if lacks => BenchFault::NoWire(fault, request.wanted.wires),
-        fault => BenchFault::Recording(fault),
+    match (missing_name(&fault, names), fault) {
+        (_, RecordingFault::Write) => BenchFault::Write,
+        (Some(name), fault) => BenchFault::NoWire(fault, name),
+        (None, fault) => BenchFault::Recording(fault),
     }
 }
 
@@ -52,7 +51,7 @@ fn run<'a, R: Read, W: Write>(
     };
     match listen::<Setting, Bench, R, W>(alloc, &request, b"", first.as_bytes(), recording, out) {
         Ok(_notes) => Ok(()),
-        Err(fault) => Err(fault_told(request, fault)),
+        Err(fault) => Err(fault_told(fault, &request.wanted.wires)),
     }
 }
 

@@ -9,8 +9,10 @@ use std::alloc::AllocError;
 use xb_contact::Scale;
 use xb_model::{Limits, LineNo, MOST_PULSES};
 use xb_report::{push_fault, push_figure, push_line, push_number, push_right, push_tenths};
-use xb_turns::{Drift, Said, Spread, Train, Wrong};
-use xb_turns::{drift_of, share_of, speed_of, tenths_of_ms, verdict_of, word_of};
+use xb_turns::{
+    Drift, Said, Spread, Train, Wrong, drift_of, share_of, speed_of, tenths_of_ms, verdict_of,
+    word_of,
+};
 
 // What stands before each cell.
 const GAP: &str = "  ";

@@ -2,21 +2,22 @@
 ghost use Rattle.std.specs.Prelude.{◌≡◌, IfErr, IfOk};
 ghost use Rattle.xb_command.specs.Commands.{texts_of};
 ghost use Rattle.xb_bench.specs.Options.{ArePlainlyRefused, AsksPlainly, Say, SayNothing, are_plain};
-ghost use Rattle.xb_bench.specs.Options.{bench_limits, form_of, is_plain};
+ghost use Rattle.xb_bench.specs.Options.{form_of, is_plain};
 
+use crate::limits::limits_said;
 use crate::program::PROGRAM;
 use crate::setting::{Form, Setting};
 use crate::windows::windows_said;
 use std::alloc::Global;
 use xb_command::{Takes, Words, WordsFault, read_words};
 use xb_feed::{AskedLine, Manner, Request, request_of};
-use xb_model::Limits;
 
 // The options of the program, each under its name, and the wires of the lines, which stand alone.
-const OPTIONS: [(&str, Takes); 10] = [
+const OPTIONS: [(&str, Takes); 11] = [
     ("dial", Takes::Text),
     ("speed", Takes::Text),
     ("share", Takes::Text),
+    ("limit", Takes::Text),
     ("format", Takes::Text),
     ("rate", Takes::Number),
     ("settle", Takes::Number),
@@ -45,16 +46,6 @@ fn are_plain(lines: &[AskedLine]) -> bool
     true
 }
 
-// The standard limits without a time-out, since on the bench no register waits: it is 2^32 - 1 ms.
-fn bench_limits() -> Limits
-    ensures { result ≡ bench_limits }
-{
-    Limits {
-        timeout: u32::MAX,
-        ..Limits::standard()
-    }
-}
-
 // Objects where they are asked for.
 fn form_of(json: bool) -> Form
     ensures { result ≡ form_of json }
@@ -71,9 +62,12 @@ fn asked_of<'a>(alloc: Global, words: &Words<'a>) -> Result<Request<'a, Setting>
     else {
         return Err(WordsFault::Refused);
     };
+    let Some(limits) = limits_said(words.text("limit")) else {
+        return Err(WordsFault::Refused);
+    };
     let setting = Setting {
         alloc,
-        limits: bench_limits(),
+        limits,
         windows,
         form: form_of(words.flag("json")),
     };
@@ -85,7 +79,7 @@ fn asked_of<'a>(alloc: Global, words: &Words<'a>) -> Result<Request<'a, Setting>
 }
 
 /// What the words ask for, the program's name first. They are refused where `clap` refuses them, a window or a kind of
-/// dial is none, a run settles in 0 ms, a make of a line is to seize only from some ms on, or what `request_of` refuses.
+/// dial is none, a limit is none or a route table may not have the limits, a run settles in 0 ms, a make of a line is to seize only from some ms on, or what `request_of` refuses.
 pub(crate) fn request_of_words<'a>(
     alloc: Global,
     words: &'a [String],

@@ -7,4 +7,6 @@ pub mod WaveSums
 pub mod ToneSteps
 pub mod StrongestPlaces
 pub mod TapeSteps
+pub mod BlankSteps
+pub mod OnsetSteps
 pub mod Received

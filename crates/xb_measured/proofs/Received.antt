@@ -10,6 +10,9 @@ use Rattle.xb_ear.specs.Hearings.{listed as listed_key}
 use Rattle.xb_ear.specs.Receivers.{HasReceived as HasEarReceived, keys_of_sound as ear_keys}
 use Rattle.xb_ear.proofs.WholeSounds.{hears_so_far}
 use Rattle.xb_measured.specs.declared.heard.Heard.{Heard}
+use Rattle.xb_measured.specs.declared.heard.Onsets.{Onsets}
+use Rattle.xb_measured.specs.Onsets.{onsets_of}
+use Rattle.xb_measured.specs.Blanks.{blank_in}
 use Rattle.xb_measured.specs.Stretches.{heard_at, places_of, strongest}
 use Rattle.xb_measured.specs.Tapes.{IsTapeOf, gone_of, heard_in, kept_of}
 use Rattle.xb_measured.specs.Receivers.{HasReceived, Receiving, ended_by, ended_in, ended_keys, keys_of_sound, listed, pairs_in}
@@ -71,15 +74,17 @@ pub one-measured : (samples : List ℤ) (key : HeardKey) (result : Heard) → re
 one-measured samples key result is = ap (λ (k : Heard). k ∷ []) is
 
 -- keys have the same pairs when they are measured
-same-sight : (kept : List ℤ) (key : HeardKey) (place : Option ℕ) → (heard_at kept key place).sight.pair ≡ key.sight.pair
-same-sight kept key None = refl
-same-sight kept key (Some place) = refl
+same-sight : (kept : List ℤ) (key : HeardKey) (onsets : Option Onsets) (blank : ℕ) (place : Option ℕ)
+    → (heard_at kept key onsets blank place).sight.pair ≡ key.sight.pair
+same-sight kept key onsets blank None = refl
+same-sight kept key onsets blank (Some place) = refl
 
 same-pairs : (samples : List ℤ) (keys : List HeardKey) → pairs_in (map (heard_in samples) keys) ≡ key_pairs keys
 same-pairs samples [] = refl
 same-pairs samples (key ∷ keys) =
     ap₂ (λ (p : Pair) (ps : List Pair). p ∷ ps)
-    (same-sight (kept_of samples) key (strongest (kept_of samples) None (places_of (kept_of samples) (gone_of samples) key)))
+    (same-sight (kept_of samples) key (onsets_of (kept_of samples) (gone_of samples) key) (blank_in samples key)
+    (strongest (kept_of samples) None (places_of (kept_of samples) (gone_of samples) key)))
     (same-pairs samples keys)
 
 pairs-more : (a later : List ℤ) → key_pairs (heard a) ++ pairs_in (ended_in a later) ≡ key_pairs (heard (a ++ later))

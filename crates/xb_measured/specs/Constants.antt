@@ -1,7 +1,7 @@
 -- The numbers of System R1, each as it is.
 use Rattle.std.specs.Prelude.{◌≡◌}
 use Rattle.xb_measured.specs.declared.levels.TheConstants.{ZERO_DBM0}
-use Rattle.xb_measured.specs.declared.verdicts.TheConstants.{KEY_MS, KP_MS, LEVEL_BELOW, MOST_OFF_HZ, MOST_OFF_MS, MOST_OFF_PER_MILLE, MOST_OFF_TENTHS}
+use Rattle.xb_measured.specs.declared.verdicts.TheConstants.{KEY_MS, KP_MS, LEVEL_BELOW, MOST_OFF_HZ, MOST_OFF_MS, MOST_OFF_PER_MILLE, MOST_OFF_TENTHS, MOST_SKEW_TENTHS}
 
 -- a definition that cites a constant means this number
 pub record AreConstants : Type 0 where
@@ -13,3 +13,4 @@ pub record AreConstants : Type 0 where
   pub most_off_per_mille : MOST_OFF_PER_MILLE ≡ 15
   pub most_off_hz : MOST_OFF_HZ ≡ 2
   pub most_off_tenths : MOST_OFF_TENTHS ≡ 12
+  pub most_skew_tenths : MOST_SKEW_TENTHS ≡ 30

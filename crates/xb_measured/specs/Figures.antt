@@ -27,6 +27,10 @@ abbrev pub gap_ms : Option Heard → Heard → Option ℕ
 gap_ms None key = None
 gap_ms (Some before) key = Some (ms_of (20 * (key.first - before.past) - 20))
 
+-- a hole is as long as a gap of as many windows: 20 samples for each but the first
+abbrev pub hole_ms : Heard → ℕ
+hole_ms key = ms_of (20 * key.blank)
+
 -- the figures of a key, by the last key before it
 abbrev pub figures_of : Option Heard → Heard → Figures
 figures_of before key = record {
@@ -39,4 +43,6 @@ figures_of before key = record {
   low = tenths_of key.low.level;
   high = tenths_of key.high.level;
   gap_ms = gap_ms before key;
+  onsets = key.onsets;
+  hole_ms = hole_ms key;
 }

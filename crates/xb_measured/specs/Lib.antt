@@ -2,6 +2,8 @@ pub mod Meanings
 pub mod Levels
 pub mod Waves
 pub mod Tones
+pub mod Onsets
+pub mod Blanks
 pub mod Stretches
 pub mod Tapes
 pub mod Receivers

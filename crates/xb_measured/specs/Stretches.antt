@@ -4,6 +4,8 @@ use Rattle.std.specs.List.{range_with_len}
 use Rattle.xb_ear.specs.declared.hearing.Heard.{Heard as HeardKey}
 use Rattle.xb_ear.specs.Levels.{squares}
 use Rattle.xb_measured.specs.declared.heard.Heard.{Heard}
+use Rattle.xb_measured.specs.declared.heard.Onsets.{Onsets}
+use Rattle.xb_measured.specs.Onsets.{onsets_of}
 use Rattle.xb_measured.specs.Tones.{tone_of}
 
 -- 200 samples from a window on
@@ -30,21 +32,26 @@ abbrev pub places_of : List ℤ → ℕ → HeardKey → List ℕ
 places_of kept gone key = places_between kept (key.first - gone) (key.past - 6 - gone)
 
 -- the tones of a key by where it is measured; where it is nowhere they are those that its windows saw
-abbrev pub heard_at : List ℤ → HeardKey → Option ℕ → Heard
-heard_at kept key None = record {
+abbrev pub heard_at : List ℤ → HeardKey → Option Onsets → ℕ → Option ℕ → Heard
+heard_at kept key onsets blank None = record {
   sight = key.sight;
   first = key.first;
   past = key.past;
   low = record { hz = key.sight.pair.low; level = key.sight.low };
   high = record { hz = key.sight.pair.high; level = key.sight.high };
+  onsets = onsets;
+  blank = blank;
 }
-heard_at kept key (Some place) = record {
+heard_at kept key onsets blank (Some place) = record {
   sight = key.sight;
   first = key.first;
   past = key.past;
   low = tone_of key.sight.pair.low (stretch_at kept place);
   high = tone_of key.sight.pair.high (stretch_at kept place);
+  onsets = onsets;
+  blank = blank;
 }
 
-abbrev pub heard_on : List ℤ → ℕ → HeardKey → Heard
-heard_on kept gone key = heard_at kept key (strongest kept None (places_of kept gone key))
+abbrev pub heard_on : List ℤ → ℕ → HeardKey → ℕ → Heard
+heard_on kept gone key blank =
+    heard_at kept key (onsets_of kept gone key) blank (strongest kept None (places_of kept gone key))

@@ -1,12 +1,13 @@
 -- Whether a key is as System R1 (Q.322) wants it of a sender.
-use Rattle.std.specs.Prelude.{ℕ, ◌+◌, ◌-◌, ◌*◌, ◌&&◌, ◌||◌, if◌then◌else◌, List, [], ◌∷◌, ◌++◌, codes, Bool, true, nat_le, Option, Some, None}
+use Rattle.std.specs.Prelude.{ℕ, ◌+◌, ◌-◌, ◌*◌, ◌&&◌, ◌||◌, ◌==◌, if◌then◌else◌, List, [], ◌∷◌, ◌++◌, codes, Bool, true, nat_le, Option, Some, None}
 use Rattle.std.specs.List.{flat_map}
 use Rattle.xb_model.specs.declared.key.Key.TheVariants.{Kp}
 use Rattle.xb_measured.specs.declared.figures.Figures.{Figures}
+use Rattle.xb_measured.specs.declared.heard.Onsets.{Onsets}
 use Rattle.xb_measured.specs.declared.levels.TheConstants.{ZERO_DBM0}
 use Rattle.xb_measured.specs.declared.meaning.Meaning.{Meaning}
 use Rattle.xb_measured.specs.declared.meaning.Meaning.TheVariants as meaning
-use Rattle.xb_measured.specs.declared.verdicts.TheConstants.{KEY_MS, KP_MS, LEVEL_BELOW, MOST_OFF_HZ, MOST_OFF_MS, MOST_OFF_PER_MILLE, MOST_OFF_TENTHS}
+use Rattle.xb_measured.specs.declared.verdicts.TheConstants.{KEY_MS, KP_MS, LEVEL_BELOW, MOST_OFF_HZ, MOST_OFF_MS, MOST_OFF_PER_MILLE, MOST_OFF_TENTHS, MOST_SKEW_TENTHS}
 use Rattle.xb_measured.specs.declared.verdicts.Limit.{Limit}
 use Rattle.xb_measured.specs.declared.verdicts.Limit.TheVariants as limit
 
@@ -50,6 +51,17 @@ level_fits tenths = is_about (ZERO_DBM0 - LEVEL_BELOW) MOST_OFF_TENTHS tenths
 abbrev pub levels_fit : Figures → Bool
 levels_fit figures = level_fits figures.low && level_fits figures.high
 
+-- the tones begin together, where it is known when they do
+abbrev pub skew_fits_by : Option Onsets → Bool
+skew_fits_by None = true
+skew_fits_by (Some onsets) = is_about onsets.low MOST_SKEW_TENTHS onsets.high
+
+abbrev pub skew_fits : Figures → Bool
+skew_fits figures = skew_fits_by figures.onsets
+
+abbrev pub hole_fits : Figures → Bool
+hole_fits figures = figures.hole_ms == 0
+
 -- the limits in their order, each with whether it is kept
 abbrev pub limits : Figures → List (Bool × Limit)
 limits figures =
@@ -58,6 +70,8 @@ limits figures =
     ∷ (tuning_fits figures, limit.Tuning)
     ∷ (twist_fits figures, limit.Twist)
     ∷ (levels_fit figures, limit.Level)
+    ∷ (skew_fits figures, limit.Skew)
+    ∷ (hole_fits figures, limit.Hole)
     ∷ []
 
 abbrev pub missed : Bool × Limit → List Limit
@@ -73,6 +87,8 @@ limit_word limit.Gap = codes "GAP"
 limit_word limit.Tuning = codes "TUNING"
 limit_word limit.Twist = codes "TWIST"
 limit_word limit.Level = codes "LEVEL"
+limit_word limit.Skew = codes "SKEW"
+limit_word limit.Hole = codes "HOLE"
 
 abbrev pub spaced_word : Limit → List ℕ
 spaced_word one = codes " " ++ limit_word one

@@ -1,8 +1,8 @@
 // The figures of a key.
 ghost use Rattle.std.specs.Prelude.{◌≡◌};
-ghost use Rattle.xb_measured.specs.Figures.{end_ms, figures_of, gap_ms, length_ms, ms_of, start_ms};
+ghost use Rattle.xb_measured.specs.Figures.{end_ms, figures_of, gap_ms, hole_ms, length_ms, ms_of, start_ms};
 
-use crate::heard::Heard;
+use crate::heard::{Heard, Onsets};
 use crate::levels::tenths_of;
 use crate::meaning::Meaning;
 use xb_model::Tone;
@@ -36,6 +36,10 @@ pub struct Figures {
     pub high: u32,
     /// The time between the last key before it and this one; `None` of the first key.
     pub gap_ms: Option<u64>,
+    /// When its tones began, where that is known.
+    pub onsets: Option<Onsets>,
+    /// How long the holes in it are together, in ms; 0 where there is none.
+    pub hole_ms: u64,
 }
 
 // So many samples in ms, rounded down; counting stops at the greatest number that there is.
@@ -75,6 +79,13 @@ fn gap_ms(before: Option<Heard>, key: Heard) -> Option<u64>
     Some(ms_of((HOP * windows).saturating_sub(HOP)))
 }
 
+// How long its holes are together.
+fn hole_ms(key: Heard) -> u64
+    ensures { result ≡ hole_ms key }
+{
+    ms_of(HOP * u128::from(key.blank))
+}
+
 /// The figures of a key, by the last key before it.
 pub fn figures_of(before: Option<Heard>, key: Heard) -> Figures
     ensures { result ≡ figures_of before key }
@@ -89,5 +100,7 @@ pub fn figures_of(before: Option<Heard>, key: Heard) -> Figures
         low: tenths_of(key.low.level),
         high: tenths_of(key.high.level),
         gap_ms: gap_ms(before, key),
+        onsets: key.onsets,
+        hole_ms: hole_ms(key),
     }
 }

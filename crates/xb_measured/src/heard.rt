@@ -10,6 +10,15 @@ pub struct MeasuredTone {
     pub level: u64,
 }
 
+/// When the tones of a key began: for how many tenths of a ms each has sounded at the same moment, soon after the key began.
+#[derive(Clone, Copy, Debug, PartialEq, Eq)]
+pub struct Onsets {
+    /// The lower tone.
+    pub low: u32,
+    /// The higher one.
+    pub high: u32,
+}
+
 /// A key that sounded, with its tones as they were measured.
 #[derive(Clone, Copy, Debug, PartialEq, Eq)]
 pub struct Heard {
@@ -23,4 +32,8 @@ pub struct Heard {
     pub low: MeasuredTone,
     /// Its higher one.
     pub high: MeasuredTone,
+    /// When both began; `None` where too few samples round the beginning of the key are known.
+    pub onsets: Option<Onsets>,
+    /// How many of its windows saw no pair, as the one before each did, of the last 64.
+    pub blank: u64,
 }

@@ -2,9 +2,10 @@
 ghost use Rattle.std.specs.Prelude.{◌≡◌, ◌-ℤ◌, IfOk, pos, string_bytes};
 ghost use Rattle.serde_json.specs.View.{view};
 ghost use Rattle.xb_json.specs.Objects.{data_of};
-ghost use Rattle.xb_measured.specs.Objects.{gap_data, object_line, object_of, object_with};
+ghost use Rattle.xb_measured.specs.Objects.{gap_data, object_line, object_of, object_with, skew_data};
 
 use crate::figures::Figures;
+use crate::heard::Onsets;
 use crate::levels::ZERO_DBM0;
 use crate::verdicts::verdict_text;
 use serde_json::Value;
@@ -18,6 +19,16 @@ fn gap_of<'a>(gap: Option<u64>) -> Member<'a>
     match gap {
         None => Member::Null,
         Some(ms) => Member::Number(ms),
+    }
+}
+
+// How much later the higher tone began, null where that is not known.
+fn skew_of<'a>(onsets: Option<Onsets>) -> Member<'a>
+    ensures { data_of result ≡ skew_data onsets }
+{
+    match onsets {
+        None => Member::Null,
+        Some(onsets) => Member::Signed(difference(onsets.low, onsets.high)),
     }
 }
 
@@ -40,10 +51,12 @@ fn object_with(alloc: Global, figures: &Figures, verdict: &str) -> Result<Value,
         ("gap_ms", gap_of(figures.gap_ms)),
         ("high_dbm0_tenths", Member::Signed(high)),
         ("high_hz", Member::Number(u64::from(figures.high_hz))),
+        ("hole_ms", Member::Number(figures.hole_ms)),
         ("key", Member::Word(figures.meaning.name())),
         ("length_ms", Member::Number(figures.length_ms)),
         ("low_dbm0_tenths", Member::Signed(low)),
         ("low_hz", Member::Number(u64::from(figures.low_hz))),
+        ("skew_ms_tenths", skew_of(figures.onsets)),
         ("twist_db_tenths", Member::Signed(twist)),
         ("verdict", Member::Text(verdict)),
     ];

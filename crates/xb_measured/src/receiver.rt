@@ -1,11 +1,17 @@
 // A receiver that measures what it hears.
+ghost use Rattle.std.specs.Prelude.{◌≡◌, List, ℤ};
+ghost use Rattle.xb_ear.specs.declared.hearing.Heard.{Heard as GivenKey};
+ghost use Rattle.xb_ear.specs.Receivers.{HasReceived as HasEarReceived};
+ghost use Rattle.xb_measured.specs.Tapes.{IsTapeOf, heard_in};
+
+use crate::blanks::blank_of;
 use crate::heard::Heard;
 use crate::tape::Tape;
 use std::marker::Model;
-use xb_ear::Receiver as Ear;
+use xb_ear::{Heard as EarKey, Receiver as Ear};
 
 /// A receiver that takes one sample at a time, and gives each key as it ends, with its tones as they are measured then
-/// on the last samples. It keeps 1,040 of these beside what the receiver of `xb_ear` keeps.
+/// on the last samples. It keeps 1,420 of these beside what the receiver of `xb_ear` keeps.
 #[derive(Drop)]
 pub struct Receiver {
     ear: Ear,
@@ -19,6 +25,14 @@ impl Model for Receiver {
     ghost Value = { Receiving };
 
     ghost view = { λ receiver. record { ear = receiver.ear; tape = receiver.tape } };
+}
+
+// A key that is given now, with its tones.
+fn measured(ear: &Ear, tape: &Tape, key: EarKey) -> Heard
+    ensures { (samples : List ℤ) (keys : List GivenKey) → HasEarReceived ear.now samples keys
+        → IsTapeOf tape.now samples → result ≡ heard_in samples key }
+{
+    tape.measure(key, blank_of(ear, key))
 }
 
 impl Receiver {
@@ -43,7 +57,7 @@ impl Receiver {
     {
         self.tape.take(sample);
         match self.ear.take(sample) {
-            Some(key) => Some(self.tape.measure(key)),
+            Some(key) => Some(measured(&self.ear, &self.tape, key)),
             None => None,
         }
     }
@@ -54,7 +68,7 @@ impl Receiver {
             → keys ++ listed result ≡ keys_of_sound samples }
     {
         match self.ear.finish() {
-            Some(key) => Some(self.tape.measure(key)),
+            Some(key) => Some(measured(&self.ear, &self.tape, key)),
             None => None,
         }
     }

@@ -5,6 +5,7 @@ ghost use Rattle.xb_ear.specs.Levels.{squares};
 ghost use Rattle.xb_measured.specs.Stretches.{heard_on, power_at, stretch_at, stronger_place, strongest};
 
 use crate::heard::{Heard, MeasuredTone};
+use crate::onsets::onsets_of;
 use crate::tones::tone_of;
 use xb_ear::Heard as HeardKey;
 
@@ -82,8 +83,8 @@ fn strongest(kept: &[i16], from: usize, to: usize) -> Option<usize>
 
 /// A key with its tones, as they are measured on the samples that are kept, where so many windows before these are
 /// gone.
-pub(crate) fn heard_on(kept: &[i16], gone: u64, key: HeardKey) -> Heard
-    ensures { result ≡ heard_on kept.now gone key }
+pub(crate) fn heard_on(kept: &[i16], gone: u64, key: HeardKey, blank: u64) -> Heard
+    ensures { result ≡ heard_on kept.now gone key blank }
 {
     let whole = kept.len().saturating_sub(STRETCH - HOP) / HOP;
     let from = key.first.saturating_sub(gone) as usize;
@@ -111,5 +112,7 @@ pub(crate) fn heard_on(kept: &[i16], gone: u64, key: HeardKey) -> Heard
         past: key.past,
         low,
         high,
+        onsets: onsets_of(kept, gone, key),
+        blank,
     }
 }

@@ -44,8 +44,8 @@ fn product(a: i64, b: i64) -> i128
     i128::from(a) * i128::from(b)
 }
 
-// The square of a sum.
-fn square(a: i64) -> u128
+/// The square of a sum.
+pub(crate) fn square(a: i64) -> u128
     requires { unsigned_abs a ≤ 104857600000000 }
     ensures value { result ≡ unsigned_abs a ^ 2 }
     ensures bound { result ≤ 10995116277760000000000000000 }

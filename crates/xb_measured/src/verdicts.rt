@@ -1,7 +1,7 @@
 // Whether a key is as System R1 wants it.
 ghost use Rattle.std.specs.Prelude.{◌≡◌, ◌++◌, IfOk, OnOk, string_bytes};
 ghost use Rattle.std.specs.List.{flat_map};
-ghost use Rattle.xb_measured.specs.Verdicts.{gap_fits, is_about, length_fits, level_fits, levels_fit, missed, misses, spaced_word, tone_fits, tuning_fits, twist_fits, verdict_text};
+ghost use Rattle.xb_measured.specs.Verdicts.{gap_fits, is_about, hole_fits, length_fits, level_fits, levels_fit, missed, misses, skew_fits, spaced_word, tone_fits, tuning_fits, twist_fits, verdict_text};
 
 use crate::figures::Figures;
 use crate::levels::ZERO_DBM0;
@@ -25,6 +25,9 @@ pub const LEVEL_BELOW: u32 = 70;
 /// may be off.
 pub const MOST_OFF_TENTHS: u64 = 12;
 
+/// One tone may begin so many tenths of a ms before the other: 1 ms by System R1, and 2 more, which the measure may be off.
+pub const MOST_SKEW_TENTHS: u64 = 30;
+
 /// A frequency may be so many thousandths off by System R1,
 pub const MOST_OFF_PER_MILLE: u64 = 15;
 
@@ -44,6 +47,10 @@ pub enum Limit {
     Twist,
     /// How strong each of its tones is.
     Level,
+    /// How much later one of its tones begins than the other.
+    Skew,
+    /// That it sounds without a hole.
+    Hole,
 }
 
 impl Limit {
@@ -60,6 +67,8 @@ impl Limit {
             Limit::Tuning => "TUNING",
             Limit::Twist => "TWIST",
             Limit::Level => "LEVEL",
+            Limit::Skew => "SKEW",
+            Limit::Hole => "HOLE",
         }
     }
 }
@@ -143,6 +152,27 @@ fn levels_fit(figures: &Figures) -> bool
     level_fits(figures.low) && level_fits(figures.high)
 }
 
+// Whether no tone begins further from the other than it may, where that is known.
+fn skew_fits(figures: &Figures) -> bool
+    ensures { result ≡ skew_fits figures.now }
+{
+    match figures.onsets {
+        None => true,
+        Some(onsets) => is_about(
+            u64::from(onsets.low),
+            MOST_SKEW_TENTHS,
+            u64::from(onsets.high),
+        ),
+    }
+}
+
+// Whether it has no hole.
+fn hole_fits(figures: &Figures) -> bool
+    ensures { result ≡ hole_fits figures.now }
+{
+    figures.hole_ms == 0
+}
+
 // Puts a limit after others where it is missed.
 fn push_missed(limits: &mut Vec<Limit>, fits: bool, limit: Limit) -> Result<(), AllocError>
     ensures { OnOk result (limits.new.items ≡ limits.old.items ++ missed (fits, limit)) }
@@ -153,7 +183,7 @@ fn push_missed(limits: &mut Vec<Limit>, fits: bool, limit: Limit) -> Result<(), 
     Ok(())
 }
 
-/// All limits that a key misses, in the order of length, gap, tuning, twist and level. `Err` says that memory ran out.
+/// All limits that a key misses, in the order of length, gap, tuning, twist, level, skew and hole. `Err` says that memory ran out.
 pub fn misses(alloc: Global, figures: &Figures) -> Result<Vec<Limit>, AllocError>
     ensures { IfOk result (λ limits. limits.items ≡ misses figures.now) }
 {
@@ -163,6 +193,8 @@ pub fn misses(alloc: Global, figures: &Figures) -> Result<Vec<Limit>, AllocError
     push_missed(&mut limits, tuning_fits(figures), Limit::Tuning)?;
     push_missed(&mut limits, twist_fits(figures), Limit::Twist)?;
     push_missed(&mut limits, levels_fit(figures), Limit::Level)?;
+    push_missed(&mut limits, skew_fits(figures), Limit::Skew)?;
+    push_missed(&mut limits, hole_fits(figures), Limit::Hole)?;
     Ok(limits)
 }
 

@@ -1,2 +1,3 @@
 pub mod Chunks
+pub mod FloatLemmas
 pub mod HeadLemmas

@@ -28,12 +28,18 @@ long_at bytes place =
 abbrev pub kind_of : List ℕ → ℕ
 kind_of chunk = if short_at chunk 0 == 65534 then short_at chunk 24 else short_at chunk 0
 
--- format 1 is PCM, and 7 mu-law
+-- format 1 is PCM, 3 floats, 6 A-law, and 7 mu-law
+abbrev pub codings : List (ℕ × ℕ × Coding)
+codings =
+    (1, 8, coding.Unsigned8) ∷ (1, 16, coding.Signed16) ∷ (1, 24, coding.Signed24) ∷ (1, 32, coding.Signed32)
+    ∷ (3, 32, coding.Float32) ∷ (6, 8, coding.ALaw) ∷ (7, 8, coding.MuLaw) ∷ []
+
+abbrev pub coding_in : List (ℕ × ℕ × Coding) → ℕ → ℕ → Option Coding
+coding_in [] kind bits = None
+coding_in ((k, b, how) ∷ rest) kind bits = if (kind == k) && (bits == b) then Some how else coding_in rest kind bits
+
 abbrev pub coding_of : ℕ → ℕ → Option Coding
-coding_of kind bits =
-    if (kind == 1) && (bits == 8) then Some coding.Unsigned8
-    else (if (kind == 1) && (bits == 16) then Some coding.Signed16
-    else (if (kind == 7) && (bits == 8) then Some coding.MuLaw else None))
+coding_of kind bits = coding_in codings kind bits
 
 -- there are 1 to 8 channels
 abbrev pub format_by : Option Coding → ℕ → ℕ → ℕ → ℕ → Result WavFormat HeadFault

@@ -1,2 +1,3 @@
 pub mod Codings
+pub mod Floats
 pub mod Heads

@@ -1,6 +1,9 @@
 // How samples are written in bytes.
 ghost use Rattle.std.specs.Prelude.{◌≡◌, ◌≤◌, length};
-ghost use Rattle.xb_riff.specs.Codings.{magnitude, mu_law_sample, sample_at, width};
+ghost use Rattle.xb_riff.specs.Codings.{sample_at, width};
+
+use crate::companded::{a_law, mu_law};
+use crate::float::float_sample;
 
 /// How a sample is written.
 #[derive(Clone, Copy, Debug, PartialEq, Eq)]
@@ -9,41 +12,35 @@ pub enum Coding {
     Unsigned8,
     /// In sixteen bits, the low byte first.
     Signed16,
+    /// In twenty-four bits, the lowest byte first.
+    Signed24,
+    /// In thirty-two bits, the lowest byte first.
+    Signed32,
+    /// In a float of thirty-two bits (IEEE 754), the lowest byte first: the limits are -1 and 1.
+    Float32,
+    /// In eight bits, by A-law (G.711).
+    ALaw,
     /// In eight bits, by mu-law (G.711).
     MuLaw,
 }
 
-// How far from silence a code of mu-law is.
-fn magnitude(code: u8) -> u16
-    ensures value { result ≡ magnitude code }
-    ensures bound { result ≤ 32124 }
-{
-    let steps = u32::from(code % 16) * 8 + 132;
-    let doublings = 2u32.pow(u32::from(code % 128 / 16));
-    (steps * doublings - 132) as u16
-}
-
-// A sample of mu-law.
-fn mu_law(byte: u8) -> i16
-    ensures { result ≡ mu_law_sample byte }
-{
-    let magnitude = magnitude(255 - byte) as i16;
-    if byte < 128 { -magnitude } else { magnitude }
-}
-
 impl Coding {
-    /// How many bytes a sample has, 1 or 2.
+    /// How many bytes a sample has, 1 to 4.
     pub fn width(self) -> usize
         ensures value { result ≡ width self }
-        ensures bound { result ≤ 2 }
+        ensures some { 1 ≤ result }
+        ensures bound { result ≤ 4 }
     {
         match self {
-            Coding::Unsigned8 | Coding::MuLaw => 1,
+            Coding::Unsigned8 | Coding::ALaw | Coding::MuLaw => 1,
             Coding::Signed16 => 2,
+            Coding::Signed24 => 3,
+            Coding::Signed32 | Coding::Float32 => 4,
         }
     }
 
-    /// The sample that bytes begin with, as one of 16 bits.
+    /// The sample that bytes begin with, as one of 16 bits: of 24 bits and of 32 the highest 16, of a float the nearest
+    /// one.
     pub fn sample_of(self, bytes: &[u8]) -> i16
         requires { width self ≤ length bytes.now }
         ensures { result ≡ sample_at self bytes.now }
@@ -51,6 +48,12 @@ impl Coding {
         match self {
             Coding::Unsigned8 => (i16::from(bytes[0]) - 128) * 256,
             Coding::Signed16 => i16::from_le_bytes([bytes[0], bytes[1]]),
+            Coding::Signed24 => i16::from_le_bytes([bytes[1], bytes[2]]),
+            Coding::Signed32 => i16::from_le_bytes([bytes[2], bytes[3]]),
+            Coding::Float32 => {
+                float_sample(u32::from_le_bytes([bytes[0], bytes[1], bytes[2], bytes[3]]))
+            }
+            Coding::ALaw => a_law(bytes[0]),
             Coding::MuLaw => mu_law(bytes[0]),
         }
     }

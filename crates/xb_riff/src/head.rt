@@ -31,8 +31,8 @@ pub enum HeadFault {
     /// The samples come before a chunk `fmt `, or that chunk has fewer than 16 bytes.
     #[error("no chunk \"fmt \" says how the samples are written")]
     NoFormat,
-    /// The samples are neither PCM of 8 or 16 bits nor mu-law: the format's number, and the bits of a sample.
-    #[error("the chunk \"fmt \" has format {0} of {1} bits, and not 1 of 8 or 16, or 7 of 8: sox IN.wav -e signed -b 16 OUT.wav")]
+    /// The samples are written by no `Coding`: the format's number, and the bits of a sample.
+    #[error("the chunk \"fmt \" has format {0} of {1} bits, and not 1 of 8, 16, 24 or 32, 3 of 32, or 6 or 7 of 8: sox IN.wav -e signed -b 16 OUT.wav")]
     Coding(u16, u16),
     /// There are not 1 to 8 channels.
     #[error("the chunk \"fmt \" has {0} channels, and not 1 to 8: sox IN.wav OUT.wav remix 1")]
@@ -115,14 +115,15 @@ fn kind_of(chunk: &[u8]) -> u16
 fn coding_of(kind: u16, bits: u16) -> Option<Coding>
     ensures { result ≡ coding_of kind bits }
 {
-    if kind == 1 && bits == 8 {
-        Some(Coding::Unsigned8)
-    } else if kind == 1 && bits == 16 {
-        Some(Coding::Signed16)
-    } else if kind == 7 && bits == 8 {
-        Some(Coding::MuLaw)
-    } else {
-        None
+    match (kind, bits) {
+        (1, 8) => Some(Coding::Unsigned8),
+        (1, 16) => Some(Coding::Signed16),
+        (1, 24) => Some(Coding::Signed24),
+        (1, 32) => Some(Coding::Signed32),
+        (3, 32) => Some(Coding::Float32),
+        (6, 8) => Some(Coding::ALaw),
+        (7, 8) => Some(Coding::MuLaw),
+        _ => None,
     }
 }
 

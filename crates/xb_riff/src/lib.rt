@@ -4,13 +4,15 @@
 //!   (`Heads`): a list of chunks, of which `fmt ` says how the samples are and `data` has them. With the last
 //!   byte before the samples it gives how they are. A refusal comes only where each file that begins so is
 //!   refused, and is its fault.
-//! - `Coding`: PCM of 8 or 16 bits, or mu-law. `sample_of` gives the sample that bytes begin with
-//!   (`Codings`).
+//! - `Coding`: PCM of 8, 16, 24 or 32 bits, floats of 32 bits, A-law or mu-law. `sample_of` gives the sample that
+//!   bytes begin with, as one of 16 bits (`Codings`, `Floats`).
 //!
 //! Nothing takes memory.
 #![tactic(auto)]
 
 mod coding;
+mod companded;
+mod float;
 mod head;
 
 pub use coding::Coding;

@@ -8,7 +8,7 @@ use Rattle.xb_riff.specs.declared.coding.Coding.{Coding}
 use Rattle.xb_samples.specs.declared.sound.Channel.{Channel}
 use Rattle.xb_samples.specs.declared.sound.Sound.{Sound}
 use Rattle.xb_samples.specs.Pieces.{SamplesSay, after_piece, samples_events, without_waits}
-use Rattle.xb_samples.specs.Sounds.{SoundSays, SoundState, begun_sound, bytes_say, end_fault, lower_left, own_bytes, samples_after, samples_left, samples_of, sound_begins, sound_fault, sound_reading, sound_says, sound_state, unless, wires_of, wires_say}
+use Rattle.xb_samples.specs.Sounds.{SoundSays, SoundState, begun_sound, bytes_say, end_fault, begun_after, own_bytes, samples_after, samples_left, samples_of, sound_begins, sound_fault, sound_reading, sound_says, sound_state, unless, wires_of, wires_say}
 use Rattle.xb_samples.specs.Tails.{IsNewTail, follows_more, left_after, more_follows}
 use Rattle.xb_samples.proofs.SoundLemmas.{none-after, samples_left-append}
 use Rattle.xb_samples.proofs.TailLemmas.{left-then, new_tail}
@@ -17,17 +17,17 @@ use Rattle.xb_samples.proofs.WaitLemmas.{after-piece}
 -- what is wrong after bytes is wrong before them
 pub sound_faults :
     (old new : Sound) (bytes own : List ℕ) → own ≡ own_bytes old.left bytes
-    → sound_state new ≡ after_piece sound_reading (sound_state old) (samples_after old.coding old.lower own)
-    → new.lower ≡ lower_left old.coding old.lower own → new.left ≡ left_after old.left bytes → new.coding ≡ old.coding
+    → sound_state new ≡ after_piece sound_reading (sound_state old) (samples_after old.coding old.begun.items own)
+    → new.begun.items ≡ begun_after old.coding old.begun.items own → new.left ≡ left_after old.left bytes → new.coding ≡ old.coding
     → ((text : List ℕ) → follows_more new.tail text ≡ follows_more old.tail (bytes ++ text))
     → (text : List ℕ) → sound_fault new text ≡ sound_fault old (bytes ++ text)
-sound_faults old new bytes own is state lower left how tails text =
+sound_faults old new bytes own is state begun left how tails text =
     let piece : List ℤ = samples_left old bytes in
     let rest : List ℤ = samples_left new text in
-    let here : samples_after old.coding old.lower own ≡ piece = ap (samples_after old.coding old.lower) is in
+    let here : samples_after old.coding old.begun.items own ≡ piece = ap (samples_after old.coding old.begun.items) is in
     let now : sound_state new ≡ after_piece sound_reading (sound_state old) piece =
     state ∙ ap (after_piece sound_reading (sound_state old)) here in
-    let low : new.lower ≡ lower_left old.coding old.lower (own_bytes old.left bytes) = lower ∙ ap (lower_left old.coding old.lower) is in
+    let low : new.begun.items ≡ begun_after old.coding old.begun.items (own_bytes old.left bytes) = begun ∙ ap (begun_after old.coding old.begun.items) is in
     let all : after_piece sound_reading (sound_state new) rest
     ≡ after_piece sound_reading (sound_state old) (samples_left old (bytes ++ text)) =
     ap (λ (s : SoundState). after_piece sound_reading s rest) now ∙ sym (after-piece sound_reading (sound_state old) piece rest)
@@ -52,7 +52,7 @@ own-none (Some (suc n)) = refl
 
 no-samples : (sound : Sound) → samples_left sound [] ≡ []
 no-samples sound =
-    ap (samples_after sound.coding sound.lower) (own-none sound.left) ∙ none-after sound.coding sound.lower
+    ap (samples_after sound.coding sound.begun.items) (own-none sound.left) ∙ none-after sound.coding sound.begun.items
 
 pub fault_is :
     (sound : Sound) → sound_fault sound [] ≡ end_fault sound.left (follows_more sound.tail []) (sound_state sound)
@@ -73,16 +73,16 @@ pub new_sound_says :
     (how : Coding) (channels : ℕ) (high : ℤ) (names : List (List ℕ)) (rate size : Option ℕ) (wires : List Channel)
     (sound : Sound) (said : List Event) (bytes : List ℕ)
     → wires_of channels names ≡ Ok wires → sound_begins rate wires ≡ Ok said
-    → begun_sound channels high wires ≡ sound_state sound → sound.lower ≡ None → sound.left ≡ size → sound.coding ≡ how
+    → begun_sound channels high wires ≡ sound_state sound → sound.begun.items ≡ [] → sound.left ≡ size → sound.coding ≡ how
     → IsNewTail size sound.tail
     → sound_says how channels high names rate size bytes
     ≡ unless (sound_fault sound bytes) (said ++ samples_events sound_reading (sound_state sound) (samples_left sound bytes))
 new_sound_says how channels high names rate size wires sound said bytes is begins state low left same tail =
     let first : List ℤ = samples_of how (own_bytes size bytes) in
     let own : samples_left sound bytes ≡ first =
-    ap (λ (l : Option ℕ). samples_after sound.coding l (own_bytes sound.left bytes)) low
-    ∙ ap (λ (l : Option ℕ). samples_after sound.coding None (own_bytes l bytes)) left
-    ∙ ap (λ (c : Coding). samples_after c None (own_bytes size bytes)) same in
+    ap (λ (l : List ℕ). samples_after sound.coding l (own_bytes sound.left bytes)) low
+    ∙ ap (λ (l : Option ℕ). samples_after sound.coding [] (own_bytes l bytes)) left
+    ∙ ap (λ (c : Coding). samples_after c [] (own_bytes size bytes)) same in
     let more : follows_more sound.tail bytes ≡ more_follows size bytes = new_tail size sound.tail bytes tail in
     ap (result_and_then (wires_say how channels high rate size bytes)) is
     ∙ ap (result_and_then (bytes_say how channels high size bytes wires)) begins

@@ -16,9 +16,8 @@ use Rattle.xb_samples.specs.Hysteresis.{IsHeard}
 use Rattle.xb_samples.specs.Pieces.{RunsOver, SamplesSay, after_piece, begins_from, piece_events, without_waits}
 use Rattle.xb_samples.specs.Samples.{rate_says}
 use Rattle.xb_riff.specs.declared.coding.Coding.{Coding}
-use Rattle.xb_riff.specs.declared.coding.Coding.TheVariants as coding
-use Rattle.xb_riff.specs.Codings.{mu_law_sample, narrow_sample, wide_sample}
-use Rattle.xb_samples.specs.Sounds.{SoundSays, SoundState, bytes_say, change_said, changes_said, greatest_after, level_by, levels_said, lower_left, own_bytes, samples_after, samples_left, sound_begins, sound_fault, sound_reading, sound_says, sound_state, turned, wide_after, wide_left, wire_after, wires_of, wires_say}
+use Rattle.xb_riff.specs.Codings.{sample_at, width}
+use Rattle.xb_samples.specs.Sounds.{SoundSays, SoundState, bytes_say, change_said, changes_said, greatest_after, level_by, levels_said, begun_after, own_bytes, samples_after, samples_left, sound_begins, sound_fault, sound_reading, sound_says, sound_state, turned, wire_after, wires_of, wires_say}
 use Rattle.xb_samples.specs.Tails.{left_after}
 use Rattle.xb_samples.proofs.WaitLemmas.{SayWhen, after-piece, piece-piece, piece_says, until-begins}
 
@@ -74,24 +73,28 @@ sound_say_when state sample = (
 )
 
 -- the samples of a piece, and of what follows it
-wide-append :
-    (lower : Option ℕ) (piece text : List ℕ)
-    → wide_after lower (piece ++ text) ≡ wide_after lower piece ++ wide_after (wide_left lower piece) text
-wide-append lower [] text = refl
-wide-append None (byte ∷ rest) text = wide-append (Some byte) rest text
-wide-append (Some lower) (byte ∷ rest) text = ap (λ s. wide_sample lower byte ∷ s) (wide-append None rest text)
-
-narrow-append : (f : ℕ → ℤ) (piece text : List ℕ) → map f (piece ++ text) ≡ map f piece ++ map f text
-narrow-append f [] text = refl
-narrow-append f (byte ∷ rest) text = ap (λ s. f byte ∷ s) (narrow-append f rest text)
-
 pub samples-append :
-    (how : Coding) (lower : Option ℕ) (piece text : List ℕ)
-    → samples_after how lower (piece ++ text)
-    ≡ samples_after how lower piece ++ samples_after how (lower_left how lower piece) text
-samples-append coding.Unsigned8 lower piece text = narrow-append narrow_sample piece text
-samples-append coding.Signed16 lower piece text = wide-append lower piece text
-samples-append coding.MuLaw lower piece text = narrow-append mu_law_sample piece text
+    (how : Coding) (begun : List ℕ) (piece text : List ℕ)
+    → samples_after how begun (piece ++ text)
+    ≡ samples_after how begun piece ++ samples_after how (begun_after how begun piece) text
+samples-append how begun [] text = refl
+samples-append how begun (byte ∷ rest) text =
+    at (nat_lt (length begun + 1) (width how)) (samples-append how (begun ++ byte ∷ []) rest text)
+    (samples-append how [] rest text)
+  where
+    more : List ℕ
+    more = begun ++ byte ∷ []
+
+    at : (few : Bool)
+        → samples_after how more (rest ++ text)
+        ≡ samples_after how more rest ++ samples_after how (begun_after how more rest) text
+        → samples_after how [] (rest ++ text)
+        ≡ samples_after how [] rest ++ samples_after how (begun_after how [] rest) text
+        → cond few (samples_after how more (rest ++ text)) (sample_at how more ∷ samples_after how [] (rest ++ text))
+        ≡ cond few (samples_after how more rest) (sample_at how more ∷ samples_after how [] rest)
+        ++ samples_after how (cond few (begun_after how more rest) (begun_after how [] rest)) text
+    at true later whole = later
+    at false later whole = ap (λ s. sample_at how more ∷ s) whole
 
 take-piece :
     (n : ℕ) (piece text : List ℕ) → take n (piece ++ text) ≡ take n piece ++ take (n - length piece) text
@@ -112,33 +115,33 @@ own-append None piece text = refl
 own-append (Some left) piece text = take-piece left piece text
 
 pub samples_left-append :
-    (old new : Sound) (piece text : List ℕ) → new.lower ≡ lower_left old.coding old.lower (own_bytes old.left piece)
+    (old new : Sound) (piece text : List ℕ) → new.begun.items ≡ begun_after old.coding old.begun.items (own_bytes old.left piece)
     → new.left ≡ left_after old.left piece → new.coding ≡ old.coding
     → samples_left old (piece ++ text) ≡ samples_left old piece ++ samples_left new text
 samples_left-append old new piece text e f how =
-    ap (samples_after old.coding old.lower) (own-append old.left piece text)
-    ∙ samples-append old.coding old.lower (own_bytes old.left piece) (own_bytes (left_after old.left piece) text)
+    ap (samples_after old.coding old.begun.items) (own-append old.left piece text)
+    ∙ samples-append old.coding old.begun.items (own_bytes old.left piece) (own_bytes (left_after old.left piece) text)
     ∙ ap (λ l. samples_left old piece ++ samples_after old.coding l (own_bytes (left_after old.left piece) text)) (sym e)
-    ∙ ap (λ l. samples_left old piece ++ samples_after old.coding new.lower (own_bytes l text)) (sym f)
-    ∙ ap (λ h. samples_left old piece ++ samples_after h new.lower (own_bytes new.left text)) (sym how)
+    ∙ ap (λ l. samples_left old piece ++ samples_after old.coding new.begun.items (own_bytes l text)) (sym f)
+    ∙ ap (λ h. samples_left old piece ++ samples_after h new.begun.items (own_bytes new.left text)) (sym how)
 
 -- bytes that were taken
 pub sound_takes :
     (old new : Sound) (bytes own : List ℕ) (before mid all : List Event) → own ≡ own_bytes old.left bytes
-    → mid ≡ before ++ piece_events sound_reading (sound_state old) (samples_after old.coding old.lower own)
-    → sound_state new ≡ after_piece sound_reading (sound_state old) (samples_after old.coding old.lower own)
-    → new.lower ≡ lower_left old.coding old.lower own → new.left ≡ left_after old.left bytes → new.coding ≡ old.coding
+    → mid ≡ before ++ piece_events sound_reading (sound_state old) (samples_after old.coding old.begun.items own)
+    → sound_state new ≡ after_piece sound_reading (sound_state old) (samples_after old.coding old.begun.items own)
+    → new.begun.items ≡ begun_after old.coding old.begun.items own → new.left ≡ left_after old.left bytes → new.coding ≡ old.coding
     → ((text : List ℕ) → sound_fault new text ≡ sound_fault old (bytes ++ text)) → all ≡ mid ++ events.At new.count ∷ []
     → (said : List Event) × (all ≡ before ++ said)
     × ((text : List ℕ) (later : List Event) → SoundSays new text later → SoundSays old (bytes ++ text) (said ++ later))
-sound_takes old new bytes own before mid all is said state lower left how faults waits =
+sound_takes old new bytes own before mid all is said state begun left how faults waits =
     let piece : List ℤ = samples_left old bytes in
     let heard : List Event = piece_events sound_reading (sound_state old) piece in
-    let here : samples_after old.coding old.lower own ≡ piece = ap (samples_after old.coding old.lower) is in
+    let here : samples_after old.coding old.begun.items own ≡ piece = ap (samples_after old.coding old.begun.items) is in
     let told : mid ≡ before ++ heard = said ∙ ap (λ s. before ++ piece_events sound_reading (sound_state old) s) here in
     let now : sound_state new ≡ after_piece sound_reading (sound_state old) piece =
     state ∙ ap (after_piece sound_reading (sound_state old)) here in
-    let low : new.lower ≡ lower_left old.coding old.lower (own_bytes old.left bytes) = lower ∙ ap (lower_left old.coding old.lower) is in (
+    let low : new.begun.items ≡ begun_after old.coding old.begun.items (own_bytes old.left bytes) = begun ∙ ap (begun_after old.coding old.begun.items) is in (
       heard ++ events.At new.count ∷ [],
       waits ∙ ap (λ m. m ++ events.At new.count ∷ []) told ∙ append_assoc before heard (events.At new.count ∷ []),
       λ text later rest.
@@ -152,96 +155,92 @@ sound_takes old new bytes own before mid all is said state lower left how faults
 
 -- one more byte of a piece, of which these are left
 byte-left :
-    (how : Coding) (low lower : Option ℕ) (byte : ℕ) (rest : List ℕ) → lower ≡ lower_left how low (byte ∷ [])
-    → samples_after how low (byte ∷ rest) ≡ samples_after how low (byte ∷ []) ++ samples_after how lower rest
-byte-left how low lower byte rest e =
+    (how : Coding) (low begun : List ℕ) (byte : ℕ) (rest : List ℕ) → begun ≡ begun_after how low (byte ∷ [])
+    → samples_after how low (byte ∷ rest) ≡ samples_after how low (byte ∷ []) ++ samples_after how begun rest
+byte-left how low begun byte rest e =
     samples-append how low (byte ∷ []) rest
-    ∙ ap (λ (l : Option ℕ). samples_after how low (byte ∷ []) ++ samples_after how l rest) (sym e)
+    ∙ ap (λ (l : List ℕ). samples_after how low (byte ∷ []) ++ samples_after how l rest) (sym e)
 
-lower-left :
-    (how : Coding) (low : Option ℕ) (byte : ℕ) (rest : List ℕ)
-    → lower_left how (lower_left how low (byte ∷ [])) rest ≡ lower_left how low (byte ∷ rest)
-lower-left coding.Unsigned8 low byte rest = refl
-lower-left coding.Signed16 None byte rest = refl
-lower-left coding.Signed16 (Some lower) byte rest = refl
-lower-left coding.MuLaw low byte rest = refl
+begun-byte :
+    (how : Coding) (low : List ℕ) (byte : ℕ) (rest : List ℕ)
+    → begun_after how (begun_after how low (byte ∷ [])) rest ≡ begun_after how low (byte ∷ rest)
+begun-byte how low byte rest = at (nat_lt (length low + 1) (width how))
+  where
+    at : (few : Bool)
+        → begun_after how (cond few (low ++ byte ∷ []) []) rest
+        ≡ cond few (begun_after how (low ++ byte ∷ []) rest) (begun_after how [] rest)
+    at true = refl
+    at false = refl
 
 pub byte_events :
-    (how : Coding) (old new : SoundState) (low lower : Option ℕ) (bytes : List ℕ) (i : ℕ) (mid now all : List Event) → i < length bytes
+    (how : Coding) (old new : SoundState) (low begun : List ℕ) (bytes : List ℕ) (i : ℕ) (mid now all : List Event) → i < length bytes
     → now ≡ mid ++ piece_events sound_reading old (samples_after how low (get_or bytes i 0 ∷ []))
     → new ≡ after_piece sound_reading old (samples_after how low (get_or bytes i 0 ∷ []))
-    → lower ≡ lower_left how low (get_or bytes i 0 ∷ [])
+    → begun ≡ begun_after how low (get_or bytes i 0 ∷ [])
     → mid ++ piece_events sound_reading old (samples_after how low (drop i bytes)) ≡ all
-    → now ++ piece_events sound_reading new (samples_after how lower (drop (i + 1) bytes)) ≡ all
-byte_events how old new low lower bytes i mid now all h e is l so_far =
+    → now ++ piece_events sound_reading new (samples_after how begun (drop (i + 1) bytes)) ≡ all
+byte_events how old new low begun bytes i mid now all h e is l so_far =
     let byte : ℕ = get_or bytes i 0 in
     let one : List ℤ = samples_after how low (byte ∷ []) in
     let rest : List ℕ = drop (i + 1) bytes in
-    let later : List ℤ = samples_after how lower rest in
+    let later : List ℤ = samples_after how begun rest in
     ap (λ (n : List Event). n ++ piece_events sound_reading new later) e
     ∙ append_assoc mid (piece_events sound_reading old one) (piece_events sound_reading new later)
     ∙ ap (λ (s : SoundState). mid ++ (piece_events sound_reading old one ++ piece_events sound_reading s later)) is
     ∙ ap (λ (n : List Event). mid ++ n) (sym (piece-piece sound_reading old one later))
-    ∙ ap (λ (k : List ℤ). mid ++ piece_events sound_reading old k) (sym (byte-left how low lower byte rest l))
+    ∙ ap (λ (k : List ℤ). mid ++ piece_events sound_reading old k) (sym (byte-left how low begun byte rest l))
     ∙ sym (at_drop_more (λ (k : List ℕ). mid ++ piece_events sound_reading old (samples_after how low k)) bytes i 0 h)
     ∙ so_far
 
 pub byte_state :
-    (how : Coding) (old new all : SoundState) (low lower : Option ℕ) (bytes : List ℕ) (i : ℕ) → i < length bytes
+    (how : Coding) (old new all : SoundState) (low begun : List ℕ) (bytes : List ℕ) (i : ℕ) → i < length bytes
     → new ≡ after_piece sound_reading old (samples_after how low (get_or bytes i 0 ∷ []))
-    → lower ≡ lower_left how low (get_or bytes i 0 ∷ [])
+    → begun ≡ begun_after how low (get_or bytes i 0 ∷ [])
     → after_piece sound_reading old (samples_after how low (drop i bytes)) ≡ all
-    → after_piece sound_reading new (samples_after how lower (drop (i + 1) bytes)) ≡ all
-byte_state how old new all low lower bytes i h is l so_far =
+    → after_piece sound_reading new (samples_after how begun (drop (i + 1) bytes)) ≡ all
+byte_state how old new all low begun bytes i h is l so_far =
     let byte : ℕ = get_or bytes i 0 in
     let one : List ℤ = samples_after how low (byte ∷ []) in
     let rest : List ℕ = drop (i + 1) bytes in
-    let later : List ℤ = samples_after how lower rest in
+    let later : List ℤ = samples_after how begun rest in
     ap (λ (s : SoundState). after_piece sound_reading s later) is
     ∙ sym (after-piece sound_reading old one later)
-    ∙ ap (after_piece sound_reading old) (sym (byte-left how low lower byte rest l))
+    ∙ ap (after_piece sound_reading old) (sym (byte-left how low begun byte rest l))
     ∙ sym (at_drop_more (λ (k : List ℕ). after_piece sound_reading old (samples_after how low k)) bytes i 0 h) ∙ so_far
 
-pub byte_lower :
-    (how : Coding) (low lower all : Option ℕ) (bytes : List ℕ) (i : ℕ) → i < length bytes
-    → lower ≡ lower_left how low (get_or bytes i 0 ∷ []) → lower_left how low (drop i bytes) ≡ all
-    → lower_left how lower (drop (i + 1) bytes) ≡ all
-byte_lower how low lower all bytes i h l so_far =
-    ap (λ (k : Option ℕ). lower_left how k (drop (i + 1) bytes)) l ∙ lower-left how low (get_or bytes i 0) (drop (i + 1) bytes)
-    ∙ sym (at_drop_more (lower_left how low) bytes i 0 h) ∙ so_far
+pub byte_begun :
+    (how : Coding) (low begun all : List ℕ) (bytes : List ℕ) (i : ℕ) → i < length bytes
+    → begun ≡ begun_after how low (get_or bytes i 0 ∷ []) → begun_after how low (drop i bytes) ≡ all
+    → begun_after how begun (drop (i + 1) bytes) ≡ all
+byte_begun how low begun all bytes i h l so_far =
+    ap (λ (k : List ℕ). begun_after how k (drop (i + 1) bytes)) l ∙ begun-byte how low (get_or bytes i 0) (drop (i + 1) bytes)
+    ∙ sym (at_drop_more (begun_after how low) bytes i 0 h) ∙ so_far
 
 -- all of it
-pub none-after : (how : Coding) (lower : Option ℕ) → samples_after how lower [] ≡ []
-none-after coding.Unsigned8 lower = refl
-none-after coding.Signed16 lower = refl
-none-after coding.MuLaw lower = refl
-
-none-left : (how : Coding) (lower : Option ℕ) → lower_left how lower [] ≡ lower
-none-left coding.Unsigned8 lower = refl
-none-left coding.Signed16 lower = refl
-none-left coding.MuLaw lower = refl
+pub none-after : (how : Coding) (begun : List ℕ) → samples_after how begun [] ≡ []
+none-after how begun = refl
 
 pub bytes_events :
-    (how : Coding) (state : SoundState) (lower : Option ℕ) (bytes : List ℕ) (i : ℕ) (now all : List Event) → length bytes ≤ i
-    → now ++ piece_events sound_reading state (samples_after how lower (drop i bytes)) ≡ all → now ≡ all
-bytes_events how state lower bytes i now all h so_far =
+    (how : Coding) (state : SoundState) (begun : List ℕ) (bytes : List ℕ) (i : ℕ) (now all : List Event) → length bytes ≤ i
+    → now ++ piece_events sound_reading state (samples_after how begun (drop i bytes)) ≡ all → now ≡ all
+bytes_events how state begun bytes i now all h so_far =
     sym (append-nil now)
-    ∙ ap (λ (s : List ℤ). now ++ piece_events sound_reading state s) (sym (none-after how lower))
-    ∙ sym (at_drop_all (λ (k : List ℕ). now ++ piece_events sound_reading state (samples_after how lower k)) bytes i h)
+    ∙ ap (λ (s : List ℤ). now ++ piece_events sound_reading state s) (sym (none-after how begun))
+    ∙ sym (at_drop_all (λ (k : List ℕ). now ++ piece_events sound_reading state (samples_after how begun k)) bytes i h)
     ∙ so_far
 
 pub bytes_state :
-    (how : Coding) (state all : SoundState) (lower : Option ℕ) (bytes : List ℕ) (i : ℕ) → length bytes ≤ i
-    → after_piece sound_reading state (samples_after how lower (drop i bytes)) ≡ all → state ≡ all
-bytes_state how state all lower bytes i h so_far =
-    ap (λ (s : List ℤ). after_piece sound_reading state s) (sym (none-after how lower))
-    ∙ sym (at_drop_all (λ (k : List ℕ). after_piece sound_reading state (samples_after how lower k)) bytes i h) ∙ so_far
+    (how : Coding) (state all : SoundState) (begun : List ℕ) (bytes : List ℕ) (i : ℕ) → length bytes ≤ i
+    → after_piece sound_reading state (samples_after how begun (drop i bytes)) ≡ all → state ≡ all
+bytes_state how state all begun bytes i h so_far =
+    ap (λ (s : List ℤ). after_piece sound_reading state s) (sym (none-after how begun))
+    ∙ sym (at_drop_all (λ (k : List ℕ). after_piece sound_reading state (samples_after how begun k)) bytes i h) ∙ so_far
 
-pub bytes_lower :
-    (how : Coding) (lower all : Option ℕ) (bytes : List ℕ) (i : ℕ) → length bytes ≤ i → lower_left how lower (drop i bytes) ≡ all
-    → lower ≡ all
-bytes_lower how lower all bytes i h so_far =
-    sym (none-left how lower) ∙ sym (at_drop_all (lower_left how lower) bytes i h) ∙ so_far
+pub bytes_begun :
+    (how : Coding) (begun all : List ℕ) (bytes : List ℕ) (i : ℕ) → length bytes ≤ i → begun_after how begun (drop i bytes) ≡ all
+    → begun ≡ all
+bytes_begun how begun all bytes i h so_far =
+    sym (at_drop_all (begun_after how begun) bytes i h) ∙ so_far
 
 -- a sample that one more wire has heard
 pub wire_heard :

@@ -1,5 +1,5 @@
 -- What sound says: samples, each channel's in turn.
-use Rattle.std.specs.Prelude.{◌≡◌, ℕ, ◌+◌, ◌*◌, ◌/◌, ℤ, pos, neg_ℤ, int_le, List, [], ◌∷◌, ◌++◌, Bool, Option, Some, None, Result, Ok, Err, map, nat_le, nat_lt, take, unsigned_abs, unwrap_or, ◌==◌, ◌&&◌, if◌then◌else◌}
+use Rattle.std.specs.Prelude.{◌≡◌, ℕ, ◌+◌, ◌*◌, ◌/◌, ℤ, pos, neg_ℤ, int_le, List, [], ◌∷◌, ◌++◌, Bool, Option, Some, None, Result, Ok, Err, length, map, nat_le, nat_lt, take, unsigned_abs, unwrap_or, ◌==◌, ◌&&◌, if◌then◌else◌}
 use Rattle.std.specs.List.{list_any}
 use Rattle.std.specs.Option.{ok_or, option_and_then}
 use Rattle.xb_contact.specs.declared.event.Event.{Event}
@@ -15,37 +15,27 @@ use Rattle.xb_samples.specs.declared.sound.Channel.{Channel}
 use Rattle.xb_samples.specs.declared.sound.Sound.{Sound}
 use Rattle.xb_samples.specs.Thresholds.{Percent}
 use Rattle.xb_riff.specs.declared.coding.Coding.{Coding}
-use Rattle.xb_riff.specs.declared.coding.Coding.TheVariants as coding
-use Rattle.xb_riff.specs.Codings.{mu_law_sample, narrow_sample, wide_sample}
+use Rattle.xb_riff.specs.Codings.{sample_at, width}
 use Rattle.xb_samples.specs.Pieces.{Reading, SamplesSay, after_piece, samples_events}
 use Rattle.xb_samples.specs.Samples.{rate_says}
 use Rattle.xb_samples.specs.Tails.{IsNewTail, follows_more, left_after, more_follows}
 
--- the samples of 16 bits of bytes, of whose first one the lower byte may have come; a last byte by itself is none
-abbrev pub wide_after : Option ℕ → List ℕ → List ℤ
-wide_after lower [] = []
-wide_after None (byte ∷ rest) = wide_after (Some byte) rest
-wide_after (Some lower) (byte ∷ rest) = wide_sample lower byte ∷ wide_after None rest
-
--- the lower byte of a sample whose upper one has not come
-abbrev pub wide_left : Option ℕ → List ℕ → Option ℕ
-wide_left lower [] = lower
-wide_left None (byte ∷ rest) = wide_left (Some byte) rest
-wide_left (Some lower) (byte ∷ rest) = wide_left None rest
-
--- the samples of bytes; one of 8 bits has one
-abbrev pub samples_after : Coding → Option ℕ → List ℕ → List ℤ
-samples_after coding.Unsigned8 lower bytes = map narrow_sample bytes
-samples_after coding.Signed16 lower bytes = wide_after lower bytes
-samples_after coding.MuLaw lower bytes = map mu_law_sample bytes
+-- the samples of bytes, of whose first one some bytes have come; a last one that is not whole is none
+abbrev pub samples_after : Coding → List ℕ → List ℕ → List ℤ
+samples_after how begun [] = []
+samples_after how begun (byte ∷ rest) =
+    if nat_lt (length begun + 1) (width how) then samples_after how (begun ++ byte ∷ []) rest
+    else sample_at how (begun ++ byte ∷ []) ∷ samples_after how [] rest
 
 abbrev pub samples_of : Coding → List ℕ → List ℤ
-samples_of how bytes = samples_after how None bytes
+samples_of how bytes = samples_after how [] bytes
 
-abbrev pub lower_left : Coding → Option ℕ → List ℕ → Option ℕ
-lower_left coding.Unsigned8 lower bytes = lower
-lower_left coding.Signed16 lower bytes = wide_left lower bytes
-lower_left coding.MuLaw lower bytes = lower
+-- the bytes that have then come of a sample that is not whole
+abbrev pub begun_after : Coding → List ℕ → List ℕ → List ℕ
+begun_after how begun [] = begun
+begun_after how begun (byte ∷ rest) =
+    if nat_lt (length begun + 1) (width how) then begun_after how (begun ++ byte ∷ []) rest
+    else begun_after how [] rest
 
 -- bytes up to a length, where that is known
 abbrev pub own_bytes : Option ℕ → List ℕ → List ℕ
@@ -152,7 +142,7 @@ end_fault left more state =
 
 -- after further bytes
 abbrev pub samples_left : Sound → List ℕ → List ℤ
-samples_left sound bytes = samples_after sound.coding sound.lower (own_bytes sound.left bytes)
+samples_left sound bytes = samples_after sound.coding sound.begun.items (own_bytes sound.left bytes)
 
 abbrev pub sound_fault : Sound → List ℕ → Option Refusal
 sound_fault sound bytes =
@@ -186,7 +176,7 @@ wires_of channels names = wires_from 0 channels names
 abbrev pub IsNewSound : Coding → ℕ → ℤ → List (List ℕ) → Option ℕ → Sound → Type 0
 IsNewSound how channels high names length sound =
     (result_map (begun_sound channels high) (wires_of channels names) ≡ Ok (sound_state sound))
-    × (sound.lower ≡ None) × (sound.left ≡ length) × (sound.coding ≡ how) × IsNewTail length sound.tail
+    × (sound.begun.items ≡ []) × (sound.left ≡ length) × (sound.coding ≡ how) × IsNewTail length sound.tail
 
 abbrev pub levels_said : ℕ → List Channel → List Event
 levels_said wire [] = []

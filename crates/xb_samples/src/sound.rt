@@ -4,7 +4,7 @@ ghost use Rattle.std.specs.List.{list_any};
 ghost use Rattle.xb_contact.specs.Steps.{AddsAll, IsOnly, IsRefusedBy, result_and_then};
 ghost use Rattle.xb_contact.specs.declared.event.Event.{Event as Saying};
 ghost use Rattle.xb_samples.specs.Pieces.{RunsOver, after_piece, piece_events};
-ghost use Rattle.xb_samples.specs.Sounds.{IsNewSound, SoundSays, change_said, changes_said, channel_of, end_fault, greatest_after, high_of, is_channel, levels_said, lower_left, own_bytes, samples_after, sound_begins, sound_fault, sound_reading, sound_says, sound_state, turned, wire_after, wires_of};
+ghost use Rattle.xb_samples.specs.Sounds.{IsNewSound, SoundSays, begun_after, change_said, changes_said, channel_of, end_fault, greatest_after, high_of, is_channel, levels_said, own_bytes, samples_after, sound_begins, sound_fault, sound_reading, sound_says, sound_state, turned, wire_after, wires_of};
 ghost use Rattle.xb_samples.specs.Tails.{follows_more, left_after};
 
 use crate::bits::say_rate;
@@ -152,9 +152,9 @@ pub struct Sound {
     coding: Coding,
     channels: u8,
     threshold: Threshold,
-    // The channel of the next sample, from 1 on, and the lower of its two bytes, if that has come.
+    // The channel of the next sample, from 1 on, and those of its bytes that have come.
     channel: u8,
-    lower: Option<u8>,
+    begun: Vec<u8>,
     count: u64,
     // The greatest sample of the wires, whatever its sign.
     greatest: u16,
@@ -193,7 +193,7 @@ impl Sound {
             channels,
             threshold,
             channel: 1,
-            lower: None,
+            begun: Vec::new(alloc),
             count: 0,
             greatest: 0,
             left: length,
@@ -220,7 +220,7 @@ impl Sound {
     // The next channel's turn; after the last one a tick has gone by.
     fn turn(&mut self) -> Result<(), Refusal>
         ensures state { OnOk result (sound_state self.new ≡ turned (sound_state self.old)) }
-        ensures lower { self.new.lower ≡ self.old.lower }
+        ensures begun { self.new.begun ≡ self.old.begun }
         ensures left { self.new.left ≡ self.old.left }
         ensures tail { self.new.tail ≡ self.old.tail }
         ensures coding { self.new.coding ≡ self.old.coding }
@@ -246,7 +246,7 @@ impl Sound {
             ++ sound_reading.says (sound_state self.old) sample) }
         ensures state { OnOk result
             (sound_state self.new ≡ sound_reading.next (sound_state self.old) sample) }
-        ensures lower { self.new.lower ≡ self.old.lower }
+        ensures begun { self.new.begun ≡ self.old.begun }
         ensures left { self.new.left ≡ self.old.left }
         ensures tail { self.new.tail ≡ self.old.tail }
         ensures coding { self.new.coding ≡ self.old.coding }
@@ -265,11 +265,12 @@ impl Sound {
     fn take_byte(&mut self, byte: u8, events: &mut Vec<Event>) -> Result<(), Refusal>
         ensures events { OnOk result (events.new.items ≡ events.old.items
             ++ piece_events sound_reading (sound_state self.old)
-            (samples_after self.old.coding self.old.lower (byte ∷ []))) }
+            (samples_after self.old.coding self.old.begun.items (byte ∷ []))) }
         ensures state { OnOk result (sound_state self.new
             ≡ after_piece sound_reading (sound_state self.old)
-            (samples_after self.old.coding self.old.lower (byte ∷ []))) }
-        ensures lower { OnOk result (self.new.lower ≡ lower_left self.old.coding self.old.lower (byte ∷ [])) }
+            (samples_after self.old.coding self.old.begun.items (byte ∷ []))) }
+        ensures begun { OnOk result
+            (self.new.begun.items ≡ begun_after self.old.coding self.old.begun.items (byte ∷ [])) }
         ensures left { self.new.left ≡ self.old.left }
         ensures tail { self.new.tail ≡ self.old.tail }
         ensures coding { self.new.coding ≡ self.old.coding }
@@ -277,30 +278,25 @@ impl Sound {
         ensures over { IfErr result (RunsOver self.old.count 1) }
         ensures only { IfErr result (IsOnly Refusal.TooLate) }
     {
-        if self.coding.width() == 1 {
-            return self.take_sample(self.coding.sample_of(&[byte]), events);
+        self.begun.push(byte).map_err(AllocError::from)?;
+        if self.begun.len() < self.coding.width() {
+            return Ok(());
         }
-        match self.lower {
-            None => {
-                self.lower = Some(byte);
-                Ok(())
-            }
-            Some(lower) => {
-                self.lower = None;
-                self.take_sample(self.coding.sample_of(&[lower, byte]), events)
-            }
-        }
+        let sample = self.coding.sample_of(&self.begun);
+        self.begun.clear();
+        self.take_sample(sample, events)
     }
 
     // Bytes, one after the other.
     fn take_bytes(&mut self, bytes: &[u8], events: &mut Vec<Event>) -> Result<(), Refusal>
         ensures events { OnOk result (events.new.items ≡ events.old.items
             ++ piece_events sound_reading (sound_state self.old)
-            (samples_after self.old.coding self.old.lower bytes.now)) }
+            (samples_after self.old.coding self.old.begun.items bytes.now)) }
         ensures state { OnOk result (sound_state self.new
             ≡ after_piece sound_reading (sound_state self.old)
-            (samples_after self.old.coding self.old.lower bytes.now)) }
-        ensures lower { OnOk result (self.new.lower ≡ lower_left self.old.coding self.old.lower bytes.now) }
+            (samples_after self.old.coding self.old.begun.items bytes.now)) }
+        ensures begun { OnOk result
+            (self.new.begun.items ≡ begun_after self.old.coding self.old.begun.items bytes.now) }
         ensures left { self.new.left ≡ self.old.left }
         ensures tail { self.new.tail ≡ self.old.tail }
         ensures coding { self.new.coding ≡ self.old.coding }

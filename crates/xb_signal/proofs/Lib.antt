@@ -4,3 +4,4 @@ pub mod ReadTones
 pub mod TakenWords
 pub mod Sines
 pub mod HeardNames
+pub mod Parts

@@ -7,10 +7,10 @@ use crate::wave::{cut, fits, mixed};
 use std::alloc::{AllocError, Global};
 
 // How many samples a ms has.
-const SAMPLES_PER_MS: u32 = 8;
+pub(crate) const SAMPLES_PER_MS: u32 = 8;
 
 // Puts the samples of frequencies that sound together after the others.
-fn push_tones(samples: &mut Vec<i16>, tones: &[u16], ms: u16) -> Result<(), AllocError>
+pub(crate) fn push_tones(samples: &mut Vec<i16>, tones: &[u16], ms: u16) -> Result<(), AllocError>
     requires { length tones.now ≤ MOST_TONES }
     ensures { OnOk result (samples.new.items ≡ samples.old.items ++ tones_sound tones.now ms) }
 {

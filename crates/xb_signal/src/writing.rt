@@ -1,98 +1,125 @@
-// A signal that is written.
-ghost use Rattle.std.specs.Prelude.{◌≡◌, ◌≢◌, ◌≤◌, ◌↔◌, ◌^◌, Err, IfErr, IfOk, OnOk};
+// A signal that is written as it is made.
+ghost use Rattle.std.specs.Prelude.{◌≡◌, ◌≢◌, ◌<◌, ◌≤◌, ◌+◌, ◌*◌, ◌-◌, ◌↔◌, ◌^◌, ◌++◌, Err, IfErr, IfOk, IfSome, IsSome, OnOk, length, min};
 ghost use Rattle.std.specs.Io.KnownBytes.{Appends, Keeps};
 ghost use Rattle.xb_text.specs.Writing.{AppendsBeginning};
-ghost use Rattle.xb_sound.specs.Wavs.{wav_length};
-ghost use Rattle.xb_signal.specs.Segments.{signal_of};
-ghost use Rattle.xb_signal.specs.Writings.{bytes_of};
+ghost use Rattle.xb_sound.specs.Wavs.{header_of, pcm_of, wav_length};
+ghost use Rattle.xb_signal.specs.Segments.{segment_sound, signal_of};
+ghost use Rattle.xb_signal.specs.Writings.{bytes_of, head_before};
 
-use crate::samples::signal_of;
+use crate::head::push_head;
+use crate::samples::{SAMPLES_PER_MS, push_tones};
 use crate::segment::Segment;
 use std::alloc::{AllocError, Global};
 use std::io::Write;
-use thiserror::Error;
-use xb_sound::{HEADER_BYTES, WavFault, wav};
-use xb_text::{WriteFault, write_whole};
+use xb_sound::{HEADER_BYTES, SoundFault};
+use xb_text::write_whole;
 
-/// Why a signal was not written whole.
-#[derive(Clone, Copy, Debug, PartialEq, Eq, Error)]
-pub enum SignalFault {
-    /// The WAV file would have more than 4,294,967,295 bytes. Nothing was written.
-    #[error("the sound is too long for a WAV file")]
-    TooLong,
-    /// Memory ran out. Nothing was written.
-    #[error("out of memory")]
-    NoMemory,
-    /// A write or the flush failed, or a write took no byte. The beginning of the sound was written.
-    #[error("the sound could not be written")]
-    Write,
-}
-
-impl From<AllocError> for SignalFault {
-    ghost use Rattle.xb_signal.specs.declared.writing.SignalFault.TheVariants.{NoMemory};
-
-    ghost from_gives = { λ _ e. e ≡ NoMemory };
-
-    fn from(_error: AllocError) -> SignalFault {
-        SignalFault::NoMemory
-    }
-}
-
-impl From<WriteFault> for SignalFault {
-    ghost use Rattle.xb_signal.specs.declared.writing.SignalFault.TheVariants.{Write};
-
-    ghost from_gives = { λ _ e. e ≡ Write };
-
-    fn from(_fault: WriteFault) -> SignalFault {
-        SignalFault::Write
-    }
-}
-
-impl From<WavFault> for SignalFault {
-    ghost use Rattle.xb_signal.specs.Writings.{of_wav};
-
-    ghost from_gives = { λ fault e. e ≡ of_wav fault };
-
-    fn from(fault: WavFault) -> SignalFault {
-        match fault {
-            WavFault::TooLong => SignalFault::TooLong,
-            WavFault::NoMemory => SignalFault::NoMemory,
-        }
-    }
-}
-
-// What is written of segments: the WAV file, or its samples alone.
-fn bytes_of(alloc: Global, raw: bool, segments: &[Segment]) -> Result<Vec<u8>, SignalFault>
-    ensures bytes { IfOk result (λ bytes. bytes.items ≡ bytes_of raw segments.now) }
-    ensures too_long { result ≡ Err SignalFault.TooLong → 2 ^ 32 ≤ wav_length (signal_of segments.now) }
-    ensures fault { IfErr result (λ f. f ≢ SignalFault.Write) }
+// How many samples a segment has.
+fn segment_length(segment: &Segment) -> u64
+    ensures { result ≡ length (segment_sound segment.now) }
 {
-    let samples = signal_of(alloc, segments)?;
-    let mut bytes = wav(alloc, &samples)?;
-    if raw {
-        bytes.drain(..HEADER_BYTES);
+    u64::from(segment.ms) * u64::from(SAMPLES_PER_MS)
+}
+
+// How many samples segments have; 2^64 - 1 where they are more.
+fn signal_length(segments: &[Segment]) -> u64
+    ensures { result ≡ min (length (signal_of segments.now)) (2 ^ 64 - 1) }
+{
+    let mut samples = 0u64;
+    for segment in segments {
+        samples = samples.saturating_add(segment_length(segment));
     }
-    Ok(bytes)
+    samples
+}
+
+// How many bytes the samples of segments have, where a WAV file has room for them.
+fn bytes_of_signal(segments: &[Segment]) -> Option<u32>
+    ensures variant { IsSome result ↔ (wav_length (signal_of segments.now) < 2 ^ 32) }
+    ensures value { IfSome result (λ n. n ≡ 2 * length (signal_of segments.now)) }
+    ensures fits { IfSome result (λ n. n + 44 < 2 ^ 32) }
+{
+    let samples = signal_length(segments);
+    if samples <= (u64::from(u32::MAX) - HEADER_BYTES as u64) / 2 {
+        Some(samples as u32 * 2)
+    } else {
+        None
+    }
+}
+
+// What stands before the samples of segments: the head of a file, or nothing.
+fn head_before(alloc: Global, raw: bool, segments: &[Segment]) -> Result<Vec<u8>, SoundFault>
+    ensures head { IfOk result (λ head. head.items ≡ head_before raw segments.now) }
+    ensures too_long { result ≡ Err SoundFault.TooLong → 2 ^ 32 ≤ wav_length (signal_of segments.now) }
+{
+    let mut head = Vec::new(alloc);
+    if !raw {
+        let sample_bytes = bytes_of_signal(segments).ok_or(SoundFault::TooLong)?;
+        push_head(&mut head, sample_bytes)?;
+    }
+    Ok(head)
+}
+
+// Puts samples after the bytes, of each the low byte first.
+fn push_samples(out: &mut Vec<u8>, samples: &[i16]) -> Result<(), AllocError>
+    ensures { OnOk result (out.new.items ≡ out.old.items ++ pcm_of samples.now) }
+{
+    for sample in samples {
+        out.extend_from_slice(&sample.to_le_bytes())?;
+    }
+    Ok(())
+}
+
+// Writes the samples of a segment.
+fn write_segment<W: Write>(alloc: Global, out: &mut W, segment: &Segment) -> Result<(), SoundFault>
+    ensures whole { OnOk result
+        (Appends (W.contents out.old) (W.contents out.new) (pcm_of (segment_sound segment.now))) }
+    ensures beginning { AppendsBeginning (W.contents out.old) (W.contents out.new)
+        (pcm_of (segment_sound segment.now)) }
+    ensures fits { IfErr result (λ fault. fault ≢ SoundFault.TooLong) }
+{
+    let mut samples = Vec::new(alloc);
+    push_tones(&mut samples, segment.tones.hz(), segment.ms)?;
+    let mut bytes = Vec::new(alloc);
+    push_samples(&mut bytes, &samples)?;
+    write_whole(out, &bytes)?;
+    Ok(())
+}
+
+// Writes the samples of segments, one segment after the other.
+fn write_segments<W: Write>(
+    alloc: Global,
+    out: &mut W,
+    segments: &[Segment],
+) -> Result<(), SoundFault>
+    ensures whole { OnOk result
+        (Appends (W.contents out.old) (W.contents out.new) (pcm_of (signal_of segments.now))) }
+    ensures beginning { AppendsBeginning (W.contents out.old) (W.contents out.new)
+        (pcm_of (signal_of segments.now)) }
+    ensures fits { IfErr result (λ fault. fault ≢ SoundFault.TooLong) }
+{
+    for segment in segments {
+        write_segment(alloc, out, segment)?;
+    }
+    Ok(())
 }
 
 /// Writes the sound of segments: the samples alone (16 bits, the low byte first, 8,000 a second), or a WAV file of
-/// them. It holds all of it. `TooLong` comes only where the file would have 2^32 bytes or more, also where the samples
-/// are asked for alone. On `Write` the beginning was written, and on any other `Err` nothing.
+/// them. It holds the samples of one segment at a time: the length in the head is summed before. `TooLong` comes only
+/// where the file would have 2^32 bytes or more, and then nothing was written; on another `Err` the beginning was.
 pub fn write_signal<W: Write>(
     alloc: Global,
     raw: bool,
     segments: &[Segment],
     out: &mut W,
-) -> Result<(), SignalFault>
+) -> Result<(), SoundFault>
     ensures whole { OnOk result
         (Appends (W.contents out.old) (W.contents out.new) (bytes_of raw segments.now)) }
     ensures beginning { AppendsBeginning (W.contents out.old) (W.contents out.new)
         (bytes_of raw segments.now) }
-    ensures too_long { result ≡ Err SignalFault.TooLong → 2 ^ 32 ≤ wav_length (signal_of segments.now) }
-    ensures untouched { IfErr result (λ f. f ≢ SignalFault.Write
-        → Keeps (W.contents out.old) (W.contents out.new)) }
+    ensures too_long { result ≡ Err SoundFault.TooLong → 2 ^ 32 ≤ wav_length (signal_of segments.now) }
+    ensures untouched { result ≡ Err SoundFault.TooLong → Keeps (W.contents out.old) (W.contents out.new) }
 {
-    let bytes = bytes_of(alloc, raw, segments)?;
-    write_whole(out, &bytes)?;
-    Ok(())
+    let head = head_before(alloc, raw, segments)?;
+    write_whole(out, &head)?;
+    write_segments(alloc, out, segments)
 }

@@ -8,8 +8,6 @@ use Rattle.xb_sound.specs.declared.sounding.SoundFault.{SoundFault}
 use Rattle.xb_sound.specs.declared.sounding.SoundFault.TheVariants as sound_fault
 use Rattle.xb_signal.specs.declared.fault.KeysFault.{KeysFault}
 use Rattle.xb_signal.specs.declared.fault.KeysFault.TheVariants as keys_fault
-use Rattle.xb_signal.specs.declared.writing.SignalFault.{SignalFault}
-use Rattle.xb_signal.specs.declared.writing.SignalFault.TheVariants as signal_fault
 use Rattle.xb_tone.specs.declared.fault.ToneFault.{ToneFault}
 use Rattle.xb_tone.specs.declared.fault.ToneFault.TheVariants as fault
 
@@ -31,8 +29,3 @@ IsOfPage f e = ((f ≡ page_fault.NoMemory) × (e ≡ fault.NoMemory))
 abbrev pub IsOfKeys : KeysFault → ToneFault → Type 0
 IsOfKeys f e = ((f ≡ keys_fault.NoMemory) × (e ≡ fault.NoMemory))
     ⊎ ((f ≢ keys_fault.NoMemory) × (e ≡ fault.Keys f))
-
-abbrev pub of_signal : SignalFault → ToneFault
-of_signal signal_fault.TooLong = fault.TooLongSound
-of_signal signal_fault.NoMemory = fault.NoMemory
-of_signal signal_fault.Write = fault.Write

@@ -108,10 +108,12 @@ pub record SaysBytes (request : Request) (text bytes : List ℕ) : Type 0 where
   pub are_bytes : bytes ≡ bytes_of_signal request.raw segments
 
 -- what is returned for words of keys, and what the writer got of them: the sound on Ok, its beginning where a write
--- failed, and nothing on any other fault; there are no faults of pages
+-- failed or memory ran out in it, and nothing on any other fault; there are no faults of pages
 abbrev pub DeliversKeys : Request → List ℕ → Result (Unit {0}) ToneFault → Option (List ℕ) → Option (List ℕ) → Type 0
 DeliversKeys request text (Ok u) old new = (bytes : List ℕ) × SaysBytes request text bytes × Appends old new bytes
 DeliversKeys request text (Err fault.Write) old new =
+    (bytes : List ℕ) × SaysBytes request text bytes × AppendsBeginning old new bytes
+DeliversKeys request text (Err fault.CutShort) old new =
     (bytes : List ℕ) × SaysBytes request text bytes × AppendsBeginning old new bytes
 DeliversKeys request text (Err (fault.Keys f)) old new =
     Keeps old new × (segments_of_text request.cadence text ≡ Err f)

@@ -4,7 +4,7 @@ ghost use Rattle.std.specs.Prelude.{◌≡◌};
 use std::alloc::AllocError;
 use thiserror::Error;
 use xb_page::PageFault;
-use xb_signal::{KeysFault, SignalFault};
+use xb_signal::KeysFault;
 use xb_sound::{CadenceFault, SoundFault};
 use xb_text::ReadFault;
 
@@ -117,20 +117,6 @@ impl From<KeysFault> for ToneFault {
         match fault {
             KeysFault::NoMemory => ToneFault::NoMemory,
             fault => ToneFault::Keys(fault),
-        }
-    }
-}
-
-impl From<SignalFault> for ToneFault {
-    ghost use Rattle.xb_tone.specs.Faults.{of_signal};
-
-    ghost from_gives = { λ fault e. e ≡ of_signal fault };
-
-    fn from(fault: SignalFault) -> ToneFault {
-        match fault {
-            SignalFault::TooLong => ToneFault::TooLongSound,
-            SignalFault::NoMemory => ToneFault::NoMemory,
-            SignalFault::Write => ToneFault::Write,
         }
     }
 }

@@ -11,9 +11,9 @@ use std::io::{Read, Write};
 use xb_signal::{segments_of_text, write_signal};
 
 /// Writes the sound of words of keys. The cadence is judged before the words, and all words before anything is written.
-/// What the request says of entries counts for nothing.
+/// What the request says of entries counts for nothing. The sound is written as it is made.
 ///
-/// On an `Err` nothing was written, except on `Write`, where the beginning of the sound was.
+/// On an `Err` nothing was written, except on `CutShort` and `Write`, where the beginning of the sound was.
 pub fn play_keys<W: Write>(
     alloc: Global,
     request: Request,

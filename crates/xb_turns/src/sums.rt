@@ -5,9 +5,9 @@ ghost use Rattle.xb_turns.specs.Sums.{with_digit, with_figure};
 
 use crate::dial::Said;
 use crate::figures::{figure_of, share_of, speed_of};
-use crate::windows::Windows;
 use crate::train::Train;
 use crate::verdict::{Verdict, verdict_of};
+use crate::windows::Windows;
 use xb_contact::Scale;
 
 /// A sum of tenths stops there.

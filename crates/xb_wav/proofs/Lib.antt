@@ -1,3 +1,5 @@
+pub mod Channels
+pub mod Filters
 pub mod Samples
 pub mod Walks
 pub mod Sounds

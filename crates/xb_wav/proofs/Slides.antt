@@ -7,11 +7,11 @@ use Rattle.std.proofs.lemmas.Slice.{take-put_mid}
 use Rattle.std.proofs.lemmas.List.{length-take}
 use borrow.Rule.Slice.PartMut.{put_mid, mid_of}
 
-module _ (old group : List ℕ) (g all at size : ℕ) (whole : all ≡ 8 * g) (starts : at ≡ all - g) (ends : size ≡ all - at)
+module _ {A : Type 0} (old group : List A) (g all at size : ℕ) (whole : all ≡ 8 * g) (starts : at ≡ all - g) (ends : size ≡ all - at)
     (room : all ≤ length old) where
   -- a group has its place there
   pub group-size : length group ≡ length (mid_of at size old) → length group ≡ g
-  group-size same = omega (arith, same, length-take {A = ℕ}, length-drop {A = ℕ}, whole, starts, ends, room)
+  group-size same = omega (arith, same, length-take {A = A}, length-drop {A = A}, whole, starts, ends, room)
 
   -- a group that was read stands after those before it
   pub filled : length group ≡ g → take all (put_mid at size old group) ≡ take (7 * g) old ++ group
@@ -20,7 +20,7 @@ module _ (old group : List ℕ) (g all at size : ℕ) (whole : all ≡ 8 * g) (s
       ∙ ap (λ (n : ℕ). take n old ++ group) (omega (arith, whole, starts))
 
   -- and the first one is let go
-  pub slid : (new : List ℕ) → length group ≡ g → all ≤ length (put_mid at size old group)
+  pub slid : (new : List A) → length group ≡ g → all ≤ length (put_mid at size old group)
       → new ≡ copy_within (put_mid at size old group) g all 0
       → take (7 * g) new ≡ drop g (take (7 * g) old ++ group)
   slid new long fits is =

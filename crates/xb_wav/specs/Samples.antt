@@ -1,8 +1,6 @@
 -- The samples that bytes write, 8,000 of them a second.
-use Rattle.std.specs.Prelude.{ℕ, zero, suc, ◌≡◌, ◌+◌, ◌-◌, ◌*◌, ◌/◌, ◌%◌, ◌<◌, ◌≤◌, List, [], ◌∷◌, ◌++◌, drop, length, min, replicate, ℤ, pos, negsuc, ◌+ℤ◌, ◌-ℤ◌, ◌*ℤ◌, Bool, ◌==◌, if◌then◌else◌}
+use Rattle.std.specs.Prelude.{ℕ, zero, suc, ◌≡◌, ◌+◌, ◌-◌, ◌*◌, ◌/◌, ◌%◌, ◌<◌, ◌≤◌, List, [], ◌∷◌, ◌++◌, drop, length, min, replicate, slice_index_or, ℤ, pos, negsuc, ◌+ℤ◌, ◌-ℤ◌, ◌*ℤ◌, Bool, ◌==◌, if◌then◌else◌}
 use Rattle.xb_riff.specs.Codings.{sample_at, width}
-use Rattle.xb_riff.specs.declared.coding.Coding.{Coding}
-use Rattle.xb_riff.specs.declared.coding.Coding.TheVariants as coding
 use Rattle.xb_wav.specs.declared.coding.SampleForm.{SampleForm}
 use Rattle.xb_wav.specs.declared.coding.TheConstants.{MOST_CHANNELS, MOST_FRAMES}
 use Rattle.xb_wav.specs.Weights.{weight_at}
@@ -27,20 +25,20 @@ group_bytes form = frame_bytes form * form.frames
 abbrev pub channel_bytes : SampleForm → ℕ
 channel_bytes form = width form.coding * form.channel
 
--- a window has eight times as many
-abbrev pub window_bytes : SampleForm → ℕ
-window_bytes form = 8 * group_bytes form
+-- the samples that the first n frames have in that channel
+unfoldable pub channel_of : SampleForm → ℕ → List ℕ → List ℤ
+channel_of form zero bytes = []
+channel_of form (suc n) bytes =
+    sample_at form.coding (drop (channel_bytes form) bytes) ∷ channel_of form n (drop (frame_bytes form) bytes)
 
 -- of 24 samples in the time of one each has its weight, of 12 each second one, and so on
-abbrev pub weight : SampleForm → ℕ → ℤ
-weight form n = weight_at (n * (MOST_FRAMES / form.frames))
+abbrev pub weight : ℕ → ℕ → ℤ
+weight frames n = weight_at (n * (MOST_FRAMES / frames))
 
--- what the first n frames have in the channel that is heard, each times its weight, all together
-unfoldable pub sum_of : SampleForm → ℕ → List ℕ → ℤ
-sum_of form zero bytes = pos 0
-sum_of form (suc n) bytes =
-    sum_of form n bytes
-    +ℤ sample_at form.coding (drop (n * frame_bytes form + channel_bytes form) bytes) *ℤ weight form n
+-- the first n samples, each times its weight, all together
+unfoldable pub sum_of : ℕ → ℕ → List ℤ → ℤ
+sum_of frames zero samples = pos 0
+sum_of frames (suc n) samples = sum_of frames n samples +ℤ slice_index_or samples n (pos 0) *ℤ weight frames n
 
 -- a number that is not below zero, and 0 for one that is
 abbrev pub above_zero : ℤ → ℕ
@@ -52,28 +50,24 @@ abbrev pub rounded : ℕ → ℤ → ℤ
 rounded unit sum =
     pos (min 65535 (above_zero (sum +ℤ pos (32768 * unit + unit / 2)) / unit)) -ℤ pos 32768
 
--- the sample at the end of a window: where there are 8,000 a second the last one, and else all of them by their
--- weights, whose sum is 10,000 for each sample of a group, give or take 10
-abbrev pub heard_sample : SampleForm → List ℕ → ℤ
-heard_sample form bytes =
-    if form.frames == 1
-    then sample_at form.coding (drop (7 * group_bytes form + channel_bytes form) bytes)
-    else rounded (10000 * form.frames) (sum_of form (8 * form.frames) bytes)
+-- the sample at the end of the time of eight: all samples in it by their weights, whose sum is 10,000 for each frame,
+-- give or take 10
+abbrev pub filtered_sample : ℕ → List ℤ → ℤ
+filtered_sample frames samples = rounded (10000 * frames) (sum_of frames (8 * frames) samples)
 
--- the n samples at the ends of the windows that bytes begin with, each a group after the one before
-unfoldable pub samples_of : SampleForm → ℕ → List ℕ → List ℤ
-samples_of form zero bytes = []
-samples_of form (suc n) bytes = heard_sample form bytes ∷ samples_of form n (drop (group_bytes form) bytes)
+-- the n samples at the ends of the times of eight that samples begin with, each the time of one after the one before
+unfoldable pub filtered : ℕ → ℕ → List ℤ → List ℤ
+filtered frames zero samples = []
+filtered frames (suc n) samples = filtered_sample frames samples ∷ filtered frames n (drop frames samples)
 
--- the byte that writes silence
-abbrev pub silent_byte : Coding → ℕ
-silent_byte coding.Unsigned8 = 128
-silent_byte coding.Signed16 = 0
-silent_byte coding.MuLaw = 255
+-- the samples of a channel as n of 8,000 a second, after those before them: where there are so many as they are
+abbrev pub heard_samples : ℕ → ℕ → List ℤ → List ℤ → List ℤ
+heard_samples frames n before samples =
+    if frames == 1 then samples else filtered frames n (before ++ samples)
 
--- silence in all of a window but its last group
-abbrev pub silence : SampleForm → List ℕ
-silence form = replicate (7 * group_bytes form) (silent_byte form.coding)
+-- silence in the time of seven
+abbrev pub silence : SampleForm → List ℤ
+silence form = replicate (7 * form.frames) (pos 0)
 
 -- samples, and how many are said to come after them and do not
 pub record Sound : Type 0 where
@@ -87,11 +81,15 @@ sound_with samples lacking = record { samples = samples; lacking = lacking }
 abbrev pub whole_samples : SampleForm → List ℕ → ℕ
 whole_samples form bytes = length bytes / group_bytes form
 
--- the sound of bytes that are said to write so many samples, after what was written before them; where they are
--- counted, each has to come
-abbrev pub sound_after : SampleForm → List ℕ → ℕ → Bool → List ℕ → Sound
+-- the n samples of 8,000 a second that bytes write, after the channel's samples before them
+abbrev pub samples_of : SampleForm → ℕ → List ℤ → List ℕ → List ℤ
+samples_of form n before bytes = heard_samples form.frames n before (channel_of form (n * form.frames) bytes)
+
+-- the sound of bytes that are said to write so many samples, after those before them; where they are counted, each has
+-- to come
+abbrev pub sound_after : SampleForm → List ℤ → ℕ → Bool → List ℕ → Sound
 sound_after form before said counted bytes =
-    sound_with (samples_of form (min said (whole_samples form bytes)) (before ++ bytes))
+    sound_with (samples_of form (min said (whole_samples form bytes)) before bytes)
     (if counted then said - whole_samples form bytes else 0)
 
 -- the sound of all bytes of a stream, before which there is silence

@@ -1,5 +1,5 @@
 -- What the samples of a WAV file begin with.
-use Rattle.std.specs.Prelude.{ℕ, ◌≡◌, ◌+◌, ◌*◌, ◌/◌, ◌%◌, ◌==◌, ◌&&◌, List, nat_lt, true, false, if◌then◌else◌, Option, Some, None, Result, Ok, Err}
+use Rattle.std.specs.Prelude.{ℕ, ◌≡◌, ◌/◌, ◌%◌, ◌==◌, ◌&&◌, List, nat_lt, true, false, if◌then◌else◌, Option, Some, None, Result, Ok, Err}
 use Rattle.xb_riff.specs.declared.coding.Coding.{Coding}
 use Rattle.xb_riff.specs.declared.head.HeadFault.{HeadFault}
 use Rattle.xb_riff.specs.declared.head.WavFormat.{WavFormat}

@@ -1,10 +1,11 @@
 -- What is read of a stream, and the sound that it has left.
-use Rattle.std.specs.Prelude.{ℕ, ◌≡◌, ◌*◌, ◌≤◌, ◌<◌, List, [], ◌∷◌, length, take, ℤ, Option, Some, None, Result, Ok, Err, option_map}
+use Rattle.std.specs.Prelude.{ℕ, suc, ◌≡◌, ◌*◌, ◌≤◌, ◌<◌, List, [], ◌∷◌, ◌++◌, length, take, ℤ, Option, Some, None, Result, Ok, Err, option_map}
 use Rattle.std.specs.Io.KnownBytes.{Consumes, IsAtEnd}
 use Rattle.xb_wav.specs.declared.source.Source.{Source}
 use Rattle.xb_wav.specs.declared.source.StreamFault.{StreamFault}
 use Rattle.xb_wav.specs.declared.source.StreamFault.TheVariants as fault
-use Rattle.xb_wav.specs.Samples.{Sound, group_bytes, sound_after, sound_with}
+use Rattle.xb_wav.specs.declared.coding.SampleForm.{SampleForm}
+use Rattle.xb_wav.specs.Samples.{Sound, channel_of, heard_samples, sound_after, sound_with}
 
 -- n bytes of a buffer were read, fewer than it has only at the end
 pub record FillsUp (old new : Option (List ℕ)) (buffer : List ℕ) (n : ℕ) : Type 0 where
@@ -12,9 +13,16 @@ pub record FillsUp (old new : Option (List ℕ)) (buffer : List ℕ) (n : ℕ) :
   pub within : n ≤ length buffer
   pub end : n < length buffer → IsAtEnd new
 
--- what was written before the bytes that a source has still to read, so far as it is heard with them
-abbrev pub recent : {R : Type 0} → Source R → List ℕ
-recent s = take (7 * group_bytes s.form) s.window
+-- the samples before the bytes that a source has still to read, so far as they are heard with these
+abbrev pub recent : {R : Type 0} → Source R → List ℤ
+recent s = take (7 * s.form.frames) s.window
+
+-- the bytes of one sample of 8,000 a second write it, after the channel's samples before them; then these are others
+abbrev pub HearsGroup : SampleForm → List ℕ → List ℤ → ℤ → List ℤ → Type 0
+HearsGroup form group before sample after =
+    (n : ℕ) (rest : List ℤ)
+    → heard_samples form.frames (suc n) before (channel_of form form.frames group ++ rest)
+    ≡ sample ∷ heard_samples form.frames n after rest
 
 -- the sound that a source has still to give, where its bytes are known
 abbrev pub sound_left : {R : Type 0} → (R → Option (List ℕ)) → Source R → Option Sound

@@ -14,6 +14,7 @@
 #![tactic(auto)]
 
 mod coding;
+mod filter;
 pub mod laws;
 mod source;
 mod wav_start;

@@ -1,10 +1,11 @@
 // The samples of a stream, one at a time.
-ghost use Rattle.std.specs.Prelude.{◌≡◌, ◌+◌, length, IfOk, IfSome};
+ghost use Rattle.std.specs.Prelude.{◌≡◌, ◌+◌, ◌*◌, length, take, IfOk, IfSome};
 ghost use Rattle.std.specs.Option.{option_map};
-ghost use Rattle.xb_wav.specs.Samples.{IsForm, sound_of};
-ghost use Rattle.xb_wav.specs.Streams.{FillsUp, GivesSample, sound_left};
+ghost use Rattle.xb_wav.specs.Samples.{IsForm, group_bytes, sound_of};
+ghost use Rattle.xb_wav.specs.Streams.{FillsUp, GivesSample, HearsGroup, sound_left};
 
-use crate::coding::{MOST_WINDOW_BYTES, SampleForm, silent_window};
+use crate::coding::{MOST_GROUP_BYTES, SampleForm};
+use crate::filter::{MOST_WINDOW, WINDOW, filtered};
 use crate::wav_start::Start;
 use std::io::Read;
 
@@ -37,6 +38,24 @@ pub(crate) fn fill<R: Read>(reader: &mut R, buffer: &mut [u8]) -> Result<usize, 
     Ok(at)
 }
 
+// The sample that a group of bytes writes, by which the window goes on.
+fn hear(form: SampleForm, group: &[u8], window: &mut [i16; MOST_WINDOW]) -> i16
+    requires form { IsForm form }
+    requires group { length group.now ≡ group_bytes form }
+    ensures { HearsGroup form group.now
+        (take (7 * form.frames) window.old) result (take (7 * form.frames) window.new) }
+{
+    let frames = form.frames;
+    if frames == 1 {
+        return form.first_sample(group);
+    }
+    let whole = WINDOW * frames;
+    form.put_samples(group, &mut window[whole - frames..whole]);
+    let sample = filtered(&window[..whole], frames);
+    window.copy_within(frames..whole, 0);
+    sample
+}
+
 /// The samples of a stream that is open: 8,000 a second, of one channel.
 #[derive(Drop)]
 pub struct Source<R: Read> {
@@ -48,8 +67,11 @@ pub struct Source<R: Read> {
     pub said: u64,
     /// Whether each of them has to.
     pub counted: bool,
-    // What was written in the time of the last seven samples, and room for the next one.
-    window: [u8; MOST_WINDOW_BYTES],
+    // Room for the bytes of the next sample.
+    group: [u8; MOST_GROUP_BYTES],
+    // The channel's samples in the time of the last seven, and room for those of the next one; where there are 8,000 a
+    // second it is not used.
+    window: [i16; MOST_WINDOW],
 }
 
 impl<R: Read> Source<R> {
@@ -66,7 +88,8 @@ impl<R: Read> Source<R> {
             form: start.form,
             said: start.samples,
             counted: start.counted,
-            window: silent_window(start.form.coding),
+            group: [0; MOST_GROUP_BYTES],
+            window: [0; MOST_WINDOW],
         }
     }
 
@@ -83,14 +106,12 @@ impl<R: Read> Source<R> {
             return Ok(None);
         }
         let size = self.form.group_bytes();
-        let whole = self.form.window_bytes();
-        let group = &mut self.window[whole - size..whole];
+        // With both its ends this part of a field is lent beside the reader.
+        let group = &mut self.group[0..size];
         match fill(&mut self.reader, group) {
             Ok(count) if count == size => {
                 self.said -= 1;
-                let sample = self.form.heard(&self.window[..whole]);
-                self.window.copy_within(size..whole, 0);
-                Ok(Some(sample))
+                Ok(Some(hear(self.form, &self.group[..size], &mut self.window)))
             }
             Ok(_) if self.counted => Err(StreamFault::Cut(self.said)),
             Ok(_) => Ok(None),

@@ -10,8 +10,8 @@ use Rattle.xb_measured.proofs.receiver.Receiver.finish.Goals as goal
 pub returns-in-Some : goal.returns-in-Some
 returns-in-Some c samples keys given =
     let has = subst (λ receiver. HasReceived receiver samples keys) (sym c.self.view_is) given in
-    received-last _ samples keys c.finish.result (Some c.measure.result) has (c.finish.ensures samples (heard samples) has.ear)
-    (one-measured samples c.in-Some.key c.measure.result (c.measure.ensures samples has.tape)
+    received-last _ samples keys c.finish.result (Some c.measured.result) has (c.finish.ensures samples (heard samples) has.ear)
+    (one-measured samples c.in-Some.key c.measured.result (c.measured.ensures samples (heard samples) has.ear has.tape)
     ∙ ap (λ (k : Option HeardKey). map (heard_in samples) (listed_key k)) (sym c.in-Some.is))
 
 pub returns-in-None : goal.returns-in-None

@@ -24,7 +24,7 @@ returns c samples keys given =
     elim c.match-take.branch [
       | in-Some w ↦ received-more _ _ samples keys c.args.sample c.take-2.result c.match-take.result has ear tape
           (ap (λ (k : Option Heard). listed k) w.result-is
-          ∙ one-measured all w.in-Some.key w.measure.result (w.measure.ensures all tape)
+          ∙ one-measured all w.in-Some.key w.measured.result (w.measured.ensures all _ ear tape)
           ∙ ap (λ (k : Option HeardKey). map (heard_in all) (listed_key k)) (sym w.in-Some.is))
       | in-None w ↦ received-more _ _ samples keys c.args.sample c.take-2.result c.match-take.result has ear tape
           (ap (λ (k : Option Heard). listed k) w.result-is

@@ -1,4 +1,4 @@
-use Rattle.std.proofs.Common.{ℕ, List, ap, refl}
+use Rattle.std.proofs.Common.{ℕ, List, ap, refl, rules}
 use Rattle.xb_contact.specs.declared.event.Refusal.{Refusal}
 use Rattle.xb_contact.specs.Steps.{IsRefusedBy, result_map}
 use Rattle.xb_samples.specs.Sounds.{begun_sound, high_of, sound_says, wires_of}
@@ -9,7 +9,7 @@ use Rattle.xb_samples.proofs.sound.Sound.new.Goals as goal
 
 pub returns-clause-begun : goal.returns-clause-begun
 returns-clause-begun c =
-    (ap (result_map (begun_sound c.args.channels (high_of c.args.threshold))) c.in_ok-wires.ensures.said, refl, refl, refl, c.new.ensures)
+    (ap (result_map (begun_sound c.args.channels (high_of c.args.threshold))) c.in_ok-wires.ensures.said, search rules, refl, refl, c.new-2.ensures)
 
 pub returns-clause-said : goal.returns-clause-said
 returns-clause-said c =

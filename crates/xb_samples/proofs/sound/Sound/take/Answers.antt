@@ -5,7 +5,7 @@ use Rattle.xb_contact.specs.declared.event.Refusal.TheVariants.{TooLate}
 use Rattle.xb_samples.specs.declared.sound.Sound.{Sound}
 use Rattle.xb_samples.specs.Pieces.{RunsOver, after_piece, piece_events}
 use Rattle.xb_samples.specs.declared.tail.Tail.{Tail}
-use Rattle.xb_samples.specs.Sounds.{lower_left, samples_after, sound_fault, sound_reading, sound_state}
+use Rattle.xb_samples.specs.Sounds.{begun_after, samples_after, sound_fault, sound_reading, sound_state}
 use Rattle.xb_samples.specs.Tails.{follows_more, left_after}
 use Rattle.xb_samples.proofs.EndLemmas.{sound_faults}
 use Rattle.xb_samples.proofs.SoundLemmas.{own_over, sound_takes}
@@ -23,12 +23,12 @@ returns-clause-said c =
     let mid = c.take_bytes.new.events.items in
     let said = c.in_ok-take_bytes.ensures in
     let P : Sound → Type 0 =
-    λ s. (mid ≡ before ++ piece_events sound_reading (sound_state s) (samples_after s.coding s.lower own))
-    × (sound_state new ≡ after_piece sound_reading (sound_state s) (samples_after s.coding s.lower own))
-    × (new.lower ≡ lower_left s.coding s.lower own) × (new.left ≡ s.left) × (new.coding ≡ s.coding) × (new.tail ≡ s.tail) in
+    λ s. (mid ≡ before ++ piece_events sound_reading (sound_state s) (samples_after s.coding s.begun.items own))
+    × (sound_state new ≡ after_piece sound_reading (sound_state s) (samples_after s.coding s.begun.items own))
+    × (new.begun.items ≡ begun_after s.coding s.begun.items own) × (new.left ≡ s.left) × (new.coding ≡ s.coding) × (new.tail ≡ s.tail) in
     let now : P (record old { tail = tail; left = left_after old.left bytes }) =
     subst P c.own-own.ensures.left
-    (said.events, said.state, said.lower, c.take_bytes.ensures.left, c.take_bytes.ensures.coding, c.take_bytes.ensures.tail) in
+    (said.events, said.state, said.begun, c.take_bytes.ensures.left, c.take_bytes.ensures.coding, c.take_bytes.ensures.tail) in
     let faults : (text : List ℕ) → sound_fault new text ≡ sound_fault old (bytes ++ text) =
     sound_faults old new bytes own c.own-own.ensures.own now.1 now.2 now.3 now.4
     (λ text. ap (λ (t : Tail). follows_more t text) now.5 ∙ c.in_ok-take.ensures.taken text) in
@@ -45,12 +45,12 @@ returns-clause-faults c =
     let bytes = c.args.bytes.now in
     let own = c.own-own.result.now in
     let P : Sound → Type 0 =
-    λ s. (sound_state new ≡ after_piece sound_reading (sound_state s) (samples_after s.coding s.lower own))
-    × (new.lower ≡ lower_left s.coding s.lower own) × (new.left ≡ s.left) × (new.coding ≡ s.coding) × (new.tail ≡ s.tail) in
+    λ s. (sound_state new ≡ after_piece sound_reading (sound_state s) (samples_after s.coding s.begun.items own))
+    × (new.begun.items ≡ begun_after s.coding s.begun.items own) × (new.left ≡ s.left) × (new.coding ≡ s.coding) × (new.tail ≡ s.tail) in
     let now : P (record old { tail = tail; left = left_after old.left bytes }) =
     subst P c.own-own.ensures.left (
       c.in_ok-take_bytes.ensures.state,
-      c.in_ok-take_bytes.ensures.lower,
+      c.in_ok-take_bytes.ensures.begun,
       c.take_bytes.ensures.left,
       c.take_bytes.ensures.coding,
       c.take_bytes.ensures.tail,

@@ -1,8 +1,8 @@
 use Rattle.std.proofs.Common.{◌≡◌, ℕ, List, [], ◌∷◌, ◌++◌, get_or, length, refl, subst, ◌∙◌, arith}
 use Rattle.xb_riff.specs.declared.coding.Coding.{Coding}
 use Rattle.xb_samples.specs.Pieces.{RunsOver, after_piece, piece_events}
-use Rattle.xb_samples.specs.Sounds.{lower_left, samples_after, sound_reading, sound_state}
-use Rattle.xb_samples.proofs.SoundLemmas.{byte_events, byte_lower, byte_state, bytes_events, bytes_lower, bytes_state}
+use Rattle.xb_samples.specs.Sounds.{begun_after, samples_after, sound_reading, sound_state}
+use Rattle.xb_samples.proofs.SoundLemmas.{byte_events, byte_begun, byte_state, bytes_events, bytes_begun, bytes_state}
 use Rattle.xb_samples.proofs.RefusedLemmas.{over_later, refused_with}
 use Rattle.xb_samples.proofs.sound.Sound.take_bytes.Goals as goal
 
@@ -18,15 +18,15 @@ loop-byte-preserved c =
     let how = c.args.self.now.coding in
     let byte : List ℕ = get_or bytes i 0 ∷ [] in
     let events = subst (λ (h : Coding). c.take_byte.new.events.items
-    ≡ c.loop-byte.events.items ++ piece_events sound_reading (sound_state old) (samples_after h old.lower byte)) so_far.coding took.events in
-    let state = subst (λ (h : Coding). sound_state new ≡ after_piece sound_reading (sound_state old) (samples_after h old.lower byte))
+    ≡ c.loop-byte.events.items ++ piece_events sound_reading (sound_state old) (samples_after h old.begun.items byte)) so_far.coding took.events in
+    let state = subst (λ (h : Coding). sound_state new ≡ after_piece sound_reading (sound_state old) (samples_after h old.begun.items byte))
     so_far.coding took.state in
-    let lower = subst (λ (h : Coding). new.lower ≡ lower_left h old.lower byte) so_far.coding took.lower in
+    let begun = subst (λ (h : Coding). new.begun.items ≡ begun_after h old.begun.items byte) so_far.coding took.begun in
     record {
-      events = byte_events how (sound_state old) (sound_state new) old.lower new.lower bytes i c.loop-byte.events.items
-          c.take_byte.new.events.items _ inside events state lower so_far.events;
-      state = byte_state how (sound_state old) (sound_state new) _ old.lower new.lower bytes i inside state lower so_far.state;
-      lower = byte_lower how old.lower new.lower _ bytes i inside lower so_far.lower;
+      events = byte_events how (sound_state old) (sound_state new) old.begun.items new.begun.items bytes i c.loop-byte.events.items
+          c.take_byte.new.events.items _ inside events state begun so_far.events;
+      state = byte_state how (sound_state old) (sound_state new) _ old.begun.items new.begun.items bytes i inside state begun so_far.state;
+      begun = byte_begun how old.begun.items new.begun.items _ bytes i inside begun so_far.begun;
       left = took.left ∙ so_far.left;
       tail = took.tail ∙ so_far.tail;
       coding = took.coding ∙ so_far.coding;
@@ -35,21 +35,21 @@ loop-byte-preserved c =
 
 pub returns-clause-events : goal.returns-clause-events
 returns-clause-events c =
-    bytes_events c.args.self.now.coding (sound_state c.loop-byte.self) c.loop-byte.self.lower c.args.bytes.now c.loop-byte.byte-index
+    bytes_events c.args.self.now.coding (sound_state c.loop-byte.self) c.loop-byte.self.begun.items c.args.bytes.now c.loop-byte.byte-index
     c.loop-byte.events.items _ c.loop-byte-test.false c.loop-byte.invariant.events
 
 pub returns-clause-state : goal.returns-clause-state
 returns-clause-state c =
-    bytes_state c.args.self.now.coding (sound_state c.loop-byte.self) _ c.loop-byte.self.lower c.args.bytes.now c.loop-byte.byte-index
+    bytes_state c.args.self.now.coding (sound_state c.loop-byte.self) _ c.loop-byte.self.begun.items c.args.bytes.now c.loop-byte.byte-index
     c.loop-byte-test.false c.loop-byte.invariant.state
 
-pub returns-clause-lower : goal.returns-clause-lower
-returns-clause-lower c =
-    bytes_lower c.args.self.now.coding c.loop-byte.self.lower _ c.args.bytes.now c.loop-byte.byte-index c.loop-byte-test.false
-    c.loop-byte.invariant.lower
+pub returns-clause-begun : goal.returns-clause-begun
+returns-clause-begun c =
+    bytes_begun c.args.self.now.coding c.loop-byte.self.begun.items _ c.args.bytes.now c.loop-byte.byte-index c.loop-byte-test.false
+    c.loop-byte.invariant.begun
 
 pub loop-byte-init : goal.loop-byte-init
-loop-byte-init c = record { events = refl; state = refl; lower = refl; left = refl; tail = refl; coding = refl; count = omega arith }
+loop-byte-init c = record { events = refl; state = refl; begun = refl; left = refl; tail = refl; coding = refl; count = omega arith }
 
 pub returns-in_err-take_byte-clause-over : goal.returns-in_err-take_byte-clause-over
 returns-in_err-take_byte-clause-over c =

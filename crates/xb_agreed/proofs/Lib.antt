@@ -1,0 +1,5 @@
+pub mod WatchedLines
+pub mod SettledSteps
+pub mod FollowedBench
+pub mod SettledRuns
+pub mod RowDigits

@@ -1,0 +1,43 @@
+// Samples in eight bits whose steps grow with them (G.711).
+ghost use Rattle.std.specs.Prelude.{◌≡◌, ◌≤◌};
+ghost use Rattle.xb_riff.specs.Codings.{a_law_magnitude, a_law_sample, magnitude, mu_law_sample};
+
+// How far from silence a code of mu-law is.
+fn magnitude(code: u8) -> u16
+    ensures value { result ≡ magnitude code }
+    ensures bound { result ≤ 32124 }
+{
+    let steps = u32::from(code % 16) * 8 + 132;
+    let doublings = 2u32.pow(u32::from(code % 128 / 16));
+    (steps * doublings - 132) as u16
+}
+
+/// A sample of mu-law.
+pub(crate) fn mu_law(byte: u8) -> i16
+    ensures { result ≡ mu_law_sample byte }
+{
+    let magnitude = magnitude(255 - byte) as i16;
+    if byte < 128 { -magnitude } else { magnitude }
+}
+
+// How far from zero a code of A-law is.
+fn a_law_magnitude(code: u8) -> u16
+    ensures value { result ≡ a_law_magnitude code }
+    ensures bound { result ≤ 32256 }
+{
+    let steps = u32::from(code % 16) * 16 + 8;
+    let segment = u32::from(code % 128 / 16);
+    if segment == 0 {
+        return steps as u16;
+    }
+    let doublings = 2u32.pow(segment - 1);
+    ((steps + 256) * doublings) as u16
+}
+
+/// A sample of A-law.
+pub(crate) fn a_law(byte: u8) -> i16
+    ensures { result ≡ a_law_sample byte }
+{
+    let magnitude = a_law_magnitude(byte ^ 0x55) as i16;
+    if byte < 128 { -magnitude } else { magnitude }
+}
