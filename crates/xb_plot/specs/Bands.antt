@@ -19,17 +19,17 @@ window_text figure windows window ink =
     (place_of figure windows window.least - place_of figure windows window.most) ink
 
 -- that to which dials are adjusted is one of the speed
-abbrev pub adjust_text : Figure → Windows → List ℕ
+unfoldable pub adjust_text : Figure → Windows → List ℕ
 adjust_text Speed windows = window_text Speed windows windows.adjust LightGreen
 adjust_text Share windows = []
 
 abbrev pub ground_text : Figure → List ℕ
 ground_text figure = band_text LEFT (top_of figure) PANEL_WIDTH PANEL_HEIGHT PaleGrey
 
-abbrev pub accept_text : Figure → Windows → List ℕ
+unfoldable pub accept_text : Figure → Windows → List ℕ
 accept_text figure windows = ground_text figure ++ window_text figure windows (window_of figure windows) PaleGreen
 
-abbrev pub bands_text : Figure → Windows → List ℕ
+unfoldable pub bands_text : Figure → Windows → List ℕ
 bands_text figure windows = accept_text figure windows ++ adjust_text figure windows
 
 -- a number of the axis, and a line at its height
@@ -39,12 +39,12 @@ limit_text figure windows tenths =
     ++ text_start (LEFT - BESIDE) (place_of figure windows tenths + DROP) number ++ tenths_text tenths
     ++ text_end
 
-abbrev pub ends_text : Figure → Windows → List ℕ
+unfoldable pub ends_text : Figure → Windows → List ℕ
 ends_text figure windows =
     limit_text figure windows (axis_least figure windows)
     ++ limit_text figure windows (axis_most figure windows)
 
-abbrev pub edges_text : Figure → Windows → List ℕ
+unfoldable pub edges_text : Figure → Windows → List ℕ
 edges_text figure windows =
     limit_text figure windows (window_of figure windows).least
     ++ limit_text figure windows (window_of figure windows).most
@@ -53,14 +53,14 @@ edges_text figure windows =
 abbrev pub other_limit_text : Windows → ℕ → ℕ → List ℕ
 other_limit_text windows limit other = if limit == other then [] else limit_text Speed windows limit
 
-abbrev pub narrow_text : Figure → Windows → List ℕ
+unfoldable pub narrow_text : Figure → Windows → List ℕ
 narrow_text Speed windows =
     other_limit_text windows windows.adjust.least windows.accept.least
     ++ other_limit_text windows windows.adjust.most windows.accept.most
 narrow_text Share windows = []
 
-abbrev pub wide_text : Figure → Windows → List ℕ
+unfoldable pub wide_text : Figure → Windows → List ℕ
 wide_text figure windows = ends_text figure windows ++ edges_text figure windows
 
-abbrev pub limits_text : Figure → Windows → List ℕ
+unfoldable pub limits_text : Figure → Windows → List ℕ
 limits_text figure windows = wide_text figure windows ++ narrow_text figure windows

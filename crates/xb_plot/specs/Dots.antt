@@ -56,7 +56,7 @@ abbrev pub dot_if : Panel → ℕ → ℕ → Train → Option ℕ → List ℕ
 dot_if panel x radius train None = []
 dot_if panel x radius train (Some tenths) = value_dot panel x radius train tenths
 
-abbrev pub dot_of : Panel → ℕ → ℕ → Train → List ℕ
+unfoldable pub dot_of : Panel → ℕ → ℕ → Train → List ℕ
 dot_of panel x radius train = dot_if panel x radius train (value_of panel.figure panel.scale train)
 
 -- the dots of digits, from digit k on, of so many
@@ -65,5 +65,5 @@ dots_from panel count k [] = []
 dots_from panel count k (turn ∷ turns) =
     dot_of panel (place_in_order count k) (radius_of count) turn.train ++ dots_from panel count (k + 1) turns
 
-abbrev pub dots_text : Panel → List Turn → List ℕ
+unfoldable pub dots_text : Panel → List Turn → List ℕ
 dots_text panel turns = dots_from panel (length turns) 0 turns

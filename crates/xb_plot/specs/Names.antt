@@ -25,8 +25,12 @@ look_by (Some wrong) = spoiled
 abbrev pub look_of : Train → Look
 look_of train = look_by train.wrong
 
-abbrev pub named_text : ℕ → Train → List ℕ
-named_text x train = text_start x NAMES (look_of train) ++ name_text train ++ text_end
+-- where its text begins, and how it looks
+unfoldable pub name_start : ℕ → Train → List ℕ
+name_start x train = text_start x NAMES (look_of train)
+
+unfoldable pub named_text : ℕ → Train → List ℕ
+named_text x train = name_start x train ++ name_text train ++ text_end
 
 -- from digit k on, of so many
 abbrev pub every_name : ℕ → ℕ → List Turn → List ℕ

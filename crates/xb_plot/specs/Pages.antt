@@ -16,7 +16,7 @@ page_start_text words =
     front_text ++ style_text ++ codes "</head>\n<body>\n<h1>Dials on the bench</h1>\n<p>" ++ escaped words
     ++ codes "</p>\n"
 
-abbrev pub table_text : List ℕ → List ℕ
+unfoldable pub table_text : List ℕ → List ℕ
 table_text lines = codes "<pre>\n" ++ escaped lines ++ codes "</pre>\n</section>\n"
 
 -- the part of a line: its plot, and the text lines of its digits

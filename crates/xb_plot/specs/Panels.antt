@@ -10,10 +10,10 @@ use Rattle.xb_plot.specs.Dots.{dots_text}
 use Rattle.xb_plot.specs.Figures.{name_of, top_of}
 use Rattle.xb_plot.specs.Looks.{heading}
 
-abbrev pub heading_text : Figure → List ℕ
+unfoldable pub heading_text : Figure → List ℕ
 heading_text figure = words_text LEFT (top_of figure - ABOVE) heading (name_of figure)
 
-abbrev pub panel_text : Panel → List Turn → List ℕ
+unfoldable pub panel_text : Panel → List Turn → List ℕ
 panel_text panel turns =
     heading_text panel.figure ++ bands_text panel.figure panel.windows
     ++ limits_text panel.figure panel.windows ++ dots_text panel turns

@@ -42,7 +42,7 @@ colours = codes "dark green: to what dials are adjusted; red: not accepted; grey
 abbrev pub legend_text : List ℕ
 legend_text = words_text LEFT LEGEND note colours
 
-abbrev pub plot_text : Windows → Scale → ℕ → List ℕ → ℕ → List Turn → List ℕ
+unfoldable pub plot_text : Windows → Scale → ℕ → List ℕ → ℕ → List Turn → List ℕ
 plot_text windows scale line summary older turns =
     head_text line summary older ++ panels_text windows scale turns ++ names_text turns
     ++ legend_text ++ end_text

@@ -38,6 +38,7 @@ fn push_window(
 }
 
 // Puts the window to which dials are adjusted after the text, where the figure has one.
+#[tactic(auto, unfolding(crate::specs::Bands::adjust_text))]
 fn push_adjust(out: &mut String, figure: Figure, windows: Windows) -> Result<(), AllocError>
     ensures { OnOk result (string_bytes out.new ≡ string_bytes out.old ++ adjust_text figure windows) }
 {
@@ -62,6 +63,7 @@ fn push_ground(out: &mut String, figure: Figure) -> Result<(), AllocError>
 }
 
 // Puts the ground of a panel, and what is accepted, after the text.
+#[tactic(auto, unfolding(crate::specs::Bands::accept_text))]
 fn push_accept(out: &mut String, figure: Figure, windows: Windows) -> Result<(), AllocError>
     ensures { OnOk result (string_bytes out.new ≡ string_bytes out.old ++ accept_text figure windows) }
 {
@@ -71,6 +73,7 @@ fn push_accept(out: &mut String, figure: Figure, windows: Windows) -> Result<(),
 }
 
 // Puts the bands of a panel after the text.
+#[tactic(auto, unfolding(crate::specs::Bands::bands_text))]
 pub(crate) fn push_bands(
     out: &mut String,
     figure: Figure,
@@ -100,6 +103,7 @@ fn push_limit(
 }
 
 // Puts the ends of the axis after the text.
+#[tactic(auto, unfolding(crate::specs::Bands::ends_text))]
 fn push_ends(out: &mut String, figure: Figure, windows: Windows) -> Result<(), AllocError>
     ensures { OnOk result (string_bytes out.new ≡ string_bytes out.old ++ ends_text figure windows) }
 {
@@ -108,6 +112,7 @@ fn push_ends(out: &mut String, figure: Figure, windows: Windows) -> Result<(), A
 }
 
 // Puts the limits of what is accepted after the text.
+#[tactic(auto, unfolding(crate::specs::Bands::edges_text))]
 fn push_edges(out: &mut String, figure: Figure, windows: Windows) -> Result<(), AllocError>
     ensures { OnOk result (string_bytes out.new ≡ string_bytes out.old ++ edges_text figure windows) }
 {
@@ -134,6 +139,7 @@ fn push_other_limit(
 }
 
 // Puts the limits to which dials are adjusted after the text, where the figure has them.
+#[tactic(auto, unfolding(crate::specs::Bands::narrow_text))]
 fn push_narrow(out: &mut String, figure: Figure, windows: Windows) -> Result<(), AllocError>
     ensures { OnOk result (string_bytes out.new ≡ string_bytes out.old ++ narrow_text figure windows) }
 {
@@ -147,6 +153,7 @@ fn push_narrow(out: &mut String, figure: Figure, windows: Windows) -> Result<(),
 }
 
 // Puts the ends of the axis and the limits of what is accepted after the text.
+#[tactic(auto, unfolding(crate::specs::Bands::wide_text))]
 fn push_wide(out: &mut String, figure: Figure, windows: Windows) -> Result<(), AllocError>
     ensures { OnOk result (string_bytes out.new ≡ string_bytes out.old ++ wide_text figure windows) }
 {
@@ -155,6 +162,7 @@ fn push_wide(out: &mut String, figure: Figure, windows: Windows) -> Result<(), A
 }
 
 // Puts the numbers of the axis after the text.
+#[tactic(auto, unfolding(crate::specs::Bands::limits_text))]
 pub(crate) fn push_limits(
     out: &mut String,
     figure: Figure,

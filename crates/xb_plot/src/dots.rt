@@ -121,6 +121,7 @@ fn push_value(
 }
 
 // Puts the dot of a digit after the text, if it has the figure.
+#[tactic(auto, unfolding(crate::specs::Dots::dot_of))]
 fn push_dot_of(
     alloc: Global,
     out: &mut String,
@@ -154,6 +155,7 @@ fn push_dot_at(
 }
 
 // Puts the dots of all digits after the text.
+#[tactic(auto, unfolding(crate::specs::Dots::dots_text))]
 pub(crate) fn push_dots(
     alloc: Global,
     out: &mut String,

@@ -9,7 +9,7 @@
 //! - `push_page_start`, `push_page_part`, `push_page_end`: a page of such pictures, with the text lines
 //!   of the digits below each. It needs no other file.
 //!
-//! Not said: that such a text is XML or HTML.
+//! No program takes it yet. Not said: that such a text is XML or HTML.
 #![tactic(auto)]
 
 mod bands;

@@ -1,7 +1,7 @@
 // The digits below a plot.
 ghost use Rattle.std.specs.Prelude.{◌≡◌, ◌++◌, OnOk, length, string_bytes};
 ghost use Rattle.xb_plot.specs.Places.{place_in_order};
-ghost use Rattle.xb_plot.specs.Names.{every_name, look_of, name_text, named_text, names_text};
+ghost use Rattle.xb_plot.specs.Names.{every_name, look_of, name_start, name_text, named_text, names_text};
 
 use crate::places::{NAMED_STEP, NAMES, place_in_order, step_of};
 use crate::turns::Turn;
@@ -48,11 +48,19 @@ fn look_of(train: &Train) -> Look
     }
 }
 
+// Puts the beginning of the name of a digit below its dots after the text.
+#[tactic(auto, unfolding(crate::specs::Names::name_start))]
+fn push_name_start(out: &mut String, x: u64, train: &Train) -> Result<(), AllocError>
+    ensures { OnOk result (string_bytes out.new ≡ string_bytes out.old ++ name_start x train.now) }
+{
+    push_text_start(out, x, NAMES, look_of(train))
+}
+
 // Puts the name of a digit below its dots after the text.
 fn push_named(out: &mut String, x: u64, train: &Train) -> Result<(), AllocError>
     ensures { OnOk result (string_bytes out.new ≡ string_bytes out.old ++ named_text x train.now) }
 {
-    push_text_start(out, x, NAMES, look_of(train))?;
+    push_name_start(out, x, train)?;
     push_name(out, train)?;
     push_text_end(out)
 }

@@ -50,6 +50,7 @@ pub fn push_page_start(out: &mut String, words: &str) -> Result<(), AllocError>
 }
 
 // Puts text lines after the text as they are, escaped.
+#[tactic(auto, unfolding(crate::specs::Pages::table_text))]
 fn push_table(out: &mut String, lines: &str) -> Result<(), AllocError>
     ensures { OnOk result (string_bytes out.new ≡ string_bytes out.old ++ table_text lines.now) }
 {

@@ -32,6 +32,7 @@ const HEADING: Look = Look {
 };
 
 // Puts the name of a figure after the text.
+#[tactic(auto, unfolding(crate::specs::Panels::heading_text))]
 fn push_heading(out: &mut String, figure: Figure) -> Result<(), AllocError>
     ensures { OnOk result (string_bytes out.new ≡ string_bytes out.old ++ heading_text figure) }
 {

@@ -7,6 +7,7 @@ use Rattle.xb_plot.proofs.Joined.{four}
 use Rattle.xb_plot.proofs.panel.push_panel.Goals as goal
 
 pub returns : goal.returns
+unfolding panel_text
 returns c =
     let o = string_bytes c.args.out.now in
     let panel = c.args.panel in

@@ -7,6 +7,7 @@ use Rattle.xb_plot.proofs.Joined.{five}
 use Rattle.xb_plot.proofs.plot.push_plot.Goals as goal
 
 pub returns : goal.returns
+unfolding plot_text
 returns c =
     let o = string_bytes c.args.out.now in
     let windows = c.args.windows in
