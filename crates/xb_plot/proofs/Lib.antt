@@ -1,2 +1,1 @@
 mod LastTurns
-mod Joined

@@ -15,7 +15,7 @@ abbrev pub name_by : ℕ → Option Wrong → List ℕ
 name_by pulses None = decimal (pulses % MOST_PULSES)
 name_by pulses (Some wrong) = codes "x"
 
-abbrev pub name_text : Train → List ℕ
+unfoldable pub name_text : Train → List ℕ
 name_text train = name_by train.pulses train.wrong
 
 abbrev pub look_by : Option Wrong → Look

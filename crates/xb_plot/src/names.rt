@@ -26,6 +26,7 @@ const SPOILED: Look = Look {
 };
 
 // Puts the name of a digit after the text: x where it is spoiled.
+#[tactic(auto, unfolding(crate::specs::Names::name_text))]
 pub(crate) fn push_name(out: &mut String, train: &Train) -> Result<(), AllocError>
     ensures { OnOk result (string_bytes out.new ≡ string_bytes out.old ++ name_text train.now) }
 {
@@ -57,6 +58,7 @@ fn push_name_start(out: &mut String, x: u64, train: &Train) -> Result<(), AllocE
 }
 
 // Puts the name of a digit below its dots after the text.
+#[tactic(auto, unfolding(crate::specs::Names::named_text))]
 fn push_named(out: &mut String, x: u64, train: &Train) -> Result<(), AllocError>
     ensures { OnOk result (string_bytes out.new ≡ string_bytes out.old ++ named_text x train.now) }
 {

@@ -46,6 +46,7 @@ fn push_heading(out: &mut String, figure: Figure) -> Result<(), AllocError>
 }
 
 // Puts a panel after the text.
+#[tactic(auto, unfolding(crate::specs::Panels::panel_text))]
 pub(crate) fn push_panel(
     alloc: Global,
     out: &mut String,
