@@ -1,0 +1,11 @@
+pub mod Turns
+pub mod TurnLaws
+pub mod Places
+pub mod Figures
+pub mod Looks
+pub mod Names
+pub mod Dots
+pub mod Bands
+pub mod Panels
+pub mod Plots
+pub mod Pages
