@@ -9,6 +9,8 @@
 //!
 //! A place is in units of the picture, of which three are one ms: `place_of`. A keying that does not fit a row goes on
 //! in the next one (`placed_of`).
+//!
+//! No program takes it yet.
 #![tactic(auto)]
 
 mod bars;
