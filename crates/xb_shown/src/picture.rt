@@ -97,15 +97,16 @@ impl Picture {
     ) -> Result<(), AllocError>
         ensures text { OnOk result (string_bytes self.new.body
             ≡ string_bytes self.old.body ++ part_text self.old.rows title before keys.now) }
-        ensures rows { OnOk result (self.new.rows ≡ rows_to self.old.rows (placed_of self.old.rows before keys.now)) }
+        ensures rows { OnOk result (self.new.rows
+            ≡ rows_to self.old.rows (placed_of self.old.rows before keys.now)) }
         ensures count { OnOk result (self.new.came ≡ self.old.came) }
     {
         self.rows = push_rows(alloc, &mut self.body, self.rows, title, before, keys)?;
         Ok(())
     }
 
-    /// Takes keys and what they are, by the last key before them, and draws them if there is room. `Err` says that memory
-    /// ran out; the picture is of no use then.
+    /// Takes keys and what they are, by the last key before them, and draws them if there is room. `Err` says that
+    /// memory ran out; the picture is of no use then.
     pub fn take(
         &mut self,
         alloc: Global,
