@@ -13,6 +13,8 @@ mod objects;
 #[cfg(test)]
 mod phases;
 #[cfg(test)]
+mod pictures;
+#[cfg(test)]
 mod verdicts;
 #[cfg(test)]
 mod words;

@@ -7,7 +7,7 @@ use test_kit::{Halting, Short};
 const USAGE: &[u8] = b"mfbench: usage: mfbench --line N=WIRE[,inverted][,settle=MS]... \
 [--dial bell|gpo] [--speed FROM-TO] [--share FROM-TO] [--limit NAME=MS[,NAME=MS]...] \
 [--format vcd|sigrok|saleae|edges|gpiomon|bits|bits16|s16|wav] [--rate HZ] [--settle MS] \
-[--threshold PERCENT] [--inverted] [--json]\n";
+[--threshold PERCENT] [--inverted] [--html|--json|--svg]\n";
 
 const REFUSED: &[&[&str]] = &[
     &[],
@@ -38,6 +38,11 @@ const REFUSED: &[&[&str]] = &[
     &["--line", "7=1", "--limit", "pulse_max=300"],
     &["--line", "7=1", "--limit", "pause=200,timeout=200"],
     &["--line", "7=1", "--limit", "pause=200,pause=210"],
+    // two forms, and a plot of two lines
+    &["--line", "7=1", "--html", "--svg"],
+    &["--line", "7=1", "--html", "--json"],
+    &["--line", "7=1", "--json", "--svg"],
+    &["--line", "7=1", "--line", "8=2", "--svg"],
 ];
 
 const WORDS: &[&str] = &["--line", "7=1"];

@@ -1,3 +1,4 @@
 pub mod Attended
 pub mod Ended
 pub mod ObjectValues
+pub mod DrawnDigits

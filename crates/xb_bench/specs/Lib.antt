@@ -6,6 +6,9 @@ pub mod Windows
 pub mod LimitWords
 pub mod Told
 pub mod Benches
+pub mod Drawings
+pub mod Drawn
+pub mod DrawnLaws
 pub mod Rules
 pub mod Options
 pub mod Program

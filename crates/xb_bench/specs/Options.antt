@@ -1,5 +1,5 @@
 -- What the words of the command line ask for, as clap reads them.
-use Rattle.std.specs.Prelude.{◌≡◌, ◌≢◌, ◌⊎◌, ◌==◌, List, [], ◌∷◌, Bool, true, false, Some, None, codes, nat_le, not, ◌&&◌}
+use Rattle.std.specs.Prelude.{◌≡◌, ◌≢◌, ◌⊎◌, ◌==◌, List, [], ◌∷◌, Bool, true, false, Option, Some, None, codes, length, nat_le, not, ◌&&◌}
 use Rattle.clap.specs.Faults.{fault_of}
 use Rattle.clap.specs.Simple.{matches_of}
 use Rattle.clap.specs.Walk.{Row, Text, first_of}
@@ -9,7 +9,7 @@ use Rattle.xb_feed.specs.declared.manner.Manner.{Manner}
 use Rattle.xb_feed.specs.declared.request.Request.{Request}
 use Rattle.xb_feed.specs.Options.{Say as SaysOf, SayNothing as SaysNothingOf, plain_words}
 use Rattle.xb_bench.specs.declared.setting.Form.{Form}
-use Rattle.xb_bench.specs.declared.setting.Form.TheVariants.{Lines, Objects}
+use Rattle.xb_bench.specs.declared.setting.Form.TheVariants.{Lines, Objects, Page, Picture}
 use Rattle.xb_bench.specs.declared.setting.Setting.{Setting}
 use Rattle.xb_bench.specs.LimitWords.{limits_said}
 use Rattle.xb_bench.specs.Rules.{command_of_words}
@@ -23,30 +23,50 @@ abbrev pub are_plain : List AskedLine → Bool
 are_plain [] = true
 are_plain (line ∷ rest) = is_plain line.manner && are_plain rest
 
--- objects where they are asked for
-abbrev pub form_of : Bool → Form
-form_of true = Objects
-form_of false = Lines
+-- objects, a page or a plot, where it is asked for; none where two of them are
+abbrev pub form_of : Bool → Bool → Bool → Option Form
+form_of false false false = Some Lines
+form_of true false false = Some Objects
+form_of false true false = Some Page
+form_of false false true = Some Picture
+form_of json html svg = None
 
--- what clap matched says this: windows, limits, and what is asked of a recording
+pub record ReadsForm (rows : List Row) (form : Option Form) : Type 0 where
+  pub json : Bool
+  pub objects : ReadsFlag (given_by rows (codes "json")) json
+  pub html : Bool
+  pub page : ReadsFlag (given_by rows (codes "html")) html
+  pub svg : Bool
+  pub picture : ReadsFlag (given_by rows (codes "svg")) svg
+  pub is : form ≡ form_of json html svg
+
+-- a plot is one of one line
+abbrev pub fits : Form → List AskedLine → Bool
+fits Picture lines = length lines == 1
+fits form lines = true
+
+abbrev pub can_tell : Form → List AskedLine → Bool
+can_tell form lines = are_plain lines && fits form lines
+
+-- what clap matched says this: windows, limits, a form, and what is asked of a recording
 pub record Say (rows : List Row) (request : Request Setting) : Type 0 where
   pub windows : windows_said (first_of (codes "dial") rows) (first_of (codes "speed") rows) (first_of (codes "share") rows)
       ≡ Some request.common.windows
   pub limits : limits_said (first_of (codes "limit") rows) ≡ Some request.common.limits
-  pub json : Bool
-  pub objects : ReadsFlag (given_by rows (codes "json")) json
-  pub form : request.common.form ≡ form_of json
-  pub plain : are_plain request.lines.items ≡ true
+  pub form : ReadsForm rows (Some request.common.form)
+  pub fits : can_tell request.common.form request.lines.items ≡ true
   pub rest : SaysOf rows request.common request
 
--- what clap matched says nothing that there is: a window or a kind of dial that is none, limits that are none, what a
--- recording does not have, or a line that is listened to otherwise
+-- what clap matched says nothing that there is: a window or a kind of dial that is none, limits that are none, two forms,
+-- what a recording does not have, or a line that is listened to otherwise, or lines that the form does not have
 abbrev pub SayNothing : List Row → Type 0
 SayNothing rows =
     (windows_said (first_of (codes "dial") rows) (first_of (codes "speed") rows) (first_of (codes "share") rows) ≡ None)
     ⊎ ((limits_said (first_of (codes "limit") rows) ≡ None)
+    ⊎ (ReadsForm rows None
     ⊎ (SaysNothingOf rows
-    ⊎ ((request : Request Setting) × SaysOf rows request.common request × (are_plain request.lines.items ≡ false))))
+    ⊎ ((request : Request Setting) × SaysOf rows request.common request
+    × ReadsForm rows (Some request.common.form) × (can_tell request.common.form request.lines.items ≡ false)))))
 
 -- clap takes plain words, and they ask for this
 abbrev pub AsksPlainly : List Text → Request Setting → Type 0

@@ -1,6 +1,6 @@
 -- What the program did, by its status.
 use Rattle.std.specs.Prelude.{ℕ, ◌≡◌, ◌≢◌, ◌⊎◌, ◌++◌, List, [], codes, Option, Some, None}
-use Rattle.std.specs.Io.KnownBytes.{Keeps}
+use Rattle.std.specs.Io.KnownBytes.{Appends, Keeps}
 use Rattle.clap.specs.Walk.{Text}
 use Rattle.xb_command.specs.Programs.{Attends, Streams}
 use Rattle.xb_command.specs.Telling.{Tells}
@@ -13,9 +13,13 @@ use Rattle.xb_recording.specs.Says.{names_in}
 use Rattle.xb_bench.specs.declared.fault.BenchFault.{BenchFault}
 use Rattle.xb_bench.specs.declared.fault.BenchFault.TheVariants as faults
 use Rattle.xb_bench.specs.declared.setting.Setting.{Setting}
+use Rattle.xb_bench.specs.declared.setting.Form.{Form}
+use Rattle.xb_bench.specs.declared.setting.Form.TheVariants.{Lines, Objects, Page, Picture}
 use Rattle.xb_bench.specs.Benches.{by_digits}
+use Rattle.xb_bench.specs.Drawn.{by_plots}
 use Rattle.xb_bench.specs.Options.{AreRefused, Asks}
-use Rattle.xb_bench.specs.Told.{first_text}
+use Rattle.xb_bench.specs.Told.{first_text, last_text}
+use Rattle.xb_text.specs.Writing.{AppendsBeginning}
 
 -- the program's name
 abbrev pub program : List ℕ
@@ -27,17 +31,49 @@ usage_line =
     codes "mfbench: usage: mfbench --line N=WIRE[,inverted][,settle=MS]... "
     ++ codes "[--dial bell|gpo] [--speed FROM-TO] [--share FROM-TO] [--limit NAME=MS[,NAME=MS]...] "
     ++ codes "[--format vcd|sigrok|saleae|edges|gpiomon|bits|bits16|s16|wav] [--rate HZ] [--settle MS] "
-    ++ codes "[--threshold PERCENT] [--inverted] [--json]\n"
+    ++ codes "[--threshold PERCENT] [--inverted] [--html|--json|--svg]\n"
 
--- an output got the windows, and then exactly what is told of the digits of the recording
+-- an output got what stands first, and then exactly what is told of the digits of the recording, or drawn of them
+abbrev pub PrintsBy : Form → List ℕ → Request Setting → Option (List ℕ) → Option (List ℕ) → Option (List ℕ) → Type 0
+PrintsBy Lines first request input output after =
+    (notes : List ℕ) × ListensTo by_digits first request [] notes input output after
+PrintsBy Objects first request input output after =
+    (notes : List ℕ) × ListensTo by_digits first request [] notes input output after
+PrintsBy Page first request input output after =
+    (notes : List ℕ) × ListensTo by_plots first request [] notes input output after
+PrintsBy Picture first request input output after =
+    (notes : List ℕ) × ListensTo by_plots first request [] notes input output after
+
+-- and after that what stands last
+abbrev pub PrintsWhole :
+    Form → List ℕ → List ℕ → Request Setting → Option (List ℕ) → Option (List ℕ) → Option (List ℕ) → Type 0
+PrintsWhole form first last request input output after =
+    (before : Option (List ℕ)) × PrintsBy form first request input output before × Appends before after last
+
 abbrev pub PrintsDigits : Request Setting → Option (List ℕ) → Option (List ℕ) → Option (List ℕ) → Type 0
 PrintsDigits request input output after =
-    (notes : List ℕ) × ListensTo by_digits (first_text request.common) request [] notes input output after
+    PrintsWhole request.common.form (first_text request.common) (last_text request.common) request input output after
 
 -- the fault of a recording, and what an output got before it
+abbrev pub FailsBy :
+    Form → List ℕ → Request Setting → RecordingFault → Option (List ℕ) → Option (List ℕ) → Option (List ℕ) → Type 0
+FailsBy Lines first request fault input output after = FailsToListen by_digits first request [] fault input output after
+FailsBy Objects first request fault input output after = FailsToListen by_digits first request [] fault input output after
+FailsBy Page first request fault input output after = FailsToListen by_plots first request [] fault input output after
+FailsBy Picture first request fault input output after = FailsToListen by_plots first request [] fault input output after
+
+-- or what stands last was not written
+abbrev pub FailsWhole :
+    Form → List ℕ → List ℕ → Request Setting → RecordingFault → Option (List ℕ) → Option (List ℕ) → Option (List ℕ)
+    → Type 0
+FailsWhole form first last request fault input output after =
+    FailsBy form first request fault input output after
+    ⊎ ((fault ≡ recording.Write) × ((before : Option (List ℕ)) × PrintsBy form first request input output before
+    × AppendsBeginning before after last))
+
 abbrev pub FailsToGo : Request Setting → RecordingFault → Option (List ℕ) → Option (List ℕ) → Option (List ℕ) → Type 0
 FailsToGo request fault input output after =
-    FailsToListen by_digits (first_text request.common) request [] fault input output after
+    FailsWhole request.common.form (first_text request.common) (last_text request.common) request fault input output after
 
 -- the fault of a recording as it is told: where it lacks a wire, with the first of the names that are asked for of which
 -- it has none

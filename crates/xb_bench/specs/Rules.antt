@@ -19,10 +19,12 @@ options =
     ∷ (codes "threshold", takes.Number)
     ∷ (codes "inverted", takes.Nothing)
     ∷ (codes "json", takes.Nothing)
+    ∷ (codes "html", takes.Nothing)
+    ∷ (codes "svg", takes.Nothing)
     ∷ (codes "line", takes.AllThatFollow)
     ∷ []
 
 -- `mfbench [--dial KIND] [--speed FROM-TO] [--share FROM-TO] [--limit NAME=MS[,NAME=MS]..] [--format FORM] [--rate HZ]
--- [--settle MS] [--threshold PERCENT] [--inverted] [--json] N=WIRE..`
+-- [--settle MS] [--threshold PERCENT] [--inverted] [--json] [--html] [--svg] N=WIRE..`
 abbrev pub command_of_words : App
 command_of_words = command_of (codes "mfbench") options

@@ -34,6 +34,9 @@ figures_text scale sums =
     codes "; p/s " ++ series_text sums.speed ++ codes "; % break " ++ series_text sums.share
     ++ codes "; bounce " ++ tenths_or_dash (tenths_of_ms scale sums.bounce) ++ codes " ms"
 
+-- in words, and as the last line of a line
+abbrev pub sums_text : Scale → Sums → List ℕ
+sums_text scale sums = counts_text sums ++ figures_text scale sums ++ verdicts_text sums.verdicts
+
 abbrev pub summary_text : ℕ → Scale → Sums → List ℕ
-summary_text line scale sums =
-    four_digits line ++ gap ++ counts_text sums ++ figures_text scale sums ++ verdicts_text sums.verdicts ++ codes "\n"
+summary_text line scale sums = four_digits line ++ gap ++ sums_text scale sums ++ codes "\n"

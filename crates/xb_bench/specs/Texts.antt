@@ -1,8 +1,8 @@
 -- The lines of digits and of attempts that end. Each figure stands in a cell of its width.
-use Rattle.std.specs.Prelude.{ℕ, ◌%◌, ◌==◌, List, [], ◌++◌, Bool, true, false, Option, Some, None, codes, decimal, if◌then◌else◌}
+use Rattle.std.specs.Prelude.{ℕ, ◌==◌, List, [], ◌++◌, Bool, true, false, Option, Some, None, codes, decimal, if◌then◌else◌}
 use Rattle.xb_model.specs.declared.limits.Limits.{Limits}
-use Rattle.xb_model.specs.declared.signal.TheConstants.{MOST_PULSES}
 use Rattle.xb_model.specs.Page.{four_digits}
+use Rattle.xb_plot.specs.Names.{name_by}
 use Rattle.xb_contact.specs.declared.scale.Scale.{Scale}
 use Rattle.xb_report.specs.Cells.{at_right, gap, tenths_or_dash, tenths_text}
 use Rattle.xb_report.specs.Words.{fault_text}
@@ -17,13 +17,9 @@ use Rattle.xb_turns.specs.Figures.{drift_of, share_of, speed_of, tenths_of_ms}
 use Rattle.xb_turns.specs.Verdicts.{verdict_of, word_of}
 
 -- the digit that a pause ended, or x where it is spoiled; a dash for pulses that none ended
-abbrev pub name_of : ℕ → Option Wrong → List ℕ
-name_of pulses None = decimal (pulses % MOST_PULSES)
-name_of pulses (Some wrong) = codes "x"
-
 abbrev pub name_text : Bool → Train → List ℕ
 name_text false train = codes "-"
-name_text true train = name_of train.pulses train.wrong
+name_text true train = name_by train.pulses train.wrong
 
 -- the least and the greatest of some times in ms; one figure where both are the same, and a dash where there is none
 abbrev pub extent_of : Option ℕ → Option ℕ → List ℕ

@@ -1,8 +1,8 @@
 -- The windows that words name, and how the first lines state them.
-use Rattle.std.specs.Prelude.{ℕ, ◌+◌, ◌*◌, ◌==◌, List, ◌++◌, Option, Some, None, bytes_eq, codes, length, nat_le, option_map, if◌then◌else◌}
+use Rattle.std.specs.Prelude.{ℕ, List, ◌++◌, Option, Some, None, bytes_eq, codes, nat_le, option_map, if◌then◌else◌}
 use Rattle.std.specs.Option.{option_and_then}
 use Rattle.clap.specs.Walk.{Text}
-use Rattle.xb_contact.specs.Numbers.{number_of}
+use Rattle.xb_contact.specs.Numbers.{tenths_said}
 use Rattle.xb_report.specs.Cells.{tenths_text}
 use Rattle.xb_text.specs.Pieces.{cut_at}
 use Rattle.xb_turns.specs.declared.windows.Window.{Window}
@@ -28,24 +28,6 @@ kind_of name = if bytes_eq name (codes "bell") then Some bell else (if bytes_eq 
 abbrev pub dial_named : Option Text → Option Windows
 dial_named None = Some bell
 dial_named (Some name) = kind_of name
-
--- a number of at most 1,000 in digits
-abbrev pub up_to_thousand : ℕ → Option ℕ
-up_to_thousand number = if nat_le number 1000 then Some number else None
-
-abbrev pub number_said : Text → Option ℕ
-number_said digits = option_and_then up_to_thousand (number_of digits)
-
--- a figure in tenths, as 9.5 or 10
-abbrev pub tenths_by : Text → Option (Text × Text) → Option ℕ
-tenths_by text None = option_map (λ number. number * 10) (number_said text)
-tenths_by text (Some parts) =
-    if length parts.1 == 1
-    then option_and_then (λ whole. option_map (λ tenth. whole * 10 + tenth) (number_said parts.1)) (number_said parts.0)
-    else None
-
-abbrev pub tenths_said : Text → Option ℕ
-tenths_said text = tenths_by text (cut_at 46 text)
 
 -- a window, as 9.5-10.5; none where the greatest is below the least
 abbrev pub window_between : ℕ → ℕ → Option Window
@@ -75,8 +57,14 @@ windows_said dial speed share =
 abbrev pub window_text : Window → List ℕ
 window_text window = tenths_text window.least ++ codes "-" ++ tenths_text window.most
 
-abbrev pub header_text : Windows → List ℕ
-header_text windows =
+abbrev pub windows_text : Windows → List ℕ
+windows_text windows =
     codes "dial: adjust " ++ window_text windows.adjust ++ codes ", accept " ++ window_text windows.accept
-    ++ codes " pulses a second, " ++ window_text windows.share ++ codes " % break\n"
-    ++ codes "line  digit  pulses    p/s  % break     break ms      make ms  drift %  bounce ms  verdict\n"
+    ++ codes " pulses a second, " ++ window_text windows.share ++ codes " % break"
+
+abbrev pub columns_text : List ℕ
+columns_text =
+    codes "line  digit  pulses    p/s  % break     break ms      make ms  drift %  bounce ms  verdict\n"
+
+abbrev pub header_text : Windows → List ℕ
+header_text windows = windows_text windows ++ codes "\n" ++ columns_text

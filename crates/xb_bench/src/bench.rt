@@ -1,7 +1,9 @@
 // The dial of a line through a recording.
 ghost use Rattle.std.specs.Prelude.{◌≡◌, ◌++◌, OnOk, string_bytes};
 ghost use Rattle.std.specs.List.{flat_map};
-ghost use Rattle.xb_bench.specs.Benches.{bench_past, by_digits, said_past, told_by, told_left, told_text};
+ghost use Rattle.xb_contact.specs.Machine.{at_end};
+ghost use Rattle.xb_bench.specs.Benches.{CanHold, bench_past, by_digits, held_until, last_of, said_past, said_until, told_by};
+ghost use Rattle.xb_bench.specs.Benches.{told_left, told_text};
 
 use crate::pieces::Pieces;
 use crate::setting::Setting;
@@ -15,8 +17,8 @@ use xb_turns::{Dial, NO_SUMS, Said, Sums, Train};
 /// A contact from its first level on, of which the digits are told.
 #[derive(Drop)]
 pub struct Bench {
-    setting: Setting,
-    scale: Scale,
+    pub(crate) setting: Setting,
+    pub(crate) scale: Scale,
     pieces: Pieces,
     // The tick of the recording at which its first level came.
     start: u64,
@@ -25,7 +27,7 @@ pub struct Bench {
     tally: Tally,
     dial: Dial,
     // What its digits come to so far.
-    sums: Sums,
+    pub(crate) sums: Sums,
 }
 
 // Adds what is told of a line, if anything is.
@@ -75,6 +77,28 @@ impl Bench {
         self.sums = self.sums.after(self.setting.windows, self.scale, said);
         said
     }
+
+    /// It has its level up to this tick: what is told with it.
+    pub(crate) fn hold(&mut self, tick: u64) -> Option<Said>
+        requires { CanHold self.old tick }
+        ensures after { self.new ≡ held_until self.old tick }
+        ensures said { result ≡ said_until self.old tick }
+    {
+        let (level, until) = (self.level, tick - self.start);
+        let ticks = until - self.pieces.now();
+        self.tally = self.tally.take(Hold { level, ticks });
+        let piece = self.pieces.take_until(level, until);
+        self.take(piece)
+    }
+
+    /// The recording ends: what is told with the last piece.
+    pub(crate) fn last(&mut self) -> Option<Said>
+        ensures after { self.new ≡ last_of self.old }
+        ensures said { result ≡ said_past self.old (at_end self.old.pieces.phase) }
+    {
+        let piece = self.pieces.end();
+        self.take(piece)
+    }
 }
 
 impl Follow<Setting> for Bench {
@@ -107,12 +131,9 @@ impl Follow<Setting> for Bench {
     }
 
     fn hold_until(&mut self, line: LineNo, tick: u64, text: &mut String) -> Result<(), AllocError> {
-        let (level, until) = (self.level, tick - self.start);
-        let ticks = until - self.pieces.now();
-        self.tally = self.tally.take(Hold { level, ticks });
-        let piece = self.pieces.take_until(level, until);
-        let said = self.take(piece);
-        push_any(self.setting, text, line, self.scale, said)
+        let (setting, scale) = (self.setting, self.scale);
+        let said = self.hold(tick);
+        push_any(setting, text, line, scale, said)
     }
 
     fn change(&mut self, level: Level) {
@@ -125,8 +146,7 @@ impl Follow<Setting> for Bench {
     }
 
     fn end(mut self, line: LineNo, text: &mut String) -> Result<(), AllocError> {
-        let piece = self.pieces.end();
-        let said = self.take(piece);
+        let said = self.last();
         push_any(self.setting, text, line, self.scale, said)?;
         push_left(self.setting, text, line, self.scale, self.dial.left())?;
         let summary = What::ComesTo(self.sums);

@@ -3,13 +3,18 @@
 //! - `Bench` (`by_digits`): what follows the contact of a line, and tells of each digit in the moment in which its pause
 //!   is reached, or the line hangs up; where the recording ends, what the digits of the line come to. What is measured is
 //!   that of `xb_turns`.
+//! - `DrawnBench` (`by_plots`): the same bench, and the last of its digits, which are drawn where the recording ends: those
+//!   that `Bench` tells of the line (`laws::the_digits_are_drawn`).
 //! - `attend` (`AttendsBench`): the words and the recording in. On status 0, exactly the lines of the digits that the
-//!   recording has, after the windows by which they are judged; on status 1, the fault of the recording.
+//!   recording has, after the windows by which they are judged, or their plots; on status 1, the fault of the recording.
 #![tactic(auto)]
 
 mod bench;
 mod digit_object;
+mod drawing;
+mod drawn;
 mod fault;
+pub mod laws;
 mod limits;
 mod objects;
 mod pieces;
@@ -23,6 +28,7 @@ mod windows;
 mod words;
 
 pub use bench::Bench;
+pub use drawn::DrawnBench;
 pub use fault::BenchFault;
 pub use program::attend;
 pub use setting::{Form, Setting};

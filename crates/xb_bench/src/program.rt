@@ -1,18 +1,24 @@
 // The program: its words and a recording in, a status and the lines of digits out.
-ghost use Rattle.std.specs.Prelude.{IfErr, OnOk, map};
+ghost use Rattle.std.specs.Prelude.{IfErr, List, [], OnOk, map, ℕ};
+ghost use Rattle.xb_feed.specs.Feeding.{FailsToListen, ListensTo};
+ghost use Rattle.xb_bench.specs.Benches.{by_digits};
+ghost use Rattle.xb_bench.specs.Drawn.{by_plots};
 ghost use Rattle.xb_command.specs.Programs.{streams};
 ghost use Rattle.xb_command.specs.Commands.{texts_of};
-ghost use Rattle.xb_bench.specs.Program.{AttendsBench, FailsToPrint, IsFaultTold, PrintsDigits};
+ghost use Rattle.xb_bench.specs.Program.{AttendsBench, FailsBy, FailsToPrint, FailsWhole, IsFaultTold, PrintsBy};
+ghost use Rattle.xb_bench.specs.Program.{PrintsDigits, PrintsWhole};
 
 use crate::bench::Bench;
+use crate::drawn::DrawnBench;
 use crate::fault::BenchFault;
-use crate::setting::Setting;
-use crate::told::first_text;
+use crate::setting::{Form, Setting};
+use crate::told::{first_text, last_text};
 use crate::words::request_of_words;
 use std::alloc::Global;
 use std::io::{Read, Write};
 use xb_command::{DONE, WordsFault, tell_fault, tell_words};
 use xb_feed::{RecordingFault, Request, listen, missing_name, plain_words};
+use xb_text::write_whole;
 
 // The program's name.
 pub(crate) const PROGRAM: &str = "mfbench";
@@ -21,7 +27,7 @@ pub(crate) const PROGRAM: &str = "mfbench";
 const USAGE: &[u8] = b"mfbench: usage: mfbench --line N=WIRE[,inverted][,settle=MS]... \
 [--dial bell|gpo] [--speed FROM-TO] [--share FROM-TO] [--limit NAME=MS[,NAME=MS]...] \
 [--format vcd|sigrok|saleae|edges|gpiomon|bits|bits16|s16|wav] [--rate HZ] [--settle MS] \
-[--threshold PERCENT] [--inverted] [--json]\n";
+[--threshold PERCENT] [--inverted] [--html|--json|--svg]\n";
 
 // The fault of a recording as it is told; where it lacks a wire, with the first name that is asked for and that it lacks.
 fn fault_told<'a>(fault: RecordingFault, names: &[&'a str]) -> BenchFault<'a>
@@ -34,7 +40,81 @@ fn fault_told<'a>(fault: RecordingFault, names: &[&'a str]) -> BenchFault<'a>
     }
 }
 
-// Writes the windows, and what is told of the digits of a recording.
+// Writes a text, and then what is told of the digits of a recording.
+fn tell_digits<R: Read, W: Write>(
+    alloc: Global,
+    request: &Request<'_, Setting>,
+    first: &[u8],
+    recording: &mut R,
+    out: &mut W,
+) -> Result<(), RecordingFault>
+    ensures tells { OnOk result ((notes : List ℕ) × ListensTo by_digits first.now request.now [] notes
+        (R.remaining recording.old) (W.contents out.old) (W.contents out.new)) }
+    ensures fault { IfErr result (λ fault. FailsToListen by_digits first.now request.now [] fault
+        (R.remaining recording.old) (W.contents out.old) (W.contents out.new)) }
+{
+    listen::<Setting, Bench, R, W>(alloc, request, b"", first, recording, out)?;
+    Ok(())
+}
+
+// Writes a text, and then what is drawn of them.
+#[inline(never)]
+fn draw_digits<R: Read, W: Write>(
+    alloc: Global,
+    request: &Request<'_, Setting>,
+    first: &[u8],
+    recording: &mut R,
+    out: &mut W,
+) -> Result<(), RecordingFault>
+    ensures draws { OnOk result ((notes : List ℕ) × ListensTo by_plots first.now request.now [] notes
+        (R.remaining recording.old) (W.contents out.old) (W.contents out.new)) }
+    ensures fault { IfErr result (λ fault. FailsToListen by_plots first.now request.now [] fault
+        (R.remaining recording.old) (W.contents out.old) (W.contents out.new)) }
+{
+    listen::<Setting, DrawnBench, R, W>(alloc, request, b"", first, recording, out)?;
+    Ok(())
+}
+
+// Writes a text, and then what is told of the digits of a recording, or drawn of them, in the form that is asked for.
+fn print_digits<R: Read, W: Write>(
+    alloc: Global,
+    request: &Request<'_, Setting>,
+    first: &[u8],
+    recording: &mut R,
+    out: &mut W,
+) -> Result<(), RecordingFault>
+    ensures prints { OnOk result (PrintsBy request.now.common.form first.now request.now
+        (R.remaining recording.old) (W.contents out.old) (W.contents out.new)) }
+    ensures fault { IfErr result (λ fault. FailsBy request.now.common.form first.now request.now fault
+        (R.remaining recording.old) (W.contents out.old) (W.contents out.new)) }
+{
+    match request.common.form {
+        Form::Lines | Form::Objects => tell_digits(alloc, request, first, recording, out),
+        Form::Page | Form::Picture => draw_digits(alloc, request, first, recording, out),
+    }
+}
+
+// The same, and then a text that stands last.
+fn print_whole<R: Read, W: Write>(
+    alloc: Global,
+    request: &Request<'_, Setting>,
+    first: &[u8],
+    last: &[u8],
+    recording: &mut R,
+    out: &mut W,
+) -> Result<(), RecordingFault>
+    ensures prints { OnOk result (PrintsWhole request.now.common.form first.now last.now request.now
+        (R.remaining recording.old) (W.contents out.old) (W.contents out.new)) }
+    ensures fault { IfErr result (λ fault.
+        FailsWhole request.now.common.form first.now last.now request.now fault
+        (R.remaining recording.old) (W.contents out.old) (W.contents out.new)) }
+{
+    print_digits(alloc, request, first, recording, out)?;
+    write_whole(out, last)?;
+    Ok(())
+}
+
+// Writes what stands first, what is told of the digits of a recording, and what stands last.
 fn run<'a, R: Read, W: Write>(
     alloc: Global,
     request: Request<'a, Setting>,
@@ -49,14 +129,25 @@ fn run<'a, R: Read, W: Write>(
     let Ok(first) = first_text(request.common) else {
         return Err(BenchFault::NoMemory);
     };
-    match listen::<Setting, Bench, R, W>(alloc, &request, b"", first.as_bytes(), recording, out) {
-        Ok(_notes) => Ok(()),
+    let Ok(last) = last_text(request.common) else {
+        return Err(BenchFault::NoMemory);
+    };
+    match print_whole(
+        alloc,
+        &request,
+        first.as_bytes(),
+        last.as_bytes(),
+        recording,
+        out,
+    ) {
+        Ok(()) => Ok(()),
         Err(fault) => Err(fault_told(fault, &request.wanted.wires)),
     }
 }
 
 /// Reads the words of the command line, the program's name first, and by them writes the lines of the digits of a
-/// recording as it comes, after the windows by which they are judged. It returns the status of the process:
+/// recording as it comes, after the windows by which they are judged, or where it ends their plots. It returns the status
+/// of the process:
 ///
 /// - `DONE`: the words ask for something, and `out` got exactly these lines;
 /// - `FAULT`: the recording has a fault, which `listen` of `xb_feed` has, or memory ran out; `err` gets the fault as one

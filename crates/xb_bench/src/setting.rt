@@ -10,6 +10,10 @@ pub enum Form {
     Lines,
     /// JSON, an object in each text line.
     Objects,
+    /// A page of HTML: a plot of the digits of each line, and a text line for each of them.
+    Page,
+    /// A plot in SVG.
+    Picture,
 }
 
 /// What holds for all lines.

@@ -1,7 +1,7 @@
 // The line of what the digits of a line come to.
 ghost use Rattle.std.specs.Prelude.{◌≡◌, ◌++◌, OnOk, string_bytes};
 ghost use Rattle.xb_bench.specs.SummaryTexts.{counts_text, figures_text, series_text, summary_text};
-ghost use Rattle.xb_bench.specs.SummaryTexts.{verdict_text, verdicts_text};
+ghost use Rattle.xb_bench.specs.SummaryTexts.{sums_text, verdict_text, verdicts_text};
 
 use crate::text::push_extent;
 use std::alloc::AllocError;
@@ -64,7 +64,16 @@ fn push_figures(out: &mut String, scale: Scale, sums: Sums) -> Result<(), AllocE
     out.push_str(" ms")
 }
 
-/// Puts what the digits of a line come to after the text. `Err` says that memory ran out.
+/// Puts what the digits of a line come to after the text, in words. `Err` says that memory ran out.
+pub(crate) fn push_sums(out: &mut String, scale: Scale, sums: Sums) -> Result<(), AllocError>
+    ensures { OnOk result (string_bytes out.new ≡ string_bytes out.old ++ sums_text scale sums) }
+{
+    push_counts(out, sums)?;
+    push_figures(out, scale, sums)?;
+    push_verdicts(out, sums.verdicts)
+}
+
+/// Puts the last line of a line after the text: what its digits come to. `Err` says that memory ran out.
 pub(crate) fn push_summary(
     out: &mut String,
     line: LineNo,
@@ -75,8 +84,6 @@ pub(crate) fn push_summary(
 {
     push_line(out, line)?;
     out.push_str("  ")?;
-    push_counts(out, sums)?;
-    push_figures(out, scale, sums)?;
-    push_verdicts(out, sums.verdicts)?;
+    push_sums(out, scale, sums)?;
     out.push_str("\n")
 }

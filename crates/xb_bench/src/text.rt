@@ -161,8 +161,8 @@ fn push_wrong(out: &mut String, limits: Limits, wrong: Option<Wrong>) -> Result<
     }
 }
 
-// Puts the line of a digit after the text.
-fn push_digit(
+/// Puts the line of a digit after the text. `Err` says that memory ran out.
+pub(crate) fn push_digit(
     setting: Setting,
     out: &mut String,
     line: LineNo,

@@ -1,10 +1,10 @@
 // The windows that words name.
 ghost use Rattle.std.specs.Prelude.{◌≡◌, ◌++◌, IfOk, OnOk, option_map, string_bytes};
-ghost use Rattle.xb_bench.specs.Windows.{dial_named, header_text, number_said, tenths_said, window_said};
-ghost use Rattle.xb_bench.specs.Windows.{window_text, windows_said, with_speed, with_share};
+ghost use Rattle.xb_bench.specs.Windows.{dial_named, header_text, window_said, window_text, windows_said, with_speed};
+ghost use Rattle.xb_bench.specs.Windows.{windows_text, with_share};
 
 use std::alloc::{AllocError, Global};
-use xb_contact::number_of;
+use xb_contact::tenths_said;
 use xb_text::cut_at;
 use xb_turns::{Window, Windows};
 
@@ -47,30 +47,6 @@ fn dial_named(name: Option<&str>) -> Option<Windows>
     match name {
         None | Some("bell") => Some(BELL),
         Some("gpo") => Some(GPO),
-        Some(_) => None,
-    }
-}
-
-// A number of at most 1,000 in digits.
-fn number_said(digits: &[u8]) -> Option<u64>
-    ensures { result ≡ number_said digits.now }
-{
-    let number = number_of(digits)?;
-    if number > 1_000 {
-        return None;
-    }
-    Some(number)
-}
-
-// A figure in tenths, as 9.5 or 10.
-fn tenths_said(text: &[u8]) -> Option<u64>
-    ensures { result ≡ tenths_said text.now }
-{
-    match cut_at(b'.', text) {
-        None => Some(number_said(text)? * 10),
-        Some((whole, tenth)) if tenth.len() == 1 => {
-            Some(number_said(whole)? * 10 + number_said(tenth)?)
-        }
         Some(_) => None,
     }
 }
@@ -141,9 +117,9 @@ fn push_window(out: &mut String, window: Window) -> Result<(), AllocError>
     write!(out, "{least}.{of_least}-{most}.{of_most}")
 }
 
-// Puts the first lines after the text.
-fn push_header(out: &mut String, windows: Windows) -> Result<(), AllocError>
-    ensures { OnOk result (string_bytes out.new ≡ string_bytes out.old ++ header_text windows) }
+/// Puts the windows after the text, in words. `Err` says that memory ran out.
+pub(crate) fn push_windows(out: &mut String, windows: Windows) -> Result<(), AllocError>
+    ensures { OnOk result (string_bytes out.new ≡ string_bytes out.old ++ windows_text windows) }
 {
     out.push_str("dial: adjust ")?;
     push_window(out, windows.adjust)?;
@@ -151,7 +127,15 @@ fn push_header(out: &mut String, windows: Windows) -> Result<(), AllocError>
     push_window(out, windows.accept)?;
     out.push_str(" pulses a second, ")?;
     push_window(out, windows.share)?;
-    out.push_str(" % break\n")?;
+    out.push_str(" % break")
+}
+
+// Puts the first lines after the text.
+fn push_header(out: &mut String, windows: Windows) -> Result<(), AllocError>
+    ensures { OnOk result (string_bytes out.new ≡ string_bytes out.old ++ header_text windows) }
+{
+    push_windows(out, windows)?;
+    out.push_str("\n")?;
     out.push_str(COLUMNS)
 }
 
@@ -164,7 +148,7 @@ pub(crate) fn header_lines(alloc: Global, windows: Windows) -> Result<String, Al
     Ok(text)
 }
 
-// The names of the columns.
-const COLUMNS: &str =
+/// The names of the columns.
+pub(crate) const COLUMNS: &str =
     "line  digit  pulses    p/s  % break     break ms      make ms  drift %  bounce ms  \
 verdict\n";

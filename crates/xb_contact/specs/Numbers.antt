@@ -1,8 +1,9 @@
 -- Numbers and levels as they are written.
-use Rattle.std.specs.Prelude.{ℕ, ◌+◌, ◌-◌, ◌*◌, ◌^◌, List, [], ◌∷◌, Bool, Option, Some, None, bytes_eq, codes, nat_le, nat_lt, ◌&&◌, if◌then◌else◌}
+use Rattle.std.specs.Prelude.{ℕ, ◌+◌, ◌-◌, ◌*◌, ◌^◌, ◌==◌, List, [], ◌∷◌, Bool, Option, Some, None, bytes_eq, codes, length, nat_le, nat_lt, option_map, ◌&&◌, if◌then◌else◌}
 use Rattle.std.specs.Option.{option_and_then}
 use Rattle.xb_contact.specs.declared.level.Level.{Level}
 use Rattle.xb_contact.specs.declared.level.Level.TheVariants.{Open, Closed}
+use Rattle.xb_text.specs.Pieces.{cut_at}
 
 -- a number with one more digit after it, below 2^64
 abbrev pub digit_after : ℕ → ℕ → ℕ → Option ℕ
@@ -33,6 +34,24 @@ leading_digits (byte ∷ rest) = if is_digit byte then byte ∷ leading_digits r
 abbrev pub after_digits : List ℕ → List ℕ
 after_digits [] = []
 after_digits (byte ∷ rest) = if is_digit byte then after_digits rest else byte ∷ rest
+
+-- a number of at most 1,000 in digits
+abbrev pub up_to_thousand : ℕ → Option ℕ
+up_to_thousand number = if nat_le number 1000 then Some number else None
+
+abbrev pub number_said : List ℕ → Option ℕ
+number_said digits = option_and_then up_to_thousand (number_of digits)
+
+-- a figure in tenths, as 9.5 or 10
+abbrev pub tenths_by : List ℕ → Option (List ℕ × List ℕ) → Option ℕ
+tenths_by text None = option_map (λ number. number * 10) (number_said text)
+tenths_by text (Some parts) =
+    if length parts.1 == 1
+    then option_and_then (λ whole. option_map (λ tenth. whole * 10 + tenth) (number_said parts.1)) (number_said parts.0)
+    else None
+
+abbrev pub tenths_said : List ℕ → Option ℕ
+tenths_said text = tenths_by text (cut_at 46 text)
 
 -- the level that a text writes: 0 is low, an open contact, and 1 high, a closed one
 abbrev pub level_of : List ℕ → Option Level

@@ -61,7 +61,7 @@ pub enum Refusal {
     #[error("a line of gpiomon was wanted")]
     Edge,
     /// A file whose head is that of no WAV whose samples can be read.
-    #[error("a WAV of 8 or 16 bits or mu-law was wanted: sox IN.wav -e signed -b 16 OUT.wav")]
+    #[error("a WAV of PCM, floats, A-law or mu-law was wanted: sox IN.wav -e signed -b 16 OUT.wav")]
     Wav,
     /// Raw samples whose wires go to and fro with each byte, as where a sample has two.
     #[error("the wires go to and fro with each byte: give --format bits16")]

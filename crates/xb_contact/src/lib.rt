@@ -16,7 +16,7 @@
 //! - `Event` and `Refusal`: what a recording says of its wires, and why a part of it is refused. What its
 //!   lines say, step by step, defines a form of recordings (`Steps`). The reason of a refusal is that of the
 //!   first line that is refused (`IsRefusedBy`).
-//! - `number_of`, `cut_digits` and `level_of` (`Numbers`) read numbers and levels as all forms write them.
+//! - `number_of`, `tenths_said`, `cut_digits` and `level_of` (`Numbers`) read numbers and levels as all forms write them.
 //! - `Changes` is what wires do. From it each form of text has a law that it is read back.
 #![tactic(auto)]
 
@@ -41,7 +41,9 @@ pub use hold::Hold;
 pub use joint::{Joint, joined_by};
 pub use level::Level;
 pub use listener::Listener;
-pub use number::{cut_digits, digit_after, is_digit, level_of, number_after, number_of};
+pub use number::{
+    cut_digits, digit_after, is_digit, level_of, number_after, number_of, tenths_said,
+};
 pub use ringer::{ANSWER_MS, Ringer};
 pub use scale::{NANOSECONDS, Scale};
 pub use seizer::Seizer;

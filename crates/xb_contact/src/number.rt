@@ -1,8 +1,9 @@
 // Numbers and levels as they are written.
 ghost use Rattle.std.specs.Prelude.{◌≡◌, ◌≤◌, drop, length, take};
-ghost use Rattle.xb_contact.specs.Numbers.{after_digits, digit_after, is_digit, leading_digits, level_of, number_after, number_in, number_of};
+ghost use Rattle.xb_contact.specs.Numbers.{after_digits, digit_after, is_digit, leading_digits, level_of, number_after, number_in, number_of, number_said, tenths_said};
 
 use crate::level::Level;
+use xb_text::cut_at;
 
 /// A number with one more digit after it, in this base; `None` for 2^64 and more.
 pub fn digit_after(base: u64, number: u64, digit: u8) -> Option<u64>
@@ -70,6 +71,30 @@ pub fn cut_digits(text: &[u8]) -> (&[u8], &[u8])
 {
     let length = digits_before(text);
     (&text[..length], &text[length..])
+}
+
+// A number of at most 1,000 in digits.
+fn number_said(digits: &[u8]) -> Option<u64>
+    ensures { result ≡ number_said digits.now }
+{
+    let number = number_of(digits)?;
+    if number > 1_000 {
+        return None;
+    }
+    Some(number)
+}
+
+/// A figure of at most 1,000 with at most one place, as 9.5 or 10, in tenths; `None` for any other text.
+pub fn tenths_said(text: &[u8]) -> Option<u64>
+    ensures { result ≡ tenths_said text.now }
+{
+    match cut_at(b'.', text) {
+        None => Some(number_said(text)? * 10),
+        Some((whole, tenth)) if tenth.len() == 1 => {
+            Some(number_said(whole)? * 10 + number_said(tenth)?)
+        }
+        Some(_) => None,
+    }
 }
 
 /// The level that `0`, which is low and an open contact, or `1` writes; `None` for any other text.

@@ -1,9 +1,9 @@
 -- Of digits that are taken one by one the last are kept.
-use Rattle.std.proofs.Common.{◌≡◌, ◌≤◌, ◌<◌, ◌+◌, ◌-◌, ◌^◌, ◌∷◌, ◌++◌, ◌∙◌, [], ℕ, List, ⊎_elim, ap, ap₂, append-nil, append_assoc, arith, drop, false, length, min, nat_le, refl, sym, true}
+use Rattle.std.proofs.Common.{◌≡◌, ◌≤◌, ◌<◌, ◌+◌, ◌-◌, ◌^◌, ◌∷◌, ◌++◌, ◌∙◌, [], List, ⊎_elim, ap, ap₂, append-nil, append_assoc, arith, drop, false, length, min, nat_le, refl, sym, true}
 use Rattle.std.proofs.lemmas.Bool.Decides.{leb_tells}
 use Rattle.std.proofs.lemmas.List.{drop-append-le, drop-drop, length-append, length-drop}
 use Rattle.xb_plot.specs.declared.turns.Turn.{Turn}
-use Rattle.xb_plot.specs.Turns.{LastTurns, older_with, rest_of, with_turn}
+use Rattle.xb_plot.specs.Turns.{with_turn}
 use Rattle.xb_plot.specs.TurnLaws.{before_last, last_of, last_turns, with_turns}
 
 -- how many are kept, and how many there are with one more

@@ -37,7 +37,8 @@ panels_text windows scale turns =
 
 -- what the colours say
 abbrev pub colours : List ℕ
-colours = codes "dark green: to what dials are adjusted; red: not accepted; grey: too few pulses to judge"
+colours =
+    codes "green: accepted; dark green: to what dials are adjusted; red: not accepted; grey: too few pulses to judge"
 
 abbrev pub legend_text : List ℕ
 legend_text = words_text LEFT LEGEND note colours

@@ -1,7 +1,8 @@
 //! Draws the digits of a line, as they were dialled on the bench: the speed and the share of break of each,
 //! in SVG.
 //!
-//! - `Turns`: the last digits of a line, `MOST_TURNS` at most, and how many older ones there were.
+//! - `Turns`: the last digits of a line, `MOST_TURNS` at most, and how many older ones there were. They take no
+//!   memory of their own.
 //! - `push_plot`: a picture of them (`plot_text`): for each digit that has a speed exactly one dot, in
 //!   order, at the height of its tenths (`place_of`), and the same of its share of break; the windows as
 //!   bands, with their limits and the ends of the axis as numbers; below, the digits. A dot is red where
@@ -9,7 +10,7 @@
 //! - `push_page_start`, `push_page_part`, `push_page_end`: a page of such pictures, with the text lines
 //!   of the digits below each. It needs no other file.
 //!
-//! No program takes it yet. Not said: that such a text is XML or HTML.
+//! Not said: that such a text is XML or HTML.
 #![tactic(auto)]
 
 mod bands;

@@ -31,7 +31,7 @@ const NOTE: Look = Look {
 
 // What the colours say.
 const COLOURS: &str =
-    "dark green: to what dials are adjusted; red: not accepted; grey: too few pulses to judge";
+    "green: accepted; dark green: to what dials are adjusted; red: not accepted; grey: too few pulses to judge";
 
 // Puts the line after the text.
 fn push_title(out: &mut String, line: LineNo) -> Result<(), AllocError>

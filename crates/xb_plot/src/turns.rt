@@ -1,8 +1,8 @@
 // The last digits of a line.
-ghost use Rattle.std.specs.Prelude.{◌≡◌, OnOk};
+ghost use Rattle.std.specs.Prelude.{◌≡◌, ◌<◌, length};
 ghost use Rattle.xb_plot.specs.Turns.{no_turns, with_room, with_turn};
 
-use std::alloc::{AllocError, Global};
+use arrayvec::ArrayVec;
 use std::marker::Model;
 use xb_turns::Train;
 
@@ -10,7 +10,7 @@ use xb_turns::Train;
 pub const MOST_TURNS: usize = 1_000;
 
 /// A digit that was dialled.
-#[derive(Clone, Copy, Debug, PartialEq, Eq)]
+#[derive(Clone, Copy, Debug, Default, PartialEq, Eq)]
 pub struct Turn {
     /// Its pulses, which a pause ended.
     pub train: Train,
@@ -18,35 +18,40 @@ pub struct Turn {
     pub bounce: u64,
 }
 
-/// The last digits of a line, and how many older ones there were.
+/// The last digits of a line, and how many older ones there were. They take no memory of their own, so that
+/// each digit is taken; a value has some 150 KB.
 #[derive(Drop)]
 pub struct Turns {
-    kept: Vec<Turn>,
+    kept: ArrayVec<Turn, MOST_TURNS>,
     older: u64,
 }
 
 impl Model for Turns {
+    ghost use Rattle.std.specs.Prelude.{◌≤◌, length};
     ghost use Rattle.xb_plot.specs.Turns.{LastTurns};
 
     ghost Value = { LastTurns };
 
     ghost view = { λ s. record { turns = s.kept.items; older = s.older } };
+
+    ghost invariant = { λ s. length s.kept.items ≤ 1000 };
 }
 
 impl Turns {
     /// None yet.
-    pub fn new(alloc: Global) -> Turns
+    pub fn new() -> Turns
         ensures { result ≡ no_turns }
     {
         Turns {
-            kept: Vec::new(alloc),
+            kept: ArrayVec::new(),
             older: 0,
         }
     }
 
     // Where there are enough, the oldest goes.
     fn make_room(&mut self)
-        ensures { self.new ≡ with_room self.old }
+        ensures rest { self.new ≡ with_room self.old }
+        ensures room { length self.new.turns < 1000 }
     {
         if self.kept.len() >= MOST_TURNS {
             self.kept.remove(0);
@@ -54,13 +59,12 @@ impl Turns {
         }
     }
 
-    /// A digit more; where there are `MOST_TURNS`, the oldest of them goes. `Err` says that memory ran out.
-    pub fn take(&mut self, turn: Turn) -> Result<(), AllocError>
-        ensures { OnOk result (self.new ≡ with_turn self.old turn) }
+    /// A digit more; where there are `MOST_TURNS`, the oldest of them goes.
+    pub fn take(&mut self, turn: Turn)
+        ensures { self.new ≡ with_turn self.old turn }
     {
         self.make_room();
-        self.kept.push(turn)?;
-        Ok(())
+        self.kept.push(turn);
     }
 
     /// These digits, in order.

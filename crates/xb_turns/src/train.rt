@@ -6,7 +6,7 @@ use xb_heard::{PulseFault, fault_at};
 use xb_model::{Contact, Limits};
 
 /// The least and the greatest of some times, in ticks.
-#[derive(Clone, Copy, Debug, PartialEq, Eq)]
+#[derive(Clone, Copy, Debug, Default, PartialEq, Eq)]
 pub struct Spread {
     /// The least.
     pub least: u64,
@@ -37,7 +37,7 @@ pub struct Timed {
 }
 
 /// Pulses, as far as they are measured. All times are in ticks.
-#[derive(Clone, Copy, Debug, PartialEq, Eq)]
+#[derive(Clone, Copy, Debug, Default, PartialEq, Eq)]
 pub struct Train {
     /// How many breaks.
     pub pulses: usize,

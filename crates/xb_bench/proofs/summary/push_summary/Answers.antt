@@ -7,9 +7,7 @@ pub returns : goal.returns
 returns c =
     let o = string_bytes c.args.out.now in
     let line = both o _ _ _ _ c.in_ok-push_line.ensures c.in_ok-push_str.ensures.bytes in
-    let counts = both o _ _ _ _ line c.in_ok-push_counts.ensures in
-    let figures = both o _ _ _ _ counts c.in_ok-push_figures.ensures in
-    let verdicts = both o _ _ _ _ figures c.in_ok-push_verdicts.ensures in
+    let sums = both o _ _ _ _ line c.in_ok-push_sums.ensures in
     let end = str c.push_str-2.result _ _ (codes "\n") c.push_str-2.ensures.bytes in
-    last c.push_str-2.result o _ _ _ _ (summary_text c.args.line c.args.scale c.args.sums) verdicts end
+    last c.push_str-2.result o _ _ _ _ (summary_text c.args.line c.args.scale c.args.sums) sums end
     (simp append_assoc)

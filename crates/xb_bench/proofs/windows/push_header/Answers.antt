@@ -1,18 +1,11 @@
-use Rattle.std.proofs.Common.{codes, refl, string_bytes}
+use Rattle.std.proofs.Common.{append_assoc, string_bytes}
 use Rattle.xb_report.proofs.Pushed.{both, last, str}
-use Rattle.xb_bench.specs.Windows.{header_text}
+use Rattle.xb_bench.specs.Windows.{columns_text, header_text}
 use Rattle.xb_bench.proofs.windows.push_header.Goals as goal
 
 pub returns : goal.returns
 returns c =
     let o = string_bytes c.args.out.now in
-    let adjust = both o _ _ _ _ c.in_ok-push_str.ensures.bytes c.in_ok-push_window.ensures in
-    let t1 = both o _ _ _ _ adjust c.in_ok-push_str-2.ensures.bytes in
-    let accept = both o _ _ _ _ t1 c.in_ok-push_window-2.ensures in
-    let t2 = both o _ _ _ _ accept c.in_ok-push_str-3.ensures.bytes in
-    let share = both o _ _ _ _ t2 c.in_ok-push_window-3.ensures in
-    let t3 = both o _ _ _ _ share c.in_ok-push_str-4.ensures.bytes in
-    let columns =
-    codes "line  digit  pulses    p/s  % break     break ms      make ms  drift %  bounce ms  verdict\n" in
-    let end = str c.push_str-5.result _ _ columns c.push_str-5.ensures.bytes in
-    last c.push_str-5.result o _ _ _ _ (header_text c.args.windows) t3 end refl
+    let windows = both o _ _ _ _ c.in_ok-push_windows.ensures c.in_ok-push_str.ensures.bytes in
+    let end = str c.push_str-2.result _ _ columns_text c.push_str-2.ensures.bytes in
+    last c.push_str-2.result o _ _ _ _ (header_text c.args.windows) windows end (simp append_assoc)
