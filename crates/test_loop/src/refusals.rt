@@ -64,7 +64,7 @@ const TABLES: &[Refused] = &[
     (
         &["7=1"],
         b"RIFF1234WAVEdata1234",
-        b"mfloop: the recording: a WAV of 8 or 16 bits or mu-law was wanted: sox IN.wav -e signed -b 16 OUT.wav\n",
+        b"mfloop: the recording: a WAV of PCM, floats, A-law or mu-law was wanted: sox IN.wav -e signed -b 16 OUT.wav\n",
     ),
     (
         &["7=A"],

@@ -1,5 +1,5 @@
 -- Which wire a recording lacks that is asked for.
-use Rattle.std.specs.Prelude.{ℕ, List, Bool, Option, Some, None, is_some, slice_get}
+use Rattle.std.specs.Prelude.{ℕ, List, Option, Some, None, slice_get}
 use Rattle.std.specs.Option.{option_and_then}
 use Rattle.xb_contact.specs.declared.event.Refusal.{Refusal}
 use Rattle.xb_contact.specs.declared.event.Refusal.TheVariants as refusals
@@ -17,9 +17,6 @@ missing_wire (faults.Sample number reason) = missing_in reason
 missing_wire (faults.Beginning reason) = missing_in reason
 missing_wire (faults.End reason) = missing_in reason
 missing_wire fault = None
-
-abbrev pub lacks_wire : RecordingFault → Bool
-lacks_wire fault = is_some (missing_wire fault)
 
 -- its name, of those that are asked for
 abbrev pub missing_name : RecordingFault → List (List ℕ) → Option (List ℕ)

@@ -1,6 +1,6 @@
 // Why nothing is told of a recording, or nothing further.
 ghost use Rattle.std.specs.Prelude.{◌≡◌, map, option_map};
-ghost use Rattle.xb_feed.specs.LackedWires.{lacks_wire, missing_in, missing_name, missing_wire};
+ghost use Rattle.xb_feed.specs.LackedWires.{missing_in, missing_name, missing_wire};
 
 use std::alloc::AllocError;
 use thiserror::Error;
@@ -60,13 +60,6 @@ fn missing_wire(fault: &RecordingFault) -> Option<usize>
         | RecordingFault::Write
         | RecordingFault::NoMemory => None,
     }
-}
-
-/// Whether a recording is refused since it has no wire of a name.
-pub fn lacks_wire(fault: &RecordingFault) -> bool
-    ensures { result ≡ lacks_wire fault.now }
-{
-    missing_wire(fault).is_some()
 }
 
 /// The first of these names, which are those that are asked for, that a recording has no wire of, where it is refused

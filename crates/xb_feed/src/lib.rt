@@ -31,12 +31,12 @@ mod request;
 mod tally;
 mod words;
 
-pub use fault::{RecordingFault, lacks_wire, missing_name};
+pub use fault::{RecordingFault, missing_name};
 pub use feed::listen;
 pub use follower::Follow;
 pub use line::ticks_of;
 pub use manner::{AskedLine, Manner};
-pub use name::{AllInOneLine, InOneLine};
+pub use name::InOneLine;
 pub use request::Request;
 pub use tally::{Bounces, Tally};
 pub use words::{plain_words, request_of};

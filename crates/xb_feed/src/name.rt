@@ -19,19 +19,3 @@ impl<'a> fmt::Display for InOneLine<'a> {
         Ok(())
     }
 }
-
-/// Names, which are told in one line with commas between them.
-#[derive(Clone, Copy)]
-pub struct AllInOneLine<'b, 'a>(pub &'b [&'a str]);
-
-impl<'b, 'a> fmt::Display for AllInOneLine<'b, 'a> {
-    fn fmt<W: fmt::Write>(&self, f: &mut fmt::Formatter<W>) -> fmt::Result {
-        for (i, name) in self.0.iter().enumerate() {
-            if i > 0 {
-                f.write_str(", ")?;
-            }
-            InOneLine(name).fmt(f)?;
-        }
-        Ok(())
-    }
-}
