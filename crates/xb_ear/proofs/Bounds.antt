@@ -34,13 +34,13 @@ pub record IsWithinReach (hz : ℕ) : Type 0 where
 pub square-mono : (p q : ℕ) → p ≤ q → p ^ 2 ≤ q ^ 2
 square-mono p q below = pow-le-pow_left below 2
 
-part-most : (n r : ℕ) (s t : ℤ) → r ≤ REACH → unsigned_abs (t -ℤ s) ≤ n * r → part t ≤ (unsigned_abs s + n * REACH) / 400000
+pub part-most : (n r : ℕ) (s t : ℤ) → r ≤ REACH → unsigned_abs (t -ℤ s) ≤ n * r → part t ≤ (unsigned_abs s + n * REACH) / 400000
 part-most n r s t small near =
     let all : n * r ≤ n * REACH = mul-le n r n REACH (omega arith) small in
     let far : unsigned_abs t ≤ unsigned_abs s + n * REACH = omega (arith, ints, near, all) in
     omega (arith, far)
 
-part-least : (n r : ℕ) (s t : ℤ) → r ≤ REACH → unsigned_abs (t -ℤ s) ≤ n * r → (unsigned_abs s - n * REACH) / 400000 ≤ part t
+pub part-least : (n r : ℕ) (s t : ℤ) → r ≤ REACH → unsigned_abs (t -ℤ s) ≤ n * r → (unsigned_abs s - n * REACH) / 400000 ≤ part t
 part-least n r s t small near =
     let all : n * r ≤ n * REACH = mul-le n r n REACH (omega arith) small in
     let far : unsigned_abs s - n * REACH ≤ unsigned_abs t = omega (arith, ints, near, all) in

@@ -16,16 +16,15 @@ use Rattle.xb_sound.specs.HeardKeys.{AreKeyed, IsKey}
 use Rattle.xb_sound.specs.Sines.{pair_sample}
 use Rattle.xb_sound.specs.Sounds.{silence}
 use Rattle.xb_sound.proofs.KeyWaves.{each_digit}
-use Rattle.xb_ear.specs.Disturbed.{AreWithin, bounded}
+use Rattle.xb_ear.specs.Disturbed.{bounded}
 use Rattle.xb_ear.specs.Ears.{heard, seen_at, sights, windows_in}
 use Rattle.xb_ear.specs.HeardKeys.{AreUnlike, IsHearableUnlike, MOST_NOISE, MOST_NOISE_IN_TONES, disturbable, mark_disturbable, pairs_in, tones_of}
 use Rattle.xb_ear.specs.Hearings.{silent}
 use Rattle.xb_ear.specs.LongRuns.{is_same_label, label, needed_of, one}
 use Rattle.xb_ear.proofs.Fading.{AreLow, sees-key, sees-silence}
-use Rattle.xb_ear.proofs.Near.{within-length}
 use Rattle.xb_ear.proofs.Runs.{Gives, HasArrived, gives-then, label-same, stays}
-use Rattle.xb_ear.proofs.Segments.{all-in-range, between, part-turns, part_of, pause-turns, pause-whole, range-split, sees, sees-part}
-use Rattle.xb_ear.proofs.Shown.{Shows, silence-shows, still}
+use Rattle.xb_ear.proofs.Segments.{AreMatched, ShowsBy, Within, all-in-range, between, part-turns, part_of, pause-turns, pause-whole, range-split, sees, sees-part, shows-within}
+use Rattle.xb_ear.proofs.Shown.{silence-shows, still}
 use Rattle.xb_ear.proofs.ShownKeys.{shows-key}
 use Rattle.xb_ear.proofs.Steps.{Known, after_all, gives_all, known, pairs-heard, whole, whole-append}
 
@@ -107,14 +106,28 @@ gives-whole k ls what b run =
     ap (λ (ps : List Pair). ps ++ one (after_all k ls).sounding) run.given
     ∙ ap (λ (s : Option Pair). what ++ one s) run.arrived.sounds
 
-module _ (cadence : Cadence) (lawful : IsHearableUnlike cadence) (samples : List ℤ) (low : AreLow samples) where
-  sees-still : (past rest : List (ℤ × ℕ)) (z : ℕ) → AreWithin (past ++ (part_of still MOST_NOISE z ++ rest)) samples
+-- what is known of each window shows what sounds in it: silence, and each key
+pub record ShowKeys (R : ℕ → List (ℤ × ℕ) → List ℤ → Type 0) : Type 0 where
+  pub none : ShowsBy R MOST_NOISE still None
+  pub of_key : (key : Key) → IsKey key → ShowsBy R MOST_NOISE_IN_TONES (λ k. pair_sample (mf_pair key) k) (Some (mf_pair key))
+
+-- that each sample is within its bounds does
+pub disturbed-show : ShowKeys Within
+disturbed-show = record {
+  none = shows-within MOST_NOISE still None silence-shows;
+  of_key = λ key is.
+      shows-within MOST_NOISE_IN_TONES (λ k. pair_sample (mf_pair key) k) (Some (mf_pair key)) (shows-key key is);
+}
+
+module _ (R : ℕ → List (ℤ × ℕ) → List ℤ → Type 0) (show : ShowKeys R) (cadence : Cadence) (lawful : IsHearableUnlike cadence)
+    (samples : List ℤ) (low : AreLow samples) where
+  sees-still : (past rest : List (ℤ × ℕ)) (z : ℕ) → AreMatched R (past ++ (part_of still MOST_NOISE z ++ rest)) samples
       → (w : ℕ) → length past ≤ 20 * w → 20 * w + 80 ≤ length past + z → sees samples w ≡ None
   sees-still past rest z near w from to =
-      sees-silence samples w (sees-part still MOST_NOISE None silence-shows past rest samples z w near from to).pair
+      sees-silence samples w (sees-part R still MOST_NOISE None show.none past rest samples z w near from to).pair
 
   quiet-part : (past rest : List (ℤ × ℕ)) (z : ℕ) (a : Option Pair) (k : Known) → HasArrived a k → IsReady a past z
-      → AreWithin (past ++ (part_of still MOST_NOISE z ++ rest)) samples
+      → AreMatched R (past ++ (part_of still MOST_NOISE z ++ rest)) samples
       → Gives k (between (sees samples) (length past) (length past + z)) (one a) None
   quiet-part past rest z a k arrived ready near = elim ready [
     | inl first ↦
@@ -132,7 +145,7 @@ module _ (cadence : Cadence) (lawful : IsHearableUnlike cadence) (samples : List
   -- a silence, and then a tone
   quiet-tone : (past rest : List (ℤ × ℕ)) (z m : ℕ) (a : Option Pair) (p : Pair) (k : Known) → HasArrived a k
       → IsReady a past z ⊎ ((is_same_label a (Some p) ≡ false) × (cadence.gap_ms * 8 ≤ z))
-      → AreWithin (past ++ (part_of still MOST_NOISE z ++ rest)) samples → needed_of (Some p) * 20 + 80 ≤ m
+      → AreMatched R (past ++ (part_of still MOST_NOISE z ++ rest)) samples → needed_of (Some p) * 20 + 80 ≤ m
       → ((w : ℕ) → length past + z ≤ 20 * w → 20 * w + 80 ≤ length past + z + m → sees samples w ≡ Some p)
       → Gives k (between (sees samples) (length past) (length past + z)
       ++ between (sees samples) (length past + z) (length past + z + m)) (one a) (Some p)
@@ -155,7 +168,7 @@ module _ (cadence : Cadence) (lawful : IsHearableUnlike cadence) (samples : List
 
   from-quiet : (marks : List Mark) → AreKeyed marks → (past : List (ℤ × ℕ)) (z : ℕ) (a : Option Pair) (k : Known)
       → HasArrived a k → IsPaused (cadence.gap_ms * 8) a past z → AreTold (cadence.gap_ms * 8) a (tones_of marks)
-      → AreWithin (past ++ (part_of still MOST_NOISE z ++ disturbable cadence marks)) samples
+      → AreMatched R (past ++ (part_of still MOST_NOISE z ++ disturbable cadence marks)) samples
       → (total : ℕ) → total ≡ length past + z + length (disturbable cadence marks)
       → whole k (between (sees samples) (length past) total) ≡ one a ++ tones_of marks
   from-quiet [] keyed past z a k arrived paused told near total is =
@@ -184,7 +197,7 @@ module _ (cadence : Cadence) (lawful : IsHearableUnlike cadence) (samples : List
       let pause-long : length pause ≡ lead =
       length-map (silence cadence.lead_ms) (λ x. (x, MOST_NOISE)) ∙ length-replicate lead (pos 0) in
       from-quiet marks keyed.1 past (z + lead) a k arrived more told
-      (subst (λ (xs : List (ℤ × ℕ)). AreWithin (past ++ xs) samples) same near) total
+      (subst (λ (xs : List (ℤ × ℕ)). AreMatched R (past ++ xs) samples) same near) total
       (omega (arith, is, length-append pause rest, pause-long))
   from-quiet (Refused reason count ∷ marks) keyed past z a k arrived paused told near total is =
       from-quiet marks keyed.1 past z a k arrived paused told near total is
@@ -207,16 +220,16 @@ module _ (cadence : Cadence) (lawful : IsHearableUnlike cadence) (samples : List
       ap (λ (xs : List (ℤ × ℕ)). xs ++ bounded MOST_NOISE (silence cadence.gap_ms))
       (map-map (λ (x : ℤ). (x, MOST_NOISE_IN_TONES)) f (range_with_len 0 m))
       ∙ ap (λ (xs : List (ℤ × ℕ)). tone ++ xs) (zeros gap 0) in
-      let shows : Shows MOST_NOISE_IN_TONES f (Some p) =
-      subst (λ (q : Pair). Shows MOST_NOISE_IN_TONES (λ n. pair_sample q n) (Some q)) (sym keyed.0.1) (shows-key key keyed.0.0) in
+      let shows : ShowsBy R MOST_NOISE_IN_TONES f (Some p) =
+      subst (λ (q : Pair). ShowsBy R MOST_NOISE_IN_TONES (λ n. pair_sample q n) (Some q)) (sym keyed.0.1) (show.of_key key keyed.0.0) in
       let long : needed_of (Some p) * 20 + 80 ≤ m =
       subst (λ (q : Pair). needed_of (Some q) * 20 + 80 ≤ m) (sym keyed.0.1) (long-enough cadence lawful key keyed.0.0) in
-      let near1 : AreWithin (past ++ (quiet ++ ((tone ++ pause) ++ later))) samples =
-      subst (λ (xs : List (ℤ × ℕ)). AreWithin (past ++ (quiet ++ (xs ++ later))) samples) parts near in
+      let near1 : AreMatched R (past ++ (quiet ++ ((tone ++ pause) ++ later))) samples =
+      subst (λ (xs : List (ℤ × ℕ)). AreMatched R (past ++ (quiet ++ (xs ++ later))) samples) parts near in
       let past2 = past ++ quiet in
       let at2 : length past2 ≡ to = omega (arith, length-append past quiet, quiet-long) in
-      let near2 : AreWithin (past2 ++ (tone ++ (pause ++ later))) samples =
-      subst (λ (xs : List (ℤ × ℕ)). AreWithin xs samples)
+      let near2 : AreMatched R (past2 ++ (tone ++ (pause ++ later))) samples =
+      subst (λ (xs : List (ℤ × ℕ)). AreMatched R xs samples)
       (ap (λ (xs : List (ℤ × ℕ)). past ++ (quiet ++ xs)) (append_assoc tone pause later)
       ∙ sym (append_assoc past quiet (tone ++ (pause ++ later)))) near1 in
       let ends : end ≤ length samples =
@@ -224,21 +237,21 @@ module _ (cadence : Cadence) (lawful : IsHearableUnlike cadence) (samples : List
         arith,
         at2,
         tone-long,
-        within-length (past2 ++ (tone ++ (pause ++ later))) samples near2,
+        near2.long,
         length-append past2 (tone ++ (pause ++ later)),
         length-append tone (pause ++ later),
       ) in
       let sees-tone : (w : ℕ) → to ≤ 20 * w → 20 * w + 80 ≤ end → sees samples w ≡ Some p =
       λ w from to. sees-key samples low p w (omega (arith, to, ends))
-      (sees-part f MOST_NOISE_IN_TONES (Some p) shows past2 (pause ++ later) samples m w near2
+      (sees-part R f MOST_NOISE_IN_TONES (Some p) shows past2 (pause ++ later) samples m w near2
       (omega (arith, at2, from)) (omega (arith, at2, to))) in
       let turned = quiet-tone past ((tone ++ pause) ++ later) z m a p k arrived
       (told-ready (cadence.gap_ms * 8) a p past z paused told.0) near1 long sees-tone in
       let k2 : Known = after_all k (between j from to ++ between j to end) in
       let past3 = past2 ++ tone in
       let at3 : length past3 ≡ end = omega (arith, length-append past2 tone, at2, tone-long) in
-      let near3 : AreWithin (past3 ++ (pause ++ later)) samples =
-      subst (λ (xs : List (ℤ × ℕ)). AreWithin xs samples) (sym (append_assoc past2 tone (pause ++ later))) near2 in
+      let near3 : AreMatched R (past3 ++ (pause ++ later)) samples =
+      subst (λ (xs : List (ℤ × ℕ)). AreMatched R xs samples) (sym (append_assoc past2 tone (pause ++ later))) near2 in
       let sound-long : length (mark_disturbable cadence (Tone key p) ++ later) ≡ m + gap + length later =
       length-append (mark_disturbable cadence (Tone key p)) later
       ∙ ap (λ (n : ℕ). n + length later) (ap (λ (xs : List (ℤ × ℕ)). length xs) parts ∙ length-append tone pause
@@ -270,11 +283,12 @@ pub heard-pairs : (samples : List ℤ)
 heard-pairs samples =
     pairs-heard silent (sights samples) ∙ ap (λ xs. gives_all (known silent) xs) (labels-are samples)
 
--- of a disturbed sound of keys
-pub outcome : (cadence : Cadence) → IsHearableUnlike cadence → (marks : List Mark) → AreKeyed marks
-    → AreTold (cadence.gap_ms * 8) None (tones_of marks) → (samples : List ℤ) → AreLow samples
-    → AreWithin (disturbable cadence marks) samples
+-- of samples of which that is known
+pub outcome : (R : ℕ → List (ℤ × ℕ) → List ℤ → Type 0) → ShowKeys R → (cadence : Cadence) → IsHearableUnlike cadence
+    → (marks : List Mark) → AreKeyed marks → AreTold (cadence.gap_ms * 8) None (tones_of marks) → (samples : List ℤ)
+    → AreLow samples → AreMatched R (disturbable cadence marks) samples
     → whole (known silent) (between (sees samples) 0 (length samples)) ≡ tones_of marks
-outcome cadence lawful marks keyed told samples low within =
-    from-quiet cadence lawful samples low marks keyed [] 0 None (known silent) (record { sees = refl; sounds = refl; near = inl refl })
-    (inl (refl, refl)) told within (length samples) (omega (arith, within-length (disturbable cadence marks) samples within))
+outcome R show cadence lawful marks keyed told samples low matched =
+    from-quiet R show cadence lawful samples low marks keyed [] 0 None (known silent)
+    (record { sees = refl; sounds = refl; near = inl refl }) (inl (refl, refl)) told matched (length samples)
+    (omega (arith, matched.long))

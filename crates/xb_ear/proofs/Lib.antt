@@ -26,3 +26,13 @@ pub mod Voltages
 pub mod Scaled
 pub mod OneTone
 pub mod BriefTones
+pub mod Mixed
+pub mod MixedKeys
+pub mod SteadySines
+pub mod Ripples
+pub mod Bessel
+pub mod Others
+pub mod Pieces
+pub mod Edges
+pub mod LouderSines
+pub mod LouderKeys

@@ -11,7 +11,7 @@ use Rattle.xb_ear.proofs.FirstRuns.{BeginsWith, begins-none, begins-some, capped
 use Rattle.xb_ear.proofs.HeardKeys.{labels-are}
 use Rattle.xb_ear.proofs.Received.{sound-pairs}
 use Rattle.xb_ear.proofs.Runs.{label-same, needed-range}
-use Rattle.xb_ear.proofs.Steps.{Known, after, after_all, count_after, enough, gives, gives_all, joins_after, known, part_after, whole, whole-step}
+use Rattle.xb_ear.proofs.Steps.{Known, after, count_after, enough, gives, joins_after, known, part_after, whole, whole-step}
 
 -- h windows saw none, after a run of l
 record IsAway (k : Known) (l : Option Pair) (n m h : ℕ) : Type 0 where

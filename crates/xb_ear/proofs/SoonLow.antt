@@ -11,20 +11,19 @@ use Rattle.xb_sound.specs.Cadences.{tone_ms}
 use Rattle.xb_sound.specs.HeardKeys.{AreKeyed}
 use Rattle.xb_sound.specs.Sines.{pair_sample}
 use Rattle.xb_sound.specs.Sounds.{silence}
-use Rattle.xb_ear.specs.Disturbed.{AreWithin, bounded}
+use Rattle.xb_ear.specs.Disturbed.{bounded}
 use Rattle.xb_ear.specs.Ears.{sight_at, windows_in}
 use Rattle.xb_ear.specs.HeardKeys.{IsHearableUnlike, MOST_NOISE, MOST_NOISE_IN_TONES, disturbable, mark_disturbable}
 use Rattle.xb_ear.specs.LongRuns.{needed_of}
 use Rattle.xb_ear.proofs.Fading.{AreLow, IsSoonLow}
-use Rattle.xb_ear.proofs.HeardKeys.{long-enough, more-zeros, part-long, zeros}
-use Rattle.xb_ear.proofs.Near.{within-length}
+use Rattle.xb_ear.proofs.HeardKeys.{ShowKeys, long-enough, more-zeros, part-long, zeros}
 use Rattle.xb_ear.proofs.Runs.{needed-range}
-use Rattle.xb_ear.proofs.Segments.{part_of, sees-part}
-use Rattle.xb_ear.proofs.Shown.{Shows, silence-shows, still}
-use Rattle.xb_ear.proofs.ShownKeys.{shows-key}
+use Rattle.xb_ear.proofs.Segments.{AreMatched, ShowsBy, part_of, sees-part}
+use Rattle.xb_ear.proofs.Shown.{still}
 use Rattle.xb_ear.proofs.Standing.{is_low}
 
-module _ (cadence : Cadence) (lawful : IsHearableUnlike cadence) (samples : List ℤ) where
+module _ (R : ℕ → List (ℤ × ℕ) → List ℤ → Type 0) (show : ShowKeys R) (cadence : Cadence) (lawful : IsHearableUnlike cadence)
+    (samples : List ℤ) where
   abbrev IsLowFrom : ℕ → ℕ → Type 0
   IsLowFrom a b = (w : ℕ) → a ≤ 20 * w → 20 * w + 80 ≤ b → is_low (sight_at samples w) ≡ true
 
@@ -51,14 +50,14 @@ module _ (cadence : Cadence) (lawful : IsHearableUnlike cadence) (samples : List
         )
   ]
 
-  still-low : (past rest : List (ℤ × ℕ)) (z : ℕ) → AreWithin (past ++ (part_of still MOST_NOISE z ++ rest)) samples
+  still-low : (past rest : List (ℤ × ℕ)) (z : ℕ) → AreMatched R (past ++ (part_of still MOST_NOISE z ++ rest)) samples
       → IsLowFrom (length past) (length past + z)
   still-low past rest z near w from to =
-      (sees-part still MOST_NOISE None silence-shows past rest samples z w near from to).low
+      (sees-part R still MOST_NOISE None show.none past rest samples z w near from to).low
 
   -- a window that begins in a silence or later, where marks follow
   from-still : (marks : List Mark) → AreKeyed marks → (past : List (ℤ × ℕ)) (z : ℕ)
-      → AreWithin (past ++ (part_of still MOST_NOISE z ++ disturbable cadence marks)) samples
+      → AreMatched R (past ++ (part_of still MOST_NOISE z ++ disturbable cadence marks)) samples
       → (w : ℕ) → length past ≤ 20 * w → w < windows_in (length samples) → (d : ℕ) × IsSoonLow samples w d
   from-still [] keyed past z near w from below =
       let quiet = part_of still MOST_NOISE z in
@@ -69,7 +68,7 @@ module _ (cadence : Cadence) (lawful : IsHearableUnlike cadence) (samples : List
         arith,
         below,
         quiet-long,
-        within-length (past ++ (quiet ++ [])) samples near,
+        near.long,
         length-append past (quiet ++ []),
         length-append quiet [],
       ) in (
@@ -86,7 +85,7 @@ module _ (cadence : Cadence) (lawful : IsHearableUnlike cadence) (samples : List
       let same : part_of still MOST_NOISE z ++ (pause ++ rest) ≡ part_of still MOST_NOISE (z + lead) ++ rest =
       sym (append_assoc (part_of still MOST_NOISE z) pause rest)
       ∙ ap (λ (xs : List (ℤ × ℕ)). xs ++ rest) (more-zeros z lead) in
-      from-still marks keyed.1 past (z + lead) (subst (λ (xs : List (ℤ × ℕ)). AreWithin (past ++ xs) samples) same near) w from below
+      from-still marks keyed.1 past (z + lead) (subst (λ (xs : List (ℤ × ℕ)). AreMatched R (past ++ xs) samples) same near) w from below
   from-still (Refused reason count ∷ marks) keyed past z near w from below =
       from-still marks keyed.1 past z near w from below
   from-still (Tone key p ∷ marks) keyed past z near w from below =
@@ -105,26 +104,26 @@ module _ (cadence : Cadence) (lawful : IsHearableUnlike cadence) (samples : List
       ap (λ (xs : List (ℤ × ℕ)). xs ++ bounded MOST_NOISE (silence cadence.gap_ms))
       (map-map (λ (x : ℤ). (x, MOST_NOISE_IN_TONES)) f (range_with_len 0 m))
       ∙ ap (λ (xs : List (ℤ × ℕ)). tone ++ xs) (zeros gap 0) in
-      let shows : Shows MOST_NOISE_IN_TONES f (Some p) =
-      subst (λ (q : Pair). Shows MOST_NOISE_IN_TONES (λ n. pair_sample q n) (Some q)) (sym keyed.0.1) (shows-key key keyed.0.0) in
+      let shows : ShowsBy R MOST_NOISE_IN_TONES f (Some p) =
+      subst (λ (q : Pair). ShowsBy R MOST_NOISE_IN_TONES (λ n. pair_sample q n) (Some q)) (sym keyed.0.1) (show.of_key key keyed.0.0) in
       let needed : needed_of (Some p) * 20 + 80 ≤ m =
       subst (λ (q : Pair). needed_of (Some q) * 20 + 80 ≤ m) (sym keyed.0.1) (long-enough cadence lawful key keyed.0.0) in
       let long : 240 ≤ m = omega (arith, needed, (needed-range (Some p)).0) in
-      let near1 : AreWithin (past ++ (quiet ++ ((tone ++ pause) ++ later))) samples =
-      subst (λ (xs : List (ℤ × ℕ)). AreWithin (past ++ (quiet ++ (xs ++ later))) samples) parts near in
+      let near1 : AreMatched R (past ++ (quiet ++ ((tone ++ pause) ++ later))) samples =
+      subst (λ (xs : List (ℤ × ℕ)). AreMatched R (past ++ (quiet ++ (xs ++ later))) samples) parts near in
       let past2 = past ++ quiet in
       let at2 : length past2 ≡ to = omega (arith, length-append past quiet, quiet-long) in
-      let near2 : AreWithin (past2 ++ (tone ++ (pause ++ later))) samples =
-      subst (λ (xs : List (ℤ × ℕ)). AreWithin xs samples)
+      let near2 : AreMatched R (past2 ++ (tone ++ (pause ++ later))) samples =
+      subst (λ (xs : List (ℤ × ℕ)). AreMatched R xs samples)
       (ap (λ (xs : List (ℤ × ℕ)). past ++ (quiet ++ xs)) (append_assoc tone pause later)
       ∙ sym (append_assoc past quiet (tone ++ (pause ++ later)))) near1 in
       let past3 = past2 ++ tone in
       let at3 : length past3 ≡ end = omega (arith, length-append past2 tone, at2, tone-long) in
-      let near3 : AreWithin (past3 ++ (pause ++ later)) samples =
-      subst (λ (xs : List (ℤ × ℕ)). AreWithin xs samples) (sym (append_assoc past2 tone (pause ++ later))) near2 in
+      let near3 : AreMatched R (past3 ++ (pause ++ later)) samples =
+      subst (λ (xs : List (ℤ × ℕ)). AreMatched R xs samples) (sym (append_assoc past2 tone (pause ++ later))) near2 in
       let quiet-low : IsLowFrom (length past) to = still-low past ((tone ++ pause) ++ later) z near1 in
       let tone-low : IsLowFrom to end =
-      λ w a b. (sees-part f MOST_NOISE_IN_TONES (Some p) shows past2 (pause ++ later) samples m w near2
+      λ w a b. (sees-part R f MOST_NOISE_IN_TONES (Some p) shows past2 (pause ++ later) samples m w near2
       (omega (arith, at2, a)) (omega (arith, at2, b))).low in
       let pause-low : IsLowFrom end (end + gap) =
       λ w a b. still-low past3 later gap near3 w (omega (arith, at3, a)) (omega (arith, at3, b)) in
@@ -137,7 +136,8 @@ module _ (cadence : Cadence) (lawful : IsHearableUnlike cadence) (samples : List
         ]
       ]
 
-pub sound-low : (cadence : Cadence) → IsHearableUnlike cadence → (marks : List Mark) → AreKeyed marks
-    → (samples : List ℤ) → AreWithin (disturbable cadence marks) samples → AreLow samples
-sound-low cadence lawful marks keyed samples within w below =
-    from-still cadence lawful samples marks keyed [] 0 within w (omega arith) below
+pub sound-low : (R : ℕ → List (ℤ × ℕ) → List ℤ → Type 0) → ShowKeys R → (cadence : Cadence) → IsHearableUnlike cadence
+    → (marks : List Mark) → AreKeyed marks → (samples : List ℤ) → AreMatched R (disturbable cadence marks) samples
+    → AreLow samples
+sound-low R show cadence lawful marks keyed samples matched w below =
+    from-still R show cadence lawful samples marks keyed [] 0 matched w (omega arith) below

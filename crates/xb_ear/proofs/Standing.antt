@@ -89,6 +89,32 @@ surely-stands k l h ul uh others power x y sum p is lx xu hy yu rest powers =
     (ap (λ (b : Bool). b || nat_le ((p - sum) / STEADY) k)
     (le-leb (SHARE * p) (SHARE_OF * (x + y)) (omega (arith, most, powers, lx, hy))))
 
+or-true : (b c : Bool) → c ≡ true → (b || c) ≡ true
+or-true true c e = refl
+or-true false c e = e
+
+-- so they do by their bounds alone, where what lies beside is steady
+abbrev pub surely_clear : ℕ → ℕ → ℕ → ℕ → ℕ → Bool
+surely_clear l h ul uh others =
+    nat_le LEAST_LEVEL (min l h) && nat_le (max ul uh) (TWIST * min l h) && nat_le (CLEAR * others) (min l h)
+
+steady-stands : (k l h ul uh others x y sum p : ℕ) → surely_clear l h ul uh others ≡ true
+    → l ≤ x → x ≤ ul → h ≤ y → y ≤ uh → sum - (x + y) ≤ others → (p - sum) / STEADY ≤ k → stand_out k x y sum p ≡ true
+steady-stands k l h ul uh others x y sum p is lx xu hy yu rest steady =
+    let s1 = and-both _ _ is in
+    let s2 = and-both _ _ s1.0 in
+    let loud : LEAST_LEVEL ≤ min l h = leb-true _ _ s2.0 in
+    let even : max ul uh ≤ TWIST * min l h = leb-true _ _ s2.1 in
+    let clear : CLEAR * others ≤ min l h = leb-true _ _ s1.1 in
+    let more : min l h ≤ min x y = omega (arith, lx, hy) in
+    let top : max x y ≤ max ul uh = omega (arith, xu, yu) in
+    and-true _ _
+    (and-true _ _
+    (and-true _ _ (le-leb LEAST_LEVEL (min x y) (omega (arith, loud, more)))
+    (le-leb (max x y) (TWIST * min x y) (omega (arith, even, more, top))))
+    (le-leb (CLEAR * (sum - (x + y))) (min x y) (omega (arith, clear, more, rest))))
+    (or-true (nat_le (SHARE * p) (SHARE_OF * (x + y))) (nat_le ((p - sum) / STEADY) k) (le-leb ((p - sum) / STEADY) k steady))
+
 weak-fails : (k x y sum p : ℕ) → min x y < LEAST_LEVEL → stand_out k x y sum p ≡ false
 weak-fails k x y sum p weak =
     ap (λ (b : Bool). b && nat_le (max x y) (TWIST * min x y) && nat_le (CLEAR * (sum - (x + y))) (min x y)
@@ -276,38 +302,80 @@ pub record Sees (what : Option Pair) (s : Option Sight) : Type 0 where
   pub strong : is_strong s ≡ true
   pub low : is_low s ≡ true
 
-module _ (k n : ℕ) (clean ys : List ℤ) (long : length clean ≡ 80) (near : IsNear n clean ys) where
-  -- a window that is near a clean one of weak levels sees nothing
-  pub sees-none : list_all (is_weak (uppers n clean)) mf_pairs ≡ true → Sees None (seen k ys)
-  sees-none weak =
-      let none : label (seen k ys) ≡ None =
-      ap (λ (s : Option Sight). label s) (none-shown k (levels_of ys) (uppers n clean) (below-uppers n clean ys long near) mf_pairs weak) in
-      record { pair = none; strong = none-strong (seen k ys) none; low = none-low (seen k ys) none }
+-- a window whose levels are nowhere greater than weak ones sees nothing
+pub sees-none-below : (k : ℕ) (u : Levels) (ys : List ℤ) → IsBelow (levels_of ys) u → list_all (is_weak u) mf_pairs ≡ true
+    → Sees None (seen k ys)
+sees-none-below k u ys below weak =
+    let none : label (seen k ys) ≡ None =
+    ap (λ (s : Option Sight). label s) (none-shown k (levels_of ys) u below mf_pairs weak) in
+    record { pair = none; strong = none-strong (seen k ys) none; low = none-low (seen k ys) none }
 
-  -- and one that is near a clean one that surely shows a pair sees that pair
+-- and one whose levels lie between some that surely show a pair sees that pair
+pub sees-pair-between : (k : ℕ) (l u : Levels) (ys : List ℤ) → IsBelow l (levels_of ys) → IsBelow (levels_of ys) u
+    → (p : Pair) → list_any (λ q. is_same_pair q p) mf_pairs ≡ true → shows l u p ≡ true → Sees (Some p) (seen k ys)
+sees-pair-between k l u ys above below p known is =
+    let v = levels_of ys in
+    let bounds = and-both _ _ is in
+    let parts = and-both _ _ bounds.0 in
+    let both = and-both (surely (level_at l p.low) (level_at l p.high) (level_at u p.low) (level_at u p.high) (rest_of u p) u.power)
+    (list_all (λ q. is_same_pair q p || is_out l u q) mf_pairs) parts.0 in
+    let low = at-below l v above p.low in
+    let high = at-below l v above p.high in
+    let low-most = at-below v u below p.low in
+    let high-most = at-below v u below p.high in
+    let stands : is_pair k v p ≡ true =
+    surely-stands k (level_at l p.low) (level_at l p.high) (level_at u p.low) (level_at u p.high) (rest_of u p) u.power
+    (level_at v p.low) (level_at v p.high) (all_levels v) v.power both.0 low low-most high high-most
+    (at-pair (IsRestBelow v u) p mf_pairs (rests-below v u below) known) below.all in
+    let pair : label (seen k ys) ≡ Some p =
+    one-shown k v l u p above below stands mf_pairs (rests-below l v above) both.1 known in
+    let enough : LEAST_STRENGTH ≤ level_at l p.low + level_at l p.high = leb-true _ _ parts.1 in
+    let strong : LEAST_STRENGTH ≤ level_at v p.low + level_at v p.high = omega (arith, enough, low, high) in
+    let least : level_at u p.low + level_at u p.high ≤ MOST_STRENGTH = leb-true _ _ bounds.1 in
+    let most : level_at v p.low + level_at v p.high ≤ MOST_STRENGTH = omega (arith, least, low-most, high-most) in
+    record { pair = pair; strong = first-strong k v p strong mf_pairs pair; low = first-low k v p most mf_pairs pair }
+
+-- a pair that shows by its levels, whatever the power is
+abbrev pub shows_clear : Levels → Levels → Pair → Bool
+shows_clear l u p =
+    surely_clear (level_at l p.low) (level_at l p.high) (level_at u p.low) (level_at u p.high) (rest_of u p)
+    && list_all (λ q. is_same_pair q p || is_out l u q) mf_pairs
+    && nat_le LEAST_STRENGTH (level_at l p.low + level_at l p.high)
+    && nat_le (level_at u p.low + level_at u p.high) MOST_STRENGTH
+
+-- is seen where what lies beside is steady
+pub sees-pair-steady : (k : ℕ) (l u : Levels) (ys : List ℤ) → IsBelow l (levels_of ys) → IsBelow (levels_of ys) u
+    → ((levels_of ys).power - all_levels (levels_of ys)) / STEADY ≤ k
+    → (p : Pair) → list_any (λ q. is_same_pair q p) mf_pairs ≡ true → shows_clear l u p ≡ true → Sees (Some p) (seen k ys)
+sees-pair-steady k l u ys above below steady p known is =
+    let v = levels_of ys in
+    let bounds = and-both _ _ is in
+    let parts = and-both _ _ bounds.0 in
+    let both = and-both (surely_clear (level_at l p.low) (level_at l p.high) (level_at u p.low) (level_at u p.high) (rest_of u p))
+    (list_all (λ q. is_same_pair q p || is_out l u q) mf_pairs) parts.0 in
+    let low = at-below l v above p.low in
+    let high = at-below l v above p.high in
+    let low-most = at-below v u below p.low in
+    let high-most = at-below v u below p.high in
+    let stands : is_pair k v p ≡ true =
+    steady-stands k (level_at l p.low) (level_at l p.high) (level_at u p.low) (level_at u p.high) (rest_of u p)
+    (level_at v p.low) (level_at v p.high) (all_levels v) v.power both.0 low low-most high high-most
+    (at-pair (IsRestBelow v u) p mf_pairs (rests-below v u below) known) steady in
+    let pair : label (seen k ys) ≡ Some p =
+    one-shown k v l u p above below stands mf_pairs (rests-below l v above) both.1 known in
+    let enough : LEAST_STRENGTH ≤ level_at l p.low + level_at l p.high = leb-true _ _ parts.1 in
+    let strong : LEAST_STRENGTH ≤ level_at v p.low + level_at v p.high = omega (arith, enough, low, high) in
+    let least : level_at u p.low + level_at u p.high ≤ MOST_STRENGTH = leb-true _ _ bounds.1 in
+    let most : level_at v p.low + level_at v p.high ≤ MOST_STRENGTH = omega (arith, least, low-most, high-most) in
+    record { pair = pair; strong = first-strong k v p strong mf_pairs pair; low = first-low k v p most mf_pairs pair }
+
+module _ (k n : ℕ) (clean ys : List ℤ) (long : length clean ≡ 80) (near : IsNear n clean ys) where
+  -- so it is of a window that is near a clean one
+  pub sees-none : list_all (is_weak (uppers n clean)) mf_pairs ≡ true → Sees None (seen k ys)
+  sees-none weak = sees-none-below k (uppers n clean) ys (below-uppers n clean ys long near) weak
+
   pub sees-pair : (p : Pair) → list_any (λ q. is_same_pair q p) mf_pairs ≡ true
       → shows (lowers n clean) (uppers n clean) p ≡ true → Sees (Some p) (seen k ys)
   sees-pair p known is =
-      let l = lowers n clean in
-      let u = uppers n clean in
-      let v = levels_of ys in
-      let bounds = and-both _ _ is in
-      let parts = and-both _ _ bounds.0 in
-      let both = and-both (surely (level_at l p.low) (level_at l p.high) (level_at u p.low) (level_at u p.high) (rest_of u p) u.power)
-      (list_all (λ q. is_same_pair q p || is_out l u q) mf_pairs) parts.0 in
-      let low = at-below l v (lowers-below n clean ys long near) p.low in
-      let high = at-below l v (lowers-below n clean ys long near) p.high in
-      let stands : is_pair k v p ≡ true =
-      surely-stands k (level_at l p.low) (level_at l p.high) (level_at u p.low) (level_at u p.high) (rest_of u p) u.power
-      (level_at v p.low) (level_at v p.high) (all_levels v) v.power both.0
-      low (at-below v u (below-uppers n clean ys long near) p.low) high (at-below v u (below-uppers n clean ys long near) p.high)
-      (at-pair (IsRestBelow v u) p mf_pairs (rests-below v u (below-uppers n clean ys long near)) known) (below-uppers n clean ys long near).all in
-      let pair : label (seen k ys) ≡ Some p =
-      one-shown k v l u p (lowers-below n clean ys long near) (below-uppers n clean ys long near) stands mf_pairs (rests-below l v (lowers-below n clean ys long near)) both.1 known in
-      let enough : LEAST_STRENGTH ≤ level_at l p.low + level_at l p.high = leb-true _ _ parts.1 in
-      let strong : LEAST_STRENGTH ≤ level_at v p.low + level_at v p.high = omega (arith, enough, low, high) in
-      let least : level_at u p.low + level_at u p.high ≤ MOST_STRENGTH = leb-true _ _ bounds.1 in
-      let low-most = at-below v u (below-uppers n clean ys long near) p.low in
-      let high-most = at-below v u (below-uppers n clean ys long near) p.high in
-      let most : level_at v p.low + level_at v p.high ≤ MOST_STRENGTH = omega (arith, least, low-most, high-most) in
-      record { pair = pair; strong = first-strong k v p strong mf_pairs pair; low = first-low k v p most mf_pairs pair }
+      sees-pair-between k (lowers n clean) (uppers n clean) ys (lowers-below n clean ys long near)
+      (below-uppers n clean ys long near) p known is

@@ -25,7 +25,7 @@ use Rattle.xb_ear.proofs.Windows.{map-agrees, window-fits}
 abbrev raised : ℤ → List ℤ → List ℤ
 raised c xs = map (λ (x : ℤ). x +ℤ c) xs
 
-distributes : (x c w : ℤ) → (x +ℤ c) *ℤ w ≡ x *ℤ w +ℤ c *ℤ w
+pub distributes : (x c w : ℤ) → (x +ℤ c) *ℤ w ≡ x *ℤ w +ℤ c *ℤ w
 distributes x c w =
     let s : up (x +ℤ c) + down x + down c ≡ down (x +ℤ c) + up x + up c = omega (arith, ints) in
     let a : (up (x +ℤ c) + down x + down c) * up w ≡ (down (x +ℤ c) + up x + up c) * up w = ap (λ (k : ℕ). k * up w) s in
@@ -33,7 +33,7 @@ distributes x c w =
     ap (λ (k : ℕ). k * down w) s in
     omega (arith, ints, a, b)
 
-distributes-right : (w x c : ℤ) → w *ℤ (x +ℤ c) ≡ w *ℤ x +ℤ w *ℤ c
+pub distributes-right : (w x c : ℤ) → w *ℤ (x +ℤ c) ≡ w *ℤ x +ℤ w *ℤ c
 distributes-right w x c =
     *ℤ_comm w (x +ℤ c) ∙ distributes x c w ∙ ap (λ (z : ℤ). z +ℤ c *ℤ w) (*ℤ_comm x w) ∙ ap (λ (z : ℤ). w *ℤ x +ℤ z) (*ℤ_comm c w)
 
@@ -50,12 +50,12 @@ eighty c w =
 squared-sum : (s u v tt et te ee : ℤ) → s ≡ u +ℤ v → u ≡ tt +ℤ te → v ≡ et +ℤ ee → te ≡ et → s ≡ tt +ℤ (et +ℤ et) +ℤ ee
 squared-sum s u v tt et te ee hs hu hv same = omega (arith, ints)
 
-square-of-sum : (t e : ℤ) → (t +ℤ e) *ℤ (t +ℤ e) ≡ t *ℤ t +ℤ (e *ℤ t +ℤ e *ℤ t) +ℤ e *ℤ e
+pub square-of-sum : (t e : ℤ) → (t +ℤ e) *ℤ (t +ℤ e) ≡ t *ℤ t +ℤ (e *ℤ t +ℤ e *ℤ t) +ℤ e *ℤ e
 square-of-sum t e =
     squared-sum ((t +ℤ e) *ℤ (t +ℤ e)) (t *ℤ (t +ℤ e)) (e *ℤ (t +ℤ e)) (t *ℤ t) (e *ℤ t) (t *ℤ e) (e *ℤ e)
     (distributes t e (t +ℤ e)) (distributes-right t t e) (distributes-right e t e) (*ℤ_comm t e)
 
-square-is : (a : ℤ) → pos (unsigned_abs a * unsigned_abs a) ≡ a *ℤ a
+pub square-is : (a : ℤ) → pos (unsigned_abs a * unsigned_abs a) ≡ a *ℤ a
 square-is (pos n) = sym (pos-*ℤ-pos n n)
 square-is (negsuc n) = sym (negsuc-*ℤ-negsuc n n)
 

@@ -18,16 +18,16 @@ use Rattle.xb_sound.proofs.KeyWaves.{keys_with-pair}
 use Rattle.xb_ear.specs.declared.sight.Sight.{Sight}
 use Rattle.xb_ear.specs.Disturbed.{AreWithin, IsNear, bounded}
 use Rattle.xb_ear.specs.Ears.{seen_at, sights, windows_in}
-use Rattle.xb_ear.specs.HeardKeys.{CleanKeysAreHeard, DisturbedKeyingsAreHeard, DisturbedKeysAreHeard, HearsSoFar, IsHearableUnlike, IsHeardAs, MOST_NOISE, MOST_NOISE_IN_TONES, NoisyKeysAreHeard, SilenceIsSilent, UnlikeKeysAreHeard, disturbable, pairs_in, tones_of}
+use Rattle.xb_ear.specs.HeardKeys.{CleanKeysAreHeard, DisturbedKeyingsAreHeard, DisturbedKeysAreHeard, HearsSoFar, IsHearable, IsHearableUnlike, IsHeardAs, MOST_NOISE, MOST_NOISE_IN_TONES, NoisyKeysAreHeard, SilenceIsSilent, UnlikeKeysAreHeard, disturbable, pairs_in, tones_of}
 use Rattle.xb_ear.specs.Hearings.{hearer, silent}
 use Rattle.xb_ear.specs.Receivers.{keys_of_sound}
 use Rattle.xb_ear.proofs.Fading.{sees-silence}
-use Rattle.xb_ear.proofs.HeardKeys.{AreTold, outcome, told-by-gaps, told-by-pairs}
+use Rattle.xb_ear.proofs.HeardKeys.{AreTold, ShowKeys, disturbed-show, outcome, told-by-gaps, told-by-pairs}
 use Rattle.xb_ear.proofs.SoonLow.{sound-low}
 use Rattle.xb_ear.proofs.Received.{nothing-heard, sound-pairs}
 use Rattle.xb_ear.proofs.Runs.{stays}
-use Rattle.xb_ear.proofs.Segments.{all-in-range, between, part_of, range-split, sees, sees-part}
-use Rattle.xb_ear.proofs.Shown.{silence-shows, still}
+use Rattle.xb_ear.proofs.Segments.{AreMatched, Within, all-in-range, between, matched-within, part_of, range-split, sees, sees-part}
+use Rattle.xb_ear.proofs.Shown.{still}
 use Rattle.xb_ear.proofs.Steps.{known}
 use Rattle.xb_ear.proofs.Windows.{image_from-append, sights-early}
 
@@ -46,25 +46,35 @@ keys-of-tones (Tone key p ∷ marks) keyed =
 keys-of-tones (Refused reason count ∷ marks) keyed = keys-of-tones marks keyed.1
 
 -- where each gap is silence, or stands between keys that differ
-heard-as : (cadence : Cadence) (marks : List Mark) (samples : List ℤ) → IsHearableUnlike cadence → AreKeyed marks
-    → AreTold (cadence.gap_ms * 8) None (tones_of marks) → AreWithin (disturbable cadence marks) samples
-    → IsHeardAs samples marks
-heard-as cadence marks samples lawful keyed told within =
-    let low = sound-low cadence lawful marks keyed samples within in
+pub heard-as : (R : ℕ → List (ℤ × ℕ) → List ℤ → Type 0) → ShowKeys R → (cadence : Cadence) (marks : List Mark) (samples : List ℤ)
+    → IsHearableUnlike cadence → AreKeyed marks → AreTold (cadence.gap_ms * 8) None (tones_of marks)
+    → AreMatched R (disturbable cadence marks) samples → IsHeardAs samples marks
+heard-as R show cadence marks samples lawful keyed told matched =
+    let low = sound-low R show cadence lawful marks keyed samples matched in
     let pairs : pairs_in (keys_of_sound samples) ≡ tones_of marks =
-    sound-pairs samples ∙ outcome cadence lawful marks keyed told samples low within in
+    sound-pairs samples ∙ outcome R show cadence lawful marks keyed told samples low matched in
     record { pairs = pairs; keys = ap (λ (ps : List Pair). flat_map keys_with_pair ps) pairs ∙ keys-of-tones marks keyed }
+
+-- where each gap is long enough
+pub heard-after-gaps : (R : ℕ → List (ℤ × ℕ) → List ℤ → Type 0) → ShowKeys R → (cadence : Cadence) (marks : List Mark)
+    (samples : List ℤ) → IsHearable cadence → AreKeyed marks → AreMatched R (disturbable cadence marks) samples
+    → IsHeardAs samples marks
+heard-after-gaps R show cadence marks samples lawful keyed matched =
+    let shorter : IsHearableUnlike cadence =
+    record { kp = lawful.kp; key = lawful.key; gap = omega (arith, lawful.gap) } in
+    heard-as R show cadence marks samples shorter keyed
+    (told-by-gaps (cadence.gap_ms * 8) (omega (arith, lawful.gap)) None (tones_of marks)) matched
 
 pub disturbed_keys_are_heard : DisturbedKeysAreHeard
 disturbed_keys_are_heard cadence marks samples lawful keyed within =
-    let shorter : IsHearableUnlike cadence =
-    record { kp = lawful.kp; key = lawful.key; gap = omega (arith, lawful.gap) } in
-    heard-as cadence marks samples shorter keyed
-    (told-by-gaps (cadence.gap_ms * 8) (omega (arith, lawful.gap)) None (tones_of marks)) within
+    heard-after-gaps Within disturbed-show cadence marks samples lawful keyed
+    (matched-within (disturbable cadence marks) samples within)
 
 pub unlike_keys_are_heard : UnlikeKeysAreHeard
 unlike_keys_are_heard cadence marks samples lawful keyed unlike within =
-    heard-as cadence marks samples lawful keyed (told-by-pairs (cadence.gap_ms * 8) None (tones_of marks) unlike) within
+    heard-as Within disturbed-show cadence marks samples lawful keyed
+    (told-by-pairs (cadence.gap_ms * 8) None (tones_of marks) unlike)
+    (matched-within (disturbable cadence marks) samples within)
 
 keys-of-digits : (digits : List ℕ)
     → keys_of (map (λ d. tone (Digit d)) digits ++ tone St ∷ []) ≡ map (λ d. Digit d) digits ++ St ∷ []
@@ -133,7 +143,8 @@ silence_is_silent samples small =
     (quiet-within samples small 0) in
     let all = all-in-range (sees samples) None (windows_in 0) (windows_in n - windows_in 0)
     (λ w low high. sees-silence samples w
-    (sees-part still MOST_NOISE None silence-shows [] [] samples n w within (omega arith) (omega (arith, high))).pair) in
+    (sees-part Within still MOST_NOISE None disturbed-show.none [] [] samples n w
+    (matched-within (part_of still MOST_NOISE n ++ []) samples within) (omega arith) (omega (arith, high))).pair) in
     nothing-heard samples
     (stays None (between (sees samples) 0 n) all (known silent) (record { sees = refl; sounds = refl; near = inl refl }))
 
