@@ -1,5 +1,6 @@
 // The page of a sound that xb_sound wrote.
 use crate::folder::FOLDER;
+use sha1::Sha1;
 use std::alloc::Global;
 use std::test::Fail;
 use test_kit::marks::keying;
@@ -37,6 +38,25 @@ ST at 940 ms for 67 ms, 1500 Hz -7.2 dBm0, 1700 Hz -7.2 dBm0, twist 0.0 dB, skew
 KP at 1575 ms for 100 ms, 1100 Hz -7.2 dBm0, 1700 Hz -7.2 dBm0, twist 0.0 dB, skew 0.0 ms, hole 0 ms, after 567 ms: GOOD\n\
 1 at 1742 ms for 70 ms, 700 Hz -7.2 dBm0, 900 Hz -7.2 dBm0, twist 0.0 dB, skew 0.1 ms, hole 0 ms, after 67 ms: GOOD\n\
 ST at 1880 ms for 67 ms, 1500 Hz -7.2 dBm0, 1700 Hz -7.2 dBm0, twist 0.0 dB, skew 0.0 ms, hole 0 ms, after 67 ms: GOOD\n";
+
+// What shows them: the SHA-1 of the page in HTML and of the picture that a second program (scripts/tries/shown.py) makes
+// of these keys.
+const SHOWN: &[(&str, [u8; 20])] = &[
+    (
+        "--html",
+        [
+            0x20, 0xa4, 0xed, 0x72, 0xbf, 0x8d, 0x02, 0x6c, 0x55, 0x23, 0xba, 0x67, 0xf4, 0xb2,
+            0xcb, 0x7f, 0x7b, 0x57, 0xb3, 0xe7,
+        ],
+    ),
+    (
+        "--svg",
+        [
+            0x52, 0x60, 0xfd, 0x35, 0x72, 0x7f, 0x95, 0x87, 0xb2, 0x39, 0x73, 0x79, 0x0f, 0xce,
+            0xe5, 0x0f, 0x72, 0xb6, 0xd2, 0xd2,
+        ],
+    ),
+];
 
 // The first of them as an object.
 const OBJECT: &[u8] =
@@ -234,6 +254,15 @@ fn tells_each_key(rt: HostRuntime) -> Result<(), Fail> {
     assert!(rt; objects.ends_with(SECOND_ENTRY));
     let first = written(rt.alloc(), &[&[5, 0]], &["--json"], 0)?;
     assert!(rt; first.ends_with(FIRST_ENTRY));
+    Ok(())
+}
+
+#[test]
+fn shows_the_keyings(rt: HostRuntime) -> Result<(), Fail> {
+    for (option, digest) in SHOWN {
+        let shown = written(rt.alloc(), NUMBERS, &[*option], 0)?;
+        assert!(rt; Sha1::digest(&shown) == *digest);
+    }
     Ok(())
 }
 

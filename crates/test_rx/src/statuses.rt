@@ -27,7 +27,7 @@ impl Program for Mfrx {
 }
 
 const USAGE: &[u8] =
-    b"mfrx: usage: mfrx [--line N] [--trunk T] [--tones] [--json [--since TIME]] [--against PAGE] [--channel N] [--raw [--rate HZ] [--ulaw] [--channels N]]\n";
+    b"mfrx: usage: mfrx [--line N] [--trunk T] [--tones] [--json [--since TIME]] [--html] [--svg] [--against PAGE] [--channel N] [--raw [--rate HZ] [--ulaw] [--channels N]]\n";
 
 // A file of two samples of silence, after a chunk of three bytes that says nothing.
 const FILE: &[u8] = b"RIFF\x34\0\0\0WAVELIST\x03\0\0\0abc\0\
@@ -37,8 +37,18 @@ fmt \x10\0\0\0\x01\0\x01\0\x40\x1f\0\0\x80\x3e\0\0\x02\0\x10\0data\x04\0\0\0\0\0
 const CUT: &[u8] = b"RIFF\x34\0\0\0WAVELIST\x03\0\0\0abc\0\
 fmt \x10\0\0\0\x01\0\x01\0\x40\x1f\0\0\x80\x3e\0\0\x02\0\x10\0data\x04\0\0\0\0\0";
 
+// What is told of that.
+const CUT_OFF: &[u8] =
+    b"mfrx: the sound is cut off: 1 samples of 8000 a second are missing at its end\n";
+
 // What is told of silence that lasts less than a ms.
 const SILENCE: &[u8] = b"mfrx: no key is heard in 0.000 s: silence\n";
+
+// The picture of a sound without a key.
+const PICTURE: &[u8] =
+    b"<svg xmlns=\"http://www.w3.org/2000/svg\" viewBox=\"0 0 5900 150\" width=\"1180\" height=\"30\" \
+font-family=\"Helvetica, Arial, sans-serif\">\n\
+<rect x=\"0\" y=\"0\" width=\"5900\" height=\"150\" fill=\"#ffffff\"/>\n</svg>\n";
 
 // Eight frames of two channels, of which the second is 1,000 throughout: of a sine of that height -27.2 dBm0, and of a
 // sine with that power 3 dB more.
@@ -104,6 +114,22 @@ const CASES: &[(&[&str], &[u8], u8, &[u8], &[u8])] = &[
     (&["--ulaw"], FILE, 2, b"", USAGE),
     (&["--rate", "8000"], FILE, 2, b"", USAGE),
     (&["--tones"], FILE, 0, b"", SILENCE),
+    (&["--svg"], FILE, 0, PICTURE, SILENCE),
+    (&["--svg"], CUT, 1, b"", CUT_OFF),
+    (&["--html"], CUT, 1, b"", CUT_OFF),
+    (&["--html", "--svg"], FILE, 2, b"", USAGE),
+    (&["--html", "--tones"], FILE, 2, b"", USAGE),
+    (&["--svg", "--json"], FILE, 2, b"", USAGE),
+    (&["--html", "--line", "7"], FILE, 2, b"", USAGE),
+    (&["--svg", "--trunk", "7"], FILE, 2, b"", USAGE),
+    (&["--html", "--against", "none"], FILE, 2, b"", USAGE),
+    (
+        &["--svg", "--since", "2027-12-31T23:59:58Z"],
+        FILE,
+        2,
+        b"",
+        USAGE,
+    ),
     (&["--against", "none"], FILE, 0, b"", SILENCE),
     (
         &["--against", "damaged"],
@@ -112,13 +138,7 @@ const CASES: &[(&[&str], &[u8], u8, &[u8], &[u8])] = &[
         b"",
         b"mfrx: the page that was keyed: text line 1 has wrong totals\n",
     ),
-    (
-        &["--against", "page"],
-        CUT,
-        1,
-        b"",
-        b"mfrx: the sound is cut off: 1 samples of 8000 a second are missing at its end\n",
-    ),
+    (&["--against", "page"], CUT, 1, b"", CUT_OFF),
     (&["--against", "none", "--tones"], FILE, 2, b"", USAGE),
     (&["--json", "--line", "7"], FILE, 2, b"", USAGE),
     (&["--since", "2027-12-31T23:59:58.75Z"], FILE, 2, b"", USAGE),

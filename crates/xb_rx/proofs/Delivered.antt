@@ -5,6 +5,7 @@ use Rattle.std.proofs.KnownBytes.{Keeps-refl}
 use Rattle.xb_measured.specs.Receivers.{keys_of_sound}
 use Rattle.xb_text.specs.Writing.{AppendsBeginning}
 use Rattle.xb_rx.specs.Pages.{page_after}
+use Rattle.xb_rx.proofs.PartSteps.{fresh-picture}
 use Rattle.xb_rx.proofs.PlacedKeyings.{numbers-placed}
 use Rattle.xb_rx.specs.declared.fault.RxFault.{RxFault}
 use Rattle.xb_rx.specs.declared.fault.RxFault.TheVariants as fault
@@ -19,6 +20,7 @@ use Rattle.xb_rx.specs.declared.request.Input.{Input}
 use Rattle.xb_rx.specs.Hearing.{Delivers, Hears, HearsBytes, HearsSound, Outputs, outputs, sound_after, sound_by, start_by}
 use Rattle.jiff_core.specs.declared.timestamp.Timestamp.{Timestamp}
 use Rattle.xb_clock.specs.Clocks.{Clock}
+use Rattle.xb_rx.specs.Shown.{shown_of}
 use Rattle.xb_rx.specs.Timed.{Timing, timing_by}
 use Rattle.xb_rx.specs.Reports.{Reported, fresh_report}
 use Rattle.xb_wav.specs.Samples.{Sound, sound_of}
@@ -47,6 +49,24 @@ hears-written timing written.Keys sound (Ok u) outs heard = heard
 hears-written timing written.Keys sound (Err f) outs heard = heard
 hears-written timing written.Objects sound (Ok u) outs heard = heard
 hears-written timing written.Objects sound (Err f) outs heard = heard
+hears-written timing written.Sections sound (Ok u) outs heard = heard
+hears-written timing written.Sections sound (Err f) outs heard = heard
+hears-written timing written.Picture sound (Ok u) outs (lacks, wrote) = (
+  lacks,
+  record {
+    page_whole = subst (Appends outs.page_old outs.page_new)
+        (fresh-picture (shown_of (keys_of_sound sound.samples))) wrote.page_whole;
+    told_whole = wrote.told_whole;
+  },
+)
+hears-written timing written.Picture sound (Err f) outs (of, began) = (
+  of,
+  record {
+    page_begun = subst (AppendsBeginning outs.page_old outs.page_new)
+        (fresh-picture (shown_of (keys_of_sound sound.samples))) began.page_begun;
+    told_begun = began.told_begun;
+  },
+)
 
 delivered-sound : (timing : Timing) (written : Written) (how : Input) (bytes : List ℕ) (result : Result (Unit {0}) RxFault) (outs : Outputs)
     → ((sound : Sound) × (sound_by how bytes ≡ Ok sound) × Hears timing.since (Some sound) (fresh_report timing written) result outs)

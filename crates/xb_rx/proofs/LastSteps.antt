@@ -1,4 +1,4 @@
--- What is written of the last keys of a page.
+-- What is written of the last keys.
 use Rattle.std.proofs.Common.{◌≡◌, ◌∙◌, ℕ, List, [], ◌++◌, Option, Result, Ok, Err, ap, append-nil, subst, sym}
 use Rattle.std.specs.Io.KnownBytes.{Appends}
 use Rattle.std.proofs.KnownBytes.{Appends-trans}
@@ -6,10 +6,10 @@ use Rattle.xb_text.specs.Writing.{AppendsBeginning}
 use Rattle.xb_text.proofs.Beginnings.{AppendsBeginning-second}
 use Rattle.xb_measured.specs.declared.heard.Heard.{Heard}
 use Rattle.xb_rx.specs.declared.page.PageFault.{PageFault}
-use Rattle.xb_rx.specs.Pages.{Ends, Paged, Writes}
+use Rattle.xb_rx.specs.Pages.{Ends, Writes}
 
 -- the last key was not written
-pub end-fault : (text : Paged → List Heard → List ℕ) (page : Paged) (keys : List Heard) (f : PageFault)
+pub end-fault : {S : Type 0} (text : S → List Heard → List ℕ) (page : S) (keys : List Heard) (f : PageFault)
     (r : Result (Unit {0}) PageFault) (old new : Option (List ℕ)) → r ≡ Err f
     → ((later : List Heard) → AppendsBeginning old new (text page (keys ++ later))) → Ends (text page keys) r old new
 end-fault text page keys f r old new same begun =
@@ -17,7 +17,7 @@ end-fault text page keys f r old new same begun =
     (subst (λ (ks : List Heard). AppendsBeginning old new (text page ks)) (append-nil keys) (begun []))
 
 -- it was, and then the end of the page
-pub end-after : (text : Paged → List Heard → List ℕ) (page new : Paged) (keys : List Heard)
+pub end-after : {S : Type 0} (text : S → List Heard → List ℕ) (page new : S) (keys : List Heard)
     (r : Result (Unit {0}) PageFault) (old mid out : Option (List ℕ))
     → Writes {F = PageFault} (λ later. text page (keys ++ later)) (text new) (Ok tt) old mid
     → Ends (text new []) r mid out → Ends (text page keys) r old out

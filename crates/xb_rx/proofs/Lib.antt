@@ -6,6 +6,7 @@ pub mod Listings
 pub mod KeySteps
 pub mod LastSteps
 pub mod ObjectSteps
+pub mod PartSteps
 pub mod SoFar
 pub mod Listened
 pub mod PagedKeys

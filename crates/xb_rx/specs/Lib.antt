@@ -4,6 +4,7 @@ pub mod Placed
 pub mod Pages
 pub mod Timed
 pub mod Objects
+pub mod Shown
 pub mod Listeners
 pub mod Reports
 pub mod Hearing

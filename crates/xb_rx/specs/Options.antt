@@ -28,6 +28,8 @@ pub record Say (rows : List Row) (options : Options) : Type 0 where
   pub trunk : ReadsNumber (given_by rows (codes "trunk")) options.trunk
   pub tones : ReadsFlag (given_by rows (codes "tones")) options.tones
   pub json : ReadsFlag (given_by rows (codes "json")) options.json
+  pub html : ReadsFlag (given_by rows (codes "html")) options.html
+  pub svg : ReadsFlag (given_by rows (codes "svg")) options.svg
   pub raw : ReadsFlag (given_by rows (codes "raw")) options.raw
   pub rate : ReadsNumber (given_by rows (codes "rate")) options.rate
   pub ulaw : ReadsFlag (given_by rows (codes "ulaw")) options.ulaw
@@ -52,11 +54,25 @@ abbrev pub page_by : Option ℕ → Option ℕ → Option Written
 page_by line trunk = option_and_then (λ l. option_map (λ t. written.Page l t) trunk) line
 
 -- keys one by one, for which no line and no trunk group is said, or a page
-abbrev pub written_of : Options → Option Written
-written_of options =
+abbrev pub told_of : Options → Option Written
+told_of options =
     if options.tones || options.json
     then (if is_some options.line || is_some options.trunk then None else Some (told_keys options.json))
     else page_by (line_of options.line) (trunk_of options.trunk)
+
+-- something is said of these
+abbrev pub says_told : Options → Bool
+says_told options = options.tones || options.json || is_some options.line || is_some options.trunk
+
+abbrev pub shown_by : Bool → Written
+shown_by html = if html then written.Sections else written.Picture
+
+-- or the keyings are shown in one of two ways, and nothing else is said of what is written
+abbrev pub written_of : Options → Option Written
+written_of options =
+    if options.html || options.svg
+    then (if (options.html && options.svg) || says_told options then None else Some (shown_by options.html))
+    else told_of options
 
 abbrev pub raw_coding : Bool → Coding
 raw_coding ulaw = if ulaw then coding.MuLaw else coding.Signed16
@@ -102,7 +118,7 @@ request_of options =
     (written_of options)
 
 abbrev pub is_plain : Options → Bool
-is_plain options = not (options.tones || options.json || is_some options.line || is_some options.trunk)
+is_plain options = not (options.html || options.svg || says_told options)
 
 -- where a page is named the sound is compared with it, and nothing is said of what is written
 abbrev pub request_against : Options → Bool → Option Request

@@ -22,7 +22,7 @@ program = codes "mfrx"
 -- the line for words that are refused
 abbrev pub usage_line : List ℕ
 usage_line =
-    codes "mfrx: usage: mfrx [--line N] [--trunk T] [--tones] [--json [--since TIME]] [--against PAGE] [--channel N] [--raw [--rate HZ] [--ulaw] [--channels N]]\n"
+    codes "mfrx: usage: mfrx [--line N] [--trunk T] [--tones] [--json [--since TIME]] [--html] [--svg] [--against PAGE] [--channel N] [--raw [--rate HZ] [--ulaw] [--channels N]]\n"
 
 -- it names each option of the command
 abbrev pub UsageNamesEachOption : Type 0

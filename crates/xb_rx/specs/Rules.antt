@@ -13,6 +13,8 @@ options =
     ∷ (codes "trunk", takes.Number)
     ∷ (codes "tones", takes.Nothing)
     ∷ (codes "json", takes.Nothing)
+    ∷ (codes "html", takes.Nothing)
+    ∷ (codes "svg", takes.Nothing)
     ∷ (codes "raw", takes.Nothing)
     ∷ (codes "rate", takes.Number)
     ∷ (codes "ulaw", takes.Nothing)
@@ -22,7 +24,7 @@ options =
     ∷ (codes "since", takes.Text)
     ∷ []
 
--- `mfrx [--line N] [--trunk T] [--tones] [--json [--since TIME]] [--against PAGE] [--channel N]
+-- `mfrx [--line N] [--trunk T] [--tones] [--json [--since TIME]] [--html] [--svg] [--against PAGE] [--channel N]
 -- [--raw [--rate HZ] [--ulaw] [--channels N]]`
 abbrev pub command_of_words : App
 command_of_words = command_of (codes "mfrx") options

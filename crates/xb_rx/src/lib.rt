@@ -4,7 +4,8 @@
 //!   `keys_of_sound` of the samples that the bytes say), and standard error has exactly a line for each doubt
 //!   of one of them and for each key that is in none (`told_of`); or the output is a line for each key
 //!   (`text_lines`); or an object for each key, and for each entry after its ST (`object_lines`), with their
-//!   times of day where `--since` gives the one at which the sound begins (`specs/Timed.antt`). Where no key is
+//!   times of day where `--since` gives the one at which the sound begins (`specs/Timed.antt`); or a page in HTML
+//!   (`html_of`) or a picture in SVG (`svg_of`) of each keying and each key in none. Where no key is
 //!   heard, standard error has one line, of how loud the sound is (`quiet_of`). On an `Err` the beginning of
 //!   that was written to each. A WAV is refused by the fault that it has (`start_of_file`), and by no other.
 //!   `Cut` says how many samples are missing at its end. Memory does not grow with the sound.
@@ -29,6 +30,7 @@ mod listener;
 mod listing;
 mod objects;
 mod page;
+mod parts;
 mod program;
 mod receiving;
 mod report;

@@ -1,18 +1,24 @@
-// A sound that is heard, and how loud it is.
-ghost use Rattle.std.specs.Prelude.{◌≡◌};
+// A sound that is heard, and what is told of one in which no key is heard.
+ghost use Rattle.std.specs.Prelude.{◌≡◌, [], ◌∷◌, ◌++◌, false, IfOk, List, ℤ, string_bytes};
+ghost use Rattle.xb_dtmf.specs.Blocks.{HasTaken};
+ghost use Rattle.xb_dtmf.specs.Lines.{buttons_line};
+ghost use Rattle.xb_measured.specs.Meters.{quiet_line};
 ghost use Rattle.xb_rx.specs.Listeners.{is_keyed_with};
 
 use crate::page::PageFault;
 use std::alloc::{AllocError, Global};
 use std::io::Write;
+use xb_dtmf::{Buttons, buttons_line};
 use xb_measured::{Heard, Meter, Receiver};
 use xb_text::write_whole;
 
-/// What was heard of a sound so far, and how loud it was.
+/// What was heard of a sound so far, how loud it was, and whether digits of a push-button telephone sounded in it.
 #[derive(Drop)]
 pub(crate) struct Listener {
     pub(crate) receiver: Receiver,
     pub(crate) meter: Meter,
+    // which takes samples as long as no key was heard
+    pub(crate) buttons: Buttons,
     // whether a key was heard
     pub(crate) is_keyed: bool,
 }
@@ -22,6 +28,27 @@ fn is_keyed_with(before: bool, key: Option<Heard>) -> bool
     ensures { result ≡ is_keyed_with before key }
 {
     before || key.is_some()
+}
+
+// Takes a sample, as long as no key was heard.
+fn press(buttons: &mut Buttons, is_keyed: bool, sample: i16)
+    ensures { is_keyed ≡ false → (samples : List ℤ) → HasTaken buttons.old samples
+        → HasTaken buttons.new (samples ++ sample ∷ []) }
+{
+    if !is_keyed {
+        buttons.take(sample);
+    }
+}
+
+// How loud a sound is, and for how long digits of a push-button telephone sound in it.
+fn unkeyed_text(alloc: Global, meter: &Meter, buttons: &Buttons) -> Result<String, AllocError>
+    ensures { IfOk result (λ text.
+        string_bytes text ≡ quiet_line meter.now ++ buttons_line buttons.now.blocks) }
+{
+    let mut text = meter.quiet_line(alloc)?;
+    let digits = buttons_line(alloc, buttons.blocks())?;
+    text.push_str(&digits)?;
+    Ok(text)
 }
 
 impl Listener {
@@ -40,6 +67,7 @@ impl Listener {
         Listener {
             receiver: Receiver::new(),
             meter: Meter::new(),
+            buttons: Buttons::new(),
             is_keyed: false,
         }
     }
@@ -52,6 +80,7 @@ impl Listener {
         ensures count { self.new.meter.samples ≡ self.old.meter.samples + 1 }
     {
         self.meter.take(sample);
+        press(&mut self.buttons, self.is_keyed, sample);
         let key = self.receiver.take(sample);
         self.is_keyed = is_keyed_with(self.is_keyed, key);
         key
@@ -65,7 +94,7 @@ impl Listener {
         self.receiver.finish()
     }
 
-    // The line of a sound in which no key was heard, where this one sounds at its end.
+    // What is told of a sound in which no key was heard, where this one sounds at its end.
     fn quiet_text(&self, alloc: Global, last: Option<Heard>) -> Result<String, AllocError>
         ensures { IfOk result (λ text. (samples : List ℤ) (keys : List HeardKey)
             → HasListened self.now samples keys → string_bytes text ≡ quiet_text samples (keys ++ listed last)) }
@@ -74,12 +103,12 @@ impl Listener {
         if is_keyed {
             Ok(String::new(alloc))
         } else {
-            self.meter.quiet_line(alloc)
+            unkeyed_text(alloc, &self.meter, &self.buttons)
         }
     }
 
-    /// Tells how loud a sound is in which no key was heard, where this one sounds at its end. On an `Err` the beginning
-    /// of that was written.
+    /// Tells how loud a sound is in which no key was heard, where this one sounds at its end, and whether digits of a
+    /// push-button telephone sound in it. On an `Err` the beginning of that was written.
     pub(crate) fn tell<E: Write>(
         &self,
         alloc: Global,

@@ -18,7 +18,7 @@ pub(crate) const PROGRAM: &str = "mfrx";
 
 // The line of refused words.
 const USAGE: &[u8] =
-    b"mfrx: usage: mfrx [--line N] [--trunk T] [--tones] [--json [--since TIME]] [--against PAGE] [--channel N] [--raw [--rate HZ] [--ulaw] [--channels N]]\n";
+    b"mfrx: usage: mfrx [--line N] [--trunk T] [--tones] [--json [--since TIME]] [--html] [--svg] [--against PAGE] [--channel N] [--raw [--rate HZ] [--ulaw] [--channels N]]\n";
 
 // Does what is asked for, and returns the status of the process.
 fn answer<F: Files, R: Read, W: Write, E: Write>(
@@ -52,7 +52,8 @@ fn answer<F: Files, R: Read, W: Write, E: Write>(
 /// process:
 ///
 /// - `DONE`: the words ask for something, `out` got exactly the page of the sound's keyings, and `err` a line for each
-///   key that is in none; or `out` got exactly a line for each key; or nothing, since there is no difference;
+///   key that is in none; or `out` got exactly a line for each key, or what shows the keyings; or nothing, since there
+///   is no difference;
 /// - `FAULT`: `receive` or `compare` has a fault, which a difference is too, or memory ran out while the words were
 ///   read; `err` gets the fault as one line after such keys, and `out` got nothing, the beginning of the page or of the
 ///   lines, or the differences;

@@ -87,7 +87,8 @@ pub(crate) fn listen<R: Read, W: Write, E: Write>(
 }
 
 /// Hears a sound, and writes what is asked for: the page of its keyings, an entry for each, from KP to ST, as it ends,
-/// and the totals, and to `err` a line for each key that is in none; or a line or an object for each key, as it ends;
+/// and the totals, and to `err` a line for each key that is in none; or a line or an object for each key, as it ends; or
+/// a section in HTML for each keying and each key that is in none, as it ends, or at the end one picture of them;
 /// and to `err` how loud the sound is where no key is heard. Memory does not grow with the sound, which is read a few
 /// bytes at a time: hand it a reader with a buffer.
 ///

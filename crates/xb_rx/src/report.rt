@@ -5,6 +5,7 @@ ghost use Rattle.xb_rx.specs.Faults.{reported_page};
 use crate::listing::Listing;
 use crate::objects::Objects;
 use crate::page::{Page, PageFault};
+use crate::parts::{Parts, Sheet};
 use crate::request::Written;
 use crate::timed::ReportFault;
 use jiff_core::Timestamp;
@@ -12,8 +13,10 @@ use std::alloc::Global;
 use std::io::Write;
 use xb_compared::Keyed;
 use xb_measured::Heard;
+use xb_shown::{Picture, Sections};
 
-/// The page of keys, or its differences from what was keyed, or a line for each key, or the objects of keys and entries.
+/// The page of keys, or its differences from what was keyed, or a line for each key, or the objects of keys and
+/// entries, or what shows the keyings.
 #[derive(Drop)]
 pub(crate) enum Report {
     // The page of their keyings, which is written, or compared.
@@ -22,6 +25,8 @@ pub(crate) enum Report {
     Keys(Listing),
     // An object for each key, and for each entry.
     Objects(Objects),
+    // A section for each keying, and for each key in none, or one picture.
+    Parts(Parts),
 }
 
 // What comes of a page, or of lines, is what comes of what is written.
@@ -51,6 +56,10 @@ impl Report {
             Written::Page(line, trunk) => Report::Page(Page::new(alloc, line, trunk)),
             Written::Keys => Report::Keys(Listing { last: None }),
             Written::Objects => Report::Objects(Objects::new(alloc)),
+            Written::Sections => Report::Parts(Parts::new(alloc, Sheet::Page(Sections::new()))),
+            Written::Picture => {
+                Report::Parts(Parts::new(alloc, Sheet::Picture(Picture::new(alloc))))
+            }
         }
     }
 
@@ -89,6 +98,7 @@ impl Report {
             Report::Page(page) => reported_page(page.take(alloc, key, out, err)),
             Report::Keys(listing) => reported_page(listing.take(alloc, key, out)),
             Report::Objects(objects) => objects.take(alloc, since, key, out),
+            Report::Parts(parts) => reported_page(parts.take(alloc, key, out)),
         }
     }
 
@@ -116,6 +126,7 @@ impl Report {
             Report::Page(page) => reported_page(page.end(alloc, key, out, err)),
             Report::Keys(listing) => reported_page(listing.take(alloc, key, out)),
             Report::Objects(objects) => objects.take(alloc, since, key, out),
+            Report::Parts(parts) => reported_page(parts.end(alloc, key, out)),
         }
     }
 }

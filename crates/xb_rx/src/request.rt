@@ -21,6 +21,10 @@ pub enum Written {
     Keys,
     /// An object for each of its keys, and for each entry.
     Objects,
+    /// A page in HTML, with a section for each of its keyings and for each key that is in none.
+    Sections,
+    /// A picture in SVG of them.
+    Picture,
 }
 
 /// How a sound is given, and what is written of it.

@@ -3,7 +3,7 @@ ghost use Rattle.std.specs.Prelude.{◌≡◌, ◌<◌, ◌≤◌, IfErr, IfOk, 
 ghost use Rattle.xb_command.specs.Commands.{texts_of};
 ghost use Rattle.xb_rx.specs.Hearing.{HasForm};
 ghost use Rattle.xb_wav.specs.Samples.{IsForm};
-ghost use Rattle.xb_rx.specs.Options.{AreRefused, Asks, Say, channel_of, channels_of, input_of, is_plain, line_of, named, raw_coding, raw_form, request_against, request_of, time_of, told_keys, trunk_of, written_of};
+ghost use Rattle.xb_rx.specs.Options.{AreRefused, Asks, Say, channel_of, channels_of, input_of, is_plain, line_of, named, raw_coding, raw_form, request_against, request_of, says_told, shown_by, time_of, told_keys, told_of, trunk_of, written_of};
 
 use crate::program::PROGRAM;
 use crate::request::{Asked, Input, Request, Written};
@@ -21,6 +21,8 @@ pub(crate) struct Options {
     pub(crate) trunk: Option<u32>,
     pub(crate) tones: bool,
     pub(crate) json: bool,
+    pub(crate) html: bool,
+    pub(crate) svg: bool,
     pub(crate) raw: bool,
     pub(crate) rate: Option<u32>,
     pub(crate) ulaw: bool,
@@ -30,11 +32,13 @@ pub(crate) struct Options {
 }
 
 // The options of the program, each under its name.
-const OPTIONS: [(&str, Takes); 11] = [
+const OPTIONS: [(&str, Takes); 13] = [
     ("line", Takes::Number),
     ("trunk", Takes::Number),
     ("tones", Takes::Nothing),
     ("json", Takes::Nothing),
+    ("html", Takes::Nothing),
+    ("svg", Takes::Nothing),
     ("raw", Takes::Nothing),
     ("rate", Takes::Number),
     ("ulaw", Takes::Nothing),
@@ -53,6 +57,8 @@ fn options_of(words: &Words) -> Options
         trunk: words.number("trunk"),
         tones: words.flag("tones"),
         json: words.flag("json"),
+        html: words.flag("html"),
+        svg: words.flag("svg"),
         raw: words.flag("raw"),
         rate: words.number("rate"),
         ulaw: words.flag("ulaw"),
@@ -97,9 +103,28 @@ fn told_keys(json: bool) -> Written
     }
 }
 
-// What is written; `None` where a line or a trunk group is said and no page is written, or there is no such one.
-fn written_of(options: Options) -> Option<Written>
-    ensures { result ≡ written_of options }
+// How the keyings are shown.
+fn shown_by(html: bool) -> Written
+    ensures { result ≡ shown_by html }
+{
+    if html {
+        Written::Sections
+    } else {
+        Written::Picture
+    }
+}
+
+// Whether something is said of a page, of lines or of objects.
+fn says_told(options: Options) -> bool
+    ensures { result ≡ says_told options }
+{
+    options.tones || options.json || options.line.is_some() || options.trunk.is_some()
+}
+
+// What is written where the keyings are not shown; `None` where a line or a trunk group is said and no page is written,
+// or there is no such one.
+fn told_of(options: Options) -> Option<Written>
+    ensures { result ≡ told_of options }
 {
     if options.tones || options.json {
         if options.line.is_some() || options.trunk.is_some() {
@@ -111,6 +136,21 @@ fn written_of(options: Options) -> Option<Written>
         let line = line_of(options.line)?;
         let trunk = trunk_of(options.trunk)?;
         Some(Written::Page(line, trunk))
+    }
+}
+
+// What is written; `None` where the keyings are shown in two ways, or something else is said of what is written.
+fn written_of(options: Options) -> Option<Written>
+    ensures { result ≡ written_of options }
+{
+    if options.html || options.svg {
+        if options.html && options.svg || says_told(options) {
+            None
+        } else {
+            Some(shown_by(options.html))
+        }
+    } else {
+        told_of(options)
     }
 }
 
@@ -215,7 +255,7 @@ fn request_of(options: Options) -> Option<Request>
 fn is_plain(options: Options) -> bool
     ensures { result ≡ is_plain options }
 {
-    !(options.tones || options.json || options.line.is_some() || options.trunk.is_some())
+    !(options.html || options.svg || says_told(options))
 }
 
 // What the options ask for, beside a page that is named or not; `None` also where one is, and something is said of what
@@ -232,7 +272,8 @@ fn request_against(options: Options, against: bool) -> Option<Request>
 }
 
 /// What the words ask for: the page of a line, by a trunk group, or a line for each key, or objects, with times of day
-/// or without them, of a WAV file or of samples alone, or that it is compared with a page.
+/// or without them, or a page in HTML or a picture, of a WAV file or of samples alone, or that it is compared with a
+/// page.
 pub fn asked_by_words<'a>(alloc: Global, words: &'a [String]) -> Result<Asked<'a>, WordsFault>
     ensures asks { IfOk result (λ asked. Asks (texts_of words.entry.now) asked.request
         (named asked.against)) }

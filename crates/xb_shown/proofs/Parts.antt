@@ -1,34 +1,55 @@
--- Parts of a picture, one after the other.
-use Rattle.std.proofs.Common.{◌≡◌, ◌∙◌, ◌++◌, ◌+◌, ◌≤◌, ◌<◌, ◌^◌, ◌-◌, ℕ, List, [], ◌∷◌, length, take, min, ap, sym, refl, append_assoc, arith}
-use Rattle.std.proofs.lemmas.List.{append-nil, length-append, take-append-le, take_all}
+-- A part more of a picture, and of a page.
+use Rattle.std.proofs.Common.{◌≡◌, ◌∙◌, ◌++◌, ◌+◌, ◌≤◌, ◌<◌, ◌^◌, ◌-◌, ℕ, suc, Bool, true, List, [], ◌∷◌, length, take, min, ap, ap₂, sym, append_assoc, arith}
+use Rattle.std.proofs.lemmas.List.{append-nil, take_all}
+use Rattle.xb_svg.proofs.Pushed.{both}
 use Rattle.xb_shown.specs.Keyings.{part_text}
-use Rattle.xb_shown.specs.Pictures.{Part, below_part, below_parts, came, parts_text}
+use Rattle.xb_shown.specs.Pages.{page_rest, sections_text, unbegun_text}
+use Rattle.xb_shown.specs.Pictures.{Drawn, Part, below_part, below_parts, came_with, parts_text, picture_of, picture_rest}
+use Rattle.xb_shown.specs.Sections.{end_text, section_text}
 
-pub text-after : (first : ℕ) (parts : List Part) (part : Part)
-    → parts_text first (parts ++ part ∷ [])
-    ≡ parts_text first parts ++ part_text (below_parts first parts) part.title part.before part.keys
-text-after first [] part = append-nil (part_text first part.title part.before part.keys)
-text-after first (p ∷ parts) part =
-    ap (λ t. part_text first p.title p.before p.keys ++ t) (text-after (below_part first p) parts part)
-    ∙ sym (append_assoc (part_text first p.title p.before p.keys) (parts_text (below_part first p) parts)
-    (part_text (below_parts (below_part first p) parts) part.title part.before part.keys))
+-- the picture that these later parts make
+abbrev with_later : Drawn → List Part → ℕ → List ℕ
+with_later drawn later others =
+    picture_of (below_parts drawn.rows later) (drawn.body ++ parts_text drawn.rows later) others
 
-pub below-after : (first : ℕ) (parts : List Part) (part : Part)
-    → below_parts first (parts ++ part ∷ []) ≡ below_part (below_parts first parts) part
-below-after first [] part = refl
-below-after first (p ∷ parts) part = below-after (below_part first p) parts part
+module _ (old new : Drawn) (part : Part) (later : List Part) where
+  -- one that is drawn stands below the others
+  pub one-drawn : old.came < 40 → new.body ≡ old.body ++ part_text old.rows part.title part.before part.keys
+      → new.rows ≡ below_part old.rows part → new.came ≡ old.came + 1
+      → picture_rest new later ≡ picture_rest old (part ∷ later)
+  one-drawn room body rows more =
+      let left : 40 - old.came ≡ suc (40 - new.came) = omega (arith, room, more) in
+      let count : min (new.came + length later) (2 ^ 64 - 1) - 40 ≡ min (old.came + suc (length later)) (2 ^ 64 - 1) - 40
+      = omega (arith, more) in
+      let rest : List Part = take (40 - new.came) later in
+      ap₂ (λ (b : List ℕ) (r : ℕ). picture_of (below_parts r rest) (b ++ parts_text r rest) (came_with new later - 40)) body rows
+      ∙ ap₂ (λ (b : List ℕ) (k : ℕ). picture_of (below_parts (below_part old.rows part) rest) b k)
+      (append_assoc old.body (part_text old.rows part.title part.before part.keys) (parts_text (below_part old.rows part) rest))
+      count
+      ∙ ap (λ (n : ℕ). with_later old (take n (part ∷ later)) (came_with old (part ∷ later) - 40)) (sym left)
 
--- one more is drawn where there is room
-pub drawn-after : (parts : List Part) (part : Part) → length parts < 40
-    → take 40 (parts ++ part ∷ []) ≡ take 40 parts ++ part ∷ []
-drawn-after parts part room =
-    let count : length (parts ++ part ∷ []) ≡ length parts + 1 = length-append parts (part ∷ []) in
-    let few : length (parts ++ part ∷ []) ≤ 40 = omega arith in
-    let before : length parts ≤ 40 = omega arith in
-    take_all 40 (parts ++ part ∷ []) few ∙ ap (λ ps. ps ++ part ∷ []) (sym (take_all 40 parts before))
+take-none : (n : ℕ) → take {A = Part} n [] ≡ []
+take-none n = take_all n [] (omega arith)
 
-pub came-after : (parts : List Part) (part : Part)
-    → came (parts ++ part ∷ []) ≡ min (came parts + 1) (2 ^ 64 - 1)
-came-after parts part =
-    let count : length (parts ++ part ∷ []) ≡ length parts + 1 = length-append parts (part ∷ []) in
-    omega arith
+-- where none comes any more
+pub none-later : (drawn : Drawn) (body : List ℕ) (others : ℕ) → drawn.came < 2 ^ 64 → body ≡ drawn.body
+    → others ≡ drawn.came - 40 → picture_of drawn.rows body others ≡ picture_rest drawn []
+none-later drawn body others fits is count =
+    let none : take (40 - drawn.came) [] ≡ [] = take-none (40 - drawn.came) in
+    let left : others ≡ min (drawn.came + 0) (2 ^ 64 - 1) - 40 = omega (arith, fits, count) in
+    ap₂ (λ (b : List ℕ) (k : ℕ). picture_of drawn.rows b k) (is ∙ sym (append-nil drawn.body)) left
+    ∙ ap (λ (ps : List Part). with_later drawn ps (came_with drawn [] - 40)) (sym none)
+
+-- a section, and before the first one the beginning of the page
+pub section-first : (o o1 n : List ℕ) (begun after : Bool) (part : Part) (later : List Part)
+    → o1 ≡ o ++ unbegun_text begun → after ≡ true → n ≡ o1 ++ section_text part.title part.before part.keys
+    → n ++ page_rest after later ≡ o ++ page_rest begun (part ∷ later)
+section-first o o1 n begun after part later first is second =
+    let u = unbegun_text begun in
+    let s = section_text part.title part.before part.keys in
+    let rest = sections_text later ++ end_text in
+    ap (λ (b : Bool). n ++ page_rest b later) is
+    ∙ ap (λ (t : List ℕ). t ++ rest) (both o o1 n u s first second)
+    ∙ append_assoc o (u ++ s) rest
+    ∙ ap (λ (t : List ℕ). o ++ t) (append_assoc u s rest)
+    ∙ ap (λ (t : List ℕ). o ++ (u ++ t)) (sym (append_assoc s (sections_text later) end_text))

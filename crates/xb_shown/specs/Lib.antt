@@ -7,3 +7,4 @@ pub mod Headings
 pub mod Keyings
 pub mod Pictures
 pub mod Sections
+pub mod Pages

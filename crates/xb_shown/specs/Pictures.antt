@@ -1,10 +1,9 @@
 -- One picture of many keyings.
-use Rattle.std.specs.Prelude.{ℕ, ◌≡◌, ◌+◌, ◌-◌, ◌^◌, ◌==◌, min, List, [], ◌∷◌, ◌++◌, codes, decimal, if◌then◌else◌, length, Option, string_bytes, take}
+use Rattle.std.specs.Prelude.{ℕ, ◌+◌, ◌-◌, ◌^◌, ◌==◌, min, List, [], ◌∷◌, ◌++◌, codes, decimal, if◌then◌else◌, length, Option, take}
 use Rattle.xb_measured.specs.declared.heard.Heard.{Heard}
 use Rattle.xb_svg.specs.Elements.{end_text, frame_text, words_text}
 use Rattle.xb_shown.specs.declared.heading.Title.{Title}
 use Rattle.xb_shown.specs.declared.looks.TheConstants.{RED_HEAD}
-use Rattle.xb_shown.specs.declared.picture.Picture.{Picture}
 use Rattle.xb_shown.specs.declared.picture.TheConstants.{MOST_DRAWN, OTHERS_DOWN, OTHERS_HEIGHT}
 use Rattle.xb_shown.specs.declared.places.TheConstants.{LEFT, WIDTH}
 use Rattle.xb_shown.specs.Keyings.{part_text}
@@ -59,8 +58,25 @@ picture_text parts =
     picture_of (below_parts 0 (take MOST_DRAWN parts)) (parts_text 0 (take MOST_DRAWN parts))
     (came parts - MOST_DRAWN)
 
--- what a picture has once these came
-pub record HasDrawn (picture : Picture) (parts : List Part) : Type 0 where
-  pub body : string_bytes picture.body ≡ parts_text 0 (take MOST_DRAWN parts)
-  pub rows : picture.rows ≡ below_parts 0 (take MOST_DRAWN parts)
-  pub count : picture.came ≡ came parts
+-- what a picture has so far: the text of its rows, how many they are, and how many parts came
+pub record Drawn : Type 0 where
+  pub body : List ℕ
+  pub rows : ℕ
+  pub came : ℕ
+
+abbrev pub nothing_drawn : Drawn
+nothing_drawn = record { body = []; rows = 0; came = 0 }
+
+-- the later parts that there is still room for
+abbrev pub fitting : Drawn → List Part → List Part
+fitting drawn later = take (MOST_DRAWN - drawn.came) later
+
+-- how many came with later ones; counting stops at the greatest number that there is
+abbrev pub came_with : Drawn → List Part → ℕ
+came_with drawn later = min (drawn.came + length later) (2 ^ 64 - 1)
+
+-- the picture once later parts come too
+abbrev pub picture_rest : Drawn → List Part → List ℕ
+picture_rest drawn later =
+    picture_of (below_parts drawn.rows (fitting drawn later))
+    (drawn.body ++ parts_text drawn.rows (fitting drawn later)) (came_with drawn later - MOST_DRAWN)

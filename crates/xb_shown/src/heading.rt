@@ -22,7 +22,7 @@ pub enum Title {
 // How far below the top of its first row a heading stands, and how far right of its title what was heard.
 const HEADING_DOWN: u64 = 130;
 
-const HEARD_RIGHT: u64 = 1_000;
+const HEARD_RIGHT: u64 = 1_300;
 
 // An entry that begins at so many ms, in words.
 fn entry_words(alloc: Global, number: usize, ms: u64) -> Result<String, AllocError>

@@ -98,7 +98,7 @@ fn push_drawn(out: &mut String, rows: u32, drawn: &str) -> Result<(), AllocError
 
 /// Puts a picture of keys, and of what they are, after the text, by the last key before them: an SVG element. `Err` says
 /// that memory ran out.
-pub fn push_keying(
+pub(crate) fn push_keying(
     alloc: Global,
     out: &mut String,
     title: Title,

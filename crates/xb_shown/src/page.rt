@@ -12,7 +12,7 @@ use xb_told::{NamedKey, began_ms, doubts_text};
 
 /// Puts what stands before the sections of a page after the text. The page needs no script and no other file, and is
 /// printed with no section cut in two. `Err` says that memory ran out.
-pub fn push_page_start(out: &mut String) -> Result<(), AllocError>
+pub(crate) fn push_page_start(out: &mut String) -> Result<(), AllocError>
     ensures { OnOk result (string_bytes out.new ≡ string_bytes out.old ++ start_text) }
 {
     out.push_str(
@@ -112,7 +112,7 @@ fn push_figures(
 
 /// Puts the section of keys and of what they are after the text, by the last key before them: a heading, the picture, the
 /// line of each key, and what is doubtful of an entry. `Err` says that memory ran out.
-pub fn push_part(
+pub(crate) fn push_part(
     alloc: Global,
     out: &mut String,
     title: Title,
@@ -127,7 +127,7 @@ pub fn push_part(
 }
 
 /// Puts what stands after the sections of a page after the text. `Err` says that memory ran out.
-pub fn push_page_end(out: &mut String) -> Result<(), AllocError>
+pub(crate) fn push_page_end(out: &mut String) -> Result<(), AllocError>
     ensures { OnOk result (string_bytes out.new ≡ string_bytes out.old ++ end_text) }
 {
     out.push_str("</body>\n</html>\n")

@@ -7,6 +7,7 @@ use crate::keying::push_rows;
 use crate::looks::RED_HEAD;
 use crate::places::{LEFT, WIDTH, row_top};
 use std::alloc::{AllocError, Global};
+use std::marker::Model;
 use xb_measured::Heard;
 use xb_svg::{push_end, push_frame, push_text};
 use xb_told::NamedKey;
@@ -22,11 +23,23 @@ const OTHERS_HEIGHT: u64 = 150;
 /// A picture of the first keyings and loose keys of a sound, as they come. It holds those that are drawn.
 #[derive(Drop)]
 pub struct Picture {
-    pub(crate) body: String,
+    body: String,
     // how many rows the body has
-    pub(crate) rows: u32,
+    rows: u32,
     // how many came; counting stops at the greatest number that there is
-    pub(crate) came: usize,
+    came: usize,
+}
+
+// Clauses see what is drawn, its rows, and how many came.
+impl Model for Picture {
+    ghost use Rattle.std.specs.Prelude.{◌<◌, ◌^◌, string_bytes};
+    ghost use Rattle.xb_shown.specs.Pictures.{Drawn};
+
+    ghost Value = { Drawn };
+
+    ghost view = { λ p. record { body = string_bytes p.body; rows = p.rows; came = p.came } };
+
+    ghost invariant = { λ p. p.came < 2 ^ 64 };
 }
 
 // How many are not drawn, in words.
@@ -74,11 +87,12 @@ impl Picture {
     ghost use Rattle.std.specs.Prelude.{◌≡◌, ◌++◌, ◌∷◌, [], List, OnOk, string_bytes};
     ghost use Rattle.xb_shown.specs.Keyings.{part_text};
     ghost use Rattle.xb_shown.specs.Rows.{placed_of, rows_to};
-    ghost use Rattle.xb_shown.specs.Pictures.{HasDrawn, Part, part_of, picture_text};
+    ghost use Rattle.xb_shown.specs.Pictures.{Part, nothing_drawn, part_of, picture_rest, picture_text};
 
     /// With nothing in it.
     pub fn new(alloc: Global) -> Picture
-        ensures { HasDrawn result [] }
+        ensures drawn { result ≡ nothing_drawn }
+        ensures whole { (parts : List Part) → picture_rest result parts ≡ picture_text parts }
     {
         Picture {
             body: String::new(alloc),
@@ -95,8 +109,8 @@ impl Picture {
         before: Option<Heard>,
         keys: &[NamedKey],
     ) -> Result<(), AllocError>
-        ensures text { OnOk result (string_bytes self.new.body
-            ≡ string_bytes self.old.body ++ part_text self.old.rows title before keys.now) }
+        ensures text { OnOk result (self.new.body
+            ≡ self.old.body ++ part_text self.old.rows title before keys.now) }
         ensures rows { OnOk result (self.new.rows
             ≡ rows_to self.old.rows (placed_of self.old.rows before keys.now)) }
         ensures count { OnOk result (self.new.came ≡ self.old.came) }
@@ -114,8 +128,8 @@ impl Picture {
         before: Option<Heard>,
         keys: &[NamedKey],
     ) -> Result<(), AllocError>
-        ensures { (parts : List Part) → HasDrawn self.old parts
-            → OnOk result (HasDrawn self.new (parts ++ part_of title before keys.now ∷ [])) }
+        ensures { (later : List Part) → OnOk result
+            (picture_rest self.new later ≡ picture_rest self.old (part_of title before keys.now ∷ later)) }
     {
         if self.came >= MOST_DRAWN {
             self.came = self.came.saturating_add(1);
@@ -128,8 +142,7 @@ impl Picture {
 
     /// Puts the picture after the text: an SVG element. `Err` says that memory ran out.
     pub fn push(&self, alloc: Global, out: &mut String) -> Result<(), AllocError>
-        ensures { (parts : List Part) → HasDrawn self.now parts
-            → OnOk result (string_bytes out.new ≡ string_bytes out.old ++ picture_text parts) }
+        ensures { OnOk result (string_bytes out.new ≡ string_bytes out.old ++ picture_rest self.now []) }
     {
         let others = self.came.saturating_sub(MOST_DRAWN);
         push_rows_and(alloc, out, self.rows, &self.body, others)

@@ -53,3 +53,19 @@ returns-in-Objects-clause-told g c = λ timing.
     subst (λ (r : Report). Ends (told_rest (reported timing r) (listed c.args.key)) c.take-in-Objects.result
     (g.E.Write.contents c.args.err.now) (g.E.Write.contents c.args.err.now)) (sym c.in-Objects.is)
     (nothing-ended c.take-in-Objects.result (g.E.Write.contents c.args.err.now))
+
+pub returns-in-Parts-clause-page : goal.returns-in-Parts-clause-page
+returns-in-Parts-clause-page g c = λ clock tells.
+    subst (λ (r : Report). Ends (report_rest (reported (timing_by c.args.since clock) r) (listed c.args.key)) c.reported_page-in-Parts.result
+    (g.W.Write.contents c.args.out.now) (g.W.Write.contents c.end-in-Parts.new.out)) (sym c.in-Parts.is)
+    (page-ends c.end-in-Parts.result c.reported_page-in-Parts.result c.reported_page-in-Parts.ensures _ _ _ c.end-in-Parts.ensures)
+
+pub returns-in-Parts-clause-told : goal.returns-in-Parts-clause-told
+returns-in-Parts-clause-told g c = λ timing.
+    subst (λ (r : Report). Ends (told_rest (reported timing r) (listed c.args.key)) c.reported_page-in-Parts.result
+    (g.E.Write.contents c.args.err.now) (g.E.Write.contents c.args.err.now)) (sym c.in-Parts.is)
+    (nothing-ended c.reported_page-in-Parts.result (g.E.Write.contents c.args.err.now))
+
+pub returns-in-Parts-clause-late : goal.returns-in-Parts-clause-late
+returns-in-Parts-clause-late g c =
+    page-late c.end-in-Parts.result c.reported_page-in-Parts.result c.reported_page-in-Parts.ensures c.args.since

@@ -5,6 +5,7 @@ use Rattle.xb_rx.specs.Objects.{objected, objects_rest}
 use Rattle.xb_rx.specs.Timed.{timing_by, untimed}
 use Rattle.xb_rx.specs.Pages.{Writes, page_told, page_rest, paged}
 use Rattle.xb_rx.specs.Reports.{IsReady, listing_rest, report_rest, reported, told_rest}
+use Rattle.xb_rx.specs.Shown.{parts_rest, shown}
 use Rattle.xb_rx.proofs.Listings.{nothing-told, page-late, page-ok, page-writes}
 use Rattle.xb_rx.proofs.report.Report.take.Goals as goal
 
@@ -57,3 +58,24 @@ returns-in-Objects-clause-told g c = λ timing.
     subst (λ (r : Report). Writes (λ later. told_rest (reported timing r) (listed c.args.key ++ later)) (λ later. [])
     c.take-in-Objects.result (g.E.Write.contents c.args.err.now) (g.E.Write.contents c.args.err.now)) (sym c.in-Objects.is)
     (nothing-told c.take-in-Objects.result (g.E.Write.contents c.args.err.now))
+
+pub returns-in-Parts-clause-page : goal.returns-in-Parts-clause-page
+returns-in-Parts-clause-page g c = λ clock tells.
+    subst (λ (r : Report). Writes (λ later. report_rest (reported (timing_by c.args.since clock) r) (listed c.args.key ++ later))
+    (parts_rest (shown c.take-in-Parts.new.self)) c.reported_page-in-Parts.result (g.W.Write.contents c.args.out.now) (g.W.Write.contents c.take-in-Parts.new.out))
+    (sym c.in-Parts.is)
+    (page-writes c.take-in-Parts.result c.reported_page-in-Parts.result c.reported_page-in-Parts.ensures _ _ _ _ c.take-in-Parts.ensures.text)
+
+pub returns-in-Parts-clause-told : goal.returns-in-Parts-clause-told
+returns-in-Parts-clause-told g c = λ timing.
+    subst (λ (r : Report). Writes (λ later. told_rest (reported timing r) (listed c.args.key ++ later)) (λ later. [])
+    c.reported_page-in-Parts.result (g.E.Write.contents c.args.err.now) (g.E.Write.contents c.args.err.now)) (sym c.in-Parts.is)
+    (nothing-told c.reported_page-in-Parts.result (g.E.Write.contents c.args.err.now))
+
+pub returns-in-Parts-clause-late : goal.returns-in-Parts-clause-late
+returns-in-Parts-clause-late g c =
+    page-late c.take-in-Parts.result c.reported_page-in-Parts.result c.reported_page-in-Parts.ensures c.args.since
+
+pub returns-in-Parts-clause-ready : goal.returns-in-Parts-clause-ready
+returns-in-Parts-clause-ready g c =
+    page-ok c.take-in-Parts.result c.reported_page-in-Parts.result c.reported_page-in-Parts.ensures _ c.take-in-Parts.ensures.begun
