@@ -2,11 +2,13 @@
 code with mftone.
 
     tones.py LEAD KP KEY GAP < ENTRIES > WAV
-    tones.py LEAD KP KEY GAP WORDS > WAV
+    tones.py LEAD KP KEY GAP WORDS [--level DBM0] [--twist DB] [--noise-peak N] [--seed N] [--clip] > WAV
 
 Entries are lines of a page of mfbank; what is no keyed entry is passed over. WORDS are those of mftone --keys, and have
-to be right. The four times are in ms.
+to be right, but one may be too loud: then nothing is written, its place is told, and the status is 1. The four times
+are in ms.
 """
+import argparse
 import math
 import struct
 import sys
@@ -27,14 +29,34 @@ def sine(hz, n):
     return round(AMPLITUDE * math.sin(2 * math.pi * (hz * n % RATE) / RATE))
 
 
+def amplitude(level):
+    """Returns the amplitude of a level in dBm0."""
+    return round(AMPLITUDE * 10 ** ((level + 7.2) / 20))
+
+
+def scaled(size, sample):
+    """Returns a sample of the table at an amplitude, a half rounded away from 0."""
+    return int(math.copysign((size * abs(sample) * 2 + AMPLITUDE) // (2 * AMPLITUDE), sample))
+
+
+def splitmix64(seed):
+    """Gives the words of the generator, one after the other."""
+    mask = 2**64 - 1
+    while True:
+        seed = (seed + 0x9E3779B97F4A7C15) & mask
+        word = ((seed ^ (seed >> 30)) * 0xBF58476D1CE4E5B9) & mask
+        word = ((word ^ (word >> 27)) * 0x94D049BB133111EB) & mask
+        yield word ^ (word >> 31)
+
+
 def silence(ms):
     return [0] * (ms * RATE // 1000)
 
 
-def tone(hertz, ms):
+def tone(hertz, ms, low=AMPLITUDE, high=AMPLITUDE):
     """Returns the samples of frequencies, written as LOW+HIGH, that sound together."""
-    frequencies = [int(hz) for hz in hertz.split("+")]
-    return [sum(sine(hz, n) for hz in frequencies) for n in range(ms * RATE // 1000)]
+    sizes = [(int(hz), high if place else low) for place, hz in enumerate(hertz.split("+"))]
+    return [sum(scaled(size, sine(hz, n)) for hz, size in sizes) for n in range(ms * RATE // 1000)]
 
 
 def sound(entry, lead, kp, key, gap):
@@ -49,19 +71,41 @@ def sound(entry, lead, kp, key, gap):
     return samples
 
 
-def named(words, lead, kp, key, gap):
-    """Returns the samples of keys by name, of frequencies for a time, and of silence."""
+def named(words, times, levels, noise, clip):
+    """Returns the samples of keys by name, of frequencies for a time, and of silence, or the place of what is loud."""
+    lead, kp, key, gap = times
     samples = silence(lead)
-    for word in words.split():
+    place = 0
+    for byte, word in starts(words):
+        place += 1
         what, _, ms = word.partition(":")
+        made = []
         if what == "silence":
-            samples += silence(int(ms))
+            made = silence(int(ms))
         elif ms:
-            samples += tone(what, int(ms))
+            made = tone(what, int(ms), *levels)
         else:
             for name in [word] if word in PAIRS else word:
-                samples += tone(PAIRS[name], kp if name.startswith("KP") else key) + silence(gap)
+                made += tone(PAIRS[name], kp if name.startswith("KP") else key, *levels) + silence(gap)
+        if not clip and any(it + noise > 32767 or it - noise < -32768 for it in made):
+            sys.exit(f"word {place}, at byte {byte}, is too loud for 16 bits")
+        samples += made
     return samples
+
+
+def starts(text):
+    """Gives the words of a text, each with the byte at which it begins, from 1."""
+    at = 0
+    for word in text.split(" "):
+        if word:
+            yield at + 1, word
+        at += len(word) + 1
+
+
+def noisy(samples, peak, seed):
+    """Returns samples with noise, cut to 16 bits."""
+    words = splitmix64(seed)
+    return [max(-32768, min(32767, it + next(words) % (2 * peak + 1) - peak)) for it in samples]
 
 
 def wav(samples):
@@ -72,9 +116,24 @@ def wav(samples):
     return struct.pack("<4sI", b"RIFF", len(body)) + body
 
 
-if __name__ == "__main__":
-    times = [int(word) for word in sys.argv[1:5]]
-    if len(sys.argv) > 5:
-        sys.stdout.buffer.write(wav(named(sys.argv[5], *times)))
+def attend():
+    reader = argparse.ArgumentParser()
+    reader.add_argument("times", nargs=4, type=int)
+    reader.add_argument("words", nargs="?")
+    reader.add_argument("--level", type=float, default=-7.2)
+    reader.add_argument("--twist", type=float, default=0.0)
+    reader.add_argument("--noise-peak", type=int, default=0)
+    reader.add_argument("--seed", type=int, default=0)
+    reader.add_argument("--clip", action="store_true")
+    given = reader.parse_args()
+    if given.words is None:
+        samples = [it for line in sys.stdin for it in sound(line, *given.times)]
     else:
-        sys.stdout.buffer.write(wav([it for line in sys.stdin for it in sound(line, *times)]))
+        levels = amplitude(given.level), amplitude(round(given.level + given.twist, 1))
+        clean = named(given.words, given.times, levels, given.noise_peak, given.clip)
+        samples = noisy(clean, given.noise_peak, given.seed)
+    sys.stdout.buffer.write(wav(samples))
+
+
+if __name__ == "__main__":
+    attend()

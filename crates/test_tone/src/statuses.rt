@@ -27,7 +27,7 @@ impl Program for Mftone {
 }
 
 const USAGE: &[u8] = b"mftone: usage: mftone [--line N] [--entry N] [--lead N] [--kp N] [--key N] \
-[--gap N] [--raw] [--keys WORDS]\n";
+[--gap N] [--raw] [--keys WORDS] [--level DBM0] [--twist DB] [--noise-peak N] [--seed N] [--clip]\n";
 
 // The words after the program's name, the page, the status, and what stands on standard error; nothing is
 // written.
@@ -130,6 +130,24 @@ const CASES: &[(&[&str], &[u8], u8, &[u8])] = &[
         1,
         b"mftone: keys: word 2, at byte 11, is too loud for 16 bits\n",
     ),
+    (
+        &["--keys", "KP 2", "--noise-peak", "12768"],
+        PAGE,
+        1,
+        b"mftone: keys: word 2, at byte 4, is too loud for 16 bits\n",
+    ),
+    // a level of each tone is from -40.0 to 0, and a page has none
+    (&["--keys", "KP", "--level=0.1"], PAGE, 2, USAGE),
+    (
+        &["--keys", "KP", "--level=-3", "--twist=3.1"],
+        PAGE,
+        2,
+        USAGE,
+    ),
+    (&["--keys", "KP", "--level=-40.1"], PAGE, 2, USAGE),
+    (&["--keys", "KP", "--twist=+1"], PAGE, 2, USAGE),
+    (&["--keys", "KP", "--noise-peak=32768"], PAGE, 2, USAGE),
+    (&["--clip"], PAGE, 2, USAGE),
     (&["--keys", "KP", "--line", "7"], PAGE, 2, USAGE),
     (&["--entry", "1"], PAGE, 2, USAGE),
     (&["--line", "x"], PAGE, 2, USAGE),

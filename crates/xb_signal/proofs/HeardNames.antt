@@ -20,15 +20,20 @@ use Rattle.xb_sound.proofs.Silences.{heard_after-silence}
 use Rattle.xb_signal.specs.declared.name.Name.{Name}
 use Rattle.xb_signal.specs.declared.name.Name.TheVariants.{Key, Kp2, StPrime, StTwoPrimes, StThreePrimes}
 use Rattle.xb_signal.specs.Names.{name_ms, pair_of}
-use Rattle.xb_signal.specs.Segments.{signal_of, tones_sound}
+use Rattle.xb_signal.specs.Segments.{silent}
+use Rattle.xb_signal.specs.declared.segment.Segment.{Segment}
 use Rattle.xb_signal.specs.SignalLaws.{IsName, KeysAreHeard, KeysSoundAsMarks, NamesAreHeard, names_of}
 use Rattle.xb_signal.specs.Words.{key_segments}
-use Rattle.xb_signal.proofs.Sines.{pair-sound, silent-sound}
+use Rattle.xb_signal.proofs.Plain.{plain_sound, plain_tones}
+use Rattle.xb_signal.proofs.Sines.{pair-sound, plain-signal, silent-sound}
+
+abbrev plain_of : List Segment → List ℤ
+plain_of segments = flat_map plain_sound segments
 
 -- the two frequencies of a name sound as the tone of a mark
 abbrev SoundsAsTone : Name → Type 0
 SoundsAsTone name =
-    (ms : ℕ) → tones_sound ((pair_of name).low ∷ (pair_of name).high ∷ []) ms ≡ tone_sound (pair_of name) ms
+    (ms : ℕ) → plain_tones ((pair_of name).low ∷ (pair_of name).high ∷ []) ms ≡ tone_sound (pair_of name) ms
 
 sounds : (name : Name) → IsName name → SoundsAsTone name
 sounds (Key (Digit d)) is =
@@ -44,17 +49,17 @@ sounds StThreePrimes is = pair-sound 7 17
 
 -- the sound of a key, and of what comes after it
 key-sound : (cadence : Cadence) (name : Name) → IsName name → (names : List Name)
-    → signal_of (flat_map (key_segments cadence) (name ∷ names))
+    → plain_of (flat_map (key_segments cadence) (name ∷ names))
     ≡ tone_sound (pair_of name) (name_ms cadence name)
-    ++ (silence cadence.gap_ms ++ signal_of (flat_map (key_segments cadence) names))
+    ++ (silence cadence.gap_ms ++ plain_of (flat_map (key_segments cadence) names))
 key-sound cadence name is names =
-    let rest = signal_of (flat_map (key_segments cadence) names) in
-    ap (λ (xs : List ℤ). xs ++ (tones_sound [] cadence.gap_ms ++ rest)) (sounds name is (name_ms cadence name))
+    let rest = plain_of (flat_map (key_segments cadence) names) in
+    ap (λ (xs : List ℤ). xs ++ (plain_tones [] cadence.gap_ms ++ rest)) (sounds name is (name_ms cadence name))
     ∙ ap (λ (xs : List ℤ). tone_sound (pair_of name) (name_ms cadence name) ++ (xs ++ rest))
     (silent-sound cadence.gap_ms)
 
 keys-sound : (cadence : Cadence) (keys : List PageKey) → AllByRecursion IsKey keys
-    → signal_of (flat_map (key_segments cadence) (names_of keys)) ≡ sound_of cadence (map tone keys)
+    → plain_of (flat_map (key_segments cadence) (names_of keys)) ≡ sound_of cadence (map tone keys)
 keys-sound cadence [] all = refl
 keys-sound cadence (key ∷ keys) all =
     let first = tone_sound (mf_pair key) (tone_ms cadence key) in
@@ -64,8 +69,9 @@ keys-sound cadence (key ∷ keys) all =
 
 pub keys_sound_as_marks : KeysSoundAsMarks
 keys_sound_as_marks cadence trunk keys all =
-    let rest = signal_of (flat_map (key_segments cadence) (names_of keys)) in
-    ap (λ (xs : List ℤ). xs ++ rest) (silent-sound cadence.lead_ms)
+    let rest = plain_of (flat_map (key_segments cadence) (names_of keys)) in
+    plain-signal 0 (silent cadence.lead_ms ∷ flat_map (key_segments cadence) (names_of keys))
+    ∙ ap (λ (xs : List ℤ). xs ++ rest) (silent-sound cadence.lead_ms)
     ∙ ap (λ (xs : List ℤ). silence cadence.lead_ms ++ xs) (keys-sound cadence keys all)
 
 are-keyed : (keys : List PageKey) → AllByRecursion IsKey keys → AreKeyed (map tone keys)
@@ -117,13 +123,13 @@ heard_names names = map (λ name. frequencies_of (pair_of name)) names
 -- after silence, however long it was
 after_silence : (cadence : Cadence) → IsLawful cadence → (names : List Name) → AllByRecursion IsName names
     → (silent : ℕ) → 80 ≤ silent
-    → heard_after silent (signal_of (flat_map (key_segments cadence) names)) ≡ heard_names names
+    → heard_after silent (plain_of (flat_map (key_segments cadence) names)) ≡ heard_names names
 unfolding heard_after
 after_silence cadence lawful [] all silent enough = refl
 after_silence cadence lawful (name ∷ names) all silent enough =
     let p = pair_of name in
     let wave = name_wave name all.0 in
-    let rest = signal_of (flat_map (key_segments cadence) names) in
+    let rest = plain_of (flat_map (key_segments cadence) names) in
     let once = heard_after-tone (λ n. pair_sample p n) wave.wave wave.start (name_ms cadence name * 8)
     (name_is_long cadence lawful name) silent enough (silence cadence.gap_ms ++ rest) in
     let gap : 80 ≤ once.left + cadence.gap_ms * 8 = omega (arith, lawful.gap.0) in
@@ -136,7 +142,9 @@ after_silence cadence lawful (name ∷ names) all silent enough =
 
 pub names_are_heard : NamesAreHeard
 names_are_heard cadence names lawful all =
-    let rest = signal_of (flat_map (key_segments cadence) names) in
-    ap (λ (xs : List ℤ). heard_after 80 (xs ++ rest)) (silent-sound cadence.lead_ms)
+    let rest = plain_of (flat_map (key_segments cadence) names) in
+    ap (λ (xs : List ℤ). heard_after 80 xs)
+    (plain-signal 0 (silent cadence.lead_ms ∷ flat_map (key_segments cadence) names))
+    ∙ ap (λ (xs : List ℤ). heard_after 80 (xs ++ rest)) (silent-sound cadence.lead_ms)
     ∙ heard_after-silence (cadence.lead_ms * 8) 80 rest
     ∙ after_silence cadence lawful names all (80 + cadence.lead_ms * 8) (omega arith)

@@ -2,6 +2,10 @@ pub mod Ranges
 pub mod Waves
 pub mod ReadTones
 pub mod TakenWords
+pub mod Plain
 pub mod Sines
 pub mod HeardNames
 pub mod Parts
+pub mod Blocks
+pub mod Amplitudes
+pub mod NoiseWords

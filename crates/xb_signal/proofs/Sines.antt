@@ -1,17 +1,21 @@
 -- The waves of multiples of 100 Hz are the sines of marks.
-use Rattle.std.proofs.Common.{◌≡◌, ◌∙◌, ℕ, zero, suc, ◌+◌, ◌*◌, ◌/◌, ◌%◌, ◌<◌, ◌≤◌, List, [], ◌∷◌, map, replicate, sym, ap, arith, refl, leb, ℤ, pos, negsuc, ◌+ℤ◌, ◌-ℤ◌, unsigned_abs}
-use Rattle.std.specs.List.{range_with_len}
+use Rattle.std.proofs.Common.{◌≡◌, ◌∙◌, ℕ, zero, suc, ◌+◌, ◌*◌, ◌/◌, ◌%◌, ◌<◌, ◌≤◌, List, [], ◌∷◌, ◌++◌, map, replicate, sym, ap, arith, refl, leb, ℤ, pos, negsuc, neg_ℤ, ◌+ℤ◌, ◌-ℤ◌, unsigned_abs}
+use Rattle.std.specs.List.{flat_map, range_with_len}
 use Rattle.std.proofs.lemmas.Bool.{le-leb, leb-true}
 use Rattle.std.proofs.lemmas.Int.{ints}
-use Rattle.std.proofs.lemmas.Nat.{div-add-mod', mod-mul-add, mod_below}
+use Rattle.std.proofs.lemmas.Nat.{div-add-mod', div-mul-add, mod-mul-add, mod_below}
 use Rattle.std.proofs.Math.Nat.{mul-div_cancel}
 use Rattle.xb_model.specs.MfPairs.{pair}
 use Rattle.xb_sound.specs.Sines.{pair_sample, sine_at, sine_sample, sine_table}
 use Rattle.xb_sound.specs.Sounds.{silence, tone_sound}
 use Rattle.xb_sound.proofs.SineTables.{holds_below, sine_at-small}
-use Rattle.xb_signal.specs.Segments.{tones_sound}
+use Rattle.xb_signal.specs.declared.segment.Segment.{Segment}
+use Rattle.xb_signal.specs.Noises.{noise, state_after, word_of}
+use Rattle.xb_signal.specs.Segments.{signal_from}
+use Rattle.xb_signal.specs.Settings.{standard_setting}
 use Rattle.xb_signal.specs.SignalLaws.{QuarterIsRound, WavesAreSines, lie_on_circle}
-use Rattle.xb_signal.specs.Waves.{cut, mixed, quarter, wave_at, wave_sample}
+use Rattle.xb_signal.specs.Waves.{cut, mixed, quarter, sample_at, scaled, wave_at, wave_sample}
+use Rattle.xb_signal.proofs.Plain.{plain_sample, plain_sound, plain_tones}
 
 same : (x y : ℤ) → unsigned_abs (x -ℤ y) ≤ 0 → x ≡ y
 same x y near = omega (arith, ints)
@@ -52,31 +56,51 @@ cut-small : (x : ℤ) → unsigned_abs x ≤ 20000 → cut x ≡ x
 cut-small (pos x) small = rw (le-leb x 32767 (omega arith)) refl
 cut-small (negsuc x) small = rw (le-leb x 32767 (omega arith)) refl
 
+-- at an amplitude of 10,000 each sample is that of the table
+pub scaled-itself : (x : ℤ) → scaled 10000 x ≡ x
+scaled-itself (pos n) =
+    let e : 10000 * n + 5000 ≡ n * 10000 + 5000 = omega arith in
+    ap (λ (m : ℕ). pos (m / 10000)) e ∙ ap pos (div-mul-add n 10000 5000 (omega arith))
+scaled-itself (negsuc n) =
+    let e : 10000 * suc n + 5000 ≡ suc n * 10000 + 5000 = omega arith in
+    ap (λ (m : ℕ). neg_ℤ (pos (m / 10000))) e
+    ∙ ap (λ (m : ℕ). neg_ℤ (pos m)) (div-mul-add (suc n) 10000 5000 (omega arith))
+
 sum-small : (x y : ℤ) → unsigned_abs x ≤ 10000 → unsigned_abs y ≤ 10000 → unsigned_abs (x +ℤ y) ≤ 20000
 sum-small x y small_x small_y = omega (arith, ints)
 
 sum-zero : (x y : ℤ) → x +ℤ (y +ℤ pos 0) ≡ x +ℤ y
 sum-zero x y = omega (arith, ints)
 
-pair-wave : (a b n : ℕ) → cut (mixed (a * 100 ∷ b * 100 ∷ []) n) ≡ pair_sample (pair (a * 100) (b * 100)) n
-pair-wave a b n =
-    let x : ℤ = sine_sample (a * 100) n in
-    let y : ℤ = sine_sample (b * 100) n in
-    ap cut (sum-zero (wave_sample (a * 100) n) (wave_sample (b * 100) n)
-    ∙ ap (λ (z : ℤ). z +ℤ wave_sample (b * 100) n) (waves_are_sines a n)
-    ∙ ap (λ (z : ℤ). x +ℤ z) (waves_are_sines b n))
-    ∙ cut-small (x +ℤ y) (sum-small x y (sine_at-small _) (sine_at-small _))
+pub clean-pair : (a b n : ℕ)
+    → mixed 10000 10000 (a * 100 ∷ b * 100 ∷ []) n ≡ pair_sample (pair (a * 100) (b * 100)) n
+clean-pair a b n =
+    let x : ℤ = wave_sample (a * 100) n in
+    let y : ℤ = wave_sample (b * 100) n in
+    ap (λ (z : ℤ). z +ℤ (scaled 10000 y +ℤ pos 0)) (scaled-itself x)
+    ∙ sum-zero x (scaled 10000 y)
+    ∙ ap (λ (z : ℤ). x +ℤ z) (scaled-itself y)
+    ∙ ap (λ (z : ℤ). z +ℤ y) (waves_are_sines a n)
+    ∙ ap (λ (z : ℤ). sine_sample (a * 100) n +ℤ z) (waves_are_sines b n)
 
-same-waves : (f g : ℕ → ℤ) → ((n : ℕ) → f n ≡ g n) → (m i : ℕ) → map f (range_with_len i m) ≡ map g (range_with_len i m)
+pub pair-small : (a b n : ℕ) → unsigned_abs (pair_sample (pair (a * 100) (b * 100)) n) ≤ 20000
+pair-small a b n = sum-small (sine_sample (a * 100) n) (sine_sample (b * 100) n) (sine_at-small _) (sine_at-small _)
+
+pair-wave : (a b n : ℕ) → plain_sample (a * 100 ∷ b * 100 ∷ []) n ≡ pair_sample (pair (a * 100) (b * 100)) n
+pair-wave a b n = ap cut (clean-pair a b n) ∙ cut-small (pair_sample (pair (a * 100) (b * 100)) n) (pair-small a b n)
+
+pub same-waves : (f g : ℕ → ℤ) → ((n : ℕ) → f n ≡ g n) → (m i : ℕ)
+    → map f (range_with_len i m) ≡ map g (range_with_len i m)
 same-waves f g is zero i = refl
 same-waves f g is (suc m) i =
     ap (λ (x : ℤ). x ∷ map f (range_with_len (i + 1) m)) (is i)
     ∙ ap (λ (xs : List ℤ). g i ∷ xs) (same-waves f g is m (i + 1))
 
 -- two frequencies sound as the tone of a mark
-pub pair-sound : (a b ms : ℕ) → tones_sound (a * 100 ∷ b * 100 ∷ []) ms ≡ tone_sound (pair (a * 100) (b * 100)) ms
+pub pair-sound : (a b ms : ℕ)
+    → plain_tones (a * 100 ∷ b * 100 ∷ []) ms ≡ tone_sound (pair (a * 100) (b * 100)) ms
 pair-sound a b ms =
-    same-waves (λ n. cut (mixed (a * 100 ∷ b * 100 ∷ []) n)) (λ n. pair_sample (pair (a * 100) (b * 100)) n)
+    same-waves (λ n. plain_sample (a * 100 ∷ b * 100 ∷ []) n) (λ n. pair_sample (pair (a * 100) (b * 100)) n)
     (pair-wave a b) (ms * 8) 0
 
 zeros : (f : ℕ → ℤ) → ((n : ℕ) → f n ≡ pos 0) → (m i : ℕ) → map f (range_with_len i m) ≡ replicate m (pos 0)
@@ -86,5 +110,30 @@ zeros f is (suc m) i =
     ∙ ap (λ (xs : List ℤ). pos 0 ∷ xs) (zeros f is m (i + 1))
 
 -- no frequency is silence
-pub silent-sound : (ms : ℕ) → tones_sound [] ms ≡ silence ms
-silent-sound ms = zeros (λ n. cut (mixed [] n)) (λ n. refl) (ms * 8) 0
+pub silent-sound : (ms : ℕ) → plain_tones [] ms ≡ silence ms
+silent-sound ms = zeros (λ n. plain_sample [] n) (λ n. refl) (ms * 8) 0
+
+-- without noise the state counts for nothing
+no-noise : (state n : ℕ) → noise 0 state n ≡ pos 0
+no-noise state n =
+    let word = word_of (state_after state (n + 1)) in
+    let none : word % 1 ≡ 0 = omega (arith, mod_below word 1 (omega arith)) in
+    ap (λ (m : ℕ). pos m -ℤ pos 0) none
+
+plus-none : (x : ℤ) → x +ℤ pos 0 ≡ x
+plus-none x = omega (arith, ints)
+
+plain-at : (state : ℕ) (tones : List ℕ) (n : ℕ) → sample_at standard_setting state tones n ≡ plain_sample tones n
+plain-at state tones n =
+    let clean = mixed 10000 10000 tones n in
+    ap (λ (x : ℤ). cut (clean +ℤ x)) (no-noise state n) ∙ ap cut (plus-none clean)
+
+pub plain-signal : (state : ℕ) (segments : List Segment)
+    → signal_from standard_setting state segments ≡ flat_map plain_sound segments
+plain-signal state [] = refl
+plain-signal state (segment ∷ later) =
+    let after = state_after state (segment.ms * 8) in
+    ap (λ (xs : List ℤ). xs ++ signal_from standard_setting after later)
+    (same-waves (λ n. sample_at standard_setting state segment.tones n) (λ n. plain_sample segment.tones n)
+    (plain-at state segment.tones) (segment.ms * 8) 0)
+    ∙ ap (λ (xs : List ℤ). plain_sound segment ++ xs) (plain-signal after later)

@@ -7,6 +7,7 @@ use Rattle.xb_text.specs.Pieces.{pieces}
 use Rattle.xb_signal.specs.declared.fault.KeysFault.{KeysFault}
 use Rattle.xb_signal.specs.declared.fault.Place.{Place}
 use Rattle.xb_signal.specs.declared.segment.Segment.{Segment}
+use Rattle.xb_signal.specs.declared.setting.Setting.{Setting}
 use Rattle.xb_signal.specs.Texts.{Said, after, and_then, next_place, segments_of_words, words_from}
 use Rattle.xb_signal.specs.TextSteps.{IsFaultOfWord, StopsBy, TakesPiece, TakesWord, total}
 
@@ -15,34 +16,35 @@ after-after xs ys (Ok later) = ap Ok (sym (append_assoc xs ys later))
 after-after xs ys (Err f) = refl
 
 -- no piece is left
-pub none-left : (cadence : Cadence) (place : Place) (segments : List Segment)
-    → after segments (segments_of_words cadence (words_from place [])) ≡ Ok segments
+pub none-left : (cadence : Cadence) (setting : Setting) (place : Place) (segments : List Segment)
+    → after segments (segments_of_words cadence setting (words_from place [])) ≡ Ok segments
 unfolding segments_of_words
-none-left cadence place segments = ap Ok (append-nil segments)
+none-left cadence setting place segments = ap Ok (append-nil segments)
 
 -- a piece without bytes
-pub takes-none : (place : Place) (cadence : Cadence) (segments : List Segment)
-    → TakesPiece place cadence [] segments segments
-takes-none place cadence segments later = refl
+pub takes-none : (place : Place) (cadence : Cadence) (setting : Setting) (segments : List Segment)
+    → TakesPiece place cadence setting [] segments segments
+takes-none place cadence setting segments later = refl
 
 -- a piece that is a word
-pub takes-word : (place : Place) (cadence : Cadence) (b : ℕ) (bytes : List ℕ) (old new : List Segment)
-    → TakesWord place cadence (b ∷ bytes) old new → TakesPiece place cadence (b ∷ bytes) old new
+pub takes-word : (place : Place) (cadence : Cadence) (setting : Setting) (b : ℕ) (bytes : List ℕ)
+    (old new : List Segment)
+    → TakesWord place cadence setting (b ∷ bytes) old new → TakesPiece place cadence setting (b ∷ bytes) old new
 unfolding segments_of_words
-takes-word place cadence b bytes old new taken later =
-    let rest = segments_of_words cadence (words_from (next_place place (b ∷ bytes)) later) in
+takes-word place cadence setting b bytes old new taken later =
+    let rest = segments_of_words cadence setting (words_from (next_place place (b ∷ bytes)) later) in
     ap (λ (said : Said). after old (and_then said rest)) taken.1
     ∙ after-after old taken.0 rest
     ∙ ap (λ (segments : List Segment). after segments rest) (sym taken.2)
 
 -- a word that has a fault
-pub stops-by : (place : Place) (cadence : Cadence) (b : ℕ) (bytes : List ℕ) (f : KeysFault)
-    → IsFaultOfWord place cadence (b ∷ bytes) f → StopsBy place cadence (b ∷ bytes) f
+pub stops-by : (place : Place) (cadence : Cadence) (setting : Setting) (b : ℕ) (bytes : List ℕ) (f : KeysFault)
+    → IsFaultOfWord place cadence setting (b ∷ bytes) f → StopsBy place cadence setting (b ∷ bytes) f
 unfolding segments_of_words
-stops-by place cadence b bytes f (inl memory) = inl memory
-stops-by place cadence b bytes f (inr is) =
+stops-by place cadence setting b bytes f (inl memory) = inl memory
+stops-by place cadence setting b bytes f (inr is) =
     inr (λ later. ap (λ (said : Said). and_then said
-    (segments_of_words cadence (words_from (next_place place (b ∷ bytes)) later))) is)
+    (segments_of_words cadence setting (words_from (next_place place (b ∷ bytes)) later))) is)
 
 total-onto : (x : ℕ) (parts : List (List ℕ)) → 0 < length parts → total (onto_first x parts) ≡ suc (total parts)
 total-onto x [] some = absurd (omega arith)
@@ -63,15 +65,18 @@ total-pieces (b ∷ text) = by (eqb b 32) (total-pieces text)
         let onto = total-onto b rest (omega (arith, length-slice_split (λ c. eqb c 32) text)) in omega (arith, onto, is)
 
 -- a piece with bytes
-pub takes-piece : (place : Place) (cadence : Cadence) (piece : List ℕ) (old new : List Segment) → 0 < length piece
-    → TakesWord place cadence piece old new → TakesPiece place cadence piece old new
-takes-piece place cadence [] old new some taken = absurd (omega arith)
-takes-piece place cadence (b ∷ bytes) old new some taken = takes-word place cadence b bytes old new taken
+pub takes-piece : (place : Place) (cadence : Cadence) (setting : Setting) (piece : List ℕ)
+    (old new : List Segment) → 0 < length piece
+    → TakesWord place cadence setting piece old new → TakesPiece place cadence setting piece old new
+takes-piece place cadence setting [] old new some taken = absurd (omega arith)
+takes-piece place cadence setting (b ∷ bytes) old new some taken =
+    takes-word place cadence setting b bytes old new taken
 
-pub stops-by-piece : (place : Place) (cadence : Cadence) (piece : List ℕ) (f : KeysFault) → 0 < length piece
-    → IsFaultOfWord place cadence piece f → StopsBy place cadence piece f
-stops-by-piece place cadence [] f some is = absurd (omega arith)
-stops-by-piece place cadence (b ∷ bytes) f some is = stops-by place cadence b bytes f is
+pub stops-by-piece : (place : Place) (cadence : Cadence) (setting : Setting) (piece : List ℕ)
+    (f : KeysFault) → 0 < length piece
+    → IsFaultOfWord place cadence setting piece f → StopsBy place cadence setting piece f
+stops-by-piece place cadence setting [] f some is = absurd (omega arith)
+stops-by-piece place cadence setting (b ∷ bytes) f some is = stops-by place cadence setting b bytes f is
 
 pub if-ok : {T E : Type 0} {P Q : Type 0} (result : Result T E) → (P → Q) → OnOk result P → OnOk result Q
 if-ok (Ok t) then is = then is

@@ -4,7 +4,7 @@ use Rattle.std.specs.List.{list_all}
 use Rattle.std.proofs.lemmas.Bool.{leb-true, false≢true}
 use Rattle.std.proofs.Math.Seq.{drop-cons}
 use Rattle.std.proofs.lemmas.Int.{ints}
-use Rattle.xb_signal.specs.Waves.{mixed, quarter, quarter_at, wave_sample}
+use Rattle.xb_signal.specs.Waves.{chorus, quarter, quarter_at, scaled, wave_sample}
 
 and-both : (b c : Bool) → (b && c) ≡ true → (b ≡ true) × (c ≡ true)
 and-both true c e = (refl, e)
@@ -26,10 +26,12 @@ sum-assoc : (a b c : ℤ) → (a +ℤ b) +ℤ c ≡ a +ℤ (b +ℤ c)
 sum-assoc a b c = omega (arith, ints)
 
 -- a sum goes on with the next frequency
-pub mixed-next : (tones : List ℕ) (i n : ℕ) (sum : ℤ) → i < length tones
-    → (sum +ℤ wave_sample (get_or tones i 0) n) +ℤ mixed (drop (i + 1) tones) n ≡ sum +ℤ mixed (drop i tones) n
-mixed-next tones i n sum below =
+pub chorus-next : (amplitude : ℕ) (tones : List ℕ) (i n : ℕ) (sum : ℤ) → i < length tones
+    → (sum +ℤ scaled amplitude (wave_sample (get_or tones i 0) n)) +ℤ chorus amplitude (drop (i + 1) tones) n
+    ≡ sum +ℤ chorus amplitude (drop i tones) n
+chorus-next amplitude tones i n sum below =
     let next : suc i ≡ i + 1 = omega arith in
-    sum-assoc sum (wave_sample (get_or tones i 0) n) (mixed (drop (i + 1) tones) n)
-    ∙ ap (λ (x : ℤ). sum +ℤ x) (sym (ap (λ (xs : List ℕ). mixed xs n) (drop-cons tones i 0 below)
-    ∙ ap (λ (k : ℕ). wave_sample (get_or tones i 0) n +ℤ mixed (drop k tones) n) next))
+    let here = scaled amplitude (wave_sample (get_or tones i 0) n) in
+    sum-assoc sum here (chorus amplitude (drop (i + 1) tones) n)
+    ∙ ap (λ (x : ℤ). sum +ℤ x) (sym (ap (λ (xs : List ℕ). chorus amplitude xs n) (drop-cons tones i 0 below)
+    ∙ ap (λ (k : ℕ). here +ℤ chorus amplitude (drop k tones) n) next))

@@ -1,3 +1,6 @@
+pub mod Noises
+pub mod Settings
+pub mod Levels
 pub mod Waves
 pub mod Segments
 pub mod Names

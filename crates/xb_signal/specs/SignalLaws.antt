@@ -10,11 +10,15 @@ use Rattle.xb_sound.specs.HeardKeys.{IsKey, frequencies_of, keys_heard}
 use Rattle.xb_sound.specs.Receiver.{heard}
 use Rattle.xb_sound.specs.Sines.{sine_sample}
 use Rattle.xb_sound.specs.Sounds.{sound_of}
+use Rattle.xb_sound.specs.Wavs.{wav_length}
 use Rattle.xb_sound.specs.WorkedSounds.{short}
 use Rattle.xb_signal.specs.declared.name.Name.{Name}
 use Rattle.xb_signal.specs.declared.name.Name.TheVariants.{Key, Kp2, StPrime, StTwoPrimes, StThreePrimes}
 use Rattle.xb_signal.specs.Names.{pair_of}
-use Rattle.xb_signal.specs.Segments.{signal_of, silent}
+use Rattle.xb_signal.specs.declared.segment.Segment.{Segment}
+use Rattle.xb_signal.specs.declared.setting.Setting.{Setting}
+use Rattle.xb_signal.specs.Segments.{file_length, signal_of, silent}
+use Rattle.xb_signal.specs.Settings.{standard_setting}
 use Rattle.xb_signal.specs.Texts.{segments_of_text}
 use Rattle.xb_signal.specs.Waves.{quarter, wave_sample}
 use Rattle.xb_signal.specs.Words.{key_segments}
@@ -45,7 +49,7 @@ IsName StThreePrimes = Unit {0}
 
 -- keys by their names, after the silence before them
 abbrev pub named : Cadence → List Name → List ℤ
-named cadence names = signal_of (silent cadence.lead_ms ∷ flat_map (key_segments cadence) names)
+named cadence names = signal_of standard_setting (silent cadence.lead_ms ∷ flat_map (key_segments cadence) names)
 
 abbrev pub names_of : List PageKey → List Name
 names_of keys = map (λ key. Key key) keys
@@ -65,9 +69,14 @@ abbrev pub NamesAreHeard : Type 0
 NamesAreHeard = (cadence : Cadence) (names : List Name) → IsLawful cadence → AllByRecursion IsName names
     → heard (named cadence names) ≡ map (λ name. frequencies_of (pair_of name)) names
 
+-- the WAV file of a signal is as long as is said beforehand
+abbrev pub FilesAreAsLong : Type 0
+FilesAreAsLong = (setting : Setting) (segments : List Segment)
+    → wav_length (signal_of setting segments) ≡ file_length segments
+
 -- a text with tones and silences of 1 ms
 abbrev pub WorkedText : Type 0
-WorkedText = segments_of_text short (codes "KP 40 ST'' 2600+2400:3 silence:2") ≡ Ok (
+WorkedText = segments_of_text short standard_setting (codes "KP 40 ST'' 2600+2400:3 silence:2") ≡ Ok (
     silent 1
     ∷ record { tones = 1100 ∷ 1700 ∷ []; ms = 1 } ∷ silent 1
     ∷ record { tones = 700 ∷ 1300 ∷ []; ms = 1 } ∷ silent 1

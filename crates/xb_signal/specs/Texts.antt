@@ -1,5 +1,5 @@
 -- The words of a text, and what sounds by them.
-use Rattle.std.specs.Prelude.{ℕ, ◌+◌, ◌==◌, List, [], ◌∷◌, ◌++◌, Bool, if◌then◌else◌, length, Option, Some, None, Result, Ok, Err}
+use Rattle.std.specs.Prelude.{ℕ, ◌+◌, ◌==◌, List, [], ◌∷◌, ◌++◌, Bool, ◌||◌, if◌then◌else◌, length, Option, Some, None, Result, Ok, Err}
 use Rattle.std.specs.List.{list_all}
 use Rattle.xb_sound.specs.declared.cadence.Cadence.{Cadence}
 use Rattle.xb_text.specs.Pieces.{pieces}
@@ -7,6 +7,7 @@ use Rattle.xb_signal.specs.declared.fault.KeysFault.{KeysFault}
 use Rattle.xb_signal.specs.declared.fault.KeysFault.TheVariants as fault
 use Rattle.xb_signal.specs.declared.fault.Place.{Place}
 use Rattle.xb_signal.specs.declared.segment.Segment.{Segment}
+use Rattle.xb_signal.specs.declared.setting.Setting.{Setting}
 use Rattle.xb_signal.specs.Segments.{all_fit, silent}
 use Rattle.xb_signal.specs.Words.{word_segments}
 
@@ -32,13 +33,14 @@ words_of text = words_from (record { word = 1; byte = 1 }) (pieces 32 text)
 abbrev pub Said : Type 0
 Said = Result (List Segment) KeysFault
 
--- a word has to be one, and each of its samples has to have 16 bits
-abbrev pub judged : Place → Option (List Segment) → Said
-judged place None = Err (fault.NoWord place)
-judged place (Some segments) = if all_fit segments then Ok segments else Err (fault.Loud place)
+-- a word has to be one, and each of its samples has to have 16 bits, unless samples are cut
+abbrev pub judged : Setting → Place → Option (List Segment) → Said
+judged setting place None = Err (fault.NoWord place)
+judged setting place (Some segments) =
+    if setting.clip || all_fit setting segments then Ok segments else Err (fault.Loud place)
 
-abbrev pub segments_of_word : Cadence → Place → List ℕ → Said
-segments_of_word cadence place word = judged place (word_segments cadence word)
+abbrev pub segments_of_word : Cadence → Setting → Place → List ℕ → Said
+segments_of_word cadence setting place word = judged setting place (word_segments cadence word)
 
 -- what sounds after other segments
 abbrev pub after : List Segment → Said → Said
@@ -50,16 +52,16 @@ and_then (Ok segments) later = after segments later
 and_then (Err f) later = Err f
 
 -- what sounds by words, one after the other, or the fault of the first that has one
-unfoldable pub segments_of_words : Cadence → List (Place × List ℕ) → Said
-segments_of_words cadence [] = Ok []
-segments_of_words cadence ((place, word) ∷ more) =
-    and_then (segments_of_word cadence place word) (segments_of_words cadence more)
+unfoldable pub segments_of_words : Cadence → Setting → List (Place × List ℕ) → Said
+segments_of_words cadence setting [] = Ok []
+segments_of_words cadence setting ((place, word) ∷ more) =
+    and_then (segments_of_word cadence setting place word) (segments_of_words cadence setting more)
 
 abbrev pub is_blank : List ℕ → Bool
 is_blank text = list_all (λ byte. byte == 32) text
 
 -- the words of a text, after the silence before them
-abbrev pub segments_of_text : Cadence → List ℕ → Said
-segments_of_text cadence text =
+abbrev pub segments_of_text : Cadence → Setting → List ℕ → Said
+segments_of_text cadence setting text =
     if is_blank text then Err fault.NoWords
-    else after (silent cadence.lead_ms ∷ []) (segments_of_words cadence (words_of text))
+    else after (silent cadence.lead_ms ∷ []) (segments_of_words cadence setting (words_of text))

@@ -1,6 +1,8 @@
 -- Sines of whole Hz, at 8,000 samples a second.
-use Rattle.std.specs.Prelude.{ℕ, ◌*◌, ◌%◌, ◌-◌, List, [], ◌∷◌, Bool, if◌then◌else◌, nat_le, slice_index_or, ℤ, pos, negsuc, neg_ℤ, ◌+ℤ◌}
+use Rattle.std.specs.Prelude.{ℕ, ◌+◌, ◌*◌, ◌/◌, ◌%◌, ◌-◌, List, [], ◌∷◌, Bool, if◌then◌else◌, nat_le, slice_index_or, ℤ, pos, negsuc, neg_ℤ, ◌+ℤ◌, ◌-ℤ◌, ◌&&◌, unsigned_abs}
 use Rattle.xb_signal.specs.declared.quarter.TheConstants.{QUARTER}
+use Rattle.xb_signal.specs.declared.setting.Setting.{Setting}
+use Rattle.xb_signal.specs.Noises.{noise}
 
 -- 10,000 times the sine of each sample of the first quarter of a period of 1 Hz, rounded, from 0 to 2,000
 unfoldable pub quarter : List ℕ
@@ -21,10 +23,24 @@ wave_at place =
 abbrev pub wave_sample : ℕ → ℕ → ℤ
 wave_sample hz n = wave_at (hz * n % 8000)
 
--- sample n of frequencies that sound together
-abbrev pub mixed : List ℕ → ℕ → ℤ
-mixed [] n = pos 0
-mixed (hz ∷ more) n = wave_sample hz n +ℤ mixed more n
+-- a number with the sign of another
+abbrev pub signed_as : ℤ → ℕ → ℤ
+signed_as (pos x) size = pos size
+signed_as (negsuc x) size = neg_ℤ (pos size)
+
+-- a sample of the table at another amplitude than 10,000: rounded, and a half away from 0
+abbrev pub scaled : ℕ → ℤ → ℤ
+scaled amplitude sample = signed_as sample ((amplitude * unsigned_abs sample + 5000) / 10000)
+
+-- sample n of frequencies that sound together, each at one amplitude
+abbrev pub chorus : ℕ → List ℕ → ℕ → ℤ
+chorus amplitude [] n = pos 0
+chorus amplitude (hz ∷ more) n = scaled amplitude (wave_sample hz n) +ℤ chorus amplitude more n
+
+-- the first, which is the low one of a key, has one amplitude, and each further one the other
+abbrev pub mixed : ℕ → ℕ → List ℕ → ℕ → ℤ
+mixed low high [] n = pos 0
+mixed low high (first ∷ further) n = scaled low (wave_sample first n) +ℤ chorus high further n
 
 -- whether a sample has 16 bits
 abbrev pub fits : ℤ → Bool
@@ -35,3 +51,11 @@ fits (negsuc x) = nat_le x 32767
 abbrev pub cut : ℤ → ℤ
 cut (pos x) = if nat_le x 32767 then pos x else pos 32767
 cut (negsuc x) = if nat_le x 32767 then negsuc x else negsuc 32767
+
+-- sample n of frequencies, and of the noise after a state
+abbrev pub sample_at : Setting → ℕ → List ℕ → ℕ → ℤ
+sample_at setting state tones n = cut (mixed setting.low setting.high tones n +ℤ noise setting.noise_peak state n)
+
+-- whether a sample has 16 bits with any noise up to the peak
+abbrev pub has_room : ℕ → ℤ → Bool
+has_room peak sample = fits (sample +ℤ pos peak) && fits (sample -ℤ pos peak)

@@ -1,9 +1,10 @@
-// Why words make no signal.
+// Why words make no signal, and why a signal was not written whole.
 ghost use Rattle.std.specs.Prelude.{◌≡◌};
 
 use std::alloc::AllocError;
 use std::fmt::{self, Display, Formatter, Write};
 use thiserror::Error;
+use xb_text::WriteFault;
 
 /// Where a word stands in a text.
 #[derive(Clone, Copy, Debug, PartialEq, Eq)]
@@ -44,5 +45,39 @@ impl From<AllocError> for KeysFault {
 
     fn from(_error: AllocError) -> KeysFault {
         KeysFault::NoMemory
+    }
+}
+
+/// Why a signal was not written whole.
+#[derive(Clone, Copy, Debug, PartialEq, Eq, Error)]
+pub enum SignalFault {
+    /// The file would have more than 4,294,967,295 bytes. Nothing was written.
+    #[error("the signal is too long for a WAV file")]
+    TooLong,
+    /// Memory ran out. Nothing was written.
+    #[error("out of memory")]
+    NoMemory,
+    /// A write or the flush failed, or a write took no byte. The beginning of the signal was written.
+    #[error("the signal could not be written")]
+    Write,
+}
+
+impl From<AllocError> for SignalFault {
+    ghost use Rattle.xb_signal.specs.declared.fault.SignalFault.TheVariants.{NoMemory};
+
+    ghost from_gives = { λ _ e. e ≡ NoMemory };
+
+    fn from(_error: AllocError) -> SignalFault {
+        SignalFault::NoMemory
+    }
+}
+
+impl From<WriteFault> for SignalFault {
+    ghost use Rattle.xb_signal.specs.declared.fault.SignalFault.TheVariants.{Write};
+
+    ghost from_gives = { λ _ e. e ≡ Write };
+
+    fn from(_fault: WriteFault) -> SignalFault {
+        SignalFault::Write
     }
 }

@@ -1,5 +1,7 @@
 //! What the definitions give: each law is the contract of a function that does nothing.
-ghost use Rattle.xb_signal.specs.SignalLaws.{KeysAreHeard, KeysSoundAsMarks, NamesAreHeard, QuarterIsRound, WavesAreSines, WorkedText};
+ghost use Rattle.xb_signal.specs.Levels.{AmplitudesAreRounded};
+ghost use Rattle.xb_signal.specs.Noises.{NoiseGoesOn};
+ghost use Rattle.xb_signal.specs.SignalLaws.{FilesAreAsLong, KeysAreHeard, KeysSoundAsMarks, NamesAreHeard, QuarterIsRound, WavesAreSines, WorkedText};
 
 /// The quarter is one of a sine, and of a multiple of 100 Hz each sample is that of the tones of marks.
 #[tactic(auto, using(crate::proofs::Sines::waves_are_sines, crate::proofs::Sines::quarter_is_round))]
@@ -19,4 +21,22 @@ pub fn names_are_heard()
 #[tactic(auto, unfolding(crate::specs::Waves::quarter, crate::specs::Texts::segments_of_words))]
 pub fn worked_text()
     ensures { WorkedText }
+{}
+
+/// The amplitude of each level is 10,000 times its power of ten, rounded.
+#[tactic(auto, using(crate::proofs::Amplitudes::amplitudes_are_rounded))]
+pub fn amplitudes_are_rounded()
+    ensures { AmplitudesAreRounded }
+{}
+
+/// A file is as long as its segments say before any sample is made.
+#[tactic(auto, using(crate::proofs::Parts::files_are_as_long))]
+pub fn files_are_as_long()
+    ensures { FilesAreAsLong }
+{}
+
+/// The noise of a later sample is that of its number, whatever the segments before it are.
+#[tactic(auto, using(crate::proofs::NoiseWords::noise_goes_on))]
+pub fn noise_goes_on()
+    ensures { NoiseGoesOn }
 {}

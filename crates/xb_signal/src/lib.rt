@@ -1,37 +1,45 @@
-//! Signals by words: keys by their names, and frequencies of whole Hz for a time, for who tests a receiver.
+//! Signals by words: keys by their names, and frequencies of whole Hz for a time, at any level and with noise, for who
+//! tests a receiver.
 //!
 //! - `wave_sample`: sample n of a sine of whole Hz, at 8,000 samples a second, of one table of 8,000.
-//! - `signal_of`: exactly the samples of segments, one after the other; a segment is up to six frequencies, or silence,
-//!   for a time. A sample of more than 16 bits is cut; `all_fit` says that none is.
+//! - `Setting`: the amplitudes of the tones, and the noise that is added; `amplitude_of` gives that of a level.
+//! - `all_fit`: whether each sample of segments has 16 bits, whatever the noise is; a segment is up to six frequencies,
+//!   or silence, for a time.
 //! - `segments_of_text`: exactly `segments_of_text` of the words (`KP 555 1212 ST 2600:500 2400+2600:1000
 //!   silence:300`), after the silence before them. `NoWord` and `Loud` come exactly of the first word that is none, or
 //!   whose samples do not fit, with its place; `NoWords` exactly of a text of blanks.
-//! - `write_signal`: on `Ok` the writer got exactly the WAV file of the segments, or its samples; on `TooLong` nothing,
-//!   and on another fault the beginning. `TooLong` comes only where the file would have 2^32 bytes or more.
+//! - `write_signal`: on `Ok` the writer got exactly the WAV file of the segments, or its samples; on `Write` the
+//!   beginning, and on any other fault nothing. `TooLong` comes only where the file would have 2^32 bytes or more.
 //! - `laws::names_are_heard`: keys that a page has sound as its marks do, to the sample. By every lawful cadence a
 //!   receiver that waits for 10 ms of silence and then measures the six MF frequencies hears exactly the pairs of the
 //!   keys, in order, also those of KP2 and of the further kinds of ST. `waves_are_sines`: the table is round, and at the
-//!   multiples of 100 Hz it is that of the marks. `worked_text`.
+//!   multiples of 100 Hz it is that of the marks. `amplitudes_are_rounded`: the table of levels is right.
+//!   `noise_goes_on`: noise goes by the number of a sample. `files_are_as_long`. `worked_text`.
 //!
 //! Not said: how much memory a run takes.
 #![tactic(auto)]
 
+mod block;
 mod fault;
-mod head;
 pub mod laws;
+mod level;
 mod name;
+mod noise;
 mod quarter;
 mod samples;
 mod segment;
+mod setting;
 mod text;
 mod wave;
 mod word;
 mod writing;
 
-pub use fault::{KeysFault, Place};
+pub use fault::{KeysFault, Place, SignalFault};
+pub use level::amplitude_of;
 pub use name::{Name, pair_of};
-pub use samples::{all_fit, signal_of};
+pub use samples::all_fit;
 pub use segment::{MOST_TONES, Segment, Tones};
+pub use setting::Setting;
 pub use text::segments_of_text;
 pub use wave::{wave_at, wave_sample};
 pub use word::{MOST_HZ, MOST_MS};

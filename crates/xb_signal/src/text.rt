@@ -10,6 +10,7 @@ use crate::fault::{KeysFault, Place};
 use crate::name::{Name, name_of};
 use crate::samples::all_fit;
 use crate::segment::Segment;
+use crate::setting::Setting;
 use crate::word::{is_digits, push_key, segment_of};
 use std::alloc::{AllocError, Global};
 use xb_model::{Digit, Key};
@@ -65,15 +66,17 @@ fn take_word(
     alloc: Global,
     place: Place,
     cadence: Cadence,
+    setting: &Setting,
     word: &[u8],
     segments: &mut Vec<Segment>,
 ) -> Result<(), KeysFault>
-    ensures taken { OnOk result (TakesWord place cadence word.now segments.old.items segments.new.items) }
-    ensures fault { IfErr result (IsFaultOfWord place cadence word.now) }
+    ensures taken { OnOk result (TakesWord place cadence setting.now word.now
+        segments.old.items segments.new.items) }
+    ensures fault { IfErr result (IsFaultOfWord place cadence setting.now word.now) }
 {
     match word_segments(alloc, cadence, word)? {
         Some(mut said) => {
-            if !all_fit(&said) {
+            if !setting.clip && !all_fit(setting, &said) {
                 return Err(KeysFault::Loud(place));
             }
             segments.append(&mut said)?;
@@ -108,16 +111,18 @@ fn take_piece(
     alloc: Global,
     place: Place,
     cadence: Cadence,
+    setting: &Setting,
     piece: &[u8],
     segments: &mut Vec<Segment>,
 ) -> Result<(), KeysFault>
-    ensures taken { OnOk result (TakesPiece place cadence piece.now segments.old.items segments.new.items) }
-    ensures fault { IfErr result (StopsBy place cadence piece.now) }
+    ensures taken { OnOk result (TakesPiece place cadence setting.now piece.now
+        segments.old.items segments.new.items) }
+    ensures fault { IfErr result (StopsBy place cadence setting.now piece.now) }
 {
     if piece.is_empty() {
         return Ok(());
     }
-    take_word(alloc, place, cadence, piece, segments)
+    take_word(alloc, place, cadence, setting, piece, segments)
 }
 
 // Whether a text has nothing but blanks.
@@ -137,16 +142,18 @@ fn first_segment(alloc: Global, cadence: Cadence) -> Result<Vec<Segment>, AllocE
 }
 
 /// What sounds by the words of a text, which stand apart by blanks, after the silence before them. `Err` tells the
-/// first word that is none, or whose sound has samples of more than 16 bits; or that there is no word, or memory ran
-/// out.
+/// first word that is none, or whose sound by the setting may have samples of more than 16 bits, unless these are cut;
+/// or that there is no word, or memory ran out.
 pub fn segments_of_text(
     alloc: Global,
     cadence: Cadence,
+    setting: &Setting,
     text: &[u8],
 ) -> Result<Vec<Segment>, KeysFault>
     requires { length text.now + 3 < 2 ^ 64 }
-    ensures segments { IfOk result (λ segments. segments_of_text cadence text.now ≡ Ok segments.items) }
-    ensures fault { IfErr result (IsFault (segments_of_text cadence text.now)) }
+    ensures segments { IfOk result (λ segments.
+        segments_of_text cadence setting.now text.now ≡ Ok segments.items) }
+    ensures fault { IfErr result (IsFault (segments_of_text cadence setting.now text.now)) }
 {
     if is_blank(text) {
         return Err(KeysFault::NoWords);
@@ -157,7 +164,7 @@ pub fn segments_of_text(
     while let Some(rest) = left {
         let (piece, later) = first_piece(b' ', rest);
         left = later;
-        take_piece(alloc, place, cadence, piece, &mut segments)?;
+        take_piece(alloc, place, cadence, setting, piece, &mut segments)?;
         place = next_place(place, piece);
     }
     Ok(segments)

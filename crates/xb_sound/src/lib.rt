@@ -4,6 +4,7 @@
 //! - `write_samples` and `write_wav`, for writers whose bytes a contract can name: on `Ok` the writer got
 //!   exactly these samples, or the WAV file of them; on an `Err` the beginning. `TooLong` comes exactly where
 //!   the file would have 2^32 bytes or more, and then nothing was written.
+//! - `push_header` and `push_samples`: exactly the beginning of a WAV file, and the bytes of samples, in memory.
 //! - `Cadence::check` is `Ok` exactly for lawful cadences, else the first time that is out of its range.
 //! - `laws::keys_are_heard`: by every lawful cadence, a receiver that waits for 10 ms of silence and then
 //!   measures the six MF frequencies hears in the sound of keyed marks exactly their pairs, in order, and so
@@ -22,4 +23,4 @@ pub use cadence::{Cadence, CadenceFault};
 pub use samples::{fill_tone, samples_of};
 pub use sine::{AMPLITUDE, PERIOD, SAMPLES_PER_SECOND, sine_at, sine_sample};
 pub use sounding::{SoundFault, write_samples, write_wav};
-pub use wav_file::{HEADER_BYTES, WavFault, wav};
+pub use wav_file::{HEADER_BYTES, WavFault, push_header, push_samples, wav};

@@ -86,8 +86,8 @@ fn push_format(out: &mut Vec<u8>) -> Result<(), AllocError>
     push_u16(out, SAMPLE_BITS)
 }
 
-// Puts the header of a file with so many bytes of samples after the bytes.
-pub(crate) fn push_header(out: &mut Vec<u8>, sample_bytes: u32) -> Result<(), AllocError>
+/// Puts the header of a WAV file with so many bytes of samples after the bytes. `Err` says that memory ran out.
+pub fn push_header(out: &mut Vec<u8>, sample_bytes: u32) -> Result<(), AllocError>
     requires { sample_bytes + 44 < 2 ^ 32 }
     ensures { OnOk result (out.new.items ≡ out.old.items ++ header_of sample_bytes) }
 {
@@ -99,8 +99,8 @@ pub(crate) fn push_header(out: &mut Vec<u8>, sample_bytes: u32) -> Result<(), Al
     push_u32(out, sample_bytes)
 }
 
-// Puts samples after the bytes, of each the low byte first.
-pub(crate) fn push_samples(out: &mut Vec<u8>, samples: &[i16]) -> Result<(), AllocError>
+/// Puts samples after the bytes, of each the low byte first. `Err` says that memory ran out.
+pub fn push_samples(out: &mut Vec<u8>, samples: &[i16]) -> Result<(), AllocError>
     ensures { OnOk result (out.new.items ≡ out.old.items ++ pcm_of samples.now) }
 {
     for sample in samples {

@@ -1,1 +1,3 @@
 pub mod AskedKeys
+pub mod NoisyKeys
+pub mod Unset

@@ -8,6 +8,8 @@ use Rattle.xb_sound.specs.declared.sounding.SoundFault.{SoundFault}
 use Rattle.xb_sound.specs.declared.sounding.SoundFault.TheVariants as sound_fault
 use Rattle.xb_signal.specs.declared.fault.KeysFault.{KeysFault}
 use Rattle.xb_signal.specs.declared.fault.KeysFault.TheVariants as keys_fault
+use Rattle.xb_signal.specs.declared.fault.SignalFault.{SignalFault}
+use Rattle.xb_signal.specs.declared.fault.SignalFault.TheVariants as signal_fault
 use Rattle.xb_tone.specs.declared.fault.ToneFault.{ToneFault}
 use Rattle.xb_tone.specs.declared.fault.ToneFault.TheVariants as fault
 
@@ -20,6 +22,11 @@ abbrev pub of_sound : SoundFault → ToneFault
 of_sound sound_fault.TooLong = fault.TooLongSound
 of_sound sound_fault.NoMemory = fault.CutShort
 of_sound sound_fault.Write = fault.Write
+
+abbrev pub of_signal : SignalFault → ToneFault
+of_signal signal_fault.TooLong = fault.TooLongSound
+of_signal signal_fault.NoMemory = fault.NoMemory
+of_signal signal_fault.Write = fault.Write
 
 -- running out of memory is one fault of a page, in whatever part
 abbrev pub IsOfPage : PageFault → ToneFault → Type 0

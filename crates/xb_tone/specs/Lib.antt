@@ -1,5 +1,7 @@
+pub mod Figures
 pub mod Faults
 pub mod Options
 pub mod Rules
 pub mod Sounding
 pub mod Program
+pub mod NoisyKeys

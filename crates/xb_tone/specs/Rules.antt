@@ -17,8 +17,14 @@ options =
     ∷ (codes "gap", takes.Number)
     ∷ (codes "raw", takes.Nothing)
     ∷ (codes "keys", takes.Text)
+    ∷ (codes "level", takes.Text)
+    ∷ (codes "twist", takes.Text)
+    ∷ (codes "noise-peak", takes.Number)
+    ∷ (codes "seed", takes.Number)
+    ∷ (codes "clip", takes.Nothing)
     ∷ []
 
--- `mftone [--line N] [--entry N] [--lead N] [--kp N] [--key N] [--gap N] [--raw] [--keys WORDS]`
+-- `mftone [--line N] [--entry N] [--lead N] [--kp N] [--key N] [--gap N] [--raw] [--keys WORDS]
+-- [--level DBM0] [--twist DB] [--noise-peak N] [--seed N] [--clip]`
 abbrev pub command_of_words : App
 command_of_words = command_of (codes "mftone") options

@@ -15,7 +15,7 @@ use Rattle.xb_sound.specs.Cadences.{IsFirstMisfit, IsLawful}
 use Rattle.xb_sound.specs.Wavs.{pcm_of, wav_length, wav_of}
 use Rattle.xb_sound.specs.declared.cadence.Cadence.{Cadence}
 use Rattle.xb_signal.specs.declared.segment.Segment.{Segment}
-use Rattle.xb_signal.specs.Segments.{signal_of}
+use Rattle.xb_signal.specs.Segments.{file_length}
 use Rattle.xb_signal.specs.Texts.{segments_of_text}
 use Rattle.xb_signal.specs.Writings.{bytes_of as bytes_of_signal}
 use Rattle.xb_tone.specs.declared.fault.ToneFault.{ToneFault}
@@ -104,22 +104,20 @@ Delivers request page (Err f) old new = Keeps old new
 -- words of keys say segments, of which these are the bytes
 pub record SaysBytes (request : Request) (text bytes : List ℕ) : Type 0 where
   pub segments : List Segment
-  pub said : segments_of_text request.cadence text ≡ Ok segments
-  pub are_bytes : bytes ≡ bytes_of_signal request.raw segments
+  pub said : segments_of_text request.cadence request.setting text ≡ Ok segments
+  pub are_bytes : bytes ≡ bytes_of_signal request.setting request.raw segments
 
 -- what is returned for words of keys, and what the writer got of them: the sound on Ok, its beginning where a write
--- failed or memory ran out in it, and nothing on any other fault; there are no faults of pages
+-- failed, and nothing on any other fault; there are no faults of pages, and memory runs out before the sound
 abbrev pub DeliversKeys : Request → List ℕ → Result (Unit {0}) ToneFault → Option (List ℕ) → Option (List ℕ) → Type 0
 DeliversKeys request text (Ok u) old new = (bytes : List ℕ) × SaysBytes request text bytes × Appends old new bytes
 DeliversKeys request text (Err fault.Write) old new =
     (bytes : List ℕ) × SaysBytes request text bytes × AppendsBeginning old new bytes
-DeliversKeys request text (Err fault.CutShort) old new =
-    (bytes : List ℕ) × SaysBytes request text bytes × AppendsBeginning old new bytes
 DeliversKeys request text (Err (fault.Keys f)) old new =
-    Keeps old new × (segments_of_text request.cadence text ≡ Err f)
+    Keeps old new × (segments_of_text request.cadence request.setting text ≡ Err f)
 DeliversKeys request text (Err fault.TooLongSound) old new =
-    Keeps old new × ((segments : List Segment) × (segments_of_text request.cadence text ≡ Ok segments)
-    × (2 ^ 32 ≤ wav_length (signal_of segments)))
+    Keeps old new × ((segments : List Segment) × (segments_of_text request.cadence request.setting text ≡ Ok segments)
+    × (2 ^ 32 ≤ file_length segments))
 DeliversKeys request text (Err fault.NoMemory) old new = Keeps old new
 DeliversKeys request text (Err (fault.Cadence f)) old new = Keeps old new
 DeliversKeys request text (Err f) old new = ⊥

@@ -4,7 +4,7 @@ ghost use Rattle.std.specs.Prelude.{◌≡◌};
 use std::alloc::AllocError;
 use thiserror::Error;
 use xb_page::PageFault;
-use xb_signal::KeysFault;
+use xb_signal::{KeysFault, SignalFault};
 use xb_sound::{CadenceFault, SoundFault};
 use xb_text::ReadFault;
 
@@ -39,7 +39,7 @@ pub enum ToneFault {
     /// Memory ran out before the sound.
     #[error("out of memory")]
     NoMemory,
-    /// Memory ran out in the sound, the beginning of which was written.
+    /// Memory ran out in the sound of a page, the beginning of which was written.
     #[error("out of memory, after the beginning of the sound")]
     CutShort,
     /// A write or the flush failed, or a write took no byte. The beginning of the sound was written.
@@ -117,6 +117,20 @@ impl From<KeysFault> for ToneFault {
         match fault {
             KeysFault::NoMemory => ToneFault::NoMemory,
             fault => ToneFault::Keys(fault),
+        }
+    }
+}
+
+impl From<SignalFault> for ToneFault {
+    ghost use Rattle.xb_tone.specs.Faults.{of_signal};
+
+    ghost from_gives = { λ fault e. e ≡ of_signal fault };
+
+    fn from(fault: SignalFault) -> ToneFault {
+        match fault {
+            SignalFault::TooLong => ToneFault::TooLongSound,
+            SignalFault::NoMemory => ToneFault::NoMemory,
+            SignalFault::Write => ToneFault::Write,
         }
     }
 }

@@ -13,7 +13,7 @@ use xb_signal::{segments_of_text, write_signal};
 /// Writes the sound of words of keys. The cadence is judged before the words, and all words before anything is written.
 /// What the request says of entries counts for nothing. The sound is written as it is made.
 ///
-/// On an `Err` nothing was written, except on `CutShort` and `Write`, where the beginning of the sound was.
+/// On an `Err` nothing was written, except on `Write`, where the beginning of the sound was.
 pub fn play_keys<W: Write>(
     alloc: Global,
     request: Request,
@@ -24,8 +24,8 @@ pub fn play_keys<W: Write>(
     ensures sound { DeliversKeys request words.now result (W.contents out.old) (W.contents out.new) }
 {
     request.cadence.check()?;
-    let segments = segments_of_text(alloc, request.cadence, words.as_bytes())?;
-    write_signal(alloc, request.raw, &segments, out)?;
+    let segments = segments_of_text(alloc, request.cadence, &request.setting, words.as_bytes())?;
+    write_signal(alloc, request.raw, &request.setting, &segments, out)?;
     Ok(())
 }
 

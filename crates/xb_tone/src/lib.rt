@@ -12,6 +12,7 @@
 #![tactic(auto)]
 
 mod fault;
+mod figure;
 mod keying;
 pub mod laws;
 mod playing;

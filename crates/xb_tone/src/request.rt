@@ -1,5 +1,6 @@
 // What the words of the command line ask for.
 
+use xb_signal::Setting;
 use xb_sound::Cadence;
 
 /// Which entries of a page are to sound.
@@ -22,6 +23,8 @@ pub struct Request {
     pub cadence: Cadence,
     /// The samples alone, in place of a WAV file.
     pub raw: bool,
+    /// How words of keys sound.
+    pub setting: Setting,
 }
 
 /// What the words ask for.

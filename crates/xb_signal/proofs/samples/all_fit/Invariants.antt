@@ -3,4 +3,4 @@ use Rattle.xb_signal.specs.Segments.{all_fit}
 use Rattle.xb_signal.proofs.samples.all_fit.Given as goal
 
 abbrev pub invariant-loop-segment : goal.invariant-loop-segment
-invariant-loop-segment l = all_fit l.segments ≡ all_fit (drop l.segment-index l.segments)
+invariant-loop-segment l = all_fit l.setting l.segments ≡ all_fit l.setting (drop l.segment-index l.segments)

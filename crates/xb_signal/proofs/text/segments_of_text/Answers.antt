@@ -9,7 +9,7 @@ use Rattle.xb_signal.proofs.text.segments_of_text.Goals as goal
 pub loop-left-init : goal.loop-left-init
 loop-left-init c = record {
   read =
-      ap (λ segments. after segments (segments_of_words c.args.cadence (words_of c.args.text.now)))
+      ap (λ segments. after segments (segments_of_words c.args.cadence c.args.setting.now (words_of c.args.text.now)))
       (sym c.in_ok-segments.ensures);
   bytes = omega (arith, total-pieces c.args.text.now);
   words = omega arith;
@@ -21,6 +21,7 @@ returns-clause-segments c =
     cond-false _ _ _ (sym c.is_blank.ensures ∙ c.if-is_blank.false)
     ∙ c.loop-left.invariant.read
     ∙ ap (λ left. after segments
-    (segments_of_words c.args.cadence (words_from c.loop-left.place (pieces_left 32 (option_copied left)))))
+    (segments_of_words c.args.cadence c.args.setting.now
+    (words_from c.loop-left.place (pieces_left 32 (option_copied left)))))
     c.in_default.is
-    ∙ none-left c.args.cadence c.loop-left.place segments
+    ∙ none-left c.args.cadence c.args.setting.now c.loop-left.place segments

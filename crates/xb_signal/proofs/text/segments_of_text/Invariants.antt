@@ -9,9 +9,9 @@ use Rattle.xb_signal.proofs.text.segments_of_text.Given as goal
 abbrev pub invariant-loop-left : goal.invariant-loop-left
 invariant-loop-left l = record {
   read :
-      after (silent l.fn.cadence.lead_ms ∷ []) (segments_of_words l.fn.cadence (words_of l.fn.text))
+      after (silent l.fn.cadence.lead_ms ∷ []) (segments_of_words l.fn.cadence l.fn.setting (words_of l.fn.text))
       ≡ after l.segments.items
-      (segments_of_words l.fn.cadence (words_from l.place (pieces_left 32 (option_copied l.left))));
+      (segments_of_words l.fn.cadence l.fn.setting (words_from l.place (pieces_left 32 (option_copied l.left))));
   bytes : l.place.byte + total (pieces_left 32 (option_copied l.left)) ≡ length l.fn.text + 2;
   words : l.place.word ≤ l.place.byte;
 }

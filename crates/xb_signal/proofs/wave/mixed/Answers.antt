@@ -1,34 +1,35 @@
-use Rattle.std.proofs.Common.{rules, ◌≡◌, ◌∙◌, ◌<◌, ◌≤◌, unsigned_abs, ℕ, ◌+◌, ◌*◌, ap, sym, subst, arith, drop, ℤ, ◌+ℤ◌, FitsSigned, to_z, of_z}
+use Rattle.std.proofs.Common.{◌≡◌, ◌∙◌, ◌≤◌, ◌*◌, ℕ, ◌+◌, List, ◌∷◌, ap, sym, arith, length, rules, ℤ, ◌+ℤ◌, FitsSigned, to_z, of_z, unsigned_abs}
 use Rattle.std.specs.Int.{w16, w32}
 use Rattle.std.proofs.lemmas.Int.{ints, to_z-of_z, fits_signed_from_abs}
-use Rattle.xb_signal.specs.Waves.{mixed}
-use Rattle.xb_signal.proofs.Waves.{mixed-next}
+use Rattle.xb_signal.specs.Waves.{chorus, mixed, scaled, wave_sample}
 use Rattle.xb_signal.proofs.wave.mixed.Goals as goal
+
+-- a sum of two numbers of 32 bits that has 32 bits itself
+pub bits-sum : (x y : ℤ) → FitsSigned w32 x → FitsSigned w32 y → FitsSigned w32 (x +ℤ y)
+    → to_z w32 (of_z w32 (to_z w32 (of_z w32 x) +ℤ to_z w32 (of_z w32 y))) ≡ x +ℤ y
+bits-sum x y fits_x fits_y fits_sum =
+    ap (λ (z : ℤ). to_z w32 (of_z w32 (z +ℤ to_z w32 (of_z w32 y)))) (to_z-of_z w32 x fits_x)
+    ∙ ap (λ (z : ℤ). to_z w32 (of_z w32 (x +ℤ z))) (to_z-of_z w32 y fits_y)
+    ∙ to_z-of_z w32 (x +ℤ y) fits_sum
 
 abs-sum : (x y : ℤ) (a b : ℕ) → unsigned_abs x ≤ a → unsigned_abs y ≤ b → unsigned_abs (x +ℤ y) ≤ a + b
 abs-sum x y a b small_x small_y = omega (arith, ints)
 
-pub loop-hz-preserved : goal.loop-hz-preserved
-loop-hz-preserved c =
-    let i = c.loop-hz.hz-index in
-    let s : ℤ = to_z w32 c.loop-hz.sum-bits in
-    let w = c.wave_sample.result in
-    let f = c.from-sum.result in
-    let fits_w : FitsSigned w16 w = search rules in
-    let fits_f : FitsSigned w32 f = search rules in
-    let is : f ≡ w = c.from-sum.ensures ∙ to_z-of_z w16 w fits_w in
-    let added : s +ℤ to_z w32 (of_z w32 f) ≡ s +ℤ w = ap (λ (x : ℤ). s +ℤ x) (to_z-of_z w32 f fits_f ∙ is) in
-    let greater = abs-sum s w (10000 * i) 10000 c.loop-hz.invariant.small c.wave_sample.ensures.bound in
-    let small : unsigned_abs (s +ℤ w) ≤ 10000 * (i + 1) = omega (arith, greater) in
-    let few : i < 6 = omega (arith, c.loop-hz-test.true, c.requires) in
-    let fits_sum : FitsSigned w32 (s +ℤ w) = fits_signed_from_abs w32 (s +ℤ w) (omega (arith, small, few)) in
-    let new : to_z w32 (of_z w32 (s +ℤ to_z w32 (of_z w32 f))) ≡ s +ℤ w =
-    ap (λ (x : ℤ). to_z w32 (of_z w32 x)) added ∙ to_z-of_z w32 (s +ℤ w) fits_sum in
-    record {
-      sum =
-          ap (λ (x : ℤ). x +ℤ mixed (drop (i + 1) c.args.tones.now) c.args.n)
-          (new ∙ ap (λ (x : ℤ). s +ℤ x) c.wave_sample.ensures.value)
-          ∙ mixed-next c.args.tones.now i c.args.n s c.loop-hz-test.true
-          ∙ c.loop-hz.invariant.sum;
-      small = subst (λ (x : ℤ). unsigned_abs x ≤ 10000 * (i + 1)) (sym new) small;
-    }
+pub returns-in-Some-clause-value : goal.returns-in-Some-clause-value
+returns-in-Some-clause-value c =
+    let x = c.scaled.result in
+    let y = c.chorus.result in
+    let tones = c.args.tones.now in
+    let parts : tones ≡ c.in-Some.first.now ∷ c.in-Some.further.now = search rules in
+    let few : length c.in-Some.further.now ≤ 5 = search rules in
+    let small : unsigned_abs (x +ℤ y) ≤ 65535 + 65535 * length c.in-Some.further.now =
+    abs-sum x y 65535 (65535 * length c.in-Some.further.now) c.scaled.ensures.bound c.chorus.ensures.bound in
+    let table : FitsSigned w16 c.wave_sample.result = search rules in
+    let fits_x : FitsSigned w32 x = search rules in
+    let fits_y : FitsSigned w32 y = search rules in
+    let fits_sum : FitsSigned w32 (x +ℤ y) = fits_signed_from_abs w32 (x +ℤ y) (omega (arith, small, few)) in
+    bits-sum x y fits_x fits_y fits_sum
+    ∙ ap (λ (z : ℤ). z +ℤ y) c.scaled.ensures.value
+    ∙ ap (λ (z : ℤ). scaled c.args.low z +ℤ y) (to_z-of_z w16 c.wave_sample.result table ∙ c.wave_sample.ensures.value)
+    ∙ ap (λ (z : ℤ). scaled c.args.low (wave_sample c.in-Some.first.now c.args.n) +ℤ z) c.chorus.ensures.value
+    ∙ ap (λ (xs : List ℕ). mixed c.args.low c.args.high xs c.args.n) (sym parts)

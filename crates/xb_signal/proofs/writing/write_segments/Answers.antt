@@ -1,32 +1,73 @@
-use Rattle.std.proofs.Common.{◌++◌, suc, ◌≤◌, drop, length, take, sym, subst, arith}
+use Rattle.std.proofs.Common.{◌≡◌, ◌∙◌, ℕ, ◌+◌, ◌*◌, ◌++◌, List, suc, ◌≤◌, drop, length, take, ap, sym, subst, arith, refl}
+use Rattle.std.proofs.KnownBytes.{Appends-nil, Appends-trans}
+use Rattle.std.specs.Io.KnownBytes.{Appends}
 use Rattle.std.proofs.lemmas.List.{take_all}
 use Rattle.xb_text.specs.Writing.{AppendsBeginning}
 use Rattle.xb_sound.specs.Wavs.{pcm_of}
 use Rattle.xb_sound.proofs.Beginnings.{beginning-after, beginning-more, whole-begins}
-use Rattle.xb_signal.specs.Segments.{segment_sound, signal_of}
-use Rattle.xb_signal.proofs.Parts.{signal-parts}
+use Rattle.xb_signal.specs.declared.segment.Segment.{Segment}
+use Rattle.xb_signal.specs.Noises.{state_after}
+use Rattle.xb_signal.specs.Segments.{segment_sound, signal_from, signal_of}
+use Rattle.xb_signal.proofs.Parts.{signal-next, signal-parts, state-taken, state_before}
 use Rattle.xb_signal.proofs.writing.write_segments.Goals as goal
+
+pub loop-segment-init : goal.loop-segment-init
+loop-segment-init g c = record { state = refl; written = Appends-nil _ }
+
+pub loop-segment-preserved : goal.loop-segment-preserved
+loop-segment-preserved g c =
+    let setting = c.args.setting.now in
+    let segments = c.args.segments.now in
+    let i = c.loop-segment.segment-index in
+    let segment = c.segment-item.result in
+    let old = g.W.Write.contents c.args.out.now in
+    let mid = g.W.Write.contents c.loop-segment.out in
+    let new = g.W.Write.contents c.write_segment.new.out in
+    let before : ℕ = state_before setting.seed (take i segments) in
+    let part : Appends mid new (pcm_of (segment_sound setting before segment)) =
+    subst (λ (state : ℕ). Appends mid new (pcm_of (segment_sound setting state segment))) c.loop-segment.invariant.state
+    c.in_ok-write_segment.ensures.whole in
+    record {
+      state =
+          c.state_after-state.ensures
+          ∙ ap (λ (n : ℕ). state_after c.loop-segment.state n) c.segment_length.ensures.value
+          ∙ ap (λ (state : ℕ). state_after state (segment.ms * 8)) c.loop-segment.invariant.state
+          ∙ sym (state-taken setting.seed segments i segment c.loop-segment-test.true c.segment-item.is);
+      written =
+          subst (λ (bytes : List ℕ). Appends old new bytes)
+          (sym (signal-next setting setting.seed segments i segment c.loop-segment-test.true c.segment-item.is))
+          (Appends-trans old mid new (pcm_of (signal_of setting (take i segments)))
+          (pcm_of (segment_sound setting before segment)) c.loop-segment.invariant.written part);
+    }
 
 pub returns-in_err-write_segment-clause-beginning : goal.returns-in_err-write_segment-clause-beginning
 returns-in_err-write_segment-clause-beginning g c =
+    let setting = c.args.setting.now in
     let segments = c.args.segments.now in
     let i = c.loop-segment.segment-index in
+    let segment = c.segment-item.result in
     let old = g.W.Write.contents c.args.out.now in
+    let mid = g.W.Write.contents c.loop-segment.out in
     let new = g.W.Write.contents c.write_segment.new.out in
-    let rest = pcm_of (signal_of (drop (suc i) segments)) in
-    let part = pcm_of (segment_sound c.segment-item.result) in
+    let before : ℕ = state_before setting.seed (take i segments) in
+    let rest = pcm_of (signal_from setting (state_after before (segment.ms * 8)) (drop (suc i) segments)) in
+    let part = pcm_of (segment_sound setting before segment) in
+    let begun : AppendsBeginning mid new part =
+    subst (λ (state : ℕ). AppendsBeginning mid new (pcm_of (segment_sound setting state segment)))
+    c.loop-segment.invariant.state c.write_segment.ensures.beginning in
     subst (λ bytes. AppendsBeginning old new bytes)
-    (sym (signal-parts segments i c.segment-item.result c.loop-segment-test.true c.segment-item.is))
-    (beginning-after old (g.W.Write.contents c.loop-segment.out) new (pcm_of (signal_of (take i segments)))
-    (part ++ rest) c.loop-segment.invariant
-    (beginning-more (g.W.Write.contents c.loop-segment.out) new part rest c.write_segment.ensures.beginning))
+    (sym (signal-parts setting setting.seed segments i segment c.loop-segment-test.true c.segment-item.is))
+    (beginning-after old mid new (pcm_of (signal_of setting (take i segments))) (part ++ rest)
+    c.loop-segment.invariant.written (beginning-more mid new part rest begun))
 
 pub returns-clause-beginning : goal.returns-clause-beginning
 returns-clause-beginning g c =
+    let setting = c.args.setting.now in
     let segments = c.args.segments.now in
     let old = g.W.Write.contents c.args.out.now in
     let new = g.W.Write.contents c.loop-segment.out in
     let past : length segments ≤ c.loop-segment.segment-index = omega arith in
-    subst (λ all. AppendsBeginning old new (pcm_of (signal_of all)))
+    subst (λ (all : List Segment). AppendsBeginning old new (pcm_of (signal_of setting all)))
     (take_all c.loop-segment.segment-index segments past)
-    (whole-begins old new (pcm_of (signal_of (take c.loop-segment.segment-index segments))) c.loop-segment.invariant)
+    (whole-begins old new (pcm_of (signal_of setting (take c.loop-segment.segment-index segments)))
+    c.loop-segment.invariant.written)

@@ -1,16 +1,61 @@
-use Rattle.std.proofs.Common.{◌∙◌, subst}
+use Rattle.std.proofs.Common.{◌∙◌, ℕ, List, ◌++◌, sym, subst, arith}
+use Rattle.std.proofs.KnownBytes.{Appends-trans}
 use Rattle.std.specs.Io.KnownBytes.{Appends}
+use Rattle.xb_text.specs.Writing.{AppendsBeginning}
 use Rattle.xb_sound.specs.Wavs.{pcm_of}
-use Rattle.xb_sound.proofs.Beginnings.{beginning-after}
+use Rattle.xb_sound.proofs.Beginnings.{beginning-after, beginning-more}
 use Rattle.xb_signal.specs.Segments.{signal_of}
 use Rattle.xb_signal.specs.Writings.{head_before}
+use Rattle.xb_signal.proofs.Parts.{whole-bytes}
 use Rattle.xb_signal.proofs.writing.write_signal.Goals as goal
+
+pub returns-in_err-write_whole-clause-beginning : goal.returns-in_err-write_whole-clause-beginning
+returns-in_err-write_whole-clause-beginning g c =
+    let old = g.W.Write.contents c.args.out.now in
+    let mid = g.W.Write.contents c.write_whole.new.out in
+    let head = head_before c.args.raw c.args.segments.now in
+    let rest = pcm_of (signal_of c.args.setting.now c.args.segments.now) in
+    subst (λ (bytes : List ℕ). AppendsBeginning old mid bytes)
+    (whole-bytes c.args.setting.now c.args.raw c.args.segments.now)
+    (beginning-more old mid head rest
+    (subst (λ (bytes : List ℕ). AppendsBeginning old mid bytes) (c.deref.ensures.value ∙ c.in_ok-head.ensures.head)
+    c.write_whole.ensures.beginning))
+
+pub returns-in_err-write_segments-clause-beginning : goal.returns-in_err-write_segments-clause-beginning
+returns-in_err-write_segments-clause-beginning g c =
+    let old = g.W.Write.contents c.args.out.now in
+    let mid = g.W.Write.contents c.write_whole.new.out in
+    let new = g.W.Write.contents c.write_segments.new.out in
+    let head = head_before c.args.raw c.args.segments.now in
+    let rest = pcm_of (signal_of c.args.setting.now c.args.segments.now) in
+    subst (λ (bytes : List ℕ). AppendsBeginning old new bytes)
+    (whole-bytes c.args.setting.now c.args.raw c.args.segments.now)
+    (beginning-after old mid new head rest
+    (subst (λ (bytes : List ℕ). Appends old mid bytes) (c.deref.ensures.value ∙ c.in_ok-head.ensures.head)
+    c.in_ok-write_whole.ensures.whole) c.write_segments.ensures.beginning)
+
+pub returns-clause-whole : goal.returns-clause-whole
+returns-clause-whole g c =
+    let old = g.W.Write.contents c.args.out.now in
+    let mid = g.W.Write.contents c.write_whole.new.out in
+    let new = g.W.Write.contents c.write_segments.new.out in
+    let head = head_before c.args.raw c.args.segments.now in
+    let rest = pcm_of (signal_of c.args.setting.now c.args.segments.now) in
+    subst (λ (bytes : List ℕ). Appends old new bytes)
+    (whole-bytes c.args.setting.now c.args.raw c.args.segments.now)
+    (Appends-trans old mid new head rest
+    (subst (λ (bytes : List ℕ). Appends old mid bytes) (c.deref.ensures.value ∙ c.in_ok-head.ensures.head)
+    c.in_ok-write_whole.ensures.whole) c.in_ok-write_segments.ensures.whole)
 
 pub returns-clause-beginning : goal.returns-clause-beginning
 returns-clause-beginning g c =
     let old = g.W.Write.contents c.args.out.now in
     let mid = g.W.Write.contents c.write_whole.new.out in
-    beginning-after old mid (g.W.Write.contents c.write_segments.new.out)
-    (head_before c.args.raw c.args.segments.now) (pcm_of (signal_of c.args.segments.now))
-    (subst (λ bytes. Appends old mid bytes) (c.deref.ensures.value ∙ c.in_ok-head.ensures.head) c.in_ok-write_whole.ensures.whole)
-    c.write_segments.ensures.beginning
+    let new = g.W.Write.contents c.write_segments.new.out in
+    let head = head_before c.args.raw c.args.segments.now in
+    let rest = pcm_of (signal_of c.args.setting.now c.args.segments.now) in
+    subst (λ (bytes : List ℕ). AppendsBeginning old new bytes)
+    (whole-bytes c.args.setting.now c.args.raw c.args.segments.now)
+    (beginning-after old mid new head rest
+    (subst (λ (bytes : List ℕ). Appends old mid bytes) (c.deref.ensures.value ∙ c.in_ok-head.ensures.head)
+    c.in_ok-write_whole.ensures.whole) c.write_segments.ensures.beginning)

@@ -1,0 +1,146 @@
+-- Keys with noise are near the sound of marks.
+use Rattle.std.proofs.Common.{◌≡◌, ◌∙◌, ℕ, zero, suc, ◌+◌, ◌-◌, ◌*◌, ◌%◌, ◌<◌, ◌≤◌, ◌⊎◌, inl, inr, Bool, true, false, List, [], ◌∷◌, ◌++◌, map, cond, leb, refl, sym, ap, subst, arith, Some, ℤ, pos, negsuc, ◌+ℤ◌, ◌-ℤ◌, unsigned_abs}
+use Rattle.std.specs.List.{AllByRecursion, range_with_len}
+use Rattle.std.proofs.lemmas.Bool.{leb-false, leb-true}
+use Rattle.std.proofs.lemmas.Int.{ints}
+use Rattle.std.proofs.lemmas.Nat.{mod_below}
+use Rattle.xb_model.specs.declared.key.Key.{Key as PageKey}
+use Rattle.xb_model.specs.declared.mark.Mark.TheVariants.{Trunk}
+use Rattle.xb_model.specs.Keyings.{tone}
+use Rattle.xb_sound.specs.declared.cadence.Cadence.{Cadence}
+use Rattle.xb_sound.specs.HeardKeys.{AreKeyed, IsKey}
+use Rattle.xb_ear.specs.Disturbed.{IsNear}
+use Rattle.xb_ear.proofs.WholeSounds.{noisy_keys_are_heard as near_keys_are_heard}
+use Rattle.xb_signal.specs.declared.segment.Segment.{Segment}
+use Rattle.xb_signal.specs.declared.setting.Setting.{Setting}
+use Rattle.xb_signal.specs.Noises.{noise, state_after, word_of}
+use Rattle.xb_signal.specs.Segments.{segment_sound, signal_from}
+use Rattle.xb_signal.specs.Settings.{standard_setting}
+use Rattle.xb_signal.specs.Waves.{cut, mixed, sample_at}
+use Rattle.xb_signal.proofs.HeardNames.{keys_sound_as_marks}
+use Rattle.xb_tone.specs.NoisyKeys.{IsQuiet, NoisyKeysAreHeard, keyed}
+
+noise-small : (peak state n : ℕ) → unsigned_abs (noise peak state n) ≤ peak
+noise-small peak state n =
+    let word : ℕ = word_of (state_after state (n + 1)) in
+    let below : word % (2 * peak + 1) < 2 * peak + 1 = mod_below word (2 * peak + 1) (omega arith) in
+    omega (arith, ints, below)
+
+-- a sample has 16 bits and is as it is, or it is over the greatest, or under the least
+abbrev IsIn : ℤ → ℤ → Type 0
+IsIn x y = (k : ℕ) × (x +ℤ pos 32768 ≡ pos k) × (k < 65536) × (y ≡ x)
+
+abbrev IsOver : ℤ → ℤ → Type 0
+IsOver x y = (k : ℕ) × (x ≡ pos k) × (32767 < k) × (y ≡ pos 32767)
+
+abbrev IsUnder : ℤ → ℤ → Type 0
+IsUnder x y = (k : ℕ) × (x ≡ negsuc k) × (32767 < k) × (y ≡ negsuc 32767)
+
+abbrev IsCut : ℤ → ℤ → Type 0
+IsCut x y = IsIn x y ⊎ (IsOver x y ⊎ IsUnder x y)
+
+in-above : (x : ℕ) → x ≤ 32767 → IsIn (pos x) (pos x)
+in-above x small = (x + 32768, omega (arith, ints), omega (arith, small), refl)
+
+in-below : (x : ℕ) → x ≤ 32767 → IsIn (negsuc x) (negsuc x)
+in-below x small = (32767 - x, omega (arith, ints, small), omega arith, refl)
+
+cut-is : (x : ℤ) → IsCut x (cut x)
+cut-is (pos x) = by (leb x 32767) refl
+  where
+    by : (small : Bool) → leb x 32767 ≡ small → IsCut (pos x) (cond small (pos x) (pos 32767))
+    by true is = inl (in-above x (leb-true x 32767 is))
+    by false is = inr (inl (x, refl, leb-false x 32767 is, refl))
+cut-is (negsuc x) = by (leb x 32767) refl
+  where
+    by : (small : Bool) → leb x 32767 ≡ small → IsCut (negsuc x) (cond small (negsuc x) (negsuc 32767))
+    by true is = inl (in-below x (leb-true x 32767 is))
+    by false is = inr (inr (x, refl, leb-false x 32767 is, refl))
+
+-- cutting brings samples no further apart
+cut-apart : (n : ℕ) (x y a b : ℤ) → unsigned_abs (y -ℤ x) ≤ n → IsCut x a → IsCut y b → unsigned_abs (b -ℤ a) ≤ n
+cut-apart n x y a b near (inl (j, x_is, few, a_is)) (inl (k, y_is, less, b_is)) =
+    omega (arith, ints, near, a_is, b_is)
+cut-apart n x y a b near (inl (j, x_is, few, a_is)) (inr (inl (k, y_is, over, b_is))) =
+    omega (arith, ints, near, x_is, few, a_is, y_is, over, b_is)
+cut-apart n x y a b near (inl (j, x_is, few, a_is)) (inr (inr (k, y_is, under, b_is))) =
+    omega (arith, ints, near, x_is, few, a_is, y_is, under, b_is)
+cut-apart n x y a b near (inr (inl (j, x_is, high, a_is))) (inl (k, y_is, less, b_is)) =
+    omega (arith, ints, near, x_is, high, a_is, y_is, less, b_is)
+cut-apart n x y a b near (inr (inl (j, x_is, high, a_is))) (inr (inl (k, y_is, over, b_is))) =
+    omega (arith, ints, a_is, b_is)
+cut-apart n x y a b near (inr (inl (j, x_is, high, a_is))) (inr (inr (k, y_is, under, b_is))) =
+    omega (arith, ints, near, x_is, high, a_is, y_is, under, b_is)
+cut-apart n x y a b near (inr (inr (j, x_is, low, a_is))) (inl (k, y_is, less, b_is)) =
+    omega (arith, ints, near, x_is, low, a_is, y_is, less, b_is)
+cut-apart n x y a b near (inr (inr (j, x_is, low, a_is))) (inr (inl (k, y_is, over, b_is))) =
+    omega (arith, ints, near, x_is, low, a_is, y_is, over, b_is)
+cut-apart n x y a b near (inr (inr (j, x_is, low, a_is))) (inr (inr (k, y_is, under, b_is))) =
+    omega (arith, ints, a_is, b_is)
+
+one-noise : (x e f : ℤ) (n : ℕ) → unsigned_abs e ≤ n → unsigned_abs f ≤ 0 → unsigned_abs ((x +ℤ e) -ℤ (x +ℤ f)) ≤ n
+one-noise x e f n small none = omega (arith, ints, small, none)
+
+noisy-sample : (peak : ℕ) (clean : ℤ) (e f : ℤ) → unsigned_abs e ≤ peak → unsigned_abs f ≤ 0
+    → unsigned_abs (cut (clean +ℤ e) -ℤ cut (clean +ℤ f)) ≤ peak
+noisy-sample peak clean e f small none =
+    cut-apart peak (clean +ℤ f) (clean +ℤ e) (cut (clean +ℤ f)) (cut (clean +ℤ e))
+    (one-noise clean e f peak small none) (cut-is (clean +ℤ f)) (cut-is (clean +ℤ e))
+
+near-map : (n : ℕ) (f g : ℕ → ℤ) → ((k : ℕ) → unsigned_abs (g k -ℤ f k) ≤ n) → (m i : ℕ)
+    → IsNear n (map f (range_with_len i m)) (map g (range_with_len i m))
+near-map n f g near zero i = tt
+near-map n f g near (suc m) i = (near i, near-map n f g near m (i + 1))
+
+near-append : (n : ℕ) (xs ys us vs : List ℤ) → IsNear n xs ys → IsNear n us vs → IsNear n (xs ++ us) (ys ++ vs)
+near-append n [] [] us vs first later = later
+near-append n [] (y ∷ ys) us vs first later = absurd first
+near-append n (x ∷ xs) [] us vs first later = absurd first
+near-append n (x ∷ xs) (y ∷ ys) us vs first later = (first.0, near-append n xs ys us vs first.1 later)
+
+-- a signal with noise is near the one without, whatever the states of the two are
+near-signal : (peak seed : ℕ) (clip : Bool) (from to : ℕ) (segments : List Segment)
+    → IsNear peak (signal_from standard_setting from segments)
+    (signal_from (record { low = 10000; high = 10000; noise_peak = peak; seed = seed; clip = clip }) to segments)
+near-signal peak seed clip from to [] = tt
+near-signal peak seed clip from to (segment ∷ later) =
+    let noisy : Setting = record { low = 10000; high = 10000; noise_peak = peak; seed = seed; clip = clip } in
+    let from_next : ℕ = state_after from (segment.ms * 8) in
+    let to_next : ℕ = state_after to (segment.ms * 8) in
+    near-append peak (segment_sound standard_setting from segment) (segment_sound noisy to segment)
+    (signal_from standard_setting from_next later) (signal_from noisy to_next later)
+    (near-map peak (λ n. sample_at standard_setting from segment.tones n) (λ n. sample_at noisy to segment.tones n)
+    (λ n. noisy-sample peak (mixed 10000 10000 segment.tones n) (noise peak to n) (noise 0 from n)
+    (noise-small peak to n) (noise-small 0 from n)) (segment.ms * 8) 0)
+    (near-signal peak seed clip from_next to_next later)
+
+more-near : (n m : ℕ) → n ≤ m → (xs ys : List ℤ) → IsNear n xs ys → IsNear m xs ys
+more-near n m less [] [] near = tt
+more-near n m less [] (y ∷ ys) near = absurd near
+more-near n m less (x ∷ xs) [] near = absurd near
+more-near n m less (x ∷ xs) (y ∷ ys) near = (omega (arith, near.0), more-near n m less xs ys near.1)
+
+are-keyed : (keys : List PageKey) → AllByRecursion IsKey keys → AreKeyed (map tone keys)
+are-keyed [] all = tt
+are-keyed (key ∷ keys) all = ((all.0, refl), are-keyed keys all.1)
+
+quiet-near : (setting : Setting) → IsQuiet setting → (segments : List Segment)
+    → IsNear 277 (signal_from standard_setting 0 segments) (signal_from setting setting.seed segments)
+quiet-near setting quiet segments =
+    let peak : ℕ = setting.noise_peak in
+    let noisy : ℕ → ℕ → Setting =
+    λ low high. record { low = low; high = high; noise_peak = peak; seed = setting.seed; clip = setting.clip } in
+    let plain = signal_from standard_setting 0 segments in
+    let near : IsNear 277 plain (signal_from (noisy 10000 10000) setting.seed segments) =
+    more-near setting.noise_peak 277 quiet.noise plain (signal_from (noisy 10000 10000) setting.seed segments)
+    (near-signal setting.noise_peak setting.seed setting.clip 0 setting.seed segments) in
+    let low : IsNear 277 plain (signal_from (noisy setting.low 10000) setting.seed segments) =
+    subst (λ (a : ℕ). IsNear 277 plain (signal_from (noisy a 10000) setting.seed segments)) (sym quiet.low) near in
+    subst (λ (a : ℕ). IsNear 277 plain (signal_from (noisy setting.low a) setting.seed segments)) (sym quiet.high) low
+
+pub noisy_keys_are_heard : NoisyKeysAreHeard
+noisy_keys_are_heard cadence keys setting hearable all quiet =
+    let samples = signal_from setting setting.seed (keyed cadence keys) in
+    near_keys_are_heard cadence (Trunk 0 ∷ map tone keys) samples hearable (tt, are-keyed keys all)
+    (subst (λ (clean : List ℤ). IsNear 277 clean samples) (keys_sound_as_marks cadence 0 keys all)
+    (quiet-near setting quiet (keyed cadence keys)))
