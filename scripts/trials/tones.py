@@ -2,13 +2,15 @@
 code with mftone.
 
     tones.py LEAD KP KEY GAP < ENTRIES > WAV
-    tones.py LEAD KP KEY GAP WORDS [--level DBM0] [--twist DB] [--noise-peak N] [--seed N] [--clip] > WAV
+    tones.py LEAD KP KEY GAP WORDS [--level DBM0] [--twist DB] [--detune PERCENT] [--skew MS] [--hole MS@MS]
+        [--noise-peak N] [--seed N] [--clip] > WAV
 
 Entries are lines of a page of mfbank; what is no keyed entry is passed over. WORDS are those of mftone --keys, and have
 to be right, but one may be too loud: then nothing is written, its place is told, and the status is 1. The four times
 are in ms.
 """
 import argparse
+import fractions
 import math
 import struct
 import sys
@@ -59,6 +61,23 @@ def tone(hertz, ms, low=AMPLITUDE, high=AMPLITUDE):
     return [sum(scaled(size, sine(hz, n)) for hz, size in sizes) for n in range(ms * RATE // 1000)]
 
 
+def tuned(hz, percent):
+    """Returns a frequency that is so much higher, in percent, to the nearest whole Hz, and a half up."""
+    return math.floor(hz * (100 + fractions.Fraction(percent)) / 100 + fractions.Fraction(1, 2))
+
+
+def key(pair, ms, levels, given):
+    """Returns the samples of the two tones of a key, disturbed as is asked for."""
+    hole, start = (8 * int(it) for it in given.hole.split("@"))
+    late = max(0, -8 * given.skew), max(0, 8 * given.skew)
+    hertz = [tuned(int(hz), given.detune) for hz in pair.split("+")]
+    return [
+        0 if start <= n < start + hole
+        else sum(scaled(*it) for it in zip(levels, (sine(hz, n - by) if n >= by else 0 for hz, by in zip(hertz, late))))
+        for n in range(8 * ms)
+    ]
+
+
 def sound(entry, lead, kp, key, gap):
     """Returns the samples of a line of a page: none where nothing was keyed."""
     words = entry.split()
@@ -71,12 +90,12 @@ def sound(entry, lead, kp, key, gap):
     return samples
 
 
-def named(words, times, levels, noise, clip):
+def named(given, levels):
     """Returns the samples of keys by name, of frequencies for a time, and of silence, or the place of what is loud."""
-    lead, kp, key, gap = times
+    lead, kp_ms, key_ms, gap = given.times
     samples = silence(lead)
     place = 0
-    for byte, word in starts(words):
+    for byte, word in starts(given.words):
         place += 1
         what, _, ms = word.partition(":")
         made = []
@@ -86,8 +105,9 @@ def named(words, times, levels, noise, clip):
             made = tone(what, int(ms), *levels)
         else:
             for name in [word] if word in PAIRS else word:
-                made += tone(PAIRS[name], kp if name.startswith("KP") else key, *levels) + silence(gap)
-        if not clip and any(it + noise > 32767 or it - noise < -32768 for it in made):
+                made += key(PAIRS[name], kp_ms if name.startswith("KP") else key_ms, levels, given) + silence(gap)
+        peak = given.noise_peak
+        if not given.clip and any(it + peak > 32767 or it - peak < -32768 for it in made):
             sys.exit(f"word {place}, at byte {byte}, is too loud for 16 bits")
         samples += made
     return samples
@@ -122,6 +142,9 @@ def attend():
     reader.add_argument("words", nargs="?")
     reader.add_argument("--level", type=float, default=-7.2)
     reader.add_argument("--twist", type=float, default=0.0)
+    reader.add_argument("--detune", default="0")
+    reader.add_argument("--skew", type=int, default=0)
+    reader.add_argument("--hole", default="0@0")
     reader.add_argument("--noise-peak", type=int, default=0)
     reader.add_argument("--seed", type=int, default=0)
     reader.add_argument("--clip", action="store_true")
@@ -130,8 +153,7 @@ def attend():
         samples = [it for line in sys.stdin for it in sound(line, *given.times)]
     else:
         levels = amplitude(given.level), amplitude(round(given.level + given.twist, 1))
-        clean = named(given.words, given.times, levels, given.noise_peak, given.clip)
-        samples = noisy(clean, given.noise_peak, given.seed)
+        samples = noisy(named(given, levels), given.noise_peak, given.seed)
     sys.stdout.buffer.write(wav(samples))
 
 

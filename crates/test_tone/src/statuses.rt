@@ -27,7 +27,8 @@ impl Program for Mftone {
 }
 
 const USAGE: &[u8] = b"mftone: usage: mftone [--line N] [--entry N] [--lead N] [--kp N] [--key N] \
-[--gap N] [--raw] [--keys WORDS] [--level DBM0] [--twist DB] [--noise-peak N] [--seed N] [--clip]\n";
+[--gap N] [--raw] [--keys WORDS] [--level DBM0] [--twist DB] [--detune PERCENT] [--skew MS] \
+[--hole MS@MS] [--noise-peak N] [--seed N] [--clip]\n";
 
 // The words after the program's name, the page, the status, and what stands on standard error; nothing is
 // written.
@@ -147,6 +148,10 @@ const CASES: &[(&[&str], &[u8], u8, &[u8])] = &[
     (&["--keys", "KP", "--level=-40.1"], PAGE, 2, USAGE),
     (&["--keys", "KP", "--twist=+1"], PAGE, 2, USAGE),
     (&["--keys", "KP", "--noise-peak=32768"], PAGE, 2, USAGE),
+    (&["--keys", "KP", "--detune=50.1"], PAGE, 2, USAGE),
+    (&["--keys", "KP", "--skew=0.5"], PAGE, 2, USAGE),
+    (&["--keys", "KP", "--hole=10"], PAGE, 2, USAGE),
+    (&["--keys", "KP", "--hole=10@10001"], PAGE, 2, USAGE),
     (&["--clip"], PAGE, 2, USAGE),
     (&["--keys", "KP", "--line", "7"], PAGE, 2, USAGE),
     (&["--entry", "1"], PAGE, 2, USAGE),

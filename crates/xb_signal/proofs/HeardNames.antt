@@ -22,6 +22,7 @@ use Rattle.xb_signal.specs.declared.name.Name.TheVariants.{Key, Kp2, StPrime, St
 use Rattle.xb_signal.specs.Names.{name_ms, pair_of}
 use Rattle.xb_signal.specs.Segments.{silent}
 use Rattle.xb_signal.specs.declared.segment.Segment.{Segment}
+use Rattle.xb_signal.specs.declared.segment.Sound.TheVariants.{Keyed, Written}
 use Rattle.xb_signal.specs.SignalLaws.{IsName, KeysAreHeard, KeysSoundAsMarks, NamesAreHeard, names_of}
 use Rattle.xb_signal.specs.Words.{key_segments}
 use Rattle.xb_signal.proofs.Plain.{plain_sound, plain_tones}
@@ -33,7 +34,7 @@ plain_of segments = flat_map plain_sound segments
 -- the two frequencies of a name sound as the tone of a mark
 abbrev SoundsAsTone : Name → Type 0
 SoundsAsTone name =
-    (ms : ℕ) → plain_tones ((pair_of name).low ∷ (pair_of name).high ∷ []) ms ≡ tone_sound (pair_of name) ms
+    (ms : ℕ) → plain_tones (Keyed (pair_of name)) ms ≡ tone_sound (pair_of name) ms
 
 sounds : (name : Name) → IsName name → SoundsAsTone name
 sounds (Key (Digit d)) is =
@@ -54,7 +55,7 @@ key-sound : (cadence : Cadence) (name : Name) → IsName name → (names : List 
     ++ (silence cadence.gap_ms ++ plain_of (flat_map (key_segments cadence) names))
 key-sound cadence name is names =
     let rest = plain_of (flat_map (key_segments cadence) names) in
-    ap (λ (xs : List ℤ). xs ++ (plain_tones [] cadence.gap_ms ++ rest)) (sounds name is (name_ms cadence name))
+    ap (λ (xs : List ℤ). xs ++ (plain_tones (Written []) cadence.gap_ms ++ rest)) (sounds name is (name_ms cadence name))
     ∙ ap (λ (xs : List ℤ). tone_sound (pair_of name) (name_ms cadence name) ++ (xs ++ rest))
     (silent-sound cadence.gap_ms)
 

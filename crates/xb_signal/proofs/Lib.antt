@@ -1,8 +1,10 @@
 pub mod Ranges
+pub mod Sums
 pub mod Waves
 pub mod ReadTones
 pub mod TakenWords
 pub mod Plain
+pub mod PlainKeys
 pub mod Sines
 pub mod HeardNames
 pub mod Parts

@@ -11,7 +11,7 @@ use Rattle.xb_signal.specs.declared.setting.Setting.{Setting}
 use Rattle.xb_signal.specs.Noises.{state_after}
 use Rattle.xb_signal.specs.Segments.{samples_in, segment_sound, signal_from}
 use Rattle.xb_signal.specs.SignalLaws.{FilesAreAsLong}
-use Rattle.xb_signal.specs.Waves.{sample_at}
+use Rattle.xb_signal.specs.OneSample.{sample_at}
 use Rattle.xb_signal.specs.Writings.{bytes_of, head_before}
 
 -- the state of the noise after segments
@@ -42,7 +42,7 @@ length-signal setting state (segment ∷ later) =
     let after : ℕ = state_after state (segment.ms * 8) in
     length-append (segment_sound setting state segment) (signal_from setting after later)
     ∙ ap (λ (n : ℕ). n + length (signal_from setting after later))
-    (length-map-range_with_len (λ n. sample_at setting state segment.tones n) 0 (segment.ms * 8))
+    (length-map-range_with_len (λ n. sample_at setting state segment.sound n) 0 (segment.ms * 8))
     ∙ ap (λ (n : ℕ). segment.ms * 8 + n) (length-signal setting after later)
     ∙ sym (sum_by-cons (λ (s : Segment). s.ms * 8) segment later)
 

@@ -10,12 +10,16 @@ use Rattle.xb_sound.specs.Sines.{pair_sample, sine_at, sine_sample, sine_table}
 use Rattle.xb_sound.specs.Sounds.{silence, tone_sound}
 use Rattle.xb_sound.proofs.SineTables.{holds_below, sine_at-small}
 use Rattle.xb_signal.specs.declared.segment.Segment.{Segment}
+use Rattle.xb_signal.specs.declared.segment.Sound.{Sound}
+use Rattle.xb_signal.specs.declared.segment.Sound.TheVariants.{Keyed, Written}
 use Rattle.xb_signal.specs.Noises.{noise, state_after, word_of}
 use Rattle.xb_signal.specs.Segments.{signal_from}
 use Rattle.xb_signal.specs.Settings.{standard_setting}
 use Rattle.xb_signal.specs.SignalLaws.{QuarterIsRound, WavesAreSines, lie_on_circle}
-use Rattle.xb_signal.specs.Waves.{cut, mixed, quarter, sample_at, scaled, wave_at, wave_sample}
+use Rattle.xb_signal.specs.OneSample.{clean_sample, cut, sample_at}
+use Rattle.xb_signal.specs.Waves.{mixed, quarter, scaled, wave_at, wave_sample}
 use Rattle.xb_signal.proofs.Plain.{plain_sample, plain_sound, plain_tones}
+use Rattle.xb_signal.proofs.PlainKeys.{plain_keys_are_written}
 
 same : (x y : ℤ) → unsigned_abs (x -ℤ y) ≤ 0 → x ≡ y
 same x y near = omega (arith, ints)
@@ -86,8 +90,12 @@ clean-pair a b n =
 pub pair-small : (a b n : ℕ) → unsigned_abs (pair_sample (pair (a * 100) (b * 100)) n) ≤ 20000
 pair-small a b n = sum-small (sine_sample (a * 100) n) (sine_sample (b * 100) n) (sine_at-small _) (sine_at-small _)
 
-pair-wave : (a b n : ℕ) → plain_sample (a * 100 ∷ b * 100 ∷ []) n ≡ pair_sample (pair (a * 100) (b * 100)) n
-pair-wave a b n = ap cut (clean-pair a b n) ∙ cut-small (pair_sample (pair (a * 100) (b * 100)) n) (pair-small a b n)
+pair-wave : (a b n : ℕ)
+    → plain_sample (Keyed (pair (a * 100) (b * 100))) n ≡ pair_sample (pair (a * 100) (b * 100)) n
+pair-wave a b n =
+    ap cut (plain_keys_are_written standard_setting (pair (a * 100) (b * 100)) n
+    (record { pitch = refl; low = refl; high = refl; hole = refl }) ∙ clean-pair a b n)
+    ∙ cut-small (pair_sample (pair (a * 100) (b * 100)) n) (pair-small a b n)
 
 pub same-waves : (f g : ℕ → ℤ) → ((n : ℕ) → f n ≡ g n) → (m i : ℕ)
     → map f (range_with_len i m) ≡ map g (range_with_len i m)
@@ -98,9 +106,9 @@ same-waves f g is (suc m) i =
 
 -- two frequencies sound as the tone of a mark
 pub pair-sound : (a b ms : ℕ)
-    → plain_tones (a * 100 ∷ b * 100 ∷ []) ms ≡ tone_sound (pair (a * 100) (b * 100)) ms
+    → plain_tones (Keyed (pair (a * 100) (b * 100))) ms ≡ tone_sound (pair (a * 100) (b * 100)) ms
 pair-sound a b ms =
-    same-waves (λ n. plain_sample (a * 100 ∷ b * 100 ∷ []) n) (λ n. pair_sample (pair (a * 100) (b * 100)) n)
+    same-waves (λ n. plain_sample (Keyed (pair (a * 100) (b * 100))) n) (λ n. pair_sample (pair (a * 100) (b * 100)) n)
     (pair-wave a b) (ms * 8) 0
 
 zeros : (f : ℕ → ℤ) → ((n : ℕ) → f n ≡ pos 0) → (m i : ℕ) → map f (range_with_len i m) ≡ replicate m (pos 0)
@@ -110,8 +118,8 @@ zeros f is (suc m) i =
     ∙ ap (λ (xs : List ℤ). pos 0 ∷ xs) (zeros f is m (i + 1))
 
 -- no frequency is silence
-pub silent-sound : (ms : ℕ) → plain_tones [] ms ≡ silence ms
-silent-sound ms = zeros (λ n. plain_sample [] n) (λ n. refl) (ms * 8) 0
+pub silent-sound : (ms : ℕ) → plain_tones (Written []) ms ≡ silence ms
+silent-sound ms = zeros (λ n. plain_sample (Written []) n) (λ n. refl) (ms * 8) 0
 
 -- without noise the state counts for nothing
 no-noise : (state n : ℕ) → noise 0 state n ≡ pos 0
@@ -123,9 +131,9 @@ no-noise state n =
 plus-none : (x : ℤ) → x +ℤ pos 0 ≡ x
 plus-none x = omega (arith, ints)
 
-plain-at : (state : ℕ) (tones : List ℕ) (n : ℕ) → sample_at standard_setting state tones n ≡ plain_sample tones n
-plain-at state tones n =
-    let clean = mixed 10000 10000 tones n in
+plain-at : (state : ℕ) (sound : Sound) (n : ℕ) → sample_at standard_setting state sound n ≡ plain_sample sound n
+plain-at state sound n =
+    let clean = clean_sample standard_setting sound n in
     ap (λ (x : ℤ). cut (clean +ℤ x)) (no-noise state n) ∙ ap cut (plus-none clean)
 
 pub plain-signal : (state : ℕ) (segments : List Segment)
@@ -134,6 +142,6 @@ plain-signal state [] = refl
 plain-signal state (segment ∷ later) =
     let after = state_after state (segment.ms * 8) in
     ap (λ (xs : List ℤ). xs ++ signal_from standard_setting after later)
-    (same-waves (λ n. sample_at standard_setting state segment.tones n) (λ n. plain_sample segment.tones n)
-    (plain-at state segment.tones) (segment.ms * 8) 0)
+    (same-waves (λ n. sample_at standard_setting state segment.sound n) (λ n. plain_sample segment.sound n)
+    (plain-at state segment.sound) (segment.ms * 8) 0)
     ∙ ap (λ (xs : List ℤ). plain_sound segment ++ xs) (plain-signal after later)

@@ -1,7 +1,9 @@
 pub mod Noises
-pub mod Settings
 pub mod Levels
 pub mod Waves
+pub mod Shapes
+pub mod Settings
+pub mod OneSample
 pub mod Segments
 pub mod Names
 pub mod Words

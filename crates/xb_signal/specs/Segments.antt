@@ -3,20 +3,22 @@ use Rattle.std.specs.Prelude.{ℕ, ◌+◌, ◌*◌, List, [], ◌∷◌, ◌++�
 use Rattle.std.specs.List.{list_all, range_with_len, sum_by}
 use Rattle.xb_model.specs.declared.key.Tone.{Tone as Pair}
 use Rattle.xb_signal.specs.declared.segment.Segment.{Segment}
+use Rattle.xb_signal.specs.declared.segment.Sound.{Sound}
+use Rattle.xb_signal.specs.declared.segment.Sound.TheVariants.{Written, Keyed}
 use Rattle.xb_signal.specs.declared.setting.Setting.{Setting}
 use Rattle.xb_signal.specs.Noises.{state_after}
-use Rattle.xb_signal.specs.Waves.{has_room, mixed, sample_at}
+use Rattle.xb_signal.specs.OneSample.{clean_sample, has_room, sample_at}
 
 abbrev pub silent : ℕ → Segment
-silent ms = record { tones = []; ms = ms }
+silent ms = record { sound = Written []; ms = ms }
 
 abbrev pub pair_segment : Pair → ℕ → Segment
-pair_segment pair ms = record { tones = pair.low ∷ pair.high ∷ []; ms = ms }
+pair_segment pair ms = record { sound = Keyed pair; ms = ms }
 
 -- all frequencies begin at 0, and are not broken until they end; the noise goes on from its state
 abbrev pub segment_sound : Setting → ℕ → Segment → List ℤ
 segment_sound setting state segment =
-    map (λ n. sample_at setting state segment.tones n) (range_with_len 0 (segment.ms * 8))
+    map (λ n. sample_at setting state segment.sound n) (range_with_len 0 (segment.ms * 8))
 
 -- one segment after the other, and with each sample the state of the noise goes on by one step
 abbrev pub signal_from : Setting → ℕ → List Segment → List ℤ
@@ -36,9 +38,9 @@ abbrev pub file_length : List Segment → ℕ
 file_length segments = 2 * samples_in segments + 44
 
 -- whether each sample has 16 bits before it is cut, whatever its noise is
-abbrev pub tones_fit : Setting → List ℕ → ℕ → Bool
-tones_fit setting tones ms =
-    list_all (λ n. has_room setting.noise_peak (mixed setting.low setting.high tones n)) (range_with_len 0 (ms * 8))
+abbrev pub sound_fits : Setting → Sound → ℕ → Bool
+sound_fits setting sound ms =
+    list_all (λ n. has_room setting.noise_peak (clean_sample setting sound n)) (range_with_len 0 (ms * 8))
 
 abbrev pub all_fit : Setting → List Segment → Bool
-all_fit setting segments = list_all (λ (segment : Segment). tones_fit setting segment.tones segment.ms) segments
+all_fit setting segments = list_all (λ (segment : Segment). sound_fits setting segment.sound segment.ms) segments

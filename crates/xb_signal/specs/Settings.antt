@@ -1,6 +1,14 @@
 -- How signals sound unless something else is asked for.
 use Rattle.std.specs.Prelude.{false}
 use Rattle.xb_signal.specs.declared.setting.Setting.{Setting}
+use Rattle.xb_signal.specs.Shapes.{standard_shape}
 
 abbrev pub standard_setting : Setting
-standard_setting = record { low = 10000; high = 10000; noise_peak = 0; seed = 0; clip = false }
+standard_setting = record {
+  low = 10000;
+  high = 10000;
+  shape = standard_shape;
+  noise_peak = 0;
+  seed = 0;
+  clip = false;
+}

@@ -2,8 +2,10 @@
 use Rattle.std.specs.Prelude.{◌≡◌, ℕ, ◌+◌, ◌*◌, ◌^◌, List, [], ◌∷◌, Bool, true, ◌&&◌, codes, map, nat_le, reverse, Ok, ℤ}
 use Rattle.std.specs.List.{AllByRecursion, flat_map}
 use Rattle.xb_model.specs.declared.key.Key.{Key as PageKey}
+use Rattle.xb_model.specs.declared.key.Tone.{Tone as Pair}
 use Rattle.xb_model.specs.declared.mark.Mark.TheVariants.{Trunk}
 use Rattle.xb_model.specs.Keyings.{tone}
+use Rattle.xb_model.specs.MfPairs.{pair}
 use Rattle.xb_sound.specs.declared.cadence.Cadence.{Cadence}
 use Rattle.xb_sound.specs.Cadences.{IsLawful}
 use Rattle.xb_sound.specs.HeardKeys.{IsKey, frequencies_of, keys_heard}
@@ -17,8 +19,11 @@ use Rattle.xb_signal.specs.declared.name.Name.TheVariants.{Key, Kp2, StPrime, St
 use Rattle.xb_signal.specs.Names.{pair_of}
 use Rattle.xb_signal.specs.declared.segment.Segment.{Segment}
 use Rattle.xb_signal.specs.declared.setting.Setting.{Setting}
-use Rattle.xb_signal.specs.Segments.{file_length, signal_of, silent}
+use Rattle.xb_signal.specs.declared.segment.Sound.TheVariants.{Keyed, Written}
+use Rattle.xb_signal.specs.Segments.{file_length, pair_segment, signal_of, silent}
 use Rattle.xb_signal.specs.Settings.{standard_setting}
+use Rattle.xb_signal.specs.OneSample.{clean_sample}
+use Rattle.xb_signal.specs.declared.shape.Shape.{Shape}
 use Rattle.xb_signal.specs.Texts.{segments_of_text}
 use Rattle.xb_signal.specs.Waves.{quarter, wave_sample}
 use Rattle.xb_signal.specs.Words.{key_segments}
@@ -69,6 +74,18 @@ abbrev pub NamesAreHeard : Type 0
 NamesAreHeard = (cadence : Cadence) (names : List Name) → IsLawful cadence → AllByRecursion IsName names
     → heard (named cadence names) ≡ map (λ name. frequencies_of (pair_of name)) names
 
+-- nothing disturbs the tones of a key: no hole does that has 0 ms, wherever it is
+pub record IsPlain (shape : Shape) : Type 0 where
+  pub pitch : shape.pitch ≡ 1000
+  pub low : shape.low_late_ms ≡ 0
+  pub high : shape.high_late_ms ≡ 0
+  pub hole : shape.hole_ms ≡ 0
+
+-- then a key sounds as its two frequencies that are written
+abbrev pub PlainKeysAreWritten : Type 0
+PlainKeysAreWritten = (setting : Setting) (tones : Pair) (n : ℕ) → IsPlain setting.shape
+    → clean_sample setting (Keyed tones) n ≡ clean_sample setting (Written (tones.low ∷ tones.high ∷ [])) n
+
 -- the WAV file of a signal is as long as is said beforehand
 abbrev pub FilesAreAsLong : Type 0
 FilesAreAsLong = (setting : Setting) (segments : List Segment)
@@ -78,9 +95,9 @@ FilesAreAsLong = (setting : Setting) (segments : List Segment)
 abbrev pub WorkedText : Type 0
 WorkedText = segments_of_text short standard_setting (codes "KP 40 ST'' 2600+2400:3 silence:2") ≡ Ok (
     silent 1
-    ∷ record { tones = 1100 ∷ 1700 ∷ []; ms = 1 } ∷ silent 1
-    ∷ record { tones = 700 ∷ 1300 ∷ []; ms = 1 } ∷ silent 1
-    ∷ record { tones = 1300 ∷ 1500 ∷ []; ms = 1 } ∷ silent 1
-    ∷ record { tones = 1300 ∷ 1700 ∷ []; ms = 1 } ∷ silent 1
-    ∷ record { tones = 2600 ∷ 2400 ∷ []; ms = 3 }
+    ∷ pair_segment (pair 1100 1700) 1 ∷ silent 1
+    ∷ pair_segment (pair 700 1300) 1 ∷ silent 1
+    ∷ pair_segment (pair 1300 1500) 1 ∷ silent 1
+    ∷ pair_segment (pair 1300 1700) 1 ∷ silent 1
+    ∷ record { sound = Written (2600 ∷ 2400 ∷ []); ms = 3 }
     ∷ silent 2 ∷ [])

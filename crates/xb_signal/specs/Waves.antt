@@ -1,8 +1,6 @@
 -- Sines of whole Hz, at 8,000 samples a second.
-use Rattle.std.specs.Prelude.{ℕ, ◌+◌, ◌*◌, ◌/◌, ◌%◌, ◌-◌, List, [], ◌∷◌, Bool, if◌then◌else◌, nat_le, slice_index_or, ℤ, pos, negsuc, neg_ℤ, ◌+ℤ◌, ◌-ℤ◌, ◌&&◌, unsigned_abs}
+use Rattle.std.specs.Prelude.{ℕ, ◌+◌, ◌*◌, ◌/◌, ◌%◌, ◌-◌, List, [], ◌∷◌, if◌then◌else◌, nat_le, slice_index_or, ℤ, pos, negsuc, neg_ℤ, ◌+ℤ◌, unsigned_abs}
 use Rattle.xb_signal.specs.declared.quarter.TheConstants.{QUARTER}
-use Rattle.xb_signal.specs.declared.setting.Setting.{Setting}
-use Rattle.xb_signal.specs.Noises.{noise}
 
 -- 10,000 times the sine of each sample of the first quarter of a period of 1 Hz, rounded, from 0 to 2,000
 unfoldable pub quarter : List ℕ
@@ -41,21 +39,3 @@ chorus amplitude (hz ∷ more) n = scaled amplitude (wave_sample hz n) +ℤ chor
 abbrev pub mixed : ℕ → ℕ → List ℕ → ℕ → ℤ
 mixed low high [] n = pos 0
 mixed low high (first ∷ further) n = scaled low (wave_sample first n) +ℤ chorus high further n
-
--- whether a sample has 16 bits
-abbrev pub fits : ℤ → Bool
-fits (pos x) = nat_le x 32767
-fits (negsuc x) = nat_le x 32767
-
--- a sample, or where it has more than 16 bits the greatest or the least that has not
-abbrev pub cut : ℤ → ℤ
-cut (pos x) = if nat_le x 32767 then pos x else pos 32767
-cut (negsuc x) = if nat_le x 32767 then negsuc x else negsuc 32767
-
--- sample n of frequencies, and of the noise after a state
-abbrev pub sample_at : Setting → ℕ → List ℕ → ℕ → ℤ
-sample_at setting state tones n = cut (mixed setting.low setting.high tones n +ℤ noise setting.noise_peak state n)
-
--- whether a sample has 16 bits with any noise up to the peak
-abbrev pub has_room : ℕ → ℤ → Bool
-has_room peak sample = fits (sample +ℤ pos peak) && fits (sample -ℤ pos peak)

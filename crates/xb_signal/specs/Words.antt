@@ -7,6 +7,7 @@ use Rattle.xb_model.specs.Digits.{digit_of_ascii}
 use Rattle.xb_signal.specs.declared.name.Name.{Name}
 use Rattle.xb_signal.specs.declared.name.Name.TheVariants.{Key}
 use Rattle.xb_signal.specs.declared.segment.Segment.{Segment}
+use Rattle.xb_signal.specs.declared.segment.Sound.TheVariants.{Written}
 use Rattle.xb_signal.specs.declared.segment.TheConstants.{MOST_TONES}
 use Rattle.xb_signal.specs.declared.word.TheConstants.{MOST_HZ, MOST_MS}
 use Rattle.xb_signal.specs.Names.{name_ms, name_of, pair_of}
@@ -34,7 +35,7 @@ tones_of text =
 abbrev pub segment_with : List ℕ → ℕ → Option Segment
 segment_with what ms =
     if bytes_eq what (codes "silence") then Some (silent ms)
-    else option_map (λ tones. record { tones = tones; ms = ms }) (tones_of what)
+    else option_map (λ tones. record { sound = Written tones; ms = ms }) (tones_of what)
 
 abbrev pub segment_of : List ℕ → Option Segment
 segment_of word =

@@ -1,7 +1,7 @@
 //! What the definitions give: each law is the contract of a function that does nothing.
 ghost use Rattle.xb_signal.specs.Levels.{AmplitudesAreRounded};
 ghost use Rattle.xb_signal.specs.Noises.{NoiseGoesOn};
-ghost use Rattle.xb_signal.specs.SignalLaws.{FilesAreAsLong, KeysAreHeard, KeysSoundAsMarks, NamesAreHeard, QuarterIsRound, WavesAreSines, WorkedText};
+ghost use Rattle.xb_signal.specs.SignalLaws.{FilesAreAsLong, KeysAreHeard, KeysSoundAsMarks, NamesAreHeard, PlainKeysAreWritten, QuarterIsRound, WavesAreSines, WorkedText};
 
 /// The quarter is one of a sine, and of a multiple of 100 Hz each sample is that of the tones of marks.
 #[tactic(auto, using(crate::proofs::Sines::waves_are_sines, crate::proofs::Sines::quarter_is_round))]
@@ -15,6 +15,12 @@ pub fn names_are_heard()
     ensures marks { KeysSoundAsMarks }
     ensures keys { KeysAreHeard }
     ensures names { NamesAreHeard }
+{}
+
+/// A key that is not detuned, whose tones begin with it and whose hole has 0 ms, sounds as its two frequencies.
+#[tactic(auto, using(crate::proofs::PlainKeys::plain_keys_are_written))]
+pub fn plain_keys_are_written()
+    ensures { PlainKeysAreWritten }
 {}
 
 /// What sounds by a text.

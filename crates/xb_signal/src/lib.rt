@@ -21,14 +21,17 @@
 
 mod block;
 mod fault;
+mod keyed;
 pub mod laws;
 mod level;
 mod name;
 mod noise;
 mod quarter;
+mod sample;
 mod samples;
 mod segment;
 mod setting;
+mod shape;
 mod text;
 mod wave;
 mod word;
@@ -38,8 +41,9 @@ pub use fault::{KeysFault, Place, SignalFault};
 pub use level::amplitude_of;
 pub use name::{Name, pair_of};
 pub use samples::all_fit;
-pub use segment::{MOST_TONES, Segment, Tones};
+pub use segment::{MOST_TONES, Segment, Sound, Tones};
 pub use setting::Setting;
+pub use shape::Shape;
 pub use text::segments_of_text;
 pub use wave::{wave_at, wave_sample};
 pub use word::{MOST_HZ, MOST_MS};

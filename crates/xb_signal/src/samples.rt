@@ -1,21 +1,17 @@
 // Whether the samples of segments have 16 bits.
-ghost use Rattle.std.specs.Prelude.{◌≡◌, ◌≤◌, length};
-ghost use Rattle.xb_signal.specs.Segments.{all_fit, tones_fit};
+ghost use Rattle.std.specs.Prelude.{◌≡◌};
+ghost use Rattle.xb_signal.specs.Segments.{all_fit, sound_fits};
 
-use crate::segment::{MOST_TONES, Segment};
+use crate::sample::{clean_sample, has_room};
+use crate::segment::{SAMPLES_PER_MS, Segment, Sound};
 use crate::setting::Setting;
-use crate::wave::{has_room, mixed};
 
-// How many samples a ms has.
-pub(crate) const SAMPLES_PER_MS: u32 = 8;
-
-// Whether each sample of frequencies that sound together has 16 bits, whatever its noise is.
-fn tones_fit(setting: &Setting, tones: &[u16], ms: u16) -> bool
-    requires { length tones.now ≤ MOST_TONES }
-    ensures { result ≡ tones_fit setting.now tones.now ms }
+// Whether each sample of what sounds for a time has 16 bits, whatever its noise is.
+fn sound_fits(setting: &Setting, sound: &Sound, ms: u16) -> bool
+    ensures { result ≡ sound_fits setting.now sound.now ms }
 {
     for n in 0..u32::from(ms) * SAMPLES_PER_MS {
-        let clean = mixed(setting.low, setting.high, tones, n);
+        let clean = clean_sample(setting, sound, n);
         if !has_room(setting.noise_peak, clean) {
             return false;
         }
@@ -28,7 +24,7 @@ pub fn all_fit(setting: &Setting, segments: &[Segment]) -> bool
     ensures { result ≡ all_fit setting.now segments.now }
 {
     for segment in segments {
-        if !tones_fit(setting, segment.tones.hz(), segment.ms) {
+        if !sound_fits(setting, &segment.sound, segment.ms) {
             return false;
         }
     }

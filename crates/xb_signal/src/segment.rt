@@ -6,6 +6,9 @@ use arrayvec::ArrayVec;
 use std::marker::Model;
 use xb_model::Tone;
 
+// How many samples a ms has.
+pub(crate) const SAMPLES_PER_MS: u32 = 8;
+
 /// The most frequencies that sound together.
 pub const MOST_TONES: usize = 6;
 
@@ -52,11 +55,20 @@ impl Tones {
     }
 }
 
-/// What sounds for a time: each of its frequencies begins at 0.
+/// What sounds: frequencies from a start at 0.
+#[derive(Drop)]
+pub enum Sound {
+    /// Frequencies as they are written. It is silent where there are none.
+    Written(Tones),
+    /// The two frequencies of a key, which a setting may disturb.
+    Keyed(Tone),
+}
+
+/// What sounds for a time.
 #[derive(Drop)]
 pub struct Segment {
-    /// The frequencies. It is silent where there are none.
-    pub tones: Tones,
+    /// What sounds.
+    pub sound: Sound,
     /// The time, in ms.
     pub ms: u16,
 }
@@ -67,7 +79,7 @@ impl Segment {
         ensures { result ≡ silent ms }
     {
         Segment {
-            tones: Tones::new(),
+            sound: Sound::Written(Tones::new()),
             ms,
         }
     }
@@ -76,9 +88,9 @@ impl Segment {
     pub fn pair(tone: Tone, ms: u16) -> Segment
         ensures { result ≡ pair_segment tone ms }
     {
-        let mut tones = Tones::new();
-        tones.push(tone.low);
-        tones.push(tone.high);
-        Segment { tones, ms }
+        Segment {
+            sound: Sound::Keyed(tone),
+            ms,
+        }
     }
 }

@@ -2,6 +2,8 @@
 ghost use Rattle.std.specs.Prelude.{◌≡◌};
 ghost use Rattle.xb_signal.specs.Settings.{standard_setting};
 
+use crate::shape::Shape;
+
 /// How loud the tones of a signal are, and what is added to its samples.
 #[derive(Clone, Copy, Debug, PartialEq, Eq)]
 pub struct Setting {
@@ -9,6 +11,8 @@ pub struct Setting {
     pub low: u16,
     /// The amplitude of each further one, so of the high one of a key.
     pub high: u16,
+    /// How the tones of each key are disturbed.
+    pub shape: Shape,
     /// The greatest noise that is added to a sample, or taken from it. 0 is none.
     pub noise_peak: u16,
     /// Which noise it is: the state that the generator begins in.
@@ -18,13 +22,14 @@ pub struct Setting {
 }
 
 impl Setting {
-    /// Each frequency at -7.2 dBm0, and nothing added.
+    /// Each frequency at -7.2 dBm0, nothing disturbed, and nothing added.
     pub fn standard() -> Setting
         ensures { result ≡ standard_setting }
     {
         Setting {
             low: 10_000,
             high: 10_000,
+            shape: Shape::standard(),
             noise_peak: 0,
             seed: 0,
             clip: false,

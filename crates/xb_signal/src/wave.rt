@@ -1,11 +1,9 @@
-// One sample of a sine of whole Hz, of frequencies that sound together, and of 16 bits.
+// One sample of a sine of whole Hz, and of frequencies that sound together.
 ghost use Rattle.std.specs.Prelude.{◌≡◌, ◌<◌, ◌≤◌, ◌*◌, length, unsigned_abs};
-ghost use Rattle.xb_signal.specs.Waves.{chorus, cut, fits, has_room, mixed, quarter_at, sample_at, scaled, wave_at, wave_sample};
+ghost use Rattle.xb_signal.specs.Waves.{chorus, mixed, quarter_at, scaled, wave_at, wave_sample};
 
-use crate::noise::noise;
 use crate::quarter::QUARTER;
 use crate::segment::MOST_TONES;
-use crate::setting::Setting;
 
 // The sample at a place of the first quarter of a period of 1 Hz.
 fn quarter_at(place: usize) -> u16
@@ -34,7 +32,7 @@ pub fn wave_at(place: usize) -> i16
 }
 
 /// Sample n of a frequency in whole Hz, from a start at 0.
-pub fn wave_sample(hz: u16, n: u32) -> i16
+pub fn wave_sample(hz: u32, n: u32) -> i16
     ensures value { result ≡ wave_sample hz n }
     ensures bound { unsigned_abs result ≤ 10000 }
 {
@@ -43,7 +41,7 @@ pub fn wave_sample(hz: u16, n: u32) -> i16
 }
 
 // A sample of the table at an amplitude, rounded.
-fn scaled(amplitude: u16, sample: i16) -> i32
+pub(crate) fn scaled(amplitude: u16, sample: i16) -> i32
     requires { unsigned_abs sample ≤ 10000 }
     ensures value { result ≡ scaled amplitude sample }
     ensures bound { unsigned_abs result ≤ 65535 }
@@ -64,7 +62,7 @@ fn chorus(amplitude: u16, tones: &[u16], n: u32) -> i32
 {
     let mut sum = 0i32;
     for hz in tones {
-        sum += scaled(amplitude, wave_sample(*hz, n));
+        sum += scaled(amplitude, wave_sample(u32::from(*hz), n));
     }
     sum
 }
@@ -76,45 +74,9 @@ pub(crate) fn mixed(low: u16, high: u16, tones: &[u16], n: u32) -> i32
     ensures bound { unsigned_abs result ≤ 393210 }
 {
     match tones.split_first() {
-        Some((first, further)) => { scaled(low, wave_sample(*first, n)) + chorus(high, further, n) }
+        Some((first, further)) => {
+            scaled(low, wave_sample(u32::from(*first), n)) + chorus(high, further, n)
+        }
         None => 0,
     }
-}
-
-// Whether a sample has 16 bits.
-fn fits(sample: i32) -> bool
-    ensures { result ≡ fits sample }
-{
-    -32_768 <= sample && sample <= 32_767
-}
-
-// A sample, or where it has more than 16 bits the greatest or the least that has not.
-fn cut(sample: i32) -> i16
-    ensures { result ≡ cut sample }
-{
-    if sample > 32_767 {
-        32_767
-    } else if sample < -32_768 {
-        -32_768
-    } else {
-        sample as i16
-    }
-}
-
-// Sample n of frequencies, and of the noise after a state.
-pub(crate) fn sample_at(setting: &Setting, state: u64, tones: &[u16], n: u32) -> i16
-    requires few { length tones.now ≤ MOST_TONES }
-    requires place { n < 524288 }
-    ensures { result ≡ sample_at setting.now state tones.now n }
-{
-    let clean = mixed(setting.low, setting.high, tones, n);
-    cut(clean + noise(setting.noise_peak, state, n))
-}
-
-// Whether a sample has 16 bits with any noise up to the peak.
-pub(crate) fn has_room(peak: u16, sample: i32) -> bool
-    requires { unsigned_abs sample ≤ 393210 }
-    ensures { result ≡ has_room peak sample }
-{
-    fits(sample + i32::from(peak)) && fits(sample - i32::from(peak))
 }

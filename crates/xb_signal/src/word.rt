@@ -4,7 +4,7 @@ ghost use Rattle.std.specs.List.{list_all};
 ghost use Rattle.xb_signal.specs.Words.{digit_segments, is_digits, key_segments, number_within, segment_of, tones_of};
 
 use crate::name::{Name, name_ms, pair_of};
-use crate::segment::{MOST_TONES, Segment, Tones};
+use crate::segment::{MOST_TONES, Segment, Sound, Tones};
 use std::alloc::AllocError;
 use xb_contact::{is_digit, number_of};
 use xb_model::{Digit, Key};
@@ -56,8 +56,8 @@ pub(crate) fn segment_of(word: &[u8]) -> Option<Segment>
     if what == b"silence".as_slice() {
         Some(Segment::silent(ms))
     } else {
-        let tones = tones_of(what)?;
-        Some(Segment { tones, ms })
+        let sound = Sound::Written(tones_of(what)?);
+        Some(Segment { sound, ms })
     }
 }
 

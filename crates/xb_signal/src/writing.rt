@@ -6,16 +6,15 @@ ghost use Rattle.xb_text.specs.Writing.{AppendsBeginning};
 ghost use Rattle.xb_sound.specs.Wavs.{pcm_of};
 ghost use Rattle.xb_signal.specs.Segments.{file_length, samples_in, segment_sound, signal_of};
 ghost use Rattle.xb_signal.specs.Noises.{state_after};
-ghost use Rattle.xb_signal.specs.Waves.{sample_at};
+ghost use Rattle.xb_signal.specs.OneSample.{sample_at};
 ghost use Rattle.xb_signal.specs.Writings.{bytes_of, head_before};
 
 use crate::block::{BLOCK_SAMPLES, Block};
 use crate::fault::SignalFault;
 use crate::noise::state_after;
-use crate::samples::SAMPLES_PER_MS;
-use crate::segment::{MOST_TONES, Segment};
+use crate::sample::sample_at;
+use crate::segment::{SAMPLES_PER_MS, Segment, Sound};
 use crate::setting::Setting;
-use crate::wave::sample_at;
 use std::alloc::Global;
 use std::io::Write;
 use xb_sound::{HEADER_BYTES, push_header};
@@ -68,18 +67,17 @@ fn head_before(alloc: Global, raw: bool, segments: &[Segment]) -> Result<Vec<u8>
     Ok(head)
 }
 
-// The bytes of the samples of frequencies, from one sample up to another, with the noise after a state.
-fn block_of(setting: &Setting, state: u64, tones: &[u16], from: u32, end: u32) -> Block
-    requires few { length tones.now ≤ MOST_TONES }
+// The bytes of the samples of what sounds, from one sample up to another, with the noise after a state.
+fn block_of(setting: &Setting, state: u64, sound: &Sound, from: u32, end: u32) -> Block
     requires order { from ≤ end }
     requires room { end ≤ from + BLOCK_SAMPLES }
     requires places { end ≤ 524288 }
-    ensures { result ≡ pcm_of (map (λ n. sample_at setting.now state tones.now n)
+    ensures { result ≡ pcm_of (map (λ n. sample_at setting.now state sound.now n)
         (range_with_len from (end - from))) }
 {
     let mut block = Block::new();
     for n in from..end {
-        block.push(sample_at(setting, state, tones, n));
+        block.push(sample_at(setting, state, sound, n));
     }
     block
 }
@@ -100,7 +98,7 @@ fn write_segment<W: Write>(
     let mut from = 0u32;
     while from < samples {
         let end = samples.min(from + BLOCK_SAMPLES);
-        let block = block_of(setting, state, segment.tones.hz(), from, end);
+        let block = block_of(setting, state, &segment.sound, from, end);
         write_whole(out, block.bytes())?;
         from = end;
     }

@@ -12,11 +12,16 @@ use Rattle.xb_sound.specs.HeardKeys.{AreKeyed, IsKey}
 use Rattle.xb_ear.specs.Disturbed.{IsNear}
 use Rattle.xb_ear.proofs.WholeSounds.{noisy_keys_are_heard as near_keys_are_heard}
 use Rattle.xb_signal.specs.declared.segment.Segment.{Segment}
+use Rattle.xb_signal.specs.declared.segment.Sound.{Sound}
+use Rattle.xb_signal.specs.declared.segment.Sound.TheVariants.{Keyed, Written}
 use Rattle.xb_signal.specs.declared.setting.Setting.{Setting}
+use Rattle.xb_signal.specs.declared.shape.Shape.{Shape}
 use Rattle.xb_signal.specs.Noises.{noise, state_after, word_of}
 use Rattle.xb_signal.specs.Segments.{segment_sound, signal_from}
 use Rattle.xb_signal.specs.Settings.{standard_setting}
-use Rattle.xb_signal.specs.Waves.{cut, mixed, sample_at}
+use Rattle.xb_signal.specs.OneSample.{clean_sample, cut, sample_at}
+use Rattle.xb_signal.specs.Shapes.{keyed_sample}
+use Rattle.xb_signal.specs.Waves.{mixed}
 use Rattle.xb_signal.proofs.HeardNames.{keys_sound_as_marks}
 use Rattle.xb_tone.specs.NoisyKeys.{IsQuiet, NoisyKeysAreHeard, keyed}
 
@@ -98,21 +103,40 @@ near-append n [] (y ∷ ys) us vs first later = absurd first
 near-append n (x ∷ xs) [] us vs first later = absurd first
 near-append n (x ∷ xs) (y ∷ ys) us vs first later = (first.0, near-append n xs ys us vs first.1 later)
 
+-- what nothing disturbs is as loud as ever
+clean-same : (setting : Setting) → IsQuiet setting → (sound : Sound) (n : ℕ)
+    → clean_sample setting sound n ≡ clean_sample standard_setting sound n
+clean-same setting quiet (Written tones) n =
+    ap (λ (low : ℕ). mixed low setting.high tones n) quiet.low
+    ∙ ap (λ (high : ℕ). mixed 10000 high tones n) quiet.high
+clean-same setting quiet (Keyed pair) n =
+    ap (λ (low : ℕ). keyed_sample low setting.high setting.shape pair n) quiet.low
+    ∙ ap (λ (high : ℕ). keyed_sample 10000 high setting.shape pair n) quiet.high
+    ∙ ap (λ (shape : Shape). keyed_sample 10000 10000 shape pair n) quiet.shape
+
+near-sample : (setting : Setting) → IsQuiet setting → (from to : ℕ) (sound : Sound) (n : ℕ)
+    → unsigned_abs (sample_at setting to sound n -ℤ sample_at standard_setting from sound n) ≤ setting.noise_peak
+near-sample setting quiet from to sound n =
+    let plain = sample_at standard_setting from sound n in
+    let peak : ℕ = setting.noise_peak in
+    subst (λ (clean : ℤ). unsigned_abs (cut (clean +ℤ noise peak to n) -ℤ plain) ≤ peak)
+    (sym (clean-same setting quiet sound n))
+    (noisy-sample peak (clean_sample standard_setting sound n) (noise peak to n) (noise 0 from n)
+    (noise-small peak to n) (noise-small 0 from n))
+
 -- a signal with noise is near the one without, whatever the states of the two are
-near-signal : (peak seed : ℕ) (clip : Bool) (from to : ℕ) (segments : List Segment)
-    → IsNear peak (signal_from standard_setting from segments)
-    (signal_from (record { low = 10000; high = 10000; noise_peak = peak; seed = seed; clip = clip }) to segments)
-near-signal peak seed clip from to [] = tt
-near-signal peak seed clip from to (segment ∷ later) =
-    let noisy : Setting = record { low = 10000; high = 10000; noise_peak = peak; seed = seed; clip = clip } in
+near-signal : (setting : Setting) → IsQuiet setting → (from to : ℕ) (segments : List Segment)
+    → IsNear setting.noise_peak (signal_from standard_setting from segments) (signal_from setting to segments)
+near-signal setting quiet from to [] = tt
+near-signal setting quiet from to (segment ∷ later) =
     let from_next : ℕ = state_after from (segment.ms * 8) in
     let to_next : ℕ = state_after to (segment.ms * 8) in
-    near-append peak (segment_sound standard_setting from segment) (segment_sound noisy to segment)
-    (signal_from standard_setting from_next later) (signal_from noisy to_next later)
-    (near-map peak (λ n. sample_at standard_setting from segment.tones n) (λ n. sample_at noisy to segment.tones n)
-    (λ n. noisy-sample peak (mixed 10000 10000 segment.tones n) (noise peak to n) (noise 0 from n)
-    (noise-small peak to n) (noise-small 0 from n)) (segment.ms * 8) 0)
-    (near-signal peak seed clip from_next to_next later)
+    near-append setting.noise_peak (segment_sound standard_setting from segment) (segment_sound setting to segment)
+    (signal_from standard_setting from_next later) (signal_from setting to_next later)
+    (near-map setting.noise_peak (λ n. sample_at standard_setting from segment.sound n)
+    (λ n. sample_at setting to segment.sound n) (λ n. near-sample setting quiet from to segment.sound n)
+    (segment.ms * 8) 0)
+    (near-signal setting quiet from_next to_next later)
 
 more-near : (n m : ℕ) → n ≤ m → (xs ys : List ℤ) → IsNear n xs ys → IsNear m xs ys
 more-near n m less [] [] near = tt
@@ -127,16 +151,8 @@ are-keyed (key ∷ keys) all = ((all.0, refl), are-keyed keys all.1)
 quiet-near : (setting : Setting) → IsQuiet setting → (segments : List Segment)
     → IsNear 277 (signal_from standard_setting 0 segments) (signal_from setting setting.seed segments)
 quiet-near setting quiet segments =
-    let peak : ℕ = setting.noise_peak in
-    let noisy : ℕ → ℕ → Setting =
-    λ low high. record { low = low; high = high; noise_peak = peak; seed = setting.seed; clip = setting.clip } in
-    let plain = signal_from standard_setting 0 segments in
-    let near : IsNear 277 plain (signal_from (noisy 10000 10000) setting.seed segments) =
-    more-near setting.noise_peak 277 quiet.noise plain (signal_from (noisy 10000 10000) setting.seed segments)
-    (near-signal setting.noise_peak setting.seed setting.clip 0 setting.seed segments) in
-    let low : IsNear 277 plain (signal_from (noisy setting.low 10000) setting.seed segments) =
-    subst (λ (a : ℕ). IsNear 277 plain (signal_from (noisy a 10000) setting.seed segments)) (sym quiet.low) near in
-    subst (λ (a : ℕ). IsNear 277 plain (signal_from (noisy setting.low a) setting.seed segments)) (sym quiet.high) low
+    more-near setting.noise_peak 277 quiet.noise (signal_from standard_setting 0 segments)
+    (signal_from setting setting.seed segments) (near-signal setting quiet 0 setting.seed segments)
 
 pub noisy_keys_are_heard : NoisyKeysAreHeard
 noisy_keys_are_heard cadence keys setting hearable all quiet =

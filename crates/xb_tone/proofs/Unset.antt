@@ -1,28 +1,66 @@
 -- Options that say nothing of how keys sound.
-use Rattle.std.proofs.Common.{◌≡◌, ℕ, Bool, true, false, Option, Some, None, refl, sym}
+use Rattle.std.proofs.Common.{◌≡◌, ℕ, Bool, true, false, Option, Some, None, refl, sym, ℤ}
 use Rattle.std.specs.Prelude.{◌||◌, is_some}
 use Rattle.std.proofs.lemmas.Bool.{false≢true}
 use Rattle.xb_signal.specs.Levels.{amplitudes}
 use Rattle.xb_signal.specs.Settings.{standard_setting}
-use Rattle.xb_tone.specs.declared.figure.Figure.{Figure}
-use Rattle.xb_tone.specs.declared.figure.Figure.TheVariants.{Absent, Wrong, Tenths}
-use Rattle.xb_tone.specs.Figures.{is_given}
+use Rattle.xb_tone.specs.declared.given.Given.{Given}
+use Rattle.xb_tone.specs.declared.given.Given.TheVariants.{Absent, Wrong, Said}
+use Rattle.xb_tone.specs.declared.manner.Hole.{Hole}
+use Rattle.xb_tone.specs.declared.manner.Manner.{Manner}
+use Rattle.xb_tone.specs.Givens.{is_given}
+use Rattle.xb_tone.specs.Manners.{has_manner, setting_of}
 use Rattle.xb_tone.specs.NoisyKeys.{NoOptionsAreStandard}
-use Rattle.xb_tone.specs.Options.{setting_by}
 
-unset : (level twist : Figure) (noise_peak seed : Option ℕ) (clip : Bool)
-    → (is_given level || is_given twist || is_some noise_peak || is_some seed || clip) ≡ false
-    → setting_by level twist noise_peak seed clip ≡ Some standard_setting
+-- what is not given is absent
+absent : {T : Type 0} (given : Given T) → is_given given ≡ false → given ≡ Absent
+absent Absent is = refl
+absent Wrong is = absurd (false≢true (sym is))
+absent (Said it) is = absurd (false≢true (sym is))
+
+none : (given : Option ℕ) → is_some given ≡ false → given ≡ None
+none None is = refl
+none (Some n) is = absurd (false≢true (sym is))
+
+neither : (b c : Bool) → (b || c) ≡ false → (b ≡ false) × (c ≡ false)
+neither false c is = (refl, is)
+neither true c is = absurd (false≢true (sym is))
+
+abbrev manner : Given ℤ → Given ℤ → Given ℤ → Given ℤ → Given Hole → Option ℕ → Option ℕ → Bool → Manner
+manner level twist detune skew hole noise_peak seed clip = record {
+  level = level;
+  twist = twist;
+  detune = detune;
+  skew = skew;
+  hole = hole;
+  noise_peak = noise_peak;
+  seed = seed;
+  clip = clip;
+}
+
+unset : (level twist detune skew : Given ℤ) (hole : Given Hole) (noise_peak seed : Option ℕ) (clip : Bool)
+    → level ≡ Absent → twist ≡ Absent → detune ≡ Absent → skew ≡ Absent → hole ≡ Absent
+    → noise_peak ≡ None → seed ≡ None → clip ≡ false
+    → setting_of (manner level twist detune skew hole noise_peak seed clip) ≡ Some standard_setting
 unfolding amplitudes
-unset Wrong twist noise_peak seed clip none = absurd (false≢true (sym none))
-unset (Tenths t) twist noise_peak seed clip none = absurd (false≢true (sym none))
-unset Absent Wrong noise_peak seed clip none = absurd (false≢true (sym none))
-unset Absent (Tenths t) noise_peak seed clip none = absurd (false≢true (sym none))
-unset Absent Absent (Some n) seed clip none = absurd (false≢true (sym none))
-unset Absent Absent None (Some n) clip none = absurd (false≢true (sym none))
-unset Absent Absent None None true none = absurd (false≢true (sym none))
-unset Absent Absent None None false none = refl
+unset level twist detune skew hole noise_peak seed clip a b c d e f g h =
+    rw a (rw b (rw c (rw d (rw e (rw f (rw g (rw h refl)))))))
 
 pub no_options_are_standard : NoOptionsAreStandard
-no_options_are_standard options none =
-    unset options.level options.twist options.noise_peak options.seed options.clip none
+no_options_are_standard m is =
+    let to_twist : Bool = is_given m.level || is_given m.twist in
+    let to_detune : Bool = to_twist || is_given m.detune in
+    let to_skew : Bool = to_detune || is_given m.skew in
+    let to_hole : Bool = to_skew || is_given m.hole in
+    let to_noise : Bool = to_hole || is_some m.noise_peak in
+    let to_seed : Bool = to_noise || is_some m.seed in
+    let h = neither to_seed m.clip is in
+    let g = neither to_noise (is_some m.seed) h.0 in
+    let f = neither to_hole (is_some m.noise_peak) g.0 in
+    let e = neither to_skew (is_given m.hole) f.0 in
+    let d = neither to_detune (is_given m.skew) e.0 in
+    let c = neither to_twist (is_given m.detune) d.0 in
+    let ab = neither (is_given m.level) (is_given m.twist) c.0 in
+    unset m.level m.twist m.detune m.skew m.hole m.noise_peak m.seed m.clip
+    (absent m.level ab.0) (absent m.twist ab.1) (absent m.detune c.1) (absent m.skew d.1) (absent m.hole e.1)
+    (none m.noise_peak f.1) (none m.seed g.1) h.1

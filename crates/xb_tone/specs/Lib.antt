@@ -1,4 +1,5 @@
-pub mod Figures
+pub mod Givens
+pub mod Manners
 pub mod Faults
 pub mod Options
 pub mod Rules

@@ -11,19 +11,21 @@ use Rattle.xb_signal.specs.declared.segment.Segment.{Segment}
 use Rattle.xb_signal.specs.declared.setting.Setting.{Setting}
 use Rattle.xb_signal.specs.Segments.{signal_of, silent}
 use Rattle.xb_signal.specs.Settings.{standard_setting}
+use Rattle.xb_signal.specs.Shapes.{standard_shape}
 use Rattle.xb_signal.specs.SignalLaws.{names_of}
 use Rattle.xb_signal.specs.Words.{key_segments}
-use Rattle.xb_tone.specs.declared.words.Options.{Options}
-use Rattle.xb_tone.specs.Options.{has_setting, setting_of}
+use Rattle.xb_tone.specs.declared.manner.Manner.{Manner}
+use Rattle.xb_tone.specs.Manners.{has_manner, setting_of}
 
 -- keys of a page, after the silence before them
 abbrev pub keyed : Cadence → List PageKey → List Segment
 keyed cadence keys = silent cadence.lead_ms ∷ flat_map (key_segments cadence) (names_of keys)
 
--- nothing but noise is added, and it is not greater than silence bears
+-- nothing is disturbed, and nothing but noise is added, which is not greater than silence bears
 pub record IsQuiet (setting : Setting) : Type 0 where
   pub low : setting.low ≡ 10000
   pub high : setting.high ≡ 10000
+  pub shape : setting.shape ≡ standard_shape
   pub noise : setting.noise_peak ≤ MOST_NOISE
 
 -- so just these keys are heard, whatever the seed is
@@ -34,4 +36,4 @@ NoisyKeysAreHeard = (cadence : Cadence) (keys : List PageKey) (setting : Setting
 
 -- options that say nothing of how keys sound make the standard setting
 abbrev pub NoOptionsAreStandard : Type 0
-NoOptionsAreStandard = (options : Options) → has_setting options ≡ false → setting_of options ≡ Some standard_setting
+NoOptionsAreStandard = (manner : Manner) → has_manner manner ≡ false → setting_of manner ≡ Some standard_setting

@@ -1,19 +1,16 @@
 -- What the words of the command line ask for, as clap reads them.
-use Rattle.std.specs.Prelude.{ℕ, ◌≡◌, ◌&&◌, ◌||◌, List, Bool, if◌then◌else◌, Option, Some, None, codes, is_some, min, nat_le, not, option_map, pos, neg_ℤ}
-use Rattle.std.specs.Option.{option_and_then, unwrap_or}
+use Rattle.std.specs.Prelude.{ℕ, ◌≡◌, ◌&&◌, ◌||◌, List, Bool, if◌then◌else◌, Option, Some, None, codes, is_some, min, not, option_map}
+use Rattle.std.specs.Option.{option_and_then}
 use Rattle.std.specs.Borrow.{Bor}
 use Rattle.clap.specs.Walk.{Row, Text, first_of}
 use Rattle.xb_command.specs.Given.{AskForNothing, AsksFor, ReadsFlag, ReadsNumber, given_by}
 use Rattle.xb_sound.specs.Cadences.{standard_cadence}
 use Rattle.xb_sound.specs.declared.cadence.Cadence.{Cadence}
-use Rattle.xb_signal.specs.declared.setting.Setting.{Setting}
-use Rattle.xb_signal.specs.Levels.{amplitude_of}
 use Rattle.xb_tone.specs.declared.request.Choice.{Choice}
 use Rattle.xb_tone.specs.declared.request.Choice.TheVariants as choice
 use Rattle.xb_tone.specs.declared.request.Request.{Request}
-use Rattle.xb_tone.specs.declared.figure.Figure.{Figure}
 use Rattle.xb_tone.specs.declared.words.Options.{Options}
-use Rattle.xb_tone.specs.Figures.{figure_of, is_given, tenths_or}
+use Rattle.xb_tone.specs.Manners.{SayManner, has_manner, setting_of}
 use Rattle.xb_tone.specs.Rules.{command_of_words}
 
 -- what clap matched says these options
@@ -25,11 +22,7 @@ pub record Say (rows : List Row) (options : Options) : Type 0 where
   pub key_ms : ReadsNumber (given_by rows (codes "key")) options.key_ms
   pub gap_ms : ReadsNumber (given_by rows (codes "gap")) options.gap_ms
   pub raw : ReadsFlag (given_by rows (codes "raw")) options.raw
-  pub level : options.level ≡ figure_of (first_of (codes "level") rows)
-  pub twist : options.twist ≡ figure_of (first_of (codes "twist") rows)
-  pub noise_peak : ReadsNumber (given_by rows (codes "noise-peak")) options.noise_peak
-  pub seed : ReadsNumber (given_by rows (codes "seed")) options.seed
-  pub clip : ReadsFlag (given_by rows (codes "clip")) options.clip
+  pub manner : SayManner rows options.manner
 
 -- all entries, or those of a line, or one of a line; an entry without its line is none
 abbrev pub choice_of : Option ℕ → Option ℕ → Option Choice
@@ -52,34 +45,6 @@ cadence_of options = record {
   gap_ms = time_of options.gap_ms standard_cadence.gap_ms;
 }
 
--- the low tone of a key has the level, -7.2 dBm0 unless it is given, and the high one as much more as the twist
-abbrev pub amplitudes_of : Figure → Figure → Option (ℕ × ℕ)
-amplitudes_of level twist =
-    option_and_then (λ l. option_and_then (λ t.
-    option_and_then (λ low. option_map (λ high. (low, high)) (amplitude_of l t)) (amplitude_of l (pos 0)))
-    (tenths_or twist (pos 0))) (tenths_or level (neg_ℤ (pos 72)))
-
--- the noise has a peak of up to 32,767
-abbrev pub setting_by : Figure → Figure → Option ℕ → Option ℕ → Bool → Option Setting
-setting_by level twist noise_peak seed clip =
-    option_and_then (λ (levels : ℕ × ℕ). if nat_le (unwrap_or noise_peak 0) 32767 then Some (record {
-      low = levels.0;
-      high = levels.1;
-      noise_peak = unwrap_or noise_peak 0;
-      seed = unwrap_or seed 0;
-      clip = clip;
-    }) else None) (amplitudes_of level twist)
-
--- how words of keys are to sound
-abbrev pub setting_of : Options → Option Setting
-setting_of options = setting_by options.level options.twist options.noise_peak options.seed options.clip
-
--- whether they say anything of that
-abbrev pub has_setting : Options → Bool
-has_setting options =
-    is_given options.level || is_given options.twist || is_some options.noise_peak || is_some options.seed
-    || options.clip
-
 -- what the options ask for
 abbrev pub request_of : Options → Option Request
 request_of options =
@@ -88,12 +53,12 @@ request_of options =
       cadence = cadence_of options;
       raw = options.raw;
       setting = setting;
-    }) (setting_of options)) (choice_of options.line options.entry)
+    }) (setting_of options.manner)) (choice_of options.line options.entry)
 
--- words of keys sound in place of a page, so that no line and no entry is named; a page has no setting
+-- words of keys sound in place of a page, so that no line and no entry is named; of a page no manner is said
 abbrev pub request_with : Options → Bool → Option Request
 request_with options has_keys =
-    if (has_keys && (is_some options.line || is_some options.entry)) || (not has_keys && has_setting options) then None
+    if (has_keys && (is_some options.line || is_some options.entry)) || (not has_keys && has_manner options.manner) then None
     else request_of options
 
 -- the words of keys

@@ -20,7 +20,8 @@ program = codes "mftone"
 abbrev pub usage_line : List ℕ
 usage_line =
     codes "mftone: usage: mftone [--line N] [--entry N] [--lead N] [--kp N] [--key N] "
-    ++ codes "[--gap N] [--raw] [--keys WORDS] [--level DBM0] [--twist DB] [--noise-peak N] [--seed N] [--clip]\n"
+    ++ codes "[--gap N] [--raw] [--keys WORDS] [--level DBM0] [--twist DB] [--detune PERCENT] [--skew MS] "
+    ++ codes "[--hole MS@MS] [--noise-peak N] [--seed N] [--clip]\n"
 
 -- it names each option of the command
 abbrev pub UsageNamesEachOption : Type 0

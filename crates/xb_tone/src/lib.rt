@@ -12,9 +12,10 @@
 #![tactic(auto)]
 
 mod fault;
-mod figure;
+mod given;
 mod keying;
 pub mod laws;
+mod manner;
 mod playing;
 mod program;
 mod request;

@@ -1,14 +1,13 @@
 // What the words of the command line ask for.
 ghost use Rattle.std.specs.Prelude.{◌≡◌, IfErr, IfOk};
 ghost use Rattle.xb_command.specs.Commands.{texts_of};
-ghost use Rattle.xb_tone.specs.Options.{AreRefused, Asks, Say, cadence_of, choice_of, has_setting, named, request_of, request_with, setting_of, time_of};
+ghost use Rattle.xb_tone.specs.Options.{AreRefused, Asks, Say, cadence_of, choice_of, named, request_of, request_with, time_of};
 
-use crate::figure::{Figure, figure_of, is_given, tenths_or};
+use crate::manner::{Manner, has_manner, manner_of, setting_of};
 use crate::program::PROGRAM;
 use crate::request::{Asked, Choice, Request};
 use std::alloc::Global;
 use xb_command::{Takes, Words, WordsFault, read_words};
-use xb_signal::{Setting, amplitude_of};
 use xb_sound::Cadence;
 
 // What the options of the command line say.
@@ -21,21 +20,11 @@ pub(crate) struct Options {
     pub(crate) key_ms: Option<u32>,
     pub(crate) gap_ms: Option<u32>,
     pub(crate) raw: bool,
-    pub(crate) level: Figure,
-    pub(crate) twist: Figure,
-    pub(crate) noise_peak: Option<u32>,
-    pub(crate) seed: Option<u32>,
-    pub(crate) clip: bool,
+    pub(crate) manner: Manner,
 }
 
-// The level of a tone in tenths of a dBm0, unless another is asked for.
-const STANDARD_LEVEL: i16 = -72;
-
-// The greatest peak of noise.
-const MOST_NOISE_PEAK: u32 = 32_767;
-
 // The options of the program, each under its name.
-const OPTIONS: [(&str, Takes); 13] = [
+const OPTIONS: [(&str, Takes); 16] = [
     ("line", Takes::Number),
     ("entry", Takes::Number),
     ("lead", Takes::Number),
@@ -46,6 +35,9 @@ const OPTIONS: [(&str, Takes); 13] = [
     ("keys", Takes::Text),
     ("level", Takes::Text),
     ("twist", Takes::Text),
+    ("detune", Takes::Text),
+    ("skew", Takes::Text),
+    ("hole", Takes::Text),
     ("noise-peak", Takes::Number),
     ("seed", Takes::Number),
     ("clip", Takes::Nothing),
@@ -63,11 +55,7 @@ fn options_of(words: &Words) -> Options
         key_ms: words.number("key"),
         gap_ms: words.number("gap"),
         raw: words.flag("raw"),
-        level: figure_of(words.text("level")),
-        twist: figure_of(words.text("twist")),
-        noise_peak: words.number("noise-peak"),
-        seed: words.number("seed"),
-        clip: words.flag("clip"),
+        manner: manner_of(words),
     }
 }
 
@@ -110,45 +98,12 @@ fn cadence_of(options: Options) -> Cadence
     }
 }
 
-// How words of keys are to sound; `None` where a level is out of its range, or a figure is none, or the noise is too
-// great.
-fn setting_of(options: Options) -> Option<Setting>
-    ensures { result ≡ setting_of options }
-{
-    let level = tenths_or(options.level, STANDARD_LEVEL)?;
-    let twist = tenths_or(options.twist, 0)?;
-    let low = amplitude_of(level, 0)?;
-    let high = amplitude_of(level, twist)?;
-    let noise_peak = options.noise_peak.unwrap_or(0);
-    if noise_peak > MOST_NOISE_PEAK {
-        return None;
-    }
-    Some(Setting {
-        low,
-        high,
-        noise_peak: noise_peak as u16,
-        seed: u64::from(options.seed.unwrap_or(0)),
-        clip: options.clip,
-    })
-}
-
-// Whether the options say how words of keys are to sound.
-fn has_setting(options: Options) -> bool
-    ensures { result ≡ has_setting options }
-{
-    is_given(options.level)
-        || is_given(options.twist)
-        || options.noise_peak.is_some()
-        || options.seed.is_some()
-        || options.clip
-}
-
 // What the options ask for; `None` where they name an entry without its line, or make no setting.
 fn request_of(options: Options) -> Option<Request>
     ensures { result ≡ request_of options }
 {
     let choice = choice_of(options.line, options.entry)?;
-    let setting = setting_of(options)?;
+    let setting = setting_of(options.manner)?;
     Some(Request {
         choice,
         cadence: cadence_of(options),
@@ -163,7 +118,7 @@ fn request_with(options: Options, has_keys: bool) -> Option<Request>
     ensures { result ≡ request_with options has_keys }
 {
     let names_entry = options.line.is_some() || options.entry.is_some();
-    if (has_keys && names_entry) || (!has_keys && has_setting(options)) {
+    if (has_keys && names_entry) || (!has_keys && has_manner(options.manner)) {
         None
     } else {
         request_of(options)

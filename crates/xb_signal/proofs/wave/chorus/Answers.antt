@@ -1,12 +1,10 @@
-use Rattle.std.proofs.Common.{rules, ◌≡◌, ◌∙◌, ◌<◌, ◌≤◌, unsigned_abs, ℕ, ◌+◌, ◌*◌, ap, sym, subst, arith, drop, ℤ, ◌+ℤ◌, FitsSigned, to_z, of_z}
+use Rattle.std.proofs.Common.{rules, ◌≡◌, ◌∙◌, ◌<◌, ◌≤◌, unsigned_abs, ℕ, ◌+◌, ◌*◌, ap, sym, subst, arith, drop, get_or, ℤ, ◌+ℤ◌, FitsSigned, to_z, of_z}
 use Rattle.std.specs.Int.{w16, w32}
 use Rattle.std.proofs.lemmas.Int.{ints, to_z-of_z, fits_signed_from_abs}
-use Rattle.xb_signal.specs.Waves.{chorus, scaled}
+use Rattle.xb_signal.specs.Waves.{chorus, scaled, wave_sample}
 use Rattle.xb_signal.proofs.Waves.{chorus-next}
+use Rattle.xb_signal.proofs.Sums.{sum-small}
 use Rattle.xb_signal.proofs.wave.chorus.Goals as goal
-
-abs-sum : (x y : ℤ) (a b : ℕ) → unsigned_abs x ≤ a → unsigned_abs y ≤ b → unsigned_abs (x +ℤ y) ≤ a + b
-abs-sum x y a b small_x small_y = omega (arith, ints)
 
 pub loop-hz-preserved : goal.loop-hz-preserved
 loop-hz-preserved c =
@@ -16,9 +14,11 @@ loop-hz-preserved c =
     let fits_w : FitsSigned w32 w = search rules in
     let added : s +ℤ to_z w32 (of_z w32 w) ≡ s +ℤ w = ap (λ (x : ℤ). s +ℤ x) (to_z-of_z w32 w fits_w) in
     let table : FitsSigned w16 c.wave_sample.result = search rules in
+    let is_hz : c.from.result ≡ get_or c.args.tones.now i 0 = search rules in
     let value = c.scaled-sum.ensures.value
-    ∙ ap (scaled c.args.amplitude) (to_z-of_z w16 c.wave_sample.result table ∙ c.wave_sample.ensures.value) in
-    let greater = abs-sum s w (65535 * i) 65535 c.loop-hz.invariant.small c.scaled-sum.ensures.bound in
+    ∙ ap (scaled c.args.amplitude) (to_z-of_z w16 c.wave_sample.result table ∙ c.wave_sample.ensures.value
+    ∙ ap (λ (hz : ℕ). wave_sample hz c.args.n) is_hz) in
+    let greater = sum-small s w (65535 * i) 65535 c.loop-hz.invariant.small c.scaled-sum.ensures.bound in
     let small : unsigned_abs (s +ℤ w) ≤ 65535 * (i + 1) = omega (arith, greater) in
     let few : i < 6 = omega (arith, c.loop-hz-test.true, c.requires) in
     let fits_sum : FitsSigned w32 (s +ℤ w) = fits_signed_from_abs w32 (s +ℤ w) (omega (arith, small, few)) in

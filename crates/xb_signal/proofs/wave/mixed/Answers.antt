@@ -2,18 +2,8 @@ use Rattle.std.proofs.Common.{◌≡◌, ◌∙◌, ◌≤◌, ◌*◌, ℕ, ◌
 use Rattle.std.specs.Int.{w16, w32}
 use Rattle.std.proofs.lemmas.Int.{ints, to_z-of_z, fits_signed_from_abs}
 use Rattle.xb_signal.specs.Waves.{chorus, mixed, scaled, wave_sample}
+use Rattle.xb_signal.proofs.Sums.{bits-sum, sum-small}
 use Rattle.xb_signal.proofs.wave.mixed.Goals as goal
-
--- a sum of two numbers of 32 bits that has 32 bits itself
-pub bits-sum : (x y : ℤ) → FitsSigned w32 x → FitsSigned w32 y → FitsSigned w32 (x +ℤ y)
-    → to_z w32 (of_z w32 (to_z w32 (of_z w32 x) +ℤ to_z w32 (of_z w32 y))) ≡ x +ℤ y
-bits-sum x y fits_x fits_y fits_sum =
-    ap (λ (z : ℤ). to_z w32 (of_z w32 (z +ℤ to_z w32 (of_z w32 y)))) (to_z-of_z w32 x fits_x)
-    ∙ ap (λ (z : ℤ). to_z w32 (of_z w32 (x +ℤ z))) (to_z-of_z w32 y fits_y)
-    ∙ to_z-of_z w32 (x +ℤ y) fits_sum
-
-abs-sum : (x y : ℤ) (a b : ℕ) → unsigned_abs x ≤ a → unsigned_abs y ≤ b → unsigned_abs (x +ℤ y) ≤ a + b
-abs-sum x y a b small_x small_y = omega (arith, ints)
 
 pub returns-in-Some-clause-value : goal.returns-in-Some-clause-value
 returns-in-Some-clause-value c =
@@ -23,7 +13,8 @@ returns-in-Some-clause-value c =
     let parts : tones ≡ c.in-Some.first.now ∷ c.in-Some.further.now = search rules in
     let few : length c.in-Some.further.now ≤ 5 = search rules in
     let small : unsigned_abs (x +ℤ y) ≤ 65535 + 65535 * length c.in-Some.further.now =
-    abs-sum x y 65535 (65535 * length c.in-Some.further.now) c.scaled.ensures.bound c.chorus.ensures.bound in
+    sum-small x y 65535 (65535 * length c.in-Some.further.now) c.scaled.ensures.bound c.chorus.ensures.bound in
+    let is_first : c.from.result ≡ c.in-Some.first.now = search rules in
     let table : FitsSigned w16 c.wave_sample.result = search rules in
     let fits_x : FitsSigned w32 x = search rules in
     let fits_y : FitsSigned w32 y = search rules in
@@ -31,5 +22,6 @@ returns-in-Some-clause-value c =
     bits-sum x y fits_x fits_y fits_sum
     ∙ ap (λ (z : ℤ). z +ℤ y) c.scaled.ensures.value
     ∙ ap (λ (z : ℤ). scaled c.args.low z +ℤ y) (to_z-of_z w16 c.wave_sample.result table ∙ c.wave_sample.ensures.value)
+    ∙ ap (λ (hz : ℕ). scaled c.args.low (wave_sample hz c.args.n) +ℤ y) is_first
     ∙ ap (λ (z : ℤ). scaled c.args.low (wave_sample c.in-Some.first.now c.args.n) +ℤ z) c.chorus.ensures.value
     ∙ ap (λ (xs : List ℕ). mixed c.args.low c.args.high xs c.args.n) (sym parts)

@@ -2,7 +2,7 @@ use Rattle.std.proofs.Common.{◌≡◌, ◌∙◌, ℕ, ◌+◌, ◌*◌, ◌-�
 use Rattle.std.specs.Int.{w16}
 use Rattle.std.proofs.lemmas.Int.{to_z-of_z}
 use Rattle.xb_sound.specs.Wavs.{sample_bytes}
-use Rattle.xb_signal.specs.Waves.{sample_at}
+use Rattle.xb_signal.specs.OneSample.{sample_at}
 use Rattle.xb_signal.proofs.Blocks.{block-more, bytes_from}
 use Rattle.xb_signal.proofs.writing.block_of.Goals as goal
 
@@ -16,7 +16,7 @@ longer old new x n from pushed size begun =
 
 pub loop-n-preserved : goal.loop-n-preserved
 loop-n-preserved c =
-    let f : ℕ → ℤ = λ n. sample_at c.args.setting.now c.args.state c.args.tones.now n in
+    let f : ℕ → ℤ = λ n. sample_at c.args.setting.now c.args.state c.args.sound.now n in
     let n = c.loop-n.n in
     let from = c.args.from in
     let fits : FitsSigned w16 c.sample_at.result = search rules in

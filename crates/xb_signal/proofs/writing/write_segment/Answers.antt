@@ -3,13 +3,13 @@ use Rattle.std.proofs.KnownBytes.{Appends-trans}
 use Rattle.std.specs.Io.KnownBytes.{Appends}
 use Rattle.xb_text.specs.Writing.{AppendsBeginning}
 use Rattle.xb_sound.proofs.Beginnings.{beginning-after, beginning-more, whole-begins}
-use Rattle.xb_signal.specs.Waves.{sample_at}
+use Rattle.xb_signal.specs.OneSample.{sample_at}
 use Rattle.xb_signal.proofs.Blocks.{bytes-parts, bytes_from}
 use Rattle.xb_signal.proofs.writing.write_segment.Goals as goal
 
 pub returns-in_err-write_whole-clause-beginning : goal.returns-in_err-write_whole-clause-beginning
 returns-in_err-write_whole-clause-beginning g c =
-    let f : ℕ → ℤ = λ n. sample_at c.args.setting.now c.args.state c.args.segment.now.tones n in
+    let f : ℕ → ℤ = λ n. sample_at c.args.setting.now c.args.state c.args.segment.now.sound n in
     let at = c.loop-from.from in
     let end = c.min-end.result in
     let all : ℕ = c.args.segment.now.ms * 8 in
@@ -19,9 +19,7 @@ returns-in_err-write_whole-clause-beginning g c =
     let order : at ≤ end = omega (arith, c.min-end.ensures, c.loop-from-test.true) in
     let within : end ≤ all = omega (arith, c.min-end.ensures, c.segment_length-samples.ensures.value) in
     let block : c.bytes.result.now ≡ bytes_from f at (end - at) =
-    c.bytes.ensures ∙ c.block_of-block.ensures
-    ∙ ap (λ (tones : List ℕ). bytes_from (λ n. sample_at c.args.setting.now c.args.state tones n) at (end - at))
-    c.hz.ensures.value in
+    c.bytes.ensures ∙ c.block_of-block.ensures in
     let begun : AppendsBeginning mid new (bytes_from f at (end - at)) =
     subst (λ (bytes : List ℕ). AppendsBeginning mid new bytes) block c.write_whole.ensures.beginning in
     subst (λ (bytes : List ℕ). AppendsBeginning old new bytes) (sym (bytes-parts f end all within))
@@ -31,7 +29,7 @@ returns-in_err-write_whole-clause-beginning g c =
 
 pub loop-from-preserved : goal.loop-from-preserved
 loop-from-preserved g c =
-    let f : ℕ → ℤ = λ n. sample_at c.args.setting.now c.args.state c.args.segment.now.tones n in
+    let f : ℕ → ℤ = λ n. sample_at c.args.setting.now c.args.state c.args.segment.now.sound n in
     let at = c.loop-from.from in
     let end = c.min-end.result in
     let old = g.W.Write.contents c.args.out.now in
@@ -39,9 +37,7 @@ loop-from-preserved g c =
     let new = g.W.Write.contents c.write_whole.new.out in
     let order : at ≤ end = omega (arith, c.min-end.ensures, c.loop-from-test.true) in
     let block : c.bytes.result.now ≡ bytes_from f at (end - at) =
-    c.bytes.ensures ∙ c.block_of-block.ensures
-    ∙ ap (λ (tones : List ℕ). bytes_from (λ n. sample_at c.args.setting.now c.args.state tones n) at (end - at))
-    c.hz.ensures.value in
+    c.bytes.ensures ∙ c.block_of-block.ensures in
     let whole : Appends mid new (bytes_from f at (end - at)) =
     subst (λ (bytes : List ℕ). Appends mid new bytes) block c.in_ok-write_whole.ensures.whole in
     record {
@@ -54,7 +50,7 @@ loop-from-preserved g c =
 
 pub returns-clause-beginning : goal.returns-clause-beginning
 returns-clause-beginning g c =
-    let f : ℕ → ℤ = λ n. sample_at c.args.setting.now c.args.state c.args.segment.now.tones n in
+    let f : ℕ → ℤ = λ n. sample_at c.args.setting.now c.args.state c.args.segment.now.sound n in
     let old = g.W.Write.contents c.args.out.now in
     let new = g.W.Write.contents c.loop-from.out in
     let all : c.loop-from.from ≡ c.args.segment.now.ms * 8 =

@@ -1,6 +1,6 @@
 use Rattle.std.proofs.Common.{◌≤◌, ◌-◌}
 use Rattle.std.specs.Io.KnownBytes.{Appends}
-use Rattle.xb_signal.specs.Waves.{sample_at}
+use Rattle.xb_signal.specs.OneSample.{sample_at}
 use Rattle.xb_signal.proofs.Blocks.{bytes_from}
 use Rattle.xb_signal.proofs.writing.write_segment.Given as goal
 
@@ -9,7 +9,7 @@ invariant-loop-from g l = record {
   within : l.from ≤ l.samples;
   written :
       Appends (g.W.Write.contents l.initial.out) (g.W.Write.contents l.out)
-      (bytes_from (sample_at l.setting l.state l.segment.tones) 0 l.from);
+      (bytes_from (sample_at l.setting l.state l.segment.sound) 0 l.from);
 }
 
 abbrev pub decreases-loop-from : goal.decreases-loop-from

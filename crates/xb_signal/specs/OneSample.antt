@@ -1,0 +1,31 @@
+-- Samples of what sounds, and of 16 bits.
+use Rattle.std.specs.Prelude.{ℕ, Bool, ◌&&◌, if◌then◌else◌, nat_le, ℤ, pos, negsuc, ◌+ℤ◌, ◌-ℤ◌}
+use Rattle.xb_signal.specs.declared.segment.Sound.{Sound}
+use Rattle.xb_signal.specs.declared.segment.Sound.TheVariants.{Written, Keyed}
+use Rattle.xb_signal.specs.declared.setting.Setting.{Setting}
+use Rattle.xb_signal.specs.Noises.{noise}
+use Rattle.xb_signal.specs.Shapes.{keyed_sample}
+use Rattle.xb_signal.specs.Waves.{mixed}
+
+-- sample n of what sounds, without noise
+abbrev pub clean_sample : Setting → Sound → ℕ → ℤ
+clean_sample setting (Written tones) n = mixed setting.low setting.high tones n
+clean_sample setting (Keyed pair) n = keyed_sample setting.low setting.high setting.shape pair n
+
+-- whether a sample has 16 bits
+abbrev pub fits : ℤ → Bool
+fits (pos x) = nat_le x 32767
+fits (negsuc x) = nat_le x 32767
+
+-- a sample, or where it has more than 16 bits the greatest or the least that has not
+abbrev pub cut : ℤ → ℤ
+cut (pos x) = if nat_le x 32767 then pos x else pos 32767
+cut (negsuc x) = if nat_le x 32767 then negsuc x else negsuc 32767
+
+-- sample n of what sounds, and of the noise after a state
+abbrev pub sample_at : Setting → ℕ → Sound → ℕ → ℤ
+sample_at setting state sound n = cut (clean_sample setting sound n +ℤ noise setting.noise_peak state n)
+
+-- whether a sample has 16 bits with any noise up to the peak
+abbrev pub has_room : ℕ → ℤ → Bool
+has_room peak sample = fits (sample +ℤ pos peak) && fits (sample -ℤ pos peak)
