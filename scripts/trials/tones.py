@@ -3,7 +3,7 @@ code with mftone.
 
     tones.py LEAD KP KEY GAP < ENTRIES > WAV
     tones.py LEAD KP KEY GAP WORDS [--level DBM0] [--twist DB] [--detune PERCENT] [--skew MS] [--hole MS@MS]
-        [--noise-peak N] [--seed N] [--clip] > WAV
+        [--with HZ:DBM0] [--hum DBM0] [--noise-peak N] [--seed N] [--clip] > WAV
 
 Entries are lines of a page of mfbank; what is no keyed entry is passed over. WORDS are those of mftone --keys, and have
 to be right, but one may be too loud: then nothing is written, its place is told, and the status is 1. The four times
@@ -90,10 +90,35 @@ def sound(entry, lead, kp, key, gap):
     return samples
 
 
+def all_through(given, count):
+    """Returns so many samples of a steady tone and of a hum, without what is not asked for."""
+    parts = []
+    if given.steady:
+        hz, level = given.steady.split(":")
+        parts.append((int(hz), amplitude(float(level))))
+    return [
+        sum(scaled(size, sine(hz, n)) for hz, size in parts + mains(given.hum)) for n in range(count)
+    ]
+
+
+def mains(level):
+    """Returns the frequencies of a hum, each with its amplitude; a half is rounded up."""
+    if level is None:
+        return []
+    return [(60 * k, (2 * amplitude(level) + k) // (2 * k)) for k in range(1, 9)]
+
+
+def peak_of(given):
+    """Returns how much may be added to a sample."""
+    hum = max(abs(sum(scaled(size, sine(hz, n)) for hz, size in mains(given.hum))) for n in range(400))
+    return given.noise_peak + hum + (amplitude(float(given.steady.split(":")[1])) if given.steady else 0)
+
+
 def named(given, levels):
     """Returns the samples of keys by name, of frequencies for a time, and of silence, or the place of what is loud."""
     lead, kp_ms, key_ms, gap = given.times
     samples = silence(lead)
+    peak = peak_of(given)
     place = 0
     for byte, word in starts(given.words):
         place += 1
@@ -106,7 +131,6 @@ def named(given, levels):
         else:
             for name in [word] if word in PAIRS else word:
                 made += key(PAIRS[name], kp_ms if name.startswith("KP") else key_ms, levels, given) + silence(gap)
-        peak = given.noise_peak
         if not given.clip and any(it + peak > 32767 or it - peak < -32768 for it in made):
             sys.exit(f"word {place}, at byte {byte}, is too loud for 16 bits")
         samples += made
@@ -145,6 +169,8 @@ def attend():
     reader.add_argument("--detune", default="0")
     reader.add_argument("--skew", type=int, default=0)
     reader.add_argument("--hole", default="0@0")
+    reader.add_argument("--with", dest="steady")
+    reader.add_argument("--hum", type=float)
     reader.add_argument("--noise-peak", type=int, default=0)
     reader.add_argument("--seed", type=int, default=0)
     reader.add_argument("--clip", action="store_true")
@@ -153,7 +179,9 @@ def attend():
         samples = [it for line in sys.stdin for it in sound(line, *given.times)]
     else:
         levels = amplitude(given.level), amplitude(round(given.level + given.twist, 1))
-        samples = noisy(named(given, levels), given.noise_peak, given.seed)
+        clean = named(given, levels)
+        summed = [it + more for it, more in zip(clean, all_through(given, len(clean)))]
+        samples = noisy(summed, given.noise_peak, given.seed)
     sys.stdout.buffer.write(wav(samples))
 
 

@@ -28,7 +28,7 @@ impl Program for Mftone {
 
 const USAGE: &[u8] = b"mftone: usage: mftone [--line N] [--entry N] [--lead N] [--kp N] [--key N] \
 [--gap N] [--raw] [--keys WORDS] [--level DBM0] [--twist DB] [--detune PERCENT] [--skew MS] \
-[--hole MS@MS] [--noise-peak N] [--seed N] [--clip]\n";
+[--hole MS@MS] [--with HZ:DBM0] [--hum DBM0] [--noise-peak N] [--seed N] [--clip]\n";
 
 // The words after the program's name, the page, the status, and what stands on standard error; nothing is
 // written.
@@ -137,6 +137,12 @@ const CASES: &[(&[&str], &[u8], u8, &[u8])] = &[
         1,
         b"mftone: keys: word 2, at byte 4, is too loud for 16 bits\n",
     ),
+    (
+        &["--keys", "silence:9 KP", "--hum=-10"],
+        PAGE,
+        1,
+        b"mftone: keys: word 2, at byte 11, is too loud for 16 bits\n",
+    ),
     // a level of each tone is from -40.0 to 0, and a page has none
     (&["--keys", "KP", "--level=0.1"], PAGE, 2, USAGE),
     (
@@ -152,6 +158,9 @@ const CASES: &[(&[&str], &[u8], u8, &[u8])] = &[
     (&["--keys", "KP", "--skew=0.5"], PAGE, 2, USAGE),
     (&["--keys", "KP", "--hole=10"], PAGE, 2, USAGE),
     (&["--keys", "KP", "--hole=10@10001"], PAGE, 2, USAGE),
+    (&["--keys", "KP", "--with=0:-20"], PAGE, 2, USAGE),
+    (&["--keys", "KP", "--with=300"], PAGE, 2, USAGE),
+    (&["--keys", "KP", "--hum=1"], PAGE, 2, USAGE),
     (&["--clip"], PAGE, 2, USAGE),
     (&["--keys", "KP", "--line", "7"], PAGE, 2, USAGE),
     (&["--entry", "1"], PAGE, 2, USAGE),

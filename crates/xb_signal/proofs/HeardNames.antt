@@ -20,6 +20,7 @@ use Rattle.xb_sound.proofs.Silences.{heard_after-silence}
 use Rattle.xb_signal.specs.declared.name.Name.{Name}
 use Rattle.xb_signal.specs.declared.name.Name.TheVariants.{Key, Kp2, StPrime, StTwoPrimes, StThreePrimes}
 use Rattle.xb_signal.specs.Names.{name_ms, pair_of}
+use Rattle.xb_signal.specs.Moments.{start}
 use Rattle.xb_signal.specs.Segments.{silent}
 use Rattle.xb_signal.specs.declared.segment.Segment.{Segment}
 use Rattle.xb_signal.specs.declared.segment.Sound.TheVariants.{Keyed, Written}
@@ -71,7 +72,7 @@ keys-sound cadence (key ∷ keys) all =
 pub keys_sound_as_marks : KeysSoundAsMarks
 keys_sound_as_marks cadence trunk keys all =
     let rest = plain_of (flat_map (key_segments cadence) (names_of keys)) in
-    plain-signal 0 (silent cadence.lead_ms ∷ flat_map (key_segments cadence) (names_of keys))
+    plain-signal (start 0) (silent cadence.lead_ms ∷ flat_map (key_segments cadence) (names_of keys))
     ∙ ap (λ (xs : List ℤ). xs ++ rest) (silent-sound cadence.lead_ms)
     ∙ ap (λ (xs : List ℤ). silence cadence.lead_ms ++ xs) (keys-sound cadence keys all)
 
@@ -145,7 +146,7 @@ pub names_are_heard : NamesAreHeard
 names_are_heard cadence names lawful all =
     let rest = plain_of (flat_map (key_segments cadence) names) in
     ap (λ (xs : List ℤ). heard_after 80 xs)
-    (plain-signal 0 (silent cadence.lead_ms ∷ flat_map (key_segments cadence) names))
+    (plain-signal (start 0) (silent cadence.lead_ms ∷ flat_map (key_segments cadence) names))
     ∙ ap (λ (xs : List ℤ). heard_after 80 (xs ++ rest)) (silent-sound cadence.lead_ms)
     ∙ heard_after-silence (cadence.lead_ms * 8) 80 rest
     ∙ after_silence cadence lawful names all (80 + cadence.lead_ms * 8) (omega arith)

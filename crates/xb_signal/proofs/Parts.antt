@@ -8,41 +8,42 @@ use Rattle.std.proofs.Math.Seq.{drop-cons, take-suc}
 use Rattle.xb_sound.specs.Wavs.{header_of, pcm_of, sample_bytes}
 use Rattle.xb_signal.specs.declared.segment.Segment.{Segment}
 use Rattle.xb_signal.specs.declared.setting.Setting.{Setting}
-use Rattle.xb_signal.specs.Noises.{state_after}
+use Rattle.xb_signal.specs.declared.moment.Moment.{Moment}
+use Rattle.xb_signal.specs.Moments.{moment_after, start}
 use Rattle.xb_signal.specs.Segments.{samples_in, segment_sound, signal_from}
 use Rattle.xb_signal.specs.SignalLaws.{FilesAreAsLong}
 use Rattle.xb_signal.specs.OneSample.{sample_at}
 use Rattle.xb_signal.specs.Writings.{bytes_of, head_before}
 
--- the state of the noise after segments
-abbrev pub state_before : ℕ → List Segment → ℕ
-state_before state [] = state
-state_before state (segment ∷ later) = state_before (state_after state (segment.ms * 8)) later
+-- the moment after segments
+abbrev pub moment_before : Moment → List Segment → Moment
+moment_before moment [] = moment
+moment_before moment (segment ∷ later) = moment_before (moment_after moment (segment.ms * 8)) later
 
-pub state-next : (state : ℕ) (segments : List Segment) (segment : Segment)
-    → state_before state (segments ++ segment ∷ []) ≡ state_after (state_before state segments) (segment.ms * 8)
-state-next state [] segment = refl
-state-next state (first ∷ later) segment = state-next (state_after state (first.ms * 8)) later segment
+pub moment-next : (moment : Moment) (segments : List Segment) (segment : Segment)
+    → moment_before moment (segments ++ segment ∷ []) ≡ moment_after (moment_before moment segments) (segment.ms * 8)
+moment-next moment [] segment = refl
+moment-next moment (first ∷ later) segment = moment-next (moment_after moment (first.ms * 8)) later segment
 
 -- a signal is that of the first segments, and then that of the others
-pub signal-append : (setting : Setting) (state : ℕ) (xs ys : List Segment)
-    → signal_from setting state (xs ++ ys)
-    ≡ signal_from setting state xs ++ signal_from setting (state_before state xs) ys
-signal-append setting state [] ys = refl
-signal-append setting state (x ∷ xs) ys =
-    let after : ℕ = state_after state (x.ms * 8) in
-    ap (λ (zs : List ℤ). segment_sound setting state x ++ zs) (signal-append setting after xs ys)
-    ∙ sym (append_assoc (segment_sound setting state x) (signal_from setting after xs)
-    (signal_from setting (state_before after xs) ys))
+pub signal-append : (setting : Setting) (moment : Moment) (xs ys : List Segment)
+    → signal_from setting moment (xs ++ ys)
+    ≡ signal_from setting moment xs ++ signal_from setting (moment_before moment xs) ys
+signal-append setting moment [] ys = refl
+signal-append setting moment (x ∷ xs) ys =
+    let after : Moment = moment_after moment (x.ms * 8) in
+    ap (λ (zs : List ℤ). segment_sound setting moment x ++ zs) (signal-append setting after xs ys)
+    ∙ sym (append_assoc (segment_sound setting moment x) (signal_from setting after xs)
+    (signal_from setting (moment_before after xs) ys))
 
-pub length-signal : (setting : Setting) (state : ℕ) (segments : List Segment)
-    → length (signal_from setting state segments) ≡ samples_in segments
-length-signal setting state [] = refl
-length-signal setting state (segment ∷ later) =
-    let after : ℕ = state_after state (segment.ms * 8) in
-    length-append (segment_sound setting state segment) (signal_from setting after later)
+pub length-signal : (setting : Setting) (moment : Moment) (segments : List Segment)
+    → length (signal_from setting moment segments) ≡ samples_in segments
+length-signal setting moment [] = refl
+length-signal setting moment (segment ∷ later) =
+    let after : Moment = moment_after moment (segment.ms * 8) in
+    length-append (segment_sound setting moment segment) (signal_from setting after later)
     ∙ ap (λ (n : ℕ). n + length (signal_from setting after later))
-    (length-map-range_with_len (λ n. sample_at setting state segment.sound n) 0 (segment.ms * 8))
+    (length-map-range_with_len (λ n. sample_at setting moment segment.sound n) 0 (segment.ms * 8))
     ∙ ap (λ (n : ℕ). segment.ms * 8 + n) (length-signal setting after later)
     ∙ sym (sum_by-cons (λ (s : Segment). s.ms * 8) segment later)
 
@@ -54,55 +55,55 @@ taken segments i segment within is =
     ∙ take-suc segments i segment within
     ∙ ap (λ (s : Segment). take i segments ++ s ∷ []) (sym is)
 
-pub state-taken : (state : ℕ) (segments : List Segment) (i : ℕ) (segment : Segment) → i < length segments
+pub moment-taken : (moment : Moment) (segments : List Segment) (i : ℕ) (segment : Segment) → i < length segments
     → segment ≡ get_or segments i segment
-    → state_before state (take (i + 1) segments)
-    ≡ state_after (state_before state (take i segments)) (segment.ms * 8)
-state-taken state segments i segment within is =
-    ap (state_before state) (taken segments i segment within is) ∙ state-next state (take i segments) segment
+    → moment_before moment (take (i + 1) segments)
+    ≡ moment_after (moment_before moment (take i segments)) (segment.ms * 8)
+moment-taken moment segments i segment within is =
+    ap (moment_before moment) (taken segments i segment within is) ∙ moment-next moment (take i segments) segment
 
 -- the bytes of the first segments, and of one more
-pub signal-next : (setting : Setting) (state : ℕ) (segments : List Segment) (i : ℕ) (segment : Segment)
+pub signal-next : (setting : Setting) (moment : Moment) (segments : List Segment) (i : ℕ) (segment : Segment)
     → i < length segments → segment ≡ get_or segments i segment
-    → pcm_of (signal_from setting state (take (i + 1) segments))
-    ≡ pcm_of (signal_from setting state (take i segments))
-    ++ pcm_of (segment_sound setting (state_before state (take i segments)) segment)
-signal-next setting state segments i segment within is =
-    let first = signal_from setting state (take i segments) in
-    let here = segment_sound setting (state_before state (take i segments)) segment in
-    ap (λ (xs : List Segment). pcm_of (signal_from setting state xs)) (taken segments i segment within is)
-    ∙ ap pcm_of (signal-append setting state (take i segments) (segment ∷ []))
+    → pcm_of (signal_from setting moment (take (i + 1) segments))
+    ≡ pcm_of (signal_from setting moment (take i segments))
+    ++ pcm_of (segment_sound setting (moment_before moment (take i segments)) segment)
+signal-next setting moment segments i segment within is =
+    let first = signal_from setting moment (take i segments) in
+    let here = segment_sound setting (moment_before moment (take i segments)) segment in
+    ap (λ (xs : List Segment). pcm_of (signal_from setting moment xs)) (taken segments i segment within is)
+    ∙ ap pcm_of (signal-append setting moment (take i segments) (segment ∷ []))
     ∙ ap (λ (xs : List ℤ). pcm_of (first ++ xs)) (append-nil here)
     ∙ flat_map-append sample_bytes first here
 
 -- the bytes of segments are those of the first ones, of the next, and of the rest
-pub signal-parts : (setting : Setting) (state : ℕ) (segments : List Segment) (i : ℕ) (segment : Segment)
+pub signal-parts : (setting : Setting) (moment : Moment) (segments : List Segment) (i : ℕ) (segment : Segment)
     → i < length segments → segment ≡ get_or segments i segment
-    → pcm_of (signal_from setting state segments)
-    ≡ pcm_of (signal_from setting state (take i segments))
-    ++ (pcm_of (segment_sound setting (state_before state (take i segments)) segment)
+    → pcm_of (signal_from setting moment segments)
+    ≡ pcm_of (signal_from setting moment (take i segments))
+    ++ (pcm_of (segment_sound setting (moment_before moment (take i segments)) segment)
     ++ pcm_of (signal_from setting
-    (state_after (state_before state (take i segments)) (segment.ms * 8)) (drop (suc i) segments)))
-signal-parts setting state segments i segment within is =
-    let at : ℕ = state_before state (take i segments) in
+    (moment_after (moment_before moment (take i segments)) (segment.ms * 8)) (drop (suc i) segments)))
+signal-parts setting moment segments i segment within is =
+    let at : Moment = moment_before moment (take i segments) in
     let here : List ℤ = segment_sound setting at segment in
-    let later : List ℤ = signal_from setting (state_after at (segment.ms * 8)) (drop (suc i) segments) in
+    let later : List ℤ = signal_from setting (moment_after at (segment.ms * 8)) (drop (suc i) segments) in
     let rest : drop i segments ≡ segment ∷ drop (suc i) segments =
     drop-cons segments i segment within ∙ ap (λ s. s ∷ drop (suc i) segments) (sym is) in
     let parts : segments ≡ take i segments ++ (segment ∷ drop (suc i) segments) =
     sym (take-append-drop i segments) ∙ ap (λ xs. take i segments ++ xs) rest in
-    ap (λ xs. pcm_of (signal_from setting state xs)) parts
-    ∙ ap pcm_of (signal-append setting state (take i segments) (segment ∷ drop (suc i) segments))
-    ∙ flat_map-append sample_bytes (signal_from setting state (take i segments)) (here ++ later)
-    ∙ ap (λ xs. pcm_of (signal_from setting state (take i segments)) ++ xs) (flat_map-append sample_bytes here later)
+    ap (λ xs. pcm_of (signal_from setting moment xs)) parts
+    ∙ ap pcm_of (signal-append setting moment (take i segments) (segment ∷ drop (suc i) segments))
+    ∙ flat_map-append sample_bytes (signal_from setting moment (take i segments)) (here ++ later)
+    ∙ ap (λ xs. pcm_of (signal_from setting moment (take i segments)) ++ xs) (flat_map-append sample_bytes here later)
 
 -- the head, and then the samples
 pub whole-bytes : (setting : Setting) (raw : Bool) (segments : List Segment)
-    → head_before raw segments ++ pcm_of (signal_from setting setting.seed segments) ≡ bytes_of setting raw segments
+    → head_before raw segments ++ pcm_of (signal_from setting (start setting.seed) segments) ≡ bytes_of setting raw segments
 whole-bytes setting true segments = refl
 whole-bytes setting false segments =
-    ap (λ (n : ℕ). header_of (2 * n) ++ pcm_of (signal_from setting setting.seed segments))
-    (sym (length-signal setting setting.seed segments))
+    ap (λ (n : ℕ). header_of (2 * n) ++ pcm_of (signal_from setting (start setting.seed) segments))
+    (sym (length-signal setting (start setting.seed) segments))
 
 pub files_are_as_long : FilesAreAsLong
-files_are_as_long setting segments = ap (λ (n : ℕ). 2 * n + 44) (length-signal setting setting.seed segments)
+files_are_as_long setting segments = ap (λ (n : ℕ). 2 * n + 44) (length-signal setting (start setting.seed) segments)

@@ -12,6 +12,8 @@ use Rattle.xb_sound.proofs.SineTables.{holds_below, sine_at-small}
 use Rattle.xb_signal.specs.declared.segment.Segment.{Segment}
 use Rattle.xb_signal.specs.declared.segment.Sound.{Sound}
 use Rattle.xb_signal.specs.declared.segment.Sound.TheVariants.{Keyed, Written}
+use Rattle.xb_signal.specs.declared.moment.Moment.{Moment}
+use Rattle.xb_signal.specs.Moments.{moment_after}
 use Rattle.xb_signal.specs.Noises.{noise, state_after, word_of}
 use Rattle.xb_signal.specs.Segments.{signal_from}
 use Rattle.xb_signal.specs.Settings.{standard_setting}
@@ -131,17 +133,19 @@ no-noise state n =
 plus-none : (x : ℤ) → x +ℤ pos 0 ≡ x
 plus-none x = omega (arith, ints)
 
-plain-at : (state : ℕ) (sound : Sound) (n : ℕ) → sample_at standard_setting state sound n ≡ plain_sample sound n
-plain-at state sound n =
+plain-at : (moment : Moment) (sound : Sound) (n : ℕ) → sample_at standard_setting moment sound n ≡ plain_sample sound n
+plain-at moment sound n =
     let clean = clean_sample standard_setting sound n in
-    ap (λ (x : ℤ). cut (clean +ℤ x)) (no-noise state n) ∙ ap cut (plus-none clean)
+    ap (λ (x : ℤ). cut ((clean +ℤ pos 0) +ℤ x)) (no-noise moment.noise n)
+    ∙ ap (λ (x : ℤ). cut (x +ℤ pos 0)) (plus-none clean)
+    ∙ ap cut (plus-none clean)
 
-pub plain-signal : (state : ℕ) (segments : List Segment)
-    → signal_from standard_setting state segments ≡ flat_map plain_sound segments
-plain-signal state [] = refl
-plain-signal state (segment ∷ later) =
-    let after = state_after state (segment.ms * 8) in
+pub plain-signal : (moment : Moment) (segments : List Segment)
+    → signal_from standard_setting moment segments ≡ flat_map plain_sound segments
+plain-signal moment [] = refl
+plain-signal moment (segment ∷ later) =
+    let after = moment_after moment (segment.ms * 8) in
     ap (λ (xs : List ℤ). xs ++ signal_from standard_setting after later)
-    (same-waves (λ n. sample_at standard_setting state segment.sound n) (λ n. plain_sample segment.sound n)
-    (plain-at state segment.sound) (segment.ms * 8) 0)
+    (same-waves (λ n. sample_at standard_setting moment segment.sound n) (λ n. plain_sample segment.sound n)
+    (plain-at moment segment.sound) (segment.ms * 8) 0)
     ∙ ap (λ (xs : List ℤ). plain_sound segment ++ xs) (plain-signal after later)

@@ -2,6 +2,8 @@ pub mod Noises
 pub mod Levels
 pub mod Waves
 pub mod Shapes
+pub mod Steadies
+pub mod Moments
 pub mod Settings
 pub mod OneSample
 pub mod Segments

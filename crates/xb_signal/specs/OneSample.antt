@@ -1,13 +1,15 @@
 -- Samples of what sounds, and of 16 bits.
-use Rattle.std.specs.Prelude.{ℕ, Bool, ◌&&◌, if◌then◌else◌, nat_le, ℤ, pos, negsuc, ◌+ℤ◌, ◌-ℤ◌}
+use Rattle.std.specs.Prelude.{ℕ, ◌+◌, Bool, ◌&&◌, if◌then◌else◌, nat_le, ℤ, pos, negsuc, ◌+ℤ◌, ◌-ℤ◌}
+use Rattle.xb_signal.specs.declared.moment.Moment.{Moment}
 use Rattle.xb_signal.specs.declared.segment.Sound.{Sound}
 use Rattle.xb_signal.specs.declared.segment.Sound.TheVariants.{Written, Keyed}
 use Rattle.xb_signal.specs.declared.setting.Setting.{Setting}
 use Rattle.xb_signal.specs.Noises.{noise}
 use Rattle.xb_signal.specs.Shapes.{keyed_sample}
+use Rattle.xb_signal.specs.Steadies.{steady_peak, steady_sample}
 use Rattle.xb_signal.specs.Waves.{mixed}
 
--- sample n of what sounds, without noise
+-- sample n of what sounds, with nothing added
 abbrev pub clean_sample : Setting → Sound → ℕ → ℤ
 clean_sample setting (Written tones) n = mixed setting.low setting.high tones n
 clean_sample setting (Keyed pair) n = keyed_sample setting.low setting.high setting.shape pair n
@@ -22,10 +24,20 @@ abbrev pub cut : ℤ → ℤ
 cut (pos x) = if nat_le x 32767 then pos x else pos 32767
 cut (negsuc x) = if nat_le x 32767 then negsuc x else negsuc 32767
 
--- sample n of what sounds, and of the noise after a state
-abbrev pub sample_at : Setting → ℕ → Sound → ℕ → ℤ
-sample_at setting state sound n = cut (clean_sample setting sound n +ℤ noise setting.noise_peak state n)
+-- sample n after a moment, of what sounds from then on and of what sounds all through
+abbrev pub quiet_sample : Setting → Moment → Sound → ℕ → ℤ
+quiet_sample setting moment sound n =
+    clean_sample setting sound n +ℤ steady_sample setting.steady (moment.place + n)
 
--- whether a sample has 16 bits with any noise up to the peak
+-- and of the noise
+abbrev pub sample_at : Setting → Moment → Sound → ℕ → ℤ
+sample_at setting moment sound n =
+    cut (quiet_sample setting moment sound n +ℤ noise setting.noise_peak moment.noise n)
+
+-- how much may be added to a sample of what sounds, or taken from it
+abbrev pub peak_of : Setting → ℕ
+peak_of setting = setting.noise_peak + steady_peak setting.steady
+
+-- whether a sample has 16 bits with anything that is added up to the peak
 abbrev pub has_room : ℕ → ℤ → Bool
 has_room peak sample = fits (sample +ℤ pos peak) && fits (sample -ℤ pos peak)

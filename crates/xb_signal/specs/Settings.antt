@@ -2,12 +2,14 @@
 use Rattle.std.specs.Prelude.{false}
 use Rattle.xb_signal.specs.declared.setting.Setting.{Setting}
 use Rattle.xb_signal.specs.Shapes.{standard_shape}
+use Rattle.xb_signal.specs.Steadies.{silent_steady}
 
 abbrev pub standard_setting : Setting
 standard_setting = record {
   low = 10000;
   high = 10000;
   shape = standard_shape;
+  steady = silent_steady;
   noise_peak = 0;
   seed = 0;
   clip = false;

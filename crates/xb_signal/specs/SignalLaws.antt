@@ -22,7 +22,10 @@ use Rattle.xb_signal.specs.declared.setting.Setting.{Setting}
 use Rattle.xb_signal.specs.declared.segment.Sound.TheVariants.{Keyed, Written}
 use Rattle.xb_signal.specs.Segments.{file_length, pair_segment, signal_of, silent}
 use Rattle.xb_signal.specs.Settings.{standard_setting}
+use Rattle.xb_signal.specs.declared.steady.Steady.{Steady}
+use Rattle.xb_signal.specs.Moments.{moment_after, start}
 use Rattle.xb_signal.specs.OneSample.{clean_sample}
+use Rattle.xb_signal.specs.Steadies.{steady_sample}
 use Rattle.xb_signal.specs.declared.shape.Shape.{Shape}
 use Rattle.xb_signal.specs.Texts.{segments_of_text}
 use Rattle.xb_signal.specs.Waves.{quarter, wave_sample}
@@ -85,6 +88,11 @@ pub record IsPlain (shape : Shape) : Type 0 where
 abbrev pub PlainKeysAreWritten : Type 0
 PlainKeysAreWritten = (setting : Setting) (tones : Pair) (n : ℕ) → IsPlain setting.shape
     → clean_sample setting (Keyed tones) n ≡ clean_sample setting (Written (tones.low ∷ tones.high ∷ [])) n
+
+-- what sounds all through goes on from one segment to the next: a later sample of it is that of its number
+abbrev pub SteadyGoesOn : Type 0
+SteadyGoesOn = (steady : Steady) (seed m n : ℕ)
+    → steady_sample steady ((moment_after (start seed) m).place + n) ≡ steady_sample steady (m + n)
 
 -- the WAV file of a signal is as long as is said beforehand
 abbrev pub FilesAreAsLong : Type 0

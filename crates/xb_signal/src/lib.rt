@@ -2,9 +2,10 @@
 //! tests a receiver.
 //!
 //! - `wave_sample`: sample n of a sine of whole Hz, at 8,000 samples a second, of one table of 8,000.
-//! - `Setting`: the amplitudes of the tones, and the noise that is added; `amplitude_of` gives that of a level.
-//! - `all_fit`: whether each sample of segments has 16 bits, whatever the noise is; a segment is up to six frequencies,
-//!   or silence, for a time.
+//! - `Setting`: the amplitudes of the tones, how keys are disturbed (`Shape`), what sounds all through (`Steady`), and
+//!   the noise; `amplitude_of` gives the amplitude of a level.
+//! - `all_fit`: whether each sample of segments has 16 bits, whatever is added; a segment is a key, or up to six
+//!   frequencies, or silence, for a time. A `Moment` is where one segment ends and the next begins.
 //! - `segments_of_text`: exactly `segments_of_text` of the words (`KP 555 1212 ST 2600:500 2400+2600:1000
 //!   silence:300`), after the silence before them. `NoWord` and `Loud` come exactly of the first word that is none, or
 //!   whose samples do not fit, with its place; `NoWords` exactly of a text of blanks.
@@ -14,7 +15,8 @@
 //!   receiver that waits for 10 ms of silence and then measures the six MF frequencies hears exactly the pairs of the
 //!   keys, in order, also those of KP2 and of the further kinds of ST. `waves_are_sines`: the table is round, and at the
 //!   multiples of 100 Hz it is that of the marks. `amplitudes_are_rounded`: the table of levels is right.
-//!   `noise_goes_on`: noise goes by the number of a sample. `files_are_as_long`. `worked_text`.
+//!   `noise_goes_on` and `steady_goes_on`: noise, and what sounds all through, go by the number of a sample.
+//!   `plain_keys_are_written`: a key that nothing disturbs is its two frequencies. `files_are_as_long`. `worked_text`.
 //!
 //! Not said: how much memory a run takes.
 #![tactic(auto)]
@@ -24,6 +26,7 @@ mod fault;
 mod keyed;
 pub mod laws;
 mod level;
+mod moment;
 mod name;
 mod noise;
 mod quarter;
@@ -32,6 +35,7 @@ mod samples;
 mod segment;
 mod setting;
 mod shape;
+mod steady;
 mod text;
 mod wave;
 mod word;
@@ -39,11 +43,13 @@ mod writing;
 
 pub use fault::{KeysFault, Place, SignalFault};
 pub use level::amplitude_of;
+pub use moment::Moment;
 pub use name::{Name, pair_of};
 pub use samples::all_fit;
 pub use segment::{MOST_TONES, Segment, Sound, Tones};
 pub use setting::Setting;
 pub use shape::Shape;
+pub use steady::Steady;
 pub use text::segments_of_text;
 pub use wave::{wave_at, wave_sample};
 pub use word::{MOST_HZ, MOST_MS};

@@ -1,14 +1,16 @@
 // One sample of what sounds, and of 16 bits.
 ghost use Rattle.std.specs.Prelude.{◌≡◌, ◌<◌, ◌≤◌, unsigned_abs};
-ghost use Rattle.xb_signal.specs.OneSample.{clean_sample, cut, fits, has_room, sample_at};
+ghost use Rattle.xb_signal.specs.OneSample.{clean_sample, cut, fits, has_room, peak_of, quiet_sample, sample_at};
 
 use crate::keyed::keyed_sample;
+use crate::moment::Moment;
 use crate::noise::noise;
 use crate::segment::Sound;
 use crate::setting::Setting;
+use crate::steady::{steady_peak, steady_sample};
 use crate::wave::mixed;
 
-// Sample n of what sounds, without noise.
+// Sample n of what sounds, with nothing added.
 pub(crate) fn clean_sample(setting: &Setting, sound: &Sound, n: u32) -> i32
     ensures value { result ≡ clean_sample setting.now sound.now n }
     ensures bound { unsigned_abs result ≤ 393210 }
@@ -39,19 +41,38 @@ fn cut(sample: i32) -> i16
     }
 }
 
-// Sample n of what sounds, and of the noise after a state.
-pub(crate) fn sample_at(setting: &Setting, state: u64, sound: &Sound, n: u32) -> i16
+// Sample n after a moment, of what sounds from then on and of what sounds all through.
+fn quiet_sample(setting: &Setting, moment: Moment, sound: &Sound, n: u32) -> i32
     requires { n < 524288 }
-    ensures { result ≡ sample_at setting.now state sound.now n }
+    ensures value { result ≡ quiet_sample setting.now moment sound.now n }
+    ensures bound { unsigned_abs result ≤ 983025 }
 {
-    let clean = clean_sample(setting, sound, n);
-    cut(clean + noise(setting.noise_peak, state, n))
+    let steady = steady_sample(&setting.steady, u32::from(moment.place) + n);
+    clean_sample(setting, sound, n) + steady
 }
 
-// Whether a sample has 16 bits with any noise up to the peak.
-pub(crate) fn has_room(peak: u16, sample: i32) -> bool
-    requires { unsigned_abs sample ≤ 393210 }
+// Sample n after a moment, of all that sounds and of the noise.
+pub(crate) fn sample_at(setting: &Setting, moment: Moment, sound: &Sound, n: u32) -> i16
+    requires { n < 524288 }
+    ensures { result ≡ sample_at setting.now moment sound.now n }
+{
+    let quiet = quiet_sample(setting, moment, sound, n);
+    cut(quiet + noise(setting.noise_peak, moment.noise, n))
+}
+
+// How much may be added to a sample of what sounds, or taken from it.
+pub(crate) fn peak_of(setting: &Setting) -> u32
+    ensures value { result ≡ peak_of setting.now }
+    ensures bound { result ≤ 655350 }
+{
+    u32::from(setting.noise_peak) + steady_peak(&setting.steady)
+}
+
+// Whether a sample has 16 bits with anything that is added up to the peak.
+pub(crate) fn has_room(peak: u32, sample: i32) -> bool
+    requires small { unsigned_abs sample ≤ 393210 }
+    requires few { peak ≤ 655350 }
     ensures { result ≡ has_room peak sample }
 {
-    fits(sample + i32::from(peak)) && fits(sample - i32::from(peak))
+    fits(sample + peak as i32) && fits(sample - peak as i32)
 }

@@ -3,6 +3,7 @@ ghost use Rattle.std.specs.Prelude.{◌≡◌};
 ghost use Rattle.xb_signal.specs.Settings.{standard_setting};
 
 use crate::shape::Shape;
+use crate::steady::Steady;
 
 /// How loud the tones of a signal are, and what is added to its samples.
 #[derive(Clone, Copy, Debug, PartialEq, Eq)]
@@ -13,6 +14,8 @@ pub struct Setting {
     pub high: u16,
     /// How the tones of each key are disturbed.
     pub shape: Shape,
+    /// What sounds all through.
+    pub steady: Steady,
     /// The greatest noise that is added to a sample, or taken from it. 0 is none.
     pub noise_peak: u16,
     /// Which noise it is: the state that the generator begins in.
@@ -30,6 +33,7 @@ impl Setting {
             low: 10_000,
             high: 10_000,
             shape: Shape::standard(),
+            steady: Steady::silent(),
             noise_peak: 0,
             seed: 0,
             clip: false,

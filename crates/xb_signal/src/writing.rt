@@ -5,13 +5,13 @@ ghost use Rattle.std.specs.List.{range_with_len};
 ghost use Rattle.xb_text.specs.Writing.{AppendsBeginning};
 ghost use Rattle.xb_sound.specs.Wavs.{pcm_of};
 ghost use Rattle.xb_signal.specs.Segments.{file_length, samples_in, segment_sound, signal_of};
-ghost use Rattle.xb_signal.specs.Noises.{state_after};
+ghost use Rattle.xb_signal.specs.Moments.{moment_after, start};
 ghost use Rattle.xb_signal.specs.OneSample.{sample_at};
 ghost use Rattle.xb_signal.specs.Writings.{bytes_of, head_before};
 
 use crate::block::{BLOCK_SAMPLES, Block};
 use crate::fault::SignalFault;
-use crate::noise::state_after;
+use crate::moment::Moment;
 use crate::sample::sample_at;
 use crate::segment::{SAMPLES_PER_MS, Segment, Sound};
 use crate::setting::Setting;
@@ -67,38 +67,38 @@ fn head_before(alloc: Global, raw: bool, segments: &[Segment]) -> Result<Vec<u8>
     Ok(head)
 }
 
-// The bytes of the samples of what sounds, from one sample up to another, with the noise after a state.
-fn block_of(setting: &Setting, state: u64, sound: &Sound, from: u32, end: u32) -> Block
+// The bytes of the samples of what sounds after a moment, from one sample up to another.
+fn block_of(setting: &Setting, moment: Moment, sound: &Sound, from: u32, end: u32) -> Block
     requires order { from ≤ end }
     requires room { end ≤ from + BLOCK_SAMPLES }
     requires places { end ≤ 524288 }
-    ensures { result ≡ pcm_of (map (λ n. sample_at setting.now state sound.now n)
+    ensures { result ≡ pcm_of (map (λ n. sample_at setting.now moment sound.now n)
         (range_with_len from (end - from))) }
 {
     let mut block = Block::new();
     for n in from..end {
-        block.push(sample_at(setting, state, sound, n));
+        block.push(sample_at(setting, moment, sound, n));
     }
     block
 }
 
-// Writes the samples of a segment, with the noise after a state.
+// Writes the samples of a segment after a moment.
 fn write_segment<W: Write>(
     out: &mut W,
     setting: &Setting,
-    state: u64,
+    moment: Moment,
     segment: &Segment,
 ) -> Result<(), WriteFault>
     ensures whole { OnOk result (Appends (W.contents out.old) (W.contents out.new)
-        (pcm_of (segment_sound setting.now state segment.now))) }
+        (pcm_of (segment_sound setting.now moment segment.now))) }
     ensures beginning { AppendsBeginning (W.contents out.old) (W.contents out.new)
-        (pcm_of (segment_sound setting.now state segment.now)) }
+        (pcm_of (segment_sound setting.now moment segment.now)) }
 {
     let samples = segment_length(segment);
     let mut from = 0u32;
     while from < samples {
         let end = samples.min(from + BLOCK_SAMPLES);
-        let block = block_of(setting, state, &segment.sound, from, end);
+        let block = block_of(setting, moment, &segment.sound, from, end);
         write_whole(out, block.bytes())?;
         from = end;
     }
@@ -116,10 +116,10 @@ fn write_segments<W: Write>(
     ensures beginning { AppendsBeginning (W.contents out.old) (W.contents out.new)
         (pcm_of (signal_of setting.now segments.now)) }
 {
-    let mut state = setting.seed;
+    let mut moment = Moment::start(setting.seed);
     for segment in segments {
-        write_segment(out, setting, state, segment)?;
-        state = state_after(state, segment_length(segment));
+        write_segment(out, setting, moment, segment)?;
+        moment = moment.after(segment_length(segment));
     }
     Ok(())
 }

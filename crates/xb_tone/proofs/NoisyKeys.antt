@@ -11,15 +11,19 @@ use Rattle.xb_sound.specs.declared.cadence.Cadence.{Cadence}
 use Rattle.xb_sound.specs.HeardKeys.{AreKeyed, IsKey}
 use Rattle.xb_ear.specs.Disturbed.{IsNear}
 use Rattle.xb_ear.proofs.WholeSounds.{noisy_keys_are_heard as near_keys_are_heard}
+use Rattle.xb_signal.specs.declared.moment.Moment.{Moment}
 use Rattle.xb_signal.specs.declared.segment.Segment.{Segment}
 use Rattle.xb_signal.specs.declared.segment.Sound.{Sound}
 use Rattle.xb_signal.specs.declared.segment.Sound.TheVariants.{Keyed, Written}
 use Rattle.xb_signal.specs.declared.setting.Setting.{Setting}
 use Rattle.xb_signal.specs.declared.shape.Shape.{Shape}
+use Rattle.xb_signal.specs.declared.steady.Steady.{Steady}
+use Rattle.xb_signal.specs.Moments.{moment_after, start}
+use Rattle.xb_signal.specs.Steadies.{steady_sample}
 use Rattle.xb_signal.specs.Noises.{noise, state_after, word_of}
 use Rattle.xb_signal.specs.Segments.{segment_sound, signal_from}
 use Rattle.xb_signal.specs.Settings.{standard_setting}
-use Rattle.xb_signal.specs.OneSample.{clean_sample, cut, sample_at}
+use Rattle.xb_signal.specs.OneSample.{clean_sample, cut, quiet_sample, sample_at}
 use Rattle.xb_signal.specs.Shapes.{keyed_sample}
 use Rattle.xb_signal.specs.Waves.{mixed}
 use Rattle.xb_signal.proofs.HeardNames.{keys_sound_as_marks}
@@ -114,23 +118,29 @@ clean-same setting quiet (Keyed pair) n =
     ∙ ap (λ (high : ℕ). keyed_sample 10000 high setting.shape pair n) quiet.high
     ∙ ap (λ (shape : Shape). keyed_sample 10000 10000 shape pair n) quiet.shape
 
-near-sample : (setting : Setting) → IsQuiet setting → (from to : ℕ) (sound : Sound) (n : ℕ)
+quiet-same : (setting : Setting) → IsQuiet setting → (from to : Moment) (sound : Sound) (n : ℕ)
+    → quiet_sample setting to sound n ≡ quiet_sample standard_setting from sound n
+quiet-same setting quiet from to sound n =
+    ap (λ (clean : ℤ). clean +ℤ steady_sample setting.steady (to.place + n)) (clean-same setting quiet sound n)
+    ∙ ap (λ (steady : Steady). clean_sample standard_setting sound n +ℤ steady_sample steady (to.place + n)) quiet.steady
+
+near-sample : (setting : Setting) → IsQuiet setting → (from to : Moment) (sound : Sound) (n : ℕ)
     → unsigned_abs (sample_at setting to sound n -ℤ sample_at standard_setting from sound n) ≤ setting.noise_peak
 near-sample setting quiet from to sound n =
     let plain = sample_at standard_setting from sound n in
     let peak : ℕ = setting.noise_peak in
-    subst (λ (clean : ℤ). unsigned_abs (cut (clean +ℤ noise peak to n) -ℤ plain) ≤ peak)
-    (sym (clean-same setting quiet sound n))
-    (noisy-sample peak (clean_sample standard_setting sound n) (noise peak to n) (noise 0 from n)
-    (noise-small peak to n) (noise-small 0 from n))
+    subst (λ (sample : ℤ). unsigned_abs (cut (sample +ℤ noise peak to.noise n) -ℤ plain) ≤ peak)
+    (sym (quiet-same setting quiet from to sound n))
+    (noisy-sample peak (quiet_sample standard_setting from sound n) (noise peak to.noise n) (noise 0 from.noise n)
+    (noise-small peak to.noise n) (noise-small 0 from.noise n))
 
 -- a signal with noise is near the one without, whatever the states of the two are
-near-signal : (setting : Setting) → IsQuiet setting → (from to : ℕ) (segments : List Segment)
+near-signal : (setting : Setting) → IsQuiet setting → (from to : Moment) (segments : List Segment)
     → IsNear setting.noise_peak (signal_from standard_setting from segments) (signal_from setting to segments)
 near-signal setting quiet from to [] = tt
 near-signal setting quiet from to (segment ∷ later) =
-    let from_next : ℕ = state_after from (segment.ms * 8) in
-    let to_next : ℕ = state_after to (segment.ms * 8) in
+    let from_next : Moment = moment_after from (segment.ms * 8) in
+    let to_next : Moment = moment_after to (segment.ms * 8) in
     near-append setting.noise_peak (segment_sound standard_setting from segment) (segment_sound setting to segment)
     (signal_from standard_setting from_next later) (signal_from setting to_next later)
     (near-map setting.noise_peak (λ n. sample_at standard_setting from segment.sound n)
@@ -149,14 +159,14 @@ are-keyed [] all = tt
 are-keyed (key ∷ keys) all = ((all.0, refl), are-keyed keys all.1)
 
 quiet-near : (setting : Setting) → IsQuiet setting → (segments : List Segment)
-    → IsNear 277 (signal_from standard_setting 0 segments) (signal_from setting setting.seed segments)
+    → IsNear 277 (signal_from standard_setting (start 0) segments) (signal_from setting (start setting.seed) segments)
 quiet-near setting quiet segments =
-    more-near setting.noise_peak 277 quiet.noise (signal_from standard_setting 0 segments)
-    (signal_from setting setting.seed segments) (near-signal setting quiet 0 setting.seed segments)
+    more-near setting.noise_peak 277 quiet.noise (signal_from standard_setting (start 0) segments)
+    (signal_from setting (start setting.seed) segments) (near-signal setting quiet (start 0) (start setting.seed) segments)
 
 pub noisy_keys_are_heard : NoisyKeysAreHeard
 noisy_keys_are_heard cadence keys setting hearable all quiet =
-    let samples = signal_from setting setting.seed (keyed cadence keys) in
+    let samples = signal_from setting (start setting.seed) (keyed cadence keys) in
     near_keys_are_heard cadence (Trunk 0 ∷ map tone keys) samples hearable (tt, are-keyed keys all)
     (subst (λ (clean : List ℤ). IsNear 277 clean samples) (keys_sound_as_marks cadence 0 keys all)
     (quiet-near setting quiet (keyed cadence keys)))

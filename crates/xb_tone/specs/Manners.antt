@@ -1,16 +1,20 @@
 -- How words of keys are to sound, by the options of the command line.
-use Rattle.std.specs.Prelude.{ℕ, ◌≡◌, suc, ◌||◌, List, Bool, if◌then◌else◌, Option, Some, None, codes, is_some, nat_le, option_map, ℤ, pos, negsuc, neg_ℤ, ◌+ℤ◌, unsigned_abs}
+use Rattle.std.specs.Prelude.{ℕ, ◌≡◌, suc, ◌&&◌, ◌||◌, List, Bool, if◌then◌else◌, Option, Some, None, codes, is_some, nat_le, option_map, ℤ, pos, negsuc, neg_ℤ, ◌+ℤ◌, unsigned_abs}
 use Rattle.std.specs.Option.{option_and_then, unwrap_or}
 use Rattle.clap.specs.Walk.{Row, Text, first_of}
 use Rattle.xb_command.specs.Given.{ReadsFlag, ReadsNumber, given_by}
+use Rattle.xb_contact.specs.Numbers.{number_of}
 use Rattle.xb_text.specs.Pieces.{cut_at}
 use Rattle.xb_signal.specs.declared.setting.Setting.{Setting}
 use Rattle.xb_signal.specs.declared.shape.Shape.{Shape}
+use Rattle.xb_signal.specs.declared.steady.Steady.{Steady}
+use Rattle.xb_signal.specs.declared.word.TheConstants.{MOST_HZ}
 use Rattle.xb_signal.specs.Levels.{amplitude_of}
 use Rattle.xb_tone.specs.declared.given.Given.{Given}
+use Rattle.xb_tone.specs.declared.manner.Beside.{Beside}
 use Rattle.xb_tone.specs.declared.manner.Hole.{Hole}
 use Rattle.xb_tone.specs.declared.manner.Manner.{Manner}
-use Rattle.xb_tone.specs.Givens.{figure_of, given_of, is_given, ms_said, said_or, time_of_key}
+use Rattle.xb_tone.specs.Givens.{figure_of, given_of, is_given, ms_said, said_or, signed_tenths, time_of_key}
 
 -- a hole of so many ms, so many ms after the beginning of a key, as `10@20`
 abbrev pub hole_said : List ℕ → Option Hole
@@ -21,6 +25,25 @@ hole_said text =
 abbrev pub hole_of : Option Text → Given Hole
 hole_of text = given_of hole_said text
 
+-- the amplitude of a level
+abbrev pub level_said : List ℕ → Option ℕ
+level_said text = option_and_then (λ level. amplitude_of level (pos 0)) (signed_tenths text)
+
+abbrev pub amplitude_given : Option Text → Given ℕ
+amplitude_given text = given_of level_said text
+
+abbrev pub hz_said : List ℕ → Option ℕ
+hz_said text = option_and_then (λ hz. if nat_le 1 hz && nat_le hz MOST_HZ then Some hz else None) (number_of text)
+
+-- a steady tone of so many Hz and of a level, as `2600:-13.5`
+abbrev pub beside_said : List ℕ → Option Beside
+beside_said text =
+    option_and_then (λ parts. option_and_then (λ hz. option_map (λ size. record { hz = hz; amplitude = size })
+    (level_said parts.1)) (hz_said parts.0)) (cut_at 58 text)
+
+abbrev pub beside_of : Option Text → Given Beside
+beside_of text = given_of beside_said text
+
 -- what clap matched says this
 pub record SayManner (rows : List Row) (manner : Manner) : Type 0 where
   pub level : manner.level ≡ figure_of (first_of (codes "level") rows)
@@ -28,6 +51,8 @@ pub record SayManner (rows : List Row) (manner : Manner) : Type 0 where
   pub detune : manner.detune ≡ figure_of (first_of (codes "detune") rows)
   pub skew : manner.skew ≡ time_of_key (first_of (codes "skew") rows)
   pub hole : manner.hole ≡ hole_of (first_of (codes "hole") rows)
+  pub beside : manner.beside ≡ beside_of (first_of (codes "with") rows)
+  pub hum : manner.hum ≡ amplitude_given (first_of (codes "hum") rows)
   pub noise_peak : ReadsNumber (given_by rows (codes "noise-peak")) manner.noise_peak
   pub seed : ReadsNumber (given_by rows (codes "seed")) manner.seed
   pub clip : ReadsFlag (given_by rows (codes "clip")) manner.clip
@@ -67,21 +92,34 @@ shape_of manner =
     }) (said_or manner.hole no_hole)) (said_or manner.skew (pos 0)))
     (option_and_then pitch_of (said_or manner.detune (pos 0)))
 
+abbrev pub no_tone : Beside
+no_tone = record { hz = 0; amplitude = 0 }
+
+-- what is to sound all through
+abbrev pub steady_of : Manner → Option Steady
+steady_of manner =
+    option_and_then (λ (beside : Beside). option_map (λ hum. record {
+      hz = beside.hz;
+      amplitude = beside.amplitude;
+      hum = hum;
+    }) (said_or manner.hum 0)) (said_or manner.beside no_tone)
+
 -- how words of keys are to sound; the noise has a peak of up to 32,767
 abbrev pub setting_of : Manner → Option Setting
 setting_of manner =
-    option_and_then (λ (levels : ℕ × ℕ). option_and_then (λ (shape : Shape).
+    option_and_then (λ (levels : ℕ × ℕ). option_and_then (λ (shape : Shape). option_and_then (λ (steady : Steady).
     if nat_le (unwrap_or manner.noise_peak 0) 32767 then Some (record {
       low = levels.0;
       high = levels.1;
       shape = shape;
+      steady = steady;
       noise_peak = unwrap_or manner.noise_peak 0;
       seed = unwrap_or manner.seed 0;
       clip = manner.clip;
-    }) else None) (shape_of manner)) (amplitudes_of manner)
+    }) else None) (steady_of manner)) (shape_of manner)) (amplitudes_of manner)
 
 -- whether they say anything of that
 abbrev pub has_manner : Manner → Bool
 has_manner manner =
     is_given manner.level || is_given manner.twist || is_given manner.detune || is_given manner.skew
-    || is_given manner.hole || is_some manner.noise_peak || is_some manner.seed || manner.clip
+    || is_given manner.hole || is_given manner.beside || is_given manner.hum || is_some manner.noise_peak || is_some manner.seed || manner.clip

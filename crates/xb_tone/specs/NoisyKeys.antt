@@ -12,6 +12,7 @@ use Rattle.xb_signal.specs.declared.setting.Setting.{Setting}
 use Rattle.xb_signal.specs.Segments.{signal_of, silent}
 use Rattle.xb_signal.specs.Settings.{standard_setting}
 use Rattle.xb_signal.specs.Shapes.{standard_shape}
+use Rattle.xb_signal.specs.Steadies.{silent_steady}
 use Rattle.xb_signal.specs.SignalLaws.{names_of}
 use Rattle.xb_signal.specs.Words.{key_segments}
 use Rattle.xb_tone.specs.declared.manner.Manner.{Manner}
@@ -26,6 +27,7 @@ pub record IsQuiet (setting : Setting) : Type 0 where
   pub low : setting.low ≡ 10000
   pub high : setting.high ≡ 10000
   pub shape : setting.shape ≡ standard_shape
+  pub steady : setting.steady ≡ silent_steady
   pub noise : setting.noise_peak ≤ MOST_NOISE
 
 -- so just these keys are heard, whatever the seed is

@@ -22,12 +22,15 @@ options =
     ∷ (codes "detune", takes.Text)
     ∷ (codes "skew", takes.Text)
     ∷ (codes "hole", takes.Text)
+    ∷ (codes "with", takes.Text)
+    ∷ (codes "hum", takes.Text)
     ∷ (codes "noise-peak", takes.Number)
     ∷ (codes "seed", takes.Number)
     ∷ (codes "clip", takes.Nothing)
     ∷ []
 
 -- `mftone [--line N] [--entry N] [--lead N] [--kp N] [--key N] [--gap N] [--raw] [--keys WORDS]
--- [--level DBM0] [--twist DB] [--detune PERCENT] [--skew MS] [--hole MS@MS] [--noise-peak N] [--seed N] [--clip]`
+-- [--level DBM0] [--twist DB] [--detune PERCENT] [--skew MS] [--hole MS@MS] [--with HZ:DBM0] [--hum DBM0]
+-- [--noise-peak N] [--seed N] [--clip]`
 abbrev pub command_of_words : App
 command_of_words = command_of (codes "mftone") options

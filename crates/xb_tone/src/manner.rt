@@ -1,12 +1,13 @@
 // How words of keys are to sound, by the options of the command line.
 ghost use Rattle.std.specs.Prelude.{◌≡◌};
 ghost use Rattle.xb_tone.specs.Givens.{figure_of, time_of_key};
-ghost use Rattle.xb_tone.specs.Manners.{SayManner, has_manner, high_late, hole_of, hole_said, low_late, pitch_of, setting_of, shape_of};
+ghost use Rattle.xb_tone.specs.Manners.{SayManner, amplitude_given, beside_of, beside_said, has_manner, high_late, hole_of, hole_said, hz_said, level_said, low_late, pitch_of, setting_of, shape_of, steady_of};
 ghost use Rattle.xb_tone.specs.Options.{named};
 
 use crate::given::{Given, given_as, is_given, ms_said, said_or, signed_ms, signed_tenths};
 use xb_command::Words;
-use xb_signal::{Setting, Shape, amplitude_of};
+use xb_contact::number_of;
+use xb_signal::{MOST_HZ, Setting, Shape, Steady, amplitude_of};
 use xb_text::cut_at;
 
 // What the options say of how words of keys sound.
@@ -17,6 +18,8 @@ pub(crate) struct Manner {
     pub(crate) detune: Given<i16>,
     pub(crate) skew: Given<i16>,
     pub(crate) hole: Given<Hole>,
+    pub(crate) beside: Given<Beside>,
+    pub(crate) hum: Given<u16>,
     pub(crate) noise_peak: Option<u32>,
     pub(crate) seed: Option<u32>,
     pub(crate) clip: bool,
@@ -29,6 +32,15 @@ pub(crate) struct Hole {
     pub(crate) ms: u16,
     // How long after the beginning of the key it begins, in ms.
     pub(crate) from_ms: u16,
+}
+
+// A steady tone.
+#[derive(Clone, Copy)]
+pub(crate) struct Beside {
+    // Its frequency, in Hz.
+    pub(crate) hz: u16,
+    // Its amplitude.
+    pub(crate) amplitude: u16,
 }
 
 // The level of a tone in tenths of a dBm0, unless another is asked for.
@@ -81,6 +93,56 @@ fn hole_of(text: Option<&str>) -> Given<Hole>
     }
 }
 
+// The amplitude of the level that a text says.
+fn level_said(text: &[u8]) -> Option<u16>
+    ensures { result ≡ level_said text.now }
+{
+    amplitude_of(signed_tenths(text)?, 0)
+}
+
+// The frequency that a text says, in Hz.
+fn hz_said(text: &[u8]) -> Option<u16>
+    ensures { result ≡ hz_said text.now }
+{
+    let hz = number_of(text)?;
+    if 1 <= hz && hz <= u64::from(MOST_HZ) {
+        Some(hz as u16)
+    } else {
+        None
+    }
+}
+
+// The steady tone that a text says, as `2600:-13.5`.
+fn beside_said(text: &[u8]) -> Option<Beside>
+    ensures { result ≡ beside_said text.now }
+{
+    let (hz, level) = cut_at(b':', text)?;
+    Some(Beside {
+        hz: hz_said(hz)?,
+        amplitude: level_said(level)?,
+    })
+}
+
+// The steady tone that an option is given.
+fn beside_of(text: Option<&str>) -> Given<Beside>
+    ensures { result ≡ beside_of (named text.entry) }
+{
+    match text {
+        Some(text) => given_as(beside_said(text.as_bytes())),
+        None => Given::Absent,
+    }
+}
+
+// The amplitude that an option is given.
+fn amplitude_given(text: Option<&str>) -> Given<u16>
+    ensures { result ≡ amplitude_given (named text.entry) }
+{
+    match text {
+        Some(text) => given_as(level_said(text.as_bytes())),
+        None => Given::Absent,
+    }
+}
+
 // What the words say of it.
 pub(crate) fn manner_of(words: &Words) -> Manner
     ensures { SayManner words.now result }
@@ -91,6 +153,8 @@ pub(crate) fn manner_of(words: &Words) -> Manner
         detune: figure_of(words.text("detune")),
         skew: time_of_key(words.text("skew")),
         hole: hole_of(words.text("hole")),
+        beside: beside_of(words.text("with")),
+        hum: amplitude_given(words.text("hum")),
         noise_peak: words.number("noise-peak"),
         seed: words.number("seed"),
         clip: words.flag("clip"),
@@ -138,6 +202,23 @@ fn shape_of(manner: Manner) -> Option<Shape>
     })
 }
 
+// What is to sound all through; `None` where an option has not its form, or a figure is out of its range.
+fn steady_of(manner: Manner) -> Option<Steady>
+    ensures { result ≡ steady_of manner }
+{
+    let nothing = Beside {
+        hz: 0,
+        amplitude: 0,
+    };
+    let beside = said_or(manner.beside, nothing)?;
+    let hum = said_or(manner.hum, 0)?;
+    Some(Steady {
+        hz: beside.hz,
+        amplitude: beside.amplitude,
+        hum,
+    })
+}
+
 // How words of keys are to sound; `None` where an option has not its form, or a figure is out of its range.
 pub(crate) fn setting_of(manner: Manner) -> Option<Setting>
     ensures { result ≡ setting_of manner }
@@ -147,6 +228,7 @@ pub(crate) fn setting_of(manner: Manner) -> Option<Setting>
     let low = amplitude_of(level, 0)?;
     let high = amplitude_of(level, twist)?;
     let shape = shape_of(manner)?;
+    let steady = steady_of(manner)?;
     let noise_peak = manner.noise_peak.unwrap_or(0);
     if noise_peak > MOST_NOISE_PEAK {
         return None;
@@ -155,6 +237,7 @@ pub(crate) fn setting_of(manner: Manner) -> Option<Setting>
         low,
         high,
         shape,
+        steady,
         noise_peak: noise_peak as u16,
         seed: u64::from(manner.seed.unwrap_or(0)),
         clip: manner.clip,
@@ -170,6 +253,8 @@ pub(crate) fn has_manner(manner: Manner) -> bool
         || is_given(&manner.detune)
         || is_given(&manner.skew)
         || is_given(&manner.hole)
+        || is_given(&manner.beside)
+        || is_given(&manner.hum)
         || manner.noise_peak.is_some()
         || manner.seed.is_some()
         || manner.clip

@@ -24,7 +24,7 @@ pub(crate) struct Options {
 }
 
 // The options of the program, each under its name.
-const OPTIONS: [(&str, Takes); 16] = [
+const OPTIONS: [(&str, Takes); 18] = [
     ("line", Takes::Number),
     ("entry", Takes::Number),
     ("lead", Takes::Number),
@@ -38,6 +38,8 @@ const OPTIONS: [(&str, Takes); 16] = [
     ("detune", Takes::Text),
     ("skew", Takes::Text),
     ("hole", Takes::Text),
+    ("with", Takes::Text),
+    ("hum", Takes::Text),
     ("noise-peak", Takes::Number),
     ("seed", Takes::Number),
     ("clip", Takes::Nothing),

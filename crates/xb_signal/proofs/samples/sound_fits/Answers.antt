@@ -1,8 +1,8 @@
-use Rattle.std.proofs.Common.{◌≡◌, ◌∙◌, ℕ, ◌+◌, ◌*◌, ◌-◌, ◌<◌, Bool, true, false, ◌&&◌, ap, sym, arith, FitsSigned, rules}
+use Rattle.std.proofs.Common.{◌≡◌, ◌∙◌, ℕ, ◌+◌, ◌*◌, ◌-◌, ◌<◌, Bool, true, false, ◌&&◌, ap, sym, arith, FitsSigned, to_z, of_z, rules}
 use Rattle.std.specs.Int.{w32}
 use Rattle.std.specs.List.{list_all, range_with_len}
 use Rattle.std.proofs.lemmas.Int.{to_z-of_z}
-use Rattle.xb_signal.specs.OneSample.{clean_sample, has_room}
+use Rattle.xb_signal.specs.OneSample.{clean_sample, has_room, peak_of}
 use Rattle.xb_signal.proofs.Ranges.{all_fail, all_left}
 use Rattle.xb_signal.proofs.samples.sound_fits.Goals as goal
 
@@ -12,13 +12,15 @@ loop-n-preserved c =
     let all : ℕ = c.args.ms * 8 in
     let setting = c.args.setting.now in
     let test : ℕ → Bool =
-    λ n. has_room setting.noise_peak (clean_sample setting c.args.sound.now n) in
+    λ n. has_room (peak_of setting) (clean_sample setting c.args.sound.now n) in
     let below : n < all = omega (arith, c.loop-n-test.true, c.from-n-end.ensures) in
     let fits_sum : FitsSigned w32 c.clean_sample-clean.result = search rules in
     let yes : c.has_room.result ≡ true = search rules in
     let here : test n ≡ true =
     sym (c.has_room.ensures
-    ∙ ap (has_room setting.noise_peak) (to_z-of_z w32 c.clean_sample-clean.result fits_sum ∙ c.clean_sample-clean.ensures.value))
+    ∙ ap (λ (peak : ℕ). has_room peak (to_z w32 (of_z w32 c.clean_sample-clean.result))) c.peak_of-peak.ensures.value
+    ∙ ap (has_room (peak_of setting)) (to_z-of_z w32 c.clean_sample-clean.result fits_sum
+    ∙ c.clean_sample-clean.ensures.value))
     ∙ yes in
     c.loop-n.invariant
     ∙ all_left test n all below
@@ -30,12 +32,14 @@ returns-then-not-has_room c =
     let all : ℕ = c.args.ms * 8 in
     let setting = c.args.setting.now in
     let test : ℕ → Bool =
-    λ n. has_room setting.noise_peak (clean_sample setting c.args.sound.now n) in
+    λ n. has_room (peak_of setting) (clean_sample setting c.args.sound.now n) in
     let below : n < all = omega (arith, c.loop-n-test.true, c.from-n-end.ensures) in
     let fits_sum : FitsSigned w32 c.clean_sample-clean.result = search rules in
     let no : c.has_room.result ≡ false = search rules in
     let here : test n ≡ false =
     sym (c.has_room.ensures
-    ∙ ap (has_room setting.noise_peak) (to_z-of_z w32 c.clean_sample-clean.result fits_sum ∙ c.clean_sample-clean.ensures.value))
+    ∙ ap (λ (peak : ℕ). has_room peak (to_z w32 (of_z w32 c.clean_sample-clean.result))) c.peak_of-peak.ensures.value
+    ∙ ap (has_room (peak_of setting)) (to_z-of_z w32 c.clean_sample-clean.result fits_sum
+    ∙ c.clean_sample-clean.ensures.value))
     ∙ no in
     sym (c.loop-n.invariant ∙ all_fail test n all below here)

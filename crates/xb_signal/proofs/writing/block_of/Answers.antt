@@ -16,7 +16,7 @@ longer old new x n from pushed size begun =
 
 pub loop-n-preserved : goal.loop-n-preserved
 loop-n-preserved c =
-    let f : ℕ → ℤ = λ n. sample_at c.args.setting.now c.args.state c.args.sound.now n in
+    let f : ℕ → ℤ = λ n. sample_at c.args.setting.now c.args.moment c.args.sound.now n in
     let n = c.loop-n.n in
     let from = c.args.from in
     let fits : FitsSigned w16 c.sample_at.result = search rules in

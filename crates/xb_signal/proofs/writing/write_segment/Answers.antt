@@ -9,7 +9,7 @@ use Rattle.xb_signal.proofs.writing.write_segment.Goals as goal
 
 pub returns-in_err-write_whole-clause-beginning : goal.returns-in_err-write_whole-clause-beginning
 returns-in_err-write_whole-clause-beginning g c =
-    let f : ℕ → ℤ = λ n. sample_at c.args.setting.now c.args.state c.args.segment.now.sound n in
+    let f : ℕ → ℤ = λ n. sample_at c.args.setting.now c.args.moment c.args.segment.now.sound n in
     let at = c.loop-from.from in
     let end = c.min-end.result in
     let all : ℕ = c.args.segment.now.ms * 8 in
@@ -29,7 +29,7 @@ returns-in_err-write_whole-clause-beginning g c =
 
 pub loop-from-preserved : goal.loop-from-preserved
 loop-from-preserved g c =
-    let f : ℕ → ℤ = λ n. sample_at c.args.setting.now c.args.state c.args.segment.now.sound n in
+    let f : ℕ → ℤ = λ n. sample_at c.args.setting.now c.args.moment c.args.segment.now.sound n in
     let at = c.loop-from.from in
     let end = c.min-end.result in
     let old = g.W.Write.contents c.args.out.now in
@@ -50,7 +50,7 @@ loop-from-preserved g c =
 
 pub returns-clause-beginning : goal.returns-clause-beginning
 returns-clause-beginning g c =
-    let f : ℕ → ℤ = λ n. sample_at c.args.setting.now c.args.state c.args.segment.now.sound n in
+    let f : ℕ → ℤ = λ n. sample_at c.args.setting.now c.args.moment c.args.segment.now.sound n in
     let old = g.W.Write.contents c.args.out.now in
     let new = g.W.Write.contents c.loop-from.out in
     let all : c.loop-from.from ≡ c.args.segment.now.ms * 8 =

@@ -5,14 +5,15 @@ use Rattle.std.proofs.lemmas.List.{take_all}
 use Rattle.xb_text.specs.Writing.{AppendsBeginning}
 use Rattle.xb_sound.specs.Wavs.{pcm_of}
 use Rattle.xb_sound.proofs.Beginnings.{beginning-after, beginning-more, whole-begins}
+use Rattle.xb_signal.specs.declared.moment.Moment.{Moment}
 use Rattle.xb_signal.specs.declared.segment.Segment.{Segment}
-use Rattle.xb_signal.specs.Noises.{state_after}
+use Rattle.xb_signal.specs.Moments.{moment_after, start}
 use Rattle.xb_signal.specs.Segments.{segment_sound, signal_from, signal_of}
-use Rattle.xb_signal.proofs.Parts.{signal-next, signal-parts, state-taken, state_before}
+use Rattle.xb_signal.proofs.Parts.{signal-next, signal-parts, moment-taken, moment_before}
 use Rattle.xb_signal.proofs.writing.write_segments.Goals as goal
 
 pub loop-segment-init : goal.loop-segment-init
-loop-segment-init g c = record { state = refl; written = Appends-nil _ }
+loop-segment-init g c = record { moment = c.start-moment.ensures; written = Appends-nil _ }
 
 pub loop-segment-preserved : goal.loop-segment-preserved
 loop-segment-preserved g c =
@@ -23,19 +24,19 @@ loop-segment-preserved g c =
     let old = g.W.Write.contents c.args.out.now in
     let mid = g.W.Write.contents c.loop-segment.out in
     let new = g.W.Write.contents c.write_segment.new.out in
-    let before : ℕ = state_before setting.seed (take i segments) in
+    let before : Moment = moment_before (start setting.seed) (take i segments) in
     let part : Appends mid new (pcm_of (segment_sound setting before segment)) =
-    subst (λ (state : ℕ). Appends mid new (pcm_of (segment_sound setting state segment))) c.loop-segment.invariant.state
+    subst (λ (moment : Moment). Appends mid new (pcm_of (segment_sound setting moment segment))) c.loop-segment.invariant.moment
     c.in_ok-write_segment.ensures.whole in
     record {
-      state =
-          c.state_after-state.ensures
-          ∙ ap (λ (n : ℕ). state_after c.loop-segment.state n) c.segment_length.ensures.value
-          ∙ ap (λ (state : ℕ). state_after state (segment.ms * 8)) c.loop-segment.invariant.state
-          ∙ sym (state-taken setting.seed segments i segment c.loop-segment-test.true c.segment-item.is);
+      moment =
+          c.after-moment.ensures
+          ∙ ap (λ (n : ℕ). moment_after c.loop-segment.moment n) c.segment_length.ensures.value
+          ∙ ap (λ (moment : Moment). moment_after moment (segment.ms * 8)) c.loop-segment.invariant.moment
+          ∙ sym (moment-taken (start setting.seed) segments i segment c.loop-segment-test.true c.segment-item.is);
       written =
           subst (λ (bytes : List ℕ). Appends old new bytes)
-          (sym (signal-next setting setting.seed segments i segment c.loop-segment-test.true c.segment-item.is))
+          (sym (signal-next setting (start setting.seed) segments i segment c.loop-segment-test.true c.segment-item.is))
           (Appends-trans old mid new (pcm_of (signal_of setting (take i segments)))
           (pcm_of (segment_sound setting before segment)) c.loop-segment.invariant.written part);
     }
@@ -49,14 +50,14 @@ returns-in_err-write_segment-clause-beginning g c =
     let old = g.W.Write.contents c.args.out.now in
     let mid = g.W.Write.contents c.loop-segment.out in
     let new = g.W.Write.contents c.write_segment.new.out in
-    let before : ℕ = state_before setting.seed (take i segments) in
-    let rest = pcm_of (signal_from setting (state_after before (segment.ms * 8)) (drop (suc i) segments)) in
+    let before : Moment = moment_before (start setting.seed) (take i segments) in
+    let rest = pcm_of (signal_from setting (moment_after before (segment.ms * 8)) (drop (suc i) segments)) in
     let part = pcm_of (segment_sound setting before segment) in
     let begun : AppendsBeginning mid new part =
-    subst (λ (state : ℕ). AppendsBeginning mid new (pcm_of (segment_sound setting state segment)))
-    c.loop-segment.invariant.state c.write_segment.ensures.beginning in
+    subst (λ (moment : Moment). AppendsBeginning mid new (pcm_of (segment_sound setting moment segment)))
+    c.loop-segment.invariant.moment c.write_segment.ensures.beginning in
     subst (λ bytes. AppendsBeginning old new bytes)
-    (sym (signal-parts setting setting.seed segments i segment c.loop-segment-test.true c.segment-item.is))
+    (sym (signal-parts setting (start setting.seed) segments i segment c.loop-segment-test.true c.segment-item.is))
     (beginning-after old mid new (pcm_of (signal_of setting (take i segments))) (part ++ rest)
     c.loop-segment.invariant.written (beginning-more mid new part rest begun))
 

@@ -1,14 +1,14 @@
 use Rattle.std.proofs.Common.{◌≡◌, take}
 use Rattle.std.specs.Io.KnownBytes.{Appends}
 use Rattle.xb_sound.specs.Wavs.{pcm_of}
-use Rattle.xb_signal.specs.Noises.{state_after}
+use Rattle.xb_signal.specs.Moments.{moment_after, start}
 use Rattle.xb_signal.specs.Segments.{samples_in, signal_of}
-use Rattle.xb_signal.proofs.Parts.{state_before}
+use Rattle.xb_signal.proofs.Parts.{moment_before}
 use Rattle.xb_signal.proofs.writing.write_segments.Given as goal
 
 abbrev pub invariant-loop-segment : goal.invariant-loop-segment
 invariant-loop-segment g l = record {
-  state : l.state ≡ state_before l.setting.seed (take l.segment-index l.segments);
+  moment : l.moment ≡ moment_before (start l.setting.seed) (take l.segment-index l.segments);
   written :
       Appends (g.W.Write.contents l.initial.out) (g.W.Write.contents l.out)
       (pcm_of (signal_of l.setting (take l.segment-index l.segments)));
