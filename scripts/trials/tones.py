@@ -3,7 +3,7 @@ code with mftone.
 
     tones.py LEAD KP KEY GAP < ENTRIES > WAV
     tones.py LEAD KP KEY GAP WORDS [--level DBM0] [--twist DB] [--detune PERCENT] [--skew MS] [--hole MS@MS]
-        [--with HZ:DBM0] [--hum DBM0] [--noise-peak N] [--seed N] [--clip] > WAV
+        [--phase] [--with HZ:DBM0] [--hum DBM0] [--noise-peak N] [--seed N] [--clip] > WAV
 
 Entries are lines of a page of mfbank; what is no keyed entry is passed over. WORDS are those of mftone --keys, and have
 to be right, but one may be too loud: then nothing is written, its place is told, and the status is 1. The four times
@@ -41,14 +41,23 @@ def scaled(size, sample):
     return int(math.copysign((size * abs(sample) * 2 + AMPLITUDE) // (2 * AMPLITUDE), sample))
 
 
+def state_after(state, steps):
+    """Returns the state of the generator after so many steps."""
+    return (state + steps * 0x9E3779B97F4A7C15) % 2**64
+
+
+def word_of(state):
+    """Returns the word that the generator makes of a state."""
+    word = (state ^ (state >> 30)) * 0xBF58476D1CE4E5B9 % 2**64
+    word = (word ^ (word >> 27)) * 0x94D049BB133111EB % 2**64
+    return word ^ (word >> 31)
+
+
 def splitmix64(seed):
     """Gives the words of the generator, one after the other."""
-    mask = 2**64 - 1
     while True:
-        seed = (seed + 0x9E3779B97F4A7C15) & mask
-        word = ((seed ^ (seed >> 30)) * 0xBF58476D1CE4E5B9) & mask
-        word = ((word ^ (word >> 27)) * 0x94D049BB133111EB) & mask
-        yield word ^ (word >> 31)
+        seed = state_after(seed, 1)
+        yield word_of(seed)
 
 
 def silence(ms):
@@ -66,14 +75,19 @@ def tuned(hz, percent):
     return math.floor(hz * (100 + fractions.Fraction(percent)) / 100 + fractions.Fraction(1, 2))
 
 
-def key(pair, ms, levels, given):
-    """Returns the samples of the two tones of a key, disturbed as is asked for."""
+def key(pair, ms, levels, given, before):
+    """Returns the samples of the two tones of a key, disturbed as is asked for, after so many samples of the signal."""
     hole, start = (8 * int(it) for it in given.hole.split("@"))
     late = max(0, -8 * given.skew), max(0, 8 * given.skew)
     hertz = [tuned(int(hz), given.detune) for hz in pair.split("+")]
+    drawn = splitmix64(word_of(state_after(given.seed, before)))
+    starts = [next(drawn) % RATE if given.phase else 0 for _ in hertz]
     return [
         0 if start <= n < start + hole
-        else sum(scaled(*it) for it in zip(levels, (sine(hz, n - by) if n >= by else 0 for hz, by in zip(hertz, late))))
+        else sum(
+            scaled(level, sine(1, start + hz * (n - by)))
+            for level, hz, by, start in zip(levels, hertz, late, starts) if n >= by
+        )
         for n in range(8 * ms)
     ]
 
@@ -130,8 +144,10 @@ def named(given, levels):
             made = tone(what, int(ms), *levels)
         else:
             for name in [word] if word in PAIRS else word:
-                made += key(PAIRS[name], kp_ms if name.startswith("KP") else key_ms, levels, given) + silence(gap)
-        if not given.clip and any(it + peak > 32767 or it - peak < -32768 for it in made):
+                lasts = kp_ms if name.startswith("KP") else key_ms
+                made += key(PAIRS[name], lasts, levels, given, len(samples) + len(made)) + silence(gap)
+        greatest = [sum(levels)] if given.phase and not ms else made
+        if not given.clip and any(it + peak > 32767 or it - peak < -32768 for it in greatest):
             sys.exit(f"word {place}, at byte {byte}, is too loud for 16 bits")
         samples += made
     return samples
@@ -169,6 +185,7 @@ def attend():
     reader.add_argument("--detune", default="0")
     reader.add_argument("--skew", type=int, default=0)
     reader.add_argument("--hole", default="0@0")
+    reader.add_argument("--phase", action="store_true")
     reader.add_argument("--with", dest="steady")
     reader.add_argument("--hum", type=float)
     reader.add_argument("--noise-peak", type=int, default=0)

@@ -106,6 +106,18 @@ const SOUNDS: &[(&[&str], &[u8], usize, u64)] = &[
     ),
     (
         &[
+            "--keys=KP 555 1212 ST",
+            "--phase",
+            "--seed=5",
+            "--skew=1",
+            "--detune=1.5",
+        ],
+        PAGE,
+        28_140,
+        3_423_523_222,
+    ),
+    (
+        &[
             "--keys=KP 7",
             "--level=0",
             "--twist=-39.9",

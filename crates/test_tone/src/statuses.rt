@@ -28,7 +28,7 @@ impl Program for Mftone {
 
 const USAGE: &[u8] = b"mftone: usage: mftone [--line N] [--entry N] [--lead N] [--kp N] [--key N] \
 [--gap N] [--raw] [--keys WORDS] [--level DBM0] [--twist DB] [--detune PERCENT] [--skew MS] \
-[--hole MS@MS] [--with HZ:DBM0] [--hum DBM0] [--noise-peak N] [--seed N] [--clip]\n";
+[--hole MS@MS] [--phase] [--with HZ:DBM0] [--hum DBM0] [--noise-peak N] [--seed N] [--clip]\n";
 
 // The words after the program's name, the page, the status, and what stands on standard error; nothing is
 // written.
@@ -138,7 +138,7 @@ const CASES: &[(&[&str], &[u8], u8, &[u8])] = &[
         b"mftone: keys: word 2, at byte 4, is too loud for 16 bits\n",
     ),
     (
-        &["--keys", "silence:9 KP", "--hum=-10"],
+        &["--keys", "silence:9 KP", "--hum=-9"],
         PAGE,
         1,
         b"mftone: keys: word 2, at byte 11, is too loud for 16 bits\n",

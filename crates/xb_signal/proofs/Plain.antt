@@ -7,7 +7,7 @@ use Rattle.xb_signal.specs.OneSample.{clean_sample, cut}
 use Rattle.xb_signal.specs.Settings.{standard_setting}
 
 abbrev pub plain_sample : Sound → ℕ → ℤ
-plain_sample sound n = cut (clean_sample standard_setting sound n)
+plain_sample sound n = cut (clean_sample standard_setting 0 sound n)
 
 abbrev pub plain_tones : Sound → ℕ → List ℤ
 plain_tones sound ms = map (λ n. plain_sample sound n) (range_with_len 0 (ms * 8))

@@ -95,8 +95,8 @@ pair-small a b n = sum-small (sine_sample (a * 100) n) (sine_sample (b * 100) n)
 pair-wave : (a b n : ℕ)
     → plain_sample (Keyed (pair (a * 100) (b * 100))) n ≡ pair_sample (pair (a * 100) (b * 100)) n
 pair-wave a b n =
-    ap cut (plain_keys_are_written standard_setting (pair (a * 100) (b * 100)) n
-    (record { pitch = refl; low = refl; high = refl; hole = refl }) ∙ clean-pair a b n)
+    ap cut (plain_keys_are_written standard_setting 0 (pair (a * 100) (b * 100)) n
+    (record { pitch = refl; low = refl; high = refl; hole = refl; start = refl }) ∙ clean-pair a b n)
     ∙ cut-small (pair_sample (pair (a * 100) (b * 100)) n) (pair-small a b n)
 
 pub same-waves : (f g : ℕ → ℤ) → ((n : ℕ) → f n ≡ g n) → (m i : ℕ)
@@ -133,10 +133,17 @@ no-noise state n =
 plus-none : (x : ℤ) → x +ℤ pos 0 ≡ x
 plus-none x = omega (arith, ints)
 
+-- where no place is drawn the state counts for nothing
+any-state : (state : ℕ) (sound : Sound) (n : ℕ)
+    → clean_sample standard_setting state sound n ≡ clean_sample standard_setting 0 sound n
+any-state state (Written tones) n = refl
+any-state state (Keyed tones) n = refl
+
 plain-at : (moment : Moment) (sound : Sound) (n : ℕ) → sample_at standard_setting moment sound n ≡ plain_sample sound n
 plain-at moment sound n =
-    let clean = clean_sample standard_setting sound n in
-    ap (λ (x : ℤ). cut ((clean +ℤ pos 0) +ℤ x)) (no-noise moment.noise n)
+    let clean = clean_sample standard_setting 0 sound n in
+    ap (λ (x : ℤ). cut ((x +ℤ pos 0) +ℤ noise 0 moment.noise n)) (any-state moment.noise sound n)
+    ∙ ap (λ (x : ℤ). cut ((clean +ℤ pos 0) +ℤ x)) (no-noise moment.noise n)
     ∙ ap (λ (x : ℤ). cut (x +ℤ pos 0)) (plus-none clean)
     ∙ ap cut (plus-none clean)
 

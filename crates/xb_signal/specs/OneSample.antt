@@ -1,5 +1,5 @@
 -- Samples of what sounds, and of 16 bits.
-use Rattle.std.specs.Prelude.{ℕ, ◌+◌, Bool, ◌&&◌, if◌then◌else◌, nat_le, ℤ, pos, negsuc, ◌+ℤ◌, ◌-ℤ◌}
+use Rattle.std.specs.Prelude.{ℕ, ◌+◌, Bool, false, ◌&&◌, if◌then◌else◌, nat_le, ℤ, pos, negsuc, ◌+ℤ◌, ◌-ℤ◌}
 use Rattle.xb_signal.specs.declared.moment.Moment.{Moment}
 use Rattle.xb_signal.specs.declared.segment.Sound.{Sound}
 use Rattle.xb_signal.specs.declared.segment.Sound.TheVariants.{Written, Keyed}
@@ -9,10 +9,15 @@ use Rattle.xb_signal.specs.Shapes.{keyed_sample}
 use Rattle.xb_signal.specs.Steadies.{steady_peak, steady_sample}
 use Rattle.xb_signal.specs.Waves.{mixed}
 
--- sample n of what sounds, with nothing added
-abbrev pub clean_sample : Setting → Sound → ℕ → ℤ
-clean_sample setting (Written tones) n = mixed setting.low setting.high tones n
-clean_sample setting (Keyed pair) n = keyed_sample setting.low setting.high setting.shape pair n
+-- sample n of what sounds that begins in a state, with nothing added
+abbrev pub clean_sample : Setting → ℕ → Sound → ℕ → ℤ
+clean_sample setting state (Written tones) n = mixed setting.low setting.high tones n
+clean_sample setting state (Keyed pair) n = keyed_sample setting.low setting.high setting.shape state pair n
+
+-- whether it depends on its state
+abbrev pub is_drawn : Setting → Sound → Bool
+is_drawn setting (Written tones) = false
+is_drawn setting (Keyed pair) = setting.shape.is_drawn
 
 -- whether a sample has 16 bits
 abbrev pub fits : ℤ → Bool
@@ -27,7 +32,7 @@ cut (negsuc x) = if nat_le x 32767 then negsuc x else negsuc 32767
 -- sample n after a moment, of what sounds from then on and of what sounds all through
 abbrev pub quiet_sample : Setting → Moment → Sound → ℕ → ℤ
 quiet_sample setting moment sound n =
-    clean_sample setting sound n +ℤ steady_sample setting.steady (moment.place + n)
+    clean_sample setting moment.noise sound n +ℤ steady_sample setting.steady (moment.place + n)
 
 -- and of the noise
 abbrev pub sample_at : Setting → Moment → Sound → ℕ → ℤ

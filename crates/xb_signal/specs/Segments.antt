@@ -1,5 +1,5 @@
 -- Segments, and the samples of them, 8 of them in a ms.
-use Rattle.std.specs.Prelude.{ℕ, ◌+◌, ◌*◌, List, [], ◌∷◌, ◌++◌, Bool, map, ℤ}
+use Rattle.std.specs.Prelude.{ℕ, ◌+◌, ◌*◌, List, [], ◌∷◌, ◌++◌, Bool, if◌then◌else◌, map, ℤ, pos}
 use Rattle.std.specs.List.{list_all, range_with_len, sum_by}
 use Rattle.xb_model.specs.declared.key.Tone.{Tone as Pair}
 use Rattle.xb_signal.specs.declared.segment.Segment.{Segment}
@@ -8,7 +8,7 @@ use Rattle.xb_signal.specs.declared.segment.Sound.TheVariants.{Written, Keyed}
 use Rattle.xb_signal.specs.declared.setting.Setting.{Setting}
 use Rattle.xb_signal.specs.declared.moment.Moment.{Moment}
 use Rattle.xb_signal.specs.Moments.{moment_after, start}
-use Rattle.xb_signal.specs.OneSample.{clean_sample, has_room, peak_of, sample_at}
+use Rattle.xb_signal.specs.OneSample.{clean_sample, has_room, is_drawn, peak_of, sample_at}
 
 abbrev pub silent : ℕ → Segment
 silent ms = record { sound = Written []; ms = ms }
@@ -39,9 +39,15 @@ abbrev pub file_length : List Segment → ℕ
 file_length segments = 2 * samples_in segments + 44
 
 -- whether each sample has 16 bits before it is cut, whatever is added
+abbrev pub samples_fit : Setting → Sound → ℕ → Bool
+samples_fit setting sound ms =
+    list_all (λ n. has_room (peak_of setting) (clean_sample setting 0 sound n)) (range_with_len 0 (ms * 8))
+
+-- where the two tones of a key begin at places that are drawn, they may be greatest at once
 abbrev pub sound_fits : Setting → Sound → ℕ → Bool
 sound_fits setting sound ms =
-    list_all (λ n. has_room (peak_of setting) (clean_sample setting sound n)) (range_with_len 0 (ms * 8))
+    if is_drawn setting sound then has_room (peak_of setting) (pos (setting.low + setting.high))
+    else samples_fit setting sound ms
 
 abbrev pub all_fit : Setting → List Segment → Bool
 all_fit setting segments = list_all (λ (segment : Segment). sound_fits setting segment.sound segment.ms) segments

@@ -1,5 +1,5 @@
 -- What is heard of keys by their names, and what ties the waves to the tones of marks.
-use Rattle.std.specs.Prelude.{◌≡◌, ℕ, ◌+◌, ◌*◌, ◌^◌, List, [], ◌∷◌, Bool, true, ◌&&◌, codes, map, nat_le, reverse, Ok, ℤ}
+use Rattle.std.specs.Prelude.{◌≡◌, ℕ, ◌+◌, ◌*◌, ◌^◌, List, [], ◌∷◌, Bool, true, false, ◌&&◌, codes, map, nat_le, reverse, Ok, ℤ}
 use Rattle.std.specs.List.{AllByRecursion, flat_map}
 use Rattle.xb_model.specs.declared.key.Key.{Key as PageKey}
 use Rattle.xb_model.specs.declared.key.Tone.{Tone as Pair}
@@ -83,11 +83,12 @@ pub record IsPlain (shape : Shape) : Type 0 where
   pub low : shape.low_late_ms ≡ 0
   pub high : shape.high_late_ms ≡ 0
   pub hole : shape.hole_ms ≡ 0
+  pub start : shape.is_drawn ≡ false
 
 -- then a key sounds as its two frequencies that are written
 abbrev pub PlainKeysAreWritten : Type 0
-PlainKeysAreWritten = (setting : Setting) (tones : Pair) (n : ℕ) → IsPlain setting.shape
-    → clean_sample setting (Keyed tones) n ≡ clean_sample setting (Written (tones.low ∷ tones.high ∷ [])) n
+PlainKeysAreWritten = (setting : Setting) (state : ℕ) (tones : Pair) (n : ℕ) → IsPlain setting.shape
+    → clean_sample setting state (Keyed tones) n ≡ clean_sample setting state (Written (tones.low ∷ tones.high ∷ [])) n
 
 -- what sounds all through goes on from one segment to the next: a later sample of it is that of its number
 abbrev pub SteadyGoesOn : Type 0

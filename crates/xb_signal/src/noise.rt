@@ -21,7 +21,7 @@ fn folded(word: u64, places: u32, factor: u64) -> u64
 }
 
 // The word that the generator gives in a state.
-fn word_of(state: u64) -> u64
+pub(crate) fn word_of(state: u64) -> u64
     ensures { result ≡ word_of state }
 {
     let once = folded(state, 30, 0xbf58_476d_1ce4_e5b9);

@@ -1,6 +1,6 @@
 // One sample of what sounds, and of 16 bits.
 ghost use Rattle.std.specs.Prelude.{◌≡◌, ◌<◌, ◌≤◌, unsigned_abs};
-ghost use Rattle.xb_signal.specs.OneSample.{clean_sample, cut, fits, has_room, peak_of, quiet_sample, sample_at};
+ghost use Rattle.xb_signal.specs.OneSample.{clean_sample, cut, fits, has_room, is_drawn, peak_of, quiet_sample, sample_at};
 
 use crate::keyed::keyed_sample;
 use crate::moment::Moment;
@@ -10,14 +10,25 @@ use crate::setting::Setting;
 use crate::steady::{steady_peak, steady_sample};
 use crate::wave::mixed;
 
-// Sample n of what sounds, with nothing added.
-pub(crate) fn clean_sample(setting: &Setting, sound: &Sound, n: u32) -> i32
-    ensures value { result ≡ clean_sample setting.now sound.now n }
+// Sample n of what sounds that begins in a state of the noise, with nothing added.
+pub(crate) fn clean_sample(setting: &Setting, state: u64, sound: &Sound, n: u32) -> i32
+    ensures value { result ≡ clean_sample setting.now state sound.now n }
     ensures bound { unsigned_abs result ≤ 393210 }
 {
+    let (low, high) = (setting.low, setting.high);
     match sound {
-        Sound::Written(tones) => mixed(setting.low, setting.high, tones.hz(), n),
-        Sound::Keyed(pair) => keyed_sample(setting.low, setting.high, &setting.shape, *pair, n),
+        Sound::Written(tones) => mixed(low, high, tones.hz(), n),
+        Sound::Keyed(pair) => keyed_sample(low, high, &setting.shape, state, *pair, n),
+    }
+}
+
+// Whether it depends on that state.
+pub(crate) fn is_drawn(setting: &Setting, sound: &Sound) -> bool
+    ensures { result ≡ is_drawn setting.now sound.now }
+{
+    match sound {
+        Sound::Written(_) => false,
+        Sound::Keyed(_) => setting.shape.is_drawn,
     }
 }
 
@@ -48,7 +59,7 @@ fn quiet_sample(setting: &Setting, moment: Moment, sound: &Sound, n: u32) -> i32
     ensures bound { unsigned_abs result ≤ 983025 }
 {
     let steady = steady_sample(&setting.steady, u32::from(moment.place) + n);
-    clean_sample(setting, sound, n) + steady
+    clean_sample(setting, moment.noise, sound, n) + steady
 }
 
 // Sample n after a moment, of all that sounds and of the noise.

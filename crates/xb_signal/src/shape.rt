@@ -15,6 +15,8 @@ pub struct Shape {
     pub hole_from_ms: u16,
     /// How long it is, in ms. 0 is no hole.
     pub hole_ms: u16,
+    /// Whether each tone begins at a place of its period that is drawn, and not at 0.
+    pub is_drawn: bool,
 }
 
 impl Shape {
@@ -28,6 +30,7 @@ impl Shape {
             high_late_ms: 0,
             hole_from_ms: 0,
             hole_ms: 0,
+            is_drawn: false,
         }
     }
 }

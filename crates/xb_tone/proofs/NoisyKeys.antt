@@ -107,22 +107,24 @@ near-append n [] (y ∷ ys) us vs first later = absurd first
 near-append n (x ∷ xs) [] us vs first later = absurd first
 near-append n (x ∷ xs) (y ∷ ys) us vs first later = (first.0, near-append n xs ys us vs first.1 later)
 
--- what nothing disturbs is as loud as ever
-clean-same : (setting : Setting) → IsQuiet setting → (sound : Sound) (n : ℕ)
-    → clean_sample setting sound n ≡ clean_sample standard_setting sound n
-clean-same setting quiet (Written tones) n =
+-- what nothing disturbs is as loud as ever, whatever its state is
+clean-same : (setting : Setting) → IsQuiet setting → (from to : ℕ) (sound : Sound) (n : ℕ)
+    → clean_sample setting to sound n ≡ clean_sample standard_setting from sound n
+clean-same setting quiet from to (Written tones) n =
     ap (λ (low : ℕ). mixed low setting.high tones n) quiet.low
     ∙ ap (λ (high : ℕ). mixed 10000 high tones n) quiet.high
-clean-same setting quiet (Keyed pair) n =
-    ap (λ (low : ℕ). keyed_sample low setting.high setting.shape pair n) quiet.low
-    ∙ ap (λ (high : ℕ). keyed_sample 10000 high setting.shape pair n) quiet.high
-    ∙ ap (λ (shape : Shape). keyed_sample 10000 10000 shape pair n) quiet.shape
+clean-same setting quiet from to (Keyed pair) n =
+    ap (λ (low : ℕ). keyed_sample low setting.high setting.shape to pair n) quiet.low
+    ∙ ap (λ (high : ℕ). keyed_sample 10000 high setting.shape to pair n) quiet.high
+    ∙ ap (λ (shape : Shape). keyed_sample 10000 10000 shape to pair n) quiet.shape
 
 quiet-same : (setting : Setting) → IsQuiet setting → (from to : Moment) (sound : Sound) (n : ℕ)
     → quiet_sample setting to sound n ≡ quiet_sample standard_setting from sound n
 quiet-same setting quiet from to sound n =
-    ap (λ (clean : ℤ). clean +ℤ steady_sample setting.steady (to.place + n)) (clean-same setting quiet sound n)
-    ∙ ap (λ (steady : Steady). clean_sample standard_setting sound n +ℤ steady_sample steady (to.place + n)) quiet.steady
+    ap (λ (clean : ℤ). clean +ℤ steady_sample setting.steady (to.place + n))
+    (clean-same setting quiet from.noise to.noise sound n)
+    ∙ ap (λ (steady : Steady). clean_sample standard_setting from.noise sound n +ℤ steady_sample steady (to.place + n))
+    quiet.steady
 
 near-sample : (setting : Setting) → IsQuiet setting → (from to : Moment) (sound : Sound) (n : ℕ)
     → unsigned_abs (sample_at setting to sound n -ℤ sample_at standard_setting from sound n) ≤ setting.noise_peak

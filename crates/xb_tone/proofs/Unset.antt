@@ -27,13 +27,14 @@ neither : (b c : Bool) → (b || c) ≡ false → (b ≡ false) × (c ≡ false)
 neither false c is = (refl, is)
 neither true c is = absurd (false≢true (sym is))
 
-abbrev manner : Given ℤ → Given ℤ → Given ℤ → Given ℤ → Given Hole → Given Beside → Given ℕ → Option ℕ → Option ℕ → Bool → Manner
-manner level twist detune skew hole beside hum noise_peak seed clip = record {
+abbrev manner : Given ℤ → Given ℤ → Given ℤ → Given ℤ → Given Hole → Bool → Given Beside → Given ℕ → Option ℕ → Option ℕ → Bool → Manner
+manner level twist detune skew hole phase beside hum noise_peak seed clip = record {
   level = level;
   twist = twist;
   detune = detune;
   skew = skew;
   hole = hole;
+  phase = phase;
   beside = beside;
   hum = hum;
   noise_peak = noise_peak;
@@ -41,14 +42,14 @@ manner level twist detune skew hole beside hum noise_peak seed clip = record {
   clip = clip;
 }
 
-unset : (level twist detune skew : Given ℤ) (hole : Given Hole) (beside : Given Beside)
+unset : (level twist detune skew : Given ℤ) (hole : Given Hole) (phase : Bool) (beside : Given Beside)
     (hum : Given ℕ) (noise_peak seed : Option ℕ) (clip : Bool)
-    → level ≡ Absent → twist ≡ Absent → detune ≡ Absent → skew ≡ Absent → hole ≡ Absent → beside ≡ Absent → hum ≡ Absent
+    → level ≡ Absent → twist ≡ Absent → detune ≡ Absent → skew ≡ Absent → hole ≡ Absent → phase ≡ false → beside ≡ Absent → hum ≡ Absent
     → noise_peak ≡ None → seed ≡ None → clip ≡ false
-    → setting_of (manner level twist detune skew hole beside hum noise_peak seed clip) ≡ Some standard_setting
+    → setting_of (manner level twist detune skew hole phase beside hum noise_peak seed clip) ≡ Some standard_setting
 unfolding amplitudes
-unset level twist detune skew hole beside hum noise_peak seed clip a b c d e f g h i j =
-    rw a (rw b (rw c (rw d (rw e (rw f (rw g (rw h (rw i (rw j refl)))))))))
+unset level twist detune skew hole phase beside hum noise_peak seed clip a b c d e f g h i j k =
+    rw a (rw b (rw c (rw d (rw e (rw f (rw g (rw h (rw i (rw j (rw k refl))))))))))
 
 pub no_options_are_standard : NoOptionsAreStandard
 no_options_are_standard m is =
@@ -56,19 +57,21 @@ no_options_are_standard m is =
     let to_detune : Bool = to_twist || is_given m.detune in
     let to_skew : Bool = to_detune || is_given m.skew in
     let to_hole : Bool = to_skew || is_given m.hole in
-    let to_beside : Bool = to_hole || is_given m.beside in
+    let to_phase : Bool = to_hole || m.phase in
+    let to_beside : Bool = to_phase || is_given m.beside in
     let to_hum : Bool = to_beside || is_given m.hum in
     let to_noise : Bool = to_hum || is_some m.noise_peak in
     let to_seed : Bool = to_noise || is_some m.seed in
-    let j = neither to_seed m.clip is in
-    let i = neither to_noise (is_some m.seed) j.0 in
-    let h = neither to_hum (is_some m.noise_peak) i.0 in
-    let g = neither to_beside (is_given m.hum) h.0 in
-    let f = neither to_hole (is_given m.beside) g.0 in
+    let k = neither to_seed m.clip is in
+    let j = neither to_noise (is_some m.seed) k.0 in
+    let i = neither to_hum (is_some m.noise_peak) j.0 in
+    let h = neither to_beside (is_given m.hum) i.0 in
+    let g = neither to_phase (is_given m.beside) h.0 in
+    let f = neither to_hole m.phase g.0 in
     let e = neither to_skew (is_given m.hole) f.0 in
     let d = neither to_detune (is_given m.skew) e.0 in
     let c = neither to_twist (is_given m.detune) d.0 in
     let ab = neither (is_given m.level) (is_given m.twist) c.0 in
-    unset m.level m.twist m.detune m.skew m.hole m.beside m.hum m.noise_peak m.seed m.clip
+    unset m.level m.twist m.detune m.skew m.hole m.phase m.beside m.hum m.noise_peak m.seed m.clip
     (absent m.level ab.0) (absent m.twist ab.1) (absent m.detune c.1) (absent m.skew d.1) (absent m.hole e.1)
-    (absent m.beside f.1) (absent m.hum g.1) (none m.noise_peak h.1) (none m.seed i.1) j.1
+    f.1 (absent m.beside g.1) (absent m.hum h.1) (none m.noise_peak i.1) (none m.seed j.1) k.1

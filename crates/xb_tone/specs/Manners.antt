@@ -51,6 +51,7 @@ pub record SayManner (rows : List Row) (manner : Manner) : Type 0 where
   pub detune : manner.detune ≡ figure_of (first_of (codes "detune") rows)
   pub skew : manner.skew ≡ time_of_key (first_of (codes "skew") rows)
   pub hole : manner.hole ≡ hole_of (first_of (codes "hole") rows)
+  pub phase : ReadsFlag (given_by rows (codes "phase")) manner.phase
   pub beside : manner.beside ≡ beside_of (first_of (codes "with") rows)
   pub hum : manner.hum ≡ amplitude_given (first_of (codes "hum") rows)
   pub noise_peak : ReadsNumber (given_by rows (codes "noise-peak")) manner.noise_peak
@@ -89,6 +90,7 @@ shape_of manner =
       high_late_ms = high_late skew;
       hole_from_ms = hole.from_ms;
       hole_ms = hole.ms;
+      is_drawn = manner.phase;
     }) (said_or manner.hole no_hole)) (said_or manner.skew (pos 0)))
     (option_and_then pitch_of (said_or manner.detune (pos 0)))
 
@@ -122,4 +124,4 @@ setting_of manner =
 abbrev pub has_manner : Manner → Bool
 has_manner manner =
     is_given manner.level || is_given manner.twist || is_given manner.detune || is_given manner.skew
-    || is_given manner.hole || is_given manner.beside || is_given manner.hum || is_some manner.noise_peak || is_some manner.seed || manner.clip
+    || is_given manner.hole || manner.phase || is_given manner.beside || is_given manner.hum || is_some manner.noise_peak || is_some manner.seed || manner.clip

@@ -22,6 +22,7 @@ options =
     ∷ (codes "detune", takes.Text)
     ∷ (codes "skew", takes.Text)
     ∷ (codes "hole", takes.Text)
+    ∷ (codes "phase", takes.Nothing)
     ∷ (codes "with", takes.Text)
     ∷ (codes "hum", takes.Text)
     ∷ (codes "noise-peak", takes.Number)
@@ -30,7 +31,7 @@ options =
     ∷ []
 
 -- `mftone [--line N] [--entry N] [--lead N] [--kp N] [--key N] [--gap N] [--raw] [--keys WORDS]
--- [--level DBM0] [--twist DB] [--detune PERCENT] [--skew MS] [--hole MS@MS] [--with HZ:DBM0] [--hum DBM0]
--- [--noise-peak N] [--seed N] [--clip]`
+-- [--level DBM0] [--twist DB] [--detune PERCENT] [--skew MS] [--hole MS@MS] [--phase]
+-- [--with HZ:DBM0] [--hum DBM0] [--noise-peak N] [--seed N] [--clip]`
 abbrev pub command_of_words : App
 command_of_words = command_of (codes "mftone") options

@@ -18,6 +18,7 @@ pub(crate) struct Manner {
     pub(crate) detune: Given<i16>,
     pub(crate) skew: Given<i16>,
     pub(crate) hole: Given<Hole>,
+    pub(crate) phase: bool,
     pub(crate) beside: Given<Beside>,
     pub(crate) hum: Given<u16>,
     pub(crate) noise_peak: Option<u32>,
@@ -153,6 +154,7 @@ pub(crate) fn manner_of(words: &Words) -> Manner
         detune: figure_of(words.text("detune")),
         skew: time_of_key(words.text("skew")),
         hole: hole_of(words.text("hole")),
+        phase: words.flag("phase"),
         beside: beside_of(words.text("with")),
         hum: amplitude_given(words.text("hum")),
         noise_peak: words.number("noise-peak"),
@@ -199,6 +201,7 @@ fn shape_of(manner: Manner) -> Option<Shape>
         high_late_ms: high_late(skew),
         hole_from_ms: hole.from_ms,
         hole_ms: hole.ms,
+        is_drawn: manner.phase,
     })
 }
 
@@ -253,6 +256,7 @@ pub(crate) fn has_manner(manner: Manner) -> bool
         || is_given(&manner.detune)
         || is_given(&manner.skew)
         || is_given(&manner.hole)
+        || manner.phase
         || is_given(&manner.beside)
         || is_given(&manner.hum)
         || manner.noise_peak.is_some()

@@ -24,7 +24,7 @@ pub(crate) struct Options {
 }
 
 // The options of the program, each under its name.
-const OPTIONS: [(&str, Takes); 18] = [
+const OPTIONS: [(&str, Takes); 19] = [
     ("line", Takes::Number),
     ("entry", Takes::Number),
     ("lead", Takes::Number),
@@ -38,6 +38,7 @@ const OPTIONS: [(&str, Takes); 18] = [
     ("detune", Takes::Text),
     ("skew", Takes::Text),
     ("hole", Takes::Text),
+    ("phase", Takes::Nothing),
     ("with", Takes::Text),
     ("hum", Takes::Text),
     ("noise-peak", Takes::Number),

@@ -1,7 +1,8 @@
 use Rattle.std.proofs.Common.{rules, ◌≡◌, ◌∙◌, ◌≤◌, unsigned_abs, ℕ, ◌+◌, Bool, cond, ap, sym, arith, ℤ, pos, ◌+ℤ◌, FitsSigned, to_z, of_z}
 use Rattle.std.specs.Int.{w16, w32}
 use Rattle.std.proofs.lemmas.Int.{ints, to_z-of_z, fits_signed_from_abs}
-use Rattle.xb_signal.specs.Shapes.{late_sample, tuned}
+use Rattle.xb_signal.specs.declared.keyed.Starts.{Starts}
+use Rattle.xb_signal.specs.Shapes.{late_sample, starts_of, tuned}
 use Rattle.xb_signal.specs.Waves.{scaled}
 use Rattle.xb_signal.proofs.Sums.{bits-sum, sum-small}
 use Rattle.xb_signal.proofs.keyed.keyed_sample.Goals as goal
@@ -24,17 +25,22 @@ returns-clause-value c =
     let small : unsigned_abs (x +ℤ y) ≤ 65535 + 65535 =
     sum-small x y 65535 65535 c.scaled.ensures.bound c.scaled-2.ensures.bound in
     let fits_sum : FitsSigned w32 (x +ℤ y) = fits_signed_from_abs w32 (x +ℤ y) (omega (arith, small)) in
-    let is_x : x ≡ scaled low (late_sample shape.low_late_ms (tuned shape.pitch c.args.pair.low) n) =
+    let low_hz : ℕ = tuned shape.pitch c.args.pair.low in
+    let high_hz : ℕ = tuned shape.pitch c.args.pair.high in
+    let starts : Starts = starts_of shape c.args.state in
+    let is_x : x ≡ scaled low (late_sample shape.low_late_ms starts.low low_hz n) =
     c.scaled.ensures.value
     ∙ ap (scaled low) (to_z-of_z w16 late_low fits_low ∙ c.late_sample-low_sample.ensures.value)
-    ∙ ap (λ (hz : ℕ). scaled low (late_sample shape.low_late_ms hz n)) c.tuned.ensures in
-    let is_y : y ≡ scaled high (late_sample shape.high_late_ms (tuned shape.pitch c.args.pair.high) n) =
+    ∙ ap (λ (hz : ℕ). scaled low (late_sample shape.low_late_ms c.starts_of-starts.result.low hz n)) c.tuned-low_hz.ensures
+    ∙ ap (λ (s : Starts). scaled low (late_sample shape.low_late_ms s.low low_hz n)) c.starts_of-starts.ensures in
+    let is_y : y ≡ scaled high (late_sample shape.high_late_ms starts.high high_hz n) =
     c.scaled-2.ensures.value
     ∙ ap (scaled high) (to_z-of_z w16 late_high fits_high ∙ c.late_sample-high_sample.ensures.value)
-    ∙ ap (λ (hz : ℕ). scaled high (late_sample shape.high_late_ms hz n)) c.tuned-2.ensures in
-    let sum : ℤ = scaled low (late_sample shape.low_late_ms (tuned shape.pitch c.args.pair.low) n)
-    +ℤ scaled high (late_sample shape.high_late_ms (tuned shape.pitch c.args.pair.high) n) in
+    ∙ ap (λ (hz : ℕ). scaled high (late_sample shape.high_late_ms c.starts_of-starts.result.high hz n)) c.tuned-high_hz.ensures
+    ∙ ap (λ (s : Starts). scaled high (late_sample shape.high_late_ms s.high high_hz n)) c.starts_of-starts.ensures in
+    let sum : ℤ = scaled low (late_sample shape.low_late_ms starts.low low_hz n)
+    +ℤ scaled high (late_sample shape.high_late_ms starts.high high_hz n) in
     bits-sum x y fits_x fits_y fits_sum
     ∙ ap (λ (z : ℤ). z +ℤ y) is_x
-    ∙ ap (λ (z : ℤ). scaled low (late_sample shape.low_late_ms (tuned shape.pitch c.args.pair.low) n) +ℤ z) is_y
+    ∙ ap (λ (z : ℤ). scaled low (late_sample shape.low_late_ms starts.low low_hz n) +ℤ z) is_y
     ∙ sym (ap (λ (b : Bool). cond b (pos 0) sum) (sym c.is_in_hole.ensures ∙ c.if-is_in_hole.false))

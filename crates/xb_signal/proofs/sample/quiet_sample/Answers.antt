@@ -20,5 +20,5 @@ returns-clause-value c =
     let place : c.from.result ≡ c.args.moment.place = search rules in
     bits-sum x y fits_x fits_y fits_sum
     ∙ ap (λ (z : ℤ). z +ℤ y) c.clean_sample.ensures.value
-    ∙ ap (λ (z : ℤ). clean_sample setting c.args.sound.now n +ℤ z) (c.steady_sample-steady.ensures.value
+    ∙ ap (λ (z : ℤ). clean_sample setting c.args.moment.noise c.args.sound.now n +ℤ z) (c.steady_sample-steady.ensures.value
     ∙ ap (λ (m : ℕ). steady_sample setting.steady (m + n)) place)

@@ -4,7 +4,7 @@ use Rattle.std.specs.List.{list_all, range_with_len}
 use Rattle.std.proofs.lemmas.Int.{to_z-of_z}
 use Rattle.xb_signal.specs.OneSample.{clean_sample, has_room, peak_of}
 use Rattle.xb_signal.proofs.Ranges.{all_fail, all_left}
-use Rattle.xb_signal.proofs.samples.sound_fits.Goals as goal
+use Rattle.xb_signal.proofs.samples.samples_fit.Goals as goal
 
 pub loop-n-preserved : goal.loop-n-preserved
 loop-n-preserved c =
@@ -12,7 +12,7 @@ loop-n-preserved c =
     let all : ℕ = c.args.ms * 8 in
     let setting = c.args.setting.now in
     let test : ℕ → Bool =
-    λ n. has_room (peak_of setting) (clean_sample setting c.args.sound.now n) in
+    λ n. has_room (peak_of setting) (clean_sample setting 0 c.args.sound.now n) in
     let below : n < all = omega (arith, c.loop-n-test.true, c.from-n-end.ensures) in
     let fits_sum : FitsSigned w32 c.clean_sample-clean.result = search rules in
     let yes : c.has_room.result ≡ true = search rules in
@@ -32,7 +32,7 @@ returns-then-not-has_room c =
     let all : ℕ = c.args.ms * 8 in
     let setting = c.args.setting.now in
     let test : ℕ → Bool =
-    λ n. has_room (peak_of setting) (clean_sample setting c.args.sound.now n) in
+    λ n. has_room (peak_of setting) (clean_sample setting 0 c.args.sound.now n) in
     let below : n < all = omega (arith, c.loop-n-test.true, c.from-n-end.ensures) in
     let fits_sum : FitsSigned w32 c.clean_sample-clean.result = search rules in
     let no : c.has_room.result ≡ false = search rules in
