@@ -2,6 +2,7 @@ pub mod Ranges
 pub mod Sums
 pub mod Steadies
 pub mod SteadyPlaces
+pub mod Uncut
 pub mod Waves
 pub mod ReadTones
 pub mod TakenWords

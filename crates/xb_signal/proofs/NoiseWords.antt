@@ -1,5 +1,5 @@
 -- The words of the noise, one after the other.
-use Rattle.std.proofs.Common.{◌≡◌, ◌∙◌, ℕ, ◌+◌, ◌*◌, ◌%◌, ◌^◌, ap, arith, ℤ, pos, ◌-ℤ◌}
+use Rattle.std.proofs.Common.{◌≡◌, ◌∙◌, ℕ, ◌+◌, ◌*◌, ◌%◌, ◌^◌, ap, arith, pos, ◌-ℤ◌}
 use Rattle.std.proofs.Math.Nat.{mod-add-mod}
 use Rattle.xb_signal.specs.Noises.{NoiseGoesOn, state_after, word_of}
 

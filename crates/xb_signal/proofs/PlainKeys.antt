@@ -1,13 +1,13 @@
 -- Keys that nothing disturbs.
-use Rattle.std.proofs.Common.{◌≡◌, ◌∙◌, ℕ, zero, suc, ◌+◌, ◌-◌, ◌*◌, ◌%◌, ◌<◌, ◌≤◌, Bool, true, false, ◌&&◌, cond, [], ◌∷◌, leb, ap, arith, refl, subst, sym, ℤ, pos, ◌+ℤ◌}
+use Rattle.std.proofs.Common.{◌≡◌, ◌∙◌, ℕ, suc, ◌+◌, ◌-◌, ◌*◌, ◌%◌, Bool, true, false, ◌&&◌, cond, [], ◌∷◌, ap, arith, refl, ℤ, pos, ◌+ℤ◌}
 use Rattle.std.specs.Prelude.{nat_le, nat_lt}
 use Rattle.std.proofs.lemmas.Bool.{leb-true, lt-leb}
 use Rattle.std.proofs.lemmas.Int.{ints}
 use Rattle.std.proofs.lemmas.Nat.{div-mul-add}
 use Rattle.xb_model.specs.declared.key.Tone.{Tone as Pair}
 use Rattle.xb_signal.specs.declared.shape.Shape.{Shape}
-use Rattle.xb_signal.specs.Shapes.{is_in_hole, keyed_sample, late_sample, tuned, wave_from}
-use Rattle.xb_signal.specs.SignalLaws.{IsPlain, PlainKeysAreWritten}
+use Rattle.xb_signal.specs.Shapes.{keyed_sample, late_sample, tuned, wave_from}
+use Rattle.xb_signal.specs.SignalLaws.{PlainKeysAreWritten}
 use Rattle.xb_signal.specs.Waves.{mixed, scaled, wave_at, wave_sample}
 
 -- at a pitch of 1,000 a frequency is as it is named

@@ -1,9 +1,9 @@
 -- What is added all through.
-use Rattle.std.proofs.Common.{◌≡◌, ◌∙◌, ℕ, suc, ◌+◌, ◌-◌, ◌<◌, ◌≤◌, List, [], ◌∷◌, map, ap, arith, refl, sym, ℤ, pos, ◌+ℤ◌, unsigned_abs}
+use Rattle.std.proofs.Common.{◌≡◌, ◌∙◌, ℕ, suc, ◌+◌, ◌-◌, ◌<◌, ◌≤◌, ap, arith, sym, ℤ, pos, ◌+ℤ◌, unsigned_abs}
 use Rattle.std.specs.Prelude.{max}
 use Rattle.std.specs.List.{range_with_len}
 use Rattle.std.proofs.lemmas.Int.{ints}
-use Rattle.xb_signal.specs.Steadies.{greatest, harmonic, harmonics, mains_peak, mains_sample, peak_from}
+use Rattle.xb_signal.specs.Steadies.{harmonic, harmonics, mains_peak, mains_sample, peak_from}
 
 sum-assoc : (a b c : ℤ) → (a +ℤ b) +ℤ c ≡ a +ℤ (b +ℤ c)
 sum-assoc a b c = omega (arith, ints)

@@ -1,5 +1,5 @@
 -- What is added all through is the same after each second.
-use Rattle.std.proofs.Common.{◌≡◌, ◌∙◌, ℕ, ◌+◌, ◌*◌, ◌/◌, ◌%◌, Bool, cond, List, [], ◌∷◌, ap, arith, refl, sym, ℤ, pos, ◌+ℤ◌}
+use Rattle.std.proofs.Common.{◌≡◌, ◌∙◌, ℕ, ◌+◌, ◌*◌, ◌/◌, ◌%◌, cond, List, [], ◌∷◌, ap, arith, refl, sym, ℤ, pos, ◌+ℤ◌}
 use Rattle.std.specs.Prelude.{◌==◌}
 use Rattle.std.specs.List.{range_with_len}
 use Rattle.std.proofs.lemmas.Nat.{div-add-mod'}
@@ -7,7 +7,6 @@ use Rattle.std.proofs.Math.Nat.{add-mul-mod_self_right}
 use Rattle.xb_signal.specs.Steadies.{harmonic, harmonics, hum_sample, portion, steady_sample, tone_sample}
 use Rattle.xb_signal.specs.SignalLaws.{SteadyGoesOn}
 use Rattle.xb_signal.specs.Waves.{scaled, wave_at, wave_sample}
-use Rattle.xb_signal.specs.declared.steady.Steady.{Steady}
 
 same-place : (hz m n : ℕ) → hz * (m % 8000 + n) % 8000 ≡ hz * (m + n) % 8000
 same-place hz m n =

@@ -1,5 +1,5 @@
 -- What is heard of keys by their names, and what ties the waves to the tones of marks.
-use Rattle.std.specs.Prelude.{◌≡◌, ℕ, ◌+◌, ◌*◌, ◌^◌, List, [], ◌∷◌, Bool, true, false, ◌&&◌, codes, map, nat_le, reverse, Ok, ℤ}
+use Rattle.std.specs.Prelude.{◌≡◌, ℕ, ◌+◌, ◌*◌, ◌^◌, ◌<◌, ◌+ℤ◌, List, [], ◌∷◌, Bool, true, false, ◌&&◌, codes, map, nat_le, reverse, Ok, ℤ}
 use Rattle.std.specs.List.{AllByRecursion, flat_map}
 use Rattle.xb_model.specs.declared.key.Key.{Key as PageKey}
 use Rattle.xb_model.specs.declared.key.Tone.{Tone as Pair}
@@ -20,11 +20,13 @@ use Rattle.xb_signal.specs.Names.{pair_of}
 use Rattle.xb_signal.specs.declared.segment.Segment.{Segment}
 use Rattle.xb_signal.specs.declared.setting.Setting.{Setting}
 use Rattle.xb_signal.specs.declared.segment.Sound.TheVariants.{Keyed, Written}
-use Rattle.xb_signal.specs.Segments.{file_length, pair_segment, signal_of, silent}
+use Rattle.xb_signal.specs.Segments.{file_length, pair_segment, signal_of, silent, sound_fits}
 use Rattle.xb_signal.specs.Settings.{standard_setting}
 use Rattle.xb_signal.specs.declared.steady.Steady.{Steady}
 use Rattle.xb_signal.specs.Moments.{moment_after, start}
-use Rattle.xb_signal.specs.OneSample.{clean_sample}
+use Rattle.xb_signal.specs.declared.moment.Moment.{Moment}
+use Rattle.xb_signal.specs.Noises.{noise}
+use Rattle.xb_signal.specs.OneSample.{clean_sample, quiet_sample, sample_at}
 use Rattle.xb_signal.specs.Steadies.{steady_sample}
 use Rattle.xb_signal.specs.declared.shape.Shape.{Shape}
 use Rattle.xb_signal.specs.Texts.{segments_of_text}
@@ -94,6 +96,13 @@ PlainKeysAreWritten = (setting : Setting) (state : ℕ) (tones : Pair) (n : ℕ)
 abbrev pub SteadyGoesOn : Type 0
 SteadyGoesOn = (steady : Steady) (seed m n : ℕ)
     → steady_sample steady ((moment_after (start seed) m).place + n) ≡ steady_sample steady (m + n)
+
+-- of a segment that fits no sample is cut, whatever is added and whenever it sounds
+abbrev pub NothingIsCut : Type 0
+NothingIsCut = (setting : Setting) (moment : Moment) (segment : Segment) (n : ℕ)
+    → sound_fits setting segment.sound segment.ms ≡ true → n < segment.ms * 8
+    → sample_at setting moment segment.sound n
+    ≡ quiet_sample setting moment segment.sound n +ℤ noise setting.noise_peak moment.noise n
 
 -- the WAV file of a signal is as long as is said beforehand
 abbrev pub FilesAreAsLong : Type 0

@@ -1,7 +1,7 @@
 //! What the definitions give: each law is the contract of a function that does nothing.
 ghost use Rattle.xb_signal.specs.Levels.{AmplitudesAreRounded};
 ghost use Rattle.xb_signal.specs.Noises.{NoiseGoesOn};
-ghost use Rattle.xb_signal.specs.SignalLaws.{FilesAreAsLong, KeysAreHeard, KeysSoundAsMarks, NamesAreHeard, PlainKeysAreWritten, QuarterIsRound, SteadyGoesOn, WavesAreSines, WorkedText};
+ghost use Rattle.xb_signal.specs.SignalLaws.{FilesAreAsLong, KeysAreHeard, KeysSoundAsMarks, NamesAreHeard, NothingIsCut, PlainKeysAreWritten, QuarterIsRound, SteadyGoesOn, WavesAreSines, WorkedText};
 
 /// The quarter is one of a sine, and of a multiple of 100 Hz each sample is that of the tones of marks.
 #[tactic(auto, using(crate::proofs::Sines::waves_are_sines, crate::proofs::Sines::quarter_is_round))]
@@ -50,4 +50,9 @@ pub fn noise_goes_on()
 /// A later sample of what sounds all through is that of its number too, so it is not broken where a segment ends.
 pub fn steady_goes_on()
     ensures { SteadyGoesOn }
+{}
+
+/// Of what fits no sample is cut: what is added is counted, whatever the seed is.
+pub fn nothing_is_cut()
+    ensures { NothingIsCut }
 {}

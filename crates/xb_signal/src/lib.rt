@@ -16,7 +16,8 @@
 //!   keys, in order, also those of KP2 and of the further kinds of ST. `waves_are_sines`: the table is round, and at the
 //!   multiples of 100 Hz it is that of the marks. `amplitudes_are_rounded`: the table of levels is right.
 //!   `noise_goes_on` and `steady_goes_on`: noise, and what sounds all through, go by the number of a sample.
-//!   `plain_keys_are_written`: a key that nothing disturbs is its two frequencies. `files_are_as_long`. `worked_text`.
+//!   `plain_keys_are_written`: a key that nothing disturbs is its two frequencies. `nothing_is_cut` of what fits.
+//!   `files_are_as_long`. `worked_text`.
 //!
 //! Not said: how much memory a run takes.
 #![tactic(auto)]

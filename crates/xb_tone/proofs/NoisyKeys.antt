@@ -1,5 +1,5 @@
 -- Keys with noise are near the sound of marks.
-use Rattle.std.proofs.Common.{◌≡◌, ◌∙◌, ℕ, zero, suc, ◌+◌, ◌-◌, ◌*◌, ◌%◌, ◌<◌, ◌≤◌, ◌⊎◌, inl, inr, Bool, true, false, List, [], ◌∷◌, ◌++◌, map, cond, leb, refl, sym, ap, subst, arith, Some, ℤ, pos, negsuc, ◌+ℤ◌, ◌-ℤ◌, unsigned_abs}
+use Rattle.std.proofs.Common.{◌≡◌, ◌∙◌, ℕ, zero, suc, ◌+◌, ◌-◌, ◌*◌, ◌%◌, ◌<◌, ◌≤◌, ◌⊎◌, inl, inr, Bool, true, false, List, [], ◌∷◌, ◌++◌, map, cond, leb, refl, sym, ap, subst, arith, ℤ, pos, negsuc, ◌+ℤ◌, ◌-ℤ◌, unsigned_abs}
 use Rattle.std.specs.List.{AllByRecursion, range_with_len}
 use Rattle.std.proofs.lemmas.Bool.{leb-false, leb-true}
 use Rattle.std.proofs.lemmas.Int.{ints}
@@ -7,7 +7,6 @@ use Rattle.std.proofs.lemmas.Nat.{mod_below}
 use Rattle.xb_model.specs.declared.key.Key.{Key as PageKey}
 use Rattle.xb_model.specs.declared.mark.Mark.TheVariants.{Trunk}
 use Rattle.xb_model.specs.Keyings.{tone}
-use Rattle.xb_sound.specs.declared.cadence.Cadence.{Cadence}
 use Rattle.xb_sound.specs.HeardKeys.{AreKeyed, IsKey}
 use Rattle.xb_ear.specs.Disturbed.{IsNear}
 use Rattle.xb_ear.proofs.WholeSounds.{noisy_keys_are_heard as near_keys_are_heard}

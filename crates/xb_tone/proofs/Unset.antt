@@ -10,7 +10,7 @@ use Rattle.xb_tone.specs.declared.manner.Beside.{Beside}
 use Rattle.xb_tone.specs.declared.manner.Hole.{Hole}
 use Rattle.xb_tone.specs.declared.manner.Manner.{Manner}
 use Rattle.xb_tone.specs.Givens.{is_given}
-use Rattle.xb_tone.specs.Manners.{has_manner, setting_of}
+use Rattle.xb_tone.specs.Manners.{setting_of}
 use Rattle.xb_tone.specs.NoisyKeys.{NoOptionsAreStandard}
 
 -- what is not given is absent

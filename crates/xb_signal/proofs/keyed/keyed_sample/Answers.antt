@@ -1,6 +1,6 @@
-use Rattle.std.proofs.Common.{rules, ◌≡◌, ◌∙◌, ◌≤◌, unsigned_abs, ℕ, ◌+◌, Bool, cond, ap, sym, arith, ℤ, pos, ◌+ℤ◌, FitsSigned, to_z, of_z}
+use Rattle.std.proofs.Common.{rules, ◌≡◌, ◌∙◌, ◌≤◌, unsigned_abs, ℕ, ◌+◌, Bool, cond, ap, sym, arith, ℤ, pos, ◌+ℤ◌, FitsSigned}
 use Rattle.std.specs.Int.{w16, w32}
-use Rattle.std.proofs.lemmas.Int.{ints, to_z-of_z, fits_signed_from_abs}
+use Rattle.std.proofs.lemmas.Int.{to_z-of_z, fits_signed_from_abs}
 use Rattle.xb_signal.specs.declared.keyed.Starts.{Starts}
 use Rattle.xb_signal.specs.Shapes.{late_sample, starts_of, tuned}
 use Rattle.xb_signal.specs.Waves.{scaled}

@@ -1,4 +1,4 @@
-use Rattle.std.proofs.Common.{rules, ◌≡◌, ◌∙◌, ◌≤◌, unsigned_abs, ℕ, ◌+◌, ap, arith, ℤ, ◌+ℤ◌, FitsSigned, to_z, of_z}
+use Rattle.std.proofs.Common.{rules, ◌≡◌, ◌∙◌, ◌≤◌, unsigned_abs, ℕ, ◌+◌, ap, arith, ℤ, ◌+ℤ◌, FitsSigned}
 use Rattle.std.specs.Int.{w32}
 use Rattle.std.proofs.lemmas.Int.{fits_signed_from_abs}
 use Rattle.xb_signal.specs.OneSample.{clean_sample}

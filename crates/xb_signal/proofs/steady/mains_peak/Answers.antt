@@ -1,7 +1,6 @@
-use Rattle.std.proofs.Common.{rules, ◌≡◌, ◌∙◌, ◌<◌, ◌≤◌, unsigned_abs, ℕ, ◌+◌, ◌-◌, ap, sym, arith, ℤ, FitsSigned, to_z, of_z}
+use Rattle.std.proofs.Common.{rules, ◌≡◌, ◌∙◌, ◌<◌, ◌≤◌, unsigned_abs, ℕ, ◌+◌, ◌-◌, ap, sym, arith, FitsSigned}
 use Rattle.std.specs.Prelude.{max}
 use Rattle.std.specs.Int.{w32}
-use Rattle.std.proofs.lemmas.Int.{to_z-of_z}
 use Rattle.xb_signal.specs.Steadies.{mains_sample, peak_from}
 use Rattle.xb_signal.proofs.Steadies.{peak-begun, peak-next, peak-over}
 use Rattle.xb_signal.proofs.steady.mains_peak.Goals as goal

@@ -1,7 +1,7 @@
-use Rattle.std.proofs.Common.{rules, ◌≡◌, ◌∙◌, ◌<◌, ◌≤◌, unsigned_abs, ℕ, ◌+◌, ◌-◌, ◌*◌, ap, sym, subst, arith, ℤ, pos, ◌+ℤ◌, FitsSigned, to_z, of_z}
+use Rattle.std.proofs.Common.{rules, ◌≡◌, ◌∙◌, ◌<◌, ◌≤◌, unsigned_abs, ◌+◌, ◌-◌, ◌*◌, ap, sym, subst, arith, ℤ, ◌+ℤ◌, FitsSigned, to_z, of_z}
 use Rattle.std.specs.Int.{w32}
 use Rattle.std.specs.List.{range_with_len}
-use Rattle.std.proofs.lemmas.Int.{ints, to_z-of_z, fits_signed_from_abs}
+use Rattle.std.proofs.lemmas.Int.{to_z-of_z, fits_signed_from_abs}
 use Rattle.xb_signal.specs.Steadies.{harmonics}
 use Rattle.xb_signal.proofs.Steadies.{harmonics-begun, harmonics-next, harmonics-over}
 use Rattle.xb_signal.proofs.Sums.{sum-small}

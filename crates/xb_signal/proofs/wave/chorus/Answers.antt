@@ -1,6 +1,6 @@
 use Rattle.std.proofs.Common.{rules, ◌≡◌, ◌∙◌, ◌<◌, ◌≤◌, unsigned_abs, ℕ, ◌+◌, ◌*◌, ap, sym, subst, arith, drop, get_or, ℤ, ◌+ℤ◌, FitsSigned, to_z, of_z}
 use Rattle.std.specs.Int.{w16, w32}
-use Rattle.std.proofs.lemmas.Int.{ints, to_z-of_z, fits_signed_from_abs}
+use Rattle.std.proofs.lemmas.Int.{to_z-of_z, fits_signed_from_abs}
 use Rattle.xb_signal.specs.Waves.{chorus, scaled, wave_sample}
 use Rattle.xb_signal.proofs.Waves.{chorus-next}
 use Rattle.xb_signal.proofs.Sums.{sum-small}

@@ -1,7 +1,7 @@
-use Rattle.std.proofs.Common.{◌≡◌, ◌∙◌, ◌≤◌, ◌*◌, ℕ, ◌+◌, List, ◌∷◌, ap, sym, arith, length, rules, ℤ, ◌+ℤ◌, FitsSigned, to_z, of_z, unsigned_abs}
+use Rattle.std.proofs.Common.{◌≡◌, ◌∙◌, ◌≤◌, ◌*◌, ℕ, ◌+◌, List, ◌∷◌, ap, sym, arith, length, rules, ℤ, ◌+ℤ◌, FitsSigned, unsigned_abs}
 use Rattle.std.specs.Int.{w16, w32}
-use Rattle.std.proofs.lemmas.Int.{ints, to_z-of_z, fits_signed_from_abs}
-use Rattle.xb_signal.specs.Waves.{chorus, mixed, scaled, wave_sample}
+use Rattle.std.proofs.lemmas.Int.{to_z-of_z, fits_signed_from_abs}
+use Rattle.xb_signal.specs.Waves.{mixed, scaled, wave_sample}
 use Rattle.xb_signal.proofs.Sums.{bits-sum, sum-small}
 use Rattle.xb_signal.proofs.wave.mixed.Goals as goal
 

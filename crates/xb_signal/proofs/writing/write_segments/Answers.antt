@@ -1,4 +1,4 @@
-use Rattle.std.proofs.Common.{◌≡◌, ◌∙◌, ℕ, ◌+◌, ◌*◌, ◌++◌, List, suc, ◌≤◌, drop, length, take, ap, sym, subst, arith, refl}
+use Rattle.std.proofs.Common.{◌∙◌, ℕ, ◌*◌, ◌++◌, List, suc, ◌≤◌, drop, length, take, ap, sym, subst, arith}
 use Rattle.std.proofs.KnownBytes.{Appends-nil, Appends-trans}
 use Rattle.std.specs.Io.KnownBytes.{Appends}
 use Rattle.std.proofs.lemmas.List.{take_all}

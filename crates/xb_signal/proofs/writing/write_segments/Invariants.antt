@@ -1,8 +1,8 @@
 use Rattle.std.proofs.Common.{◌≡◌, take}
 use Rattle.std.specs.Io.KnownBytes.{Appends}
 use Rattle.xb_sound.specs.Wavs.{pcm_of}
-use Rattle.xb_signal.specs.Moments.{moment_after, start}
-use Rattle.xb_signal.specs.Segments.{samples_in, signal_of}
+use Rattle.xb_signal.specs.Moments.{start}
+use Rattle.xb_signal.specs.Segments.{signal_of}
 use Rattle.xb_signal.proofs.Parts.{moment_before}
 use Rattle.xb_signal.proofs.writing.write_segments.Given as goal
 
