@@ -7,7 +7,14 @@ use Rattle.xb_signal.specs.Noises.{state_after, word_of}
 use Rattle.xb_signal.specs.Waves.{scaled, wave_at}
 
 abbrev pub standard_shape : Shape
-standard_shape = record { pitch = 1000; low_late_ms = 0; high_late_ms = 0; hole_from_ms = 0; hole_ms = 0; is_drawn = false }
+standard_shape = record {
+  pitch = 1000;
+  low_late_ms = 0;
+  high_late_ms = 0;
+  hole_from_ms = 0;
+  hole_ms = 0;
+  is_drawn = false;
+}
 
 -- a frequency at a pitch in thousandths, to the nearest whole Hz, and a half up
 abbrev pub tuned : ℕ → ℕ → ℕ

@@ -32,7 +32,7 @@ fn sound_fits(setting: &Setting, sound: &Sound, ms: u16) -> bool
     }
 }
 
-/// Whether no sample of segments has to be cut, whatever the noise is, and whenever what sounds all through is greatest.
+/// Whether no sample of segments has to be cut, whatever the noise is, and whenever each of them sounds.
 pub fn all_fit(setting: &Setting, segments: &[Segment]) -> bool
     ensures { result ≡ all_fit setting.now segments.now }
 {

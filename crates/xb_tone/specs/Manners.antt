@@ -124,4 +124,5 @@ setting_of manner =
 abbrev pub has_manner : Manner → Bool
 has_manner manner =
     is_given manner.level || is_given manner.twist || is_given manner.detune || is_given manner.skew
-    || is_given manner.hole || manner.phase || is_given manner.beside || is_given manner.hum || is_some manner.noise_peak || is_some manner.seed || manner.clip
+    || is_given manner.hole || manner.phase || is_given manner.beside || is_given manner.hum
+    || is_some manner.noise_peak || is_some manner.seed || manner.clip
