@@ -1,29 +1,28 @@
--- What is told of a sound without a key.
-use Rattle.std.proofs.Common.{◌≡◌, true, false, List, [], ◌∷◌, ◌++◌, ℤ, Option, Some, None, refl}
+-- What is told of a sound without a key, and of one without a KP.
+use Rattle.std.proofs.Common.{◌≡◌, ◌∙◌, ◌||◌, Bool, true, false, List, [], ◌∷◌, ◌++◌, ap, sym, Option, Some, None, refl}
+use Rattle.std.proofs.lemmas.List.{append-nil}
+use Rattle.std.proofs.lemmas.List.Folds.{list_any-append}
 use Rattle.xb_measured.specs.declared.heard.Heard.{Heard}
 use Rattle.xb_measured.specs.Receivers.{listed}
-use Rattle.xb_measured.specs.Meters.{metered, quiet_line}
-use Rattle.xb_rx.specs.Listeners.{buttons_text, is_keyed, is_keyed_with, quiet_text}
+use Rattle.xb_told.specs.Keyings.{is_kp}
+use Rattle.xb_rx.specs.Listeners.{has_kp, has_kp_with, is_keyed, is_keyed_with}
 
 pub keyed-more : (keys : List Heard) (key : Option Heard) → is_keyed_with (is_keyed keys) key ≡ is_keyed (keys ++ listed key)
 keyed-more [] None = refl
 keyed-more [] (Some key) = refl
 keyed-more (k ∷ keys) key = refl
 
-pub keyed-quiet : (samples : List ℤ) (keys : List Heard) → is_keyed keys ≡ true → quiet_text samples keys ≡ []
-keyed-quiet samples [] is = absurd (cc)
-keyed-quiet samples (key ∷ keys) is = refl
+without : (b : Bool) → (b || false) ≡ b
+without false = refl
+without true = refl
 
-pub unkeyed-quiet : (samples : List ℤ) (keys : List Heard) → is_keyed keys ≡ false
-    → quiet_text samples keys ≡ quiet_line (metered samples) ++ buttons_text samples
-unkeyed-quiet samples [] is = refl
-unkeyed-quiet samples (key ∷ keys) is = absurd (cc)
+pub kp-more : (keys : List Heard) (key : Option Heard) → has_kp_with (has_kp keys) key ≡ has_kp (keys ++ listed key)
+kp-more keys None = ap (λ (ks : List Heard). has_kp ks) (sym (append-nil keys))
+kp-more keys (Some key) =
+    ap (λ (b : Bool). has_kp keys || b) (sym (without (is_kp key))) ∙ sym (list_any-append is_kp keys (key ∷ []))
 
--- where no key was heard with one more, none was before
-pub unkeyed : (keys more : List Heard) → keys ++ more ≡ [] → keys ≡ []
-unkeyed [] more none = refl
-unkeyed (k ∷ keys) more none = absurd (cc)
-
-pub unkeyed-is : (keys : List Heard) → is_keyed keys ≡ false → keys ≡ []
-unkeyed-is [] is = refl
-unkeyed-is (k ∷ keys) is = absurd (cc)
+-- where there is none with one key more, there was none before
+pub kp-before : (before : Bool) (key : Option Heard) → has_kp_with before key ≡ false → before ≡ false
+kp-before false key none = refl
+kp-before true None none = none
+kp-before true (Some key) none = none

@@ -5,9 +5,10 @@
 //!   of one of them and for each key that is in none (`told_of`); or the output is a line for each key
 //!   (`text_lines`); or an object for each key, and for each entry after its ST (`object_lines`), with their
 //!   times of day where `--since` gives the one at which the sound begins (`specs/Timed.antt`); or a page in HTML
-//!   (`html_of`) or a picture in SVG (`svg_of`) of each keying and each key in none. Where no key is
-//!   heard, standard error has one line, of how loud the sound is (`quiet_of`). On an `Err` the beginning of
-//!   that was written to each. A WAV is refused by the fault that it has (`start_of_file`), and by no other.
+//!   (`html_of`) or a picture in SVG (`svg_of`) of each keying and each key in none. Of a sound without a key
+//!   standard error has a line of how loud it is, and of one without a KP a line of the digits of a
+//!   push-button telephone in it, if there are any (`quiet_of`). On an `Err` the beginning of that was
+//!   written to each. A WAV is refused by the fault that it has (`start_of_file`), and by no other.
 //!   `Cut` says how many samples are missing at its end. Memory does not grow with the sound.
 //! - `compare`: on `Ok` the keyings that are heard are those that a page has keyed. On `Differ` the output is
 //!   exactly the differences (`differences`). Another fault says why they are not known, and no difference

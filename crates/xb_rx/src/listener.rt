@@ -1,9 +1,7 @@
-// A sound that is heard, and what is told of one in which no key is heard.
-ghost use Rattle.std.specs.Prelude.{◌≡◌, [], ◌∷◌, ◌++◌, false, IfOk, List, ℤ, string_bytes};
+// A sound that is heard, and what is told of one in which no key is heard, or no KP.
+ghost use Rattle.std.specs.Prelude.{◌≡◌, ◌∷◌, ◌++◌, [], false, List, ℤ};
 ghost use Rattle.xb_dtmf.specs.Blocks.{HasTaken};
-ghost use Rattle.xb_dtmf.specs.Lines.{buttons_line};
-ghost use Rattle.xb_measured.specs.Meters.{quiet_line};
-ghost use Rattle.xb_rx.specs.Listeners.{is_keyed_with};
+ghost use Rattle.xb_rx.specs.Listeners.{has_kp_with, is_keyed_with};
 
 use crate::page::PageFault;
 use std::alloc::{AllocError, Global};
@@ -11,16 +9,19 @@ use std::io::Write;
 use xb_dtmf::{Buttons, buttons_line};
 use xb_measured::{Heard, Meter, Receiver};
 use xb_text::write_whole;
+use xb_told::NamedKey;
 
 /// What was heard of a sound so far, how loud it was, and whether digits of a push-button telephone sounded in it.
 #[derive(Drop)]
 pub(crate) struct Listener {
     pub(crate) receiver: Receiver,
     pub(crate) meter: Meter,
-    // which takes samples as long as no key was heard
+    // which takes samples as long as no KP was heard
     pub(crate) buttons: Buttons,
     // whether a key was heard
     pub(crate) is_keyed: bool,
+    // whether a KP was heard
+    pub(crate) has_kp: bool,
 }
 
 // Whether a key was heard before, or this one.
@@ -30,33 +31,31 @@ fn is_keyed_with(before: bool, key: Option<Heard>) -> bool
     before || key.is_some()
 }
 
-// Takes a sample, as long as no key was heard.
-fn press(buttons: &mut Buttons, is_keyed: bool, sample: i16)
-    ensures { is_keyed ≡ false → (samples : List ℤ) → HasTaken buttons.old samples
-        → HasTaken buttons.new (samples ++ sample ∷ []) }
+// Whether a KP was heard before, or this is one.
+fn has_kp_with(before: bool, key: Option<Heard>) -> bool
+    ensures { result ≡ has_kp_with before key }
 {
-    if !is_keyed {
-        buttons.take(sample);
+    match key {
+        Some(key) => before || NamedKey::of(key).is_kp(),
+        None => before,
     }
 }
 
-// How loud a sound is, and for how long digits of a push-button telephone sound in it.
-fn unkeyed_text(alloc: Global, meter: &Meter, buttons: &Buttons) -> Result<String, AllocError>
-    ensures { IfOk result (λ text.
-        string_bytes text ≡ quiet_line meter.now ++ buttons_line buttons.now.blocks) }
+// Takes a sample, as long as no KP was heard.
+fn press(buttons: &mut Buttons, has_kp: bool, sample: i16)
+    ensures { has_kp ≡ false → (samples : List ℤ) → HasTaken buttons.old samples
+        → HasTaken buttons.new (samples ++ sample ∷ []) }
 {
-    let mut text = meter.quiet_line(alloc)?;
-    let digits = buttons_line(alloc, buttons.blocks())?;
-    text.push_str(&digits)?;
-    Ok(text)
+    if !has_kp {
+        buttons.take(sample);
+    }
 }
 
 impl Listener {
     ghost use Rattle.std.specs.Prelude.{◌≡◌, ◌<◌, ◌+◌, ◌^◌, [], ◌∷◌, ◌++◌, IfOk, List, ℤ, string_bytes};
     ghost use Rattle.xb_measured.specs.declared.heard.Heard.{Heard as HeardKey};
-    ghost use Rattle.xb_measured.specs.Receivers.{listed};
-    ghost use Rattle.xb_measured.specs.Receivers.{keys_of_sound};
-    ghost use Rattle.xb_rx.specs.Listeners.{HasListened, quiet_text};
+    ghost use Rattle.xb_measured.specs.Receivers.{keys_of_sound, listed};
+    ghost use Rattle.xb_rx.specs.Listeners.{HasListened, buttons_text, loudness_text, quiet_text};
     ghost use Rattle.xb_rx.specs.Pages.{Ends};
 
     /// Before the first sample.
@@ -69,6 +68,7 @@ impl Listener {
             meter: Meter::new(),
             buttons: Buttons::new(),
             is_keyed: false,
+            has_kp: false,
         }
     }
 
@@ -80,9 +80,10 @@ impl Listener {
         ensures count { self.new.meter.samples ≡ self.old.meter.samples + 1 }
     {
         self.meter.take(sample);
-        press(&mut self.buttons, self.is_keyed, sample);
+        press(&mut self.buttons, self.has_kp, sample);
         let key = self.receiver.take(sample);
         self.is_keyed = is_keyed_with(self.is_keyed, key);
+        self.has_kp = has_kp_with(self.has_kp, key);
         key
     }
 
@@ -94,21 +95,45 @@ impl Listener {
         self.receiver.finish()
     }
 
-    // What is told of a sound in which no key was heard, where this one sounds at its end.
-    fn quiet_text(&self, alloc: Global, last: Option<Heard>) -> Result<String, AllocError>
+    // How loud the sound is, if no key was heard, and this one neither.
+    fn loudness_text(&self, alloc: Global, last: Option<Heard>) -> Result<String, AllocError>
         ensures { IfOk result (λ text. (samples : List ℤ) (keys : List HeardKey)
-            → HasListened self.now samples keys → string_bytes text ≡ quiet_text samples (keys ++ listed last)) }
+            → HasListened self.now samples keys → string_bytes text ≡ loudness_text samples (keys ++ listed last)) }
     {
         let is_keyed = is_keyed_with(self.is_keyed, last);
         if is_keyed {
             Ok(String::new(alloc))
         } else {
-            unkeyed_text(alloc, &self.meter, &self.buttons)
+            self.meter.quiet_line(alloc)
         }
     }
 
-    /// Tells how loud a sound is in which no key was heard, where this one sounds at its end, and whether digits of a
-    /// push-button telephone sound in it. On an `Err` the beginning of that was written.
+    // For how long digits of a push-button telephone sound, if no KP was heard, and this is none.
+    fn buttons_text(&self, alloc: Global, last: Option<Heard>) -> Result<String, AllocError>
+        ensures { IfOk result (λ text. (samples : List ℤ) (keys : List HeardKey)
+            → HasListened self.now samples keys → string_bytes text ≡ buttons_text samples (keys ++ listed last)) }
+    {
+        let has_kp = has_kp_with(self.has_kp, last);
+        if has_kp {
+            Ok(String::new(alloc))
+        } else {
+            buttons_line(alloc, self.buttons.blocks())
+        }
+    }
+
+    // Both, where this key sounds at the end.
+    fn quiet_text(&self, alloc: Global, last: Option<Heard>) -> Result<String, AllocError>
+        ensures { IfOk result (λ text. (samples : List ℤ) (keys : List HeardKey)
+            → HasListened self.now samples keys → string_bytes text ≡ quiet_text samples (keys ++ listed last)) }
+    {
+        let mut text = self.loudness_text(alloc, last)?;
+        let digits = self.buttons_text(alloc, last)?;
+        text.push_str(&digits)?;
+        Ok(text)
+    }
+
+    /// Tells how loud a sound is in which no key was heard, where this one sounds at its end, and for how long digits
+    /// of a push-button telephone sound in one in which no KP was. On an `Err` the beginning of that was written.
     pub(crate) fn tell<E: Write>(
         &self,
         alloc: Global,

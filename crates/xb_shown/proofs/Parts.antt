@@ -1,5 +1,5 @@
 -- A part more of a picture, and of a page.
-use Rattle.std.proofs.Common.{◌≡◌, ◌∙◌, ◌++◌, ◌+◌, ◌≤◌, ◌<◌, ◌^◌, ◌-◌, ℕ, suc, Bool, true, List, [], ◌∷◌, length, take, min, ap, ap₂, sym, append_assoc, arith}
+use Rattle.std.proofs.Common.{◌≡◌, ◌∙◌, ◌++◌, ◌+◌, ◌<◌, ◌^◌, ◌-◌, ℕ, suc, Bool, true, List, [], ◌∷◌, length, take, min, ap, ap₂, sym, append_assoc, arith}
 use Rattle.std.proofs.lemmas.List.{append-nil, take_all}
 use Rattle.xb_svg.proofs.Pushed.{both}
 use Rattle.xb_shown.specs.Keyings.{part_text}
@@ -41,15 +41,14 @@ none-later drawn body others fits is count =
     ∙ ap (λ (ps : List Part). with_later drawn ps (came_with drawn [] - 40)) (sym none)
 
 -- a section, and before the first one the beginning of the page
-pub section-first : (o o1 n : List ℕ) (begun after : Bool) (part : Part) (later : List Part)
-    → o1 ≡ o ++ unbegun_text begun → after ≡ true → n ≡ o1 ++ section_text part.title part.before part.keys
-    → n ++ page_rest after later ≡ o ++ page_rest begun (part ∷ later)
-section-first o o1 n begun after part later first is second =
+pub section-first : (o o1 n : List ℕ) (begun : Bool) (part : Part) (later : List Part)
+    → o1 ≡ o ++ unbegun_text begun → n ≡ o1 ++ section_text part.title part.before part.keys
+    → n ++ page_rest true later ≡ o ++ page_rest begun (part ∷ later)
+section-first o o1 n begun part later first second =
     let u = unbegun_text begun in
     let s = section_text part.title part.before part.keys in
     let rest = sections_text later ++ end_text in
-    ap (λ (b : Bool). n ++ page_rest b later) is
-    ∙ ap (λ (t : List ℕ). t ++ rest) (both o o1 n u s first second)
+    ap (λ (t : List ℕ). t ++ rest) (both o o1 n u s first second)
     ∙ append_assoc o (u ++ s) rest
     ∙ ap (λ (t : List ℕ). o ++ t) (append_assoc u s rest)
     ∙ ap (λ (t : List ℕ). o ++ (u ++ t)) (sym (append_assoc s (sections_text later) end_text))

@@ -1,5 +1,5 @@
 -- The ground of a row: the lanes of the six frequencies, and the axis of time.
-use Rattle.std.specs.Prelude.{ℕ, ◌+◌, ◌-◌, ◌*◌, ◌/◌, ◌%◌, List, [], ◌∷◌, ◌++◌, codes, decimal, if◌then◌else◌}
+use Rattle.std.specs.Prelude.{ℕ, ◌+◌, ◌-◌, ◌*◌, ◌/◌, ◌%◌, List, [], ◌++◌, codes, decimal, if◌then◌else◌}
 use Rattle.std.specs.List.{flat_map}
 use Rattle.xb_svg.specs.declared.look.Ink.TheVariants as ink
 use Rattle.xb_svg.specs.Elements.{band_text, words_text}

@@ -1,6 +1,6 @@
 -- Where things stand in a picture, in its units.
 use Rattle.std.specs.Prelude.{ℕ, ◌+◌, ◌-◌, ◌*◌, ◌/◌, min}
-use Rattle.xb_shown.specs.declared.places.TheConstants.{AXIS, FAINTEST, HIGHEST_HZ, LANE, LANE_HZ, LANES_TOP, LEAST_BAR, LEFT, MOST_BAR, ROW_HEIGHT, ROW_MS, TENTHS_PER_UNIT, UNITS_PER_MS}
+use Rattle.xb_shown.specs.declared.places.TheConstants.{FAINTEST, HIGHEST_HZ, LANE, LANE_HZ, LANES_TOP, LEAST_BAR, LEFT, MOST_BAR, ROW_HEIGHT, ROW_MS, TENTHS_PER_UNIT, UNITS_PER_MS}
 
 -- this time in a row that begins at another; what is later than the row stands at its end
 abbrev pub place_of : ℕ → ℕ → ℕ

@@ -84,7 +84,7 @@ fn push_rows_and(
 }
 
 impl Picture {
-    ghost use Rattle.std.specs.Prelude.{◌≡◌, ◌++◌, ◌∷◌, [], List, OnOk, string_bytes};
+    ghost use Rattle.std.specs.Prelude.{◌≡◌, ◌++◌, ◌∷◌, [], IfErr, List, OnOk, string_bytes};
     ghost use Rattle.xb_shown.specs.Keyings.{part_text};
     ghost use Rattle.xb_shown.specs.Rows.{placed_of, rows_to};
     ghost use Rattle.xb_shown.specs.Pictures.{Part, nothing_drawn, part_of, picture_rest, picture_text};
@@ -114,13 +114,17 @@ impl Picture {
         ensures rows { OnOk result (self.new.rows
             ≡ rows_to self.old.rows (placed_of self.old.rows before keys.now)) }
         ensures count { OnOk result (self.new.came ≡ self.old.came) }
+        ensures kept { IfErr result (λ _. self.new ≡ self.old) }
     {
-        self.rows = push_rows(alloc, &mut self.body, self.rows, title, before, keys)?;
+        let mut drawn = String::new(alloc);
+        let rows = push_rows(alloc, &mut drawn, self.rows, title, before, keys)?;
+        self.body.push_str(&drawn)?;
+        self.rows = rows;
         Ok(())
     }
 
     /// Takes keys and what they are, by the last key before them, and draws them if there is room. `Err` says that
-    /// memory ran out; the picture is of no use then.
+    /// memory ran out; the picture stays as it was then.
     pub fn take(
         &mut self,
         alloc: Global,
@@ -128,8 +132,9 @@ impl Picture {
         before: Option<Heard>,
         keys: &[NamedKey],
     ) -> Result<(), AllocError>
-        ensures { (later : List Part) → OnOk result
+        ensures drawn { (later : List Part) → OnOk result
             (picture_rest self.new later ≡ picture_rest self.old (part_of title before keys.now ∷ later)) }
+        ensures kept { IfErr result (λ _. self.new ≡ self.old) }
     {
         if self.came >= MOST_DRAWN {
             self.came = self.came.saturating_add(1);

@@ -23,7 +23,7 @@ impl Model for Sections {
 }
 
 impl Sections {
-    ghost use Rattle.std.specs.Prelude.{◌≡◌, ◌++◌, ◌∷◌, [], false, true, List, OnOk, string_bytes};
+    ghost use Rattle.std.specs.Prelude.{◌≡◌, ◌++◌, ◌∷◌, [], false, IfErr, List, OnOk, string_bytes};
     ghost use Rattle.xb_shown.specs.Pages.{page_rest, page_text, unbegun_text};
     ghost use Rattle.xb_shown.specs.Pictures.{Part, part_of};
 
@@ -35,20 +35,19 @@ impl Sections {
         Sections { is_begun: false }
     }
 
-    // Puts what stands before the sections after the text, once.
-    fn begin(&mut self, out: &mut String) -> Result<(), AllocError>
-        ensures text { OnOk result (string_bytes out.new ≡ string_bytes out.old ++ unbegun_text self.old) }
-        ensures begun { OnOk result (self.new ≡ true) }
+    // Puts what stands before the sections after the text, unless it stands there.
+    fn begin(&self, out: &mut String) -> Result<(), AllocError>
+        ensures { OnOk result (string_bytes out.new ≡ string_bytes out.old ++ unbegun_text self.now) }
     {
-        if !self.is_begun {
-            push_page_start(out)?;
+        if self.is_begun {
+            return Ok(());
         }
-        self.is_begun = true;
-        Ok(())
+        push_page_start(out)
     }
 
     /// Puts the section of keys and of what they are after the text, by the last key before them; before the first one
-    /// the beginning of the page. `Err` says that memory ran out; the page is of no use then.
+    /// the beginning of the page. `Err` says that memory ran out; the page stays as it was then, and the text has the
+    /// beginning of what was to be put there.
     pub fn take(
         &mut self,
         alloc: Global,
@@ -57,17 +56,19 @@ impl Sections {
         before: Option<Heard>,
         keys: &[NamedKey],
     ) -> Result<(), AllocError>
-        ensures { (later : List Part) → OnOk result (string_bytes out.new ++ page_rest self.new later
+        ensures text { (later : List Part) → OnOk result (string_bytes out.new ++ page_rest self.new later
             ≡ string_bytes out.old ++ page_rest self.old (part_of title before keys.now ∷ later)) }
+        ensures kept { IfErr result (λ _. self.new ≡ self.old) }
     {
         self.begin(out)?;
-        push_part(alloc, out, title, before, keys)
+        push_part(alloc, out, title, before, keys)?;
+        self.is_begun = true;
+        Ok(())
     }
 
-    /// Puts the end of the page after the text, of one without a section all of it. `Err` says that memory ran out; the
-    /// page is of no use then.
-    pub fn end(&mut self, out: &mut String) -> Result<(), AllocError>
-        ensures { OnOk result (string_bytes out.new ≡ string_bytes out.old ++ page_rest self.old []) }
+    /// Puts the end of the page after the text, of one without a section all of it. `Err` says that memory ran out.
+    pub fn end(&self, out: &mut String) -> Result<(), AllocError>
+        ensures { OnOk result (string_bytes out.new ≡ string_bytes out.old ++ page_rest self.now []) }
     {
         self.begin(out)?;
         push_page_end(out)

@@ -1,7 +1,7 @@
 use Rattle.std.proofs.Common.{◌≡◌, ◌∙◌, ◌≤◌, ◌*◌, ap, arith, get_or, pos, rules, ℕ, ℤ, unsigned_abs, FitsSigned}
 use Rattle.std.specs.Int.{w16}
 use Rattle.std.proofs.lemmas.Int.{to_z-of_z}
-use Rattle.xb_dtmf.proofs.Sums.{square-bound, squares-end, squares-step}
+use Rattle.xb_ear.proofs.Sums.{square-bound, squares-end, squares-step}
 use Rattle.xb_dtmf.proofs.block.squares.Goals as goal
 
 pub loop-x-preserved : goal.loop-x-preserved

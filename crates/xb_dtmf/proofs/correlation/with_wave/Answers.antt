@@ -2,7 +2,8 @@ use Rattle.std.proofs.Common.{◌≡◌, ◌∙◌, ap, arith, get_or, pos, rule
 use Rattle.std.specs.Int.{w16, w64}
 use Rattle.std.proofs.lemmas.Int.{ints, to_z-of_z, fits_signed_from_abs}
 use Rattle.xb_dtmf.specs.Blocks.{wave_of}
-use Rattle.xb_dtmf.proofs.Sums.{bound-more, correlated-end, correlated-more, sum-is}
+use Rattle.xb_ear.proofs.Sums.{bound-more, correlated-end, correlated-more}
+use Rattle.xb_dtmf.proofs.Sums.{sum-is}
 use Rattle.xb_dtmf.proofs.correlation.with_wave.Goals as goal
 
 pub loop-x-preserved : goal.loop-x-preserved

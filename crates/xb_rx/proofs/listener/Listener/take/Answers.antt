@@ -1,13 +1,12 @@
-use Rattle.std.proofs.Common.{◌≡◌, ◌∙◌, ◌∷◌, [], ◌++◌, Bool, false, List, ℤ, ap, rules, subst, FitsSigned}
+use Rattle.std.proofs.Common.{◌≡◌, ◌∙◌, ◌∷◌, [], ◌++◌, Bool, false, ℤ, ap, rules, subst, FitsSigned}
 use Rattle.std.specs.Int.{w16}
 use Rattle.std.proofs.lemmas.Int.{to_z-of_z}
 use Rattle.xb_measured.specs.Receivers.{listed}
 use Rattle.xb_measured.specs.Receivers.{HasReceived}
 use Rattle.xb_measured.specs.Meters.{metered}
 use Rattle.xb_dtmf.specs.Blocks.{HasTaken}
-use Rattle.xb_measured.specs.declared.heard.Heard.{Heard}
-use Rattle.xb_rx.specs.Listeners.{is_keyed, is_keyed_with}
-use Rattle.xb_rx.proofs.Listened.{keyed-more, unkeyed}
+use Rattle.xb_rx.specs.Listeners.{has_kp, has_kp_with, is_keyed_with}
+use Rattle.xb_rx.proofs.Listened.{keyed-more, kp-before, kp-more}
 use Rattle.xb_rx.proofs.listener.Listener.take.Goals as goal
 
 pub returns-clause-heard : goal.returns-clause-heard
@@ -20,8 +19,12 @@ returns-clause-heard c = λ samples keys has.
       keyed = c.is_keyed_with-self.ensures
           ∙ ap (λ (b : Bool). is_keyed_with b c.take-key.result) has.keyed
           ∙ keyed-more keys c.take-key.result;
+      kp = c.has_kp_with-self.ensures
+          ∙ ap (λ (b : Bool). has_kp_with b c.take-key.result) has.kp
+          ∙ kp-more keys c.take-key.result;
       pressed = λ none.
-          let empty : keys ≡ [] = unkeyed keys (listed c.take-key.result) none in
-          let not : c.args.self.now.is_keyed ≡ false = has.keyed ∙ ap (λ (ks : List Heard). is_keyed ks) empty in
-          subst (λ (z : ℤ). HasTaken c.press.new.buttons (samples ++ z ∷ [])) same (c.press.ensures not samples (has.pressed empty));
+          let before : has_kp keys ≡ false
+          = kp-before (has_kp keys) c.take-key.result (kp-more keys c.take-key.result ∙ none) in
+          subst (λ (z : ℤ). HasTaken c.press.new.buttons (samples ++ z ∷ [])) same
+          (c.press.ensures (has.kp ∙ before) samples (has.pressed before));
     }

@@ -3,8 +3,8 @@ use Rattle.xb_shown.specs.Pictures.{Drawn, part_of}
 use Rattle.xb_shown.proofs.Parts.{one-drawn}
 use Rattle.xb_shown.proofs.picture.Picture.take.Goals as goal
 
-pub returns : goal.returns
-returns c = λ later.
+pub returns-clause-drawn : goal.returns-clause-drawn
+returns-clause-drawn c = λ later.
     let new : Drawn
     = record { body = string_bytes c.self-2.inside.body; rows = c.self-2.inside.rows; came = c.self-2.inside.came + 1 } in
     let before : c.self.inside.came ≡ c.args.self.now.came = ap (λ (d : Drawn). d.came) c.self.view_is in
