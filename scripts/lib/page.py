@@ -17,8 +17,9 @@ def text_of(entry):
     return " ".join([head, f"{entry['trunk']:04}"] + [f"{key}:{TONES[key]}" for key in entry["keys"]])
 
 
-objects = [json.loads(line) for line in sys.stdin]
-totals = objects.pop()
-for entry in sorted(objects, key=lambda entry: (entry["line"], entry["entry"])):
-    print(text_of(entry))
-print(f"KEYED {totals['keyed']} REFUSED {totals['refused']}")
+if __name__ == "__main__":
+    objects = [json.loads(line) for line in sys.stdin]
+    totals = objects.pop()
+    for entry in sorted(objects, key=lambda entry: (entry["line"], entry["entry"])):
+        print(text_of(entry))
+    print(f"KEYED {totals['keyed']} REFUSED {totals['refused']}")
