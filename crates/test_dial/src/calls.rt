@@ -1,7 +1,7 @@
 // Texts of calls, and their faults.
 use std::process::Abort;
 use std::test::Fail;
-use xb_dial::{Call, MOST_TEXT_BYTES, calls_of_text};
+use xb_calls::{Call, MOST_TEXT_BYTES, calls_of_text};
 use xb_model::Plan;
 
 // A line, and the values of its digits.

@@ -1,11 +1,11 @@
 // The rows of calls, as text.
 ghost use Rattle.xb_model.specs.LawfulLimits.{standard_limits};
-ghost use Rattle.xb_dial.specs.Speeds.{Fits};
+ghost use Rattle.xb_calls.specs.Speeds.{Fits};
 
 use std::alloc::Global;
 use std::process::Abort;
 use std::test::Fail;
-use xb_dial::{Call, RowOrder, Speed, calls_of_text, rows_of_calls};
+use xb_calls::{Call, RowOrder, Speed, calls_of_text, rows_of_calls};
 use xb_model::{Digit, LineNo};
 use xb_rows::{read_rows, text_of_rows};
 

@@ -1,5 +1,5 @@
 // Speeds at the ends of their limits.
-use xb_dial::{Speed, SpeedFault};
+use xb_calls::{Speed, SpeedFault};
 use xb_model::{GREATEST_MS, Limits};
 
 // 10 pulses a second.

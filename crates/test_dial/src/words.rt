@@ -1,7 +1,8 @@
 // The words of each fault but those of a text line, which `calls.rt` has, as the table of faults has them.
 use std::alloc::{AllocError, Global};
 use std::test::Fail;
-use xb_dial::{CallFault, DialFault, SpeedFault};
+use xb_calls::{CallFault, SpeedFault};
+use xb_dial::DialFault;
 
 const SPEEDS: &[(SpeedFault, &str)] = &[
     (SpeedFault::Break, "speed: the break is no pulse"),

@@ -1,7 +1,7 @@
 // From the dial to the ear: what a line dials, as the far end hears it.
 use std::test::Fail;
 use test_kit::decks::TABLE;
-use xb_dial::{Speed, calls_of_text};
+use xb_calls::{Speed, calls_of_text};
 use xb_model::LineNo;
 use xb_routes::RouteTable;
 use xb_sound::Cadence;

@@ -2,8 +2,8 @@
 use Rattle.std.specs.Prelude.{◌≡◌, ◌≢◌, ◌⊎◌}
 use Rattle.xb_text.specs.declared.reading.ReadFault.{ReadFault}
 use Rattle.xb_text.specs.declared.reading.ReadFault.TheVariants as read_fault
-use Rattle.xb_dial.specs.declared.fault.CallFault.{CallFault}
-use Rattle.xb_dial.specs.declared.fault.CallFault.TheVariants as call_fault
+use Rattle.xb_calls.specs.declared.fault.CallFault.{CallFault}
+use Rattle.xb_calls.specs.declared.fault.CallFault.TheVariants as call_fault
 use Rattle.xb_dial.specs.declared.fault.DialFault.{DialFault}
 use Rattle.xb_dial.specs.declared.fault.DialFault.TheVariants as fault
 

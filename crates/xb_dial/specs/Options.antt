@@ -4,9 +4,9 @@ use Rattle.std.specs.Option.{unwrap_or}
 use Rattle.clap.specs.Walk.{Row, Text}
 use Rattle.xb_command.specs.Given.{AskForNothing, AsksFor, ReadsFlag, ReadsNumber, given_by}
 use Rattle.xb_model.specs.Plans.{plan_of_digits}
-use Rattle.xb_dial.specs.declared.order.RowOrder.TheVariants.{ByLine, InTurn}
-use Rattle.xb_dial.specs.declared.speed.Speed.{Speed}
-use Rattle.xb_dial.specs.Speeds.{speed_of, ten_pulses_a_second, twenty_pulses_a_second}
+use Rattle.xb_calls.specs.declared.order.RowOrder.TheVariants.{ByLine, InTurn}
+use Rattle.xb_calls.specs.declared.speed.Speed.{Speed}
+use Rattle.xb_calls.specs.Speeds.{speed_of, ten_pulses_a_second, twenty_pulses_a_second}
 use Rattle.xb_dial.specs.declared.request.Request.{Request}
 use Rattle.xb_dial.specs.declared.words.Options.{Options}
 use Rattle.xb_dial.specs.Rules.{command_of_words}

@@ -5,17 +5,17 @@ use Rattle.xb_model.specs.LawfulLimits.{standard_limits}
 use Rattle.xb_model.specs.Rows.{LoopRow}
 use Rattle.xb_rows.specs.declared.scan.TheConstants.{MOST_RECORDS}
 use Rattle.xb_rows.specs.RowTexts.{rest_of_text, rows_and_stop}
-use Rattle.xb_dial.specs.declared.reading.TheConstants.{MOST_TEXT_BYTES}
-use Rattle.xb_dial.specs.Calls.{DialledCall}
-use Rattle.xb_dial.specs.CallTexts.{calls_of_text}
-use Rattle.xb_dial.specs.Dialling.{dialled}
-use Rattle.xb_dial.specs.Heard.{AreHeard, AreKeyed}
+use Rattle.xb_calls.specs.declared.reading.TheConstants.{MOST_TEXT_BYTES}
+use Rattle.xb_calls.specs.Calls.{DialledCall}
+use Rattle.xb_calls.specs.CallTexts.{calls_of_text}
+use Rattle.xb_calls.specs.Dialling.{dialled}
+use Rattle.xb_calls.specs.Heard.{AreHeard, AreKeyed}
 use Rattle.xb_rows.specs.WrittenRows.{text_of_rows}
-use Rattle.xb_dial.specs.Speeds.{Fits, IsFirstMisfit}
+use Rattle.xb_calls.specs.Speeds.{Fits, IsFirstMisfit}
 use Rattle.xb_dial.specs.declared.fault.DialFault.{DialFault}
 use Rattle.xb_dial.specs.declared.fault.DialFault.TheVariants as fault
 use Rattle.xb_dial.specs.declared.request.Request.{Request}
-use Rattle.xb_dial.specs.declared.speed.Speed.{Speed}
+use Rattle.xb_calls.specs.declared.speed.Speed.{Speed}
 use Rattle.xb_text.specs.Writing.{AppendsBeginning}
 
 -- the text of the rows that dial the calls of a text: by the plan, if one is asked for, exactly the

@@ -1,16 +1,15 @@
 // From calls on a reader to their rows on a writer.
 ghost use Rattle.std.specs.Prelude.{◌≡◌, ◌≤◌, IfErr, IfOk, length, string_bytes};
-ghost use Rattle.xb_dial.specs.declared.reading.TheConstants.{MOST_TEXT_BYTES};
+ghost use Rattle.xb_calls.specs.declared.reading.TheConstants.{MOST_TEXT_BYTES};
 ghost use Rattle.xb_model.specs.LawfulLimits.{standard_limits};
-ghost use Rattle.xb_dial.specs.Speeds.{Fits};
+ghost use Rattle.xb_calls.specs.Speeds.{Fits};
 ghost use Rattle.xb_dial.specs.Printed.{Delivers, Dials, IsFaultOfCalls, JudgesSpeed};
 
 use crate::fault::DialFault;
-use crate::lines::rows_of_calls;
-use crate::reading::{MOST_TEXT_BYTES, calls_of_text};
 use crate::request::Request;
 use std::alloc::Global;
 use std::io::{Read, Write};
+use xb_calls::{MOST_TEXT_BYTES, calls_of_text, rows_of_calls};
 use xb_model::Limits;
 use xb_rows::text_of_rows;
 use xb_text::{read_whole, write_whole};

@@ -1,39 +1,5 @@
 //! What the definitions give: each law is the contract of a function that does nothing.
-ghost use Rattle.xb_dial.specs.Heard.{DialledIsHeard, OrdersAreDialled};
 ghost use Rattle.xb_dial.specs.Program.{UsageNamesEachOption};
-ghost use Rattle.xb_dial.specs.WorkedCalls.{BothOrders, CallsOfTexts, NumbersOfCalls, RowsOfCalls};
-
-/// The rows of some calls, and the numbers that are heard of them.
-#[tactic(auto, unfolding(crate::specs::Dialling::pulses, xb_model::specs::WorkedRows::pulses, xb_model::specs::WorkedRows::dial))]
-pub fn rows_of_calls()
-    ensures rows { RowsOfCalls }
-    ensures numbers { NumbersOfCalls }
-{}
-
-/// Both orders of some lists.
-#[tactic(auto, unfolding(crate::specs::Dialling::rounds))]
-pub fn both_orders()
-    ensures { BothOrders }
-{}
-
-/// The calls of some texts, and each fault.
-#[tactic(auto, unfolding(crate::specs::CallTexts::calls_from, csv::specs::Reading::strip_bom))]
-pub fn calls_of_texts()
-    ensures { CallsOfTexts }
-{}
-
-/// A number that is dialled is the number that is heard, whatever rows of other lines stand between
-/// its own.
-#[tactic(auto, using(crate::proofs::HeardNumbers::dialled_is_heard))]
-pub fn dialled_is_heard()
-    ensures { DialledIsHeard }
-{}
-
-/// In both orders of the lines, the rows of each line are those that it dials.
-#[tactic(auto, using(crate::proofs::RowsOfLines::orders_are_dialled))]
-pub fn orders_are_dialled()
-    ensures { OrdersAreDialled }
-{}
 
 /// The line of refused words names each option of the command.
 #[tactic(auto, unfolding(clap::proofs::OnLiterals::clap_on_literals, xb_command::specs::Usages::has_part))]

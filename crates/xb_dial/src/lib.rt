@@ -1,16 +1,5 @@
 //! The program `mfdial` without its process: it reads calls and writes the loop rows that dial them.
 //!
-//! - `rows_of_calls`, for a speed that fits some lawful limits: exactly the rows that dial the calls, in
-//!   either order. By every plan by which all numbers are complete, and all lawful limits that the speed
-//!   fits, exactly each line's numbers are heard on it, in the order dialled, and its tape is exactly their
-//!   entries (`heard`). `laws::dialled_is_heard` says the same of every list of rows in which each
-//!   line's rows are those that it dials.
-//! - `Speed::fits` is `Ok` exactly where the five times fit the limits, else the first that does not.
-//!   `Speed::ten` and `twenty` fit the standard limits.
-//! - `calls_of_text`: the calls of the text, or, unless memory ran out, its first fault with its text line
-//!   and what stands there in place of a line. With a plan, each number is complete by it.
-//! - `without_mark`, `strip_carriage_return`, `is_passed_over`, `is_grouping` and `add_digit` are shared by
-//!   texts of calls and of numbers. `WrongByte` is a byte that may not stand there, and its place.
 //! - `dial`, for readers and writers whose bytes a contract can name: on `Ok` the writer got exactly the text
 //!   of the rows that dial the calls of the text. By the plan, if one is asked for, exactly the numbers of
 //!   each line are heard by the standard limits, and keyed. On `Write` it got the beginning, on any other
@@ -19,32 +8,14 @@
 //! - `attend`: `Attends` of this. `laws::usage_names_each_option`.
 #![tactic(auto)]
 
-mod call;
 mod dialling;
 mod fault;
-mod fields;
 pub mod laws;
-mod lines;
-mod lists;
-mod order;
 mod program;
-mod reading;
 mod request;
-mod runs;
-mod speed;
-mod told;
 mod words;
-mod wrong_byte;
 
-pub use call::Call;
 pub use dialling::dial;
-pub use fault::{CallFault, DialFault};
-pub use lines::rows_of_calls;
-pub use lists::{add_digit, is_grouping, is_passed_over, strip_carriage_return, without_mark};
-pub use order::RowOrder;
+pub use fault::DialFault;
 pub use program::attend;
-pub use reading::{MOST_TEXT_BYTES, calls_of_text};
 pub use request::Request;
-pub use speed::{Speed, SpeedFault};
-pub use told::{MOST_TOLD_BYTES, ToldField};
-pub use wrong_byte::WrongByte;

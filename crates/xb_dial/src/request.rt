@@ -1,7 +1,6 @@
 // What the words of the command line ask for.
 
-use crate::order::RowOrder;
-use crate::speed::Speed;
+use xb_calls::{RowOrder, Speed};
 use xb_model::Plan;
 
 /// How calls are dialled.

@@ -3,11 +3,10 @@ ghost use Rattle.std.specs.Prelude.{◌≡◌, IfErr, IfOk};
 ghost use Rattle.xb_command.specs.Commands.{texts_of};
 ghost use Rattle.xb_dial.specs.Options.{AreRefused, Asks, Say, request_of, standard_speed};
 
-use crate::order::RowOrder;
 use crate::program::PROGRAM;
 use crate::request::Request;
-use crate::speed::Speed;
 use std::alloc::Global;
+use xb_calls::{RowOrder, Speed};
 use xb_command::{Takes, Words, WordsFault, read_words};
 use xb_model::Plan;
 

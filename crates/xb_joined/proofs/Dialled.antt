@@ -1,6 +1,6 @@
 -- What the register of the next office takes of numbers that are dialled.
-use Rattle.xb_dial.specs.Dialling.{numbers_on}
-use Rattle.xb_dial.specs.Heard.{DialledIsHeard}
+use Rattle.xb_calls.specs.Dialling.{numbers_on}
+use Rattle.xb_calls.specs.Heard.{DialledIsHeard}
 use Rattle.xb_joined.specs.Tandem.{NumbersAreRegistered}
 use Rattle.xb_joined.specs.Dialled.{DialledIsRegistered}
 

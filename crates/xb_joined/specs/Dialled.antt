@@ -6,11 +6,11 @@ use Rattle.xb_model.specs.LawfulLimits.{IsLawful}
 use Rattle.xb_model.specs.Routing.{CodedRoute}
 use Rattle.xb_model.specs.Rows.{LoopRow}
 use Rattle.xb_model.specs.Tapes.{joined_tape}
-use Rattle.xb_dial.specs.declared.speed.Speed.{Speed}
-use Rattle.xb_dial.specs.Calls.{AreCalls, DialledCall}
-use Rattle.xb_dial.specs.Dialling.{numbers_on}
-use Rattle.xb_dial.specs.Heard.{AreComplete, AreDialled}
-use Rattle.xb_dial.specs.Speeds.{Fits}
+use Rattle.xb_calls.specs.declared.speed.Speed.{Speed}
+use Rattle.xb_calls.specs.Calls.{AreCalls, DialledCall}
+use Rattle.xb_calls.specs.Dialling.{numbers_on}
+use Rattle.xb_calls.specs.Heard.{AreComplete, AreDialled}
+use Rattle.xb_calls.specs.Speeds.{Fits}
 use Rattle.xb_sound.specs.declared.cadence.Cadence.{Cadence}
 use Rattle.xb_sound.specs.HeardTapes.{HavePrefixes}
 use Rattle.xb_ear.specs.Disturbed.{AreWithin}

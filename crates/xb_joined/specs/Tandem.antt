@@ -43,7 +43,7 @@ TapeIsRegistered =
     → InTime limit 0 (timed_keys samples)
     → AreRegistered limit b (keyed_of a (outcomes_of plan limits (record_of l rows))) samples
 
--- the same of numbers that office A hears on the line, as it does of those that are dialled on it (`AreHeard` of xb_dial):
+-- the same of numbers that office A hears on the line, as it does of those that are dialled on it (`AreHeard` of xb_calls):
 -- office B takes the digits of the order of each one, where it has one
 abbrev pub keyed_numbers : List CodedRoute → List (List ℕ) → List (List ℕ)
 keyed_numbers routes numbers = flat_map (λ number. keyed_by (routed routes number)) numbers

@@ -2,7 +2,7 @@
 ghost use Rattle.xb_joined.specs.Dialled.{DialledIsRegistered};
 ghost use Rattle.xb_joined.specs.Tandem.{NumbersAreRegistered, TapeIsRegistered};
 
-use xb_dial::laws::dialled_is_heard;
+use xb_calls::laws::dialled_is_heard;
 use xb_ear::laws::disturbed_keys_are_heard;
 
 /// **What an office keys on a line is what the register of the next office takes**: of the sound of a line's tape,

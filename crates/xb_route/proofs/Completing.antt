@@ -7,7 +7,7 @@ use Rattle.xb_model.specs.declared.plan.Plan.TheVariants.{Seven, Ten}
 use Rattle.xb_model.specs.Plans.{is_area_code, is_service_code, length_after, length_after_three, length_of_others, plan_len}
 use Rattle.xb_model.specs.Numbers.{fronts, has_length, is_complete, shortest_complete}
 use Rattle.std.proofs.lemmas.List.{length-append, length-take-le, take-append-drop}
-use Rattle.xb_dial.proofs.CompleteNumbers.{complete_is_shortest}
+use Rattle.xb_calls.proofs.CompleteNumbers.{complete_is_shortest}
 
 some_is : {A : Type 0} {x y : A} → Some x ≡ Some y → x ≡ y
 some_is {A} {x} {y} e = ap (λ o. unwrap_or o x) e

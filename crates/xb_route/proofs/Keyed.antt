@@ -6,11 +6,11 @@ use Rattle.std.proofs.lemmas.List.Elements.{All-cons, All-nil}
 use Rattle.xb_model.specs.Keyings.{marks_of}
 use Rattle.xb_model.specs.Numbers.{fronts, is_complete, shortest_complete}
 use Rattle.xb_model.specs.Routing.{CodedRoute, routed}
-use Rattle.xb_dial.specs.Calls.{AreCalls, DialledCall, IsCall, call_of}
-use Rattle.xb_dial.specs.Dialling.{dialled, numbers_on}
-use Rattle.xb_dial.specs.Heard.{entry_of}
-use Rattle.xb_dial.proofs.HeardNumbers.{dialled_is_heard}
-use Rattle.xb_dial.proofs.RowsOfLines.{orders_are_dialled}
+use Rattle.xb_calls.specs.Calls.{AreCalls, DialledCall, IsCall, call_of}
+use Rattle.xb_calls.specs.Dialling.{dialled, numbers_on}
+use Rattle.xb_calls.specs.Heard.{entry_of}
+use Rattle.xb_calls.proofs.HeardNumbers.{dialled_is_heard}
+use Rattle.xb_calls.proofs.RowsOfLines.{orders_are_dialled}
 use Rattle.xb_routes.specs.Table.{Table}
 use Rattle.xb_route.specs.Pages.{IsOnPage}
 

@@ -1,9 +1,9 @@
 -- Numbers as they are written: words, or the text lines of a text.
 use Rattle.std.specs.Prelude.{◌⊎◌, ◌≡◌, ◌&&◌, ℕ, not, Bool, List, [], ◌∷◌, Option, Some, None, is_none, Result, Ok, Err}
 use Rattle.std.specs.List.{enumerate_from, filter, filter_map}
-use Rattle.xb_dial.specs.declared.wrong_byte.WrongByte.{WrongByte}
-use Rattle.xb_dial.specs.Lists.{is_grouping, is_passed_over, text_lines}
-use Rattle.xb_dial.specs.WrongBytes.{first_wrong}
+use Rattle.xb_calls.specs.declared.wrong_byte.WrongByte.{WrongByte}
+use Rattle.xb_calls.specs.Lists.{is_grouping, is_passed_over, text_lines}
+use Rattle.xb_calls.specs.WrongBytes.{first_wrong}
 use Rattle.xb_route.specs.declared.fault.NumberFault.{NumberFault}
 use Rattle.xb_route.specs.declared.fault.NumberFault.TheVariants as fault
 use Rattle.xb_letters.specs.Letters.{digit_of_character}

@@ -5,11 +5,11 @@ use Rattle.xb_model.specs.declared.mark.Mark.{Mark}
 use Rattle.xb_model.specs.Keyings.{marks_of}
 use Rattle.xb_model.specs.LawfulLimits.{IsLawful}
 use Rattle.xb_model.specs.Tapes.{tape_of}
-use Rattle.xb_dial.specs.declared.order.RowOrder.{RowOrder}
-use Rattle.xb_dial.specs.declared.speed.Speed.{Speed}
-use Rattle.xb_dial.specs.Calls.{AreDigits, call_of}
-use Rattle.xb_dial.specs.Dialling.{dialled}
-use Rattle.xb_dial.specs.Speeds.{Fits}
+use Rattle.xb_calls.specs.declared.order.RowOrder.{RowOrder}
+use Rattle.xb_calls.specs.declared.speed.Speed.{Speed}
+use Rattle.xb_calls.specs.Calls.{AreDigits, call_of}
+use Rattle.xb_calls.specs.Dialling.{dialled}
+use Rattle.xb_calls.specs.Speeds.{Fits}
 use Rattle.xb_routes.specs.Table.{Table}
 use Rattle.xb_route.specs.declared.answer.Answer.{Answer}
 use Rattle.xb_route.specs.declared.answer.Answer.TheVariants.{Incomplete, Routed}

@@ -1,7 +1,7 @@
 // Why a text is no number, and why no number is routed.
 use std::io;
 use thiserror::Error;
-use xb_dial::WrongByte;
+use xb_calls::WrongByte;
 use xb_model::RowFault;
 use xb_routes::RouteFault;
 

@@ -1,11 +1,11 @@
 // Numbers as they are written.
 ghost use Rattle.std.specs.Prelude.{◌≡◌, IfErr, IfOk, Ok, position};
-ghost use Rattle.xb_dial.specs.WrongBytes.{first_wrong};
+ghost use Rattle.xb_calls.specs.WrongBytes.{first_wrong};
 ghost use Rattle.xb_route.specs.NumberTexts.{IsFaultOfText, digits_of, is_wrong, number_of_text};
 
 use crate::fault::NumberFault;
 use std::alloc::{AllocError, Global};
-use xb_dial::{WrongByte, add_digit, is_grouping};
+use xb_calls::{WrongByte, add_digit, is_grouping};
 use xb_letters::digit_of_character;
 use xb_model::Digit;
 

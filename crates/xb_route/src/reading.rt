@@ -6,7 +6,7 @@ ghost use Rattle.xb_route.specs.TextSteps.{IsWrong, StopsBy, TakesText, digits_o
 use crate::fault::NumberFault;
 use crate::numbers::number_of_text;
 use std::alloc::Global;
-use xb_dial::{is_passed_over, strip_carriage_return, without_mark};
+use xb_calls::{is_passed_over, strip_carriage_return, without_mark};
 use xb_model::Digit;
 use xb_text::first_piece;
 

@@ -9,7 +9,7 @@ use Rattle.xb_model.specs.declared.order.Order.TheVariants as orders
 use Rattle.xb_model.specs.Keyings.{marks_of, tone}
 use Rattle.xb_model.specs.MfPairs.{mf_pair}
 use Rattle.xb_model.specs.Routing.{CodedRoute, routed}
-use Rattle.xb_dial.specs.Heard.{entry_of}
+use Rattle.xb_calls.specs.Heard.{entry_of}
 use Rattle.xb_sound.specs.HeardKeys.{AreKeyed, keys_of}
 use Rattle.xb_together.specs.FarEnd.{HaveDigits, keys_of_order}
 

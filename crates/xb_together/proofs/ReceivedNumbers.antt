@@ -3,8 +3,8 @@ use Rattle.std.proofs.Common.{◌≡◌, ◌∙◌, ap, map}
 use Rattle.std.specs.List.{flat_map}
 use Rattle.xb_model.specs.Records.{attempts_of, record_of}
 use Rattle.xb_model.specs.Tapes.{joined_tape, tape_of}
-use Rattle.xb_dial.specs.Dialling.{numbers_on}
-use Rattle.xb_dial.specs.Heard.{DialledIsHeard, entry_of}
+use Rattle.xb_calls.specs.Dialling.{numbers_on}
+use Rattle.xb_calls.specs.Heard.{DialledIsHeard, entry_of}
 use Rattle.xb_sound.specs.HeardKeys.{AreKeyed, keys_of}
 use Rattle.xb_sound.proofs.TapeKeys.{entries-keyed}
 use Rattle.xb_ear.specs.HeardKeys.{DisturbedKeysAreHeard}

@@ -10,10 +10,10 @@ use Rattle.xb_model.specs.declared.order.Order.TheVariants as orders
 use Rattle.xb_model.specs.Routing.{CodedRoute, routed}
 use Rattle.xb_model.specs.Tapes.{joined_tape}
 use Rattle.xb_routes.specs.Table.{Table}
-use Rattle.xb_dial.specs.declared.order.RowOrder.TheVariants.{InTurn}
-use Rattle.xb_dial.specs.declared.speed.Speed.{Speed}
-use Rattle.xb_dial.specs.Calls.{DialledCall}
-use Rattle.xb_dial.specs.Dialling.{dialled}
+use Rattle.xb_calls.specs.declared.order.RowOrder.TheVariants.{InTurn}
+use Rattle.xb_calls.specs.declared.speed.Speed.{Speed}
+use Rattle.xb_calls.specs.Calls.{DialledCall}
+use Rattle.xb_calls.specs.Dialling.{dialled}
 use Rattle.xb_sound.specs.declared.cadence.Cadence.{Cadence}
 use Rattle.xb_sound.specs.HeardKeys.{IsKey, keys_heard}
 use Rattle.xb_sound.specs.Sounds.{sound_of}

@@ -1,14 +1,14 @@
 // From the dial to the ear: calls dialled, keyed by their routes, and heard at the far end.
 ghost use Rattle.std.specs.Prelude.{◌≡◌, ◌↔◌, IfOk, IfSome, IsTrue, None};
-ghost use Rattle.xb_dial.specs.Dialling.{numbers_on};
-ghost use Rattle.xb_dial.specs.Heard.{AreComplete};
-ghost use Rattle.xb_dial.specs.Speeds.{Fits};
+ghost use Rattle.xb_calls.specs.Dialling.{numbers_on};
+ghost use Rattle.xb_calls.specs.Heard.{AreComplete};
+ghost use Rattle.xb_calls.specs.Speeds.{Fits};
 ghost use Rattle.xb_model.specs.LawfulLimits as limits;
 ghost use Rattle.xb_sound.specs.Cadences.{IsLawful};
 ghost use Rattle.xb_together.specs.FarEnd.{FarEndHears, HaveDigits, sound_of_line};
 
 use std::alloc::{AllocError, Global};
-use xb_dial::{Call, RowOrder, Speed, rows_of_calls};
+use xb_calls::{Call, RowOrder, Speed, rows_of_calls};
 use xb_model::{Key, LineNo, Mark};
 use xb_routes::RouteTable;
 use xb_serial::key_serial;

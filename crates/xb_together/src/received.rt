@@ -1,7 +1,7 @@
 // From the dial to the ear, by the receiver of xb_ear: a law that cites the laws below it.
 ghost use Rattle.xb_together.specs.Received.{DialledIsReceived};
 
-use xb_dial::laws::dialled_is_heard;
+use xb_calls::laws::dialled_is_heard;
 use xb_ear::laws::disturbed_keys_are_heard;
 
 /// **The digits that are dialled on a line are, by its route, the digits that the receiver hears**, through any

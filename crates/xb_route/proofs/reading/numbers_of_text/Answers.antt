@@ -2,8 +2,8 @@ use Rattle.std.proofs.Common.{ℕ, ◌+◌, List, map, sym, ap, ◌∙◌, arith
 use Rattle.std.specs.List.{enumerate_from}
 use Rattle.std.specs.Prelude.{option_copied}
 use Rattle.std.specs.Str.Lines.{strip_carriage_return}
-use Rattle.xb_dial.specs.Lists.{line_feed}
-use Rattle.xb_dial.proofs.TextLines.{few-lines}
+use Rattle.xb_calls.specs.Lists.{line_feed}
+use Rattle.xb_calls.proofs.TextLines.{few-lines}
 use Rattle.xb_text.specs.Pieces.{pieces, pieces_left}
 use Rattle.xb_route.specs.NumberTexts.{Numbers, lines_read, numbers_of}
 use Rattle.xb_route.specs.TextSteps.{after, digits_of_numbers}

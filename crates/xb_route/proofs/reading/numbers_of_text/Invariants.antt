@@ -2,7 +2,7 @@ use Rattle.std.proofs.Common.{◌≡◌, ◌+◌, ◌≤◌, length, map}
 use Rattle.std.specs.List.{enumerate_from}
 use Rattle.std.specs.Prelude.{option_copied}
 use Rattle.std.specs.Str.Lines.{strip_carriage_return}
-use Rattle.xb_dial.specs.Lists.{line_feed}
+use Rattle.xb_calls.specs.Lists.{line_feed}
 use Rattle.xb_text.specs.Pieces.{pieces_left}
 use Rattle.xb_route.specs.NumberTexts.{lines_read, numbers_of, numbers_of_text}
 use Rattle.xb_route.specs.TextSteps.{after, digits_of_numbers}

@@ -2,8 +2,8 @@ use Rattle.std.proofs.Common.{◌≡◌, ◌∙◌, ◌<◌, ap, map, subst, sym
 use Rattle.std.specs.List.{flat_map}
 use Rattle.xb_model.specs.declared.line.TheConstants.{LINES}
 use Rattle.xb_model.specs.Tapes.{joined_tape, tape_of}
-use Rattle.xb_dial.specs.Dialling.{numbers_on}
-use Rattle.xb_dial.specs.Heard.{entry_of}
+use Rattle.xb_calls.specs.Dialling.{numbers_on}
+use Rattle.xb_calls.specs.Heard.{entry_of}
 use Rattle.xb_sound.specs.HeardKeys.{AreKeyed, keys_heard, keys_of}
 use Rattle.xb_sound.specs.Sounds.{sound_of}
 use Rattle.xb_sound.proofs.HeardMarks.{keys_are_heard}

@@ -1,0 +1,11 @@
+pub mod Speeds
+pub mod Calls
+pub mod Dialling
+pub mod Heard
+pub mod LineRows
+pub mod ToldFields
+pub mod Lists
+pub mod WrongBytes
+pub mod CallTexts
+pub mod TextLines
+pub mod WorkedCalls

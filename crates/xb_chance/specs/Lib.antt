@@ -1,0 +1,3 @@
+pub mod Words
+pub mod Swings
+pub mod WorkedWords
