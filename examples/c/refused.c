@@ -186,8 +186,8 @@ static void try_sounds(void)
     unplayed(&key, sender, 8, MF_NO_ROOM, "a key in too little room");
     unplayed(&trunk, sender, 8, MF_NO_ROOM, "a silence in too little room");
     cadence = sender;
-    cadence.gap_ms = 37;
-    unplayed(&trunk, cadence, 8, MF_WRONG_CADENCE, "a gap of 37 ms");
+    cadence.gap_ms = 10001;
+    unplayed(&trunk, cadence, 8, MF_WRONG_CADENCE, "a gap of 10001 ms");
     cadence.lead_ms = 0;
     unplayed(&none, cadence, 8, MF_WRONG_MARKS, "the mark comes before the cadence");
     check(mf_sound(&key, &sender, samples, 1343, &count) == MF_NO_ROOM && count == 0, "a key by a sample too long");

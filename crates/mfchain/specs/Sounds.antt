@@ -22,7 +22,7 @@ pub record IsMark (mark : PlainMark) : Type 0 where
   pub low : mark.low < 2 ^ 16
   pub high : mark.high < 2 ^ 16
 
--- the samples of a mark by a cadence that a receiver takes, so many, are at the front of the room
+-- the samples of a mark by a lawful cadence, so many, are at the front of the room
 pub record Plays (mark : PlainMark) (cadence : Cadence) (room : List ℤ) (count : ℕ) : Type 0 where
   pub is : IsMark mark
   pub lawful : IsLawful cadence

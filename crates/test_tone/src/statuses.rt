@@ -89,22 +89,22 @@ const CASES: &[(&[&str], &[u8], u8, &[u8])] = &[
         b"mftone: cadence: the silence before KP is too long\n",
     ),
     (
-        &["--kp", "57"],
+        &["--kp", "0"],
         b"x",
         1,
-        b"mftone: cadence: the tone of KP is too short or too long\n",
+        b"mftone: cadence: the tone of KP has 0 ms or is too long\n",
     ),
     (
-        &["--key", "45"],
+        &["--key", "0"],
         b"x",
         1,
-        b"mftone: cadence: the tone of a digit is too short or too long\n",
+        b"mftone: cadence: the tone of a digit has 0 ms or is too long\n",
     ),
     (
         &["--gap", "70000"],
         b"x",
         1,
-        b"mftone: cadence: the silence after a tone is too short or too long\n",
+        b"mftone: cadence: the silence after a tone is too long\n",
     ),
     // no page is read for words of keys
     (

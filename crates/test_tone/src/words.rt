@@ -12,15 +12,15 @@ const WORDS: &[(ToneFault, &str)] = &[
     ),
     (
         ToneFault::Cadence(CadenceFault::Kp),
-        "cadence: the tone of KP is too short or too long",
+        "cadence: the tone of KP has 0 ms or is too long",
     ),
     (
         ToneFault::Cadence(CadenceFault::Key),
-        "cadence: the tone of a digit is too short or too long",
+        "cadence: the tone of a digit has 0 ms or is too long",
     ),
     (
         ToneFault::Cadence(CadenceFault::Gap),
-        "cadence: the silence after a tone is too short or too long",
+        "cadence: the silence after a tone is too long",
     ),
     (
         ToneFault::Keys(KeysFault::NoWord(Place { word: 2, byte: 4 })),

@@ -7,7 +7,7 @@ use Rattle.xb_model.specs.declared.mark.Mark.TheVariants.{Trunk}
 use Rattle.xb_model.specs.Keyings.{tone}
 use Rattle.xb_model.specs.MfPairs.{mf_pair, pair}
 use Rattle.xb_sound.specs.declared.cadence.Cadence.{Cadence}
-use Rattle.xb_sound.specs.Cadences.{IsLawful, tone_ms}
+use Rattle.xb_sound.specs.Cadences.{IsSetApart, tone_ms}
 use Rattle.xb_sound.specs.HeardKeys.{AreKeyed, IsKey, frequencies_of, keys_heard, keys_of}
 use Rattle.xb_sound.specs.Receiver.{correlation, cosine_wave, heard_after, is_zero, loud_frequencies, sine_wave}
 use Rattle.xb_sound.specs.Sines.{pair_sample, sine_table}
@@ -85,9 +85,9 @@ keys-of [] = refl
 keys-of (key ∷ keys) = ap (λ (more : List PageKey). key ∷ more) (keys-of keys)
 
 pub named_keys_are_heard : KeysAreHeard
-named_keys_are_heard cadence keys lawful all =
+named_keys_are_heard cadence keys apart all =
     ap keys_heard (keys_sound_as_marks cadence 0 keys all)
-    ∙ (keys_are_heard cadence (Trunk 0 ∷ map tone keys) lawful (tt, are-keyed keys all)).keys
+    ∙ (keys_are_heard cadence (Trunk 0 ∷ map tone keys) apart (tt, are-keyed keys all)).keys
     ∙ keys-of keys
 
 wave_of : (a b : ℕ) → is_zero (pair_sample (pair (a * 100) (b * 100)) 0) ≡ true
@@ -109,44 +109,44 @@ name_wave StPrime is = wave_of 9 17 refl refl refl
 name_wave StTwoPrimes is = wave_of 13 17 refl refl refl
 name_wave StThreePrimes is = wave_of 7 17 refl refl refl
 
--- a lawful tone of a key has more than 80 samples
-name_is_long : (cadence : Cadence) → IsLawful cadence → (name : Name) → 81 ≤ name_ms cadence name * 8
-name_is_long cadence lawful (Key (Digit d)) = omega (arith, lawful.key.0)
-name_is_long cadence lawful (Key Kp) = omega (arith, lawful.kp.0)
-name_is_long cadence lawful (Key St) = omega (arith, lawful.key.0)
-name_is_long cadence lawful Kp2 = omega (arith, lawful.kp.0)
-name_is_long cadence lawful StPrime = omega (arith, lawful.key.0)
-name_is_long cadence lawful StTwoPrimes = omega (arith, lawful.key.0)
-name_is_long cadence lawful StThreePrimes = omega (arith, lawful.key.0)
+-- a tone that is set apart has more than 80 samples
+name_is_long : (cadence : Cadence) → IsSetApart cadence → (name : Name) → 81 ≤ name_ms cadence name * 8
+name_is_long cadence apart (Key (Digit d)) = omega (arith, apart.key)
+name_is_long cadence apart (Key Kp) = omega (arith, apart.kp)
+name_is_long cadence apart (Key St) = omega (arith, apart.key)
+name_is_long cadence apart Kp2 = omega (arith, apart.kp)
+name_is_long cadence apart StPrime = omega (arith, apart.key)
+name_is_long cadence apart StTwoPrimes = omega (arith, apart.key)
+name_is_long cadence apart StThreePrimes = omega (arith, apart.key)
 
 abbrev heard_names : List Name → List (List ℕ)
 heard_names names = map (λ name. frequencies_of (pair_of name)) names
 
 -- after silence, however long it was
-after_silence : (cadence : Cadence) → IsLawful cadence → (names : List Name) → AllByRecursion IsName names
+after_silence : (cadence : Cadence) → IsSetApart cadence → (names : List Name) → AllByRecursion IsName names
     → (silent : ℕ) → 80 ≤ silent
     → heard_after silent (plain_of (flat_map (key_segments cadence) names)) ≡ heard_names names
 unfolding heard_after
-after_silence cadence lawful [] all silent enough = refl
-after_silence cadence lawful (name ∷ names) all silent enough =
+after_silence cadence apart [] all silent enough = refl
+after_silence cadence apart (name ∷ names) all silent enough =
     let p = pair_of name in
     let wave = name_wave name all.0 in
     let rest = plain_of (flat_map (key_segments cadence) names) in
     let once = heard_after-tone (λ n. pair_sample p n) wave.wave wave.start (name_ms cadence name * 8)
-    (name_is_long cadence lawful name) silent enough (silence cadence.gap_ms ++ rest) in
-    let gap : 80 ≤ once.left + cadence.gap_ms * 8 = omega (arith, lawful.gap.0) in
+    (name_is_long cadence apart name) silent enough (silence cadence.gap_ms ++ rest) in
+    let gap : 80 ≤ once.left + cadence.gap_ms * 8 = omega (arith, apart.gap) in
     ap (λ (xs : List ℤ). heard_after silent xs) (key-sound cadence name all.0 names)
     ∙ once.same
     ∙ ap (λ (what : List ℕ). what ∷ heard_after once.left (silence cadence.gap_ms ++ rest)) wave.loud
     ∙ ap (λ (more : List (List ℕ)). frequencies_of p ∷ more)
     (heard_after-silence (cadence.gap_ms * 8) once.left rest
-    ∙ after_silence cadence lawful names all.1 (once.left + cadence.gap_ms * 8) gap)
+    ∙ after_silence cadence apart names all.1 (once.left + cadence.gap_ms * 8) gap)
 
 pub names_are_heard : NamesAreHeard
-names_are_heard cadence names lawful all =
+names_are_heard cadence names apart all =
     let rest = plain_of (flat_map (key_segments cadence) names) in
     ap (λ (xs : List ℤ). heard_after 80 xs)
     (plain-signal (start 0) (silent cadence.lead_ms ∷ flat_map (key_segments cadence) names))
     ∙ ap (λ (xs : List ℤ). heard_after 80 (xs ++ rest)) (silent-sound cadence.lead_ms)
     ∙ heard_after-silence (cadence.lead_ms * 8) 80 rest
-    ∙ after_silence cadence lawful names all (80 + cadence.lead_ms * 8) (omega arith)
+    ∙ after_silence cadence apart names all (80 + cadence.lead_ms * 8) (omega arith)

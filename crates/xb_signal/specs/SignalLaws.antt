@@ -7,7 +7,7 @@ use Rattle.xb_model.specs.declared.mark.Mark.TheVariants.{Trunk}
 use Rattle.xb_model.specs.Keyings.{tone}
 use Rattle.xb_model.specs.MfPairs.{pair}
 use Rattle.xb_sound.specs.declared.cadence.Cadence.{Cadence}
-use Rattle.xb_sound.specs.Cadences.{IsLawful}
+use Rattle.xb_sound.specs.Cadences.{IsSetApart}
 use Rattle.xb_sound.specs.HeardKeys.{IsKey, frequencies_of, keys_heard}
 use Rattle.xb_sound.specs.Receiver.{heard}
 use Rattle.xb_sound.specs.Sines.{sine_sample}
@@ -71,12 +71,12 @@ KeysSoundAsMarks = (cadence : Cadence) (trunk : ℕ) (keys : List PageKey) → A
 
 -- so these keys are heard
 abbrev pub KeysAreHeard : Type 0
-KeysAreHeard = (cadence : Cadence) (keys : List PageKey) → IsLawful cadence → AllByRecursion IsKey keys
+KeysAreHeard = (cadence : Cadence) (keys : List PageKey) → IsSetApart cadence → AllByRecursion IsKey keys
     → keys_heard (named cadence (names_of keys)) ≡ keys
 
 -- and of any keys the two frequencies of each
 abbrev pub NamesAreHeard : Type 0
-NamesAreHeard = (cadence : Cadence) (names : List Name) → IsLawful cadence → AllByRecursion IsName names
+NamesAreHeard = (cadence : Cadence) (names : List Name) → IsSetApart cadence → AllByRecursion IsName names
     → heard (named cadence names) ≡ map (λ name. frequencies_of (pair_of name)) names
 
 -- nothing disturbs the tones of a key: no hole does that has 0 ms, wherever it is

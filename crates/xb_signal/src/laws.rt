@@ -10,7 +10,7 @@ pub fn waves_are_sines()
     ensures round { QuarterIsRound }
 {}
 
-/// Keys by their names sound as those of a page, and by any lawful cadence a receiver hears them.
+/// Keys by their names sound as those of a page, and by any cadence that sets its tones apart a receiver hears them.
 pub fn names_are_heard()
     ensures marks { KeysSoundAsMarks }
     ensures keys { KeysAreHeard }

@@ -11,10 +11,11 @@
 //!   whose samples do not fit, with its place; `NoWords` exactly of a text of blanks.
 //! - `write_signal`: on `Ok` the writer got exactly the WAV file of the segments, or its samples; on `Write` the
 //!   beginning, and on any other fault nothing. `TooLong` comes only where the file would have 2^32 bytes or more.
-//! - `laws::names_are_heard`: keys that a page has sound as its marks do, to the sample. By every lawful cadence a
-//!   receiver that waits for 10 ms of silence and then measures the six MF frequencies hears exactly the pairs of the
-//!   keys, in order, also those of KP2 and of the further kinds of ST. `waves_are_sines`: the table is round, and at the
-//!   multiples of 100 Hz it is that of the marks. `amplitudes_are_rounded`: the table of levels is right.
+//! - `laws::names_are_heard`: keys that a page has sound as its marks do, to the sample. By every cadence that sets its
+//!   tones apart a receiver that waits for 10 ms of silence and then measures the six MF frequencies hears exactly the
+//!   pairs of the keys, in order, also those of KP2 and of the further kinds of ST. `waves_are_sines`: the table is
+//!   round, and at the multiples of 100 Hz it is that of the marks. `amplitudes_are_rounded`: the table of levels is
+//!   right.
 //!   `noise_goes_on` and `steady_goes_on`: noise, and what sounds all through, go by the number of a sample.
 //!   `plain_keys_are_written`: a key that nothing disturbs is its two frequencies. `nothing_is_cut` of what fits.
 //!   `files_are_as_long`. `worked_text`.

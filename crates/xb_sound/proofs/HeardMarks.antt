@@ -9,7 +9,7 @@ use Rattle.xb_model.specs.declared.mark.Mark.{Mark}
 use Rattle.xb_model.specs.declared.mark.Mark.TheVariants.{Trunk, Tone, Refused}
 use Rattle.xb_model.specs.Keyings.{keying, tone}
 use Rattle.xb_sound.specs.declared.cadence.Cadence.{Cadence}
-use Rattle.xb_sound.specs.Cadences.{IsLawful, tone_ms}
+use Rattle.xb_sound.specs.Cadences.{IsSetApart, tone_ms}
 use Rattle.xb_sound.specs.HeardKeys.{AreKeyed, KeyingsAreHeard, KeysAreHeard, frequencies_of, keys_of, keys_with, pairs_of}
 use Rattle.xb_sound.specs.Receiver.{heard, heard_after}
 use Rattle.xb_sound.specs.Sines.{pair_sample}
@@ -18,23 +18,23 @@ use Rattle.xb_sound.proofs.Insides.{heard_after-tone}
 use Rattle.xb_sound.proofs.KeyWaves.{key_wave, keys_with-pair, IsKeyWave}
 use Rattle.xb_sound.proofs.Silences.{heard_after-silence}
 
--- a lawful tone of a key has more than 80 samples
-tone_is_long : (cadence : Cadence) → IsLawful cadence → (key : Key) → 81 ≤ tone_ms cadence key * 8
-tone_is_long cadence lawful (Digit d) = omega (arith, lawful.key.0)
-tone_is_long cadence lawful Kp = omega (arith, lawful.kp.0)
-tone_is_long cadence lawful St = omega (arith, lawful.key.0)
+-- a tone that is set apart has more than 80 samples
+tone_is_long : (cadence : Cadence) → IsSetApart cadence → (key : Key) → 81 ≤ tone_ms cadence key * 8
+tone_is_long cadence apart (Digit d) = omega (arith, apart.key)
+tone_is_long cadence apart Kp = omega (arith, apart.kp)
+tone_is_long cadence apart St = omega (arith, apart.key)
 
 -- after a tone and the silence behind it
-after_tone : (cadence : Cadence) → IsLawful cadence → (key : Key) (pair : Pair) → IsKeyWave pair
+after_tone : (cadence : Cadence) → IsSetApart cadence → (key : Key) (pair : Pair) → IsKeyWave pair
     → (silent : ℕ) → 80 ≤ silent → (xs : List ℤ) (later : List (List ℕ))
     → ((z : ℕ) → 80 ≤ z → heard_after z xs ≡ later)
     → heard_after silent ((tone_sound pair (tone_ms cadence key) ++ silence cadence.gap_ms) ++ xs)
     ≡ frequencies_of pair ∷ later
-after_tone cadence lawful key pair wave silent enough xs later rest =
+after_tone cadence apart key pair wave silent enough xs later rest =
     let n : ℕ = tone_ms cadence key * 8 in
-    let once = heard_after-tone (λ n. pair_sample pair n) wave.wave wave.start n (tone_is_long cadence lawful key)
+    let once = heard_after-tone (λ n. pair_sample pair n) wave.wave wave.start n (tone_is_long cadence apart key)
     silent enough (silence cadence.gap_ms ++ xs) in
-    let gap : 80 ≤ once.left + cadence.gap_ms * 8 = omega (arith, lawful.gap.0) in
+    let gap : 80 ≤ once.left + cadence.gap_ms * 8 = omega (arith, apart.gap) in
     ap (λ (samples : List ℤ). heard_after silent samples)
     (append_assoc (tone_sound pair (tone_ms cadence key)) (silence cadence.gap_ms) xs)
     ∙ once.same
@@ -43,19 +43,19 @@ after_tone cadence lawful key pair wave silent enough xs later rest =
     (heard_after-silence (cadence.gap_ms * 8) once.left xs ∙ rest (once.left + cadence.gap_ms * 8) gap)
 
 -- after silence, however long it was, the pairs of the marks are heard
-pairs_are_heard : (cadence : Cadence) → IsLawful cadence → (marks : List Mark) → AreKeyed marks
+pairs_are_heard : (cadence : Cadence) → IsSetApart cadence → (marks : List Mark) → AreKeyed marks
     → (silent : ℕ) → 80 ≤ silent → heard_after silent (sound_of cadence marks) ≡ pairs_of marks
 unfolding heard_after
-pairs_are_heard cadence lawful [] keyed silent enough = refl
-pairs_are_heard cadence lawful (Trunk t ∷ marks) keyed silent enough =
+pairs_are_heard cadence apart [] keyed silent enough = refl
+pairs_are_heard cadence apart (Trunk t ∷ marks) keyed silent enough =
     heard_after-silence (cadence.lead_ms * 8) silent (sound_of cadence marks)
-    ∙ pairs_are_heard cadence lawful marks keyed.1 (silent + cadence.lead_ms * 8) (omega arith)
-pairs_are_heard cadence lawful (Tone key pair ∷ marks) keyed silent enough =
+    ∙ pairs_are_heard cadence apart marks keyed.1 (silent + cadence.lead_ms * 8) (omega arith)
+pairs_are_heard cadence apart (Tone key pair ∷ marks) keyed silent enough =
     let wave : IsKeyWave pair = subst IsKeyWave (sym keyed.0.1) (key_wave key keyed.0.0) in
-    after_tone cadence lawful key pair wave silent enough (sound_of cadence marks) (pairs_of marks)
-    (λ z h. pairs_are_heard cadence lawful marks keyed.1 z h)
-pairs_are_heard cadence lawful (Refused reason count ∷ marks) keyed silent enough =
-    pairs_are_heard cadence lawful marks keyed.1 silent enough
+    after_tone cadence apart key pair wave silent enough (sound_of cadence marks) (pairs_of marks)
+    (λ z h. pairs_are_heard cadence apart marks keyed.1 z h)
+pairs_are_heard cadence apart (Refused reason count ∷ marks) keyed silent enough =
+    pairs_are_heard cadence apart marks keyed.1 silent enough
 
 -- each pair has one key
 keys_of_pairs : (marks : List Mark) → AreKeyed marks → flat_map keys_with (pairs_of marks) ≡ keys_of marks
@@ -69,9 +69,9 @@ keys_of_pairs (Tone key pair ∷ marks) keyed =
 keys_of_pairs (Refused reason count ∷ marks) keyed = keys_of_pairs marks keyed.1
 
 pub keys_are_heard : KeysAreHeard
-keys_are_heard cadence marks lawful keyed =
+keys_are_heard cadence marks apart keyed =
     let pairs : heard (sound_of cadence marks) ≡ pairs_of marks =
-    pairs_are_heard cadence lawful marks keyed 80 (omega arith) in
+    pairs_are_heard cadence apart marks keyed 80 (omega arith) in
     record {
       pairs = pairs;
       keys = ap (λ (all : List (List ℕ)). flat_map keys_with all) pairs ∙ keys_of_pairs marks keyed;
@@ -89,6 +89,6 @@ keys_of_digits [] = refl
 keys_of_digits (d ∷ digits) = ap (λ (keys : List Key). Digit d ∷ keys) (keys_of_digits digits)
 
 pub keyings_are_heard : KeyingsAreHeard
-keyings_are_heard cadence trunk digits lawful below =
-    (keys_are_heard cadence (keying trunk digits) lawful (tt, ((tt, refl), digits_are_keyed digits below))).keys
+keyings_are_heard cadence trunk digits apart below =
+    (keys_are_heard cadence (keying trunk digits) apart (tt, ((tt, refl), digits_are_keyed digits below))).keys
     ∙ ap (λ (keys : List Key). Kp ∷ keys) (keys_of_digits digits)

@@ -145,6 +145,6 @@ entries-keyed routes have plan limits (attempt ∷ attempts) =
     (entries-keyed routes have plan limits attempts)
 
 pub tapes_are_heard : TapesAreHeard
-tapes_are_heard cadence plan limits routes l rows lawful have =
-    keys_are_heard cadence (joined_tape plan limits routes l rows) lawful
+tapes_are_heard cadence plan limits routes l rows apart have =
+    keys_are_heard cadence (joined_tape plan limits routes l rows) apart
     (entries-keyed routes have plan limits (attempts_of limits (record_of l rows)))

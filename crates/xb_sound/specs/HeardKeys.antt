@@ -10,7 +10,7 @@ use Rattle.xb_model.specs.declared.mark.Mark.TheVariants.{Trunk, Tone, Refused}
 use Rattle.xb_model.specs.Keyings.{keying}
 use Rattle.xb_model.specs.MfPairs.{mf_pair}
 use Rattle.xb_sound.specs.declared.cadence.Cadence.{Cadence}
-use Rattle.xb_sound.specs.Cadences.{IsLawful, tone_ms}
+use Rattle.xb_sound.specs.Cadences.{IsSetApart, tone_ms}
 use Rattle.xb_sound.specs.Receiver.{energy, heard, loud_energy, mf_frequencies}
 use Rattle.xb_sound.specs.Sines.{pair_sample}
 use Rattle.xb_sound.specs.Sounds.{sound_of}
@@ -110,11 +110,11 @@ pub record IsHeard (sound : List ℤ) (marks : List Mark) : Type 0 where
   pub keys : keys_heard sound ≡ keys_of marks
 
 abbrev pub KeysAreHeard : Type 0
-KeysAreHeard = (cadence : Cadence) (marks : List Mark) → IsLawful cadence → AreKeyed marks
+KeysAreHeard = (cadence : Cadence) (marks : List Mark) → IsSetApart cadence → AreKeyed marks
     → IsHeard (sound_of cadence marks) marks
 
 -- of a keying: KP, its digits, ST
 abbrev pub KeyingsAreHeard : Type 0
-KeyingsAreHeard = (cadence : Cadence) (trunk : ℕ) (digits : List ℕ) → IsLawful cadence
+KeyingsAreHeard = (cadence : Cadence) (trunk : ℕ) (digits : List ℕ) → IsSetApart cadence
     → AllByRecursion (λ d. d < DIGITS) digits
     → keys_heard (sound_of cadence (keying trunk digits)) ≡ Kp ∷ (map (λ d. Digit d) digits ++ St ∷ [])

@@ -8,7 +8,7 @@ use Rattle.xb_model.specs.Routing.{CodedRoute}
 use Rattle.xb_model.specs.Rows.{LoopRow}
 use Rattle.xb_model.specs.Tapes.{joined_tape}
 use Rattle.xb_sound.specs.declared.cadence.Cadence.{Cadence}
-use Rattle.xb_sound.specs.Cadences.{IsLawful}
+use Rattle.xb_sound.specs.Cadences.{IsSetApart}
 use Rattle.xb_sound.specs.HeardKeys.{IsHeard}
 use Rattle.xb_sound.specs.Sounds.{sound_of}
 
@@ -22,5 +22,5 @@ HavePrefixes routes = AllByRecursion (λ (route : CodedRoute). AreDigits route.p
 -- of the sound of a line's tape just the keys are heard that its record of pulses is keyed as
 abbrev pub TapesAreHeard : Type 0
 TapesAreHeard = (cadence : Cadence) (plan : Plan) (limits : Limits) (routes : List CodedRoute) (l : ℕ) (rows : List LoopRow)
-    → IsLawful cadence → HavePrefixes routes
+    → IsSetApart cadence → HavePrefixes routes
     → IsHeard (sound_of cadence (joined_tape plan limits routes l rows)) (joined_tape plan limits routes l rows)

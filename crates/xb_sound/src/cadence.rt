@@ -1,6 +1,6 @@
 // How long the tones of a keying last, and the silences between them.
 ghost use Rattle.std.specs.Prelude.{◌≡◌, ◌↔◌, IsOk, IfErr, IsTrue};
-ghost use Rattle.xb_sound.specs.Cadences.{standard_cadence, IsLawful, IsFirstMisfit, IsWithin, tone_ms};
+ghost use Rattle.xb_sound.specs.Cadences.{standard_cadence, IsLawful, IsFirstMisfit, IsSetApart, IsToneTime, tone_ms};
 
 use thiserror::Error;
 use xb_model::Key;
@@ -10,17 +10,6 @@ pub const LONGEST_LEAD_MS: u16 = 60_000;
 
 /// The longest tone, and the longest silence after one, in ms: a limit of our own.
 pub const LONGEST_MS: u16 = 10_000;
-
-/// The shortest tone of KP, in ms: from this on a receiver that decides by blocks of 15 ms hears it
-/// wherever its blocks begin.
-pub const SHORTEST_KP_MS: u16 = 58;
-
-/// The shortest tone of a digit or of ST, in ms: as for KP.
-pub const SHORTEST_KEY_MS: u16 = 46;
-
-/// The shortest silence after a tone, in ms: from this on such a receiver tells a key from the same
-/// key before it.
-pub const SHORTEST_GAP_MS: u16 = 38;
 
 /// How long the tones of a keying last, and the silences between them, each in ms.
 #[derive(Clone, Copy, Debug, PartialEq, Eq)]
@@ -41,22 +30,22 @@ pub enum CadenceFault {
     /// The silence before KP is too long.
     #[error("the silence before KP is too long")]
     Lead,
-    /// The tone of KP is too short, or too long.
-    #[error("the tone of KP is too short or too long")]
+    /// The tone of KP has 0 ms, or is too long.
+    #[error("the tone of KP has 0 ms or is too long")]
     Kp,
-    /// The tone of a digit and of ST is too short, or too long.
-    #[error("the tone of a digit is too short or too long")]
+    /// The tone of a digit and of ST has 0 ms, or is too long.
+    #[error("the tone of a digit has 0 ms or is too long")]
     Key,
-    /// The silence after a tone is too short, or too long.
-    #[error("the silence after a tone is too short or too long")]
+    /// The silence after a tone is too long.
+    #[error("the silence after a tone is too long")]
     Gap,
 }
 
-// Whether a time of a tone or of the silence after one is in range.
-fn is_within(shortest: u16, ms: u16) -> bool
-    ensures { IsTrue result ↔ IsWithin shortest ms }
+// Whether a tone may last so long.
+fn is_tone_time(ms: u16) -> bool
+    ensures { IsTrue result ↔ IsToneTime ms }
 {
-    shortest <= ms && ms <= LONGEST_MS
+    0 < ms && ms <= LONGEST_MS
 }
 
 impl Cadence {
@@ -65,6 +54,7 @@ impl Cadence {
     pub fn standard() -> Cadence
         ensures value { result ≡ standard_cadence }
         ensures lawful { IsLawful result }
+        ensures apart { IsSetApart result }
     {
         Cadence {
             lead_ms: 500,
@@ -74,19 +64,19 @@ impl Cadence {
         }
     }
 
-    /// Whether each time is in its range, so that a receiver hears each key. `Err` tells the first
-    /// that is not: lead, KP, digit, gap.
+    /// Whether each time is in its range. `Err` tells the first that is not: lead, KP, digit, gap. Which
+    /// receiver hears such keys is another matter.
     pub fn check(self) -> Result<(), CadenceFault>
         ensures lawful { IsOk result ↔ IsLawful self }
         ensures misfit { IfErr result (λ fault. IsFirstMisfit self fault) }
     {
         if self.lead_ms > LONGEST_LEAD_MS {
             Err(CadenceFault::Lead)
-        } else if !is_within(SHORTEST_KP_MS, self.kp_ms) {
+        } else if !is_tone_time(self.kp_ms) {
             Err(CadenceFault::Kp)
-        } else if !is_within(SHORTEST_KEY_MS, self.key_ms) {
+        } else if !is_tone_time(self.key_ms) {
             Err(CadenceFault::Key)
-        } else if !is_within(SHORTEST_GAP_MS, self.gap_ms) {
+        } else if self.gap_ms > LONGEST_MS {
             Err(CadenceFault::Gap)
         } else {
             Ok(())

@@ -16,7 +16,7 @@ pub fn keys_are_clear()
     ensures tones { TonesAreClear }
 {}
 
-/// What is keyed is what a receiver hears, by any lawful cadence.
+/// What is keyed is what a receiver hears, by any cadence that sets its tones apart.
 #[tactic(auto, using(crate::proofs::HeardMarks::keys_are_heard))]
 pub fn keys_are_heard()
     ensures marks { KeysAreHeard }

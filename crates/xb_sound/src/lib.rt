@@ -6,7 +6,8 @@
 //!   the file would have 2^32 bytes or more, and then nothing was written.
 //! - `push_header` and `push_samples`: exactly the beginning of a WAV file, and the bytes of samples, in memory.
 //! - `Cadence::check` is `Ok` exactly for lawful cadences, else the first time that is out of its range.
-//! - `laws::keys_are_heard`: by every lawful cadence, a receiver that waits for 10 ms of silence and then
+//! - `laws::keys_are_heard`: where tones last 11 ms or more, with 10 ms of silence or more after each
+//!   (`IsSetApart`), a receiver that waits for 10 ms of silence and then
 //!   measures the six MF frequencies hears in the sound of keyed marks exactly their pairs, in order, and so
 //!   their keys. `tapes_are_heard` says so of a line's tape. `keys_are_clear`: in any 10 ms of a tone its two
 //!   frequencies are loud and each other is 80 dB below. `nothing_clips`.

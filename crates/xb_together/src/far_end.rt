@@ -4,7 +4,7 @@ ghost use Rattle.xb_calls.specs.Dialling.{numbers_on};
 ghost use Rattle.xb_calls.specs.Heard.{AreComplete};
 ghost use Rattle.xb_calls.specs.Speeds.{Fits};
 ghost use Rattle.xb_model.specs.LawfulLimits as limits;
-ghost use Rattle.xb_sound.specs.Cadences.{IsLawful};
+ghost use Rattle.xb_sound.specs.Cadences.{IsSetApart};
 ghost use Rattle.xb_together.specs.FarEnd.{FarEndHears, HaveDigits, sound_of_line};
 
 use std::alloc::{AllocError, Global};
@@ -47,7 +47,7 @@ pub fn sound_of_calls(
     cadence: Cadence,
 ) -> Result<Option<Vec<i16>>, AllocError>
     requires complete { AreComplete table.now.plan calls.now }
-    requires cadence { IsLawful cadence }
+    requires cadence { IsSetApart cadence }
     ensures sound { IfOk result (λ sound. IfSome sound (λ samples.
         samples.items ≡ sound_of_line table.now speed calls.now line cadence)) }
     ensures heard { IfOk result (λ sound. IfSome sound (λ samples.
