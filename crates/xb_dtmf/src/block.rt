@@ -1,9 +1,9 @@
 // Whether a digit sounds in a block.
 ghost use Rattle.std.specs.Prelude.{◌≡◌, ◌≤◌, ◌<◌, ◌*◌, ◌^◌, length};
 ghost use Rattle.xb_dtmf.specs.Blocks.{has_digit, power, strongest};
-ghost use Rattle.xb_ear.specs.Levels.{squares};
 
 use crate::correlation::level;
+use xb_ear::squares;
 
 /// The four low frequencies, in Hz (ITU-T Q.23).
 pub const LOW: [u16; 4] = [697, 770, 852, 941];
@@ -34,20 +34,6 @@ fn strongest(block: &[i16], frequencies: &[u16]) -> u64
         most = most.max(level(block, *hz));
     }
     most
-}
-
-// The sum of the squares of a block.
-fn squares(block: &[i16]) -> u64
-    requires { length block.now ≤ 160 }
-    ensures value { result ≡ squares block.now }
-    ensures bound { result ≤ 1073741824 * 160 }
-{
-    let mut sum = 0u64;
-    for x in block {
-        let size = u64::from(x.unsigned_abs());
-        sum += size * size;
-    }
-    sum
 }
 
 // The power of a block: a sine of amplitude A has A * A.

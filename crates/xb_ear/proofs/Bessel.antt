@@ -12,8 +12,8 @@ use Rattle.xb_ear.specs.Beside.{mixed}
 use Rattle.xb_ear.specs.Levels.{correlated, squares}
 use Rattle.xb_ear.proofs.Mixed.{correlated-agrees, correlated-mixed, correlated-sum, squares-mixed, two-squares}
 use Rattle.xb_ear.proofs.Standing.{and-both}
-use Rattle.xb_ear.proofs.SteadySines.{correlated-louder, correlated-times, nothing-times, squares-times, sum-is, times, times-is}
 use Rattle.xb_ear.proofs.Voltages.{square-is}
+use Rattle.xb_ear.proofs.Products.{correlated-louder, correlated-times, nothing-times, squares-times, sum-is, times, times-is}
 
 -- 80 samples of a wave
 abbrev pub piece : (ℕ → ℤ) → List ℤ

@@ -19,10 +19,10 @@ use Rattle.xb_ear.specs.Disturbed.{bounded}
 use Rattle.xb_ear.specs.HeardKeys.{IsHearableUnlike, MOST_NOISE, MOST_NOISE_IN_TONES, disturbable, mark_disturbable}
 use Rattle.xb_ear.specs.LongRuns.{needed_of}
 use Rattle.xb_ear.proofs.HeardKeys.{long-enough, more-zeros, part-long, zeros}
-use Rattle.xb_ear.proofs.MixedKeys.{cleans}
 use Rattle.xb_ear.proofs.Runs.{needed-range}
 use Rattle.xb_ear.proofs.Segments.{drops, inside, part_of}
 use Rattle.xb_ear.proofs.Shown.{still, still-anywhere}
+use Rattle.xb_ear.proofs.Mixes.{cleans}
 
 take-past : {A : Type 0} (xs more : List A) (k r : ℕ) → k ≡ length xs + r → take k (xs ++ more) ≡ xs ++ take r more
 take-past [] more k r is =

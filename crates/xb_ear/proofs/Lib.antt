@@ -27,7 +27,9 @@ pub mod Scaled
 pub mod OneTone
 pub mod BriefTones
 pub mod Mixed
+pub mod Mixes
 pub mod MixedKeys
+pub mod Products
 pub mod SteadySines
 pub mod Ripples
 pub mod Bessel
@@ -35,4 +37,5 @@ pub mod Others
 pub mod Pieces
 pub mod Edges
 pub mod LouderSines
+pub mod LoudWaves
 pub mod LouderKeys

@@ -1,9 +1,9 @@
 -- Keys are heard beside a steady sine that is louder still: what lies beside the six is steady then.
-use Rattle.std.proofs.Common.{◌≡◌, ◌∙◌, ℕ, zero, suc, ◌+◌, ◌-◌, ◌*◌, ◌/◌, ◌%◌, ◌<◌, ◌≤◌, Bool, true, false, List, [], ◌∷◌, ◌++◌, map, replicate, take, drop, length, sym, ap, subst, arith, refl, ℤ, pos, ◌+ℤ◌, ◌-ℤ◌, ◌*ℤ◌, unsigned_abs, Some, None, inl, inr, ◌⊎◌, eq-eqb, max, min, length-drop, length-take}
+use Rattle.std.proofs.Common.{◌≡◌, ◌∙◌, ℕ, zero, suc, ◌+◌, ◌-◌, ◌*◌, ◌/◌, ◌%◌, ◌<◌, ◌≤◌, Bool, true, false, List, [], ◌∷◌, ◌++◌, map, replicate, take, drop, length, sym, ap, subst, arith, refl, ℤ, pos, ◌-ℤ◌, ◌*ℤ◌, unsigned_abs, Some, None, inl, inr, ◌⊎◌, eq-eqb, max, min, length-drop, length-take}
 use Rattle.std.specs.Prelude.{◌&&◌, ◌==◌, if◌then◌else◌, nat_le}
 use Rattle.std.specs.List.{list_all, list_any, range_with_len}
 use Rattle.std.proofs.lemmas.Bool.{cases_lt, false≢true, leb-true}
-use Rattle.std.proofs.lemmas.Int.{ints, unsigned_abs-mul}
+use Rattle.std.proofs.lemmas.Int.{ints}
 use Rattle.std.proofs.lemmas.List.{length-map}
 use Rattle.std.proofs.lemmas.List.FromFn.{length-map-range_with_len}
 use Rattle.std.proofs.lemmas.Nat.{div-add-mod', mod_below, mul-le}
@@ -28,7 +28,7 @@ use Rattle.xb_ear.specs.Disturbed.{IsNear, bounded}
 use Rattle.xb_ear.specs.Ears.{least_before, window, windows_in}
 use Rattle.xb_ear.specs.HeardKeys.{IsHearableUnlike, MOST_NOISE, MOST_NOISE_IN_TONES, disturbable}
 use Rattle.xb_ear.specs.Hearings.{is_same_pair}
-use Rattle.xb_ear.specs.Levels.{correlated, cosine_of, levels_of, power, sine_of, squares}
+use Rattle.xb_ear.specs.Levels.{correlated, levels_of, power, squares}
 use Rattle.xb_ear.specs.Pairs.{all_levels, level_at, mf_pairs}
 use Rattle.xb_ear.specs.Steady.{beside, lessened}
 use Rattle.xb_ear.proofs.Bessel.{are_apart}
@@ -37,89 +37,18 @@ use Rattle.xb_ear.proofs.Edges.{windows-hold}
 use Rattle.xb_ear.proofs.HeardKeys.{ShowKeys}
 use Rattle.xb_ear.proofs.LouderSines.{AreLowWith, IsMild, LOUD_LEAST, edges-mild, loud-beside}
 use Rattle.xb_ear.proofs.Mixed.{mixed-length}
-use Rattle.xb_ear.proofs.MixedKeys.{IsMix, above-lowers, below-highers, clean-bound, clean-quiet, clean-sound, clean_bound, cleans, highers, mixed-long, pairs-long, power_most, squares-most, still-mixed, window-mix}
-use Rattle.xb_ear.proofs.Near.{far_squares, near-correlated, near-length, near-squares, reach}
+use Rattle.xb_ear.proofs.MixedKeys.{clean-bound, clean-quiet, clean_bound}
+use Rattle.xb_ear.proofs.Near.{far_squares, near-length, near-squares}
 use Rattle.xb_ear.proofs.Others.{six_waves}
-use Rattle.xb_ear.proofs.Scaled.{scaled, size-scaled}
+use Rattle.xb_ear.proofs.Scaled.{scaled}
 use Rattle.xb_ear.proofs.Segments.{AreMatched, ShowsBy}
 use Rattle.xb_ear.proofs.Shown.{still, turned}
 use Rattle.xb_ear.proofs.Standing.{and-both, sees-pair-steady, shows_clear}
-use Rattle.xb_ear.proofs.SteadySines.{IsEnough, IsLittle, is-steady, little-100, little-200, little-2600, little-300, sine-beside, times, both-waves, window-near, nothing-times, steady_sines_are_borne}
+use Rattle.xb_ear.proofs.SteadySines.{IsEnough, IsLittle, is-steady, little-100, little-200, little-2600, little-300, sine-beside, both-waves, window-near, steady_sines_are_borne}
 use Rattle.xb_ear.proofs.WholeSounds.{heard-after-gaps}
-
--- a wave that tones give little with
-record IsOther (wave : ℕ → ℤ) : Type 0 where
-  apart : are_apart 4001100000 230000 (wave ∷ six_waves) ≡ true
-  reaches : nat_le (reach wave 0 80) 520000 ≡ true
-  low : AreLowWith wave
-
--- and that stands for the sine or the cosine of a frequency in a window: the one gives much with it, the other nothing
-record IsLoudWith (wave : ℕ → ℤ) (own other : List ℤ) : Type 0 where
-  is_other : IsOther wave
-  much : nat_le 3999900000 (unsigned_abs (correlated wave 0 own)) ≡ true
-  none : nat_le (unsigned_abs (correlated wave 0 other)) 0 ≡ true
-
--- of a sine whose greater part is in one of them a window gives much with its wave
-by-own : (a b s c z : ℤ) (k : ℕ) → z ≡ a *ℤ s +ℤ b *ℤ c → unsigned_abs c ≤ 0 → 8131 ≤ unsigned_abs a
-    → 3999900000 ≤ unsigned_abs s → 8131 * 3999900000 ≤ unsigned_abs z
-by-own a b s c z k sum none great much =
-    let zero-c : c ≡ pos 0 = omega (arith, ints, none) in
-    let gone : b *ℤ c ≡ pos 0 = ap (λ (x : ℤ). b *ℤ x) zero-c ∙ sym (nothing-times b) in
-    let size : unsigned_abs (a *ℤ s) ≡ unsigned_abs a * unsigned_abs s = unsigned_abs-mul a s in
-    let wide = mul-le 8131 3999900000 (unsigned_abs a) (unsigned_abs s) great much in
-    omega (arith, ints, sum, gone, size, wide)
-
-turn-sum : (z p q : ℤ) → z ≡ p +ℤ q → z ≡ q +ℤ p
-turn-sum z p q sum = omega (arith, ints, sum)
-
-much-left : (wave : ℕ → ℤ) (steady ds : List ℤ) → length steady ≡ 80 → IsNear 30000 steady (scaled 10000 ds)
-    → reach wave 0 80 ≤ 520000 → 8131 * 3999900000 ≤ unsigned_abs (correlated wave 0 steady)
-    → 3250000000 ≤ unsigned_abs (correlated wave 0 ds)
-much-left wave steady ds long near far much =
-    let apart : unsigned_abs (correlated wave 0 (scaled 10000 ds) -ℤ correlated wave 0 steady) ≤ 30000 * reach wave 0 80 =
-    subst (λ (k : ℕ). unsigned_abs (correlated wave 0 (scaled 10000 ds) -ℤ correlated wave 0 steady) ≤ 30000 * reach wave 0 k)
-    long (near-correlated 30000 wave 0 steady (scaled 10000 ds) near) in
-    let all : unsigned_abs (correlated wave 0 (scaled 10000 ds)) ≡ 10000 * unsigned_abs (correlated wave 0 ds) = size-scaled wave 10000 0 ds in
-    let sizes : unsigned_abs (correlated wave 0 steady)
-    ≤ unsigned_abs (correlated wave 0 (scaled 10000 ds)) + 30000 * reach wave 0 80 = omega (arith, ints, apart) in
-    omega (arith, all, sizes, far, much)
-
--- the sine and the cosine where a window begins at a quarter of 80 samples
-abbrev sines_from : ℕ → ℕ → List ℤ
-sines_from hz j = map (λ n. sine_of hz n) (range_with_len (20 * j) 80)
-
-abbrev cosines_from : ℕ → ℕ → List ℤ
-cosines_from hz j = map (λ n. cosine_of hz n) (range_with_len (20 * j) 80)
-
-abbrev IsLoudSine : ℕ → ℕ → Type 0
-IsLoudSine hz j = (wave : ℕ → ℤ) × IsLoudWith wave (sines_from hz j) (cosines_from hz j)
-
-abbrev IsLoudCosine : ℕ → ℕ → Type 0
-IsLoudCosine hz j = (wave : ℕ → ℤ) × IsLoudWith wave (cosines_from hz j) (sines_from hz j)
-
-record IsLoud (hz : ℕ) : Type 0 where
-  s0 : IsLoudSine hz 0
-  s1 : IsLoudSine hz 1
-  s2 : IsLoudSine hz 2
-  s3 : IsLoudSine hz 3
-  c0 : IsLoudCosine hz 0
-  c1 : IsLoudCosine hz 1
-  c2 : IsLoudCosine hz 2
-  c3 : IsLoudCosine hz 3
-
-sine-at : (hz : ℕ) → IsLoud hz → (j : ℕ) → j < 4 → IsLoudSine hz j
-sine-at hz is zero below = is.s0
-sine-at hz is (suc zero) below = is.s1
-sine-at hz is (suc (suc zero)) below = is.s2
-sine-at hz is (suc (suc (suc zero))) below = is.s3
-sine-at hz is (suc (suc (suc (suc j)))) below = absurd (omega (arith, below))
-
-cosine-at : (hz : ℕ) → IsLoud hz → (j : ℕ) → j < 4 → IsLoudCosine hz j
-cosine-at hz is zero below = is.c0
-cosine-at hz is (suc zero) below = is.c1
-cosine-at hz is (suc (suc zero)) below = is.c2
-cosine-at hz is (suc (suc (suc zero))) below = is.c3
-cosine-at hz is (suc (suc (suc (suc j)))) below = absurd (omega (arith, below))
+use Rattle.xb_ear.proofs.LoudWaves.{by-own, cosine-at, cosines_from, IsLoud, loud-100, loud-200, loud-2600, loud-300, much-left, sine-at, sines_from, turn-sum}
+use Rattle.xb_ear.proofs.Products.{times}
+use Rattle.xb_ear.proofs.Mixes.{IsMix, above-lowers, below-highers, clean-sound, cleans, highers, mixed-long, pairs-long, power_most, squares-most, still-mixed, window-mix}
 
 -- one of two parts is great
 one-great : (x y : ℕ) → 132250000 ≤ x * x + y * y → (8131 ≤ x) ⊎ (8131 ≤ y)
@@ -398,122 +327,6 @@ module _ (h : ℕ) (little : IsLittle (h * 100)) (is : IsLoud (h * 100)) (cadenc
           let late : LOUD_LEAST ≤ least_before samples (suc w) =
           least-loud samples LOUD_LEAST each-beside w (omega (arith, fits)) in
           (window sine (suc w), record { mix = mix-at (suc w) fits; least = inl late })
-
-other-sine-100 : IsOther (sine_of 100)
-unfolding correlated squares reach sine_table
-other-sine-100 = record {
-  apart = refl;
-  reaches = refl;
-  low = record { w700 = refl; w900 = refl; w1100 = refl; w1300 = refl; w1500 = refl; w1700 = refl };
-}
-
-other-cosine-100 : IsOther (cosine_of 100)
-unfolding correlated squares reach sine_table
-other-cosine-100 = record {
-  apart = refl;
-  reaches = refl;
-  low = record { w700 = refl; w900 = refl; w1100 = refl; w1300 = refl; w1500 = refl; w1700 = refl };
-}
-
-loud-100 : IsLoud 100
-unfolding correlated sine_table
-loud-100 = record {
-  s0 = (sine_of 100, record { is_other = other-sine-100; much = refl; none = refl });
-  s1 = (cosine_of 100, record { is_other = other-cosine-100; much = refl; none = refl });
-  s2 = (sine_of 100, record { is_other = other-sine-100; much = refl; none = refl });
-  s3 = (cosine_of 100, record { is_other = other-cosine-100; much = refl; none = refl });
-  c0 = (cosine_of 100, record { is_other = other-cosine-100; much = refl; none = refl });
-  c1 = (sine_of 100, record { is_other = other-sine-100; much = refl; none = refl });
-  c2 = (cosine_of 100, record { is_other = other-cosine-100; much = refl; none = refl });
-  c3 = (sine_of 100, record { is_other = other-sine-100; much = refl; none = refl });
-}
-
-other-sine-200 : IsOther (sine_of 200)
-unfolding correlated squares reach sine_table
-other-sine-200 = record {
-  apart = refl;
-  reaches = refl;
-  low = record { w700 = refl; w900 = refl; w1100 = refl; w1300 = refl; w1500 = refl; w1700 = refl };
-}
-
-other-cosine-200 : IsOther (cosine_of 200)
-unfolding correlated squares reach sine_table
-other-cosine-200 = record {
-  apart = refl;
-  reaches = refl;
-  low = record { w700 = refl; w900 = refl; w1100 = refl; w1300 = refl; w1500 = refl; w1700 = refl };
-}
-
-loud-200 : IsLoud 200
-unfolding correlated sine_table
-loud-200 = record {
-  s0 = (sine_of 200, record { is_other = other-sine-200; much = refl; none = refl });
-  s1 = (sine_of 200, record { is_other = other-sine-200; much = refl; none = refl });
-  s2 = (sine_of 200, record { is_other = other-sine-200; much = refl; none = refl });
-  s3 = (sine_of 200, record { is_other = other-sine-200; much = refl; none = refl });
-  c0 = (cosine_of 200, record { is_other = other-cosine-200; much = refl; none = refl });
-  c1 = (cosine_of 200, record { is_other = other-cosine-200; much = refl; none = refl });
-  c2 = (cosine_of 200, record { is_other = other-cosine-200; much = refl; none = refl });
-  c3 = (cosine_of 200, record { is_other = other-cosine-200; much = refl; none = refl });
-}
-
-other-sine-300 : IsOther (sine_of 300)
-unfolding correlated squares reach sine_table
-other-sine-300 = record {
-  apart = refl;
-  reaches = refl;
-  low = record { w700 = refl; w900 = refl; w1100 = refl; w1300 = refl; w1500 = refl; w1700 = refl };
-}
-
-other-cosine-300 : IsOther (cosine_of 300)
-unfolding correlated squares reach sine_table
-other-cosine-300 = record {
-  apart = refl;
-  reaches = refl;
-  low = record { w700 = refl; w900 = refl; w1100 = refl; w1300 = refl; w1500 = refl; w1700 = refl };
-}
-
-loud-300 : IsLoud 300
-unfolding correlated sine_table
-loud-300 = record {
-  s0 = (sine_of 300, record { is_other = other-sine-300; much = refl; none = refl });
-  s1 = (cosine_of 300, record { is_other = other-cosine-300; much = refl; none = refl });
-  s2 = (sine_of 300, record { is_other = other-sine-300; much = refl; none = refl });
-  s3 = (cosine_of 300, record { is_other = other-cosine-300; much = refl; none = refl });
-  c0 = (cosine_of 300, record { is_other = other-cosine-300; much = refl; none = refl });
-  c1 = (sine_of 300, record { is_other = other-sine-300; much = refl; none = refl });
-  c2 = (cosine_of 300, record { is_other = other-cosine-300; much = refl; none = refl });
-  c3 = (sine_of 300, record { is_other = other-sine-300; much = refl; none = refl });
-}
-
-other-sine-2600 : IsOther (sine_of 2600)
-unfolding correlated squares reach sine_table
-other-sine-2600 = record {
-  apart = refl;
-  reaches = refl;
-  low = record { w700 = refl; w900 = refl; w1100 = refl; w1300 = refl; w1500 = refl; w1700 = refl };
-}
-
-other-cosine-2600 : IsOther (cosine_of 2600)
-unfolding correlated squares reach sine_table
-other-cosine-2600 = record {
-  apart = refl;
-  reaches = refl;
-  low = record { w700 = refl; w900 = refl; w1100 = refl; w1300 = refl; w1500 = refl; w1700 = refl };
-}
-
-loud-2600 : IsLoud 2600
-unfolding correlated sine_table
-loud-2600 = record {
-  s0 = (sine_of 2600, record { is_other = other-sine-2600; much = refl; none = refl });
-  s1 = (sine_of 2600, record { is_other = other-sine-2600; much = refl; none = refl });
-  s2 = (sine_of 2600, record { is_other = other-sine-2600; much = refl; none = refl });
-  s3 = (sine_of 2600, record { is_other = other-sine-2600; much = refl; none = refl });
-  c0 = (cosine_of 2600, record { is_other = other-cosine-2600; much = refl; none = refl });
-  c1 = (cosine_of 2600, record { is_other = other-cosine-2600; much = refl; none = refl });
-  c2 = (cosine_of 2600, record { is_other = other-cosine-2600; much = refl; none = refl });
-  c3 = (cosine_of 2600, record { is_other = other-cosine-2600; much = refl; none = refl });
-}
 
 heard-louder : (h : ℕ) → IsLittle (h * 100) → IsLoud (h * 100) → IsBorne (h * 100) → AreHeardBesideLouderSines (h * 100)
 heard-louder h little is borne cadence marks t a b sine lawful keyed some long loud wave =

@@ -6,8 +6,8 @@ use Rattle.std.proofs.lemmas.Nat.{mul-le}
 use Rattle.xb_ear.specs.Levels.{correlated, cosine_of, level, levels_of, power, sine_of, squares, total}
 use Rattle.xb_ear.specs.Steady.{beside}
 use Rattle.xb_ear.proofs.Bessel.{are_apart, bessel}
-use Rattle.xb_ear.proofs.SteadySines.{nothing-times, times-more}
 use lib.IntN.{*ℤ_comm}
+use Rattle.xb_ear.proofs.Products.{nothing-times, times-more}
 
 -- the waves of the six, and a steady one, which gives the mean
 abbrev pub steady_wave : ℕ → ℤ

@@ -15,7 +15,7 @@ use Rattle.xb_ear.proofs.Mixed.{correlated-mixed}
 use Rattle.xb_ear.proofs.Places.{sine_of-turns}
 use Rattle.xb_ear.proofs.Shown.{still, turned}
 use Rattle.xb_ear.proofs.Standing.{and-both}
-use Rattle.xb_ear.proofs.SteadySines.{sum-is}
+use Rattle.xb_ear.proofs.Products.{sum-is}
 
 -- no sum from the first sample on is greater
 abbrev pub stays_within : ℕ → (ℕ → ℤ) → ℤ → ℕ → List ℤ → Bool

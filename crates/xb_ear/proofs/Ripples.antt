@@ -19,8 +19,8 @@ use Rattle.xb_ear.proofs.Mixed.{correlated-agrees, correlated-mixed, drop-mixed,
 use Rattle.xb_ear.proofs.MixedKeys.{beside_is_borne}
 use Rattle.xb_ear.proofs.Places.{place-whole}
 use Rattle.xb_ear.proofs.Segments.{drops}
-use Rattle.xb_ear.proofs.SteadySines.{neg-times}
 use Rattle.xb_ear.proofs.Windows.{window-fits}
+use Rattle.xb_ear.proofs.Products.{neg-times}
 
 -- the table turns over after half of it
 abbrev is_turned : ℕ → ℕ

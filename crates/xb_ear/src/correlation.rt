@@ -44,14 +44,14 @@ pub(crate) fn with_cosine(window: &[i16], hz: u16) -> i64
     sum
 }
 
-// The sum of the squares of a window.
-pub(crate) fn squares(window: &[i16]) -> u64
-    requires { length window.now ≤ 80 }
-    ensures value { result ≡ squares window.now }
-    ensures bound { result ≤ 1073741824 * length window.now }
+/// The sum of the squares of samples, of 1,000 at most.
+pub fn squares(samples: &[i16]) -> u64
+    requires { length samples.now ≤ 1000 }
+    ensures value { result ≡ squares samples.now }
+    ensures bound { result ≤ 1073741824 * length samples.now }
 {
     let mut sum = 0u64;
-    for x in window {
+    for x in samples {
         let size = u64::from(x.unsigned_abs());
         sum += size * size;
     }

@@ -37,6 +37,7 @@ mod steady;
 mod tails;
 mod waves;
 
+pub use correlation::squares;
 pub use hearing::{GAP_WINDOWS, Heard, Hearing, KEY_WINDOWS, KP_WINDOWS, PART_WINDOWS};
 pub use levels::{Levels, levels_of};
 pub use plain::PlainEar;

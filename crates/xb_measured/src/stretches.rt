@@ -1,13 +1,12 @@
 // Where a key is measured.
 ghost use Rattle.std.specs.Prelude.{◌≡◌, ◌≤◌, ◌+◌, ◌-◌, ◌*◌, ◌/◌, IfSome, None, length};
 ghost use Rattle.std.specs.List.{range_with_len};
-ghost use Rattle.xb_ear.specs.Levels.{squares};
 ghost use Rattle.xb_measured.specs.Stretches.{heard_on, power_at, stretch_at, stronger_place, strongest};
 
 use crate::heard::{Heard, MeasuredTone};
 use crate::onsets::onsets_of;
 use crate::tones::tone_of;
-use xb_ear::Heard as HeardKey;
+use xb_ear::{Heard as HeardKey, squares};
 
 // A window begins so many samples after the one before it.
 const HOP: usize = 20;
@@ -27,26 +26,12 @@ fn stretch_at(kept: &[i16], place: usize) -> &[i16]
     &kept[HOP * place..HOP * place + STRETCH]
 }
 
-// The sum of the squares of samples.
-fn power_of(samples: &[i16]) -> u64
-    requires { length samples.now ≤ 200 }
-    ensures value { result ≡ squares samples.now }
-    ensures bound { result ≤ 1073741824 * length samples.now }
-{
-    let mut sum = 0u64;
-    for x in samples {
-        let size = u64::from(x.unsigned_abs());
-        sum += size * size;
-    }
-    sum
-}
-
 // How much the samples from a window on hold.
 fn power_at(kept: &[i16], place: usize) -> u64
     requires { 20 * place + 200 ≤ length kept.now }
     ensures { result ≡ power_at kept.now place }
 {
-    power_of(stretch_at(kept, place))
+    squares(stretch_at(kept, place))
 }
 
 // The stronger of two, of equal ones the first.
