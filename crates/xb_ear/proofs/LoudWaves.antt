@@ -1,12 +1,11 @@
 -- Waves that a loud sine of 100, 200, 300 or 2,600 Hz gives much with, and keys give little.
-use Rattle.std.proofs.Common.{◌≡◌, ◌∙◌, ℕ, zero, suc, ◌+◌, ◌-◌, ◌*◌, ◌<◌, ◌≤◌, true, List, ◌∷◌, map, length, sym, ap, subst, arith, refl, ℤ, pos, ◌+ℤ◌, ◌-ℤ◌, ◌*ℤ◌, unsigned_abs}
+use Rattle.std.proofs.Common.{◌≡◌, ◌∙◌, ℕ, zero, suc, ◌+◌, ◌*◌, ◌<◌, ◌≤◌, true, List, ◌∷◌, map, length, sym, ap, subst, arith, refl, ℤ, pos, ◌+ℤ◌, ◌-ℤ◌, ◌*ℤ◌, unsigned_abs}
 use Rattle.std.specs.Prelude.{nat_le}
 use Rattle.std.specs.List.{range_with_len}
 use Rattle.std.proofs.lemmas.Int.{ints, unsigned_abs-mul}
 use Rattle.std.proofs.lemmas.Nat.{mul-le}
 use Rattle.xb_sound.specs.Sines.{sine_table}
 use Rattle.xb_ear.specs.Disturbed.{IsNear}
-use Rattle.xb_ear.specs.Ears.{window}
 use Rattle.xb_ear.specs.Levels.{correlated, cosine_of, sine_of, squares}
 use Rattle.xb_ear.proofs.Bessel.{are_apart}
 use Rattle.xb_ear.proofs.LouderSines.{AreLowWith}

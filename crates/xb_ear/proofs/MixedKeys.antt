@@ -16,13 +16,12 @@ use Rattle.xb_ear.specs.HeardKeys.{MOST_NOISE_IN_TONES, disturbable}
 use Rattle.xb_ear.specs.Hearings.{is_same_pair}
 use Rattle.xb_ear.specs.Levels.{correlated, squares}
 use Rattle.xb_ear.specs.Pairs.{mf_pairs}
-use Rattle.xb_ear.proofs.Bounds.{most}
 use Rattle.xb_ear.proofs.HeardKeys.{ShowKeys}
 use Rattle.xb_ear.proofs.Mixed.{two-squares}
 use Rattle.xb_ear.proofs.Near.{far_squares}
 use Rattle.xb_ear.proofs.Segments.{ShowsBy}
 use Rattle.xb_ear.proofs.Shown.{still}
-use Rattle.xb_ear.proofs.Standing.{is_weak, shows}
+use Rattle.xb_ear.proofs.Standing.{is_weak}
 use Rattle.xb_ear.proofs.WholeSounds.{heard-after-gaps}
 use Rattle.xb_ear.proofs.Mixes.{clean-sound, cleans, highers, IsBound, matched-mixed, Mix, mixed_shown_at, shown_mixed, still-mixed}
 
