@@ -1,0 +1,4 @@
+pub mod SentRuns
+pub mod HeardPieces
+pub mod HeardDigits
+pub mod HeardLines

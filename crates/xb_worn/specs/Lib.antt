@@ -1,0 +1,2 @@
+pub mod SentCalls
+pub mod HeardCalls
