@@ -1,2 +1,5 @@
 pub mod SentCalls
 pub mod HeardCalls
+pub mod Wears
+pub mod Faults
+pub mod Places

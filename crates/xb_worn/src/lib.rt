@@ -1,7 +1,12 @@
 //! Calls as a dial that is out of adjustment sends them, and what an office makes of them.
 #![tactic(auto)]
 
+mod fault;
 pub mod laws;
+mod places;
 mod pulse;
+mod wear;
 
+pub use fault::{DigitFault, DigitPlace, Fault, PulseFault, PulsePlace};
 pub use pulse::SentPulse;
+pub use wear::Wear;
