@@ -2,3 +2,4 @@ pub mod SentRuns
 pub mod HeardPieces
 pub mod HeardDigits
 pub mod HeardLines
+pub mod SentDigits

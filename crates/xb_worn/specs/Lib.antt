@@ -3,3 +3,4 @@ pub mod HeardCalls
 pub mod Wears
 pub mod Faults
 pub mod Places
+pub mod Sending

@@ -5,6 +5,7 @@ mod fault;
 pub mod laws;
 mod places;
 mod pulse;
+mod sending;
 mod wear;
 
 pub use fault::{DigitFault, DigitPlace, Fault, PulseFault, PulsePlace};
