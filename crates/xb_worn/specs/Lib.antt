@@ -4,3 +4,4 @@ pub mod Wears
 pub mod Faults
 pub mod Places
 pub mod Sending
+pub mod WornRows

@@ -5,6 +5,7 @@ mod fault;
 pub mod laws;
 mod places;
 mod pulse;
+mod runs;
 mod sending;
 mod wear;
 
