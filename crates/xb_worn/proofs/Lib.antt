@@ -3,3 +3,4 @@ pub mod HeardPieces
 pub mod HeardDigits
 pub mod HeardLines
 pub mod SentDigits
+pub mod WornLines

@@ -73,13 +73,17 @@ sent_pulses wear faults number state digits =
     preliminary (preliminary_of number faults) wear.speed.pause_ms
     ++ sent_digits wear faults number state 1 digits
 
+-- the call of a number
+abbrev pub call_sent : Wear → List Fault → ℕ → ℕ → DialledCall → SentCall
+call_sent wear faults number state call =
+    sent_call call.line wear.speed.seize_ms (sent_pulses wear faults number state call.digits)
+
 -- the calls from the one of a number on; each has for its state the next word of the seed
 abbrev pub sent_calls : Wear → List Fault → ℕ → ℕ → List DialledCall → List SentCall
 sent_calls wear faults state number [] = []
 sent_calls wear faults state number (call ∷ calls) =
     let next : ℕ = state_after state 1 in
-    sent_call call.line wear.speed.seize_ms (sent_pulses wear faults number (word_of next) call.digits)
-    ∷ sent_calls wear faults next (number + 1) calls
+    call_sent wear faults number (word_of next) call ∷ sent_calls wear faults next (number + 1) calls
 
 -- all calls as they are sent
 abbrev pub sent : Wear → List Fault → List DialledCall → List SentCall

@@ -3,12 +3,15 @@
 
 mod fault;
 pub mod laws;
+mod lines;
 mod places;
 mod pulse;
 mod runs;
 mod sending;
 mod wear;
+mod worn_fault;
 
 pub use fault::{DigitFault, DigitPlace, Fault, PulseFault, PulsePlace};
 pub use pulse::SentPulse;
 pub use wear::Wear;
+pub use worn_fault::WornFault;

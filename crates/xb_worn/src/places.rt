@@ -1,6 +1,7 @@
 // Whether the places of faults are there.
-ghost use Rattle.std.specs.Prelude.{◌≡◌};
-ghost use Rattle.xb_worn.specs.Places.{absent_from, digits_at, is_number, is_there, pulses_at};
+ghost use Rattle.std.specs.Prelude.{◌≡◌, []};
+ghost use Rattle.std.specs.List.{list_any};
+ghost use Rattle.xb_worn.specs.Places.{absent_from, digits_at, is_number, is_there, pulses_at, repeated_from, same_place};
 
 use crate::fault::{DigitPlace, Fault};
 use xb_calls::{Call, pulse_count};
@@ -60,6 +61,46 @@ pub(crate) fn first_absent(calls: &[Call], faults: &[Fault]) -> Option<usize>
             return Some(number);
         }
         number += 1;
+    }
+    None
+}
+
+// Whether two faults stand at one place.
+fn same_place(one: Fault, other: Fault) -> bool
+    ensures { result ≡ same_place one other }
+{
+    match (one, other) {
+        (Fault::Pulse(a, _kind), Fault::Pulse(b, _other)) => {
+            a.place.call == b.place.call && a.place.digit == b.place.digit && a.pulse == b.pulse
+        }
+        (Fault::Digit(a, _kind), Fault::Digit(b, _other)) => a.call == b.call && a.digit == b.digit,
+        (Fault::Preliminary(a, _ms), Fault::Preliminary(b, _other)) => a == b,
+        _ => false,
+    }
+}
+
+// Whether a fault stands at the place of one of some others.
+fn stands_among(fault: Fault, others: &[Fault]) -> bool
+    ensures { result ≡ list_any (same_place fault) others.now }
+{
+    for other in others {
+        if same_place(fault, *other) {
+            return true;
+        }
+    }
+    false
+}
+
+/// The number, from 1, of the first fault at whose place an earlier one stands.
+pub(crate) fn first_repeated(faults: &[Fault]) -> Option<usize>
+    ensures { result ≡ repeated_from [] 1 faults.now }
+{
+    let mut earlier = 0;
+    for fault in faults {
+        if stands_among(*fault, &faults[..earlier]) {
+            return Some(earlier + 1);
+        }
+        earlier += 1;
     }
     None
 }
