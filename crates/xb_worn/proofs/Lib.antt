@@ -4,3 +4,4 @@ pub mod HeardDigits
 pub mod HeardLines
 pub mod SentDigits
 pub mod WornLines
+pub mod WornOrders

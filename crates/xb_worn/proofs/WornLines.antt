@@ -105,24 +105,26 @@ rows-all h calls (call ∷ later) lists are low =
     (rows-all h (calls ++ call ∷ []) later (with_call h call lists) (rows-more h calls call lists are low.0) low.1)
 
 -- no call, no rows
-rows-none : (h : ℕ) (lists : List (List LoopRow)) → length lists ≡ LINES → All (λ rows. rows ≡ []) lists
-    → AreRows h [] lists
-rows-none h lists long none =
+rows-none : {V : Type 0} (items : V → List LoopRow) (h : ℕ) (lines : List V) → length lines ≡ LINES
+    → All (λ v. items v ≡ []) lines
+    → AreRows h [] (map items lines)
+rows-none {V} items h lines long none =
     record {
-      long = long;
-      rows = λ l low. none_at lists l none;
+      long = length-map lines items ∙ long;
+      rows = λ l low. none_at lines l none;
     }
   where
-    none_at : (xs : List (List LoopRow)) (l : ℕ) → All (λ rows. rows ≡ []) xs → get_or xs l [] ≡ []
+    none_at : (vs : List V) (l : ℕ) → All (λ v. items v ≡ []) vs → get_or (map items vs) l [] ≡ []
     none_at [] l none = refl
-    none_at (rows ∷ xs) zero none = none 0 rows (omega arith)
-    none_at (rows ∷ xs) (suc l) none = none_at xs l (λ k d below. none (suc k) d (omega (arith, below)))
+    none_at (v ∷ vs) zero none = none 0 v (omega arith)
+    none_at (v ∷ vs) (suc l) none = none_at vs l (λ k d below. none (suc k) d (omega (arith, below)))
 
 -- calls after no rows give the rows of each line
-pub with_calls-all : (h : ℕ) (calls : List SentCall) (lists : List (List LoopRow)) → length lists ≡ LINES
-    → All (λ rows. rows ≡ []) lists → AllByRecursion IsOnLine calls
-    → with_calls h calls lists ≡ rows_by_line h calls
+pub with_calls-all : {V : Type 0} (items : V → List LoopRow) (h : ℕ) (calls : List SentCall) (lines : List V)
+    → length lines ≡ LINES → All (λ v. items v ≡ []) lines → AllByRecursion IsOnLine calls
+    → with_calls h calls (map items lines) ≡ rows_by_line h calls
 unfolding lines_below
-with_calls-all h calls lists long none low =
-    let are = rows-all h [] calls lists (rows-none h lists long none) low in
-    fill_by_all (line_rows h calls) (with_calls h calls lists) LINES [] are.long (λ l under. are.rows l under)
+with_calls-all items h calls lines long none low =
+    let are = rows-all h [] calls (map items lines) (rows-none items h lines long none) low in
+    fill_by_all (line_rows h calls) (with_calls h calls (map items lines)) LINES [] are.long
+    (λ l under. are.rows l under)

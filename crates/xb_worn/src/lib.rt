@@ -12,6 +12,7 @@ mod wear;
 mod worn_fault;
 
 pub use fault::{DigitFault, DigitPlace, Fault, PulseFault, PulsePlace};
+pub use lines::rows_of_worn_calls;
 pub use pulse::SentPulse;
 pub use wear::Wear;
 pub use worn_fault::WornFault;

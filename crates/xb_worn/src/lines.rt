@@ -77,3 +77,77 @@ fn take_calls(
     }
     Ok(())
 }
+
+// The rows of each line.
+fn rows_by_line(
+    alloc: Global,
+    calls: &[Call],
+    wear: &Wear,
+    faults: &[Fault],
+) -> Result<PerLine<Vec<Row>>, WornFault>
+    requires { is_time wear.now.speed.hang_up_ms ≡ true }
+    ensures rows { let made = rows_by_line wear.now.speed.hang_up_ms (sent wear.now faults.now calls.now) in
+        IfOk result (λ lines. map (λ rows. rows.items) lines ≡ made) }
+    ensures lines { OnOk result (AllByRecursion IsOnLine (sent wear.now faults.now calls.now)) }
+    ensures fits { OnOk result (misfit_from 1 (sent wear.now faults.now calls.now) ≡ None) }
+    ensures fault { let first = misfit_from 1 (sent wear.now faults.now calls.now) in
+        IfErr result (TellsMisfit first) }
+{
+    let mut lines = PerLine::from_fn(alloc, || Vec::new(alloc))?;
+    take_calls(alloc, &mut lines, wear, faults, calls)?;
+    Ok(lines)
+}
+
+// The rows of calls whose faults have places of their own, in an order of the lines.
+fn rows_in_order(
+    alloc: Global,
+    calls: &[Call],
+    wear: &Wear,
+    faults: &[Fault],
+    order: RowOrder,
+) -> Result<Vec<Row>, WornFault>
+    requires { is_time wear.now.speed.hang_up_ms ≡ true }
+    ensures rows { IfOk result (λ rows. rows.items ≡ worn_rows order wear.now faults.now calls.now) }
+    ensures lines { OnOk result (AllByRecursion IsOnLine (sent wear.now faults.now calls.now)) }
+    ensures fits { OnOk result (misfit_from 1 (sent wear.now faults.now calls.now) ≡ None) }
+    ensures fault { let first = misfit_from 1 (sent wear.now faults.now calls.now) in
+        IfErr result (TellsMisfit first) }
+{
+    let lines = rows_by_line(alloc, calls, wear, faults)?;
+    let lists = lists_of(alloc, &lines)?;
+    let rows = in_order(alloc, lists, order)?;
+    Ok(rows)
+}
+
+/// The loop rows of calls as a worn dial with faults sends them, in an order of the lines: on each line a make seizes,
+/// then come the pulses of the digits, and between two calls a break hangs up.
+///
+/// The speed to which the dial was adjusted fits some lawful limits, as `Speed::fits` tells. Each fault has a place of
+/// its own in the calls, and each time that is sent is 1 to 86,400,000 ms; else `Err` tells the first place that is
+/// not there, or has a fault already, or the first call with another time. By every plan, and all limits by which the
+/// hang-up releases the line, exactly the outcomes of each line's calls as they are sent are heard on it.
+pub fn rows_of_worn_calls(
+    alloc: Global,
+    calls: &[Call],
+    wear: &Wear,
+    faults: &[Fault],
+    order: RowOrder,
+) -> Result<Vec<Row>, WornFault>
+    requires fits { FitsSome wear.now.speed }
+    ensures rows { IfOk result (λ rows. rows.items ≡ worn_rows order wear.now faults.now calls.now) }
+    ensures places { OnOk result (ArePlaced calls.now faults.now) }
+    ensures times { OnOk result (misfit_from 1 (sent wear.now faults.now calls.now) ≡ None) }
+    ensures lines { let all = sent wear.now faults.now calls.now in
+        IfOk result (λ rows. AreSent wear.now.speed.hang_up_ms all rows.items) }
+    ensures heard { let all = sent wear.now faults.now calls.now in
+        IfOk result (λ rows. IsHeard wear.now.speed.hang_up_ms all rows.items) }
+    ensures fault { IfErr result (IsFaultOf wear.now faults.now calls.now) }
+{
+    if let Some(number) = first_absent(calls, faults) {
+        return Err(WornFault::NoSuchPlace(number));
+    }
+    if let Some(number) = first_repeated(faults) {
+        return Err(WornFault::SamePlace(number));
+    }
+    rows_in_order(alloc, calls, wear, faults, order)
+}
