@@ -13,7 +13,7 @@ use Rattle.xb_calls.specs.Speeds.{Fits}
 use Rattle.xb_calls.specs.Dialling.{call_runs, digit_runs, line_runs, on_line, pulse_count, pulses}
 
 -- a list and a further one
-AllByRecursion-append : {X : Type 0} (P : X → Type 0) (xs ys : List X) → AllByRecursion P xs
+pub AllByRecursion-append : {X : Type 0} (P : X → Type 0) (xs ys : List X) → AllByRecursion P xs
     → AllByRecursion P ys
     → AllByRecursion P (xs ++ ys)
 AllByRecursion-append P [] ys hx hy = hy
@@ -168,7 +168,7 @@ alternate-line speed last (number ∷ next ∷ more) =
     (refl, last.hangs_up, alternate-line speed last (next ∷ more))
 
 -- such runs are the record of their rows
-record-alternate : (l : ℕ) (closed : Bool) (runs : List Run) → Alternate closed runs
+pub record-alternate : (l : ℕ) (closed : Bool) (runs : List Run) → Alternate closed runs
     → record_up_to_close (on_line l runs) ≡ runs
 record-alternate l closed [] h = refl
 record-alternate l true (run ∷ runs) h =
@@ -185,14 +185,14 @@ join-alternate closed run [] h = refl
 join-alternate true run (next ∷ runs) h = rw (h.0, h.2.0) refl
 join-alternate false run (next ∷ runs) h = rw (h.0, h.2.0) refl
 
-joined-alternate : (closed : Bool) (runs : List Run) → Alternate closed runs → joined runs ≡ runs
+pub joined-alternate : (closed : Bool) (runs : List Run) → Alternate closed runs → joined runs ≡ runs
 joined-alternate closed [] h = refl
 joined-alternate true (run ∷ runs) h =
     ap (join run) (joined-alternate false runs h.2) ∙ join-alternate true run runs h
 joined-alternate false (run ∷ runs) h =
     ap (join run) (joined-alternate true runs h.2) ∙ join-alternate false run runs h
 
-kept-first : (runs : List Run) → Alternate true runs → without_first_break runs ≡ runs
+pub kept-first : (runs : List Run) → Alternate true runs → without_first_break runs ≡ runs
 kept-first [] h = refl
 kept-first (run ∷ runs) h = rw h.0 refl
 

@@ -20,11 +20,11 @@ use Rattle.xb_calls.specs.Dialling.{joined_lists, line_rows, line_runs, longest,
 use Rattle.xb_calls.specs.Heard.{AreDialled, OrdersAreDialled}
 
 -- rows of line l
-abbrev AreOn : ℕ → List LoopRow → Type 0
+abbrev pub AreOn : ℕ → List LoopRow → Type 0
 AreOn l rows = AllByRecursion (λ row. row_line row ≡ l) rows
 
 -- the lists of each line below n
-abbrev lists_below : (ℕ → List LoopRow) → ℕ → List (List LoopRow)
+abbrev pub lists_below : (ℕ → List LoopRow) → ℕ → List (List LoopRow)
 lists_below own n = map own (lines_below n)
 
 -- one list more
@@ -41,7 +41,7 @@ joined-more own n =
     ∙ ap (λ rows. joined_lists (lists_below own n) ++ rows) (append-nil (own n))
 
 -- a line that is not below n has no row
-rows-above : (own : ℕ → List LoopRow) → ((k : ℕ) → AreOn k (own k)) → (n l : ℕ) → n ≤ l
+pub rows-above : (own : ℕ → List LoopRow) → ((k : ℕ) → AreOn k (own k)) → (n l : ℕ) → n ≤ l
     → rows_of l (joined_lists (lists_below own n)) ≡ []
 rows-above own on zero l above = ap (λ ks. rows_of l (joined_lists (map own ks))) lines_below-none
 rows-above own on (suc n) l above =
@@ -50,7 +50,7 @@ rows-above own on (suc n) l above =
     (of_line-none row_line l n (own n) (on n) (ne_eqb n l (λ e. omega arith)))
 
 -- the rows of a line below n are its list
-rows-below : (own : ℕ → List LoopRow) → ((k : ℕ) → AreOn k (own k)) → (n l : ℕ) → l < n
+pub rows-below : (own : ℕ → List LoopRow) → ((k : ℕ) → AreOn k (own k)) → (n l : ℕ) → l < n
     → rows_of l (joined_lists (lists_below own n)) ≡ own l
 rows-below own on zero l below = absurd (omega arith)
 rows-below own on (suc n) l below =
@@ -93,7 +93,7 @@ take-first (suc m) [] = refl
 take-first m (row ∷ rows) = refl
 
 -- m rounds give m rows of each line
-rounds-below : (m : ℕ) (own : ℕ → List LoopRow) → ((k : ℕ) → AreOn k (own k)) → (n l : ℕ) → l < n
+pub rounds-below : (m : ℕ) (own : ℕ → List LoopRow) → ((k : ℕ) → AreOn k (own k)) → (n l : ℕ) → l < n
     → rows_of l (rounds m (lists_below own n)) ≡ take m (own l)
 unfolding rounds
 rounds-below zero own on n l below = refl
@@ -108,7 +108,7 @@ rounds-below (suc m) own on n l below =
     ∙ take-first m (own l)
 
 -- a line that is not below n has no row in any round
-rounds-above : (m : ℕ) (own : ℕ → List LoopRow) → ((k : ℕ) → AreOn k (own k)) → (n l : ℕ) → n ≤ l
+pub rounds-above : (m : ℕ) (own : ℕ → List LoopRow) → ((k : ℕ) → AreOn k (own k)) → (n l : ℕ) → n ≤ l
     → rows_of l (rounds m (lists_below own n)) ≡ []
 unfolding rounds
 rounds-above zero own on n l above = refl
@@ -134,7 +134,7 @@ longest-append (xs ∷ lists) last =
     max-le-max : (a b c : ℕ) → b ≤ c → max a b ≤ max a c
     max-le-max a b c h = omega arith
 
-length-longest : (own : ℕ → List LoopRow) (n l : ℕ) → l < n → length (own l) ≤ longest (lists_below own n)
+pub length-longest : (own : ℕ → List LoopRow) (n l : ℕ) → l < n → length (own l) ≤ longest (lists_below own n)
 length-longest own zero l below = absurd (omega arith)
 length-longest own (suc n) l below =
     let (earlier, here) = longest-append (lists_below own n) (own n) in
@@ -151,7 +151,7 @@ length-longest own (suc n) l below =
     ]
 
 -- the rows of a line are its own
-on-line : (l : ℕ) (runs : List Run) → AreOn l (on_line l runs)
+pub on-line : (l : ℕ) (runs : List Run) → AreOn l (on_line l runs)
 on-line l [] = tt
 on-line l (run ∷ runs) = (refl, on-line l runs)
 

@@ -28,10 +28,11 @@ mod wrong_byte;
 
 pub use call::Call;
 pub use fault::CallFault;
-pub use lines::rows_of_calls;
+pub use lines::{in_order, lists_of, rows_of_calls};
 pub use lists::{add_digit, is_grouping, is_passed_over, strip_carriage_return, without_mark};
 pub use order::RowOrder;
 pub use reading::{MOST_TEXT_BYTES, calls_of_text};
+pub use runs::pulse_count;
 pub use speed::{Speed, SpeedFault};
 pub use told::{MOST_TOLD_BYTES, ToldField};
 pub use wrong_byte::WrongByte;

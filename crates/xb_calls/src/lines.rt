@@ -32,8 +32,8 @@ fn rows_by_line(
     Ok(lines)
 }
 
-// The lists of rows that lines have, the lines ascending.
-fn lists_of(alloc: Global, lines: &PerLine<Vec<Row>>) -> Result<Vec<&[Row]>, AllocError>
+/// The lists of rows that lines have, the lines ascending.
+pub fn lists_of(alloc: Global, lines: &PerLine<Vec<Row>>) -> Result<Vec<&[Row]>, AllocError>
     ensures { IfOk result (λ lists. lists_of lists.items ≡ map (λ rows. rows.items) lines.now) }
 {
     let mut lists = Vec::new(alloc);
@@ -87,8 +87,8 @@ fn in_turn(alloc: Global, lists: Vec<&[Row]>) -> Result<Vec<Row>, AllocError>
     Ok(rows)
 }
 
-// The rows of lists, in an order.
-fn in_order(alloc: Global, lists: Vec<&[Row]>, order: RowOrder) -> Result<Vec<Row>, AllocError>
+/// The rows of lists, in an order.
+pub fn in_order(alloc: Global, lists: Vec<&[Row]>, order: RowOrder) -> Result<Vec<Row>, AllocError>
     ensures { IfOk result (λ rows. rows.items ≡ in_order order (lists_of lists.entry.items)) }
 {
     match order {

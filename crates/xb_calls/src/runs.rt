@@ -22,8 +22,8 @@ fn push_run(rows: &mut Vec<Row>, line: LineNo, contact: Contact, ms: u32) -> Res
     Ok(())
 }
 
-// How many pulses a digit has.
-fn pulse_count(digit: Digit) -> u8
+/// How many pulses a digit has.
+pub fn pulse_count(digit: Digit) -> u8
     ensures count { result ≡ pulse_count digit }
     ensures some { 1 ≤ result }
     ensures most { result ≤ MOST_PULSES }

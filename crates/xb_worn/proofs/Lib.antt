@@ -1,0 +1,7 @@
+pub mod SentRuns
+pub mod HeardPieces
+pub mod HeardDigits
+pub mod HeardLines
+pub mod SentDigits
+pub mod WornLines
+pub mod WornOrders
