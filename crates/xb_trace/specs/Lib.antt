@@ -1,0 +1,5 @@
+pub mod Runs
+pub mod Drawn
+pub mod Traces
+pub mod TraceLaws
+pub mod WorkedTrace

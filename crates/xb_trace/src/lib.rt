@@ -1,0 +1,30 @@
+//! The loop contact of a line as a logic analyser records it: rows of makes and breaks written as a value change dump,
+//! with the bounces that a seed draws.
+//!
+//! - `write_trace` (`trace_text`): on `Ok` the writer got exactly the text of the contact's changes; on `Write` the
+//!   beginning of it, and on any other fault nothing. `TooLong` comes only where the recording would end at 2^64 - 1 us
+//!   or later. It holds the runs of the rows, and one change of text at a time.
+//! - The contact is open for a second, does what the rows say, and is open for a second more (`runs_in`): rows of one
+//!   contact that follow each other are one run, and a row of 0 ms is none.
+//! - `Bouncing`: each run but the first begins with up to four bounces, which a seed draws (`Drawn`). They end within
+//!   its first `us` us, and a run that does not last longer has none. Its end stays where it is.
+//! - `laws::traces_are_read`: the text is read back as these changes, whatever the rows are.
+//! - `laws::traces_keep_runs`: the bounces disturb the runs of the rows, and take no time of them.
+//! - `laws::traces_settle`: settled, nothing is left of the bounces. The runs are those of the rows, in us and in ms.
+//! - `laws::worked_trace`: a trace that was worked out by another program.
+//!
+//! Not said: how much memory a run takes.
+#![tactic(auto)]
+
+mod bouncing;
+mod change;
+mod fault;
+pub mod laws;
+mod run;
+mod runs;
+mod writing;
+
+pub use bouncing::Bouncing;
+pub use fault::TraceFault;
+pub use runs::IDLE_MS;
+pub use writing::write_trace;
