@@ -17,7 +17,8 @@ type Case = (
 );
 
 const USAGE: &[u8] = b"mfdial: usage: mfdial [--speed 10|20] [--break N] [--make N] [--pause N] \
-[--seize N] [--hang-up N] [--plan 7|10] [--in-turn] [--any]\n";
+[--seize N] [--hang-up N] [--slow N] [--jitter N] [--fault PLACE:WHAT,..] [--beyond] \
+[--vcd] [--bounce N] [--seed N] [--plan 7|10] [--in-turn] [--any]\n";
 
 const CASES: &[Case] = &[
     (&[], b"", 0, b"line,state,ms\n", b""),
@@ -53,6 +54,73 @@ const CASES: &[Case] = &[
         0,
         b"line,state,ms\n7,M,1\n7,B,20\n7,M,15\n7,B,20\n7,M,180\n7,B,300\n7,M,1\n7,B,20\n7,M,180\n",
         b"",
+    ),
+    // of 21 and 1 the 2 has a long break and one pulse too many, the 1 a flash; the second call a preliminary pulse
+    (
+        &[
+            "--any",
+            "--fault",
+            "1.1.2:break=130,1.1.1:extra,1.2:flash=90,2:preliminary=30",
+        ],
+        b"7 21\n7 1\n",
+        0,
+        b"line,state,ms\n7,M,500\n7,B,60\n7,M,40\n7,B,60\n7,M,40\n7,B,130\n7,M,600\n7,B,60\n7,M,600
+7,B,90\n7,M,600\n7,B,400\n7,M,500\n7,B,30\n7,M,600\n7,B,60\n7,M,600\n",
+        b"",
+    ),
+    // a lost pulse and a short pause, and each pulse half as long again for each before it
+    (
+        &["--any", "--slow=50", "--fault=1.2:pause=100,1.1.2:lost"],
+        b"7 32\n",
+        0,
+        b"line,state,ms\n7,M,500\n7,B,60\n7,M,40\n7,B,120\n7,M,600\n7,B,60\n7,M,40\n7,B,90\n7,M,100\n",
+        b"",
+    ),
+    // times beyond the limits
+    (
+        &["--any", "--beyond", "--break=300", "--make=1"],
+        b"7 2\n",
+        0,
+        b"line,state,ms\n7,M,500\n7,B,300\n7,M,1\n7,B,300\n7,M,600\n",
+        b"",
+    ),
+    (
+        &["--any", "--beyond", "--make=0"],
+        b"7 1\n7 2\n",
+        1,
+        b"",
+        b"mfdial: call 2 has a time under 1 or over 86400000 ms\n",
+    ),
+    // places that are not there, or taken
+    (
+        &["--fault", "1.1.1:lost,1.8.1:lost"],
+        b"7 411\n",
+        1,
+        b"",
+        b"mfdial: fault 2 is at a place that is not there\n",
+    ),
+    (
+        &["--fault", "1.1:pause=100,1.1:flash=100"],
+        b"7 411\n",
+        1,
+        b"",
+        b"mfdial: fault 2 is at the place of an earlier fault\n",
+    ),
+    // the contact of a line: open for a second, the 1, and open for a second more
+    (
+        &["--any", "--vcd"],
+        b"7 1\n",
+        0,
+        b"$timescale 1 us $end\n$var wire 1 ! loop $end\n$enddefinitions $end
+#0\n0!\n#1000000\n1!\n#1500000\n0!\n#1560000\n1!\n#2160000\n0!\n#3160000\n",
+        b"",
+    ),
+    (
+        &["--vcd"],
+        b"7 0\n8 0\n",
+        1,
+        b"",
+        b"mfdial: the calls are of several lines, and a dump has the contact of one\n",
     ),
     // faults of the speed come before those of the calls
     (
@@ -127,6 +195,15 @@ const CASES: &[Case] = &[
     (&["--help"], b"7 0", 2, b"", USAGE),
     (&["calls.txt"], b"7 0", 2, b"", USAGE),
     (&["--break", "4294967296"], b"7 0", 2, b"", USAGE),
+    (&["--fault", "1.1:break=130"], b"7 0", 2, b"", USAGE),
+    (&["--fault", "1.1.1:break=0"], b"7 0", 2, b"", USAGE),
+    (&["--fault", "1.1.1:lost,"], b"7 0", 2, b"", USAGE),
+    (&["--fault", "1.1.1:longer"], b"7 0", 2, b"", USAGE),
+    (&["--bounce", "3000"], b"7 0", 2, b"", USAGE),
+    (&["--vcd", "--bounce", "7"], b"7 0", 2, b"", USAGE),
+    (&["--seed", "1"], b"7 0", 2, b"", USAGE),
+    (&["--slow", "1001"], b"7 0", 2, b"", USAGE),
+    (&["--vcd", "--in-turn"], b"7 0", 2, b"", USAGE),
 ];
 
 // 212 5551 on line 7.

@@ -1,3 +1,4 @@
+pub mod FaultWords
 pub mod Faults
 pub mod Options
 pub mod Printed

@@ -20,7 +20,8 @@ program = codes "mfdial"
 abbrev pub usage_line : List ℕ
 usage_line =
     codes "mfdial: usage: mfdial [--speed 10|20] [--break N] [--make N] [--pause N] "
-    ++ codes "[--seize N] [--hang-up N] [--plan 7|10] [--in-turn] [--any]\n"
+    ++ codes "[--seize N] [--hang-up N] [--slow N] [--jitter N] [--fault PLACE:WHAT,..] [--beyond] "
+    ++ codes "[--vcd] [--bounce N] [--seed N] [--plan 7|10] [--in-turn] [--any]\n"
 
 -- it names each option of the command
 abbrev pub UsageNamesEachOption : Type 0
@@ -30,7 +31,7 @@ UsageNamesEachOption = list_all (λ rule. names_option usage_line rule.id) comma
 pub record WritesRows (words : List Text) (old new : Streams) : Type 0 where
   pub request : Request
   pub asks : Asks words request
-  pub judged : JudgesSpeed request.speed (Ok tt)
+  pub judged : JudgesSpeed request (Ok tt)
   pub rows : Delivers request old.input (Ok tt) old.output new.output
   pub quiet : Keeps old.errors new.errors
 
@@ -39,7 +40,7 @@ pub record HasFault (words : List Text) (old new : Streams) : Type 0 where
   pub request : Request
   pub fault : DialFault
   pub asks : Asks words request
-  pub judged : JudgesSpeed request.speed (Err fault)
+  pub judged : JudgesSpeed request (Err fault)
   pub rows : Delivers request old.input (Err fault) old.output new.output
   pub line : Tells program None old.errors new.errors
 

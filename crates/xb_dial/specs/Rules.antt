@@ -15,12 +15,19 @@ options =
     ∷ (codes "pause", takes.Number)
     ∷ (codes "seize", takes.Number)
     ∷ (codes "hang-up", takes.Number)
+    ∷ (codes "slow", takes.Number)
+    ∷ (codes "jitter", takes.Number)
+    ∷ (codes "fault", takes.Text)
+    ∷ (codes "beyond", takes.Nothing)
+    ∷ (codes "vcd", takes.Nothing)
+    ∷ (codes "bounce", takes.Number)
+    ∷ (codes "seed", takes.Number)
     ∷ (codes "plan", takes.Number)
     ∷ (codes "in-turn", takes.Nothing)
     ∷ (codes "any", takes.Nothing)
     ∷ []
 
--- `mfdial [--speed N] [--break N] [--make N] [--pause N] [--seize N] [--hang-up N] [--plan N] [--in-turn]
--- [--any]`
+-- `mfdial [--speed N] [--break N] [--make N] [--pause N] [--seize N] [--hang-up N] [--slow N] [--jitter N]
+-- [--fault TEXT] [--beyond] [--vcd] [--bounce N] [--seed N] [--plan N] [--in-turn] [--any]`
 abbrev pub command_of_words : App
 command_of_words = command_of (codes "mfdial") options

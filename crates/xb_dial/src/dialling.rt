@@ -1,51 +1,109 @@
 // From calls on a reader to their rows on a writer.
-ghost use Rattle.std.specs.Prelude.{◌≡◌, ◌≤◌, IfErr, IfOk, length, string_bytes};
+ghost use Rattle.std.specs.Prelude.{◌≡◌, ◌≢◌, ◌≤◌, IfErr, IfOk, OnOk, length, true};
+ghost use Rattle.std.specs.Io.KnownBytes.{Appends, Keeps};
+ghost use Rattle.xb_text.specs.Writing.{AppendsBeginning};
 ghost use Rattle.xb_calls.specs.declared.reading.TheConstants.{MOST_TEXT_BYTES};
-ghost use Rattle.xb_model.specs.LawfulLimits.{standard_limits};
-ghost use Rattle.xb_calls.specs.Speeds.{Fits};
-ghost use Rattle.xb_dial.specs.Printed.{Delivers, Dials, IsFaultOfCalls, JudgesSpeed};
+ghost use Rattle.xb_model.specs.Rows.{LoopRow};
+ghost use Rattle.xb_dial.specs.Printed.{Delivers, IsFaultOfCalls, IsFaultOfPrinting, JudgesSpeed, Sends, are_of_one_line, can_print, printed_of};
 
 use crate::fault::DialFault;
-use crate::request::Request;
+use crate::request::{Form, Manner, Request};
 use std::alloc::Global;
 use std::io::{Read, Write};
-use xb_calls::{MOST_TEXT_BYTES, calls_of_text, rows_of_calls};
-use xb_model::Limits;
+use xb_calls::{Call, MOST_TEXT_BYTES, calls_of_text};
+use xb_model::{Limits, Row};
 use xb_rows::text_of_rows;
 use xb_text::{read_whole, write_whole};
+use xb_trace::write_trace;
+use xb_worn::rows_of_worn_calls;
 
-// The text of the rows that dial the calls of a text.
-fn text_of_calls(alloc: Global, request: Request, text: &[u8]) -> Result<String, DialFault>
-    requires short { length text.now ≤ MOST_TEXT_BYTES }
-    requires fits { Fits standard_limits request.speed }
-    ensures rows { IfOk result (λ rows. Dials request text.now (string_bytes rows)) }
-    ensures fault { IfErr result (λ f. IsFaultOfCalls request text.now f) }
+// Judges the speed to which the dial is adjusted, unless any is taken.
+fn judge_speed(manner: Manner) -> Result<(), DialFault>
+    ensures { JudgesSpeed manner result }
 {
-    let calls = calls_of_text(alloc, text, request.whole)?;
-    let rows = rows_of_calls(alloc, &calls, request.speed, request.order)?;
-    Ok(text_of_rows(alloc, &rows)?)
+    if !manner.beyond {
+        manner.wear.speed.fits(Limits::standard())?;
+    }
+    Ok(())
 }
 
-/// Reads calls, and writes the rows that dial them, which are heard by the standard limits. The speed is
-/// judged before anything is read, so any other fault comes only of one that fits; and nothing is written
-/// before all calls are read.
+// Whether calls are of one line.
+fn are_of_one_line(calls: &[Call]) -> bool
+    ensures { result ≡ are_of_one_line calls.now }
+{
+    let Some((first, rest)) = calls.split_first() else {
+        return true;
+    };
+    let line = first.line();
+    rest.iter().all(|call| call.line() == line)
+}
+
+// Whether calls can be printed in a form.
+fn can_print(form: Form, calls: &[Call]) -> bool
+    ensures { result ≡ can_print form calls.now }
+{
+    match form {
+        Form::Rows => true,
+        Form::Trace(_) => are_of_one_line(calls),
+    }
+}
+
+// The rows of the calls of a text.
+fn rows_of_text(alloc: Global, request: &Request, text: &[u8]) -> Result<Vec<Row>, DialFault>
+    requires short { length text.now ≤ MOST_TEXT_BYTES }
+    ensures rows { IfOk result (λ rows. Sends request.now text.now rows.items) }
+    ensures fault { IfErr result (λ f. IsFaultOfCalls request.now text.now f) }
+{
+    let calls = calls_of_text(alloc, text, request.manner.whole)?;
+    if !can_print(request.manner.form, &calls) {
+        return Err(DialFault::SeveralLines);
+    }
+    let manner = &request.manner;
+    let rows = rows_of_worn_calls(alloc, &calls, &manner.wear, &request.faults, manner.order)?;
+    Ok(rows)
+}
+
+// Writes rows in a form.
+fn write_rows<W: Write>(
+    alloc: Global,
+    form: Form,
+    rows: &[Row],
+    out: &mut W,
+) -> Result<(), DialFault>
+    ensures whole { OnOk result (Appends (W.contents out.old) (W.contents out.new) (printed_of form rows.now)) }
+    ensures beginning { AppendsBeginning (W.contents out.old) (W.contents out.new) (printed_of form rows.now) }
+    ensures fault { IfErr result (IsFaultOfPrinting form rows.now) }
+    ensures untouched { IfErr result (λ f. f ≢ DialFault.Write → Keeps (W.contents out.old) (W.contents out.new)) }
+{
+    match form {
+        Form::Rows => {
+            let text = text_of_rows(alloc, rows)?;
+            write_whole(out, text.as_bytes())?;
+        }
+        Form::Trace(bouncing) => write_trace(alloc, rows, bouncing, out)?,
+    }
+    Ok(())
+}
+
+/// Reads calls, and writes the rows that dial them, or the contact of their line, as a dial sends them that is worn and
+/// has faults. The speed to which it is adjusted is judged before anything is read; and nothing is written before all
+/// calls are read.
 ///
-/// On an `Err` nothing was written, except on `Write`, where the beginning of the rows was.
+/// On an `Err` nothing was written, except on `Write`, where the beginning was.
 ///
 /// What the contract says of bytes it says of readers whose bytes and writers whose contents are
 /// known to contracts (byte slices, lists), which those of a process are not.
 pub fn dial<R: Read, W: Write>(
     alloc: Global,
-    request: Request,
+    request: &Request,
     calls: &mut R,
     out: &mut W,
 ) -> Result<(), DialFault>
-    ensures judged { JudgesSpeed request.speed result }
-    ensures rows { Delivers request (R.remaining calls.old) result (W.contents out.old) (W.contents out.new) }
+    ensures judged { JudgesSpeed request.now.manner result }
+    ensures rows { Delivers request.now (R.remaining calls.old) result (W.contents out.old) (W.contents out.new) }
 {
-    request.speed.fits(Limits::standard())?;
+    judge_speed(request.manner)?;
     let text = read_whole(alloc, calls, MOST_TEXT_BYTES)?;
-    let rows = text_of_calls(alloc, request, &text)?;
-    write_whole(out, rows.as_bytes())?;
-    Ok(())
+    let rows = rows_of_text(alloc, request, &text)?;
+    write_rows(alloc, request.manner.form, &rows, out)
 }

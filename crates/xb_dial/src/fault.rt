@@ -5,6 +5,8 @@ use std::alloc::AllocError;
 use thiserror::Error;
 use xb_calls::{CallFault, SpeedFault};
 use xb_model::RowFault;
+use xb_trace::TraceFault;
+use xb_worn::WornFault;
 use xb_text::{ReadFault, WriteFault};
 
 /// Why no rows are printed: the first of these, in this order. Running out of memory is always
@@ -23,6 +25,15 @@ pub enum DialFault {
     /// A text line is refused.
     #[error("{0}")]
     Calls(CallFault),
+    /// The contact of one line is asked for, and the calls are of several.
+    #[error("the calls are of several lines, and a dump has the contact of one")]
+    SeveralLines,
+    /// A fault of the dial is at no place of the calls, or at that of another; or a time of a call may not stand in a row.
+    #[error("{0}")]
+    Worn(WornFault),
+    /// The dump would last 2^64 us or longer.
+    #[error("the dump is too long")]
+    LongDump,
     /// Memory ran out.
     #[error("{}", RowFault::NoMemory)]
     NoMemory,
@@ -50,6 +61,33 @@ impl From<CallFault> for DialFault {
         match fault {
             CallFault::NoMemory => DialFault::NoMemory,
             fault => DialFault::Calls(fault),
+        }
+    }
+}
+
+impl From<WornFault> for DialFault {
+    ghost use Rattle.xb_dial.specs.Faults.{IsOfWorn};
+
+    ghost from_gives = { IsOfWorn };
+
+    fn from(fault: WornFault) -> DialFault {
+        match fault {
+            WornFault::NoMemory => DialFault::NoMemory,
+            fault => DialFault::Worn(fault),
+        }
+    }
+}
+
+impl From<TraceFault> for DialFault {
+    ghost use Rattle.xb_dial.specs.Faults.{of_trace};
+
+    ghost from_gives = { λ fault e. e ≡ of_trace fault };
+
+    fn from(fault: TraceFault) -> DialFault {
+        match fault {
+            TraceFault::TooLong => DialFault::LongDump,
+            TraceFault::NoMemory => DialFault::NoMemory,
+            TraceFault::Write => DialFault::Write,
         }
     }
 }

@@ -10,6 +10,7 @@
 
 mod dialling;
 mod fault;
+mod fault_words;
 pub mod laws;
 mod program;
 mod request;
@@ -18,4 +19,4 @@ mod words;
 pub use dialling::dial;
 pub use fault::DialFault;
 pub use program::attend;
-pub use request::Request;
+pub use request::{Form, Manner, Request};

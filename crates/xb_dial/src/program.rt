@@ -14,7 +14,8 @@ pub(crate) const PROGRAM: &str = "mfdial";
 
 // The line of refused words.
 const USAGE: &[u8] = b"mfdial: usage: mfdial [--speed 10|20] [--break N] [--make N] [--pause N] \
-[--seize N] [--hang-up N] [--plan 7|10] [--in-turn] [--any]\n";
+[--seize N] [--hang-up N] [--slow N] [--jitter N] [--fault PLACE:WHAT,..] [--beyond] \
+[--vcd] [--bounce N] [--seed N] [--plan 7|10] [--in-turn] [--any]\n";
 
 /// Reads the words of the command line, the program's name first, and by them writes the rows that dial
 /// the calls, as `dial` does. It returns the status of the process:
@@ -38,7 +39,7 @@ pub fn attend<R: Read, W: Write, E: Write>(
         (streams (R.remaining calls.new) (W.contents out.new) (E.contents err.new)) result }
 {
     match request_of_words(alloc, words) {
-        Ok(request) => match dial(alloc, request, calls, out) {
+        Ok(request) => match dial(alloc, &request, calls, out) {
             Ok(()) => DONE,
             Err(fault) => tell_fault(alloc, err, PROGRAM, fault),
         },

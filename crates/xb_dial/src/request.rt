@@ -1,15 +1,39 @@
 // What the words of the command line ask for.
 
-use xb_calls::{RowOrder, Speed};
+use xb_calls::RowOrder;
 use xb_model::Plan;
+use xb_trace::Bouncing;
+use xb_worn::{Fault, Wear};
 
-/// How calls are dialled.
+/// What is printed.
 #[derive(Clone, Copy, Debug, PartialEq, Eq)]
-pub struct Request {
-    /// How long makes and breaks last.
-    pub speed: Speed,
+pub enum Form {
+    /// Loop rows.
+    Rows,
+    /// The contact of one line as a value change dump, with such bounces.
+    Trace(Bouncing),
+}
+
+/// How a dial is, and what is printed of its calls.
+#[derive(Clone, Copy, Debug, PartialEq, Eq)]
+pub struct Manner {
+    /// How long makes and breaks last, and how the dial is worn.
+    pub wear: Wear,
+    /// Whether times beyond the standard limits are taken too.
+    pub beyond: bool,
     /// In which order the lines stand.
     pub order: RowOrder,
     /// The plan by which each number has to be complete; `None` takes any digits.
     pub whole: Option<Plan>,
+    /// What is printed.
+    pub form: Form,
+}
+
+/// How calls are dialled.
+#[derive(Debug, Drop)]
+pub struct Request {
+    /// How the dial is, and what is printed.
+    pub manner: Manner,
+    /// What is wrong at single places.
+    pub faults: Vec<Fault>,
 }
