@@ -5,3 +5,4 @@ pub mod HeardLines
 pub mod SentDigits
 pub mod WornLines
 pub mod WornOrders
+pub mod UnwornCalls

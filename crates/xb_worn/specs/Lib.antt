@@ -5,3 +5,4 @@ pub mod Faults
 pub mod Places
 pub mod Sending
 pub mod WornRows
+pub mod Unworn
