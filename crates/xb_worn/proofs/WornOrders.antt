@@ -97,12 +97,3 @@ pub rows-heard : (h : ℕ) (calls : List SentCall) (rows : List LoopRow) → is_
     → IsHeard h calls rows
 rows-heard h calls rows fits none sent plan limits long =
     outcomes_are_heard plan limits h calls rows (calls-last 1 calls none) (time-lasts h fits) long sent
-
--- a speed that fits some limits hangs up for a time of a row
-pub hang-up-fits : (speed : Speed) → FitsSome speed → is_time speed.hang_up_ms ≡ true
-hang-up-fits speed some =
-    let release : 0 < some.0.release = some.1.each.release.0 in
-    let long : some.0.release ≤ speed.hang_up_ms = some.2.hang_up_fits.0 in
-    let least : nat_le 1 speed.hang_up_ms ≡ true = le-leb _ _ (omega (arith, release, long)) in
-    let most : nat_le speed.hang_up_ms GREATEST_MS ≡ true = le-leb _ _ some.2.hang_up_fits.1 in
-    rw (least, most) refl

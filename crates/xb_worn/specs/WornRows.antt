@@ -79,6 +79,7 @@ IsOnLine call = call.line < LINES
 abbrev pub TellsOf : ℕ → Bool → WornFault → Type 0
 TellsOf number fit (worn.Time n) = (n ≡ number) × (fit ≡ false)
 TellsOf number fit worn.NoMemory = Unit {0}
+TellsOf number fit worn.HangUp = ⊥
 TellsOf number fit (worn.NoSuchPlace n) = ⊥
 TellsOf number fit (worn.SamePlace n) = ⊥
 
@@ -86,13 +87,15 @@ TellsOf number fit (worn.SamePlace n) = ⊥
 abbrev pub TellsMisfit : Option ℕ → WornFault → Type 0
 TellsMisfit first (worn.Time n) = first ≡ Some n
 TellsMisfit first worn.NoMemory = Unit {0}
+TellsMisfit first worn.HangUp = ⊥
 TellsMisfit first (worn.NoSuchPlace n) = ⊥
 TellsMisfit first (worn.SamePlace n) = ⊥
 
--- why there are no rows, in this order: a place that is not there, two faults at one place, a time, memory
+-- why there are no rows, in this order: a place that is not there, two faults at one place, the hang-up, a time, memory
 abbrev pub IsFaultOf : Wear → List Fault → List DialledCall → WornFault → Type 0
 IsFaultOf wear faults calls (worn.NoSuchPlace n) = absent_from calls 1 faults ≡ Some n
 IsFaultOf wear faults calls (worn.SamePlace n) = (absent_from calls 1 faults ≡ None) × (repeated_from [] 1 faults ≡ Some n)
+IsFaultOf wear faults calls worn.HangUp = ArePlaced calls faults × (is_time wear.speed.hang_up_ms ≡ false)
 IsFaultOf wear faults calls (worn.Time n) =
     ArePlaced calls faults × (misfit_from 1 (sent wear faults calls) ≡ Some n)
 IsFaultOf wear faults calls worn.NoMemory = Unit {0}

@@ -2,7 +2,7 @@
 ghost use Rattle.std.specs.Prelude.{◌≡◌, ◌<◌, true, [], None, OnOk, IfOk, IfErr, map};
 ghost use Rattle.std.specs.List.{AllByRecursion};
 ghost use Rattle.xb_model.specs.declared.line.TheConstants.{LINES};
-ghost use Rattle.xb_calls.specs.Speeds.{FitsSome};
+ghost use Rattle.xb_calls.specs.Calls.{AreCalls, AreDigits, IsCall};
 ghost use Rattle.xb_worn.specs.Places.{ArePlaced};
 ghost use Rattle.xb_worn.specs.Sending.{call_sent, sent};
 ghost use Rattle.xb_worn.specs.SentCalls.{AreSent};
@@ -10,14 +10,14 @@ ghost use Rattle.xb_worn.specs.WornRows.{IsFaultOf, IsHeard, IsOnLine, TellsMisf
 
 use crate::fault::Fault;
 use crate::places::{first_absent, first_repeated};
-use crate::runs::{RunFault, push_next_call};
+use crate::runs::{RunFault, is_time, push_next_call};
 use crate::sending::pulses_of_call;
 use crate::wear::Wear;
 use crate::worn_fault::WornFault;
 use std::alloc::Global;
 use xb_calls::{Call, RowOrder, in_order, lists_of};
 use xb_chance::{state_after, word_of};
-use xb_model::{PerLine, Row};
+use xb_model::{Digit, PerLine, Row};
 
 // Puts the rows of the call of a number after those of its line.
 fn take_call(
@@ -119,13 +119,39 @@ fn rows_in_order(
     Ok(rows)
 }
 
+// The digits of a call are digits, as those of all calls are.
+fn are_digits(digits: &[Digit])
+    ensures { AreDigits digits.now }
+{
+    for digit in digits {
+        let _value = digit.get();
+    }
+}
+
+// And so is a call one of a line of the office.
+fn is_call(call: &Call)
+    ensures { IsCall call.now }
+{
+    let _line = call.line().get();
+    are_digits(call.digits());
+}
+
+// And so are calls.
+fn are_calls(calls: &[Call])
+    ensures { AreCalls calls.now }
+{
+    for call in calls {
+        is_call(call);
+    }
+}
+
 /// The loop rows of calls as a worn dial with faults sends them, in an order of the lines: on each line a make seizes,
 /// then come the pulses of the digits, and between two calls a break hangs up.
 ///
-/// The speed to which the dial was adjusted fits some lawful limits, as `Speed::fits` tells. Each fault has a place of
-/// its own in the calls, and each time that is sent is 1 to 86,400,000 ms; else `Err` tells the first place that is
-/// not there, or has a fault already, or the first call with another time. By every plan, and all limits by which the
-/// hang-up releases the line, exactly the outcomes of each line's calls as they are sent are heard on it.
+/// Each fault has a place of its own in the calls, and each time that is sent is 1 to 86,400,000 ms; else `Err` tells the
+/// first place that is not there, or has a fault already, that the hang-up is another time, or the first call with one. By
+/// every plan, and all limits by which the hang-up releases the line, exactly the outcomes of each line's calls as they are
+/// sent are heard on it.
 pub fn rows_of_worn_calls(
     alloc: Global,
     calls: &[Call],
@@ -133,9 +159,9 @@ pub fn rows_of_worn_calls(
     faults: &[Fault],
     order: RowOrder,
 ) -> Result<Vec<Row>, WornFault>
-    requires fits { FitsSome wear.now.speed }
     ensures rows { IfOk result (λ rows. rows.items ≡ worn_rows order wear.now faults.now calls.now) }
     ensures places { OnOk result (ArePlaced calls.now faults.now) }
+    ensures calls { OnOk result (AreCalls calls.now) }
     ensures times { OnOk result (misfit_from 1 (sent wear.now faults.now calls.now) ≡ None) }
     ensures lines { let all = sent wear.now faults.now calls.now in
         IfOk result (λ rows. AreSent wear.now.speed.hang_up_ms all rows.items) }
@@ -149,5 +175,9 @@ pub fn rows_of_worn_calls(
     if let Some(number) = first_repeated(faults) {
         return Err(WornFault::SamePlace(number));
     }
+    if !is_time(u64::from(wear.speed.hang_up_ms)) {
+        return Err(WornFault::HangUp);
+    }
+    are_calls(calls);
     rows_in_order(alloc, calls, wear, faults, order)
 }

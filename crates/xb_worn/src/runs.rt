@@ -31,8 +31,8 @@ impl From<AllocError> for RunFault {
     }
 }
 
-// Whether a row may last so many ms, and lasts.
-fn is_time(ms: u64) -> bool
+/// Whether a row may last so many ms, and lasts.
+pub(crate) fn is_time(ms: u64) -> bool
     ensures { result ≡ is_time ms }
 {
     1 <= ms && ms <= u64::from(GREATEST_MS)

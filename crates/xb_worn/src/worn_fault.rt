@@ -13,6 +13,9 @@ pub enum WornFault {
     /// The fault of this number stands at the place of an earlier one.
     #[error("fault {0} is at the place of an earlier fault")]
     SamePlace(usize),
+    /// The hang-up is under 1 or over 86,400,000 ms.
+    #[error("the hang-up is under 1 or over 86400000 ms")]
+    HangUp,
     /// In the call of this number, which counts from 1, a time is under 1 or over 86,400,000 ms.
     #[error("call {0} has a time under 1 or over 86400000 ms")]
     Time(usize),

@@ -1,7 +1,7 @@
-use Rattle.std.proofs.Common.{Err, IfOk, Ok, OnOk, Result, subst, sym}
+use Rattle.std.proofs.Common.{Err, IfOk, Ok, OnOk, Result, rules, subst, sym}
 use Rattle.xb_worn.specs.Sending.{sent}
 use Rattle.xb_worn.specs.SentCalls.{AreSent}
-use Rattle.xb_worn.proofs.WornOrders.{hang-up-fits, orders-sent, rows-heard}
+use Rattle.xb_worn.proofs.WornOrders.{orders-sent, rows-heard}
 use Rattle.xb_worn.proofs.lines.rows_of_worn_calls.Goals as goal
 
 -- what follows from two things that a call ensures
@@ -26,5 +26,5 @@ returns-clause-heard c =
     let all = sent wear c.args.faults.now c.args.calls.now in
     if_ok c.rows_in_order.result
     (λ rows are none. rows-heard wear.speed.hang_up_ms all rows.items
-    (hang-up-fits wear.speed c.requires.fits) none are)
+    (search rules) none are)
     (returns-clause-lines c) c.rows_in_order.ensures.fits
