@@ -6,3 +6,4 @@ pub mod SentDigits
 pub mod WornLines
 pub mod WornOrders
 pub mod UnwornCalls
+pub mod SpoiledCalls

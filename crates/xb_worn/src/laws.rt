@@ -1,4 +1,5 @@
 //! What the definitions give: each law is the contract of a function that does nothing.
+ghost use Rattle.xb_worn.specs.FieldLaws.{CompleteIsHeard, NumbersStay, OneOutcome, SpoiledMutilates};
 ghost use Rattle.xb_worn.specs.HeardCalls.{OutcomesAreHeard};
 ghost use Rattle.xb_worn.specs.Unworn.{UnwornDials};
 
@@ -10,4 +11,22 @@ pub fn outcomes_are_heard()
 /// Without faults a dial that is not worn sends exactly what is dialled.
 pub fn an_unworn_dial_dials()
     ensures { UnwornDials }
+{}
+
+/// Where no break hangs up, one outcome comes of a call.
+pub fn one_outcome_of_a_call()
+    ensures { OneOutcome }
+{}
+
+/// A call with a spoiled digit is refused as mutilated, with the count of the digits before it, where these neither are
+/// nor begin with a complete number.
+pub fn a_spoiled_digit_mutilates()
+    ensures { SpoiledMutilates }
+{}
+
+/// What follows a complete number is ignored, spoiled digits too; and a number that was heard stays, whatever pulses
+/// come after it.
+pub fn what_follows_is_ignored()
+    ensures digits { CompleteIsHeard }
+    ensures pulses { NumbersStay }
 {}
