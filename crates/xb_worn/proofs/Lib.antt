@@ -7,3 +7,4 @@ pub mod WornLines
 pub mod WornOrders
 pub mod UnwornCalls
 pub mod SpoiledCalls
+pub mod ChangedDigits

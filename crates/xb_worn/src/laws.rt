@@ -1,5 +1,5 @@
 //! What the definitions give: each law is the contract of a function that does nothing.
-ghost use Rattle.xb_worn.specs.FieldLaws.{CompleteIsHeard, NumbersStay, OneOutcome, SpoiledMutilates};
+ghost use Rattle.xb_worn.specs.FieldLaws.{CompleteIsHeard, ExtraPulse, LostPulse, NumbersStay, OneOutcome, SpoiledMutilates};
 ghost use Rattle.xb_worn.specs.HeardCalls.{OutcomesAreHeard};
 ghost use Rattle.xb_worn.specs.Unworn.{UnwornDials};
 
@@ -29,4 +29,11 @@ pub fn a_spoiled_digit_mutilates()
 pub fn what_follows_is_ignored()
     ensures digits { CompleteIsHeard }
     ensures pulses { NumbersStay }
+{}
+
+/// A good digit of two pulses or more that loses one is heard as the digit of one pulse less; one with an extra pulse as
+/// that of one more, and of eleven as none.
+pub fn a_pulse_lost_or_more_changes_the_digit()
+    ensures lost { LostPulse }
+    ensures extra { ExtraPulse }
 {}
