@@ -7,3 +7,4 @@ pub mod Sending
 pub mod WornRows
 pub mod Unworn
 pub mod FieldLaws
+pub mod WorkedFaults

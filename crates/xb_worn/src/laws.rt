@@ -2,6 +2,7 @@
 ghost use Rattle.xb_worn.specs.FieldLaws.{CompleteIsHeard, ExtraPulse, LostPulse, NumbersStay, OneOutcome, SpoiledMutilates};
 ghost use Rattle.xb_worn.specs.HeardCalls.{OutcomesAreHeard};
 ghost use Rattle.xb_worn.specs.Unworn.{UnwornDials};
+ghost use Rattle.xb_worn.specs.WorkedFaults.{EndsAtFault, PlacesOfFaults, PulsesAtFault, WornDials};
 
 /// Of each line an office hears exactly what is said of its calls, whatever rows of other lines stand between its own.
 pub fn outcomes_are_heard()
@@ -36,4 +37,18 @@ pub fn what_follows_is_ignored()
 pub fn a_pulse_lost_or_more_changes_the_digit()
     ensures lost { LostPulse }
     ensures extra { ExtraPulse }
+{}
+
+/// Calls with one fault, on both sides of each limit.
+#[tactic(auto, unfolding(crate::specs::Sending::pulses_from))]
+pub fn calls_with_a_fault()
+    ensures pulses { PulsesAtFault }
+    ensures ends { EndsAtFault }
+{}
+
+/// Calls of worn dials, and places that are not there.
+#[tactic(auto, unfolding(crate::specs::Sending::pulses_from))]
+pub fn calls_of_worn_dials()
+    ensures dials { WornDials }
+    ensures places { PlacesOfFaults }
 {}
