@@ -7,7 +7,7 @@ use Rattle.xb_model.specs.Plans.{plan_len, length_after}
 use Rattle.xb_model.specs.Numbers.{fronts, has_length, is_complete, shortest_complete}
 
 -- finding among images
-find-map : {A B : Type 0} (test : B → Bool) (f : A → B) (xs : List A)
+pub find-map : {A B : Type 0} (test : B → Bool) (f : A → B) (xs : List A)
     → find test (map f xs) ≡ option_map f (find (λ x. test (f x)) xs)
 find-map test f [] = refl
 find-map test f (x ∷ xs) = at (find-map test f xs) (test (f x)) refl

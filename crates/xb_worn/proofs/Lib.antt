@@ -6,3 +6,5 @@ pub mod SentDigits
 pub mod WornLines
 pub mod WornOrders
 pub mod UnwornCalls
+pub mod SpoiledCalls
+pub mod ChangedDigits

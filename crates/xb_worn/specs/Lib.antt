@@ -6,3 +6,5 @@ pub mod Places
 pub mod Sending
 pub mod WornRows
 pub mod Unworn
+pub mod FieldLaws
+pub mod WorkedFaults
