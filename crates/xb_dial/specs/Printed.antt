@@ -1,7 +1,6 @@
 -- What is printed of calls.
-use Rattle.std.specs.Prelude.{◌≡◌, ◌⊎◌, ℕ, ◌<◌, ◌≤◌, ◌-◌, ◌^◌, ◌==◌, Bool, true, false, List, [], ◌∷◌, length, Option, None, Result, Ok, Err, IfSome}
+use Rattle.std.specs.Prelude.{◌≡◌, ℕ, ◌<◌, ◌≤◌, ◌-◌, ◌^◌, ◌==◌, ◌&&◌, Bool, true, false, List, [], ◌∷◌, length, Option, None, Result, Ok, Err, IfSome}
 use Rattle.std.specs.Io.KnownBytes.{Appends, Keeps}
-use Rattle.std.specs.List.{list_all}
 use Rattle.xb_model.specs.LawfulLimits.{standard_limits}
 use Rattle.xb_model.specs.Rows.{LoopRow}
 use Rattle.xb_rows.specs.declared.scan.TheConstants.{MOST_RECORDS}
@@ -12,6 +11,7 @@ use Rattle.xb_calls.specs.Calls.{DialledCall}
 use Rattle.xb_calls.specs.CallTexts.{calls_of_text}
 use Rattle.xb_calls.specs.Dialling.{dialled}
 use Rattle.xb_calls.specs.Heard.{AreHeard, AreKeyed}
+use Rattle.xb_calls.specs.declared.speed.SpeedFault.{SpeedFault}
 use Rattle.xb_calls.specs.Speeds.{Fits, IsFirstMisfit}
 use Rattle.xb_text.specs.Writing.{AppendsBeginning}
 use Rattle.xb_trace.specs.Runs.{us_in}
@@ -27,10 +27,17 @@ use Rattle.xb_dial.specs.declared.request.Form.TheVariants.{Rows, Trace}
 use Rattle.xb_dial.specs.declared.request.Manner.{Manner}
 use Rattle.xb_dial.specs.declared.request.Request.{Request}
 
--- calls are of one line
+-- a call is of this line, calls are, and calls are of one
+abbrev pub is_on : ℕ → DialledCall → Bool
+is_on line call = call.line == line
+
+abbrev pub are_on : ℕ → List DialledCall → Bool
+are_on line [] = true
+are_on line (call ∷ calls) = is_on line call && are_on line calls
+
 abbrev pub are_of_one_line : List DialledCall → Bool
 are_of_one_line [] = true
-are_of_one_line (call ∷ calls) = list_all (λ other. other.line == call.line) calls
+are_of_one_line (call ∷ calls) = are_on call.line (call ∷ calls)
 
 -- a dump has the contact of one line
 abbrev pub can_print : Form → List DialledCall → Bool
@@ -41,6 +48,16 @@ can_print (Trace bouncing) calls = are_of_one_line calls
 abbrev pub printed_of : Form → List LoopRow → List ℕ
 printed_of Rows rows = text_of_rows rows
 printed_of (Trace bouncing) rows = trace_text bouncing rows
+
+-- as many rows as a deck may have are read back of their text
+abbrev pub IsReadBack : Form → List LoopRow → Type 0
+IsReadBack Rows rows = length rows ≤ MOST_RECORDS → rest_of_text (text_of_rows rows) ≡ rows_and_stop rows None
+IsReadBack (Trace bouncing) rows = Unit {0}
+
+-- this holds where a write failed
+abbrev pub WhereWritten : DialFault → Type 0 → Type 0
+WhereWritten fault.Write Holds = Holds
+WhereWritten f Holds = Unit {0}
 
 -- the dial is not worn and has no faults, and its speed fits the standard limits
 pub record IsSound (request : Request) : Type 0 where
@@ -70,8 +87,11 @@ pub record Dials (request : Request) (text printed : List ℕ) : Type 0 where
   pub rows : List LoopRow
   pub are_sent : Sends request text rows
   pub are_printed : printed ≡ printed_of request.manner.form rows
-  pub read_back : request.manner.form ≡ Rows → length rows ≤ MOST_RECORDS
-      → rest_of_text printed ≡ rows_and_stop rows None
+  pub read_back : IsReadBack request.manner.form rows
+
+-- a fault tells of the speed
+abbrev pub IsOfSpeed : DialFault → Type 0
+IsOfSpeed f = (misfit : SpeedFault) × (f ≡ fault.Speed misfit)
 
 -- unless any speed is taken, it is judged before the calls: it fits the standard limits, or its own first misfit is told
 abbrev pub IsJudged : Manner → Result (Unit {0}) DialFault → Type 0
@@ -102,9 +122,10 @@ IsFaultOfCalls request text f = f ≡ fault.NoMemory
 
 -- memory ran out, a write failed, or a dump would be too long
 abbrev pub IsFaultOfPrinting : Form → List LoopRow → DialFault → Type 0
-IsFaultOfPrinting Rows rows f = (f ≡ fault.NoMemory) ⊎ (f ≡ fault.Write)
+IsFaultOfPrinting form rows fault.NoMemory = Unit {0}
+IsFaultOfPrinting form rows fault.Write = Unit {0}
 IsFaultOfPrinting (Trace bouncing) rows fault.LongDump = 2 ^ 64 - 1 ≤ us_in rows
-IsFaultOfPrinting (Trace bouncing) rows f = (f ≡ fault.NoMemory) ⊎ (f ≡ fault.Write)
+IsFaultOfPrinting form rows f = ⊥
 
 -- what is returned for a text of calls, and what the writer got of it: what is printed on Ok, its beginning
 -- where a write failed, and nothing on any other fault

@@ -31,7 +31,7 @@ UsageNamesEachOption = list_all (λ rule. names_option usage_line rule.id) comma
 pub record WritesRows (words : List Text) (old new : Streams) : Type 0 where
   pub request : Request
   pub asks : Asks words request
-  pub judged : JudgesSpeed request (Ok tt)
+  pub judged : JudgesSpeed request.manner (Ok tt)
   pub rows : Delivers request old.input (Ok tt) old.output new.output
   pub quiet : Keeps old.errors new.errors
 
@@ -40,7 +40,7 @@ pub record HasFault (words : List Text) (old new : Streams) : Type 0 where
   pub request : Request
   pub fault : DialFault
   pub asks : Asks words request
-  pub judged : JudgesSpeed request (Err fault)
+  pub judged : JudgesSpeed request.manner (Err fault)
   pub rows : Delivers request old.input (Err fault) old.output new.output
   pub line : Tells program None old.errors new.errors
 

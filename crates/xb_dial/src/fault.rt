@@ -5,9 +5,9 @@ use std::alloc::AllocError;
 use thiserror::Error;
 use xb_calls::{CallFault, SpeedFault};
 use xb_model::RowFault;
+use xb_text::{ReadFault, WriteFault};
 use xb_trace::TraceFault;
 use xb_worn::WornFault;
-use xb_text::{ReadFault, WriteFault};
 
 /// Why no rows are printed: the first of these, in this order. Running out of memory is always
 /// `NoMemory`, also one of a `CallFault`.

@@ -1,0 +1,2 @@
+pub mod SoundDials
+pub mod Delivered
