@@ -1,6 +1,6 @@
 -- A digit that loses a pulse, or has one more.
-use Rattle.std.proofs.Common.{◌≡◌, ℕ, zero, suc, ◌+◌, ◌-◌, ◌<◌, ◌≤◌, Bool, true, false, List, [], ◌∷◌, ◌++◌, map, length, Option, Some, None, refl, sym, ap, ap₂, ◌∙◌, arith, append-nil, eqb-true, eq-eqb, ne_eqb, inl, inr, ◌⊎◌, subst}
-use Rattle.std.specs.Prelude.{◌==◌, ◌&&◌, nat_le, not, if◌then◌else◌}
+use Rattle.std.proofs.Common.{◌≡◌, ℕ, zero, suc, ◌+◌, ◌-◌, ◌<◌, ◌≤◌, true, false, List, [], ◌∷◌, ◌++◌, map, length, Option, Some, None, refl, sym, ap, ap₂, ◌∙◌, arith, append-nil, eqb-true, eq-eqb, ne_eqb, inl, inr, ◌⊎◌, subst}
+use Rattle.std.specs.Prelude.{◌==◌, nat_le, not}
 use Rattle.std.specs.List.{AllByRecursion}
 use Rattle.std.proofs.lemmas.Bool.{cases_Bool, eqb-false}
 use Rattle.std.proofs.lemmas.List.{length-append}
@@ -18,9 +18,8 @@ use Rattle.xb_worn.specs.declared.pulse.SentPulse.{SentPulse}
 use Rattle.xb_worn.specs.declared.wear.Wear.{Wear}
 use Rattle.xb_worn.specs.Faults.{pulse_fault, pulse_place, same_digit}
 use Rattle.xb_worn.specs.FieldLaws.{ExtraPulse, IsGoodDigit, IsGoodPulse, LostPulse, heard_of_digit}
-use Rattle.xb_worn.specs.HeardCalls.{are_good, digit_heard, digits_of, is_pulse, keeps_apart, onto_digit}
+use Rattle.xb_worn.specs.HeardCalls.{are_good, digit_heard, digits_of, onto_digit}
 use Rattle.xb_worn.specs.Sending.{ended, pulses_from, with_fault}
-use Rattle.xb_worn.specs.SentCalls.{pulse_of}
 use Rattle.xb_worn.specs.Wears.{worn_pulse}
 
 -- how many pulses a fault makes of one
@@ -79,7 +78,8 @@ length-with-fault wear place state k kind (suc n) before low high = elim (cases_
       let at : k ≡ before + 1 = eqb-true k (before + 1) here in
       let pulse = worn_pulse wear state before in
       let fault = fault-here place k (before + 1) kind at in
-      let all : length (with_fault (pulse_fault (pulse_place place (before + 1)) (one_fault place k kind)) pulse ++ rest)
+      let faults = one_fault place k kind in
+      let all : length (with_fault (pulse_fault (pulse_place place (before + 1)) faults) pulse ++ rest)
       ≡ size kind + length rest =
       ap (λ f. length (with_fault f pulse ++ rest)) fault
       ∙ length-append (with_fault (Some kind) pulse) rest
@@ -91,7 +91,8 @@ length-with-fault wear place state k kind (suc n) before low high = elim (cases_
       let other : k ≡ before + 1 → ⊥ = eqb-false k (before + 1) there in
       let pulse = worn_pulse wear state before in
       let fault = fault-other place k (before + 1) kind other in
-      let all : length (with_fault (pulse_fault (pulse_place place (before + 1)) (one_fault place k kind)) pulse ++ rest)
+      let faults = one_fault place k kind in
+      let all : length (with_fault (pulse_fault (pulse_place place (before + 1)) faults) pulse ++ rest)
       ≡ suc (length rest) = ap (λ f. length (with_fault f pulse ++ rest)) fault in
       let later : length rest + 1 ≡ n + size kind =
       length-with-fault wear place state k kind n (before + 1) (omega (arith, low, other)) (omega (arith, high)) in

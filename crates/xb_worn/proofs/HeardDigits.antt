@@ -1,5 +1,5 @@
 -- The trains of a call are its digits, and what comes of its runs is what comes of the call.
-use Rattle.std.proofs.Common.{◌≡◌, ℕ, suc, Bool, true, false, List, [], ◌∷◌, ◌++◌, map, length, refl, sym, ap, ap₂, ◌∙◌, inl, inr, le-ltb}
+use Rattle.std.proofs.Common.{◌≡◌, ℕ, suc, Bool, true, false, List, [], ◌∷◌, map, length, refl, sym, ap, ap₂, ◌∙◌, inl, inr, le-ltb}
 use Rattle.std.specs.Prelude.{nat_le, nat_lt, not, ◌&&◌, ◌||◌, is_none}
 use Rattle.std.specs.List.{AllByRecursion, flat_map, list_any}
 use Rattle.std.proofs.lemmas.Bool.{lt-ltb}
@@ -7,10 +7,10 @@ use Rattle.std.proofs.lemmas.Bool.Decides.{leb_tells}
 use Rattle.xb_model.specs.declared.limits.Limits.{Limits}
 use Rattle.xb_model.specs.declared.plan.Plan.{Plan}
 use Rattle.xb_model.specs.Numbers.{before_mutilated, digit_of_train, or_refused, outcome_of, shortest_complete, train_digits, without_number}
-use Rattle.xb_model.specs.Records.{Run, Train, break, cut_at_pauses, heard, is_timed, make, onto_first, reaches_timeout, trains_of}
-use Rattle.xb_model.specs.Signals.{breaks_in, is_bad_run, is_bad_train}
+use Rattle.xb_model.specs.Records.{Run, Train, break, cut_at_pauses, heard, make, onto_first, reaches_timeout, trains_of}
+use Rattle.xb_model.specs.Signals.{breaks_in, is_bad_train}
 use Rattle.xb_worn.specs.declared.pulse.SentPulse.{SentPulse}
-use Rattle.xb_worn.specs.HeardCalls.{are_good, digit_heard, digits_heard, digits_of, is_pulse, is_timed_out, keeps_apart, onto_digit, outcome_after, pulses_heard, times_out, up_to_timeout}
+use Rattle.xb_worn.specs.HeardCalls.{are_good, digit_heard, digits_heard, digits_of, is_pulse, keeps_apart, onto_digit, outcome_after, pulses_heard, times_out, up_to_timeout}
 use Rattle.xb_worn.specs.SentCalls.{SentCall, call_runs, pulse_runs}
 
 -- what is heard of pulses

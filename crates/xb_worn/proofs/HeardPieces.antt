@@ -2,11 +2,10 @@
 use Rattle.std.proofs.Common.{◌≡◌, ℕ, ◌≤◌, Bool, true, false, List, [], ◌∷◌, ◌++◌, map, refl, sym, ap, ◌∙◌, append-nil, le-leb}
 use Rattle.std.specs.Prelude.{nat_le}
 use Rattle.std.specs.List.{flat_map}
-use Rattle.std.proofs.lemmas.Bool.{cond-true}
 use Rattle.xb_model.specs.declared.limits.Limits.{Limits}
 use Rattle.xb_model.specs.Records.{Attempt, Run, break, into_first, make, pieces_of}
 use Rattle.xb_worn.specs.declared.pulse.SentPulse.{SentPulse}
-use Rattle.xb_worn.specs.HeardCalls.{after_hang_ups, before_hang_up, hangs_up, taken_for}
+use Rattle.xb_worn.specs.HeardCalls.{hangs_up, taken_for}
 use Rattle.xb_worn.specs.SentCalls.{SentCall, call_runs, line_runs, pulse_runs, sent_call}
 
 -- the runs of each piece
@@ -18,7 +17,8 @@ abbrev onto : Run → List (List Run) → List (List Run)
 onto run [] = (run ∷ []) ∷ []
 onto run (piece ∷ pieces) = (run ∷ piece) ∷ pieces
 
-runs-into : (run : Run) (pieces : List Attempt) → runs_of_pieces (into_first run pieces) ≡ onto run (runs_of_pieces pieces)
+runs-into : (run : Run) (pieces : List Attempt)
+    → runs_of_pieces (into_first run pieces) ≡ onto run (runs_of_pieces pieces)
 runs-into run [] = refl
 runs-into run (piece ∷ pieces) = refl
 

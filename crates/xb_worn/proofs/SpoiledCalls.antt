@@ -1,6 +1,6 @@
 -- A spoiled digit mutilates, and a number that was heard stays.
 use Rattle.std.proofs.Common.{◌≡◌, ℕ, Bool, true, false, List, [], ◌∷◌, ◌++◌, map, length, Option, Some, None, refl, sym, ap, ap₂, ◌∙◌, append-nil}
-use Rattle.std.specs.Prelude.{is_none, nat_le, option_map, ◌||◌}
+use Rattle.std.specs.Prelude.{is_none, nat_le, option_map}
 use Rattle.std.specs.List.{find, list_any}
 use Rattle.std.proofs.lemmas.List.{map-append}
 use Rattle.xb_model.specs.declared.dialled.Dialled.{Dialled}
@@ -11,8 +11,8 @@ use Rattle.xb_model.specs.Numbers.{before_mutilated, fronts, is_complete, or_ref
 use Rattle.xb_calls.proofs.CompleteNumbers.{complete_is_shortest, find-map}
 use Rattle.xb_worn.specs.declared.pulse.SentPulse.{SentPulse}
 use Rattle.xb_worn.specs.FieldLaws.{CompleteIsHeard, NumbersStay, OneOutcome, SpoiledMutilates}
-use Rattle.xb_worn.specs.HeardCalls.{after_hang_ups, before_hang_up, digit_heard, digits_heard, digits_of, hangs_up, is_timed_out, onto_digit, outcome_after, pulses_heard, times_out, up_to_timeout}
-use Rattle.xb_worn.specs.SentCalls.{SentCall, sent_call}
+use Rattle.xb_worn.specs.HeardCalls.{after_hang_ups, before_hang_up, digit_heard, digits_heard, digits_of, hangs_up, is_timed_out, onto_digit, outcome_after, times_out, up_to_timeout}
+use Rattle.xb_worn.specs.SentCalls.{sent_call}
 
 -- nothing hangs up
 before-none : (limits : Limits) (pulses : List SentPulse) → list_any (hangs_up limits) pulses ≡ false

@@ -1,5 +1,5 @@
 -- A dial that is not worn sends what is dialled.
-use Rattle.std.proofs.Common.{◌≡◌, ℕ, zero, suc, ◌+◌, ◌*◌, ◌/◌, ◌%◌, Bool, true, false, List, [], ◌∷◌, ◌++◌, map, refl, sym, ap, ap₂, ◌∙◌, arith, append-nil, pos, ◌+ℤ◌}
+use Rattle.std.proofs.Common.{◌≡◌, ℕ, zero, suc, ◌+◌, ◌*◌, ◌%◌, Bool, true, false, List, [], ◌∷◌, ◌++◌, map, refl, sym, ap, ap₂, ◌∙◌, arith, append-nil, pos, ◌+ℤ◌}
 use Rattle.std.specs.Prelude.{◌==◌}
 use Rattle.std.specs.List.{flat_map}
 use Rattle.std.proofs.lemmas.Grind.{flat_map-append}
@@ -7,7 +7,6 @@ use Rattle.std.proofs.lemmas.Int.{ints}
 use Rattle.xb_model.specs.declared.line.TheConstants.{LINES}
 use Rattle.xb_model.specs.Lines.{lines_below}
 use Rattle.xb_model.specs.Records.{Run, break, make}
-use Rattle.xb_model.specs.Rows.{LoopRow}
 use Rattle.xb_calls.specs.declared.speed.Speed.{Speed}
 use Rattle.xb_calls.specs.Calls.{DialledCall}
 use Rattle.xb_calls.specs.Dialling.{digit_runs, in_order, numbers_on, on_line, pulse_count, pulses}

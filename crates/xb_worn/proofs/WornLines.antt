@@ -1,5 +1,5 @@
 -- The rows of each line, call by call.
-use Rattle.std.proofs.Common.{◌≡◌, ℕ, zero, suc, ◌+◌, ◌<◌, Bool, true, false, List, [], ◌∷◌, ◌++◌, map, length, get_or, set, refl, sym, ap, ◌∙◌, arith, append_assoc, append-nil, subst, eqb, eqb-true, eq-eqb, inl, inr, length-set, get_or-set_same, get_or-set_other}
+use Rattle.std.proofs.Common.{◌≡◌, ℕ, zero, suc, ◌<◌, true, false, List, [], ◌∷◌, ◌++◌, map, length, get_or, set, refl, sym, ap, ◌∙◌, arith, append_assoc, append-nil, subst, eqb, eqb-true, eq-eqb, inl, inr, length-set, get_or-set_same, get_or-set_other}
 use Rattle.std.specs.List.{All, AllByRecursion}
 use Rattle.std.proofs.lemmas.Bool.{cases_Bool, cond-false, cond-true, eqb-false}
 use Rattle.std.proofs.lemmas.List.{get_or-map, length-map, map-append, map-set}

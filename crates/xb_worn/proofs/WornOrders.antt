@@ -1,6 +1,6 @@
 -- In both orders the rows of each line are those of its calls, and they are heard.
-use Rattle.std.proofs.Common.{◌≡◌, ℕ, ◌+◌, ◌<◌, ◌≤◌, Bool, true, false, List, [], ◌∷◌, None, Some, Option, refl, sym, ap, ◌∙◌, arith, subst, take_all, ltb, ltb-true, ltb-false, ne_eqb}
-use Rattle.std.specs.Prelude.{◌&&◌, nat_le, not}
+use Rattle.std.proofs.Common.{◌≡◌, ℕ, ◌+◌, ◌<◌, ◌≤◌, Bool, true, false, List, [], ◌∷◌, None, refl, sym, ap, ◌∙◌, arith, take_all, ltb, ltb-true, ltb-false, ne_eqb}
+use Rattle.std.specs.Prelude.{◌&&◌, nat_le}
 use Rattle.std.specs.List.{AllByRecursion, list_all}
 use Rattle.std.proofs.lemmas.Bool.{le-leb, leb-true}
 use Rattle.xb_model.specs.declared.line.TheConstants.{LINES}

@@ -1,5 +1,5 @@
 -- What an office makes of bad dialling, in the field's words.
-use Rattle.std.specs.Prelude.{◌≡◌, ℕ, ◌+◌, ◌-◌, ◌<◌, ◌≤◌, nat_le, List, [], ◌∷◌, ◌++◌, map, length, Bool, true, false, Option, Some, None}
+use Rattle.std.specs.Prelude.{◌≡◌, ℕ, ◌+◌, ◌-◌, ◌<◌, ◌≤◌, nat_le, List, [], ◌∷◌, ◌++◌, map, length, true, false, Option, Some, None}
 use Rattle.std.specs.List.{list_any}
 use Rattle.xb_model.specs.declared.dialled.Dialled.TheVariants.{Number, Refused}
 use Rattle.xb_model.specs.declared.limits.Limits.{Limits}

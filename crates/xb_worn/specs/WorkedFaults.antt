@@ -98,7 +98,8 @@ three_calls = call_of 7 seven_digits ∷ call_of 8 (3 ∷ []) ∷ call_of 9 serv
 pub record PlacesOfFaults : Type 0 where
   pub fourth_call : absent_from three_calls 1 (Preliminary 3 60 ∷ Preliminary 4 60 ∷ []) ≡ Some 2
   pub eighth_digit :
-      absent_from three_calls 1 (Digit (digit_place 1 7) (Pause 100) ∷ Digit (digit_place 1 8) (Pause 100) ∷ []) ≡ Some 2
+      absent_from three_calls 1 (Digit (digit_place 1 7) (Pause 100) ∷ Digit (digit_place 1 8) (Pause 100) ∷ [])
+      ≡ Some 2
   pub fourth_pulse :
       absent_from three_calls 1
       (Pulse (pulse_place (digit_place 2 1) 3) Lost ∷ Pulse (pulse_place (digit_place 2 1) 4) Lost ∷ [])
@@ -110,5 +111,6 @@ pub record PlacesOfFaults : Type 0 where
       repeated_from [] 1
       (Pulse (pulse_at 1 2) Lost ∷ Digit (digit_place 1 1) (Pause 100) ∷ Pulse (pulse_at 1 2) Extra ∷ [])
       ≡ Some 3
-  pub no_time : misfit_from 1 (sent (dial_of 0 0 0) (Pulse (pulse_place (digit_place 3 2) 1) (Break 0) ∷ []) three_calls)
+  pub no_time :
+      misfit_from 1 (sent (dial_of 0 0 0) (Pulse (pulse_place (digit_place 3 2) 1) (Break 0) ∷ []) three_calls)
       ≡ Some 3

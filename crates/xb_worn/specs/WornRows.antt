@@ -1,5 +1,5 @@
 -- The rows of calls as they are sent.
-use Rattle.std.specs.Prelude.{◌≡◌, ℕ, ◌+◌, ◌<◌, ◌≤◌, nat_le, ◌&&◌, Bool, false, not, List, [], ◌∷◌, ◌++◌, map, slice_index_or, slice_set, Option, Some, None}
+use Rattle.std.specs.Prelude.{◌≡◌, ℕ, ◌<◌, ◌≤◌, nat_le, ◌&&◌, Bool, false, not, List, [], ◌∷◌, ◌++◌, map, slice_index_or, slice_set, Option, Some, None}
 use Rattle.std.specs.List.{list_all}
 use Rattle.xb_model.specs.declared.limits.Limits.{Limits}
 use Rattle.xb_model.specs.declared.plan.Plan.{Plan}
@@ -94,7 +94,8 @@ TellsMisfit first (worn.SamePlace n) = ⊥
 -- why there are no rows, in this order: a place that is not there, two faults at one place, the hang-up, a time, memory
 abbrev pub IsFaultOf : Wear → List Fault → List DialledCall → WornFault → Type 0
 IsFaultOf wear faults calls (worn.NoSuchPlace n) = absent_from calls 1 faults ≡ Some n
-IsFaultOf wear faults calls (worn.SamePlace n) = (absent_from calls 1 faults ≡ None) × (repeated_from [] 1 faults ≡ Some n)
+IsFaultOf wear faults calls (worn.SamePlace n) =
+    (absent_from calls 1 faults ≡ None) × (repeated_from [] 1 faults ≡ Some n)
 IsFaultOf wear faults calls worn.HangUp = ArePlaced calls faults × (is_time wear.speed.hang_up_ms ≡ false)
 IsFaultOf wear faults calls (worn.Time n) =
     ArePlaced calls faults × (misfit_from 1 (sent wear faults calls) ≡ Some n)

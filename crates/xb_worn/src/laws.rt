@@ -32,8 +32,8 @@ pub fn what_follows_is_ignored()
     ensures pulses { NumbersStay }
 {}
 
-/// A good digit of two pulses or more that loses one is heard as the digit of one pulse less; one with an extra pulse as
-/// that of one more, and of eleven as none.
+/// A good digit of two pulses or more that loses one is heard as the digit of one pulse less; one with an extra pulse
+/// as that of one more, and of eleven as none.
 pub fn a_pulse_lost_or_more_changes_the_digit()
     ensures lost { LostPulse }
     ensures extra { ExtraPulse }

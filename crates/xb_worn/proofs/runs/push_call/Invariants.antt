@@ -1,4 +1,4 @@
-use Rattle.std.proofs.Common.{◌≡◌, ◌++◌, ◌∷◌, [], drop}
+use Rattle.std.proofs.Common.{◌≡◌, ◌++◌, ◌∷◌, drop}
 use Rattle.std.specs.List.{flat_map, list_all}
 use Rattle.xb_model.specs.Rows.{row_of}
 use Rattle.xb_model.specs.declared.row.Contact.TheVariants.{Make}

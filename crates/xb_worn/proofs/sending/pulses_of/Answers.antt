@@ -1,4 +1,4 @@
-use Rattle.std.proofs.Common.{◌≡◌, ℕ, ◌+◌, ap, ap₂, sym, ◌∙◌, arith}
+use Rattle.std.proofs.Common.{ℕ, ◌+◌, ap, ap₂, ◌∙◌, arith}
 use Rattle.xb_calls.specs.Dialling.{pulse_count}
 use Rattle.xb_worn.specs.Faults.{pulse_fault, pulse_place}
 use Rattle.xb_worn.specs.Sending.{with_fault}
