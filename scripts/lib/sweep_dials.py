@@ -33,14 +33,12 @@ class Dial:
     """A dial: its times in ms, how it is worn, and its faults, each (call, digit, pulse), (call, digit) or (call,)."""
 
     def __init__(self, speed=10, slow=0, jitter=0, bounce=0, seed=0, faults=(), vcd=False, **times):
-        self.words = [] if speed == 10 else [f"--speed={speed}"]
-        self.words += [f"--{name.replace('_', '-')}={ms}" for name, ms in times.items()]
-        worn = (("slow", slow), ("jitter", jitter), ("bounce", bounce))
-        self.words += [f"--{name}={n}" for name, n in worn if n]
-        self.words += [f"--seed={seed}"] if jitter or bounce else []
+        worn = {"slow": slow, "jitter": jitter, "bounce": bounce, "seed": seed}
+        named = {**({} if speed == 10 else {"speed": speed}), **times, **{name: n for name, n in worn.items() if n}}
+        self.words = [it for name, n in named.items() for it in (f"--{name.replace('_', '-')}", str(n))]
         self.words += ["--vcd"] if vcd or bounce else []
         said = [f"{'.'.join(map(str, place))}:{kind}" + (f"={ms}" if ms else "") for place, kind, ms in faults]
-        self.words += ["--fault=" + ",".join(said)] if faults else []
+        self.words += ["--fault", ",".join(said)] if faults else []
         usual = {"break": 60 if speed == 10 else 30, "make": 40 if speed == 10 else 20, "pause": 600, "seize": 500,
                  "hang_up": 400}
         self.times = {**usual, **times}
@@ -202,7 +200,7 @@ class Case:
 
     def __init__(self, want, why, calls, dial, plan=7, words=()):
         self.want, self.why, self.calls, self.dial, self.plan = want, why, calls, dial, plan
-        self.words = [*dial.words, *([] if dial.fits() else ["--beyond"]), *([] if plan == 7 else [f"--plan={plan}"]), *words]
+        self.words = [*dial.words, *([] if dial.fits() else ["--beyond"]), *([] if plan == 7 else ["--plan", str(plan)]), *words]
 
     def text(self):
         return "".join(f"{line} {number}\n" for line, number in self.calls)
@@ -432,8 +430,8 @@ def heard_by_mfhear(mfhear, mfloop):
         with open(path, "rb") as dialled:
             rows = dialled.read()
         if path.endswith(".vcd"):
-            lines = [f"--line={line}=loop" for line in it["outcomes"]]
-            rows = subprocess.run([mfloop, *lines], input=rows, stdout=subprocess.PIPE, check=True).stdout
+            [line] = it["outcomes"]
+            rows = subprocess.run([mfloop, "--line", f"{line}=loop"], input=rows, stdout=subprocess.PIPE, check=True).stdout
         deck = (b"" if it["plan"] == 7 else b"plan = 10\n") + b"---\n" + rows
         told = subprocess.run([mfhear, "--json"], input=deck, stdout=subprocess.PIPE, check=True).stdout
         lines = {}
