@@ -155,7 +155,7 @@ def judge(folder, mfrx, hear, *command):
         receivers[os.path.basename(command[0])] = heard_by(command)
     table, failed = {}, 0
     with open(os.path.join(folder, "manifest.jsonl")) as manifest:
-        for it in map(json.loads, manifest):
+        for it in (it for it in map(json.loads, manifest) if "keys" in it):
             path = os.path.join(folder, it["file"])
             with open(path, "rb") as sound:
                 if hashlib.sha256(sound.read()).hexdigest() != it["sha256"]:
@@ -175,14 +175,18 @@ def judge(folder, mfrx, hear, *command):
     cells = [["Want", "Limit", "Sounds", *receivers]]
     for (want, why), (count, heard) in table.items():
         cells.append([want, why, str(count), *(told(*heard[name]) for name in receivers)])
-    for n, line in enumerate(cells):
-        print("| " + " | ".join(line) + " |")
-        if n == 0:
-            print("|---" * len(line) + "|")
+    print_table(cells)
     with open(os.path.join(folder, "judged.html"), "w") as page:
         page.write(page_of(cells))
     if failed:
         sys.exit(f"sweep: mfrx is wrong of {failed} sounds")
+
+
+def print_table(cells):
+    for n, line in enumerate(cells):
+        print("| " + " | ".join(line) + " |")
+        if n == 0:
+            print("|---" * len(line) + "|")
 
 
 def told(right, others, doubtful):

@@ -129,6 +129,14 @@ rounded-in-us ms (run ∷ runs) =
     ∙ ap (λ n. run ∷ rounded (scale_by 1 1000) n (map in_us runs)) sum
     ∙ ap (λ rest. run ∷ rest) (rounded-in-us (ms + run.ticks) runs)
 
+-- the clean runs in ms are those of the rows
+pub clean_in_ms :
+    (bouncing : Bouncing) (rows : List LoopRow)
+    → rounded (scale_by 1 1000) 0 (clean (trace_of bouncing rows)) ≡ runs_in rows
+clean_in_ms bouncing rows =
+    ap (rounded (scale_by 1 1000) 0) (clean-runs 0 bouncing.us bouncing.seed (clean_of rows))
+    ∙ rounded-in-us 0 (runs_in rows)
+
 pub traces_are_the_rows : TracesAreTheRows
 traces_are_the_rows least most first bouncing rows long =
     let scale = scale_by 1 1000 in
