@@ -21,8 +21,9 @@ use Rattle.xb_sound.proofs.Places.{pair_sample-turns}
 use Rattle.xb_sound.proofs.SineTables.{holds_below}
 use Rattle.xb_ear.specs.Disturbed.{AreWithin, bounded}
 use Rattle.xb_ear.specs.HeardKeys.{MOST_NOISE, MOST_NOISE_IN_TONES, disturbable}
-use Rattle.xb_ear.specs.MuLaw.{AreCodedAs, IsCodedAs, MuLawIsHeard}
+use Rattle.xb_ear.specs.MuLaw.{MuLawIsHeard}
 use Rattle.xb_riff.specs.Codings.{mu_law_sample}
+use Rattle.xb_riff.specs.MuLawBytes.{AreCodedAs, IsCodedAs}
 use Rattle.xb_ear.proofs.Standing.{and-both, or-cases}
 use Rattle.xb_ear.proofs.WholeSounds.{disturbed_keys_are_heard}
 

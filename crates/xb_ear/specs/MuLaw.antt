@@ -1,22 +1,12 @@
 -- Keyings that are sent as samples of eight bits, by mu-law (G.711).
-use Rattle.std.specs.Prelude.{ℕ, ◌≤◌, ◌<◌, List, [], ◌∷◌, map, ℤ, ◌-ℤ◌, unsigned_abs}
+use Rattle.std.specs.Prelude.{ℕ, List, map}
 use Rattle.xb_model.specs.declared.mark.Mark.{Mark}
 use Rattle.xb_riff.specs.Codings.{mu_law_sample}
+use Rattle.xb_riff.specs.MuLawBytes.{AreCodedAs}
 use Rattle.xb_sound.specs.declared.cadence.Cadence.{Cadence}
 use Rattle.xb_sound.specs.HeardKeys.{AreKeyed}
 use Rattle.xb_sound.specs.Sounds.{sound_of}
 use Rattle.xb_ear.specs.HeardKeys.{IsHearable, IsHeardAs}
-
--- a byte stands for a sample where no other byte stands for a nearer one
-abbrev pub IsCodedAs : ℤ → ℕ → Type 0
-IsCodedAs sample byte = (other : ℕ) → other < 256
-    → unsigned_abs (mu_law_sample byte -ℤ sample) ≤ unsigned_abs (mu_law_sample other -ℤ sample)
-
-abbrev pub AreCodedAs : List ℤ → List ℕ → Type 0
-AreCodedAs [] [] = Unit {0}
-AreCodedAs [] (byte ∷ bytes) = ⊥
-AreCodedAs (sample ∷ samples) [] = ⊥
-AreCodedAs (sample ∷ samples) (byte ∷ bytes) = IsCodedAs sample byte × AreCodedAs samples bytes
 
 -- what is keyed is heard through mu-law, whatever codes it, as long as it takes the nearest byte
 abbrev pub MuLawIsHeard : Type 0

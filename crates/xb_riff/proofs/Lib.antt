@@ -1,3 +1,5 @@
 pub mod Chunks
 pub mod FloatLemmas
 pub mod HeadLemmas
+pub mod NearestCodes
+pub mod SignedCodes

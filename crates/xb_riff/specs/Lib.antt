@@ -1,3 +1,4 @@
 pub mod Codings
 pub mod Floats
 pub mod Heads
+pub mod MuLawBytes

@@ -1,6 +1,7 @@
 // Samples in eight bits whose steps grow with them (G.711).
-ghost use Rattle.std.specs.Prelude.{◌≡◌, ◌≤◌};
+ghost use Rattle.std.specs.Prelude.{◌≡◌, ◌<◌, ◌≤◌};
 ghost use Rattle.xb_riff.specs.Codings.{a_law_magnitude, a_law_sample, magnitude, mu_law_sample};
+ghost use Rattle.xb_riff.specs.MuLawBytes.{IsCodedAs, IsNearestCode};
 
 // How far from silence a code of mu-law is.
 fn magnitude(code: u8) -> u16
@@ -40,4 +41,27 @@ pub(crate) fn a_law(byte: u8) -> i16
 {
     let magnitude = a_law_magnitude(byte ^ 0x55) as i16;
     if byte < 128 { -magnitude } else { magnitude }
+}
+
+// The code of seven bits of mu-law whose magnitude is nearest to a size, and the greater one of two that are as near.
+// Raised by 132, the magnitudes of each doubling begin at 132 times its power of two, and halfway down to the greatest
+// one of the doubling before lies 129 times that power.
+fn nearest_code(size: u16) -> u8
+    requires { size ≤ 32768 }
+    ensures nearest { IsNearestCode size result }
+    ensures bound { result < 128 }
+{
+    let raised = u32::from(size) + 132;
+    let doublings = (raised / 129).ilog2();
+    let steps = ((raised / 8) >> doublings) - 16;
+    (doublings * 16 + steps.min(15)) as u8
+}
+
+/// The byte of mu-law that stands for the sample nearest to this one (ITU-T G.711). Halfway between two it is that of
+/// the one farther from zero; zero itself is 255, and not 127.
+pub fn mu_law_byte(sample: i16) -> u8
+    ensures { IsCodedAs sample result }
+{
+    let code = nearest_code(sample.unsigned_abs());
+    if sample < 0 { 127 - code } else { 255 - code }
 }

@@ -6,6 +6,7 @@
 //!   refused, and is its fault.
 //! - `Coding`: PCM of 8, 16, 24 or 32 bits, floats of 32 bits, A-law or mu-law. `sample_of` gives the sample that
 //!   bytes begin with, as one of 16 bits (`Codings`, `Floats`).
+//! - `mu_law_byte`: the byte of mu-law that stands for the sample nearest to one of 16 bits (`MuLawBytes`).
 //!
 //! Nothing takes memory.
 #![tactic(auto)]
@@ -16,4 +17,5 @@ mod float;
 mod head;
 
 pub use coding::Coding;
+pub use companded::mu_law_byte;
 pub use head::{HeadFault, WavFormat, WavHead};
