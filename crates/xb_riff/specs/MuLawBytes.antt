@@ -1,5 +1,6 @@
 -- The bytes of mu-law that samples are coded as.
-use Rattle.std.specs.Prelude.{ℕ, ◌≤◌, ◌<◌, List, [], ◌∷◌, ℤ, pos, ◌-ℤ◌, unsigned_abs}
+use Rattle.std.specs.Prelude.{ℕ, ◌+◌, ◌-◌, ◌*◌, ◌≤◌, ◌<◌, if◌then◌else◌, nat_le, int_lt, List, [], ◌∷◌, ℤ, pos, ◌-ℤ◌, unsigned_abs}
+use Rattle.std.specs.List.{count_by, range_with_len}
 use Rattle.xb_riff.specs.Codings.{magnitude, mu_law_sample}
 
 -- a byte stands for a sample where no other byte stands for a nearer one
@@ -13,7 +14,12 @@ AreCodedAs [] (byte ∷ bytes) = ⊥
 AreCodedAs (sample ∷ samples) [] = ⊥
 AreCodedAs (sample ∷ samples) (byte ∷ bytes) = IsCodedAs sample byte × AreCodedAs samples bytes
 
--- how far a sample is from silence, and the code of seven bits whose magnitude is nearest to that
-abbrev pub IsNearestCode : ℕ → ℕ → Type 0
-IsNearestCode size code = (other : ℕ) → other < 128
-    → unsigned_abs (pos (magnitude code) -ℤ pos size) ≤ unsigned_abs (pos (magnitude other) -ℤ pos size)
+-- how many of the bounds between neighbouring magnitudes a size has reached, each of which lies halfway
+unfoldable pub nearest_code : ℕ → ℕ
+nearest_code size =
+    count_by (λ code. nat_le (magnitude code + magnitude (code + 1)) (2 * size)) (range_with_len 0 127)
+
+-- the byte of a sample, whose sign it has; of two that stand for as near ones it is that of the one farther from zero
+abbrev pub mu_law_byte : ℤ → ℕ
+mu_law_byte sample =
+    if int_lt sample (pos 0) then 127 - nearest_code (unsigned_abs sample) else 255 - nearest_code (unsigned_abs sample)

@@ -1,7 +1,7 @@
 // Samples in eight bits whose steps grow with them (G.711).
 ghost use Rattle.std.specs.Prelude.{◌≡◌, ◌<◌, ◌≤◌};
 ghost use Rattle.xb_riff.specs.Codings.{a_law_magnitude, a_law_sample, magnitude, mu_law_sample};
-ghost use Rattle.xb_riff.specs.MuLawBytes.{IsCodedAs, IsNearestCode};
+ghost use Rattle.xb_riff.specs.MuLawBytes.{IsCodedAs, mu_law_byte, nearest_code};
 
 // How far from silence a code of mu-law is.
 fn magnitude(code: u8) -> u16
@@ -48,7 +48,7 @@ pub(crate) fn a_law(byte: u8) -> i16
 // one of the doubling before lies 129 times that power.
 fn nearest_code(size: u16) -> u8
     requires { size ≤ 32768 }
-    ensures nearest { IsNearestCode size result }
+    ensures value { result ≡ nearest_code size }
     ensures bound { result < 128 }
 {
     let raised = u32::from(size) + 132;
@@ -57,11 +57,19 @@ fn nearest_code(size: u16) -> u8
     (doublings * 16 + steps.min(15)) as u8
 }
 
-/// The byte of mu-law that stands for the sample nearest to this one (ITU-T G.711). Halfway between two it is that of
-/// the one farther from zero; zero itself is 255, and not 127.
-pub fn mu_law_byte(sample: i16) -> u8
-    ensures { IsCodedAs sample result }
+// The byte of the code that is nearest to a sample, with its sign.
+fn signed_code(sample: i16) -> u8
+    ensures { result ≡ mu_law_byte sample }
 {
     let code = nearest_code(sample.unsigned_abs());
     if sample < 0 { 127 - code } else { 255 - code }
+}
+
+/// The byte of mu-law that stands for the sample nearest to this one (ITU-T G.711). Halfway between two it is that of
+/// the one farther from zero; zero itself is 255, and not 127.
+pub fn mu_law_byte(sample: i16) -> u8
+    ensures value { result ≡ mu_law_byte sample }
+    ensures nearest { IsCodedAs sample result }
+{
+    signed_code(sample)
 }
