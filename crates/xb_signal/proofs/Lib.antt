@@ -13,4 +13,3 @@ pub mod HeardNames
 pub mod Parts
 pub mod Blocks
 pub mod Amplitudes
-pub mod NoiseWords

@@ -1,4 +1,3 @@
-pub mod Noises
 pub mod Levels
 pub mod Waves
 pub mod Shapes

@@ -25,7 +25,7 @@ use Rattle.xb_signal.specs.Settings.{standard_setting}
 use Rattle.xb_signal.specs.declared.steady.Steady.{Steady}
 use Rattle.xb_signal.specs.Moments.{moment_after, start}
 use Rattle.xb_signal.specs.declared.moment.Moment.{Moment}
-use Rattle.xb_signal.specs.Noises.{noise}
+use Rattle.xb_chance.specs.Swings.{swing}
 use Rattle.xb_signal.specs.OneSample.{clean_sample, quiet_sample, sample_at}
 use Rattle.xb_signal.specs.Steadies.{steady_sample}
 use Rattle.xb_signal.specs.declared.shape.Shape.{Shape}
@@ -102,7 +102,7 @@ abbrev pub NothingIsCut : Type 0
 NothingIsCut = (setting : Setting) (moment : Moment) (segment : Segment) (n : ℕ)
     → sound_fits setting segment.sound segment.ms ≡ true → n < segment.ms * 8
     → sample_at setting moment segment.sound n
-    ≡ quiet_sample setting moment segment.sound n +ℤ noise setting.noise_peak moment.noise n
+    ≡ quiet_sample setting moment segment.sound n +ℤ swing setting.noise_peak moment.noise n
 
 -- the WAV file of a signal is as long as is said beforehand
 abbrev pub FilesAreAsLong : Type 0

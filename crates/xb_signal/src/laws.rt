@@ -1,6 +1,5 @@
 //! What the definitions give: each law is the contract of a function that does nothing.
 ghost use Rattle.xb_signal.specs.Levels.{AmplitudesAreRounded};
-ghost use Rattle.xb_signal.specs.Noises.{NoiseGoesOn};
 ghost use Rattle.xb_signal.specs.SignalLaws.{FilesAreAsLong, KeysAreHeard, KeysSoundAsMarks, NamesAreHeard, NothingIsCut, PlainKeysAreWritten, QuarterIsRound, SteadyGoesOn, WavesAreSines, WorkedText};
 
 /// The quarter is one of a sine, and of a multiple of 100 Hz each sample is that of the tones of marks.
@@ -39,12 +38,6 @@ pub fn amplitudes_are_rounded()
 #[tactic(auto, using(crate::proofs::Parts::files_are_as_long))]
 pub fn files_are_as_long()
     ensures { FilesAreAsLong }
-{}
-
-/// The noise of a later sample is that of its number, whatever the segments before it are.
-#[tactic(auto, using(crate::proofs::NoiseWords::noise_goes_on))]
-pub fn noise_goes_on()
-    ensures { NoiseGoesOn }
 {}
 
 /// A later sample of what sounds all through is that of its number too, so it is not broken where a segment ends.

@@ -15,7 +15,7 @@
 //!   receiver that waits for 10 ms of silence and then measures the six MF frequencies hears exactly the pairs of the
 //!   keys, in order, also those of KP2 and of the further kinds of ST. `waves_are_sines`: the table is round, and at the
 //!   multiples of 100 Hz it is that of the marks. `amplitudes_are_rounded`: the table of levels is right.
-//!   `noise_goes_on` and `steady_goes_on`: noise, and what sounds all through, go by the number of a sample.
+//!   `steady_goes_on`: what sounds all through goes by the number of a sample, as the noise does (`xb_chance`).
 //!   `plain_keys_are_written`: a key that nothing disturbs is its two frequencies. `nothing_is_cut` of what fits.
 //!   `files_are_as_long`. `worked_text`.
 //!
@@ -29,7 +29,6 @@ pub mod laws;
 mod level;
 mod moment;
 mod name;
-mod noise;
 mod quarter;
 mod sample;
 mod samples;
