@@ -7,6 +7,7 @@
 //! - `Coding`: PCM of 8, 16, 24 or 32 bits, floats of 32 bits, A-law or mu-law. `sample_of` gives the sample that
 //!   bytes begin with, as one of 16 bits (`Codings`, `Floats`).
 //! - `mu_law_byte`: the byte of mu-law that stands for the sample nearest to one of 16 bits (`MuLawBytes`).
+//! - `laws::samples_are_known`: the 256 samples of mu-law and of A-law are those of another program.
 //!
 //! Nothing takes memory.
 #![tactic(auto)]
@@ -15,6 +16,7 @@ mod coding;
 mod companded;
 mod float;
 mod head;
+pub mod laws;
 
 pub use coding::Coding;
 pub use companded::mu_law_byte;

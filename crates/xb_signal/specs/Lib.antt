@@ -3,6 +3,7 @@ pub mod Waves
 pub mod Shapes
 pub mod Steadies
 pub mod Moments
+pub mod Forms
 pub mod Settings
 pub mod OneSample
 pub mod Segments
@@ -12,4 +13,5 @@ pub mod ReadTones
 pub mod Texts
 pub mod TextSteps
 pub mod Writings
+pub mod WritingLaws
 pub mod SignalLaws

@@ -24,6 +24,7 @@
 
 mod block;
 mod fault;
+mod form;
 mod keyed;
 pub mod laws;
 mod level;
@@ -37,11 +38,13 @@ mod setting;
 mod shape;
 mod steady;
 mod text;
+mod wav_head;
 mod wave;
 mod word;
 mod writing;
 
 pub use fault::{KeysFault, Place, SignalFault};
+pub use form::Form;
 pub use level::amplitude_of;
 pub use moment::Moment;
 pub use name::{Name, pair_of};
