@@ -3,14 +3,17 @@ code with mftone.
 
     tones.py LEAD KP KEY GAP < ENTRIES > WAV
     tones.py LEAD KP KEY GAP WORDS [--level DBM0] [--twist DB] [--detune PERCENT] [--skew MS] [--hole MS@MS]
-        [--phase] [--with HZ:DBM0] [--hum DBM0] [--noise-peak N] [--seed N] [--clip] > WAV
+        [--phase] [--with HZ:DBM0] [--hum DBM0] [--noise-peak N] [--seed N] [--clip]
+        [--ulaw --heard WAV] > WAV
 
 Entries are lines of a page of mfbank; what is no keyed entry is passed over. WORDS are those of mftone --keys, and have
 to be right, but one may be too loud: then nothing is written, its place is told, and the status is 1. The four times
-are in ms.
+are in ms. With --ulaw each sample has a byte of mu-law, by a search of all 256; where two stand for samples that are as
+near, it is the one that the file of --heard has there.
 """
 import argparse
 import fractions
+import functools
 import math
 import struct
 import sys
@@ -168,12 +171,54 @@ def noisy(samples, peak, seed):
     return [max(-32768, min(32767, it + next(words) % (2 * peak + 1) - peak)) for it in samples]
 
 
+def chunk(name, *parts):
+    """Returns a chunk of a WAV file, with a byte more where its length is odd."""
+    data = b"".join(parts)
+    return name + struct.pack("<I", len(data)) + data + b"\0" * (len(data) % 2)
+
+
+def riff(*chunks):
+    """Returns a WAV file of chunks."""
+    return chunk(b"RIFF", b"WAVE", *chunks)
+
+
 def wav(samples):
     """Returns a WAV file: PCM of 16 bits, one channel, 8,000 samples a second."""
-    data = struct.pack(f"<{len(samples)}h", *samples)
-    form = struct.pack("<4sIHHIIHH", b"fmt ", 16, 1, 1, RATE, 2 * RATE, 2, 16)
-    body = b"WAVE" + form + struct.pack("<4sI", b"data", len(data)) + data
-    return struct.pack("<4sI", b"RIFF", len(body)) + body
+    form = struct.pack("<HHIIHH", 1, 1, RATE, 2 * RATE, 2, 16)
+    return riff(chunk(b"fmt ", form), chunk(b"data", struct.pack(f"<{len(samples)}h", *samples)))
+
+
+def decoded(byte):
+    """Returns the sample that a byte of mu-law stands for (G.711), in steps of 16 bits, which are four to one of 14."""
+    turned = 255 - byte
+    size = 4 * (((2 * (turned % 16) + 33) << (turned // 16 % 8)) - 33)
+    return size if byte > 127 else -size
+
+
+DECODED = [decoded(byte) for byte in range(256)]
+
+
+@functools.lru_cache(maxsize=None)
+def nearest(sample):
+    """Returns the bytes that stand for the samples nearest to one."""
+    least = min(abs(it - sample) for it in DECODED)
+    return [byte for byte in range(256) if abs(DECODED[byte] - sample) == least]
+
+
+def coded(samples, heard):
+    """Returns a nearest byte for each sample: where there are two, the one that was heard there."""
+    made = bytearray()
+    for place, sample in enumerate(samples):
+        near = nearest(sample)
+        made.append(heard[place] if heard[place:place + 1] and heard[place] in near else near[0])
+    return bytes(made)
+
+
+def mu_law_wav(samples, heard):
+    """Returns a WAV file of mu-law, one channel, 8,000 samples a second: its head has 58 bytes."""
+    form = struct.pack("<HHIIHHH", 7, 1, RATE, RATE, 1, 8, 0)
+    fact = struct.pack("<I", len(samples))
+    return riff(chunk(b"fmt ", form), chunk(b"fact", fact), chunk(b"data", coded(samples, heard[58:])))
 
 
 def attend():
@@ -191,6 +236,8 @@ def attend():
     reader.add_argument("--noise-peak", type=int, default=0)
     reader.add_argument("--seed", type=int, default=0)
     reader.add_argument("--clip", action="store_true")
+    reader.add_argument("--ulaw", action="store_true")
+    reader.add_argument("--heard")
     given = reader.parse_args()
     if given.words is None:
         samples = [it for line in sys.stdin for it in sound(line, *given.times)]
@@ -199,7 +246,12 @@ def attend():
         clean = named(given, levels)
         summed = [it + more for it, more in zip(clean, all_through(given, len(clean)))]
         samples = noisy(summed, given.noise_peak, given.seed)
-    sys.stdout.buffer.write(wav(samples))
+    if given.ulaw:
+        with open(given.heard, "rb") as heard:
+            made = mu_law_wav(samples, heard.read())
+    else:
+        made = wav(samples)
+    sys.stdout.buffer.write(made)
 
 
 if __name__ == "__main__":

@@ -129,6 +129,33 @@ const SOUNDS: &[(&[&str], &[u8], usize, u64)] = &[
         12_908,
         2_107_437_560,
     ),
+    // by mu-law: a WAV file and bytes alone, and noise over the whole range
+    (
+        &["--keys", "KP 555 1212 ST", "--ulaw"],
+        PAGE,
+        14_106,
+        1_965_419_141,
+    ),
+    (
+        &["--raw", "--ulaw", "--keys=KP 7 ST"],
+        PAGE,
+        7_520,
+        4_091_105_703,
+    ),
+    (
+        &[
+            "--ulaw",
+            "--keys=KP 7",
+            "--level=0",
+            "--twist=-39.9",
+            "--clip",
+            "--noise-peak=20000",
+            "--seed=4294967295",
+        ],
+        PAGE,
+        6_490,
+        3_337_914_490,
+    ),
 ];
 
 // The Adler-32 of bytes.

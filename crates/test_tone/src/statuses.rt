@@ -28,7 +28,7 @@ impl Program for Mftone {
 
 const USAGE: &[u8] = b"mftone: usage: mftone [--line N] [--entry N] [--lead N] [--kp N] [--key N] \
 [--gap N] [--raw] [--keys WORDS] [--level DBM0] [--twist DB] [--detune PERCENT] [--skew MS] \
-[--hole MS@MS] [--phase] [--with HZ:DBM0] [--hum DBM0] [--noise-peak N] [--seed N] [--clip]\n";
+[--hole MS@MS] [--phase] [--with HZ:DBM0] [--hum DBM0] [--noise-peak N] [--seed N] [--clip] [--ulaw]\n";
 
 // The words after the program's name, the page, the status, and what stands on standard error; nothing is
 // written.
@@ -162,6 +162,9 @@ const CASES: &[(&[&str], &[u8], u8, &[u8])] = &[
     (&["--keys", "KP", "--with=300"], PAGE, 2, USAGE),
     (&["--keys", "KP", "--hum=1"], PAGE, 2, USAGE),
     (&["--clip"], PAGE, 2, USAGE),
+    (&["--ulaw"], PAGE, 2, USAGE),
+    (&["--line", "7", "--raw", "--ulaw"], PAGE, 2, USAGE),
+    (&["--keys", "KP", "--ulaw=1"], PAGE, 2, USAGE),
     (&["--keys", "KP", "--line", "7"], PAGE, 2, USAGE),
     (&["--entry", "1"], PAGE, 2, USAGE),
     (&["--line", "x"], PAGE, 2, USAGE),

@@ -11,6 +11,9 @@ pub mod PlainKeys
 pub mod Sines
 pub mod HeardNames
 pub mod Parts
+pub mod Files
+pub mod MuLawHeads
+pub mod MuLawFiles
+pub mod Put
 pub mod Blocks
 pub mod Amplitudes
-pub mod NoiseWords

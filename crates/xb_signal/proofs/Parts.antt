@@ -1,19 +1,17 @@
 -- The parts of a signal.
-use Rattle.std.proofs.Common.{◌≡◌, ◌∙◌, ℕ, suc, get_or, ◌+◌, ◌*◌, ◌<◌, List, [], ◌∷◌, ◌++◌, length, length-append, take, drop, refl, sym, ap, append_assoc, append-nil, arith, true, false, Bool, ℤ}
+use Rattle.std.proofs.Common.{◌≡◌, ◌∙◌, ℕ, suc, get_or, ◌+◌, ◌*◌, ◌<◌, List, [], ◌∷◌, ◌++◌, length, length-append, take, drop, refl, sym, ap, append_assoc, append-nil, arith, ℤ}
 use Rattle.std.proofs.lemmas.Grind.{flat_map-append}
 use Rattle.std.proofs.lemmas.List.{take-append-drop}
 use Rattle.std.proofs.lemmas.List.FromFn.{length-map-range_with_len}
 use Rattle.std.proofs.lemmas.List.Sums.{sum_by-cons}
 use Rattle.std.proofs.Math.Seq.{drop-cons, take-suc}
-use Rattle.xb_sound.specs.Wavs.{header_of, pcm_of, sample_bytes}
 use Rattle.xb_signal.specs.declared.segment.Segment.{Segment}
 use Rattle.xb_signal.specs.declared.setting.Setting.{Setting}
 use Rattle.xb_signal.specs.declared.moment.Moment.{Moment}
-use Rattle.xb_signal.specs.Moments.{moment_after, start}
+use Rattle.xb_signal.specs.Moments.{moment_after}
+use Rattle.xb_signal.specs.Forms.{sample_coded, samples_coded}
 use Rattle.xb_signal.specs.Segments.{samples_in, segment_sound, signal_from}
-use Rattle.xb_signal.specs.SignalLaws.{FilesAreAsLong}
 use Rattle.xb_signal.specs.OneSample.{sample_at}
-use Rattle.xb_signal.specs.Writings.{bytes_of, head_before}
 
 -- the moment after segments
 abbrev pub moment_before : Moment → List Segment → Moment
@@ -65,24 +63,24 @@ moment-taken moment segments i segment within is =
 -- the bytes of the first segments, and of one more
 pub signal-next : (setting : Setting) (moment : Moment) (segments : List Segment) (i : ℕ) (segment : Segment)
     → i < length segments → segment ≡ get_or segments i segment
-    → pcm_of (signal_from setting moment (take (i + 1) segments))
-    ≡ pcm_of (signal_from setting moment (take i segments))
-    ++ pcm_of (segment_sound setting (moment_before moment (take i segments)) segment)
+    → samples_coded setting.form (signal_from setting moment (take (i + 1) segments))
+    ≡ samples_coded setting.form (signal_from setting moment (take i segments))
+    ++ samples_coded setting.form (segment_sound setting (moment_before moment (take i segments)) segment)
 signal-next setting moment segments i segment within is =
     let first = signal_from setting moment (take i segments) in
     let here = segment_sound setting (moment_before moment (take i segments)) segment in
-    ap (λ (xs : List Segment). pcm_of (signal_from setting moment xs)) (taken segments i segment within is)
-    ∙ ap pcm_of (signal-append setting moment (take i segments) (segment ∷ []))
-    ∙ ap (λ (xs : List ℤ). pcm_of (first ++ xs)) (append-nil here)
-    ∙ flat_map-append sample_bytes first here
+    ap (λ (xs : List Segment). samples_coded setting.form (signal_from setting moment xs)) (taken segments i segment within is)
+    ∙ ap (samples_coded setting.form) (signal-append setting moment (take i segments) (segment ∷ []))
+    ∙ ap (λ (xs : List ℤ). samples_coded setting.form (first ++ xs)) (append-nil here)
+    ∙ flat_map-append (sample_coded setting.form) first here
 
 -- the bytes of segments are those of the first ones, of the next, and of the rest
 pub signal-parts : (setting : Setting) (moment : Moment) (segments : List Segment) (i : ℕ) (segment : Segment)
     → i < length segments → segment ≡ get_or segments i segment
-    → pcm_of (signal_from setting moment segments)
-    ≡ pcm_of (signal_from setting moment (take i segments))
-    ++ (pcm_of (segment_sound setting (moment_before moment (take i segments)) segment)
-    ++ pcm_of (signal_from setting
+    → samples_coded setting.form (signal_from setting moment segments)
+    ≡ samples_coded setting.form (signal_from setting moment (take i segments))
+    ++ (samples_coded setting.form (segment_sound setting (moment_before moment (take i segments)) segment)
+    ++ samples_coded setting.form (signal_from setting
     (moment_after (moment_before moment (take i segments)) (segment.ms * 8)) (drop (suc i) segments)))
 signal-parts setting moment segments i segment within is =
     let at : Moment = moment_before moment (take i segments) in
@@ -92,18 +90,7 @@ signal-parts setting moment segments i segment within is =
     drop-cons segments i segment within ∙ ap (λ s. s ∷ drop (suc i) segments) (sym is) in
     let parts : segments ≡ take i segments ++ (segment ∷ drop (suc i) segments) =
     sym (take-append-drop i segments) ∙ ap (λ xs. take i segments ++ xs) rest in
-    ap (λ xs. pcm_of (signal_from setting moment xs)) parts
-    ∙ ap pcm_of (signal-append setting moment (take i segments) (segment ∷ drop (suc i) segments))
-    ∙ flat_map-append sample_bytes (signal_from setting moment (take i segments)) (here ++ later)
-    ∙ ap (λ xs. pcm_of (signal_from setting moment (take i segments)) ++ xs) (flat_map-append sample_bytes here later)
-
--- the head, and then the samples
-pub whole-bytes : (setting : Setting) (raw : Bool) (segments : List Segment)
-    → head_before raw segments ++ pcm_of (signal_from setting (start setting.seed) segments) ≡ bytes_of setting raw segments
-whole-bytes setting true segments = refl
-whole-bytes setting false segments =
-    ap (λ (n : ℕ). header_of (2 * n) ++ pcm_of (signal_from setting (start setting.seed) segments))
-    (sym (length-signal setting (start setting.seed) segments))
-
-pub files_are_as_long : FilesAreAsLong
-files_are_as_long setting segments = ap (λ (n : ℕ). 2 * n + 44) (length-signal setting (start setting.seed) segments)
+    ap (λ xs. samples_coded setting.form (signal_from setting moment xs)) parts
+    ∙ ap (samples_coded setting.form) (signal-append setting moment (take i segments) (segment ∷ drop (suc i) segments))
+    ∙ flat_map-append (sample_coded setting.form) (signal_from setting moment (take i segments)) (here ++ later)
+    ∙ ap (λ xs. samples_coded setting.form (signal_from setting moment (take i segments)) ++ xs) (flat_map-append (sample_coded setting.form) here later)

@@ -14,7 +14,8 @@ use Rattle.xb_signal.specs.declared.segment.Sound.{Sound}
 use Rattle.xb_signal.specs.declared.segment.Sound.TheVariants.{Keyed, Written}
 use Rattle.xb_signal.specs.declared.moment.Moment.{Moment}
 use Rattle.xb_signal.specs.Moments.{moment_after}
-use Rattle.xb_signal.specs.Noises.{noise, state_after, word_of}
+use Rattle.xb_chance.specs.Swings.{swing}
+use Rattle.xb_chance.specs.Words.{state_after, word_of}
 use Rattle.xb_signal.specs.Segments.{signal_from}
 use Rattle.xb_signal.specs.Settings.{standard_setting}
 use Rattle.xb_signal.specs.SignalLaws.{QuarterIsRound, WavesAreSines, lie_on_circle}
@@ -124,7 +125,7 @@ pub silent-sound : (ms : ℕ) → plain_tones (Written []) ms ≡ silence ms
 silent-sound ms = zeros (λ n. plain_sample (Written []) n) (λ n. refl) (ms * 8) 0
 
 -- without noise the state counts for nothing
-no-noise : (state n : ℕ) → noise 0 state n ≡ pos 0
+no-noise : (state n : ℕ) → swing 0 state n ≡ pos 0
 no-noise state n =
     let word = word_of (state_after state (n + 1)) in
     let none : word % 1 ≡ 0 = omega (arith, mod_below word 1 (omega arith)) in
@@ -142,7 +143,7 @@ any-state state (Keyed tones) n = refl
 plain-at : (moment : Moment) (sound : Sound) (n : ℕ) → sample_at standard_setting moment sound n ≡ plain_sample sound n
 plain-at moment sound n =
     let clean = clean_sample standard_setting 0 sound n in
-    ap (λ (x : ℤ). cut ((x +ℤ pos 0) +ℤ noise 0 moment.noise n)) (any-state moment.noise sound n)
+    ap (λ (x : ℤ). cut ((x +ℤ pos 0) +ℤ swing 0 moment.noise n)) (any-state moment.noise sound n)
     ∙ ap (λ (x : ℤ). cut ((clean +ℤ pos 0) +ℤ x)) (no-noise moment.noise n)
     ∙ ap (λ (x : ℤ). cut (x +ℤ pos 0)) (plus-none clean)
     ∙ ap cut (plus-none clean)

@@ -14,7 +14,8 @@ use Rattle.xb_signal.specs.declared.segment.Sound.TheVariants.{Keyed, Written}
 use Rattle.xb_signal.specs.declared.setting.Setting.{Setting}
 use Rattle.xb_signal.specs.declared.shape.Shape.{Shape}
 use Rattle.xb_signal.specs.declared.steady.Steady.{Steady}
-use Rattle.xb_signal.specs.Noises.{noise, state_after, word_of}
+use Rattle.xb_chance.specs.Swings.{swing}
+use Rattle.xb_chance.proofs.Swings.{swing_is_small}
 use Rattle.xb_signal.specs.OneSample.{clean_sample, cut, fits, has_room, is_drawn, peak_of}
 use Rattle.xb_signal.specs.Segments.{samples_fit}
 use Rattle.xb_signal.specs.Shapes.{drawn, is_in_hole, keyed_sample, late_sample, starts_of, tuned, wave_from}
@@ -131,12 +132,6 @@ steady-small steady n =
     (scaled-small steady.amplitude (wave_sample steady.hz n) (wave-small (steady.hz * n % 8000))))
     (hum-small steady.hum n)
 
-noise-small : (peak state n : ℕ) → unsigned_abs (noise peak state n) ≤ peak
-noise-small peak state n =
-    let word : ℕ = word_of (state_after state (n + 1)) in
-    let below : word % (2 * peak + 1) < 2 * peak + 1 = mod_below word (2 * peak + 1) (omega arith) in
-    omega (arith, ints, below)
-
 -- a sample of 16 bits
 abbrev Has16Bits : ℤ → Type 0
 Has16Bits x = (k : ℕ) × (x +ℤ pos 32768 ≡ pos k) × (k < 65536)
@@ -221,9 +216,9 @@ pub nothing_is_cut : NothingIsCut
 nothing_is_cut setting moment segment n fit below =
     let clean = clean_sample setting moment.noise segment.sound n in
     let steady = steady_sample setting.steady (moment.place + n) in
-    let heard = noise setting.noise_peak moment.noise n in
+    let heard = swing setting.noise_peak moment.noise n in
     let least = sum-small steady heard (steady_peak setting.steady) setting.noise_peak
-    (steady-small setting.steady (moment.place + n)) (noise-small setting.noise_peak moment.noise n) in
+    (steady-small setting.steady (moment.place + n)) (swing_is_small setting.noise_peak moment.noise n) in
     let small : unsigned_abs (steady +ℤ heard) ≤ peak_of setting = omega (arith, least) in
     ap cut (sum-assoc clean steady heard)
     ∙ fits-by setting moment.noise segment.sound segment.ms n (steady +ℤ heard) (is_drawn setting segment.sound) refl

@@ -1,9 +1,9 @@
-pub mod Noises
 pub mod Levels
 pub mod Waves
 pub mod Shapes
 pub mod Steadies
 pub mod Moments
+pub mod Forms
 pub mod Settings
 pub mod OneSample
 pub mod Segments
@@ -13,4 +13,6 @@ pub mod ReadTones
 pub mod Texts
 pub mod TextSteps
 pub mod Writings
+pub mod WritingLaws
 pub mod SignalLaws
+pub mod KnownSamples

@@ -1,7 +1,7 @@
 -- Moments of a signal: the state of the noise, and how many samples of its second are over.
 use Rattle.std.specs.Prelude.{ℕ, ◌+◌, ◌%◌}
 use Rattle.xb_signal.specs.declared.moment.Moment.{Moment}
-use Rattle.xb_signal.specs.Noises.{state_after}
+use Rattle.xb_chance.specs.Words.{state_after}
 
 abbrev pub start : ℕ → Moment
 start seed = record { noise = seed; place = 0 }

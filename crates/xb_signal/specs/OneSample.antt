@@ -1,10 +1,10 @@
 -- Samples of what sounds, and of 16 bits.
 use Rattle.std.specs.Prelude.{ℕ, ◌+◌, Bool, false, ◌&&◌, if◌then◌else◌, nat_le, ℤ, pos, negsuc, ◌+ℤ◌, ◌-ℤ◌}
+use Rattle.xb_chance.specs.Swings.{swing}
 use Rattle.xb_signal.specs.declared.moment.Moment.{Moment}
 use Rattle.xb_signal.specs.declared.segment.Sound.{Sound}
 use Rattle.xb_signal.specs.declared.segment.Sound.TheVariants.{Written, Keyed}
 use Rattle.xb_signal.specs.declared.setting.Setting.{Setting}
-use Rattle.xb_signal.specs.Noises.{noise}
 use Rattle.xb_signal.specs.Shapes.{keyed_sample}
 use Rattle.xb_signal.specs.Steadies.{steady_peak, steady_sample}
 use Rattle.xb_signal.specs.Waves.{mixed}
@@ -37,7 +37,7 @@ quiet_sample setting moment sound n =
 -- and of the noise
 abbrev pub sample_at : Setting → Moment → Sound → ℕ → ℤ
 sample_at setting moment sound n =
-    cut (quiet_sample setting moment sound n +ℤ noise setting.noise_peak moment.noise n)
+    cut (quiet_sample setting moment sound n +ℤ swing setting.noise_peak moment.noise n)
 
 -- how much may be added to a sample of what sounds, or taken from it
 abbrev pub peak_of : Setting → ℕ

@@ -34,10 +34,6 @@ signal_of setting segments = signal_from setting (start setting.seed) segments
 abbrev pub samples_in : List Segment → ℕ
 samples_in segments = sum_by (λ (segment : Segment). segment.ms * 8) segments
 
--- how many bytes a WAV file of them has
-abbrev pub file_length : List Segment → ℕ
-file_length segments = 2 * samples_in segments + 44
-
 -- whether each sample has 16 bits before it is cut, whatever is added
 abbrev pub samples_fit : Setting → Sound → ℕ → Bool
 samples_fit setting sound ms =

@@ -1,5 +1,6 @@
 -- How signals sound unless something else is asked for.
 use Rattle.std.specs.Prelude.{false}
+use Rattle.xb_signal.specs.declared.form.Form.TheVariants.{Linear}
 use Rattle.xb_signal.specs.declared.setting.Setting.{Setting}
 use Rattle.xb_signal.specs.Shapes.{standard_shape}
 use Rattle.xb_signal.specs.Steadies.{silent_steady}
@@ -13,4 +14,5 @@ standard_setting = record {
   noise_peak = 0;
   seed = 0;
   clip = false;
+  form = Linear;
 }

@@ -3,7 +3,7 @@ use Rattle.std.specs.Prelude.{ℕ, ◌+◌, ◌*◌, ◌/◌, ◌%◌, ◌-◌, 
 use Rattle.xb_model.specs.declared.key.Tone.{Tone as Pair}
 use Rattle.xb_signal.specs.declared.keyed.Starts.{Starts}
 use Rattle.xb_signal.specs.declared.shape.Shape.{Shape}
-use Rattle.xb_signal.specs.Noises.{state_after, word_of}
+use Rattle.xb_chance.specs.Words.{state_after, word_of}
 use Rattle.xb_signal.specs.Waves.{scaled, wave_at}
 
 abbrev pub standard_shape : Shape

@@ -12,7 +12,6 @@ use Rattle.xb_sound.specs.HeardKeys.{IsKey, frequencies_of, keys_heard}
 use Rattle.xb_sound.specs.Receiver.{heard}
 use Rattle.xb_sound.specs.Sines.{sine_sample}
 use Rattle.xb_sound.specs.Sounds.{sound_of}
-use Rattle.xb_sound.specs.Wavs.{wav_length}
 use Rattle.xb_sound.specs.WorkedSounds.{short}
 use Rattle.xb_signal.specs.declared.name.Name.{Name}
 use Rattle.xb_signal.specs.declared.name.Name.TheVariants.{Key, Kp2, StPrime, StTwoPrimes, StThreePrimes}
@@ -20,12 +19,12 @@ use Rattle.xb_signal.specs.Names.{pair_of}
 use Rattle.xb_signal.specs.declared.segment.Segment.{Segment}
 use Rattle.xb_signal.specs.declared.setting.Setting.{Setting}
 use Rattle.xb_signal.specs.declared.segment.Sound.TheVariants.{Keyed, Written}
-use Rattle.xb_signal.specs.Segments.{file_length, pair_segment, signal_of, silent, sound_fits}
+use Rattle.xb_signal.specs.Segments.{pair_segment, signal_of, silent, sound_fits}
 use Rattle.xb_signal.specs.Settings.{standard_setting}
 use Rattle.xb_signal.specs.declared.steady.Steady.{Steady}
 use Rattle.xb_signal.specs.Moments.{moment_after, start}
 use Rattle.xb_signal.specs.declared.moment.Moment.{Moment}
-use Rattle.xb_signal.specs.Noises.{noise}
+use Rattle.xb_chance.specs.Swings.{swing}
 use Rattle.xb_signal.specs.OneSample.{clean_sample, quiet_sample, sample_at}
 use Rattle.xb_signal.specs.Steadies.{steady_sample}
 use Rattle.xb_signal.specs.declared.shape.Shape.{Shape}
@@ -102,12 +101,7 @@ abbrev pub NothingIsCut : Type 0
 NothingIsCut = (setting : Setting) (moment : Moment) (segment : Segment) (n : ℕ)
     → sound_fits setting segment.sound segment.ms ≡ true → n < segment.ms * 8
     → sample_at setting moment segment.sound n
-    ≡ quiet_sample setting moment segment.sound n +ℤ noise setting.noise_peak moment.noise n
-
--- the WAV file of a signal is as long as is said beforehand
-abbrev pub FilesAreAsLong : Type 0
-FilesAreAsLong = (setting : Setting) (segments : List Segment)
-    → wav_length (signal_of setting segments) ≡ file_length segments
+    ≡ quiet_sample setting moment segment.sound n +ℤ swing setting.noise_peak moment.noise n
 
 -- a text with tones and silences of 1 ms
 abbrev pub WorkedText : Type 0

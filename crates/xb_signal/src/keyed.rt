@@ -2,10 +2,10 @@
 ghost use Rattle.std.specs.Prelude.{◌≡◌, ◌≤◌, unsigned_abs};
 ghost use Rattle.xb_signal.specs.Shapes.{drawn, is_in_hole, keyed_sample, late_sample, starts_of, tuned, wave_from};
 
-use crate::noise::{state_after, word_of};
 use crate::segment::SAMPLES_PER_MS;
 use crate::shape::Shape;
 use crate::wave::{scaled, wave_at};
+use xb_chance::{state_after, word_of};
 use xb_model::Tone;
 
 // A frequency at a pitch in thousandths, to the nearest whole Hz, and a half up.

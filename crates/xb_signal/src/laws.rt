@@ -1,7 +1,8 @@
 //! What the definitions give: each law is the contract of a function that does nothing.
+ghost use Rattle.xb_signal.specs.KnownSamples.{SamplesAreKnown};
 ghost use Rattle.xb_signal.specs.Levels.{AmplitudesAreRounded};
-ghost use Rattle.xb_signal.specs.Noises.{NoiseGoesOn};
-ghost use Rattle.xb_signal.specs.SignalLaws.{FilesAreAsLong, KeysAreHeard, KeysSoundAsMarks, NamesAreHeard, NothingIsCut, PlainKeysAreWritten, QuarterIsRound, SteadyGoesOn, WavesAreSines, WorkedText};
+ghost use Rattle.xb_signal.specs.WritingLaws.{FilesAreAsLong, LinearFilesAreWavs, MuLawFilesAreRead, MuLawIsNearest};
+ghost use Rattle.xb_signal.specs.SignalLaws.{KeysAreHeard, KeysSoundAsMarks, NamesAreHeard, NothingIsCut, PlainKeysAreWritten, QuarterIsRound, SteadyGoesOn, WavesAreSines, WorkedText};
 
 /// The quarter is one of a sine, and of a multiple of 100 Hz each sample is that of the tones of marks.
 #[tactic(auto, using(crate::proofs::Sines::waves_are_sines, crate::proofs::Sines::quarter_is_round))]
@@ -35,16 +36,21 @@ pub fn amplitudes_are_rounded()
     ensures { AmplitudesAreRounded }
 {}
 
-/// A file is as long as its segments say before any sample is made.
-#[tactic(auto, using(crate::proofs::Parts::files_are_as_long))]
+/// A file is as long as its segments say before any sample is made. Of samples of 16 bits it is that of `xb_sound`.
 pub fn files_are_as_long()
-    ensures { FilesAreAsLong }
+    ensures length { FilesAreAsLong }
+    ensures linear { LinearFilesAreWavs }
 {}
 
-/// The noise of a later sample is that of its number, whatever the segments before it are.
-#[tactic(auto, using(crate::proofs::NoiseWords::noise_goes_on))]
-pub fn noise_goes_on()
-    ensures { NoiseGoesOn }
+/// By mu-law each sample has its nearest byte, and a reader of WAV files finds just these bytes.
+pub fn mu_law_is_nearest()
+    ensures bytes { MuLawIsNearest }
+    ensures files { MuLawFilesAreRead }
+{}
+
+/// Each byte of mu-law stands for the sample that another program reads of it.
+pub fn samples_are_known()
+    ensures { SamplesAreKnown }
 {}
 
 /// A later sample of what sounds all through is that of its number too, so it is not broken where a segment ends.

@@ -15,22 +15,22 @@
 //!   tones apart a receiver that waits for 10 ms of silence and then measures the six MF frequencies hears exactly the
 //!   pairs of the keys, in order, also those of KP2 and of the further kinds of ST. `waves_are_sines`: the table is
 //!   round, and at the multiples of 100 Hz it is that of the marks. `amplitudes_are_rounded`: the table of levels is
-//!   right.
-//!   `noise_goes_on` and `steady_goes_on`: noise, and what sounds all through, go by the number of a sample.
+//!   right. `steady_goes_on`: what sounds all through goes by the number of a sample, as the noise does (`xb_chance`).
 //!   `plain_keys_are_written`: a key that nothing disturbs is its two frequencies. `nothing_is_cut` of what fits.
-//!   `files_are_as_long`. `worked_text`.
+//!   `files_are_as_long`. `mu_law_is_nearest`, and `samples_are_known`: what its bytes stand for is what another program
+//!   reads of them. `worked_text`.
 //!
 //! Not said: how much memory a run takes.
 #![tactic(auto)]
 
 mod block;
 mod fault;
+mod form;
 mod keyed;
 pub mod laws;
 mod level;
 mod moment;
 mod name;
-mod noise;
 mod quarter;
 mod sample;
 mod samples;
@@ -39,11 +39,13 @@ mod setting;
 mod shape;
 mod steady;
 mod text;
+mod wav_head;
 mod wave;
 mod word;
 mod writing;
 
 pub use fault::{KeysFault, Place, SignalFault};
+pub use form::Form;
 pub use level::amplitude_of;
 pub use moment::Moment;
 pub use name::{Name, pair_of};

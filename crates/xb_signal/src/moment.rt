@@ -2,7 +2,7 @@
 ghost use Rattle.std.specs.Prelude.{◌≡◌, ◌<◌};
 ghost use Rattle.xb_signal.specs.Moments.{moment_after, start};
 
-use crate::noise::state_after;
+use xb_chance::state_after;
 
 // How many samples a second has. After so many each frequency of whole Hz is at the same place again.
 const SECOND: u32 = 8_000;

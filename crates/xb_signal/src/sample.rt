@@ -4,11 +4,11 @@ ghost use Rattle.xb_signal.specs.OneSample.{clean_sample, cut, fits, has_room, i
 
 use crate::keyed::keyed_sample;
 use crate::moment::Moment;
-use crate::noise::noise;
 use crate::segment::Sound;
 use crate::setting::Setting;
 use crate::steady::{steady_peak, steady_sample};
 use crate::wave::mixed;
+use xb_chance::swing;
 
 // Sample n of what sounds that begins in a state of the noise, with nothing added.
 pub(crate) fn clean_sample(setting: &Setting, state: u64, sound: &Sound, n: u32) -> i32
@@ -68,7 +68,7 @@ pub(crate) fn sample_at(setting: &Setting, moment: Moment, sound: &Sound, n: u32
     ensures { result ≡ sample_at setting.now moment sound.now n }
 {
     let quiet = quiet_sample(setting, moment, sound, n);
-    cut(quiet + noise(setting.noise_peak, moment.noise, n))
+    cut(quiet + swing(setting.noise_peak, moment.noise, n))
 }
 
 // How much may be added to a sample of what sounds, or taken from it.

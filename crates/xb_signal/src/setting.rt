@@ -2,6 +2,7 @@
 ghost use Rattle.std.specs.Prelude.{◌≡◌};
 ghost use Rattle.xb_signal.specs.Settings.{standard_setting};
 
+use crate::form::Form;
 use crate::shape::Shape;
 use crate::steady::Steady;
 
@@ -22,10 +23,12 @@ pub struct Setting {
     pub seed: u64,
     /// Whether samples of more than 16 bits are cut. Else a word that may have some is a fault.
     pub clip: bool,
+    /// How each sample is written.
+    pub form: Form,
 }
 
 impl Setting {
-    /// Each frequency at -7.2 dBm0, nothing disturbed, and nothing added.
+    /// Each frequency at -7.2 dBm0, nothing disturbed, nothing added, and samples of 16 bits.
     pub fn standard() -> Setting
         ensures { result ≡ standard_setting }
     {
@@ -37,6 +40,7 @@ impl Setting {
             noise_peak: 0,
             seed: 0,
             clip: false,
+            form: Form::Linear,
         }
     }
 }

@@ -1,3 +1,4 @@
 pub mod AskedKeys
 pub mod NoisyKeys
+pub mod MuLawKeys
 pub mod Unset

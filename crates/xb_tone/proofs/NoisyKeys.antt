@@ -1,9 +1,8 @@
 -- Keys with noise are near the sound of marks.
-use Rattle.std.proofs.Common.{◌≡◌, ◌∙◌, ℕ, zero, suc, ◌+◌, ◌-◌, ◌*◌, ◌%◌, ◌<◌, ◌≤◌, ◌⊎◌, inl, inr, Bool, true, false, List, [], ◌∷◌, ◌++◌, map, cond, leb, refl, sym, ap, subst, arith, ℤ, pos, negsuc, ◌+ℤ◌, ◌-ℤ◌, unsigned_abs}
+use Rattle.std.proofs.Common.{◌≡◌, ◌∙◌, ℕ, zero, suc, ◌+◌, ◌-◌, ◌*◌, ◌<◌, ◌≤◌, ◌⊎◌, inl, inr, Bool, true, false, List, [], ◌∷◌, ◌++◌, map, cond, leb, refl, sym, ap, subst, arith, ℤ, pos, negsuc, ◌+ℤ◌, ◌-ℤ◌, unsigned_abs}
 use Rattle.std.specs.List.{AllByRecursion, range_with_len}
 use Rattle.std.proofs.lemmas.Bool.{leb-false, leb-true}
 use Rattle.std.proofs.lemmas.Int.{ints}
-use Rattle.std.proofs.lemmas.Nat.{mod_below}
 use Rattle.xb_model.specs.declared.key.Key.{Key as PageKey}
 use Rattle.xb_model.specs.declared.mark.Mark.TheVariants.{Trunk}
 use Rattle.xb_model.specs.Keyings.{tone}
@@ -19,7 +18,8 @@ use Rattle.xb_signal.specs.declared.shape.Shape.{Shape}
 use Rattle.xb_signal.specs.declared.steady.Steady.{Steady}
 use Rattle.xb_signal.specs.Moments.{moment_after, start}
 use Rattle.xb_signal.specs.Steadies.{steady_sample}
-use Rattle.xb_signal.specs.Noises.{noise, state_after, word_of}
+use Rattle.xb_chance.specs.Swings.{swing}
+use Rattle.xb_chance.proofs.Swings.{swing_is_small}
 use Rattle.xb_signal.specs.Segments.{segment_sound, signal_from}
 use Rattle.xb_signal.specs.Settings.{standard_setting}
 use Rattle.xb_signal.specs.OneSample.{clean_sample, cut, quiet_sample, sample_at}
@@ -27,12 +27,6 @@ use Rattle.xb_signal.specs.Shapes.{keyed_sample}
 use Rattle.xb_signal.specs.Waves.{mixed}
 use Rattle.xb_signal.proofs.HeardNames.{keys_sound_as_marks}
 use Rattle.xb_tone.specs.NoisyKeys.{IsQuiet, NoisyKeysAreHeard, keyed}
-
-noise-small : (peak state n : ℕ) → unsigned_abs (noise peak state n) ≤ peak
-noise-small peak state n =
-    let word : ℕ = word_of (state_after state (n + 1)) in
-    let below : word % (2 * peak + 1) < 2 * peak + 1 = mod_below word (2 * peak + 1) (omega arith) in
-    omega (arith, ints, below)
 
 -- a sample has 16 bits and is as it is, or it is over the greatest, or under the least
 abbrev IsIn : ℤ → ℤ → Type 0
@@ -130,10 +124,10 @@ near-sample : (setting : Setting) → IsQuiet setting → (from to : Moment) (so
 near-sample setting quiet from to sound n =
     let plain = sample_at standard_setting from sound n in
     let peak : ℕ = setting.noise_peak in
-    subst (λ (sample : ℤ). unsigned_abs (cut (sample +ℤ noise peak to.noise n) -ℤ plain) ≤ peak)
+    subst (λ (sample : ℤ). unsigned_abs (cut (sample +ℤ swing peak to.noise n) -ℤ plain) ≤ peak)
     (sym (quiet-same setting quiet from to sound n))
-    (noisy-sample peak (quiet_sample standard_setting from sound n) (noise peak to.noise n) (noise 0 from.noise n)
-    (noise-small peak to.noise n) (noise-small 0 from.noise n))
+    (noisy-sample peak (quiet_sample standard_setting from sound n) (swing peak to.noise n) (swing 0 from.noise n)
+    (swing_is_small peak to.noise n) (swing_is_small 0 from.noise n))
 
 -- a signal with noise is near the one without, whatever the states of the two are
 near-signal : (setting : Setting) → IsQuiet setting → (from to : Moment) (segments : List Segment)
@@ -155,7 +149,7 @@ more-near n m less [] (y ∷ ys) near = absurd near
 more-near n m less (x ∷ xs) [] near = absurd near
 more-near n m less (x ∷ xs) (y ∷ ys) near = (omega (arith, near.0), more-near n m less xs ys near.1)
 
-are-keyed : (keys : List PageKey) → AllByRecursion IsKey keys → AreKeyed (map tone keys)
+pub are-keyed : (keys : List PageKey) → AllByRecursion IsKey keys → AreKeyed (map tone keys)
 are-keyed [] all = tt
 are-keyed (key ∷ keys) all = ((all.0, refl), are-keyed keys all.1)
 

@@ -6,3 +6,4 @@ pub mod Rules
 pub mod Sounding
 pub mod Program
 pub mod NoisyKeys
+pub mod MuLawKeys

@@ -5,6 +5,8 @@ use Rattle.clap.specs.Walk.{Row, Text, first_of}
 use Rattle.xb_command.specs.Given.{ReadsFlag, ReadsNumber, given_by}
 use Rattle.xb_contact.specs.Numbers.{number_of}
 use Rattle.xb_text.specs.Pieces.{cut_at}
+use Rattle.xb_signal.specs.declared.form.Form.{Form}
+use Rattle.xb_signal.specs.declared.form.Form.TheVariants.{Linear, MuLaw}
 use Rattle.xb_signal.specs.declared.setting.Setting.{Setting}
 use Rattle.xb_signal.specs.declared.shape.Shape.{Shape}
 use Rattle.xb_signal.specs.declared.steady.Steady.{Steady}
@@ -57,6 +59,7 @@ pub record SayManner (rows : List Row) (manner : Manner) : Type 0 where
   pub noise_peak : ReadsNumber (given_by rows (codes "noise-peak")) manner.noise_peak
   pub seed : ReadsNumber (given_by rows (codes "seed")) manner.seed
   pub clip : ReadsFlag (given_by rows (codes "clip")) manner.clip
+  pub ulaw : ReadsFlag (given_by rows (codes "ulaw")) manner.ulaw
 
 -- the low tone of a key has the level, -7.2 dBm0 unless it is given, and the high one as much more as the twist
 abbrev pub amplitudes_of : Manner → Option (ℕ × ℕ)
@@ -106,6 +109,10 @@ steady_of manner =
       hum = hum;
     }) (said_or manner.hum 0)) (said_or manner.beside no_tone)
 
+-- their samples are written by mu-law where that is asked for
+abbrev pub form_of : Bool → Form
+form_of ulaw = if ulaw then MuLaw else Linear
+
 -- how words of keys are to sound; the noise has a peak of up to 32,767
 abbrev pub setting_of : Manner → Option Setting
 setting_of manner =
@@ -118,6 +125,7 @@ setting_of manner =
       noise_peak = unwrap_or manner.noise_peak 0;
       seed = unwrap_or manner.seed 0;
       clip = manner.clip;
+      form = form_of manner.ulaw;
     }) else None) (steady_of manner)) (shape_of manner)) (amplitudes_of manner)
 
 -- whether they say anything of that
@@ -125,4 +133,4 @@ abbrev pub has_manner : Manner → Bool
 has_manner manner =
     is_given manner.level || is_given manner.twist || is_given manner.detune || is_given manner.skew
     || is_given manner.hole || manner.phase || is_given manner.beside || is_given manner.hum
-    || is_some manner.noise_peak || is_some manner.seed || manner.clip
+    || is_some manner.noise_peak || is_some manner.seed || manner.clip || manner.ulaw

@@ -21,7 +21,7 @@ abbrev pub usage_line : List ℕ
 usage_line =
     codes "mftone: usage: mftone [--line N] [--entry N] [--lead N] [--kp N] [--key N] "
     ++ codes "[--gap N] [--raw] [--keys WORDS] [--level DBM0] [--twist DB] [--detune PERCENT] [--skew MS] "
-    ++ codes "[--hole MS@MS] [--phase] [--with HZ:DBM0] [--hum DBM0] [--noise-peak N] [--seed N] [--clip]\n"
+    ++ codes "[--hole MS@MS] [--phase] [--with HZ:DBM0] [--hum DBM0] [--noise-peak N] [--seed N] [--clip] [--ulaw]\n"
 
 -- it names each option of the command
 abbrev pub UsageNamesEachOption : Type 0

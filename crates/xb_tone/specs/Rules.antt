@@ -28,10 +28,11 @@ options =
     ∷ (codes "noise-peak", takes.Number)
     ∷ (codes "seed", takes.Number)
     ∷ (codes "clip", takes.Nothing)
+    ∷ (codes "ulaw", takes.Nothing)
     ∷ []
 
 -- `mftone [--line N] [--entry N] [--lead N] [--kp N] [--key N] [--gap N] [--raw] [--keys WORDS]
 -- [--level DBM0] [--twist DB] [--detune PERCENT] [--skew MS] [--hole MS@MS] [--phase]
--- [--with HZ:DBM0] [--hum DBM0] [--noise-peak N] [--seed N] [--clip]`
+-- [--with HZ:DBM0] [--hum DBM0] [--noise-peak N] [--seed N] [--clip] [--ulaw]`
 abbrev pub command_of_words : App
 command_of_words = command_of (codes "mftone") options

@@ -15,9 +15,8 @@ use Rattle.xb_sound.specs.Cadences.{IsFirstMisfit, IsLawful}
 use Rattle.xb_sound.specs.Wavs.{pcm_of, wav_length, wav_of}
 use Rattle.xb_sound.specs.declared.cadence.Cadence.{Cadence}
 use Rattle.xb_signal.specs.declared.segment.Segment.{Segment}
-use Rattle.xb_signal.specs.Segments.{file_length}
 use Rattle.xb_signal.specs.Texts.{segments_of_text}
-use Rattle.xb_signal.specs.Writings.{bytes_of as bytes_of_signal}
+use Rattle.xb_signal.specs.Writings.{bytes_of as bytes_of_signal, file_length}
 use Rattle.xb_tone.specs.declared.fault.ToneFault.{ToneFault}
 use Rattle.xb_tone.specs.declared.fault.ToneFault.TheVariants as fault
 use Rattle.xb_tone.specs.declared.request.Choice.{Choice}
@@ -117,7 +116,7 @@ DeliversKeys request text (Err (fault.Keys f)) old new =
     Keeps old new × (segments_of_text request.cadence request.setting text ≡ Err f)
 DeliversKeys request text (Err fault.TooLongSound) old new =
     Keeps old new × ((segments : List Segment) × (segments_of_text request.cadence request.setting text ≡ Ok segments)
-    × (2 ^ 32 ≤ file_length segments))
+    × (2 ^ 32 ≤ file_length request.setting.form segments))
 DeliversKeys request text (Err fault.NoMemory) old new = Keeps old new
 DeliversKeys request text (Err (fault.Cadence f)) old new = Keeps old new
 DeliversKeys request text (Err f) old new = ⊥

@@ -1,4 +1,5 @@
 //! What the definitions give: each law is the contract of a function that does nothing.
+ghost use Rattle.xb_tone.specs.MuLawKeys.{MuLawKeysAreHeard};
 ghost use Rattle.xb_tone.specs.NoisyKeys.{NoOptionsAreStandard, NoisyKeysAreHeard};
 ghost use Rattle.xb_tone.specs.Program.{UsageNamesEachOption};
 
@@ -12,6 +13,12 @@ pub fn usage_names_each_option()
 #[tactic(auto, using(crate::proofs::NoisyKeys::noisy_keys_are_heard))]
 pub fn noisy_keys_are_heard()
     ensures { NoisyKeysAreHeard }
+{}
+
+/// Keys that are written by mu-law, and nothing else of them changed, are heard: just these.
+#[tactic(auto, using(crate::proofs::MuLawKeys::mu_law_keys_are_heard))]
+pub fn mu_law_keys_are_heard()
+    ensures { MuLawKeysAreHeard }
 {}
 
 /// Without an option of it the setting is the standard one.

@@ -6,7 +6,7 @@
 //!   before the page: every result but a fault of the cadence comes only of a lawful one.
 //! - `play_keys`: the same of words of keys (`xb_signal`). `Keys` comes exactly of the first word that is none, or too
 //!   loud, and nothing is read.
-//! - `attend`: `Attends` of this. `laws::usage_names_each_option`.
+//! - `attend`: `Attends` of this. `laws::usage_names_each_option`. `laws::mu_law_keys_are_heard`: keys by mu-law are.
 //!
 //! Not said: how much memory a run takes.
 #![tactic(auto)]

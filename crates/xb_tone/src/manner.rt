@@ -1,13 +1,13 @@
 // How words of keys are to sound, by the options of the command line.
 ghost use Rattle.std.specs.Prelude.{◌≡◌};
 ghost use Rattle.xb_tone.specs.Givens.{figure_of, time_of_key};
-ghost use Rattle.xb_tone.specs.Manners.{SayManner, amplitude_given, beside_of, beside_said, has_manner, high_late, hole_of, hole_said, hz_said, level_said, low_late, pitch_of, setting_of, shape_of, steady_of};
+ghost use Rattle.xb_tone.specs.Manners.{SayManner, amplitude_given, beside_of, beside_said, form_of, has_manner, high_late, hole_of, hole_said, hz_said, level_said, low_late, pitch_of, setting_of, shape_of, steady_of};
 ghost use Rattle.xb_tone.specs.Options.{named};
 
 use crate::given::{Given, given_as, is_given, ms_said, said_or, signed_ms, signed_tenths};
 use xb_command::Words;
 use xb_contact::number_of;
-use xb_signal::{MOST_HZ, Setting, Shape, Steady, amplitude_of};
+use xb_signal::{Form, MOST_HZ, Setting, Shape, Steady, amplitude_of};
 use xb_text::cut_at;
 
 // What the options say of how words of keys sound.
@@ -24,6 +24,7 @@ pub(crate) struct Manner {
     pub(crate) noise_peak: Option<u32>,
     pub(crate) seed: Option<u32>,
     pub(crate) clip: bool,
+    pub(crate) ulaw: bool,
 }
 
 // A hole in each key.
@@ -160,6 +161,7 @@ pub(crate) fn manner_of(words: &Words) -> Manner
         noise_peak: words.number("noise-peak"),
         seed: words.number("seed"),
         clip: words.flag("clip"),
+        ulaw: words.flag("ulaw"),
     }
 }
 
@@ -222,6 +224,13 @@ fn steady_of(manner: Manner) -> Option<Steady>
     })
 }
 
+// How their samples are written: by mu-law where that is asked for.
+fn form_of(ulaw: bool) -> Form
+    ensures { result ≡ form_of ulaw }
+{
+    if ulaw { Form::MuLaw } else { Form::Linear }
+}
+
 // How words of keys are to sound; `None` where an option has not its form, or a figure is out of its range.
 pub(crate) fn setting_of(manner: Manner) -> Option<Setting>
     ensures { result ≡ setting_of manner }
@@ -244,6 +253,7 @@ pub(crate) fn setting_of(manner: Manner) -> Option<Setting>
         noise_peak: noise_peak as u16,
         seed: u64::from(manner.seed.unwrap_or(0)),
         clip: manner.clip,
+        form: form_of(manner.ulaw),
     })
 }
 
@@ -262,4 +272,5 @@ pub(crate) fn has_manner(manner: Manner) -> bool
         || manner.noise_peak.is_some()
         || manner.seed.is_some()
         || manner.clip
+        || manner.ulaw
 }

@@ -15,7 +15,7 @@ pub(crate) const PROGRAM: &str = "mftone";
 // The line of refused words.
 const USAGE: &[u8] = b"mftone: usage: mftone [--line N] [--entry N] [--lead N] [--kp N] [--key N] \
 [--gap N] [--raw] [--keys WORDS] [--level DBM0] [--twist DB] [--detune PERCENT] [--skew MS] \
-[--hole MS@MS] [--phase] [--with HZ:DBM0] [--hum DBM0] [--noise-peak N] [--seed N] [--clip]\n";
+[--hole MS@MS] [--phase] [--with HZ:DBM0] [--hum DBM0] [--noise-peak N] [--seed N] [--clip] [--ulaw]\n";
 
 /// Reads the words of the command line, the program's name first, and by them writes the sound of a page's
 /// calls, as `play` does, or of words of keys, as `play_keys` does, and then the page is not read. It returns the

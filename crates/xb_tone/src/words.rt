@@ -24,7 +24,7 @@ pub(crate) struct Options {
 }
 
 // The options of the program, each under its name.
-const OPTIONS: [(&str, Takes); 19] = [
+const OPTIONS: [(&str, Takes); 20] = [
     ("line", Takes::Number),
     ("entry", Takes::Number),
     ("lead", Takes::Number),
@@ -44,6 +44,7 @@ const OPTIONS: [(&str, Takes); 19] = [
     ("noise-peak", Takes::Number),
     ("seed", Takes::Number),
     ("clip", Takes::Nothing),
+    ("ulaw", Takes::Nothing),
 ];
 
 // What the words say.

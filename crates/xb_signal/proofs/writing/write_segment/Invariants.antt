@@ -9,7 +9,7 @@ invariant-loop-from g l = record {
   within : l.from ≤ l.samples;
   written :
       Appends (g.W.Write.contents l.initial.out) (g.W.Write.contents l.out)
-      (bytes_from (sample_at l.setting l.moment l.segment.sound) 0 l.from);
+      (bytes_from l.setting.form (sample_at l.setting l.moment l.segment.sound) 0 l.from);
 }
 
 abbrev pub decreases-loop-from : goal.decreases-loop-from

@@ -3,10 +3,10 @@ use Rattle.std.proofs.KnownBytes.{Appends-nil, Appends-trans}
 use Rattle.std.specs.Io.KnownBytes.{Appends}
 use Rattle.std.proofs.lemmas.List.{take_all}
 use Rattle.xb_text.specs.Writing.{AppendsBeginning}
-use Rattle.xb_sound.specs.Wavs.{pcm_of}
 use Rattle.xb_sound.proofs.Beginnings.{beginning-after, beginning-more, whole-begins}
 use Rattle.xb_signal.specs.declared.moment.Moment.{Moment}
 use Rattle.xb_signal.specs.declared.segment.Segment.{Segment}
+use Rattle.xb_signal.specs.Forms.{samples_coded}
 use Rattle.xb_signal.specs.Moments.{moment_after, start}
 use Rattle.xb_signal.specs.Segments.{segment_sound, signal_from, signal_of}
 use Rattle.xb_signal.proofs.Parts.{signal-next, signal-parts, moment-taken, moment_before}
@@ -25,8 +25,8 @@ loop-segment-preserved g c =
     let mid = g.W.Write.contents c.loop-segment.out in
     let new = g.W.Write.contents c.write_segment.new.out in
     let before : Moment = moment_before (start setting.seed) (take i segments) in
-    let part : Appends mid new (pcm_of (segment_sound setting before segment)) =
-    subst (λ (moment : Moment). Appends mid new (pcm_of (segment_sound setting moment segment))) c.loop-segment.invariant.moment
+    let part : Appends mid new (samples_coded setting.form (segment_sound setting before segment)) =
+    subst (λ (moment : Moment). Appends mid new (samples_coded setting.form (segment_sound setting moment segment))) c.loop-segment.invariant.moment
     c.in_ok-write_segment.ensures.whole in
     record {
       moment =
@@ -37,8 +37,8 @@ loop-segment-preserved g c =
       written =
           subst (λ (bytes : List ℕ). Appends old new bytes)
           (sym (signal-next setting (start setting.seed) segments i segment c.loop-segment-test.true c.segment-item.is))
-          (Appends-trans old mid new (pcm_of (signal_of setting (take i segments)))
-          (pcm_of (segment_sound setting before segment)) c.loop-segment.invariant.written part);
+          (Appends-trans old mid new (samples_coded setting.form (signal_of setting (take i segments)))
+          (samples_coded setting.form (segment_sound setting before segment)) c.loop-segment.invariant.written part);
     }
 
 pub returns-in_err-write_segment-clause-beginning : goal.returns-in_err-write_segment-clause-beginning
@@ -51,14 +51,14 @@ returns-in_err-write_segment-clause-beginning g c =
     let mid = g.W.Write.contents c.loop-segment.out in
     let new = g.W.Write.contents c.write_segment.new.out in
     let before : Moment = moment_before (start setting.seed) (take i segments) in
-    let rest = pcm_of (signal_from setting (moment_after before (segment.ms * 8)) (drop (suc i) segments)) in
-    let part = pcm_of (segment_sound setting before segment) in
+    let rest = samples_coded setting.form (signal_from setting (moment_after before (segment.ms * 8)) (drop (suc i) segments)) in
+    let part = samples_coded setting.form (segment_sound setting before segment) in
     let begun : AppendsBeginning mid new part =
-    subst (λ (moment : Moment). AppendsBeginning mid new (pcm_of (segment_sound setting moment segment)))
+    subst (λ (moment : Moment). AppendsBeginning mid new (samples_coded setting.form (segment_sound setting moment segment)))
     c.loop-segment.invariant.moment c.write_segment.ensures.beginning in
     subst (λ bytes. AppendsBeginning old new bytes)
     (sym (signal-parts setting (start setting.seed) segments i segment c.loop-segment-test.true c.segment-item.is))
-    (beginning-after old mid new (pcm_of (signal_of setting (take i segments))) (part ++ rest)
+    (beginning-after old mid new (samples_coded setting.form (signal_of setting (take i segments))) (part ++ rest)
     c.loop-segment.invariant.written (beginning-more mid new part rest begun))
 
 pub returns-clause-beginning : goal.returns-clause-beginning
@@ -68,7 +68,7 @@ returns-clause-beginning g c =
     let old = g.W.Write.contents c.args.out.now in
     let new = g.W.Write.contents c.loop-segment.out in
     let past : length segments ≤ c.loop-segment.segment-index = omega arith in
-    subst (λ (all : List Segment). AppendsBeginning old new (pcm_of (signal_of setting all)))
+    subst (λ (all : List Segment). AppendsBeginning old new (samples_coded setting.form (signal_of setting all)))
     (take_all c.loop-segment.segment-index segments past)
-    (whole-begins old new (pcm_of (signal_of setting (take c.loop-segment.segment-index segments)))
+    (whole-begins old new (samples_coded setting.form (signal_of setting (take c.loop-segment.segment-index segments)))
     c.loop-segment.invariant.written)

@@ -2,60 +2,51 @@ use Rattle.std.proofs.Common.{◌∙◌, ℕ, List, subst}
 use Rattle.std.proofs.KnownBytes.{Appends-trans}
 use Rattle.std.specs.Io.KnownBytes.{Appends}
 use Rattle.xb_text.specs.Writing.{AppendsBeginning}
-use Rattle.xb_sound.specs.Wavs.{pcm_of}
 use Rattle.xb_sound.proofs.Beginnings.{beginning-after, beginning-more}
+use Rattle.xb_signal.specs.Forms.{samples_coded}
 use Rattle.xb_signal.specs.Segments.{signal_of}
 use Rattle.xb_signal.specs.Writings.{head_before}
-use Rattle.xb_signal.proofs.Parts.{whole-bytes}
 use Rattle.xb_signal.proofs.writing.write_signal.Goals as goal
 
 pub returns-in_err-write_whole-clause-beginning : goal.returns-in_err-write_whole-clause-beginning
 returns-in_err-write_whole-clause-beginning g c =
     let old = g.W.Write.contents c.args.out.now in
     let mid = g.W.Write.contents c.write_whole.new.out in
-    let head = head_before c.args.raw c.args.segments.now in
-    let rest = pcm_of (signal_of c.args.setting.now c.args.segments.now) in
-    subst (λ (bytes : List ℕ). AppendsBeginning old mid bytes)
-    (whole-bytes c.args.setting.now c.args.raw c.args.segments.now)
-    (beginning-more old mid head rest
+    let head = head_before c.args.setting.now.form c.args.raw c.args.segments.now in
+    let rest = samples_coded c.args.setting.now.form (signal_of c.args.setting.now c.args.segments.now) in
+    beginning-more old mid head rest
     (subst (λ (bytes : List ℕ). AppendsBeginning old mid bytes) (c.deref.ensures.value ∙ c.in_ok-head.ensures.head)
-    c.write_whole.ensures.beginning))
+    c.write_whole.ensures.beginning)
 
 pub returns-in_err-write_segments-clause-beginning : goal.returns-in_err-write_segments-clause-beginning
 returns-in_err-write_segments-clause-beginning g c =
     let old = g.W.Write.contents c.args.out.now in
     let mid = g.W.Write.contents c.write_whole.new.out in
     let new = g.W.Write.contents c.write_segments.new.out in
-    let head = head_before c.args.raw c.args.segments.now in
-    let rest = pcm_of (signal_of c.args.setting.now c.args.segments.now) in
-    subst (λ (bytes : List ℕ). AppendsBeginning old new bytes)
-    (whole-bytes c.args.setting.now c.args.raw c.args.segments.now)
-    (beginning-after old mid new head rest
+    let head = head_before c.args.setting.now.form c.args.raw c.args.segments.now in
+    let rest = samples_coded c.args.setting.now.form (signal_of c.args.setting.now c.args.segments.now) in
+    beginning-after old mid new head rest
     (subst (λ (bytes : List ℕ). Appends old mid bytes) (c.deref.ensures.value ∙ c.in_ok-head.ensures.head)
-    c.in_ok-write_whole.ensures.whole) c.write_segments.ensures.beginning)
+    c.in_ok-write_whole.ensures.whole) c.write_segments.ensures.beginning
 
 pub returns-clause-whole : goal.returns-clause-whole
 returns-clause-whole g c =
     let old = g.W.Write.contents c.args.out.now in
     let mid = g.W.Write.contents c.write_whole.new.out in
     let new = g.W.Write.contents c.write_segments.new.out in
-    let head = head_before c.args.raw c.args.segments.now in
-    let rest = pcm_of (signal_of c.args.setting.now c.args.segments.now) in
-    subst (λ (bytes : List ℕ). Appends old new bytes)
-    (whole-bytes c.args.setting.now c.args.raw c.args.segments.now)
-    (Appends-trans old mid new head rest
+    let head = head_before c.args.setting.now.form c.args.raw c.args.segments.now in
+    let rest = samples_coded c.args.setting.now.form (signal_of c.args.setting.now c.args.segments.now) in
+    Appends-trans old mid new head rest
     (subst (λ (bytes : List ℕ). Appends old mid bytes) (c.deref.ensures.value ∙ c.in_ok-head.ensures.head)
-    c.in_ok-write_whole.ensures.whole) c.in_ok-write_segments.ensures.whole)
+    c.in_ok-write_whole.ensures.whole) c.in_ok-write_segments.ensures.whole
 
 pub returns-clause-beginning : goal.returns-clause-beginning
 returns-clause-beginning g c =
     let old = g.W.Write.contents c.args.out.now in
     let mid = g.W.Write.contents c.write_whole.new.out in
     let new = g.W.Write.contents c.write_segments.new.out in
-    let head = head_before c.args.raw c.args.segments.now in
-    let rest = pcm_of (signal_of c.args.setting.now c.args.segments.now) in
-    subst (λ (bytes : List ℕ). AppendsBeginning old new bytes)
-    (whole-bytes c.args.setting.now c.args.raw c.args.segments.now)
-    (beginning-after old mid new head rest
+    let head = head_before c.args.setting.now.form c.args.raw c.args.segments.now in
+    let rest = samples_coded c.args.setting.now.form (signal_of c.args.setting.now c.args.segments.now) in
+    beginning-after old mid new head rest
     (subst (λ (bytes : List ℕ). Appends old mid bytes) (c.deref.ensures.value ∙ c.in_ok-head.ensures.head)
-    c.in_ok-write_whole.ensures.whole) c.write_segments.ensures.beginning)
+    c.in_ok-write_whole.ensures.whole) c.write_segments.ensures.beginning

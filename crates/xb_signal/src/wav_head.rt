@@ -1,0 +1,89 @@
+// The head of the WAV file of a signal.
+ghost use Rattle.std.specs.Prelude.{◌≡◌, ◌++◌, ◌<◌, ◌+◌, ◌*◌, ◌^◌, OnOk};
+ghost use Rattle.xb_sound.specs.Wavs.{four_bytes, two_bytes};
+ghost use Rattle.xb_signal.specs.Forms.{fact_chunk, head_bytes, head_of_form, mu_law_format, mu_law_head, mu_law_width, sample_bytes};
+
+use crate::form::Form;
+use std::alloc::AllocError;
+use xb_sound::{SAMPLES_PER_SECOND, push_header};
+
+// The number of the format mu-law.
+const MU_LAW: u16 = 7;
+
+// How many channels there are.
+const CHANNELS: u16 = 1;
+
+// How many bytes a sample of mu-law has, and how many bits.
+const SAMPLE_BYTES: u16 = 1;
+
+const SAMPLE_BITS: u16 = 8;
+
+// Puts a number of two bytes after the bytes, the low one first.
+fn push_short(out: &mut Vec<u8>, number: u16) -> Result<(), AllocError>
+    ensures { OnOk result (out.new.items ≡ out.old.items ++ two_bytes number) }
+{
+    out.extend_from_slice(&number.to_le_bytes())
+}
+
+// Puts a number of four bytes after the bytes, the low one first.
+fn push_long(out: &mut Vec<u8>, number: u32) -> Result<(), AllocError>
+    ensures { OnOk result (out.new.items ≡ out.old.items ++ four_bytes number) }
+{
+    out.extend_from_slice(&number.to_le_bytes())
+}
+
+// Puts the width of a sample after the bytes: its bytes and bits, and how many bytes come after them, which are none.
+fn push_width(out: &mut Vec<u8>) -> Result<(), AllocError>
+    ensures { OnOk result (out.new.items ≡ out.old.items ++ mu_law_width) }
+{
+    push_short(out, SAMPLE_BYTES)?;
+    push_short(out, SAMPLE_BITS)?;
+    push_short(out, 0)
+}
+
+// Puts the chunk that tells the format after the bytes.
+fn push_format(out: &mut Vec<u8>) -> Result<(), AllocError>
+    ensures { OnOk result (out.new.items ≡ out.old.items ++ mu_law_format) }
+{
+    out.extend_from_slice(b"fmt ")?;
+    push_long(out, 18)?;
+    push_short(out, MU_LAW)?;
+    push_short(out, CHANNELS)?;
+    push_long(out, SAMPLES_PER_SECOND)?;
+    push_long(out, SAMPLES_PER_SECOND)?;
+    push_width(out)
+}
+
+// Puts the chunk that tells how many samples there are after the bytes.
+fn push_fact(out: &mut Vec<u8>, samples: u32) -> Result<(), AllocError>
+    ensures { OnOk result (out.new.items ≡ out.old.items ++ fact_chunk samples) }
+{
+    out.extend_from_slice(b"fact")?;
+    push_long(out, 4)?;
+    push_long(out, samples)
+}
+
+// Puts the head of a WAV file of so many samples of mu-law after the bytes.
+fn push_mu_law_head(out: &mut Vec<u8>, samples: u32) -> Result<(), AllocError>
+    requires { samples + 58 < 2 ^ 32 }
+    ensures { OnOk result (out.new.items ≡ out.old.items ++ mu_law_head samples) }
+{
+    out.extend_from_slice(b"RIFF")?;
+    push_long(out, samples + 50)?;
+    out.extend_from_slice(b"WAVE")?;
+    push_format(out)?;
+    push_fact(out, samples)?;
+    out.extend_from_slice(b"data")?;
+    push_long(out, samples)
+}
+
+// Puts the head of a WAV file of so many samples after the bytes. `Err` says that memory ran out.
+pub(crate) fn push_head(out: &mut Vec<u8>, form: Form, samples: u32) -> Result<(), AllocError>
+    requires { sample_bytes form * samples + head_bytes form < 2 ^ 32 }
+    ensures { OnOk result (out.new.items ≡ out.old.items ++ head_of_form form samples) }
+{
+    match form {
+        Form::Linear => push_header(out, samples * 2),
+        Form::MuLaw => push_mu_law_head(out, samples),
+    }
+}
