@@ -1,7 +1,7 @@
 """Dials with their answers: 400 lists of calls, what mfdial sends of each, and what a register must make of them.
 
 What is sent and what is to be heard are both worked out here, by the definitions in docs/DEFINITIONS.md and by no
-program: `rows_of_case` sends, and `outcomes` is a register. So mfdial has to send these very bytes, and mfhear to hear
+program: a `Dial` sends, and `outcomes` is a register. So mfdial has to send these very bytes, and mfhear to hear
 these very numbers. See scripts/sweep.
 """
 import hashlib
@@ -407,6 +407,8 @@ def cases():
 def make(folder, mfdial):
     """Writes what mfdial sends of each case, and adds the cases to the manifest."""
     os.makedirs(folder, exist_ok=True)
+    if any(it.startswith("dial") for it in os.listdir(folder)):
+        sys.exit(f"sweep: {folder} has dials")
     counts = dict.fromkeys((MUST, MAY, MUST_NOT), 0)
     with open(os.path.join(folder, "manifest.jsonl"), "a") as manifest:
         for n, case in enumerate(cases(), 1):
