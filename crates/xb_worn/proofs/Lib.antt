@@ -8,3 +8,4 @@ pub mod WornOrders
 pub mod UnwornCalls
 pub mod SpoiledCalls
 pub mod ChangedDigits
+pub mod OtherCalls

@@ -52,3 +52,9 @@ digit_fault place (fault ∷ faults) = or_later (fault_of_digit place fault) (di
 abbrev pub preliminary_of : ℕ → List Fault → Option ℕ
 preliminary_of number [] = None
 preliminary_of number (fault ∷ faults) = or_later (fault_of_call number fault) (preliminary_of number faults)
+
+-- a fault stands in the call of this number
+abbrev pub stands_in : ℕ → Fault → Bool
+stands_in number (Pulse at kind) = at.place.call == number
+stands_in number (Digit at kind) = at.call == number
+stands_in number (Preliminary call ms) = call == number

@@ -1,5 +1,5 @@
 -- Calls as a worn dial with faults sends them.
-use Rattle.std.specs.Prelude.{ℕ, zero, suc, ◌+◌, List, [], ◌∷◌, ◌++◌, Option, Some, None}
+use Rattle.std.specs.Prelude.{◌≡◌, ℕ, zero, suc, ◌+◌, List, [], ◌∷◌, ◌++◌, Option, Some, None}
 use Rattle.xb_calls.specs.Calls.{DialledCall}
 use Rattle.xb_calls.specs.Dialling.{pulse_count}
 use Rattle.xb_chance.specs.Words.{state_after, word_of}
@@ -72,6 +72,12 @@ abbrev pub sent_pulses : Wear → List Fault → ℕ → ℕ → List ℕ → Li
 sent_pulses wear faults number state digits =
     preliminary (preliminary_of number faults) wear.speed.pause_ms
     ++ sent_digits wear faults number state 1 digits
+
+-- with some faults the call of this number is sent as with all
+abbrev pub SendsAsWith : ℕ → List Fault → List Fault → Type 0
+SendsAsWith number all some =
+    (wear : Wear) (state : ℕ) (digits : List ℕ)
+    → sent_pulses wear some number state digits ≡ sent_pulses wear all number state digits
 
 -- the call of a number
 abbrev pub call_sent : Wear → List Fault → ℕ → ℕ → DialledCall → SentCall

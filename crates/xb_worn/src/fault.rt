@@ -1,6 +1,8 @@
 // Faults of a dial, each at one place of the calls.
 ghost use Rattle.std.specs.Prelude.{◌≡◌};
-ghost use Rattle.xb_worn.specs.Faults.{digit_fault, fault_of_call, fault_of_digit, fault_of_pulse, preliminary_of, pulse_fault};
+ghost use Rattle.std.specs.List.{list_any};
+ghost use Rattle.xb_worn.specs.Faults.{digit_fault, fault_of_call, fault_of_digit, fault_of_pulse, preliminary_of, pulse_fault, stands_in};
+ghost use Rattle.xb_worn.specs.Sending.{SendsAsWith};
 
 /// A digit of the calls. Calls count from 1 in their order, and digits from 1 in the call.
 #[derive(Clone, Copy, Debug, PartialEq, Eq)]
@@ -119,4 +121,34 @@ pub(crate) fn preliminary_of(number: usize, faults: &[Fault]) -> Option<u32>
         }
     }
     None
+}
+
+// Whether a fault stands in the call of this number.
+fn stands_in(number: usize, fault: Fault) -> bool
+    ensures { result ≡ stands_in number fault }
+{
+    match fault {
+        Fault::Pulse(at, _kind) => at.place.call == number,
+        Fault::Digit(at, _kind) => at.call == number,
+        Fault::Preliminary(call, _ms) => call == number,
+    }
+}
+
+// Whether one of some faults stands in the call of this number.
+fn touch(number: usize, faults: &[Fault]) -> bool
+    ensures { result ≡ list_any (stands_in number) faults.now }
+{
+    for fault in faults {
+        if stands_in(number, *fault) {
+            return true;
+        }
+    }
+    false
+}
+
+/// The faults to be looked at in the call of this number: all, or none where none stands in it.
+pub(crate) fn faults_in(number: usize, faults: &[Fault]) -> &[Fault]
+    ensures { SendsAsWith number faults.now result.now }
+{
+    if touch(number, faults) { faults } else { &[] }
 }

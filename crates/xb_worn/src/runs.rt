@@ -1,6 +1,5 @@
 // The rows of one line: what is sent, as makes and breaks.
-ghost use Rattle.std.specs.Prelude.{◌≡◌, ◌≤◌, ◌++◌, ◌∷◌, [], true, false, OnOk, IfErr};
-ghost use Rattle.xb_model.specs.Records.{break, make};
+ghost use Rattle.std.specs.Prelude.{◌≡◌, ◌++◌, ◌∷◌, [], true, OnOk, IfErr};
 ghost use Rattle.xb_model.specs.Rows.{row_of};
 ghost use Rattle.xb_model.specs.declared.row.Contact.TheVariants.{Make, Brk};
 ghost use Rattle.xb_calls.specs.Dialling.{on_line};

@@ -1,11 +1,11 @@
 // The pulses of a call as they are sent.
-ghost use Rattle.std.specs.Prelude.{◌≡◌, ◌++◌, ◌≤◌, IfOk, OnOk, length};
-ghost use Rattle.xb_model.specs.declared.signal.TheConstants.{MOST_PULSES};
+ghost use Rattle.std.specs.Prelude.{◌≡◌, ◌++◌, IfOk, OnOk};
 ghost use Rattle.xb_calls.specs.Dialling.{pulse_count};
 ghost use Rattle.xb_worn.specs.Sending.{ended, flash_after, pause_after, preliminary, pulses_from, sent_digit, sent_digits, sent_pulses, with_fault};
 
 use crate::fault::{
-    DigitFault, DigitPlace, Fault, PulseFault, PulsePlace, digit_fault, preliminary_of, pulse_fault,
+    DigitFault, DigitPlace, Fault, PulseFault, PulsePlace, digit_fault, faults_in, preliminary_of,
+    pulse_fault,
 };
 use crate::pulse::SentPulse;
 use crate::wear::Wear;
@@ -175,20 +175,13 @@ pub(crate) fn pulses_of_call(
     ensures { let made = sent_pulses wear.now faults.now number state call.now.digits in
         IfOk result (λ pulses. pulses.items ≡ made) }
 {
+    let own = faults_in(number, faults);
     let mut pulses = Vec::new(alloc);
     push_preliminary(
         &mut pulses,
-        preliminary_of(number, faults),
+        preliminary_of(number, own),
         wear.speed.pause_ms,
     )?;
-    push_digits(
-        alloc,
-        &mut pulses,
-        wear,
-        faults,
-        number,
-        state,
-        call.digits(),
-    )?;
+    push_digits(alloc, &mut pulses, wear, own, number, state, call.digits())?;
     Ok(pulses)
 }
