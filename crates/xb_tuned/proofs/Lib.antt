@@ -1,0 +1,17 @@
+pub mod Rings
+pub mod Sums
+pub mod Inner
+pub mod Triangles
+pub mod Tones
+pub mod Dots
+pub mod Loud
+pub mod Caps
+pub mod Tests
+pub mod Beside
+pub mod Known
+pub mod Bounds
+pub mod Leaks
+pub mod Leaks7
+pub mod Stretches
+pub mod Measured
+pub mod Told

@@ -1,0 +1,4 @@
+//! laws
+#![tactic(auto)]
+
+pub mod laws;
