@@ -1,12 +1,12 @@
 -- A tone beside another: the level that is told of it.
-use Rattle.std.proofs.Common.{◌≡◌, ◌∙◌, ℕ, zero, suc, ◌+◌, ◌-◌, ◌*◌, ◌/◌, ◌^◌, ◌<◌, ◌≤◌, Bool, true, ◌&&◌, sym, ap, ap₂, subst, arith, refl, inl, inr, ℤ, pos, ◌+ℤ◌, ◌*ℤ◌, unsigned_abs}
-use Rattle.std.specs.Prelude.{nat_le, nat_lt}
+use Rattle.std.proofs.Common.{◌≡◌, ◌∙◌, ℕ, ◌+◌, ◌-◌, ◌*◌, ◌/◌, ◌^◌, ◌<◌, ◌≤◌, true, sym, ap₂, subst, arith, inl, inr, ℤ, ◌+ℤ◌}
 use Rattle.std.proofs.Math.Nat.{div-mul-le_self, mul-le-mul_left, mul-le-mul_right, pow-le-pow_left, pow-le-pow_right}
-use Rattle.std.proofs.lemmas.Bool.{cases_lt, leb-true, ltb-true}
+use Rattle.std.proofs.lemmas.Bool.{cases_lt, leb-true}
 use Rattle.std.proofs.lemmas.Nat.{le-div, mul-le}
+use Rattle.xb_ear.proofs.Standing.{and-both}
 use Rattle.xb_tuned.proofs.Inner.{inner, inner-agrees, inner-sum, length²}
 use Rattle.xb_tuned.proofs.Loud.{IsWave, given, given-most, loud, loud-small, loud-turns}
-use Rattle.xb_tuned.proofs.Tests.{both, bounds_test, held, held-is, is_below, is_reached, least_of, least_side, most_of, most_test, own_test, side_test}
+use Rattle.xb_tuned.proofs.Tests.{held, held-is, least_of, least_side, most_of, most_test, own_test, side_test}
 use Rattle.xb_tuned.proofs.Tones.{cosine, from, own-least, tone}
 use Rattle.xb_tuned.proofs.Triangles.{third-side, third-side-least}
 
@@ -32,12 +32,12 @@ level_at f m z = given f m z / 160000000000
 module _ (f n x a cap m : ℕ) (z y : ℕ → ℤ) (wave : IsWave f n) (enough : 724 ≤ a) (few : x ≤ 426000)
     (own : own_test f n x a cap ≡ true) (is : (k : ℕ) → z k ≡ loud a f k +ℤ y k) (little : given f m y ≤ x * x) where
   tests : (most_test n x a cap (held (loud a f) (loud a f)) ≡ true) × (side_test a (held (loud a f) (tone f)) ≡ true)
-  tests = both _ _ own
+  tests = and-both _ _ own
 
   most : given f m z ≤ most_of n x a (held (loud a f) (loud a f))
   most =
       let q : ℕ = held (loud a f) (loud a f) in
-      let within : n * q ≤ 400000 * (a + 1) * (400000 * (a + 1)) = leb-true _ _ (both _ _ tests.0).0 in
+      let within : n * q ≤ 400000 * (a + 1) * (400000 * (a + 1)) = leb-true _ _ (and-both _ _ tests.0).0 in
       let own-most : given f m (loud a f) ≤ n * q =
       subst (λ (e : ℕ). given f m (loud a f) ≤ n * e) (held-is (loud a f) (loud a f))
       (given-most f n m (loud a f) wave (loud-turns a f)) in
@@ -47,7 +47,7 @@ module _ (f n x a cap m : ℕ) (z y : ℕ → ℤ) (wave : IsWave f n) (enough :
 
   pub level-most : level_at f m z ≤ cap
   level-most =
-      let below : most_of n x a (held (loud a f) (loud a f)) / 160000000000 ≤ cap = leb-true _ _ (both _ _ tests.0).1 in
+      let below : most_of n x a (held (loud a f) (loud a f)) / 160000000000 ≤ cap = leb-true _ _ (and-both _ _ tests.0).1 in
       let less = quotients (given f m z) (most_of n x a (held (loud a f) (loud a f))) 160000000000 (omega arith) most in
       omega (arith, below, less)
 

@@ -4,7 +4,8 @@ use lib.IntN.{*ℤ_comm, pos-*ℤ-negsuc, pos-*ℤ-pos}
 use Rattle.std.proofs.lemmas.Bool.{cases_lt}
 use Rattle.std.proofs.lemmas.Int.{ints}
 use Rattle.std.proofs.lemmas.Nat.{mul-le}
-use Rattle.xb_tuned.proofs.Rings.{distributes, distributes-right, neg-times, nothing-times, regroup, square-is, swap}
+use Rattle.xb_ear.proofs.Voltages.{distributes, square-is}
+use Rattle.xb_tuned.proofs.Rings.{neg-times, nothing-times, regroup}
 use Rattle.xb_tuned.proofs.Sums.{sum, sum-agrees, sum-both, sum-times}
 
 abbrev pub inner : (ℕ → ℤ) → (ℕ → ℤ) → ℤ

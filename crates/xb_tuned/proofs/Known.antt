@@ -1,12 +1,12 @@
 -- What is computed of each frequency at each level.
-use Rattle.std.proofs.Common.{◌≡◌, ℕ, ◌+◌, ◌*◌, ◌≤◌, Bool, true, ◌&&◌, List, arith, refl}
+use Rattle.std.proofs.Common.{◌≡◌, ℕ, ◌≤◌, Bool, true, arith, refl}
 use Rattle.std.specs.List.{list_all, range_with_len}
 use Rattle.xb_signal.specs.Levels.{amplitudes, table_at}
 use Rattle.xb_sound.specs.Sines.{sine_table}
 use Rattle.xb_tuned.proofs.Caps.{cap_at, caps}
 use Rattle.xb_tuned.proofs.Loud.{IsWave}
 use Rattle.xb_tuned.proofs.Sums.{sum}
-use Rattle.xb_tuned.proofs.Tests.{bounds_test, own_test, rest_test}
+use Rattle.xb_tuned.proofs.Tests.{own_test, rest_test}
 
 -- the levels of -30.0 to 0.0 dBm0, by their places in the table
 abbrev pub all_levels : (ℕ → Bool) → Bool

@@ -1,12 +1,12 @@
 -- A tone at an amplitude: each of its samples is that of the table, scaled and rounded.
-use Rattle.std.proofs.Common.{◌≡◌, ◌∙◌, ℕ, zero, suc, ◌+◌, ◌*◌, ◌/◌, ◌%◌, ◌<◌, ◌≤◌, sym, ap, arith, refl, ℤ, pos, negsuc, ◌+ℤ◌, ◌-ℤ◌, ◌*ℤ◌, neg_ℤ, unsigned_abs}
+use Rattle.std.proofs.Common.{◌≡◌, ◌∙◌, ℕ, suc, ◌+◌, ◌*◌, ◌/◌, ◌%◌, ◌<◌, ◌≤◌, sym, ap, arith, refl, ℤ, pos, negsuc, ◌+ℤ◌, ◌-ℤ◌, ◌*ℤ◌, neg_ℤ, unsigned_abs}
 use Rattle.std.proofs.lemmas.Int.{ints, unsigned_abs-mul}
-use Rattle.std.proofs.lemmas.Nat.{div-add-mod', mod_below, mul-le}
+use Rattle.std.proofs.lemmas.Nat.{div-add-mod', mul-le}
 use Rattle.xb_sound.proofs.SineTables.{sine_at-small}
 use Rattle.xb_signal.specs.Waves.{scaled}
 use Rattle.xb_tuned.proofs.Inner.{bessel, inner, inner-agrees, inner-square, inner-sum, inner-times, length²}
-use Rattle.xb_tuned.proofs.Tones.{cosine, cosine-turns, from, inner-from, tone, tone-turns}
-use Rattle.xb_tuned.proofs.Triangles.{root-le, third-side}
+use Rattle.xb_tuned.proofs.Tones.{cosine, from, inner-from, tone, tone-turns}
+use Rattle.xb_tuned.proofs.Triangles.{third-side}
 
 abbrev pub loud : ℕ → ℕ → ℕ → ℤ
 loud a h n = scaled a (tone h n)

@@ -1,38 +1,27 @@
 -- What is told of a tone at an amplitude beside another.
-use Rattle.std.proofs.Common.{◌≡◌, ◌∙◌, ℕ, zero, suc, ◌+◌, ◌-◌, ◌*◌, ◌/◌, ◌%◌, ◌^◌, ◌<◌, ◌≤◌, Bool, true, false, ◌&&◌, cond, List, [], ◌∷◌, map, Some, None, Option, sym, ap, ap₂, subst, arith, refl, ℤ, pos, negsuc, neg_ℤ, ◌+ℤ◌, ◌-ℤ◌, unsigned_abs}
-use Rattle.std.specs.Prelude.{nat_le, nat_lt, ◌≤ℤ◌}
+use Rattle.std.proofs.Common.{◌≡◌, ◌∙◌, ℕ, ◌+◌, ◌-◌, ◌*◌, ◌/◌, ◌%◌, ◌^◌, ◌<◌, ◌≤◌, true, map, sym, ap, ap₂, subst, arith, refl, ℤ, ◌+ℤ◌}
 use Rattle.std.specs.List.{range_with_len}
-use Rattle.std.proofs.Math.Nat.{div-mul-le_self, mul-div_cancel}
+use Rattle.std.proofs.Math.Nat.{div-mul-le_self}
 use Rattle.std.proofs.lemmas.Bool.{leb-true, ltb-true}
-use Rattle.std.proofs.lemmas.Int.{ints}
 use Rattle.std.proofs.lemmas.Nat.{div-add-mod', le-div, mod_below, mul-le}
-use Rattle.xb_model.specs.declared.key.Tone.{Tone as Pair}
-use Rattle.xb_model.specs.MfPairs.{pair}
 use Rattle.xb_sound.specs.Sines.{sine_at}
 use Rattle.xb_measured.specs.declared.heard.MeasuredTone.{MeasuredTone}
 use Rattle.xb_measured.specs.Levels.{tenths_of}
 use Rattle.xb_measured.specs.Tones.{tone_of}
 use Rattle.xb_measured.proofs.Nearest.{tenths_are_nearest}
-use Rattle.xb_signal.specs.declared.segment.Sound.TheVariants.{Keyed}
-use Rattle.xb_signal.specs.declared.setting.Setting.{Setting}
-use Rattle.xb_signal.specs.Levels.{amplitude_at, amplitude_of, table_at}
-use Rattle.xb_signal.specs.OneSample.{clean_sample}
-use Rattle.xb_signal.specs.SignalLaws.{IsPlain}
-use Rattle.xb_signal.specs.Waves.{scaled, wave_sample}
-use Rattle.xb_signal.proofs.PlainKeys.{plain_keys_are_written}
-use Rattle.xb_signal.proofs.Sines.{waves_are_sines}
-use Rattle.xb_tuned.specs.Tuned.{IsAsked, IsTold, KeyIsTold, KeysAreTold, stretch_from, told}
+use Rattle.xb_signal.specs.Levels.{table_at}
+use Rattle.xb_signal.specs.Waves.{scaled}
 use Rattle.xb_sound.proofs.SineTables.{holds_below}
+use Rattle.xb_ear.proofs.Standing.{and-both}
 use Rattle.xb_tuned.proofs.Beside.{between, level-least, level-most, level_at, one-nearest}
 use Rattle.xb_tuned.proofs.Bounds.{bounds}
 use Rattle.xb_tuned.proofs.Caps.{cap_at}
 use Rattle.xb_tuned.proofs.Inner.{inner, inner-agrees, length²}
-use Rattle.xb_tuned.proofs.Known.{IsKnown, known7, known9, known11, known13, known15, known17}
-use Rattle.xb_tuned.proofs.Leaks.{GivesLittle, leak7-9, leak7-11, leak7-13, leak7-15, leak9-7, leak9-11, leak9-13, leak9-15, leak9-17, leak11-7, leak11-9, leak11-13, leak11-15, leak11-17, leak13-7, leak13-9, leak13-11, leak13-15, leak13-17, leak15-7, leak15-9, leak15-11, leak15-13, leak15-17, leak17-9, leak17-11, leak17-13, leak17-15}
-use Rattle.xb_tuned.proofs.Leaks7.{leak7-17, leak17-7}
+use Rattle.xb_tuned.proofs.Known.{IsKnown}
+use Rattle.xb_tuned.proofs.Leaks.{GivesLittle}
 use Rattle.xb_tuned.proofs.Loud.{given, loud, loud-turns}
-use Rattle.xb_tuned.proofs.Stretches.{made, tone-told}
-use Rattle.xb_tuned.proofs.Tests.{both, bounds_test, is_below, is_reached, least_of, least_side, own_test}
+use Rattle.xb_tuned.proofs.Stretches.{tone-told}
+use Rattle.xb_tuned.proofs.Tests.{bounds_test, is_below, is_reached, least_of, least_side, own_test}
 use Rattle.xb_tuned.proofs.Tones.{cosine, from, place-turns, tone}
 
 -- a tone from a later period on
@@ -87,7 +76,7 @@ module _ (f g n x i j : ℕ) (known : IsKnown f n x) (little : GivesLittle g f x
       is (k + 80) ∙ ap₂ (λ (p q : ℤ). p +ℤ q) (loud-turns a f k) (loud-turns (table_at j) g k) ∙ sym (is k)
 
   enough : 724 ≤ a
-  enough = leb-true _ _ (both _ _ (both _ _ bounds-are).0).1
+  enough = leb-true _ _ (and-both _ _ (and-both _ _ bounds-are).0).1
 
   most : level_at f m z ≤ cap_at i
   most =
@@ -114,8 +103,8 @@ module _ (f g n x i j : ℕ) (known : IsKnown f n x) (little : GivesLittle g f x
 
   pub measured : IsMeasured (f * 100) i (tone_of (f * 100) (map z (range_with_len m 200)))
   measured =
-      let tests = both _ _ bounds-are in
-      let parts = both _ _ (both _ _ tests.0).0 in
+      let tests = and-both _ _ bounds-are in
+      let parts = and-both _ _ (and-both _ _ tests.0).0 in
       let small : cap_at i < 10 ^ 13 = ltb-true _ _ tests.1 in
       let tenths = nearest (level_at f m z) (least_of a / 160000000000) (cap_at i) (i + 472) least most some-level
       (omega (arith, most, small)) parts.1 parts.0 in

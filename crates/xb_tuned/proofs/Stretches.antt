@@ -1,5 +1,5 @@
 -- The tone of 200 samples that come again after 80.
-use Rattle.std.proofs.Common.{◌≡◌, ◌∙◌, ℕ, zero, suc, ◌+◌, ◌*◌, ◌/◌, ◌%◌, ◌^◌, ◌<◌, ◌≤◌, Bool, true, false, ◌&&◌, eqb, List, [], ◌∷◌, ◌++◌, drop, take, length, map, reverse, sym, ap, ap₂, subst, arith, refl, ℤ, pos, negsuc, ◌+ℤ◌, ◌-ℤ◌, ◌*ℤ◌, ◌<ℤ◌, unsigned_abs}
+use Rattle.std.proofs.Common.{◌≡◌, ◌∙◌, ℕ, zero, suc, ◌+◌, ◌*◌, ◌/◌, ◌%◌, ◌^◌, ◌<◌, ◌≤◌, Bool, true, false, ◌&&◌, List, [], ◌∷◌, ◌++◌, drop, take, length, map, reverse, sym, ap, ap₂, arith, refl, ℤ, pos, ◌+ℤ◌, ◌-ℤ◌, ◌*ℤ◌, unsigned_abs}
 use lib.IntN.{*ℤ_comm}
 use Rattle.std.specs.Prelude.{nat_le, slice_index_or}
 use Rattle.std.specs.List.{range_with_len}
@@ -9,18 +9,19 @@ use Rattle.std.proofs.lemmas.Bool.{false≢true, leb-true}
 use Rattle.std.proofs.lemmas.Int.{ints, unsigned_abs-mul}
 use Rattle.std.proofs.lemmas.List.FromFn.{take-map-range_with_len}
 use Rattle.xb_sound.specs.Sines.{sine_at}
+use Rattle.xb_ear.proofs.Standing.{and-both}
+use Rattle.xb_ear.proofs.Voltages.{distributes, distributes-right, square-is}
 use Rattle.xb_measured.specs.declared.heard.MeasuredTone.{MeasuredTone}
 use Rattle.xb_measured.specs.Levels.{count_up_to}
-use Rattle.xb_measured.specs.Tones.{across, along, gains, hz_with, level_of, off_of, tangents, tone_by, tone_of, tone_with}
-use Rattle.xb_measured.specs.Waves.{rising, sums_of, wave, weighed, weights}
+use Rattle.xb_measured.specs.Tones.{gains, hz_with, level_of, off_of, tangents, tone_by, tone_of}
+use Rattle.xb_measured.specs.Waves.{rising, wave, weighed, weights}
 use Rattle.xb_measured.proofs.ToneSteps.{off-is}
 use Rattle.xb_tuned.proofs.Beside.{level_at}
 use Rattle.xb_tuned.proofs.Dots.{dropped}
 use Rattle.xb_tuned.proofs.Inner.{inner, length²}
 use Rattle.xb_tuned.proofs.Loud.{given}
-use Rattle.xb_tuned.proofs.Rings.{distributes, distributes-right, nothing-times, regroup, square-is}
-use Rattle.xb_tuned.proofs.Sums.{sum, sum-agrees, sum-turn}
-use Rattle.xb_tuned.proofs.Tests.{both}
+use Rattle.xb_tuned.proofs.Rings.{nothing-times, regroup}
+use Rattle.xb_tuned.proofs.Sums.{sum, sum-turn}
 use Rattle.xb_tuned.proofs.Tones.{cosine, cosine-turns, from, tone, tone-turns}
 
 -- products, each with a weight
@@ -78,8 +79,8 @@ halves p [] [] n even long = refl
 halves p [] (b ∷ vs) n even long = absurd (omega (arith, long))
 halves p (a ∷ us) [] n even long = absurd (false≢true even)
 halves p (a ∷ us) (b ∷ vs) n even long =
-    let tests = both _ _ even in
-    let bounds = both _ _ tests.0 in
+    let tests = and-both _ _ even in
+    let bounds = and-both _ _ tests.0 in
     let most : a + b ≤ 2000 = leb-true _ _ bounds.0 in
     let least : 2000 ≤ a + b = leb-true _ _ bounds.1 in
     let all : pos a +ℤ pos b ≡ pos 2000 = omega (arith, ints, most, least) in

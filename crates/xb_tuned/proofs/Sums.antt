@@ -1,7 +1,8 @@
 -- Sums over numbers in a row.
 use Rattle.std.proofs.Common.{◌≡◌, ◌∙◌, ℕ, zero, suc, ◌+◌, ◌*◌, ◌≤◌, sym, ap, arith, refl, ℤ, pos, ◌+ℤ◌, ◌*ℤ◌, unsigned_abs}
 use Rattle.std.proofs.lemmas.Int.{ints}
-use Rattle.xb_tuned.proofs.Rings.{distributes-right, nothing-times}
+use Rattle.xb_ear.proofs.Voltages.{distributes-right}
+use Rattle.xb_tuned.proofs.Rings.{nothing-times}
 
 -- so many numbers, from one on
 unfoldable pub sum : (ℕ → ℤ) → ℕ → ℕ → ℤ

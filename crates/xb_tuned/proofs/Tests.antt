@@ -1,16 +1,12 @@
 -- What is computed of each frequency and of each level.
-use Rattle.std.proofs.Common.{◌≡◌, ◌∙◌, ℕ, zero, suc, ◌+◌, ◌-◌, ◌*◌, ◌/◌, ◌%◌, ◌^◌, ◌<◌, ◌≤◌, Bool, true, false, ◌&&◌, List, [], ◌∷◌, drop, map, sym, ap, ap₂, subst, arith, refl, ℤ, pos, ◌+ℤ◌, ◌*ℤ◌, unsigned_abs}
+use Rattle.std.proofs.Common.{◌≡◌, ◌∙◌, ℕ, ◌+◌, ◌-◌, ◌*◌, ◌/◌, ◌^◌, ◌<◌, ◌≤◌, Bool, true, ◌&&◌, List, drop, map, sym, ap, ap₂, subst, arith, ℤ, unsigned_abs}
 use Rattle.std.specs.Prelude.{nat_le, nat_lt}
 use Rattle.std.specs.List.{list_all, range_with_len}
-use Rattle.std.proofs.lemmas.Bool.{false≢true, leb-true}
+use Rattle.std.proofs.lemmas.Bool.{leb-true}
 use Rattle.xb_tuned.proofs.Dots.{dot, dropped, inner-dot, inner-plain}
 use Rattle.xb_tuned.proofs.Inner.{inner, length²}
 use Rattle.xb_tuned.proofs.Loud.{given, loud, rest}
-use Rattle.xb_tuned.proofs.Tones.{cosine, from, tone}
-
-pub both : (b c : Bool) → (b && c) ≡ true → (b ≡ true) × (c ≡ true)
-both true c e = (refl, e)
-both false c e = absurd (false≢true e)
+use Rattle.xb_tuned.proofs.Tones.{cosine, tone}
 
 -- 80 samples of a wave
 abbrev pub period : (ℕ → ℤ) → List ℤ

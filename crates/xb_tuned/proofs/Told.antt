@@ -1,31 +1,28 @@
 -- The level and the twist that are told are those that were asked for.
-use Rattle.std.proofs.Common.{◌≡◌, ◌∙◌, ℕ, zero, suc, ◌+◌, ◌*◌, ◌/◌, ◌%◌, ◌<◌, ◌≤◌, Bool, true, false, cond, List, [], ◌∷◌, map, Some, None, Option, sym, ap, ap₂, subst, arith, refl, ℤ, pos, negsuc, neg_ℤ, ◌+ℤ◌, ◌-ℤ◌, unsigned_abs}
+use Rattle.std.proofs.Common.{◌≡◌, ◌∙◌, ℕ, ◌+◌, ◌*◌, ◌/◌, ◌%◌, ◌≤◌, Bool, true, false, cond, List, map, Some, None, sym, ap, ap₂, arith, refl, ℤ, pos, negsuc, neg_ℤ, ◌+ℤ◌, ◌-ℤ◌}
 use Rattle.std.specs.Prelude.{nat_le, ◌≤ℤ◌}
 use Rattle.std.specs.List.{range_with_len}
 use Rattle.std.proofs.Math.Nat.{mul-div_cancel}
 use Rattle.std.proofs.lemmas.Bool.{leb-true}
 use Rattle.std.proofs.lemmas.Int.{ints}
-use Rattle.xb_model.specs.declared.key.Tone.{Tone as Pair}
 use Rattle.xb_model.specs.MfPairs.{pair}
 use Rattle.xb_sound.specs.Sines.{sine_at}
-use Rattle.xb_measured.specs.declared.heard.MeasuredTone.{MeasuredTone}
 use Rattle.xb_measured.specs.Levels.{tenths_of}
 use Rattle.xb_measured.specs.Tones.{tone_of}
 use Rattle.xb_signal.specs.declared.segment.Sound.TheVariants.{Keyed}
 use Rattle.xb_signal.specs.declared.setting.Setting.{Setting}
-use Rattle.xb_signal.specs.Levels.{amplitude_at, amplitude_of, is_in_table, table_at}
+use Rattle.xb_signal.specs.Levels.{amplitude_at, table_at}
 use Rattle.xb_signal.specs.OneSample.{clean_sample}
 use Rattle.xb_signal.specs.SignalLaws.{IsPlain}
 use Rattle.xb_signal.specs.Waves.{scaled, wave_sample}
 use Rattle.xb_signal.proofs.PlainKeys.{plain_keys_are_written}
 use Rattle.xb_signal.proofs.Sines.{waves_are_sines}
-use Rattle.xb_tuned.specs.Tuned.{IsAsked, IsTold, KeyIsTold, KeysAreTold, stretch_from, told}
+use Rattle.xb_tuned.specs.Tuned.{KeyIsTold, KeysAreTold, told}
 use Rattle.xb_tuned.proofs.Known.{IsKnown, known7, known9, known11, known13, known15, known17}
 use Rattle.xb_tuned.proofs.Leaks.{GivesLittle, leak7-9, leak7-11, leak7-13, leak7-15, leak9-7, leak9-11, leak9-13, leak9-15, leak9-17, leak11-7, leak11-9, leak11-13, leak11-15, leak11-17, leak13-7, leak13-9, leak13-11, leak13-15, leak13-17, leak15-7, leak15-9, leak15-11, leak15-13, leak15-17, leak17-9, leak17-11, leak17-13, leak17-15}
 use Rattle.xb_tuned.proofs.Leaks7.{leak7-17, leak17-7}
 use Rattle.xb_tuned.proofs.Loud.{loud}
-use Rattle.xb_tuned.proofs.Measured.{IsMeasured, measured}
-use Rattle.xb_tuned.proofs.Tones.{tone}
+use Rattle.xb_tuned.proofs.Measured.{measured}
 
 -- the place in the table of a level that was asked for
 record IsPlaced (level : ℤ) (amplitude place : ℕ) : Type 0 where

@@ -1,14 +1,14 @@
 -- The tones of multiples of 100 Hz by the table of sines: each comes again after 80 samples.
-use Rattle.std.proofs.Common.{◌≡◌, ◌∙◌, ℕ, zero, suc, ◌+◌, ◌*◌, ◌/◌, ◌%◌, ◌^◌, ◌<◌, ◌≤◌, sym, ap, arith, refl, ℤ, pos, ◌+ℤ◌, ◌-ℤ◌, ◌*ℤ◌, neg_ℤ, unsigned_abs}
-use lib.IntN.{*ℤ_comm, pos-*ℤ-pos}
+use Rattle.std.proofs.Common.{◌≡◌, ◌∙◌, ℕ, ◌+◌, ◌*◌, ◌/◌, ◌%◌, ◌<◌, ◌≤◌, sym, ap, arith, refl, ℤ, pos, ◌+ℤ◌, ◌-ℤ◌, ◌*ℤ◌, unsigned_abs}
+use lib.IntN.{*ℤ_comm}
 use Rattle.std.proofs.lemmas.Int.{ints, unsigned_abs-mul}
 use Rattle.std.proofs.lemmas.Nat.{div-add-mod', mod-mul-add, mod_below, mul-le}
 use Rattle.xb_sound.specs.SineLaws.{cosine_at}
 use Rattle.xb_sound.specs.Sines.{sine_at}
-use Rattle.xb_sound.proofs.SineTables.{sine_at-small, table_is_a_sine}
+use Rattle.xb_sound.proofs.SineTables.{table_is_a_sine}
+use Rattle.xb_ear.proofs.Voltages.{square-is}
 use Rattle.xb_tuned.proofs.Inner.{inner, inner-agrees, inner-sum, inner-times, inner-turns, length²}
-use Rattle.xb_tuned.proofs.Rings.{distributes-right, square-is, swap}
-use Rattle.xb_tuned.proofs.Sums.{sum, sum-agrees, sum-both, sum-later, sum-small, sum-times, sum-turn}
+use Rattle.xb_tuned.proofs.Sums.{sum, sum-later, sum-small, sum-turn}
 use Rattle.xb_tuned.proofs.Triangles.{side-along}
 
 -- sample n of a frequency, in hundreds of Hz, and of its cosine

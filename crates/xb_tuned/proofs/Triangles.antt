@@ -1,25 +1,10 @@
 -- The sides of triangles.
-use Rattle.std.proofs.Common.{◌≡◌, ◌∙◌, ℕ, zero, suc, ◌+◌, ◌-◌, ◌*◌, ◌<◌, ◌≤◌, sym, ap, subst, arith, refl, inl, inr, ℤ, pos, ◌+ℤ◌, ◌*ℤ◌, neg_ℤ, unsigned_abs}
+use Rattle.std.proofs.Common.{◌≡◌, ℕ, ◌+◌, ◌*◌, ◌<◌, ◌≤◌, ap, arith, inl, inr, ℤ, ◌+ℤ◌, ◌*ℤ◌, neg_ℤ, unsigned_abs}
 use Rattle.std.proofs.lemmas.Bool.{cases_lt}
 use Rattle.std.proofs.lemmas.Int.{ints, unsigned_abs-mul}
 use Rattle.std.proofs.lemmas.Nat.{mul-le}
+use Rattle.xb_ear.proofs.Mixed.{two-squares}
 use Rattle.xb_tuned.proofs.Inner.{length²}
-
--- twice a product is no more than two squares
-two-squares : (x y : ℕ) → 2 * (x * y) ≤ x * x + y * y
-two-squares x y = elim (cases_lt x y) [
-  | inl less ↦ apart x y (y - x) (omega (arith, less))
-  | inr more ↦
-      let turned : 2 * (y * x) ≤ y * y + x * x = apart y x (x - y) (omega (arith, more)) in
-      let same : x * y ≡ y * x = omega arith in
-      omega (arith, turned, same)
-]
-  where
-    plain : (x k : ℕ) → 2 * (x * (x + k)) ≤ x * x + (x + k) * (x + k)
-    plain x k = omega arith
-
-    apart : (x y k : ℕ) → y ≡ x + k → 2 * (x * y) ≤ x * x + y * y
-    apart x y k is = subst (λ (z : ℕ). 2 * (x * z) ≤ x * x + z * z) (sym is) (plain x k)
 
 cauchy : (a b c d : ℕ) → (a * c + b * d) * (a * c + b * d) ≤ (a * a + b * b) * (c * c + d * d)
 cauchy a b c d =
