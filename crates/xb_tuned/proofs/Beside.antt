@@ -19,10 +19,12 @@ quotients x y k some less =
 -- what samples give that are those of two waves together
 given-both : (f m : ℕ) (z x y : ℕ → ℤ) → ((n : ℕ) → z n ≡ x n +ℤ y n)
     → given f m z
-    ≡ length² (inner (from m x) (cosine f) +ℤ inner (from m y) (cosine f)) (inner (from m x) (tone f) +ℤ inner (from m y) (tone f))
+    ≡ length² (inner (from m x) (cosine f) +ℤ inner (from m y) (cosine f))
+    (inner (from m x) (tone f) +ℤ inner (from m y) (tone f))
 given-both f m z x y is =
     let with : (w : ℕ → ℤ) → inner (from m z) w ≡ inner (from m x) w +ℤ inner (from m y) w =
-    λ w. inner-agrees (from m z) (λ n. x (m + n) +ℤ y (m + n)) w (λ n. is (m + n)) ∙ inner-sum (from m x) (from m y) w in
+    λ w. inner-agrees (from m z) (λ n. x (m + n) +ℤ y (m + n)) w (λ n. is (m + n))
+    ∙ inner-sum (from m x) (from m y) w in
     ap₂ length² (with (cosine f)) (with (tone f))
 
 -- the level that is told of a frequency
@@ -42,12 +44,13 @@ module _ (f n x a cap m : ℕ) (z y : ℕ → ℤ) (wave : IsWave f n) (enough :
       subst (λ (e : ℕ). given f m (loud a f) ≤ n * e) (held-is (loud a f) (loud a f))
       (given-most f n m (loud a f) wave (loud-turns a f)) in
       subst (λ (e : ℕ). e ≤ most_of n x a q) (sym (given-both f m z (loud a f) y is))
-      (third-side (inner (from m (loud a f)) (cosine f)) (inner (from m (loud a f)) (tone f)) (inner (from m y) (cosine f))
-      (inner (from m y) (tone f)) (n * q) (400000 * (a + 1)) x own-most within little)
+      (third-side (inner (from m (loud a f)) (cosine f)) (inner (from m (loud a f)) (tone f))
+      (inner (from m y) (cosine f)) (inner (from m y) (tone f)) (n * q) (400000 * (a + 1)) x own-most within little)
 
   pub level-most : level_at f m z ≤ cap
   level-most =
-      let below : most_of n x a (held (loud a f) (loud a f)) / 160000000000 ≤ cap = leb-true _ _ (and-both _ _ tests.0).1 in
+      let below : most_of n x a (held (loud a f) (loud a f)) / 160000000000 ≤ cap =
+      leb-true _ _ (and-both _ _ tests.0).1 in
       let less = quotients (given f m z) (most_of n x a (held (loud a f) (loud a f))) 160000000000 (omega arith) most in
       omega (arith, below, less)
 

@@ -58,8 +58,8 @@ sooner g f n known rests table i m least most small =
 of15 : (g : ℕ) → list_all (rest_at g) (range_with_len 100 301) ≡ true → gives_little (tone g) 15 (37000 * 37000) ≡ true
     → GivesLittle g 15 300000
 of15 g rests table i m least most small =
-    by-table g 15 4000081820 300000 37000 22909 301 known15 rests table amplitudes-within (omega arith) (omega arith) i m
-    least (omega (arith, most)) small
+    by-table g 15 4000081820 300000 37000 22909 301 known15 rests table amplitudes-within (omega arith) (omega arith) i
+    m least (omega (arith, most)) small
 
 table7-9 : gives_little (tone 7) 9 (92000 * 92000) ≡ true
 unfolding sine_table

@@ -27,7 +27,8 @@ by-amplitude : (g f start count : ℕ) → are_loud g f start count ≡ true
 by-amplitude g f start count tested i m least most small =
     little (loud (table_at i) g) f (426000 * 426000) m
     (holds_below
-    (is_little (map (loud (table_at i) g) (range_with_len 0 160)) (period (cosine f)) (period (tone f)) (426000 * 426000))
+    (is_little (map (loud (table_at i) g) (range_with_len 0 160)) (period (cosine f)) (period (tone f))
+    (426000 * 426000))
     80 0 (holds_below (loud_at g f) count start tested i least most) m (omega arith) (omega (arith, small))) small
 
 -- up to -4.7 dBm0 by the table, and above as it is computed

@@ -104,7 +104,8 @@ leaks f n g b t h x m wave little few within =
     let first : pos 10000 *ℤ inner (from m (loud b g)) (cosine f) ≡ pos b *ℤ p +ℤ q = loud-parts b g m (cosine f) in
     let second : pos 10000 *ℤ inner (from m (loud b g)) (tone f) ≡ pos b *ℤ r +ℤ s = loud-parts b g m (tone f) in
     let size = size-times 10000 (inner (from m (loud b g)) (cosine f)) (inner (from m (loud b g)) (tone f)) in
-    let same : length² (pos 10000 *ℤ inner (from m (loud b g)) (cosine f)) (pos 10000 *ℤ inner (from m (loud b g)) (tone f))
+    let same : length² (pos 10000 *ℤ inner (from m (loud b g)) (cosine f))
+    (pos 10000 *ℤ inner (from m (loud b g)) (tone f))
     ≡ length² (pos b *ℤ p +ℤ q) (pos b *ℤ r +ℤ s) =
     ap (λ (z : ℤ). length² z (pos 10000 *ℤ inner (from m (loud b g)) (tone f))) first
     ∙ ap (λ (z : ℤ). length² (pos b *ℤ p +ℤ q) z) second in

@@ -49,7 +49,8 @@ from-any g f x little i m least most =
 nearest : (level low high t : ℕ) → low ≤ level → level ≤ high → 0 < level → level < 10 ^ 13 → is_reached low t ≡ true
     → is_below high t ≡ true → tenths_of level ≡ t
 nearest level low high t above below some small reached bounded =
-    let found = between (32767 ^ 2000) (10 ^ 9039) low level high t above below (leb-true _ _ reached) (ltb-true _ _ bounded) in
+    let found = between (32767 ^ 2000) (10 ^ 9039) low level high t above below (leb-true _ _ reached)
+    (ltb-true _ _ bounded) in
     let near = tenths_are_nearest level some small in
     one-nearest (32767 ^ 2000) (level ^ 1000 * 10 ^ 9039) (tenths_of level) t near.least near.below found.0 found.1
 

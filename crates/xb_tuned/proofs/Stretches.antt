@@ -36,7 +36,8 @@ weighed-is w x d n [] k long = refl
 weighed-is w x d n (a ∷ later) zero long = absurd (omega (arith, long))
 weighed-is w x d n (a ∷ later) (suc k) long =
     let next : d + n + 1 ≡ d + (n + 1) = omega arith in
-    ap (λ (z : ℤ). z +ℤ weighed w (n + 1) later (map x (range_with_len (d + n + 1) k))) (regroup (pos a) (x (d + n)) (w n))
+    ap (λ (z : ℤ). z +ℤ weighed w (n + 1) later (map x (range_with_len (d + n + 1) k)))
+    (regroup (pos a) (x (d + n)) (w n))
     ∙ ap (λ (m : ℕ). pos a *ℤ (x (d + n) *ℤ w n) +ℤ weighed w (n + 1) later (map x (range_with_len m k))) next
     ∙ ap (λ (z : ℤ). pos a *ℤ (x (d + n) *ℤ w n) +ℤ z) (weighed-is w x d (n + 1) later k (omega (arith, long)))
 

@@ -38,7 +38,8 @@ square-is u f m below =
     ap (λ (xs : List ℤ). square xs (period (cosine f)) (period (tone f))) row
     ∙ sym (ap₂ length² (inner-dot u (cosine f) m n enough) (inner-dot u (tone f) m n enough))
 
-pub little : (u : ℕ → ℤ) (f most m : ℕ) → is_little (map u (range_with_len 0 160)) (period (cosine f)) (period (tone f)) most m ≡ true
+pub little : (u : ℕ → ℤ) (f most m : ℕ)
+    → is_little (map u (range_with_len 0 160)) (period (cosine f)) (period (tone f)) most m ≡ true
     → m < 80 → given f m u ≤ most
 little u f most m is below =
     subst (λ (n : ℕ). n ≤ most) (square-is u f m below) (leb-true _ _ is)

@@ -1,12 +1,13 @@
 -- The level and the twist that are told are those that were asked for.
-use Rattle.std.proofs.Common.{◌≡◌, ◌∙◌, ℕ, ◌+◌, ◌*◌, ◌/◌, ◌%◌, ◌≤◌, Bool, true, false, cond, List, map, Some, None, sym, ap, ap₂, arith, refl, ℤ, pos, negsuc, neg_ℤ, ◌+ℤ◌, ◌-ℤ◌}
+use Rattle.std.proofs.Common.{◌≡◌, ◌∙◌, ℕ, ◌+◌, ◌*◌, ◌/◌, ◌%◌, ◌≤◌, Bool, true, false, cond, List, [], ◌∷◌, map, Some, None, sym, ap, ap₂, arith, refl, ℤ, pos, negsuc, neg_ℤ, ◌+ℤ◌, ◌-ℤ◌}
 use Rattle.std.specs.Prelude.{nat_le, ◌≤ℤ◌}
-use Rattle.std.specs.List.{range_with_len}
+use Rattle.std.specs.List.{AllByRecursion, range_with_len}
 use Rattle.std.proofs.Math.Nat.{mul-div_cancel}
 use Rattle.std.proofs.lemmas.Bool.{leb-true}
 use Rattle.std.proofs.lemmas.Int.{ints}
 use Rattle.xb_model.specs.MfPairs.{pair}
 use Rattle.xb_sound.specs.Sines.{sine_at}
+use Rattle.xb_ear.specs.Pairs.{pairs_among}
 use Rattle.xb_measured.specs.Levels.{tenths_of}
 use Rattle.xb_measured.specs.Tones.{tone_of}
 use Rattle.xb_signal.specs.declared.segment.Sound.TheVariants.{Keyed}
@@ -112,54 +113,32 @@ key-told f g n x k y low high to-low to-high setting state level twist m plain a
       low_hz = of-low.hz_is;
       high_hz = of-high.hz_is;
       level_is = low-level;
-      twist_is = difference (told (tone_of (f * 100) samples)) (told (tone_of (g * 100) samples)) level twist low-level high-level;
+      twist_is = difference (told (tone_of (f * 100) samples)) (told (tone_of (g * 100) samples)) level twist
+          low-level high-level;
     }
 
 -- each pair of the six
 pub keys_are_told : KeysAreTold
-keys_are_told = (
-  key-told 7 9 3999993168 426000 3999993168 426000 known7 known9 leak9-7 leak7-9,
-  (
-    key-told 7 11 3999993168 426000 3999993168 426000 known7 known11 leak11-7 leak7-11,
-    (
-      key-told 9 11 3999993168 426000 3999993168 426000 known9 known11 leak11-9 leak9-11,
-      (
-        key-told 7 13 3999993168 426000 3999993168 426000 known7 known13 leak13-7 leak7-13,
-        (
-          key-told 9 13 3999993168 426000 3999993168 426000 known9 known13 leak13-9 leak9-13,
-          (
-            key-told 11 13 3999993168 426000 3999993168 426000 known11 known13 leak13-11 leak11-13,
-            (
-              key-told 7 15 3999993168 426000 4000081820 300000 known7 known15 leak15-7 leak7-15,
-              (
-                key-told 9 15 3999993168 426000 4000081820 300000 known9 known15 leak15-9 leak9-15,
-                (
-                  key-told 11 15 3999993168 426000 4000081820 300000 known11 known15 leak15-11 leak11-15,
-                  (
-                    key-told 13 15 3999993168 426000 4000081820 300000 known13 known15 leak15-13 leak13-15,
-                    (
-                      key-told 7 17 3999993168 426000 3999993168 426000 known7 known17 leak17-7 leak7-17,
-                      (
-                        key-told 9 17 3999993168 426000 3999993168 426000 known9 known17 leak17-9 leak9-17,
-                        (
-                          key-told 11 17 3999993168 426000 3999993168 426000 known11 known17 leak17-11 leak11-17,
-                          (
-                            key-told 13 17 3999993168 426000 3999993168 426000 known13 known17 leak17-13 leak13-17,
-                            (
-                              key-told 15 17 4000081820 300000 3999993168 426000 known15 known17 leak17-15 leak15-17,
-                              tt,
-                            ),
-                          ),
-                        ),
-                      ),
-                    ),
-                  ),
-                ),
-              ),
-            ),
-          ),
-        ),
-      ),
-    ),
-  ),
-)
+keys_are_told =
+    let told7-9 = key-told _ _ _ _ _ _ known7 known9 leak9-7 leak7-9 in
+    let told7-11 = key-told _ _ _ _ _ _ known7 known11 leak11-7 leak7-11 in
+    let told9-11 = key-told _ _ _ _ _ _ known9 known11 leak11-9 leak9-11 in
+    let told7-13 = key-told _ _ _ _ _ _ known7 known13 leak13-7 leak7-13 in
+    let told9-13 = key-told _ _ _ _ _ _ known9 known13 leak13-9 leak9-13 in
+    let told11-13 = key-told _ _ _ _ _ _ known11 known13 leak13-11 leak11-13 in
+    let told7-15 = key-told _ _ _ _ _ _ known7 known15 leak15-7 leak7-15 in
+    let told9-15 = key-told _ _ _ _ _ _ known9 known15 leak15-9 leak9-15 in
+    let told11-15 = key-told _ _ _ _ _ _ known11 known15 leak15-11 leak11-15 in
+    let told13-15 = key-told _ _ _ _ _ _ known13 known15 leak15-13 leak13-15 in
+    let told7-17 = key-told _ _ _ _ _ _ known7 known17 leak17-7 leak7-17 in
+    let told9-17 = key-told _ _ _ _ _ _ known9 known17 leak17-9 leak9-17 in
+    let told11-17 = key-told _ _ _ _ _ _ known11 known17 leak17-11 leak11-17 in
+    let told13-17 = key-told _ _ _ _ _ _ known13 known17 leak17-13 leak13-17 in
+    let told15-17 = key-told _ _ _ _ _ _ known15 known17 leak17-15 leak15-17 in
+    let from-17 : AllByRecursion KeyIsTold (pairs_among (700 ∷ 900 ∷ 1100 ∷ 1300 ∷ 1500 ∷ []) (1700 ∷ [])) =
+    (told7-17, (told9-17, (told11-17, (told13-17, (told15-17, tt))))) in
+    let from-15 : AllByRecursion KeyIsTold (pairs_among (700 ∷ 900 ∷ 1100 ∷ 1300 ∷ []) (1500 ∷ 1700 ∷ [])) =
+    (told7-15, (told9-15, (told11-15, (told13-15, from-17)))) in
+    let from-13 : AllByRecursion KeyIsTold (pairs_among (700 ∷ 900 ∷ 1100 ∷ []) (1300 ∷ 1500 ∷ 1700 ∷ [])) =
+    (told7-13, (told9-13, (told11-13, from-15))) in
+    (told7-9, (told7-11, (told9-11, from-13)))

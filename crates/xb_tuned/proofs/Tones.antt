@@ -130,7 +130,8 @@ module _ (h a l : ℕ) (x : ℕ → ℤ) (turns : (n : ℕ) → x (n + 80) ≡ x
       one : (n : ℕ) → unsigned_abs (error n *ℤ x (m + n)) ≤ a * 15000
       one n =
           let size = unsigned_abs-mul (error n) (x (m + n)) in
-          let most = mul-le (unsigned_abs (error n)) (unsigned_abs (x (m + n))) 15000 a (tone-adds h m n) (small (m + n)) in
+          let most = mul-le (unsigned_abs (error n)) (unsigned_abs (x (m + n))) 15000 a (tone-adds h m n)
+          (small (m + n)) in
           let same : 15000 * a ≡ a * 15000 = omega arith in
           omega (arith, size, most, same)
 
@@ -146,7 +147,8 @@ module _ (h a l : ℕ) (x : ℕ → ℤ) (turns : (n : ℕ) → x (n + 80) ≡ x
       ≡ inner (from m x) (cosine h) *ℤ tone h m +ℤ inner (from m x) (tone h) *ℤ cosine h m
   along =
       inner-sum (λ n. tone h m *ℤ cosine h n) (λ n. cosine h m *ℤ tone h n) (from m x)
-      ∙ ap (λ (z : ℤ). z +ℤ inner (λ n. cosine h m *ℤ tone h n) (from m x)) (inner-times (tone h m) (cosine h) (from m x)
+      ∙ ap (λ (z : ℤ). z +ℤ inner (λ n. cosine h m *ℤ tone h n) (from m x))
+      (inner-times (tone h m) (cosine h) (from m x)
       ∙ *ℤ_comm (tone h m) (inner (cosine h) (from m x))
       ∙ ap (λ (z : ℤ). z *ℤ tone h m) (inner-turns (cosine h) (from m x)))
       ∙ ap (λ (z : ℤ). inner (from m x) (cosine h) *ℤ tone h m +ℤ z) (inner-times (cosine h m) (tone h) (from m x)
