@@ -15,3 +15,4 @@ pub mod Leaks7
 pub mod Stretches
 pub mod Measured
 pub mod Told
+pub mod Standard

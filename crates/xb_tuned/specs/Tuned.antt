@@ -10,6 +10,7 @@ use Rattle.xb_measured.specs.Tones.{tone_of}
 use Rattle.xb_signal.specs.declared.segment.Sound.TheVariants.{Keyed}
 use Rattle.xb_signal.specs.declared.setting.Setting.{Setting}
 use Rattle.xb_signal.specs.Levels.{amplitude_of}
+use Rattle.xb_signal.specs.Settings.{standard_setting}
 use Rattle.xb_signal.specs.OneSample.{clean_sample}
 use Rattle.xb_signal.specs.SignalLaws.{IsPlain}
 
@@ -45,3 +46,10 @@ KeyIsTold pair = (setting : Setting) (state : ℕ) (level twist : ℤ) (n : ℕ)
 -- of each pair of the six frequencies
 abbrev pub KeysAreTold : Type 0
 KeysAreTold = AllByRecursion KeyIsTold mf_pairs
+
+-- of keys with no option that is -7.2 dBm0, with no twist
+abbrev pub StandardIsTold : Pair → Type 0
+StandardIsTold pair = (state n : ℕ) → IsTold pair (neg_ℤ (pos 72)) (pos 0) (stretch_from standard_setting state pair n)
+
+abbrev pub StandardKeysAreTold : Type 0
+StandardKeysAreTold = AllByRecursion StandardIsTold mf_pairs

@@ -4,6 +4,7 @@
 //! - `laws::keys_are_told`: of each two of the six frequencies, each tone at any level from -30.0 to 0.0 dBm0, any 200
 //!   samples in a row that lie within the key tell both frequencies to the Hz, and to the tenth of a dB the level and
 //!   the twist that `mftone --keys` was asked for. Twist has no other bound than these levels.
+//! - `laws::standard_keys_are_told`: so with no option -7.2 dBm0 and no twist.
 //!
 //! The key is not detuned, both its tones begin with it, and no hole is in it. Its samples are the sum of both tones,
 //! each rounded to whole numbers: with no noise, with nothing else that sounds, and none is cut, as none is in a file
