@@ -5,6 +5,7 @@ pub mod Triangles
 pub mod Tones
 pub mod Dots
 pub mod Loud
+pub mod Halves
 pub mod Caps
 pub mod Tests
 pub mod Beside

@@ -1,49 +1,24 @@
 -- What is told of a tone at an amplitude beside another.
-use Rattle.std.proofs.Common.{◌≡◌, ◌∙◌, ℕ, ◌+◌, ◌-◌, ◌*◌, ◌/◌, ◌%◌, ◌^◌, ◌<◌, ◌≤◌, true, map, sym, ap, ap₂, subst, arith, refl, ℤ, ◌+ℤ◌}
+use Rattle.std.proofs.Common.{◌≡◌, ◌∙◌, ℕ, ◌+◌, ◌-◌, ◌*◌, ◌/◌, ◌^◌, ◌<◌, ◌≤◌, true, map, sym, ap₂, subst, arith, refl, ℤ, ◌+ℤ◌}
 use Rattle.std.specs.List.{range_with_len}
 use Rattle.std.proofs.Math.Nat.{div-mul-le_self}
 use Rattle.std.proofs.lemmas.Bool.{leb-true, ltb-true}
-use Rattle.std.proofs.lemmas.Nat.{div-add-mod', le-div, mod_below, mul-le}
-use Rattle.xb_sound.specs.Sines.{sine_at}
+use Rattle.std.proofs.lemmas.Nat.{le-div, mul-le}
 use Rattle.xb_measured.specs.declared.heard.MeasuredTone.{MeasuredTone}
 use Rattle.xb_measured.specs.Levels.{tenths_of}
 use Rattle.xb_measured.specs.Tones.{tone_of}
 use Rattle.xb_measured.proofs.Nearest.{tenths_are_nearest}
 use Rattle.xb_signal.specs.Levels.{table_at}
-use Rattle.xb_signal.specs.Waves.{scaled}
 use Rattle.xb_sound.proofs.SineTables.{holds_below}
 use Rattle.xb_ear.proofs.Standing.{and-both}
 use Rattle.xb_tuned.proofs.Beside.{between, level-least, level-most, level_at, one-nearest}
 use Rattle.xb_tuned.proofs.Bounds.{bounds}
 use Rattle.xb_tuned.proofs.Caps.{cap_at}
-use Rattle.xb_tuned.proofs.Inner.{inner, inner-agrees, length²}
 use Rattle.xb_tuned.proofs.Known.{IsKnown}
 use Rattle.xb_tuned.proofs.Leaks.{GivesLittle}
 use Rattle.xb_tuned.proofs.Loud.{given, loud, loud-turns}
 use Rattle.xb_tuned.proofs.Stretches.{tone-told}
 use Rattle.xb_tuned.proofs.Tests.{bounds_test, is_below, is_reached, least_of, least_side, own_test}
-use Rattle.xb_tuned.proofs.Tones.{cosine, from, place-turns, tone}
-
--- a tone from a later period on
-tone-from : (h m k : ℕ) → tone h (m + k) ≡ tone h (m % 80 + k)
-tone-from h m k =
-    let r : ℕ = m % 80 in
-    let d : ℕ = m / 80 in
-    let whole : d * 80 + r ≡ m = div-add-mod' m 80 in
-    let same : m + k ≡ r + k + d * 80 = omega (arith, whole) in
-    let later : h * (r + k + d * 80) ≡ h * (r + k) + h * d * 80 = omega arith in
-    ap (λ (p : ℕ). sine_at (h * p % 80)) same
-    ∙ ap (λ (p : ℕ). sine_at (p % 80)) later
-    ∙ ap (λ (p : ℕ). sine_at p) (place-turns (h * (r + k)) (h * d))
-
--- so of a frequency another gives little from any sample on
-from-any : (g f x : ℕ) → GivesLittle g f x → (i m : ℕ) → 100 ≤ i → i ≤ 400 → given f m (loud (table_at i) g) ≤ x * x
-from-any g f x little i m least most =
-    let b : ℕ = table_at i in
-    let same : (w : ℕ → ℤ) → inner (from m (loud b g)) w ≡ inner (from (m % 80) (loud b g)) w =
-    λ w. inner-agrees (from m (loud b g)) (from (m % 80) (loud b g)) w (λ k. ap (scaled b) (tone-from g m k)) in
-    subst (λ (n : ℕ). n ≤ x * x) (sym (ap₂ length² (same (cosine f)) (same (tone f))))
-    (little i (m % 80) least most (mod_below m 80 (omega arith)))
 
 -- a level that is so many tenths
 nearest : (level low high t : ℕ) → low ≤ level → level ≤ high → 0 < level → level < 10 ^ 13 → is_reached low t ≡ true
@@ -82,12 +57,12 @@ module _ (f g n x i j : ℕ) (known : IsKnown f n x) (little : GivesLittle g f x
   most : level_at f m z ≤ cap_at i
   most =
       level-most f n x a (cap_at i) m z (loud (table_at j) g) known.wave enough known.few own is
-      (from-any g f x little j m j-least j-most)
+      (little j m j-least j-most)
 
   least : least_of a / 160000000000 ≤ level_at f m z
   least =
       level-least f n x a (cap_at i) m z (loud (table_at j) g) known.wave enough known.few own is
-      (from-any g f x little j m j-least j-most)
+      (little j m j-least j-most)
 
   some-level : 0 < level_at f m z
   some-level =

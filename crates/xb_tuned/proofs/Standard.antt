@@ -1,5 +1,5 @@
 -- The level and the twist of keys with no option.
-use Rattle.std.proofs.Common.{◌≡◌, List, [], ◌∷◌, Some, arith, refl, pos, neg_ℤ}
+use Rattle.std.proofs.Common.{List, [], ◌∷◌, arith, refl, pos, neg_ℤ}
 use Rattle.std.specs.List.{AllByRecursion}
 use Rattle.std.proofs.lemmas.Int.{ints}
 use Rattle.xb_ear.specs.Pairs.{mf_pairs}

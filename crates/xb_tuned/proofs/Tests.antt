@@ -19,28 +19,28 @@ square xs cs ss = length² (dot xs cs) (dot xs ss)
 abbrev pub is_little : List ℤ → List ℤ → List ℤ → ℕ → ℕ → Bool
 is_little us cs ss most m = nat_le (square (drop m us) cs ss) most
 
--- from each sample of a period on it is no more
+-- from each sample of half a period on it is no more
 abbrev pub are_little : List ℤ → List ℤ → List ℤ → ℕ → Bool
-are_little us cs ss most = list_all (is_little us cs ss most) (range_with_len 0 80)
+are_little us cs ss most = list_all (is_little us cs ss most) (range_with_len 0 40)
 
 abbrev pub gives_little : (ℕ → ℤ) → ℕ → ℕ → Bool
-gives_little u f most = are_little (map u (range_with_len 0 160)) (period (cosine f)) (period (tone f)) most
+gives_little u f most = are_little (map u (range_with_len 0 120)) (period (cosine f)) (period (tone f)) most
 
-square-is : (u : ℕ → ℤ) (f m : ℕ) → m < 80
-    → square (drop m (map u (range_with_len 0 160))) (period (cosine f)) (period (tone f)) ≡ given f m u
+square-is : (u : ℕ → ℤ) (f m : ℕ) → m < 40
+    → square (drop m (map u (range_with_len 0 120))) (period (cosine f)) (period (tone f)) ≡ given f m u
 square-is u f m below =
-    let n : ℕ = 160 - m in
-    let all : 160 ≡ m + n = omega (arith, below) in
+    let n : ℕ = 120 - m in
+    let all : 120 ≡ m + n = omega (arith, below) in
     let start : 0 + m ≡ m = omega arith in
-    let row : drop m (map u (range_with_len 0 160)) ≡ map u (range_with_len m n) =
-    dropped u m 0 n 160 all ∙ ap (λ (k : ℕ). map u (range_with_len k n)) start in
+    let row : drop m (map u (range_with_len 0 120)) ≡ map u (range_with_len m n) =
+    dropped u m 0 n 120 all ∙ ap (λ (k : ℕ). map u (range_with_len k n)) start in
     let enough : 80 ≤ n = omega (arith, below) in
     ap (λ (xs : List ℤ). square xs (period (cosine f)) (period (tone f))) row
     ∙ sym (ap₂ length² (inner-dot u (cosine f) m n enough) (inner-dot u (tone f) m n enough))
 
 pub little : (u : ℕ → ℤ) (f most m : ℕ)
-    → is_little (map u (range_with_len 0 160)) (period (cosine f)) (period (tone f)) most m ≡ true
-    → m < 80 → given f m u ≤ most
+    → is_little (map u (range_with_len 0 120)) (period (cosine f)) (period (tone f)) most m ≡ true
+    → m < 40 → given f m u ≤ most
 little u f most m is below =
     subst (λ (n : ℕ). n ≤ most) (square-is u f m below) (leb-true _ _ is)
 
