@@ -143,34 +143,33 @@ const CASES: &[(&[&str], &[u8], u8, &[u8])] = &[
         1,
         b"mftone: keys: word 2, at byte 11, is too loud for 16 bits\n",
     ),
+];
+
+// Words after the program's name that are refused: the usage is told, and the page is not read.
+const REFUSED: &[&[&str]] = &[
     // a level of each tone is from -40.0 to 0, and a page has none
-    (&["--keys", "KP", "--level=0.1"], PAGE, 2, USAGE),
-    (
-        &["--keys", "KP", "--level=-3", "--twist=3.1"],
-        PAGE,
-        2,
-        USAGE,
-    ),
-    (&["--keys", "KP", "--level=-40.1"], PAGE, 2, USAGE),
-    (&["--keys", "KP", "--twist=+1"], PAGE, 2, USAGE),
-    (&["--keys", "KP", "--noise-peak=32768"], PAGE, 2, USAGE),
-    (&["--keys", "KP", "--detune=50.1"], PAGE, 2, USAGE),
-    (&["--keys", "KP", "--skew=0.5"], PAGE, 2, USAGE),
-    (&["--keys", "KP", "--hole=10"], PAGE, 2, USAGE),
-    (&["--keys", "KP", "--hole=10@10001"], PAGE, 2, USAGE),
-    (&["--keys", "KP", "--with=0:-20"], PAGE, 2, USAGE),
-    (&["--keys", "KP", "--with=300"], PAGE, 2, USAGE),
-    (&["--keys", "KP", "--hum=1"], PAGE, 2, USAGE),
-    (&["--clip"], PAGE, 2, USAGE),
-    (&["--ulaw"], PAGE, 2, USAGE),
-    (&["--line", "7", "--raw", "--ulaw"], PAGE, 2, USAGE),
-    (&["--keys", "KP", "--ulaw=1"], PAGE, 2, USAGE),
-    (&["--keys", "KP", "--line", "7"], PAGE, 2, USAGE),
-    (&["--entry", "1"], PAGE, 2, USAGE),
-    (&["--line", "x"], PAGE, 2, USAGE),
-    (&["--speed", "10"], PAGE, 2, USAGE),
-    (&["--help"], PAGE, 2, USAGE),
-    (&["page.txt"], PAGE, 2, USAGE),
+    &["--keys", "KP", "--level=0.1"],
+    &["--keys", "KP", "--level=-3", "--twist=3.1"],
+    &["--keys", "KP", "--level=-40.1"],
+    &["--keys", "KP", "--twist=+1"],
+    &["--keys", "KP", "--noise-peak=32768"],
+    &["--keys", "KP", "--detune=50.1"],
+    &["--keys", "KP", "--skew=0.5"],
+    &["--keys", "KP", "--hole=10"],
+    &["--keys", "KP", "--hole=10@10001"],
+    &["--keys", "KP", "--with=0:-20"],
+    &["--keys", "KP", "--with=300"],
+    &["--keys", "KP", "--hum=1"],
+    &["--clip"],
+    &["--ulaw"],
+    &["--line", "7", "--raw", "--ulaw"],
+    &["--keys", "KP", "--ulaw=1"],
+    &["--keys", "KP", "--line", "7"],
+    &["--entry", "1"],
+    &["--line", "x"],
+    &["--speed", "10"],
+    &["--help"],
+    &["page.txt"],
 ];
 
 #[test]
@@ -182,6 +181,19 @@ fn gives_each_fault(rt: HostRuntime) -> Result<(), Fail> {
             line,
         };
         check_status(rt.alloc(), &Mftone, words, page, wanted)?;
+    }
+    Ok(())
+}
+
+#[test]
+fn refuses_words(rt: HostRuntime) -> Result<(), Fail> {
+    for words in REFUSED {
+        let wanted = Gives {
+            status: 2,
+            written: b"",
+            line: USAGE,
+        };
+        check_status(rt.alloc(), &Mftone, words, PAGE, wanted)?;
     }
     Ok(())
 }
