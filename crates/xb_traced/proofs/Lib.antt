@@ -1,0 +1,2 @@
+pub mod TraceRecords
+pub mod TraceTapes
