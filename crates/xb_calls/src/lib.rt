@@ -11,6 +11,7 @@
 //!   and what stands there in place of a line. With a plan, each number is complete by it.
 //! - `without_mark`, `strip_carriage_return`, `is_passed_over`, `is_grouping` and `add_digit` are shared by
 //!   texts of calls and of numbers. `WrongByte` is a byte that may not stand there, and its place.
+//! - `pulse_count`, `lists_of` and `in_order` are shared with the calls of bad dials (`xb_worn`).
 #![tactic(auto)]
 
 mod call;

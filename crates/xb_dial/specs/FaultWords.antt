@@ -1,5 +1,5 @@
 -- The faults of a dial that a word says.
-use Rattle.std.specs.Prelude.{ℕ, ◌*◌, ◌-◌, ◌^◌, ◌&&◌, List, [], ◌∷◌, ◌++◌, Option, Some, None, bytes_eq, codes, nat_le, option_map, if◌then◌else◌}
+use Rattle.std.specs.Prelude.{ℕ, ◌-◌, ◌^◌, ◌&&◌, List, [], ◌∷◌, ◌++◌, Option, Some, None, bytes_eq, codes, nat_le, option_map, if◌then◌else◌}
 use Rattle.std.specs.Option.{option_and_then}
 use Rattle.clap.specs.Walk.{Text}
 use Rattle.xb_contact.specs.Numbers.{number_of}
@@ -28,11 +28,11 @@ equals = 61
 abbrev pub comma : ℕ
 comma = 44
 
--- a number of 32 bits
+-- a number, where it is in its range
 abbrev pub in_range : ℕ → ℕ → ℕ → Option ℕ
 in_range least most number = if nat_le least number && nat_le number most then Some number else None
 
--- the number of a call, a digit or a pulse
+-- the number of a call, a digit or a pulse: one of 32 bits
 abbrev pub number_said : Text → Option ℕ
 number_said text = option_and_then (in_range 0 (2 ^ 32 - 1)) (number_of text)
 

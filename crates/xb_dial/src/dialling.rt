@@ -91,7 +91,8 @@ fn write_text<W: Write>(alloc: Global, rows: &[Row], out: &mut W) -> Result<(), 
     ensures read { OnOk result (IsReadBack forms.Rows rows.now) }
     ensures read_partly { IfErr result (λ f. WhereWritten f (IsReadBack forms.Rows rows.now)) }
     ensures fault { IfErr result (IsFaultOfPrinting forms.Rows rows.now) }
-    ensures untouched { IfErr result (λ f. f ≢ DialFault.Write → Keeps (W.contents out.old) (W.contents out.new)) }
+    ensures untouched { IfErr result
+        (λ f. f ≢ DialFault.Write → Keeps (W.contents out.old) (W.contents out.new)) }
 {
     let text = text_of_rows(alloc, rows)?;
     write_whole(out, text.as_bytes())?;
@@ -105,12 +106,14 @@ fn write_dump<W: Write>(
     rows: &[Row],
     out: &mut W,
 ) -> Result<(), DialFault>
-    ensures whole { OnOk result (Appends (W.contents out.old) (W.contents out.new) (trace_text bouncing rows.now)) }
+    ensures whole { OnOk result
+        (Appends (W.contents out.old) (W.contents out.new) (trace_text bouncing rows.now)) }
     ensures beginning { AppendsBeginning (W.contents out.old) (W.contents out.new) (trace_text bouncing rows.now) }
     ensures read { OnOk result (IsReadBack (forms.Trace bouncing) rows.now) }
     ensures read_partly { IfErr result (λ f. WhereWritten f (IsReadBack (forms.Trace bouncing) rows.now)) }
     ensures fault { IfErr result (IsFaultOfPrinting (forms.Trace bouncing) rows.now) }
-    ensures untouched { IfErr result (λ f. f ≢ DialFault.Write → Keeps (W.contents out.old) (W.contents out.new)) }
+    ensures untouched { IfErr result
+        (λ f. f ≢ DialFault.Write → Keeps (W.contents out.old) (W.contents out.new)) }
 {
     write_trace(alloc, rows, bouncing, out)?;
     Ok(())
@@ -123,12 +126,14 @@ fn write_rows<W: Write>(
     rows: &[Row],
     out: &mut W,
 ) -> Result<(), DialFault>
-    ensures whole { OnOk result (Appends (W.contents out.old) (W.contents out.new) (printed_of form rows.now)) }
+    ensures whole { OnOk result
+        (Appends (W.contents out.old) (W.contents out.new) (printed_of form rows.now)) }
     ensures beginning { AppendsBeginning (W.contents out.old) (W.contents out.new) (printed_of form rows.now) }
     ensures read { OnOk result (IsReadBack form rows.now) }
     ensures read_partly { IfErr result (λ f. WhereWritten f (IsReadBack form rows.now)) }
     ensures fault { IfErr result (IsFaultOfPrinting form rows.now) }
-    ensures untouched { IfErr result (λ f. f ≢ DialFault.Write → Keeps (W.contents out.old) (W.contents out.new)) }
+    ensures untouched { IfErr result
+        (λ f. f ≢ DialFault.Write → Keeps (W.contents out.old) (W.contents out.new)) }
 {
     match form {
         Form::Rows => write_text(alloc, rows, out),
@@ -136,8 +141,8 @@ fn write_rows<W: Write>(
     }
 }
 
-/// Reads calls, and writes the rows that dial them, or the contact of their line, as a dial sends them that is worn and
-/// has faults. The speed to which it is adjusted is judged before anything is read; and nothing is written before all
+/// Reads calls, and writes the rows that dial them, or the contact of their line, as a dial sends them that is worn
+/// and has faults. The speed to which it is adjusted is judged before anything is read; and nothing is written before all
 /// calls are read.
 ///
 /// On an `Err` nothing was written, except on `Write`, where the beginning was.

@@ -28,7 +28,8 @@ pub enum DialFault {
     /// The contact of one line is asked for, and the calls are of several.
     #[error("the calls are of several lines, and a dump has the contact of one")]
     SeveralLines,
-    /// A fault of the dial is at no place of the calls, or at that of another; or a time of a call may not stand in a row.
+    /// A fault of the dial is at no place of the calls, or at that of another; or a time of a call may not stand in a
+    /// row.
     #[error("{0}")]
     Worn(WornFault),
     /// The dump would last 2^64 us or longer.
@@ -37,7 +38,7 @@ pub enum DialFault {
     /// Memory ran out.
     #[error("{}", RowFault::NoMemory)]
     NoMemory,
-    /// A write or the flush failed, or a write took no byte. The beginning of the rows was written.
+    /// A write or the flush failed, or a write took no byte. The beginning of the rows, or of the dump, was written.
     #[error("the rows could not be written")]
     Write,
 }

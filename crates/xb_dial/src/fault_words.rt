@@ -175,8 +175,10 @@ fn faults_of(alloc: Global, text: &[u8]) -> Result<Vec<Fault>, WordsFault>
 /// The faults that the text of an option says, between commas, as `1.3.2:break=130,2:preliminary=30`: none, where the
 /// option is not there. `Refused` where a word is no fault. Whether its place is there is no matter of words.
 pub(crate) fn faults_said(alloc: Global, text: Option<&str>) -> Result<Vec<Fault>, WordsFault>
-    ensures said { IfOk result (λ faults. faults_said (option_map (λ text. text.now) text.entry) ≡ Some faults.items) }
-    ensures none { IfErr result (λ f. f ≡ WordsFault.Refused → faults_said (option_map (λ text. text.now) text.entry) ≡ None) }
+    ensures said { let named = option_map (λ text. text.now) text.entry in
+        IfOk result (λ faults. faults_said named ≡ Some faults.items) }
+    ensures none { let named = option_map (λ text. text.now) text.entry in
+        IfErr result (λ f. f ≡ WordsFault.Refused → faults_said named ≡ None) }
 {
     match text {
         None => Ok(Vec::new(alloc)),

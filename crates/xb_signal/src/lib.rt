@@ -9,8 +9,9 @@
 //! - `segments_of_text`: exactly `segments_of_text` of the words (`KP 555 1212 ST 2600:500 2400+2600:1000
 //!   silence:300`), after the silence before them. `NoWord` and `Loud` come exactly of the first word that is none, or
 //!   whose samples do not fit, with its place; `NoWords` exactly of a text of blanks.
-//! - `write_signal`: on `Ok` the writer got exactly the WAV file of the segments, or its samples; on `Write` the
-//!   beginning, and on any other fault nothing. `TooLong` comes only where the file would have 2^32 bytes or more.
+//! - `write_signal`: on `Ok` the writer got exactly the WAV file of the segments, or its samples, in 16 bits or by
+//!   mu-law (`Form`); on `Write` the beginning, and on any other fault nothing. `TooLong` comes only where the file
+//!   would have 2^32 bytes or more.
 //! - `laws::names_are_heard`: keys that a page has sound as its marks do, to the sample. By every cadence that sets its
 //!   tones apart a receiver that waits for 10 ms of silence and then measures the six MF frequencies hears exactly the
 //!   pairs of the keys, in order, also those of KP2 and of the further kinds of ST. `waves_are_sines`: the table is
