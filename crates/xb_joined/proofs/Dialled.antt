@@ -5,6 +5,7 @@ use Rattle.xb_joined.specs.Tandem.{NumbersAreRegistered}
 use Rattle.xb_joined.specs.Dialled.{DialledIsRegistered}
 
 pub dialled-registered : DialledIsHeard → NumbersAreRegistered → DialledIsRegistered
-dialled-registered dialled taken plan limits a b speed calls rows l cadence samples limit are so complete lawful fits have hearable within intime =
+dialled-registered dialled taken plan limits a b speed calls rows l cadence samples limit are so complete lawful fits
+    have hearable outlasts within =
     taken plan limits a b rows l (numbers_on l calls) cadence samples limit
-    ((dialled speed calls rows are so).heard plan limits complete lawful fits l) have hearable within intime
+    ((dialled speed calls rows are so).heard plan limits complete lawful fits l) have hearable outlasts within

@@ -1,2 +1,10 @@
+pub mod Sounding
+pub mod Places
+pub mod Parts
+pub mod Placed
+pub mod Orders
+pub mod Gaps
 pub mod Registered
 pub mod Dialled
+pub mod Network
+pub mod Worked

@@ -1,8 +1,7 @@
 -- What the register of the next office takes of what is keyed.
-use Rattle.std.proofs.Common.{◌≡◌, ◌∙◌, ℕ, List, [], ◌∷◌, ◌++◌, map, ap, ap₂, refl, subst, sym, append_assoc}
+use Rattle.std.proofs.Common.{◌≡◌, ◌∙◌, ℕ, ℤ, List, [], ◌∷◌, ◌++◌, map, ap, ap₂, refl, subst, sym, append_assoc}
 use Rattle.std.specs.List.{flat_map}
 use Rattle.xb_model.specs.declared.key.Key.TheVariants as keys
-use Rattle.xb_model.specs.declared.dialled.Dialled.{Dialled}
 use Rattle.xb_model.specs.declared.dialled.Dialled.TheVariants.{Number}
 use Rattle.xb_model.specs.declared.mark.Mark.{Mark}
 use Rattle.xb_model.specs.declared.mark.Mark.TheVariants.{Trunk, Tone, Refused}
@@ -10,22 +9,29 @@ use Rattle.xb_model.specs.declared.order.Order.{Order}
 use Rattle.xb_model.specs.declared.order.Order.TheVariants as orders
 use Rattle.xb_model.specs.Keyings.{marks_of, tone}
 use Rattle.xb_model.specs.Numbers.{outcomes_of}
+use Rattle.xb_model.specs.declared.limits.Limits.{Limits}
+use Rattle.xb_model.specs.declared.plan.Plan.{Plan}
 use Rattle.xb_model.specs.Records.{attempts_of, record_of}
-use Rattle.xb_model.specs.Routing.{CodedRoute, order_of, routed}
-use Rattle.xb_model.specs.Tapes.{joined_tape}
+use Rattle.xb_model.specs.Rows.{LoopRow}
+use Rattle.xb_model.specs.Routing.{CodedRoute, routed}
+use Rattle.xb_sound.specs.declared.cadence.Cadence.{Cadence}
 use Rattle.xb_sound.specs.HeardKeys.{AreKeyed}
+use Rattle.xb_sound.specs.HeardTapes.{HavePrefixes}
 use Rattle.xb_sound.proofs.KeyWaves.{keys_with-pair}
 use Rattle.xb_sound.proofs.TapeKeys.{entries-keyed}
 use Rattle.xb_ear.specs.declared.hearing.Heard.{Heard}
-use Rattle.xb_ear.specs.HeardKeys.{DisturbedKeysAreHeard, pairs_in, tones_of}
+use Rattle.xb_ear.specs.Disturbed.{AreWithin}
+use Rattle.xb_ear.specs.HeardKeys.{DisturbedKeysAreHeard, IsHearable, disturbable, pairs_in, tones_of}
 use Rattle.xb_ear.specs.Receivers.{keys_of_sound}
 use Rattle.xb_incoming.specs.declared.key.Symbol.{Symbol}
 use Rattle.xb_incoming.specs.declared.key.Symbol.TheVariants.{Digit, Kp, St}
 use Rattle.xb_incoming.specs.Attempts.{entry_of as entry_at, number_of}
-use Rattle.xb_incoming.specs.Joined.{keyed_symbols, keying_symbols, symbols_of}
+use Rattle.xb_incoming.specs.Joined.{InTime, keyed_symbols, keying_symbols, symbols_of}
 use Rattle.xb_incoming.proofs.Joined.{keyed_is_registered}
-use Rattle.xb_joined.specs.Timed.{first_symbol, symbol_of, symbol_of_pair, timed_keys, timed_of}
+use Rattle.xb_joined.specs.Timed.{OutlastsGaps, first_symbol, symbol_of, symbol_of_pair, timed_keys, timed_of}
 use Rattle.xb_joined.specs.Tandem.{AreRegistered, NumbersAreRegistered, TapeIsRegistered, keyed_by, keyed_numbers, keyed_of}
+use Rattle.xb_joined.proofs.Gaps.{orders-in-time}
+use Rattle.xb_joined.proofs.Orders.{entries-joined, marks_in, numbers-keyed, numbers_in, orders_of}
 
 -- what the keys of a sound are, by their pairs
 symbols-pairs : (heard : List Heard) → symbols_of (map timed_of heard) ≡ map symbol_of_pair (pairs_in heard)
@@ -76,17 +82,12 @@ symbols-order (orders.Key trunk digits) =
     append-none (s ∷ ss) = ap (λ xs. s ∷ xs) (append-none ss)
 symbols-order (orders.Refused reason heard) = refl
 
--- the marks of outcomes, one entry after the other
-abbrev marks_of_outcomes : List CodedRoute → List Dialled → List Mark
-marks_of_outcomes routes outcomes = flat_map (λ entry. entry) (map (λ outcome. marks_of (order_of routes outcome)) outcomes)
-
-symbols-outcomes : (routes : List CodedRoute) (outcomes : List Dialled)
-    → symbols_of_marks (marks_of_outcomes routes outcomes) ≡ keyed_symbols (keyed_of routes outcomes)
-symbols-outcomes routes [] = refl
-symbols-outcomes routes (outcome ∷ outcomes) =
-    symbols-both (marks_of (order_of routes outcome)) (marks_of_outcomes routes outcomes)
-    ∙ ap₂ (λ one more. one ++ more) (symbols-order (order_of routes outcome)) (symbols-outcomes routes outcomes)
-    ∙ sym (keyed-both (keyed_by (order_of routes outcome)) (keyed_of routes outcomes))
+symbols-orders : (orders : List Order) → symbols_of_marks (marks_in orders) ≡ keyed_symbols (numbers_in orders)
+symbols-orders [] = refl
+symbols-orders (order ∷ orders) =
+    symbols-both (marks_of order) (marks_in orders)
+    ∙ ap₂ (λ one more. one ++ more) (symbols-order order) (symbols-orders orders)
+    ∙ sym (keyed-both (keyed_by order) (numbers_in orders))
 
 entries-numbers : (routes : List CodedRoute) (numbers : List (List ℕ))
     → map (entry_at routes) (map number_of numbers) ≡ map (λ digits. entry_at routes (number_of digits)) numbers
@@ -94,31 +95,59 @@ entries-numbers routes [] = refl
 entries-numbers routes (digits ∷ numbers) =
     ap (λ es. entry_at routes (number_of digits) ∷ es) (entries-numbers routes numbers)
 
-pub registered : DisturbedKeysAreHeard → TapeIsRegistered
-registered disturbed plan limits a b rows l cadence samples limit have hearable within intime =
-    let outcomes = outcomes_of plan limits (record_of l rows) in
-    let marks = joined_tape plan limits a l rows in
-    let are_keyed : AreKeyed marks = entries-keyed a have plan limits (attempts_of limits (record_of l rows)) in
-    let symbols : symbols_of (timed_keys samples) ≡ keyed_symbols (keyed_of a outcomes) =
+-- where each key but a KP is heard in time, the register of an office takes just the numbers of the orders that sound
+-- on its trunk
+pub timely-registered : DisturbedKeysAreHeard → (orders : List Order) (cadence : Cadence) (samples : List ℤ) (limit : ℕ)
+    (routes : List CodedRoute) → AreKeyed (marks_in orders) → IsHearable cadence
+    → AreWithin (disturbable cadence (marks_in orders)) samples → InTime limit 0 (timed_keys samples)
+    → AreRegistered limit routes (numbers_in orders) samples
+timely-registered disturbed orders cadence samples limit routes keyed hearable within timely =
+    let numbers = numbers_in orders in
+    let symbols : symbols_of (timed_keys samples) ≡ keyed_symbols numbers =
     symbols-pairs (keys_of_sound samples)
-    ∙ ap (map symbol_of_pair) ((disturbed cadence marks samples hearable are_keyed within).pairs)
-    ∙ symbols-tones marks are_keyed
-    ∙ symbols-outcomes a outcomes in
-    let outcomes_are = keyed_is_registered limit (keyed_of a outcomes) (timed_keys samples) symbols intime in
+    ∙ ap (map symbol_of_pair) ((disturbed cadence (marks_in orders) samples hearable keyed within).pairs)
+    ∙ symbols-tones (marks_in orders) keyed
+    ∙ symbols-orders orders in
+    let outcomes_are = keyed_is_registered limit numbers (timed_keys samples) symbols timely in
     record {
       outcomes_are = outcomes_are;
-      tape_is = ap (map (entry_at b)) outcomes_are ∙ entries-numbers b (keyed_of a outcomes);
+      tape_is = ap (map (entry_at routes)) outcomes_are ∙ entries-numbers routes numbers;
     }
 
+-- so by a time-out that outlasts the gaps
+pub orders-registered : DisturbedKeysAreHeard → (orders : List Order) (cadence : Cadence) (samples : List ℤ) (limit : ℕ)
+    (routes : List CodedRoute) → AreKeyed (marks_in orders) → IsHearable cadence → OutlastsGaps limit cadence
+    → AreWithin (disturbable cadence (marks_in orders)) samples
+    → AreRegistered limit routes (numbers_in orders) samples
+orders-registered disturbed orders cadence samples limit routes keyed hearable outlasts within =
+    timely-registered disturbed orders cadence samples limit routes keyed hearable within
+    (orders-in-time limit cadence orders samples outlasts hearable keyed within
+    (disturbed cadence (marks_in orders) samples hearable keyed within).pairs)
+
+-- the tape of a line is the marks of the orders of its outcomes
+pub tape-keyed : (plan : Plan) (limits : Limits) (a : List CodedRoute) (rows : List LoopRow) (l : ℕ) → HavePrefixes a
+    → AreKeyed (marks_in (orders_of a (outcomes_of plan limits (record_of l rows))))
+tape-keyed plan limits a rows l have =
+    subst (λ (marks : List Mark). AreKeyed marks) (entries-joined a (outcomes_of plan limits (record_of l rows)))
+    (entries-keyed a have plan limits (attempts_of limits (record_of l rows)))
+
+pub registered : DisturbedKeysAreHeard → TapeIsRegistered
+registered disturbed plan limits a b rows l cadence samples limit have hearable outlasts within =
+    let outcomes = outcomes_of plan limits (record_of l rows) in
+    subst (λ (numbers : List (List ℕ)). AreRegistered limit b numbers samples) (numbers-keyed a outcomes)
+    (orders-registered disturbed (orders_of a outcomes) cadence samples limit b (tape-keyed plan limits a rows l have)
+    hearable outlasts
+    (subst (λ (marks : List Mark). AreWithin (disturbable cadence marks) samples) (entries-joined a outcomes) within))
+
 -- numbers that are heard
-keyed-numbers : (routes : List CodedRoute) (numbers : List (List ℕ))
+pub keyed-numbers : (routes : List CodedRoute) (numbers : List (List ℕ))
     → keyed_of routes (map Number numbers) ≡ keyed_numbers routes numbers
 keyed-numbers routes [] = refl
 keyed-numbers routes (number ∷ numbers) =
     ap (λ more. keyed_by (routed routes number) ++ more) (keyed-numbers routes numbers)
 
 pub numbers-registered : DisturbedKeysAreHeard → NumbersAreRegistered
-numbers-registered disturbed plan limits a b rows l numbers cadence samples limit heard have hearable within intime =
+numbers-registered disturbed plan limits a b rows l numbers cadence samples limit heard have hearable outlasts within =
     subst (λ numbers. AreRegistered limit b numbers samples)
     (ap (keyed_of a) heard ∙ keyed-numbers a numbers)
-    (registered disturbed plan limits a b rows l cadence samples limit have hearable within intime)
+    (registered disturbed plan limits a b rows l cadence samples limit have hearable outlasts within)

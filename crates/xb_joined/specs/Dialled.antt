@@ -15,14 +15,14 @@ use Rattle.xb_sound.specs.declared.cadence.Cadence.{Cadence}
 use Rattle.xb_sound.specs.HeardTapes.{HavePrefixes}
 use Rattle.xb_ear.specs.Disturbed.{AreWithin}
 use Rattle.xb_ear.specs.HeardKeys.{IsHearable, disturbable}
-use Rattle.xb_incoming.specs.Joined.{InTime}
 use Rattle.xb_joined.specs.Tandem.{AreRegistered, keyed_numbers}
-use Rattle.xb_joined.specs.Timed.{timed_keys}
+use Rattle.xb_joined.specs.Timed.{OutlastsGaps}
 
 abbrev pub DialledIsRegistered : Type 0
 DialledIsRegistered =
     (plan : Plan) (limits : Limits) (a b : List CodedRoute) (speed : Speed) (calls : List DialledCall)
     (rows : List LoopRow) (l : ℕ) (cadence : Cadence) (samples : List ℤ) (limit : ℕ)
     → AreCalls calls → AreDialled speed calls rows → AreComplete plan calls → IsLawful limits → Fits limits speed
-    → HavePrefixes a → IsHearable cadence → AreWithin (disturbable cadence (joined_tape plan limits a l rows)) samples
-    → InTime limit 0 (timed_keys samples) → AreRegistered limit b (keyed_numbers a (numbers_on l calls)) samples
+    → HavePrefixes a → IsHearable cadence → OutlastsGaps limit cadence
+    → AreWithin (disturbable cadence (joined_tape plan limits a l rows)) samples
+    → AreRegistered limit b (keyed_numbers a (numbers_on l calls)) samples

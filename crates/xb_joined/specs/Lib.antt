@@ -1,3 +1,5 @@
 pub mod Timed
 pub mod Tandem
 pub mod Dialled
+pub mod Network
+pub mod Worked

@@ -17,8 +17,7 @@ use Rattle.xb_sound.specs.HeardTapes.{HavePrefixes}
 use Rattle.xb_ear.specs.Disturbed.{AreWithin}
 use Rattle.xb_ear.specs.HeardKeys.{IsHearable, disturbable}
 use Rattle.xb_incoming.specs.Attempts.{entry_of, number_of, outcomes, tape_of}
-use Rattle.xb_incoming.specs.Joined.{InTime}
-use Rattle.xb_joined.specs.Timed.{timed_keys}
+use Rattle.xb_joined.specs.Timed.{OutlastsGaps, timed_keys}
 
 -- what office A keys: the digits of each order that is no refusal
 abbrev pub keyed_by : Order → List (List ℕ)
@@ -33,18 +32,17 @@ pub record AreRegistered (limit : ℕ) (routes : List CodedRoute) (numbers : Lis
   pub outcomes_are : outcomes limit (timed_keys samples) ≡ map number_of numbers
   pub tape_is : tape_of limit routes (timed_keys samples) ≡ map (λ digits. entry_of routes (number_of digits)) numbers
 
--- for the rows of any lines. `InTime` is what the theorems of the ear do not say: that no key but a KP is heard to begin
--- so long after the end of the key before it as the time-out of the register is
+-- for the rows of any lines, by each time-out that outlasts the gaps of the sender, which have no longest length
 abbrev pub TapeIsRegistered : Type 0
 TapeIsRegistered =
     (plan : Plan) (limits : Limits) (a b : List CodedRoute) (rows : List LoopRow) (l : ℕ) (cadence : Cadence)
     (samples : List ℤ) (limit : ℕ)
-    → HavePrefixes a → IsHearable cadence → AreWithin (disturbable cadence (joined_tape plan limits a l rows)) samples
-    → InTime limit 0 (timed_keys samples)
+    → HavePrefixes a → IsHearable cadence → OutlastsGaps limit cadence
+    → AreWithin (disturbable cadence (joined_tape plan limits a l rows)) samples
     → AreRegistered limit b (keyed_of a (outcomes_of plan limits (record_of l rows))) samples
 
--- the same of numbers that office A hears on the line, as it does of those that are dialled on it (`AreHeard` of xb_calls):
--- office B takes the digits of the order of each one, where it has one
+-- the same of numbers that office A hears on the line, as it does of those that are dialled on it (`AreHeard` of
+-- xb_calls): office B takes the digits of the order of each one, where it has one
 abbrev pub keyed_numbers : List CodedRoute → List (List ℕ) → List (List ℕ)
 keyed_numbers routes numbers = flat_map (λ number. keyed_by (routed routes number)) numbers
 
@@ -53,5 +51,6 @@ NumbersAreRegistered =
     (plan : Plan) (limits : Limits) (a b : List CodedRoute) (rows : List LoopRow) (l : ℕ) (numbers : List (List ℕ))
     (cadence : Cadence) (samples : List ℤ) (limit : ℕ)
     → outcomes_of plan limits (record_of l rows) ≡ map Number numbers
-    → HavePrefixes a → IsHearable cadence → AreWithin (disturbable cadence (joined_tape plan limits a l rows)) samples
-    → InTime limit 0 (timed_keys samples) → AreRegistered limit b (keyed_numbers a numbers) samples
+    → HavePrefixes a → IsHearable cadence → OutlastsGaps limit cadence
+    → AreWithin (disturbable cadence (joined_tape plan limits a l rows)) samples
+    → AreRegistered limit b (keyed_numbers a numbers) samples

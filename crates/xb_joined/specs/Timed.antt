@@ -1,8 +1,9 @@
 -- What an ear hears, as a register takes it.
-use Rattle.std.specs.Prelude.{ℕ, ◌+◌, ◌-◌, ◌*◌, ◌/◌, List, [], ◌∷◌, map, ℤ}
+use Rattle.std.specs.Prelude.{ℕ, ◌+◌, ◌-◌, ◌*◌, ◌/◌, ◌≤◌, List, [], ◌∷◌, map, ℤ}
 use Rattle.xb_model.specs.declared.key.Key.{Key}
 use Rattle.xb_model.specs.declared.key.Key.TheVariants as keys
 use Rattle.xb_model.specs.declared.key.Tone.{Tone as Pair}
+use Rattle.xb_sound.specs.declared.cadence.Cadence.{Cadence}
 use Rattle.xb_sound.specs.HeardKeys.{frequencies_of, keys_with}
 use Rattle.xb_ear.specs.declared.hearing.Heard.{Heard}
 use Rattle.xb_ear.specs.Receivers.{keys_of_sound}
@@ -41,3 +42,12 @@ timed_of key = record {
 -- the keys of a sound, with their times
 abbrev pub timed_keys : List ℤ → List TimedKey
 timed_keys samples = map timed_of (keys_of_sound samples)
+
+-- a silence is heard less than this longer than it is, in ms: a window lasts 10 ms, one begins every 2.5 ms, and a key
+-- begins and ends with the windows that lie in its tone
+abbrev pub EDGES_MS : ℕ
+EDGES_MS = 14
+
+-- the time-out of a register outlasts the silences between the keys of a keying
+abbrev pub OutlastsGaps : ℕ → Cadence → Type 0
+OutlastsGaps limit cadence = cadence.gap_ms + EDGES_MS ≤ limit
