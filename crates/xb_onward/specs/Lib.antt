@@ -1,0 +1,4 @@
+pub mod Keys
+pub mod Outcomes
+pub mod Registering
+pub mod Sending
