@@ -6,10 +6,12 @@
 //!   outcomes, one for each KP that opens the register.
 //! - `send_on`: the marks of the order of an outcome, by a table: its keying or its one refusal, whatever length the
 //!   number has.
+//! - `laws::stands_as_at_first`: after an ST that told an outcome, and before a KP, the keys so far may be forgotten.
 #![tactic(auto)]
 
 mod digits;
 mod key;
+pub mod laws;
 mod outcome;
 mod registering;
 mod search;
