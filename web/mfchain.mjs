@@ -351,13 +351,13 @@ class Ear {
 const wholeSamples = (samples) => {
   return Int16Array.from(samples, (sample) => Math.max(-32768, Math.min(32767, Math.round(32768 * sample))));
 };
-// One sound on a trunk, as an incoming register takes it: its keys with their times, and what becomes of each keying. What
-// the register makes of keys is decided in the module.
+// One sound on a trunk, as an incoming register takes it: its keys with their times, and what becomes of each keying.
+// What the register makes of keys is decided in the module.
 
 const MOST_REGISTER_KEYS = 1024;
 
-// A key that an ear heard, with the times that `mfrx --json` tells of it, in whole ms from the beginning of the sound. A
-// window begins with each 20th sample, 8 in a ms; a key begins 20 samples after its first one does.
+// A key that an ear heard, with the times that `mfrx --json` tells of it, in whole ms from the beginning of the sound.
+// A window begins with each 20th sample, 8 in a ms; a key begins 20 samples after its first one does.
 function timedKeyOf({ kind, value, first, past }) {
   const msOf = (samples) => Math.floor(samples / 8);
   const begin = msOf(20 * first + 20);
@@ -374,8 +374,8 @@ class Incoming {
   // The outcomes that these keys make certain.
   take(keys) { return keys.flatMap((key) => this.takeKey(key)); }
 
-  // A register that stands as at first waits for a KP, and after the ST of a keying it does so again. One that has heard
-  // very many keys without that is begun anew.
+  // A register that stands as at first waits for a KP, and after the ST of a keying it does so again: the keys so far
+  // may be forgotten. One that has heard very many keys without that is begun anew.
   takeKey(key) {
     if (this.keys.length === 0 && key.kind !== Kind.KP) return [];
     this.keys.push(key);

@@ -1,5 +1,5 @@
-// The office on the page: its telephones, the route table, the sender, the tape, the next office, and what a visitor does
-// with them.
+// The office on the page: its telephones, the route table, the sender, the tape, the next office, and what a visitor
+// does with them.
 
 const LINES = [7, 8, 9];
 const FIRST_CALL = '411';

@@ -1,5 +1,5 @@
-// The next office: what is heard on a trunk is taken by an incoming register, and sent on by a route table of its own, as
-// mftandem does it. Each keying that opens the register gives one entry, keyed or refused.
+// The next office: what is heard on a trunk is taken by an incoming register, and sent on by a route table of its own,
+// as mftandem does it. Each KP that opens the register gives one entry, keyed or refused.
 
 const MOST_SECOND_ENTRIES = 60;
 
@@ -60,7 +60,8 @@ class SecondOffice {
     const dialled = numberOf(outcome);
     const keyed = marks.filter((mark) => mark.kind === Kind.DIGIT).map((mark) => mark.value).join('');
     const trunk = marks[0].value;
-    this.route.showKeyed(`Entry ${number}`, dialled, this.module.codeOf(dialled, this.module.at.secondTable), trunk, keyed);
+    const code = this.module.codeOf(dialled, this.module.at.secondTable);
+    this.route.showKeyed(`Entry ${number}`, dialled, code, trunk, keyed);
     const entry = this.add(text, `Entry ${number}: ${dialled} is keyed on, by trunk group ${trunk}`);
     const label = `Hear entry ${number} sound on`;
     const button = make('button', { type: 'button', class: 'link', 'aria-label': label }, entry, 'Hear it sound on');

@@ -1,6 +1,6 @@
 // The sender: the keys of a call as pairs of bars on six lanes, one for each frequency, their sound, and what the far
-// end hears of it, which the next office takes. Calls that are keyed at once wait for one another here, so that each is seen and heard; in an office
-// each has its own sender.
+// end hears of it, which the next office takes. Calls that are keyed at once wait for one another here, so that each is
+// seen and heard; in an office each has its own sender.
 
 const FREQUENCIES = [700, 900, 1100, 1300, 1500, 1700];
 const LANE_WEIGHTS = { 700: '0', 900: '1', 1100: '2', 1300: '4', 1500: '7', 1700: '' };

@@ -1,11 +1,11 @@
-// A route table that a visitor may change: it is judged by the reader, and one that is refused leaves the table before it
-// in use.
+// A route table that a visitor may change: it is judged by the reader, and one that is refused leaves the table before
+// it in use.
 
 const TYPING_ENDS_MS = 300;
 
 class TableField {
-  // name: what the ids of its text, its fault and its places begin with. use: takes a table into use, as the reader gives
-  // it, with its text.
+  // name: what the ids of its text, its fault and its places begin with. bytes: how many the module's table has.
+  // use: takes a table into use, as the reader gives it, with its text.
   constructor(name, reader, bytes, use) {
     Object.assign(this, { reader, bytes, use });
     this.text = $(`${name}routes`);

@@ -9,7 +9,8 @@ const { BY_OPERATOR } = require('./calls.js');
 const CONTROLS = ['button', 'link', 'textbox', 'combobox', 'radio', 'checkbox', 'progressbar', 'image', 'log', 'region',
   'Canvas', 'DisclosureTriangle'];
 const TABBED = ['demo', 'sound', 'row', 'pace', 'keys', 'Dial 1 on line 7', 'Lift the receiver, line 7',
-  'noise', 'recording', 'microphone', 'heard', 'second-routes', 'second-roll', 'routes', 'file', 'example', 'roll', 'page'];
+  'noise', 'recording', 'microphone', 'heard', 'second-routes', 'second-roll', 'routes', 'file', 'example', 'roll',
+  'page'];
 
 async function tryNames(it) {
   const { nodes } = await it.send('Accessibility.getFullAXTree');

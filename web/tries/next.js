@@ -85,7 +85,8 @@ async function tryTables(it) {
   await it.write('plan = 8', 'second-routes');
   is('its table is refused', await it.text('#second-fault'),
     'Refused: plan is neither 7 nor 10. The table before it stays in use.');
-  is('with the text line', await it.texts('#second-places p'), ['Line 1, column 1: plan is neither 7 nor 10: plan = 8']);
+  const place = 'Line 1, column 1: plan is neither 7 nor 10: plan = 8';
+  is('with the text line', await it.texts('#second-places p'), [place]);
   is('and nothing else changes', [await entriesOf(it), await it.text('#fault')], [before, '']);
   await it.write('[[route]]\ncode = "0"\ntrunk = 611\nprefix = "9"', 'second-routes');
   is('another one begins the page anew', [await it.text('#second-fault'), await entriesOf(it)], ['', []]);
@@ -105,4 +106,4 @@ async function tryNext(it, page, read) {
   await it.visit('#quiet');
 }
 
-module.exports = { tryNext };
+module.exports = { tryNext, printedByB };

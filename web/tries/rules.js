@@ -1,5 +1,5 @@
 // What comes of the keys of a trunk, by the words of docs/DEFINITIONS.md on an incoming register: over whole lists, and
-// without a state. A key is { kind, digit, begin, end } as the page has it; an outcome the words that an entry has of it.
+// without a state. A key is { kind, digit, begin, end } as the page has it; an outcome is what an entry says of it.
 'use strict';
 
 const [TIME_OUT, CLEAR, MOST_DIGITS, MOST_COUNT] = [10000, 500, 10, 255];

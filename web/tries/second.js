@@ -1,13 +1,17 @@
-// The next office, in Node: what its register and its table make of keys is what the rules say (rules.js), for cases that
-// a person reckoned and for lists that a seed makes; what is refused changes nothing.
+// node tries/second.js PAGE EXAMPLES: what the register and the table of the next office make of keys, by the module of a
+// page and its copy, in Node. It is what the rules say (rules.js), for cases that a person reckoned and for lists that a
+// seed makes; and what is refused changes nothing.
 'use strict';
-const { Ear, Incoming, timedKeyOf } = require('./chain.js');
-const { is } = require('./checks.js');
+const fs = require('fs');
+const path = require('path');
+const { Ear, Incoming, Module, Reader, modulesOf, timedKeyOf } = require('./chain.js');
+const { is, end } = require('./checks.js');
 const { samplesOf } = require('./ears.js');
 const { DIGIT, KP, ST, OTHER, CLEAR, TIME_OUT, outcomesOf, linesOf } = require('./rules.js');
 const { seeded } = require('./seeds.js');
 
 const LISTS = 200;
+const SILENCES = [CLEAR - 1, CLEAR, CLEAR + 1, TIME_OUT - 1, TIME_OUT, TIME_OUT + 1, 20000, -300];
 const TABLE = `plan = 10
 [[route]]\ncode = "0"\ntrunk = 1
 [[route]]\ncode = "203"\ntrunk = 30\ndelete = 1
@@ -63,8 +67,7 @@ function listOf(seed) {
   return namesOf(dice).map((name) => {
     const end = begin + oneOf(0, 30, 68, 100);
     const key = keyOf(name, begin, end);
-    const silence = happens(9) ? oneOf(CLEAR - 1, CLEAR, CLEAR + 1, TIME_OUT - 1, TIME_OUT, TIME_OUT + 1, 20000, -300) : 68;
-    begin = Math.max(0, end + silence);
+    begin = Math.max(0, end + (happens(9) ? oneOf(...SILENCES) : 68));
     return key;
   });
 }
@@ -145,4 +148,15 @@ function trySecond(module, name, reader, read) {
   tryTimes(module, name, read);
 }
 
+async function main(page, examples) {
+  const { module, lowered, reader } = modulesOf(page);
+  const read = (name) => fs.readFileSync(path.join(examples, name));
+  for (const [name, bytes] of [['the module', module], ['its copy', lowered]]) {
+    trySecond(await Module.open(bytes), name, await Reader.open(reader), read);
+  }
+  end();
+}
+
 module.exports = { trySecond };
+
+if (require.main === module) main(...process.argv.slice(2));

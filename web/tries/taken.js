@@ -1,6 +1,6 @@
-// node tries/taken.js MFCHAIN: what a row of a line gives, by web/mfchain.mjs in Node, beside what a person reckons; each
-// refusal, in order, with nothing changed; what a register takes of a sound; and the layout that the module tells, beside the
-// rules of C.
+// node tries/taken.js MFCHAIN: what a row of a line gives, by web/mfchain.mjs in Node, beside what a person reckons;
+// each refusal, in order, with nothing changed; what a register takes of a sound; and the layout that the module tells,
+// beside the rules of C.
 'use strict';
 const path = require('path');
 const { pathToFileURL } = require('url');

@@ -1,5 +1,5 @@
-// What the page calls to have a second office take what is heard, and send it on. `unsafe` stands in the attributes alone,
-// as in `exports`.
+// What the page calls to have a second office take what is heard, and send it on. `unsafe` stands in the attributes
+// alone, as in `exports`.
 ghost use Rattle.std.specs.Prelude.{◌≡◌, ◌≢◌};
 ghost use Rattle.mfweb.specs.Onward.{IsNotRegistered, IsNotSentOn, IsRegistered, IsSentOn, not_sent_status};
 
@@ -18,10 +18,10 @@ fn not_sent_status(why: NotSent) -> u32
     }
 }
 
-/// What an incoming register tells of keys that were heard on a trunk, one after the other: the first `count` of `room`.
-/// Where `ended` is 0 the keys go on, and what is told is certain by them; where it is not they have ended, and all is
-/// told. A silence of 10,000 ms inside a keying is a time-out. On status 7, which says that there are not more rooms than
-/// keys, the room is as it was, and `count` is 0.
+/// What an incoming register tells of keys that were heard on a trunk, from its first one on: the first `count` of
+/// `room`. Where `ended` is 0 the keys go on, and what is told is certain by them; where it is not they have ended, and
+/// all is told. A silence of 10,000 ms inside a keying is a time-out. On status 7, which says that there are not more
+/// rooms than keys, the room is as it was, and `count` is 0.
 #[unsafe(no_mangle)]
 pub extern "C" fn mfweb_incoming(
     keys: &[PlainKey],
