@@ -9,6 +9,7 @@ const READER = '@reader@';
 @script/memory.js@
 @script/module.js@
 @script/ear.js@
+@script/incoming.js@
 @script/reader.js@
 @script/chain.js@
-export { open, ChainEar as Ear, Refused };
+export { open, ChainEar as Ear, ChainRegister as Register, Refused };

@@ -84,6 +84,18 @@ export interface Chain {
 /** The chain by the route table that a TOML text writes. */
 export function open(table: string): Promise<Chain>;
 
+/** What an office gives of a keying that it took: its entry, as mfbank prints it, without its LF. */
+export interface Sent { entry: string; marks: Mark[]; }
+
+/** An incoming register, and the office behind it by the table of the chain. One takes the keys of one sound. */
+export class Register {
+  constructor(chain: Chain);
+  /** Takes the next key that an ear heard: the entry that it makes certain, or none. */
+  take(key: Key): Sent[];
+  /** The sound has ended: the entry of a keying that is open, if one is. */
+  end(): Sent[];
+}
+
 /** Hears samples of 16 bits, 8,000 a second, in parts of any lengths. */
 export class Ear {
   constructor(chain: Chain);

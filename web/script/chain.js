@@ -137,10 +137,38 @@ class ChainEar {
   end() { return this.ear.end().map(heardKeyOf); }
 }
 
+// An incoming register, and the office behind it, by the table of the chain.
+class ChainRegister {
+  constructor(chain) {
+    this.module = chain.module;
+    this.register = new Incoming(chain.module);
+    this.count = 0;
+  }
+
+  // What a key of an ear makes certain: an entry, or none.
+  take(key) { return this.given(this.register.take([timedKeyOf(windowsOf(key))])); }
+
+  // The sound has ended: the entry of a keying that is open.
+  end() { return this.given(this.register.end()); }
+
+  given(outcomes) {
+    return outcomes.map((outcome) => {
+      const marks = this.module.onward(outcome, this.module.at.table);
+      return { entry: this.module.entryText(0, ++this.count, marks), marks: marks.map(markOf) };
+    });
+  }
+}
+
 // A key that was heard: a window of 80 samples begins with each 20th sample.
 function heardKeyOf({ kind, value, low, high, first, past }) {
   const name = heardName({ kind, value, low, high });
   return { key: name, low, high, from: 20 * first, until: 20 * (past - 1) + 80 };
+}
+
+// What an ear told of that key.
+function windowsOf({ key, from, until }) {
+  const kind = { KP: Kind.KP, ST: Kind.ST }[key] ?? (/^[0-9]$/.test(key) ? Kind.DIGIT : OTHER_PAIR);
+  return { kind, value: kind === Kind.DIGIT ? Number(key) : 0, first: from / 20, past: (until - 60) / 20 };
 }
 
 const bytesOfText = (deck) => (typeof deck === 'string' ? new TextEncoder().encode(deck) : deck);

@@ -8,6 +8,7 @@ const ENTRY_BYTES = 1024;
 const MOST_NUMBER_DIGITS = 16;
 const MOST_SAMPLES = 80000;
 const MOST_HEARD = 64;
+const MOST_INCOMING = 1024;
 
 // What a mark is.
 const Kind = { TRUNK: 0, DIGIT: 1, KP: 2, ST: 3, MUTILATED: 4, UNKNOWN: 5, ABANDONED: 6, TIMED_OUT: 7 };
@@ -49,6 +50,8 @@ class Module {
       marks: roomFor('mark', MOST_MARKS), cadence: roomFor('cadence'), ear: roomFor('ear'),
       heard: roomFor('heard', MOST_HEARD), lines: roomFor('line', MOST_LINES), digits: room(MOST_NUMBER_DIGITS),
       entry: room(ENTRY_BYTES), samples: room(2 * MOST_SAMPLES), place: room(4), count: room(8), heardOf: room(8),
+      secondTable: roomFor('table'), timed: roomFor('timed', MOST_INCOMING),
+      outcomes: roomFor('outcome', MOST_INCOMING + 1), outcome: roomFor('outcome'),
     };
     if (next > this.bytes.length) throw new Error('the module has too little memory');
     // what each row needs is looked up once
@@ -63,13 +66,13 @@ class Module {
 
   tableBytes() { return this.memory.bytesOf('table'); }
 
-  // Takes a table into use, as the reader gives it.
-  useTable(table) { this.bytes.set(table, this.at.table); }
+  // Takes a table into use, as the reader gives it: that of the first office, or of another one at its place.
+  useTable(table, at = this.at.table) { this.bytes.set(table, at); }
 
-  // The routes of the table in use, in the order of their codes.
-  routesInUse() {
-    const count = this.number(this.memory.placeOf('table', 'count', this.at.table));
-    return this.memory.list('route', this.memory.placeOf('table', 'routes', this.at.table), count).map((route) => ({
+  // The routes of a table in use, in the order of their codes.
+  routesInUse(at = this.at.table) {
+    const count = this.number(this.memory.placeOf('table', 'count', at));
+    return this.memory.list('route', this.memory.placeOf('table', 'routes', at), count).map((route) => ({
       code: String(route.code).slice(1),      // a 1 stands before it
       trunk: route.trunk,
       deleted: route.deleted,
@@ -82,9 +85,9 @@ class Module {
   putDigits(number) { this.bytes.set([...number].slice(0, MOST_NUMBER_DIGITS).map(Number), this.at.digits); }
 
   // The code of the route that decides a number, which is the beginning of the number; empty where no route does.
-  codeOf(number) {
+  codeOf(number, at = this.at.table) {
     this.putDigits(number);
-    const status = this.calls.mfweb_route(BigInt(this.at.table), BigInt(this.at.digits),
+    const status = this.calls.mfweb_route(BigInt(at), BigInt(this.at.digits),
       BigInt(Math.min(number.length, MOST_NUMBER_DIGITS)), BigInt(this.at.place));
     return status ? '' : number.slice(0, this.number(this.at.place));
   }
@@ -189,6 +192,32 @@ class Module {
     if (status) throw new Error(`nothing is heard: status ${status}`);
     const key = keyOf(this.memory.read('heard', this.at.heard));
     return key.kind ? key : null;
+  }
+
+  // ---- what another office makes of it
+
+  // What an incoming register tells of keys with their times, of no more than there is room for: the outcomes that are
+  // certain, or where they have ended, all of them.
+  incoming(keys, hasEnded) {
+    const bytes = this.memory.bytesOf('timed');
+    keys.forEach(({ kind, digit, begin, end }, i) => {
+      const times = { begin_ms: BigInt(begin), end_ms: BigInt(end) };
+      this.memory.write('timed', this.at.timed + bytes * i, { kind, digit, ...times });
+    });
+    const status = this.calls.mfweb_incoming(BigInt(this.at.timed), BigInt(keys.length), Number(hasEnded),
+      BigInt(this.at.outcomes), BigInt(keys.length + 1), BigInt(this.at.count));
+    if (status) throw new Error(`no register: status ${status}`);
+    return this.memory.list('outcome', this.at.outcomes, this.number(this.at.count));
+  }
+
+  // The marks by which an outcome goes on, by the table at a place.
+  onward({ kind, count, digits }, at) {
+    this.memory.write('outcome', this.at.outcome, { kind, count });
+    this.bytes.set(digits, this.memory.placeOf('outcome', 'digits', this.at.outcome));
+    const status = this.calls.mfweb_onward(BigInt(at), BigInt(this.at.outcome), BigInt(this.at.marks),
+      BigInt(MOST_MARKS), BigInt(this.at.count));
+    if (status) throw new Error(`nothing goes on: status ${status}`);
+    return this.memory.list('mark', this.at.marks, this.number(this.at.count));
   }
 }
 

@@ -1,10 +1,10 @@
-// The office on the page: its telephones, the route table, the sender, the tape, and what a visitor does with them.
+// The office on the page: its telephones, the route table, the sender, the tape, the next office, and what a visitor
+// does with them.
 
 const LINES = [7, 8, 9];
 const FIRST_CALL = '411';
 const CALLS_AT_ONCE = ['2345678', '411', '0'];
 const TOLD_EACH_MS = 20;
-const TYPING_ENDS_MS = 300;
 const RESTS_MS = 250;
 
 class Office {
@@ -14,13 +14,15 @@ class Office {
     this.clock = new Clock();
     this.sound = new Sound();
     this.route = new RouteView($('route'), $('trunk'));
-    this.sender = new Sender($('tones'), $('keying'), $('far'), module, this.clock, this.sound);
+    this.table = new TableField('', reader, module.tableBytes(), (table, text) => this.useTable(table, text));
+    this.second = new SecondOffice(module, reader, (marks) => this.playOnward(marks));
+    this.sender = new Sender($('tones'), $('keying'), $('far'), module, this.clock, this.sound, this.second);
     this.tape = new Tape($('roll'), $('entries'));
     this.keepsakes = new Keepsakes(this);
     this.tableInUse = '';
     this.explain = new Explain(this);
     this.decks = new Decks(wasm);
-    this.recordings = new Recordings(module);
+    this.recordings = new Recordings(module, this.second);
     this.coming = [];
     this.demonstrated = 0;     // how many calls of a demonstration are still to give their entry
     this.resting = null;       // the timer of the next picture, where nothing moves
@@ -83,6 +85,7 @@ class Office {
     this.setRow(false);
     this.sender.clear();
     this.route.clear();
+    this.second.clear();
     this.demonstrate();
   }
 
@@ -141,41 +144,20 @@ class Office {
 
   // ---- the route table
 
-  // A table is judged once its writer stops for a moment: else a fault would be read out for each letter.
-  tableTyped() {
-    clearTimeout(this.typing);
-    this.typing = setTimeout(() => this.useTable(), TYPING_ENDS_MS);
+  useTable(table, text) {
+    this.module.useTable(table);
+    this.tableInUse = text;
+    this.telephones.forEach((telephone) => telephone.reset());
+    this.route.use(this.module.routesInUse());
+    this.sender.clear();
   }
 
-  useTable() {
-    const text = $('routes').value;
-    try {
-      this.module.useTable(this.reader.table(text, this.module.tableBytes()));
-      this.tableInUse = text;
-      this.tellOfTable('', this.reader.toldOfTable(text));
-      $('routes').removeAttribute('aria-invalid');
-      this.telephones.forEach((telephone) => telephone.reset());
-      this.route.use(this.module.routesInUse());
-      this.sender.clear();
-    } catch (fault) {
-      if (!(fault instanceof Refused)) throw fault;
-      this.tellOfTable(`Refused: ${fault.message}. The table before it stays in use.`, fault.told);
-      $('routes').setAttribute('aria-invalid', 'true');
-    }
-  }
+  // ---- the next office
 
-  // A table that is in use may have keys that no rule names: these are told too.
-  tellOfTable(fault, told) {
-    $('fault').textContent = fault;
-    showPlaces($('places'), told, (line) => this.chooseLine(line));
-  }
-
-  // Chooses a text line of the table.
-  chooseLine(line) {
-    const lines = $('routes').value.split('\n');
-    const from = lines.slice(0, line - 1).join('\n').length + (line > 1 ? 1 : 0);
-    $('routes').focus();
-    $('routes').setSelectionRange(from, from + lines[line - 1].length);
+  // Has a keying of the next office sound.
+  playOnward(marks) {
+    this.setSound(true);
+    this.sound.play(this.sender.samplesOf(this.sender.timesOf(keysOf(marks), 1)));
   }
 
   // ---- what the visitor does
@@ -186,7 +168,6 @@ class Office {
     $('sound').addEventListener('click', () => this.setSound(!this.sound.isOn));
     $('pace').addEventListener('change', () => { this.move(); this.clock.setPace(Number($('pace').value)); });
     $('noise').addEventListener('change', () => { this.sender.noise = Number($('noise').value); });
-    $('routes').addEventListener('input', () => this.tableTyped());
     $('example').addEventListener('click', () => this.readExample());
     $('file').addEventListener('change', () => {
       this.readFile($('file').files[0]);
@@ -309,7 +290,8 @@ class Office {
   }
 
   begin() {
-    this.useTable();
+    this.table.judge();
+    this.second.table.judge();
     this.listen();
     // nobody asked for what the page shows at first, so it is not said
     $('read').setAttribute('aria-live', 'off');
@@ -329,7 +311,7 @@ class Office {
 
   // Whether calls are said to those who hear the page.
   setSaid(isSaid) {
-    for (const it of document.querySelectorAll('#roll, .heard, .spoken')) {
+    for (const it of document.querySelectorAll('#roll, #second-roll, .heard, .spoken')) {
       it.setAttribute('aria-live', isSaid ? 'polite' : 'off');
     }
   }

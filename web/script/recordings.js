@@ -1,5 +1,5 @@
-// Recordings that are dropped or chosen, and the microphone. The browser makes 8,000 samples a second of them, and the
-// module's ear hears these.
+// Recordings that are dropped or chosen, and the microphone. The browser makes 8,000 samples a second of them, the
+// module's ear hears these, and the next office takes what it hears.
 
 const SAMPLES_A_SECOND = 8000;
 const MOST_RECORDING_BYTES = 67108864;
@@ -26,8 +26,8 @@ function loudest(buffer) {
 }
 
 class Recordings {
-  constructor(module) {
-    Object.assign(this, { module, turn: 0, microphone: null, isReading: false });
+  constructor(module, second) {
+    Object.assign(this, { module, second, turn: 0, microphone: null, isReading: false });
     this.keyings = new Keyings($('keyings'));
     $('microphone').addEventListener('click', () => (this.isHearing() ? this.stop() : this.listen()));
     $('recording').addEventListener('change', () => {
@@ -52,8 +52,19 @@ class Recordings {
   begin() {
     this.stop();
     this.ear = new Ear(this.module);
+    this.trunk = this.second.trunk();
     this.keyings.clear();
     return ++this.turn;
+  }
+
+  heard(keys) {
+    this.keyings.add(keys);
+    this.trunk.take(keys);
+  }
+
+  ended() {
+    this.heard(this.ear.end());
+    this.trunk.end();
   }
 
   // ---- a recording
@@ -69,7 +80,7 @@ class Recordings {
     }
     this.setReading(true);
     for (let at = 0, told = 1; at < samples.length; at += SAMPLES_A_TURN) {
-      this.keyings.add(this.ear.hear(wholeSamples(samples.subarray(at, at + SAMPLES_A_TURN))));
+      this.heard(this.ear.hear(wholeSamples(samples.subarray(at, at + SAMPLES_A_TURN))));
       await nextTurn();
       if (turn !== this.turn) return;
       const tenth = Math.floor(10 * at / samples.length);
@@ -77,7 +88,7 @@ class Recordings {
       told = Math.max(told, tenth + 1);
     }
     this.setReading(false);
-    this.keyings.add(this.ear.end());
+    this.ended();
     const seconds = (samples.length / SAMPLES_A_SECOND).toFixed(1);
     this.say(`${file.name}: ${plural(this.keyings.count, 'key')} in ${seconds} s.`);
   }
@@ -132,7 +143,7 @@ class Recordings {
 
   hearNow(samples) {
     if (!this.microphone) return;
-    this.keyings.add(this.ear.hear(wholeSamples(samples)));
+    this.heard(this.ear.hear(wholeSamples(samples)));
   }
 
   stop() {
@@ -141,7 +152,7 @@ class Recordings {
     this.microphone?.close();
     this.microphone = null;
     this.setReading(false);
-    this.keyings.add(this.ear.end());
+    this.ended();
     this.say(`${plural(this.keyings.count, 'key')} heard.`);
   }
 }

@@ -1,6 +1,6 @@
 // The sender: the keys of a call as pairs of bars on six lanes, one for each frequency, their sound, and what the far
-// end hears of it. Calls that are keyed at once wait for one another here, so that each is seen and heard; in an office
-// each has its own sender.
+// end hears of it, which the next office takes. Calls that are keyed at once wait for one another here, so that each is
+// seen and heard; in an office each has its own sender.
 
 const FREQUENCIES = [700, 900, 1100, 1300, 1500, 1700];
 const LANE_WEIGHTS = { 700: '0', 900: '1', 1100: '2', 1300: '4', 1500: '7', 1700: '' };
@@ -17,8 +17,8 @@ function noisy(samples, most) {
 }
 
 class Sender {
-  constructor(top, status, far, module, clock, sound) {
-    Object.assign(this, { top, status, far, module, clock, sound });
+  constructor(top, status, far, module, clock, sound, second) {
+    Object.assign(this, { top, status, far, module, clock, sound, second });
     this.noise = 0;
     this.cadence = module.cadence();
     this.waiting = [];
@@ -32,7 +32,8 @@ class Sender {
 
   isIdle() { return !this.playing && this.waiting.length === 0; }
 
-  sendAgain() { if (this.last && !this.playing) this.waiting.push(this.last); }
+  // It was taken by the next office before.
+  sendAgain() { if (this.last && !this.playing) this.waiting.push({ ...this.last, isAgain: true }); }
 
   clear() {
     this.waiting = [];
@@ -78,7 +79,8 @@ class Sender {
     keying.times.forEach((time, i) => { time.group = groups[i]; });
     const samples = noisy(this.samplesOf(keying), this.noise);
     const silence = this.sound.play(samples);
-    const hearing = { samples: wholeSamples(samples), ear: new Ear(this.module), sounded: 0, heard: [] };
+    const trunk = call.isAgain ? null : this.second.trunk();
+    const hearing = { samples: wholeSamples(samples), ear: new Ear(this.module), sounded: 0, heard: [], trunk };
     this.playing = { ...call, ...keying, ...hearing, silence, began: performance.now() };
   }
 
@@ -87,20 +89,25 @@ class Sender {
 
   // The far end hears what has sounded so far.
   hearUntil(ms) {
-    const { samples, ear, sounded, heard } = this.playing;
+    const { samples, ear, sounded, heard, trunk } = this.playing;
     const until = Math.min(samples.length, SAMPLES_A_MS * Math.floor(ms));
     if (until <= sounded) return;
-    heard.push(...ear.hear(samples.subarray(sounded, until)));
+    const keys = ear.hear(samples.subarray(sounded, until));
+    heard.push(...keys);
     this.playing.sounded = until;
+    trunk?.take(keys);
     this.far.textContent = heardText(heard);
   }
 
   end() {
     this.hearUntil(Infinity);
-    const { ear, heard, keys, tell } = this.playing;
+    const { ear, heard, keys, tell, trunk } = this.playing;
     this.playing = null;
     this.redraw();         // the page may have another width by now
-    tell(keys, [...heard, ...ear.end()]);
+    const last = ear.end();
+    tell(keys, [...heard, ...last]);
+    trunk?.take(last);
+    trunk?.end();
   }
 
   move() {

@@ -1,10 +1,11 @@
-// The scripts of the page that draw nothing, for Node: the module's calls, its ears, and those of the reader.
+// The scripts of the page that draw nothing, for Node: the module's calls, its ears, what a register takes,
+// and the calls of the reader.
 'use strict';
 const fs = require('fs');
 const path = require('path');
 
-const SCRIPTS = ['reader.js', 'memory.js', 'module.js', 'ear.js'];
-const NAMES = ['Module', 'Reader', 'Refused', 'Kind', 'Ear', 'heardText'];
+const SCRIPTS = ['reader.js', 'memory.js', 'module.js', 'ear.js', 'incoming.js'];
+const NAMES = ['Module', 'Reader', 'Refused', 'Kind', 'Ear', 'heardText', 'Incoming', 'timedKeyOf'];
 const readScript = (name) => fs.readFileSync(path.join(__dirname, '..', 'script', name), 'utf8');
 const text = SCRIPTS.map(readScript).join('\n');
 const chain = new Function(`'use strict';\n${text}\nreturn { ${NAMES.join(', ')} };`)();

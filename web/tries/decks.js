@@ -1,5 +1,6 @@
 // node tries/decks.js PAGE EXAMPLES MFBANK MFCHECK: decks through the page's reader (reader.js), and rows through its
-// module, in Node: a row takes less than a microsecond, and the sound of EXAMPLES is heard.
+// module, in Node: a row takes less than a microsecond, the sound of EXAMPLES is heard,
+// and the next office makes of keys what the rules say.
 'use strict';
 const fs = require('fs');
 const path = require('path');
@@ -8,6 +9,7 @@ const { Module, Reader, modulesOf } = require('./chain.js');
 const { is, end } = require('./checks.js');
 const { tryEars } = require('./ears.js');
 const { tryReader } = require('./reader.js');
+const { trySecond } = require('./second.js');
 const { dialRows } = require('./seeds.js');
 const { tryTaken } = require('./taken.js');
 
@@ -63,6 +65,7 @@ async function main() {
     const nanoseconds = nanosecondsOfRow(module, reader.table('', module.tableBytes()));
     is(`${nanoseconds.toFixed(0)} ns a row, by ${name}`, nanoseconds < MOST_NANOSECONDS, true);
     tryEars(module, name, read);
+    trySecond(module, name, reader, read);
   }
   end();
 }

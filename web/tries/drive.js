@@ -1,6 +1,6 @@
 // node tries/drive.js PAGE EXAMPLES MFBANK MFHEAR [PICTURES]: drives the page in Chromium as a visitor would, and
-// compares its tape, its pictures, its sound, what it hears and its pages of decks with what they should be. Pictures
-// of the page are put into PICTURES.
+// compares its tape, its pictures, its sound, what it hears, what the next office makes of that, and its pages of decks
+// with what they should be. Pictures of the page are put into PICTURES.
 'use strict';
 const fs = require('fs');
 const path = require('path');
@@ -12,6 +12,7 @@ const { tryFirst } = require('./first.js');
 const { tryKept } = require('./kept.js');
 const { tryRecordings, tryMicrophone } = require('./recorded.js');
 const { tryNames, tryKeysAlone, tryOpening, tryPhone, tryLessMotion, takePictures } = require('./looks.js');
+const { tryNext } = require('./next.js');
 const { tryShown } = require('./shown.js');
 const { TapeTry } = require('./tape.js');
 const { tryTree } = require('./tree.js');
@@ -42,6 +43,7 @@ async function tryAll(it) {
   await tryLongDeck(it, mfbank, table);
   await tryRecordings(it, examples, read);
   await tryMicrophone(it, read);
+  await tryNext(it, file, read);
   await tryNames(it);
   await tryTree(it);
   await tryKeysAlone(it);

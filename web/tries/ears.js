@@ -88,4 +88,4 @@ function tryEars(module, name, read) {
   tryNoTable(module, name);
 }
 
-module.exports = { tryEars, keysOfPage };
+module.exports = { tryEars, keysOfPage, samplesOf };

@@ -9,7 +9,8 @@ const { BY_OPERATOR } = require('./calls.js');
 const CONTROLS = ['button', 'link', 'textbox', 'combobox', 'radio', 'checkbox', 'progressbar', 'image', 'log', 'region',
   'Canvas', 'DisclosureTriangle'];
 const TABBED = ['demo', 'sound', 'row', 'pace', 'keys', 'Dial 1 on line 7', 'Lift the receiver, line 7',
-  'noise', 'recording', 'microphone', 'heard', 'routes', 'file', 'example', 'roll', 'page'];
+  'noise', 'recording', 'microphone', 'heard', 'second-routes', 'second-roll', 'routes', 'file', 'example', 'roll',
+  'page'];
 
 async function tryNames(it) {
   const { nodes } = await it.send('Accessibility.getFullAXTree');
@@ -22,7 +23,8 @@ async function tryNames(it) {
   is('so has all that takes the keys', nameless(focusable), []);
   const live = await it.run(`[...document.querySelectorAll('[role=log], [role=alert], [role=status]')]
     .map((it) => it.id)`);
-  const wanted = ['lacking', 'roll', 'kept', 'listening', 'heard', 'fault', 'places', 'read', 'deck-places'];
+  const wanted = ['lacking', 'roll', 'kept', 'listening', 'heard', 'second-fault',
+    'second-places', 'second-roll', 'fault', 'places', 'read', 'deck-places'];
   is('the tape, what is heard and the faults are live', live, wanted);
 }
 

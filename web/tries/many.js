@@ -1,6 +1,7 @@
 // node tries/many.js PAGE EXAMPLES MFBANK [chromium|firefox ...]: 1,000 decks that are made by a seed go through the page in
 // each of these browsers, chosen in its file field, and have to give what MFBANK gives, faults too. Half of them have
-// tables in all sorts of TOML, or faulty rows. A call is dialled first, by keys.
+// tables in all sorts of TOML, or faulty rows. Calls are dialled first, by keys and by a button, and go on in the next
+// office.
 'use strict';
 const { spawnSync } = require('child_process');
 const fs = require('fs');
@@ -9,6 +10,7 @@ const { pathToFileURL } = require('url');
 const { Browser } = require('./browser.js');
 const { Firefox } = require('./firefox.js');
 const { is, end } = require('./checks.js');
+const { printedByB } = require('./next.js');
 const { deckOf, deckOfSeededTable, seeded } = require('./seeds.js');
 
 const DECKS = Number(process.env.DECKS) || 1000;
@@ -58,6 +60,12 @@ async function tryBrowser(name, it, file, decks, wanted) {
   await it.until('document.querySelectorAll("#entries li").length >= 1');
   const entry = await it.run('document.querySelector("#entries code").textContent');
   is(`0 is dialled, in ${name}`, entry, '0007 1 KEYED 0001 KP:1100+1700 0:1300+1500 ST:1500+1700');
+  await it.run(`document.querySelector('[data-number="2345678"]').click()`);
+  await it.until('document.querySelectorAll("#second-entries li").length >= 2');
+  const onward = await it.run('[...document.querySelectorAll("#second-entries code")].map((it) => it.textContent)');
+  const [line] = printedByB();
+  is(`234 5678 goes on in the next office, and 0 has no route there, in ${name}`, onward,
+    ['0000 1 REFUSED UNKNOWN 1', line.replace('0000 1', '0000 2')]);
   await it.run(KEEP_SAVED);
   const given = [];
   for (let at = 0; at < decks.length; at += AT_ONCE) {

@@ -1,5 +1,6 @@
-// node tries/taken.js MFCHAIN: what a row of a line gives, by web/mfchain.mjs in Node, beside what a person reckons; each
-// refusal, in order, with nothing changed; and the layout that the module tells, beside the rules of C.
+// node tries/taken.js MFCHAIN: what a row of a line gives, by web/mfchain.mjs in Node, beside what a person reckons;
+// each refusal, in order, with nothing changed; what a register takes of a sound; and the layout that the module tells,
+// beside the rules of C.
 'use strict';
 const path = require('path');
 const { pathToFileURL } = require('url');
@@ -124,12 +125,39 @@ function sizesOf(memory) {
   return sizes.size;
 }
 
+// ---- an incoming register, of what an ear hears
+
+const KEYS = { 2: [700, 1100], 3: [900, 1100], 4: [700, 1300], 5: [900, 1300], 6: [1100, 1300], 7: [700, 1500],
+  8: [900, 1500], KP: [1100, 1700], ST: [1500, 1700], other: [700, 1700] };
+const KEY_SAMPLES = 544;
+
+const TAKEN = [
+  ['KP 2 3 4 5 6 7 8 ST', ['KEYED 0017 KP 5 6 5 6 7 8 ST']],
+  ['KP 2 3 4 ST KP 5 ST', ['KEYED 0017 KP 5 6 ST', 'REFUSED UNKNOWN 1']],
+  ['KP 2 other 3 ST', ['REFUSED MUTILATED 1']],
+  ['KP 2 3', ['REFUSED ABANDONED 2']],
+  ['2 3 ST', []],
+];
+
+function trySounds(chain, { Ear, Register }) {
+  for (const [names, wanted] of TAKEN) {
+    const [ear, register] = [new Ear(chain), new Register(chain)];
+    const keys = names.split(' ').flatMap((name) => {
+      return [chain.tone(...KEYS[name], KEY_SAMPLES), new Int16Array(KEY_SAMPLES)].flatMap((samples) => ear.hear(samples));
+    });
+    const given = [...[...keys, ...ear.end()].flatMap((key) => register.take(key)), ...register.end()];
+    const words = given.map(({ entry }) => entry.replace(/:[0-9]+[+][0-9]+/g, ''));
+    is(`a register takes ${names}`, words, wanted.map((entry, i) => `0000 ${i + 1} ${entry}`));
+  }
+}
+
 async function tryTaken(file) {
-  const { open, Refused } = await import(pathToFileURL(path.resolve(file)));
+  const { open, Refused, Ear, Register } = await import(pathToFileURL(path.resolve(file)));
   const chain = await open(TABLE);
   tryRows(chain);
   tryRefusals(chain, Refused);
-  is('the layout is that of C', sizesOf(chain.module.memory), 5 + 13);
+  trySounds(chain, { Ear, Register });
+  is('the layout is that of C', sizesOf(chain.module.memory), 5 + 15);
 }
 
 module.exports = { tryTaken };

@@ -75,8 +75,9 @@ class Visitor extends Browser {
     })()`);
   }
 
-  async write(table) {
-    await this.run('document.getElementById("routes").focus(); document.getElementById("routes").select()');
+  // Writes a table, of the first office or by the field of another one.
+  async write(table, id = 'routes') {
+    await this.run(`document.getElementById('${id}').focus(); document.getElementById('${id}').select()`);
     await this.send('Input.insertText', { text: table });
     await sleep(500);
   }

@@ -6,3 +6,4 @@ pub mod Lamps
 pub mod Wrong
 pub mod Taken
 pub mod Told
+pub mod Onward

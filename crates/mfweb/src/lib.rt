@@ -14,6 +14,8 @@
 //! - `mfweb_entry`: the line of the page of these marks.
 //! - `mfweb_ear`, `mfweb_hear` and `mfweb_heard`: what a receiver hears of samples, in parts of any lengths:
 //!   the keys are those of `keys_of_sound` of `xb_ear`.
+//! - `mfweb_incoming`: what an incoming register tells of keys that were heard, and of their end: the outcomes
+//!   of `xb_incoming`. `mfweb_onward`: the marks of an outcome by a table.
 //! - `mfweb_tone`: the samples of a tone, as in `xb_sound`. `mfweb_limits` and `mfweb_cadence`: the standard
 //!   values. `mfweb_layout`: where the fields of each struct stand.
 #![tactic(auto)]
@@ -25,6 +27,7 @@ pub mod laws;
 mod layout;
 mod listening;
 mod names;
+mod onward;
 mod status;
 mod taking;
 mod telling;
@@ -35,5 +38,6 @@ pub use exports::{
 };
 pub use layout::mfweb_layout;
 pub use listening::{mfweb_ear, mfweb_hear, mfweb_heard};
+pub use onward::{mfweb_incoming, mfweb_onward};
 pub use taking::{mfweb_lamps, mfweb_reopen, mfweb_take};
 pub use telling::{mfweb_number, mfweb_tell};

@@ -1,8 +1,11 @@
-// The statuses of the calls that other libraries do not have.
+// The statuses of the calls.
 ghost use Rattle.std.specs.Prelude.{◌≡◌, ◌≢◌};
 ghost use Rattle.mfweb.specs.Showing.{print_status};
 
 use xb_structs::PrintFault;
+
+/// There is too little room.
+pub(crate) const NO_ROOM: u32 = 7;
 
 /// The digits begin with no code of the table.
 pub(crate) const NO_CODE: u32 = 20;
@@ -16,7 +19,7 @@ pub(crate) fn print_status(fault: PrintFault) -> u32
     ensures not_done { result ≢ 0 }
 {
     match fault {
-        PrintFault::Room => 7,
+        PrintFault::Room => NO_ROOM,
         PrintFault::Marks => 19,
     }
 }

@@ -1,0 +1,5 @@
+pub mod Keys
+pub mod Outcomes
+pub mod Registering
+pub mod Sending
+pub mod Forgetting
