@@ -1,5 +1,5 @@
 -- No silence inside a keying is heard as long as a time-out that outlasts the gaps of the sender.
-use Rattle.std.proofs.Common.{◌≡◌, ◌∙◌, ℕ, ◌+◌, ◌-◌, ◌*◌, ◌/◌, ◌<◌, ◌≤◌, Bool, true, false, List, [], ◌∷◌, ◌++◌, map, sym, ap, arith, refl, ℤ}
+use Rattle.std.proofs.Common.{◌≡◌, ◌∙◌, ℕ, ◌+◌, ◌-◌, ◌*◌, ◌/◌, ◌<◌, ◌≤◌, ◌^◌, min, Bool, true, false, List, [], ◌∷◌, ◌++◌, map, sym, ap, arith, refl, ℤ}
 use Rattle.std.proofs.lemmas.Bool.{false≢true, lt-leb}
 use Rattle.xb_model.specs.declared.key.Key.TheVariants.{Digit, Kp, St}
 use Rattle.xb_model.specs.declared.key.Tone.{Tone as Pair}
@@ -45,7 +45,7 @@ orders-open (orders.Refused reason heard ∷ more) led = orders-open more led
 record IsAfter (cadence : Cadence) (at last : ℕ) : Type 0 where
   end : ℕ
   gap : at ≡ end + cadence.gap_ms * 8
-  heard : (20 * past_within end + 23) / 8 ≤ last
+  heard : min ((20 * past_within end + 33) / 8) (2 ^ 64 - 1) ≤ last
 
 abbrev IsSince : Bool → Cadence → ℕ → ℕ → Type 0
 IsSince true cadence at last = Unit {0}
@@ -60,7 +60,7 @@ early limit cadence at last key outlasts since first =
     lt-leb limit (begin_of key - last) silence
 
 ended : (key : Heard) (end : ℕ) → past_within end ≤ key.past
-    → (20 * past_within end + 23) / 8 ≤ begin_of key + length_of key
+    → min ((20 * past_within end + 33) / 8) (2 ^ 64 - 1) ≤ min (begin_of key + length_of key) (2 ^ 64 - 1)
 ended key end past = omega (arith, past)
 
 first-pair : (p q : Pair) (ps qs : List Pair) → p ∷ ps ≡ q ∷ qs → p ≡ q
@@ -85,7 +85,7 @@ placed-in-time limit cadence outlasts (Tone key p ∷ marks) led at last (k ∷ 
     let what : symbol_of_pair k.sight.pair ≡ symbol_of key =
     ap symbol_of_pair (pair ∙ keyed.0.1) ∙ ap first_symbol (keys_with-pair key keyed.0.0) in (
       in-time led opens since what,
-      placed-in-time limit cadence outlasts marks false (end + cadence.gap_ms * 8) (begin_of k + length_of k) keys
+      placed-in-time limit cadence outlasts marks false (end + cadence.gap_ms * 8) (min (begin_of k + length_of k) (2 ^ 64 - 1)) keys
           (later led opens) keyed.1 (later-pairs k.sight.pair p (pairs_in keys) (tones_of marks) pairs) are.2
           (record { end = end; gap = refl; heard = ended k end are.1 }),
     )

@@ -4,6 +4,7 @@ pub mod Parts
 pub mod Placed
 pub mod Orders
 pub mod Gaps
+pub mod Told
 pub mod Registered
 pub mod Dialled
 pub mod Network

@@ -1,5 +1,5 @@
 -- What an ear hears, as a register takes it.
-use Rattle.std.specs.Prelude.{ℕ, ◌+◌, ◌-◌, ◌*◌, ◌/◌, ◌≤◌, List, [], ◌∷◌, map, ℤ}
+use Rattle.std.specs.Prelude.{◌≡◌, ℕ, ◌+◌, ◌-◌, ◌*◌, ◌^◌, ◌≤◌, min, List, [], ◌∷◌, map, ℤ}
 use Rattle.xb_model.specs.declared.key.Key.{Key}
 use Rattle.xb_model.specs.declared.key.Key.TheVariants as keys
 use Rattle.xb_model.specs.declared.key.Tone.{Tone as Pair}
@@ -7,6 +7,8 @@ use Rattle.xb_sound.specs.declared.cadence.Cadence.{Cadence}
 use Rattle.xb_sound.specs.HeardKeys.{frequencies_of, keys_with}
 use Rattle.xb_ear.specs.declared.hearing.Heard.{Heard}
 use Rattle.xb_ear.specs.Receivers.{keys_of_sound}
+use Rattle.xb_measured.specs.Figures.{length_ms, ms_of, start_ms}
+use Rattle.xb_measured.specs.Tapes.{heard_in}
 use Rattle.xb_incoming.specs.declared.key.Symbol.{Symbol}
 use Rattle.xb_incoming.specs.declared.key.Symbol.TheVariants.{Digit, Kp, St, Other}
 use Rattle.xb_incoming.specs.declared.key.TimedKey.{TimedKey}
@@ -24,29 +26,34 @@ first_symbol (key ∷ more) = symbol_of key
 abbrev pub symbol_of_pair : Pair → Symbol
 symbol_of_pair p = first_symbol (keys_with (frequencies_of p))
 
--- a window begins with each 20th sample, and speaks for those in its middle, of 8 in a ms; the times are those that are
--- told of a key: when it begins, and how long it lasts, in whole ms
+-- the times that are told of a key, in whole ms: when it begins, and how long it lasts
 abbrev pub begin_of : Heard → ℕ
-begin_of key = (20 * key.first + 30) / 8
+begin_of key = ms_of (20 * key.first + 20)
 
 abbrev pub length_of : Heard → ℕ
-length_of key = 20 * (key.past - key.first) / 8
+length_of key = ms_of (20 * (key.past - key.first) + 20)
 
+-- a key as a register takes it of what is told: counting stops at the greatest number that there is
 abbrev pub timed_of : Heard → TimedKey
 timed_of key = record {
   what = symbol_of_pair key.sight.pair;
   begin_ms = begin_of key;
-  end_ms = begin_of key + length_of key;
+  end_ms = min (begin_of key + length_of key) (2 ^ 64 - 1);
 }
 
 -- the keys of a sound, with their times
 abbrev pub timed_keys : List ℤ → List TimedKey
 timed_keys samples = map timed_of (keys_of_sound samples)
 
+-- they are those of the key as it is measured, whatever the samples
+abbrev pub TimesAreTold : Type 0
+TimesAreTold = (samples : List ℤ) (key : Heard)
+    → (start_ms (heard_in samples key) ≡ begin_of key) × (length_ms (heard_in samples key) ≡ length_of key)
+
 -- a silence is heard less than this longer than it is, in ms: a window lasts 10 ms, one begins every 2.5 ms, and a key
 -- begins and ends with the windows that lie in its tone
 abbrev pub EDGES_MS : ℕ
-EDGES_MS = 14
+EDGES_MS = 12
 
 -- the time-out of a register outlasts the silences between the keys of a keying
 abbrev pub OutlastsGaps : ℕ → Cadence → Type 0

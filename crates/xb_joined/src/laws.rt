@@ -2,14 +2,21 @@
 ghost use Rattle.xb_joined.specs.Dialled.{DialledIsRegistered};
 ghost use Rattle.xb_joined.specs.Network.{DialledInTurn, OfficesInTurn};
 ghost use Rattle.xb_joined.specs.Tandem.{NumbersAreRegistered, TapeIsRegistered};
+ghost use Rattle.xb_joined.specs.Timed.{TimesAreTold};
 ghost use Rattle.xb_joined.specs.Worked.{AreSentAsWorked};
 
 use xb_calls::laws::dialled_is_heard;
 use xb_ear::laws::disturbed_keys_are_heard;
 
+/// The times of a key are those that a receiver tells of it, once it is measured.
+#[tactic(auto, using(crate::proofs::Told::times_told))]
+pub fn times_are_told()
+    ensures { TimesAreTold }
+{}
+
 /// **What an office keys on a line is what the register of the next office takes**: of the sound of a line's tape,
 /// disturbed as far as the ear bears, one outcome for each keying, in order, with its digits; and the tape of the next
-/// office are their entries by its own routes. The time-out of the register is 14 ms or more longer than the silence
+/// office are their entries by its own routes. The time-out of the register is 12 ms or more longer than the silence
 /// after each tone.
 pub fn keyed_is_taken()
     ensures { TapeIsRegistered }

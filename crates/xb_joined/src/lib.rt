@@ -9,6 +9,7 @@
 //!
 //! Each asks that the time-out of a register outlasts the silences that the sender leaves between the keys of a keying
 //! (`OutlastsGaps`).
+//! - `laws::times_are_told`: the times by which keys are taken are those that a receiver tells of them.
 #![tactic(auto)]
 
 pub mod laws;
