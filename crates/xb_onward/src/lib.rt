@@ -9,12 +9,10 @@
 //! - `laws::stands_as_at_first`: after an ST that told an outcome, and before a KP, the keys so far may be forgotten.
 #![tactic(auto)]
 
-mod digits;
 mod key;
 pub mod laws;
 mod outcome;
 mod registering;
-mod search;
 mod sending;
 
 pub use key::PlainKey;

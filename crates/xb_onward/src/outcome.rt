@@ -2,8 +2,8 @@
 ghost use Rattle.std.specs.Prelude.{◌≡◌};
 ghost use Rattle.xb_onward.specs.Outcomes.{outcome_in, reason_in, reason_number};
 
-use crate::digits::{digits_of, put_digits};
 use xb_model::{Dialled, NUMBER_DIGITS, Reason};
+use xb_structs::{digits_of, put_digits};
 
 /// What became of a keying: a number, or why there is none.
 #[repr(C)]

@@ -10,11 +10,9 @@ ghost use Rattle.xb_onward.specs.Sending.{IsNotSent, Sends};
 ghost use Rattle.xb_onward.specs.declared.sending.NotSent.TheVariants.{Room};
 
 use crate::outcome::{PlainOutcome, dialled_of};
-use crate::search::look;
-use xb_model::{Dialled, Key, Mark, Order, Reason, Tone};
-use xb_routes::order_by;
+use xb_model::{Dialled, LineNo};
 use xb_sender::marks_of;
-use xb_structs::{PlainMark, PlainRoute, PlainTable, deciding};
+use xb_structs::{PlainMark, PlainRoute, PlainTable, deciding, order_of, put_marks};
 
 /// Why an outcome gives no marks. The first in this order is returned.
 #[derive(Clone, Copy, Debug, PartialEq, Eq)]
@@ -36,52 +34,6 @@ fn routes_of(table: &PlainTable) -> Option<&[PlainRoute]>
     }
 }
 
-// The order of an outcome.
-fn order_of(routes: &[PlainRoute], dialled: &Dialled) -> Order
-    ensures { (all : List CodedRoute) → AreRoutes routes.now all → result ≡ order_of all dialled.now }
-{
-    match dialled {
-        Dialled::Refused(reason, heard) => Order::Refused(*reason, *heard),
-        Dialled::Number(number) => order_by(look(routes, number.digits()).as_ref(), number),
-    }
-}
-
-// A mark on line 0 as plain numbers.
-fn plain(mark: &Mark) -> PlainMark
-    ensures { result ≡ mark_on 0 mark.now }
-{
-    let (kind, value, low, high) = match mark {
-        Mark::Trunk(trunk) => (0, u32::from(trunk.get()), 0, 0),
-        Mark::Tone(Key::Digit(digit), Tone { low, high }) => {
-            (1, u32::from(digit.get()), u32::from(*low), u32::from(*high))
-        }
-        Mark::Tone(Key::Kp, Tone { low, high }) => (2, 0, u32::from(*low), u32::from(*high)),
-        Mark::Tone(Key::St, Tone { low, high }) => (3, 0, u32::from(*low), u32::from(*high)),
-        Mark::Refused(Reason::Mutilated, heard) => (4, u32::from(*heard), 0, 0),
-        Mark::Refused(Reason::Unknown, heard) => (5, u32::from(*heard), 0, 0),
-        Mark::Refused(Reason::Abandoned, heard) => (6, u32::from(*heard), 0, 0),
-        Mark::Refused(Reason::TimedOut, heard) => (7, u32::from(*heard), 0, 0),
-    };
-    PlainMark {
-        line: 0,
-        kind,
-        value,
-        low,
-        high,
-    }
-}
-
-// Writes marks to the front of the room, on line 0.
-fn put_marks(marks: &[Mark], room: &mut [PlainMark])
-    requires { length marks.now ≤ length room.old }
-    ensures written { take (length marks.now) room.new ≡ map (mark_on 0) marks.now }
-    ensures length { length room.new ≡ length room.old }
-{
-    for (i, mark) in marks.iter().enumerate() {
-        room[i] = plain(mark);
-    }
-}
-
 // The marks of an outcome by these routes.
 fn put_order(
     routes: &[PlainRoute],
@@ -100,7 +52,7 @@ fn put_order(
     if marks.len() > room.len() {
         return Err(NotSent::Room);
     }
-    put_marks(&marks, room);
+    put_marks(LineNo::default(), &marks, room);
     Ok(marks.len())
 }
 

@@ -11,8 +11,8 @@ fn digit_of(byte: u8) -> Digit
     Digit::new(byte).unwrap_or_default()
 }
 
-/// The digits of some bytes.
-pub(crate) fn digits_of<const CAPACITY: usize>(bytes: &[u8]) -> DigitList<CAPACITY>
+/// The digits of some bytes, 0 for what is none.
+pub fn digits_of<const CAPACITY: usize>(bytes: &[u8]) -> DigitList<CAPACITY>
     requires { length bytes.now ≤ CAPACITY }
     ensures { result ≡ map digit_in bytes.now }
 {
@@ -24,7 +24,7 @@ pub(crate) fn digits_of<const CAPACITY: usize>(bytes: &[u8]) -> DigitList<CAPACI
 }
 
 /// Writes digits to the front of the room.
-pub(crate) fn put_digits(digits: &[Digit], room: &mut [u8])
+pub fn put_digits(digits: &[Digit], room: &mut [u8])
     requires { length digits.now ≤ length room.old }
     ensures digits { map digit_in (take (length digits.now) room.new) ≡ digits.now }
     ensures bytes { take (length digits.now) room.new ≡ digits.now }

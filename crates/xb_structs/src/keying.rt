@@ -8,8 +8,8 @@ use crate::search::look;
 use xb_model::{Dialled, Order};
 use xb_routes::order_by;
 
-/// The order of what was dialled.
-pub(crate) fn order_of(routes: &[PlainRoute], dialled: &Dialled) -> Order
+/// The order of what was dialled, by routes as they stand in a table.
+pub fn order_of(routes: &[PlainRoute], dialled: &Dialled) -> Order
     ensures { (all : List CodedRoute) → AreRoutes routes.now all → result ≡ order_of all dialled.now }
 {
     match dialled {

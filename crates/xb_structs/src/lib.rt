@@ -15,6 +15,7 @@
 //! - `print_entry`: the line of the page of these marks (`entry_text`). `laws::prints_the_tape`: printed in
 //!   the row that gives it, by the line's count of entries, each is the next line of the tape.
 //! - `laws::keeps_promises`: the marks of a line are those of a live office, nothing taken back or missing.
+//! - `order_of`, `put_marks`, `digits_of` and `put_digits` are shared with what is sent on (`xb_onward`).
 //! - `take_by_status`, `refusal_status`, `fault_status`: the answers to callers of other languages.
 #![tactic(auto)]
 
@@ -43,12 +44,14 @@ mod table;
 mod taking;
 
 pub use calls::take_by_status;
+pub use digits::{digits_of, put_digits};
 pub use filling::{add, begin};
 pub use heard_signal::HeardSignal;
+pub use keying::order_of;
 pub use lamps::dialled;
 pub use line::{PlainLine, PulsePart, RegisterPart};
 pub use line_hearing::hear;
-pub use mark::PlainMark;
+pub use mark::{PlainMark, put_marks};
 pub use not_heard::NotHeard;
 pub use number::{NotRouted, route_number};
 pub use printing::{PrintFault, print_entry};

@@ -48,7 +48,7 @@ fn plain(line: LineNo, mark: &Mark) -> PlainMark
 }
 
 /// Writes marks of a line to the front of the room.
-pub(crate) fn put_marks(line: LineNo, marks: &[Mark], room: &mut [PlainMark])
+pub fn put_marks(line: LineNo, marks: &[Mark], room: &mut [PlainMark])
     requires { length marks.now ≤ length room.old }
     ensures written { take (length marks.now) room.new ≡ map (mark_on line) marks.now }
     ensures length { length room.new ≡ length room.old }
