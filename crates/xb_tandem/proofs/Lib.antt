@@ -2,6 +2,10 @@ pub mod Pages
 pub mod KeyLines
 pub mod Reading
 pub mod ObjectValues
+pub mod OneCall
+pub mod ToldOrders
+pub mod ToldFirst
+pub mod Heard
 pub mod Written
 pub mod Relayed
 pub mod Taken

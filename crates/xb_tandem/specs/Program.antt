@@ -1,5 +1,5 @@
 -- What the program did, by its status.
-use Rattle.std.specs.Prelude.{ℕ, ◌≡◌, List, [], ◌∷◌, codes, true, None, Err, Ok}
+use Rattle.std.specs.Prelude.{ℕ, zero, suc, ◌≡◌, ◌⊎◌, List, [], ◌∷◌, ◌++◌, codes, decimal, true, Option, None, Err, Ok}
 use Rattle.std.specs.List.{list_all}
 use Rattle.std.specs.Io.KnownBytes.{Keeps}
 use Rattle.clap.specs.Walk.{Text}
@@ -8,6 +8,9 @@ use Rattle.xb_command.specs.Programs.{Attends, Streams}
 use Rattle.xb_command.specs.Telling.{Tells}
 use Rattle.xb_command.specs.Usages.{names_option}
 use Rattle.xb_tandem.specs.declared.fault.TandemFault.{TandemFault}
+use Rattle.xb_text.specs.Writing.{AppendsBeginning}
+use Rattle.xb_tandem.specs.declared.request.Form.{Form}
+use Rattle.xb_tandem.specs.declared.request.Form.TheVariants as forms
 use Rattle.xb_tandem.specs.declared.request.Request.{Request}
 use Rattle.xb_tandem.specs.Options.{AreRefused, Asks}
 use Rattle.xb_tandem.specs.Relaying.{Delivers}
@@ -18,19 +21,32 @@ program = codes "mftandem"
 
 -- the line for words that are refused
 abbrev pub usage_line : List ℕ
-usage_line = codes "mftandem: usage: mftandem [--json] [--line N] [--timeout MS] TABLE [KEYS]\n"
+usage_line = codes "mftandem: usage: mftandem [--json] [--rows] [--line N] [--timeout MS] TABLE [KEYS]\n"
 
 -- it names each option of the command
 abbrev pub UsageNamesEachOption : Type 0
-UsageNamesEachOption = list_all (names_option usage_line) (codes "json" ∷ codes "line" ∷ codes "timeout" ∷ []) ≡ true
+UsageNamesEachOption = list_all (names_option usage_line)
+    (codes "json" ∷ codes "rows" ∷ codes "line" ∷ codes "timeout" ∷ []) ≡ true
+
+-- the line of a note: how many calls are not in what was written
+abbrev pub note_line : Form → ℕ → List ℕ
+note_line forms.Page left = codes "mftandem: calls by dial pulses, which --rows prints: " ++ decimal left ++ codes "\n"
+note_line forms.Json left = codes "mftandem: calls by dial pulses, which --rows prints: " ++ decimal left ++ codes "\n"
+note_line forms.Rows left = codes "mftandem: calls that are keyed or refused, which the page has: " ++ decimal left ++ codes "\n"
+
+-- a note was told, if a call is not in what was written, as far as it can be written
+abbrev pub Notes : Form → ℕ → Option (List ℕ) → Option (List ℕ) → Type 0
+Notes form zero old new = Keeps old new
+Notes form (suc n) old new = AppendsBeginning old new (note_line form (suc n)) ⊎ Tells program None old new
 
 -- the words ask for something, and exactly the page of the keys was written
 pub record WritesAll (bytes : Bytes) (words : List Text) (old new : Streams) : Type 0 where
   pub request : Request
   pub table : Text
   pub asks : Asks words request table
-  pub page : Delivers bytes table request old.input (Ok tt) old.output new.output
-  pub quiet : Keeps old.errors new.errors
+  pub left : ℕ
+  pub page : Delivers bytes table request old.input (Ok left) old.output new.output
+  pub note : Notes request.form left old.errors new.errors
 
 -- they ask for something that gave a fault, of which a line was told
 pub record HasFault (bytes : Bytes) (words : List Text) (old new : Streams) : Type 0 where

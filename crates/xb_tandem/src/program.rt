@@ -1,24 +1,63 @@
 // The program: its words, a file and keys in, a status and a page out.
+ghost use Rattle.std.specs.Prelude.{◌≡◌, IfOk, string_bytes};
 ghost use Rattle.xb_command.specs.Programs.{streams};
 ghost use Rattle.xb_command.specs.Commands.{texts_of};
-ghost use Rattle.xb_tandem.specs.Program.{AttendsTandem};
+ghost use Rattle.xb_tandem.specs.Program.{AttendsTandem, Notes, note_line};
 
+use crate::fault::TandemFault;
 use crate::relaying::relay;
+use crate::request::Form;
 use crate::words::asked_by_words;
-use std::alloc::Global;
+use std::alloc::{AllocError, Global};
 use std::io::{Read, Write};
 use xb_command::{DONE, Files, tell_fault, tell_words};
+use xb_text::write_whole;
 
 // The program's name.
 pub(crate) const PROGRAM: &str = "mftandem";
 
 // The line of refused words.
-const USAGE: &[u8] = b"mftandem: usage: mftandem [--json] [--line N] [--timeout MS] TABLE [KEYS]\n";
+const USAGE: &[u8] =
+    b"mftandem: usage: mftandem [--json] [--rows] [--line N] [--timeout MS] TABLE [KEYS]\n";
+
+// The line of a note.
+fn note_line(alloc: Global, form: Form, left: usize) -> Result<String, AllocError>
+    ensures { IfOk result (λ line. string_bytes line ≡ note_line form left) }
+{
+    match form {
+        Form::Rows => {
+            format!(in alloc;
+                "mftandem: calls that are keyed or refused, which the page has: {left}\n"
+            )
+        }
+        Form::Page | Form::Json => {
+            format!(in alloc; "mftandem: calls by dial pulses, which --rows prints: {left}\n")
+        }
+    }
+}
+
+// Tells how many calls are not in what was written, if there are any.
+fn tell_note<E: Write>(alloc: Global, err: &mut E, form: Form, left: usize)
+    ensures { Notes form left (E.contents err.old) (E.contents err.new) }
+{
+    if left == 0 {
+        return;
+    }
+    match note_line(alloc, form, left) {
+        Ok(line) => {
+            let _ = write_whole(err, line.as_bytes());
+        }
+        Err(_) => {
+            let _ = tell_fault(alloc, err, PROGRAM, TandemFault::NoMemory);
+        }
+    }
+}
 
 /// Reads the words of the command line, the program's name first, and by them writes the page of the keys, as `relay`
 /// does. It returns the status of the process:
 ///
-/// - `DONE`: the words ask for something, `out` got exactly the page of the keys, and `err` nothing;
+/// - `DONE`: the words ask for something, `out` got exactly the page of the keys, or what else they ask for, and `err`
+///   one line of how many calls this has nothing, where there are any, as far as it can be written;
 /// - `FAULT`: `relay` has a fault, or memory ran out while the words were read; `err` gets the fault as one line, and
 ///   `out` got the beginning of the page of the keys before it, or nothing;
 /// - `WORDS_REFUSED`: the words are refused, or ask for help; `err` gets the usage as one line, nothing is read and
@@ -39,7 +78,10 @@ pub fn attend<F: Files, R: Read, W: Write, E: Write>(
 {
     match asked_by_words(alloc, words) {
         Ok(asked) => match relay(alloc, files, asked.table, asked.request, keys, out) {
-            Ok(()) => DONE,
+            Ok(left) => {
+                tell_note(alloc, err, asked.request.form, left);
+                DONE
+            }
             Err(fault) => tell_fault(alloc, err, PROGRAM, fault),
         },
         Err(fault) => tell_words(err, PROGRAM, USAGE, fault),

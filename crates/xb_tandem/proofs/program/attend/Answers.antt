@@ -11,8 +11,9 @@ returns-in-Ok-relay g c = record {
     request = c.in-Ok.asked.request;
     table = c.in-Ok.asked.table.now;
     asks = c.in-Ok.ensures.asks;
+    left = c.in-Ok-relay.left;
     page = c.in-Ok-relay.ensures;
-    quiet = Keeps-refl _;
+    note = c.tell_note.ensures;
   };
   fault = λ e. absurd (omega (arith, e));
   refused = λ e. absurd (omega (arith, e));
