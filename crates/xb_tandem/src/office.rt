@@ -1,18 +1,14 @@
 // The office behind a register: it routes what the register takes, and writes what is told of each call.
-ghost use Rattle.std.specs.Prelude.{◌≡◌, IfOk, string_bytes};
-ghost use Rattle.xb_tandem.specs.Entries.{dialled_line, entry_line, is_refusal, sent_of, told_orders, totals_line};
+ghost use Rattle.std.specs.Prelude.{◌≡◌};
 
 use crate::fault::WritingFault;
-use crate::objects::{object_line, pulses_line, totals_object_line};
-use crate::pulses::records_of_call;
 use crate::request::Form;
+use crate::telling::{HEADER, dialled_line, entry_line, is_refusal, totals_line};
 use std::alloc::{AllocError, Global};
 use std::io::Write;
 use xb_incoming::{Register, TimedKey};
-use xb_model::{Dialled, Digit, LineNo, Order};
+use xb_model::{Dialled, LineNo, Order};
 use xb_outgoing::OutgoingTable;
-use xb_sender::marks_of;
-use xb_tape::{is_refused, write_entry, write_totals};
 use xb_text::write_whole;
 
 /// An office, its register, and how many calls of each kind it has told.
@@ -27,85 +23,11 @@ pub(crate) struct Office {
     pub(crate) dialled: usize,
 }
 
-// The header of rows.
-const HEADER: &str = "line,state,ms\n";
-
-// What is written of an order that is keyed or refused, as entry `number` of a line.
-fn entry_line(
-    alloc: Global,
-    form: Form,
-    line: LineNo,
-    number: usize,
-    order: &Order,
-) -> Result<String, AllocError>
-    ensures { IfOk result (λ text. string_bytes text ≡ entry_line form line number order.now) }
-{
-    let mut text = String::new(alloc);
-    match form {
-        Form::Page => write_entry(&mut text, line, number, marks_of(order).as_slice())?,
-        Form::Json => return object_line(alloc, line, number, order),
-        Form::Rows => {}
-    }
-    Ok(text)
-}
-
-// The digits of an order; of a refusal none.
-fn sent_of(order: &Order) -> &[Digit]
-    ensures { result.now ≡ sent_of order.now }
-{
-    match order {
-        Order::Key(_, sent) => sent.digits(),
-        Order::Refused(..) => &[],
-    }
-}
-
-// What is written of an order that goes out by dial pulses, after so many.
-fn dialled_line(
-    alloc: Global,
-    form: Form,
-    line: LineNo,
-    before: usize,
-    order: &Order,
-) -> Result<String, AllocError>
-    ensures { IfOk result (λ text. string_bytes text ≡ dialled_line form line before order.now) }
-{
-    match form {
-        Form::Page => Ok(String::new(alloc)),
-        Form::Json => pulses_line(alloc, line, order),
-        Form::Rows => records_of_call(alloc, line, before, sent_of(order)),
-    }
-}
-
-// What is written of the totals.
-fn totals_line(
-    alloc: Global,
-    form: Form,
-    keyed: usize,
-    refused: usize,
-) -> Result<String, AllocError>
-    ensures { IfOk result (λ text. string_bytes text ≡ totals_line form keyed refused) }
-{
-    let mut text = String::new(alloc);
-    match form {
-        Form::Page => write_totals(&mut text, keyed as u128, refused as u128)?,
-        Form::Json => return totals_object_line(alloc, keyed, refused),
-        Form::Rows => {}
-    }
-    Ok(text)
-}
-
-// Whether the entry of an order is a refused call.
-fn is_refusal(order: &Order) -> bool
-    ensures { result ≡ is_refusal order.now }
-{
-    is_refused(marks_of(order).as_slice())
-}
-
 impl Office {
-    ghost use Rattle.std.specs.Prelude.{◌≡◌, ◌≤◌, ◌<◌, ◌+◌, ◌^◌, ℕ, List, [], ◌∷◌, ◌++◌, Option, IfErr, OnOk};
+    ghost use Rattle.std.specs.Prelude.{◌≡◌, ◌≤◌, ◌<◌, ◌+◌, ◌^◌, ℕ, List, [], ◌∷◌, ◌++◌, Option, IfErr, IfOk, OnOk, string_bytes};
     ghost use Rattle.std.specs.Io.KnownBytes.{Appends};
     ghost use Rattle.xb_text.specs.Writing.{AppendsBeginning};
-    ghost use Rattle.xb_tandem.specs.Entries.{order_line};
+    ghost use Rattle.xb_tandem.specs.Entries.{order_line, told_orders};
     ghost use Rattle.xb_incoming.specs.declared.key.TimedKey.{TimedKey as Key};
     ghost use Rattle.xb_model.specs.declared.order.Order.{Order as Ordered};
     ghost use Rattle.xb_model.specs.Routing.{order_of};
