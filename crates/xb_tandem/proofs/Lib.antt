@@ -11,3 +11,4 @@ pub mod Relayed
 pub mod Taken
 pub mod Delivered
 pub mod AskedTables
+pub mod Noted

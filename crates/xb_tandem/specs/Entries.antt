@@ -127,8 +127,8 @@ abbrev pub page_of_entries : ℕ → List (List Mark) → List ℕ
 page_of_entries line entries =
     entries_text line 1 entries ++ totals_text (count_by is_keyed entries) (count_by is_refused entries)
 
--- the page is that of the entries of the orders that are keyed or refused; where no trunk group takes dial pulses, it is
--- that of the tape of the keys
+-- the page is that of the entries of the orders that are keyed or refused; where no trunk group takes dial pulses, it
+-- is that of the tape of the keys
 pub record PagesAreTapes : Type 0 where
   pub entries : (line limit : ℕ) (table : Outgoing) (keys : List TimedKey)
       → page_of_keys forms.Page line limit table keys

@@ -58,13 +58,14 @@ pub record BeganPage (form : Form) (line limit : ℕ) (table : Outgoing) (text :
   pub are : keys_read (text_lines text) ≡ first ++ later
   pub begun : AppendsBeginning old new (page_of_keys form line limit table first)
 
--- the page of all keys of a text was written, which has nothing of so many of their orders; or the text has a line that is wrong, and just the entries of the keys before it
--- were; or the beginning of the page of its first keys
+-- the page of all keys of a text was written, and so many of their orders are not in it; or the text has a line that is
+-- wrong, and just what is told of the keys before it was; or the beginning of the page of its first keys
 abbrev pub WritesPage : Form → ℕ → ℕ → Outgoing → List ℕ → Result ℕ TandemFault
     → Option (List ℕ) → Option (List ℕ) → Type 0
 WritesPage form line limit table text (Ok left) old new =
     (keys : List TimedKey) × (keys_of_text text ≡ Ok keys)
-    × (left ≡ left_out form table.pulsed (orders_of_keys limit table keys)) × Appends old new (page_of_keys form line limit table keys)
+    × (left ≡ left_out form table.pulsed (orders_of_keys limit table keys))
+    × Appends old new (page_of_keys form line limit table keys)
 WritesPage form line limit table text (Err (fault.TextLine n f)) old new =
     (keys_of_text text ≡ Err (n, f))
     × Appends old new (told_of_keys form line limit table (keys_read (text_lines text)))

@@ -69,7 +69,8 @@ Finishes limit office keys result start out =
     Tells office (orders_of office.table.table.routes (outcomes limit keys)) result start out
 
 -- and so was the page of the keys, of which this has nothing of so many orders
-abbrev pub Ends : ℕ → Office → List TimedKey → Result ℕ WritingFault → Option (List ℕ) → Option (List ℕ) → Type 0
+abbrev pub Ends : ℕ → Office → List TimedKey → Result ℕ WritingFault → Option (List ℕ) → Option (List ℕ)
+    → Type 0
 Ends limit office keys (Ok left) start out =
     (left ≡ left_out office.form office.table.pulsed (orders_of_keys limit office.table keys))
     × Appends start out (page_of_keys office.form office.line limit office.table keys)

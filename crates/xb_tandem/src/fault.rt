@@ -73,6 +73,17 @@ pub enum TandemFault {
     Write,
 }
 
+/// Why it is not told how many calls are not in what was written.
+#[derive(Clone, Copy, Debug, PartialEq, Eq, Error)]
+pub(crate) enum NoteFault {
+    /// A write or the flush failed, or a write took no byte.
+    #[error("how many calls are not in it could not be told")]
+    Write,
+    /// Memory ran out.
+    #[error("{}", RowFault::NoMemory)]
+    NoMemory,
+}
+
 impl From<AllocError> for WritingFault {
     ghost use Rattle.xb_tandem.specs.declared.fault.WritingFault.TheVariants.{NoMemory};
 

@@ -8,8 +8,8 @@ pub fn constants()
     ensures { AreConstants }
 {}
 
-/// The page is that of the entries of the outcomes that are keyed or refused, as `mfbank` prints entries; where no trunk
-/// group takes dial pulses, it is that of the tape of all outcomes.
+/// The page is that of the entries of the outcomes that are keyed or refused, as `mfbank` prints entries; where no
+/// trunk group takes dial pulses, it is that of the tape of all outcomes.
 #[tactic(auto, using(crate::proofs::Pages::pages_are_tapes))]
 pub fn pages_are_tapes()
     ensures { PagesAreTapes }

@@ -7,7 +7,7 @@
 //!   whole with the key that makes it certain, and memory does not grow with the text.
 //!   `--rows` writes in their place exactly the rows that dial the calls by dial pulses. How many calls are not in what
 //!   was written is returned.
-//! - `laws::pages_are_tapes`: the page is that of the entries that are keyed or refused, by the definitions of `mfbank`.
+//! - `laws::pages_are_tapes`: the page is that of the entries that are keyed or refused, as `mfbank` defines them.
 //! - `laws::pulses_are_heard`: the rows dial the numbers that go out by dial pulses, and every office whose plan
 //!   completes them hears exactly these.
 //! - `laws::constants`, `laws::usage_names_each_option`.

@@ -98,8 +98,8 @@ impl Office {
         Ok(())
     }
 
-    /// Takes a key, and writes what is told of the call that it makes certain, if it does. On an `Err` the beginning of this was
-    /// written.
+    /// Takes a key, and writes what is told of the call that it makes certain, if it does. On an `Err` the beginning of
+    /// this was written.
     pub(crate) fn take<W: Write>(
         &mut self,
         alloc: Global,
@@ -149,8 +149,8 @@ impl Office {
         }
     }
 
-    /// Ends the keys: writes what is told of the keying that is open, if one is, and the totals, and says how many calls
-    /// are not in what was written. On an `Err` the beginning of this was written.
+    /// Ends the keys: writes what is told of the keying that is open, if one is, and the totals, and says how many
+    /// calls are not in what was written. On an `Err` the beginning of this was written.
     pub(crate) fn end<W: Write>(
         &mut self,
         alloc: Global,

@@ -2,9 +2,9 @@
 ghost use Rattle.std.specs.Prelude.{◌≡◌, IfOk, string_bytes};
 ghost use Rattle.xb_command.specs.Programs.{streams};
 ghost use Rattle.xb_command.specs.Commands.{texts_of};
-ghost use Rattle.xb_tandem.specs.Program.{AttendsTandem, Notes, note_line};
+ghost use Rattle.xb_tandem.specs.Program.{AttendsTandem, TellsNote, note_of};
 
-use crate::fault::TandemFault;
+use crate::fault::NoteFault;
 use crate::relaying::relay;
 use crate::request::Form;
 use crate::words::asked_by_words;
@@ -20,10 +20,13 @@ pub(crate) const PROGRAM: &str = "mftandem";
 const USAGE: &[u8] =
     b"mftandem: usage: mftandem [--json] [--rows] [--line N] [--timeout MS] TABLE [KEYS]\n";
 
-// The line of a note.
-fn note_line(alloc: Global, form: Form, left: usize) -> Result<String, AllocError>
-    ensures { IfOk result (λ line. string_bytes line ≡ note_line form left) }
+// What is told of calls that are not in what was written.
+fn note_of(alloc: Global, form: Form, left: usize) -> Result<String, AllocError>
+    ensures { IfOk result (λ note. string_bytes note ≡ note_of form left) }
 {
+    if left == 0 {
+        return Ok(String::new(alloc));
+    }
     match form {
         Form::Rows => {
             format!(in alloc;
@@ -36,34 +39,32 @@ fn note_line(alloc: Global, form: Form, left: usize) -> Result<String, AllocErro
     }
 }
 
-// Tells how many calls are not in what was written, if there are any.
-fn tell_note<E: Write>(alloc: Global, err: &mut E, form: Form, left: usize)
-    ensures { Notes form left (E.contents err.old) (E.contents err.new) }
+// Tells how many calls are not in what was written, if there are any, and returns the status of the process.
+fn tell_note<E: Write>(alloc: Global, err: &mut E, form: Form, left: usize) -> u8
+    ensures { TellsNote form left (E.contents err.old) (E.contents err.new) result }
 {
-    if left == 0 {
-        return;
+    let note = match note_of(alloc, form, left) {
+        Ok(note) => note,
+        Err(_) => return tell_fault(alloc, err, PROGRAM, NoteFault::NoMemory),
+    };
+    if note.is_empty() || write_whole(err, note.as_bytes()).is_ok() {
+        return DONE;
     }
-    match note_line(alloc, form, left) {
-        Ok(line) => {
-            let _ = write_whole(err, line.as_bytes());
-        }
-        Err(_) => {
-            let _ = tell_fault(alloc, err, PROGRAM, TandemFault::NoMemory);
-        }
-    }
+    tell_fault(alloc, err, PROGRAM, NoteFault::Write)
 }
 
 /// Reads the words of the command line, the program's name first, and by them writes the page of the keys, as `relay`
 /// does. It returns the status of the process:
 ///
 /// - `DONE`: the words ask for something, `out` got exactly the page of the keys, or what else they ask for, and `err`
-///   one line of how many calls this has nothing, where there are any, as far as it can be written;
+///   one line of how many calls are not in it, where there are any;
 /// - `FAULT`: `relay` has a fault, or memory ran out while the words were read; `err` gets the fault as one line, and
-///   `out` got the beginning of the page of the keys before it, or nothing;
+///   `out` got the beginning of the page of the keys before it, or nothing; or all was written, and how many calls are
+///   not in it could not be told;
 /// - `WORDS_REFUSED`: the words are refused, or ask for help; `err` gets the usage as one line, nothing is read and
 ///   `out` got nothing.
 ///
-/// A fault in writing to `err` changes no status.
+/// A fault in writing any other line to `err` changes no status.
 pub fn attend<F: Files, R: Read, W: Write, E: Write>(
     alloc: Global,
     words: &[String],
@@ -78,10 +79,7 @@ pub fn attend<F: Files, R: Read, W: Write, E: Write>(
 {
     match asked_by_words(alloc, words) {
         Ok(asked) => match relay(alloc, files, asked.table, asked.request, keys, out) {
-            Ok(left) => {
-                tell_note(alloc, err, asked.request.form, left);
-                DONE
-            }
+            Ok(left) => tell_note(alloc, err, asked.request.form, left),
             Err(fault) => tell_fault(alloc, err, PROGRAM, fault),
         },
         Err(fault) => tell_words(err, PROGRAM, USAGE, fault),
