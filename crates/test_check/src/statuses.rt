@@ -33,7 +33,7 @@ delte = 3\n---\n\nline,state,ms\n7,M,500\n";
 const TOLD: &[u8] =
     b"a.deck:1:1: no rule names this key; here are plan, limits and route (did you mean plan?): plann = 10
 a.deck:2:1: no rule names this heading; there are [limits] and [[route]]: [limit]
-a.deck:7:1: no rule names this key; here are code, trunk, delete and prefix (did you mean delete?): delte = 3
+a.deck:7:1: no rule names this key; here are code, trunk, delete and prefix, and send for mftandem and mfroute (did you mean delete?): delte = 3
 ";
 
 // A deck that begins with a byte order mark, and has indented keys, some with quotes and dots, and what looks like keys
@@ -47,7 +47,7 @@ const MARKED_TOLD: &[u8] =
 deck:2:1: no rule names this key; here are pulse_min, pulse_max, make_min, pause, release and timeout \
 (did you mean pulse_min?): 'limits' . \"puls\\u0065_mni\" = 3
 deck:3:1: no rule names this key; here are plan, limits and route: remarks = [ # [a]
-deck:9:3: no rule names this key; here are code, trunk, delete and prefix (did you mean delete?):  ?delte = \"\"\"
+deck:9:3: no rule names this key; here are code, trunk, delete and prefix, and send for mftandem and mfroute (did you mean delete?):  ?delte = \"\"\"
 ";
 
 // A deck with a record of each kind of fault.
@@ -166,7 +166,7 @@ const TABLE: &[u8] =
     b"route = [ { code = \"234\", trunk = 17 },\n { plan = 10, trunk = 17, \"code\" = \"2345\" } ]\n";
 
 const WRONG_CODE: &[u8] =
-    b"deck:2:4: no rule names this key; here are code, trunk, delete and prefix:  { plan = 10, trunk = 17, \"code\" = \"2345\" } ]
+    b"deck:2:4: no rule names this key; here are code, trunk, delete and prefix, and send for mftandem and mfroute:  { plan = 10, trunk = 17, \"code\" = \"2345\" } ]
 deck:2:27: the code is not 0, NNX or N11, nor one of plan 10:  { plan = 10, trunk = 17, \"code\" = \"2345\" } ]
 ";
 
@@ -400,7 +400,7 @@ deck:2:2: pulse_min is over pulse_max:  pulse_max = 119\n",
         &[],
         b"[[route]]\ncode = \"0\"\ntrunk = 1\n[[route]]\ntrunk = 2\n cod = \"411\"\n---\n",
         1,
-        b"deck:6:2: no rule names this key; here are code, trunk, delete and prefix \
+        b"deck:6:2: no rule names this key; here are code, trunk, delete and prefix, and send for mftandem and mfroute \
 (did you mean code?):  cod = \"411\"\n\
 deck:4:1: this route lacks code or trunk, or one of its keys has another kind of value: [[route]]\n",
         b"mfcheck: route table: route 2 has a wrong shape\n",

@@ -86,6 +86,29 @@ const CASES: &[Case] = &[
         b"2125551 REFUSED UNKNOWN 7 IGNORED 234\n",
         b"",
     ),
+    // dial pulses
+    (
+        &["pulsed", "234-5678", "2345678 9", "0"],
+        b"",
+        0,
+        b"2345678 DIALLED 0030 5678\n2345678 DIALLED 0030 5678 IGNORED 9\n\
+0 KEYED 0001 KP:1100+1700 0:1300+1500 ST:1500+1700\n",
+        b"",
+    ),
+    (
+        &["--json", "pulsed", "2345678"],
+        b"",
+        0,
+        b"{\"dialled\":\"2345678\",\"ignored\":\"\",\"outcome\":\"DIALLED\",\"pulses\":\"5678\",\"trunk\":30}\n",
+        b"",
+    ),
+    (
+        &["wrong send", "0"],
+        b"",
+        1,
+        b"",
+        b"mfroute: route table: route 1 has a wrong send\n",
+    ),
     // JSON
     (
         &["seven", "--json", "0", "611", "2349"],

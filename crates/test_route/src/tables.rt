@@ -7,11 +7,20 @@ const SEVEN: &[u8] = b"[[route]]\ncode = \"234\"\ntrunk = 17\ndelete = 3\nprefix
 const TEN: &[u8] = b"plan = 10\n[[route]]\ncode = \"212\"\ntrunk = 212\n\
 [[route]]\ncode = \"212555\"\ntrunk = 9999\ndelete = 10\nprefix = \"0\"\n";
 
+// Trunk group 30 takes dial pulses.
+const PULSED: &[u8] = b"[[route]]\ncode = \"234\"\ntrunk = 30\ndelete = 3\nsend = \"dp\"\n\
+[[route]]\ncode = \"0\"\ntrunk = 1\n";
+
 // The files that there are.
 pub(crate) const FOLDER: Folder = Folder(&[
     ("seven", SEVEN),
     ("ten", TEN),
     ("no routes", b""),
+    ("pulsed", PULSED),
+    (
+        "wrong send",
+        b"[[route]]\ncode = \"0\"\ntrunk = 1\nsend = 1\n",
+    ),
     ("no toml", b"["),
     ("no trunk", b"[[route]]\ncode = \"234\"\n"),
     ("wrong plan", b"plan = 8\n"),

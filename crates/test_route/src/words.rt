@@ -2,13 +2,14 @@
 use std::io::{self, ErrorKind};
 use std::test::Fail;
 use xb_route::{NumberFault, RoutingFault};
+use xb_outgoing::OutgoingFault;
 use xb_routes::RouteFault;
 
 #[test]
 fn words_of_faults(rt: HostRuntime) -> Result<(), Fail> {
     let faults = [
         (
-            RoutingFault::Table(RouteFault::Twice(2)),
+            RoutingFault::Table(OutgoingFault::Routes(RouteFault::Twice(2))),
             "route table: route 2 repeats a code",
         ),
         (

@@ -6,6 +6,8 @@
 #[cfg(test)]
 mod cases;
 #[cfg(test)]
+mod pulses;
+#[cfg(test)]
 mod statuses;
 #[cfg(test)]
 mod streams;

@@ -36,7 +36,8 @@ type Case = (
     &'static [u8],
 );
 
-const USAGE: &[u8] = b"mftandem: usage: mftandem [--json] [--line N] [--timeout MS] TABLE [KEYS]\n";
+pub(crate) const USAGE: &[u8] =
+    b"mftandem: usage: mftandem [--json] [--rows] [--line N] [--timeout MS] TABLE [KEYS]\n";
 
 // KP 2 3 4 5 ST, KP 5 5 5 ST, KP 9 ST: each key of 68 ms, and one object that is no key.
 const KEYS: &[u8] = b"{\"at_ms\":0,\"key\":\"KP\",\"length_ms\":68}\r\n\

@@ -5,10 +5,23 @@ const SEVEN: &[u8] =
     b"[[route]]\ncode = \"0\"\ntrunk = 1\n[[route]]\ncode = \"234\"\ntrunk = 17\ndelete = 3\nprefix = \"56\"\n\
 [[route]]\ncode = \"555\"\ntrunk = 40\ndelete = 6\n";
 
+// Trunk group 30 takes dial pulses.
+const PULSED: &[u8] = b"[[route]]\ncode = \"234\"\ntrunk = 30\ndelete = 3\nsend = \"dp\"\n\
+[[route]]\ncode = \"0\"\ntrunk = 1\n";
+
+const WRONG_SEND: &[u8] = b"[[route]]\ncode = \"0\"\ntrunk = 1\n\
+[[route]]\ncode = \"234\"\ntrunk = 30\nsend = \"mf\"\n";
+
+const OTHER_SEND: &[u8] = b"[[route]]\ncode = \"0\"\ntrunk = 30\n\
+[[route]]\ncode = \"234\"\ntrunk = 30\nsend = \"dp\"\n";
+
 // The files that there are.
 pub(crate) const FOLDER: Folder = Folder(&[
     ("seven", SEVEN),
     ("none", b""),
     ("no toml", b"["),
+    ("pulsed", PULSED),
+    ("wrong send", WRONG_SEND),
+    ("other send", OTHER_SEND),
     ("no trunk", b"[[route]]\ncode = \"234\"\n"),
 ]);

@@ -68,7 +68,7 @@ abbrev pub what_text : What → List ℕ
 what_text what.Table = codes "no rule names this heading; there are [limits] and [[route]]"
 what_text what.TopKey = codes "no rule names this key; here are plan, limits and route"
 what_text what.LimitKey = codes "no rule names this key; here are pulse_min, pulse_max, make_min, pause, release and timeout"
-what_text what.RouteKey = codes "no rule names this key; here are code, trunk, delete and prefix"
+what_text what.RouteKey = codes "no rule names this key; here are code, trunk, delete and prefix, and send for mftandem and mfroute"
 what_text (what.Routes f) = route_words f
 what_text what.NearCut = codes "this line is nearly ---; three hyphens have to stand alone, and LF or CR LF after them"
 what_text what.Semicolons = codes "the fields are separated by ; and not by ,"

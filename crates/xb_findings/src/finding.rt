@@ -143,7 +143,9 @@ impl What {
             What::LimitKey => {
                 "no rule names this key; here are pulse_min, pulse_max, make_min, pause, release and timeout"
             }
-            What::RouteKey => "no rule names this key; here are code, trunk, delete and prefix",
+            What::RouteKey => {
+                "no rule names this key; here are code, trunk, delete and prefix, and send for mftandem and mfroute"
+            }
             What::Routes(fault) => route_words(fault),
             What::NearCut => {
                 "this line is nearly ---; three hyphens have to stand alone, and LF or CR LF after them"

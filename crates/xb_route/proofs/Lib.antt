@@ -2,3 +2,4 @@ pub mod Completing
 pub mod NumberLines
 pub mod KeyValues
 pub mod Keyed
+pub mod Sent

@@ -7,7 +7,7 @@ use Rattle.xb_model.specs.declared.order.Order.{Order}
 use Rattle.xb_model.specs.declared.order.Order.TheVariants as orders
 use Rattle.xb_model.specs.Page.{reason_text}
 use Rattle.xb_route.specs.declared.answer.Answer.{Answer}
-use Rattle.xb_route.specs.declared.answer.Answer.TheVariants.{Incomplete, Routed}
+use Rattle.xb_route.specs.declared.answer.Answer.TheVariants.{Dialled, Incomplete, Routed}
 use Rattle.xb_route.specs.Answers.{left_over}
 use Rattle.xb_json.specs.Keys.{digits_text, keys_of}
 
@@ -27,6 +27,15 @@ object_of_order digits left (orders.Refused reason heard) = object
     (member (codes "outcome") (string (codes "REFUSED"))
     (member (codes "reason") (string (reason_text reason)) no_members)))))
 
+-- the object of digits that complete a number, what is left over, and what goes out by dial pulses
+abbrev pub object_of_pulses : List ℕ → List ℕ → ℕ → List ℕ → Data
+object_of_pulses digits left trunk sent = object
+    (member (codes "dialled") (string (digits_text digits))
+    (member (codes "ignored") (string (digits_text left))
+    (member (codes "outcome") (string (codes "DIALLED"))
+    (member (codes "pulses") (string (digits_text sent))
+    (member (codes "trunk") (number (unsigned trunk)) no_members)))))
+
 -- the object of digits, by what is done with them
 abbrev pub object_of : List ℕ → Answer → Data
 object_of digits Incomplete = object
@@ -34,6 +43,7 @@ object_of digits Incomplete = object
     (member (codes "heard") (number (unsigned (length digits)))
     (member (codes "outcome") (string (codes "INCOMPLETE")) no_members)))
 object_of digits (Routed dialled order) = object_of_order dialled (left_over digits dialled) order
+object_of digits (Dialled dialled trunk sent) = object_of_pulses dialled (left_over digits dialled) trunk sent
 
 -- the object as a line
 abbrev pub object_line : List ℕ → Answer → List ℕ

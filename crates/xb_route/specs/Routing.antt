@@ -3,8 +3,10 @@ use Rattle.std.specs.Prelude.{◌≡◌, ◌≢◌, ◌≤◌, ℕ, List, [], �
 use Rattle.std.specs.List.{flat_map}
 use Rattle.std.specs.Io.KnownBytes.{Appends, Keeps}
 use Rattle.xb_command.specs.Files.{Bytes}
-use Rattle.xb_routes.specs.Table.{Table}
-use Rattle.xb_routes.specs.Text.{table_of_text}
+use Rattle.xb_outgoing.specs.declared.fault.TableFault.{TableFault}
+use Rattle.xb_outgoing.specs.declared.fault.TableFault.TheVariants as file
+use Rattle.xb_outgoing.specs.Files.{HasTable}
+use Rattle.xb_outgoing.specs.Tables.{Outgoing, outgoing_of_text}
 use Rattle.xb_text.specs.Reading.{IsLongerThan}
 use Rattle.xb_text.specs.Writing.{AppendsBeginning}
 use Rattle.xb_route.specs.declared.fault.RoutingFault.{RoutingFault}
@@ -18,12 +20,12 @@ use Rattle.xb_route.specs.Objects.{object_line}
 use Rattle.xb_route.specs.Options.{words_of}
 
 -- the line of a number
-abbrev pub line_of : Bool → Table → List ℕ → List ℕ
+abbrev pub line_of : Bool → Outgoing → List ℕ → List ℕ
 line_of json table digits = if json then object_line digits (answer_to table digits)
     else answer_line digits (answer_to table digits)
 
 -- the lines of numbers
-abbrev pub lines_of : Bool → Table → List (List ℕ) → List ℕ
+abbrev pub lines_of : Bool → Outgoing → List (List ℕ) → List ℕ
 lines_of json table numbers = flat_map (line_of json table) numbers
 
 -- the numbers of the words, or where there is none those of the input, if it is known, which is not too long
@@ -36,19 +38,21 @@ AreNumbers (word ∷ words) input numbers = numbers_of_words (word ∷ words) �
 abbrev pub AreGiven : List (List ℕ) → Option (List ℕ) → List (List ℕ) → Type 0
 AreGiven words input numbers = AreNumbers words input (Ok numbers) × (numbers ≢ [])
 
--- the file of this name has a table
-abbrev pub HasTable : Bytes → List ℕ → Table → Type 0
-HasTable bytes name table = IfSome (bytes name) (λ text. table_of_text text ≡ Ok table)
-
 -- the file has some table
 abbrev pub HasSomeTable : Bytes → List ℕ → Type 0
-HasSomeTable bytes name = (table : Table) × HasTable bytes name table
+HasSomeTable bytes name = (table : Outgoing) × HasTable bytes name table
+
+-- a fault of the table, as one of the office
+abbrev pub of_table : TableFault → RoutingFault
+of_table (file.File error) = fault.File error
+of_table (file.Text f) = fault.Table f
+of_table file.NoMemory = fault.NoMemory
 
 -- the file could not be read, or memory ran out, or this is the fault of its text
 abbrev pub IsFaultOfTable : Bytes → List ℕ → RoutingFault → Type 0
 IsFaultOfTable bytes name (fault.File error) = Unit {0}
 IsFaultOfTable bytes name fault.NoMemory = Unit {0}
-IsFaultOfTable bytes name (fault.Table f) = IfSome (bytes name) (λ text. table_of_text text ≡ Err f)
+IsFaultOfTable bytes name (fault.Table f) = IfSome (bytes name) (λ text. outgoing_of_text text ≡ Err f)
 IsFaultOfTable bytes name f = ⊥
 
 -- the input could not be read, or memory ran out, or there are no numbers, or this is the fault of the words, or of
@@ -64,7 +68,7 @@ IsFaultOfNumbers words input f = ⊥
 
 -- the table of the file, and the numbers, of which there is one at least, and what is printed of these
 pub record Routes (bytes : Bytes) (request : Request) (input : Option (List ℕ)) (printed : List ℕ) : Type 0 where
-  pub table : Table
+  pub table : Outgoing
   pub numbers : List (List ℕ)
   pub is_read : HasTable bytes request.table.now table
   pub are_given : AreGiven (words_of request) input numbers

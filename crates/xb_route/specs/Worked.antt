@@ -3,7 +3,7 @@ use Rattle.std.specs.Prelude.{◌≡◌, ℕ, List, [], ◌∷◌, codes, Ok, Er
 use Rattle.xb_model.specs.declared.plan.Plan.TheVariants.{Seven}
 use Rattle.xb_model.specs.LawfulLimits.{standard_limits}
 use Rattle.xb_model.specs.WorkedRows.{three_routes}
-use Rattle.xb_routes.specs.Table.{Table}
+use Rattle.xb_outgoing.specs.Tables.{Outgoing, outgoing}
 use Rattle.xb_routes.specs.Text.{table_by}
 use Rattle.xb_route.specs.declared.fault.NumberFault.TheVariants as fault
 use Rattle.xb_route.specs.NumberTexts.{number_of_text}
@@ -20,9 +20,9 @@ pub record NumbersOfTexts : Type 0 where
   pub no_digits : number_of_text (codes "- ") ≡ Err fault.NoDigits
   pub first : number_of_text (codes "411 Z9*") ≡ Err (fault.Character (record { place = 5; byte = 90 }))
 
--- three routes, by plan Seven
-abbrev pub worked_table : Table
-worked_table = table_by three_routes Seven standard_limits
+-- three routes, by plan Seven, of which that of trunk group 17 sends dial pulses
+abbrev pub worked_table : Outgoing
+worked_table = outgoing (table_by three_routes Seven standard_limits) (17 ∷ [])
 
 abbrev pub plain_line : List ℕ → List ℕ
 plain_line digits = answer_line digits (answer_to worked_table digits)
@@ -33,6 +33,8 @@ json_line digits = object_line digits (answer_to worked_table digits)
 -- what is printed of some numbers
 pub record LinesOfNumbers : Type 0 where
   pub operator : plain_line (0 ∷ []) ≡ codes "0 KEYED 0001 KP:1100+1700 0:1300+1500 ST:1500+1700\n"
+  pub dialled : plain_line (2 ∷ 3 ∷ 4 ∷ 5 ∷ 6 ∷ 7 ∷ 8 ∷ 9 ∷ [])
+      ≡ codes "2345678 DIALLED 0017 565678 IGNORED 9\n"
   pub unknown : plain_line (5 ∷ 5 ∷ 5 ∷ 1 ∷ 2 ∷ 3 ∷ 4 ∷ []) ≡ codes "5551234 REFUSED UNKNOWN 7\n"
   pub incomplete : plain_line (2 ∷ 3 ∷ 4 ∷ []) ≡ codes "234 INCOMPLETE 3\n"
   pub left_over : plain_line (0 ∷ 9 ∷ 9 ∷ [])
@@ -42,6 +44,8 @@ pub record LinesOfNumbers : Type 0 where
 pub record ObjectsOfNumbers : Type 0 where
   pub operator : json_line (0 ∷ 9 ∷ []) ≡
       codes "{\"dialled\":\"0\",\"ignored\":\"9\",\"keys\":[\"KP\",\"0\",\"ST\"],\"outcome\":\"KEYED\",\"sent\":\"0\",\"trunk\":1}\n"
+  pub dialled : json_line (2 ∷ 3 ∷ 4 ∷ 5 ∷ 6 ∷ 7 ∷ 8 ∷ []) ≡
+      codes "{\"dialled\":\"2345678\",\"ignored\":\"\",\"outcome\":\"DIALLED\",\"pulses\":\"565678\",\"trunk\":17}\n"
   pub unknown : json_line (6 ∷ 1 ∷ 1 ∷ []) ≡
       codes "{\"dialled\":\"611\",\"heard\":3,\"ignored\":\"\",\"outcome\":\"REFUSED\",\"reason\":\"UNKNOWN\"}\n"
   pub incomplete : json_line (2 ∷ 3 ∷ 4 ∷ []) ≡

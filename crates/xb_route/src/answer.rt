@@ -1,17 +1,21 @@
 // What an office does with the digits of a number.
 ghost use Rattle.std.specs.Prelude.{◌≡◌, length};
 ghost use Rattle.xb_model.specs.Numbers.{shortest_complete};
-ghost use Rattle.xb_route.specs.Answers.{answer_to, left_over};
+ghost use Rattle.xb_route.specs.Answers.{answer_to, left_over, sent_as};
 ghost use Rattle.xb_route.specs.Pages.{AgreesWithPage};
 
-use xb_model::{Digit, NumberDigits, Order, Plan, plan_len};
-use xb_routes::{RouteTable, order_by};
+use xb_model::{Digit, KeyDigits, NumberDigits, Order, Plan, Trunk, plan_len};
+use xb_outgoing::OutgoingTable;
+use xb_routes::order_by;
 
 /// What an office does with digits that are dialled.
 #[derive(Drop)]
 pub enum Answer {
-    /// They complete this number, which gets this order. Digits after it are not heard.
+    /// They complete this number, which gets this order: it is keyed, or refused. Digits after it are not heard.
     Routed(NumberDigits, Order),
+    /// They complete this number, of which these digits go out by dial pulses on this trunk group. Digits after it are
+    /// not heard.
+    Dialled(NumberDigits, Trunk, KeyDigits),
     /// They complete no number.
     Incomplete,
 }
@@ -28,16 +32,31 @@ fn completed(plan: Plan, digits: &[Digit]) -> Option<NumberDigits>
     }
 }
 
-/// What is done with digits by a table: the number that they complete by its plan is routed. The order of the
-/// number is what the page says of a line that dials just this number.
-pub fn answer_to(table: &RouteTable, digits: &[Digit]) -> Answer
+// What is done with a number that gets an order.
+fn sent_as(table: &OutgoingTable, number: NumberDigits, order: Order) -> Answer
+    ensures { result ≡ sent_as table.now.pulsed number order }
+{
+    if !table.is_dialled(&order) {
+        return Answer::Routed(number, order);
+    }
+    match order {
+        Order::Key(trunk, sent) => Answer::Dialled(number, trunk, sent),
+        order => Answer::Routed(number, order),
+    }
+}
+
+/// What is done with digits by a table: the number that they complete by its plan is routed. The order of a number that
+/// is keyed, or refused, is what the page says of a line that dials just this number. What goes out by dial pulses is
+/// what the number's route keys where nothing is sent so.
+pub fn answer_to(table: &OutgoingTable, digits: &[Digit]) -> Answer
     ensures answer { result ≡ answer_to table.now digits.now }
     ensures page { AgreesWithPage table.now result }
 {
-    match completed(table.plan(), digits) {
+    let routes = table.routes();
+    match completed(routes.plan(), digits) {
         Some(number) => {
-            let order = order_by(table.look(number.digits()), &number);
-            Answer::Routed(number, order)
+            let order = order_by(routes.look(number.digits()), &number);
+            sent_as(table, number, order)
         }
         None => Answer::Incomplete,
     }

@@ -1,9 +1,11 @@
 // Why a text is no number, and why no number is routed.
+ghost use Rattle.std.specs.Prelude.{◌≡◌};
+
 use std::io;
 use thiserror::Error;
 use xb_calls::WrongByte;
 use xb_model::RowFault;
-use xb_routes::RouteFault;
+use xb_outgoing::{OutgoingFault, TableFault};
 
 /// Why a text is no number.
 #[derive(Clone, Copy, Debug, PartialEq, Eq, Error)]
@@ -28,7 +30,7 @@ pub enum RoutingFault {
     File(io::Error),
     /// The table is refused.
     #[error("route table: {0}")]
-    Table(RouteFault),
+    Table(OutgoingFault),
     /// The word of this place among the numbers, from 1, is no number.
     #[error("number {0} {1}")]
     Word(usize, NumberFault),
@@ -50,4 +52,18 @@ pub enum RoutingFault {
     /// A write or the flush failed, or a write took no byte. The beginning of the lines was written.
     #[error("the lines could not be written")]
     Write,
+}
+
+impl From<TableFault> for RoutingFault {
+    ghost use Rattle.xb_route.specs.Routing.{of_table};
+
+    ghost from_gives = { λ fault e. e ≡ of_table fault };
+
+    fn from(fault: TableFault) -> RoutingFault {
+        match fault {
+            TableFault::File(error) => RoutingFault::File(error),
+            TableFault::Text(fault) => RoutingFault::Table(fault),
+            TableFault::NoMemory => RoutingFault::NoMemory,
+        }
+    }
 }

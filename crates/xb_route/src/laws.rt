@@ -14,7 +14,7 @@ pub fn numbers_of_texts()
     ensures { NumbersOfTexts }
 {}
 
-/// What is printed of some numbers, by three routes.
+/// What is printed of some numbers, by three routes, of which one sends dial pulses.
 pub fn lines_of_numbers()
     ensures lines { LinesOfNumbers }
     ensures objects { ObjectsOfNumbers }

@@ -1,12 +1,12 @@
 // The line that is printed of a number.
 ghost use Rattle.std.specs.Prelude.{◌≡◌, ◌++◌, IfOk, OnOk, string_bytes};
-ghost use Rattle.xb_route.specs.declared.answer.Answer.TheVariants.{Incomplete};
-ghost use Rattle.xb_route.specs.Lines.{answer_line, ignored_text};
+ghost use Rattle.xb_route.specs.declared.answer.Answer.TheVariants.{Dialled, Incomplete, Routed};
+ghost use Rattle.xb_route.specs.Lines.{answer_line, dialled_text, ignored_text};
 
 use crate::answer::{Answer, left_over};
 use std::alloc::{AllocError, Global};
 use xb_json::text_of_digits;
-use xb_model::Digit;
+use xb_model::{Digit, NumberDigits, Order, Trunk};
 use xb_sender::marks_of;
 use xb_tape::write_entry_body;
 
@@ -30,6 +30,54 @@ fn incomplete_line(alloc: Global, digits: &[Digit]) -> Result<Vec<u8>, AllocErro
     Ok(format!(in alloc; "{text} INCOMPLETE {count}\n")?.into_bytes())
 }
 
+// Writes what goes out by dial pulses.
+fn write_dialled(
+    alloc: Global,
+    out: &mut String,
+    trunk: Trunk,
+    sent: &[Digit],
+) -> Result<(), AllocError>
+    ensures { OnOk result (string_bytes out.new ≡ string_bytes out.old ++ dialled_text trunk sent.now) }
+{
+    let digits = text_of_digits(alloc, sent)?;
+    let number = trunk.get();
+    write!(out, " DIALLED {number:04} {digits}")
+}
+
+// The line of digits whose number gets an order.
+fn routed_line(
+    alloc: Global,
+    digits: &[Digit],
+    number: &NumberDigits,
+    order: &Order,
+) -> Result<Vec<u8>, AllocError>
+    ensures { IfOk result (λ line. line.items ≡ answer_line digits.now (Routed number.now order.now)) }
+{
+    let mut line = text_of_digits(alloc, number.digits())?;
+    write_entry_body(&mut line, marks_of(order).as_slice())?;
+    write_ignored(alloc, &mut line, left_over(digits, number))?;
+    line.push_str("\n")?;
+    Ok(line.into_bytes())
+}
+
+// The line of digits whose number goes out by dial pulses.
+fn dialled_line(
+    alloc: Global,
+    digits: &[Digit],
+    number: &NumberDigits,
+    trunk: Trunk,
+    sent: &[Digit],
+) -> Result<Vec<u8>, AllocError>
+    ensures { IfOk result (λ line.
+        line.items ≡ answer_line digits.now (Dialled number.now trunk sent.now)) }
+{
+    let mut line = text_of_digits(alloc, number.digits())?;
+    write_dialled(alloc, &mut line, trunk, sent)?;
+    write_ignored(alloc, &mut line, left_over(digits, number))?;
+    line.push_str("\n")?;
+    Ok(line.into_bytes())
+}
+
 /// The line of digits, by what is done with them.
 pub(crate) fn answer_line(
     alloc: Global,
@@ -38,12 +86,11 @@ pub(crate) fn answer_line(
 ) -> Result<Vec<u8>, AllocError>
     ensures { IfOk result (λ line. line.items ≡ answer_line digits.now answer.now) }
 {
-    let Answer::Routed(number, order) = answer else {
-        return incomplete_line(alloc, digits);
-    };
-    let mut line = text_of_digits(alloc, number.digits())?;
-    write_entry_body(&mut line, marks_of(order).as_slice())?;
-    write_ignored(alloc, &mut line, left_over(digits, number))?;
-    line.push_str("\n")?;
-    Ok(line.into_bytes())
+    match answer {
+        Answer::Routed(number, order) => routed_line(alloc, digits, number, order),
+        Answer::Dialled(number, trunk, sent) => {
+            dialled_line(alloc, digits, number, *trunk, sent.digits())
+        }
+        Answer::Incomplete => incomplete_line(alloc, digits),
+    }
 }

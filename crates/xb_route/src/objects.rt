@@ -3,7 +3,7 @@ ghost use Rattle.std.specs.Prelude.{◌≡◌, IfOk};
 ghost use Rattle.serde_json.specs.View.{view};
 ghost use Rattle.xb_model.specs.declared.order.Order.TheVariants as orders;
 ghost use Rattle.xb_route.specs.declared.answer.Answer.TheVariants.{Incomplete};
-ghost use Rattle.xb_route.specs.Objects.{object_line, object_of, object_of_order};
+ghost use Rattle.xb_route.specs.Objects.{object_line, object_of, object_of_order, object_of_pulses};
 
 use crate::answer::{Answer, left_over};
 use serde_json::Value;
@@ -54,6 +54,27 @@ fn refused_object<'a>(
     object_with(alloc, &members)
 }
 
+// The object of a number that goes out by dial pulses.
+fn pulses_object<'a>(
+    alloc: Global,
+    number: &'a [Digit],
+    left: &'a [Digit],
+    trunk: Trunk,
+    sent: &'a [Digit],
+) -> Result<Value, AllocError>
+    ensures { IfOk result (λ value.
+        view value ≡ object_of_pulses number.now left.now trunk sent.now) }
+{
+    let members = [
+        ("dialled", Member::Digits(number)),
+        ("ignored", Member::Digits(left)),
+        ("outcome", Member::Word("DIALLED")),
+        ("pulses", Member::Digits(sent)),
+        ("trunk", Member::Number(u64::from(trunk.get()))),
+    ];
+    object_with(alloc, &members)
+}
+
 // The object of digits that complete no number.
 fn incomplete_object(alloc: Global, digits: &[Digit]) -> Result<Value, AllocError>
     ensures { IfOk result (λ value. view value ≡ object_of digits.now Incomplete) }
@@ -78,6 +99,10 @@ fn object_of(alloc: Global, digits: &[Digit], answer: &Answer) -> Result<Value, 
         Answer::Routed(number, Order::Refused(reason, heard)) => {
             let left = left_over(digits, number);
             refused_object(alloc, number.digits(), left, *reason, *heard)
+        }
+        Answer::Dialled(number, trunk, sent) => {
+            let left = left_over(digits, number);
+            pulses_object(alloc, number.digits(), left, *trunk, sent.digits())
         }
         Answer::Incomplete => incomplete_object(alloc, digits),
     }

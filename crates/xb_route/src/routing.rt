@@ -1,7 +1,7 @@
 // From a table and numbers to what is done with them.
 ghost use Rattle.std.specs.Prelude.{◌≡◌, ◌≢◌, [], IfErr, IfOk, Err, Ok, map, string_bytes};
 ghost use Rattle.xb_route.specs.Options.{words_of};
-ghost use Rattle.xb_route.specs.Routing.{AreGiven, AreNumbers, Delivers, HasTable, IsFaultOfNumbers, IsFaultOfTable, line_of, lines_of};
+ghost use Rattle.xb_route.specs.Routing.{AreGiven, AreNumbers, Delivers, IsFaultOfNumbers, line_of, lines_of};
 ghost use Rattle.xb_route.specs.TextSteps.{digits_of_numbers};
 
 use crate::answer::answer_to;
@@ -14,24 +14,8 @@ use std::alloc::{AllocError, Global};
 use std::io::{Read, Write};
 use xb_command::Files;
 use xb_model::Digit;
-use xb_routes::{RouteFault, RouteTable};
+use xb_outgoing::{OutgoingTable, read_table};
 use xb_text::{ReadFault, read_whole, write_whole};
-
-// The table of a file.
-fn read_table<F: Files>(alloc: Global, files: &F, name: &str) -> Result<RouteTable, RoutingFault>
-    ensures table { IfOk result (HasTable (F.bytes files.now) name.now) }
-    ensures fault { IfErr result (IsFaultOfTable (F.bytes files.now) name.now) }
-{
-    let text = match files.read(alloc, name) {
-        Ok(text) => text,
-        Err(error) => return Err(RoutingFault::File(error)),
-    };
-    match RouteTable::read(alloc, &text) {
-        Ok(table) => Ok(table),
-        Err(RouteFault::NoMemory) => Err(RoutingFault::NoMemory),
-        Err(fault) => Err(RoutingFault::Table(fault)),
-    }
-}
 
 // The numbers of the input.
 fn read_numbers<R: Read>(alloc: Global, input: &mut R) -> Result<Vec<Vec<Digit>>, RoutingFault>
@@ -95,7 +79,7 @@ fn some_numbers<R: Read>(
 fn line_of(
     alloc: Global,
     json: bool,
-    table: &RouteTable,
+    table: &OutgoingTable,
     digits: &[Digit],
 ) -> Result<Vec<u8>, AllocError>
     ensures { IfOk result (λ line. line.items ≡ line_of json table.now digits.now) }
@@ -112,7 +96,7 @@ fn line_of(
 fn lines_of(
     alloc: Global,
     json: bool,
-    table: &RouteTable,
+    table: &OutgoingTable,
     numbers: &[Vec<Digit>],
 ) -> Result<Vec<u8>, AllocError>
     ensures { IfOk result (λ lines.

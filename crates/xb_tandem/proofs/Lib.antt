@@ -2,8 +2,13 @@ pub mod Pages
 pub mod KeyLines
 pub mod Reading
 pub mod ObjectValues
+pub mod OneCall
+pub mod ToldOrders
+pub mod ToldFirst
+pub mod Heard
 pub mod Written
 pub mod Relayed
 pub mod Taken
 pub mod Delivered
 pub mod AskedTables
+pub mod Noted

@@ -1,4 +1,4 @@
--- Without JSON the page of keys is that of their tape.
+-- The page of keys is that of their entries.
 use Rattle.std.proofs.Common.{◌≡◌, ◌∙◌, ℕ, ◌+◌, Bool, false, List, [], ◌∷◌, ◌++◌, map, ap, ap₂, refl, sym}
 use Rattle.std.specs.Prelude.{count_by, if◌then◌else◌}
 use Rattle.std.proofs.lemmas.List.Sums.{sum_by-cons}
@@ -6,16 +6,13 @@ use Rattle.xb_incoming.specs.Attempts.{entry_of, outcomes}
 use Rattle.xb_model.specs.declared.dialled.Dialled.{Dialled}
 use Rattle.xb_model.specs.declared.mark.Mark.{Mark}
 use Rattle.xb_model.specs.declared.order.Order.{Order}
+use Rattle.xb_model.specs.declared.order.Order.TheVariants as orders
+use Rattle.xb_outgoing.specs.Tables.{is_dialled}
+use Rattle.xb_tandem.specs.declared.request.Form.TheVariants as forms
 use Rattle.xb_model.specs.Keyings.{marks_of}
-use Rattle.xb_model.specs.Page.{entries_text, entry_text, is_keyed, is_refused, totals_text}
+use Rattle.xb_model.specs.Page.{entries_text, is_keyed, is_refused, totals_text}
 use Rattle.xb_model.specs.Routing.{CodedRoute}
-use Rattle.xb_tandem.specs.Entries.{PagesAreTapes, entry_lines, orders_of, page_of, page_of_entries}
-
-lines-entries : (line n : ℕ) (orders : List Order) → entry_lines false line n orders ≡ entries_text line n (map marks_of orders)
-unfolding entry_lines entries_text
-lines-entries line n [] = refl
-lines-entries line n (order ∷ orders) =
-    ap (λ rest. entry_text line n (marks_of order) ++ rest) (lines-entries line (n + 1) orders)
+use Rattle.xb_tandem.specs.Entries.{PagesAreTapes, on_page, orders_of, orders_of_keys, page_of, page_of_entries}
 
 counts-map : (test : List Mark → Bool) (orders : List Order)
     → count_by (λ order. test (marks_of order)) orders ≡ count_by test (map marks_of orders)
@@ -29,12 +26,26 @@ marks-orders : (routes : List CodedRoute) (found : List Dialled) → map marks_o
 marks-orders routes [] = refl
 marks-orders routes (outcome ∷ found) = ap (λ rest. entry_of routes outcome ∷ rest) (marks-orders routes found)
 
-page-entries : (line : ℕ) (orders : List Order) → page_of false line orders ≡ page_of_entries line (map marks_of orders)
-page-entries line orders =
-    ap₂ (λ lines totals. lines ++ totals) (lines-entries line 1 orders)
-    (ap₂ totals_text (counts-map is_keyed orders) (counts-map is_refused orders))
+-- where no trunk group takes dial pulses, all orders are on the page
+none-dialled : (order : Order) → is_dialled [] order ≡ false
+none-dialled (orders.Key trunk sent) = refl
+none-dialled (orders.Refused reason heard) = refl
+
+all-on-page : (found : List Order) → on_page [] found ≡ found
+all-on-page [] = refl
+all-on-page (order ∷ found) = rw (none-dialled order) (ap (λ rest. order ∷ rest) (all-on-page found))
+
+page-entries : (line : ℕ) (pulsed : List ℕ) (found : List Order)
+    → page_of forms.Page line pulsed found ≡ page_of_entries line (map marks_of (on_page pulsed found))
+page-entries line pulsed found =
+    ap (λ totals. entries_text line 1 (map marks_of (on_page pulsed found)) ++ totals)
+    (ap₂ totals_text (counts-map is_keyed (on_page pulsed found)) (counts-map is_refused (on_page pulsed found)))
 
 pub pages_are_tapes : PagesAreTapes
-pages_are_tapes line limit routes keys =
-    page-entries line (orders_of routes (outcomes limit keys))
-    ∙ ap (page_of_entries line) (marks-orders routes (outcomes limit keys))
+pages_are_tapes = record {
+  entries = λ line limit table keys. page-entries line table.pulsed (orders_of_keys limit table keys);
+  tape = λ line limit table keys.
+      page-entries line [] (orders_of table.routes (outcomes limit keys))
+      ∙ ap (λ found. page_of_entries line (map marks_of found)) (all-on-page (orders_of table.routes (outcomes limit keys)))
+      ∙ ap (page_of_entries line) (marks-orders table.routes (outcomes limit keys));
+}

@@ -1,15 +1,14 @@
 -- The keys of a text, line by line, and what is written of them.
-use Rattle.std.proofs.Common.{◌≡◌, ◌∙◌, ℕ, ◌+◌, ◌<◌, List, [], ◌∷◌, ◌++◌, length, Bool, true, false, Option, Some, None, Result, Ok, Err, inl, inr, ap, refl, sym, subst, arith, append_assoc, append-nil, length-append}
+use Rattle.std.proofs.Common.{◌≡◌, ◌∙◌, ℕ, ◌+◌, ◌<◌, List, [], ◌∷◌, ◌++◌, length, true, false, Option, Some, None, Result, Ok, Err, inl, inr, ap, refl, sym, subst, arith, append_assoc, append-nil, length-append}
 use Rattle.std.specs.Io.KnownBytes.{Appends}
 use Rattle.std.specs.Option.{option_to_list}
-use Rattle.std.proofs.KnownBytes.{Appends-nil}
 use Rattle.std.proofs.lemmas.List.{map-append}
 use Rattle.xb_incoming.specs.declared.key.TimedKey.{TimedKey}
 use Rattle.xb_incoming.specs.Attempts.{outcomes}
 use Rattle.xb_incoming.specs.Machine.{phase_after, told_by}
 use Rattle.xb_incoming.proofs.Taken.{all-told, told_from}
-use Rattle.xb_model.specs.Routing.{CodedRoute, order_of}
-use Rattle.xb_routes.specs.Table.{Table}
+use Rattle.xb_model.specs.Routing.{order_of}
+use Rattle.xb_outgoing.specs.Tables.{Outgoing}
 use Rattle.xb_text.specs.Writing.{AppendsBeginning}
 use Rattle.xb_text.proofs.Beginnings.{AppendsBeginning-first, AppendsBeginning-second}
 use Rattle.xb_tandem.specs.declared.fault.ReadingFault.{ReadingFault}
@@ -22,14 +21,16 @@ use Rattle.xb_tandem.specs.declared.fault.TandemFault.{TandemFault}
 use Rattle.xb_tandem.specs.declared.fault.TandemFault.TheVariants as fault
 use Rattle.xb_tandem.specs.declared.lines.TheConstants.{MOST_LINE_BYTES}
 use Rattle.xb_tandem.specs.declared.office.Office.{Office}
-use Rattle.xb_tandem.specs.Entries.{entry_lines, orders_of, page_of_keys, told_of_keys}
+use Rattle.xb_tandem.specs.declared.request.Form.{Form}
+use Rattle.xb_tandem.specs.Entries.{orders_of, orders_of_keys, page_of_keys, told_of_keys, told_orders}
 use Rattle.xb_tandem.specs.Faults.{of_reading, of_writing}
 use Rattle.xb_tandem.specs.KeyLines.{Said, key_of_line}
 use Rattle.xb_tandem.specs.Relaying.{BeganLine, BeganPage, IsFresh, IsOfKeys, TakesLine, WritesPage}
 use Rattle.xb_tandem.specs.TextLines.{Keys, ReadsLine, key_and_rest, key_read, keys_from, keys_of_text, keys_read, text_lines, with_keys}
 use Rattle.xb_tandem.specs.Written.{Ends, HasWritten}
 use Rattle.xb_tandem.proofs.KeyLines.{line-long}
-use Rattle.xb_tandem.proofs.Written.{lines-append, none-written}
+use Rattle.xb_tandem.proofs.Written.{none-written}
+use Rattle.xb_tandem.proofs.ToldFirst.{begins-first}
 
 with-none : (keys : Keys) → with_keys [] keys ≡ keys
 with-none (Ok keys) = refl
@@ -72,22 +73,42 @@ long-wrong : (line more : List ℕ) → MOST_LINE_BYTES < length line → key_of
 long-wrong line more long = line-long (line ++ more) (omega (arith, long, length-append line more))
 
 -- the beginning of what is told of keys is that of their page
-module _ (json : Bool) (line limit : ℕ) (routes : List CodedRoute) (keys : List TimedKey) (old new : Option (List ℕ)) where
-  pub told-page : AppendsBeginning old new (told_of_keys json line limit routes keys)
-      → AppendsBeginning old new (page_of_keys json line limit routes keys)
+module _ (form : Form) (line limit : ℕ) (table : Outgoing) (keys : List TimedKey) (old new : Option (List ℕ)) where
+  pub told-page : AppendsBeginning old new (told_of_keys form line limit table keys)
+      → AppendsBeginning old new (page_of_keys form line limit table keys)
   told-page begun =
       let ended = told_from limit (phase_after limit keys) [] in
       let all : outcomes limit keys ≡ told_by limit keys ++ ended
       = ap (λ (ks : List TimedKey). outcomes limit ks) (sym (append-nil keys)) ∙ all-told limit keys [] in
-      let told = orders_of routes (told_by limit keys) in
-      let lines : entry_lines json line 1 (orders_of routes (outcomes limit keys))
-      ≡ told_of_keys json line limit routes keys ++ entry_lines json line (1 + length told) (orders_of routes ended)
-      = ap (λ os. entry_lines json line 1 (orders_of routes os)) all
-      ∙ ap (entry_lines json line 1) (map-append (order_of routes) (told_by limit keys) ended)
-      ∙ lines-append json line 1 told (orders_of routes ended) in
-      AppendsBeginning-first old new (entry_lines json line 1 (orders_of routes (outcomes limit keys))) _
-      (subst (AppendsBeginning old new) (sym lines)
-      (AppendsBeginning-first old new (told_of_keys json line limit routes keys) _ begun))
+      let told = orders_of table.table.routes (told_by limit keys) in
+      let orders : orders_of_keys limit table keys ≡ told ++ orders_of table.table.routes ended
+      = ap (orders_of table.table.routes) all ∙ map-append (order_of table.table.routes) (told_by limit keys) ended in
+      AppendsBeginning-first old new (told_orders form line table.pulsed (orders_of_keys limit table keys)) _
+      (subst (λ os. AppendsBeginning old new (told_orders form line table.pulsed os)) (sym orders)
+      (begins-first form line table.pulsed told (orders_of table.table.routes ended) old new begun))
+
+-- what comes of a text that may be known, as `Relays` says it of an office
+abbrev pub Comes : ℕ → Office → Option (List ℕ) → Result ℕ TandemFault → Option (List ℕ) → Option (List ℕ) → Type 0
+Comes limit office None result old new = Unit {0}
+Comes limit office (Some text) result old new = WritesPage office.form office.line limit office.table text result old new
+
+nothing-begun : (limit : ℕ) (office : Office) (text : List ℕ) (start out : Option (List ℕ))
+    → AppendsBeginning start out (told_orders office.form office.line office.table.pulsed [])
+    → BeganPage office.form office.line limit office.table text start out
+nothing-begun limit office text start out begun = record {
+  first = [];
+  later = keys_read (text_lines text);
+  are = refl;
+  begun = told-page office.form office.line limit office.table [] start out begun;
+}
+
+-- nothing could be begun
+pub begun-none : (limit : ℕ) (office : Office) (f : WritingFault) (text start out : Option (List ℕ))
+    → AppendsBeginning start out (told_orders office.form office.line office.table.pulsed [])
+    → Comes limit office text (Err (of_writing f)) start out
+begun-none limit office f None start out begun = tt
+begun-none limit office writing.Write (Some text) start out begun = nothing-begun limit office text start out begun
+begun-none limit office writing.NoMemory (Some text) start out begun = nothing-begun limit office text start out begun
 
 -- so far these keys of a text were taken, and the next line has this number
 pub record SoFar (n limit : ℕ) (office : Office) (text rest : List ℕ) (start out : Option (List ℕ)) : Type 0 where
@@ -101,28 +122,24 @@ IsSoFar n limit office None rest start out = Unit {0}
 IsSoFar n limit office (Some text) None start out = ⊥
 IsSoFar n limit office (Some text) (Some rest) start out = SoFar n limit office text rest start out
 
--- what comes of a text that may be known, as `Relays` says it of an office
-abbrev pub Comes : ℕ → Office → Option (List ℕ) → Result (Unit {0}) TandemFault → Option (List ℕ) → Option (List ℕ) → Type 0
-Comes limit office None result old new = Unit {0}
-Comes limit office (Some text) result old new = WritesPage office.json office.line limit office.table text result old new
-
-pub fresh-written : (office : Office) (start : Option (List ℕ)) → IsFresh office
-    → HasWritten office.register.timeout_ms office [] start start
-unfolding entry_lines
-fresh-written office start fresh = record {
+pub fresh-written : (office : Office) (start out : Option (List ℕ)) → IsFresh office
+    → Appends start out (told_orders office.form office.line office.table.pulsed [])
+    → HasWritten office.register.timeout_ms office [] start out
+fresh-written office start out fresh wrote = record {
   taken = fresh.taken;
   told = record {
     number = omega (arith, fresh.keyed, fresh.refused);
     keyed = fresh.keyed;
     refused = fresh.refused;
-    text = Appends-nil start;
+    dialled = fresh.dialled;
+    text = wrote;
   };
 }
 
-pub so_far-start : (limit : ℕ) (office : Office) (text start : Option (List ℕ)) → HasWritten limit office [] start start
-    → IsSoFar 1 limit office text text start start
-so_far-start limit office None start written = tt
-so_far-start limit office (Some text) start written =
+pub so_far-start : (limit : ℕ) (office : Office) (text start out : Option (List ℕ)) → HasWritten limit office [] start out
+    → IsSoFar 1 limit office text text start out
+so_far-start limit office None start out written = tt
+so_far-start limit office (Some text) start out written =
     record { keys = []; says = sym (with-none _); reads = refl; written = written }
 
 -- a line was taken
@@ -172,7 +189,7 @@ none-of (key ∷ first) more is = absurd (cc)
 began : (n limit : ℕ) (before after : Office) (line text rest : List ℕ) (left start mid out : Option (List ℕ))
     → SoFar n limit before text rest start mid → ReadsLine (Some rest) left line (Ok true)
     → ((keys : List TimedKey) → HasWritten limit before keys start mid → BeganLine limit after keys line start out)
-    → BeganPage after.json after.line limit after.table text start out
+    → BeganPage after.form after.line limit after.table text start out
 began n limit before after line text rest None start mid out so is begins = absurd is
 began n limit before after line text rest (Some left) start mid out so (inl is) begins =
     let begun = begins so.keys so.written in
@@ -185,7 +202,7 @@ began n limit before after line text rest (Some left) start mid out so (inl is) 
           (read-line line (text_lines left) (key_of_line line) refl ∙ of.are ∙ ap (λ ks. ks ++ of.later) begun.are
           ∙ append_assoc begun.first begun.more of.later)
           ∙ sym (append_assoc so.keys begun.first (begun.more ++ of.later));
-      begun = told-page after.json after.line limit after.table.routes (so.keys ++ begun.first) start out begun.begun;
+      begun = told-page after.form after.line limit after.table (so.keys ++ begun.first) start out begun.begun;
     }
 began n limit before after line text rest (Some left) start mid out so (inr long) begins =
     let begun = begins so.keys so.written in
@@ -198,8 +215,8 @@ began n limit before after line text rest (Some left) start mid out so (inr long
           ∙ ap (λ lines. so.keys ++ keys_read lines) long.1.1.1
           ∙ ap (λ ks. so.keys ++ ks)
           (read-line (line ++ long.1.0) long.1.1.0 (Err line_fault.TooLong) (long-wrong line long.1.0 long.0));
-      begun = told-page after.json after.line limit after.table.routes so.keys start out
-          (subst (λ ks. AppendsBeginning start out (told_of_keys after.json after.line limit after.table.routes ks))
+      begun = told-page after.form after.line limit after.table so.keys start out
+          (subst (λ ks. AppendsBeginning start out (told_of_keys after.form after.line limit after.table ks))
           (ap (λ ks. so.keys ++ ks) none ∙ append-nil so.keys) begun.begun);
     }
 
@@ -213,7 +230,7 @@ wrong : (n limit m : ℕ) (f : LineFault) (before after : Office) (line text res
     → SoFar n limit before text rest start mid → ReadsLine (Some rest) left line (Ok true)
     → ((keys : List TimedKey) → HasWritten limit before keys start mid
     → TakesLine limit after keys n line (Err (fault.TextLine m f)) start out)
-    → WritesPage after.json after.line limit after.table text (Err (fault.TextLine m f)) start out
+    → WritesPage after.form after.line limit after.table text (Err (fault.TextLine m f)) start out
 wrong n limit m f before after line text rest None start mid out so is takes = absurd is
 wrong n limit m f before after line text rest (Some left) start mid out so (inl is) takes =
     let took = takes so.keys so.written in
@@ -223,7 +240,7 @@ wrong n limit m f before after line text rest (Some left) start mid out so (inl 
       so.says ∙ ap (λ lines. with_keys so.keys (keys_from n lines)) is
           ∙ ap (with_keys so.keys) (from-line n line (text_lines left) (Err f) took.1)
           ∙ ap (λ k. Err (k, f)) (sym took.0),
-      subst (λ ks. Appends start out (told_of_keys after.json after.line limit after.table.routes ks)) (sym reads)
+      subst (λ ks. Appends start out (told_of_keys after.form after.line limit after.table ks)) (sym reads)
           took.2.told.text,
     )
 wrong n limit m f before after line text rest (Some left) start mid out so (inr long) takes =
@@ -236,7 +253,7 @@ wrong n limit m f before after line text rest (Some left) start mid out so (inr 
       so.says ∙ ap (λ lines. with_keys so.keys (keys_from n lines)) long.1.1.1
           ∙ ap (with_keys so.keys) (from-line n (line ++ long.1.0) long.1.1.0 (Err line_fault.TooLong) is)
           ∙ ap (λ k. Err (k, line_fault.TooLong)) (sym took.0) ∙ ap (λ g. Err (m, g)) same,
-      subst (λ ks. Appends start out (told_of_keys after.json after.line limit after.table.routes ks)) (sym reads)
+      subst (λ ks. Appends start out (told_of_keys after.form after.line limit after.table ks)) (sym reads)
           took.2.told.text,
     )
 
@@ -270,12 +287,12 @@ all-first old new bytes wrote =
     (AppendsBeginning-second old new new bytes [] wrote (none-written new []))
 
 stopped : (n limit : ℕ) (office : Office) (text rest : List ℕ) (start out : Option (List ℕ))
-    → SoFar n limit office text rest start out → BeganPage office.json office.line limit office.table text start out
+    → SoFar n limit office text rest start out → BeganPage office.form office.line limit office.table text start out
 stopped n limit office text rest start out so = record {
   first = so.keys;
   later = keys_read (text_lines rest);
   are = so.reads;
-  begun = told-page office.json office.line limit office.table.routes so.keys start out
+  begun = told-page office.form office.line limit office.table so.keys start out
       (all-first start out _ so.written.told.text);
 }
 
@@ -296,8 +313,8 @@ so_far-many n limit office (Some text) (Some rest) start out so = stopped n limi
 ended-begun : (n limit : ℕ) (office : Office) (line text rest : List ℕ) (left start mid out : Option (List ℕ))
     → SoFar n limit office text rest start mid → ReadsLine (Some rest) left line (Ok false)
     → ((keys : List TimedKey) → HasWritten limit office keys start mid
-    → AppendsBeginning start out (page_of_keys office.json office.line limit office.table.routes keys))
-    → BeganPage office.json office.line limit office.table text start out
+    → AppendsBeginning start out (page_of_keys office.form office.line limit office.table keys))
+    → BeganPage office.form office.line limit office.table text start out
 ended-begun n limit office line text rest left start mid out so is ends = record {
   first = so.keys;
   later = [];
@@ -307,15 +324,16 @@ ended-begun n limit office line text rest left start mid out so is ends = record
 
 pub so_far-end : (n limit : ℕ) (office : Office) (line : List ℕ) (text rest left start mid out : Option (List ℕ))
     → IsSoFar n limit office text rest start mid → ReadsLine rest left line (Ok false)
-    → ((keys : List TimedKey) → HasWritten limit office keys start mid → Ends limit office keys (Ok tt) start out)
-    → Comes limit office text (Ok tt) start out
-so_far-end n limit office line None rest left start mid out so is ends = tt
-so_far-end n limit office line (Some text) None left start mid out so is ends = absurd so
-so_far-end n limit office line (Some text) (Some rest) left start mid out so is ends = (
+    → (n_left : ℕ) → ((keys : List TimedKey) → HasWritten limit office keys start mid → Ends limit office keys (Ok n_left) start out)
+    → Comes limit office text (Ok n_left) start out
+so_far-end n limit office line None rest left start mid out so is n_left ends = tt
+so_far-end n limit office line (Some text) None left start mid out so is n_left ends = absurd so
+so_far-end n limit office line (Some text) (Some rest) left start mid out so is n_left ends = (
   so.keys,
   so.says ∙ ap (λ lines. with_keys so.keys (keys_from n lines)) is ∙ ap (with_keys so.keys) (from-none n)
       ∙ ap Ok (append-nil so.keys),
-  ends so.keys so.written,
+  (ends so.keys so.written).0,
+  (ends so.keys so.written).1,
 )
 
 pub so_far-end-fault : (n limit : ℕ) (f : WritingFault) (office : Office) (line : List ℕ)
@@ -331,14 +349,14 @@ so_far-end-fault n limit writing.NoMemory office line (Some text) (Some rest) le
     ended-begun n limit office line text rest left start mid out so is ends
 
 -- the same by an office with other counts
-pub comes-same : (limit : ℕ) (old new : Office) (text : Option (List ℕ)) (result : Result (Unit {0}) TandemFault)
-    (start out : Option (List ℕ)) → new.json ≡ old.json → new.line ≡ old.line → new.table ≡ old.table
+pub comes-same : (limit : ℕ) (old new : Office) (text : Option (List ℕ)) (result : Result ℕ TandemFault)
+    (start out : Option (List ℕ)) → new.form ≡ old.form → new.line ≡ old.line → new.table ≡ old.table
     → Comes limit new text result start out → Comes limit old text result start out
-comes-same limit old new None result start out json line table comes = tt
-comes-same limit old new (Some text) result start out json line table comes =
-    subst (λ (t : Table). WritesPage old.json old.line limit t text result start out) table
-    (subst (λ l. WritesPage old.json l limit new.table text result start out) line
-    (subst (λ j. WritesPage j new.line limit new.table text result start out) json comes))
+comes-same limit old new None result start out form line table comes = tt
+comes-same limit old new (Some text) result start out form line table comes =
+    subst (λ t. WritesPage old.form old.line limit t text result start out) table
+    (subst (λ l. WritesPage old.form l limit new.table text result start out) line
+    (subst (λ f. WritesPage f new.line limit new.table text result start out) form comes))
 
 -- a fault of reading or of writing is none of the table
 pub reading-kind : (f : ReadingFault) → IsOfKeys (of_reading f)

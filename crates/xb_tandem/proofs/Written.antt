@@ -1,108 +1,174 @@
 -- What an office has written, and what it then writes.
-use Rattle.std.proofs.Common.{◌≡◌, ◌∙◌, ℕ, ◌+◌, Bool, true, false, List, [], ◌∷◌, ◌++◌, length, Option, Some, None, ap, ap₂, refl, sym, subst, arith, append_assoc, append-nil, length-append}
+use Rattle.std.proofs.Common.{◌≡◌, ◌∙◌, ℕ, ◌+◌, Bool, true, false, List, [], ◌∷◌, ◌++◌, length, Option, Some, None, ap, ap₂, refl, sym, subst, arith, append-nil, length-append}
 use Rattle.std.specs.Prelude.{count_by, if◌then◌else◌, not}
 use Rattle.std.specs.Io.KnownBytes.{Appends}
 use Rattle.std.specs.Option.{option_to_list}
 use Rattle.std.proofs.KnownBytes.{Appends-nil, Appends-trans}
 use Rattle.std.proofs.lemmas.List.{map-append}
-use Rattle.std.proofs.lemmas.List.Sums.{sum_by_push}
+use Rattle.std.proofs.lemmas.List.Sums.{sum_by-append, sum_by-cons}
 use Rattle.xb_incoming.specs.declared.key.TimedKey.{TimedKey}
 use Rattle.xb_incoming.specs.declared.register.Register.{Register}
 use Rattle.xb_incoming.specs.Machine.{HasTaken, told_by}
 use Rattle.xb_model.specs.declared.dialled.Dialled.{Dialled}
 use Rattle.xb_model.specs.declared.order.Order.{Order}
 use Rattle.xb_model.specs.Routing.{CodedRoute, order_of}
+use Rattle.xb_outgoing.specs.Tables.{Outgoing, is_dialled}
 use Rattle.xb_text.specs.Writing.{AppendsBeginning}
 use Rattle.xb_text.proofs.Beginnings.{AppendsBeginning-second}
 use Rattle.xb_tandem.specs.declared.office.Office.{Office}
-use Rattle.xb_tandem.specs.Entries.{entry_line, entry_lines, is_keying, is_refusal, orders_of}
-use Rattle.xb_tandem.specs.Written.{CountsOne, HasTold, IsWithCounts}
+use Rattle.xb_tandem.specs.declared.request.Form.{Form}
+use Rattle.xb_tandem.specs.declared.request.Form.TheVariants as forms
+use Rattle.xb_tandem.specs.Entries.{dialled_numbers, is_keying, is_refusal, keyed_in, left_out, on_page, order_line, orders_of, refused_in, told_orders}
+use Rattle.xb_tandem.specs.Written.{CountsOne, HasTold, IsWithCounts, left_by, left_of}
+use Rattle.xb_tandem.proofs.ToldOrders.{numbers-append, numbers-none, numbers-one, page-append, page-none, page-one, told-order}
 
 pub none-written : (old : Option (List ℕ)) (bytes : List ℕ) → AppendsBeginning old old bytes
 none-written old bytes = (0, Appends-nil old)
 
--- entries, and then others
-pub lines-append : (json : Bool) (line n : ℕ) (first later : List Order)
-    → entry_lines json line n (first ++ later)
-    ≡ entry_lines json line n first ++ entry_lines json line (n + length first) later
-unfolding entry_lines
-lines-append json line n [] later = ap (λ m. entry_lines json line m later) (omega arith)
-lines-append json line n (order ∷ first) later =
-    ap (λ rest. entry_line json line n order ++ rest) (lines-append json line (n + 1) first later)
-    ∙ sym (append_assoc (entry_line json line n order) (entry_lines json line (n + 1) first)
-    (entry_lines json line (n + 1 + length first) later))
-    ∙ ap (λ m. (entry_line json line n order ++ entry_lines json line (n + 1) first) ++ entry_lines json line m later)
-    (omega arith)
+-- an order is dialled, keyed or refused
+abbrev one : Bool → ℕ
+one refused = if refused then 1 else 0
 
-one-line : (json : Bool) (line n : ℕ) (order : Order) → entry_lines json line n (order ∷ []) ≡ entry_line json line n order
-unfolding entry_lines
-one-line json line n order = append-nil (entry_line json line n order)
+abbrev none : Bool → ℕ
+none refused = if refused then 0 else 1
 
-pub lines-more : (json : Bool) (line n : ℕ) (orders : List Order) (order : Order) → n ≡ length orders
-    → entry_lines json line 1 (orders ++ order ∷ [])
-    ≡ entry_lines json line 1 orders ++ entry_line json line (n + 1) order
-lines-more json line n orders order is =
-    lines-append json line 1 orders (order ∷ [])
-    ∙ ap (λ rest. entry_lines json line 1 orders ++ rest)
-    (one-line json line (1 + length orders) order ∙ ap (λ m. entry_line json line m order) (omega (arith, is)))
+abbrev kept : Bool → ℕ
+kept refused = if not refused then 1 else 0
 
--- an entry that is no refused call is a keyed one
-abbrev one_if : Bool → ℕ
-one_if refused = if refused then 1 else 0
+abbrev one_if : Bool → Bool → ℕ
+one_if dialled refused = if dialled then 0 else one refused
 
-abbrev none_if : Bool → ℕ
-none_if refused = if refused then 0 else 1
+abbrev none_if : Bool → Bool → ℕ
+none_if dialled refused = if dialled then 0 else none refused
 
-abbrev kept_if : Bool → ℕ
-kept_if refused = if not refused then 1 else 0
-
-sum-one : (refused : Bool) → none_if refused + one_if refused ≡ 1
+sum-one : (refused : Bool) → none refused + one refused ≡ 1
 sum-one true = refl
 sum-one false = refl
 
-kept-one : (refused : Bool) → none_if refused ≡ kept_if refused
+kept-one : (refused : Bool) → none refused ≡ kept refused
 kept-one true = refl
 kept-one false = refl
+
+-- the counts of one order
+record OneCounts (pulsed : List ℕ) (order : Order) : Type 0 where
+  entries : none_if (is_dialled pulsed order) (is_refusal order) + one_if (is_dialled pulsed order) (is_refusal order)
+      ≡ length (on_page pulsed (order ∷ []))
+  keyed : none_if (is_dialled pulsed order) (is_refusal order) ≡ keyed_in pulsed (order ∷ [])
+  refused : one_if (is_dialled pulsed order) (is_refusal order) ≡ refused_in pulsed (order ∷ [])
+  dialled : (if is_dialled pulsed order then 1 else 0) ≡ length (dialled_numbers pulsed (order ∷ []))
+
+counts-of-one : (test : Order → Bool) (order : Order) → count_by test (order ∷ []) ≡ one (test order)
+counts-of-one test order = sum_by-cons (λ o. one (test o)) order [] ∙ at (test order)
+  where
+    at : (is : Bool) → one is + 0 ≡ one is
+    at true = refl
+    at false = refl
+
+counts-of-none : (test : Order → Bool) → 0 ≡ count_by test []
+counts-of-none test = refl
+
+one-counts : (pulsed : List ℕ) (order : Order) → OneCounts pulsed order
+one-counts pulsed order = at (is_dialled pulsed order) refl
+  where
+    at : (d : Bool) → is_dialled pulsed order ≡ d → OneCounts pulsed order
+    at true e = record {
+      entries = rw e refl ∙ ap length (sym (page-none pulsed order e));
+      keyed = rw e refl ∙ counts-of-none is_keying ∙ ap (count_by is_keying) (sym (page-none pulsed order e));
+      refused = rw e refl ∙ counts-of-none is_refusal ∙ ap (count_by is_refusal) (sym (page-none pulsed order e));
+      dialled = rw e refl ∙ ap length (sym (numbers-one pulsed order e));
+    }
+    at false e = record {
+      entries = rw e (sum-one (is_refusal order)) ∙ ap length (sym (page-one pulsed order e));
+      keyed = rw e (kept-one (is_refusal order)) ∙ sym (counts-of-one is_keying order)
+          ∙ ap (count_by is_keying) (sym (page-one pulsed order e));
+      refused = rw e refl ∙ sym (counts-of-one is_refusal order)
+          ∙ ap (count_by is_refusal) (sym (page-one pulsed order e));
+      dialled = rw e refl ∙ ap length (sym (numbers-none pulsed order e));
+    }
+
+-- counts of orders, and of one more
+counts-more : (test : Order → Bool) (pulsed : List ℕ) (orders : List Order) (order : Order)
+    → count_by test (on_page pulsed (orders ++ order ∷ []))
+    ≡ count_by test (on_page pulsed orders) + count_by test (on_page pulsed (order ∷ []))
+counts-more test pulsed orders order =
+    ap (count_by test) (page-append pulsed orders (order ∷ []))
+    ∙ sum_by-append (λ o. if test o then 1 else 0) (on_page pulsed orders) (on_page pulsed (order ∷ []))
 
 module _ (old new : Office) (orders : List Order) (order : Order) (start mid : Option (List ℕ))
     (told : HasTold old orders start mid) where
   abbrev told-line : List ℕ
-  told-line = entry_line old.json old.line (old.keyed + old.refused + 1) order
+  told-line = order_line old.form old.line old.table.pulsed (old.keyed + old.refused) old.dialled order
 
-  -- one entry more was written, and is counted
+  abbrev told-before : List ℕ
+  told-before = told_orders old.form old.line old.table.pulsed orders
+
+  told-now : told-before ++ told-line ≡ told_orders old.form old.line old.table.pulsed (orders ++ order ∷ [])
+  told-now = sym (told-order old.line old.table.pulsed orders order (old.keyed + old.refused) old.dialled told.number told.dialled
+      old.form)
+
+  more-counts : IsWithCounts old new → CountsOne old new order → (out : Option (List ℕ))
+      → Appends start out (told_orders old.form old.line old.table.pulsed (orders ++ order ∷ []))
+      → HasTold (record old { keyed = new.keyed; refused = new.refused; dialled = new.dialled }) (orders ++ order ∷ []) start out
+  more-counts same counts out wrote =
+      let one = one-counts old.table.pulsed order in
+      let entries = ap length (page-append old.table.pulsed orders (order ∷ []))
+      ∙ length-append (on_page old.table.pulsed orders) (on_page old.table.pulsed (order ∷ [])) in
+      let numbers = ap length (numbers-append old.table.pulsed orders (order ∷ []))
+      ∙ length-append (dialled_numbers old.table.pulsed orders) (dialled_numbers old.table.pulsed (order ∷ [])) in
+      record {
+        number = omega (arith, counts.keyed, counts.refused, told.number, one.entries, entries);
+        keyed = counts.keyed ∙ ap₂ (λ a b. a + b) told.keyed one.keyed
+            ∙ sym (counts-more is_keying old.table.pulsed orders order);
+        refused = counts.refused ∙ ap₂ (λ a b. a + b) told.refused one.refused
+            ∙ sym (counts-more is_refusal old.table.pulsed orders order);
+        dialled = counts.dialled ∙ ap₂ (λ a b. a + b) told.dialled one.dialled ∙ sym numbers;
+        text = wrote;
+      }
+
+  -- one order more was told, and is counted
   pub told-more : (out : Option (List ℕ)) → IsWithCounts old new → CountsOne old new order → Appends mid out told-line
       → HasTold new (orders ++ order ∷ []) start out
   told-more out same counts wrote =
-      let keyed : new.keyed ≡ count_by is_keying (orders ++ order ∷ [])
-      = counts.keyed ∙ ap₂ (λ a b. a + b) told.keyed (kept-one (is_refusal order))
-      ∙ sym (sum_by_push (λ o. if is_keying o then 1 else 0) orders order) in
-      let refused : new.refused ≡ count_by is_refusal (orders ++ order ∷ [])
-      = counts.refused ∙ ap (λ a. a + (if is_refusal order then 1 else 0)) told.refused
-      ∙ sym (sum_by_push (λ o. if is_refusal o then 1 else 0) orders order) in
+      let more = more-counts same counts out
+      (subst (Appends start out) told-now (Appends-trans start mid out told-before told-line told.text wrote)) in
+      let pulsed = ap (λ (t : Outgoing). t.pulsed) (sym same.table) in
       record {
-        number = omega (arith, counts.keyed, counts.refused, told.number, sum-one (is_refusal order), length-append orders (order ∷ []));
-        keyed = keyed;
-        refused = refused;
+        number = more.number ∙ ap (λ p. length (on_page p (orders ++ order ∷ []))) pulsed;
+        keyed = more.keyed ∙ ap (λ p. keyed_in p (orders ++ order ∷ [])) pulsed;
+        refused = more.refused ∙ ap (λ p. refused_in p (orders ++ order ∷ [])) pulsed;
+        dialled = more.dialled ∙ ap (λ p. length (dialled_numbers p (orders ++ order ∷ []))) pulsed;
         text =
             subst (Appends start out)
-            (sym (lines-more old.json old.line (old.keyed + old.refused) orders order told.number)
-            ∙ ap₂ (λ json line. entry_lines json line 1 (orders ++ order ∷ [])) (sym same.json) (sym same.line))
-            (Appends-trans start mid out (entry_lines old.json old.line 1 orders) told-line told.text wrote);
+            (ap₂ (λ form line. told_orders form line old.table.pulsed (orders ++ order ∷ [])) (sym same.form) (sym same.line)
+            ∙ ap (λ p. told_orders new.form new.line p (orders ++ order ∷ [])) pulsed)
+            more.text;
       }
 
   -- or it was begun
   pub told-begun : (out : Option (List ℕ)) → AppendsBeginning mid out told-line
-      → AppendsBeginning start out (entry_lines old.json old.line 1 (orders ++ order ∷ []))
+      → AppendsBeginning start out (told_orders old.form old.line old.table.pulsed (orders ++ order ∷ []))
   told-begun out wrote =
-      subst (AppendsBeginning start out)
-      (sym (lines-more old.json old.line (old.keyed + old.refused) orders order told.number))
-      (AppendsBeginning-second start mid out (entry_lines old.json old.line 1 orders) told-line told.text wrote)
+      subst (AppendsBeginning start out) told-now
+      (AppendsBeginning-second start mid out told-before told-line told.text wrote)
 
 -- all of what there is was written, which is the beginning of what comes
 pub told-first : (office : Office) (orders : List Order) (start out : Option (List ℕ)) → HasTold office orders start out
-    → (rest : List ℕ) → AppendsBeginning start out (entry_lines office.json office.line 1 orders ++ rest)
+    → (rest : List ℕ) → AppendsBeginning start out (told_orders office.form office.line office.table.pulsed orders ++ rest)
 told-first office orders start out told rest =
-    AppendsBeginning-second start out out (entry_lines office.json office.line 1 orders) rest told.text (none-written out rest)
+    AppendsBeginning-second start out out (told_orders office.form office.line office.table.pulsed orders) rest told.text (none-written out rest)
+
+-- what is not in what was written
+left-by : (form : Form) (pulsed : List ℕ) (orders : List Order) (entries before : ℕ)
+    → entries ≡ length (on_page pulsed orders) → before ≡ length (dialled_numbers pulsed orders)
+    → left_by form entries before ≡ left_out form pulsed orders
+left-by forms.Page pulsed orders entries before numbered counted = counted
+left-by forms.Json pulsed orders entries before numbered counted = refl
+left-by forms.Rows pulsed orders entries before numbered counted = numbered
+
+pub left-told : (office : Office) (orders : List Order) (start out : Option (List ℕ)) → HasTold office orders start out
+    → left_of office ≡ left_out office.form office.table.pulsed orders
+left-told office orders start out told =
+    left-by office.form office.table.pulsed orders (office.keyed + office.refused) office.dialled told.number told.dialled
 
 -- what is told with a key, as orders
 orders-more : (routes : List CodedRoute) (told : List Dialled) (outcome : Option Dialled) (all : List Dialled)

@@ -1,5 +1,5 @@
--- The JSON objects of an entry and of the totals.
-use Rattle.std.specs.Prelude.{ℕ, List, ◌++◌, codes}
+-- The JSON objects of an entry, of a call by dial pulses and of the totals.
+use Rattle.std.specs.Prelude.{ℕ, List, [], ◌++◌, codes}
 use Rattle.serde_json.specs.Data.{Data, array, member, no_members, number, object, string, unsigned}
 use Rattle.serde_json.specs.View.{items_of}
 use Rattle.serde_json.specs.Written.{compact_text}
@@ -24,6 +24,14 @@ object_of line n (orders.Refused reason heard) = object
     (member (codes "outcome") (string (codes "REFUSED"))
     (member (codes "reason") (string (reason_text reason)) no_members)))))
 
+-- the object of a call that goes out by dial pulses
+abbrev pub pulses_object : ℕ → ℕ → List ℕ → Data
+pulses_object line trunk sent = object
+    (member (codes "line") (number (unsigned line))
+    (member (codes "outcome") (string (codes "DIALLED"))
+    (member (codes "pulses") (string (digits_text sent))
+    (member (codes "trunk") (number (unsigned trunk)) no_members))))
+
 abbrev pub totals_object : ℕ → ℕ → Data
 totals_object keyed refused = object
     (member (codes "keyed") (number (unsigned keyed))
@@ -32,6 +40,11 @@ totals_object keyed refused = object
 -- each as a line
 abbrev pub object_line : ℕ → ℕ → Order → List ℕ
 object_line line n order = compact_text (object_of line n order) ++ codes "\n"
+
+-- a refusal takes no dial pulses
+abbrev pub pulses_line : ℕ → Order → List ℕ
+pulses_line line (orders.Key trunk sent) = compact_text (pulses_object line trunk sent) ++ codes "\n"
+pulses_line line (orders.Refused reason heard) = []
 
 abbrev pub totals_object_line : ℕ → ℕ → List ℕ
 totals_object_line keyed refused = compact_text (totals_object keyed refused) ++ codes "\n"

@@ -10,11 +10,12 @@ use Rattle.xb_command.specs.declared.command.Takes.TheVariants as takes
 abbrev options : List (Text × Takes)
 options =
     (codes "json", takes.Nothing)
+    ∷ (codes "rows", takes.Nothing)
     ∷ (codes "line", takes.Number)
     ∷ (codes "timeout", takes.Number)
     ∷ (codes "table", takes.Itself)
     ∷ []
 
--- `mftandem [--json] [--line N] [--timeout MS] TABLE`
+-- `mftandem [--json] [--rows] [--line N] [--timeout MS] TABLE`
 abbrev pub command_of_words : App
 command_of_words = command_of (codes "mftandem") options

@@ -5,7 +5,7 @@ use std::alloc::AllocError;
 use std::io;
 use thiserror::Error;
 use xb_model::RowFault;
-use xb_routes::RouteFault;
+use xb_outgoing::{OutgoingFault, TableFault};
 use xb_text::WriteFault;
 
 /// Why a text line says no key, and may not be passed over.
@@ -55,7 +55,7 @@ pub enum TandemFault {
     File(io::Error),
     /// The table is refused. Nothing was written.
     #[error("route table: {0}")]
-    Table(RouteFault),
+    Table(OutgoingFault),
     /// A read of the keys failed, an interrupted one too.
     #[error("the keys could not be read")]
     Read,
@@ -68,9 +68,20 @@ pub enum TandemFault {
     /// Memory ran out.
     #[error("{}", RowFault::NoMemory)]
     NoMemory,
-    /// A write or the flush failed, or a write took no byte. The beginning of the page was written.
+    /// A write or the flush failed, or a write took no byte. The beginning of the page, or of the rows, was written.
     #[error("the entries could not be written")]
     Write,
+}
+
+/// Why it is not told how many calls are not in what was written.
+#[derive(Clone, Copy, Debug, PartialEq, Eq, Error)]
+pub(crate) enum NoteFault {
+    /// A write or the flush failed, or a write took no byte.
+    #[error("how many calls are not in it could not be told")]
+    Write,
+    /// Memory ran out.
+    #[error("{}", RowFault::NoMemory)]
+    NoMemory,
 }
 
 impl From<AllocError> for WritingFault {
@@ -90,6 +101,20 @@ impl From<WriteFault> for WritingFault {
 
     fn from(_fault: WriteFault) -> WritingFault {
         WritingFault::Write
+    }
+}
+
+impl From<TableFault> for TandemFault {
+    ghost use Rattle.xb_tandem.specs.Faults.{of_table};
+
+    ghost from_gives = { λ fault e. e ≡ of_table fault };
+
+    fn from(fault: TableFault) -> TandemFault {
+        match fault {
+            TableFault::File(error) => TandemFault::File(error),
+            TableFault::Text(fault) => TandemFault::Table(fault),
+            TableFault::NoMemory => TandemFault::NoMemory,
+        }
     }
 }
 

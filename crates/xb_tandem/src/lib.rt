@@ -5,7 +5,11 @@
 //!   A text line that is wrong is the first that is, and then just the entries were written that the keys before it
 //!   make certain. On any other fault the beginning of the page of the keys so far was written. An entry is written
 //!   whole with the key that makes it certain, and memory does not grow with the text.
-//! - `laws::pages_are_tapes`: without `--json` it is the page of the entries, by the definitions of `mfbank`.
+//!   `--rows` writes in their place exactly the rows that dial the calls by dial pulses. How many calls are not in what
+//!   was written is returned.
+//! - `laws::pages_are_tapes`: the page is that of the entries that are keyed or refused, as `mfbank` defines them.
+//! - `laws::pulses_are_heard`: the rows dial the numbers that go out by dial pulses, and every office whose plan
+//!   completes them hears exactly these.
 //! - `laws::constants`, `laws::usage_names_each_option`.
 //! - `attend`: `Attends` of this.
 //!
@@ -19,12 +23,14 @@ mod lines;
 mod objects;
 mod office;
 mod program;
+mod pulses;
 mod relaying;
 mod request;
+mod telling;
 mod words;
 
 pub use fault::{LineFault, TandemFault};
 pub use lines::MOST_LINE_BYTES;
 pub use program::attend;
 pub use relaying::relay;
-pub use request::{Asked, Request};
+pub use request::{Asked, Form, Request};

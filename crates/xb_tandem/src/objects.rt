@@ -1,8 +1,8 @@
-// The JSON objects of an entry and of the totals.
+// The JSON objects of an entry, of a call by dial pulses and of the totals.
 ghost use Rattle.std.specs.Prelude.{◌≡◌, IfOk, string_bytes};
 ghost use Rattle.serde_json.specs.View.{view};
 ghost use Rattle.xb_model.specs.declared.order.Order.TheVariants as orders;
-ghost use Rattle.xb_tandem.specs.Objects.{object_line, object_of, totals_object, totals_object_line};
+ghost use Rattle.xb_tandem.specs.Objects.{object_line, object_of, pulses_line, pulses_object, totals_object, totals_object_line};
 
 use serde_json::Value;
 use std::alloc::{AllocError, Global};
@@ -70,6 +70,35 @@ pub(crate) fn object_line(
     ensures { IfOk result (λ text. string_bytes text ≡ object_line line number order.now) }
 {
     let object = object_of(alloc, line, number, order)?;
+    line_of(alloc, &object)
+}
+
+// The object of a call that goes out by dial pulses.
+fn pulses_object<'a>(
+    alloc: Global,
+    line: LineNo,
+    trunk: Trunk,
+    sent: &'a [Digit],
+) -> Result<Value, AllocError>
+    ensures { IfOk result (λ value. view value ≡ pulses_object line trunk sent.now) }
+{
+    let members = [
+        ("line", Member::Number(u64::from(line.get()))),
+        ("outcome", Member::Word("DIALLED")),
+        ("pulses", Member::Digits(sent)),
+        ("trunk", Member::Number(u64::from(trunk.get()))),
+    ];
+    object_with(alloc, &members)
+}
+
+/// The object of a call that goes out by dial pulses, as a text line; of a refusal nothing.
+pub(crate) fn pulses_line(alloc: Global, line: LineNo, order: &Order) -> Result<String, AllocError>
+    ensures { IfOk result (λ text. string_bytes text ≡ pulses_line line order.now) }
+{
+    let Order::Key(trunk, sent) = order else {
+        return Ok(String::new(alloc));
+    };
+    let object = pulses_object(alloc, line, *trunk, sent.digits())?;
     line_of(alloc, &object)
 }
 

@@ -1,7 +1,7 @@
 // From a table and keys to the page.
-ghost use Rattle.std.specs.Prelude.{◌≡◌, ◌≤◌, ◌<◌, ◌+◌, ◌^◌, ◌∷◌, [], ◌++◌, ℕ, List, Option, IfErr, IfOk};
+ghost use Rattle.std.specs.Prelude.{◌≡◌, ◌≤◌, ◌<◌, ◌+◌, ◌^◌, ℕ, List, Option, IfErr};
 ghost use Rattle.xb_incoming.specs.declared.key.TimedKey.{TimedKey as Key};
-ghost use Rattle.xb_tandem.specs.Relaying.{Delivers, HasTable, IsFaultOfTable, IsFresh, IsOfKeys, Relays, TakesLine};
+ghost use Rattle.xb_tandem.specs.Relaying.{Delivers, IsFresh, IsOfKeys, Relays, TakesLine};
 ghost use Rattle.xb_tandem.specs.Written.{HasWritten};
 
 use crate::fault::{LineFault, TandemFault};
@@ -13,26 +13,10 @@ use std::alloc::Global;
 use std::io::{Read, Write};
 use xb_command::Files;
 use xb_incoming::Register;
-use xb_routes::{RouteFault, RouteTable};
+use xb_outgoing::read_table;
 
 // The most text lines that are counted.
 const MOST_LINES: u64 = 1 << 63;
-
-// The table of a file.
-fn read_table<F: Files>(alloc: Global, files: &F, name: &str) -> Result<RouteTable, TandemFault>
-    ensures table { IfOk result (HasTable (F.bytes files.now) name.now) }
-    ensures fault { IfErr result (IsFaultOfTable (F.bytes files.now) name.now) }
-{
-    let text = match files.read(alloc, name) {
-        Ok(text) => text,
-        Err(error) => return Err(TandemFault::File(error)),
-    };
-    match RouteTable::read(alloc, &text) {
-        Ok(table) => Ok(table),
-        Err(RouteFault::NoMemory) => Err(TandemFault::NoMemory),
-        Err(fault) => Err(TandemFault::Table(fault)),
-    }
-}
 
 // Takes the key of text line `number`, if it says one.
 fn take_line<W: Write>(
@@ -42,13 +26,14 @@ fn take_line<W: Write>(
     line: &[u8],
     out: &mut W,
 ) -> Result<(), TandemFault>
-    requires { office.old.keyed + office.old.refused + 1 < 2 ^ 64 }
+    requires { office.old.keyed + office.old.refused + office.old.dialled + 1 < 2 ^ 64 }
     ensures written { (limit : ℕ) (keys : List Key) (start : Option (List ℕ)) →
         HasWritten limit office.old keys start (W.contents out.old) →
         TakesLine limit office.new keys number line.now result start (W.contents out.new) }
     ensures kind { IfErr result IsOfKeys }
-    ensures one { office.new.keyed + office.new.refused ≤ office.old.keyed + office.old.refused + 1 }
-    ensures same { (office.new.json ≡ office.old.json) × (office.new.line ≡ office.old.line)
+    ensures one { office.new.keyed + office.new.refused + office.new.dialled
+        ≤ office.old.keyed + office.old.refused + office.old.dialled + 1 }
+    ensures same { (office.new.form ≡ office.old.form) × (office.new.line ≡ office.old.line)
         × (office.new.table ≡ office.old.table) }
 {
     match key_of_line(alloc, line) {
@@ -65,28 +50,30 @@ fn take_lines<R: Read, W: Write>(
     office: &mut Office,
     keys: &mut R,
     out: &mut W,
-) -> Result<(), TandemFault>
+) -> Result<usize, TandemFault>
     requires fresh { IsFresh office.old }
     ensures page { Relays office.old (R.remaining keys.old) result (W.contents out.old) (W.contents out.new) }
     ensures kind { IfErr result IsOfKeys }
 {
+    office.begin(out)?;
     let mut line = Vec::new(alloc);
     for before in 0..MOST_LINES {
         if next_line(keys, &mut line)? {
             take_line(alloc, office, before + 1, &line, out)?;
         } else {
-            office.end(alloc, out)?;
-            return Ok(());
+            return Ok(office.end(alloc, out)?);
         }
     }
     Err(TandemFault::TooMany)
 }
 
 /// Reads the table of a file, and then the keys of a text as they come, and writes the page of the office: each entry
-/// with the key that makes it certain, and the totals at the end of the text. Memory does not grow with the text,
-/// which is read byte by byte: hand it a reader with a buffer.
+/// with the key that makes it certain, and the totals at the end of the text; or objects; or the rows of the calls that
+/// go out by dial pulses. It returns how many calls are not in what was written: on a page those by dial pulses, and
+/// beside rows the others. Memory does not grow with the text, which is read byte by byte: hand it a reader with a
+/// buffer.
 ///
-/// On an `Err` the beginning of the page of the keys so far was written.
+/// On an `Err` the beginning of what is written of the keys so far was written.
 ///
 /// What the contract says of bytes it says of readers whose bytes and writers whose contents are known to contracts
 /// (byte slices, lists), which those of a process are not.
@@ -97,18 +84,19 @@ pub fn relay<F: Files, R: Read, W: Write>(
     request: Request,
     keys: &mut R,
     out: &mut W,
-) -> Result<(), TandemFault>
+) -> Result<usize, TandemFault>
     ensures { Delivers (F.bytes files.now) table.now request (R.remaining keys.old) result
         (W.contents out.old) (W.contents out.new) }
 {
     let table = read_table(alloc, files, table)?;
     let mut office = Office {
-        json: request.json,
+        form: request.form,
         line: request.line,
         table,
         register: Register::new(request.timeout_ms),
         keyed: 0,
         refused: 0,
+        dialled: 0,
     };
     take_lines(alloc, &mut office, keys, out)
 }

@@ -1,12 +1,23 @@
 // What is asked for.
 use xb_model::LineNo;
 
-/// How keys are taken, and how entries are told.
+/// What is written.
+#[derive(Clone, Copy, Debug, PartialEq, Eq)]
+pub enum Form {
+    /// The page: the entries of the calls that are keyed or refused, and the totals.
+    Page,
+    /// Objects of all calls, and of the totals.
+    Json,
+    /// The loop rows of the calls that go out by dial pulses, as a CSV text.
+    Rows,
+}
+
+/// How keys are taken, and how calls are told.
 #[derive(Clone, Copy, Debug, PartialEq, Eq)]
 pub struct Request {
-    /// Whether JSON is written.
-    pub json: bool,
-    /// The line of the entries.
+    /// What is written.
+    pub form: Form,
+    /// The line of the entries, or of the rows.
     pub line: LineNo,
     /// The silence inside a keying by which the register times out, in ms.
     pub timeout_ms: u64,
@@ -15,7 +26,7 @@ pub struct Request {
 /// What the words ask for.
 #[derive(Clone, Copy, Debug)]
 pub struct Asked<'a> {
-    /// How keys are taken, and how entries are told.
+    /// How keys are taken, and how calls are told.
     pub request: Request,
     /// The file of the route table.
     pub table: &'a str,

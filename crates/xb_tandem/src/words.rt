@@ -1,10 +1,10 @@
 // What the words of the command line ask for.
 ghost use Rattle.std.specs.Prelude.{◌≡◌, IfErr, IfOk};
 ghost use Rattle.xb_command.specs.Commands.{texts_of};
-ghost use Rattle.xb_tandem.specs.Options.{AreRefused, Asks, Say, line_of, request_of, timeout_of};
+ghost use Rattle.xb_tandem.specs.Options.{AreRefused, Asks, Say, form_of, line_of, request_of, timeout_of};
 
 use crate::program::PROGRAM;
-use crate::request::{Asked, Request};
+use crate::request::{Asked, Form, Request};
 use std::alloc::Global;
 use xb_command::{Takes, Words, WordsFault, read_words};
 use xb_incoming::TIME_OUT_MS;
@@ -14,13 +14,15 @@ use xb_model::{LINES, LineNo};
 #[derive(Clone, Copy)]
 pub(crate) struct Options {
     pub(crate) json: bool,
+    pub(crate) rows: bool,
     pub(crate) line: Option<u32>,
     pub(crate) timeout: Option<u32>,
 }
 
 // The options of the program, and its word that stands alone, each under its name.
-const OPTIONS: [(&str, Takes); 4] = [
+const OPTIONS: [(&str, Takes); 5] = [
     ("json", Takes::Nothing),
+    ("rows", Takes::Nothing),
     ("line", Takes::Number),
     ("timeout", Takes::Number),
     ("table", Takes::Itself),
@@ -32,6 +34,7 @@ fn options_of(words: &Words) -> Options
 {
     Options {
         json: words.flag("json"),
+        rows: words.flag("rows"),
         line: words.number("line"),
         timeout: words.number("timeout"),
     }
@@ -59,19 +62,32 @@ fn timeout_of(given: Option<u32>) -> u64
     }
 }
 
+// What is written; `None` where objects and rows are asked for.
+fn form_of(json: bool, rows: bool) -> Option<Form>
+    ensures { result ≡ form_of json rows }
+{
+    match (json, rows) {
+        (false, false) => Some(Form::Page),
+        (false, true) => Some(Form::Rows),
+        (true, false) => Some(Form::Json),
+        (true, true) => None,
+    }
+}
+
 // What the options ask for.
 fn request_of(options: Options) -> Option<Request>
     ensures { result ≡ request_of options }
 {
+    let form = form_of(options.json, options.rows)?;
     let line = line_of(options.line)?;
     Some(Request {
-        json: options.json,
+        form,
         line,
         timeout_ms: timeout_of(options.timeout),
     })
 }
 
-/// What the words ask for: the file of the table, the line of the entries, the time-out, and how entries are told.
+/// What the words ask for: the file of the table, the line, the time-out, and what is written.
 pub fn asked_by_words<'a>(alloc: Global, words: &'a [String]) -> Result<Asked<'a>, WordsFault>
     ensures asks { IfOk result (λ asked. Asks (texts_of words.entry.now) asked.request asked.table.now) }
     ensures refused { IfErr result (λ f. f ≡ WordsFault.Refused →

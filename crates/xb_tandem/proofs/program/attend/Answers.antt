@@ -1,22 +1,15 @@
 use Rattle.std.proofs.Common.{arith, inl}
 use Rattle.std.proofs.KnownBytes.{Keeps-refl}
 use Rattle.xb_command.proofs.WordsTold.{TellsOfWords-attends}
+use Rattle.xb_command.specs.Commands.{texts_of}
 use Rattle.xb_tandem.specs.Program.{program, usage_line}
+use Rattle.xb_tandem.proofs.Noted.{noted}
 use Rattle.xb_tandem.proofs.program.attend.Goals as goal
 
 pub returns-in-Ok-relay : goal.returns-in-Ok-relay
-returns-in-Ok-relay g c = record {
-  statuses = omega arith;
-  done = λ e. record {
-    request = c.in-Ok.asked.request;
-    table = c.in-Ok.asked.table.now;
-    asks = c.in-Ok.ensures.asks;
-    page = c.in-Ok-relay.ensures;
-    quiet = Keeps-refl _;
-  };
-  fault = λ e. absurd (omega (arith, e));
-  refused = λ e. absurd (omega (arith, e));
-}
+returns-in-Ok-relay g c =
+    noted (g.F.Files.bytes c.args.files.now) (texts_of c.args.words.now) c.in-Ok.asked.request c.in-Ok.asked.table.now
+    c.in-Ok-relay.left _ _ c.tell_note.result c.in-Ok.ensures.asks c.in-Ok-relay.ensures c.tell_note.ensures
 
 pub returns-in-Err-relay : goal.returns-in-Err-relay
 returns-in-Err-relay g c =
@@ -24,14 +17,14 @@ returns-in-Err-relay g c =
     record {
       statuses = omega (arith, status);
       done = λ e. absurd (omega (arith, e, status));
-      fault = λ e. inl (record {
+      fault = λ e. inl (inl (record {
         request = c.in-Ok.asked.request;
         table = c.in-Ok.asked.table.now;
         fault = c.in-Err-relay.fault;
         asks = c.in-Ok.ensures.asks;
         page = c.in-Err-relay.ensures;
         line = c.tell_fault.ensures.line;
-      });
+      }));
       refused = λ e. absurd (omega (arith, e, status));
     }
 

@@ -40,6 +40,6 @@ returns g c = λ limit keys start has.
     let office = c.args.self.now in
     let mid = g.W.Write.contents c.finish.new.out in
     let out = g.W.Write.contents c.write_whole.new.out in
-    ends-written limit office c.finish.new.self keys start c.finish.ensures.same mid out
+    ends-written limit office c.finish.new.self keys start c.finish.ensures.same mid out c.left_out.result c.left_out.ensures
     (c.in_ok-finish.ensures.written limit keys start has)
     (subst (Appends mid out) (c.as_bytes.ensures.value ∙ c.in_ok-text.ensures) c.in_ok-write_whole.ensures.whole)

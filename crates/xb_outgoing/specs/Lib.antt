@@ -1,0 +1,4 @@
+pub mod Groups
+pub mod Tables
+pub mod Files
+pub mod Worked

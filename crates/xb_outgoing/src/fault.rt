@@ -1,0 +1,53 @@
+// Why a table is refused, or not read.
+ghost use Rattle.std.specs.Prelude.{◌≡◌};
+
+use std::io;
+use thiserror::Error;
+use xb_model::RowFault;
+use xb_routes::RouteFault;
+
+/// Why a table is refused. A number is that of the route, the first being 1. The first fault in this order is
+/// returned: that of the table without `send`, and then those of each route in turn. `NoMemory` comes where memory ran
+/// out, before any later check.
+#[derive(Clone, Copy, Debug, PartialEq, Eq, Error)]
+pub enum OutgoingFault {
+    /// It is refused whatever `send` says.
+    #[error("{0}")]
+    Routes(RouteFault),
+    /// `send` of the route is not the text `dp`.
+    #[error("route {0} has a wrong send")]
+    Send(usize),
+    /// An earlier route of the same trunk group is sent in another way.
+    #[error("route {0} is not sent as an earlier one of its trunk")]
+    Differs(usize),
+    /// Memory ran out.
+    #[error("{}", RowFault::NoMemory)]
+    NoMemory,
+}
+
+/// Why a file has no table.
+#[derive(Debug, Drop, Error)]
+pub enum TableFault {
+    /// It could not be read.
+    #[error("the route table could not be read: {0}")]
+    File(io::Error),
+    /// Its text is refused.
+    #[error("route table: {0}")]
+    Text(OutgoingFault),
+    /// Memory ran out.
+    #[error("{}", RowFault::NoMemory)]
+    NoMemory,
+}
+
+impl From<RouteFault> for OutgoingFault {
+    ghost use Rattle.xb_outgoing.specs.Tables.{of_routes};
+
+    ghost from_gives = { λ fault e. e ≡ of_routes fault };
+
+    fn from(fault: RouteFault) -> OutgoingFault {
+        match fault {
+            RouteFault::NoMemory => OutgoingFault::NoMemory,
+            fault => OutgoingFault::Routes(fault),
+        }
+    }
+}
