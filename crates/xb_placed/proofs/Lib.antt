@@ -1,0 +1,5 @@
+pub mod Lengths
+pub mod Silences
+pub mod Follows
+pub mod Ends
+pub mod Readings

@@ -1,0 +1,6 @@
+pub mod Entries
+pub mod Sounds
+pub mod Times
+pub mod Cuts
+pub mod Objects
+pub mod Texts
