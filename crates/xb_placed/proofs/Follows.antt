@@ -1,5 +1,5 @@
 -- The sound of entries, entry by entry.
-use Rattle.std.proofs.Common.{◌≡◌, ◌∙◌, ℕ, zero, suc, ◌+◌, ◌*◌, ◌-◌, ◌<◌, ◌≤◌, ◌⊎◌, Bool, true, false, List, [], ◌∷◌, ◌++◌, length, length-append, replicate, take, Option, Some, None, sym, ap, subst, append_assoc, append-nil, arith, refl, ℤ, pos, inl, inr, min}
+use Rattle.std.proofs.Common.{◌≡◌, ◌∙◌, ℕ, ◌+◌, ◌*◌, ◌-◌, ◌<◌, ◌≤◌, ◌⊎◌, Bool, true, false, List, [], ◌∷◌, ◌++◌, length, length-append, replicate, take, Option, None, sym, ap, subst, append_assoc, append-nil, arith, refl, ℤ, pos, inl, inr, min}
 use Rattle.std.specs.List.{slice_get}
 use Rattle.std.specs.Prelude.{nat_lt}
 use Rattle.std.specs.Io.KnownBytes.{Appends}
@@ -13,7 +13,7 @@ use Rattle.xb_text.specs.Writing.{AppendsBeginning}
 use Rattle.xb_sound.specs.declared.cadence.Cadence.{Cadence}
 use Rattle.xb_sound.specs.Sounds.{silence}
 use Rattle.xb_sound.specs.Wavs.{pcm_of, sample_bytes}
-use Rattle.xb_sound.proofs.Beginnings.{beginning-after, beginning-more, whole-begins}
+use Rattle.xb_sound.proofs.Beginnings.{beginning-after, beginning-more}
 use Rattle.xb_placed.specs.declared.entry.PlacedEntry.{PlacedEntry}
 use Rattle.xb_placed.specs.Sounds.{entry_sound, sound_after, sound_at, sound_before, up_to, with_entry}
 use Rattle.xb_placed.specs.Times.{AreInOrder, early_after, first_at}
@@ -92,9 +92,11 @@ at-next cadence done entry [] at = tt
 at-next cadence done entry (next ∷ later) at =
     let step = order-step entry.at_ms next later at.1 in
     let n : ℕ = (next.at_ms - entry.at_ms) * 8 in
-    let own = entry_sound cadence entry in
-    (length-append done (up_to n own) ∙ ap (λ k. length done + k) (up_to-length n own)
-    ∙ sym (between done entry next at.0 step.0), step.1)
+    let own = entry_sound cadence entry in (
+      length-append done (up_to n own) ∙ ap (λ k. length done + k) (up_to-length n own)
+          ∙ sym (between done entry next at.0 step.0),
+      step.1,
+    )
 
 goes-kept : (cadence : Cadence) (done : List ℤ) (left : List PlacedEntry) → IsAt done left
     → (rest : List ℤ) × (goes_on cadence done left ≡ done ++ rest)
@@ -144,7 +146,7 @@ so_far-end cadence entries start out so =
     subst (λ (sound : List ℤ). Appends start out (pcm_of sound)) (sym so.whole) so.written
 
 -- up to the first entry it is silent
-silent_first : (cadence : Cadence) (entry : PlacedEntry) (later : List PlacedEntry)
+pub silent_first : (cadence : Cadence) (entry : PlacedEntry) (later : List PlacedEntry)
     → sound_at cadence (entry ∷ later) ≡ goes_on cadence (silence entry.at_ms) (entry ∷ later)
 unfolding sound_after
 silent_first cadence entry later =

@@ -3,3 +3,4 @@ pub mod Silences
 pub mod Follows
 pub mod Ends
 pub mod Readings
+pub mod Begun

@@ -1,5 +1,5 @@
 -- What a text line tells, by what JSON is read of it, and the steps of reading a text.
-use Rattle.std.proofs.Common.{◌≡◌, ◌∙◌, ℕ, ◌+◌, ◌≤◌, Bool, true, false, List, [], ◌∷◌, ◌++◌, length, Option, Some, None, Ok, Err, Result, ap, sym, append_assoc, append-nil, inr, refl, arith, eqb, ne_eqb, suc, cond, ◌<◌}
+use Rattle.std.proofs.Common.{◌≡◌, ◌∙◌, ℕ, ◌+◌, ◌≤◌, Bool, true, false, List, [], ◌∷◌, ◌++◌, length, Option, Some, None, Ok, Err, ap, sym, append_assoc, append-nil, inr, refl, arith, eqb, ne_eqb, suc, cond, ◌<◌}
 use Rattle.std.specs.Prelude.{IfErr, IfOk, if◌then◌else◌}
 use Rattle.std.specs.Str.{IsUtf8, is_utf8}
 use Rattle.std.proofs.lemmas.Bool.{cond-true, cond-false}
@@ -13,7 +13,6 @@ use Rattle.std.proofs.lemmas.List.Splits.{length-slice_split}
 use Rattle.std.proofs.lemmas.List.Sums.{count_by-le-length}
 use Rattle.xb_text.specs.Pieces.{pieces}
 use Rattle.xb_placed.specs.declared.entry.PlacedEntry.{PlacedEntry}
-use Rattle.xb_placed.specs.declared.fault.LineFault.{LineFault}
 use Rattle.xb_placed.specs.declared.fault.TextFault.{TextFault}
 use Rattle.xb_placed.specs.declared.fault.TextFault.TheVariants as text_fault
 use Rattle.xb_placed.specs.Texts.{Entries, IsFaultAt, IsFaultOfText, TakesLine, before, entries_from, entries_of_text, is_end, said_and_rest}

@@ -4,3 +4,4 @@ pub mod Times
 pub mod Cuts
 pub mod Objects
 pub mod Texts
+pub mod Laws

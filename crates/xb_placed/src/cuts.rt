@@ -20,7 +20,10 @@ fn push_line(text: &mut String, program: &str, entry: &PlacedEntry) -> Result<()
     let line = entry.line.get();
     let number = entry.number;
     let at_ms = entry.at_ms;
-    write!(text, "{program}: entry {number} of line {line} cuts the one before it at {at_ms} ms\n")
+    write!(
+        text,
+        "{program}: entry {number} of line {line} cuts the one before it at {at_ms} ms\n"
+    )
 }
 
 // Puts the line of the next entry, if there is one that cuts the one before it, after the text.

@@ -1,1 +1,14 @@
 //! What the definitions give: each law is the contract of a function that does nothing.
+ghost use Rattle.xb_placed.specs.Laws.{EachSounds, KeyingsBegin};
+
+/// KP begins at the time of its entry and the lead, as far as later entries leave it, whatever came before.
+#[tactic(auto, using(crate::proofs::Begun::keyings_begin))]
+pub fn keyings_begin()
+    ensures { KeyingsBegin }
+{}
+
+/// From the time of an entry on just that entry sounds, up to the next one.
+#[tactic(auto, using(crate::proofs::Begun::each_sounds))]
+pub fn each_sounds()
+    ensures { EachSounds }
+{}

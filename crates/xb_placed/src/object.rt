@@ -111,11 +111,7 @@ fn is_other(object: &Value) -> bool
 }
 
 // The entry of an outcome that text line `number` has.
-fn entry_by(
-    number: u64,
-    object: &Value,
-    outcome: &str,
-) -> Result<Option<PlacedEntry>, LineFault>
+fn entry_by(number: u64, object: &Value, outcome: &str) -> Result<Option<PlacedEntry>, LineFault>
     ensures { result ≡ entry_by number (place_in (view object.now)) (order_in outcome.now (view object.now)) }
 {
     let order = order_in(object, outcome)?;

@@ -1,4 +1,4 @@
-use Rattle.std.proofs.Common.{◌≡◌, ◌∙◌, ap, arith, length, sym}
+use Rattle.std.proofs.Common.{◌∙◌, ap, length, sym}
 use Rattle.xb_sound.specs.Sounds.{mark_sound}
 use Rattle.xb_placed.proofs.Lengths.{tone-length}
 use Rattle.xb_placed.proofs.entry.mark_ms.Goals as goal

@@ -1,7 +1,6 @@
-use Rattle.std.proofs.Common.{◌≡◌, ◌∙◌, List, ℕ, sym, subst}
+use Rattle.std.proofs.Common.{◌∙◌, List, ℕ, subst}
 use Rattle.std.specs.Io.KnownBytes.{Appends}
-use Rattle.xb_text.specs.Writing.{AppendsBeginning}
-use Rattle.xb_sound.proofs.Beginnings.{beginning-after, beginning-more}
+use Rattle.xb_sound.proofs.Beginnings.{beginning-after}
 use Rattle.xb_sound.specs.Wavs.{pcm_of}
 use Rattle.xb_placed.specs.Sounds.{head_before, sound_at}
 use Rattle.xb_placed.proofs.sounding.write_placed.Goals as goal

@@ -1,11 +1,11 @@
-use Rattle.std.proofs.Common.{◌≡◌, ◌∙◌, ℕ, ◌*◌, ◌-◌, List, ◌++◌, ap, sym, subst, take}
+use Rattle.std.proofs.Common.{ℕ, ◌*◌, ◌-◌, List, sym, subst, take}
 use Rattle.std.proofs.KnownBytes.{Appends-trans}
 use Rattle.std.specs.Io.KnownBytes.{Appends}
 use Rattle.xb_text.specs.Writing.{AppendsBeginning}
 use Rattle.xb_sound.proofs.Beginnings.{beginning-after, beginning-more}
 use Rattle.xb_sound.specs.Sounds.{silence}
 use Rattle.xb_sound.specs.Wavs.{pcm_of}
-use Rattle.xb_placed.specs.Sounds.{entry_sound, up_to}
+use Rattle.xb_placed.specs.Sounds.{entry_sound}
 use Rattle.xb_placed.proofs.Follows.{up_to-bytes}
 use Rattle.xb_placed.proofs.sounding.write_up_to.Goals as goal
 
