@@ -25,12 +25,12 @@ module _ (words : List Text) (rows : List Row) (options : Options) (name : Optio
   asked-by request is = ap (request_with options) (is_some-named name) ∙ sym is
 
   pub asks : (request : Request) → IsTaken command_of_words words
-      → Some request ≡ request_with options (is_some name) → Asks words request (named name)
+      → Some request ≡ request_with options (is_some name) → Asks words request (named name) options.at
   asks request taken is = (
     taken,
-    ((options, named name), all-said, ap (option_map (λ (r : Request). (r, named name))) (asked-by (Some request) is)),
+    ((options, named name), all-said, ap (option_map (λ (r : Request). (r, named name, options.at))) (asked-by (Some request) is)),
   )
 
   pub asks-nothing : None ≡ request_with options (is_some name) → AreRefused words
   asks-nothing is =
-      inr ((options, named name), all-said, ap (option_map (λ (r : Request). (r, named name))) (asked-by None is))
+      inr ((options, named name), all-said, ap (option_map (λ (r : Request). (r, named name, options.at))) (asked-by None is))

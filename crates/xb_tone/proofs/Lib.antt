@@ -2,3 +2,4 @@ pub mod AskedKeys
 pub mod NoisyKeys
 pub mod MuLawKeys
 pub mod Unset
+pub mod Placed

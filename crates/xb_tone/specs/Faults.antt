@@ -10,6 +10,9 @@ use Rattle.xb_signal.specs.declared.fault.KeysFault.{KeysFault}
 use Rattle.xb_signal.specs.declared.fault.KeysFault.TheVariants as keys_fault
 use Rattle.xb_signal.specs.declared.fault.SignalFault.{SignalFault}
 use Rattle.xb_signal.specs.declared.fault.SignalFault.TheVariants as signal_fault
+use Rattle.xb_placed.specs.declared.fault.TextFault.{TextFault}
+use Rattle.xb_placed.specs.declared.fault.TextFault.TheVariants as text_fault
+use Rattle.xb_tone.specs.declared.at_fault.AtFault.TheVariants as at_fault
 use Rattle.xb_tone.specs.declared.fault.ToneFault.{ToneFault}
 use Rattle.xb_tone.specs.declared.fault.ToneFault.TheVariants as fault
 
@@ -22,6 +25,10 @@ abbrev pub of_sound : SoundFault → ToneFault
 of_sound sound_fault.TooLong = fault.TooLongSound
 of_sound sound_fault.NoMemory = fault.CutShort
 of_sound sound_fault.Write = fault.Write
+
+abbrev pub of_text : TextFault → ToneFault
+of_text (text_fault.TextLine n f) = fault.At (at_fault.TextLine n f)
+of_text text_fault.NoMemory = fault.NoMemory
 
 abbrev pub of_signal : SignalFault → ToneFault
 of_signal signal_fault.TooLong = fault.TooLongSound

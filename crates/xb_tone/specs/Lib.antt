@@ -3,6 +3,7 @@ pub mod Manners
 pub mod Faults
 pub mod Options
 pub mod Rules
+pub mod Placing
 pub mod Sounding
 pub mod Program
 pub mod NoisyKeys

@@ -22,6 +22,7 @@ pub record Say (rows : List Row) (options : Options) : Type 0 where
   pub key_ms : ReadsNumber (given_by rows (codes "key")) options.key_ms
   pub gap_ms : ReadsNumber (given_by rows (codes "gap")) options.gap_ms
   pub raw : ReadsFlag (given_by rows (codes "raw")) options.raw
+  pub at : ReadsFlag (given_by rows (codes "at")) options.at
   pub manner : SayManner rows options.manner
 
 -- all entries, or those of a line, or one of a line; an entry without its line is none
@@ -55,10 +56,11 @@ request_of options =
       setting = setting;
     }) (setting_of options.manner)) (choice_of options.line options.entry)
 
--- words of keys sound in place of a page, so that no line and no entry is named; of a page no manner is said
+-- words of keys sound in place of a page or of entries, so that no line and no entry is named; of these no manner is said
 abbrev pub request_with : Options → Bool → Option Request
 request_with options has_keys =
-    if (has_keys && (is_some options.line || is_some options.entry)) || (not has_keys && has_manner options.manner) then None
+    if (has_keys && (is_some options.line || is_some options.entry || options.at))
+    || (not has_keys && has_manner options.manner) then None
     else request_of options
 
 -- the words of keys
@@ -69,14 +71,15 @@ named keys = option_map (λ text. text.now) keys
 abbrev pub SayAll : List Row → Options × Option Text → Type 0
 SayAll rows (options, keys) = Say rows options × (keys ≡ first_of (codes "keys") rows)
 
-abbrev pub asked_of : Options × Option Text → Option (Request × Option Text)
-asked_of (options, keys) = option_map (λ request. (request, keys)) (request_with options (is_some keys))
+-- what is asked for, the words of keys, and whether entries lie in time
+abbrev pub asked_of : Options × Option Text → Option (Request × Option Text × Bool)
+asked_of (options, keys) = option_map (λ request. (request, keys, options.at)) (request_with options (is_some keys))
 
--- clap takes the words, and they ask for this, and for these words of keys
-abbrev pub Asks : List Text → Request → Option Text → Type 0
-Asks words request keys = AsksFor command_of_words SayAll asked_of words (request, keys)
+-- clap takes the words, and they ask for this, and for these words of keys, or for entries that lie in time
+abbrev pub Asks : List Text → Request → Option Text → Bool → Type 0
+Asks words request keys at = AsksFor command_of_words SayAll asked_of words (request, keys, at)
 
--- clap refuses the words, or they ask for an entry without its line, or for words of keys and a line or an entry, or
--- for a setting without words of keys, or for one that there is not
+-- clap refuses the words, or they ask for an entry without its line, or for words of keys and a line, an entry or
+-- entries that lie in time, or for a setting without words of keys, or for one that there is not
 abbrev pub AreRefused : List Text → Type 0
 AreRefused words = AskForNothing command_of_words SayAll asked_of words

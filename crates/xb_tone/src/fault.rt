@@ -1,9 +1,11 @@
 // Why no sound is written.
 ghost use Rattle.std.specs.Prelude.{◌≡◌};
 
+use crate::at_fault::AtFault;
 use std::alloc::AllocError;
 use thiserror::Error;
 use xb_page::PageFault;
+use xb_placed::TextFault;
 use xb_signal::{KeysFault, SignalFault};
 use xb_sound::{CadenceFault, SoundFault};
 use xb_text::ReadFault;
@@ -27,6 +29,9 @@ pub enum ToneFault {
     /// The text is no page.
     #[error("{0}")]
     Page(PageFault),
+    /// Entries that lie in time have no sound.
+    #[error("{0}")]
+    At(AtFault),
     /// The page has no entry that was asked for.
     #[error("the page has no such entry")]
     NoEntry,
@@ -39,7 +44,7 @@ pub enum ToneFault {
     /// Memory ran out before the sound.
     #[error("out of memory")]
     NoMemory,
-    /// Memory ran out in the sound of a page, the beginning of which was written.
+    /// Memory ran out in the sound of a page or of entries, the beginning of which was written.
     #[error("out of memory, after the beginning of the sound")]
     CutShort,
     /// A write or the flush failed, or a write took no byte. The beginning of the sound was written.
@@ -80,6 +85,19 @@ impl From<ReadFault> for ToneFault {
             ReadFault::Failed => ToneFault::Read,
             ReadFault::TooLong => ToneFault::TooLong,
             ReadFault::NoMemory => ToneFault::NoMemory,
+        }
+    }
+}
+
+impl From<TextFault> for ToneFault {
+    ghost use Rattle.xb_tone.specs.Faults.{of_text};
+
+    ghost from_gives = { λ fault e. e ≡ of_text fault };
+
+    fn from(fault: TextFault) -> ToneFault {
+        match fault {
+            TextFault::TextLine(number, fault) => ToneFault::At(AtFault::TextLine(number, fault)),
+            TextFault::NoMemory => ToneFault::NoMemory,
         }
     }
 }

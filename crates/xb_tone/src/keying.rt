@@ -4,8 +4,9 @@ ghost use Rattle.xb_tone.specs.Options.{named};
 ghost use Rattle.xb_tone.specs.Sounding.{DeliversKeys, JudgesCadence, Plays};
 
 use crate::fault::ToneFault;
+use crate::placing::play_at;
 use crate::playing::play;
-use crate::request::Request;
+use crate::request::{Asked, Request};
 use std::alloc::Global;
 use std::io::{Read, Write};
 use xb_signal::{segments_of_text, write_signal};
@@ -29,20 +30,22 @@ pub fn play_keys<W: Write>(
     Ok(())
 }
 
-// Writes the sound of words of keys, where they are given, or else of a page's calls.
-pub(crate) fn play_asked<R: Read, W: Write>(
+// Writes the sound of words of keys, where they are given, or else of entries that lie in time, or of a page's calls.
+pub(crate) fn play_asked<R: Read, W: Write, E: Write>(
     alloc: Global,
-    request: Request,
-    keys: Option<&str>,
+    asked: Asked<'_>,
     page: &mut R,
     out: &mut W,
+    err: &mut E,
 ) -> Result<(), ToneFault>
-    ensures judged { JudgesCadence request.cadence result }
-    ensures sound { Plays request (named keys.entry) result (R.remaining page.old) (R.remaining page.new)
-        (W.contents out.old) (W.contents out.new) }
+    ensures judged { JudgesCadence asked.entry.request.cadence result }
+    ensures sound { Plays asked.entry.request (named asked.entry.keys) asked.entry.at result
+        (R.remaining page.old) (R.remaining page.new) (W.contents out.old) (W.contents out.new)
+        (E.contents err.old) (E.contents err.new) }
 {
-    match keys {
-        Some(words) => play_keys(alloc, request, words, out),
-        None => play(alloc, request, page, out),
+    match asked.keys {
+        Some(words) => play_keys(alloc, asked.request, words, out),
+        None if asked.at => play_at(alloc, asked.request, page, out, err),
+        None => play(alloc, asked.request, page, out),
     }
 }

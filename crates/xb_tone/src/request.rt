@@ -34,4 +34,6 @@ pub struct Asked<'a> {
     pub request: Request,
     /// The words of keys that sound in place of a page's calls.
     pub keys: Option<&'a str>,
+    /// Whether entries that lie in time sound in place of a page's calls.
+    pub at: bool,
 }

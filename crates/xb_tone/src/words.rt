@@ -20,11 +20,12 @@ pub(crate) struct Options {
     pub(crate) key_ms: Option<u32>,
     pub(crate) gap_ms: Option<u32>,
     pub(crate) raw: bool,
+    pub(crate) at: bool,
     pub(crate) manner: Manner,
 }
 
 // The options of the program, each under its name.
-const OPTIONS: [(&str, Takes); 20] = [
+const OPTIONS: [(&str, Takes); 21] = [
     ("line", Takes::Number),
     ("entry", Takes::Number),
     ("lead", Takes::Number),
@@ -32,6 +33,7 @@ const OPTIONS: [(&str, Takes); 20] = [
     ("key", Takes::Number),
     ("gap", Takes::Number),
     ("raw", Takes::Nothing),
+    ("at", Takes::Nothing),
     ("keys", Takes::Text),
     ("level", Takes::Text),
     ("twist", Takes::Text),
@@ -59,6 +61,7 @@ fn options_of(words: &Words) -> Options
         key_ms: words.number("key"),
         gap_ms: words.number("gap"),
         raw: words.flag("raw"),
+        at: words.flag("at"),
         manner: manner_of(words),
     }
 }
@@ -117,33 +120,36 @@ fn request_of(options: Options) -> Option<Request>
 }
 
 // What the options ask for, beside words of keys that are given or not; `None` also where they are, and a line or an
-// entry is named, and where they are not, and the options say how they are to sound.
+// entry is named, or entries are to lie in time, and where they are not, and the options say how they are to sound.
 fn request_with(options: Options, has_keys: bool) -> Option<Request>
     ensures { result ≡ request_with options has_keys }
 {
     let names_entry = options.line.is_some() || options.entry.is_some();
-    if (has_keys && names_entry) || (!has_keys && has_manner(options.manner)) {
+    if (has_keys && (names_entry || options.at)) || (!has_keys && has_manner(options.manner)) {
         None
     } else {
         request_of(options)
     }
 }
 
-/// What the words ask for: all entries of the page, those of a line, or one of these, or words of keys in their place,
-/// by the standard cadence with each time that is given in place of its own, as a WAV file or as samples alone. A time
+/// What the words ask for: all entries of the page, or entries that lie in time, those of a line, or one of these, or
+/// words of keys in their place, by the standard cadence with each time that is given in place of its own, as a WAV file or as samples alone. A time
 /// over 65,535 ms counts as that.
 pub(crate) fn asked_by_words<'a>(
     alloc: Global,
     words: &'a [String],
 ) -> Result<Asked<'a>, WordsFault>
-    ensures asks { IfOk result (λ asked. Asks (texts_of words.entry.now) asked.request (named asked.keys)) }
+    ensures asks { IfOk result (λ asked.
+        Asks (texts_of words.entry.now) asked.request (named asked.keys) asked.at) }
     ensures refused { IfErr result (λ f. f ≡ WordsFault.Refused
         → AreRefused (texts_of words.entry.now)) }
 {
     let words = read_words(alloc, PROGRAM, &OPTIONS, words)?;
     let keys = words.text("keys");
-    match request_with(options_of(&words), keys.is_some()) {
-        Some(request) => Ok(Asked { request, keys }),
+    let options = options_of(&words);
+    let at = options.at;
+    match request_with(options, keys.is_some()) {
+        Some(request) => Ok(Asked { request, keys, at }),
         None => Err(WordsFault::Refused),
     }
 }

@@ -2,7 +2,8 @@ use Rattle.std.proofs.Common.{arith}
 use Rattle.std.proofs.KnownBytes.{Keeps-refl}
 use Rattle.xb_command.proofs.WordsTold.{TellsOfWords-attends}
 use Rattle.xb_tone.specs.Options.{named}
-use Rattle.xb_tone.specs.Program.{program, usage_line}
+use Rattle.xb_tone.specs.Program.{usage_line}
+use Rattle.xb_tone.specs.Rules.{program}
 use Rattle.xb_tone.proofs.program.attend.Goals as goal
 
 pub returns-in-Ok-play_asked : goal.returns-in-Ok-play_asked
@@ -11,10 +12,10 @@ returns-in-Ok-play_asked g c = record {
   done = λ e. record {
     request = c.in-Ok.asked.request;
     keys = named c.in-Ok.asked.keys;
+    at = c.in-Ok.asked.at;
     asks = c.in-Ok.ensures.asks;
     judged = c.in-Ok-play_asked.ensures.judged;
     sound = c.in-Ok-play_asked.ensures.sound;
-    quiet = Keeps-refl _;
   };
   fault = λ e. absurd (omega (arith, e));
   refused = λ e. absurd (omega (arith, e));

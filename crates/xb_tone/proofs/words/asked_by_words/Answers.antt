@@ -14,14 +14,14 @@ returns-in_err-words-clause-refused c =
 pub returns-in-Some-clause-asks : goal.returns-in-Some-clause-asks
 returns-in-Some-clause-asks c =
     let named : c.is_some.result ≡ is_some c.text-keys.result = search rules in
-    asks (texts_of c.args.words.now) c.in_ok-words.words c.options_of.result c.text-keys.result
+    asks (texts_of c.args.words.now) c.in_ok-words.words c.options_of-options.result c.text-keys.result
     c.in_ok-words.ensures.words
-    c.options_of.ensures c.text-keys.ensures c.in-Some.request c.in_ok-words.ensures.taken
-    (c.in-Some.ensures ∙ ap (request_with c.options_of.result) named)
+    c.options_of-options.ensures c.text-keys.ensures c.in-Some.request c.in_ok-words.ensures.taken
+    (c.in-Some.ensures ∙ ap (request_with c.options_of-options.result) named)
 
 pub returns-clause-refused : goal.returns-clause-refused
 returns-clause-refused c = λ refused.
     let named : c.is_some.result ≡ is_some c.text-keys.result = search rules in
-    asks-nothing (texts_of c.args.words.now) c.in_ok-words.words c.options_of.result c.text-keys.result
-    c.in_ok-words.ensures.words c.options_of.ensures c.text-keys.ensures
-    (c.in-None.ensures ∙ ap (request_with c.options_of.result) named)
+    asks-nothing (texts_of c.args.words.now) c.in_ok-words.words c.options_of-options.result c.text-keys.result
+    c.in_ok-words.ensures.words c.options_of-options.ensures c.text-keys.ensures
+    (c.in-None.ensures ∙ ap (request_with c.options_of-options.result) named)
