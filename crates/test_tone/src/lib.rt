@@ -11,6 +11,8 @@ mod ear;
 #[cfg(test)]
 mod keyings;
 #[cfg(test)]
+mod placed;
+#[cfg(test)]
 mod pages;
 #[cfg(test)]
 mod sounds;

@@ -27,7 +27,7 @@ impl Program for Mftone {
 }
 
 const USAGE: &[u8] = b"mftone: usage: mftone [--line N] [--entry N] [--lead N] [--kp N] [--key N] \
-[--gap N] [--raw] [--keys WORDS] [--level DBM0] [--twist DB] [--detune PERCENT] [--skew MS] \
+[--gap N] [--raw] [--at] [--keys WORDS] [--level DBM0] [--twist DB] [--detune PERCENT] [--skew MS] \
 [--hole MS@MS] [--phase] [--with HZ:DBM0] [--hum DBM0] [--noise-peak N] [--seed N] [--clip] [--ulaw]\n";
 
 // The words after the program's name, the page, the status, and what stands on standard error; nothing is
@@ -145,6 +145,82 @@ const CASES: &[(&[&str], &[u8], u8, &[u8])] = &[
     ),
 ];
 
+// The words after the program's name, entries that lie in time, and what stands on standard error with status 1;
+// nothing is written.
+const ENTRIES: &[(&[&str], &[u8], &[u8])] = &[
+    (&["--at"], b"", b"mftone: there is no such entry\n"),
+    (
+        &["--at"],
+        b"{\"keyed\":0,\"refused\":0}\n\n",
+        b"mftone: text line 2 is no JSON object\n",
+    ),
+    (
+        &["--at"],
+        b"{\"event\":\"SEIZED\"}\r\n[1]\n",
+        b"mftone: text line 2 is no JSON object\n",
+    ),
+    (
+        &["--at"],
+        b"{\"keyed\":1}\n",
+        b"mftone: text line 1 has no entry, event or totals of mflive --json\n",
+    ),
+    // the object of a mark
+    (
+        &["--at"],
+        b"{\"at_ms\":1,\"entry\":1,\"line\":7,\"trunk\":17}",
+        b"mftone: text line 1 has no entry, event or totals of mflive --json\n",
+    ),
+    // what mftandem writes has no time
+    (
+        &["--at"],
+        b"{\"entry\":1,\"line\":7,\"outcome\":\"KEYED\",\"sent\":\"5\",\"trunk\":1}",
+        b"mftone: text line 1 has an entry without its line, entry and at_ms\n",
+    ),
+    (
+        &["--at"],
+        b"{\"at_ms\":1,\"entry\":1,\"line\":7,\"outcome\":\"KEYED\",\"sent\":\"5x\",\"trunk\":1}",
+        b"mftone: text line 1 has a keyed entry without its trunk and sent\n",
+    ),
+    (
+        &["--at"],
+        b"{\"at_ms\":1,\"entry\":1,\"line\":7,\"outcome\":\"KEYED\",\"sent\":\"5\",\"trunk\":10000}",
+        b"mftone: text line 1 has a keyed entry without its trunk and sent\n",
+    ),
+    (
+        &["--at"],
+        b"{\"at_ms\":1,\"entry\":1,\"heard\":3,\"line\":7,\"outcome\":\"REFUSED\",\"reason\":\"LATE\"}",
+        b"mftone: text line 1 has a refused entry without its reason and heard\n",
+    ),
+    (
+        &["--at", "--line", "42"],
+        b"{\"at_ms\":1,\"entry\":1,\"heard\":3,\"line\":7,\"outcome\":\"REFUSED\",\"reason\":\"UNKNOWN\"}",
+        b"mftone: there is no such entry\n",
+    ),
+    (
+        &["--at"],
+        b"{\"at_ms\":1,\"entry\":1,\"heard\":3,\"line\":7,\"outcome\":\"REFUSED\",\"reason\":\"UNKNOWN\"}",
+        b"mftone: none of the calls asked for is keyed\n",
+    ),
+    // two lines, each with a clock of its own
+    (
+        &["--at"],
+        b"{\"at_ms\":2,\"entry\":1,\"line\":7,\"outcome\":\"KEYED\",\"sent\":\"5\",\"trunk\":1}\n\
+{\"at_ms\":1,\"entry\":1,\"line\":8,\"outcome\":\"KEYED\",\"sent\":\"5\",\"trunk\":1}\n",
+        b"mftone: text line 2 has a time before that of the entry before it; --line N takes one line alone\n",
+    ),
+    // 268,435,454 ms of sound have more bytes than a file
+    (
+        &["--at", "--lead", "0", "--kp", "1", "--key", "1", "--gap", "0"],
+        b"{\"at_ms\":268435451,\"entry\":1,\"line\":7,\"outcome\":\"KEYED\",\"sent\":\"5\",\"trunk\":1}",
+        b"mftone: the sound is too long for a WAV file\n",
+    ),
+    (
+        &["--at"],
+        b"{\"at_ms\":18446744073709551615,\"entry\":1,\"line\":7,\"outcome\":\"KEYED\",\"sent\":\"5\",\"trunk\":1}",
+        b"mftone: the sound is too long for a WAV file\n",
+    ),
+];
+
 // Words after the program's name that are refused: the usage is told, and the page is not read.
 const REFUSED: &[&[&str]] = &[
     // a level of each tone is from -40.0 to 0, and a page has none
@@ -165,6 +241,11 @@ const REFUSED: &[&[&str]] = &[
     &["--line", "7", "--raw", "--ulaw"],
     &["--keys", "KP", "--ulaw=1"],
     &["--keys", "KP", "--line", "7"],
+    // words of keys have no times, and entries no level
+    &["--at", "--keys", "KP"],
+    &["--at", "--level=-7"],
+    &["--at", "--entry", "1"],
+    &["--at", "7"],
     &["--entry", "1"],
     &["--line", "x"],
     &["--speed", "10"],
@@ -194,6 +275,19 @@ fn refuses_words(rt: HostRuntime) -> Result<(), Fail> {
             line: USAGE,
         };
         check_status(rt.alloc(), &Mftone, words, PAGE, wanted)?;
+    }
+    Ok(())
+}
+
+#[test]
+fn fails_where_the_entries_fail(rt: HostRuntime) -> Result<(), Fail> {
+    for (words, entries, line) in ENTRIES {
+        let wanted = Gives {
+            status: 1,
+            written: b"",
+            line,
+        };
+        check_status(rt.alloc(), &Mftone, words, entries, wanted)?;
     }
     Ok(())
 }

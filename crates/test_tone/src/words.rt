@@ -1,9 +1,10 @@
 // The words of each fault, as the table of faults has them.
 use std::test::Fail;
 use xb_page::PageFault;
+use xb_placed::LineFault;
 use xb_signal::{KeysFault, Place};
 use xb_sound::CadenceFault;
-use xb_tone::ToneFault;
+use xb_tone::{AtFault, ToneFault};
 
 const WORDS: &[(ToneFault, &str)] = &[
     (
@@ -74,6 +75,47 @@ const WORDS: &[(ToneFault, &str)] = &[
         "text stands after the totals of text line 8",
     ),
     (ToneFault::Page(PageFault::NoMemory), "out of memory"),
+    (
+        ToneFault::At(AtFault::Read),
+        "the entries could not be read",
+    ),
+    (
+        ToneFault::At(AtFault::TooLong),
+        "the entries are longer than 67108864 bytes",
+    ),
+    (
+        ToneFault::At(AtFault::TextLine(9, LineFault::NoObject)),
+        "text line 9 is no JSON object",
+    ),
+    (
+        ToneFault::At(AtFault::TextLine(10, LineFault::NoKind)),
+        "text line 10 has no entry, event or totals of mflive --json",
+    ),
+    (
+        ToneFault::At(AtFault::TextLine(11, LineFault::NoPlace)),
+        "text line 11 has an entry without its line, entry and at_ms",
+    ),
+    (
+        ToneFault::At(AtFault::TextLine(12, LineFault::NoKeying)),
+        "text line 12 has a keyed entry without its trunk and sent",
+    ),
+    (
+        ToneFault::At(AtFault::TextLine(13, LineFault::NoRefusal)),
+        "text line 13 has a refused entry without its reason and heard",
+    ),
+    (
+        ToneFault::At(AtFault::TextLine(14, LineFault::NoMemory)),
+        "text line 14 out of memory",
+    ),
+    (ToneFault::At(AtFault::NoEntry), "there is no such entry"),
+    (
+        ToneFault::At(AtFault::Early(15)),
+        "text line 15 has a time before that of the entry before it; --line N takes one line alone",
+    ),
+    (
+        ToneFault::At(AtFault::Untold),
+        "what is cut could not be told",
+    ),
     (ToneFault::NoEntry, "the page has no such entry"),
     (ToneFault::Refused, "none of the calls asked for is keyed"),
     (
