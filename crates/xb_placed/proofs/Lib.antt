@@ -4,3 +4,4 @@ pub mod Follows
 pub mod Ends
 pub mod Readings
 pub mod Begun
+pub mod HeardEntries

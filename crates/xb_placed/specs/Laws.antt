@@ -1,13 +1,18 @@
 -- Where entries sound.
 use Rattle.std.specs.Prelude.{ℕ, ◌≡◌, ◌≤◌, ◌+◌, ◌*◌, ◌-◌, List, [], ◌∷◌, ◌++◌, None, drop, take}
+use Rattle.std.specs.List.{AllByRecursion, flat_map}
 use Rattle.xb_model.specs.declared.key.Key.TheVariants.{Kp}
 use Rattle.xb_model.specs.declared.order.Order.TheVariants.{Key}
 use Rattle.xb_model.specs.MfPairs.{mf_pair}
 use Rattle.xb_sound.specs.declared.cadence.Cadence.{Cadence}
+use Rattle.xb_sound.specs.Cadences.{IsSetApart}
+use Rattle.xb_sound.specs.HeardKeys.{AreKeyed, IsHeard}
 use Rattle.xb_sound.specs.Sounds.{silence, tone_sound}
 use Rattle.xb_placed.specs.declared.entry.PlacedEntry.{PlacedEntry}
 use Rattle.xb_placed.specs.Sounds.{entry_sound, sound_at, up_to}
-use Rattle.xb_placed.specs.Times.{early_after}
+use Rattle.xb_placed.specs.Cuts.{lines_of_cuts}
+use Rattle.xb_placed.specs.Entries.{marks_of}
+use Rattle.xb_placed.specs.Times.{AreInOrder, early_after}
 
 -- where the later entries leave KP so many of its ms, it begins the lead after the time of its entry, sample by sample
 abbrev pub KeyingsBegin : Type 0
@@ -30,3 +35,10 @@ pub record EachSounds : Type 0 where
       ≡ up_to ((next.at_ms - entry.at_ms) * 8) (entry_sound cadence entry)
   pub last : (cadence : Cadence) (earlier : List PlacedEntry) (entry : PlacedEntry)
       → drop (entry.at_ms * 8) (sound_at cadence (earlier ++ (entry ∷ []))) ≡ entry_sound cadence entry
+
+-- where nothing is cut, a receiver hears the keys of all entries, in order, and nothing else
+abbrev pub AllAreHeard : Type 0
+AllAreHeard = (program : List ℕ) (cadence : Cadence) (entries : List PlacedEntry) → IsSetApart cadence
+    → AllByRecursion (λ entry. AreKeyed (marks_of entry)) entries → AreInOrder entries
+    → lines_of_cuts program cadence entries ≡ []
+    → IsHeard (sound_at cadence entries) (flat_map marks_of entries)

@@ -1,5 +1,5 @@
 //! What the definitions give: each law is the contract of a function that does nothing.
-ghost use Rattle.xb_placed.specs.Laws.{EachSounds, KeyingsBegin};
+ghost use Rattle.xb_placed.specs.Laws.{AllAreHeard, EachSounds, KeyingsBegin};
 
 /// KP begins at the time of its entry and the lead, as far as later entries leave it, whatever came before.
 #[tactic(auto, using(crate::proofs::Begun::keyings_begin))]
@@ -11,4 +11,10 @@ pub fn keyings_begin()
 #[tactic(auto, using(crate::proofs::Begun::each_sounds))]
 pub fn each_sounds()
     ensures { EachSounds }
+{}
+
+/// Where no line tells a cut, the keys of all entries are heard, by any cadence that sets its tones apart.
+#[tactic(auto, using(crate::proofs::HeardEntries::all_are_heard))]
+pub fn all_are_heard()
+    ensures { AllAreHeard }
 {}

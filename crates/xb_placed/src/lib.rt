@@ -8,6 +8,7 @@
 //!   beginning, and on `TooLong`, which comes only where the file would have 2^32 bytes or more, nothing.
 //! - `lines_of_cuts`: exactly a line for each entry that cuts the one before it.
 //! - `laws::keyings_begin`: where no later entry comes too soon, KP begins the lead after the time of its entry.
+//!   `each_sounds`: nothing else sounds. `all_are_heard`: where nothing is cut, a receiver hears the keys of all.
 #![tactic(auto)]
 
 mod cuts;
