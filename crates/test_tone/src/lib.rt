@@ -11,9 +11,9 @@ mod ear;
 #[cfg(test)]
 mod keyings;
 #[cfg(test)]
-mod placed;
-#[cfg(test)]
 mod pages;
+#[cfg(test)]
+mod placed;
 #[cfg(test)]
 mod sounds;
 #[cfg(test)]

@@ -6,7 +6,8 @@ use test_kit::{Short, words_of};
 use xb_tone::attend;
 
 // Line 7 keys a 5 on trunk group 17 at 1,000 ms, and again at 1,150 ms; in between line 8 is refused.
-const ENTRIES: &[u8] = b"{\"at_ms\":1000,\"dialled\":\"5\",\"entry\":1,\"from_ms\":1,\"keys\":[\"KP\",\"5\",\"ST\"],\"line\":7,\"outcome\":\"KEYED\",\"sent\":\"5\",\"trunk\":17}\n\
+const ENTRIES: &[u8] =
+    b"{\"at_ms\":1000,\"dialled\":\"5\",\"entry\":1,\"from_ms\":1,\"keys\":[\"KP\",\"5\",\"ST\"],\"line\":7,\"outcome\":\"KEYED\",\"sent\":\"5\",\"trunk\":17}\n\
 {\"at_ms\":1100,\"event\":\"SEIZED\",\"line\":7}\n\
 {\"at_ms\":30,\"dialled\":\"\",\"entry\":1,\"from_ms\":1,\"heard\":0,\"line\":8,\"outcome\":\"REFUSED\",\"reason\":\"MUTILATED\"}\n\
 {\"at_ms\":1150,\"dialled\":\"5\",\"entry\":2,\"from_ms\":1,\"keys\":[\"KP\",\"5\",\"ST\"],\"line\":7,\"outcome\":\"KEYED\",\"sent\":\"5\",\"trunk\":17}\n\

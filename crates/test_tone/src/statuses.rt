@@ -210,7 +210,9 @@ const ENTRIES: &[(&[&str], &[u8], &[u8])] = &[
     ),
     // 268,435,454 ms of sound have more bytes than a file
     (
-        &["--at", "--lead", "0", "--kp", "1", "--key", "1", "--gap", "0"],
+        &[
+            "--at", "--lead", "0", "--kp", "1", "--key", "1", "--gap", "0",
+        ],
         b"{\"at_ms\":268435451,\"entry\":1,\"line\":7,\"outcome\":\"KEYED\",\"sent\":\"5\",\"trunk\":1}",
         b"mftone: the sound is too long for a WAV file\n",
     ),
