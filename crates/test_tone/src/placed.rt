@@ -35,7 +35,8 @@ const PLACES: &[(&[&str], usize, &[(usize, usize)], &[u8])] = &[
 
 // Whether a sample of a raw sound is not 0.
 fn is_loud(sound: &[u8], place: usize) -> bool {
-    sound.get(2 * place..2 * place + 2) != Some(&[0, 0])
+    let at = place.saturating_mul(2);
+    sound.get(at..at.saturating_add(2)) != Some(&[0, 0])
 }
 
 // The raw sound of entries, and what is told.
@@ -56,14 +57,14 @@ fn sounds_at_its_time(rt: HostRuntime) -> Result<(), Fail> {
     for (words, samples, parts, line) in PLACES {
         let (sound, told) = sound_of(rt.alloc(), words)?;
         assert_eq!(rt; told.as_slice(), *line, "{words:?}");
-        assert_eq!(rt; sound.len(), 2 * *samples, "{words:?}");
+        assert_eq!(rt; sound.len(), samples.saturating_mul(2), "{words:?}");
         let mut after = 0;
         for (first, last) in *parts {
             let silent = (after..*first).all(|place| !is_loud(&sound, place));
             assert!(rt; silent, "{words:?}, before {first}");
             assert!(rt; is_loud(&sound, *first), "{words:?}, at {first}");
             assert!(rt; is_loud(&sound, *last), "{words:?}, at {last}");
-            after = *last + 1;
+            after = last.saturating_add(1);
         }
         let silent = (after..*samples).all(|place| !is_loud(&sound, place));
         assert!(rt; silent, "{words:?}, after {after}");
