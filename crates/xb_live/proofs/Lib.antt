@@ -24,3 +24,6 @@ pub mod ObjectValues
 pub mod SentDigits
 pub mod ObjectLines
 pub mod AscendingTimes
+pub mod SoundedRows
+pub mod SoundedRuns
+pub mod SoundedDecks

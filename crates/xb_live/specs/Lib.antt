@@ -18,5 +18,7 @@ pub mod Pages
 pub mod Decks
 pub mod Faults
 pub mod Runs
+pub mod Sounding
+pub mod SoundedDecks
 pub mod Options
 pub mod Program
