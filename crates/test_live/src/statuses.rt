@@ -29,8 +29,8 @@ impl Program for Mflive {
     }
 }
 
-const USAGE: &[u8] =
-    b"mflive: usage: mflive [--json [--since TIME]] [--marks] [--events [--since TIME]]\n";
+const USAGE: &[u8] = b"mflive: usage: mflive [--json [--since TIME]] [--marks] [--events [--since TIME]] \
+[--sound N [--lead N] [--kp N] [--key N] [--gap N]]\n";
 
 // The words after the program's name, the parts of the deck, the status, the parts of what is printed, and
 // what stands on standard error.
@@ -138,6 +138,25 @@ const CASES: &[Case] = &[
         USAGE,
     ),
     (&["--events", "--marks"], &[BEGINNING], 2, &[], USAGE),
+    (
+        &["--sound", "7", "--kp", "0"],
+        &[BEGINNING],
+        1,
+        &[],
+        b"mflive: the tone of KP has 0 ms or is too long\n",
+    ),
+    (
+        &["--sound", "7"],
+        &[b"line,state,ms\n"],
+        1,
+        &[],
+        b"mflive: the deck has no line ---\n",
+    ),
+    (&["--sound", "10000"], &[BEGINNING], 2, &[], USAGE),
+    (&["--sound", "7", "--json"], &[BEGINNING], 2, &[], USAGE),
+    (&["--sound", "7", "--marks"], &[BEGINNING], 2, &[], USAGE),
+    (&["--sound", "7", "--events"], &[BEGINNING], 2, &[], USAGE),
+    (&["--lead", "0"], &[BEGINNING], 2, &[], USAGE),
     (&["--mark"], &[BEGINNING], 2, &[], USAGE),
     (&["--help"], &[BEGINNING], 2, &[], USAGE),
     (&["deck"], &[BEGINNING], 2, &[], USAGE),

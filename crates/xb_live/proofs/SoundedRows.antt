@@ -1,5 +1,5 @@
 -- The sound of a line's trunk, one row after another.
-use Rattle.std.proofs.Common.{◌≡◌, ℕ, eqb, true, false, Bool, cond, ◌*◌, List, [], ◌∷◌, ◌++◌, length, drop, Option, refl, sym, ap, ◌∙◌, subst, append_assoc, append-nil, ℤ}
+use Rattle.std.proofs.Common.{◌≡◌, ℕ, true, false, Bool, ◌*◌, List, [], ◌∷◌, ◌++◌, length, drop, Option, refl, sym, ap, ◌∙◌, subst, append_assoc, append-nil}
 use Rattle.std.specs.Io.KnownBytes.{Appends}
 use Rattle.std.proofs.KnownBytes.{Appends-nil, Appends-trans}
 use Rattle.std.specs.List.{flat_map}
@@ -73,7 +73,6 @@ module _ (line : ℕ) (cadence : Cadence) (office after : Counted) (trunk : Wait
     (before : HasSounded line cadence office trunk rows start mid)
     (counted : HasCounted after (rows ++ row ∷ []))
     (completed : entries_of_rows office.live.table (rows ++ row ∷ []) ≡ entries_of_rows office.live.table rows ++ entry_of row.line marks) where
-
   abbrev table : Table
   table = office.live.table
 

@@ -1,7 +1,6 @@
 -- What is written of the sound of a line's trunk, of rows that are read.
-use Rattle.std.proofs.Common.{◌≡◌, ◌≤◌, ◌^◌, ◌+◌, ℕ, List, length, length-append, [], ◌∷◌, ◌++◌, Option, Some, None, IfSome, Result, Err, Ok, inl, inr, refl, sym, ap, ◌∙◌, subst, ⊎_elim, append_assoc, append-nil, arith}
+use Rattle.std.proofs.Common.{◌≡◌, ◌≤◌, ◌^◌, ◌+◌, ℕ, List, length, length-append, [], ◌∷◌, ◌++◌, Option, Some, None, IfSome, Result, Err, Ok, refl, sym, ap, ◌∙◌, subst, ⊎_elim, append_assoc, append-nil, arith}
 use Rattle.std.specs.Io.KnownBytes.{Appends}
-use mathlib.Core.List.{IsPrefix}
 use Rattle.std.proofs.lemmas.List.Concat.{flat_map-append}
 use Rattle.xb_model.specs.declared.fault.RowFault.{RowFault}
 use Rattle.xb_model.specs.declared.fault.RowFault.TheVariants as row_fault
@@ -124,10 +123,12 @@ module _ (count line : ℕ) (cadence : Cadence) (office : Counted) (trunk : Wait
   sound-end table new (Some rest) (Some here) (Some left) same (taken, are, sounds, many) gives writes =
       ⊎_elim
       (λ g.
-      let whole : taken ≡ rest.rows = sym (are.0 ∙ ap (λ rows. taken ++ rows) g.0 ∙ append-nil taken) in
-      (are.1 ∙ g.1, subst (λ rows. Appends start new (whole_of_rows line cadence table rows)) whole
-      (subst (Appends start new) (whole-here table taken same sounds)
-      (Appends-trans start out new (sound_of_rows line cadence office.live.table taken) (pcm_of trunk.waiting) sounds.written writes))))
+      let whole : taken ≡ rest.rows = sym (are.0 ∙ ap (λ rows. taken ++ rows) g.0 ∙ append-nil taken) in (
+        are.1 ∙ g.1,
+        subst (λ rows. Appends start new (whole_of_rows line cadence table rows)) whole
+            (subst (Appends start new) (whole-here table taken same sounds)
+            (Appends-trans start out new (sound_of_rows line cadence office.live.table taken) (pcm_of trunk.waiting) sounds.written writes)),
+      ))
       (λ g. absurd (cc (g.1)))
       gives
 

@@ -1,5 +1,5 @@
 -- What the words of the command line ask for, as clap reads them.
-use Rattle.std.specs.Prelude.{◌≡◌, ℕ, ◌||◌, List, [], ◌∷◌, codes, Bool, true, false, Option, Some, None, if◌then◌else◌, is_some, min, nat_lt, option_map}
+use Rattle.std.specs.Prelude.{ℕ, ◌||◌, List, [], ◌∷◌, codes, Bool, true, false, Option, Some, None, if◌then◌else◌, is_some, min, nat_lt, option_map}
 use Rattle.clap.specs.Simple.{App}
 use Rattle.clap.specs.Walk.{Row, Text, first_of}
 use Rattle.jiff_core.specs.declared.timestamp.Timestamp.{Timestamp}

@@ -8,8 +8,8 @@ use xb_deck::TableFault;
 use xb_model::RowFault;
 use xb_routes::RouteFault;
 use xb_sound::CadenceFault;
-use xb_trunk::TrunkFault;
 use xb_text::WriteFault;
+use xb_trunk::TrunkFault;
 
 /// Why entries are not printed.
 #[derive(Clone, Copy, Debug, PartialEq, Eq, Error)]
