@@ -29,7 +29,8 @@ impl Program for Mflive {
     }
 }
 
-const USAGE: &[u8] = b"mflive: usage: mflive [--json [--since TIME]] [--marks] [--events [--since TIME]] \
+const USAGE: &[u8] =
+    b"mflive: usage: mflive [--json [--since TIME]] [--marks] [--events [--since TIME]] \
 [--sound N [--lead N] [--kp N] [--key N] [--gap N]]\n";
 
 // The words after the program's name, the parts of the deck, the status, the parts of what is printed, and
@@ -138,12 +139,19 @@ const CASES: &[Case] = &[
         USAGE,
     ),
     (&["--events", "--marks"], &[BEGINNING], 2, &[], USAGE),
+    (&["--mark"], &[BEGINNING], 2, &[], USAGE),
+    (&["--help"], &[BEGINNING], 2, &[], USAGE),
+    (&["deck"], &[BEGINNING], 2, &[], USAGE),
+];
+
+// The same of words that ask for a sound, and get none.
+const OF_SOUND: &[Case] = &[
     (
         &["--sound", "7", "--kp", "0"],
         &[BEGINNING],
         1,
         &[],
-        b"mflive: the tone of KP has 0 ms or is too long\n",
+        b"mflive: cadence: the tone of KP has 0 ms or is too long\n",
     ),
     (
         &["--sound", "7"],
@@ -157,9 +165,6 @@ const CASES: &[Case] = &[
     (&["--sound", "7", "--marks"], &[BEGINNING], 2, &[], USAGE),
     (&["--sound", "7", "--events"], &[BEGINNING], 2, &[], USAGE),
     (&["--lead", "0"], &[BEGINNING], 2, &[], USAGE),
-    (&["--mark"], &[BEGINNING], 2, &[], USAGE),
-    (&["--help"], &[BEGINNING], 2, &[], USAGE),
-    (&["deck"], &[BEGINNING], 2, &[], USAGE),
 ];
 
 // Checks what is printed of the parts of a deck.
@@ -178,6 +183,14 @@ fn check_case(alloc: Global, case: &Case) -> Result<(), Fail> {
 #[test]
 fn prints_what_is_reckoned(rt: HostRuntime) -> Result<(), Fail> {
     for case in CASES {
+        check_case(rt.alloc(), case)?;
+    }
+    Ok(())
+}
+
+#[test]
+fn tells_why_nothing_sounds(rt: HostRuntime) -> Result<(), Fail> {
+    for case in OF_SOUND {
         check_case(rt.alloc(), case)?;
     }
     Ok(())

@@ -39,7 +39,7 @@ const WORDS: &[(LiveFault, &str)] = &[
     ),
     (
         LiveFault::Cadence(CadenceFault::Gap),
-        "the silence after a tone is too long",
+        "cadence: the silence after a tone is too long",
     ),
     (LiveFault::Deck(TableFault::NoMemory), "out of memory"),
     (LiveFault::Sound(TrunkFault::NoMemory), "out of memory"),

@@ -27,3 +27,4 @@ pub mod AscendingTimes
 pub mod SoundedRows
 pub mod SoundedRuns
 pub mod SoundedDecks
+pub mod LineHeard

@@ -20,5 +20,6 @@ pub mod Faults
 pub mod Runs
 pub mod Sounding
 pub mod SoundedDecks
+pub mod LineHeard
 pub mod Options
 pub mod Program

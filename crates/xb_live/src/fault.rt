@@ -53,7 +53,7 @@ impl From<WriteFault> for EntriesFault {
 #[derive(Clone, Copy, Debug, PartialEq, Eq, Error)]
 pub enum LiveFault {
     /// The cadence of the sound is refused. The deck was not read.
-    #[error("{0}")]
+    #[error("cadence: {0}")]
     Cadence(CadenceFault),
     /// The deck gives no text of a route table; or later too a read failed, or memory ran out.
     #[error("{0}")]

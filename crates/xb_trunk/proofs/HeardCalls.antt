@@ -63,7 +63,7 @@ after_marks cadence apart (Tone key pair ∷ marks) keyed xs later rest silent e
 after_marks cadence apart (Refused reason count ∷ marks) keyed xs later rest silent enough =
     after_marks cadence apart marks keyed.1 xs later rest silent enough
 
-keyed-split : (xs ys : List Mark) → AreKeyed (xs ++ ys) → AreKeyed xs × AreKeyed ys
+pub keyed-split : (xs ys : List Mark) → AreKeyed (xs ++ ys) → AreKeyed xs × AreKeyed ys
 keyed-split [] ys keyed = (tt, keyed)
 keyed-split (x ∷ xs) ys keyed = let both = keyed-split xs ys keyed.1 in ((keyed.0, both.0), both.1)
 
