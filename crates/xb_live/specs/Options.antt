@@ -93,8 +93,8 @@ cadence_of options = record {
 abbrev pub line_of : ℕ → Option ℕ
 line_of number = if nat_lt number LINES then Some number else None
 
--- what the options ask for, by the line that sounds: where there is none, entries, and no cadence is said; where there is
--- one, its sound, and nothing is said of entries
+-- what the options ask for, by the line that sounds: where there is none, entries, and no cadence is said; where there
+-- is one, its sound, and nothing is said of entries
 abbrev pub request_by : Options → Option ℕ → Option Request
 request_by options None =
     if has_cadence options then None else option_map (λ form. request.Entries form) (form_of options)

@@ -45,9 +45,9 @@ pub fn times_ascend()
     ensures { (table : Table) (rows : List LoopRow) → TimesAscend table rows }
 {}
 
-/// Of the sound of a line's trunk a receiver hears just the keys that the line's rows so far are keyed as, by any cadence
-/// that sets its tones apart, however the rows are cut and whatever the other lines do; and once the line is closed,
-/// just those of its tape.
+/// Of the sound of a line's trunk a receiver hears just the keys that the line's rows so far are keyed as, by any
+/// cadence that sets its tones apart, however the rows are cut and whatever the other lines do; and once the line is
+/// closed, just those of its tape.
 #[tactic(auto, using(crate::proofs::LineHeard::line_is_heard))]
 pub fn line_is_heard()
     ensures { LineIsHeard }

@@ -17,7 +17,8 @@ pub(crate) const PROGRAM: &str = "mflive";
 
 // The line of refused words.
 const USAGE: &[u8] =
-    b"mflive: usage: mflive [--json [--since TIME]] [--marks] [--events [--since TIME]] [--sound N [--lead N] [--kp N] [--key N] [--gap N]]\n";
+    b"mflive: usage: mflive [--json [--since TIME]] [--marks] [--events [--since TIME]] \
+[--sound N [--lead N] [--kp N] [--key N] [--gap N]]\n";
 
 // Writes what is asked of a deck.
 fn deliver<R: Read, W: Write>(

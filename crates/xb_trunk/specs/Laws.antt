@@ -38,8 +38,8 @@ NothingIsTakenBack = (cadence : Cadence) (waiting : List ℤ) (steps later : Lis
 abbrev pub IsFree : Cadence → List Step → Step → Type 0
 IsFree cadence steps step = length (waiting_after cadence [] steps) ≤ step.ms * 8
 
--- what waits is heard next, whole. Where nothing else waits, that is the sound of the row's marks, from the row's end on;
--- so of a keying the lead comes next, and then KP
+-- what waits is heard next, whole. Where nothing else waits, that is the sound of the row's marks, from the row's end
+-- on; so of a keying the lead comes next, and then KP
 pub record SoundWhole (cadence : Cadence) (steps : List Step) (step : Step) (later : List Step) : Type 0 where
   pub next : (waiting : List ℤ) → IsPrefix waiting (whole_sound cadence waiting later)
   pub at_once : IsFree cadence steps step
@@ -53,8 +53,8 @@ abbrev pub CallsSoundWhole : Type 0
 CallsSoundWhole = (cadence : Cadence) (steps : List Step) (step : Step) (later : List Step)
     → SoundWhole cadence steps step later
 
--- by a cadence that sets its tones apart a receiver hears the keys of the marks that rows complete, in order, and nothing
--- else, however the rows are cut
+-- by a cadence that sets its tones apart a receiver hears the keys of the marks that rows complete, in order, and
+-- nothing else, however the rows are cut
 abbrev pub KeysAreHeard : Type 0
 KeysAreHeard = (cadence : Cadence) (steps : List Step) → IsSetApart cadence → AreKeyed (marks_of steps)
     → IsHeard (whole_sound cadence [] steps) (marks_of steps)

@@ -6,7 +6,7 @@
 //!   `Trunk::write_rest` writes all that waits.
 //! - So rows and a call of `write_rest` write `whole_sound` of them (`specs/Sounded.antt`), row by row. What the laws
 //!   say of it: rows of t ms write 8 t samples (`laws::time_is_kept`). What they wrote never depends on later rows
-//!   (`laws::nothing_is_taken_back`). What waits is heard next, whole; and where nothing waits the sound of marks begins
+//!   (`laws::nothing_is_taken_back`). What waits is heard next, whole. Where nothing waits the sound of marks begins
 //!   with the end of the row that completes them, so that KP begins after the lead, to the sample
 //!   (`laws::calls_sound_whole`). However rows are cut, a receiver hears exactly the keys of all calls, in order
 //!   (`laws::keys_are_heard`).

@@ -97,8 +97,8 @@ impl Trunk {
         write_silence(alloc, out, wanted - part as u64)
     }
 
-    /// Takes a row of the line, of so many ms, that completes these marks: it writes the row's samples, the beginning of
-    /// what waits and silence after it, and with the row's end the sound of its marks waits too. On an `Err` the
+    /// Takes a row of the line, of so many ms, that completes these marks: it writes the row's samples, the beginning
+    /// of what waits and silence after it, and with the row's end the sound of its marks waits too. On an `Err` the
     /// beginning of the row's samples was written.
     pub fn take_row<W: Write>(
         &mut self,
