@@ -1,5 +1,5 @@
 //! The chain on one thread: its pages, in which row a live office gives an entry, what `mflive` prints of decks and
-//! on streams that fail, and rows and signals in structs of numbers.
+//! on streams that fail, the samples of a line that sounds, and rows and signals in structs of numbers.
 //!
 //! Tests alone.
 #![tactic(auto)]
@@ -18,6 +18,8 @@ mod reckoned;
 mod records;
 #[cfg(test)]
 mod rows;
+#[cfg(test)]
+mod sounded;
 #[cfg(test)]
 mod statuses;
 #[cfg(test)]

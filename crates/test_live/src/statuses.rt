@@ -30,7 +30,8 @@ impl Program for Mflive {
 }
 
 const USAGE: &[u8] =
-    b"mflive: usage: mflive [--json [--since TIME]] [--marks] [--events [--since TIME]]\n";
+    b"mflive: usage: mflive [--json [--since TIME]] [--marks] [--events [--since TIME]] \
+[--sound N [--lead N] [--kp N] [--key N] [--gap N]]\n";
 
 // The words after the program's name, the parts of the deck, the status, the parts of what is printed, and
 // what stands on standard error.
@@ -143,6 +144,29 @@ const CASES: &[Case] = &[
     (&["deck"], &[BEGINNING], 2, &[], USAGE),
 ];
 
+// The same of words that ask for a sound, and get none.
+const OF_SOUND: &[Case] = &[
+    (
+        &["--sound", "7", "--kp", "0"],
+        &[BEGINNING],
+        1,
+        &[],
+        b"mflive: cadence: the tone of KP has 0 ms or is too long\n",
+    ),
+    (
+        &["--sound", "7"],
+        &[b"line,state,ms\n"],
+        1,
+        &[],
+        b"mflive: the deck has no line ---\n",
+    ),
+    (&["--sound", "10000"], &[BEGINNING], 2, &[], USAGE),
+    (&["--sound", "7", "--json"], &[BEGINNING], 2, &[], USAGE),
+    (&["--sound", "7", "--marks"], &[BEGINNING], 2, &[], USAGE),
+    (&["--sound", "7", "--events"], &[BEGINNING], 2, &[], USAGE),
+    (&["--lead", "0"], &[BEGINNING], 2, &[], USAGE),
+];
+
 // Checks what is printed of the parts of a deck.
 fn check_case(alloc: Global, case: &Case) -> Result<(), Fail> {
     let (words, parts, status, printed, line) = *case;
@@ -159,6 +183,14 @@ fn check_case(alloc: Global, case: &Case) -> Result<(), Fail> {
 #[test]
 fn prints_what_is_reckoned(rt: HostRuntime) -> Result<(), Fail> {
     for case in CASES {
+        check_case(rt.alloc(), case)?;
+    }
+    Ok(())
+}
+
+#[test]
+fn tells_why_nothing_sounds(rt: HostRuntime) -> Result<(), Fail> {
+    for case in OF_SOUND {
         check_case(rt.alloc(), case)?;
     }
     Ok(())

@@ -4,6 +4,8 @@ use xb_deck::TableFault;
 use xb_live::{EntriesFault, LiveFault};
 use xb_model::RowFault;
 use xb_routes::RouteFault;
+use xb_sound::CadenceFault;
+use xb_trunk::TrunkFault;
 
 const WORDS: &[(LiveFault, &str)] = &[
     (
@@ -35,7 +37,16 @@ const WORDS: &[(LiveFault, &str)] = &[
         LiveFault::Entries(EntriesFault::LateEvent(7)),
         "line 7, an event: its time is past 9999-12-30T22:00:00.999999999Z",
     ),
+    (
+        LiveFault::Cadence(CadenceFault::Gap),
+        "cadence: the silence after a tone is too long",
+    ),
     (LiveFault::Deck(TableFault::NoMemory), "out of memory"),
+    (LiveFault::Sound(TrunkFault::NoMemory), "out of memory"),
+    (
+        LiveFault::Sound(TrunkFault::Write),
+        "the samples could not be written",
+    ),
     (
         LiveFault::Entries(EntriesFault::Write),
         "the entries could not be written",

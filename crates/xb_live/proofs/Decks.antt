@@ -49,6 +49,8 @@ of_unknown style (Err (fault.Routes f)) old new ends = absurd ends
 of_unknown style (Err (fault.Rows f)) old new ends = tt
 of_unknown style (Err fault.TooMany) old new ends = tt
 of_unknown style (Err (fault.Entries f)) old new ends = tt
+of_unknown style (Err (fault.Cadence f)) old new ends = absurd ends
+of_unknown style (Err (fault.Sound f)) old new ends = tt
 
 -- what is printed of rows ends them
 ends_rows : (style : Style) (table : Table) (rest : Rest) (result : Result (Unit {0}) LiveFault) (old new : Option (List ℕ)) → Prints style table rest result old new → EndsRows result
@@ -61,6 +63,8 @@ ends_rows style table rest (Err (fault.Routes f)) old new h = h
 ends_rows style table rest (Err (fault.Rows f)) old new h = tt
 ends_rows style table rest (Err fault.TooMany) old new h = tt
 ends_rows style table rest (Err (fault.Entries f)) old new h = tt
+ends_rows style table rest (Err (fault.Cadence f)) old new h = h
+ends_rows style table rest (Err (fault.Sound f)) old new h = tt
 
 -- what is returned for a deck that has these rows
 of_known : (style : Style) (deck : List ℕ) (table : Table) (rest : Rest) (result : Result (Unit {0}) LiveFault) (old new : Option (List ℕ)) → Has deck table rest → Prints style table rest result old new → Runs style (Some deck) result old new
@@ -73,6 +77,8 @@ of_known style deck table rest (Err (fault.Routes f)) old new has h = absurd h
 of_known style deck table rest (Err (fault.Rows f)) old new has h = (table, (rest, has, h))
 of_known style deck table rest (Err fault.TooMany) old new has h = (table, (rest, has, h))
 of_known style deck table rest (Err (fault.Entries f)) old new has h = (table, (rest, has, h))
+of_known style deck table rest (Err (fault.Cadence f)) old new has h = absurd h
+of_known style deck table rest (Err (fault.Sound f)) old new has h = absurd h
 
 -- a deck whose table is read
 pub deck-run : (style : Style) (table : Table) (text : List ℕ) (input left : Option (List ℕ)) (result : Result (Unit {0}) LiveFault) (old new : Option (List ℕ))

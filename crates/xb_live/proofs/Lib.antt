@@ -24,3 +24,7 @@ pub mod ObjectValues
 pub mod SentDigits
 pub mod ObjectLines
 pub mod AscendingTimes
+pub mod SoundedRows
+pub mod SoundedRuns
+pub mod SoundedDecks
+pub mod LineHeard

@@ -72,7 +72,7 @@ numbered-of_line l earlier (entry ∷ entries) =
 
 module _ (table : Table) where
   -- the entry of an outcome, without its line
-  abbrev keying : On Dialled → List Mark
+  abbrev pub keying : On Dialled → List Mark
   keying outcome = marks_of (order_of table.routes outcome.what)
 
   -- the entries of a line are those of its outcomes
@@ -91,7 +91,7 @@ module _ (table : Table) where
       (cases_Bool (eqb outcome.line l))
 
   -- and so are its marks
-  of_line-marks : (l : ℕ) (dialled : List (On Dialled)) → marks_on l (flat_map (keyed table) dialled) ≡ flat_map keying (of_line on_line_of l dialled)
+  pub of_line-marks : (l : ℕ) (dialled : List (On Dialled)) → marks_on l (flat_map (keyed table) dialled) ≡ flat_map keying (of_line on_line_of l dialled)
   of_line-marks l [] = refl
   of_line-marks l (outcome ∷ dialled) =
       let own : List (On Mark) = keyed table outcome in

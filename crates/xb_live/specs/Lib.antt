@@ -18,5 +18,8 @@ pub mod Pages
 pub mod Decks
 pub mod Faults
 pub mod Runs
+pub mod Sounding
+pub mod SoundedDecks
+pub mod LineHeard
 pub mod Options
 pub mod Program

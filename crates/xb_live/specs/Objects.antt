@@ -1,7 +1,7 @@
 -- The JSON objects that are printed of an entry, of a mark, and of the totals.
 use Rattle.std.specs.Prelude.{ℕ, List, [], ◌∷◌, ◌++◌, codes, Option, Some, None}
 use Rattle.std.specs.List.{flat_map}
-use Rattle.serde_json.specs.Data.{Data, array, member, no_members, number, object, put, string, unsigned}
+use Rattle.serde_json.specs.Data.{Data, array, member, no_members, number, object, string, unsigned}
 use Rattle.serde_json.specs.View.{items_of}
 use Rattle.serde_json.specs.Written.{compact_text}
 use Rattle.xb_json.specs.Keys.{digits_text, keys_of}

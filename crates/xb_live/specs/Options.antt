@@ -1,5 +1,5 @@
 -- What the words of the command line ask for, as clap reads them.
-use Rattle.std.specs.Prelude.{◌≡◌, List, [], ◌∷◌, codes, Bool, true, false, Option, Some, None, if◌then◌else◌}
+use Rattle.std.specs.Prelude.{ℕ, ◌||◌, List, [], ◌∷◌, codes, Bool, true, false, Option, Some, None, if◌then◌else◌, is_some, min, nat_lt, option_map}
 use Rattle.clap.specs.Simple.{App}
 use Rattle.clap.specs.Walk.{Row, Text, first_of}
 use Rattle.jiff_core.specs.declared.timestamp.Timestamp.{Timestamp}
@@ -7,26 +7,38 @@ use Rattle.xb_clock.specs.Since.{ReadsSince}
 use Rattle.xb_clock.specs.declared.since.Since.{Since}
 use Rattle.xb_clock.specs.declared.since.Since.TheVariants as since
 use Rattle.xb_command.specs.Commands.{command_of}
-use Rattle.xb_command.specs.Given.{AskForNothing, AsksFor, ReadsFlag, given_by}
+use Rattle.xb_command.specs.Given.{AskForNothing, AsksFor, ReadsFlag, ReadsNumber, given_by}
 use Rattle.xb_command.specs.declared.command.Takes.TheVariants as takes
+use Rattle.xb_model.specs.declared.line.TheConstants.{LINES}
+use Rattle.xb_sound.specs.declared.cadence.Cadence.{Cadence}
+use Rattle.xb_sound.specs.Cadences.{standard_cadence}
 use Rattle.xb_live.specs.declared.printing.EntryForm.{EntryForm}
 use Rattle.xb_live.specs.declared.printing.EntryForm.TheVariants as form
+use Rattle.xb_live.specs.declared.request.Request.{Request}
+use Rattle.xb_live.specs.declared.request.Request.TheVariants as request
 use Rattle.xb_live.specs.declared.words.Options.{Options}
 
--- `mflive [--json [--since TIME]] [--marks] [--events [--since TIME]]`
+-- `mflive [--json [--since TIME]] [--marks] [--events [--since TIME]]`, or
+-- `mflive --sound N [--lead N] [--kp N] [--key N] [--gap N]`
 abbrev pub command_of_words : App
 command_of_words =
     command_of (codes "mflive")
     ((codes "events", takes.Nothing) ∷ (codes "json", takes.Nothing) ∷ (codes "marks", takes.Nothing)
-    ∷ (codes "since", takes.Text) ∷ [])
+    ∷ (codes "since", takes.Text) ∷ (codes "sound", takes.Number) ∷ (codes "lead", takes.Number)
+    ∷ (codes "kp", takes.Number) ∷ (codes "key", takes.Number) ∷ (codes "gap", takes.Number) ∷ [])
 
--- what clap matched says whether events are printed, whether JSON is, whether marks are printed by themselves, and the
--- time that the ms are counted from
+-- what clap matched says whether events are printed, whether JSON is, whether marks are printed by themselves, the
+-- time that the ms are counted from, the line that sounds, and the times of its keys
 pub record Say (rows : List Row) (options : Options) : Type 0 where
   pub events : ReadsFlag (given_by rows (codes "events")) options.events
   pub json : ReadsFlag (given_by rows (codes "json")) options.json
   pub marks : ReadsFlag (given_by rows (codes "marks")) options.marks
   pub since : ReadsSince (first_of (codes "since") rows) options.since
+  pub sound : ReadsNumber (given_by rows (codes "sound")) options.sound
+  pub lead_ms : ReadsNumber (given_by rows (codes "lead")) options.lead_ms
+  pub kp_ms : ReadsNumber (given_by rows (codes "kp")) options.kp_ms
+  pub key_ms : ReadsNumber (given_by rows (codes "key")) options.key_ms
+  pub gap_ms : ReadsNumber (given_by rows (codes "gap")) options.gap_ms
 
 abbrev pub objects_since : Bool → Option Timestamp → EntryForm
 objects_since marks time = if marks then form.MarkObjects time else form.Objects time
@@ -49,10 +61,55 @@ abbrev pub form_of : Options → Option EntryForm
 form_of options = if options.events then form_with_events options.marks options.since
     else form_by options.json options.marks options.since
 
--- clap takes the words, and they ask for this form
-abbrev pub Asks : List Text → EntryForm → Type 0
-Asks words form = AsksFor command_of_words Say form_of words form
+-- whether the options say how entries are printed
+abbrev pub is_given : Since → Bool
+is_given since.NotGiven = false
+is_given (since.Time time) = true
+is_given since.NoTime = true
 
--- clap refuses the words, or they ask for no form: a word that is no time, or a time without objects
+abbrev pub asks_entries : Options → Bool
+asks_entries options = options.events || options.json || options.marks || is_given options.since
+
+-- whether they say how calls are keyed
+abbrev pub has_cadence : Options → Bool
+has_cadence options =
+    is_some options.lead_ms || is_some options.kp_ms || is_some options.key_ms || is_some options.gap_ms
+
+-- a time that is given, up to the longest that is told apart, or else that of the standard
+abbrev pub time_of : Option ℕ → ℕ → ℕ
+time_of None standard = standard
+time_of (Some ms) standard = min ms 65535
+
+-- the standard cadence, with each time that is given in place of its own
+abbrev pub cadence_of : Options → Cadence
+cadence_of options = record {
+  lead_ms = time_of options.lead_ms standard_cadence.lead_ms;
+  kp_ms = time_of options.kp_ms standard_cadence.kp_ms;
+  key_ms = time_of options.key_ms standard_cadence.key_ms;
+  gap_ms = time_of options.gap_ms standard_cadence.gap_ms;
+}
+
+-- a line of the office
+abbrev pub line_of : ℕ → Option ℕ
+line_of number = if nat_lt number LINES then Some number else None
+
+-- what the options ask for, by the line that sounds: where there is none, entries, and no cadence is said; where there
+-- is one, its sound, and nothing is said of entries
+abbrev pub request_by : Options → Option ℕ → Option Request
+request_by options None =
+    if has_cadence options then None else option_map (λ form. request.Entries form) (form_of options)
+request_by options (Some number) =
+    if asks_entries options then None
+    else option_map (λ line. request.Sound line (cadence_of options)) (line_of number)
+
+abbrev pub request_of : Options → Option Request
+request_of options = request_by options options.sound
+
+-- clap takes the words, and they ask for this
+abbrev pub Asks : List Text → Request → Type 0
+Asks words asked = AsksFor command_of_words Say request_of words asked
+
+-- clap refuses the words, or they ask for nothing: a word that is no time, a time without objects, a line that there is
+-- not, options of entries beside a line that sounds, or times of keys without one
 abbrev pub AreRefused : List Text → Type 0
-AreRefused words = AskForNothing command_of_words Say form_of words
+AreRefused words = AskForNothing command_of_words Say request_of words

@@ -53,6 +53,7 @@ abbrev pub EndsRows : Result (Unit {0}) LiveFault → Type 0
 EndsRows (Err (fault.Deck table_fault.NoCut)) = ⊥
 EndsRows (Err (fault.Deck (table_fault.TooLong most))) = ⊥
 EndsRows (Err (fault.Routes f)) = ⊥
+EndsRows (Err (fault.Cadence f)) = ⊥
 EndsRows result = Unit {0}
 
 -- what was written of rows that may be known

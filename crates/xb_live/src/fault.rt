@@ -7,7 +7,9 @@ use xb_clock::LAST_TIME;
 use xb_deck::TableFault;
 use xb_model::RowFault;
 use xb_routes::RouteFault;
+use xb_sound::CadenceFault;
 use xb_text::WriteFault;
+use xb_trunk::TrunkFault;
 
 /// Why entries are not printed.
 #[derive(Clone, Copy, Debug, PartialEq, Eq, Error)]
@@ -50,6 +52,9 @@ impl From<WriteFault> for EntriesFault {
 /// Why a run ends before its deck. What was written before stands.
 #[derive(Clone, Copy, Debug, PartialEq, Eq, Error)]
 pub enum LiveFault {
+    /// The cadence of the sound is refused. The deck was not read.
+    #[error("cadence: {0}")]
+    Cadence(CadenceFault),
     /// The deck gives no text of a route table; or later too a read failed, or memory ran out.
     #[error("{0}")]
     Deck(TableFault),
@@ -65,6 +70,29 @@ pub enum LiveFault {
     /// Entries were not printed.
     #[error("{0}")]
     Entries(EntriesFault),
+    /// Samples were not written.
+    #[error("{0}")]
+    Sound(TrunkFault),
+}
+
+impl From<CadenceFault> for LiveFault {
+    ghost use Rattle.xb_live.specs.declared.fault.LiveFault.TheVariants.{Cadence};
+
+    ghost from_gives = { λ fault e. e ≡ Cadence fault };
+
+    fn from(fault: CadenceFault) -> LiveFault {
+        LiveFault::Cadence(fault)
+    }
+}
+
+impl From<TrunkFault> for LiveFault {
+    ghost use Rattle.xb_live.specs.declared.fault.LiveFault.TheVariants.{Sound};
+
+    ghost from_gives = { λ fault e. e ≡ Sound fault };
+
+    fn from(fault: TrunkFault) -> LiveFault {
+        LiveFault::Sound(fault)
+    }
 }
 
 impl From<TableFault> for LiveFault {

@@ -7,6 +7,7 @@ ghost use Rattle.xb_routes.specs.Text.{table_of_text};
 ghost use Rattle.xb_live.specs.Ascending.{TimesAscend};
 ghost use Rattle.xb_live.specs.Decks.{AcceptedRowsAreAll};
 ghost use Rattle.xb_live.specs.LeftOut.{EventsLeftOut};
+ghost use Rattle.xb_live.specs.LineHeard.{LineIsHeard};
 ghost use Rattle.xb_live.specs.PageOfObjects.{ObjectsAreLines};
 ghost use Rattle.xb_live.specs.Program.{UsageNamesEachOption};
 
@@ -42,4 +43,12 @@ pub fn events_left_out()
 #[tactic(auto, using(crate::proofs::AscendingTimes::times_ascend))]
 pub fn times_ascend()
     ensures { (table : Table) (rows : List LoopRow) → TimesAscend table rows }
+{}
+
+/// Of the sound of a line's trunk a receiver hears just the keys that the line's rows so far are keyed as, by any
+/// cadence that sets its tones apart, however the rows are cut and whatever the other lines do; and once the line is
+/// closed, just those of its tape.
+#[tactic(auto, using(crate::proofs::LineHeard::line_is_heard))]
+pub fn line_is_heard()
+    ensures { LineIsHeard }
 {}

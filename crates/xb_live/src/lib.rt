@@ -16,7 +16,11 @@
 //! - Counted from a time of day, an object also has its times as such (`xb_clock`), as told by any clock that
 //!   tells the times of `jiff_core`. A time past the last of these is a fault.
 //! - `run_deck` (`Runs`, `specs/Runs.antt`): what was written of a deck is what its table and its rows say,
-//!   also where a fault stops them. `attend` says the same of the program, by its status.
+//!   also where a fault stops them.
+//! - `sound_deck` (`SoundsDeck`, `specs/SoundedDecks.antt`): the rows of one line of a deck are the clock of its trunk,
+//!   and exactly the samples of these rows were written, with the calls that they complete (`xb_trunk`). What is heard
+//!   of them are the keys of the line's marks (`laws::line_is_heard`).
+//! - `attend` says the same of the program, by its status.
 #![tactic(auto)]
 
 mod counting;
@@ -28,7 +32,9 @@ mod line_hearing;
 mod objects;
 mod printing;
 mod program;
+mod request;
 mod running;
+mod sounding;
 mod words;
 mod writing;
 
@@ -39,4 +45,5 @@ pub use line_hearing::Hearing;
 pub use printing::EntryForm;
 pub use program::attend;
 pub use running::run_deck;
+pub use sounding::sound_deck;
 pub use writing::{end, take_row};

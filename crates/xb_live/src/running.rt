@@ -18,8 +18,8 @@ use xb_deck::{MOST_DECK_BYTES, read_table};
 use xb_routes::RouteTable;
 use xb_rows::RowReader;
 
-// The most rows that are counted.
-const MOST_ROWS: u64 = 1 << 63;
+/// The most rows that are counted.
+pub(crate) const MOST_ROWS: u64 = 1 << 63;
 
 // Takes the rows to their stop, and writes the entries that they complete; where they end, the lines are
 // closed, and the totals come last.
@@ -50,8 +50,8 @@ fn print_rows<R: Read, W: Write>(
     Err(LiveFault::TooMany)
 }
 
-// The rows after a table, however many there may be.
-fn rows_after<R: Read>(deck: R) -> RowReader<R>
+/// The rows after a table, however many there may be.
+pub(crate) fn rows_after<R: Read>(deck: R) -> RowReader<R>
     ensures { result ≡ option_map (rest_of_stream u64.MAX) (R.remaining deck) }
 {
     RowReader::new(deck, u64::MAX)

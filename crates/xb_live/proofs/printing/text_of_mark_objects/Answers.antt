@@ -1,4 +1,4 @@
-use Rattle.std.proofs.Common.{◌≡◌, ◌∙◌, ap}
+use Rattle.std.proofs.Common.{◌∙◌, ap}
 use Rattle.std.specs.List.{flat_map}
 use Rattle.xb_clock.specs.Clocks.{text_in}
 use Rattle.xb_live.specs.Objects.{line_of, timed_mark}

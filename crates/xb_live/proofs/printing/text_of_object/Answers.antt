@@ -1,4 +1,4 @@
-use Rattle.std.proofs.Common.{◌≡◌, ◌∙◌, ap}
+use Rattle.std.proofs.Common.{◌∙◌, ap}
 use Rattle.xb_clock.specs.Clocks.{text_in, time_at}
 use Rattle.xb_live.specs.Objects.{line_of, timed_object}
 use Rattle.xb_live.specs.TimedEntries.{TimedEntry, told_with}

@@ -1,0 +1,13 @@
+// What is asked of a deck.
+use crate::printing::EntryForm;
+use xb_model::LineNo;
+use xb_sound::Cadence;
+
+/// What is asked of a deck.
+#[derive(Clone, Copy)]
+pub(crate) enum Request {
+    /// Its entries, in this form.
+    Entries(EntryForm),
+    /// The sound of this line's trunk, whose calls are keyed by this cadence.
+    Sound(LineNo, Cadence),
+}

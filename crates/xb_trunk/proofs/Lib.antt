@@ -1,0 +1,4 @@
+pub mod Silences
+pub mod Times
+pub mod Spaced
+pub mod HeardCalls

@@ -1,0 +1,2 @@
+pub mod Sounded
+pub mod Laws
