@@ -29,7 +29,8 @@ def drawn(dice):
     for code in (f"{a}{b}{c}" for a in range(2, 10) for b in range(2, 10) for c in range(10)):
         if dice.random() < 0.9:
             prefix = "".join(dice.choice("23456789") for _ in range(dice.choice([0, 1, 2, 3, 3, 8])))
-            routes.append((code, dice.randrange(TRUNKS), dice.choice([0, 0, 1, 2, 3, 7]), prefix))
+            most = 7 if prefix else 6  # a route that keys no digit of seven is refused
+            routes.append((code, dice.randrange(TRUNKS), dice.choice([0, 0, 1, 2, 3, most]), prefix))
     return routes
 
 
