@@ -65,6 +65,22 @@ impl Trunk {
         }
     }
 
+    // Lets go of what was written, where it is half of the samples or more: so a sample is copied once at most, in the
+    // mean, however many calls wait.
+    fn let_go(&mut self, alloc: Global) -> Result<(), AllocError>
+        ensures waits { OnOk result (self.new.waiting ≡ self.old.waiting) }
+        ensures cadence { self.new.cadence ≡ self.old.cadence }
+    {
+        if self.written < self.samples.len() / 2 {
+            return Ok(());
+        }
+        let mut samples = Vec::new(alloc);
+        samples.extend_from_slice(&self.samples[self.written..])?;
+        self.samples = samples;
+        self.written = 0;
+        Ok(())
+    }
+
     // Lets the sound of marks wait, after what waits already.
     fn push(&mut self, alloc: Global, marks: &[Mark]) -> Result<(), AllocError>
         ensures waits { OnOk result
@@ -72,11 +88,8 @@ impl Trunk {
         ensures cadence { self.new.cadence ≡ self.old.cadence }
     {
         let sound = samples_of(alloc, marks, self.cadence)?;
-        let mut samples = Vec::new(alloc);
-        samples.extend_from_slice(&self.samples[self.written..])?;
-        samples.extend_from_slice(&sound)?;
-        self.samples = samples;
-        self.written = 0;
+        self.let_go(alloc)?;
+        self.samples.extend_from_slice(&sound)?;
         Ok(())
     }
 
