@@ -45,7 +45,7 @@ pub pages_are_tapes : PagesAreTapes
 pages_are_tapes = record {
   entries = λ line limit table keys. page-entries line table.pulsed (orders_of_keys limit table keys);
   tape = λ line limit table keys.
-      page-entries line [] (orders_of table.routes (outcomes limit keys))
-      ∙ ap (λ found. page_of_entries line (map marks_of found)) (all-on-page (orders_of table.routes (outcomes limit keys)))
+      page-entries line [] (orders_of table (outcomes limit keys))
+      ∙ ap (λ found. page_of_entries line (map marks_of found)) (all-on-page (orders_of table (outcomes limit keys)))
       ∙ ap (page_of_entries line) (marks-orders table.routes (outcomes limit keys));
 }

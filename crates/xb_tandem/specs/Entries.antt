@@ -91,14 +91,14 @@ orders_of routes found = map (order_of routes) found
 
 -- the page of keys; and what is told of those that they make certain, before they have ended
 abbrev pub orders_of_keys : ℕ → Outgoing → List TimedKey → List Order
-orders_of_keys limit table keys = orders_of table.table.routes (outcomes limit keys)
+orders_of_keys limit table keys = orders_of table (outcomes limit keys)
 
 abbrev pub page_of_keys : Form → ℕ → ℕ → Outgoing → List TimedKey → List ℕ
 page_of_keys form line limit table keys = page_of form line table.pulsed (orders_of_keys limit table keys)
 
 abbrev pub told_of_keys : Form → ℕ → ℕ → Outgoing → List TimedKey → List ℕ
 told_of_keys form line limit table keys =
-    told_orders form line table.pulsed (orders_of table.table.routes (told_by limit keys))
+    told_orders form line table.pulsed (orders_of table (told_by limit keys))
 
 -- the text of an order as it is told, after so many entries and so many calls by dial pulses
 abbrev pub hang_up_after : ℕ → List Run

@@ -85,7 +85,7 @@ impl Office {
         requires { self.old.keyed + self.old.refused + self.old.dialled + 1 < 2 ^ 64 }
         ensures told { (orders : List Ordered) (start : Option (List ℕ)) →
             HasTold self.old orders start (W.contents out.old) →
-            Tells self.new (orders ++ order_of self.old.table.table.routes outcome.now ∷ []) result start
+            Tells self.new (orders ++ outgoing_order self.old.table outcome.now ∷ []) result start
             (W.contents out.new) }
         ensures one { self.new.keyed + self.new.refused + self.new.dialled
             ≤ self.old.keyed + self.old.refused + self.old.dialled + 1 }
