@@ -7,8 +7,7 @@ use Rattle.xb_incoming.specs.declared.key.TimedKey.{TimedKey}
 use Rattle.xb_incoming.specs.Attempts.{outcomes}
 use Rattle.xb_incoming.specs.Machine.{phase_after, told_by}
 use Rattle.xb_incoming.proofs.Taken.{all-told, told_from}
-use Rattle.xb_model.specs.Routing.{order_of}
-use Rattle.xb_outgoing.specs.Tables.{Outgoing}
+use Rattle.xb_outgoing.specs.Tables.{Outgoing, outgoing_order}
 use Rattle.xb_text.specs.Writing.{AppendsBeginning}
 use Rattle.xb_text.proofs.Beginnings.{AppendsBeginning-first, AppendsBeginning-second}
 use Rattle.xb_tandem.specs.declared.fault.ReadingFault.{ReadingFault}

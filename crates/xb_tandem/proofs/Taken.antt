@@ -9,8 +9,7 @@ use Rattle.xb_incoming.specs.Attempts.{outcomes}
 use Rattle.xb_incoming.specs.Machine.{HasTaken, told_by}
 use Rattle.xb_model.specs.declared.dialled.Dialled.{Dialled}
 use Rattle.xb_model.specs.declared.order.Order.{Order}
-use Rattle.xb_model.specs.Routing.{order_of}
-use Rattle.xb_outgoing.specs.Tables.{Outgoing}
+use Rattle.xb_outgoing.specs.Tables.{Outgoing, outgoing_order}
 use Rattle.xb_text.specs.Writing.{AppendsBeginning}
 use Rattle.xb_text.proofs.Beginnings.{AppendsBeginning-first, AppendsBeginning-second}
 use Rattle.xb_tandem.specs.declared.fault.WritingFault.{WritingFault}
@@ -68,7 +67,7 @@ module _ (limit : ℕ) (old : Office) (register : Register) (keys : List TimedKe
       (subst (λ reg. HasTaken limit reg (keys ++ key ∷ []) (told_by limit (keys ++ key ∷ []))) (sym same.register)
       (taken-told limit register (keys ++ key ∷ []) _ took))
       (subst (λ (t : Outgoing). Tells new (orders_of t (told_by limit (keys ++ key ∷ []))) r start out) (sym same.table)
-      (subst (λ orders. Tells new orders r start out) (orders-one old.table.table.routes (told_by limit keys) outcome _ given)
+      (subst (λ orders. Tells new orders r start out) (orders-one old.table (told_by limit keys) outcome _ given)
       (tells (orders_of old.table (told_by limit keys)) start (told-with old register _ start mid has.told))))
 
   pub takes-none : found ≡ None → HasWritten limit (with_register old register) (keys ++ key ∷ []) start mid
@@ -76,7 +75,7 @@ module _ (limit : ℕ) (old : Office) (register : Register) (keys : List TimedKe
       let given = subst (λ f. told_by limit keys ++ option_to_list f ≡ told_by limit (keys ++ key ∷ [])) is took.given in record {
         taken = taken-told limit register (keys ++ key ∷ []) _ took;
         told = subst (λ orders. HasTold (with_register old register) orders start mid)
-            (orders-none old.table.table.routes (told_by limit keys) _ given)
+            (orders-none old.table (told_by limit keys) _ given)
             (told-with old register _ start mid has.told);
       }
 
@@ -91,13 +90,13 @@ module _ (limit : ℕ) (old : Office) (keys : List TimedKey) (found : Option Dia
   finishes-some new outcome r out is same tells =
       let given = subst (λ f. told_by limit keys ++ option_to_list f ≡ outcomes limit keys) is ended in
       subst (λ (t : Outgoing). Tells new (orders_of t (outcomes limit keys)) r start out) (sym same.table)
-      (subst (λ orders. Tells new orders r start out) (orders-one old.table.table.routes (told_by limit keys) outcome _ given)
+      (subst (λ orders. Tells new orders r start out) (orders-one old.table (told_by limit keys) outcome _ given)
       (tells (orders_of old.table (told_by limit keys)) start has.told))
 
   pub finishes-none : found ≡ None → Finishes limit old keys (Ok tt) start mid
   finishes-none is =
       let given = subst (λ f. told_by limit keys ++ option_to_list f ≡ outcomes limit keys) is ended in
-      subst (λ orders. HasTold old orders start mid) (orders-none old.table.table.routes (told_by limit keys) _ given) has.told
+      subst (λ orders. HasTold old orders start mid) (orders-none old.table (told_by limit keys) _ given) has.told
 
 -- the end of the keys
 module _ (limit : ℕ) (old new : Office) (keys : List TimedKey) (start : Option (List ℕ)) (same : IsWithCounts old new) where
